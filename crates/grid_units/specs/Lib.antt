@@ -1,0 +1,6 @@
+pub mod Reasons
+pub mod Results
+pub mod Lists
+pub mod Points
+pub mod Holes
+pub mod Laws

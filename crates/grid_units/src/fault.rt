@@ -1,0 +1,227 @@
+//! Why a file is refused, and where.
+
+ghost use Rattle.std.specs.Prelude.{◌≡◌};
+ghost use Rattle.grid_units.specs.Results.{both, first_reason};
+ghost use Rattle.grid_units.specs.declared.fault.Fail.TheVariants.{Memory};
+
+use std::alloc::{AllocError, AllocFailed};
+
+/// Why an item, a line, a file, a number or a rule is refused. The numbers are names only; the orders
+/// in which reasons are looked for stand in `docs/FORMATS.md`.
+#[derive(Clone, Copy, Debug, PartialEq, Eq)]
+pub enum Reason {
+    /// An item, a line, a manifest or a file is above its limit of bytes.
+    TooLong = 1,
+    /// Something stands behind the end of the text (`M02`, `M30`).
+    AfterEnd = 2,
+    /// The text ends without its end (`M02`, `M30`).
+    Truncated = 3,
+    /// Several commands stand between one pair of `%`.
+    SeveralInOne = 4,
+    /// Clear polarity (`LPC`): a flashed pad would not be the layer's copper.
+    ClearPolarity = 5,
+    /// A block aperture (`AB`).
+    BlockAperture = 6,
+    /// A negative image.
+    NegativeImage = 7,
+    /// Gerber coordinates with trailing zeros left out (`FST`).
+    TrailingZeros = 8,
+    /// Incremental coordinates.
+    Incremental = 9,
+    /// A deprecated Gerber parameter with an effect, or a deprecated word.
+    OldParameter = 10,
+    /// A drill file of an older format.
+    OldFormat = 11,
+    /// A routed path of a drill file.
+    Routed = 12,
+    /// A repeat code or pattern of a drill file.
+    Repeat = 13,
+    /// A Gerber item that fits no row of the profile.
+    BadWord = 14,
+    /// A drill line that fits no row of the profile.
+    BadLine = 15,
+    /// A field that is not a number of its kind.
+    BadNumber = 16,
+    /// A drill coordinate without a point, where the zeros kept are not named.
+    NoZeros = 17,
+    /// More digits than the format has.
+    TooManyDigits = 18,
+    /// A decimal behind the eighth that is not 0.
+    TooFine = 19,
+    /// A length above 10 m, or a whole part above 999,999.
+    TooFar = 20,
+    /// A coordinate without a D code where the last operation was no plot.
+    BareCoordinate = 21,
+    /// A command that may not stand in a region.
+    InRegion = 22,
+    /// The end of a region where none is open.
+    NotInRegion = 23,
+    /// An operation, or the end, before the coordinate format.
+    NoFormat = 24,
+    /// An operation, or the end, before the unit.
+    NoUnit = 25,
+    /// A unit that differs from an earlier one.
+    UnitConflict = 26,
+    /// A coordinate format that differs from an earlier one.
+    FormatConflict = 27,
+    /// A number or a name that is defined already.
+    Redefined = 28,
+    /// A macro that is not defined.
+    UnknownMacro = 29,
+    /// An aperture that is not defined.
+    UnknownAperture = 30,
+    /// A tool that is not defined.
+    UnknownTool = 31,
+    /// A flash or a draw with no aperture selected.
+    NoAperture = 32,
+    /// A hole with no tool picked.
+    NoTool = 33,
+    /// A size out of its range.
+    BadSize = 34,
+    /// A count or a step of a step and repeat block out of its range.
+    BadRepeat = 35,
+    /// More flashes than the limit of a layer.
+    TooManyPads = 36,
+    /// More holes than the limit of a drill file.
+    TooManyHoles = 37,
+    /// A ring or a gap out of its range.
+    BadRule = 38,
+    /// A record of the manifest that has not its form.
+    BadManifest = 39,
+    /// A role, or a kind of file, that is none.
+    BadRole = 40,
+    /// An empty name in the manifest.
+    EmptyName = 41,
+    /// A name that stood in the manifest before.
+    RepeatedName = 42,
+    /// A manifest without a copper layer.
+    NoCopper = 43,
+    /// A manifest without a drill file.
+    NoDrill = 44,
+    /// A copper file whose file function is another.
+    NotCopper = 45,
+}
+
+impl Reason {
+    ghost use Rattle.grid_units.specs.Reasons.{name_of, number_of};
+
+    /// The number, from 1.
+    pub fn number(self) -> u8
+        ensures { result ≡ number_of self }
+    {
+        self as u8
+    }
+
+    /// The name as it is printed.
+    #[tactic(auto, unfolding(crate::specs::Reasons::name_of))]
+    pub fn name(self) -> &'static str
+        ensures { result.now ≡ name_of self }
+    {
+        match self {
+            Reason::TooLong => "TooLong",
+            Reason::AfterEnd => "AfterEnd",
+            Reason::Truncated => "Truncated",
+            Reason::SeveralInOne => "SeveralInOne",
+            Reason::ClearPolarity => "ClearPolarity",
+            Reason::BlockAperture => "BlockAperture",
+            Reason::NegativeImage => "NegativeImage",
+            Reason::TrailingZeros => "TrailingZeros",
+            Reason::Incremental => "Incremental",
+            Reason::OldParameter => "OldParameter",
+            Reason::OldFormat => "OldFormat",
+            Reason::Routed => "Routed",
+            Reason::Repeat => "Repeat",
+            Reason::BadWord => "BadWord",
+            Reason::BadLine => "BadLine",
+            Reason::BadNumber => "BadNumber",
+            Reason::NoZeros => "NoZeros",
+            Reason::TooManyDigits => "TooManyDigits",
+            Reason::TooFine => "TooFine",
+            Reason::TooFar => "TooFar",
+            Reason::BareCoordinate => "BareCoordinate",
+            Reason::InRegion => "InRegion",
+            Reason::NotInRegion => "NotInRegion",
+            Reason::NoFormat => "NoFormat",
+            Reason::NoUnit => "NoUnit",
+            Reason::UnitConflict => "UnitConflict",
+            Reason::FormatConflict => "FormatConflict",
+            Reason::Redefined => "Redefined",
+            Reason::UnknownMacro => "UnknownMacro",
+            Reason::UnknownAperture => "UnknownAperture",
+            Reason::UnknownTool => "UnknownTool",
+            Reason::NoAperture => "NoAperture",
+            Reason::NoTool => "NoTool",
+            Reason::BadSize => "BadSize",
+            Reason::BadRepeat => "BadRepeat",
+            Reason::TooManyPads => "TooManyPads",
+            Reason::TooManyHoles => "TooManyHoles",
+            Reason::BadRule => "BadRule",
+            Reason::BadManifest => "BadManifest",
+            Reason::BadRole => "BadRole",
+            Reason::EmptyName => "EmptyName",
+            Reason::RepeatedName => "RepeatedName",
+            Reason::NoCopper => "NoCopper",
+            Reason::NoDrill => "NoDrill",
+            Reason::NotCopper => "NotCopper",
+        }
+    }
+}
+
+/// Both of two fields: every field is read, and then the first reason of the reading order is the answer.
+///
+/// # Errors
+///
+/// The reason of the one that was refused; of two reasons the one that is read first.
+pub fn both<A: Drop, B: Drop>(
+    first: Result<A, Reason>,
+    second: Result<B, Reason>,
+) -> Result<(A, B), Reason>
+    ensures { result ≡ both first second }
+{
+    match (first, second) {
+        (Ok(a), Ok(b)) => Ok((a, b)),
+        (Ok(_), Err(reason)) | (Err(reason), Ok(_)) => Err(reason),
+        (Err(a), Err(b)) => Err(first_reason(a, b)),
+    }
+}
+
+/// Of two reasons the one that is read first.
+fn first_reason(a: Reason, b: Reason) -> Reason
+    ensures { result ≡ first_reason a b }
+{
+    if a.number() <= b.number() { a } else { b }
+}
+
+/// A refusal: where, and why. `place` is the number of the item, line or record, from 1; `byte` is the
+/// offset of its first byte. Both are 0 where the refusal speaks of a whole file.
+#[derive(Clone, Copy, Debug, PartialEq, Eq)]
+pub struct Fault {
+    pub place: u64,
+    pub byte: u64,
+    pub reason: Reason,
+}
+
+/// Why a call gives no value.
+#[derive(Clone, Copy, Debug, PartialEq, Eq)]
+pub enum Fail {
+    /// A growth was refused.
+    Memory,
+    /// The input was refused.
+    Refused(Fault),
+}
+
+impl From<AllocError> for Fail {
+    ghost from_gives = { λ _ e. e ≡ Memory };
+
+    fn from(_error: AllocError) -> Fail {
+        Fail::Memory
+    }
+}
+
+impl<T: Drop> From<AllocFailed<T>> for Fail {
+    ghost from_gives = { λ _ e. e ≡ Memory };
+
+    fn from(_error: AllocFailed<T>) -> Fail {
+        Fail::Memory
+    }
+}

@@ -1,0 +1,79 @@
+//! Holes that a drill makes.
+
+ghost use Rattle.std.specs.Prelude.{◌≡◌, pos, ◌≤◌, ◌↔◌, ◌≤ℤ◌, IsSome, IfSome, IsTrue, unsigned_abs};
+ghost use Rattle.grid_units.specs.Holes.{IsRadius, is_round};
+
+use crate::plane::Point;
+use std::marker::Model;
+
+/// The largest radius of a hole, in pm: five metres.
+const MAX_RADIUS: i64 = 5_000_000_000_000;
+
+/// A hole that a drill makes on its way from one point to another. It is round where they are equal,
+/// else a slot. Its radius is 1 to 5,000,000,000,000 pm.
+#[derive(Clone, Copy, Debug, PartialEq, Eq)]
+pub struct Hole {
+    from: Point,
+    to: Point,
+    radius: u64,
+}
+
+impl Model for Hole {
+    ghost use Rattle.grid_units.specs.Holes.{GridHole, IsRadius};
+
+    ghost Value = { GridHole };
+
+    ghost view = { λ h. record { from = h.from; to = h.to; radius = h.radius } };
+
+    ghost invariant = { λ h. IsRadius h.radius };
+
+    ghost inverse = { λ h. record { from = h.from; to = h.to; radius = h.radius } };
+}
+
+impl Hole {
+    /// The hole between these points, or `None` where the radius in pm is out of range.
+    pub fn new(from: Point, to: Point, radius: i64) -> Option<Hole>
+        ensures valid { IsSome result ↔ ((pos 1 ≤ℤ radius) × (radius ≤ℤ MAX_RADIUS)) }
+        ensures value { IfSome result (λ h. h ≡ record { from = from; to = to; radius = unsigned_abs radius }) }
+    {
+        if 1 <= radius && radius <= MAX_RADIUS {
+            Some(Hole {
+                from,
+                to,
+                radius: radius.unsigned_abs(),
+            })
+        } else {
+            None
+        }
+    }
+
+    /// Where the drill goes in.
+    pub fn from(&self) -> Point
+        ensures { result ≡ self.now.from }
+    {
+        self.from
+    }
+
+    /// Where the drill comes out.
+    pub fn to(&self) -> Point
+        ensures { result ≡ self.now.to }
+    {
+        self.to
+    }
+
+    /// The radius in pm.
+    pub fn radius(&self) -> i64
+        ensures value { result ≡ pos self.now.radius }
+        ensures in_range { IsRadius self.now.radius }
+    {
+        self.radius as i64
+    }
+
+    /// Whether the drill comes out where it went in.
+    pub fn is_round(&self) -> bool
+        ensures test { result ≡ is_round self.now }
+        ensures exact { IsTrue result ↔ (self.now.from ≡ self.now.to) }
+    {
+        self.from.x() == self.to.x() && self.from.y() == self.to.y()
+    }
+}

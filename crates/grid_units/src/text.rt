@@ -1,0 +1,95 @@
+//! Texts and names of a file: bytes, seen as a list.
+
+ghost use Rattle.std.specs.Prelude.{nat_eq};
+ghost use Rattle.std.specs.Hash as fed;
+ghost use Rattle.std.specs.Cmp.Lexicographic.{pointwise, nat_list_eq_equiv};
+ghost use Rattle.std.specs.Cmp.{partial_equiv_from_equiv};
+ghost use Rattle.std.specs.Cmp.Rules.{hashing};
+ghost use Rattle.std.proofs.Common.{rules};
+
+use std::alloc::{AllocError, Global};
+use std::hash::{Hash, Hasher};
+use std::marker::Model;
+
+/// Bytes of a file, as a comment or a name has them. Any byte may stand in it. Contracts see the list
+/// of the bytes, and equal lists are equal keys.
+#[derive(Debug, Drop)]
+pub struct Text {
+    bytes: Vec<u8>,
+}
+
+impl Model for Text {
+    ghost use Rattle.std.specs.Prelude.{List, ℕ};
+
+    ghost Value = { List ℕ };
+
+    ghost view = { λ text. text.bytes.items };
+}
+
+impl Text {
+    ghost use Rattle.std.specs.Prelude.{◌≡◌, IfOk};
+
+    /// The bytes of a vector, which it takes over.
+    pub fn new(bytes: Vec<u8>) -> Self
+        ensures { result ≡ bytes.items }
+    {
+        Text { bytes }
+    }
+
+    /// A copy of these bytes.
+    ///
+    /// # Errors
+    ///
+    /// An `AllocError` where there is no memory for it.
+    pub fn from_slice(alloc: Global, bytes: &[u8]) -> Result<Self, AllocError>
+        ensures { IfOk result (λ text. text ≡ bytes.now) }
+    {
+        Ok(Text {
+            bytes: Vec::from_slice(alloc, bytes)?,
+        })
+    }
+
+    /// The bytes.
+    pub fn bytes(&self) -> &[u8]
+        ensures { result.now ≡ self.now }
+    {
+        self.bytes.as_slice()
+    }
+
+    /// The same bytes in memory of their own.
+    ///
+    /// # Errors
+    ///
+    /// An `AllocError` where there is no memory for it.
+    pub fn copy(&self) -> Result<Self, AllocError>
+        ensures { IfOk result (λ copy. copy ≡ self.now) }
+    {
+        Ok(Text {
+            bytes: self.bytes.clone()?,
+        })
+    }
+}
+
+impl PartialEq for Text {
+    ghost eq = { pointwise nat_eq };
+
+    ghost laws = { partial_equiv_from_equiv nat_list_eq_equiv };
+
+    fn eq(&self, other: &Self) -> bool {
+        self.bytes() == other.bytes()
+    }
+}
+
+impl Eq for Text {
+    ghost laws = { nat_list_eq_equiv };
+}
+
+impl Hash for Text {
+    ghost hash_input = { λ text. fed.slice fed.u8 text };
+
+    ghost respects_eq = { Prim.search (hashing, rules) };
+
+    fn hash<H: Hasher>(&self, state: &mut H) {
+        self.bytes().hash(state);
+    }
+}
