@@ -24,3 +24,6 @@ pub use ring_gap::Rules;
 pub use spelling::write_mm;
 pub use text::Text;
 pub use zero_filling::{Zeros, from_zeros};
+
+#[cfg(test)]
+mod tests;
