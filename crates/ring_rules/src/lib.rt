@@ -5,6 +5,7 @@
 
 mod cores;
 mod finding;
+mod gap_sweep;
 mod gaps;
 pub mod laws;
 mod ring_sweep;

@@ -21,7 +21,7 @@ fn references<'a, S: PadShape>(alloc: Global, pads: &'a [S]) -> Result<Vec<&'a S
 }
 
 /// The holes with their places.
-fn placed(alloc: Global, holes: &[Drilled]) -> Result<Vec<(usize, Drilled)>, AllocError>
+pub fn placed(alloc: Global, holes: &[Drilled]) -> Result<Vec<(usize, Drilled)>, AllocError>
     ensures { IfOk result (λ v. v.items ≡ enumerate_from 0 holes.now) }
 {
     holes.iter().copied().enumerate().collect(alloc)
