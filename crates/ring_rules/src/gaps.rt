@@ -1,37 +1,32 @@
 //! The gaps between holes.
 
-ghost use Rattle.std.specs.Prelude.{◌≡◌, not, ◌&&◌, nat_lt, ◌++◌, IfOk, OnOk};
-ghost use Rattle.ring_rules.specs.Cores.{are_clear};
-ghost use Rattle.ring_rules.specs.Findings.{hole_findings, gap_findings};
+ghost use Rattle.std.specs.Prelude.{◌≡◌, map, IfOk};
+ghost use Rattle.std.specs.List.Sorted.{IsPermutation, IsSorted};
+ghost use Rattle.std.specs.Ordering.{nat_cmp, ordering_then};
+ghost use Rattle.ring_rules.specs.Findings.{gap_findings};
 
-use crate::cores::are_clear;
 use crate::finding::{Drilled, Finding};
-use grid_units::{Hole, Rules};
+use crate::gap_sweep::{clashes, holes_by_left};
+use grid_units::Rules;
 use std::alloc::{AllocError, Global};
 
-/// Whether two holes stand in this order and are not clear.
-fn breaks_gap(first: usize, a: &Hole, second: usize, b: &Hole, rules: Rules) -> bool
-    ensures { result ≡ (nat_lt first second && not (are_clear rules.gap a.now b.now)) }
+/// Sorts pairs by the first place and then by the second.
+fn sort_pairs(pairs: &mut Vec<(usize, usize)>)
+    ensures same { IsPermutation pairs.old.items pairs.new.items }
+    ensures sorted { IsSorted (λ p q. ordering_then (nat_cmp p.0 q.0) (nat_cmp p.1 q.1)) pairs.new.items }
 {
-    first < second && !are_clear(a, b, rules)
+    pairs.sort_unstable();
 }
 
-/// Appends the findings of one hole with those after it.
-fn hole_findings(
-    findings: &mut Vec<Finding>,
-    first: usize,
-    a: &Drilled,
-    holes: &[Drilled],
-    rules: Rules,
-) -> Result<(), AllocError>
-    ensures { OnOk result (findings.new.items ≡ findings.old.items ++ hole_findings rules.gap holes.now first a.now) }
+/// The findings at pairs of places.
+fn gaps_at(alloc: Global, pairs: &[(usize, usize)]) -> Result<Vec<Finding>, AllocError>
+    ensures { IfOk result (λ findings. findings.items ≡ map (λ p. Finding.Gap p.0 p.1) pairs.now) }
 {
-    for (second, b) in holes.iter().enumerate() {
-        if breaks_gap(first, &a.hole, second, &b.hole, rules) {
-            findings.push(Finding::Gap { first, second })?;
-        }
-    }
-    Ok(())
+    let gaps = pairs.iter().map(|pair| Finding::Gap {
+        first: pair.0,
+        second: pair.1,
+    });
+    gaps.collect(alloc)
 }
 
 /// Lists, by the first and then by the second of them, each two holes that are not clear.
@@ -46,9 +41,8 @@ pub fn gap_findings(
 ) -> Result<Vec<Finding>, AllocError>
     ensures { IfOk result (λ findings. findings.items ≡ gap_findings rules.gap holes.now) }
 {
-    let mut findings = Vec::new(alloc);
-    for (first, a) in holes.iter().enumerate() {
-        hole_findings(&mut findings, first, a, holes, rules)?;
-    }
-    Ok(findings)
+    let by_left = holes_by_left(alloc, holes)?;
+    let mut pairs = clashes(alloc, &by_left, rules)?;
+    sort_pairs(&mut pairs);
+    gaps_at(alloc, &pairs)
 }

@@ -1,7 +1,7 @@
 //! Laws of what the rules find. A call of one does nothing, and gives its clause.
 
 ghost use Rattle.ring_rules.specs.Cores.{ClearHolesAreApart};
-ghost use Rattle.ring_rules.specs.Passing.{HoldsWhenNoneWant, ApartWhenNoneClash};
+ghost use Rattle.ring_rules.specs.Passing.{HoldsWhenNoneWant, ApartWhenNoneClash, RingsNamePlaces, GapsNamePlaces};
 
 use pad_shapes::PadShape;
 
@@ -18,4 +18,10 @@ pub fn rings_hold<S: PadShape>()
 /// Where no gap is found wanting, each two places in the list of holes have holes that are clear, hence apart.
 pub fn gaps_hold()
     ensures { ApartWhenNoneClash }
+{}
+
+/// Each finding names a layer and a hole of the lists, or two holes of the list in their order.
+pub fn findings_name_places<S: PadShape>()
+    ensures rings { RingsNamePlaces S.covers }
+    ensures gaps { GapsNamePlaces }
 {}

@@ -1,17 +1,19 @@
-use Rattle.std.proofs.Common.{ℕ, ◌++◌, ap, ◌∙◌}
-use Rattle.std.specs.List.{flat_map}
-use Rattle.ring_rules.specs.Findings.{hole_findings}
+use Rattle.std.proofs.Common.{◌≡◌, ℕ, List, map, ap, sym, ◌∙◌, subst}
+use Rattle.std.specs.List.Sorted.{IsPermutation}
+use Rattle.std.proofs.lemmas.Result.{IfOk-weaker}
+use Rattle.ring_rules.specs.Findings.{gap_findings}
+use Rattle.ring_rules.specs.Meeting.{clashes_met}
 use Rattle.ring_rules.specs.declared.finding.Drilled.{Drilled}
-use Rattle.ring_rules.proofs.Listing.{flat_listed_more, enumerated_all}
+use Rattle.ring_rules.specs.declared.finding.Finding.TheVariants.{Gap}
+use Rattle.ring_rules.proofs.Clashing.{gaps_listed}
 use Rattle.ring_rules.proofs.gaps.gap_findings.Goals as goal
-
-pub loop-first-preserved : goal.loop-first-preserved
-loop-first-preserved c =
-    let f = λ (hole : ℕ × Drilled). hole_findings c.args.rules.gap c.args.holes.now hole.0 hole.1 in
-    c.in_ok-hole_findings.ensures
-    ∙ (ap (λ d. c.loop-first.findings.items ++ hole_findings c.args.rules.gap c.args.holes.now c.loop-first.first d) c.index-holes-first.is
-    ∙ flat_listed_more f c.loop-first.findings.items c.args.holes.now c.loop-first.first c.index-holes-first.result c.loop-first-test.true c.loop-first.invariant)
 
 pub returns : goal.returns
 returns c =
-    c.loop-first.invariant ∙ ap (flat_map (λ hole. hole_findings c.args.rules.gap c.args.holes.now hole.0 hole.1)) (enumerated_all c.args.holes.now c.loop-first.first c.loop-first-test.false)
+    let met : c.in_ok-pairs.pairs.items ≡ clashes_met c.args.rules.gap c.in_ok-by_left.by_left.items = c.in_ok-pairs.ensures ∙ ap (clashes_met c.args.rules.gap) c.deref.ensures.value in
+    let moved : IsPermutation (clashes_met c.args.rules.gap c.in_ok-by_left.by_left.items) c.sort_pairs.new.pairs.items = subst (λ (ps : List (ℕ × ℕ)). IsPermutation ps c.sort_pairs.new.pairs.items) met c.sort_pairs.ensures.same in
+    IfOk-weaker c.gaps_at.result
+    (λ v. v.items ≡ map (λ (p : ℕ × ℕ). Gap p.0 p.1) c.deref-2.result.now)
+    (λ v. v.items ≡ gap_findings c.args.rules.gap c.args.holes.now)
+    (λ v h. h ∙ (ap (map (λ (p : ℕ × ℕ). Gap p.0 p.1)) c.deref-2.ensures.value ∙ gaps_listed c.args.rules.gap c.args.holes.now c.in_ok-by_left.by_left.items c.sort_pairs.new.pairs.items c.in_ok-by_left.ensures.same moved c.sort_pairs.ensures.sorted))
+    c.gaps_at.ensures
