@@ -16,3 +16,6 @@ pub use obround::Obround;
 pub use pad::Pad;
 pub use rect::Rect;
 pub use shape::{MAX_HALF_SIDE, MAX_REACH, PadShape};
+
+#[cfg(test)]
+mod tests;

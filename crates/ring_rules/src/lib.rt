@@ -15,3 +15,6 @@ pub use cores::clear_of;
 pub use finding::{Drilled, Finding};
 pub use gaps::gap_findings;
 pub use rings::ring_findings;
+
+#[cfg(test)]
+mod tests;
