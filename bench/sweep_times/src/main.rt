@@ -54,8 +54,9 @@ fn wide_pad(columns: u32) -> Option<Pad> {
     Some(Pad::Rect(Rect::new(centre, half, PAD)?))
 }
 
-fn drilled(from: Option<Point>, to: Option<Point>) -> Option<Drilled> {
-    let hole = Hole::new(from?, to?, HOLE)?;
+/// A hole between two points, which are told by column and row.
+fn drilled(from: (u32, u32), to: (u32, u32)) -> Option<Drilled> {
+    let hole = Hole::new(point(from.0, from.1)?, point(to.0, to.1)?, HOLE)?;
     Some(Drilled { hole, plated: true })
 }
 
@@ -81,20 +82,18 @@ fn holes(
     rows: u32,
 ) -> Result<Vec<Drilled>, AllocError> {
     let mut holes = Vec::new(alloc);
-    let heap = point(columns / 2, rows / 2);
     for row in 0..rows {
         for column in 0..columns {
-            let is_last = row == rows - 1 && column == columns - 1;
-            let at = if layout == Layout::Heap && !is_last {
-                heap
+            let is_last = row.saturating_add(1) == rows && column.saturating_add(1) == columns;
+            if layout == Layout::Heap && !is_last {
+                holes.extend(drilled((columns / 2, rows / 2), (columns / 2, rows / 2)))?;
             } else {
-                point(column, row)
-            };
-            holes.extend(drilled(at, at))?;
+                holes.extend(drilled((column, row), (column, row)))?;
+            }
         }
     }
     if layout == Layout::Wide {
-        holes.extend(drilled(point(0, rows), point(columns, rows)))?;
+        holes.extend(drilled((0, rows), (columns, rows)))?;
     }
     Ok(holes)
 }

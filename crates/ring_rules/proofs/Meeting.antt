@@ -56,6 +56,9 @@ far_is_clear gap a b far =
     let far : square (a.radius + b.radius + gap) ≤ square (range_distance a.from.x a.to.x b.from.x b.to.x) + square (range_distance a.from.y a.to.y b.from.y b.to.y) = omega (arith, square-le _ _ wide) in
     grind (arith, nat_tests)
 
+pub at_least_itself : (x : ℤ) → x ≤ℤ x
+at_least_itself x = omega (arith, ints)
+
 not_before : (x z : ℤ) → int_lt x z ≡ false → z ≤ℤ x
 not_before x z e = omega (arith, ints)
 
@@ -67,10 +70,12 @@ clash_is_near gap hole other e = by_test (ends_near gap (hole_left hole) other) 
   by_test false t = absurd (let clear : are_clear gap other.1.hole hole ≡ true = far_is_clear gap other.1.hole hole (not_before (hole_left hole) (hole_right other.1.hole +ℤ pos gap) t) in cc)
 
 -- the holes at hand clash as all those before do
-pub clashes_near : (gap place : ℕ) (hole : GridHole) (near front : List (ℕ × Drilled)) → near ≡ filter (ends_near gap (hole_left hole)) front → clashes_with gap near place hole ≡ clashes_with gap front place hole
+pub clashes_near : (gap place : ℕ) (hole : GridHole) (near front : List (ℕ × Drilled)) → filter (ends_near gap (hole_left hole)) near ≡ filter (ends_near gap (hole_left hole)) front → clashes_with gap near place hole ≡ clashes_with gap front place hole
 clashes_near gap place hole near front e =
-    ap (λ xs. clashes_with gap xs place hole) e
-    ∙ ap (map (λ (other : ℕ × Drilled). in_order other.0 place)) (filter-weaker (λ (other : ℕ × Drilled). not (are_clear gap other.1.hole hole)) (ends_near gap (hole_left hole)) (clash_is_near gap hole) front)
+    ap (map (λ (other : ℕ × Drilled). in_order other.0 place))
+    (sym (filter-weaker (λ (other : ℕ × Drilled). not (are_clear gap other.1.hole hole)) (ends_near gap (hole_left hole)) (clash_is_near gap hole) near)
+    ∙ (ap (filter (λ (other : ℕ × Drilled). not (are_clear gap other.1.hole hole))) e
+    ∙ filter-weaker (λ (other : ℕ × Drilled). not (are_clear gap other.1.hole hole)) (ends_near gap (hole_left hole)) (clash_is_near gap hole) front))
 
 before_too : (x y z : ℤ) → x ≤ℤ y → int_lt y z ≡ true → int_lt x z ≡ true
 before_too x y z h e = by_test (int_lt x z) refl where
@@ -78,10 +83,11 @@ before_too x y z h e = by_test (int_lt x z) refl where
   by_test true t = refl
   by_test false t = absurd (omega (arith, ints))
 
--- the holes at hand after x and one more are, for a later y, as good as all
-pub near_more : (gap : ℕ) (near near' front : List (ℕ × Drilled)) (e : ℕ × Drilled) (x y : ℤ) → x ≤ℤ y → near' ≡ filter (ends_near gap x) near → filter (ends_near gap y) near ≡ filter (ends_near gap y) front → filter (ends_near gap y) (near' ++ e ∷ []) ≡ filter (ends_near gap y) (front ++ e ∷ [])
-near_more gap near near' front e x y h is was =
-    filter-append (ends_near gap y) near' (e ∷ [])
-    ∙ (ap (λ ys. ys ++ filter (ends_near gap y) (e ∷ []))
-    (ap (filter (ends_near gap y)) is ∙ (filter-weaker (ends_near gap y) (ends_near gap x) (λ other t. before_too x y (hole_right other.1.hole +ℤ pos gap) h t) near ∙ was))
-    ∙ sym (filter-append (ends_near gap y) front (e ∷ [])))
+-- what is let go at x is not near a later y
+pub dropped_at : (gap : ℕ) (near : List (ℕ × Drilled)) (x y : ℤ) → x ≤ℤ y → filter (ends_near gap y) (filter (ends_near gap x) near) ≡ filter (ends_near gap y) near
+dropped_at gap near x y h = filter-weaker (ends_near gap y) (ends_near gap x) (λ other t. before_too x y (hole_right other.1.hole +ℤ pos gap) h t) near
+
+-- the holes at hand and one more are as good as all
+pub near_more : (gap : ℕ) (near front : List (ℕ × Drilled)) (e : ℕ × Drilled) (y : ℤ) → filter (ends_near gap y) near ≡ filter (ends_near gap y) front → filter (ends_near gap y) (near ++ e ∷ []) ≡ filter (ends_near gap y) (front ++ e ∷ [])
+near_more gap near front e y was =
+    filter-append (ends_near gap y) near (e ∷ []) ∙ (ap (λ ys. ys ++ filter (ends_near gap y) (e ∷ [])) was ∙ sym (filter-append (ends_near gap y) front (e ∷ [])))

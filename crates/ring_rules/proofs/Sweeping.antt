@@ -38,6 +38,9 @@ le_tested a b h = le_tested_at a b (int_le a b) refl h
 le_test : (x z : ℤ) {y : ℤ} → y ≤ℤ z → x ≤ℤ y → int_le x z ≡ true
 le_test x z {y} h k = le_tested x z (omega (arith, ints))
 
+pub at_least_itself : (x : ℤ) → x ≤ℤ x
+at_least_itself x = omega (arith, ints)
+
 module _ {S : Type 0} (covers : S → GridPoint → ℕ → Bool) (left right : S → ℤ) (between : CoversBetween covers left right) where
   later_too : (x y : ℤ) → x ≤ℤ y → (pad : Bor S) → ends_after right y pad ≡ true → ends_after right x pad ≡ true
   later_too x y h pad e = le_test x (right pad.now) (at_most y (right pad.now) e) h
@@ -47,16 +50,14 @@ module _ {S : Type 0} (covers : S → GridPoint → ℕ → Bool) (left right : 
   near_at near more front x h =
       filter-append (ends_after right x) near more ∙ (ap (λ ys. ys ++ filter (ends_after right x) more) h ∙ sym (filter-append (ends_after right x) front more))
 
-  -- the pads at hand after x are, for a later y, as good as all up to the new place
-  pub near_later : (near near' by_left : List (Bor S)) (m n : ℕ) (x y : ℤ) → m ≤ n → x ≤ℤ y → near' ≡ filter (ends_after right x) (near ++ drop m (take n by_left)) → filter (ends_after right y) near ≡ filter (ends_after right y) (take m by_left) → filter (ends_after right y) near' ≡ filter (ends_after right y) (take n by_left)
-  near_later near near' by_left m n x y h k e was =
-      ap (filter (ends_after right y)) e
-      ∙ (filter-weaker (ends_after right y) (ends_after right x) (later_too x y k) (near ++ drop m (take n by_left))
-      ∙ (near_at near (drop m (take n by_left)) (take m by_left) y was ∙ ap (filter (ends_after right y)) (take_between by_left m n h)))
+  -- what is let go at x does not count at a later y
+  pub dropped_at : (near : List (Bor S)) (x y : ℤ) → x ≤ℤ y → filter (ends_after right y) (filter (ends_after right x) near) ≡ filter (ends_after right y) near
+  dropped_at near x y h = filter-weaker (ends_after right y) (ends_after right x) (later_too x y h) near
 
-  pub near_now : (near near' by_left : List (Bor S)) (m n : ℕ) (x : ℤ) → m ≤ n → near' ≡ filter (ends_after right x) (near ++ drop m (take n by_left)) → filter (ends_after right x) near ≡ filter (ends_after right x) (take m by_left) → near' ≡ filter (ends_after right x) (take n by_left)
-  near_now near near' by_left m n x h e was =
-      e ∙ (near_at near (drop m (take n by_left)) (take m by_left) x was ∙ ap (filter (ends_after right x)) (take_between by_left m n h))
+  -- the pads kept and those added are as good as all up to the new place
+  pub near_more : (near kept by_left : List (Bor S)) (m n : ℕ) (y : ℤ) → m ≤ n → filter (ends_after right y) kept ≡ filter (ends_after right y) near → filter (ends_after right y) near ≡ filter (ends_after right y) (take m by_left) → filter (ends_after right y) (kept ++ drop m (take n by_left)) ≡ filter (ends_after right y) (take n by_left)
+  near_more near kept by_left m n y h same was =
+      near_at kept (drop m (take n by_left)) (take m by_left) y (same ∙ was) ∙ ap (filter (ends_after right y)) (take_between by_left m n h)
 
   not_covered : (s : S) (c : GridPoint) (reach : ℕ) → c.x <ℤ left s → covers s c reach ≡ false
   not_covered s c reach h = by_test (covers s c reach) refl where
@@ -64,9 +65,12 @@ module _ {S : Type 0} (covers : S → GridPoint → ℕ → Bool) (left right : 
     by_test true e = absurd (let f : left s ≤ℤ c.x = (between s c reach e).0 in omega (arith, ints))
     by_test false e = refl
 
+  covered_ends_after : (d : Drilled) (ring : ℕ) (pad : Bor S) → covers pad.now d.hole.from (d.hole.radius + ring) ≡ true → ends_after right d.hole.from.x pad ≡ true
+  covered_ends_after d ring pad h = le_tested d.hole.from.x (right pad.now) (between pad.now d.hole.from (d.hole.radius + ring) h).1
+
   -- a hole lacks its ring among the pads at hand just where it lacks it among all
   pub wanting_near : (near by_left : List (Bor S)) (n : ℕ) (ring : ℕ) (d : Drilled) →
-      near ≡ filter (ends_after right d.hole.from.x) (take n by_left) →
+      filter (ends_after right d.hole.from.x) near ≡ filter (ends_after right d.hole.from.x) (take n by_left) →
       IsSortedByKey (λ pad. left pad.now) int_cmp by_left →
       (n < length by_left → (e : Bor S) → d.hole.from.x <ℤ left (get_or by_left n e).now) →
       is_wanting (λ (pad : Bor S). covers pad.now) ring near d ≡ is_wanting (λ (pad : Bor S). covers pad.now) ring by_left d
@@ -74,9 +78,10 @@ module _ {S : Type 0} (covers : S → GridPoint → ℕ → Bool) (left right : 
       let c = d.hole.from in
       let reach = d.hole.radius + ring in
       ap (λ b. (d.plated && is_round d.hole) && not b)
-      (ap (list_any (λ (pad : Bor S). covers pad.now d.hole.from (d.hole.radius + ring))) e
-      ∙ (list_any-filter (λ (pad : Bor S). covers pad.now d.hole.from (d.hole.radius + ring)) (ends_after right d.hole.from.x) (λ pad h. le_tested d.hole.from.x (right pad.now) (between pad.now d.hole.from (d.hole.radius + ring) h).1) (take n by_left)
-      ∙ list_any-take (λ (pad : Bor S). covers pad.now d.hole.from (d.hole.radius + ring)) by_left n (λ k f h l. not_covered (get_or by_left k f).now d.hole.from (d.hole.radius + ring) (let low : left (get_or by_left n f).now ≤ℤ left (get_or by_left k f).now = sorted_keys (λ (pad : Bor S). left pad.now) by_left sorted n k f h l in let past : d.hole.from.x <ℤ left (get_or by_left n f).now = next (omega (arith, h, l)) f in omega (arith, ints)))))
+      (sym (list_any-filter (λ (pad : Bor S). covers pad.now d.hole.from (d.hole.radius + ring)) (ends_after right d.hole.from.x) (covered_ends_after d ring) near)
+      ∙ (ap (list_any (λ (pad : Bor S). covers pad.now d.hole.from (d.hole.radius + ring))) e
+      ∙ (list_any-filter (λ (pad : Bor S). covers pad.now d.hole.from (d.hole.radius + ring)) (ends_after right d.hole.from.x) (covered_ends_after d ring) (take n by_left)
+      ∙ list_any-take (λ (pad : Bor S). covers pad.now d.hole.from (d.hole.radius + ring)) by_left n (λ k f h l. not_covered (get_or by_left k f).now d.hole.from (d.hole.radius + ring) (let low : left (get_or by_left n f).now ≤ℤ left (get_or by_left k f).now = sorted_keys (λ (pad : Bor S). left pad.now) by_left sorted n k f h l in let past : d.hole.from.x <ℤ left (get_or by_left n f).now = next (omega (arith, h, l)) f in omega (arith, ints))))))
 
   -- it lacks its ring among references in another order just where it lacks it
   pub wanting_same : (by_left : List (Bor S)) (pads : List S) (ring : ℕ) (d : Drilled) → IsPermutation pads (map (λ pad. pad.now) by_left) → is_wanting (λ (pad : Bor S). covers pad.now) ring by_left d ≡ is_wanting covers ring pads d

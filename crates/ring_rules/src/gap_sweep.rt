@@ -1,6 +1,6 @@
 //! One sweep along x over the holes of a board, for the pairs of them that are not clear.
 
-ghost use Rattle.std.specs.Prelude.{◌≡◌, ℕ, pos, ◌≤◌, ◌+ℤ◌, ◌++◌, map, int_lt, unsigned_abs, IfOk, OnOk};
+ghost use Rattle.std.specs.Prelude.{◌≡◌, ℕ, ℤ, pos, ◌≤◌, ◌≤ℤ◌, ◌+ℤ◌, ◌++◌, map, int_lt, unsigned_abs, IfOk, OnOk};
 ghost use Rattle.std.specs.List.{filter, enumerate_from};
 ghost use Rattle.std.specs.List.Sorted.{IsPermutation, IsSortedByKey};
 ghost use Rattle.std.specs.Ordering.{int_cmp};
@@ -45,11 +45,13 @@ pub fn holes_by_left(alloc: Global, holes: &[Drilled]) -> Result<Vec<(usize, Dri
     Ok(by_left)
 }
 
-/// Lets go of the holes that end too early to be near a hole.
-fn drop_passed(near: &mut Vec<(usize, Drilled)>, hole: &Hole, rules: Rules)
-    ensures { near.new.items ≡ filter (λ other. int_lt (hole_left hole.now) (hole_right other.1.hole +ℤ pos rules.gap)) near.old.items }
+/// Lets go of the holes that end too early to be near a hole, once the sweep has left the last x.
+fn drop_passed(near: &mut Vec<(usize, Drilled)>, last: Option<i64>, hole: &Hole, rules: Rules)
+    ensures { (x : ℤ) → hole_left hole.now ≤ℤ x → filter (λ other. int_lt x (hole_right other.1.hole +ℤ pos rules.gap)) near.new.items ≡ filter (λ other. int_lt x (hole_right other.1.hole +ℤ pos rules.gap)) near.old.items }
 {
-    near.retain(|(_, other)| reaches(&other.hole, hole, rules));
+    if last != Some(left(hole)) {
+        near.retain(|(_, other)| reaches(&other.hole, hole, rules));
+    }
 }
 
 /// The lesser of two places, and the greater.
@@ -88,11 +90,13 @@ pub fn clashes(
 {
     let mut pairs = Vec::new(alloc);
     let mut near = Vec::new(alloc);
+    let mut last = None;
     for (place, drilled) in by_left {
         let hole = &drilled.hole;
-        drop_passed(&mut near, hole, rules);
+        drop_passed(&mut near, last, hole, rules);
         add_clashes(&mut pairs, &near, *place, hole, rules)?;
         near.push((*place, *drilled))?;
+        last = Some(left(hole));
     }
     Ok(pairs)
 }

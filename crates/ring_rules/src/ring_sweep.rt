@@ -1,6 +1,6 @@
 //! One sweep along x over the pads of a layer and the holes.
 
-ghost use Rattle.std.specs.Prelude.{◌≡◌, ℕ, ◌+◌, ◌≤◌, ◌<◌, ◌<ℤ◌, ◌++◌, map, length, take, drop, IfOk, int_le, slice_index_or};
+ghost use Rattle.std.specs.Prelude.{◌≡◌, ℕ, ℤ, ◌+◌, ◌≤◌, ◌<◌, ◌≤ℤ◌, ◌<ℤ◌, ◌++◌, map, length, take, drop, IfOk, int_le, slice_index_or};
 ghost use Rattle.std.specs.List.{filter, enumerate_from};
 ghost use Rattle.std.specs.List.Sorted.{IsPermutation, IsSortedByKey};
 ghost use Rattle.std.specs.Ordering.{int_cmp};
@@ -61,11 +61,13 @@ fn begins_by<S: PadShape>(pad: &S, at: Point) -> bool
     pad.left() <= at.x()
 }
 
-/// Lets go of the pads that end before a point's x.
-fn drop_passed<S: PadShape>(near: &mut Vec<&S>, at: Point)
-    ensures { near.new.items ≡ filter (λ pad. int_le at.x (S.right pad.now)) near.old.items }
+/// Lets go of the pads that end before a point's x, once the sweep has left the last x.
+fn drop_passed<S: PadShape>(near: &mut Vec<&S>, last: Option<i64>, at: Point)
+    ensures { (x : ℤ) → at.x ≤ℤ x → filter (λ pad. int_le x (S.right pad.now)) near.new.items ≡ filter (λ pad. int_le x (S.right pad.now)) near.old.items }
 {
-    near.retain(|pad| reaches(*pad, at));
+    if last != Some(at.x()) {
+        near.retain(|pad| reaches(*pad, at));
+    }
 }
 
 /// Adds the pads that begin at a point's x or before, and says how many have been added in all.
@@ -88,23 +90,6 @@ fn add_reached<'a, S: PadShape>(
     Ok(end)
 }
 
-/// Adds the pads that begin at a point's x or before, and lets go of those that end before it.
-fn advance<'a, S: PadShape>(
-    near: &mut Vec<&'a S>,
-    by_left: &[&'a S],
-    added: usize,
-    at: Point,
-) -> Result<usize, AllocError>
-    requires { added ≤ length by_left.now }
-    ensures items { IfOk result (λ end. near.new.items ≡ filter (λ pad. int_le at.x (S.right pad.now)) (near.old.items ++ drop added (take end by_left.now))) }
-    ensures bound { IfOk result (λ end. (added ≤ end) × (end ≤ length by_left.now)) }
-    ensures next { IfOk result (λ end. end < length by_left.now → (d : Bor S) → at.x <ℤ S.left (slice_index_or by_left.now end d).now) }
-{
-    let end = add_reached(near, by_left, added, at)?;
-    drop_passed(near, at);
-    Ok(end)
-}
-
 /// Meets the holes in order of x with the pads that reach as far.
 fn meet<S: PadShape>(
     alloc: Global,
@@ -121,9 +106,13 @@ fn meet<S: PadShape>(
     let mut wanting = vec![in alloc; false; holes.len()]?;
     let mut near = Vec::new(alloc);
     let mut added = 0;
+    let mut last = None;
     for (place, drilled) in by_x {
-        added = advance(&mut near, by_left, added, drilled.hole.from())?;
+        let at = drilled.hole.from();
+        drop_passed(&mut near, last, at);
+        added = add_reached(&mut near, by_left, added, at)?;
         wanting[*place] = is_wanting(&near, drilled, rules);
+        last = Some(at.x());
     }
     Ok(wanting)
 }
