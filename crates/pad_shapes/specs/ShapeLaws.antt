@@ -1,4 +1,4 @@
--- The laws of the shapes: each holds what it covers, between its least and its greatest x.
+-- Proofs of the laws that the trait asks of each shape. What they prove is stated in Shapes.antt.
 use Rattle.std.proofs.Common.{◌≡◌, ℕ, ℤ, pos, ◌+◌, ◌-◌, ◌*◌, ◌≤◌, ◌<◌, ◌+ℤ◌, ◌-ℤ◌, ◌≤ℤ◌, ◌⊎◌, true, false, inl, inr, ap, subst, arith}
 use Rattle.std.specs.Prelude.{◌&&◌, nat_le}
 use Rattle.std.proofs.lemmas.Int.{ints, by_lt_z}
