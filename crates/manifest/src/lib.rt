@@ -10,6 +10,8 @@ ghost use Rattle.manifest.specs.Manifest.{manifest};
 mod judging;
 mod names;
 mod rows;
+#[cfg(test)]
+mod tests;
 
 use grid_units::Fail;
 pub use names::Name;
