@@ -1,0 +1,24 @@
+-- The answer to a line, from what `clap` answers.
+use Rattle.std.proofs.Common.{◌≡◌, ◌∙◌, ◌⊎◌, inl, inr, ap, sym, subst, [], List, Option, Some, Ok, Err}
+use Rattle.clap.specs.Words.{App, Row, Text, fault_of, subcommand_of}
+use Rattle.clap.specs.Kinds.{IsAmong}
+use Rattle.clap.specs.declared.error.kind.ErrorKind.{ErrorKind}
+use Rattle.clap.specs.declared.error.kind.ErrorKind.TheVariants.{DisplayHelp, OutOfMemory}
+use Rattle.command_line.specs.declared.Request.{Request}
+use Rattle.command_line.specs.declared.Refusal.{Refusal}
+use Rattle.command_line.specs.declared.Refusal.TheVariants.{Help, Usage, Memory}
+use Rattle.command_line.specs.Line.{AnswersLine, AsksFor, ringcheck_app}
+use Rattle.command_line.specs.Steps.{IsRefusalFor}
+
+pub asked : (a : App) (words : List Text) (rows : Option (Text × List Row)) (request : Request) → a ≡ ringcheck_app → fault_of a words ≡ [] → rows ≡ subcommand_of a words
+    → AsksFor rows request → AnswersLine words (Ok request)
+asked a words rows request e none is asks =
+    (ap (λ (b : App). fault_of b words) (sym e) ∙ none, subst (λ o. AsksFor o request) (is ∙ ap (λ (b : App). subcommand_of b words) e) asks)
+
+pub refused : (a : App) (words : List Text) (kind : ErrorKind) (r : Refusal) → a ≡ ringcheck_app → (kind ≡ OutOfMemory) ⊎ IsAmong kind (fault_of a words) → IsRefusalFor kind r
+    → (kind ≡ OutOfMemory → r ≡ Memory) → AnswersLine words (Err r)
+refused a words kind Memory e has is memory = tt
+refused a words kind (Help text) e (inl none) is memory = let h = memory none in cc
+refused a words kind (Help text) e (inr among) is memory = subst (λ b. IsAmong DisplayHelp (fault_of b words)) e (subst (λ k. IsAmong k (fault_of a words)) is among)
+refused a words kind (Usage text) e (inl none) is memory = let h = memory none in cc
+refused a words kind (Usage text) e (inr among) is memory = (kind, subst (λ b. IsAmong kind (fault_of b words)) e among, is)

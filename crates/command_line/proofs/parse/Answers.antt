@@ -1,0 +1,26 @@
+use Rattle.std.proofs.Common.{◌≡◌, ◌∙◌, ap, ap₂}
+use Rattle.clap.specs.Words.{is_simple, is_simple_and_free, subcommand_of, takes}
+use Rattle.command_line.proofs.Answered.{asked, refused}
+use Rattle.command_line.proofs.Words.{check_found, check_taken, is_free_command, is_plain_command}
+use Rattle.command_line.proofs.parse.Goals as goal
+
+pub returns-in-Some : goal.returns-in-Some
+returns-in-Some c =
+    let parsed = c.in-Ok-try_get_matches_from.ensures.matches (ap is_simple c.in-Ok.ensures ∙ is_plain_command) in
+    let faultless = c.in-Ok-try_get_matches_from.ensures.kinds (ap is_simple_and_free c.in-Ok.ensures ∙ is_free_command) in
+    record {
+      exact = asked _ _ _ c.in-Some.request c.in-Ok.ensures faultless parsed.1 c.in-Some.ensures.asked;
+      check = λ r g m e p q s.
+          let (rows, found, has) = check_found r g m p q s in
+          c.in-Some.ensures.check r g m rows (parsed.1 ∙ ap₂ subcommand_of c.in-Ok.ensures e ∙ found) has;
+    }
+
+pub returns : goal.returns
+returns c =
+    let fault = c.in-Err.ensures.kinds (ap is_simple_and_free c.in-Ok.ensures ∙ is_free_command) in
+    record {
+      exact = refused _ _ _ c.refusal_for.result c.in-Ok.ensures fault c.refusal_for.ensures.kind c.refusal_for.ensures.memory;
+      check = λ r g m e p q s.
+          let memory = c.in-Err.ensures.passes (ap₂ takes c.in-Ok.ensures e ∙ check_taken r g m p q s) in
+          rw (c.refusal_for.ensures.memory memory) tt;
+    }

@@ -1,0 +1,24 @@
+-- Words between the public clauses and those of a single step.
+use Rattle.std.specs.Prelude.{◌≡◌, ◌≢◌, List, codes, Some, None, Option}
+use Rattle.clap.specs.Words.{Row, Text, first_of}
+use Rattle.clap.specs.declared.error.kind.ErrorKind.{ErrorKind}
+use Rattle.clap.specs.declared.error.kind.ErrorKind.TheVariants.{DisplayHelp}
+use Rattle.command_line.specs.declared.Request.{Request}
+use Rattle.command_line.specs.declared.Refusal.{Refusal}
+use Rattle.command_line.specs.declared.Refusal.TheVariants.{Help, Usage, Memory}
+use Rattle.command_line.specs.Line.{IsCheck}
+
+-- the values of a check (docs/FORMATS.md, The program)
+abbrev pub HasCheckRows : Text → Text → Text → List Row → Type 0
+HasCheckRows r g m rows = (first_of (codes "ring") rows ≡ Some r) × (first_of (codes "gap") rows ≡ Some g) × (first_of (codes "manifest") rows ≡ Some m)
+
+-- there is a request, and it is a check with these words (docs/FORMATS.md, The program)
+abbrev pub IsCheckIfSome : Text → Text → Text → Option Request → Type 0
+IsCheckIfSome r g m None = ⊥
+IsCheckIfSome r g m (Some asked) = IsCheck r g m asked
+
+-- the refusal for a kind of error, want of memory aside (docs/FORMATS.md, The program)
+abbrev pub IsRefusalFor : ErrorKind → Refusal → Type 0
+IsRefusalFor kind (Help text) = kind ≡ DisplayHelp
+IsRefusalFor kind (Usage text) = kind ≢ DisplayHelp
+IsRefusalFor kind Memory = Unit {0}

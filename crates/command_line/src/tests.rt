@@ -1,0 +1,146 @@
+use super::*;
+
+fn is_usage(rt: HostRuntime, words: &[&str]) -> bool {
+    matches!(parse(rt.alloc(), words), Err(Refusal::Usage(_)))
+}
+
+/// Whether help is given, and its text has these parts.
+fn helps(rt: HostRuntime, words: &[&str], parts: &[&str]) -> bool {
+    match parse(rt.alloc(), words) {
+        Err(Refusal::Help(text)) => parts.iter().all(|part| text.as_str().contains(*part)),
+        _ => false,
+    }
+}
+
+/// Whether the words ask for a check with a ring of 0.125, a gap of 0.2 and the manifest `m.csv`.
+fn asks_for_check(rt: HostRuntime, words: &[&str]) -> bool {
+    match parse(rt.alloc(), words) {
+        Ok(
+            Request::Check {
+                ring,
+                gap,
+                manifest,
+            },
+        ) => ring == "0.125" && gap == "0.2" && manifest == "m.csv",
+        _ => false,
+    }
+}
+
+#[test]
+fn a_check_is_asked_for(rt: HostRuntime) {
+    assert!(rt; asks_for_check(rt, &["check", "--ring", "0.125", "--gap", "0.2", "m.csv"]));
+}
+
+#[test]
+fn options_stand_in_any_order(rt: HostRuntime) {
+    assert!(rt; asks_for_check(rt, &["check", "--gap", "0.2", "--ring", "0.125", "m.csv"]));
+    assert!(rt; asks_for_check(rt, &["check", "m.csv", "--gap", "0.2", "--ring", "0.125"]));
+    assert!(rt; asks_for_check(rt, &["check", "--ring", "0.125", "m.csv", "--gap", "0.2"]));
+    assert!(rt; asks_for_check(rt, &["check", "--gap=0.2", "--ring=0.125", "m.csv"]));
+    assert!(rt; asks_for_check(rt, &["check", "--gap=0.2", "--ring=0.125", "--", "m.csv"]));
+}
+
+#[test]
+fn a_table_and_a_canonical_text_are_asked_for(rt: HostRuntime) {
+    for words in [
+        ["show", "--kind", "layer", "top.gbr"],
+        ["show", "top.gbr", "--kind", "layer"],
+    ] {
+        let is_show = matches!(
+            parse(rt.alloc(), &words),
+            Ok(Request::Show {
+                kind: "layer",
+                file: "top.gbr"
+            })
+        );
+        assert!(rt; is_show);
+    }
+    for words in [
+        ["rewrite", "--kind", "drill", "pth.drl"],
+        ["rewrite", "pth.drl", "--kind", "drill"],
+    ] {
+        let is_rewrite = matches!(
+            parse(rt.alloc(), &words),
+            Ok(Request::Rewrite {
+                kind: "drill",
+                file: "pth.drl"
+            })
+        );
+        assert!(rt; is_rewrite);
+    }
+    let other_kind = matches!(
+        parse(rt.alloc(), &["show", "--kind", "board", "x"]),
+        Ok(Request::Show {
+            kind: "board",
+            file: "x"
+        })
+    );
+    assert!(rt; other_kind);
+}
+
+#[test]
+fn a_value_may_begin_with_a_minus_only_behind_an_equals_sign(rt: HostRuntime) {
+    assert!(rt; is_usage(rt, &["check", "--ring", "-1", "--gap", "0.2", "m.csv"]));
+    let below = matches!(
+        parse(rt.alloc(), &["check", "--ring=-1", "--gap", "0.2", "m.csv"]),
+        Ok(Request::Check { ring: "-1", .. })
+    );
+    assert!(rt; below);
+}
+
+#[test]
+fn other_words_are_refused(rt: HostRuntime) {
+    let none: [&str; 0] = [];
+    assert!(rt; is_usage(rt, &none));
+    assert!(rt; is_usage(rt, &["check"]));
+    assert!(rt; is_usage(rt, &["check", "--ring", "0.125", "m.csv"]));
+    assert!(rt; is_usage(rt, &["check", "--gap", "0.2", "m.csv"]));
+    assert!(rt; is_usage(rt, &["check", "--ring", "0.125", "--gap", "0.2"]));
+    assert!(rt;
+        is_usage(
+            rt,
+            &[
+                "check", "--ring", "0.125", "--ring", "0.125", "--gap", "0.2", "m.csv"
+            ]
+        )
+    );
+    assert!(rt;
+        is_usage(
+            rt,
+            &["check", "--ring", "0.125", "--gap", "0.2", "m.csv", "n.csv"]
+        )
+    );
+    assert!(rt;
+        is_usage(
+            rt,
+            &[
+                "check", "--ring", "0.125", "--gap", "0.2", "--fast", "m.csv"
+            ]
+        )
+    );
+    assert!(rt; is_usage(rt, &["Check", "--ring", "0.125", "--gap", "0.2", "m.csv"]));
+    assert!(rt; is_usage(rt, &["--ring", "0.125", "--gap", "0.2", "m.csv"]));
+    assert!(rt; is_usage(rt, &["show", "top.gbr"]));
+    assert!(rt; is_usage(rt, &["rewrite", "--kind", "layer"]));
+    assert!(rt; is_usage(rt, &["plot", "top.gbr"]));
+    assert!(rt; is_usage(rt, &["--version"]));
+}
+
+#[test]
+fn help_is_given_where_it_is_asked_for(rt: HostRuntime) {
+    let commands = ["check", "show", "rewrite", "help"];
+    assert!(rt; helps(rt, &["--help"], &commands));
+    assert!(rt; helps(rt, &["-h"], &commands));
+    assert!(rt; helps(rt, &["help"], &commands));
+    let values = [
+        "--ring <MM>",
+        "--gap <MM>",
+        "<MANIFEST>",
+        "in mm",
+        "role,name,file",
+    ];
+    assert!(rt; helps(rt, &["check", "--help"], &values));
+    assert!(rt; helps(rt, &["help", "check"], &values));
+    assert!(rt; helps(rt, &["show", "--help"], &["--kind <layer|drill>", "<FILE>"]));
+    assert!(rt; helps(rt, &["rewrite", "-h"], &["--kind <layer|drill>", "<FILE>"]));
+}

@@ -1,0 +1,2 @@
+pub mod Manifest
+pub mod OneRecord

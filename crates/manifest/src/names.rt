@@ -1,0 +1,40 @@
+//! Names that a manifest gives, which contracts see as the list of their bytes.
+
+ghost use Rattle.std.specs.Prelude.{◌≡◌, IfOk, ℕ, List, string_bytes};
+
+use std::alloc::{AllocError, Global};
+use std::marker::Model;
+
+/// A name in a manifest: text without control characters. Contracts see the list of its bytes in UTF-8.
+#[derive(Debug, Drop)]
+pub struct Name {
+    held: String,
+}
+
+impl Model for Name {
+    ghost Value = { List ℕ };
+
+    ghost view = { λ name. string_bytes name.held };
+}
+
+impl Name {
+    /// A copy of a text.
+    ///
+    /// # Errors
+    ///
+    /// An `AllocError` where there is no memory for it.
+    pub fn new(alloc: Global, text: &str) -> Result<Name, AllocError>
+        ensures { IfOk result (λ name. name ≡ text.now) }
+    {
+        Ok(Name {
+            held: String::from_str(alloc, text)?,
+        })
+    }
+
+    /// The text.
+    pub fn as_str(&self) -> &str
+        ensures { result.now ≡ self.now }
+    {
+        self.held.as_str()
+    }
+}
