@@ -1,27 +1,26 @@
 -- The pairs of holes that are not clear: those of the definition, and those that a sweep meets, have the same members.
-use Rattle.std.proofs.Common.{◌≡◌, ℕ, ◌+◌, ◌<◌, ◌≤◌, ◌⊎◌, ◌-ℤ◌, inl, inr, zero, suc, min, max, Bool, true, false, cond, List, [], ◌∷◌, ◌++◌, map, length, get_or, refl, sym, ap, ◌∙◌, subst, arith}
+use Rattle.std.proofs.Common.{◌≡◌, ℕ, ◌+◌, ◌<◌, ◌≤◌, ◌⊎◌, ◌-ℤ◌, inl, inr, min, max, Bool, true, false, cond, List, [], ◌∷◌, ◌++◌, map, length, get_or, refl, sym, ap, ◌∙◌, subst, arith}
 use Rattle.std.specs.Prelude.{not, ◌&&◌, nat_eq, nat_lt, nat_le}
 use Rattle.std.specs.Int.{int_min, int_max}
 use Rattle.std.specs.List.{All, AllPairs, Contains, filter, flat_map, enumerate_from, IsDistinct}
 use Rattle.std.specs.List.Sorted.{IsPermutation, IsSorted}
 use Rattle.std.proofs.lemmas.Bool.{cases_lt, cases_eq}
 use Rattle.std.proofs.lemmas.Bool.Decides.{nat_tests}
-use Rattle.std.proofs.lemmas.List.{map-append, length-map, get_or-map, append_assoc, get_or_default}
+use Rattle.std.proofs.lemmas.List.{map-append, get_or_default}
 use Rattle.std.proofs.lemmas.List.Concat.{flat_map-cons}
 use Rattle.std.proofs.lemmas.List.FromFn.{get_or-enumerate_from, length-enumerate_from}
 use Rattle.std.proofs.lemmas.List.Elements.{All-nil, All-cons, All-head, All-tail, All-append, All-push, All-same, All-map, All-filter, All-weaker, All-contains, filter_passes, Contains-append_left, Contains-append_right, Contains-push}
 use Rattle.std.proofs.lemmas.List.Kept.{AllPairs-cons, AllPairs-filter}
-use Rattle.std.proofs.lemmas.List.Sorted.{IsPermutation-refl, IsPermutation-sym, Contains-permutation, All-permutation}
+use Rattle.std.proofs.lemmas.List.Sorted.{IsPermutation-refl, IsPermutation-sym, Contains-permutation}
 use Rattle.std.proofs.lemmas.Map.Keys.{IsDistinct-from_apart, IsDistinct-IsPermutation, apart_from_distinct}
 use Rattle.std.proofs.lemmas.Simd.{map-map}
 use Rattle.grid_units.specs.Points.{square}
 use Rattle.grid_units.specs.Holes.{GridHole}
-use Rattle.grid_units.specs.Lists.{positions, positions_after}
+use Rattle.grid_units.specs.Lists.{positions_after}
 use Rattle.ring_rules.specs.Cores.{positive_part, range_distance, square_of_cores, are_clear}
 use Rattle.ring_rules.specs.Findings.{hole_findings, gap_findings}
 use Rattle.ring_rules.specs.Meeting.{in_order, clashes_with, clashes_met}
 use Rattle.ring_rules.specs.declared.finding.Drilled.{Drilled}
-use Rattle.ring_rules.specs.declared.finding.Finding.{Finding}
 use Rattle.ring_rules.specs.declared.finding.Finding.TheVariants.{Gap}
 use Rattle.ring_rules.proofs.Sweeping.{placed_right}
 use Rattle.ring_rules.proofs.Rising.{Before, pair_cmp, pairs_head, pairs_tail, pairs_none, pairs_append, pairs_map, pairs_weaker, contains_cases, contains_first, contains_later, same_rising, rising_from_sorted, differ_permutation, no_eq, eq_flips, other_places}

@@ -1,20 +1,18 @@
 -- Where nothing is found, each element passes.
-use Rattle.std.proofs.Common.{◌≡◌, ℕ, ℤ, pos, negsuc, zero, suc, ◌+◌, ◌<◌, ◌≤◌, Bool, true, false, cond, List, [], ◌∷◌, ◌++◌, map, length, get_or, refl, sym, ap, ◌∙◌, arith}
+use Rattle.std.proofs.Common.{◌≡◌, ℕ, ℤ, pos, negsuc, zero, suc, ◌+◌, ◌<◌, Bool, true, false, cond, List, [], ◌∷◌, ◌++◌, map, length, get_or, refl, sym, ap, ◌∙◌, arith}
 use Rattle.std.specs.Prelude.{not, ◌&&◌, nat_lt}
 use Rattle.std.specs.List.{filter, flat_map, enumerate_from, list_any, Contains}
 use Rattle.std.specs.Ordering.{int_eq}
 use Rattle.std.proofs.lemmas.Bool.Decides.{nat_tests}
 use Rattle.std.proofs.lemmas.List.Concat.{flat_map-cons}
 use Rattle.std.proofs.lemmas.List.FromFn.{get_or-enumerate_from, length-enumerate_from}
-use Rattle.std.proofs.lemmas.List.Elements.{Contains-get_or}
 use Rattle.grid_units.specs.Points.{GridPoint}
-use Rattle.grid_units.specs.Holes.{GridHole, AreClear, AreApart, is_round}
+use Rattle.grid_units.specs.Holes.{GridHole, AreClear, is_round}
 use Rattle.pad_shapes.specs.Shapes.{HoldsWhatItCovers}
 use Rattle.ring_rules.specs.Cores.{are_clear}
-use Rattle.ring_rules.specs.Findings.{covers_hole, is_wanting, layer_findings, ring_findings, hole_findings, gap_findings}
-use Rattle.ring_rules.specs.Passing.{IsHeld, AreHeld, HoldsWhenNoneWant, ApartWhenNoneClash}
+use Rattle.ring_rules.specs.Findings.{covers_hole, is_wanting, layer_findings, hole_findings}
+use Rattle.ring_rules.specs.Passing.{HoldsWhenNoneWant, ApartWhenNoneClash}
 use Rattle.ring_rules.specs.declared.finding.Drilled.{Drilled}
-use Rattle.ring_rules.specs.declared.finding.Finding.TheVariants.{Ring, Gap}
 use Rattle.ring_rules.proofs.CoreLemmas.{clear_from_test, clear_holes_are_apart}
 
 no_map : {X Y : Type 0} (f : X → Y) (xs : List X) → map f xs ≡ [] → xs ≡ []

@@ -1,5 +1,5 @@
 -- The distance of the cores of two holes, computed from their ends.
-use Rattle.std.specs.Prelude.{ℕ, ℤ, pos, negsuc, ◌+◌, max, ◌-ℤ◌, ◌↔◌, Bool, nat_le, IsTrue}
+use Rattle.std.specs.Prelude.{ℕ, ℤ, pos, negsuc, ◌+◌, max, ◌-ℤ◌, Bool, nat_le}
 use Rattle.std.specs.Int.{int_min, int_max}
 use Rattle.grid_units.specs.Points.{square}
 use Rattle.grid_units.specs.Holes.{GridHole, AreClear, AreApart}
