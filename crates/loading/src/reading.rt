@@ -1,0 +1,91 @@
+//! All bytes of a reader, within a limit.
+
+ghost use Rattle.std.specs.Prelude.{◌≡◌, ◌<◌, ◌≤◌, ◌+◌, ◌++◌, length, OnOk, IfErr, vec_len};
+ghost use Rattle.std.specs.Io.KnownBytes.{IsAtEnd};
+ghost use Rattle.loading.specs.Reading.{ReadsAll, max_limit};
+ghost use Rattle.loading.specs.declared.reading.ReadFail.TheVariants as fails;
+
+use std::alloc::{AllocError, Global};
+use std::io::{ErrorKind, Read};
+use thiserror::Error;
+
+/// Why the bytes of a reader are not to be had.
+#[derive(Clone, Copy, Debug, PartialEq, Eq, Error)]
+pub enum ReadFail {
+    /// A read failed, or too many of them gave nothing.
+    #[error("the reader failed")]
+    ReadFault,
+    /// There are more bytes than the limit.
+    #[error("too many bytes")]
+    TooLong,
+    /// There is no memory.
+    #[error("out of memory")]
+    Memory,
+}
+
+impl From<AllocError> for ReadFail {
+    ghost from_gives = { λ _ e. e ≡ fails.Memory };
+
+    fn from(_error: AllocError) -> ReadFail {
+        ReadFail::Memory
+    }
+}
+
+/// The greatest limit of [`read_all`], in bytes.
+pub const MAX_LIMIT: u64 = 268_435_456;
+
+/// How many calls of read may come on top of one for each byte.
+const SPARE_CALLS: u64 = 65_536;
+
+/// How many bytes are asked for at once.
+const BLOCK: usize = 65_536;
+
+/// All that a reader has left, if that is not more than `limit` bytes; a limit is at most [`MAX_LIMIT`]. A read that was
+/// interrupted is called again.
+///
+/// # Errors
+///
+/// [`ReadFail::TooLong`] where more than `limit` bytes come; [`ReadFail::ReadFault`] where a read fails, or has been called
+/// `limit + 65,536` times; [`ReadFail::Memory`].
+pub fn read_all<R: Read>(alloc: Global, reader: &mut R, limit: u64) -> Result<Vec<u8>, ReadFail>
+    requires limit { limit ≤ max_limit }
+    ensures exact { ReadsAll (R.remaining reader.old) limit result }
+    ensures end { OnOk result (IsAtEnd (R.remaining reader.new)) }
+{
+    let mut bytes = Vec::new(alloc);
+    let mut block = [0u8; BLOCK];
+    for _ in 0..limit + SPARE_CALLS {
+        match reader.read(&mut block) {
+            Ok(0) => return Ok(bytes),
+            Ok(count) => append(&mut bytes, &block[..count], limit)?,
+            Err(error) if error.kind() == ErrorKind::Interrupted => {}
+            Err(_) => return Err(ReadFail::ReadFault),
+        }
+    }
+    Err(ReadFail::ReadFault)
+}
+
+/// Appends bytes, if the limit lets them in.
+fn append(bytes: &mut Vec<u8>, more: &[u8], limit: u64) -> Result<(), ReadFail>
+    requires { vec_len bytes.old ≤ limit }
+    ensures ok { OnOk result ((bytes.new.items ≡ bytes.old.items ++ more.now) × (vec_len bytes.new ≤ limit)) }
+    ensures long { IfErr result (λ e. e ≡ ReadFail.TooLong → limit < vec_len bytes.old + length more.now) }
+{
+    if more.len() as u64 > limit - bytes.len() as u64 {
+        return Err(ReadFail::TooLong);
+    }
+    make_room(bytes, more.len())?;
+    bytes.extend_from_slice(more)?;
+    Ok(())
+}
+
+/// Room for so many more bytes, and where the vector has to grow for them, by a sixteenth at least: so it holds little more
+/// than its bytes, and is seldom moved.
+fn make_room(bytes: &mut Vec<u8>, count: usize) -> Result<(), AllocError>
+    ensures { bytes.new.items ≡ bytes.old.items }
+{
+    if count <= bytes.capacity() - bytes.len() {
+        return Ok(());
+    }
+    bytes.reserve_exact(count.max(bytes.len() / 16))
+}
