@@ -1,3 +1,8 @@
 pub mod Steps
 pub mod Lookbacks
 pub mod Binds
+pub mod Exactness
+pub mod Digits
+pub mod Places
+pub mod Spelled
+pub mod Filling

@@ -3,15 +3,24 @@
 //! All lengths are whole picometres (pm): 1 mm is 1,000,000,000 pm and 1 inch is 25,400,000,000 pm.
 #![tactic(auto)]
 
+mod decimal;
 mod fault;
 mod holes;
 pub mod laws;
+mod lengths;
+pub mod numbers;
 mod plane;
 mod ring_gap;
+mod spelling;
 mod text;
+mod zero_filling;
 
+pub use decimal::Dec;
 pub use fault::{Fail, Fault, Reason, both};
 pub use holes::Hole;
+pub use lengths::{Unit, exact_lengths, from_digits, is_far, picometres, power_of_ten};
 pub use plane::{MAX_COORDINATE, Point, square, square_distance, square_length};
 pub use ring_gap::Rules;
+pub use spelling::write_mm;
 pub use text::Text;
+pub use zero_filling::{Zeros, from_zeros};

@@ -1,0 +1,5 @@
+use Rattle.grid_units.proofs.Exactness.{exact}
+use Rattle.grid_units.proofs.lengths.exact_lengths.Goals as goal
+
+pub returns : goal.returns
+returns c = exact

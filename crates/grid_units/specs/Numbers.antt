@@ -1,0 +1,119 @@
+-- Numbers, and the lengths that they give.
+use Rattle.std.specs.Prelude.{ℕ, ◌+◌, ◌-◌, ◌*◌, ◌/◌, ◌^◌, Bool, false, not, ◌||◌, ◌&&◌, ◌==◌, nat_lt, nat_le, List, [], ◌∷◌, ◌++◌, length, drop, replicate, if◌then◌else◌, Result, Ok, Err, ℤ, pos, neg_ℤ, ◌*ℤ◌, unsigned_abs}
+use Rattle.std.specs.List.{fold, list_all, before_first, after_first}
+use Rattle.grid_units.specs.declared.fault.Reason.{Reason}
+use Rattle.grid_units.specs.declared.fault.Reason.TheVariants.{BadNumber, NoZeros, TooManyDigits, TooFine, TooFar}
+use Rattle.grid_units.specs.declared.lengths.Unit.{Unit as Units}
+use Rattle.grid_units.specs.declared.lengths.Unit.TheVariants.{Inch, Millimetre}
+use Rattle.grid_units.specs.declared.zero_filling.Zeros.{Zeros}
+use Rattle.grid_units.specs.declared.zero_filling.Zeros.TheVariants.{Leading, Trailing, Full}
+use Rattle.grid_units.specs.Points.{max_coordinate}
+use Rattle.grid_units.specs.Results.{◌>>=◌}
+
+-- ---- digits
+
+-- `0` to `9` (docs/FORMATS.md, Numbers)
+abbrev pub is_digit : ℕ → Bool
+is_digit b = nat_le 48 b && nat_le b 57
+
+-- a digit, a sign or a point (docs/FORMATS.md, Numbers)
+abbrev pub is_number : ℕ → Bool
+is_number b = is_digit b || ((b == 43) || ((b == 45) || (b == 46)))
+
+-- one or more digits (docs/FORMATS.md, Numbers)
+abbrev pub is_digits : List ℕ → Bool
+is_digits bs = not (length bs == 0) && list_all is_digit bs
+
+-- the number that decimal digits spell (docs/FORMATS.md, Numbers)
+abbrev pub value : List ℕ → ℕ
+value digits = fold (λ n b. n * 10 + (b - 48)) 0 digits
+
+-- what stands behind an optional sign (docs/FORMATS.md, Numbers)
+abbrev pub unsigned : List ℕ → List ℕ
+unsigned [] = []
+unsigned (b ∷ bs) = if (b == 43) || (b == 45) then bs else b ∷ bs
+
+-- the sign is a minus (docs/FORMATS.md, Numbers)
+abbrev pub is_negative : List ℕ → Bool
+is_negative [] = false
+is_negative (b ∷ bs) = b == 45
+
+-- a number with the sign of a text (docs/FORMATS.md, Numbers)
+abbrev pub signed : List ℕ → ℕ → ℤ
+signed text n = if is_negative text then neg_ℤ (pos n) else pos n
+
+-- the v of v * 10^k = n * 10^8: n with k decimals, in units of 10^-8 (docs/FORMATS.md, Numbers)
+abbrev pub fine : ℕ → ℕ → ℕ
+fine n k = n * 10 ^ 8 / 10 ^ k
+
+-- ---- decimals
+
+-- the digits before the point (docs/FORMATS.md, Numbers)
+abbrev pub whole : List ℕ → List ℕ
+whole text = before_first (λ b. b == 46) (unsigned text)
+
+-- the digits behind the point (docs/FORMATS.md, Numbers)
+abbrev pub fraction : List ℕ → List ℕ
+fraction text = after_first (λ b. b == 46) (unsigned text)
+
+-- an optional sign, and one or more digits with at most one point among them (docs/FORMATS.md, Numbers)
+abbrev pub is_decimal : List ℕ → Bool
+is_decimal text = (list_all is_digit (whole text) && list_all is_digit (fraction text)) && not (length (whole text) + length (fraction text) == 0)
+
+-- the decimals behind the eighth are zeros (docs/FORMATS.md, Numbers)
+abbrev pub is_coarse : List ℕ → Bool
+is_coarse decimals = list_all (λ b. b == 48) (drop 8 decimals)
+
+-- the number that all the digits spell (docs/FORMATS.md, Numbers)
+abbrev pub all_digits : List ℕ → ℕ
+all_digits text = value (whole text ++ fraction text)
+
+-- A decimal in units of 10^-8, or the first refusal: BadNumber, TooFine, TooFar (docs/FORMATS.md, Numbers).
+unfoldable pub dec_of : List ℕ → Result ℤ Reason
+dec_of text =
+    if is_decimal text then (if is_coarse (fraction text) then (if nat_lt 999999 (value (whole text)) then Err TooFar
+    else Ok (signed text (fine (all_digits text) (length (fraction text)))))
+    else Err TooFine)
+    else Err BadNumber
+
+-- the largest absolute value of a decimal, in units of 10^-8 (docs/FORMATS.md, Numbers)
+abbrev pub max_units : ℕ
+max_units = 99999999999999
+
+-- ---- lengths
+
+-- the picometres of a unit (docs/FORMATS.md, Lengths)
+abbrev pub unit_length : Units → ℕ
+unit_length Inch = 25400000000
+unit_length Millimetre = 1000000000
+
+-- the p of p * 10^decimals = n * unit: a number with so many decimals of a unit, in pm (docs/FORMATS.md, Lengths)
+abbrev pub picometres : Units → ℕ → ℤ → ℤ
+picometres unit decimals n = n *ℤ pos (unit_length unit / 10 ^ decimals)
+
+-- beyond 10 m (docs/FORMATS.md, Limits)
+abbrev pub is_far : ℤ → Bool
+is_far length = nat_lt max_coordinate (unsigned_abs length)
+
+-- a length, or TooFar beyond 10 m (docs/FORMATS.md, Limits)
+unfoldable pub within_limit : ℤ → Result ℤ Reason
+within_limit length = if is_far length then Err TooFar else Ok length
+
+-- ---- drill coordinates without a point
+
+-- How many zeros are filled in behind so many digits, by the zeros that were kept; where neither is named all places must be
+-- written (docs/FORMATS.md, Coordinates of a drill file).
+abbrev pub missing : Zeros → ℕ → ℕ → Result ℕ Reason
+missing Leading places n = if nat_le n places then Ok (places - n) else Err TooManyDigits
+missing Trailing places n = if nat_le n places then Ok 0 else Err TooManyDigits
+missing Full places n = if n == places then Ok 0 else Err NoZeros
+
+-- the number of a coordinate's digits, with so many zeros filled in behind them (docs/FORMATS.md, Coordinates of a drill file)
+abbrev pub filled : List ℕ → ℕ → ℕ
+filled digits zeros = value (digits ++ replicate zeros 48)
+
+-- A coordinate without a point in the format i:d, in units of 10^-8 (docs/FORMATS.md, Coordinates of a drill file).
+unfoldable pub zeros_of : List ℕ → ℕ → ℕ → Zeros → Result ℤ Reason
+zeros_of text i d zeros =
+    if is_digits (unsigned text) then (missing zeros (i + d) (length (unsigned text)) >>= λ k. Ok (signed text (fine (filled (unsigned text) k) d)))
+    else Err BadNumber

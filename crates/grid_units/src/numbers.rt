@@ -1,0 +1,92 @@
+//! Runs of digits, and the numbers that they spell.
+
+ghost use Rattle.std.specs.Prelude.{◌≡◌, ◌≤◌, ◌<◌, ◌^◌, min, length, All, true};
+ghost use Rattle.std.specs.List.{list_all, prefix_len};
+ghost use Rattle.grid_units.specs.Numbers.{is_digit, is_number, is_digits, value, unsigned, is_negative};
+
+/// Whether a byte is `0` to `9`.
+pub fn is_digit(byte: u8) -> bool
+    ensures { result ≡ is_digit byte }
+{
+    byte >= b'0' && byte <= b'9'
+}
+
+/// Whether a byte is a digit, a sign or a point.
+pub fn is_number(byte: u8) -> bool
+    ensures { result ≡ is_number byte }
+{
+    is_digit(byte) || byte == b'+' || byte == b'-' || byte == b'.'
+}
+
+/// How many digits stand in front: the length of the digit run.
+pub fn digits_len(bytes: &[u8]) -> usize
+    ensures within { result ≤ length bytes.now }
+    ensures len { result ≡ prefix_len is_digit bytes.now }
+{
+    for (i, byte) in bytes.iter().enumerate() {
+        if !is_digit(*byte) {
+            return i;
+        }
+    }
+    bytes.len()
+}
+
+/// How many number characters stand in front: the length of the run.
+pub fn number_len(bytes: &[u8]) -> usize
+    ensures within { result ≤ length bytes.now }
+    ensures len { result ≡ prefix_len is_number bytes.now }
+{
+    for (i, byte) in bytes.iter().enumerate() {
+        if !is_number(*byte) {
+            return i;
+        }
+    }
+    bytes.len()
+}
+
+/// Whether there are one or more digits and nothing else.
+pub fn is_digits(bytes: &[u8]) -> bool
+    ensures { result ≡ is_digits bytes.now }
+{
+    !bytes.is_empty() && are_all_digits(bytes)
+}
+
+/// Whether there is nothing but digits.
+pub fn are_all_digits(bytes: &[u8]) -> bool
+    ensures { result ≡ list_all is_digit bytes.now }
+{
+    bytes.iter().all(|byte| is_digit(*byte))
+}
+
+/// The number that digits spell, or the limit where it is greater.
+pub fn capped_value(digits: &[u8], limit: u64) -> u64
+    requires digits { All (λ b. is_digit b ≡ true) digits.now }
+    requires limit { limit ≤ 10 ^ 18 }
+    ensures { result ≡ min (value digits.now) limit }
+{
+    let mut n: u64 = 0;
+    for byte in digits {
+        n = (n * 10 + u64::from(*byte - b'0')).min(limit);
+    }
+    n
+}
+
+/// What stands behind an optional sign.
+pub fn behind_sign(text: &[u8]) -> &[u8]
+    ensures { result.now ≡ unsigned text.now }
+{
+    match text {
+        [b'+' | b'-', rest @ ..] => rest,
+        _ => text,
+    }
+}
+
+/// Whether the sign is a minus.
+pub fn is_negative(text: &[u8]) -> bool
+    ensures { result ≡ is_negative text.now }
+{
+    match text {
+        [first, ..] => *first == b'-',
+        [] => false,
+    }
+}

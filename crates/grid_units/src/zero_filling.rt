@@ -1,0 +1,80 @@
+//! Coordinates of a drill file that are written without a point.
+
+ghost use Rattle.std.specs.Prelude.{◌≡◌, ◌≤◌, ◌<◌, ◌+◌, ◌*◌, ◌^◌, ◌*ℤ◌, pos, length, IfOk, All, true};
+ghost use Rattle.grid_units.specs.Numbers.{is_digit, unsigned, signed, fine, missing, filled, zeros_of};
+
+use crate::decimal::{Dec, signed};
+use crate::fault::Reason;
+use crate::lengths::power_of_ten;
+use crate::numbers::{behind_sign, capped_value, is_digits, is_negative};
+
+/// Which zeros the coordinates of a drill file keep, where they have no point.
+#[derive(Clone, Copy, Debug, PartialEq, Eq)]
+pub enum Zeros {
+    /// Leading zeros are kept (`LZ`): digits left out at the end are zeros.
+    Leading,
+    /// Trailing zeros are kept (`TZ`): digits left out in front are zeros.
+    Trailing,
+    /// Neither is named: every digit of the format must stand.
+    Full,
+}
+
+/// A coordinate without a point, in a format of `i` digits before the point and `d` behind it: the `v` of
+/// `v * 10^d = s * N * 10^8`, where `N` is the number of the digits after filling and `s` the sign.
+///
+/// # Errors
+///
+/// In this order: [`Reason::BadNumber`] where the text is no optional sign and digits;
+/// [`Reason::NoZeros`] where neither zeros are named and the digits are not `i + d`;
+/// [`Reason::TooManyDigits`] where one is named and there are more than `i + d` digits.
+#[tactic(auto, unfolding(crate::specs::Numbers::zeros_of))]
+pub fn from_zeros(text: &[u8], i: u8, d: u8, zeros: Zeros) -> Result<Dec, Reason>
+    requires whole { (1 ≤ i) × (i ≤ 6) }
+    requires decimals { (1 ≤ d) × (d ≤ 6) }
+    ensures exact { result ≡ zeros_of text.now i d zeros }
+    ensures equation { IfOk result (λ v. IfOk (missing zeros (i + d) (length (unsigned text.now))) (λ k. v *ℤ pos (10 ^ d) ≡ signed text.now (filled (unsigned text.now) k * 10 ^ 8))) }
+{
+    let digits = behind_sign(text);
+    if !is_digits(digits) {
+        return Err(Reason::BadNumber);
+    }
+    let zeros = missing(zeros, i + d, digits.len())?;
+    Ok(signed(is_negative(text), units_of(filled(digits, zeros), i, d)))
+}
+
+/// How many zeros are filled in behind so many digits.
+fn missing(zeros: Zeros, places: u8, digits: usize) -> Result<u8, Reason>
+    requires { places ≤ 12 }
+    ensures value { result ≡ missing zeros places digits }
+    ensures fits { IfOk result (λ k. digits + k ≤ places) }
+{
+    let all = usize::from(places);
+    match zeros {
+        Zeros::Leading if digits <= all => Ok((all - digits) as u8),
+        Zeros::Trailing if digits <= all => Ok(0),
+        Zeros::Full if digits == all => Ok(0),
+        Zeros::Leading | Zeros::Trailing => Err(Reason::TooManyDigits),
+        Zeros::Full => Err(Reason::NoZeros),
+    }
+}
+
+/// The number of digits with so many zeros behind them.
+fn filled(digits: &[u8], zeros: u8) -> u64
+    requires digits { All (λ b. is_digit b ≡ true) digits.now }
+    requires places { length digits.now + zeros ≤ 12 }
+    ensures value { result ≡ filled digits.now zeros }
+    ensures bound { result < 10 ^ (length digits.now + zeros) }
+{
+    capped_value(digits, 1_000_000_000_000) * power_of_ten(zeros)
+}
+
+/// A number of `d` decimals in units of 10^-8.
+fn units_of(number: u64, i: u8, d: u8) -> u64
+    requires whole { i ≤ 6 }
+    requires decimals { d ≤ 8 }
+    requires number { number < 10 ^ (i + d) }
+    ensures value { result ≡ fine number d }
+    ensures bound { result < 10 ^ 14 }
+{
+    number * power_of_ten(8 - d)
+}
