@@ -4,14 +4,14 @@ use Rattle.std.specs.List.{list_all, prefix_len}
 use Rattle.grid_units.specs.declared.fault.Reason.{Reason}
 use Rattle.grid_units.specs.declared.fault.Reason.TheVariants.{BadLine, BadNumber}
 use Rattle.grid_units.specs.Results.{◌>>=◌}
-use Rattle.drill_lines.specs.declared.number.Unit.{Unit as Units}
-use Rattle.drill_lines.specs.declared.number.Zeros.{Zeros}
-use Rattle.drill_lines.specs.declared.number.Zeros.TheVariants.{Leading, Trailing}
+use Rattle.grid_units.specs.declared.lengths.Unit.{Unit as Units}
+use Rattle.grid_units.specs.declared.zero_filling.Zeros.{Zeros}
+use Rattle.grid_units.specs.declared.zero_filling.Zeros.TheVariants.{Leading, Trailing}
 use Rattle.drill_lines.specs.declared.command.DrillCommand.{DrillCommand}
 use Rattle.drill_lines.specs.declared.command.DrillCommand.TheVariants.{UnitLine}
 use Rattle.drill_lines.specs.Formats.{Digits}
 use Rattle.drill_lines.specs.Lines.{begins}
-use Rattle.drill_lines.specs.Numbers.{is_number}
+use Rattle.grid_units.specs.Numbers.{is_number}
 
 -- the digit 0 (docs/FORMATS.md, Drill lines)
 abbrev pub is_zero : ℕ → Bool

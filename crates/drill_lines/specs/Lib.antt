@@ -1,7 +1,7 @@
 pub mod Formats
-pub mod Lengths
 pub mod Lines
-pub mod Numbers
 pub mod Outcomes
 pub mod Header
+pub mod Tools
+pub mod Drilling
 pub mod Meaning

@@ -5,7 +5,7 @@ use Rattle.std.specs.Str.{bytes_eq}
 use Rattle.grid_units.specs.declared.fault.Reason.{Reason}
 use Rattle.grid_units.specs.declared.fault.Reason.TheVariants.{AfterEnd, OldFormat, Incremental, Routed, Repeat, BadLine}
 use Rattle.grid_units.specs.Results.{◌>>=◌}
-use Rattle.drill_lines.specs.declared.number.Unit.TheVariants.{Inch, Millimetre}
+use Rattle.grid_units.specs.declared.lengths.Unit.TheVariants.{Inch, Millimetre}
 use Rattle.drill_lines.specs.declared.command.Part.{Part}
 use Rattle.drill_lines.specs.declared.command.Part.TheVariants as part
 use Rattle.drill_lines.specs.declared.command.Settings.{Settings}
@@ -13,6 +13,8 @@ use Rattle.drill_lines.specs.declared.command.DrillCommand.{DrillCommand}
 use Rattle.drill_lines.specs.declared.command.DrillCommand.TheVariants.{Comment, Start, HeaderEnd, UnitCode, Finish}
 use Rattle.drill_lines.specs.Lines.{begins}
 use Rattle.drill_lines.specs.Header.{unit_line}
+use Rattle.drill_lines.specs.Tools.{tool_line, pick_line}
+use Rattle.drill_lines.specs.Drilling.{drill_line}
 
 -- one command (docs/DEFINITIONS.md, Drill lines)
 abbrev pub one : Result DrillCommand Reason → Result (Option DrillCommand) Reason
@@ -57,7 +59,8 @@ header_line line =
     if ends_header line then Ok (Some HeaderEnd)
     else (if begins (codes "INCH") line then one (unit_line Inch (drop 4 line))
     else (if begins (codes "METRIC") line then one (unit_line Millimetre (drop 6 line))
-    else common_line line))
+    else (if begins (codes "T") line then one (tool_line (drop 1 line))
+    else common_line line)))
 
 -- a routed path (docs/FORMATS.md, Drill lines)
 abbrev pub is_routed : List ℕ → Bool
@@ -75,9 +78,16 @@ body_word line =
     else (if repeats line then Err Repeat
     else common_line line))
 
+-- a line begins with `X` or `Y` (docs/FORMATS.md, Drill lines)
+abbrev pub begins_point : List ℕ → Bool
+begins_point line = begins (codes "X") line || begins (codes "Y") line
+
 -- a line of the body (docs/FORMATS.md, Drill lines)
 unfoldable pub body_line : Settings → List ℕ → Result (Option DrillCommand) Reason
-body_line settings line = body_word line
+body_line settings line =
+    if begins_point line then one (drill_line settings line)
+    else (if begins (codes "T") line then one (pick_line (drop 1 line))
+    else body_word line)
 
 -- a line in this part of the file (docs/FORMATS.md, Drill lines)
 unfoldable pub line_in : Part → Settings → List ℕ → Result (Option DrillCommand) Reason

@@ -2,8 +2,7 @@
 
 ghost use Rattle.std.specs.Prelude.{◌≡◌, ◌≤◌, ◌↔◌, IsSome, IfSome};
 
-use crate::number::{Dec, Unit, Zeros};
-use grid_units::Text;
+use grid_units::{Dec, Text, Unit, Zeros};
 use std::marker::Model;
 
 /// How many digits a coordinate without a point has before its point and behind it: 1 to 6 each.

@@ -2,12 +2,13 @@
 
 ghost use Rattle.std.specs.Prelude.{◌≡◌, ◌≤◌, ◌==◌, length, drop};
 ghost use Rattle.std.specs.List.{list_all, prefix_len};
-ghost use Rattle.drill_lines.specs.Numbers.{is_number};
+ghost use Rattle.grid_units.specs.Numbers.{is_number};
 ghost use Rattle.drill_lines.specs.Header.{is_zero, is_size, sizes, pattern, pattern_from, unit_format, unit_line};
 
 use crate::command::{DrillCommand, Format};
-use crate::number::{Unit, Zeros, is_number};
-use grid_units::Reason;
+
+use grid_units::numbers::is_number;
+use grid_units::{Reason, Unit, Zeros};
 
 fn is_zero(byte: u8) -> bool
     ensures { result ≡ is_zero byte }

@@ -2,10 +2,10 @@
 #![tactic(auto)]
 
 mod command;
+mod drilling;
 mod header;
 mod line;
-mod number;
+mod tools;
 
 pub use command::{Coordinates, DrillCommand, Format, Part, Settings};
 pub use line::{LineFail, read_line};
-pub use number::{Dec, Unit, Zeros};

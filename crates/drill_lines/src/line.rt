@@ -5,12 +5,13 @@ ghost use Rattle.std.specs.Str.{bytes_eq};
 ghost use Rattle.drill_lines.specs.declared.line.LineFail.TheVariants.{Memory, Refused};
 ghost use Rattle.drill_lines.specs.Lines.{is_blank, trimmed, begins};
 ghost use Rattle.drill_lines.specs.Outcomes.{Gives};
-ghost use Rattle.drill_lines.specs.Meaning.{meaning, line_before, line_in, header_line, body_line, body_word, common_line, spells_nothing, begins_comment, is_old, is_incremental, is_routed, repeats, ends_header};
+ghost use Rattle.drill_lines.specs.Meaning.{meaning, line_before, line_in, header_line, body_line, body_word, begins_point, common_line, spells_nothing, begins_comment, is_old, is_incremental, is_routed, repeats, ends_header};
 
 use crate::command::{DrillCommand, Part, Settings};
+use crate::drilling::drill_line;
 use crate::header::unit_line;
-use crate::number::Unit;
-use grid_units::{Reason, Text};
+use crate::tools::{pick_line, tool_line};
+use grid_units::{Reason, Text, Unit};
 use std::alloc::{AllocError, Global};
 
 /// Why a line gives no command.
@@ -143,6 +144,9 @@ fn header_line(line: &[u8]) -> Result<Option<DrillCommand>, Reason>
     if let Some(rest) = line.strip_prefix(b"METRIC".as_slice()) {
         return Ok(Some(unit_line(Unit::Millimetre, rest)?));
     }
+    if let Some(rest) = line.strip_prefix(b"T".as_slice()) {
+        return Ok(Some(tool_line(rest)?));
+    }
     common_line(line)
 }
 
@@ -185,11 +189,24 @@ fn body_word(line: &[u8]) -> Result<Option<DrillCommand>, Reason>
     }
 }
 
+/// Whether a line begins with a coordinate.
+fn begins_point(line: &[u8]) -> bool
+    ensures { result ≡ begins_point line.now }
+{
+    begins(b"X", line) || begins(b"Y", line)
+}
+
 /// A line of the body.
 #[tactic(auto, unfolding(crate::specs::Meaning::body_line))]
 fn body_line(settings: Settings, line: &[u8]) -> Result<Option<DrillCommand>, Reason>
     ensures { result ≡ body_line settings line.now }
 {
+    if begins_point(line) {
+        return Ok(Some(drill_line(settings, line)?));
+    }
+    if let Some(rest) = line.strip_prefix(b"T".as_slice()) {
+        return Ok(Some(pick_line(rest)?));
+    }
     body_word(line)
 }
 

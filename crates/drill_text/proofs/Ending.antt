@@ -11,14 +11,14 @@ use Rattle.grid_units.specs.declared.fault.Reason.TheVariants.{TooLong, Truncate
 use Rattle.drill_text.specs.declared.judge.Judge.{Judge}
 use Rattle.drill_text.specs.declared.reader.Progress.{Progress}
 use Rattle.drill_text.specs.Lines.{bytes_of, Splits}
-use Rattle.grid_units.specs.Results.{◌>>=◌}
-use Rattle.grid_units.specs.Results.{fault}
+use Rattle.grid_units.specs.Results.{◌>>=◌, fault, Answers, Tells}
 use Rattle.drill_text.specs.Reading.{text_limit, shown, spelled, ended, is_finish, place_behind_count, Reads, Shows}
 use Rattle.drill_text.specs.Knowing.{Knows, Leaves}
-use Rattle.drill_text.specs.Outcome.{Answers}
+use Rattle.drill_text.specs.Lookback.{tools_of}
+use Rattle.drill_text.specs.Holes.{holes_of}
+use Rattle.drill_text.specs.Outcome.{DrillFile, commands_in, file_of}
 use Rattle.drill_text.specs.Standing.{Holds}
-use Rattle.grid_units.specs.Results.{Tells}
-use Rattle.drill_text.proofs.Shown.{bind_err, guard_err}
+use Rattle.grid_units.proofs.Binds.{bind_err, guard_err}
 
 ends_with : ℕ → List (List ℕ) → List ℕ → List DrillCommand → Result (List DrillCommand) Fault
 ends_with len lines rest commands = cond (ltb text_limit len) (Err (fault (suc (length lines)) text_limit TooLong)) (spelled (suc (length lines)) (length (bytes_of lines)) rest commands >>= ended len lines rest)
@@ -44,7 +44,7 @@ reads_is r text h answer le e =
 
 -- the last line has a fault
 pub reads_fault : (r : Progress) (text : List ℕ) (e : Fail) (judge : Judge) (new : List DrillCommand) → r.offset ≤ text_limit
-    → (Knows r.judge r.commands.items → Leaves {X = Unit {0}} (Err e) judge new (spelled (r.lines + 1) r.start r.line.items r.commands.items)) → Holds r text → Answers (λ answer. Reads text answer) (Err e)
+    → (Knows r.judge r.commands.items → Leaves {X = Unit {0}} (Err e) judge new (spelled (r.lines + 1) r.start r.line.items r.commands.items)) → Holds r text → Answers commands_in (Reads text) (Err e)
 reads_fault r text fails.Memory judge new le k h = tt
 reads_fault r text (fails.Refused f) judge new le k h = reads_is r text h (Err f) le (ap (λ s. s >>= ended (length text) h.lines r.line.items) (k h.knows))
 
@@ -77,6 +77,10 @@ shows_reads text f s = record {
   ];
 }
 
-pub answers_err : (text : List ℕ) (e : Fail) → Tells (λ f. Shows text (Err f)) e → Answers (λ answer. Reads text answer) (Err e)
+pub answers_err : (text : List ℕ) (e : Fail) → Tells (λ f. Shows text (Err f)) e → Answers commands_in (Reads text) (Err e)
 answers_err text fails.Memory h = tt
 answers_err text (fails.Refused f) h = shows_reads text f h
+
+-- what a judge holds is the file of its commands
+pub file_is : (judge : Judge) (cs : List DrillCommand) → Knows judge cs → (let d : DrillFile = record { commands = cs; holes = judge.holes.items; tools = judge.tools.entries } in d ≡ file_of cs)
+file_is judge cs knows = λ i. record { commands = cs; holes = knows.holes i; tools = knows.tools i }

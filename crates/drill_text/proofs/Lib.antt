@@ -5,3 +5,5 @@ pub mod Splitting
 pub mod Whole
 pub mod Ending
 pub mod Drilling
+pub mod Measures
+pub mod Judgements

@@ -8,7 +8,7 @@ use Rattle.grid_units.specs.Lists.{last_named}
 use Rattle.grid_units.specs.Points.{GridPoint}
 use Rattle.grid_units.specs.Holes.{GridHole}
 use Rattle.grid_units.proofs.Lookbacks.{option_or_none, option_or_assoc, unwrap_or_or, last_named-append, last_named-more, list_any-more, flat_positions-more}
-use Rattle.drill_lines.specs.declared.number.Unit.{Unit as Units}
+use Rattle.grid_units.specs.declared.lengths.Unit.{Unit as Units}
 use Rattle.drill_lines.specs.declared.command.Settings.{Settings}
 use Rattle.drill_lines.specs.declared.command.Coordinates.{Coordinates}
 use Rattle.drill_lines.specs.declared.command.DrillCommand.{DrillCommand}

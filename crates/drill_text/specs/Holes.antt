@@ -5,12 +5,12 @@ use Rattle.std.specs.List.{flat_map}
 use Rattle.grid_units.specs.Lists.{last_named, positions}
 use Rattle.grid_units.specs.Points.{GridPoint}
 use Rattle.grid_units.specs.Holes.{GridHole}
-use Rattle.drill_lines.specs.declared.number.Unit.{Unit as Units}
-use Rattle.drill_lines.specs.declared.number.Unit.TheVariants.{Millimetre}
+use Rattle.grid_units.specs.declared.lengths.Unit.{Unit as Units}
+use Rattle.grid_units.specs.declared.lengths.Unit.TheVariants.{Millimetre}
 use Rattle.drill_lines.specs.declared.command.Coordinates.{Coordinates}
 use Rattle.drill_lines.specs.declared.command.DrillCommand.{DrillCommand}
 use Rattle.drill_lines.specs.declared.command.DrillCommand.TheVariants as command
-use Rattle.drill_lines.specs.Lengths.{pm}
+use Rattle.grid_units.specs.Numbers.{picometres}
 use Rattle.drill_text.specs.Lookback.{header, unit_named, diameter_named, tool_named, points_of, x_named, y_named}
 
 -- what a command drills: from one point to another, with a tool of this diameter (docs/DEFINITIONS.md, Drill files)
@@ -29,7 +29,7 @@ unit_after before = unit_or (last_named unit_named (header before))
 
 -- a coordinate in pm, 0 where none was named (docs/DEFINITIONS.md, Drill files)
 abbrev pub coordinate_in : Units → Option ℤ → ℤ
-coordinate_in unit v = pm unit (unwrap_or v (pos 0))
+coordinate_in unit v = picometres unit 8 (unwrap_or v (pos 0))
 
 -- where the last of these points lies: each of its coordinates is the one last named, else 0 (docs/DEFINITIONS.md, Drill files)
 abbrev pub point_at : Units → List Coordinates → GridPoint

@@ -14,13 +14,13 @@ use Rattle.grid_units.specs.Points.{GridPoint, max_coordinate}
 use Rattle.grid_units.specs.Holes.{GridHole}
 use Rattle.drill_lines.specs.declared.line.LineFail.{LineFail}
 use Rattle.drill_lines.specs.declared.line.LineFail.TheVariants as stops
-use Rattle.drill_lines.specs.declared.number.Unit.{Unit as Units}
-use Rattle.drill_lines.specs.declared.number.Zeros.{Zeros}
+use Rattle.grid_units.specs.declared.lengths.Unit.{Unit as Units}
+use Rattle.grid_units.specs.declared.zero_filling.Zeros.{Zeros}
 use Rattle.drill_lines.specs.declared.command.Coordinates.{Coordinates}
 use Rattle.drill_lines.specs.declared.command.Settings.{Settings}
 use Rattle.drill_lines.specs.declared.command.DrillCommand.{DrillCommand}
 use Rattle.drill_lines.specs.declared.command.DrillCommand.TheVariants as command
-use Rattle.drill_lines.specs.Lengths.{is_far}
+use Rattle.grid_units.specs.Numbers.{is_far, within_limit}
 use Rattle.drill_lines.specs.Formats.{Digits}
 use Rattle.drill_text.specs.declared.judge.Judge.{Judge}
 use Rattle.drill_text.specs.Lookback.{Standing, standing, part_named, unit_named, zeros_named, format_named, ends_header, diameter_named, tool_named, tool_defined, tools_of, points_named, x_named, y_named}
@@ -93,7 +93,7 @@ drilled s _ = None
 
 -- a length in pm, unless it is too far
 abbrev pub length_in : Units → Option ℤ → Result ℤ Reason
-length_in unit v = if is_far (coordinate_in unit v) then Err TooFar else Ok (coordinate_in unit v)
+length_in unit v = within_limit (coordinate_in unit v)
 
 -- the point at these coordinates, unless one of them is too far
 abbrev pub point_in : Units → Option ℤ → Option ℤ → Result GridPoint Reason
@@ -105,7 +105,7 @@ width_in s = coordinate_in (unit_or s.settings.unit) (option_and_then s.diameter
 
 -- the same, unless it breaks a rule
 abbrev pub width_of : Standing → Result ℤ Reason
-width_of s = if has_no_tool s then Err NoTool else (if int_le (width_in s) (pos 0) then Err BadSize else (if is_far (width_in s) then Err TooFar else Ok (width_in s)))
+width_of s = if has_no_tool s then Err NoTool else (if int_le (width_in s) (pos 0) then Err BadSize else within_limit (width_in s))
 
 -- the diameter of a hole in pm
 abbrev pub IsWidth : ℤ → Type 0

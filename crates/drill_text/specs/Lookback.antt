@@ -3,8 +3,8 @@ use Rattle.std.specs.Prelude.{ℕ, ◌-◌, ℤ, Bool, true, false, ◌==◌, �
 use Rattle.std.specs.List.{list_any, flat_map, filter_map}
 use Rattle.std.specs.Str.{bytes_eq}
 use Rattle.grid_units.specs.Lists.{last_named}
-use Rattle.drill_lines.specs.declared.number.Unit.{Unit as Units}
-use Rattle.drill_lines.specs.declared.number.Zeros.{Zeros}
+use Rattle.grid_units.specs.declared.lengths.Unit.{Unit as Units}
+use Rattle.grid_units.specs.declared.zero_filling.Zeros.{Zeros}
 use Rattle.drill_lines.specs.declared.command.Part.{Part}
 use Rattle.drill_lines.specs.declared.command.Part.TheVariants as part
 use Rattle.drill_lines.specs.declared.command.Coordinates.{Coordinates}

@@ -1,15 +1,14 @@
 -- The rules of a legal drill file.
-use Rattle.std.specs.Prelude.{ℕ, ℤ, pos, Bool, true, false, not, ◌==◌, ◌&&◌, ◌||◌, nat_le, nat_lt, int_le, unsigned_abs, List, [], ◌∷◌, length, Option, None, Some, is_none, is_some}
+use Rattle.std.specs.Prelude.{ℕ, ℤ, pos, Bool, true, false, not, ◌==◌, ◌&&◌, ◌||◌, nat_le, int_le, List, [], ◌∷◌, length, Option, None, Some, is_none, is_some}
 use Rattle.std.specs.Option.{option_map_or}
 use Rattle.std.specs.List.{find}
-use Rattle.grid_units.specs.Points.{max_coordinate}
 use Rattle.grid_units.specs.declared.fault.Reason.{Reason}
 use Rattle.grid_units.specs.declared.fault.Reason.TheVariants as reason
-use Rattle.drill_lines.specs.Lengths.{is_far}
-use Rattle.drill_lines.specs.declared.number.Unit.{Unit as Units}
-use Rattle.drill_lines.specs.declared.number.Unit.TheVariants as unit
-use Rattle.drill_lines.specs.declared.number.Zeros.{Zeros}
-use Rattle.drill_lines.specs.declared.number.Zeros.TheVariants as zeros
+use Rattle.grid_units.specs.Numbers.{is_far}
+use Rattle.grid_units.specs.declared.lengths.Unit.{Unit as Units}
+use Rattle.grid_units.specs.declared.lengths.Unit.TheVariants as unit
+use Rattle.grid_units.specs.declared.zero_filling.Zeros.{Zeros}
+use Rattle.grid_units.specs.declared.zero_filling.Zeros.TheVariants as zeros
 use Rattle.drill_lines.specs.declared.command.DrillCommand.{DrillCommand}
 use Rattle.drill_lines.specs.declared.command.DrillCommand.TheVariants as command
 use Rattle.drill_lines.specs.Formats.{Digits}

@@ -2,8 +2,8 @@
 
 ghost use Rattle.std.specs.Prelude.{◌≡◌};
 
-use drill_lines::{Dec, DrillCommand};
-use grid_units::Hole;
+use drill_lines::DrillCommand;
+use grid_units::{Dec, Hole};
 use indexmap::IndexMap;
 use std::marker::Model;
 

@@ -4,8 +4,8 @@ ghost use Rattle.std.specs.Prelude.{◌≡◌};
 ghost use Rattle.drill_text.specs.Rules.{same_unit, same_zeros, same_format};
 ghost use Rattle.drill_text.specs.Lookback.{is_size_digit, sizes_named, file_format};
 
-use drill_lines::{Coordinates, Dec, DrillCommand, Format, LineFail, Part, Settings, Unit, Zeros};
-use grid_units::{Hole, Point, Reason, Text};
+use drill_lines::{Coordinates, DrillCommand, Format, LineFail, Part, Settings};
+use grid_units::{Dec, Hole, Point, Reason, Text, Unit, Zeros};
 use indexmap::IndexMap;
 use std::alloc::{AllocError, Global};
 
@@ -305,6 +305,7 @@ impl Judge {
     }
 
     /// The point at these coordinates.
+    #[tactic(auto, unfolding(grid_units::specs::Numbers::within_limit))]
     fn point(&self, x: Option<Dec>, y: Option<Dec>) -> Result<Point, Reason>
         ensures { result ≡ point_in (unit_or self.now.settings.unit) x y }
     {
