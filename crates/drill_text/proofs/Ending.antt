@@ -1,5 +1,5 @@
 -- The end of a text, from what a reader holds.
-use Rattle.std.proofs.Common.{◌≡◌, ℕ, suc, ◌+◌, ◌≤◌, Bool, true, false, cond, ltb, List, length, Result, Ok, Err, refl, sym, ap, subst, ◌∙◌, arith, inl, inr}
+use Rattle.std.proofs.Common.{◌≡◌, ℕ, suc, ◌+◌, ◌≤◌, Bool, true, false, cond, ltb, List, length, Result, Ok, Err, IfOk, refl, sym, ap, subst, ◌∙◌, arith, inl, inr}
 use Rattle.std.specs.List.{list_any}
 use Rattle.std.proofs.lemmas.List.{take_all}
 use Rattle.std.proofs.lemmas.Bool.{le-ltb}
@@ -84,3 +84,7 @@ answers_err text (fails.Refused f) h = shows_reads text f h
 -- what a judge holds is the file of its commands
 pub file_is : (judge : Judge) (cs : List DrillCommand) → Knows judge cs → (let d : DrillFile = record { commands = cs; holes = judge.holes.items; tools = judge.tools.entries } in d ≡ file_of cs)
 file_is judge cs knows = λ i. record { commands = cs; holes = knows.holes i; tools = knows.tools i }
+
+-- a refusal holds no file
+pub no_file : (r : Result DrillFile Fail) (e : Fail) → r ≡ Err e → IfOk r (λ (d : DrillFile). d ≡ file_of d.commands)
+no_file r e is = subst (λ (x : Result DrillFile Fail). IfOk x (λ (d : DrillFile). d ≡ file_of d.commands)) (sym is) tt

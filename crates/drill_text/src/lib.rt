@@ -8,3 +8,6 @@ mod reader;
 pub use drill::Drill;
 pub use drill_lines::{Coordinates, DrillCommand, Format};
 pub use reader::{DrillReader, read_drill};
+
+#[cfg(test)]
+mod tests;

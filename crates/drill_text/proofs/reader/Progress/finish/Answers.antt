@@ -5,7 +5,7 @@ use Rattle.grid_units.specs.Results.{fault, Answers}
 use Rattle.grid_units.specs.declared.fault.Reason.TheVariants.{Truncated}
 use Rattle.drill_text.specs.Reading.{Reads, is_finish, place_behind_count}
 use Rattle.drill_text.specs.Outcome.{DrillFile, commands_in, file_of}
-use Rattle.drill_text.proofs.Ending.{reads_fault, reads_ended, reads_truncated, file_is}
+use Rattle.drill_text.proofs.Ending.{reads_fault, reads_ended, reads_truncated, file_is, no_file}
 use Rattle.drill_text.proofs.reader.Progress.finish.Goals as goal
 
 pub returns-in_err-end-clause-exact : goal.returns-in_err-end-clause-exact
@@ -16,7 +16,7 @@ returns-in_err-end-clause-exact c text h =
 pub returns-in_err-end-clause-file : goal.returns-in_err-end-clause-file
 returns-in_err-end-clause-file c text h =
     let p = err_from_is_err_and c.from_residual.result c.from_residual.ensures.1 in
-    rw (p.1, p.2) tt
+    no_file c.from_residual.result p.0 p.1
 
 pub returns-then-has_finish-clause-exact : goal.returns-then-has_finish-clause-exact
 returns-then-has_finish-clause-exact c text h =
@@ -28,7 +28,7 @@ pub returns-then-has_finish-clause-file : goal.returns-then-has_finish-clause-fi
 returns-then-has_finish-clause-file c text h =
     let k = c.in_ok-end.ensures.spelled h.knows in
     let cs = c.end.new.self.commands.items in
-    let parts = c.into_parts.ensures in
+    let parts = c.into_parts-holes.ensures in
     let is : c.new.result ≡ file_of cs = c.new.ensures ∙ ((λ i. record { commands = cs; holes = (parts i).0.items; tools = (parts i).1.entries }) ∙ file_is c.end.new.self.judge cs k.1) in
     is ∙ ap (λ (d : DrillFile). file_of d.commands) (sym is)
 
