@@ -7,3 +7,5 @@ pub mod Ending
 pub mod Drilling
 pub mod Measures
 pub mod Judgements
+pub mod Unique
+pub mod Spelling

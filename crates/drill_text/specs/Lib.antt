@@ -3,6 +3,7 @@ pub mod Lookback
 pub mod Holes
 pub mod Rules
 pub mod Reading
+pub mod Texts
 pub mod Knowing
 pub mod Standing
 pub mod Outcome

@@ -3,6 +3,7 @@
 
 mod drill;
 mod judge;
+pub mod laws;
 mod reader;
 
 pub use drill::Drill;
