@@ -1,1 +1,4 @@
 pub mod Trimming
+pub mod Runs
+pub mod Words
+pub mod Says

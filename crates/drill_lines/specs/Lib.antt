@@ -5,3 +5,4 @@ pub mod Header
 pub mod Tools
 pub mod Drilling
 pub mod Meaning
+pub mod Writing

@@ -46,7 +46,7 @@ fn is_blank(byte: u8) -> bool
 }
 
 /// How long a line is without the blanks at its end.
-fn trimmed_len(line: &[u8]) -> usize
+pub(crate) fn trimmed_len(line: &[u8]) -> usize
     ensures within { result ≤ length line.now }
     ensures exact { take result line.now ≡ trimmed line.now }
 {

@@ -9,3 +9,4 @@ pub mod Measures
 pub mod Judgements
 pub mod Unique
 pub mod Spelling
+pub mod RoundTrip

@@ -4,6 +4,7 @@ pub mod Holes
 pub mod Rules
 pub mod Reading
 pub mod Texts
+pub mod Writing
 pub mod Knowing
 pub mod Standing
 pub mod Outcome
