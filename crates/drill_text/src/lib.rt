@@ -5,10 +5,12 @@ mod drill;
 mod judge;
 pub mod laws;
 mod reader;
+mod writer;
 
 pub use drill::Drill;
 pub use drill_lines::{Coordinates, DrillCommand, Format};
 pub use reader::{DrillReader, read_drill};
+pub use writer::{drill_sayable, write_drill};
 
 #[cfg(test)]
 mod tests;

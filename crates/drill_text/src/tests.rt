@@ -1,6 +1,6 @@
-use crate::{Drill, DrillReader, read_drill};
+use crate::{Coordinates, Drill, DrillReader, drill_sayable, read_drill, write_drill};
 use drill_lines::DrillCommand;
-use grid_units::{Fail, Fault, Hole, Reason};
+use grid_units::{Fail, Fault, Hole, Reason, Text};
 use std::alloc::Global;
 use std::test::Fail as TestFail;
 
@@ -335,5 +335,40 @@ fn many_holes(rt: HostRuntime) -> Result<(), TestFail> {
     }
     text.extend_from_slice(b"M30\n")?;
     assert_eq!(rt; fault_of(rt.alloc(), &text), refused(Reason::TooManyHoles, 1_048_582, 9_437_207));
+    Ok(())
+}
+
+/// The canonical text of a list of commands.
+#[test]
+fn written_back(rt: HostRuntime) -> Result<(), TestFail> {
+    let text = b"%\nM48\n;note\nINCH,LZ\nT01F00S00C.0350\nFMAT,2\nM95\nG90\nG05\nM72\nT01\nX01Y-005\nX02G85Y01\nT00\nM30";
+    let wanted = b"M48\n;note\nINCH,LZ\nT1C0.035\n%\nM72\nT1\nX1.0Y-0.5\nX2.0G85Y1.0\nT0\nM30\n";
+    let drill = read_drill(rt.alloc(), text).map_err(|_| "refused")?;
+    assert!(rt; drill_sayable(drill.commands()));
+    let written = write_drill(rt.alloc(), drill.commands()).map_err(|_| "too long")?;
+    assert_eq!(rt; written.as_slice(), wanted.as_slice());
+    let again = read_drill(rt.alloc(), &written).map_err(|_| "refused")?;
+    assert!(rt; again.commands() == drill.commands());
+    assert!(rt; again.holes() == drill.holes());
+    assert!(rt; splits_alike(rt.alloc(), text));
+    assert!(rt; cuts_alike(rt.alloc(), text));
+    Ok(())
+}
+
+/// Lists that no text spells.
+#[test]
+fn not_sayable(rt: HostRuntime) -> Result<(), TestFail> {
+    let alloc = rt.alloc();
+    let nowhere = Coordinates { x: None, y: None };
+    assert!(rt; !drill_sayable(&[]));
+    assert!(rt; drill_sayable(&[DrillCommand::Start, DrillCommand::HeaderEnd, DrillCommand::Finish]));
+    assert!(rt; !drill_sayable(&[DrillCommand::Start, DrillCommand::HeaderEnd, DrillCommand::Finish, DrillCommand::Finish]));
+    assert!(rt; !drill_sayable(&[DrillCommand::Start, DrillCommand::Finish]));
+    assert!(rt; !drill_sayable(&[DrillCommand::Start, DrillCommand::HeaderEnd, DrillCommand::Hit(nowhere), DrillCommand::Finish]));
+    assert!(rt; !drill_sayable(&[DrillCommand::Start, DrillCommand::HeaderEnd, DrillCommand::Pick(1000), DrillCommand::Finish]));
+    let blank = DrillCommand::Comment(Text::from_slice(alloc, b"a ")?);
+    assert!(rt; !drill_sayable(&[blank, DrillCommand::Start, DrillCommand::HeaderEnd, DrillCommand::Finish]));
+    let broken = DrillCommand::Comment(Text::from_slice(alloc, b"a\nb")?);
+    assert!(rt; !drill_sayable(&[broken, DrillCommand::Start, DrillCommand::HeaderEnd, DrillCommand::Finish]));
     Ok(())
 }
