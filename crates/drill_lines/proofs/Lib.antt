@@ -2,3 +2,4 @@ pub mod Trimming
 pub mod Runs
 pub mod Words
 pub mod Says
+pub mod Said

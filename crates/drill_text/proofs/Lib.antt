@@ -10,3 +10,4 @@ pub mod Judgements
 pub mod Unique
 pub mod Spelling
 pub mod RoundTrip
+pub mod Sayable

@@ -1,12 +1,13 @@
 //! Laws of the definitions of a drill file. A call of one does nothing, and gives its clause.
 
-ghost use Rattle.std.specs.Prelude.{◌≡◌, ◌↔◌, ℕ, List, Result, Ok};
+ghost use Rattle.std.specs.Prelude.{◌≡◌, ◌↔◌, true, ℕ, List, Result, Ok};
 ghost use Rattle.grid_units.specs.declared.fault.Fault.{Fault};
 ghost use Rattle.drill_lines.specs.declared.command.DrillCommand.{DrillCommand};
 ghost use Rattle.drill_text.specs.Lookback.{tools_of};
 ghost use Rattle.drill_text.specs.Holes.{holes_of};
 ghost use Rattle.drill_text.specs.Reading.{Shows, Reads};
 ghost use Rattle.drill_text.specs.Texts.{SpellsText, IsDrillText};
+ghost use Rattle.drill_text.specs.Writing.{drill_sayable};
 
 /// A text shows one thing, and has one reading.
 pub fn one_reading()
@@ -23,4 +24,9 @@ pub fn drill_texts()
 pub fn equal_commands()
     ensures holes { (s t : List ℕ) (a b : List DrillCommand) → SpellsText s a → SpellsText t b → a ≡ b → holes_of a ≡ holes_of b }
     ensures tools { (s t : List ℕ) (a b : List DrillCommand) → SpellsText s a → SpellsText t b → a ≡ b → tools_of a ≡ tools_of b }
+{}
+
+/// The commands that a text spells are sayable.
+pub fn sayable_texts()
+    ensures { (text : List ℕ) (commands : List DrillCommand) → SpellsText text commands → drill_sayable commands ≡ true }
 {}

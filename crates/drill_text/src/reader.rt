@@ -1,6 +1,6 @@
 //! A reader of a drill file, in pieces.
 
-ghost use Rattle.std.specs.Prelude.{◌≡◌, ◌≢◌, ◌≤◌, ◌<◌, ◌+◌, ℕ, List, All, length, vec_len, take, slice_index, Some, None, Ok, Err, OnOk, OnErr, IfOk, IfErr, IfSome};
+ghost use Rattle.std.specs.Prelude.{◌≡◌, ◌≢◌, ◌≤◌, ◌<◌, ◌+◌, true, ℕ, List, All, length, vec_len, take, slice_index, Some, None, Ok, Err, OnOk, OnErr, IfOk, IfErr, IfSome};
 ghost use Rattle.drill_lines.specs.declared.command.DrillCommand.{DrillCommand as TheCommand};
 ghost use Rattle.grid_units.specs.declared.fault.Fault.{Fault};
 ghost use Rattle.grid_units.specs.declared.fault.Fail.TheVariants.{Refused};
@@ -9,6 +9,8 @@ ghost use Rattle.drill_text.specs.Reading.{spelled, Reads, is_finish, place_behi
 ghost use Rattle.std.specs.List.{list_any};
 ghost use Rattle.drill_text.specs.Knowing.{Knows, Leaves};
 ghost use Rattle.drill_text.specs.Outcome.{commands_in, file_of};
+ghost use Rattle.drill_text.specs.Texts.{IsDrillText};
+ghost use Rattle.drill_text.specs.Writing.{drill_sayable};
 
 use crate::drill::Drill;
 use crate::judge::Judge;
@@ -274,6 +276,7 @@ impl DrillReader {
     pub fn finish(self) -> Result<Drill, Fail>
         ensures exact { (text : List ℕ) → StandsAfter self text → Answers commands_in (Reads text) result }
         ensures file { (text : List ℕ) → StandsAfter self text → IfOk result (λ drill. drill ≡ file_of drill.commands) }
+        ensures sayable { (text : List ℕ) → StandsAfter self text → IfOk result (λ drill. drill_sayable drill.commands ≡ true) }
         ensures failed { IfSome (failure self) (λ e. result ≡ Err e) }
     {
         match self.failed {
@@ -286,7 +289,10 @@ impl DrillReader {
 /// The drill file of a text, or its first fault.
 pub fn read_drill(alloc: Global, bytes: &[u8]) -> Result<Drill, Fail>
     ensures exact { Answers commands_in (Reads bytes.now) result }
+    ensures found { IfOk result (λ drill. IsDrillText bytes.now drill.commands) }
+    ensures only { (commands : List TheCommand) → IsDrillText bytes.now commands → Answers commands_in (λ answer. answer ≡ Ok commands) result }
     ensures file { IfOk result (λ drill. drill ≡ file_of drill.commands) }
+    ensures sayable { IfOk result (λ drill. drill_sayable drill.commands ≡ true) }
 {
     let mut reader = DrillReader::new(alloc);
     reader.feed(bytes)?;
