@@ -1,0 +1,5 @@
+pub mod Trimming
+pub mod Runs
+pub mod Words
+pub mod Says
+pub mod Said

@@ -1,0 +1,311 @@
+-- What a line spells can be said.
+use Rattle.std.proofs.Common.{◌≡◌, ℕ, zero, suc, ◌+◌, ◌<◌, ◌≤◌, Bool, true, false, cond, not, ◌||◌, ◌&&◌, eqb, leb, ltb, List, [], ◌∷◌, length, take, drop, ℤ, Option, Some, None, is_some, Result, Ok, Err, refl, sym, ap, subst, ◌∙◌, arith, lit≤}
+use Rattle.std.specs.Prelude.{codes, take_while, count_by}
+use Rattle.std.specs.List.{list_all, list_any, prefix_len}
+use Rattle.std.specs.Str.{bytes_eq}
+use Rattle.std.proofs.lemmas.Bool.{lt-ltb, eq-eqb, eqb-true}
+use Rattle.grid_units.specs.declared.fault.Reason.{Reason}
+use Rattle.grid_units.specs.declared.fault.Reason.TheVariants.{OldFormat, Incremental, Routed, Repeat, BadLine, BadNumber}
+use Rattle.grid_units.specs.declared.lengths.Unit.{Unit as Units}
+use Rattle.grid_units.specs.declared.lengths.Unit.TheVariants.{Inch, Millimetre}
+use Rattle.grid_units.specs.declared.zero_filling.Zeros.{Zeros}
+use Rattle.grid_units.specs.declared.zero_filling.Zeros.TheVariants.{Leading, Trailing}
+use Rattle.grid_units.specs.Results.{◌>>=◌, both}
+use Rattle.grid_units.specs.Numbers.{is_digit, is_digits, is_number, value}
+use Rattle.grid_units.proofs.Binds.{bind_ok}
+use Rattle.drill_lines.specs.declared.command.Coordinates.{Coordinates}
+use Rattle.drill_lines.specs.declared.command.Part.{Part}
+use Rattle.drill_lines.specs.declared.command.Part.TheVariants as part
+use Rattle.drill_lines.specs.declared.command.Settings.{Settings}
+use Rattle.drill_lines.specs.declared.command.DrillCommand.{DrillCommand}
+use Rattle.drill_lines.specs.declared.command.DrillCommand.TheVariants.{Comment, Start, UnitLine, Tool, HeaderEnd, UnitCode, Pick, Hit, Slot, Finish}
+use Rattle.drill_lines.specs.Lines.{is_blank, trimmed, begins}
+use Rattle.drill_lines.specs.Header.{pattern, unit_format, unit_line}
+use Rattle.drill_lines.specs.Tools.{is_diameter, is_letter, is_skipped, are_fields, number_from, diameter_of, diameter_run, tool_fields, tool_line, pick_fields, pick_line}
+use Rattle.drill_lines.specs.Drilling.{coordinate_of, coordinate, field, Runs, runs_of, names_one, coordinates, slot_line, drill_from, drill_line}
+use Rattle.drill_lines.specs.Meaning.{one, begins_comment, begins_point, spells_nothing, is_old, is_incremental, ends_header, is_routed, repeats, line_before, common_line, header_line, body_word, body_line, line_in, meaning}
+use Rattle.drill_lines.specs.Writing.{can_name_zeros, is_tool_number, names_any, is_comment_text, is_sayable}
+use Rattle.drill_lines.proofs.Runs.{and_true, both_true}
+
+-- the command, if it is one, can be said in this part
+pub Said : Part → Result DrillCommand Reason → Type 0
+Said p (Ok c) = is_sayable p c ≡ true
+Said p (Err r) = Unit {0}
+
+pub AllSaid : Part → Result (Option DrillCommand) Reason → Type 0
+AllSaid p (Ok (Some c)) = is_sayable p c ≡ true
+AllSaid p (Ok None) = Unit {0}
+AllSaid p (Err r) = Unit {0}
+
+all_cond : (p : Part) (t : Bool) (a b : Result (Option DrillCommand) Reason) → (t ≡ true → AllSaid p a) → AllSaid p b → AllSaid p (cond t a b)
+all_cond p true a b h k = h refl
+all_cond p false a b h k = k
+
+one_cond : (p : Part) (t : Bool) (a b : Result DrillCommand Reason) → (t ≡ true → Said p a) → Said p b → Said p (cond t a b)
+one_cond p true a b h k = h refl
+one_cond p false a b h k = k
+
+all_one : (p : Part) (r : Result DrillCommand Reason) → Said p r → AllSaid p (one r)
+unfolding Said AllSaid
+all_one p (Ok c) h = h
+all_one p (Err r) h = tt
+
+one_bind : {A : Type 0} (p : Part) (r : Result A Reason) (f : A → Result DrillCommand Reason) → ((x : A) → r ≡ Ok x → Said p (f x)) → Said p (r >>= f)
+unfolding Said
+one_bind p (Ok x) f h = h x refl
+one_bind p (Err e) f h = tt
+
+-- ---- unit lines
+
+format_said : (unit : Units) (zeros : Option Zeros) (rest : List ℕ) → can_name_zeros zeros ≡ true → Said part.Header (unit_format unit zeros rest)
+unfolding unit_format Said
+format_said unit zeros [] h = h
+format_said unit zeros (b ∷ bs) h = one_cond part.Header (eqb b 44 && list_all is_number bs) (pattern bs >>= λ f. Ok (UnitLine unit zeros (Some f))) (Err BadLine) (λ _. one_bind part.Header (pattern bs) (λ f. Ok (UnitLine unit zeros (Some f))) (λ f e. h)) tt
+
+unit_said : (unit : Units) (line : List ℕ) → Said part.Header (unit_line unit line)
+unfolding unit_line
+unit_said unit line =
+    one_cond part.Header (begins (codes ",LZ") line) (unit_format unit (Some Leading) (drop 3 line)) (cond (begins (codes ",TZ") line) (unit_format unit (Some Trailing) (drop 3 line)) (unit_format unit None line))
+      (λ _. format_said unit (Some Leading) (drop 3 line) refl)
+      (one_cond part.Header (begins (codes ",TZ") line) (unit_format unit (Some Trailing) (drop 3 line)) (unit_format unit None line)
+        (λ _. format_said unit (Some Trailing) (drop 3 line) refl) (format_said unit None line refl))
+
+-- ---- tools
+
+number_range : (least n : ℕ) (digits : List ℕ) → number_from least digits ≡ Ok n → (leb least n ≡ true) × (leb n 999 ≡ true)
+unfolding number_from
+number_range least n digits e = by (is_digits digits && (leb least (value digits) && leb (value digits) 999)) refl e
+  where
+    by : (t : Bool) → (is_digits digits && (leb least (value digits) && leb (value digits) 999)) ≡ t → cond t (Ok (value digits)) (Err BadNumber) ≡ Ok n → (leb least n ≡ true) × (leb n 999 ≡ true)
+    by true h k =
+        let same : value digits ≡ n = cc in
+        let b = both_true (leb least (value digits)) (leb (value digits) 999) (both_true (is_digits digits) (leb least (value digits) && leb (value digits) 999) h).1 in
+        (ap (leb least) (sym same) ∙ b.0, ap (λ k. leb k 999) (sym same) ∙ b.1)
+    by false h k = absurd cc
+
+tool_both : (a : Result ℕ Reason) (b : Result ℤ Reason) → ((n : ℕ) → a ≡ Ok n → is_tool_number n ≡ true) → Said part.Header (both a b >>= λ t. Ok (Tool t.0 t.1))
+unfolding Said
+tool_both (Ok n) (Ok v) h = h n refl
+tool_both (Ok n) (Err e) h = tt
+tool_both (Err e) (Ok v) h = tt
+tool_both (Err d) (Err e) h = tt
+
+fields_said : (digits fields : List ℕ) → Said part.Header (tool_fields digits fields)
+unfolding tool_fields Said
+fields_said digits fields =
+    one_cond part.Header (are_fields is_letter fields && eqb (count_by is_diameter fields) 1) (both (number_from 1 digits) (diameter_of (diameter_run fields)) >>= λ t. Ok (Tool t.0 t.1)) (Err BadLine)
+      (λ _. tool_both (number_from 1 digits) (diameter_of (diameter_run fields)) (λ n e. let r = number_range 1 n digits e in and_true (leb 1 n) (leb n 999) r.0 r.1)) tt
+
+tool_said : (line : List ℕ) → Said part.Header (tool_line line)
+unfolding tool_line
+tool_said line = fields_said (take_while is_digit line) (drop (prefix_len is_digit line) line)
+
+picks_said : (digits fields : List ℕ) → Said part.Body (pick_fields digits fields)
+unfolding pick_fields Said
+picks_said digits fields =
+    one_cond part.Body (are_fields is_skipped fields) (number_from 0 digits >>= λ n. Ok (Pick n)) (Err BadLine)
+      (λ _. one_bind part.Body (number_from 0 digits) (λ n. Ok (Pick n)) (λ n e. (number_range 0 n digits e).1)) tt
+
+pick_said : (line : List ℕ) → Said part.Body (pick_line line)
+unfolding pick_line
+pick_said line = picks_said (take_while is_digit line) (drop (prefix_len is_digit line) line)
+
+-- ---- points
+
+coordinate_named : (s : Settings) (run : Option (List ℕ)) (v : Option ℤ) → coordinate s run ≡ Ok v → is_some v ≡ is_some run
+unfolding coordinate
+coordinate_named s None v e = let same : None ≡ v = cc in ap is_some (sym same)
+coordinate_named s (Some run) v e =
+    let b = bind_ok (coordinate_of s run) (λ x. Ok (Some x)) v e in
+    let same : Some b.0 ≡ v = cc in
+    ap is_some (sym same)
+
+both_ok : {A B : Type 0} (a : Result A Reason) (b : Result B Reason) (x : A × B) → both a b ≡ Ok x → (a ≡ Ok x.0) × (b ≡ Ok x.1)
+both_ok {A = A} {B = B} (Ok u) (Ok v) x e = let same : (let p : A × B = (u, v) in p ≡ x) = cc in (ap (λ (q : A × B). Ok q.0) same, ap (λ (q : A × B). Ok q.1) same)
+both_ok (Ok u) (Err f) x e = absurd cc
+both_ok (Err d) (Ok v) x e = absurd cc
+both_ok (Err d) (Err f) x e = absurd cc
+
+point_named : (s : Settings) (runs : Runs) (p : Coordinates) → coordinates s runs ≡ Ok p → names_any p ≡ names_one runs
+unfolding coordinates
+point_named s runs p e =
+    let b = bind_ok (both (coordinate s runs.x) (coordinate s runs.y)) (λ q. Ok (record { x = q.0; y = q.1 })) p e in
+    let c = both_ok (coordinate s runs.x) (coordinate s runs.y) b.0 b.1 in
+    let same : (let q : Coordinates = record { x = b.0.0; y = b.0.1 } in q ≡ p) = cc in
+    ap names_any (sym same) ∙ (λ i. coordinate_named s runs.x b.0.0 c.0 i || coordinate_named s runs.y b.0.1 c.1 i)
+
+slot_said : (s : Settings) (from : Runs) (line : List ℕ) → names_one from ≡ true → Said part.Body (slot_line s from line)
+unfolding slot_line Said
+slot_said s from line h = one_cond part.Body (names_one (runs_of line).0 && eqb (length (runs_of line).1) 0) (both (coordinates s from) (coordinates s (runs_of line).0) >>= λ r. Ok (Slot r.0 r.1)) (Err BadLine) (λ t. one_bind part.Body (both (coordinates s from) (coordinates s (runs_of line).0)) (λ r. Ok (Slot r.0 r.1)) (λ r e.
+    let c = both_ok (coordinates s from) (coordinates s (runs_of line).0) r e in
+    let n = both_true (names_one (runs_of line).0) (eqb (length (runs_of line).1) 0) t in
+    and_true (names_any r.0) (names_any r.1) (point_named s from r.0 c.0 ∙ h) (point_named s (runs_of line).0 r.1 c.1 ∙ n.0))) tt
+
+drilled_said : (s : Settings) (from : Runs) (rest : List ℕ) → names_one from ≡ true → Said part.Body (drill_from s from rest)
+unfolding drill_from Said
+drilled_said s from rest h =
+    let slot : Result DrillCommand Reason = cond (bytes_eq (take 3 rest) (codes "G85")) (slot_line s from (drop 3 rest)) (Err BadLine) in
+    one_cond part.Body (eqb (length rest) 0) (coordinates s from >>= λ p. Ok (Hit p)) slot
+      (λ _. one_bind part.Body (coordinates s from) (λ p. Ok (Hit p)) (λ p e. point_named s from p e ∙ h))
+      (one_cond part.Body (bytes_eq (take 3 rest) (codes "G85")) (slot_line s from (drop 3 rest)) (Err BadLine) (λ _. slot_said s from (drop 3 rest) h) tt)
+
+-- a field of a line that begins with its letter
+found : Bool → ℕ → List ℕ → Option (List ℕ) × List ℕ
+found t b bs = cond t (Some (take_while is_number bs), drop (prefix_len is_number bs) bs) (None, b ∷ bs)
+
+first_named : (b : ℕ) (bs : List ℕ) (t u : Bool) → eqb b 88 ≡ t → eqb b 89 ≡ u → begins_point (b ∷ bs) ≡ true → names_one (runs_of (b ∷ bs)).0 ≡ true
+unfolding found
+first_named b bs true u x y h = ap (λ v. is_some (found v b bs).0 || is_some (field 89 (found v b bs).1).0) x
+first_named b bs false true x y h = ap (λ v. is_some (found v b bs).0 || is_some (field 89 (found v b bs).1).0) x ∙ ap (λ v. is_some (found v b bs).0) y
+first_named b bs false false x y h = absurd (let k : false ≡ true = (λ i. ((sym x i && bytes_eq (take 0 bs) []) || (sym y i && bytes_eq (take 0 bs) []))) ∙ h in cc)
+
+point_begins : (line : List ℕ) → begins_point line ≡ true → names_one (runs_of line).0 ≡ true
+point_begins [] h = absurd cc
+point_begins (b ∷ bs) h = first_named b bs (eqb b 88) (eqb b 89) refl refl h
+
+-- ---- lines
+
+before_chain : (t u : Bool) → AllSaid part.Before (cond t (Ok None) (cond u (Ok (Some Start)) (Err OldFormat)))
+unfolding AllSaid
+before_chain true u = tt
+before_chain false true = refl
+before_chain false false = tt
+
+before_said : (line : List ℕ) → AllSaid part.Before (line_before line)
+unfolding line_before
+before_said line = before_chain (bytes_eq line (codes "%")) (bytes_eq line (codes "M48"))
+
+common_chain : (p : Part) (e f g h i : Bool) → is_sayable p (UnitCode Millimetre) ≡ true → is_sayable p (UnitCode Inch) ≡ true
+    → AllSaid p (cond e (Ok (Some (UnitCode Millimetre))) (cond f (Ok (Some (UnitCode Inch))) (cond g (Ok None) (cond h (Err OldFormat) (cond i (Err Incremental) (Err BadLine))))))
+unfolding AllSaid
+common_chain p true f g h i m n = m
+common_chain p false true g h i m n = n
+common_chain p false false true h i m n = tt
+common_chain p false false false true i m n = tt
+common_chain p false false false false true m n = tt
+common_chain p false false false false false m n = tt
+
+common_said : (p : Part) (line : List ℕ) → is_sayable p (UnitCode Millimetre) ≡ true → is_sayable p (UnitCode Inch) ≡ true → AllSaid p (common_line line)
+unfolding common_line
+common_said p line m n = common_chain p (bytes_eq line (codes "M71")) (bytes_eq line (codes "M72")) (spells_nothing line) (is_old line) (is_incremental line) m n
+
+header_chain : (a b c d : Bool) (inch metric tool : Result DrillCommand Reason) (rest : Result (Option DrillCommand) Reason) → Said part.Header inch → Said part.Header metric → Said part.Header tool → AllSaid part.Header rest
+    → AllSaid part.Header (cond a (Ok (Some HeaderEnd)) (cond b (one inch) (cond c (one metric) (cond d (one tool) rest))))
+unfolding AllSaid
+header_chain true b c d inch metric tool rest x y z w = refl
+header_chain false true c d inch metric tool rest x y z w = all_one part.Header inch x
+header_chain false false true d inch metric tool rest x y z w = all_one part.Header metric y
+header_chain false false false true inch metric tool rest x y z w = all_one part.Header tool z
+header_chain false false false false inch metric tool rest x y z w = w
+
+header_said : (line : List ℕ) → AllSaid part.Header (header_line line)
+unfolding header_line
+header_said line =
+    header_chain (ends_header line) (begins (codes "INCH") line) (begins (codes "METRIC") line) (begins (codes "T") line) (unit_line Inch (drop 4 line)) (unit_line Millimetre (drop 6 line)) (tool_line (drop 1 line)) (common_line line)
+      (unit_said Inch (drop 4 line)) (unit_said Millimetre (drop 6 line)) (tool_said (drop 1 line)) (common_said part.Header line refl refl)
+
+word_chain : (a b c : Bool) (rest : Result (Option DrillCommand) Reason) → AllSaid part.Body rest → AllSaid part.Body (cond a (Ok (Some Finish)) (cond b (Err Routed) (cond c (Err Repeat) rest)))
+unfolding AllSaid
+word_chain true b c rest w = refl
+word_chain false true c rest w = tt
+word_chain false false true rest w = tt
+word_chain false false false rest w = w
+
+word_said : (line : List ℕ) → AllSaid part.Body (body_word line)
+unfolding body_word
+word_said line = word_chain (bytes_eq line (codes "M30")) (is_routed line) (repeats line) (common_line line) (common_said part.Body line refl refl)
+
+point_said : (s : Settings) (line : List ℕ) → begins_point line ≡ true → Said part.Body (drill_line s line)
+unfolding drill_line
+point_said s line h = drilled_said s (runs_of line).0 (runs_of line).1 (point_begins line h)
+
+body_said : (s : Settings) (line : List ℕ) → AllSaid part.Body (body_line s line)
+unfolding body_line
+body_said s line =
+    let rest : Result (Option DrillCommand) Reason = cond (begins (codes "T") line) (one (pick_line (drop 1 line))) (body_word line) in
+    all_cond part.Body (begins_point line) (one (drill_line s line)) rest
+      (λ h. all_one part.Body (drill_line s line) (point_said s line h))
+      (all_cond part.Body (begins (codes "T") line) (one (pick_line (drop 1 line))) (body_word line) (λ _. all_one part.Body (pick_line (drop 1 line)) (pick_said (drop 1 line))) (word_said line))
+
+part_said : (p : Part) (s : Settings) (line : List ℕ) → AllSaid p (line_in p s line)
+unfolding line_in AllSaid
+part_said part.Before s line = before_said line
+part_said part.Header s line = header_said line
+part_said part.Body s line = body_said s line
+part_said part.After s line = tt
+
+comment_said : (p : Part) (b : ℕ) (bs : List ℕ) → begins_comment p b ≡ true → is_comment_text bs ≡ true → is_sayable p (Comment bs) ≡ true
+comment_said part.Before b bs h k = k
+comment_said part.Header b bs h k = k
+comment_said part.Body b bs h k = k
+comment_said part.After b bs h k = absurd cc
+
+-- ---- trimmed lines
+
+trimmed_keeps : (t : Bool) (x : ℕ) (ys : List ℕ) → (is_blank x && eqb (length ys) 0) ≡ t → trimmed ys ≡ ys → trimmed (cond t [] (x ∷ ys)) ≡ cond t [] (x ∷ ys)
+trimmed_keeps true x ys e same = refl
+trimmed_keeps false x ys e same =
+    ap (λ (l : List ℕ). cond (is_blank x && eqb (length l) 0) [] (x ∷ l)) same ∙ ap (λ u. cond u [] (x ∷ ys)) e
+
+trimmed_twice : (xs : List ℕ) → trimmed (trimmed xs) ≡ trimmed xs
+trimmed_twice [] = refl
+trimmed_twice (x ∷ xs) = trimmed_keeps (is_blank x && eqb (length (trimmed xs)) 0) x (trimmed xs) refl (trimmed_twice xs)
+
+trimmed_all : (p : ℕ → Bool) (xs : List ℕ) → list_all p xs ≡ true → list_all p (trimmed xs) ≡ true
+trimmed_all p [] h = refl
+trimmed_all p (x ∷ xs) h = let k = both_true (p x) (list_all p xs) h in all_kept (is_blank x && eqb (length (trimmed xs)) 0) p x (trimmed xs) k.0 (trimmed_all p xs k.1)
+  where
+    all_kept : (t : Bool) (q : ℕ → Bool) (y : ℕ) (ys : List ℕ) → q y ≡ true → list_all q ys ≡ true → list_all q (cond t [] (y ∷ ys)) ≡ true
+    all_kept true q y ys a b = refl
+    all_kept false q y ys a b = and_true (q y) (list_all q ys) a b
+
+trimmed_short : (xs : List ℕ) → length (trimmed xs) ≤ length xs
+trimmed_short [] = lit≤ tt
+trimmed_short (x ∷ xs) = shorter (is_blank x && eqb (length (trimmed xs)) 0) x (trimmed xs) (length xs) (trimmed_short xs)
+  where
+    shorter : (t : Bool) (y : ℕ) (ys : List ℕ) (n : ℕ) → length ys ≤ n → length (cond t [] (y ∷ ys)) ≤ suc n
+    shorter true y ys n h = omega arith
+    shorter false y ys n h = omega (arith, h)
+
+-- a comment's text, from its line
+tail_trimmed : (bs : List ℕ) → trimmed (59 ∷ bs) ≡ 59 ∷ bs → trimmed bs ≡ bs
+tail_trimmed bs h = let same : 59 ∷ trimmed bs ≡ 59 ∷ bs = h in cc
+
+any_not : (xs : List ℕ) → list_all (λ b. not (eqb b 10)) xs ≡ true → not (list_any (λ b. eqb b 10) xs) ≡ true
+any_not [] h = refl
+any_not (x ∷ xs) h = first (eqb x 10) (both_true (not (eqb x 10)) (list_all (λ b. not (eqb b 10)) xs) h).0 (any_not xs (both_true (not (eqb x 10)) (list_all (λ b. not (eqb b 10)) xs) h).1)
+  where
+    first : (t : Bool) → not t ≡ true → not (list_any (λ b. eqb b 10) xs) ≡ true → not (t || list_any (λ b. eqb b 10) xs) ≡ true
+    first true a b = absurd cc
+    first false a b = b
+
+comment_text : (bs : List ℕ) → trimmed (59 ∷ bs) ≡ 59 ∷ bs → list_all (λ b. not (eqb b 10)) bs ≡ true → length (59 ∷ bs) ≤ 1048576 → is_comment_text bs ≡ true
+comment_text bs kept inside short =
+    and_true (not (list_any (λ b. eqb b 10) bs)) (eqb (length (trimmed bs)) (length bs) && ltb (length bs) 1048576) (any_not bs inside)
+    (and_true (eqb (length (trimmed bs)) (length bs)) (ltb (length bs) 1048576) (eq-eqb _ _ (ap length (tail_trimmed bs kept))) (lt-ltb _ _ (omega (arith, short))))
+
+begins_semicolon : (p : Part) (b : ℕ) (bs : List ℕ) → begins_comment p b ≡ true → b ≡ 59
+begins_semicolon part.Before b bs h = eqb-true b 59 h
+begins_semicolon part.Header b bs h = eqb-true b 59 h
+begins_semicolon part.Body b bs h = eqb-true b 59 h
+begins_semicolon part.After b bs h = absurd cc
+
+kept_said : (s : Settings) (line : List ℕ) → trimmed line ≡ line → list_all (λ b. not (eqb b 10)) line ≡ true → length line ≤ 1048576 → AllSaid s.part (meaning s line)
+unfolding meaning AllSaid
+kept_said s [] kept inside short = tt
+kept_said s (b ∷ bs) kept inside short =
+    all_cond s.part (begins_comment s.part b) (Ok (Some (Comment bs))) (line_in s.part s (b ∷ bs)) (λ h.
+      let e : b ≡ 59 = begins_semicolon s.part b bs h in
+      comment_said s.part b bs h (comment_text bs (subst (λ x. trimmed (x ∷ bs) ≡ x ∷ bs) e kept) (both_true (not (eqb b 10)) (list_all (λ c. not (eqb c 10)) bs) inside).1 short))
+    (part_said s.part s (b ∷ bs))
+
+pub said_is : (p : Part) (r : Result (Option DrillCommand) Reason) (c : DrillCommand) → AllSaid p r → r ≡ Ok (Some c) → is_sayable p c ≡ true
+unfolding AllSaid
+said_is p (Ok (Some d)) c h e = let same : d ≡ c = cc in ap (is_sayable p) (sym same) ∙ h
+said_is p (Ok None) c h e = absurd cc
+said_is p (Err r) c h e = absurd cc
+
+-- the command that a line without LF spells can be said
+pub line_said : (s : Settings) (line : List ℕ) (c : DrillCommand) → list_all (λ b. not (eqb b 10)) line ≡ true → length line ≤ 1048576 → meaning s (trimmed line) ≡ Ok (Some c) → is_sayable s.part c ≡ true
+line_said s line c inside short e =
+    said_is s.part (meaning s (trimmed line)) c (kept_said s (trimmed line) (trimmed_twice line) (trimmed_all (λ b. not (eqb b 10)) line inside) (omega (arith, trimmed_short line, short))) e

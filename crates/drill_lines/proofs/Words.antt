@@ -1,0 +1,153 @@
+-- What the canonical lines spell: tools, picks and points.
+use Rattle.std.proofs.Common.{◌≡◌, ℕ, zero, suc, ◌+◌, ◌<◌, ◌≤◌, ◌^◌, Bool, true, false, cond, not, ◌||◌, ◌&&◌, eqb, leb, List, [], ◌∷◌, ◌++◌, length, take, drop, ℤ, Option, Some, None, is_some, Result, Ok, Err, refl, sym, ap, ◌∙◌, arith, replicate, append_assoc}
+use Rattle.std.specs.Prelude.{unsigned_abs, decimal, take_while, codes}
+use Rattle.std.specs.List.{list_all, list_any, prefix_len, count_by, after_first}
+use Rattle.std.specs.Str.{bytes_eq}
+use Rattle.std.proofs.lemmas.List.{append-nil}
+use Rattle.std.proofs.lemmas.Bool.{leb-true, le-leb}
+use Rattle.std.proofs.lemmas.Bool.Decides.{nat_tests}
+use Rattle.grid_units.specs.declared.fault.Reason.{Reason}
+use Rattle.grid_units.specs.declared.fault.Reason.TheVariants.{BadLine, BadNumber}
+use Rattle.grid_units.specs.Results.{◌>>=◌, both}
+use Rattle.grid_units.specs.Numbers.{is_digit, is_number, is_digits, value, dec_of, zeros_of, max_units}
+use Rattle.grid_units.specs.Spellings.{pointed}
+use Rattle.grid_units.proofs.Spelled.{spells_decimal}
+use Rattle.drill_lines.specs.declared.command.Coordinates.{Coordinates}
+use Rattle.drill_lines.specs.declared.command.Settings.{Settings}
+use Rattle.drill_lines.specs.declared.command.DrillCommand.{DrillCommand}
+use Rattle.drill_lines.specs.declared.command.DrillCommand.TheVariants.{Tool, Pick, Hit, Slot}
+use Rattle.drill_lines.specs.Tools.{is_point, is_diameter, is_skipped, is_letter, are_fields, number_from, diameter_of, diameter_run, tool_fields, tool_line, pick_fields, pick_line}
+use Rattle.drill_lines.specs.Drilling.{format_in, zeros_in, coordinate_of, coordinate, field, Runs, runs_of, names_one, coordinates, slot_line, drill_from, drill_line}
+use Rattle.drill_lines.specs.Writing.{coordinate_word, point_word, names_any, is_tool_number, IsDec, AreDecs, IsPoint}
+use Rattle.drill_lines.proofs.Runs.{or_right, and_true, both_true, all_weaker, prefix_run, run_in_front, rest_behind, run_alone, rest_alone, IsRun, decimal_digits, pointed_run, no_diameters}
+
+-- ---- tools
+
+-- a number of at most 999 as its digits
+record IsNumber (least n : ℕ) (digits : List ℕ) : Type 0 where
+  digits_are : list_all is_digit digits ≡ true
+  reads : number_from least digits ≡ Ok n
+
+not_empty : (n : ℕ) → 0 < n → not (eqb n 0) ≡ true
+not_empty n h = grind (arith, nat_tests)
+
+number_spelled : (least n : ℕ) → least ≤ n → n ≤ 999 → IsNumber least n (decimal n)
+unfolding number_from
+number_spelled least n low high =
+    let s = spells_decimal n (omega arith) in
+    let ds = decimal n in
+    let a : is_digits ds ≡ true = and_true (not (eqb (length ds) 0)) (list_all is_digit ds) (not_empty (length ds) s.some) s.digits in
+    let b : leb least (value ds) ≡ true = le-leb least (value ds) (omega (arith, s.value)) in
+    let c : leb (value ds) 999 ≡ true = le-leb (value ds) 999 (omega (arith, s.value)) in
+    record {
+      digits_are = s.digits;
+      reads = (λ i. cond (a i && (b i && c i)) (Ok (s.value i)) (Err BadNumber));
+    }
+
+weaker_letter : (b : ℕ) → is_number b ≡ true → (is_letter b || is_number b) ≡ true
+weaker_letter b h = or_right (is_letter b) (is_number b) h
+
+pub tool_spelled : (n : ℕ) (v : ℤ) → is_tool_number n ≡ true → IsDec v → tool_line (decimal n ++ 67 ∷ pointed v) ≡ Ok (Tool n v)
+unfolding tool_line tool_fields diameter_of
+tool_spelled n v number dec =
+    let range = both_true (leb 1 n) (leb n 999) number in
+    let d = number_spelled 1 n (leb-true 1 n range.0) (leb-true n 999 range.1) in
+    let run = pointed_run v dec in
+    let xs = pointed v in
+    let digits : take_while is_digit (decimal n ++ 67 ∷ xs) ≡ decimal n = run_in_front is_digit (decimal n) (67 ∷ xs) d.digits_are refl in
+    let fields : drop (prefix_len is_digit (decimal n ++ 67 ∷ xs)) (decimal n ++ 67 ∷ xs) ≡ 67 ∷ xs = rest_behind is_digit (decimal n) (67 ∷ xs) d.digits_are refl in
+    let letters : list_all (λ b. is_letter b || is_number b) xs ≡ true = all_weaker is_number (λ b. is_letter b || is_number b) weaker_letter xs run.numbers in
+    let one : eqb (count_by is_diameter (67 ∷ xs)) 1 ≡ true = ap (λ k. eqb k 1) (no_diameters xs 1 run.numbers) in
+    let alone : take_while is_number xs ≡ xs = run_alone is_number xs run.numbers in
+    let is_diameter_of : diameter_of (diameter_run (67 ∷ xs)) ≡ Ok v = ap diameter_of alone ∙ (λ i. cond (run.point i) (run.reads i) (Err BadNumber)) in
+    (λ i. tool_fields (digits i) (fields i))
+    ∙ ((λ i. cond (letters i && one i) (both (number_from 1 (decimal n)) (diameter_of (diameter_run (67 ∷ xs))) >>= λ t. Ok (Tool t.0 t.1)) (Err BadLine))
+    ∙ (λ i. both (d.reads i) (is_diameter_of i) >>= λ t. Ok (Tool t.0 t.1)))
+
+pub pick_spelled : (n : ℕ) → n ≤ 999 → pick_line (decimal n) ≡ Ok (Pick n)
+unfolding pick_line pick_fields
+pick_spelled n high =
+    let d = number_spelled 0 n (omega arith) high in
+    (λ i. pick_fields (run_alone is_digit (decimal n) d.digits_are i) (rest_alone is_digit (decimal n) d.digits_are i))
+    ∙ (λ i. d.reads i >>= λ k. Ok (Pick k))
+
+-- ---- points
+
+-- a coordinate that stands is read, and one that is left out is none
+runs_word : Option ℤ → Option (List ℕ)
+runs_word None = None
+runs_word (Some v) = Some (pointed v)
+
+coordinate_spelled : (s : Settings) (v : Option ℤ) → AreDecs v → coordinate s (runs_word v) ≡ Ok v
+unfolding coordinate coordinate_of runs_word
+coordinate_spelled s None dec = refl
+coordinate_spelled s (Some v) dec =
+    let run = pointed_run v dec in
+    λ i. cond (run.point i) (run.reads i) (zeros_of (pointed v) (format_in s).whole (format_in s).decimals (zeros_in s)) >>= λ x. Ok (Some x)
+
+
+field_spelled : (letter : ℕ) (v : Option ℤ) (rest : List ℕ) → eqb letter letter ≡ true → AreDecs v → prefix_len is_number rest ≡ 0 → field letter rest ≡ (None, rest)
+    → field letter (coordinate_word letter v ++ rest) ≡ (runs_word v, rest)
+unfolding runs_word
+field_spelled letter None rest same dec behind none = none
+field_spelled letter (Some v) rest same dec behind none =
+    let run = pointed_run v dec in
+    ap (λ t. cond t (Some (take_while is_number (pointed v ++ rest)), drop (prefix_len is_number (pointed v ++ rest)) (pointed v ++ rest)) (None, letter ∷ (pointed v ++ rest))) same
+    ∙ (λ i. (Some (run_in_front is_number (pointed v) rest run.numbers behind i), rest_behind is_number (pointed v) rest run.numbers behind i))
+
+-- the runs of a point's word
+runs_at : Coordinates → Runs
+runs_at p = record { x = runs_word p.x; y = runs_word p.y }
+
+y_first : (y : Option ℤ) (rest : List ℕ) → prefix_len is_number rest ≡ 0 → prefix_len is_number (coordinate_word 89 y ++ rest) ≡ 0
+y_first None rest h = h
+y_first (Some v) rest h = refl
+
+y_no_x : (y : Option ℤ) (rest : List ℕ) → field 88 rest ≡ (None, rest) → field 88 (coordinate_word 89 y ++ rest) ≡ (None, coordinate_word 89 y ++ rest)
+y_no_x None rest h = h
+y_no_x (Some v) rest h = refl
+
+runs_spelled : (p : Coordinates) (rest : List ℕ) → IsPoint p → prefix_len is_number rest ≡ 0 → field 88 rest ≡ (None, rest) → field 89 rest ≡ (None, rest) → runs_of (point_word p ++ rest) ≡ (runs_at p, rest)
+unfolding runs_at
+runs_spelled p rest dec behind no_x no_y =
+    let first : field 88 (point_word p ++ rest) ≡ (runs_word p.x, coordinate_word 89 p.y ++ rest) =
+        ap (field 88) (append_assoc (coordinate_word 88 p.x) (coordinate_word 89 p.y) rest)
+        ∙ field_spelled 88 p.x (coordinate_word 89 p.y ++ rest) refl dec.0 (y_first p.y rest behind) (y_no_x p.y rest no_x) in
+    let second : field 89 (coordinate_word 89 p.y ++ rest) ≡ (runs_word p.y, rest) = field_spelled 89 p.y rest refl dec.1 behind no_y in
+    (λ i. (record { x = (first i).0; y = (field 89 (first i).1).0 }, (field 89 (first i).1).1))
+    ∙ (λ i. (record { x = runs_word p.x; y = (second i).0 }, (second i).1))
+
+coordinates_spelled : (s : Settings) (p : Coordinates) → IsPoint p → coordinates s (runs_at p) ≡ Ok p
+unfolding coordinates runs_at
+coordinates_spelled s p dec = λ i. both (coordinate_spelled s p.x dec.0 i) (coordinate_spelled s p.y dec.1 i) >>= λ q. Ok (record { x = q.0; y = q.1 })
+
+names_word : (v : Option ℤ) → is_some (runs_word v) ≡ is_some v
+unfolding runs_word
+names_word None = refl
+names_word (Some v) = refl
+
+pub hit_spelled : (s : Settings) (p : Coordinates) → IsPoint p → drill_line s (point_word p) ≡ Ok (Hit p)
+unfolding drill_line drill_from
+hit_spelled s p dec =
+    let runs : runs_of (point_word p) ≡ (runs_at p, []) = ap runs_of (sym (append-nil (point_word p))) ∙ runs_spelled p [] dec refl refl refl in
+    (λ i. drill_from s (runs i).0 (runs i).1) ∙ (λ i. coordinates_spelled s p dec i >>= λ q. Ok (Hit q))
+
+some_bytes : (n : ℕ) → eqb (suc n) 0 ≡ false
+some_bytes n = grind (arith, nat_tests)
+
+-- `G85` begins the end of a slot
+behind_slot : (s : Settings) (runs : Runs) (q : List ℕ) → drill_from s runs (codes "G85" ++ q) ≡ slot_line s runs q
+unfolding drill_from
+behind_slot s runs q = ap (λ t. cond t (coordinates s runs >>= λ p. Ok (Hit p)) (slot_line s runs q)) (some_bytes (suc (suc (length q))))
+
+pub slot_spelled : (s : Settings) (p q : Coordinates) → IsPoint p → IsPoint q → names_any q ≡ true → drill_line s (point_word p ++ (codes "G85" ++ point_word q)) ≡ Ok (Slot p q)
+unfolding drill_line slot_line runs_at
+slot_spelled s p q dec dec_to names =
+    let tail = codes "G85" ++ point_word q in
+    let runs : runs_of (point_word p ++ tail) ≡ (runs_at p, tail) = runs_spelled p tail dec refl refl refl in
+    let to : runs_of (point_word q) ≡ (runs_at q, []) = ap runs_of (sym (append-nil (point_word q))) ∙ runs_spelled q [] dec_to refl refl refl in
+    let named : (is_some (runs_word q.x) || is_some (runs_word q.y)) ≡ true = (λ i. names_word q.x i || names_word q.y i) ∙ names in
+    ((λ i. drill_from s (runs i).0 (runs i).1) ∙ behind_slot s (runs_at p) (point_word q))
+    ∙ ((λ i. cond (names_one (to i).0 && eqb (length (to i).1) 0) (both (coordinates s (runs_at p)) (coordinates s (to i).0) >>= λ r. Ok (Slot r.0 r.1)) (Err BadLine))
+    ∙ ((λ i. cond (named i && true) (both (coordinates s (runs_at p)) (coordinates s (runs_at q)) >>= λ r. Ok (Slot r.0 r.1)) (Err BadLine))
+    ∙ (λ i. both (coordinates_spelled s p dec i) (coordinates_spelled s q dec_to i) >>= λ r. Ok (Slot r.0 r.1))))

@@ -1,0 +1,47 @@
+-- The lines of a header: units, zeros and formats.
+use Rattle.std.specs.Prelude.{ℕ, Bool, ◌&&◌, ◌==◌, nat_le, List, [], ◌∷◌, length, drop, if◌then◌else◌, Option, Some, None, Result, Ok, Err, codes}
+use Rattle.std.specs.List.{list_all, prefix_len}
+use Rattle.grid_units.specs.declared.fault.Reason.{Reason}
+use Rattle.grid_units.specs.declared.fault.Reason.TheVariants.{BadLine, BadNumber}
+use Rattle.grid_units.specs.Results.{◌>>=◌}
+use Rattle.grid_units.specs.declared.lengths.Unit.{Unit as Units}
+use Rattle.grid_units.specs.declared.zero_filling.Zeros.{Zeros}
+use Rattle.grid_units.specs.declared.zero_filling.Zeros.TheVariants.{Leading, Trailing}
+use Rattle.drill_lines.specs.declared.command.DrillCommand.{DrillCommand}
+use Rattle.drill_lines.specs.declared.command.DrillCommand.TheVariants.{UnitLine}
+use Rattle.drill_lines.specs.Formats.{Digits}
+use Rattle.drill_lines.specs.Lines.{begins}
+use Rattle.grid_units.specs.Numbers.{is_number}
+
+-- the digit 0 (docs/FORMATS.md, Drill lines)
+abbrev pub is_zero : ℕ → Bool
+is_zero b = b == 48
+
+-- a number of digits, 1 to 6 (docs/FORMATS.md, Drill coordinates)
+abbrev pub is_size : ℕ → Bool
+is_size n = nat_le 1 n && nat_le n 6
+
+-- these numbers of digits, each 1 to 6 (docs/FORMATS.md, Drill coordinates)
+abbrev pub sizes : ℕ → ℕ → Result Digits Reason
+sizes whole decimals = if is_size whole && is_size decimals then Ok (record { whole = whole; decimals = decimals }) else Err BadNumber
+
+-- what stands behind the zeros of a pattern's whole part: a point and zeros (docs/FORMATS.md, Drill lines)
+abbrev pub pattern_from : ℕ → List ℕ → Result Digits Reason
+pattern_from whole [] = Err BadNumber
+pattern_from whole (b ∷ bs) = if (b == 46) && list_all is_zero bs then sizes whole (length bs) else Err BadNumber
+
+-- the format that a pattern shows: zeros, a point, zeros (docs/FORMATS.md, Drill lines)
+unfoldable pub pattern : List ℕ → Result Digits Reason
+pattern run = pattern_from (prefix_len is_zero run) (drop (prefix_len is_zero run) run)
+
+-- [`,` run] behind the unit and the zeros (docs/FORMATS.md, Drill lines)
+unfoldable pub unit_format : Units → Option Zeros → List ℕ → Result DrillCommand Reason
+unit_format unit zeros [] = Ok (UnitLine unit zeros None)
+unit_format unit zeros (b ∷ bs) = if (b == 44) && list_all is_number bs then (pattern bs >>= λ p. Ok (UnitLine unit zeros (Some p))) else Err BadLine
+
+-- [`,LZ` or `,TZ`] [`,` run] behind the unit (docs/FORMATS.md, Drill lines)
+unfoldable pub unit_line : Units → List ℕ → Result DrillCommand Reason
+unit_line unit line =
+    if begins (codes ",LZ") line then unit_format unit (Some Leading) (drop 3 line)
+    else (if begins (codes ",TZ") line then unit_format unit (Some Trailing) (drop 3 line)
+    else unit_format unit None line)

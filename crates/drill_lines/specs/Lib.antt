@@ -1,0 +1,8 @@
+pub mod Formats
+pub mod Lines
+pub mod Outcomes
+pub mod Header
+pub mod Tools
+pub mod Drilling
+pub mod Meaning
+pub mod Writing

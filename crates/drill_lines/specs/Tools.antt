@@ -1,0 +1,63 @@
+-- The lines that define a tool and that pick one.
+use Rattle.std.specs.Prelude.{ℕ, ℤ, Bool, true, ◌||◌, ◌&&◌, ◌==◌, nat_le, List, [], ◌∷◌, drop, if◌then◌else◌, Result, Ok, Err, take_while, count_by}
+use Rattle.std.specs.List.{list_all, list_any, prefix_len, after_first}
+use Rattle.grid_units.specs.declared.fault.Reason.{Reason}
+use Rattle.grid_units.specs.declared.fault.Reason.TheVariants.{BadLine, BadNumber}
+use Rattle.grid_units.specs.Numbers.{is_digit, is_number, is_digits, value, dec_of}
+use Rattle.grid_units.specs.Results.{◌>>=◌, both}
+use Rattle.drill_lines.specs.declared.command.DrillCommand.{DrillCommand}
+use Rattle.drill_lines.specs.declared.command.DrillCommand.TheVariants.{Tool, Pick}
+
+-- `.` (docs/FORMATS.md, Numbers)
+abbrev pub is_point : ℕ → Bool
+is_point b = b == 46
+
+-- `C`, the letter of a diameter (docs/FORMATS.md, Drill lines)
+abbrev pub is_diameter : ℕ → Bool
+is_diameter b = b == 67
+
+-- `F`, `S`, `B`, `H` or `Z`, whose run is not read (docs/FORMATS.md, Drill lines)
+abbrev pub is_skipped : ℕ → Bool
+is_skipped b = (b == 70) || ((b == 83) || ((b == 66) || ((b == 72) || (b == 90))))
+
+-- a letter of a tool's definition (docs/FORMATS.md, Drill lines)
+abbrev pub is_letter : ℕ → Bool
+is_letter b = is_diameter b || is_skipped b
+
+-- the bytes begin with such a letter, or there are none (docs/FORMATS.md, Drill lines)
+abbrev pub begins_with : (ℕ → Bool) → List ℕ → Bool
+begins_with letter [] = true
+begins_with letter (b ∷ bs) = letter b
+
+-- such letters, each with a run, in any order (docs/FORMATS.md, Drill lines)
+abbrev pub are_fields : (ℕ → Bool) → List ℕ → Bool
+are_fields letter bytes = begins_with letter bytes && list_all (λ b. letter b || is_number b) bytes
+
+-- a tool's number of at least this and at most 999 (docs/FORMATS.md, Drill lines)
+unfoldable pub number_from : ℕ → List ℕ → Result ℕ Reason
+number_from least digits = if is_digits digits && (nat_le least (value digits) && nat_le (value digits) 999) then Ok (value digits) else Err BadNumber
+
+-- a diameter: a decimal with a point (docs/FORMATS.md, Drill lines)
+unfoldable pub diameter_of : List ℕ → Result ℤ Reason
+diameter_of run = if list_any is_point run then dec_of run else Err BadNumber
+
+-- the run of the diameter (docs/FORMATS.md, Drill lines)
+abbrev pub diameter_run : List ℕ → List ℕ
+diameter_run fields = take_while is_number (after_first is_diameter fields)
+
+-- the fields of a tool's definition: one `C`, and any of `F S B H Z` (docs/FORMATS.md, Drill lines)
+unfoldable pub tool_fields : List ℕ → List ℕ → Result DrillCommand Reason
+tool_fields digits fields =
+    if are_fields is_letter fields && (count_by is_diameter fields == 1) then (both (number_from 1 digits) (diameter_of (diameter_run fields)) >>= λ t. Ok (Tool t.0 t.1)) else Err BadLine
+
+-- a tool's definition, behind its `T` (docs/FORMATS.md, Drill lines)
+unfoldable pub tool_line : List ℕ → Result DrillCommand Reason
+tool_line line = tool_fields (take_while is_digit line) (drop (prefix_len is_digit line) line)
+
+-- the fields of a pick: any of `F S B H Z` (docs/FORMATS.md, Drill lines)
+unfoldable pub pick_fields : List ℕ → List ℕ → Result DrillCommand Reason
+pick_fields digits fields = if are_fields is_skipped fields then (number_from 0 digits >>= λ n. Ok (Pick n)) else Err BadLine
+
+-- a pick, behind its `T` (docs/FORMATS.md, Drill lines)
+unfoldable pub pick_line : List ℕ → Result DrillCommand Reason
+pick_line line = pick_fields (take_while is_digit line) (drop (prefix_len is_digit line) line)

@@ -1,0 +1,119 @@
+-- The canonical line of a command.
+use Rattle.std.specs.Prelude.{ℕ, ◌≤◌, ℤ, Bool, true, false, not, ◌||◌, ◌&&◌, ◌==◌, nat_lt, nat_le, unsigned_abs, List, [], ◌∷◌, ◌++◌, length, replicate, decimal, Option, Some, None, is_some, codes}
+use Rattle.std.specs.List.{list_any}
+use Rattle.grid_units.specs.declared.lengths.Unit.{Unit as Units}
+use Rattle.grid_units.specs.declared.lengths.Unit.TheVariants.{Inch, Millimetre}
+use Rattle.grid_units.specs.declared.zero_filling.Zeros.{Zeros}
+use Rattle.grid_units.specs.declared.zero_filling.Zeros.TheVariants.{Leading, Trailing, Full}
+use Rattle.grid_units.specs.Numbers.{max_units}
+use Rattle.grid_units.specs.Spellings.{pointed}
+use Rattle.drill_lines.specs.declared.command.Coordinates.{Coordinates}
+use Rattle.drill_lines.specs.declared.command.Part.{Part}
+use Rattle.drill_lines.specs.declared.command.Part.TheVariants as part
+use Rattle.drill_lines.specs.declared.command.DrillCommand.{DrillCommand}
+use Rattle.drill_lines.specs.declared.command.DrillCommand.TheVariants.{Comment, Start, UnitLine, Tool, HeaderEnd, UnitCode, Pick, Hit, Slot, Finish}
+use Rattle.drill_lines.specs.Formats.{Digits, AreSizes}
+use Rattle.drill_lines.specs.Lines.{trimmed}
+
+-- ---- lines
+
+-- `INCH` or `METRIC` (docs/FORMATS.md, Canonical drill text)
+abbrev pub unit_word : Units → List ℕ
+unit_word Inch = codes "INCH"
+unit_word Millimetre = codes "METRIC"
+
+-- `,LZ` or `,TZ`, where given (docs/FORMATS.md, Canonical drill text)
+abbrev pub zeros_word : Option Zeros → List ℕ
+zeros_word (Some Leading) = codes ",LZ"
+zeros_word (Some Trailing) = codes ",TZ"
+zeros_word (Some Full) = []
+zeros_word None = []
+
+-- the pattern, where given (docs/FORMATS.md, Canonical drill text)
+abbrev pub pattern_word : Option Digits → List ℕ
+pattern_word None = []
+pattern_word (Some format) = 44 ∷ (replicate format.whole 48 ++ 46 ∷ replicate format.decimals 48)
+
+-- `M71` or `M72` (docs/FORMATS.md, Canonical drill text)
+abbrev pub unit_code : Units → List ℕ
+unit_code Millimetre = codes "M71"
+unit_code Inch = codes "M72"
+
+-- a letter and its coordinate, where it stands (docs/FORMATS.md, Canonical drill text)
+abbrev pub coordinate_word : ℕ → Option ℤ → List ℕ
+coordinate_word letter None = []
+coordinate_word letter (Some v) = letter ∷ pointed v
+
+-- the coordinates of a point (docs/FORMATS.md, Canonical drill text)
+abbrev pub point_word : Coordinates → List ℕ
+point_word p = coordinate_word 88 p.x ++ coordinate_word 89 p.y
+
+-- the canonical line of a command, without its LF (docs/FORMATS.md, Canonical drill text)
+abbrev pub canonical : DrillCommand → List ℕ
+canonical (Comment text) = 59 ∷ text
+canonical Start = codes "M48"
+canonical (UnitLine unit zeros format) = unit_word unit ++ (zeros_word zeros ++ pattern_word format)
+canonical (Tool number diameter) = 84 ∷ (decimal number ++ 67 ∷ pointed diameter)
+canonical HeaderEnd = codes "%"
+canonical (UnitCode unit) = unit_code unit
+canonical (Pick number) = 84 ∷ decimal number
+canonical (Hit point) = point_word point
+canonical (Slot first second) = point_word first ++ (codes "G85" ++ point_word second)
+canonical Finish = codes "M30"
+
+-- ---- commands that a line spells
+
+-- a comment's text: without LF, without a blank at its end, and of a line that is not too long (docs/FORMATS.md, Canonical drill text)
+abbrev pub is_comment_text : List ℕ → Bool
+is_comment_text text = not (list_any (λ b. b == 10) text) && ((length (trimmed text) == length text) && nat_lt (length text) 1048576)
+
+-- zeros that a unit line can name (docs/FORMATS.md, Drill lines)
+abbrev pub can_name_zeros : Option Zeros → Bool
+can_name_zeros (Some Full) = false
+can_name_zeros _ = true
+
+-- a tool's number (docs/FORMATS.md, Drill lines)
+abbrev pub is_tool_number : ℕ → Bool
+is_tool_number n = nat_le 1 n && nat_le n 999
+
+-- at least one coordinate stands (docs/FORMATS.md, Drill lines)
+abbrev pub names_any : Coordinates → Bool
+names_any p = is_some p.x || is_some p.y
+
+-- some line of this part of a file spells the command (docs/FORMATS.md, Canonical drill text)
+abbrev pub is_sayable : Part → DrillCommand → Bool
+is_sayable part.Before Start = true
+is_sayable part.Before (Comment text) = is_comment_text text
+is_sayable part.Header (Comment text) = is_comment_text text
+is_sayable part.Header (UnitLine unit zeros format) = can_name_zeros zeros
+is_sayable part.Header (Tool number diameter) = is_tool_number number
+is_sayable part.Header HeaderEnd = true
+is_sayable part.Header (UnitCode unit) = true
+is_sayable part.Body (Comment text) = is_comment_text text
+is_sayable part.Body (UnitCode unit) = true
+is_sayable part.Body (Pick number) = nat_le number 999
+is_sayable part.Body (Hit point) = names_any point
+is_sayable part.Body (Slot first second) = names_any first && names_any second
+is_sayable part.Body Finish = true
+is_sayable _ _ = false
+
+-- ---- what the types of a command's fields say
+
+-- a decimal of its range (docs/FORMATS.md, Numbers)
+abbrev pub IsDec : ℤ → Type 0
+IsDec v = unsigned_abs v ≤ max_units
+
+abbrev pub AreDecs : Option ℤ → Type 0
+AreDecs None = Unit {0}
+AreDecs (Some v) = IsDec v
+
+abbrev pub IsPoint : Coordinates → Type 0
+IsPoint p = AreDecs p.x × AreDecs p.y
+
+-- each number of a command lies in the range of its type (docs/FORMATS.md, Numbers)
+abbrev pub IsTyped : DrillCommand → Type 0
+IsTyped (UnitLine unit zeros (Some format)) = AreSizes format.whole format.decimals
+IsTyped (Tool number diameter) = IsDec diameter
+IsTyped (Hit point) = IsPoint point
+IsTyped (Slot first second) = IsPoint first × IsPoint second
+IsTyped _ = Unit {0}

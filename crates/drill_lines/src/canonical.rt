@@ -1,0 +1,267 @@
+//! The canonical lines of commands.
+
+ghost use Rattle.std.specs.Prelude.{◌≡◌, ◌++◌, ◌∷◌, ◌==◌, OnOk, decimal, replicate};
+ghost use Rattle.std.specs.List.{list_any};
+ghost use Rattle.grid_units.specs.Spellings.{pointed};
+ghost use Rattle.drill_lines.specs.declared.command.Part.TheVariants as part;
+ghost use Rattle.drill_lines.specs.declared.command.DrillCommand.TheVariants as command;
+ghost use Rattle.drill_lines.specs.Formats.{AreSizes};
+ghost use Rattle.drill_lines.specs.Writing.{unit_word, zeros_word, pattern_word, unit_code, coordinate_word, point_word, canonical, is_comment_text, can_name_zeros, is_tool_number, names_any, is_sayable, IsDec, AreDecs, IsPoint, IsTyped};
+
+use crate::command::{Coordinates, DrillCommand, Format, Part};
+use crate::line::trimmed_len;
+use grid_units::{Dec, Unit, Zeros};
+use itoa::Buffer;
+use std::alloc::AllocError;
+
+/// Appends a decimal with its point.
+fn push_dec(text: &mut Vec<u8>, value: Dec) -> Result<(), AllocError>
+    ensures items { OnOk result (text.new.items ≡ text.old.items ++ pointed value) }
+    ensures typed { IsDec value }
+{
+    text.extend_from_slice(value.write_pointed().as_bytes())
+}
+
+/// Appends a number.
+fn push_number(text: &mut Vec<u8>, number: u16) -> Result<(), AllocError>
+    ensures { OnOk result (text.new.items ≡ text.old.items ++ decimal number) }
+{
+    let mut buffer = Buffer::new();
+    text.extend_from_slice(buffer.format(number).as_bytes())
+}
+
+/// Appends so many zeros.
+fn push_zeros(text: &mut Vec<u8>, count: u8) -> Result<(), AllocError>
+    ensures { OnOk result (text.new.items ≡ text.old.items ++ replicate count 48) }
+{
+    for _i in 0..count {
+        text.push(b'0')?;
+    }
+    Ok(())
+}
+
+fn unit_word(unit: Unit) -> &'static [u8]
+    ensures { result.now ≡ unit_word unit }
+{
+    match unit {
+        Unit::Inch => b"INCH",
+        Unit::Millimetre => b"METRIC",
+    }
+}
+
+fn zeros_word(zeros: Option<Zeros>) -> &'static [u8]
+    ensures { result.now ≡ zeros_word zeros }
+{
+    match zeros {
+        Some(Zeros::Leading) => b",LZ",
+        Some(Zeros::Trailing) => b",TZ",
+        Some(Zeros::Full) | None => b"",
+    }
+}
+
+fn unit_code(unit: Unit) -> &'static [u8]
+    ensures { result.now ≡ unit_code unit }
+{
+    match unit {
+        Unit::Millimetre => b"M71",
+        Unit::Inch => b"M72",
+    }
+}
+
+/// Appends the pattern of a format.
+fn push_format(text: &mut Vec<u8>, format: Format) -> Result<(), AllocError>
+    ensures items { OnOk result (text.new.items ≡ text.old.items ++ (44 ∷ (replicate format.whole 48 ++ 46 ∷ replicate format.decimals 48))) }
+    ensures typed { AreSizes format.whole format.decimals }
+{
+    let (whole, decimals) = (format.whole(), format.decimals());
+    text.push(b',')?;
+    push_zeros(text, whole)?;
+    text.push(b'.')?;
+    push_zeros(text, decimals)
+}
+
+/// Appends a unit line.
+fn push_unit_line(
+    text: &mut Vec<u8>,
+    unit: Unit,
+    zeros: Option<Zeros>,
+    format: Option<Format>,
+) -> Result<(), AllocError>
+    ensures items { OnOk result (text.new.items ≡ text.old.items ++ (unit_word unit ++ (zeros_word zeros ++ pattern_word format))) }
+    ensures typed { OnOk result (IsTyped (command.UnitLine unit zeros format)) }
+{
+    text.extend_from_slice(unit_word(unit))?;
+    text.extend_from_slice(zeros_word(zeros))?;
+    match format {
+        Some(format) => push_format(text, format),
+        None => Ok(()),
+    }
+}
+
+/// Appends a letter and its coordinate, where it stands.
+fn push_coordinate(text: &mut Vec<u8>, letter: u8, value: Option<Dec>) -> Result<(), AllocError>
+    ensures items { OnOk result (text.new.items ≡ text.old.items ++ coordinate_word letter value) }
+    ensures typed { OnOk result (AreDecs value) }
+{
+    match value {
+        Some(value) => {
+            text.push(letter)?;
+            push_dec(text, value)
+        }
+        None => Ok(()),
+    }
+}
+
+/// Appends the coordinates of a point.
+fn push_point(text: &mut Vec<u8>, point: &Coordinates) -> Result<(), AllocError>
+    ensures items { OnOk result (text.new.items ≡ text.old.items ++ point_word point.now) }
+    ensures typed { OnOk result (IsPoint point.now) }
+{
+    push_coordinate(text, b'X', point.x)?;
+    push_coordinate(text, b'Y', point.y)
+}
+
+/// Appends a tool's definition.
+fn push_tool(text: &mut Vec<u8>, number: u16, diameter: Dec) -> Result<(), AllocError>
+    ensures items { OnOk result (text.new.items ≡ text.old.items ++ (84 ∷ (decimal number ++ 67 ∷ pointed diameter))) }
+    ensures typed { OnOk result (IsDec diameter) }
+{
+    text.push(b'T')?;
+    push_number(text, number)?;
+    text.push(b'C')?;
+    push_dec(text, diameter)
+}
+
+/// Appends a pick.
+fn push_pick(text: &mut Vec<u8>, number: u16) -> Result<(), AllocError>
+    ensures { OnOk result (text.new.items ≡ text.old.items ++ (84 ∷ decimal number)) }
+{
+    text.push(b'T')?;
+    push_number(text, number)
+}
+
+/// Appends a slot.
+fn push_slot(
+    text: &mut Vec<u8>,
+    first: &Coordinates,
+    second: &Coordinates,
+) -> Result<(), AllocError>
+    ensures items { OnOk result (text.new.items ≡ text.old.items ++ (point_word first.now ++ (71 ∷ 56 ∷ 53 ∷ point_word second.now))) }
+    ensures typed { OnOk result (IsPoint first.now × IsPoint second.now) }
+{
+    push_point(text, first)?;
+    text.extend_from_slice(b"G85")?;
+    push_point(text, second)
+}
+
+/// Appends a comment.
+fn push_comment(text: &mut Vec<u8>, comment: &[u8]) -> Result<(), AllocError>
+    ensures { OnOk result (text.new.items ≡ text.old.items ++ (59 ∷ comment.now)) }
+{
+    text.push(b';')?;
+    text.extend_from_slice(comment)
+}
+
+/// Appends the canonical line of a command, without its LF.
+///
+/// # Errors
+///
+/// An `AllocError` where there is no memory for it.
+pub fn push_canonical(text: &mut Vec<u8>, command: &DrillCommand) -> Result<(), AllocError>
+    ensures items { OnOk result (text.new.items ≡ text.old.items ++ canonical command.now) }
+    ensures typed { OnOk result (IsTyped command.now) }
+{
+    match command {
+        DrillCommand::Comment(comment) => push_comment(text, comment.bytes()),
+        DrillCommand::Start => text.extend_from_slice(b"M48"),
+        DrillCommand::UnitLine(unit, zeros, format) => {
+            push_unit_line(text, *unit, *zeros, *format)
+        }
+        DrillCommand::Tool(number, diameter) => push_tool(text, *number, *diameter),
+        DrillCommand::HeaderEnd => text.extend_from_slice(b"%"),
+        DrillCommand::UnitCode(unit) => text.extend_from_slice(unit_code(*unit)),
+        DrillCommand::Pick(number) => push_pick(text, *number),
+        DrillCommand::Hit(point) => push_point(text, point),
+        DrillCommand::Slot(first, second) => push_slot(text, first, second),
+        DrillCommand::Finish => text.extend_from_slice(b"M30"),
+    }
+}
+
+/// Whether there is an LF.
+fn has_break(text: &[u8]) -> bool
+    ensures { result ≡ list_any (λ b. b == 10) text.now }
+{
+    text.iter().any(|byte| *byte == b'\n')
+}
+
+/// Whether a line can spell a comment of this text.
+fn is_comment_text(text: &[u8]) -> bool
+    ensures { result ≡ is_comment_text text.now }
+{
+    !has_break(text) && trimmed_len(text) == text.len() && text.len() < 1_048_576
+}
+
+fn can_name_zeros(zeros: Option<Zeros>) -> bool
+    ensures { result ≡ can_name_zeros zeros }
+{
+    !matches!(zeros, Some(Zeros::Full))
+}
+
+fn is_tool_number(number: u16) -> bool
+    ensures { result ≡ is_tool_number number }
+{
+    1 <= number && number <= 999
+}
+
+fn names_any(point: &Coordinates) -> bool
+    ensures { result ≡ names_any point.now }
+{
+    point.x.is_some() || point.y.is_some()
+}
+
+fn is_said_before(command: &DrillCommand) -> bool
+    ensures { result ≡ is_sayable part.Before command.now }
+{
+    match command {
+        DrillCommand::Start => true,
+        DrillCommand::Comment(text) => is_comment_text(text.bytes()),
+        _ => false,
+    }
+}
+
+fn is_said_in_header(command: &DrillCommand) -> bool
+    ensures { result ≡ is_sayable part.Header command.now }
+{
+    match command {
+        DrillCommand::Comment(text) => is_comment_text(text.bytes()),
+        DrillCommand::UnitLine(_, zeros, _) => can_name_zeros(*zeros),
+        DrillCommand::Tool(number, _) => is_tool_number(*number),
+        DrillCommand::HeaderEnd | DrillCommand::UnitCode(_) => true,
+        _ => false,
+    }
+}
+
+fn is_said_in_body(command: &DrillCommand) -> bool
+    ensures { result ≡ is_sayable part.Body command.now }
+{
+    match command {
+        DrillCommand::Comment(text) => is_comment_text(text.bytes()),
+        DrillCommand::UnitCode(_) | DrillCommand::Finish => true,
+        DrillCommand::Pick(number) => *number <= 999,
+        DrillCommand::Hit(point) => names_any(point),
+        DrillCommand::Slot(first, second) => names_any(first) && names_any(second),
+        _ => false,
+    }
+}
+
+/// Whether some line of this part of a file spells the command.
+pub fn is_sayable(part: Part, command: &DrillCommand) -> bool
+    ensures { result ≡ is_sayable part command.now }
+{
+    match part {
+        Part::Before => is_said_before(command),
+        Part::Header => is_said_in_header(command),
+        Part::Body => is_said_in_body(command),
+        Part::After => false,
+    }
+}

@@ -1,0 +1,109 @@
+//! The commands of a drill file, and by what its lines are read.
+
+ghost use Rattle.std.specs.Prelude.{◌≡◌, ◌≤◌, ◌↔◌, IsSome, IfSome};
+
+use grid_units::{Dec, Text, Unit, Zeros};
+use std::marker::Model;
+
+/// How many digits a coordinate without a point has before its point and behind it: 1 to 6 each.
+#[derive(Clone, Copy, Debug, PartialEq, Eq)]
+pub struct Format {
+    whole: u8,
+    decimals: u8,
+}
+
+impl Model for Format {
+    ghost use Rattle.drill_lines.specs.Formats.{Digits, AreSizes};
+
+    ghost Value = { Digits };
+
+    ghost view = { λ f. record { whole = f.whole; decimals = f.decimals } };
+
+    ghost invariant = { λ f. AreSizes f.whole f.decimals };
+
+    ghost inverse = { λ f. record { whole = f.whole; decimals = f.decimals } };
+}
+
+impl Format {
+    ghost use Rattle.drill_lines.specs.Formats.{AreSizes};
+
+    /// The format with these numbers of digits, or `None` where one of them is not 1 to 6.
+    pub fn new(whole: u8, decimals: u8) -> Option<Format>
+        ensures valid { IsSome result ↔ AreSizes whole decimals }
+        ensures value { IfSome result (λ f. f ≡ record { whole = whole; decimals = decimals }) }
+    {
+        if 1 <= whole && whole <= 6 && 1 <= decimals && decimals <= 6 {
+            Some(Format { whole, decimals })
+        } else {
+            None
+        }
+    }
+
+    /// How many digits stand before the point, 1 to 6.
+    pub fn whole(&self) -> u8
+        ensures value { result ≡ self.now.whole }
+        ensures in_range { AreSizes self.now.whole self.now.decimals }
+    {
+        self.whole
+    }
+
+    /// How many digits stand behind the point, 1 to 6.
+    pub fn decimals(&self) -> u8
+        ensures value { result ≡ self.now.decimals }
+        ensures in_range { AreSizes self.now.whole self.now.decimals }
+    {
+        self.decimals
+    }
+}
+
+/// The coordinates that a line names for a point, in the unit of its file.
+#[derive(Clone, Copy, Debug, PartialEq, Eq)]
+pub struct Coordinates {
+    pub x: Option<Dec>,
+    pub y: Option<Dec>,
+}
+
+/// What a line of a drill file commands.
+#[derive(Debug, PartialEq, Eq, Drop)]
+pub enum DrillCommand {
+    /// `;` and a text.
+    Comment(Text),
+    /// `M48`: the header begins.
+    Start,
+    /// `INCH` or `METRIC`, with the zeros and the format that it gives.
+    UnitLine(Unit, Option<Zeros>, Option<Format>),
+    /// A tool, by its number from 1 to 999, and its diameter in the unit of the file.
+    Tool(u16, Dec),
+    /// `%` or `M95`: the header ends.
+    HeaderEnd,
+    /// `M71` or `M72`.
+    UnitCode(Unit),
+    /// A tool is picked by its number; 0 picks none.
+    Pick(u16),
+    /// A hole at one point.
+    Hit(Coordinates),
+    /// A slot (`G85`) from one point to another.
+    Slot(Coordinates, Coordinates),
+    /// `M30`: the file ends.
+    Finish,
+}
+
+/// The part of a file in which a line stands.
+#[derive(Clone, Copy, Debug, PartialEq, Eq)]
+pub enum Part {
+    /// Before `M48`.
+    Before,
+    Header,
+    Body,
+    /// Behind `M30`.
+    After,
+}
+
+/// By what a line is read: the part of the file in which it stands, and what the header gives as a whole.
+#[derive(Clone, Copy, Debug)]
+pub struct Settings {
+    pub part: Part,
+    pub unit: Option<Unit>,
+    pub zeros: Option<Zeros>,
+    pub format: Option<Format>,
+}

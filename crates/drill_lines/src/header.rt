@@ -1,0 +1,108 @@
+//! The units, the zeros and the formats of a header.
+
+ghost use Rattle.std.specs.Prelude.{◌≡◌, ◌≤◌, ◌==◌, length, drop};
+ghost use Rattle.std.specs.List.{list_all, prefix_len};
+ghost use Rattle.grid_units.specs.Numbers.{is_number};
+ghost use Rattle.drill_lines.specs.Header.{is_zero, is_size, sizes, pattern, pattern_from, unit_format, unit_line};
+
+use crate::command::{DrillCommand, Format};
+
+use grid_units::numbers::is_number;
+use grid_units::{Reason, Unit, Zeros};
+
+fn is_zero(byte: u8) -> bool
+    ensures { result ≡ is_zero byte }
+{
+    byte == b'0'
+}
+
+/// How many zeros stand in front.
+fn zeros_len(run: &[u8]) -> usize
+    ensures within { result ≤ length run.now }
+    ensures len { result ≡ prefix_len is_zero run.now }
+{
+    for (i, byte) in run.iter().enumerate() {
+        if !is_zero(*byte) {
+            return i;
+        }
+    }
+    run.len()
+}
+
+fn are_zeros(run: &[u8]) -> bool
+    ensures { result ≡ list_all is_zero run.now }
+{
+    run.iter().all(|byte| is_zero(*byte))
+}
+
+fn is_size(count: usize) -> bool
+    ensures { result ≡ is_size count }
+{
+    (1..=6).contains(&count)
+}
+
+/// The format with these numbers of digits.
+fn sizes(whole: usize, decimals: usize) -> Result<Format, Reason>
+    ensures { result ≡ sizes whole decimals }
+{
+    if !is_size(whole) || !is_size(decimals) {
+        return Err(Reason::BadNumber);
+    }
+    Format::new(whole as u8, decimals as u8).ok_or(Reason::BadNumber)
+}
+
+/// The format of a pattern with these zeros before its point, from what stands behind them.
+fn pattern_from(whole: usize, rest: &[u8]) -> Result<Format, Reason>
+    ensures { result ≡ pattern_from whole rest.now }
+{
+    match rest.split_first() {
+        Some((first, decimals)) if *first == b'.' && are_zeros(decimals) => {
+            sizes(whole, decimals.len())
+        }
+        _ => Err(Reason::BadNumber),
+    }
+}
+
+/// The format that a pattern shows.
+#[tactic(auto, unfolding(crate::specs::Header::pattern))]
+fn pattern(run: &[u8]) -> Result<Format, Reason>
+    ensures { result ≡ pattern run.now }
+{
+    let (zeros, rest) = run.split_at(zeros_len(run));
+    pattern_from(zeros.len(), rest)
+}
+
+fn are_number_bytes(run: &[u8]) -> bool
+    ensures { result ≡ list_all is_number run.now }
+{
+    run.iter().all(|byte| is_number(*byte))
+}
+
+/// A unit line, from what stands behind its unit and its zeros.
+#[tactic(auto, unfolding(crate::specs::Header::unit_format))]
+fn unit_format(unit: Unit, zeros: Option<Zeros>, rest: &[u8]) -> Result<DrillCommand, Reason>
+    ensures { result ≡ unit_format unit zeros rest.now }
+{
+    let Some((first, run)) = rest.split_first() else {
+        return Ok(DrillCommand::UnitLine(unit, zeros, None));
+    };
+    if *first != b',' || !are_number_bytes(run) {
+        return Err(Reason::BadLine);
+    }
+    let format = pattern(run)?;
+    Ok(DrillCommand::UnitLine(unit, zeros, Some(format)))
+}
+
+/// A unit line, from what stands behind its unit.
+#[tactic(auto, unfolding(crate::specs::Header::unit_line))]
+pub(crate) fn unit_line(unit: Unit, line: &[u8]) -> Result<DrillCommand, Reason>
+    ensures { result ≡ unit_line unit line.now }
+{
+    if let Some(rest) = line.strip_prefix(b",LZ".as_slice()) {
+        return unit_format(unit, Some(Zeros::Leading), rest);
+    }
+    if let Some(rest) = line.strip_prefix(b",TZ".as_slice()) {
+        return unit_format(unit, Some(Zeros::Trailing), rest);
+    }
+    unit_format(unit, None, line)
+}

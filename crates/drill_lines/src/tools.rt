@@ -1,0 +1,202 @@
+//! The lines that define a tool and that pick one.
+
+ghost use Rattle.std.specs.Prelude.{◌≡◌, ◌≤◌, ◌||◌, not, length, take_while, count_by};
+ghost use Rattle.std.specs.List.{list_all, list_any, after_first, position_or_len};
+ghost use Rattle.grid_units.specs.Numbers.{is_number};
+ghost use Rattle.drill_lines.specs.Tools.{is_point, is_diameter, is_skipped, is_letter, begins_with, are_fields, number_from, diameter_of, diameter_run, tool_fields, tool_line, pick_fields, pick_line};
+
+use crate::command::DrillCommand;
+use grid_units::numbers::{capped_value, digits_len, is_digits, is_number, number_len};
+use grid_units::{Dec, Reason, both};
+
+fn is_diameter(byte: u8) -> bool
+    ensures { result ≡ is_diameter byte }
+{
+    byte == b'C'
+}
+
+fn is_skipped(byte: u8) -> bool
+    ensures { result ≡ is_skipped byte }
+{
+    byte == b'F' || byte == b'S' || byte == b'B' || byte == b'H' || byte == b'Z'
+}
+
+fn is_letter(byte: u8) -> bool
+    ensures { result ≡ is_letter byte }
+{
+    is_diameter(byte) || is_skipped(byte)
+}
+
+/// Whether a run has a point.
+pub(crate) fn has_point(run: &[u8]) -> bool
+    ensures { result ≡ list_any is_point run.now }
+{
+    run.iter().any(|byte| *byte == b'.')
+}
+
+fn begins_with_letter(fields: &[u8]) -> bool
+    ensures { result ≡ begins_with is_letter fields.now }
+{
+    match fields.first() {
+        Some(first) => is_letter(*first),
+        None => true,
+    }
+}
+
+fn begins_with_skipped(fields: &[u8]) -> bool
+    ensures { result ≡ begins_with is_skipped fields.now }
+{
+    match fields.first() {
+        Some(first) => is_skipped(*first),
+        None => true,
+    }
+}
+
+fn is_tool_byte(byte: u8) -> bool
+    ensures { result ≡ (is_letter byte || is_number byte) }
+{
+    is_letter(byte) || is_number(byte)
+}
+
+fn is_pick_byte(byte: u8) -> bool
+    ensures { result ≡ (is_skipped byte || is_number byte) }
+{
+    is_skipped(byte) || is_number(byte)
+}
+
+fn are_tool_bytes(fields: &[u8]) -> bool
+    ensures { result ≡ list_all (λ b. is_letter b || is_number b) fields.now }
+{
+    fields.iter().all(|byte| is_tool_byte(*byte))
+}
+
+fn are_pick_bytes(fields: &[u8]) -> bool
+    ensures { result ≡ list_all (λ b. is_skipped b || is_number b) fields.now }
+{
+    fields.iter().all(|byte| is_pick_byte(*byte))
+}
+
+/// Whether these are letters of a tool's definition, each with a run.
+fn are_tool_fields(fields: &[u8]) -> bool
+    ensures { result ≡ are_fields is_letter fields.now }
+{
+    begins_with_letter(fields) && are_tool_bytes(fields)
+}
+
+/// Whether these are letters of a pick, each with a run.
+fn are_pick_fields(fields: &[u8]) -> bool
+    ensures { result ≡ are_fields is_skipped fields.now }
+{
+    begins_with_skipped(fields) && are_pick_bytes(fields)
+}
+
+/// How many diameters there are.
+fn diameters(fields: &[u8]) -> usize
+    ensures { result ≡ count_by is_diameter fields.now }
+{
+    fields.iter().filter(|byte| is_diameter(**byte)).count()
+}
+
+/// A tool's number.
+#[tactic(auto, unfolding(crate::specs::Tools::number_from))]
+fn number_from(least: u64, digits: &[u8]) -> Result<u16, Reason>
+    ensures { result ≡ number_from least digits.now }
+{
+    if !is_digits(digits) {
+        return Err(Reason::BadNumber);
+    }
+    let number = capped_value(digits, 1_000);
+    if least <= number && number <= 999 {
+        Ok(number as u16)
+    } else {
+        Err(Reason::BadNumber)
+    }
+}
+
+/// A diameter: a decimal with a point.
+#[tactic(auto, unfolding(crate::specs::Tools::diameter_of))]
+fn diameter_of(run: &[u8]) -> Result<Dec, Reason>
+    ensures { result ≡ diameter_of run.now }
+{
+    if has_point(run) {
+        Dec::read(run)
+    } else {
+        Err(Reason::BadNumber)
+    }
+}
+
+fn is_no_diameter(byte: u8) -> bool
+    ensures { result ≡ not (is_diameter byte) }
+{
+    !is_diameter(byte)
+}
+
+/// Where the first `C` stands, or the length where there is none.
+fn diameter_at(fields: &[u8]) -> usize
+    ensures within { result ≤ length fields.now }
+    ensures len { result ≡ position_or_len is_diameter fields.now }
+{
+    for (i, byte) in fields.iter().enumerate() {
+        if !is_no_diameter(*byte) {
+            return i;
+        }
+    }
+    fields.len()
+}
+
+/// What stands behind the first `C`.
+fn behind_diameter(fields: &[u8]) -> &[u8]
+    ensures { result.now ≡ after_first is_diameter fields.now }
+{
+    let behind = fields.len().min(diameter_at(fields) + 1);
+    &fields[behind..]
+}
+
+/// The run in front.
+fn run_in_front(bytes: &[u8]) -> &[u8]
+    ensures { result.now ≡ take_while is_number bytes.now }
+{
+    &bytes[..number_len(bytes)]
+}
+
+/// A tool's definition, from its number and its fields.
+#[tactic(auto, unfolding(crate::specs::Tools::tool_fields))]
+fn tool_fields(digits: &[u8], fields: &[u8]) -> Result<DrillCommand, Reason>
+    ensures { result ≡ tool_fields digits.now fields.now }
+{
+    if !are_tool_fields(fields) || diameters(fields) != 1 {
+        return Err(Reason::BadLine);
+    }
+    let run = run_in_front(behind_diameter(fields));
+    let (number, diameter) = both(number_from(1, digits), diameter_of(run))?;
+    Ok(DrillCommand::Tool(number, diameter))
+}
+
+/// A tool's definition, behind its `T`.
+#[tactic(auto, unfolding(crate::specs::Tools::tool_line))]
+pub(crate) fn tool_line(line: &[u8]) -> Result<DrillCommand, Reason>
+    ensures { result ≡ tool_line line.now }
+{
+    let (digits, fields) = line.split_at(digits_len(line));
+    tool_fields(digits, fields)
+}
+
+/// A pick, from its number and its fields.
+#[tactic(auto, unfolding(crate::specs::Tools::pick_fields))]
+fn pick_fields(digits: &[u8], fields: &[u8]) -> Result<DrillCommand, Reason>
+    ensures { result ≡ pick_fields digits.now fields.now }
+{
+    if !are_pick_fields(fields) {
+        return Err(Reason::BadLine);
+    }
+    Ok(DrillCommand::Pick(number_from(0, digits)?))
+}
+
+/// A pick, behind its `T`.
+#[tactic(auto, unfolding(crate::specs::Tools::pick_line))]
+pub(crate) fn pick_line(line: &[u8]) -> Result<DrillCommand, Reason>
+    ensures { result ≡ pick_line line.now }
+{
+    let (digits, fields) = line.split_at(digits_len(line));
+    pick_fields(digits, fields)
+}

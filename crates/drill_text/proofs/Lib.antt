@@ -1,0 +1,13 @@
+pub mod Judging
+pub mod Lookbacks
+pub mod Shown
+pub mod Splitting
+pub mod Whole
+pub mod Ending
+pub mod Drilling
+pub mod Measures
+pub mod Judgements
+pub mod Unique
+pub mod Spelling
+pub mod RoundTrip
+pub mod Sayable

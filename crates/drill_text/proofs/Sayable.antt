@@ -1,0 +1,103 @@
+-- The commands that a text spells can be said.
+use Rattle.std.proofs.Common.{◌≡◌, ◌≢◌, ℕ, ◌≤◌, Bool, true, false, not, ◌&&◌, eqb, List, [], ◌∷◌, ◌++◌, length, Option, None, Some, Result, Ok, Err, IfOk, refl, sym, ap, subst, ◌∙◌, append_assoc, append-nil}
+use Rattle.std.specs.List.{list_any, list_all, AllByRecursion}
+use Rattle.std.specs.Option.{option_to_list}
+use Rattle.std.proofs.lemmas.Bool.{eqb-true, false≢true}
+use Rattle.grid_units.specs.declared.fault.Fail.{Fail}
+use Rattle.grid_units.specs.declared.fault.Fail.TheVariants as fails
+use Rattle.grid_units.specs.Results.{◌>>=◌, Answers}
+use Rattle.grid_units.proofs.Binds.{bind_ok}
+use Rattle.drill_lines.specs.declared.command.Part.{Part}
+use Rattle.drill_lines.specs.declared.command.Part.TheVariants as part
+use Rattle.drill_lines.specs.declared.command.DrillCommand.{DrillCommand}
+use Rattle.drill_lines.specs.declared.command.DrillCommand.TheVariants as command
+use Rattle.drill_lines.specs.Lines.{trimmed}
+use Rattle.drill_lines.specs.Meaning.{meaning}
+use Rattle.drill_lines.specs.Writing.{is_sayable}
+use Rattle.drill_lines.proofs.Said.{line_said}
+use Rattle.drill_text.specs.Lines.{HasNoBreak}
+use Rattle.drill_text.specs.Lookback.{settings_after, part_after}
+use Rattle.drill_text.specs.Reading.{is_finish, Reads}
+use Rattle.drill_text.specs.Texts.{spelled_behind, AreShort, SpellsText, IsDrillText}
+use Rattle.drill_text.specs.Writing.{part_behind, part_from, are_sayable, is_over, drill_sayable}
+use Rattle.drill_text.specs.Outcome.{DrillFile, commands_in}
+use Rattle.drill_text.proofs.Splitting.{AllR-append}
+use Rattle.drill_text.proofs.Spelling.{reads_drill_text, drill_text_reads}
+use Rattle.drill_text.proofs.Unique.{one_read}
+use Rattle.drill_text.proofs.RoundTrip.{part_more}
+
+both_true : (a b : Bool) → (a && b) ≡ true → (a ≡ true) × (b ≡ true)
+both_true true b h = (refl, h)
+both_true false b h = absurd cc
+
+and_true : (a b : Bool) → a ≡ true → b ≡ true → (a && b) ≡ true
+and_true a b h k = λ i. (h i && k i)
+
+not_ten : (b : ℕ) → b ≢ 10 → (t : Bool) → eqb b 10 ≡ t → not t ≡ true
+not_ten b h true e = absurd (h (eqb-true b 10 e))
+not_ten b h false e = refl
+
+no_break : (xs : List ℕ) → HasNoBreak xs → list_all (λ b. not (eqb b 10)) xs ≡ true
+no_break [] h = refl
+no_break (x ∷ xs) h = and_true (not (eqb x 10)) (list_all (λ b. not (eqb b 10)) xs) (not_ten x h.0 (eqb x 10) refl) (no_break xs h.1)
+
+-- what lines spell behind others can be said behind them
+record SaidBehind (before new : List DrillCommand) : Type 0 where
+  more : List DrillCommand
+  whole : new ≡ before ++ more
+  said : are_sayable (part_after before) more ≡ true
+
+said_next : (before new : List DrillCommand) (command : Option DrillCommand) → ((c : DrillCommand) → command ≡ Some c → is_sayable (part_after before) c ≡ true) → SaidBehind (before ++ option_to_list command) new → SaidBehind before new
+said_next before new None h k = subst (λ (x : List DrillCommand). SaidBehind x new) (append-nil before) k
+said_next before new (Some c) h k = record {
+      more = c ∷ k.more;
+      whole = k.whole ∙ append_assoc before (c ∷ []) k.more;
+      said = and_true (is_sayable (part_after before) c) (are_sayable (part_behind (part_after before) c) k.more) (h c refl) (ap (λ p. are_sayable p k.more) (sym (part_more before c)) ∙ k.said);
+    }
+
+spelled_said : (before new : List DrillCommand) (lines : List (List ℕ)) → AllByRecursion HasNoBreak lines → AreShort lines → spelled_behind before lines ≡ Ok new → SaidBehind before new
+spelled_said before new [] inside short e = let same : before ≡ new = cc in record { more = []; whole = sym same ∙ sym (append-nil before); said = refl }
+spelled_said before new (line ∷ lines) inside short e =
+    let b = bind_ok (meaning (settings_after before) (trimmed line)) (λ command. spelled_behind (before ++ option_to_list command) lines) new e in
+    said_next before new b.0 (λ c k. line_said (settings_after before) line c (no_break line inside.0) short.0 (b.1 ∙ ap (λ (o : Option DrillCommand). Ok o) k))
+      (spelled_said (before ++ option_to_list b.0) new lines inside.1 short.1 b.2)
+
+-- nothing is said behind the end
+over_alone : (cs : List DrillCommand) → are_sayable part.After cs ≡ true → is_over (part_from part.After cs) ≡ true
+over_alone [] h = refl
+over_alone (c ∷ cs) h = absurd cc
+
+comes_to_end : (p : Part) (cs : List DrillCommand) → are_sayable p cs ≡ true → list_any is_finish cs ≡ true → is_over (part_from p cs) ≡ true
+comes_to_end p [] h k = absurd cc
+comes_to_end p (command.Comment t ∷ cs) h k = comes_to_end p cs (both_true (is_sayable p (command.Comment t)) (are_sayable p cs) h).1 k
+comes_to_end p (command.Start ∷ cs) h k = comes_to_end part.Header cs (both_true (is_sayable p command.Start) (are_sayable part.Header cs) h).1 k
+comes_to_end p (command.UnitLine u z f ∷ cs) h k = comes_to_end p cs (both_true (is_sayable p (command.UnitLine u z f)) (are_sayable p cs) h).1 k
+comes_to_end p (command.Tool n d ∷ cs) h k = comes_to_end p cs (both_true (is_sayable p (command.Tool n d)) (are_sayable p cs) h).1 k
+comes_to_end p (command.HeaderEnd ∷ cs) h k = comes_to_end part.Body cs (both_true (is_sayable p command.HeaderEnd) (are_sayable part.Body cs) h).1 k
+comes_to_end p (command.UnitCode u ∷ cs) h k = comes_to_end p cs (both_true (is_sayable p (command.UnitCode u)) (are_sayable p cs) h).1 k
+comes_to_end p (command.Pick n ∷ cs) h k = comes_to_end p cs (both_true (is_sayable p (command.Pick n)) (are_sayable p cs) h).1 k
+comes_to_end p (command.Hit q ∷ cs) h k = comes_to_end p cs (both_true (is_sayable p (command.Hit q)) (are_sayable p cs) h).1 k
+comes_to_end p (command.Slot q r ∷ cs) h k = comes_to_end p cs (both_true (is_sayable p (command.Slot q r)) (are_sayable p cs) h).1 k
+comes_to_end p (command.Finish ∷ cs) h k = over_alone cs (both_true (is_sayable p command.Finish) (are_sayable part.After cs) h).1
+
+-- the commands that a text spells are sayable
+pub text_said : (text : List ℕ) (cs : List DrillCommand) → SpellsText text cs → drill_sayable cs ≡ true
+text_said text cs s =
+    let said = spelled_said [] cs (s.lines ++ s.rest ∷ []) (AllR-append HasNoBreak s.lines (s.rest ∷ []) s.splits.each (s.splits.partial, tt)) s.short s.spelling in
+    let h : are_sayable part.Before cs ≡ true = ap (are_sayable part.Before) said.whole ∙ said.said in
+    and_true (are_sayable part.Before cs) (is_over (part_from part.Before cs)) h (comes_to_end part.Before cs h s.ends)
+
+-- ---- what a call answered
+
+pub answers_said : (text : List ℕ) (r : Result DrillFile Fail) → Answers commands_in (Reads text) r → IfOk r (λ (d : DrillFile). drill_sayable d.commands ≡ true)
+answers_said text (Ok d) h = text_said text d.commands (reads_drill_text text d.commands h).spells
+answers_said text (Err e) h = tt
+
+pub answers_found : (text : List ℕ) (r : Result DrillFile Fail) → Answers commands_in (Reads text) r → IfOk r (λ (d : DrillFile). IsDrillText text d.commands)
+answers_found text (Ok d) h = reads_drill_text text d.commands h
+answers_found text (Err e) h = tt
+
+pub answers_only : (text : List ℕ) (cs : List DrillCommand) (r : Result DrillFile Fail) → IsDrillText text cs → Answers commands_in (Reads text) r → Answers commands_in (λ answer. answer ≡ Ok cs) r
+answers_only text cs (Ok d) i h = one_read text (Ok d.commands) (Ok cs) h (drill_text_reads text cs i)
+answers_only text cs (Err fails.Memory) i h = tt
+answers_only text cs (Err (fails.Refused f)) i h = one_read text (Err f) (Ok cs) h (drill_text_reads text cs i)

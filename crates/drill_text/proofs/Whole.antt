@@ -1,0 +1,59 @@
+-- What a whole text shows, from what a reader holds.
+use Rattle.std.proofs.Common.{◌≡◌, ℕ, suc, ◌+◌, ◌<◌, ◌≤◌, Bool, true, false, cond, ltb, List, [], ◌∷◌, ◌++◌, length, Result, Ok, Err, refl, sym, ap, subst, ◌∙◌, arith, append_assoc}
+use Rattle.std.proofs.lemmas.List.{take_all, take_at, length-append}
+use Rattle.std.proofs.lemmas.Bool.{lt-ltb, le-ltb}
+use Rattle.drill_lines.specs.declared.command.DrillCommand.{DrillCommand}
+use Rattle.grid_units.specs.declared.fault.Fault.{Fault}
+use Rattle.grid_units.specs.declared.fault.Fail.{Fail}
+use Rattle.grid_units.specs.declared.fault.Fail.TheVariants as fails
+use Rattle.grid_units.specs.declared.fault.Reason.TheVariants.{TooLong}
+use Rattle.drill_text.specs.declared.reader.Progress.{Progress}
+use Rattle.drill_text.specs.Lines.{Splits}
+use Rattle.grid_units.specs.Results.{◌>>=◌}
+use Rattle.grid_units.specs.Results.{fault}
+use Rattle.drill_text.specs.Reading.{text_limit, shown, Shows}
+use Rattle.drill_text.specs.Standing.{Holds, HasFault, Refuses, RefusesText}
+use Rattle.grid_units.specs.Results.{Tells}
+
+-- behind a text that is too long, its front shows what it shows
+checks_len : ℕ → List (List ℕ) → List DrillCommand → Result (List DrillCommand) Fault
+checks_len len items commands = cond (ltb text_limit len) (Err (fault (suc (length items)) text_limit TooLong)) (Ok commands)
+
+pub fault_within : (text : List ℕ) (f : Fault) → length text ≤ text_limit → HasFault text f → Shows text (Err f)
+unfolding checks_len
+fault_within text f le h = record {
+  lines = h.lines;
+  rest = h.rest;
+  splits = subst (λ (t : List ℕ). Splits t h.lines h.rest) (sym (take_all text_limit text le)) h.splits;
+  answer_is = sym (ap (λ r. r >>= checks_len (length text) h.lines) h.fault);
+}
+
+pub fault_of_front : (front more : List ℕ) (f : Fault) → length front ≡ text_limit → HasFault front f → Shows (front ++ more) (Err f)
+unfolding checks_len
+fault_of_front front more f e h = record {
+  lines = h.lines;
+  rest = h.rest;
+  splits = subst (λ (t : List ℕ). Splits t h.lines h.rest) (sym (take_at front more text_limit e)) h.splits;
+  answer_is = sym (ap (λ r. r >>= checks_len (length (front ++ more)) h.lines) h.fault);
+}
+
+pub too_long_text : (r : Progress) (front more : List ℕ) → length front ≡ text_limit → 0 < length more → Holds r front → Shows (front ++ more) (Err (fault (r.lines + 1) text_limit TooLong))
+unfolding checks_len
+too_long_text r front more e some h =
+    let long : text_limit < length (front ++ more) = omega (arith, length-append front more) in
+    let place : suc (length h.lines) ≡ r.lines + 1 = omega (arith, h.count) in
+    record {
+      lines = h.lines;
+      rest = r.line.items;
+      splits = subst (λ (t : List ℕ). Splits t h.lines r.line.items) (sym (take_at front more text_limit e)) h.splits;
+      answer_is = sym (ap (λ s. s >>= checks_len (length (front ++ more)) h.lines) h.commands ∙ (ap (λ t. cond t (Err (fault (suc (length h.lines)) text_limit TooLong)) (Ok r.commands.items)) (lt-ltb text_limit (length (front ++ more)) long) ∙ ap (λ p. Err (fault p text_limit TooLong)) place));
+    }
+
+pub refuses_within : (old : Progress) (piece : List ℕ) (e : Fail) → old.offset + length piece ≤ text_limit → Refuses old piece e → RefusesText old piece e
+refuses_within old piece fails.Memory le h = λ text holds. tt
+refuses_within old piece (fails.Refused f) le h = λ text holds. fault_within (text ++ piece) f (omega (arith, holds.offset, length-append text piece)) (h text holds)
+
+pub refuses_beyond : (old : Progress) (front more : List ℕ) (e : Fail) → old.offset + length front ≡ text_limit → Refuses old front e → RefusesText old (front ++ more) e
+refuses_beyond old front more fails.Memory len h = λ text holds. tt
+refuses_beyond old front more (fails.Refused f) len h = λ text holds.
+    subst (λ (t : List ℕ). Shows t (Err f)) (append_assoc text front more) (fault_of_front (text ++ front) more f (omega (arith, holds.offset, length-append text front)) (h text holds))

@@ -1,0 +1,50 @@
+use Rattle.std.proofs.Common.{◌≡◌, ◌+◌, suc, ℕ, List, [], ◌∷◌, ◌++◌, Err, length, sym, ap, subst, ◌∙◌, arith}
+use Rattle.std.proofs.lemmas.List.{length-append}
+use Rattle.std.proofs.lemmas.Result.{err_from_is_err_and}
+use Rattle.drill_lines.specs.declared.command.DrillCommand.{DrillCommand}
+use Rattle.grid_units.specs.declared.fault.Fail.{Fail}
+use Rattle.grid_units.specs.declared.fault.Fail.TheVariants.{Memory, Refused}
+use Rattle.drill_text.specs.declared.judge.Judge.{Judge}
+use Rattle.drill_text.specs.declared.reader.Progress.{Progress}
+use Rattle.drill_text.specs.Lines.{Splits, bytes_of}
+use Rattle.drill_text.specs.Reading.{spelled, shown}
+use Rattle.drill_text.specs.Knowing.{Knows, Leaves}
+use Rattle.drill_text.specs.Standing.{Holds, Refuses}
+use Rattle.drill_text.proofs.Splitting.{Splits-close, bytes_of-push}
+use Rattle.drill_text.proofs.Shown.{shown_ok, show_push}
+use Rattle.drill_text.proofs.reader.Progress.close.Goals as goal
+
+-- the line that an LF ends, for a reader that holds this text
+closed : (old : Progress) (text : List ℕ) (h : Holds old text) → shown (h.lines ++ old.line.items ∷ []) [] ≡ spelled (old.lines + 1) old.start old.line.items old.commands.items
+closed old text h =
+    let cs = old.commands.items in
+    let place : suc (length h.lines) ≡ old.lines + 1 = omega (arith, h.count) in
+    show_push h.lines old.line.items cs (shown_ok h.lines old.line.items cs h.commands).0
+    ∙ (ap (λ p. spelled p (length (bytes_of h.lines)) old.line.items cs) place ∙ ap (λ b. spelled (old.lines + 1) b old.line.items cs) (sym h.start))
+
+refused : (old : Progress) (e : Fail) (judge : Judge) (new : List DrillCommand) → (Knows old.judge old.commands.items → Leaves {X = Unit {0}} (Err e) judge new (spelled (old.lines + 1) old.start old.line.items old.commands.items)) → Refuses old (10 ∷ []) e
+refused old Memory judge new k = tt
+refused old (Refused f) judge new k = λ text h. record { lines = h.lines ++ old.line.items ∷ []; rest = []; splits = Splits-close text h.lines old.line.items h.splits; fault = closed old text h ∙ k h.knows }
+
+pub returns-clause-ok : goal.returns-clause-ok
+returns-clause-ok c text h =
+    let old = c.args.self.now in
+    let k = c.in_ok-spell.ensures h.knows in
+    let line : old.line.items ≡ c.deref.result.now = sym c.deref.ensures.value in
+    let lines : List (List ℕ) = h.lines ++ old.line.items ∷ [] in
+    record {
+      lines = lines;
+      splits = subst (λ (x : List ℕ). Splits (text ++ 10 ∷ []) lines x) (sym c.clear.ensures.items) (Splits-close text h.lines old.line.items h.splits);
+      commands = ap (shown lines) c.clear.ensures.items ∙ (closed old text h ∙ (ap (λ (x : List ℕ). spelled (old.lines + 1) old.start x old.commands.items) line ∙ k.0));
+      knows = k.1;
+      count = omega (arith, h.count, length-append h.lines (old.line.items ∷ []));
+      start = omega (arith, h.offset, ap length h.splits.whole, length-append (bytes_of h.lines) old.line.items, ap length (bytes_of-push h.lines old.line.items), length-append (bytes_of h.lines) (old.line.items ++ 10 ∷ []), length-append old.line.items (10 ∷ []));
+      offset = omega (arith, h.offset, length-append text (10 ∷ []));
+    }
+
+pub returns-in_err-spell-clause-err : goal.returns-in_err-spell-clause-err
+returns-in_err-spell-clause-err c =
+    let old = c.args.self.now in
+    let e = c.in_err-spell.field-0.0 in
+    let p = err_from_is_err_and c.from_residual.result c.from_residual.ensures.1 in
+    rw (p.1, p.2) (refused old e c.spell.new.judge c.spell.new.commands.items (λ knows. subst (λ (b : List ℕ). Leaves {X = Unit {0}} (Err e) c.spell.new.judge c.spell.new.commands.items (spelled (old.lines + 1) old.start b old.commands.items)) c.deref.ensures.value (c.in_err-spell.ensures knows)))

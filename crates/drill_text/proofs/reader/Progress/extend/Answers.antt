@@ -1,0 +1,40 @@
+use Rattle.std.proofs.Common.{◌≡◌, ◌≢◌, ◌+◌, suc, ℕ, List, ◌++◌, Err, length, sym, ap, subst, ◌∙◌, arith}
+use Rattle.std.proofs.lemmas.List.{length-append}
+use Rattle.std.proofs.lemmas.List.Elements.{recursion_from_All}
+use Rattle.grid_units.specs.declared.fault.Reason.TheVariants.{TooLong}
+use Rattle.drill_text.specs.Lines.{Splits, bytes_of}
+use Rattle.grid_units.specs.Results.{fault}
+use Rattle.drill_text.specs.Reading.{shown}
+use Rattle.drill_text.specs.Standing.{Refuses}
+use Rattle.drill_text.proofs.Splitting.{Splits-grow}
+use Rattle.drill_text.proofs.Shown.{shown_ok, show_ok, show_long}
+use Rattle.drill_text.proofs.reader.Progress.extend.Goals as goal
+
+pub returns-clause-ok : goal.returns-clause-ok
+returns-clause-ok c text h =
+    let old = c.args.self.now in
+    let run = c.args.run.now in
+    let items = c.in_ok-extend_from_slice.ensures.items in
+    let before = shown_ok h.lines old.line.items old.commands.items h.commands in
+    record {
+      lines = h.lines;
+      splits = subst (λ (x : List ℕ). Splits (text ++ run) h.lines x) (sym items) (Splits-grow text h.lines old.line.items run h.splits (recursion_from_All (λ b. b ≢ 10) run c.requires.inside));
+      commands = ap (shown h.lines) items ∙ show_ok h.lines (old.line.items ++ run) old.commands.items before.0 (omega (arith, length-append old.line.items run, old.line.ok.0, c.if-run-len.false));
+      knows = h.knows;
+      count = h.count;
+      start = h.start;
+      offset = omega (arith, h.offset, length-append text run);
+    }
+
+pub returns-then-run-len-clause-err : goal.returns-then-run-len-clause-err
+returns-then-run-len-clause-err c = subst (Refuses c.args.self.now c.args.run.now) (sym c.refusal.ensures) (λ text h.
+    let old = c.args.self.now in
+    let run = c.args.run.now in
+    let before = shown_ok h.lines old.line.items old.commands.items h.commands in
+    let place : suc (length h.lines) ≡ old.lines + 1 = omega (arith, h.count) in
+    record {
+      lines = h.lines;
+      rest = old.line.items ++ run;
+      splits = Splits-grow text h.lines old.line.items run h.splits (recursion_from_All (λ b. b ≢ 10) run c.requires.inside);
+      fault = show_long h.lines (old.line.items ++ run) old.commands.items before.0 (omega (arith, length-append old.line.items run, old.line.ok.0, c.if-run-len.true)) ∙ (ap (λ b. Err (fault (suc (length h.lines)) b TooLong)) (sym h.start) ∙ ap (λ p. Err (fault p old.start TooLong)) place);
+    })

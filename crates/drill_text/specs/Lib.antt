@@ -1,0 +1,10 @@
+pub mod Lines
+pub mod Lookback
+pub mod Holes
+pub mod Rules
+pub mod Reading
+pub mod Texts
+pub mod Writing
+pub mod Knowing
+pub mod Standing
+pub mod Outcome

@@ -1,0 +1,21 @@
+-- How a drill file is cut into lines.
+use Rattle.std.specs.Prelude.{◌≡◌, ◌≢◌, ℕ, List, [], ◌∷◌, ◌++◌}
+use Rattle.std.specs.List.{flat_map, AllByRecursion}
+
+-- a line and the LF that ends it (docs/FORMATS.md, Drill lines)
+abbrev pub ended_line : List ℕ → List ℕ
+ended_line line = line ++ 10 ∷ []
+
+-- the bytes of lines that have ended (docs/FORMATS.md, Drill lines)
+abbrev pub bytes_of : List (List ℕ) → List ℕ
+bytes_of lines = flat_map ended_line lines
+
+-- bytes without LF (docs/FORMATS.md, Drill lines)
+abbrev pub HasNoBreak : List ℕ → Type 0
+HasNoBreak bytes = AllByRecursion (λ b. b ≢ 10) bytes
+
+-- A text is its ended lines, each with its LF, and a rest without LF (docs/FORMATS.md, Drill lines).
+pub record Splits (text : List ℕ) (lines : List (List ℕ)) (rest : List ℕ) : Type 0 where
+  pub whole : text ≡ bytes_of lines ++ rest
+  pub each : AllByRecursion HasNoBreak lines
+  pub partial : HasNoBreak rest

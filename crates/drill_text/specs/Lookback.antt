@@ -1,0 +1,137 @@
+-- What the commands before a line say, each word by looking back over the list.
+use Rattle.std.specs.Prelude.{ℕ, ◌-◌, ℤ, Bool, true, false, ◌==◌, ◌&&◌, nat_le, List, [], ◌∷◌, take, drop, Option, None, Some, unwrap_or, if◌then◌else◌, codes}
+use Rattle.std.specs.List.{list_any, flat_map, filter_map}
+use Rattle.std.specs.Str.{bytes_eq}
+use Rattle.grid_units.specs.Lists.{last_named}
+use Rattle.grid_units.specs.declared.lengths.Unit.{Unit as Units}
+use Rattle.grid_units.specs.declared.zero_filling.Zeros.{Zeros}
+use Rattle.drill_lines.specs.declared.command.Part.{Part}
+use Rattle.drill_lines.specs.declared.command.Part.TheVariants as part
+use Rattle.drill_lines.specs.declared.command.Coordinates.{Coordinates}
+use Rattle.drill_lines.specs.declared.command.Settings.{Settings}
+use Rattle.drill_lines.specs.declared.command.DrillCommand.{DrillCommand}
+use Rattle.drill_lines.specs.declared.command.DrillCommand.TheVariants as command
+use Rattle.drill_lines.specs.Formats.{Digits}
+use Rattle.drill_lines.specs.Lines.{begins}
+
+-- ---- the part of the file
+
+-- the part of the file that a command begins (docs/FORMATS.md, Drill lines)
+abbrev pub part_named : DrillCommand → Option Part
+part_named command.Start = Some part.Header
+part_named command.HeaderEnd = Some part.Body
+part_named command.Finish = Some part.After
+part_named _ = None
+
+-- the part of the file behind these commands (docs/FORMATS.md, Drill lines)
+abbrev pub part_after : List DrillCommand → Part
+part_after before = unwrap_or (last_named part_named before) part.Before
+
+-- ---- what the commands up to the end of the header give as a whole
+
+abbrev pub ends_header : DrillCommand → Bool
+ends_header command.HeaderEnd = true
+ends_header _ = false
+
+-- the commands before the end of the header (docs/DEFINITIONS.md, Drill files)
+abbrev pub header : List DrillCommand → List DrillCommand
+header [] = []
+header (c ∷ cs) = if ends_header c then [] else c ∷ header cs
+
+-- the unit that a command gives (docs/FORMATS.md, Drill lines)
+abbrev pub unit_named : DrillCommand → Option Units
+unit_named (command.UnitLine unit _ _) = Some unit
+unit_named (command.UnitCode unit) = Some unit
+unit_named _ = None
+
+-- the zeros that a command gives (docs/FORMATS.md, Drill lines)
+abbrev pub zeros_named : DrillCommand → Option Zeros
+zeros_named (command.UnitLine _ zeros _) = zeros
+zeros_named _ = None
+
+-- a digit from 1 to 6 (docs/FORMATS.md, Drill coordinates)
+abbrev pub is_size_digit : ℕ → Bool
+is_size_digit b = nat_le 49 b && nat_le b 54
+
+-- i:d (docs/FORMATS.md, Drill coordinates)
+abbrev pub sizes_named : List ℕ → Option Digits
+sizes_named (i ∷ colon ∷ d ∷ []) = if is_size_digit i && ((colon == 58) && is_size_digit d) then Some (record { whole = i - 48; decimals = d - 48 }) else None
+sizes_named _ = None
+
+-- the format that the text of a comment gives: it is exactly `FILE_FORMAT=i:d` (docs/FORMATS.md, Drill coordinates)
+unfoldable pub file_format : List ℕ → Option Digits
+file_format text = if begins (codes "FILE_FORMAT=") text then sizes_named (drop 12 text) else None
+
+-- the format that a command gives (docs/FORMATS.md, Drill coordinates)
+abbrev pub format_named : DrillCommand → Option Digits
+format_named (command.Comment text) = file_format text
+format_named (command.UnitLine _ _ format) = format
+format_named _ = None
+
+-- By what a line behind these commands is read: a comment or a line behind the header gives nothing (docs/DEFINITIONS.md, Drill files).
+abbrev pub settings_after : List DrillCommand → Settings
+settings_after before = record {
+      part = part_after before;
+      unit = last_named unit_named (header before);
+      zeros = last_named zeros_named (header before);
+      format = last_named format_named (header before);
+    }
+
+-- ---- tools and points
+
+-- the diameter that a command gives to this tool (docs/DEFINITIONS.md, Drill files)
+abbrev pub diameter_named : ℕ → DrillCommand → Option ℤ
+diameter_named number (command.Tool other diameter) = if other == number then Some diameter else None
+diameter_named number _ = None
+
+-- the tool that a command defines, with its diameter (docs/DEFINITIONS.md, Drill files)
+abbrev pub tool_defined : DrillCommand → Option (ℕ × ℤ)
+tool_defined (command.Tool number diameter) = Some (number, diameter)
+tool_defined _ = None
+
+-- the tools in order of definition (docs/DEFINITIONS.md, Drill files)
+abbrev pub tools_of : List DrillCommand → List (ℕ × ℤ)
+tools_of commands = filter_map tool_defined commands
+
+-- the tool that a command picks (docs/DEFINITIONS.md, Drill files)
+abbrev pub tool_named : DrillCommand → Option ℕ
+tool_named (command.Pick number) = Some number
+tool_named _ = None
+
+-- the points that a command names, in order (docs/DEFINITIONS.md, Drill files)
+abbrev pub points_named : DrillCommand → List Coordinates
+points_named (command.Hit point) = point ∷ []
+points_named (command.Slot first second) = first ∷ second ∷ []
+points_named _ = []
+
+-- the points of a list of commands, in order: one for a hit and two for a slot (docs/DEFINITIONS.md, Drill files)
+abbrev pub points_of : List DrillCommand → List Coordinates
+points_of commands = flat_map points_named commands
+
+abbrev pub x_named : Coordinates → Option ℤ
+x_named point = point.x
+
+abbrev pub y_named : Coordinates → Option ℤ
+y_named point = point.y
+
+-- ---- all that stands when a line comes
+
+-- what the commands before a line say to it (docs/DEFINITIONS.md, Drill files)
+pub record Standing : Type 0 where
+  pub settings : Settings
+  pub is_settled : Bool
+  pub diameter : ℕ → Option ℤ
+  pub tool : Option ℕ
+  pub x : Option ℤ
+  pub y : Option ℤ
+
+-- each by looking back (docs/DEFINITIONS.md, Drill files)
+abbrev pub standing : List DrillCommand → Standing
+standing before = record {
+      settings = settings_after before;
+      is_settled = list_any ends_header before;
+      diameter = λ number. last_named (diameter_named number) before;
+      tool = last_named tool_named before;
+      x = last_named x_named (points_of before);
+      y = last_named y_named (points_of before);
+    }

@@ -1,0 +1,111 @@
+-- The rules of a legal drill file.
+use Rattle.std.specs.Prelude.{ℕ, ℤ, pos, Bool, true, false, not, ◌==◌, ◌&&◌, ◌||◌, nat_le, int_le, List, [], ◌∷◌, length, Option, None, Some, is_none, is_some}
+use Rattle.std.specs.Option.{option_map_or}
+use Rattle.std.specs.List.{find}
+use Rattle.grid_units.specs.declared.fault.Reason.{Reason}
+use Rattle.grid_units.specs.declared.fault.Reason.TheVariants as reason
+use Rattle.grid_units.specs.Numbers.{is_far}
+use Rattle.grid_units.specs.declared.lengths.Unit.{Unit as Units}
+use Rattle.grid_units.specs.declared.lengths.Unit.TheVariants as unit
+use Rattle.grid_units.specs.declared.zero_filling.Zeros.{Zeros}
+use Rattle.grid_units.specs.declared.zero_filling.Zeros.TheVariants as zeros
+use Rattle.drill_lines.specs.declared.command.DrillCommand.{DrillCommand}
+use Rattle.drill_lines.specs.declared.command.DrillCommand.TheVariants as command
+use Rattle.drill_lines.specs.Formats.{Digits}
+use Rattle.drill_text.specs.Lookback.{Standing, standing, unit_named, zeros_named, format_named}
+use Rattle.drill_text.specs.Holes.{Drilled, drilled_at, holes_of}
+
+-- ---- one rule at a time
+
+abbrev pub same_unit : Units → Units → Bool
+same_unit unit.Inch unit.Inch = true
+same_unit unit.Millimetre unit.Millimetre = true
+same_unit _ _ = false
+
+abbrev pub same_zeros : Zeros → Zeros → Bool
+same_zeros zeros.Leading zeros.Leading = true
+same_zeros zeros.Trailing zeros.Trailing = true
+same_zeros zeros.Full zeros.Full = true
+same_zeros _ _ = false
+
+abbrev pub same_format : Digits → Digits → Bool
+same_format a b = (a.whole == b.whole) && (a.decimals == b.decimals)
+
+-- this is given, something was before, and they differ (docs/FORMATS.md, Rules of a drill file)
+abbrev pub differs : {A : Type 0} → (A → A → Bool) → Option A → Option A → Bool
+differs same None before = false
+differs same (Some a) None = false
+differs same (Some a) (Some b) = not (same a b)
+
+-- a given i:d, or given zeros, that differ from earlier ones; nothing is given behind the header (docs/FORMATS.md, Rules of a drill file)
+abbrev pub conflicts_in_format : Standing → DrillCommand → Bool
+conflicts_in_format s c = (differs same_format (format_named c) s.settings.format || differs same_zeros (zeros_named c) s.settings.zeros) && not s.is_settled
+
+-- the header ends without a unit (docs/FORMATS.md, Rules of a drill file)
+abbrev pub lacks_unit : Standing → DrillCommand → Bool
+lacks_unit s command.HeaderEnd = is_none s.settings.unit
+lacks_unit s _ = false
+
+-- a tool that stands before (docs/FORMATS.md, Rules of a drill file)
+abbrev pub defines_again : Standing → DrillCommand → Bool
+defines_again s (command.Tool number _) = is_some (s.diameter number)
+defines_again s _ = false
+
+-- a tool from 1 that is not defined (docs/FORMATS.md, Rules of a drill file)
+abbrev pub picks_unknown : Standing → DrillCommand → Bool
+picks_unknown s (command.Pick number) = not (number == 0) && is_none (s.diameter number)
+picks_unknown s _ = false
+
+-- a hit or a slot (docs/FORMATS.md, Rules of a drill file)
+abbrev pub drills : DrillCommand → Bool
+drills (command.Hit _) = true
+drills (command.Slot _ _) = true
+drills _ = false
+
+-- no tool is picked (docs/FORMATS.md, Rules of a drill file)
+abbrev pub has_no_tool : Standing → Bool
+has_no_tool s = option_map_or (λ number. number == 0) s.tool true
+
+-- a tool's diameter that is not above 0 (docs/FORMATS.md, Rules of a drill file)
+abbrev pub defines_badly : DrillCommand → Bool
+defines_badly (command.Tool _ diameter) = int_le diameter (pos 0)
+defines_badly _ = false
+
+-- the same of a hole (docs/FORMATS.md, Rules of a drill file)
+abbrev pub is_bad : Drilled → Bool
+is_bad d = int_le d.diameter (pos 0)
+
+-- a coordinate or the diameter is (docs/FORMATS.md, Rules of a drill file)
+abbrev pub reaches_far : Drilled → Bool
+reaches_far d = is_far d.from.x || (is_far d.from.y || (is_far d.to.x || (is_far d.to.y || is_far d.diameter)))
+
+-- the most holes of a drill file (docs/FORMATS.md, Limits)
+abbrev pub max_holes : ℕ
+max_holes = 1048576
+
+-- ---- the table
+
+-- whether a rule applies to a command, by what stands when it comes, how many holes there are and what it drills (docs/FORMATS.md, Rules of a drill file)
+abbrev pub applies : Standing → ℕ → Option Drilled → DrillCommand → Reason → Bool
+applies s count drilled c reason.NoUnit = lacks_unit s c
+applies s count drilled c reason.UnitConflict = differs same_unit (unit_named c) s.settings.unit
+applies s count drilled c reason.FormatConflict = conflicts_in_format s c
+applies s count drilled c reason.Redefined = defines_again s c
+applies s count drilled c reason.UnknownTool = picks_unknown s c
+applies s count drilled c reason.NoTool = drills c && has_no_tool s
+applies s count drilled c reason.BadSize = defines_badly c || option_map_or is_bad drilled false
+applies s count drilled c reason.TooFar = option_map_or reaches_far drilled false
+applies s count drilled c reason.TooManyHoles = drills c && nat_le max_holes count
+applies s count drilled c _ = false
+
+-- in rule order (docs/FORMATS.md, Rules of a drill file)
+abbrev pub rules : List Reason
+rules = reason.NoUnit ∷ reason.UnitConflict ∷ reason.FormatConflict ∷ reason.Redefined ∷ reason.UnknownTool ∷ reason.NoTool ∷ reason.BadSize ∷ reason.TooFar ∷ reason.TooManyHoles ∷ []
+
+-- the first rule that applies (docs/FORMATS.md, Rules of a drill file)
+unfoldable pub first_broken : Standing → ℕ → Option Drilled → DrillCommand → Option Reason
+first_broken s count drilled c = find (applies s count drilled c) rules
+
+-- the first rule that a command breaks behind the commands before it (docs/DEFINITIONS.md, Drill files)
+abbrev pub broken_rule : List DrillCommand → DrillCommand → Option Reason
+broken_rule before c = first_broken (standing before) (length (holes_of before)) (drilled_at before c) c

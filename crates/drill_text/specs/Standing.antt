@@ -1,0 +1,52 @@
+-- What a reader holds of the bytes so far.
+use Rattle.std.specs.Prelude.{◌≡◌, ℕ, List, ◌++◌, length, Result, Ok, Err, Option, None}
+use Rattle.std.specs.Global.{Vec}
+use Rattle.grid_units.specs.declared.fault.Fault.{Fault}
+use Rattle.grid_units.specs.declared.fault.Fail.{Fail}
+use Rattle.grid_units.specs.declared.fault.Fail.TheVariants as fails
+use Rattle.drill_lines.specs.declared.command.DrillCommand.{DrillCommand}
+use Rattle.drill_text.specs.declared.reader.Progress.{Progress}
+use Rattle.drill_text.specs.declared.reader.DrillReader.{DrillReader}
+use Rattle.grid_units.specs.Results.{Tells}
+use Rattle.drill_text.specs.Lines.{bytes_of, Splits}
+use Rattle.drill_text.specs.Reading.{shown, Shows}
+use Rattle.drill_text.specs.Knowing.{Knows}
+
+-- The text is cut into lines, which spell the commands, and into a rest, the line that has not ended.
+pub record Holds (reader : Progress) (text : List ℕ) : Type 0 where
+  pub lines : List (List ℕ)
+  pub splits : Splits text lines reader.line.items
+  pub commands : shown lines reader.line.items ≡ Ok reader.commands.items
+  pub knows : Knows reader.judge reader.commands.items
+  pub count : reader.lines ≡ length lines
+  pub start : reader.start ≡ length (bytes_of lines)
+  pub offset : reader.offset ≡ length text
+
+-- the text shows this fault, whatever follows it
+pub record HasFault (text : List ℕ) (f : Fault) : Type 0 where
+  pub lines : List (List ℕ)
+  pub rest : List ℕ
+  pub splits : Splits text lines rest
+  pub fault : shown lines rest ≡ Err f
+
+-- a reader went from all it may have read to that and these bytes
+abbrev pub Advances : Progress → Progress → List ℕ → Type 0
+Advances old new bytes = (text : List ℕ) → Holds old text → Holds new (text ++ bytes)
+
+-- a fault that these bytes show behind what was read
+abbrev pub Refuses : Progress → List ℕ → Fail → Type 0
+Refuses old bytes fails.Memory = Unit {0}
+Refuses old bytes (fails.Refused f) = (text : List ℕ) → Holds old text → HasFault (text ++ bytes) f
+
+-- the fault that the text shows with these bytes behind it
+abbrev pub RefusesText : Progress → List ℕ → Fail → Type 0
+RefusesText old piece e = (text : List ℕ) → Holds old text → Tells (λ f. Shows (text ++ piece) (Err f)) e
+
+-- what a reader has failed with
+abbrev pub failure : DrillReader → Option Fail
+failure reader = reader.failed
+
+-- The reader has read this text, which shows no fault.
+pub record StandsAfter (reader : DrillReader) (text : List ℕ) : Type 0 where
+  pub sound : failure reader ≡ None
+  pub holds : Holds reader.progress text

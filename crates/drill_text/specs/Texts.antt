@@ -1,0 +1,43 @@
+-- The texts of a list of commands.
+use Rattle.std.specs.Prelude.{◌≡◌, ℕ, ◌≤◌, true, List, [], ◌∷◌, ◌++◌, length, Result, Ok, Err}
+use Rattle.std.specs.List.{list_any, AllByRecursion}
+use Rattle.std.specs.Option.{option_to_list}
+use Rattle.grid_units.specs.declared.fault.Reason.{Reason}
+use Rattle.grid_units.specs.Results.{◌>>=◌}
+use Rattle.grid_units.specs.Lists.{breaks}
+use Rattle.drill_lines.specs.declared.command.DrillCommand.{DrillCommand}
+use Rattle.drill_lines.specs.Lines.{trimmed}
+use Rattle.drill_lines.specs.Meaning.{meaning}
+use Rattle.drill_text.specs.Lines.{Splits}
+use Rattle.drill_text.specs.Lookback.{settings_after}
+use Rattle.drill_text.specs.Rules.{broken_rule}
+use Rattle.drill_text.specs.Reading.{line_limit, text_limit, is_finish}
+
+-- these commands and those that the lines spell behind them, each line by the settings of the commands before it (docs/DEFINITIONS.md, Drill files)
+abbrev pub spelled_behind : List DrillCommand → List (List ℕ) → Result (List DrillCommand) Reason
+spelled_behind before [] = Ok before
+spelled_behind before (line ∷ lines) = meaning (settings_after before) (trimmed line) >>= λ command. spelled_behind (before ++ option_to_list command) lines
+
+-- no line is too long (docs/FORMATS.md, Limits)
+abbrev pub AreShort : List (List ℕ) → Type 0
+AreShort lines = AllByRecursion (λ line. length line ≤ line_limit) lines
+
+-- A text spells these commands: its lines, the rest behind the last LF among them, spell them in order, and its end is one of them
+-- (docs/DEFINITIONS.md, Drill files).
+pub record SpellsText (text : List ℕ) (commands : List DrillCommand) : Type 0 where
+  pub lines : List (List ℕ)
+  pub rest : List ℕ
+  pub splits : Splits text lines rest
+  pub within : length text ≤ text_limit
+  pub short : AreShort (lines ++ rest ∷ [])
+  pub spelling : spelled_behind [] (lines ++ rest ∷ []) ≡ Ok commands
+  pub ends : list_any is_finish commands ≡ true
+
+-- no rule applies at any position of the list (docs/DEFINITIONS.md, Drill files)
+abbrev pub IsLegal : List DrillCommand → Type 0
+IsLegal commands = breaks broken_rule commands ≡ []
+
+-- a drill text of these commands (docs/DEFINITIONS.md, Drill files)
+pub record IsDrillText (text : List ℕ) (commands : List DrillCommand) : Type 0 where
+  pub spells : SpellsText text commands
+  pub legal : IsLegal commands

@@ -1,0 +1,49 @@
+-- The canonical text of a list of commands.
+use Rattle.std.specs.Prelude.{ℕ, Bool, true, false, ◌&&◌, nat_lt, List, [], ◌∷◌, length, map, unwrap_or, if◌then◌else◌, Result, Ok, Err}
+use Rattle.std.specs.Global.{Vec}
+use Rattle.grid_units.specs.declared.fault.Fault.{Fault}
+use Rattle.grid_units.specs.declared.fault.Reason.TheVariants.{TooLong}
+use Rattle.grid_units.specs.Results.{fault}
+use Rattle.drill_lines.specs.declared.command.Part.{Part}
+use Rattle.drill_lines.specs.declared.command.Part.TheVariants as part
+use Rattle.drill_lines.specs.declared.command.DrillCommand.{DrillCommand}
+use Rattle.drill_lines.specs.Writing.{canonical, is_sayable}
+use Rattle.drill_text.specs.Lines.{bytes_of}
+use Rattle.drill_text.specs.Lookback.{part_named}
+use Rattle.drill_text.specs.Reading.{text_limit}
+
+-- the part of a file behind one more command (docs/FORMATS.md, Drill lines)
+abbrev pub part_behind : Part → DrillCommand → Part
+part_behind p c = unwrap_or (part_named c) p
+
+-- the part of a file behind more commands (docs/FORMATS.md, Drill lines)
+abbrev pub part_from : Part → List DrillCommand → Part
+part_from p [] = p
+part_from p (c ∷ cs) = part_from (part_behind p c) cs
+
+-- each command is one that some line of its part spells (docs/FORMATS.md, Canonical drill text)
+abbrev pub are_sayable : Part → List DrillCommand → Bool
+are_sayable p [] = true
+are_sayable p (c ∷ cs) = is_sayable p c && are_sayable (part_behind p c) cs
+
+-- behind `M30` (docs/FORMATS.md, Drill lines)
+abbrev pub is_over : Part → Bool
+is_over part.After = true
+is_over _ = false
+
+-- A list is sayable where it is comments, Start, commands of the header, HeaderEnd, commands of the body and Finish, each one that
+-- some line spells (docs/FORMATS.md, Canonical drill text).
+abbrev pub drill_sayable : List DrillCommand → Bool
+drill_sayable commands = are_sayable part.Before commands && is_over (part_from part.Before commands)
+
+-- each command as its line, with LF (docs/FORMATS.md, Canonical drill text)
+abbrev pub canonical_text : List DrillCommand → List ℕ
+canonical_text commands = bytes_of (map canonical commands)
+
+-- the canonical text, or that it is too long (docs/FORMATS.md, Canonical drill text)
+abbrev pub written : List DrillCommand → Result (List ℕ) Fault
+written commands = if nat_lt text_limit (length (canonical_text commands)) then Err (fault 0 0 TooLong) else Ok (canonical_text commands)
+
+-- the bytes of a vector (docs/DEFINITIONS.md, Answers)
+abbrev pub bytes_in : Vec ℕ → List ℕ
+bytes_in bytes = bytes.items

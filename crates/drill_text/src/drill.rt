@@ -1,0 +1,62 @@
+//! A drill file that was read.
+
+ghost use Rattle.std.specs.Prelude.{◌≡◌};
+
+use drill_lines::DrillCommand;
+use grid_units::{Dec, Hole};
+use indexmap::IndexMap;
+use std::marker::Model;
+
+/// A drill file: its commands, the holes that they drill and the tools that they define. Its unit is that
+/// of its commands for coordinates and diameters; holes are in pm.
+#[derive(Drop)]
+pub struct Drill {
+    commands: Vec<DrillCommand>,
+    holes: Vec<Hole>,
+    tools: IndexMap<u16, Dec>,
+}
+
+impl Model for Drill {
+    ghost use Rattle.drill_text.specs.Outcome.{DrillFile};
+
+    ghost Value = { DrillFile };
+
+    ghost view = { λ d. record { commands = d.commands.items; holes = d.holes.items; tools = d.tools.entries } };
+}
+
+impl Drill {
+    pub(crate) fn new(
+        commands: Vec<DrillCommand>,
+        holes: Vec<Hole>,
+        tools: IndexMap<u16, Dec>,
+    ) -> Drill
+        ensures { result ≡ record { commands = commands.items; holes = holes.items; tools = tools.entries } }
+    {
+        Drill {
+            commands,
+            holes,
+            tools,
+        }
+    }
+
+    /// The commands, in order.
+    pub fn commands(&self) -> &[DrillCommand]
+        ensures { result.now ≡ self.now.commands }
+    {
+        &self.commands
+    }
+
+    /// The holes in order of their lines, in pm.
+    pub fn holes(&self) -> &[Hole]
+        ensures { result.now ≡ self.now.holes }
+    {
+        &self.holes
+    }
+
+    /// The diameters by tool number in order of definition, in the unit of the file.
+    pub fn tools(&self) -> &IndexMap<u16, Dec>
+        ensures { result.now.entries ≡ self.now.tools }
+    {
+        &self.tools
+    }
+}

@@ -1,0 +1,32 @@
+//! Laws of the definitions of a drill file. A call of one does nothing, and gives its clause.
+
+ghost use Rattle.std.specs.Prelude.{◌≡◌, ◌↔◌, true, ℕ, List, Result, Ok};
+ghost use Rattle.grid_units.specs.declared.fault.Fault.{Fault};
+ghost use Rattle.drill_lines.specs.declared.command.DrillCommand.{DrillCommand};
+ghost use Rattle.drill_text.specs.Lookback.{tools_of};
+ghost use Rattle.drill_text.specs.Holes.{holes_of};
+ghost use Rattle.drill_text.specs.Reading.{Shows, Reads};
+ghost use Rattle.drill_text.specs.Texts.{SpellsText, IsDrillText};
+ghost use Rattle.drill_text.specs.Writing.{drill_sayable};
+
+/// A text shows one thing, and has one reading.
+pub fn one_reading()
+    ensures shown { (text : List ℕ) (a b : Result (List DrillCommand) Fault) → Shows text a → Shows text b → a ≡ b }
+    ensures read { (text : List ℕ) (a b : Result (List DrillCommand) Fault) → Reads text a → Reads text b → a ≡ b }
+{}
+
+/// A text is read as just the commands of which it is a drill text.
+pub fn drill_texts()
+    ensures { (text : List ℕ) (commands : List DrillCommand) → (Reads text (Ok commands)) ↔ (IsDrillText text commands) }
+{}
+
+/// Texts that spell equal lists of commands have equal holes and tools.
+pub fn equal_commands()
+    ensures holes { (s t : List ℕ) (a b : List DrillCommand) → SpellsText s a → SpellsText t b → a ≡ b → holes_of a ≡ holes_of b }
+    ensures tools { (s t : List ℕ) (a b : List DrillCommand) → SpellsText s a → SpellsText t b → a ≡ b → tools_of a ≡ tools_of b }
+{}
+
+/// The commands that a text spells are sayable.
+pub fn sayable_texts()
+    ensures { (text : List ℕ) (commands : List DrillCommand) → SpellsText text commands → drill_sayable commands ≡ true }
+{}

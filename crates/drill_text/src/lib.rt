@@ -1,0 +1,16 @@
+//! Excellon drill files, their commands, and the holes that these drill.
+#![tactic(auto)]
+
+mod drill;
+mod judge;
+pub mod laws;
+mod reader;
+mod writer;
+
+pub use drill::Drill;
+pub use drill_lines::{Coordinates, DrillCommand, Format};
+pub use reader::{DrillReader, read_drill};
+pub use writer::{drill_sayable, write_drill};
+
+#[cfg(test)]
+mod tests;

@@ -1,0 +1,300 @@
+//! A reader of a drill file, in pieces.
+
+ghost use Rattle.std.specs.Prelude.{◌≡◌, ◌≢◌, ◌≤◌, ◌<◌, ◌+◌, true, ℕ, List, All, length, vec_len, take, slice_index, Some, None, Ok, Err, OnOk, OnErr, IfOk, IfErr, IfSome};
+ghost use Rattle.drill_lines.specs.declared.command.DrillCommand.{DrillCommand as TheCommand};
+ghost use Rattle.grid_units.specs.declared.fault.Fault.{Fault};
+ghost use Rattle.grid_units.specs.declared.fault.Fail.TheVariants.{Refused};
+ghost use Rattle.grid_units.specs.Results.{fault, Answers};
+ghost use Rattle.drill_text.specs.Reading.{spelled, Reads, is_finish, place_behind_count};
+ghost use Rattle.std.specs.List.{list_any};
+ghost use Rattle.drill_text.specs.Knowing.{Knows, Leaves};
+ghost use Rattle.drill_text.specs.Outcome.{commands_in, file_of};
+ghost use Rattle.drill_text.specs.Texts.{IsDrillText};
+ghost use Rattle.drill_text.specs.Writing.{drill_sayable};
+
+use crate::drill::Drill;
+use crate::judge::Judge;
+use drill_lines::{DrillCommand, LineFail, read_line};
+use grid_units::{Fail, Fault, Reason};
+use std::alloc::Global;
+
+const LINE_LIMIT: usize = 1_048_576;
+
+const TEXT_LIMIT: u64 = 268_435_456;
+
+/// What was read so far, and the line that has not ended.
+#[derive(Drop)]
+pub(crate) struct Progress {
+    alloc: Global,
+    judge: Judge,
+    commands: Vec<DrillCommand>,
+    line: Vec<u8>,
+    start: u64,
+    offset: u64,
+    lines: u64,
+    ghost counted: { lines ≤ offset },
+    ghost in_text: { offset ≤ 268435456 },
+    ghost in_line: { vec_len line ≤ 1048576 },
+}
+
+/// How many bytes stand before the first LF.
+fn line_len(bytes: &[u8]) -> usize
+    ensures within { result ≤ length bytes.now }
+    ensures inside { All (λ b. b ≢ 10) (take result bytes.now) }
+    ensures stops { 0 < length bytes.now → result ≡ 0 → slice_index bytes.now 0 ≡ 10 }
+{
+    for (i, byte) in bytes.iter().enumerate() {
+        if *byte == b'\n' {
+            return i;
+        }
+    }
+    bytes.len()
+}
+
+fn refusal(place: u64, byte: u64, reason: Reason) -> Fail
+    ensures { result ≡ Refused (fault place byte reason) }
+{
+    Fail::Refused(Fault {
+        place,
+        byte,
+        reason,
+    })
+}
+
+/// Reads and judges a line, and adds the command that it spells.
+fn spell(
+    alloc: Global,
+    place: u64,
+    byte: u64,
+    line: &[u8],
+    judge: &mut Judge,
+    commands: &mut Vec<DrillCommand>,
+) -> Result<(), Fail>
+    requires short { length line.now ≤ 1048576 }
+    ensures { Knows judge.old commands.old.items → Leaves result judge.new commands.new.items (spelled place byte line.now commands.old.items) }
+{
+    let command = match read_line(alloc, judge.settings(), line) {
+        Ok(None) => return Ok(()),
+        Ok(Some(command)) => command,
+        Err(LineFail::Memory) => return Err(Fail::Memory),
+        Err(LineFail::Refused(reason)) => return Err(refusal(place, byte, reason)),
+    };
+    match judge.step(&command) {
+        Ok(()) => {
+            commands.push(command)?;
+            Ok(())
+        }
+        Err(LineFail::Memory) => Err(Fail::Memory),
+        Err(LineFail::Refused(reason)) => Err(refusal(place, byte, reason)),
+    }
+}
+
+impl Progress {
+    ghost use Rattle.std.specs.Prelude.{[], ◌∷◌, List};
+    ghost use Rattle.drill_text.specs.Standing.{Advances, Refuses, RefusesText, Holds};
+
+    /// Adds bytes to the line.
+    fn extend(&mut self, run: &[u8]) -> Result<(), Fail>
+        requires inside { All (λ b. b ≢ 10) run.now }
+        requires room { self.old.offset + length run.now ≤ 268435456 }
+        ensures offset { OnOk result (self.new.offset ≡ self.old.offset + length run.now) }
+        ensures ok { OnOk result (Advances self.old self.new run.now) }
+        ensures err { IfErr result (Refuses self.old run.now) }
+    {
+        if run.len() > LINE_LIMIT - self.line.len() {
+            return Err(refusal(self.lines + 1, self.start, Reason::TooLong));
+        }
+        self.line.extend_from_slice(run)?;
+        self.offset += run.len() as u64;
+        Ok(())
+    }
+
+    /// Ends the line with its LF.
+    fn close(&mut self) -> Result<(), Fail>
+        requires room { self.old.offset < 268435456 }
+        ensures offset { OnOk result (self.new.offset ≡ self.old.offset + 1) }
+        ensures ok { OnOk result (Advances self.old self.new (10 ∷ [])) }
+        ensures err { IfErr result (Refuses self.old (10 ∷ [])) }
+    {
+        spell(
+            self.alloc,
+            self.lines + 1,
+            self.start,
+            &self.line,
+            &mut self.judge,
+            &mut self.commands,
+        )?;
+        self.line.clear();
+        self.lines += 1;
+        self.offset += 1;
+        self.start = self.offset;
+        Ok(())
+    }
+
+    /// Takes some of the bytes, from the first on, and says how many.
+    fn take_some(&mut self, bytes: &[u8]) -> Result<usize, Fail>
+        requires some { 0 < length bytes.now }
+        requires room { self.old.offset + length bytes.now ≤ 268435456 }
+        ensures taken { IfOk result (λ n. (0 < n) × (n ≤ length bytes.now) × (self.new.offset ≡ self.old.offset + n)) }
+        ensures ok { IfOk result (λ n. Advances self.old self.new (take n bytes.now)) }
+        ensures err { IfErr result (Refuses self.old bytes.now) }
+    {
+        let len = line_len(bytes);
+        if len == 0 {
+            self.close()?;
+            return Ok(1);
+        }
+        self.extend(&bytes[..len])?;
+        Ok(len)
+    }
+
+    /// Takes all of the bytes.
+    fn take_all(&mut self, bytes: &[u8]) -> Result<(), Fail>
+        requires room { self.old.offset + length bytes.now ≤ 268435456 }
+        ensures offset { OnOk result (self.new.offset ≡ self.old.offset + length bytes.now) }
+        ensures ok { OnOk result (Advances self.old self.new bytes.now) }
+        ensures err { IfErr result (Refuses self.old bytes.now) }
+    {
+        let mut taken = 0;
+        while taken < bytes.len() {
+            taken += self.take_some(&bytes[taken..])?;
+        }
+        Ok(())
+    }
+
+    /// Takes the next piece of the text.
+    fn take(&mut self, piece: &[u8]) -> Result<(), Fail>
+        ensures ok { OnOk result (Advances self.old self.new piece.now) }
+        ensures err { IfErr result (RefusesText self.old piece.now) }
+    {
+        let room = (TEXT_LIMIT - self.offset) as usize;
+        if piece.len() <= room {
+            return self.take_all(piece);
+        }
+        self.take_all(&piece[..room])?;
+        Err(refusal(self.lines + 1, TEXT_LIMIT, Reason::TooLong))
+    }
+
+    /// The number of the line behind the last one.
+    fn place_behind(&self) -> u64
+        ensures { result ≡ place_behind_count self.now.lines self.now.line.items }
+    {
+        if self.line.is_empty() {
+            self.lines + 1
+        } else {
+            self.lines + 2
+        }
+    }
+
+    /// Reads the line that no LF has ended.
+    fn end(&mut self) -> Result<(), Fail>
+        ensures spelled { Knows self.old.judge self.old.commands.items → Leaves result self.new.judge self.new.commands.items (spelled (self.old.lines + 1) self.old.start self.old.line.items self.old.commands.items) }
+        ensures same { OnOk result ((self.new.lines ≡ self.old.lines) × (self.new.line.items ≡ self.old.line.items) × (self.new.offset ≡ self.old.offset)) }
+    {
+        spell(
+            self.alloc,
+            self.lines + 1,
+            self.start,
+            &self.line,
+            &mut self.judge,
+            &mut self.commands,
+        )
+    }
+
+    /// The file, if its text has ended.
+    fn finish(self) -> Result<Drill, Fail>
+        ensures exact { (text : List ℕ) → Holds self text → Answers commands_in (Reads text) result }
+        ensures file { (text : List ℕ) → Holds self text → IfOk result (λ drill. drill ≡ file_of drill.commands) }
+    {
+        let mut last = self;
+        last.end()?;
+        if has_finish(&last.commands) {
+            let (holes, tools) = last.judge.into_parts();
+            return Ok(Drill::new(last.commands, holes, tools));
+        }
+        Err(refusal(last.place_behind(), last.offset, Reason::Truncated))
+    }
+}
+
+/// Whether the end of the file is among the commands.
+fn has_finish(commands: &[DrillCommand]) -> bool
+    ensures { result ≡ list_any is_finish commands.now }
+{
+    commands.iter().any(|c| matches!(c, DrillCommand::Finish))
+}
+
+/// A reader of a drill file that comes in pieces.
+#[derive(Drop)]
+pub struct DrillReader {
+    progress: Progress,
+    failed: Option<Fail>,
+}
+
+impl DrillReader {
+    ghost use Rattle.std.specs.Prelude.{List, Some, Ok, Err, [], ◌++◌};
+    ghost use Rattle.drill_text.specs.Reading.{Shows};
+    ghost use Rattle.grid_units.specs.Results.{Tells};
+    ghost use Rattle.drill_text.specs.Standing.{StandsAfter, failure};
+
+    /// A reader that has read nothing.
+    pub fn new(alloc: Global) -> DrillReader
+        ensures { StandsAfter result [] }
+    {
+        let progress = Progress {
+            alloc,
+            judge: Judge::new(alloc),
+            commands: Vec::new(alloc),
+            line: Vec::new(alloc),
+            start: 0,
+            offset: 0,
+            lines: 0,
+        };
+        DrillReader {
+            progress,
+            failed: None,
+        }
+    }
+
+    /// Takes the next piece of the text. A reader that has failed gives its failure again.
+    pub fn feed(&mut self, piece: &[u8]) -> Result<(), Fail>
+        ensures ok { (text : List ℕ) → StandsAfter self.old text → OnOk result (StandsAfter self.new (text ++ piece.now)) }
+        ensures fault { (text : List ℕ) → StandsAfter self.old text → IfErr result (Tells (λ f. Shows (text ++ piece.now) (Err f))) }
+        ensures failed { IfSome (failure self.old) (λ e. result ≡ Err e) }
+        ensures fails { IfErr result (λ e. failure self.new ≡ Some e) }
+    {
+        if let Some(fail) = self.failed {
+            return Err(fail);
+        }
+        let outcome = self.progress.take(piece);
+        if let Err(fail) = outcome {
+            self.failed = Some(fail);
+        }
+        outcome
+    }
+
+    /// The drill file. A reader that has failed gives its failure again.
+    pub fn finish(self) -> Result<Drill, Fail>
+        ensures exact { (text : List ℕ) → StandsAfter self text → Answers commands_in (Reads text) result }
+        ensures file { (text : List ℕ) → StandsAfter self text → IfOk result (λ drill. drill ≡ file_of drill.commands) }
+        ensures sayable { (text : List ℕ) → StandsAfter self text → IfOk result (λ drill. drill_sayable drill.commands ≡ true) }
+        ensures failed { IfSome (failure self) (λ e. result ≡ Err e) }
+    {
+        match self.failed {
+            Some(fail) => Err(fail),
+            None => self.progress.finish(),
+        }
+    }
+}
+
+/// The drill file of a text, or its first fault.
+pub fn read_drill(alloc: Global, bytes: &[u8]) -> Result<Drill, Fail>
+    ensures exact { Answers commands_in (Reads bytes.now) result }
+    ensures found { IfOk result (λ drill. IsDrillText bytes.now drill.commands) }
+    ensures only { (commands : List TheCommand) → IsDrillText bytes.now commands → Answers commands_in (λ answer. answer ≡ Ok commands) result }
+    ensures file { IfOk result (λ drill. drill ≡ file_of drill.commands) }
+    ensures sayable { IfOk result (λ drill. drill_sayable drill.commands ≡ true) }
+{
+    let mut reader = DrillReader::new(alloc);
+    reader.feed(bytes)?;
+    reader.finish()
+}

@@ -1,0 +1,374 @@
+use crate::{Coordinates, Drill, DrillReader, drill_sayable, read_drill, write_drill};
+use drill_lines::DrillCommand;
+use grid_units::{Fail, Fault, Hole, Reason, Text};
+use std::alloc::Global;
+use std::test::Fail as TestFail;
+
+/// The ends of a hole and its radius, in pm.
+type Ends = (i64, i64, i64, i64, i64);
+
+fn ends(hole: &Hole) -> Ends {
+    (
+        hole.from().x(),
+        hole.from().y(),
+        hole.to().x(),
+        hole.to().y(),
+        hole.radius(),
+    )
+}
+
+/// Whether a text is read and drills just these holes.
+fn drills(alloc: Global, text: &[u8], wanted: &[Ends]) -> bool {
+    match read_drill(alloc, text) {
+        Ok(drill) => {
+            let holes = drill.holes();
+            holes.len() == wanted.len() && holes.iter().zip(wanted).all(|(h, e)| ends(h) == *e)
+        }
+        Err(_) => false,
+    }
+}
+
+fn fault_of(alloc: Global, text: &[u8]) -> Option<Fail> {
+    match read_drill(alloc, text) {
+        Ok(_) => None,
+        Err(fail) => Some(fail),
+    }
+}
+
+fn refused(reason: Reason, place: u64, byte: u64) -> Option<Fail> {
+    Some(Fail::Refused(Fault {
+        place,
+        byte,
+        reason,
+    }))
+}
+
+/// A read of a text in two pieces.
+fn in_two(alloc: Global, text: &[u8], at: usize) -> Result<Drill, Fail> {
+    let mut reader = DrillReader::new(alloc);
+    let at = at.min(text.len());
+    reader.feed(&text[..at])?;
+    reader.feed(&text[at..])?;
+    reader.finish()
+}
+
+/// A read of a text byte by byte, with an empty piece between each two.
+fn byte_by_byte(alloc: Global, text: &[u8]) -> Result<Drill, Fail> {
+    let mut reader = DrillReader::new(alloc);
+    for i in 0..text.len() {
+        reader.feed(&text[i..i + 1])?;
+        reader.feed(&[])?;
+    }
+    reader.finish()
+}
+
+fn same_drill(a: &Drill, b: &Drill) -> bool {
+    a.commands() == b.commands() && a.holes() == b.holes() && a.tools().len() == b.tools().len()
+}
+
+fn same(a: &Result<Drill, Fail>, b: &Result<Drill, Fail>) -> bool {
+    match (a, b) {
+        (Ok(a), Ok(b)) => same_drill(a, b),
+        (Err(a), Err(b)) => a == b,
+        _ => false,
+    }
+}
+
+/// Whether a text cut in two at each byte reads as the whole.
+fn splits_alike(alloc: Global, text: &[u8]) -> bool {
+    let whole = read_drill(alloc, text);
+    (0..text.len()).all(|n| same(&in_two(alloc, text, n), &whole))
+}
+
+/// Whether a text cut off behind each byte reads in pieces of one byte as the whole.
+fn cuts_alike(alloc: Global, text: &[u8]) -> bool {
+    for n in 0..text.len() + 1 {
+        let front = &text[..n];
+        if !same(&byte_by_byte(alloc, front), &read_drill(alloc, front)) {
+            return false;
+        }
+    }
+    true
+}
+
+const PLATED: &[u8; 36] = b"M48\nMETRIC\nT1C0.4\n%\nT1\nX0.0Y0.0\nM30\n";
+
+#[test]
+fn zeros_and_formats(rt: HostRuntime) -> Result<(), TestFail> {
+    let texts: [&[u8]; 6] = [
+        b"M48\nMETRIC,TZ\nT1C0.4\n%\nT1\nX2540Y0\nM30\n",
+        b"M48\nMETRIC,LZ\nT1C0.4\n%\nT1\nX00254Y0\nM30\n",
+        b"M48\nMETRIC\nT1C0.4\n%\nT1\nX2.54Y0.0\nM30\n",
+        b"M48\nMETRIC\nT1C0.4\n%\nT1\nX002540Y000000\nM30\n",
+        b"M48\nMETRIC,LZ,00.00\nT1C0.4\n%\nT1\nX0254Y0\nM30\n",
+        b"M48\n;FILE_FORMAT=2:4\nMETRIC,TZ\nT1C0.4\n%\nT1\nX25400Y0\nM30\n",
+    ];
+    for text in texts {
+        assert!(rt; drills(rt.alloc(), text, &[(2_540_000_000, 0, 2_540_000_000, 0, 200_000_000)]));
+        assert!(rt; splits_alike(rt.alloc(), text));
+        assert!(rt; cuts_alike(rt.alloc(), text));
+    }
+    Ok(())
+}
+
+/// The settings are those of the whole header, wherever a comment or a later line names them.
+#[test]
+fn the_header_as_a_whole(rt: HostRuntime) -> Result<(), TestFail> {
+    let hole = [(2_540_000_000, 0, 2_540_000_000, 0, 200_000_000)];
+    let texts: [&[u8]; 4] = [
+        b";FILE_FORMAT=2:4\nM48\nMETRIC,TZ\nT1C0.4\n%\nT1\nX25400Y0\nM30\n",
+        b"M48\nMETRIC,TZ\nT1C0.4\n;FILE_FORMAT=2:4\n%\nT1\nX25400Y0\nM30\n",
+        b"M48\nMETRIC\nT1C0.4\nMETRIC,TZ,00.0000\nM95\nT1\n;FILE_FORMAT=3:3\nX25400Y0\nM30",
+        b"M48\nM71\nMETRIC,LZ\nMETRIC,000.000\nT01C.4\n%\nT1\nX00254Y0\nM30\n\n \n",
+    ];
+    for text in texts {
+        assert!(rt; drills(rt.alloc(), text, &hole));
+    }
+    Ok(())
+}
+
+#[test]
+fn slots(rt: HostRuntime) -> Result<(), TestFail> {
+    let text = b"M48\nMETRIC\nT1C0.5\n%\nT1\nX0.0Y0.0G85X2.0Y0.0\nX0.0Y5.0G85X2.0Y6.0\nX9.0Y9.0G85X9.0Y9.0\nM30\n";
+    let wanted = [
+        (0, 0, 2_000_000_000, 0, 250_000_000),
+        (0, 5_000_000_000, 2_000_000_000, 6_000_000_000, 250_000_000),
+        (9_000_000_000, 9_000_000_000, 9_000_000_000, 9_000_000_000, 250_000_000),
+    ];
+    assert!(rt; drills(rt.alloc(), text, &wanted));
+    assert!(rt; splits_alike(rt.alloc(), text));
+    assert!(rt; cuts_alike(rt.alloc(), text));
+    let routed = b"M48\nMETRIC\nT1C0.5\n%\nT1\nX0.0Y0.0G85X2.0Y0.0\nX0.0Y5.0G85X2.0Y6.0\nX9.0Y9.0G85X9.0Y9.0\nG00X1.0Y1.0\nM30\n";
+    assert_eq!(rt; fault_of(rt.alloc(), routed), refused(Reason::Routed, 9, 83));
+    Ok(())
+}
+
+/// A coordinate left out is that of the point before; the end of a slot that of its first point.
+#[test]
+fn coordinates_left_out(rt: HostRuntime) -> Result<(), TestFail> {
+    let text = b"M48\nINCH,LZ\nT1C0.1\n%\nT1\nX01Y-005\nX02G85Y01\nY00\nM30\n";
+    let wanted = [
+        (25_400_000_000, -12_700_000_000, 25_400_000_000, -12_700_000_000, 1_270_000_000),
+        (50_800_000_000, -12_700_000_000, 50_800_000_000, 25_400_000_000, 1_270_000_000),
+        (50_800_000_000, 0, 50_800_000_000, 0, 1_270_000_000),
+    ];
+    assert!(rt; drills(rt.alloc(), text, &wanted));
+    Ok(())
+}
+
+/// Equal holes are two holes.
+#[test]
+fn doubled_hits(rt: HostRuntime) -> Result<(), TestFail> {
+    let text = b"M48\nMETRIC\nT1C0.4\n%\nT1\nX0.0Y0.0\nX0.0Y0.0\nM30\n";
+    assert!(rt; drills(rt.alloc(), text, &[(0, 0, 0, 0, 200_000_000), (0, 0, 0, 0, 200_000_000)]));
+    Ok(())
+}
+
+#[test]
+fn tools_in_order(rt: HostRuntime) -> Result<(), TestFail> {
+    let text = b"M48\nMETRIC\nT3C0.3\nT1F00S00C.0350H5Z-1\nT2C2.\n%\nM30\n";
+    let drill = read_drill(rt.alloc(), text).map_err(|_| "refused")?;
+    let tools: Vec<(u16, i64)> = drill
+        .tools()
+        .iter()
+        .map(|(number, diameter)| (*number, diameter.units()))
+        .collect(rt.alloc())?;
+    assert_eq!(rt; tools.as_slice(), [(3, 30_000_000), (1, 3_500_000), (2, 200_000_000)].as_slice());
+    assert_eq!(rt; drill.commands().len(), 7);
+    assert!(rt; matches!(drill.commands().last(), Some(DrillCommand::Finish)));
+    Ok(())
+}
+
+#[test]
+fn refusals_of_lines(rt: HostRuntime) -> Result<(), TestFail> {
+    let rows: [(&[u8], Reason, u64, u64); 34] = [
+        (b"M48\nMETRIC\nT1C0.4\n%\nT1\nX2540Y000000\nM30\n", Reason::NoZeros, 6, 23),
+        (b"M48\nMETRIC\nT1C0.4\n%\nT1\nX0.0Y0.0\n", Reason::Truncated, 7, 32),
+        (b"M48\nMETRIC\nT1C0.4\n%\nT1\nX0.0Y0.0\nM30\nT1\n", Reason::AfterEnd, 8, 36),
+        (b"M48\nMETRIC\nT1C0.4\n%\nT1\nX0.0Y0.0\nM30\n;x\n", Reason::AfterEnd, 8, 36),
+        (b"M48\nMETRIC\nT1C0.4\n%\nT1\nX10000.00000001Y0.0\nM30\n", Reason::TooFar, 6, 23),
+        (b"M48\n;FILE_FORMAT=2:4\nMETRIC,TZ,000.000\nT1C0.4\n%\nT1\nX0.0Y0.0\nM30\n", Reason::FormatConflict, 3, 21),
+        (b";FILE_FORMAT=2:4\n;FILE_FORMAT=3:3\nM48\n", Reason::FormatConflict, 2, 17),
+        (b"M48\nT1C0.4\n%\nT1\nX0.0Y0.0\nM30\n", Reason::NoUnit, 3, 11),
+        (b"M48\nMETRIC\nT1C0.4\n%\nT2\nX0.0Y0.0\nM30\n", Reason::UnknownTool, 5, 20),
+        (b"M48\nMETRIC\nT1C0.4\n%\nT0\nX0.0Y0.0\nM30\n", Reason::NoTool, 6, 23),
+        (b"M48\nMETRIC\nT1C0.4\n%\nX0.0Y0.0\nM30\n", Reason::NoTool, 5, 20),
+        (b"M48\nMETRIC,TZ\nT1C0.4\n%\nT1\nX1234567Y0\nM30\n", Reason::TooManyDigits, 6, 26),
+        (b"M48\nMETRIC\nT1C0.4\n%\nT1\nX0000001Y0.0\nM30\n", Reason::NoZeros, 6, 23),
+        (b"M48\nMETRIC\nT1C0.4\n%\nT1\nX99999999999999999999.0Y0.0\nM30\n", Reason::TooFar, 6, 23),
+        (b"M48\nMETRIC\nT1C0.4\n%\nT99999999999\nX0.0Y0.0\nM30\n", Reason::BadNumber, 5, 20),
+        (b"M48\nMETRIC\nTC0.4\n%\n", Reason::BadNumber, 3, 11),
+        (b"M48\nMETRIC\nT1\n%\n", Reason::BadLine, 3, 11),
+        (b"M48\nMETRIC\nT1C0.4C0.5\n%\n", Reason::BadLine, 3, 11),
+        (b"M48\nMETRIC\nT1C4\n%\n", Reason::BadNumber, 3, 11),
+        (b"M48\nMETRIC\nT1C0.4\nT1C0.5\n", Reason::Redefined, 4, 18),
+        (b"M48\nMETRIC\nT1C0.0\n%\n", Reason::BadSize, 3, 11),
+        (b"M48\nMETRIC\nINCH\n%\n", Reason::UnitConflict, 3, 11),
+        (b"M48\nMETRIC,LZ\nMETRIC,TZ\n%\n", Reason::FormatConflict, 3, 14),
+        (b"M48\nMETRIC,x\n", Reason::BadLine, 2, 4),
+        (b"M48\nMETRIC,\n", Reason::BadNumber, 2, 4),
+        (b"M48\nMETRIC,0000000.0\n", Reason::BadNumber, 2, 4),
+        (b"M48\nFMAT,1\n", Reason::OldFormat, 2, 4),
+        (b"INCH\nM48\n", Reason::OldFormat, 1, 0),
+        (b"M48\nICI,ON\n", Reason::Incremental, 2, 4),
+        (b"M48\nMETRIC\n%\nR2M01\n", Reason::Repeat, 4, 13),
+        (b"M48\nMETRIC\n%\nM15\n", Reason::Routed, 4, 13),
+        (b"M48\nMETRIC\n%\nG85X1.0\n", Reason::BadLine, 4, 13),
+        (b"M48\nMETRIC\n%\nX1.123456789Y\n", Reason::BadNumber, 4, 13),
+        (b"M48\nMETRIC\n%\nX1.123456789Y1000000.0\n", Reason::TooFine, 4, 13),
+    ];
+    for (text, reason, place, byte) in rows {
+        assert_eq!(rt; fault_of(rt.alloc(), text), refused(reason, place, byte));
+        assert!(rt; splits_alike(rt.alloc(), text));
+        assert!(rt; cuts_alike(rt.alloc(), text));
+    }
+    Ok(())
+}
+
+#[test]
+fn far_coordinates(rt: HostRuntime) -> Result<(), TestFail> {
+    let text = b"M48\nMETRIC\nT1C0.4\n%\nT1\nX10000.0Y0.0\nM30\n";
+    assert!(rt; drills(rt.alloc(), text, &[(10_000_000_000_000, 0, 10_000_000_000_000, 0, 200_000_000)]));
+    Ok(())
+}
+
+/// A file cut off behind so many of its bytes.
+#[test]
+fn cut_off(rt: HostRuntime) -> Result<(), TestFail> {
+    let rows = [
+        (0, Reason::Truncated, 1, 0),
+        (2, Reason::OldFormat, 1, 0),
+        (6, Reason::BadLine, 2, 4),
+        (24, Reason::BadNumber, 6, 23),
+        (25, Reason::NoZeros, 6, 23),
+        (26, Reason::Truncated, 7, 26),
+        (32, Reason::Truncated, 7, 32),
+        (34, Reason::BadLine, 7, 32),
+    ];
+    for (n, reason, place, byte) in rows {
+        let front = PLATED.iter().copied().take(n).collect::<Vec<u8>>(rt.alloc())?;
+        assert_eq!(rt; fault_of(rt.alloc(), &front), refused(reason, place, byte));
+    }
+    assert_eq!(rt; fault_of(rt.alloc(), &PLATED[..35]), None);
+    assert_eq!(rt; fault_of(rt.alloc(), PLATED), None);
+    Ok(())
+}
+
+/// A text that only begins with blanks, or ends with them.
+#[test]
+fn blanks(rt: HostRuntime) -> Result<(), TestFail> {
+    let alloc = rt.alloc();
+    assert_eq!(rt; fault_of(alloc, b"M48\nMETRIC\n% "), refused(Reason::Truncated, 4, 13));
+    assert_eq!(rt; fault_of(alloc, b"M48\nMETRIC\n%\n "), refused(Reason::Truncated, 5, 14));
+    assert_eq!(rt; fault_of(alloc, b" ;x\nM48\n"), refused(Reason::OldFormat, 1, 0));
+    assert_eq!(rt; fault_of(alloc, b"M48\n ;x\n"), refused(Reason::BadLine, 2, 4));
+    assert_eq!(rt; fault_of(alloc, b"M48 \r\nMETRIC\t\r\n%\nM30\r\n \n\r\n"), None);
+    Ok(())
+}
+
+fn is_fault(outcome: &Result<(), Fail>, wanted: Option<Fail>) -> bool {
+    match outcome {
+        Ok(()) => false,
+        Err(fail) => Some(*fail) == wanted,
+    }
+}
+
+/// A reader that has failed gives its fault again, whatever comes.
+#[test]
+fn a_fault_stays(rt: HostRuntime) -> Result<(), TestFail> {
+    let mut reader = DrillReader::new(rt.alloc());
+    let fault = refused(Reason::OldFormat, 1, 0);
+    assert!(rt; reader.feed(b"INCH").is_ok());
+    assert!(rt; is_fault(&reader.feed(b"\nM48\n"), fault));
+    assert!(rt; is_fault(&reader.feed(b"METRIC\n%\nM30\n"), fault));
+    assert!(rt; is_fault(&reader.feed(&[]), fault));
+    match reader.finish() {
+        Ok(_) => assert!(rt; false),
+        Err(fail) => assert_eq!(rt; Some(fail), fault),
+    }
+    Ok(())
+}
+
+#[test]
+fn two_pieces(rt: HostRuntime) -> Result<(), TestFail> {
+    assert!(rt; same(&in_two(rt.alloc(), PLATED, 30), &read_drill(rt.alloc(), PLATED)));
+    assert!(rt; same(&byte_by_byte(rt.alloc(), PLATED), &read_drill(rt.alloc(), PLATED)));
+    assert!(rt; drills(rt.alloc(), PLATED, &[(0, 0, 0, 0, 200_000_000)]));
+    Ok(())
+}
+
+/// A comment of a million bytes, byte by byte.
+#[test]
+fn a_long_comment(rt: HostRuntime) -> Result<(), TestFail> {
+    let mut text = Vec::from_slice(rt.alloc(), b"M48\nMETRIC\n;")?;
+    for _ in 0..1_000_000 {
+        text.push(b'a')?;
+    }
+    text.extend_from_slice(b"\nT1C0.4\n%\nT1\nX0.0Y0.0\nM30\n")?;
+    let drill = byte_by_byte(rt.alloc(), &text).map_err(|_| "refused")?;
+    assert_eq!(rt; drill.holes().len(), 1);
+    assert_eq!(rt; drill.commands().len(), 8);
+    Ok(())
+}
+
+/// A line of 1,048,576 bytes is read, and one more is too long, with its LF or without.
+#[test]
+fn long_lines(rt: HostRuntime) -> Result<(), TestFail> {
+    let mut text = Vec::from_slice(rt.alloc(), b";")?;
+    for _ in 0..1_048_575 {
+        text.push(b' ')?;
+    }
+    assert_eq!(rt; fault_of(rt.alloc(), &text), refused(Reason::Truncated, 2, 1_048_576));
+    text.push(b' ')?;
+    assert_eq!(rt; fault_of(rt.alloc(), &text), refused(Reason::TooLong, 1, 0));
+    text.push(b'\n')?;
+    assert_eq!(rt; fault_of(rt.alloc(), &text), refused(Reason::TooLong, 1, 0));
+    Ok(())
+}
+
+/// 1,048,576 holes are read, and one more is one too many.
+#[test]
+fn many_holes(rt: HostRuntime) -> Result<(), TestFail> {
+    let mut text = Vec::from_slice(rt.alloc(), b"M48\nMETRIC\nT1C0.4\n%\nT1\n")?;
+    for _ in 0..1_048_577 {
+        text.extend_from_slice(b"X0.0Y0.0\n")?;
+    }
+    text.extend_from_slice(b"M30\n")?;
+    assert_eq!(rt; fault_of(rt.alloc(), &text), refused(Reason::TooManyHoles, 1_048_582, 9_437_207));
+    Ok(())
+}
+
+/// The canonical text of a list of commands.
+#[test]
+fn written_back(rt: HostRuntime) -> Result<(), TestFail> {
+    let text = b"%\nM48\n;note\nINCH,LZ\nT01F00S00C.0350\nFMAT,2\nM95\nG90\nG05\nM72\nT01\nX01Y-005\nX02G85Y01\nT00\nM30";
+    let wanted = b"M48\n;note\nINCH,LZ\nT1C0.035\n%\nM72\nT1\nX1.0Y-0.5\nX2.0G85Y1.0\nT0\nM30\n";
+    let drill = read_drill(rt.alloc(), text).map_err(|_| "refused")?;
+    assert!(rt; drill_sayable(drill.commands()));
+    let written = write_drill(rt.alloc(), drill.commands()).map_err(|_| "too long")?;
+    assert_eq!(rt; written.as_slice(), wanted.as_slice());
+    let again = read_drill(rt.alloc(), &written).map_err(|_| "refused")?;
+    assert!(rt; again.commands() == drill.commands());
+    assert!(rt; again.holes() == drill.holes());
+    assert!(rt; splits_alike(rt.alloc(), text));
+    assert!(rt; cuts_alike(rt.alloc(), text));
+    Ok(())
+}
+
+/// Lists that no text spells.
+#[test]
+fn not_sayable(rt: HostRuntime) -> Result<(), TestFail> {
+    let alloc = rt.alloc();
+    let nowhere = Coordinates { x: None, y: None };
+    assert!(rt; !drill_sayable(&[]));
+    assert!(rt; drill_sayable(&[DrillCommand::Start, DrillCommand::HeaderEnd, DrillCommand::Finish]));
+    assert!(rt; !drill_sayable(&[DrillCommand::Start, DrillCommand::HeaderEnd, DrillCommand::Finish, DrillCommand::Finish]));
+    assert!(rt; !drill_sayable(&[DrillCommand::Start, DrillCommand::Finish]));
+    assert!(rt; !drill_sayable(&[DrillCommand::Start, DrillCommand::HeaderEnd, DrillCommand::Hit(nowhere), DrillCommand::Finish]));
+    assert!(rt; !drill_sayable(&[DrillCommand::Start, DrillCommand::HeaderEnd, DrillCommand::Pick(1000), DrillCommand::Finish]));
+    let blank = DrillCommand::Comment(Text::from_slice(alloc, b"a ")?);
+    assert!(rt; !drill_sayable(&[blank, DrillCommand::Start, DrillCommand::HeaderEnd, DrillCommand::Finish]));
+    let broken = DrillCommand::Comment(Text::from_slice(alloc, b"a\nb")?);
+    assert!(rt; !drill_sayable(&[broken, DrillCommand::Start, DrillCommand::HeaderEnd, DrillCommand::Finish]));
+    Ok(())
+}

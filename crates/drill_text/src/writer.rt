@@ -1,0 +1,81 @@
+//! The canonical text of a list of commands.
+
+ghost use Rattle.std.specs.Prelude.{◌≡◌, ◌≤◌, ◌++◌, ◌∷◌, [], true, length, vec_len, IfOk, IfErr, OnOk, Ok, Err};
+ghost use Rattle.grid_units.specs.Results.{Answers};
+ghost use Rattle.drill_lines.specs.Writing.{canonical, IsTyped};
+ghost use Rattle.drill_text.specs.Texts.{SpellsText};
+ghost use Rattle.drill_text.specs.Writing.{part_behind, is_over, drill_sayable, written, bytes_in};
+
+use drill_lines::{DrillCommand, Part, is_sayable, push_canonical};
+use grid_units::{Fail, Fault, Reason};
+use std::alloc::{AllocError, Global};
+
+/// The longest text.
+const TEXT_LIMIT: usize = 268_435_456;
+
+/// The part of a file behind one more command.
+fn part_behind(part: Part, command: &DrillCommand) -> Part
+    ensures { result ≡ part_behind part command.now }
+{
+    match command {
+        DrillCommand::Start => Part::Header,
+        DrillCommand::HeaderEnd => Part::Body,
+        DrillCommand::Finish => Part::After,
+        _ => part,
+    }
+}
+
+fn is_over(part: Part) -> bool
+    ensures { result ≡ is_over part }
+{
+    matches!(part, Part::After)
+}
+
+/// Whether a list is comments, `Start`, commands of the header, `HeaderEnd`, commands of the body and
+/// `Finish`, each one that some line spells.
+pub fn drill_sayable(commands: &[DrillCommand]) -> bool
+    ensures { result ≡ drill_sayable commands.now }
+{
+    let mut part = Part::Before;
+    for command in commands {
+        if !is_sayable(part, command) {
+            return false;
+        }
+        part = part_behind(part, command);
+    }
+    is_over(part)
+}
+
+/// Appends the line of a command and its LF.
+fn push_line(text: &mut Vec<u8>, command: &DrillCommand) -> Result<(), AllocError>
+    ensures items { OnOk result (text.new.items ≡ text.old.items ++ (canonical command.now ++ 10 ∷ [])) }
+    ensures typed { OnOk result (IsTyped command.now) }
+{
+    push_canonical(text, command)?;
+    text.push(b'\n')?;
+    Ok(())
+}
+
+/// The canonical text of a list, which spells just the list.
+///
+/// # Errors
+///
+/// [`Reason::TooLong`] at place 0 and byte 0 where the text would be above 268,435,456 bytes, or `Memory`.
+pub fn write_drill(alloc: Global, commands: &[DrillCommand]) -> Result<Vec<u8>, Fail>
+    requires { drill_sayable commands.now ≡ true }
+    ensures exact { Answers bytes_in (λ answer. answer ≡ written commands.now) result }
+    ensures reads_back { IfOk result (λ text. SpellsText text.items commands.now) }
+{
+    let mut text = Vec::new(alloc);
+    for command in commands {
+        push_line(&mut text, command)?;
+        if text.len() > TEXT_LIMIT {
+            return Err(Fail::Refused(Fault {
+                place: 0,
+                byte: 0,
+                reason: Reason::TooLong,
+            }));
+        }
+    }
+    Ok(text)
+}
