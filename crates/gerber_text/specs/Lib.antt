@@ -1,0 +1,4 @@
+pub mod Bytes
+pub mod Cut
+pub mod Reading
+pub mod Standing
