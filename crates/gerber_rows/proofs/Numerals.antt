@@ -4,7 +4,8 @@ use Rattle.std.specs.Prelude.{pos, neg_ℤ}
 use Rattle.std.specs.List.{prefix_len}
 use Rattle.std.proofs.lemmas.List.{take_rest}
 use Rattle.std.proofs.lemmas.Bool.{eqb-true, le-ltb}
-use Rattle.gerber_rows.specs.Numbers.{value, significant, unsigned, is_digits, is_negative, int_of}
+use Rattle.grid_units.specs.Numbers.{value, unsigned, is_digits, is_negative}
+use Rattle.gerber_rows.specs.Numbers.{significant, int_of}
 
 front_zero : (t : Bool) (b : ℕ) (bs : List ℕ) → eqb b 48 ≡ t → value (drop (prefix_len (λ c. eqb c 48) bs) bs) ≡ value bs → value (drop (cond t (1 + prefix_len (λ c. eqb c 48) bs) 0) (b ∷ bs)) ≡ value (b ∷ bs)
 front_zero true b bs e h =

@@ -5,14 +5,12 @@ use Rattle.grid_units.specs.declared.fault.Reason.TheVariants.{BadWord}
 use Rattle.gerber_rows.specs.declared.item.ItemFail.{ItemFail}
 use Rattle.gerber_rows.specs.declared.item.ItemFail.TheVariants as fails
 use Rattle.gerber_rows.specs.Rows.{Meaning}
+use Rattle.gerber_rows.specs.Pieces.{extended}
 use Rattle.gerber_rows.specs.Words.{word}
 
 -- all bytes but the last, which ends the item (docs/FORMATS.md, Cutting a Gerber text)
 abbrev pub front_of : List ℕ → List ℕ
 front_of bytes = take (length bytes - 1) bytes
-
-unfoldable pub extended : List ℕ → Meaning
-extended text = Err BadWord
 
 -- what an item spells, where the last operation before it was a plot or not (docs/FORMATS.md, What an item spells)
 unfoldable pub meaning : Bool → List ℕ → Meaning

@@ -7,13 +7,15 @@ use Rattle.grid_units.specs.Results.{◌>>=◌, both}
 use Rattle.grid_units.specs.declared.fault.Reason.{Reason}
 use Rattle.grid_units.specs.declared.fault.Reason.TheVariants.{BadWord, BareCoordinate, NegativeImage, Incremental, OldParameter}
 use Rattle.gerber_rows.specs.declared.command.Command.{Command}
-use Rattle.gerber_rows.specs.declared.command.Command.TheVariants.{Comment, Mode, Quadrant, RegionStart, RegionEnd, Select, Operate, Finish}
+use Rattle.gerber_rows.specs.declared.command.Command.TheVariants.{Comment, Mode, Quadrant, RegionStart, RegionEnd, UnitIs, Select, Operate, Finish}
+use Rattle.grid_units.specs.declared.lengths.Unit.TheVariants.{Inch, Millimetre}
 use Rattle.gerber_rows.specs.declared.command.Interpolation.{Interpolation}
 use Rattle.gerber_rows.specs.declared.command.Interpolation.TheVariants.{Linear, Clockwise, Counterclockwise}
 use Rattle.gerber_rows.specs.declared.command.QuadrantMode.TheVariants.{Single, Multi}
 use Rattle.gerber_rows.specs.declared.command.Action.{Action}
 use Rattle.gerber_rows.specs.declared.command.Action.TheVariants.{Plot, Move, Flash}
-use Rattle.gerber_rows.specs.Numbers.{is_digit, is_number, int_of, nat_of}
+use Rattle.grid_units.specs.Numbers.{is_digit, is_number}
+use Rattle.gerber_rows.specs.Numbers.{int_of, nat_of}
 use Rattle.gerber_rows.specs.Rows.{Meaning, Row, first_fit, behind, field, modes_of}
 
 -- the bytes are just these (docs/FORMATS.md, What an item spells)
@@ -81,6 +83,10 @@ quadrant_row text = if is text (codes "G74") then Some (Ok (Quadrant Single ∷ 
 -- the ends of a region (Gerber format, Region statement G36/G37)
 unfoldable pub region_row : List ℕ → Row
 region_row text = if is text (codes "G36") then Some (Ok (RegionStart ∷ [])) else (if is text (codes "G37") then Some (Ok (RegionEnd ∷ [])) else None)
+
+-- the unit (Gerber format, Deprecated G70 and G71)
+unfoldable pub unit_row : List ℕ → Row
+unit_row text = if is text (codes "G70") then Some (Ok (UnitIs Inch ∷ [])) else (if is text (codes "G71") then Some (Ok (UnitIs Millimetre ∷ [])) else None)
 
 -- incremental coordinates, which are refused (Gerber format, Deprecated G91)
 unfoldable pub incremental_row : List ℕ → Row
@@ -180,21 +186,24 @@ old_row text = if is text (codes "M00") || (is text (codes "M01") || is_some (be
 
 -- ---- the table
 
--- the rows of the table of words after that of comments (docs/FORMATS.md, What an item spells)
-unfoldable pub rows_behind_comments : Bool → List ℕ → Meaning
-rows_behind_comments plotting text = first_fit (
+-- the rows of words after those of comments, in the order of the table (docs/FORMATS.md, Words)
+abbrev pub later_words : Bool → List ℕ → List Row
+later_words plotting text =
     mode_row text
     ∷ quadrant_row text
     ∷ region_row text
+    ∷ unit_row text
     ∷ incremental_row text
     ∷ select_row text
     ∷ operation_row plotting text
     ∷ finish_row text
     ∷ old_row text
-    ∷ [])
+    ∷ []
 
--- A word without its `*`, after the commands before it: the table of words, row by row (docs/FORMATS.md, What an item spells).
+-- the rows of words, in the order of the table (docs/FORMATS.md, Words)
+abbrev pub words : Bool → List ℕ → List Row
+words plotting text = nothing_row text ∷ comment_row text ∷ later_words plotting text
+
+-- A word without its `*`, where the last operation before it was a plot or not (docs/FORMATS.md, Words).
 unfoldable pub word : Bool → List ℕ → Meaning
-word plotting text =
-    if list_any (λ b. b == 37) text then Err BadWord
-    else first_fit (nothing_row text ∷ comment_row text ∷ Some (rows_behind_comments plotting text) ∷ [])
+word plotting text = if list_any (λ b. b == 37) text then Err BadWord else first_fit (words plotting text)

@@ -1,8 +1,6 @@
 //! The commands of a Gerber text.
 
-ghost use Rattle.std.specs.Prelude.{◌≤◌};
-
-use grid_units::Text;
+use grid_units::{Dec, Text, Unit};
 use std::marker::Model;
 
 /// The digits of a coordinate before and after its decimal point.
@@ -75,7 +73,84 @@ impl Pieces {
     }
 }
 
-/// What an item of a Gerber text commands.
+/// The parameters of a standard aperture, at most five. Contracts see the list of the decimals, each in
+/// units of 10^-8.
+#[derive(Debug, Drop)]
+pub struct Sizes {
+    values: [Dec; 5],
+    len: usize,
+}
+
+impl Model for Sizes {
+    ghost use Rattle.std.specs.Prelude.{List, ℤ, ◌≡◌, ◌≤◌, length, take};
+
+    ghost Value = { List ℤ };
+
+    ghost view = { λ s. take s.len s.values };
+
+    ghost invariant = { λ s. (s.len ≤ 5) × (length s.values ≡ 5) };
+}
+
+impl Sizes {
+    ghost use Rattle.std.specs.Prelude.{◌≡◌, ◌<◌, ◌≤◌, [], ◌∷◌, ◌++◌, length};
+
+    /// No parameter.
+    pub fn new() -> Self
+        ensures { result ≡ [] }
+    {
+        let zero = Dec::from_units(0).unwrap();
+        Sizes {
+            values: [zero; 5],
+            len: 0,
+        }
+    }
+
+    /// The parameters in order.
+    pub fn as_slice(&self) -> &[Dec]
+        ensures value { result.now ≡ self.now }
+        ensures short { length self.now ≤ 5 }
+    {
+        &self.values[..self.len]
+    }
+
+    /// Adds a parameter.
+    pub fn push(&mut self, size: Dec)
+        requires { length self.old < 5 }
+        ensures { self.new ≡ self.old ++ size ∷ [] }
+    {
+        self.values[self.len] = size;
+        self.len += 1;
+    }
+}
+
+/// A standard aperture (Gerber format, Standard aperture templates).
+#[derive(Clone, Copy, Debug, PartialEq, Eq)]
+pub enum Standard {
+    Circle,
+    Rectangle,
+    Obround,
+    Polygon,
+}
+
+/// What an aperture is made of (Gerber format, Aperture definition AD).
+#[derive(Debug, Drop)]
+pub enum Template {
+    /// A standard aperture and its parameters.
+    Standard(Standard, Sizes),
+    /// A macro's name, and what stands after the comma, where one stands.
+    Named(Text, Option<Text>),
+}
+
+/// Counts and steps of a step and repeat block (Gerber format, Step and repeat SR).
+#[derive(Clone, Copy, Debug, PartialEq, Eq)]
+pub struct Block {
+    pub columns: u32,
+    pub rows: u32,
+    pub step_x: Dec,
+    pub step_y: Dec,
+}
+
+/// What an item of a Gerber text commands. The fields are those of the format's table.
 #[derive(Debug, Drop)]
 pub enum Command {
     /// `G04` and a text.
@@ -88,13 +163,20 @@ pub enum Command {
     RegionStart,
     /// `G37`.
     RegionEnd,
+    /// `MO`: the unit of all lengths.
+    UnitIs(Unit),
     /// `FS`: the digits of the coordinates.
     FormatIs(Format),
+    /// `AD`: an aperture by its number, from 10 on.
+    Define {
+        number: u32,
+        template: Template,
+    },
     /// `AM`: a macro's name and its further pieces.
     Macro(Text, Pieces),
     /// `D10` and above: the aperture that is flashed and drawn with from here on.
     Select(u32),
-    /// `D01`, `D02`, `D03`: a plot, a move or a flash, with the coordinates that stand there.
+    /// `D01`, `D02`, `D03`: a plot, a move or a flash, with the coordinates that stand there, as integers.
     Operate {
         action: Action,
         x: Option<i64>,
@@ -102,14 +184,20 @@ pub enum Command {
         i: Option<i64>,
         j: Option<i64>,
     },
-    /// `LPD`.
+    /// `LPD`: dark polarity.
     Dark,
     /// `LM`: the axes along which flashes are mirrored.
     Mirror {
         x: bool,
         y: bool,
     },
-    /// `SR` alone: the end of a step and repeat block.
+    /// `LR`: flashes are turned, in degrees, counterclockwise.
+    Turn(Dec),
+    /// `LS`: flashes are scaled.
+    Scale(Dec),
+    /// `SR` with counts and steps: a step and repeat block begins.
+    Repeat(Block),
+    /// `SR` alone: it ends.
     RepeatEnd,
     /// `TF`, `TA`, `TO` and a text.
     Attribute(AttributeKind, Text),

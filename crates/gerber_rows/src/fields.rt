@@ -5,9 +5,9 @@ ghost use Rattle.std.specs.List.{prefix_len};
 ghost use Rattle.std.specs.Option.{option_copied};
 ghost use Rattle.gerber_rows.specs.Rows.{behind, field};
 ghost use Rattle.gerber_rows.specs.Words.{first_field, behind_spaces};
-ghost use Rattle.gerber_rows.specs.Numbers.{is_digit, is_number};
+ghost use Rattle.grid_units.specs.Numbers.{is_digit, is_number};
 
-use crate::number::{digits_len, number_len};
+use grid_units::numbers::{digits_len, number_len};
 
 /// What stands behind a prefix, where a text begins so.
 pub(crate) fn behind<'a>(prefix: &[u8], text: &'a [u8]) -> Option<&'a [u8]>

@@ -3,9 +3,10 @@
 ghost use Rattle.std.specs.Prelude.{◌≡◌};
 ghost use Rattle.gerber_rows.specs.declared.item.ItemFail.TheVariants.{Memory, Refused};
 ghost use Rattle.gerber_rows.specs.Items.{is_end};
-ghost use Rattle.gerber_rows.specs.Meaning.{meaning, extended, front_of, Gives};
+ghost use Rattle.gerber_rows.specs.Meaning.{meaning, front_of, Gives};
 
 use crate::command::Spelled;
+use crate::piece::read_extended;
 use crate::word::read_word;
 use grid_units::Reason;
 use std::alloc::{AllocError, Global};
@@ -66,11 +67,4 @@ pub fn read_item(alloc: Global, plotting: bool, bytes: &[u8]) -> Result<Spelled,
         [b'%', rest @ ..] => read_extended(alloc, front(rest)),
         _ => read_word(alloc, plotting, front(bytes)),
     }
-}
-
-#[tactic(auto, unfolding(crate::specs::Meaning::extended))]
-fn read_extended(_alloc: Global, text: &[u8]) -> Result<Spelled, ItemFail>
-    ensures { Gives result (extended text.now) }
-{
-    Err(ItemFail::Refused(Reason::BadWord))
 }

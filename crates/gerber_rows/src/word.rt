@@ -5,15 +5,17 @@ ghost use Rattle.std.specs.List.{list_any, list_all, prefix_len};
 ghost use Rattle.std.specs.Option.{option_copied, option_map};
 ghost use Rattle.grid_units.specs.Results.{both};
 ghost use Rattle.gerber_rows.specs.Meaning.{Gives};
-ghost use Rattle.gerber_rows.specs.Numbers.{is_digit};
-ghost use Rattle.gerber_rows.specs.Words.{nothing_row, first_field, is_negative_image, behind_spaces, comments_negative, comment, mode_front, mode_row, quadrant_row, region_row, incremental_row, action, numbered, alone, prepared, select_row, coordinate, action_with, kind, fields, names_action, is_operation, has_offsets, operands, operate, operation_row, finish_row, old_row, rows_behind_comments, word};
+ghost use Rattle.grid_units.specs.Numbers.{is_digit};
+ghost use Rattle.gerber_rows.specs.Words.{nothing_row, first_field, is_negative_image, behind_spaces, comments_negative, comment, mode_front, mode_row, quadrant_row, region_row, unit_row, incremental_row, action, numbered, alone, prepared, select_row, coordinate, action_with, kind, fields, names_action, is_operation, has_offsets, operands, operate, operation_row, finish_row, old_row, later_words, word};
+ghost use Rattle.gerber_rows.specs.Rows.{first_fit};
 ghost use Rattle.gerber_rows.specs.Runs.{fields_of};
 
 use crate::command::{Action, Command, Interpolation, QuadrantMode, Spelled};
 use crate::fields::{behind, digits_field, number_field};
 use crate::item::ItemFail;
-use crate::number::{is_digit_byte, read_int, read_nat};
-use grid_units::{Reason, Text, both};
+use crate::number::{read_int, read_nat};
+use grid_units::numbers::are_all_digits;
+use grid_units::{Reason, Text, Unit, both};
 use std::alloc::Global;
 
 type Row = Option<Result<Spelled, Reason>>;
@@ -37,7 +39,7 @@ fn is_plain(byte: u8) -> bool
 }
 
 /// How many bytes stand before the first comma.
-fn plain_len(text: &[u8]) -> usize
+pub(crate) fn plain_len(text: &[u8]) -> usize
     ensures within { result ≤ length text.now }
     ensures len { result ≡ prefix_len (λ b. not (b == 44)) text.now }
 {
@@ -176,6 +178,20 @@ fn read_region(text: &[u8]) -> Row
     }
 }
 
+/// The unit.
+#[tactic(auto, unfolding(crate::specs::Words::unit_row))]
+fn read_unit(text: &[u8]) -> Row
+    ensures { result ≡ unit_row text.now }
+{
+    if text == b"G70".as_slice() {
+        Some(Ok(Spelled::one(Command::UnitIs(Unit::Inch))))
+    } else if text == b"G71".as_slice() {
+        Some(Ok(Spelled::one(Command::UnitIs(Unit::Millimetre))))
+    } else {
+        None
+    }
+}
+
 /// Incremental coordinates.
 #[tactic(auto, unfolding(crate::specs::Words::incremental_row))]
 fn read_incremental(text: &[u8]) -> Row
@@ -198,12 +214,6 @@ fn action_of(number: u32) -> Result<Action, Reason>
         3 => Ok(Action::Flash),
         _ => Err(Reason::BadWord),
     }
-}
-
-fn are_all_digits(bytes: &[u8]) -> bool
-    ensures { result ≡ list_all is_digit bytes.now }
-{
-    bytes.iter().all(|b| is_digit_byte(*b))
 }
 
 /// The digits behind a prefix, where nothing else stands there.
@@ -441,15 +451,16 @@ fn has_percent(text: &[u8]) -> bool
 }
 
 /// The rows behind those of comments, in their order.
-#[tactic(auto, unfolding(crate::specs::Words::rows_behind_comments))]
-fn read_further(plotting: bool, text: &[u8]) -> Result<Spelled, Reason>
-    ensures { result ≡ rows_behind_comments plotting text.now }
+fn read_later(plotting: bool, text: &[u8]) -> Result<Spelled, Reason>
+    ensures { result ≡ first_fit (later_words plotting text.now) }
 {
     if let Some(answer) = read_mode(text) {
         answer
     } else if let Some(answer) = read_quadrant(text) {
         answer
     } else if let Some(answer) = read_region(text) {
+        answer
+    } else if let Some(answer) = read_unit(text) {
         answer
     } else if let Some(answer) = read_incremental(text) {
         answer
@@ -480,5 +491,5 @@ pub(crate) fn read_word(alloc: Global, plotting: bool, text: &[u8]) -> Result<Sp
     if let Some(comment) = behind(b"G04", text) {
         return read_comment(alloc, comment);
     }
-    Ok(read_further(plotting, text)?)
+    Ok(read_later(plotting, text)?)
 }

@@ -2,3 +2,4 @@ pub mod Bytes
 pub mod Cut
 pub mod Reading
 pub mod Standing
+pub mod Writing

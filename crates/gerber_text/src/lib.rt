@@ -4,9 +4,15 @@
 
 mod placed;
 mod reader;
+mod writer;
 
 pub use gerber_rows::{
-    Action, AttributeKind, Command, Format, Interpolation, Pieces, QuadrantMode,
+    Action, AttributeKind, Block, Command, Format, Interpolation, Pieces, QuadrantMode, Sizes,
+    Standard, Template,
 };
 pub use placed::Placed;
 pub use reader::{Kept, WordReader, one_reading, read_kept, read_words};
+pub use writer::{write_commands, write_placed};
+
+#[cfg(test)]
+mod tests;

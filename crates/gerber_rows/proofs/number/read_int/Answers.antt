@@ -9,6 +9,6 @@ pub returns : goal.returns
 returns c =
     let run = c.args.run.now in
     let n = c.value_of.result in
-    let read = read_ok run c.behind_sign-digits.result.now c.zeros_len.result n c.behind_sign-digits.ensures (sym c.are_digits.ensures ∙ c.if-not-are_digits.false) c.zeros_len.ensures.len c.if-significant-gt12.false c.value_of.ensures.value in
+    let read = read_ok run c.behind_sign-digits.result.now c.zeros_len.result n c.behind_sign-digits.ensures (sym c.is_digits.ensures ∙ c.if-not-is_digits.false) c.zeros_len.ensures.len c.if-significant-gt12.false c.value_of.ensures.value in
     let fits : to_z w64 (of_z w64 c.signed.result) ≡ c.signed.result = search (rules, to_z-of_z) in
-    ap (λ (z : ℤ). Ok z) (fits ∙ (c.signed.ensures ∙ ap (λ t. cond t (neg_ℤ (pos n)) (pos n)) c.begins_with_minus.ensures)) ∙ sym read
+    ap (λ (z : ℤ). Ok z) (fits ∙ (c.signed.ensures ∙ ap (λ t. cond t (neg_ℤ (pos n)) (pos n)) c.is_negative.ensures)) ∙ sym read

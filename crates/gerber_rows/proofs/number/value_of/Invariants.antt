@@ -1,5 +1,5 @@
 use Rattle.std.proofs.Common.{◌≡◌, ◌<◌, ◌^◌, take}
-use Rattle.gerber_rows.specs.Numbers.{value}
+use Rattle.grid_units.specs.Numbers.{value}
 use Rattle.gerber_rows.proofs.number.value_of.Given as goal
 
 abbrev pub invariant-loop-byte : goal.invariant-loop-byte
