@@ -1,3 +1,4 @@
+pub mod Beginnings
 pub mod Canonical
 pub mod Items
 pub mod Meaning

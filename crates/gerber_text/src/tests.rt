@@ -1,6 +1,6 @@
 ghost use Rattle.std.specs.Prelude.{◌≤◌, length};
 
-use crate::{Action, Command, WordReader, read_kept, read_words};
+use crate::{Command, WordReader, read_kept, read_words, write_placed};
 use grid_units::{Fail, Fault, Reason};
 use std::alloc::{AllocError, Global};
 use std::test::Fail as TestFail;
@@ -236,8 +236,83 @@ fn long_items(rt: HostRuntime) -> Result<(), TestFail> {
     Ok(())
 }
 
+/// The canonical text of what a text spells.
+fn rewritten(alloc: Global, text: &[u8]) -> Result<Vec<u8>, Fail> {
+    let commands = read_words(alloc, text)?;
+    write_placed(alloc, &commands)
+}
+
 #[test]
-fn size_of_a_command() {
-    prove!(size_of::<Command>() <= 72);
-    prove!(matches!(Action::Plot, Action::Plot));
+fn older_spellings_rewritten(rt: HostRuntime) -> Result<(), TestFail> {
+    let alloc = rt.alloc();
+    let text =
+        b"G04 old*G70*%FSLAX24Y24*%%OFA0B0*%%ADD010C,.0500*%G54D10*G1X+01000Y0D2*X2000D1*Y-500*D3*M2*";
+    let canonical =
+        b"G04 old*\n%MOIN*%\n%FSLAX24Y24*%\n%ADD10C,0.05*%\nD10*\nG01*\nX1000Y0D02*\nX2000D01*\nY-500D01*\nD03*\nM02*\n";
+    let written = rewritten(alloc, text)?;
+    assert_eq!(rt; written.as_slice(), canonical.as_slice());
+    let again = rewritten(alloc, &written)?;
+    assert_eq!(rt; again.as_slice(), canonical.as_slice());
+    assert!(rt; is_same_in_pieces(alloc, text));
+    Ok(())
+}
+
+#[test]
+fn words_rewritten(rt: HostRuntime) -> Result<(), TestFail> {
+    let alloc = rt.alloc();
+    let text = b"G04 n*%FSLAX24Y24*%%MOIN*%%ADD010C,.0500*%D10*X+01000Y0D2*Y-500D1*D3*M2*";
+    let canonical =
+        b"G04 n*\n%FSLAX24Y24*%\n%MOIN*%\n%ADD10C,0.05*%\nD10*\nX1000Y0D02*\nY-500D01*\nD03*\nM02*\n";
+    let written = rewritten(alloc, text)?;
+    assert_eq!(rt; written.as_slice(), canonical.as_slice());
+    assert!(rt; is_same_in_pieces(alloc, text));
+    Ok(())
+}
+
+#[test]
+fn macros_and_blocks_rewritten(rt: HostRuntime) -> Result<(), TestFail> {
+    let alloc = rt.alloc();
+    let text =
+        b"%AMa*1,1,$1*\n*%%ADD11a,1X2*%%ADD12a*%%ADD13P,2.50X06X-0*%%SRX02Y1I.5J0*%%SR*%%LMXY*%%LR-90.*%%LS1*%%TF.Part,Single*%%TD*%I5J-6D1*M02*";
+    let canonical =
+        b"%AMa*\n1,1,$1*\n*%\n%ADD11a,1X2*%\n%ADD12a*%\n%ADD13P,2.5X6X0*%\n%SRX2Y1I0.5J0*%\n%SR*%\n%LMXY*%\n%LR-90*%\n%LS1*%\n%TF.Part,Single*%\n%TD*%\nI5J-6D01*\nM02*\n";
+    let written = rewritten(alloc, text)?;
+    assert_eq!(rt; written.as_slice(), canonical.as_slice());
+    assert!(rt; is_same_in_pieces(alloc, text));
+    Ok(())
+}
+
+#[test]
+fn a_long_comment_byte_by_byte(rt: HostRuntime) -> Result<(), TestFail> {
+    let mut reader = WordReader::new(rt.alloc());
+    reader.feed(b"%FSLAX46Y46*%\n%MOMM*%\nG04")?;
+    for _ in 0..1_000_000 {
+        reader.feed(b"a")?;
+    }
+    reader.feed(b"*\n%ADD10C,0.65*%\nD10*\nX0Y0D03*\nM02*\n")?;
+    let commands = reader.finish()?;
+    assert_eq!(rt; commands.len(), 7);
+    Ok(())
+}
+
+#[test]
+fn too_many_blanks(rt: HostRuntime) -> Result<(), TestFail> {
+    let alloc = rt.alloc();
+    let mut text = Vec::from_slice(alloc, b"G04*")?;
+    for _ in 0..1_048_576 {
+        text.push(b' ')?;
+    }
+    assert_eq!(rt;
+        fault_of(alloc, &text),
+        refused(2, 1_048_580, Reason::Truncated)
+    );
+    text.push(b' ')?;
+    assert_eq!(rt; fault_of(alloc, &text), refused(2, 4, Reason::TooLong));
+    Ok(())
+}
+
+#[test]
+fn size_of_a_command(rt: HostRuntime) -> Result<(), TestFail> {
+    assert!(rt; size_of::<Command>() <= 72);
+    Ok(())
 }
