@@ -1,0 +1,4 @@
+pub mod Beginnings
+pub mod Joined
+pub mod Numerals
+pub mod Parts
