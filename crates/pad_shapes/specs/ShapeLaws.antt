@@ -1,0 +1,199 @@
+-- The laws of the shapes: each holds what it covers, between its least and its greatest x.
+use Rattle.std.proofs.Common.{◌≡◌, ℕ, ℤ, pos, ◌+◌, ◌-◌, ◌*◌, ◌≤◌, ◌<◌, ◌+ℤ◌, ◌-ℤ◌, ◌≤ℤ◌, ◌⊎◌, true, false, inl, inr, ap, subst, arith}
+use Rattle.std.specs.Prelude.{◌&&◌, nat_le}
+use Rattle.std.proofs.lemmas.Int.{ints, by_lt_z}
+use Rattle.std.proofs.lemmas.Bool.{cases_lt}
+use Rattle.std.proofs.lemmas.Bool.Decides.{nat_tests}
+use Rattle.grid_units.specs.Points.{GridPoint, apart, square, square_distance}
+use Rattle.grid_units.proofs.Steps.{apart_triangle, le_from_squares, two_steps-le, square_distance-le}
+use Rattle.pad_shapes.specs.Shapes.{GridObround, IsInDisc, IsInRect, IsInObround, end_radius, upper_end, lower_end, square_from_axis, disc_covers, rect_covers, obround_covers, HoldsWhatItCovers, CoversBetween, HasExtent, RectMissesOne}
+use Rattle.pad_shapes.specs.declared.pad.Pad.TheVariants.{Disc, Rect, Obround}
+use Rattle.pad_shapes.specs.Pads.{IsInPad, pad_covers, pad_left, pad_right}
+
+-- two tests that both passed
+both_le : (a b c d : ℕ) → (nat_le a b && nat_le c d) ≡ true → (a ≤ b) × (c ≤ d)
+both_le a b c d e = (grind (arith, nat_tests), grind (arith, nat_tests))
+
+-- one of two tests failed
+not_both_le : (a b c d : ℕ) → (nat_le a b && nat_le c d) ≡ false → (b < a) ⊎ (d < c)
+not_both_le a b c d e = elim (cases_lt b a) [
+  | inl more ↦ inl more
+  | inr within ↦ inr (grind (arith, nat_tests))
+]
+
+-- a side of a right triangle is no longer than the longest
+side-le : (a b n : ℕ) → a * a + b * b ≤ n * n → a ≤ n
+side-le a b n h = le_from_squares a n (omega (arith, h))
+
+other_side-le : (a b n : ℕ) → a * a + b * b ≤ n * n → b ≤ n
+other_side-le a b n h = le_from_squares b n (omega (arith, h))
+
+-- the square of a distance by the two distances along the axes
+square_distance_of : (p q : GridPoint) (a b n : ℕ) → apart p.x q.x ≡ a → apart p.y q.y ≡ b → square a + square b ≤ square n → square_distance p q ≤ square n
+square_distance_of p q a b n x y h = omega (arith, ap square x, ap square y, h)
+
+within_bounds : (z c : ℤ) (n : ℕ) → apart z c ≤ n → ((c -ℤ pos n) ≤ℤ z) × (z ≤ℤ (c +ℤ pos n))
+within_bounds z c n h = (omega (arith, ints), omega (arith, ints))
+
+apart_below : (c : ℤ) (n : ℕ) → apart (c -ℤ pos n) c ≡ n
+apart_below c n = omega (arith, ints)
+
+apart_above : (c : ℤ) (n : ℕ) → apart (c +ℤ pos n) c ≡ n
+apart_above c n = omega (arith, ints)
+
+apart_self : (c : ℤ) → apart c c ≡ 0
+apart_self c = omega (arith, ints)
+
+pub disc_holds : HoldsWhatItCovers IsInDisc disc_covers
+disc_holds d c reach e p h =
+    let t = both_le reach d.radius (square_distance c d.centre) (square (d.radius - reach)) e in
+    let sum : reach + (d.radius - reach) ≡ d.radius = omega (arith, t.0) in
+    subst (λ n. square_distance p d.centre ≤ square n) sum (square_distance-le p c d.centre reach (d.radius - reach) h t.1)
+
+pub disc_between : CoversBetween disc_covers (λ d. d.centre.x -ℤ pos d.radius) (λ d. d.centre.x +ℤ pos d.radius)
+disc_between d c reach e =
+    let t = both_le reach d.radius (square_distance c d.centre) (square (d.radius - reach)) e in
+    let near : apart c.x d.centre.x ≤ d.radius - reach = side-le _ (apart c.y d.centre.y) _ t.1 in
+    within_bounds c.x d.centre.x d.radius (omega (arith, near))
+
+pub disc_extent : HasExtent IsInDisc (λ d. d.centre.x -ℤ pos d.radius) (λ d. d.centre.x +ℤ pos d.radius)
+disc_extent d = record {
+  least = λ p h. (within_bounds p.x d.centre.x d.radius (side-le _ (apart p.y d.centre.y) _ h)).0;
+  greatest = λ p h. (within_bounds p.x d.centre.x d.radius (side-le _ (apart p.y d.centre.y) _ h)).1;
+  at_least = (d.centre.y, square_distance_of (record { x = d.centre.x -ℤ pos d.radius; y = d.centre.y }) d.centre d.radius 0 d.radius (apart_below d.centre.x d.radius) (apart_self d.centre.y) (omega arith));
+  at_greatest = (d.centre.y, square_distance_of (record { x = d.centre.x +ℤ pos d.radius; y = d.centre.y }) d.centre d.radius 0 d.radius (apart_above d.centre.x d.radius) (apart_self d.centre.y) (omega arith));
+}
+
+pub rect_holds : HoldsWhatItCovers IsInRect rect_covers
+rect_holds r c reach e p h =
+    let t = both_le (apart c.x r.centre.x + reach) r.half_x (apart c.y r.centre.y + reach) r.half_y e in
+    let x : apart p.x c.x ≤ reach = side-le _ (apart p.y c.y) _ h in
+    let y : apart p.y c.y ≤ reach = other_side-le (apart p.x c.x) _ _ h in
+    (omega (arith, t.0, x, apart_triangle p.x c.x r.centre.x), omega (arith, t.1, y, apart_triangle p.y c.y r.centre.y))
+
+pub rect_between : CoversBetween rect_covers (λ r. r.centre.x -ℤ pos r.half_x) (λ r. r.centre.x +ℤ pos r.half_x)
+rect_between r c reach e =
+    let t = both_le (apart c.x r.centre.x + reach) r.half_x (apart c.y r.centre.y + reach) r.half_y e in
+    within_bounds c.x r.centre.x r.half_x (omega (arith, t.0))
+
+pub rect_extent : HasExtent IsInRect (λ r. r.centre.x -ℤ pos r.half_x) (λ r. r.centre.x +ℤ pos r.half_x)
+rect_extent r = record {
+  least = λ p h. (within_bounds p.x r.centre.x r.half_x h.0).0;
+  greatest = λ p h. (within_bounds p.x r.centre.x r.half_x h.0).1;
+  at_least = (r.centre.y, (omega (arith, apart_below r.centre.x r.half_x), omega (arith, apart_self r.centre.y)));
+  at_greatest = (r.centre.y, (omega (arith, apart_above r.centre.x r.half_x), omega (arith, apart_self r.centre.y)));
+}
+
+-- from past an end along one axis, to that end
+apart_past_above : (z c : ℤ) (a : ℕ) → c ≤ℤ z → a ≤ apart z c → apart z (c +ℤ pos a) ≡ apart z c - a
+apart_past_above z c a h k = omega (arith, ints)
+
+apart_past_below : (z c : ℤ) (a : ℕ) → z ≤ℤ c → a ≤ apart z c → apart z (c -ℤ pos a) ≡ apart z c - a
+apart_past_below z c a h k = omega (arith, ints)
+
+apart_plus_none : (z c : ℤ) (a : ℕ) → a ≡ 0 → apart z (c +ℤ pos a) ≡ apart z c - a
+apart_plus_none z c a h = omega (arith, ints)
+
+apart_minus_none : (z c : ℤ) (a : ℕ) → a ≡ 0 → apart z (c -ℤ pos a) ≡ apart z c - a
+apart_minus_none z c a h = omega (arith, ints)
+
+by_order : {P : Type 0} (a b : ℤ) → (a ≤ℤ b → P) → (b ≤ℤ a → P) → P
+by_order a b f g = by_lt_z a b (λ h. f (omega (arith, ints))) g
+
+-- past the straight part, a point lies in one of the ends
+in_end_x : (o : GridObround) (p : GridPoint) → square_from_axis o p ≤ square (end_radius o) → o.half_x - end_radius o ≤ apart p.x o.centre.x → o.half_y - end_radius o ≡ 0 → IsInDisc (upper_end o) p ⊎ IsInDisc (lower_end o) p
+in_end_x o p h past none = by_order o.centre.x p.x
+    (λ k. inl (square_distance_of p (upper_end o).centre _ _ _ (apart_past_above p.x o.centre.x (o.half_x - end_radius o) k past) (apart_plus_none p.y o.centre.y (o.half_y - end_radius o) none) h))
+    (λ k. inr (square_distance_of p (lower_end o).centre _ _ _ (apart_past_below p.x o.centre.x (o.half_x - end_radius o) k past) (apart_minus_none p.y o.centre.y (o.half_y - end_radius o) none) h))
+
+in_end_y : (o : GridObround) (p : GridPoint) → square_from_axis o p ≤ square (end_radius o) → o.half_y - end_radius o ≤ apart p.y o.centre.y → o.half_x - end_radius o ≡ 0 → IsInDisc (upper_end o) p ⊎ IsInDisc (lower_end o) p
+in_end_y o p h past none = by_order o.centre.y p.y
+    (λ k. inl (square_distance_of p (upper_end o).centre _ _ _ (apart_plus_none p.x o.centre.x (o.half_x - end_radius o) none) (apart_past_above p.y o.centre.y (o.half_y - end_radius o) k past) h))
+    (λ k. inr (square_distance_of p (lower_end o).centre _ _ _ (apart_minus_none p.x o.centre.x (o.half_x - end_radius o) none) (apart_past_below p.y o.centre.y (o.half_y - end_radius o) k past) h))
+
+-- what is no further than the radius from the axis is in the obround
+near_axis : (o : GridObround) (p : GridPoint) → square_from_axis o p ≤ square (end_radius o) → IsInObround o p
+near_axis o p h =
+    let past_x : apart p.x o.centre.x - (o.half_x - end_radius o) ≤ end_radius o = side-le _ (apart p.y o.centre.y - (o.half_y - end_radius o)) _ h in
+    let past_y : apart p.y o.centre.y - (o.half_y - end_radius o) ≤ end_radius o = other_side-le (apart p.x o.centre.x - (o.half_x - end_radius o)) _ _ h in
+    elim (cases_lt o.half_x o.half_y) [
+      | inl upright ↦ elim (cases_lt (o.half_y - end_radius o) (apart p.y o.centre.y)) [
+        | inl past ↦ inr (in_end_y o p h (omega (arith, past)) (omega arith))
+        | inr beside ↦ inl (grind (arith, nat_tests), grind (arith, nat_tests))
+      ]
+      | inr lying ↦ elim (cases_lt (o.half_x - end_radius o) (apart p.x o.centre.x)) [
+        | inl past ↦ inr (in_end_x o p h (omega (arith, past)) (omega arith))
+        | inr beside ↦ inl (grind (arith, nat_tests), grind (arith, nat_tests))
+      ]
+    ]
+
+pub obround_holds : HoldsWhatItCovers IsInObround obround_covers
+obround_holds o c reach e p h =
+    let r : ℕ = end_radius o in
+    let t = both_le reach (end_radius o) (square_from_axis o c) (square (end_radius o - reach)) e in
+    let sum : reach + (end_radius o - reach) ≡ end_radius o = omega (arith, t.0) in
+    near_axis o p (subst (λ n. square_from_axis o p ≤ square n) sum
+    (two_steps-le (apart p.x c.x) (apart p.y c.y) (apart c.x o.centre.x - (o.half_x - end_radius o)) (apart c.y o.centre.y - (o.half_y - end_radius o)) _ _ reach (end_radius o - reach)
+    (omega (arith, apart_triangle p.x c.x o.centre.x)) (omega (arith, apart_triangle p.y c.y o.centre.y)) h t.1))
+
+pub obround_between : CoversBetween obround_covers (λ o. o.centre.x -ℤ pos o.half_x) (λ o. o.centre.x +ℤ pos o.half_x)
+obround_between o c reach e =
+    let t = both_le reach (end_radius o) (square_from_axis o c) (square (end_radius o - reach)) e in
+    let past : apart c.x o.centre.x - (o.half_x - end_radius o) ≤ end_radius o - reach = side-le _ (apart c.y o.centre.y - (o.half_y - end_radius o)) _ t.1 in
+    within_bounds c.x o.centre.x o.half_x (omega (arith, past))
+
+-- no part of an obround is further than half a side from its centre
+obround_within_x : (o : GridObround) (p : GridPoint) → IsInObround o p → apart p.x o.centre.x ≤ o.half_x
+obround_within_x o p h = elim h [
+  | inl straight ↦ grind (arith, nat_tests, straight.0)
+  | inr ends ↦ elim ends [
+    | inl upper ↦ omega (arith, side-le _ (apart p.y (upper_end o).centre.y) _ upper, apart_triangle p.x (upper_end o).centre.x o.centre.x, apart_above o.centre.x (o.half_x - end_radius o))
+    | inr lower ↦ omega (arith, side-le _ (apart p.y (lower_end o).centre.y) _ lower, apart_triangle p.x (lower_end o).centre.x o.centre.x, apart_below o.centre.x (o.half_x - end_radius o))
+  ]
+]
+
+apart_below_end : (c : ℤ) (n r : ℕ) → r ≤ n → apart (c -ℤ pos n) (c -ℤ pos (n - r)) ≡ r
+apart_below_end c n r h = omega (arith, ints)
+
+apart_above_end : (c : ℤ) (n r : ℕ) → r ≤ n → apart (c +ℤ pos n) (c +ℤ pos (n - r)) ≡ r
+apart_above_end c n r h = omega (arith, ints)
+
+pub obround_extent : HasExtent IsInObround (λ o. o.centre.x -ℤ pos o.half_x) (λ o. o.centre.x +ℤ pos o.half_x)
+obround_extent o = record {
+  least = λ p h. (within_bounds p.x o.centre.x o.half_x (obround_within_x o p h)).0;
+  greatest = λ p h. (within_bounds p.x o.centre.x o.half_x (obround_within_x o p h)).1;
+  at_least = ((lower_end o).centre.y, inr (inr (square_distance_of (record { x = o.centre.x -ℤ pos o.half_x; y = (lower_end o).centre.y }) (lower_end o).centre (end_radius o) 0 (end_radius o) (apart_below_end o.centre.x o.half_x (end_radius o) (omega arith)) (apart_self (lower_end o).centre.y) (omega arith))));
+  at_greatest = ((upper_end o).centre.y, inr (inl (square_distance_of (record { x = o.centre.x +ℤ pos o.half_x; y = (upper_end o).centre.y }) (upper_end o).centre (end_radius o) 0 (end_radius o) (apart_above_end o.centre.x o.half_x (end_radius o) (omega arith)) (apart_self (upper_end o).centre.y) (omega arith))));
+}
+
+pub pad_holds : HoldsWhatItCovers IsInPad pad_covers
+pad_holds (Disc d) = disc_holds d
+pad_holds (Rect r) = rect_holds r
+pad_holds (Obround o) = obround_holds o
+
+pub pad_between : CoversBetween pad_covers pad_left pad_right
+pad_between (Disc d) = disc_between d
+pad_between (Rect r) = rect_between r
+pad_between (Obround o) = obround_between o
+
+pub pad_extent : HasExtent IsInPad pad_left pad_right
+pad_extent (Disc d) = disc_extent d
+pad_extent (Rect r) = rect_extent r
+pad_extent (Obround o) = obround_extent o
+
+-- a point as far from c along one axis as the reach, on the side away from z
+beyond : (c z : ℤ) (reach : ℕ) → (p : ℤ) × (apart p c ≡ reach) × (apart p z ≡ apart c z + reach)
+beyond c z reach = by_order z c
+    (λ h. (c +ℤ pos reach, omega (arith, ints), omega (arith, ints)))
+    (λ h. (c -ℤ pos reach, omega (arith, ints), omega (arith, ints)))
+
+pub rect_misses_one : RectMissesOne
+rect_misses_one r c reach e =
+    elim (not_both_le (apart c.x r.centre.x + reach) r.half_x (apart c.y r.centre.y + reach) r.half_y e) [
+      | inl x ↦
+          let far = beyond c.x r.centre.x reach in
+          (record { x = far.0; y = c.y }, square_distance_of (record { x = far.0; y = c.y }) c reach 0 reach far.1 (apart_self c.y) (omega arith), λ inside. omega (arith, inside.0, far.2, x))
+      | inr y ↦
+          let far = beyond c.y r.centre.y reach in
+          (record { x = c.x; y = far.0 }, square_distance_of (record { x = c.x; y = far.0 }) c 0 reach reach (apart_self c.x) far.1 (omega arith), λ inside. omega (arith, inside.1, far.2, y))
+    ]

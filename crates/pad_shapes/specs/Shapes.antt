@@ -1,0 +1,120 @@
+-- Shapes of flashed pads: their points, and the holes that each of them covers. Lengths are whole picometres.
+use Rattle.std.specs.Prelude.{◌≡◌, ℕ, ℤ, pos, ◌+◌, ◌-◌, ◌≤◌, min, ◌+ℤ◌, ◌-ℤ◌, ◌≤ℤ◌, ◌⊎◌, Bool, true, false, ◌&&◌, nat_le, if◌then◌else◌}
+use Rattle.grid_units.specs.Points.{GridPoint, apart, square, square_distance}
+
+-- a round pad, by its centre and its radius (docs/DEFINITIONS.md, Shapes)
+pub record GridDisc : Type 0 where
+  pub centre : GridPoint
+  pub radius : ℕ
+
+-- a rectangle along the axes, by its centre and half of each side (docs/DEFINITIONS.md, Shapes)
+pub record GridRect : Type 0 where
+  pub centre : GridPoint
+  pub half_x : ℕ
+  pub half_y : ℕ
+
+-- a rectangle whose two shorter sides are bent into half circles, by its centre and half of each side (docs/DEFINITIONS.md, Shapes)
+pub record GridObround : Type 0 where
+  pub centre : GridPoint
+  pub half_x : ℕ
+  pub half_y : ℕ
+
+-- five metres in pm, the largest radius and the largest half of a side (docs/FORMATS.md, Limits)
+abbrev pub max_half_side : ℕ
+max_half_side = 5000000000000
+
+-- the radius of a pad (docs/FORMATS.md, Limits)
+abbrev pub IsPadRadius : ℤ → Type 0
+IsPadRadius z = (pos 0 ≤ℤ z) × (z ≤ℤ pos max_half_side)
+
+-- half of a side (docs/FORMATS.md, Limits)
+abbrev pub IsHalfSide : ℤ → Type 0
+IsHalfSide z = (pos 1 ≤ℤ z) × (z ≤ℤ pos max_half_side)
+
+-- a reach that a shape is asked for, of at most twenty metres (docs/FORMATS.md, Limits)
+abbrev pub IsReach : ℤ → Type 0
+IsReach z = (pos 0 ≤ℤ z) × (z ≤ℤ pos 20000000000000)
+
+-- no further than the radius from the centre (docs/DEFINITIONS.md, Shapes)
+abbrev pub IsInDisc : GridDisc → GridPoint → Type 0
+IsInDisc d p = square_distance p d.centre ≤ square d.radius
+
+-- along each axis no further than half of the side from the centre (docs/DEFINITIONS.md, Shapes)
+abbrev pub IsInRect : GridRect → GridPoint → Type 0
+IsInRect r p = (apart p.x r.centre.x ≤ r.half_x) × (apart p.y r.centre.y ≤ r.half_y)
+
+-- the radius of the round ends, half of the shorter side (docs/DEFINITIONS.md, Shapes)
+abbrev pub end_radius : GridObround → ℕ
+end_radius o = min o.half_x o.half_y
+
+-- the rectangle between the middles of the round ends (docs/DEFINITIONS.md, Shapes)
+abbrev pub straight_part : GridObround → GridRect
+straight_part o = record {
+  centre = o.centre;
+  half_x = if nat_le o.half_y o.half_x then o.half_x - end_radius o else end_radius o;
+  half_y = if nat_le o.half_y o.half_x then end_radius o else o.half_y - end_radius o;
+}
+
+-- The round end on the right or above: of the two differences the one along the shorter side is zero (docs/DEFINITIONS.md, Shapes).
+abbrev pub upper_end : GridObround → GridDisc
+upper_end o = record {
+  centre = record { x = o.centre.x +ℤ pos (o.half_x - end_radius o); y = o.centre.y +ℤ pos (o.half_y - end_radius o) };
+  radius = end_radius o;
+}
+
+-- the round end on the left or below (docs/DEFINITIONS.md, Shapes)
+abbrev pub lower_end : GridObround → GridDisc
+lower_end o = record {
+  centre = record { x = o.centre.x -ℤ pos (o.half_x - end_radius o); y = o.centre.y -ℤ pos (o.half_y - end_radius o) };
+  radius = end_radius o;
+}
+
+-- in the straight part or in one of the round ends (docs/DEFINITIONS.md, Shapes)
+abbrev pub IsInObround : GridObround → GridPoint → Type 0
+IsInObround o p = IsInRect (straight_part o) p ⊎ (IsInDisc (upper_end o) p ⊎ IsInDisc (lower_end o) p)
+
+-- the centre lies so deep in the disc that the reach stays inside (docs/DEFINITIONS.md, What a shape covers)
+abbrev pub disc_covers : GridDisc → GridPoint → ℕ → Bool
+disc_covers d c reach =
+    nat_le reach d.radius && nat_le (square_distance c d.centre) (square (d.radius - reach))
+
+-- the centre lies along each axis so deep in the rectangle that the reach stays inside (docs/DEFINITIONS.md, What a shape covers)
+abbrev pub rect_covers : GridRect → GridPoint → ℕ → Bool
+rect_covers r c reach =
+    nat_le (apart c.x r.centre.x + reach) r.half_x && nat_le (apart c.y r.centre.y + reach) r.half_y
+
+-- the square of the distance from the line between the middles of the round ends (docs/DEFINITIONS.md, What a shape covers)
+abbrev pub square_from_axis : GridObround → GridPoint → ℕ
+square_from_axis o p =
+    square (apart p.x o.centre.x - (o.half_x - end_radius o)) + square (apart p.y o.centre.y - (o.half_y - end_radius o))
+
+-- the centre lies so near that line that the reach stays inside (docs/DEFINITIONS.md, What a shape covers)
+abbrev pub obround_covers : GridObround → GridPoint → ℕ → Bool
+obround_covers o c reach =
+    nat_le reach (end_radius o) && nat_le (square_from_axis o c) (square (end_radius o - reach))
+
+-- each point within the reach of a covered centre is a point of the shape (docs/DEFINITIONS.md, What a shape covers)
+abbrev pub HoldsWhatItCovers : {S : Type 0} → (S → GridPoint → Type 0) → (S → GridPoint → ℕ → Bool) → Type 0
+HoldsWhatItCovers {S} points covers =
+    (s : S) (c : GridPoint) (reach : ℕ) → covers s c reach ≡ true → (p : GridPoint) → square_distance p c ≤ square reach → points s p
+
+-- a covered centre lies between the least and the greatest x (docs/DEFINITIONS.md, What a shape covers)
+abbrev pub CoversBetween : {S : Type 0} → (S → GridPoint → ℕ → Bool) → (S → ℤ) → (S → ℤ) → Type 0
+CoversBetween {S} covers left right =
+    (s : S) (c : GridPoint) (reach : ℕ) → covers s c reach ≡ true → (left s ≤ℤ c.x) × (c.x ≤ℤ right s)
+
+-- the least and the greatest x of a set of points (docs/DEFINITIONS.md, Shapes)
+pub record IsExtent (points : GridPoint → Type 0) (left right : ℤ) : Type 0 where
+  pub least : (p : GridPoint) → points p → left ≤ℤ p.x
+  pub greatest : (p : GridPoint) → points p → p.x ≤ℤ right
+  pub at_least : (y : ℤ) × points (record { x = left; y = y })
+  pub at_greatest : (y : ℤ) × points (record { x = right; y = y })
+
+-- each shape has its least and its greatest x (docs/DEFINITIONS.md, Shapes)
+abbrev pub HasExtent : {S : Type 0} → (S → GridPoint → Type 0) → (S → ℤ) → (S → ℤ) → Type 0
+HasExtent {S} points left right = (s : S) → IsExtent (points s) (left s) (right s)
+
+-- where a rectangle does not cover a centre, some point within the reach is none of its points (docs/DEFINITIONS.md, What a shape covers)
+abbrev pub RectMissesOne : Type 0
+RectMissesOne =
+    (r : GridRect) (c : GridPoint) (reach : ℕ) → rect_covers r c reach ≡ false → (p : GridPoint) × (square_distance p c ≤ square reach) × ¬ IsInRect r p

@@ -1,0 +1,21 @@
+//! Shapes of flashed pads: discs, rectangles and obrounds.
+//!
+//! A shape is a set of points of the grid of whole picometres (pm). It covers a centre with a reach where a
+//! test of distances says so, and then each point within the reach is a point of the shape.
+#![tactic(auto)]
+
+mod disc;
+pub mod laws;
+mod obround;
+mod pad;
+mod rect;
+mod shape;
+
+pub use disc::Disc;
+pub use obround::Obround;
+pub use pad::Pad;
+pub use rect::Rect;
+pub use shape::{MAX_HALF_SIDE, MAX_REACH, PadShape};
+
+#[cfg(test)]
+mod tests;

@@ -1,0 +1,62 @@
+//! Pads of any shape.
+
+ghost use Rattle.std.specs.Prelude.{◌≡◌};
+ghost use Rattle.pad_shapes.specs.Pads.{IsInPad, pad_covers, pad_left, pad_right};
+ghost use Rattle.pad_shapes.specs.ShapeLaws.{pad_holds, pad_between, pad_extent};
+
+use crate::disc::Disc;
+use crate::obround::Obround;
+use crate::rect::Rect;
+use crate::shape::PadShape;
+use grid_units::Point;
+
+/// A flashed pad.
+#[derive(Clone, Copy, Debug, PartialEq, Eq)]
+pub enum Pad {
+    /// A round one.
+    Disc(Disc),
+    /// A rectangular one.
+    Rect(Rect),
+    /// One with two round ends.
+    Obround(Obround),
+}
+
+impl PadShape for Pad {
+    ghost points = { IsInPad };
+
+    ghost covers = { pad_covers };
+
+    ghost left = { pad_left };
+
+    ghost right = { pad_right };
+
+    ghost holds = { pad_holds };
+
+    ghost between = { pad_between };
+
+    ghost extent = { pad_extent };
+
+    fn covers(&self, hole: Point, reach: i64) -> bool {
+        match self {
+            Pad::Disc(disc) => disc.covers(hole, reach),
+            Pad::Rect(rect) => rect.covers(hole, reach),
+            Pad::Obround(obround) => obround.covers(hole, reach),
+        }
+    }
+
+    fn left(&self) -> i64 {
+        match self {
+            Pad::Disc(disc) => disc.left(),
+            Pad::Rect(rect) => rect.left(),
+            Pad::Obround(obround) => obround.left(),
+        }
+    }
+
+    fn right(&self) -> i64 {
+        match self {
+            Pad::Disc(disc) => disc.right(),
+            Pad::Rect(rect) => rect.right(),
+            Pad::Obround(obround) => obround.right(),
+        }
+    }
+}

@@ -1,0 +1,61 @@
+//! What every shape of a pad tells.
+
+ghost use Rattle.std.specs.Prelude.{◌≡◌, ℕ, ℤ, Bool, ◌↔◌, IsTrue, unsigned_abs};
+ghost use Rattle.grid_units.specs.Points.{GridPoint};
+ghost use Rattle.pad_shapes.specs.Shapes.{IsHalfSide, IsReach, HoldsWhatItCovers, CoversBetween, HasExtent};
+
+use grid_units::Point;
+
+/// The largest radius of a pad and the largest half of a side, in pm: five metres.
+pub const MAX_HALF_SIDE: i64 = 5_000_000_000_000;
+
+/// The largest reach that a pad is asked for, in pm: twenty metres.
+pub const MAX_REACH: i64 = 20_000_000_000_000;
+
+/// A shape of copper.
+///
+/// Its meaning is its points, the centres that it covers with a reach round them, and the least and the
+/// greatest x of its points. It holds each point within the reach of a centre that it covers.
+pub trait PadShape {
+    /// Its points.
+    ghost points: { Self → GridPoint → Type 0 };
+
+    /// Whether it covers a centre with a reach round it.
+    ghost covers: { Self → GridPoint → ℕ → Bool };
+
+    /// The least x of its points.
+    ghost left: { Self → ℤ };
+
+    /// The greatest x of its points.
+    ghost right: { Self → ℤ };
+
+    /// Whether it covers the hole's centre with this reach round it, in pm. The reach is from 0 to
+    /// [`MAX_REACH`].
+    fn covers(&self, hole: Point, reach: i64) -> bool
+        requires { IsReach reach }
+        ensures { result ≡ covers self.now hole (unsigned_abs reach) };
+
+    /// The least x of its points, in pm.
+    fn left(&self) -> i64
+        ensures { result ≡ left self.now };
+
+    /// The greatest x of its points, in pm.
+    fn right(&self) -> i64
+        ensures { result ≡ right self.now };
+
+    /// Each point within the reach of a covered centre is a point of it.
+    ghost holds: { HoldsWhatItCovers points covers };
+
+    /// A covered centre lies between the least and the greatest x.
+    ghost between: { CoversBetween covers left right };
+
+    /// The least and the greatest x are those of its points.
+    ghost extent: { HasExtent points left right };
+}
+
+/// Whether a length is from 1 pm to five metres.
+pub fn is_half_side(length: i64) -> bool
+    ensures { IsTrue result ↔ IsHalfSide length }
+{
+    1 <= length && length <= MAX_HALF_SIDE
+}

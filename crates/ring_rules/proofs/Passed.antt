@@ -1,0 +1,115 @@
+-- Where nothing is found, each element passes.
+use Rattle.std.proofs.Common.{◌≡◌, ℕ, ℤ, pos, negsuc, zero, suc, ◌+◌, ◌<◌, ◌≤◌, Bool, true, false, cond, List, [], ◌∷◌, ◌++◌, map, length, get_or, refl, sym, ap, ◌∙◌, arith}
+use Rattle.std.specs.Prelude.{not, ◌&&◌, nat_lt}
+use Rattle.std.specs.List.{filter, flat_map, enumerate_from, list_any, Contains}
+use Rattle.std.specs.Ordering.{int_eq}
+use Rattle.std.proofs.lemmas.Bool.Decides.{nat_tests}
+use Rattle.std.proofs.lemmas.List.Concat.{flat_map-cons}
+use Rattle.std.proofs.lemmas.List.FromFn.{get_or-enumerate_from, length-enumerate_from}
+use Rattle.std.proofs.lemmas.List.Elements.{Contains-get_or}
+use Rattle.grid_units.specs.Points.{GridPoint}
+use Rattle.grid_units.specs.Holes.{GridHole, AreClear, AreApart, is_round}
+use Rattle.pad_shapes.specs.Shapes.{HoldsWhatItCovers}
+use Rattle.ring_rules.specs.Cores.{are_clear}
+use Rattle.ring_rules.specs.Findings.{covers_hole, is_wanting, layer_findings, ring_findings, hole_findings, gap_findings}
+use Rattle.ring_rules.specs.Passing.{IsHeld, AreHeld, HoldsWhenNoneWant, ApartWhenNoneClash}
+use Rattle.ring_rules.specs.declared.finding.Drilled.{Drilled}
+use Rattle.ring_rules.specs.declared.finding.Finding.TheVariants.{Ring, Gap}
+use Rattle.ring_rules.proofs.CoreLemmas.{clear_from_test, clear_holes_are_apart}
+
+no_map : {X Y : Type 0} (f : X → Y) (xs : List X) → map f xs ≡ [] → xs ≡ []
+no_map f [] e = refl
+no_map f (x ∷ xs) e = absurd cc
+
+no_left : {X : Type 0} (xs ys : List X) → xs ++ ys ≡ [] → xs ≡ []
+no_left [] ys e = refl
+no_left (x ∷ xs) ys e = absurd cc
+
+no_right : {X : Type 0} (xs ys : List X) → xs ++ ys ≡ [] → ys ≡ []
+no_right [] ys e = e
+no_right (x ∷ xs) ys e = absurd cc
+
+-- what an element gives is nothing
+none_at : {X Y : Type 0} (f : X → List Y) (xs : List X) → flat_map f xs ≡ [] → (k : ℕ) (d : X) → k < length xs → f (get_or xs k d) ≡ []
+none_at f [] e k d h = absurd (omega arith)
+none_at f (x ∷ xs) e zero d h = no_left (f x) (flat_map f xs) (sym (flat_map-cons f x xs) ∙ e)
+none_at f (x ∷ xs) e (suc k) d h = none_at f xs (no_right (f x) (flat_map f xs) (sym (flat_map-cons f x xs) ∙ e)) k d (omega arith)
+
+-- no element passes the test
+fails_at : {X : Type 0} (p : X → Bool) (xs : List X) → filter p xs ≡ [] → (k : ℕ) (d : X) → k < length xs → p (get_or xs k d) ≡ false
+fails_at p [] e k d h = absurd (omega arith)
+fails_at {X} p (x ∷ xs) e k d h = by_test (p x) refl k h (λ rest j l. fails_at p xs rest j d l) where
+  by_test : (b : Bool) → p x ≡ b → (k : ℕ) → k < length (x ∷ xs) → (filter p xs ≡ [] → (j : ℕ) → j < length xs → p (get_or xs j d) ≡ false) → p (get_or (x ∷ xs) k d) ≡ false
+  by_test true t k h rest = absurd (let g : cond (p x) (x ∷ filter p xs) (filter p xs) ≡ [] = e in let f : cond true (x ∷ filter p xs) (filter p xs) ≡ [] = rw t at g in cc)
+  by_test false t zero h rest = t
+  by_test false t (suc j) h rest = rest (let g : cond (p x) (x ∷ filter p xs) (filter p xs) ≡ [] = e in rw t at g) j (omega arith)
+
+-- a test of the elements with their places, at one of them
+fails_placed : {X : Type 0} (p : ℕ × X → Bool) (xs : List X) → filter p (enumerate_from 0 xs) ≡ [] → (k : ℕ) (d : X) → k < length xs → p (k, get_or xs k d) ≡ false
+fails_placed p xs e k d h =
+    let inside : k < length (enumerate_from 0 xs) = omega (arith, length-enumerate_from 0 xs) in
+    let z : 0 + k ≡ k = omega arith in
+    sym (ap p (get_or-enumerate_from 0 xs k (k, d) h ∙ ap (λ n. (n, get_or xs k d)) z)) ∙ fails_at p (enumerate_from 0 xs) e k (k, d) inside
+
+none_placed : {X Y : Type 0} (f : ℕ × X → List Y) (xs : List X) → flat_map f (enumerate_from 0 xs) ≡ [] → (k : ℕ) (d : X) → k < length xs → f (k, get_or xs k d) ≡ []
+none_placed f xs e k d h =
+    let inside : k < length (enumerate_from 0 xs) = omega (arith, length-enumerate_from 0 xs) in
+    let z : 0 + k ≡ k = omega arith in
+    sym (ap f (get_or-enumerate_from 0 xs k (k, d) h ∙ ap (λ n. (n, get_or xs k d)) z)) ∙ none_at f (enumerate_from 0 xs) e k (k, d) inside
+
+-- an element that passes
+passing : {X : Type 0} (p : X → Bool) (xs : List X) → list_any p xs ≡ true → (x : X) × Contains xs x × (p x ≡ true)
+passing p [] e = absurd cc
+passing {X} p (x ∷ xs) e = by_test (p x) refl (λ rest. passing p xs rest) where
+  by_test : (b : Bool) → p x ≡ b → (list_any p xs ≡ true → (y : X) × Contains xs y × (p y ≡ true)) → (y : X) × Contains (x ∷ xs) y × (p y ≡ true)
+  by_test true t rest = (x, (0, omega arith, refl), t)
+  by_test false t rest =
+      let later : list_any p xs ≡ true = cc in
+      let found = rest later in
+      (found.0, (suc found.1.0, (let lt = found.1.1 in omega arith), found.1.2), found.2)
+
+not_false : (b : Bool) → not b ≡ false → b ≡ true
+not_false true e = refl
+not_false false e = absurd cc
+
+both_not : (a b : Bool) → a ≡ true → (a && not b) ≡ false → b ≡ true
+both_not true true t e = refl
+both_not true false t e = absurd cc
+both_not false b t e = absurd cc
+
+same_int : (z : ℤ) → int_eq z z ≡ true
+same_int (pos n) = let f : nat_lt n n ≡ false = grind (arith, nat_tests) in rw f refl
+same_int (negsuc n) = let f : nat_lt n n ≡ false = grind (arith, nat_tests) in rw f refl
+
+round_is : (h : GridHole) → h.from ≡ h.to → is_round h ≡ true
+round_is h e =
+    let x : int_eq h.from.x h.to.x ≡ true = ap (λ (p : GridPoint). int_eq p.x h.to.x) e ∙ same_int h.to.x in
+    let y : int_eq h.from.y h.to.y ≡ true = ap (λ (p : GridPoint). int_eq p.y h.to.y) e ∙ same_int h.to.y in
+    ap (λ b. b && int_eq h.from.y h.to.y) x ∙ y
+
+covered : {S : Type 0} (covers : S → GridPoint → ℕ → Bool) (ring : ℕ) (pads : List S) (d : Drilled) → is_wanting covers ring pads d ≡ false → d.plated ≡ true → is_round d.hole ≡ true
+    → list_any (covers_hole covers ring d.hole) pads ≡ true
+covered covers ring pads d e plated round = both_not (d.plated && is_round d.hole) _ (rw plated round) e
+
+pub held : {S : Type 0} (points : S → GridPoint → Type 0) (covers : S → GridPoint → ℕ → Bool) → HoldsWhatItCovers points covers → HoldsWhenNoneWant points covers
+held points covers holds ring layers holes none l d in_layers in_holes plated round =
+    let pads = get_or layers l [] in
+    let at_layer : layer_findings covers ring holes l (get_or layers l []) ≡ [] =
+    none_placed (λ layer. layer_findings covers ring holes layer.0 layer.1) layers none l [] in_layers in
+    let tests : filter (λ hole. is_wanting covers ring (get_or layers l []) hole.1) (enumerate_from 0 holes) ≡ [] = no_map _ _ at_layer in
+    let fails : is_wanting covers ring (get_or layers l []) (get_or holes in_holes.0 d) ≡ false =
+    fails_placed (λ hole. is_wanting covers ring (get_or layers l []) hole.1) holes tests in_holes.0 d in_holes.1 in
+    let here : is_wanting covers ring (get_or layers l []) d ≡ false = ap (is_wanting covers ring (get_or layers l [])) (sym in_holes.2) ∙ fails in
+    let found = passing (covers_hole covers ring d.hole) (get_or layers l []) (covered covers ring (get_or layers l []) d here plated (round_is d.hole round)) in
+    record { pad = found.0; flashed = found.1; holds = holds found.0 d.hole.from (d.hole.radius + ring) found.2 }
+
+pub apart : ApartWhenNoneClash
+apart gap holes none i j d first inside =
+    let at_first : hole_findings gap holes i (get_or holes i d) ≡ [] =
+    none_placed (λ hole. hole_findings gap holes hole.0 hole.1) holes none i d (omega (arith, first, inside)) in
+    let tests : filter (λ hole. nat_lt i hole.0 && not (are_clear gap (get_or holes i d).hole hole.1.hole)) (enumerate_from 0 holes) ≡ [] = no_map _ _ at_first in
+    let fails : (nat_lt i j && not (are_clear gap (get_or holes i d).hole (get_or holes j d).hole)) ≡ false =
+    fails_placed (λ hole. nat_lt i hole.0 && not (are_clear gap (get_or holes i d).hole hole.1.hole)) holes tests j d inside in
+    let order : nat_lt i j ≡ true = grind (arith, nat_tests) in
+    let clear : AreClear gap (get_or holes i d).hole (get_or holes j d).hole = clear_from_test gap (get_or holes i d).hole (get_or holes j d).hole (both_not (nat_lt i j) _ order fails) in
+    (clear, clear_holes_are_apart gap (get_or holes i d).hole (get_or holes j d).hole clear)

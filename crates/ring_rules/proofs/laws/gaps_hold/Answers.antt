@@ -1,0 +1,5 @@
+use Rattle.ring_rules.proofs.Passed.{apart}
+use Rattle.ring_rules.proofs.laws.gaps_hold.Goals as goal
+
+pub returns : goal.returns
+returns c = apart

@@ -1,0 +1,40 @@
+-- What the rules find at the holes of a board, in order.
+use Rattle.std.specs.Prelude.{ℕ, ◌+◌, Bool, not, ◌&&◌, nat_lt, List, map}
+use Rattle.std.specs.List.{filter, flat_map, enumerate_from, list_any}
+use Rattle.grid_units.specs.Points.{GridPoint}
+use Rattle.grid_units.specs.Holes.{GridHole, is_round}
+use Rattle.ring_rules.specs.Cores.{are_clear}
+use Rattle.ring_rules.specs.declared.finding.Drilled.{Drilled}
+use Rattle.ring_rules.specs.declared.finding.Finding.{Finding}
+use Rattle.ring_rules.specs.declared.finding.Finding.TheVariants.{Ring, Gap}
+
+-- a shape covers a hole with the ring round it (docs/DEFINITIONS.md, Findings)
+abbrev pub covers_hole : {S : Type 0} → (S → GridPoint → ℕ → Bool) → ℕ → GridHole → S → Bool
+covers_hole covers ring h pad = covers pad h.from (h.radius + ring)
+
+-- a plated round hole that no single pad covers with the ring round it (docs/DEFINITIONS.md, Findings)
+abbrev pub is_wanting : {S : Type 0} → (S → GridPoint → ℕ → Bool) → ℕ → List S → Drilled → Bool
+is_wanting covers ring pads d = (d.plated && is_round d.hole) && not (list_any (covers_hole covers ring d.hole) pads)
+
+-- what is found on a layer at a hole that lacks its ring there (docs/DEFINITIONS.md, Findings)
+abbrev pub finding_of : ℕ → ℕ × Drilled → Finding
+finding_of layer hole = Ring layer hole.0
+
+-- the findings on one layer, by hole (docs/DEFINITIONS.md, Findings)
+abbrev pub layer_findings : {S : Type 0} → (S → GridPoint → ℕ → Bool) → ℕ → List Drilled → ℕ → List S → List Finding
+layer_findings covers ring holes layer pads =
+    map (finding_of layer) (filter (λ hole. is_wanting covers ring pads hole.1) (enumerate_from 0 holes))
+
+-- the findings on all layers, by layer and then by hole (docs/DEFINITIONS.md, Findings)
+abbrev pub ring_findings : {S : Type 0} → (S → GridPoint → ℕ → Bool) → ℕ → List (List S) → List Drilled → List Finding
+ring_findings covers ring layers holes =
+    flat_map (λ layer. layer_findings covers ring holes layer.0 layer.1) (enumerate_from 0 layers)
+
+-- the findings of one hole with those after it (docs/DEFINITIONS.md, Findings)
+abbrev pub hole_findings : ℕ → List Drilled → ℕ → Drilled → List Finding
+hole_findings gap holes first a =
+    map (λ hole. Gap first hole.0) (filter (λ hole. nat_lt first hole.0 && not (are_clear gap a.hole hole.1.hole)) (enumerate_from 0 holes))
+
+-- the pairs of holes that are not clear, by the first of them and then by the second (docs/DEFINITIONS.md, Findings)
+abbrev pub gap_findings : ℕ → List Drilled → List Finding
+gap_findings gap holes = flat_map (λ hole. hole_findings gap holes hole.0 hole.1) (enumerate_from 0 holes)

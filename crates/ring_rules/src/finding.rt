@@ -1,0 +1,31 @@
+//! The holes of a board, and what is found at them.
+
+use grid_units::Hole;
+
+/// A hole of a board, and whether its wall is plated.
+#[derive(Clone, Copy, Debug, PartialEq, Eq)]
+pub struct Drilled {
+    /// The hole.
+    pub hole: Hole,
+    /// Whether its wall is plated.
+    pub plated: bool,
+}
+
+/// Where a rule is broken. Layers and holes are named by their places in the lists that were judged, from 0.
+#[derive(Clone, Copy, Debug, PartialEq, Eq)]
+pub enum Finding {
+    /// A plated round hole that no single pad of a layer covers with the ring round it.
+    Ring {
+        /// The layer.
+        layer: usize,
+        /// The hole.
+        hole: usize,
+    },
+    /// Two holes that are not clear of each other.
+    Gap {
+        /// The hole that comes first in the list.
+        first: usize,
+        /// The hole that comes later.
+        second: usize,
+    },
+}

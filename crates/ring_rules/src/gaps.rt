@@ -1,0 +1,48 @@
+//! The gaps between holes.
+
+ghost use Rattle.std.specs.Prelude.{◌≡◌, map, IfOk};
+ghost use Rattle.std.specs.List.Sorted.{IsPermutation, IsSorted};
+ghost use Rattle.std.specs.Ordering.{nat_cmp, ordering_then};
+ghost use Rattle.ring_rules.specs.Findings.{gap_findings};
+
+use crate::finding::{Drilled, Finding};
+use crate::gap_sweep::{clashes, holes_by_left};
+use grid_units::Rules;
+use std::alloc::{AllocError, Global};
+
+/// Sorts pairs by the first place and then by the second.
+fn sort_pairs(pairs: &mut Vec<(usize, usize)>)
+    ensures same { IsPermutation pairs.old.items pairs.new.items }
+    ensures sorted { IsSorted (λ p q. ordering_then (nat_cmp p.0 q.0) (nat_cmp p.1 q.1)) pairs.new.items }
+{
+    pairs.sort_unstable();
+}
+
+/// The findings at pairs of places.
+fn gaps_at(alloc: Global, pairs: &[(usize, usize)]) -> Result<Vec<Finding>, AllocError>
+    ensures { IfOk result (λ findings. findings.items ≡ map (λ p. Finding.Gap p.0 p.1) pairs.now) }
+{
+    let gaps = pairs.iter().map(|pair| Finding::Gap {
+        first: pair.0,
+        second: pair.1,
+    });
+    gaps.collect(alloc)
+}
+
+/// Lists, by the first and then by the second of them, each two holes that are not clear.
+///
+/// # Errors
+///
+/// Where there is no memory.
+pub fn gap_findings(
+    alloc: Global,
+    holes: &[Drilled],
+    rules: Rules,
+) -> Result<Vec<Finding>, AllocError>
+    ensures { IfOk result (λ findings. findings.items ≡ gap_findings rules.gap holes.now) }
+{
+    let by_left = holes_by_left(alloc, holes)?;
+    let mut pairs = clashes(alloc, &by_left, rules)?;
+    sort_pairs(&mut pairs);
+    gaps_at(alloc, &pairs)
+}

@@ -1,0 +1,315 @@
+//! The findings of small boards, and how often a sweep asks a pad.
+
+ghost use Rattle.std.specs.Prelude.{◌≡◌, pos, ◌+ℤ◌, ◌-ℤ◌};
+ghost use Rattle.pad_shapes.specs.Shapes.{IsInDisc, disc_covers};
+ghost use Rattle.pad_shapes.specs.ShapeLaws.{disc_holds, disc_between, disc_extent};
+
+use super::*;
+use grid_units::{Hole, Point, Rules};
+use pad_shapes::{Disc, Obround, Pad, PadShape, Rect};
+use std::alloc::Global;
+use std::cell::Cell;
+use std::rc::Rc;
+use std::test::Fail;
+
+/// A millimetre in pm.
+const MM: i64 = 1_000_000_000;
+
+/// A disc that counts how often it is asked.
+#[derive(Drop)]
+struct Counted {
+    disc: Disc,
+    calls: Rc<Cell<u64>>,
+}
+
+impl PadShape for Counted {
+    ghost points = { λ s. IsInDisc s.disc };
+
+    ghost covers = { λ s. disc_covers s.disc };
+
+    ghost left = { λ s. s.disc.centre.x -ℤ pos s.disc.radius };
+
+    ghost right = { λ s. s.disc.centre.x +ℤ pos s.disc.radius };
+
+    ghost holds = { λ s. disc_holds s.disc };
+
+    ghost between = { λ s. disc_between s.disc };
+
+    ghost extent = { λ s. disc_extent s.disc };
+
+    fn covers(&self, hole: Point, reach: i64) -> bool {
+        self.calls.set(self.calls.get().saturating_add(1));
+        self.disc.covers(hole, reach)
+    }
+
+    fn left(&self) -> i64 {
+        self.disc.left()
+    }
+
+    fn right(&self) -> i64 {
+        self.disc.right()
+    }
+}
+
+/// A ring of 0.125 mm and a gap of 0.25 mm.
+fn usual_rules() -> Result<Rules, Fail> {
+    Ok(Rules::new(125_000_000, 250_000_000).ok().ok_or("rules")?)
+}
+
+/// A plated hole between two points, all in pm.
+fn slot(from: (i64, i64), to: (i64, i64), radius: i64) -> Result<Drilled, Fail> {
+    let from = Point::new(from.0, from.1).ok_or("from")?;
+    let to = Point::new(to.0, to.1).ok_or("to")?;
+    let hole = Hole::new(from, to, radius).ok_or("hole")?;
+    Ok(Drilled { hole, plated: true })
+}
+
+/// A plated round hole.
+fn round(x: i64, y: i64, radius: i64) -> Result<Drilled, Fail> {
+    slot((x, y), (x, y), radius)
+}
+
+fn disc(x: i64, y: i64, radius: i64) -> Result<Pad, Fail> {
+    let centre = Point::new(x, y).ok_or("centre")?;
+    Ok(Pad::Disc(Disc::new(centre, radius).ok_or("disc")?))
+}
+
+fn rect(x: i64, y: i64, half_x: i64, half_y: i64) -> Result<Pad, Fail> {
+    let centre = Point::new(x, y).ok_or("centre")?;
+    Ok(Pad::Rect(Rect::new(centre, half_x, half_y).ok_or("rect")?))
+}
+
+fn obround(half_x: i64, half_y: i64) -> Result<Pad, Fail> {
+    let centre = Point::new(0, 0).ok_or("centre")?;
+    let obround = Obround::new(centre, half_x, half_y).ok_or("obround")?;
+    Ok(Pad::Obround(obround))
+}
+
+/// The findings of rings of one hole of 0.4 mm on one layer.
+fn rings_at(alloc: Global, pads: &[Pad], x: i64, y: i64) -> Result<Vec<Finding>, Fail> {
+    let holes = [round(x, y, 200_000_000)?];
+    Ok(ring_findings(alloc, &[pads], &holes, usual_rules()?)?)
+}
+
+#[test]
+fn no_pads_hold_nothing(rt: HostRuntime) -> Result<(), Fail> {
+    let holes = [round(0, 0, 200_000_000)?];
+    let none: [Disc; 0] = [];
+    let layers = [none.as_slice(), none.as_slice()];
+    let found = ring_findings(rt.alloc(), &layers, &holes, usual_rules()?)?;
+    let wanted = [
+        Finding::Ring { layer: 0, hole: 0 },
+        Finding::Ring { layer: 1, hole: 0 },
+    ];
+    assert_eq!(rt; found.as_slice(), wanted.as_slice());
+    let no_layers: [&[Disc]; 0] = [];
+    let found = ring_findings(rt.alloc(), &no_layers, &holes, usual_rules()?)?;
+    assert_eq!(rt; found.len(), 0);
+    Ok(())
+}
+
+#[test]
+fn a_disc_holds_a_hole_up_to_equality(rt: HostRuntime) -> Result<(), Fail> {
+    let small = [disc(0, 0, 325_000_000)?];
+    assert_eq!(rt; rings_at(rt.alloc(), &small, 0, 0)?.len(), 0);
+    let moved = [disc(1_000, 0, 325_000_000)?];
+    let found = rings_at(rt.alloc(), &moved, 0, 0)?;
+    let wanted = [Finding::Ring { layer: 0, hole: 0 }];
+    assert_eq!(rt; found.as_slice(), wanted.as_slice());
+    let large = [disc(0, 0, 825_000_000)?];
+    assert_eq!(rt;
+        rings_at(rt.alloc(), &large, 300_000_000, 400_000_000)?.len(),
+        0
+    );
+    assert_eq!(rt;
+        rings_at(rt.alloc(), &large, 300_001_000, 400_000_000)?.len(),
+        1
+    );
+    Ok(())
+}
+
+#[test]
+fn an_obround_holds_a_hole_at_its_round_end(rt: HostRuntime) -> Result<(), Fail> {
+    let pads = [obround(1_000_000_000, 500_000_000)?];
+    assert_eq!(rt;
+        rings_at(rt.alloc(), &pads, 605_000_000, 140_000_000)?.len(),
+        0
+    );
+    assert_eq!(rt;
+        rings_at(rt.alloc(), &pads, 605_000_000, 150_000_000)?.len(),
+        1
+    );
+    Ok(())
+}
+
+#[test]
+fn a_rectangle_holds_a_hole_one_way_round(rt: HostRuntime) -> Result<(), Fail> {
+    let lying = [rect(0, 0, 1_000_000_000, 350_000_000)?];
+    assert_eq!(rt; rings_at(rt.alloc(), &lying, 0, 600_000_000)?.len(), 1);
+    let upright = [rect(0, 0, 350_000_000, 1_000_000_000)?];
+    assert_eq!(rt; rings_at(rt.alloc(), &upright, 0, 600_000_000)?.len(), 0);
+    Ok(())
+}
+
+#[test]
+fn two_pads_together_hold_nothing(rt: HostRuntime) -> Result<(), Fail> {
+    let pads = [
+        rect(-500_000_000, 0, 500_000_000, 1_000_000_000)?,
+        rect(500_000_000, 0, 500_000_000, 1_000_000_000)?,
+    ];
+    assert_eq!(rt; rings_at(rt.alloc(), &pads, 0, 0)?.len(), 1);
+    Ok(())
+}
+
+#[test]
+fn a_wide_pad_holds_a_hole_far_from_its_centre(rt: HostRuntime) -> Result<(), Fail> {
+    let pads = [rect(0, 0, 100 * MM, MM)?];
+    assert_eq!(rt; rings_at(rt.alloc(), &pads, 95 * MM, 0)?.len(), 0);
+    assert_eq!(rt; rings_at(rt.alloc(), &pads, 99_700_000_000, 0)?.len(), 1);
+    Ok(())
+}
+
+#[test]
+fn unplated_holes_and_slots_need_no_ring(rt: HostRuntime) -> Result<(), Fail> {
+    let bare = Drilled {
+        plated: false,
+        ..round(0, 0, 200_000_000)?
+    };
+    let holes = [bare, slot((0, 0), (MM, 0), 200_000_000)?];
+    let none: [Disc; 0] = [];
+    let found = ring_findings(rt.alloc(), &[none.as_slice()], &holes, usual_rules()?)?;
+    assert_eq!(rt; found.len(), 0);
+    Ok(())
+}
+
+#[test]
+fn gaps_stand_by_first_and_second(rt: HostRuntime) -> Result<(), Fail> {
+    let holes = [
+        round(0, 0, 200_000_000)?,
+        round(100_000_000, 0, 200_000_000)?,
+        round(200_000_000, 0, 200_000_000)?,
+    ];
+    let found = gap_findings(rt.alloc(), &holes, usual_rules()?)?;
+    let wanted = [
+        Finding::Gap {
+            first: 0,
+            second: 1,
+        },
+        Finding::Gap {
+            first: 0,
+            second: 2,
+        },
+        Finding::Gap {
+            first: 1,
+            second: 2,
+        },
+    ];
+    assert_eq!(rt; found.as_slice(), wanted.as_slice());
+    Ok(())
+}
+
+#[test]
+fn a_hole_far_off_in_y_hides_no_gap(rt: HostRuntime) -> Result<(), Fail> {
+    let holes = [
+        round(0, 0, 200_000_000)?,
+        round(100_000_000, 5 * MM, 200_000_000)?,
+        round(200_000_000, 0, 200_000_000)?,
+    ];
+    let found = gap_findings(rt.alloc(), &holes, usual_rules()?)?;
+    let wanted = [Finding::Gap {
+        first: 0,
+        second: 2,
+    }];
+    assert_eq!(rt; found.as_slice(), wanted.as_slice());
+    Ok(())
+}
+
+#[test]
+fn holes_are_clear_up_to_equality(rt: HostRuntime) -> Result<(), Fail> {
+    let near = round(0, 0, 200_000_000)?;
+    let far = round(390_000_000, 520_000_000, 200_000_000)?;
+    assert!(rt; clear_of(&near.hole, &far.hole, usual_rules()?));
+    assert_eq!(rt;
+        gap_findings(rt.alloc(), &[near, far], usual_rules()?)?.len(),
+        0
+    );
+    let found = gap_findings(rt.alloc(), &[near, near], usual_rules()?)?;
+    let wanted = [Finding::Gap {
+        first: 0,
+        second: 1,
+    }];
+    assert_eq!(rt; found.as_slice(), wanted.as_slice());
+    Ok(())
+}
+
+#[test]
+fn a_slot_is_measured_along_its_whole_length(rt: HostRuntime) -> Result<(), Fail> {
+    let straight = slot((0, 0), (2 * MM, 0), 250_000_000)?;
+    let clear = round(MM, 750_000_000, 250_000_000)?;
+    assert_eq!(rt;
+        gap_findings(rt.alloc(), &[straight, clear], usual_rules()?)?.len(),
+        0
+    );
+    let close = round(MM, 749_000_000, 250_000_000)?;
+    let wanted = [Finding::Gap {
+        first: 0,
+        second: 1,
+    }];
+    let found = gap_findings(rt.alloc(), &[straight, close], usual_rules()?)?;
+    assert_eq!(rt; found.as_slice(), wanted.as_slice());
+    let oblique = slot((0, 5 * MM), (2 * MM, 6 * MM), 250_000_000)?;
+    let corner = round(0, 6 * MM, 250_000_000)?;
+    let found = gap_findings(rt.alloc(), &[oblique, corner], usual_rules()?)?;
+    assert_eq!(rt; found.as_slice(), wanted.as_slice());
+    Ok(())
+}
+
+/// A hundred times a hundred discs, a millimetre apart.
+fn counted_discs(alloc: Global, calls: &Rc<Cell<u64>>) -> Result<Vec<Counted>, Fail> {
+    let mut pads = Vec::new(alloc);
+    for column in 0..100u8 {
+        for row in 0..100u8 {
+            let at = Point::new(i64::from(column) * MM, i64::from(row) * MM).ok_or("point")?;
+            let disc = Disc::new(at, 325_000_000).ok_or("disc")?;
+            let calls = calls.clone()?;
+            pads.push(Counted { disc, calls })?;
+        }
+    }
+    Ok(pads)
+}
+
+/// A hole at each centre, in falling order of x and then of y.
+fn centres(alloc: Global) -> Result<Vec<Drilled>, Fail> {
+    let mut holes = Vec::new(alloc);
+    for column in (0..100u8).rev() {
+        for row in (0..100u8).rev() {
+            holes.push(round(i64::from(column) * MM, i64::from(row) * MM, 200_000_000)?)?;
+        }
+    }
+    Ok(holes)
+}
+
+#[test]
+fn a_sweep_asks_few_pads(rt: HostRuntime) -> Result<(), Fail> {
+    let calls = Rc::new(rt.alloc(), Cell::new(0))?;
+    let pads = counted_discs(rt.alloc(), &calls)?;
+    let holes = centres(rt.alloc())?;
+    let found = ring_findings(rt.alloc(), &[pads.as_slice()], &holes, usual_rules()?)?;
+    assert_eq!(rt; found.len(), 0);
+    assert!(rt; calls.get() <= 1_000_000);
+    Ok(())
+}
+
+#[test]
+fn a_hole_drilled_twice_is_two_holes(rt: HostRuntime) -> Result<(), Fail> {
+    let mut holes = centres(rt.alloc())?;
+    assert_eq!(rt; gap_findings(rt.alloc(), &holes, usual_rules()?)?.len(), 0);
+    holes.push(round(0, 0, 200_000_000)?)?;
+    let found = gap_findings(rt.alloc(), &holes, usual_rules()?)?;
+    let wanted = [Finding::Gap {
+        first: 9_999,
+        second: 10_000,
+    }];
+    assert_eq!(rt; found.as_slice(), wanted.as_slice());
+    Ok(())
+}
