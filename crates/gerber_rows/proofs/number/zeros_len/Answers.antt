@@ -1,0 +1,12 @@
+use Rattle.std.proofs.Common.{◌≡◌, true, get_or, eqb, sym, ◌∙◌, arith, below_more}
+use Rattle.std.proofs.lemmas.List.Sums.{prefix_len_is}
+use Rattle.gerber_rows.proofs.number.zeros_len.Goals as goal
+
+pub loop-i-preserved : goal.loop-i-preserved
+loop-i-preserved c = below_more (λ k. eqb (get_or c.args.bytes.now k 0) 48 ≡ true) c.loop-i.i c.loop-i.invariant (sym c.is_zero.ensures ∙ c.if-not-is_zero.false)
+
+pub returns-then-not-is_zero-clause-len : goal.returns-then-not-is_zero-clause-len
+returns-then-not-is_zero-clause-len c = sym (prefix_len_is (λ b. eqb b 48) c.args.bytes.now c.loop-i.i 0 (omega arith) c.loop-i.invariant (λ _. sym c.is_zero.ensures ∙ c.if-not-is_zero.true))
+
+pub returns-clause-len : goal.returns-clause-len
+returns-clause-len c = sym (prefix_len_is (λ b. eqb b 48) c.args.bytes.now _ 0 (omega arith) (λ k lt. c.loop-i.invariant k (omega arith)) (λ lt. absurd (omega arith)))

@@ -1,0 +1,32 @@
+-- Items of a Gerber text without its line ends: words, and extended items.
+use Rattle.std.specs.Prelude.{◌≡◌, ◌≢◌, ℕ, Bool, ◌||◌, ◌==◌, List, [], ◌∷◌, ◌++◌, if◌then◌else◌, codes}
+use Rattle.std.specs.List.{AllByRecursion}
+use Rattle.std.specs.Str.{bytes_eq}
+
+-- CR or LF, which are dropped wherever they stand (docs/FORMATS.md, Cutting a Gerber text)
+abbrev pub is_line_break : ℕ → Bool
+is_line_break b = (b == 10) || (b == 13)
+
+-- the byte that ends an item which begins so: `%` an extended item, `*` a word (Gerber format, Commands)
+abbrev pub ender : List ℕ → ℕ
+ender [] = 42
+ender (b ∷ bs) = if b == 37 then 37 else 42
+
+-- the bytes after the `%` that begins an extended item; all bytes of a word (Gerber format, Commands)
+abbrev pub behind_mark : List ℕ → List ℕ
+behind_mark [] = []
+behind_mark (b ∷ bs) = if b == 37 then bs else b ∷ bs
+
+-- the bytes have not come to the end of their item (docs/FORMATS.md, Cutting a Gerber text)
+abbrev pub IsUnfinished : List ℕ → Type 0
+IsUnfinished bytes = AllByRecursion (λ b. b ≢ ender bytes) (behind_mark bytes)
+
+-- an item: a word and its `*`, or an extended item between its two `%` (docs/FORMATS.md, Cutting a Gerber text)
+pub record IsItem (bytes : List ℕ) : Type 0 where
+  pub front : List ℕ
+  pub unfinished : IsUnfinished front
+  pub whole : bytes ≡ front ++ ender front ∷ []
+
+-- `M02` or `M2`, the end of the text (Gerber format, End-of-file M02)
+abbrev pub is_end : List ℕ → Bool
+is_end bytes = bytes_eq bytes (codes "M02*") || bytes_eq bytes (codes "M2*")

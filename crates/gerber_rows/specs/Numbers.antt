@@ -1,0 +1,20 @@
+-- The numbers of a Gerber text that are not decimals.
+use Rattle.std.specs.Prelude.{ℕ, ◌&&◌, ◌==◌, nat_lt, nat_le, List, length, drop, if◌then◌else◌, Result, Ok, Err, ℤ}
+use Rattle.std.specs.List.{prefix_len}
+use Rattle.grid_units.specs.declared.fault.Reason.{Reason}
+use Rattle.grid_units.specs.declared.fault.Reason.TheVariants.{BadNumber, TooManyDigits}
+use Rattle.grid_units.specs.Numbers.{is_digits, value, unsigned, signed}
+
+-- the digits from the first that is not `0` (docs/FORMATS.md, The three kinds of number)
+abbrev pub significant : List ℕ → List ℕ
+significant digits = drop (prefix_len (λ b. b == 48) digits) digits
+
+-- an optional sign and digits, at most 12 from the first that is not `0` (docs/FORMATS.md, The three kinds of number)
+unfoldable pub int_of : List ℕ → Result ℤ Reason
+int_of run =
+    if is_digits (unsigned run) then (if nat_lt 12 (length (significant (unsigned run))) then Err TooManyDigits else Ok (signed run (value (unsigned run))))
+    else Err BadNumber
+
+-- digits of a value of at most 2,147,483,647 (docs/FORMATS.md, The three kinds of number)
+unfoldable pub nat_of : List ℕ → Result ℕ Reason
+nat_of digits = if is_digits digits && nat_le (value digits) 2147483647 then Ok (value digits) else Err BadNumber

@@ -1,0 +1,42 @@
+-- Rows of the format's table: how one fits, and what stands in its fields.
+use Rattle.std.specs.Prelude.{◌≡◌, ℕ, Bool, ◌==◌, List, [], ◌∷◌, length, take, drop, if◌then◌else◌, Option, None, Some, Result, Ok, Err, codes}
+use Rattle.std.specs.List.{prefix_len, take_while}
+use Rattle.std.specs.Str.{bytes_eq}
+use Rattle.grid_units.specs.declared.fault.Reason.{Reason}
+use Rattle.grid_units.specs.declared.fault.Reason.TheVariants.{BadWord}
+use Rattle.gerber_rows.specs.declared.command.Command.{Command}
+use Rattle.gerber_rows.specs.declared.command.Command.TheVariants.{Mode}
+use Rattle.gerber_rows.specs.declared.command.Interpolation.{Interpolation}
+
+-- what an item spells: no, one or two commands, or the reason why it is refused (docs/FORMATS.md, What an item spells)
+abbrev pub Meaning : Type 0
+Meaning = Result (List Command) Reason
+
+-- a row of the table says what a text spells that fits it, and nothing of any other (docs/FORMATS.md, What an item spells)
+abbrev pub Row : Type 0
+Row = Option Meaning
+
+-- the first row that fits says what the text spells; where none fits it is refused (docs/FORMATS.md, What an item spells)
+abbrev pub first_fit : List Row → Meaning
+first_fit [] = Err BadWord
+first_fit (None ∷ rows) = first_fit rows
+first_fit (Some meaning ∷ rows) = meaning
+
+-- what stands after this prefix, where a text begins so (docs/FORMATS.md, What an item spells)
+abbrev pub behind : List ℕ → List ℕ → Option (List ℕ)
+behind prefix text = if bytes_eq (take (length prefix) text) prefix then Some (drop (length prefix) text) else None
+
+-- the run after this letter, where the letter stands, and the bytes after it (docs/FORMATS.md, Numbers)
+abbrev pub field : (ℕ → Bool) → ℕ → List ℕ → Option (List ℕ) × List ℕ
+field test letter [] = (None, [])
+field test letter (b ∷ bs) = if b == letter then (Some (take_while test bs), drop (prefix_len test bs) bs) else (None, b ∷ bs)
+
+-- the interpolation that a word may name before its operation (Gerber format, Plot state G01, G02, G03)
+abbrev pub modes_of : Option Interpolation → List Command
+modes_of None = []
+modes_of (Some mode) = Mode mode ∷ []
+
+-- a command that may be there (docs/FORMATS.md, What an item spells)
+abbrev pub commands_of : Option Command → List Command
+commands_of None = []
+commands_of (Some command) = command ∷ []

@@ -1,0 +1,15 @@
+-- The fields that a reader found, by the bytes of their runs.
+use Rattle.std.specs.Option.{option_copied}
+use Rattle.gerber_rows.specs.declared.word.Runs.{Runs}
+use Rattle.gerber_rows.specs.Words.{Fields}
+
+-- the fields that a reader found, by the bytes of their runs (docs/FORMATS.md, What an item spells)
+abbrev pub fields_of : Runs → Fields
+fields_of r = record {
+  x = option_copied r.x;
+  y = option_copied r.y;
+  i = option_copied r.i;
+  j = option_copied r.j;
+  d = option_copied r.d;
+  rest = r.rest.now;
+}

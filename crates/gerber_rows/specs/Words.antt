@@ -1,0 +1,209 @@
+-- What a word spells: the rows of the table of words, in its order.
+use Rattle.std.specs.Prelude.{ℕ, ◌-◌, Bool, true, false, not, ◌&&◌, ◌||◌, ◌==◌, nat_le, List, [], ◌∷◌, ◌++◌, length, take, drop, if◌then◌else◌, Option, None, Some, unwrap_or, is_some, Result, Ok, Err, is_ok, codes, ℤ}
+use Rattle.std.specs.Option.{option_map, option_or}
+use Rattle.std.specs.List.{list_any, list_all, prefix_len, take_while}
+use Rattle.std.specs.Str.{bytes_eq}
+use Rattle.grid_units.specs.Results.{◌>>=◌, both}
+use Rattle.grid_units.specs.declared.fault.Reason.{Reason}
+use Rattle.grid_units.specs.declared.fault.Reason.TheVariants.{BadWord, BareCoordinate, NegativeImage, Incremental, OldParameter}
+use Rattle.gerber_rows.specs.declared.command.Command.{Command}
+use Rattle.gerber_rows.specs.declared.command.Command.TheVariants.{Comment, Mode, Quadrant, RegionStart, RegionEnd, UnitIs, Select, Operate, Finish}
+use Rattle.grid_units.specs.declared.lengths.Unit.TheVariants.{Inch, Millimetre}
+use Rattle.gerber_rows.specs.declared.command.Interpolation.{Interpolation}
+use Rattle.gerber_rows.specs.declared.command.Interpolation.TheVariants.{Linear, Clockwise, Counterclockwise}
+use Rattle.gerber_rows.specs.declared.command.QuadrantMode.TheVariants.{Single, Multi}
+use Rattle.gerber_rows.specs.declared.command.Action.{Action}
+use Rattle.gerber_rows.specs.declared.command.Action.TheVariants.{Plot, Move, Flash}
+use Rattle.grid_units.specs.Numbers.{is_digit, is_number}
+use Rattle.gerber_rows.specs.Numbers.{int_of, nat_of}
+use Rattle.gerber_rows.specs.Rows.{Meaning, Row, first_fit, behind, field, modes_of}
+
+-- the bytes are just these (docs/FORMATS.md, What an item spells)
+abbrev pub is : List ℕ → List ℕ → Bool
+is text literal = bytes_eq text literal
+
+-- ---- empty; `G90`: nothing
+
+-- nothing: the empty word, and absolute coordinates (Gerber format, Deprecated G90)
+unfoldable pub nothing_row : List ℕ → Row
+nothing_row text = if (length text == 0) || is text (codes "G90") then Some (Ok []) else None
+
+-- ---- `G04` text
+
+-- what stands before the first comma (Gerber format, Attributes)
+abbrev pub first_field : List ℕ → List ℕ
+first_field text = take_while (λ b. not (b == 44)) text
+
+-- a file attribute that makes the image negative (Gerber format, .FilePolarity)
+abbrev pub is_negative_image : List ℕ → Bool
+is_negative_image attribute = unwrap_or (option_map (λ value. is (first_field value) (codes "Negative")) (behind (codes ".FilePolarity,") attribute)) false
+
+-- the text from its first byte on that is no space (docs/FORMATS.md, What an item spells)
+abbrev pub behind_spaces : List ℕ → List ℕ
+behind_spaces text = drop (prefix_len (λ b. b == 32) text) text
+
+-- a comment that holds such a file attribute (Gerber format, Attributes in comments)
+abbrev pub comments_negative : List ℕ → Bool
+comments_negative text = unwrap_or (option_map is_negative_image (behind (codes "#@! TF") (behind_spaces text))) false
+
+-- a comment (Gerber format, Comment G04)
+unfoldable pub comment : List ℕ → Meaning
+comment text = if comments_negative text then Err NegativeImage else Ok (Comment text ∷ [])
+
+-- `G04` text (Gerber format, Comment G04)
+abbrev pub comment_row : List ℕ → Row
+comment_row text = option_map comment (behind (codes "G04") text)
+
+-- ---- `G01`, `G02`, `G03` (or `G1`, `G2`, `G3`)
+
+-- the words of the interpolations (Gerber format, Plot state G01, G02, G03)
+abbrev pub interpolations : List (List ℕ × Interpolation)
+interpolations =
+    (codes "G01", Linear) ∷ (codes "G1", Linear) ∷ (codes "G02", Clockwise) ∷ (codes "G2", Clockwise) ∷ (codes "G03", Counterclockwise) ∷ (codes "G3", Counterclockwise) ∷ []
+
+-- the first of these words with which the text begins, and what stands after it (docs/FORMATS.md, What an item spells)
+abbrev pub first_word : List (List ℕ × Interpolation) → List ℕ → Option Interpolation × List ℕ
+first_word [] text = (None, text)
+first_word (w ∷ words) text = unwrap_or (option_map (λ rest. (Some w.1, rest)) (behind w.0 text)) (first_word words text)
+
+-- the interpolation in front of a word, and what stands after it (docs/FORMATS.md, What an item spells)
+unfoldable pub mode_front : List ℕ → Option Interpolation × List ℕ
+mode_front text = first_word interpolations text
+
+-- an interpolation alone (Gerber format, Plot state G01, G02, G03)
+unfoldable pub mode_row : List ℕ → Row
+mode_row text = if length (mode_front text).1 == 0 then option_map (λ mode. Ok (Mode mode ∷ [])) (mode_front text).0 else None
+
+-- ---- `G74`, `G75`; `G36`, `G37`; `G70`, `G71`; `G91`
+
+-- how an arc's centre is found (Gerber format, G75 and G74)
+unfoldable pub quadrant_row : List ℕ → Row
+quadrant_row text = if is text (codes "G74") then Some (Ok (Quadrant Single ∷ [])) else (if is text (codes "G75") then Some (Ok (Quadrant Multi ∷ [])) else None)
+
+-- the ends of a region (Gerber format, Region statement G36/G37)
+unfoldable pub region_row : List ℕ → Row
+region_row text = if is text (codes "G36") then Some (Ok (RegionStart ∷ [])) else (if is text (codes "G37") then Some (Ok (RegionEnd ∷ [])) else None)
+
+-- the unit (Gerber format, Deprecated G70 and G71)
+unfoldable pub unit_row : List ℕ → Row
+unit_row text = if is text (codes "G70") then Some (Ok (UnitIs Inch ∷ [])) else (if is text (codes "G71") then Some (Ok (UnitIs Millimetre ∷ [])) else None)
+
+-- incremental coordinates, which are refused (Gerber format, Deprecated G91)
+unfoldable pub incremental_row : List ℕ → Row
+incremental_row text = if is text (codes "G91") then Some (Err Incremental) else None
+
+-- ---- `D` Nat; `G54D` Nat
+
+-- the operation of a D code (Gerber format, Operations D01, D02, D03)
+abbrev pub action : ℕ → Result Action Reason
+action n = if n == 1 then Ok Plot else (if n == 2 then Ok Move else (if n == 3 then Ok Flash else Err BadWord))
+
+-- the run behind this prefix, where the text is the prefix and a digit run (docs/FORMATS.md, What an item spells)
+abbrev pub numbered : List ℕ → List ℕ → Option (List ℕ)
+numbered prefix text = if list_all is_digit (unwrap_or (behind prefix text) []) then behind prefix text else None
+
+-- `D` and a number: an aperture from 10 on, else an operation without coordinates (Gerber format, Set current aperture Dnn)
+unfoldable pub alone : List ℕ → Meaning
+alone digits = nat_of digits >>= λ n. if nat_le 10 n then Ok (Select n ∷ []) else (action n >>= λ what. Ok (Operate what None None None None ∷ []))
+
+-- `G54D` and a number: an aperture from 10 on (Gerber format, Deprecated G54)
+unfoldable pub prepared : List ℕ → Meaning
+prepared digits = nat_of digits >>= λ n. if nat_le 10 n then Ok (Select n ∷ []) else Err BadWord
+
+-- `D` Nat; `G54D` Nat (Gerber format, Set current aperture Dnn)
+unfoldable pub select_row : List ℕ → Row
+select_row text = option_or (option_map alone (numbered (codes "D") text)) (option_map prepared (numbered (codes "G54D") text))
+
+-- ---- [mode] [`X` Int] [`Y` Int] [`I` Int] [`J` Int] [`D` Nat]
+
+-- a coordinate, which may be left out (Gerber format, Coordinate data)
+unfoldable pub coordinate : Option (List ℕ) → Result (Option ℤ) Reason
+coordinate None = Ok None
+coordinate (Some run) = int_of run >>= λ n. Ok (Some n)
+
+-- an operation with coordinates; offsets stand with a plot alone (Gerber format, Operations D01, D02, D03)
+abbrev pub action_with : Bool → ℕ → Result Action Reason
+action_with offsets n = action n >>= λ what. if offsets && not (n == 1) then Err BadWord else Ok what
+
+-- what an operation with coordinates does: without a number it goes on plotting (Gerber format, Coordinate data without operation code)
+unfoldable pub kind : Bool → Bool → Option (List ℕ) → Result Action Reason
+kind plotting offsets None = if plotting then Ok Plot else Err BareCoordinate
+kind plotting offsets (Some digits) = nat_of digits >>= action_with offsets
+
+-- the fields of an operation, each as a run where its letter stands (docs/FORMATS.md, What an item spells)
+pub record Fields : Type 0 where
+  pub x : Option (List ℕ)
+  pub y : Option (List ℕ)
+  pub i : Option (List ℕ)
+  pub j : Option (List ℕ)
+  pub d : Option (List ℕ)
+  pub rest : List ℕ
+
+-- the fields in their order, and what stands after them (docs/FORMATS.md, What an item spells)
+unfoldable pub fields : List ℕ → Fields
+fields text =
+    let x = field is_number 88 text in
+    let y = field is_number 89 x.1 in
+    let i = field is_number 73 y.1 in
+    let j = field is_number 74 i.1 in
+    let d = field is_digit 68 j.1 in
+    record { x = x.0; y = y.0; i = i.0; j = j.0; d = d.0; rest = d.1 }
+
+-- a D code of 1, 2 or 3 (docs/FORMATS.md, What an item spells)
+unfoldable pub names_action : Option (List ℕ) → Bool
+names_action None = false
+names_action (Some digits) = is_ok (nat_of digits >>= action)
+
+-- at least one coordinate, or a D code of 1, 2 or 3 (docs/FORMATS.md, What an item spells)
+abbrev pub is_operation : Fields → Bool
+is_operation f = (length f.rest == 0) && (is_some f.x || (is_some f.y || (is_some f.i || (is_some f.j || names_action f.d))))
+
+-- an offset stands among the fields (Gerber format, Coordinate data)
+abbrev pub has_offsets : Fields → Bool
+has_offsets f = is_some f.i || is_some f.j
+
+-- the values of the fields: x and y, i and j, and what is done (docs/FORMATS.md, What an item spells)
+unfoldable pub operands : Bool → Fields → Result (((Option ℤ × Option ℤ) × (Option ℤ × Option ℤ)) × Action) Reason
+operands plotting f = both (both (both (coordinate f.x) (coordinate f.y)) (both (coordinate f.i) (coordinate f.j))) (kind plotting (has_offsets f) f.d)
+
+-- the operation of these fields (Gerber format, Operations D01, D02, D03)
+unfoldable pub operate : Bool → Option Interpolation → Fields → Meaning
+operate plotting mode f = operands plotting f >>= λ r. Ok (modes_of mode ++ Operate r.1 r.0.0.0 r.0.0.1 r.0.1.0 r.0.1.1 ∷ [])
+
+-- an interpolation that may stand in front, and an operation (Gerber format, Operations D01, D02, D03)
+unfoldable pub operation_row : Bool → List ℕ → Row
+operation_row plotting text = if is_operation (fields (mode_front text).1) then Some (operate plotting (mode_front text).0 (fields (mode_front text).1)) else None
+
+-- ---- `M02`, `M2`; `M00`, `M01`, `N`
+
+-- the end of the text (Gerber format, End-of-file M02)
+unfoldable pub finish_row : List ℕ → Row
+finish_row text = if is text (codes "M02") || is text (codes "M2") then Some (Ok (Finish ∷ [])) else None
+
+-- stops and line numbers, which are refused (Gerber format, Deprecated commands)
+unfoldable pub old_row : List ℕ → Row
+old_row text = if is text (codes "M00") || (is text (codes "M01") || is_some (behind (codes "N") text)) then Some (Err OldParameter) else None
+
+-- ---- the table
+
+-- the rows of words after those of comments, in the order of the table (docs/FORMATS.md, Words)
+abbrev pub later_words : Bool → List ℕ → List Row
+later_words plotting text =
+    mode_row text
+    ∷ quadrant_row text
+    ∷ region_row text
+    ∷ unit_row text
+    ∷ incremental_row text
+    ∷ select_row text
+    ∷ operation_row plotting text
+    ∷ finish_row text
+    ∷ old_row text
+    ∷ []
+
+-- the rows of words, in the order of the table (docs/FORMATS.md, Words)
+abbrev pub words : Bool → List ℕ → List Row
+words plotting text = nothing_row text ∷ comment_row text ∷ later_words plotting text
+
+-- A word without its `*`, where the last operation before it was a plot or not (docs/FORMATS.md, Words).
+unfoldable pub word : Bool → List ℕ → Meaning
+word plotting text = if list_any (λ b. b == 37) text then Err BadWord else first_fit (words plotting text)

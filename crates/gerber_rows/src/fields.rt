@@ -1,0 +1,45 @@
+//! Fields of a row: what stands behind a prefix, and the run behind a letter.
+
+ghost use Rattle.std.specs.Prelude.{◌≡◌, ◌==◌, ◌≤◌, length};
+ghost use Rattle.std.specs.List.{prefix_len};
+ghost use Rattle.std.specs.Option.{option_copied};
+ghost use Rattle.gerber_rows.specs.Rows.{behind, field};
+ghost use Rattle.gerber_rows.specs.Words.{first_field, behind_spaces};
+ghost use Rattle.grid_units.specs.Numbers.{is_digit, is_number};
+
+use grid_units::numbers::{digits_len, number_len};
+
+/// What stands behind a prefix, where a text begins so.
+pub(crate) fn behind<'a>(prefix: &[u8], text: &'a [u8]) -> Option<&'a [u8]>
+    ensures { option_copied result ≡ behind prefix.now text.now }
+{
+    text.strip_prefix(prefix)
+}
+
+/// The run behind a letter, where that stands, and the rest.
+pub(crate) fn number_field(letter: u8, text: &[u8]) -> (Option<&[u8]>, &[u8])
+    ensures run { option_copied result.0 ≡ (field is_number letter text.now).0 }
+    ensures rest { result.1.now ≡ (field is_number letter text.now).1 }
+{
+    match text {
+        [first, rest @ ..] if *first == letter => {
+            let (run, rest) = rest.split_at(number_len(rest));
+            (Some(run), rest)
+        }
+        _ => (None, text),
+    }
+}
+
+/// The digits behind a letter, where that stands, and the rest.
+pub(crate) fn digits_field(letter: u8, text: &[u8]) -> (Option<&[u8]>, &[u8])
+    ensures run { option_copied result.0 ≡ (field is_digit letter text.now).0 }
+    ensures rest { result.1.now ≡ (field is_digit letter text.now).1 }
+{
+    match text {
+        [first, rest @ ..] if *first == letter => {
+            let (run, rest) = rest.split_at(digits_len(rest));
+            (Some(run), rest)
+        }
+        _ => (None, text),
+    }
+}

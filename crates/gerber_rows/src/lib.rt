@@ -1,0 +1,18 @@
+//! The items of a Gerber text: what one of them spells, and how a command is written as one.
+#![tactic(auto)]
+
+mod aperture;
+mod canonical;
+mod command;
+mod fields;
+mod item;
+mod number;
+mod piece;
+mod word;
+
+pub use canonical::write_item;
+pub use command::{
+    Action, AttributeKind, Block, Command, Format, Interpolation, Pieces, QuadrantMode, Sizes,
+    Spelled, Standard, Template,
+};
+pub use item::{ItemFail, is_text_end, read_item};

@@ -1,0 +1,84 @@
+//! The numbers of a Gerber text that are not decimals.
+
+ghost use Rattle.std.specs.Prelude.{◌≡◌, ◌<◌, ◌^◌, ◌≤◌, ◌==◌, length, All, true, neg_ℤ, pos, if◌then◌else◌};
+ghost use Rattle.std.specs.List.{prefix_len};
+ghost use Rattle.grid_units.specs.Numbers.{is_digit, value};
+ghost use Rattle.gerber_rows.specs.Numbers.{int_of, nat_of};
+
+use grid_units::Reason;
+use grid_units::numbers::{behind_sign, capped_value, is_digits, is_negative};
+
+/// The number that at most 12 digits spell.
+fn value_of(digits: &[u8]) -> u64
+    requires short { length digits.now ≤ 12 }
+    requires digits { All (λ b. is_digit b ≡ true) digits.now }
+    ensures value { result ≡ value digits.now }
+    ensures bound { result < 10 ^ 12 }
+{
+    let mut n = 0;
+    for byte in digits {
+        n = n * 10 + u64::from(*byte - b'0');
+    }
+    n
+}
+
+fn is_zero(byte: u8) -> bool
+    ensures { result ≡ (byte == 48) }
+{
+    byte == b'0'
+}
+
+fn zeros_len(bytes: &[u8]) -> usize
+    ensures within { result ≤ length bytes.now }
+    ensures len { result ≡ prefix_len (λ b. b == 48) bytes.now }
+{
+    for (i, byte) in bytes.iter().enumerate() {
+        if !is_zero(*byte) {
+            return i;
+        }
+    }
+    bytes.len()
+}
+
+/// An optional sign and digits.
+#[tactic(auto, unfolding(crate::specs::Numbers::int_of))]
+pub(crate) fn read_int(run: &[u8]) -> Result<i64, Reason>
+    ensures { result ≡ int_of run.now }
+{
+    let digits = behind_sign(run);
+    if !is_digits(digits) {
+        return Err(Reason::BadNumber);
+    }
+    let significant = &digits[zeros_len(digits)..];
+    if significant.len() > 12 {
+        return Err(Reason::TooManyDigits);
+    }
+    Ok(signed(is_negative(run), value_of(significant)))
+}
+
+fn signed(negative: bool, magnitude: u64) -> i64
+    requires { magnitude < 10 ^ 12 }
+    ensures { result ≡ (if negative then neg_ℤ (pos magnitude) else pos magnitude) }
+{
+    if negative {
+        -(magnitude as i64)
+    } else {
+        magnitude as i64
+    }
+}
+
+/// Digits of a value of at most 2,147,483,647.
+#[tactic(auto, unfolding(crate::specs::Numbers::nat_of))]
+pub(crate) fn read_nat(digits: &[u8]) -> Result<u32, Reason>
+    ensures { result ≡ nat_of digits.now }
+{
+    if !is_digits(digits) {
+        return Err(Reason::BadNumber);
+    }
+    let n = capped_value(digits, 2_147_483_648);
+    if n <= 2_147_483_647 {
+        Ok(n as u32)
+    } else {
+        Err(Reason::BadNumber)
+    }
+}

@@ -1,0 +1,504 @@
+//! Extended items: the rows of the table of pieces, in its order.
+
+ghost use Rattle.std.specs.Prelude.{◌≡◌, ◌==◌, ◌||◌, ◌&&◌, ℤ, not, is_some, unwrap_or, [], ◌++◌, IfSome, IfNone, codes, true, false};
+ghost use Rattle.std.specs.List.{list_any, list_all};
+ghost use Rattle.std.specs.Option.{option_copied, option_map};
+ghost use Rattle.grid_units.specs.Results.{both};
+ghost use Rattle.grid_units.specs.Numbers.{is_number, is_digit, dec_of};
+ghost use Rattle.gerber_rows.specs.Numbers.{nat_of};
+ghost use Rattle.gerber_rows.specs.Words.{is};
+ghost use Rattle.gerber_rows.specs.Meaning.{Gives};
+ghost use Rattle.gerber_rows.specs.Rows.{first_fit, behind};
+ghost use Rattle.gerber_rows.specs.Pieces.{system_row, format, format_fields, format_row, unit_piece_row, polarity_row, mirror_row, run_behind, turn, scale, transform_row, block_fields, repeat, repeat_start, repeat_row, file_attribute, attribute, removal, may_be, turns_nothing, axes_are, leaves, plain_row, axes_row, negative_row, old_piece_row, block_row, older_pieces, pieces_from_attributes, pieces_from_polarity, is_several, last_byte, before_last, pieces, piece, extended};
+
+use crate::aperture::{read_define, read_macro};
+use crate::command::{AttributeKind, Block, Command, Format, Spelled};
+use crate::fields::{behind, digits_field, number_field};
+use crate::item::ItemFail;
+use crate::number::read_nat;
+use crate::word::is_negative_image;
+use grid_units::numbers::{is_digit, is_number};
+use grid_units::{Dec, Reason, Text, Unit, both};
+use std::alloc::Global;
+
+type Row = Option<Result<Spelled, Reason>>;
+
+/// Coordinates without trailing zeros, and incremental ones.
+#[tactic(auto, unfolding(crate::specs::Pieces::system_row))]
+fn read_system(text: &[u8]) -> Row
+    ensures { result ≡ system_row text.now }
+{
+    if behind(b"FST", text).is_some() {
+        Some(Err(Reason::TrailingZeros))
+    } else if behind(b"FSLI", text).is_some() {
+        Some(Err(Reason::Incremental))
+    } else {
+        None
+    }
+}
+
+/// The format of two digits, for both axes the same.
+fn format_of(i: u8, d: u8, j: u8, e: u8) -> Result<Spelled, Reason>
+    requires whole { is_digit i ≡ true }
+    requires decimals { is_digit d ≡ true }
+    ensures { result ≡ format i d j e }
+{
+    if i == j && d == e && i <= b'6' && d <= b'6' && u16::from(i) + u16::from(d) > 96 {
+        Ok(Spelled::one(Command::FormatIs(Format {
+            whole: i - b'0',
+            decimals: d - b'0',
+        })))
+    } else {
+        Err(Reason::BadNumber)
+    }
+}
+
+/// The digits of the two axes, with `Y` between them.
+fn format_fields(text: &[u8]) -> Row
+    ensures { result ≡ format_fields text.now }
+{
+    match text {
+        [i, d, y, j, e] => {
+            if *y == b'Y' && is_digit(*i) && is_digit(*d) && is_digit(*j) && is_digit(*e) {
+                Some(format_of(*i, *d, *j, *e))
+            } else {
+                None
+            }
+        }
+        _ => None,
+    }
+}
+
+/// The digits of coordinates.
+#[tactic(auto, unfolding(crate::specs::Pieces::format_row))]
+fn read_format(text: &[u8]) -> Row
+    ensures { result ≡ format_row text.now }
+{
+    match behind(b"FSLAX", text) {
+        Some(rest) => format_fields(rest),
+        None => None,
+    }
+}
+
+/// The unit.
+#[tactic(auto, unfolding(crate::specs::Pieces::unit_piece_row))]
+fn read_unit(text: &[u8]) -> Row
+    ensures { result ≡ unit_piece_row text.now }
+{
+    if text == b"MOIN".as_slice() {
+        Some(Ok(Spelled::one(Command::UnitIs(Unit::Inch))))
+    } else if text == b"MOMM".as_slice() {
+        Some(Ok(Spelled::one(Command::UnitIs(Unit::Millimetre))))
+    } else {
+        None
+    }
+}
+
+/// The polarity: clear polarity is refused.
+#[tactic(auto, unfolding(crate::specs::Pieces::polarity_row))]
+fn read_polarity(text: &[u8]) -> Row
+    ensures { result ≡ polarity_row text.now }
+{
+    if text == b"LPD".as_slice() {
+        Some(Ok(Spelled::one(Command::Dark)))
+    } else if text == b"LPC".as_slice() {
+        Some(Err(Reason::ClearPolarity))
+    } else {
+        None
+    }
+}
+
+/// The axes of mirroring.
+#[tactic(auto, unfolding(crate::specs::Pieces::mirror_row))]
+fn read_mirror(text: &[u8]) -> Row
+    ensures { result ≡ mirror_row text.now }
+{
+    if text == b"LMN".as_slice() {
+        Some(Ok(Spelled::one(Command::Mirror { x: false, y: false })))
+    } else if text == b"LMX".as_slice() {
+        Some(Ok(Spelled::one(Command::Mirror { x: true, y: false })))
+    } else if text == b"LMY".as_slice() {
+        Some(Ok(Spelled::one(Command::Mirror { x: false, y: true })))
+    } else if text == b"LMXY".as_slice() {
+        Some(Ok(Spelled::one(Command::Mirror { x: true, y: true })))
+    } else {
+        None
+    }
+}
+
+fn are_number_bytes(text: &[u8]) -> bool
+    ensures { result ≡ list_all is_number text.now }
+{
+    text.iter().all(|byte| is_number(*byte))
+}
+
+/// The run behind a prefix, where nothing else stands there.
+fn run_behind<'a>(prefix: &[u8], text: &'a [u8]) -> Option<&'a [u8]>
+    ensures { option_copied result ≡ run_behind prefix.now text.now }
+{
+    match behind(prefix, text) {
+        Some(run) if are_number_bytes(run) => Some(run),
+        _ => None,
+    }
+}
+
+#[tactic(auto, unfolding(crate::specs::Pieces::turn))]
+fn read_turn(run: &[u8]) -> Result<Spelled, Reason>
+    ensures { result ≡ turn run.now }
+{
+    Ok(Spelled::one(Command::Turn(Dec::read(run)?)))
+}
+
+#[tactic(auto, unfolding(crate::specs::Pieces::scale))]
+fn read_scale(run: &[u8]) -> Result<Spelled, Reason>
+    ensures { result ≡ scale run.now }
+{
+    Ok(Spelled::one(Command::Scale(Dec::read(run)?)))
+}
+
+/// Rotation and scaling.
+#[tactic(auto, unfolding(crate::specs::Pieces::transform_row))]
+fn read_transform(text: &[u8]) -> Row
+    ensures { result ≡ transform_row text.now }
+{
+    if let Some(run) = run_behind(b"LR", text) {
+        Some(read_turn(run))
+    } else if let Some(run) = run_behind(b"LS", text) {
+        Some(read_scale(run))
+    } else {
+        None
+    }
+}
+
+/// Two counts.
+fn counts_of(x: &[u8], y: &[u8]) -> Result<(u32, u32), Reason>
+    ensures { result ≡ both (nat_of x.now) (nat_of y.now) }
+{
+    both(read_nat(x), read_nat(y))
+}
+
+/// Two steps.
+fn steps_of(i: &[u8], j: &[u8]) -> Result<(Dec, Dec), Reason>
+    ensures { result ≡ both (dec_of i.now) (dec_of j.now) }
+{
+    both(Dec::read(i), Dec::read(j))
+}
+
+/// Two counts and two steps.
+type BlockFields = ((u32, u32), (Dec, Dec));
+
+/// The values of counts and steps.
+#[tactic(auto, unfolding(crate::specs::Pieces::block_fields))]
+fn block_fields(x: &[u8], y: &[u8], i: &[u8], j: &[u8]) -> Result<BlockFields, Reason>
+    ensures { result ≡ block_fields x.now y.now i.now j.now }
+{
+    both(counts_of(x, y), steps_of(i, j))
+}
+
+/// Counts and steps.
+#[tactic(auto, unfolding(crate::specs::Pieces::repeat))]
+fn read_block(x: &[u8], y: &[u8], i: &[u8], j: &[u8]) -> Result<Spelled, Reason>
+    ensures { result ≡ repeat x.now y.now i.now j.now }
+{
+    let ((columns, rows), (step_x, step_y)) = block_fields(x, y, i, j)?;
+    Ok(Spelled::one(Command::Repeat(Block {
+        columns,
+        rows,
+        step_x,
+        step_y,
+    })))
+}
+
+/// The beginning of a step and repeat block.
+#[tactic(auto, unfolding(crate::specs::Pieces::repeat_start))]
+fn read_repeat_start(text: &[u8]) -> Row
+    ensures { result ≡ repeat_start text.now }
+{
+    let (x, rest) = digits_field(b'X', text);
+    let (y, rest) = digits_field(b'Y', rest);
+    let (i, rest) = number_field(b'I', rest);
+    let (j, rest) = number_field(b'J', rest);
+    match (x, y, i, j, rest) {
+        (Some(x), Some(y), Some(i), Some(j), []) => Some(read_block(x, y, i, j)),
+        _ => None,
+    }
+}
+
+/// A step and repeat block, or its end.
+#[tactic(auto, unfolding(crate::specs::Pieces::repeat_row))]
+fn read_repeat(text: &[u8]) -> Row
+    ensures { result ≡ repeat_row text.now }
+{
+    if text == b"SR".as_slice() {
+        return Some(Ok(Spelled::one(Command::RepeatEnd)));
+    }
+    match behind(b"SR", text) {
+        Some(rest) => read_repeat_start(rest),
+        None => read_repeat_start(&[]),
+    }
+}
+
+/// A file attribute.
+#[tactic(auto, unfolding(crate::specs::Pieces::file_attribute))]
+fn read_file_attribute(alloc: Global, text: &[u8]) -> Result<Spelled, ItemFail>
+    ensures { Gives result (file_attribute text.now) }
+{
+    if is_negative_image(text) {
+        return Err(ItemFail::Refused(Reason::NegativeImage));
+    }
+    let text = Text::from_slice(alloc, text)?;
+    Ok(Spelled::one(Command::Attribute(AttributeKind::File, text)))
+}
+
+/// An attribute of apertures or objects.
+#[tactic(auto, unfolding(crate::specs::Pieces::attribute))]
+fn read_attribute(alloc: Global, kind: AttributeKind, text: &[u8]) -> Result<Spelled, ItemFail>
+    ensures { Gives result (attribute kind text.now) }
+{
+    let text = Text::from_slice(alloc, text)?;
+    Ok(Spelled::one(Command::Attribute(kind, text)))
+}
+
+/// Attributes that are deleted.
+#[tactic(auto, unfolding(crate::specs::Pieces::removal))]
+fn read_removal(alloc: Global, text: &[u8]) -> Result<Spelled, ItemFail>
+    ensures { Gives result (removal text.now) }
+{
+    let text = Text::from_slice(alloc, text)?;
+    Ok(Spelled::one(Command::Remove(text)))
+}
+
+/// Whether a decimal is of so many units, or left out.
+fn may_be(units: i64, run: Option<&[u8]>) -> bool
+    ensures { result ≡ may_be units (option_copied run.entry) }
+{
+    match run {
+        None => true,
+        Some(run) => match Dec::read(run) {
+            Ok(dec) => dec.units() == units,
+            Err(_) => false,
+        },
+    }
+}
+
+/// `IR` and a decimal of 0.
+fn turns_nothing(text: &[u8]) -> bool
+    ensures { result ≡ turns_nothing text.now }
+{
+    let run = behind(b"IR", text);
+    run.is_some() && may_be(0, run)
+}
+
+/// A decimal of so many units on both axes, where they stand.
+#[tactic(auto, unfolding(crate::specs::Pieces::axes_are))]
+fn axes_are(units: i64, text: &[u8]) -> bool
+    ensures { result ≡ axes_are units text.now }
+{
+    let (a, rest) = number_field(b'A', text);
+    let (b, rest) = number_field(b'B', rest);
+    rest.is_empty() && may_be(units, a) && may_be(units, b)
+}
+
+/// A parameter with so many units on both axes.
+fn leaves(prefix: &[u8], units: i64, text: &[u8]) -> bool
+    ensures { result ≡ leaves prefix.now units text.now }
+{
+    match behind(prefix, text) {
+        Some(rest) => axes_are(units, rest),
+        None => false,
+    }
+}
+
+fn begins(prefix: &[u8], text: &[u8]) -> bool
+    ensures { result ≡ is_some (behind prefix.now text.now) }
+{
+    behind(prefix, text).is_some()
+}
+
+/// Parameters without effect.
+#[tactic(auto, unfolding(crate::specs::Pieces::plain_row))]
+fn read_plain(text: &[u8]) -> Row
+    ensures { result ≡ plain_row text.now }
+{
+    if text == b"IPPOS".as_slice()
+        || turns_nothing(text)
+        || text == b"ASAXBY".as_slice()
+        || begins(b"IN", text)
+        || begins(b"LN", text)
+    {
+        Some(Ok(Spelled::nothing()))
+    } else {
+        None
+    }
+}
+
+/// `OF` and `MI` with zeros, `SF` with ones.
+#[tactic(auto, unfolding(crate::specs::Pieces::axes_row))]
+fn read_axes(text: &[u8]) -> Row
+    ensures { result ≡ axes_row text.now }
+{
+    if leaves(b"OF", 0, text) || leaves(b"MI", 0, text) || leaves(b"SF", 100_000_000, text) {
+        Some(Ok(Spelled::nothing()))
+    } else {
+        None
+    }
+}
+
+/// A negative image.
+#[tactic(auto, unfolding(crate::specs::Pieces::negative_row))]
+fn read_negative(text: &[u8]) -> Row
+    ensures { result ≡ negative_row text.now }
+{
+    if text == b"IPNEG".as_slice() {
+        Some(Err(Reason::NegativeImage))
+    } else {
+        None
+    }
+}
+
+/// Older parameters with an effect.
+#[tactic(auto, unfolding(crate::specs::Pieces::old_piece_row))]
+fn read_old(text: &[u8]) -> Row
+    ensures { result ≡ old_piece_row text.now }
+{
+    if begins(b"OF", text)
+        || begins(b"MI", text)
+        || begins(b"SF", text)
+        || begins(b"AS", text)
+        || begins(b"IR", text)
+    {
+        Some(Err(Reason::OldParameter))
+    } else {
+        None
+    }
+}
+
+/// A block aperture.
+#[tactic(auto, unfolding(crate::specs::Pieces::block_row))]
+fn read_block_aperture(text: &[u8]) -> Row
+    ensures { result ≡ block_row text.now }
+{
+    if begins(b"AB", text) {
+        Some(Err(Reason::BlockAperture))
+    } else {
+        None
+    }
+}
+
+/// The older parameters.
+fn read_older(text: &[u8]) -> Result<Spelled, Reason>
+    ensures { result ≡ first_fit (older_pieces text.now) }
+{
+    if let Some(answer) = read_plain(text) {
+        answer
+    } else if let Some(answer) = read_axes(text) {
+        answer
+    } else if let Some(answer) = read_negative(text) {
+        answer
+    } else if let Some(answer) = read_old(text) {
+        answer
+    } else if let Some(answer) = read_block_aperture(text) {
+        answer
+    } else {
+        Err(Reason::BadWord)
+    }
+}
+
+/// The rows from attributes on.
+fn read_from_attributes(alloc: Global, text: &[u8]) -> Result<Spelled, ItemFail>
+    ensures { Gives result (first_fit (pieces_from_attributes text.now)) }
+{
+    if let Some(rest) = behind(b"TF", text) {
+        return read_file_attribute(alloc, rest);
+    }
+    if let Some(rest) = behind(b"TA", text) {
+        return read_attribute(alloc, AttributeKind::Aperture, rest);
+    }
+    if let Some(rest) = behind(b"TO", text) {
+        return read_attribute(alloc, AttributeKind::Object, rest);
+    }
+    if let Some(rest) = behind(b"TD", text) {
+        return read_removal(alloc, rest);
+    }
+    Ok(read_older(text)?)
+}
+
+/// The rows from polarity on.
+fn read_from_polarity(alloc: Global, text: &[u8]) -> Result<Spelled, ItemFail>
+    ensures { Gives result (first_fit (pieces_from_polarity text.now)) }
+{
+    if let Some(answer) = read_polarity(text) {
+        return Ok(answer?);
+    }
+    if let Some(answer) = read_mirror(text) {
+        return Ok(answer?);
+    }
+    if let Some(answer) = read_transform(text) {
+        return Ok(answer?);
+    }
+    if let Some(answer) = read_repeat(text) {
+        return Ok(answer?);
+    }
+    read_from_attributes(alloc, text)
+}
+
+/// All rows.
+fn read_pieces(alloc: Global, text: &[u8]) -> Result<Spelled, ItemFail>
+    ensures { Gives result (first_fit (pieces text.now)) }
+{
+    if let Some(answer) = read_system(text) {
+        return Ok(answer?);
+    }
+    if let Some(answer) = read_format(text) {
+        return Ok(answer?);
+    }
+    if let Some(answer) = read_unit(text) {
+        return Ok(answer?);
+    }
+    if let Some(rest) = behind(b"ADD", text) {
+        return read_define(alloc, rest);
+    }
+    if let Some(rest) = behind(b"AM", text) {
+        return read_macro(alloc, rest);
+    }
+    read_from_polarity(alloc, text)
+}
+
+fn has_star(text: &[u8]) -> bool
+    ensures { result ≡ list_any (λ b. b == 42) text.now }
+{
+    text.iter().any(|byte| *byte == b'*')
+}
+
+/// Pieces without their last `*`.
+#[tactic(auto, unfolding(crate::specs::Pieces::piece))]
+fn read_piece(alloc: Global, text: &[u8]) -> Result<Spelled, ItemFail>
+    ensures { Gives result (piece text.now) }
+{
+    if has_star(text) && !begins(b"AM", text) {
+        return Err(ItemFail::Refused(Reason::SeveralInOne));
+    }
+    read_pieces(alloc, text)
+}
+
+/// The bytes before a last `*`.
+fn before_star(text: &[u8]) -> Option<&[u8]>
+    ensures none { IfNone result (is (last_byte text.now) (codes "*") ≡ false) }
+    ensures some { IfSome result (λ front. (is (last_byte text.now) (codes "*") ≡ true) × (front.now ≡ before_last text.now)) }
+{
+    match text {
+        [front @ .., b'*'] => Some(front),
+        _ => None,
+    }
+}
+
+/// An extended item between its two `%`.
+#[tactic(auto, unfolding(crate::specs::Pieces::extended))]
+pub(crate) fn read_extended(alloc: Global, text: &[u8]) -> Result<Spelled, ItemFail>
+    ensures { Gives result (extended text.now) }
+{
+    match before_star(text) {
+        Some(front) => read_piece(alloc, front),
+        None => Err(ItemFail::Refused(Reason::BadWord)),
+    }
+}

@@ -1,0 +1,495 @@
+//! Words: the rows of the table of words, in its order.
+
+ghost use Rattle.std.specs.Prelude.{◌≡◌, ◌≤◌, ◌==◌, ◌||◌, not, length, is_some, Some, Ok};
+ghost use Rattle.std.specs.List.{list_any, list_all, prefix_len};
+ghost use Rattle.std.specs.Option.{option_copied, option_map};
+ghost use Rattle.grid_units.specs.Results.{both};
+ghost use Rattle.gerber_rows.specs.Meaning.{Gives};
+ghost use Rattle.grid_units.specs.Numbers.{is_digit};
+ghost use Rattle.gerber_rows.specs.Words.{nothing_row, first_field, is_negative_image, behind_spaces, comments_negative, comment, mode_front, mode_row, quadrant_row, region_row, unit_row, incremental_row, action, numbered, alone, prepared, select_row, coordinate, action_with, kind, fields, names_action, is_operation, has_offsets, operands, operate, operation_row, finish_row, old_row, later_words, word};
+ghost use Rattle.gerber_rows.specs.Rows.{first_fit};
+ghost use Rattle.gerber_rows.specs.Runs.{fields_of};
+
+use crate::command::{Action, Command, Interpolation, QuadrantMode, Spelled};
+use crate::fields::{behind, digits_field, number_field};
+use crate::item::ItemFail;
+use crate::number::{read_int, read_nat};
+use grid_units::numbers::are_all_digits;
+use grid_units::{Reason, Text, Unit, both};
+use std::alloc::Global;
+
+type Row = Option<Result<Spelled, Reason>>;
+
+/// The empty word, and absolute coordinates.
+#[tactic(auto, unfolding(crate::specs::Words::nothing_row))]
+fn read_nothing(text: &[u8]) -> Row
+    ensures { result ≡ nothing_row text.now }
+{
+    if text.is_empty() || text == b"G90".as_slice() {
+        Some(Ok(Spelled::nothing()))
+    } else {
+        None
+    }
+}
+
+fn is_plain(byte: u8) -> bool
+    ensures { result ≡ not (byte == 44) }
+{
+    byte != b','
+}
+
+/// How many bytes stand before the first comma.
+pub(crate) fn plain_len(text: &[u8]) -> usize
+    ensures within { result ≤ length text.now }
+    ensures len { result ≡ prefix_len (λ b. not (b == 44)) text.now }
+{
+    for (i, byte) in text.iter().enumerate() {
+        if !is_plain(*byte) {
+            return i;
+        }
+    }
+    text.len()
+}
+
+/// What stands before the first comma.
+pub(crate) fn first_field(text: &[u8]) -> &[u8]
+    ensures { result.now ≡ first_field text.now }
+{
+    text.split_at(plain_len(text)).0
+}
+
+/// Whether a file attribute makes the image negative.
+pub(crate) fn is_negative_image(attribute: &[u8]) -> bool
+    ensures { result ≡ is_negative_image attribute.now }
+{
+    match behind(b".FilePolarity,", attribute) {
+        Some(value) => first_field(value) == b"Negative".as_slice(),
+        None => false,
+    }
+}
+
+fn is_space(byte: u8) -> bool
+    ensures { result ≡ (byte == 32) }
+{
+    byte == b' '
+}
+
+/// How many spaces stand in front.
+fn spaces_len(text: &[u8]) -> usize
+    ensures within { result ≤ length text.now }
+    ensures len { result ≡ prefix_len (λ b. b == 32) text.now }
+{
+    for (i, byte) in text.iter().enumerate() {
+        if !is_space(*byte) {
+            return i;
+        }
+    }
+    text.len()
+}
+
+/// The text from its first byte on that is no space.
+fn behind_spaces(text: &[u8]) -> &[u8]
+    ensures { result.now ≡ behind_spaces text.now }
+{
+    text.split_at(spaces_len(text)).1
+}
+
+/// Whether a comment holds such a file attribute.
+fn comments_negative(text: &[u8]) -> bool
+    ensures { result ≡ comments_negative text.now }
+{
+    match behind(b"#@! TF", behind_spaces(text)) {
+        Some(attribute) => is_negative_image(attribute),
+        None => false,
+    }
+}
+
+/// A comment.
+#[tactic(auto, unfolding(crate::specs::Words::comment))]
+fn read_comment(alloc: Global, text: &[u8]) -> Result<Spelled, ItemFail>
+    ensures { Gives result (comment text.now) }
+{
+    if comments_negative(text) {
+        return Err(ItemFail::Refused(Reason::NegativeImage));
+    }
+    let text = Text::from_slice(alloc, text)?;
+    Ok(Spelled::one(Command::Comment(text)))
+}
+
+/// The interpolation in front of a word, and what stands behind it.
+#[tactic(auto, unfolding(crate::specs::Words::mode_front))]
+fn mode_front(text: &[u8]) -> (Option<Interpolation>, &[u8])
+    ensures mode { result.0 ≡ (mode_front text.now).0 }
+    ensures rest { result.1.now ≡ (mode_front text.now).1 }
+{
+    if let Some(rest) = behind(b"G01", text) {
+        (Some(Interpolation::Linear), rest)
+    } else if let Some(rest) = behind(b"G1", text) {
+        (Some(Interpolation::Linear), rest)
+    } else if let Some(rest) = behind(b"G02", text) {
+        (Some(Interpolation::Clockwise), rest)
+    } else if let Some(rest) = behind(b"G2", text) {
+        (Some(Interpolation::Clockwise), rest)
+    } else if let Some(rest) = behind(b"G03", text) {
+        (Some(Interpolation::Counterclockwise), rest)
+    } else if let Some(rest) = behind(b"G3", text) {
+        (Some(Interpolation::Counterclockwise), rest)
+    } else {
+        (None, text)
+    }
+}
+
+/// An interpolation alone.
+#[tactic(auto, unfolding(crate::specs::Words::mode_row))]
+fn read_mode(text: &[u8]) -> Row
+    ensures { result ≡ mode_row text.now }
+{
+    match mode_front(text) {
+        (Some(mode), []) => Some(Ok(Spelled::mode(mode))),
+        _ => None,
+    }
+}
+
+/// How an arc's centre is found.
+#[tactic(auto, unfolding(crate::specs::Words::quadrant_row))]
+fn read_quadrant(text: &[u8]) -> Row
+    ensures { result ≡ quadrant_row text.now }
+{
+    if text == b"G74".as_slice() {
+        Some(Ok(Spelled::one(Command::Quadrant(QuadrantMode::Single))))
+    } else if text == b"G75".as_slice() {
+        Some(Ok(Spelled::one(Command::Quadrant(QuadrantMode::Multi))))
+    } else {
+        None
+    }
+}
+
+/// The ends of a region.
+#[tactic(auto, unfolding(crate::specs::Words::region_row))]
+fn read_region(text: &[u8]) -> Row
+    ensures { result ≡ region_row text.now }
+{
+    if text == b"G36".as_slice() {
+        Some(Ok(Spelled::one(Command::RegionStart)))
+    } else if text == b"G37".as_slice() {
+        Some(Ok(Spelled::one(Command::RegionEnd)))
+    } else {
+        None
+    }
+}
+
+/// The unit.
+#[tactic(auto, unfolding(crate::specs::Words::unit_row))]
+fn read_unit(text: &[u8]) -> Row
+    ensures { result ≡ unit_row text.now }
+{
+    if text == b"G70".as_slice() {
+        Some(Ok(Spelled::one(Command::UnitIs(Unit::Inch))))
+    } else if text == b"G71".as_slice() {
+        Some(Ok(Spelled::one(Command::UnitIs(Unit::Millimetre))))
+    } else {
+        None
+    }
+}
+
+/// Incremental coordinates.
+#[tactic(auto, unfolding(crate::specs::Words::incremental_row))]
+fn read_incremental(text: &[u8]) -> Row
+    ensures { result ≡ incremental_row text.now }
+{
+    if text == b"G91".as_slice() {
+        Some(Err(Reason::Incremental))
+    } else {
+        None
+    }
+}
+
+/// The operation of a D code.
+fn action_of(number: u32) -> Result<Action, Reason>
+    ensures { result ≡ action number }
+{
+    match number {
+        1 => Ok(Action::Plot),
+        2 => Ok(Action::Move),
+        3 => Ok(Action::Flash),
+        _ => Err(Reason::BadWord),
+    }
+}
+
+/// The digits behind a prefix, where nothing else stands there.
+fn numbered<'a>(prefix: &[u8], text: &'a [u8]) -> Option<&'a [u8]>
+    ensures { option_copied result ≡ numbered prefix.now text.now }
+{
+    match behind(prefix, text) {
+        Some(digits) if are_all_digits(digits) => Some(digits),
+        _ => None,
+    }
+}
+
+/// `D` and a number.
+#[tactic(auto, unfolding(crate::specs::Words::alone))]
+fn read_alone(digits: &[u8]) -> Result<Spelled, Reason>
+    ensures { result ≡ alone digits.now }
+{
+    let number = read_nat(digits)?;
+    if number >= 10 {
+        return Ok(Spelled::one(Command::Select(number)));
+    }
+    let action = action_of(number)?;
+    Ok(Spelled::one(Command::Operate {
+        action,
+        x: None,
+        y: None,
+        i: None,
+        j: None,
+    }))
+}
+
+/// `G54D` and a number.
+#[tactic(auto, unfolding(crate::specs::Words::prepared))]
+fn read_prepared(digits: &[u8]) -> Result<Spelled, Reason>
+    ensures { result ≡ prepared digits.now }
+{
+    let number = read_nat(digits)?;
+    if number >= 10 {
+        Ok(Spelled::one(Command::Select(number)))
+    } else {
+        Err(Reason::BadWord)
+    }
+}
+
+/// `D` and a number, or `G54D` and a number.
+#[tactic(auto, unfolding(crate::specs::Words::select_row))]
+fn read_select(text: &[u8]) -> Row
+    ensures { result ≡ select_row text.now }
+{
+    if let Some(digits) = numbered(b"D", text) {
+        Some(read_alone(digits))
+    } else if let Some(digits) = numbered(b"G54D", text) {
+        Some(read_prepared(digits))
+    } else {
+        None
+    }
+}
+
+/// A coordinate, which may be left out.
+#[tactic(auto, unfolding(crate::specs::Words::coordinate))]
+fn coordinate_of(run: Option<&[u8]>) -> Result<Option<i64>, Reason>
+    ensures { result ≡ coordinate (option_copied run.entry) }
+{
+    match run {
+        None => Ok(None),
+        Some(run) => Ok(Some(read_int(run)?)),
+    }
+}
+
+/// What an operation with coordinates does.
+#[tactic(auto, unfolding(crate::specs::Words::kind))]
+fn kind_of(plotting: bool, offsets: bool, digits: Option<&[u8]>) -> Result<Action, Reason>
+    ensures { result ≡ kind plotting offsets (option_copied digits.entry) }
+{
+    match digits {
+        None if plotting => Ok(Action::Plot),
+        None => Err(Reason::BareCoordinate),
+        Some(digits) => action_with(offsets, read_nat(digits)?),
+    }
+}
+
+/// The operation of a D code beside coordinates: offsets stand with a plot alone.
+fn action_with(offsets: bool, number: u32) -> Result<Action, Reason>
+    ensures { result ≡ action_with offsets number }
+{
+    let action = action_of(number)?;
+    if offsets && number != 1 {
+        Err(Reason::BadWord)
+    } else {
+        Ok(action)
+    }
+}
+
+/// The fields of an operation, each as a run where its letter stands, and what stands behind them.
+#[derive(Clone, Copy)]
+struct Runs<'a> {
+    x: Option<&'a [u8]>,
+    y: Option<&'a [u8]>,
+    i: Option<&'a [u8]>,
+    j: Option<&'a [u8]>,
+    d: Option<&'a [u8]>,
+    rest: &'a [u8],
+}
+
+/// The fields in their order.
+#[tactic(auto, unfolding(crate::specs::Words::fields))]
+fn fields(text: &[u8]) -> Runs<'_>
+    ensures { fields_of result ≡ fields text.now }
+{
+    let (x, rest) = number_field(b'X', text);
+    let (y, rest) = number_field(b'Y', rest);
+    let (i, rest) = number_field(b'I', rest);
+    let (j, rest) = number_field(b'J', rest);
+    let (d, rest) = digits_field(b'D', rest);
+    Runs {
+        x,
+        y,
+        i,
+        j,
+        d,
+        rest,
+    }
+}
+
+/// Whether this is a D code of 1, 2 or 3.
+#[tactic(auto, unfolding(crate::specs::Words::names_action))]
+fn names_action(digits: Option<&[u8]>) -> bool
+    ensures { result ≡ names_action (option_copied digits.entry) }
+{
+    match digits {
+        Some(digits) => match read_nat(digits) {
+            Ok(number) => action_of(number).is_ok(),
+            Err(_) => false,
+        },
+        None => false,
+    }
+}
+
+/// At least one coordinate, or a D code of 1, 2 or 3.
+fn is_operation(f: &Runs<'_>) -> bool
+    ensures { result ≡ is_operation (fields_of f.now) }
+{
+    f.rest.is_empty()
+        && (f.x.is_some() || f.y.is_some() || f.i.is_some() || f.j.is_some() || names_action(f.d))
+}
+
+/// The values of the fields: x and y, i and j, and what is done.
+type Operands = (
+    ((Option<i64>, Option<i64>), (Option<i64>, Option<i64>)),
+    Action,
+);
+
+/// Two coordinates.
+fn pair_of(
+    first: Option<&[u8]>,
+    second: Option<&[u8]>,
+) -> Result<(Option<i64>, Option<i64>), Reason>
+    ensures { result ≡ both (coordinate (option_copied first.entry)) (coordinate (option_copied second.entry)) }
+{
+    both(coordinate_of(first), coordinate_of(second))
+}
+
+/// Whether an offset stands there.
+fn has_offsets(f: &Runs<'_>) -> bool
+    ensures { result ≡ has_offsets (fields_of f.now) }
+{
+    f.i.is_some() || f.j.is_some()
+}
+
+/// The values of these fields.
+#[tactic(auto, unfolding(crate::specs::Words::operands))]
+fn read_operands(plotting: bool, f: &Runs<'_>) -> Result<Operands, Reason>
+    ensures { result ≡ operands plotting (fields_of f.now) }
+{
+    let coordinates = both(pair_of(f.x, f.y), pair_of(f.i, f.j));
+    both(coordinates, kind_of(plotting, has_offsets(f), f.d))
+}
+
+/// The operation of these fields.
+#[tactic(auto, unfolding(crate::specs::Words::operate))]
+fn read_operate(
+    plotting: bool,
+    mode: Option<Interpolation>,
+    f: &Runs<'_>,
+) -> Result<Spelled, Reason>
+    ensures { result ≡ operate plotting mode (fields_of f.now) }
+{
+    let (((x, y), (i, j)), action) = read_operands(plotting, f)?;
+    Ok(Spelled::both(mode, Command::Operate { action, x, y, i, j }))
+}
+
+/// An interpolation that may stand in front, and an operation.
+#[tactic(auto, unfolding(crate::specs::Words::operation_row))]
+fn read_operation(plotting: bool, text: &[u8]) -> Row
+    ensures { result ≡ operation_row plotting text.now }
+{
+    let (mode, rest) = mode_front(text);
+    let f = fields(rest);
+    if is_operation(&f) {
+        Some(read_operate(plotting, mode, &f))
+    } else {
+        None
+    }
+}
+
+/// The end of the text.
+#[tactic(auto, unfolding(crate::specs::Words::finish_row))]
+fn read_finish(text: &[u8]) -> Row
+    ensures { result ≡ finish_row text.now }
+{
+    if text == b"M02".as_slice() || text == b"M2".as_slice() {
+        Some(Ok(Spelled::one(Command::Finish)))
+    } else {
+        None
+    }
+}
+
+/// Stops and line numbers.
+#[tactic(auto, unfolding(crate::specs::Words::old_row))]
+fn read_old(text: &[u8]) -> Row
+    ensures { result ≡ old_row text.now }
+{
+    let stops = text == b"M00".as_slice() || text == b"M01".as_slice();
+    if stops || behind(b"N", text).is_some() {
+        Some(Err(Reason::OldParameter))
+    } else {
+        None
+    }
+}
+
+fn has_percent(text: &[u8]) -> bool
+    ensures { result ≡ list_any (λ b. b == 37) text.now }
+{
+    text.iter().any(|b| *b == b'%')
+}
+
+/// The rows behind those of comments, in their order.
+fn read_later(plotting: bool, text: &[u8]) -> Result<Spelled, Reason>
+    ensures { result ≡ first_fit (later_words plotting text.now) }
+{
+    if let Some(answer) = read_mode(text) {
+        answer
+    } else if let Some(answer) = read_quadrant(text) {
+        answer
+    } else if let Some(answer) = read_region(text) {
+        answer
+    } else if let Some(answer) = read_unit(text) {
+        answer
+    } else if let Some(answer) = read_incremental(text) {
+        answer
+    } else if let Some(answer) = read_select(text) {
+        answer
+    } else if let Some(answer) = read_operation(plotting, text) {
+        answer
+    } else if let Some(answer) = read_finish(text) {
+        answer
+    } else if let Some(answer) = read_old(text) {
+        answer
+    } else {
+        Err(Reason::BadWord)
+    }
+}
+
+/// A word without its `*`.
+#[tactic(auto, unfolding(crate::specs::Words::word))]
+pub(crate) fn read_word(alloc: Global, plotting: bool, text: &[u8]) -> Result<Spelled, ItemFail>
+    ensures { Gives result (word plotting text.now) }
+{
+    if has_percent(text) {
+        return Err(ItemFail::Refused(Reason::BadWord));
+    }
+    if let Some(answer) = read_nothing(text) {
+        return Ok(answer?);
+    }
+    if let Some(comment) = behind(b"G04", text) {
+        return read_comment(alloc, comment);
+    }
+    Ok(read_later(plotting, text)?)
+}

@@ -1,0 +1,9 @@
+pub mod Marks
+pub mod RoundTrip
+pub mod Shown
+pub mod Spelling
+pub mod Splitting
+pub mod Steps
+pub mod Unique
+pub mod Whole
+pub mod Written

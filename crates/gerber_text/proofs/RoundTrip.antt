@@ -1,0 +1,87 @@
+-- The canonical text of a sayable list spells just this list.
+use Rattle.std.proofs.Common.{◌≡◌, ℕ, suc, ◌+◌, ◌≤◌, Bool, true, false, cond, not, ◌||◌, List, [], ◌∷◌, ◌++◌, length, map, Ok, refl, sym, ap, subst, ◌∙◌, arith, append_assoc}
+use Rattle.std.specs.List.{flat_map}
+use Rattle.std.proofs.lemmas.List.{append-nil, length-append}
+use Rattle.std.proofs.lemmas.Bool.{le-ltb, false≢true}
+use Rattle.grid_units.specs.Results.{◌>>=◌}
+use Rattle.gerber_rows.specs.declared.command.Command.{Command}
+use Rattle.gerber_rows.specs.Items.{is_line_break, is_end, IsItem}
+use Rattle.gerber_rows.specs.Canonical.{canonical}
+use Rattle.gerber_text.specs.Cut.{Mark, marks_from, marks, bytes_of, first_offset, has_end, AreItems, Splits}
+use Rattle.gerber_text.specs.Reading.{Entries, is_plotting, spelled, commands_from, placed, text_limit}
+use Rattle.gerber_text.specs.Writing.{lines, unbroken, Spells, IsSayable, without_places, ReadsAs}
+use Rattle.gerber_text.proofs.Marks.{marks_from-append}
+use Rattle.gerber_text.proofs.Shown.{shown_ended}
+use Rattle.gerber_text.proofs.Whole.{reads_ok}
+
+-- the bytes of marks are those that are no line breaks
+bytes_of_marks : (n : ℕ) (text : List ℕ) → bytes_of (marks_from n text) ≡ unbroken text
+bytes_of_marks n [] = refl
+bytes_of_marks n (b ∷ bs) = by (is_line_break b) (bytes_of_marks (n + 1) bs)
+  where
+    by : (t : Bool) → bytes_of (marks_from (n + 1) bs) ≡ unbroken bs → bytes_of (cond (not t) ((n, b) ∷ marks_from (n + 1) bs) (marks_from (n + 1) bs)) ≡ cond (not t) (b ∷ unbroken bs) (unbroken bs)
+    by true h = h
+    by false h = ap (λ (x : List ℕ). b ∷ x) h
+
+-- the marks of each canonical item, the first at this offset
+marked : ℕ → List Command → List (List Mark)
+marked n [] = []
+marked n (c ∷ cs) = marks_from n (canonical c) ∷ marked (n + length (canonical c) + 1) cs
+
+record Found (n place : ℕ) (cs : List Command) (before : Entries) : Type 0 where
+  more : Entries
+  whole : marks_from n (lines cs) ≡ flat_map (λ (i : List Mark). i) (marked n cs)
+  each : AreItems (marked n cs)
+  ends : has_end (marked n cs) ≡ true
+  commands : commands_from place (marked n cs) before ≡ Ok (before ++ more)
+  same : without_places more ≡ cs
+
+says : (place n : ℕ) (c : Command) (before : Entries) → Spells (canonical c) c → spelled place (first_offset (marks_from n (canonical c))) (bytes_of (marks_from n (canonical c))) before ≡ Ok (before ++ placed place (first_offset (marks_from n (canonical c))) (c ∷ []))
+unfolding spelled
+says place n c before s = rw (bytes_of_marks n (canonical c), le-ltb _ _ s.short, s.says (is_plotting before)) refl
+
+-- an item and its line end leave the item's marks
+one_line : (n : ℕ) (text rest : List ℕ) → marks_from n ((text ++ 10 ∷ []) ++ rest) ≡ marks_from n text ++ marks_from (n + length text + 1) rest
+one_line n text rest =
+    let at : n + length (text ++ 10 ∷ []) ≡ n + length text + 1 = omega (arith, length-append text (10 ∷ [])) in
+    let front : marks_from n (text ++ 10 ∷ []) ≡ marks_from n text = marks_from-append n text (10 ∷ []) ∙ append-nil (marks_from n text) in
+    marks_from-append n (text ++ 10 ∷ []) rest ∙ (ap (λ (x : List Mark). x ++ marks_from (n + length (text ++ 10 ∷ [])) rest) front ∙ ap (λ k. marks_from n text ++ marks_from k rest) at)
+
+is_one : (n : ℕ) (c : Command) → Spells (canonical c) c → IsItem (bytes_of (marks_from n (canonical c)))
+is_one n c s = subst IsItem (sym (bytes_of_marks n (canonical c))) s.one
+
+found : (n place : ℕ) (cs : List Command) (before : Entries) → IsSayable cs → Found n place cs before
+unfolding marked
+found n place [] before h = absurd h
+found n place (c ∷ []) before h =
+    let first = first_offset (marks_from n (canonical c)) in
+    record {
+      more = placed place first (c ∷ []);
+      whole = one_line n (canonical c) [];
+      each = (is_one n c h.0, λ _. refl, tt);
+      ends = ap (λ (b : List ℕ). is_end b || false) (bytes_of_marks n (canonical c)) ∙ ap (λ t. t || false) h.1;
+      commands = ap (λ r. r >>= λ x. Ok x) (says place n c before h.0);
+      same = refl;
+    }
+found n place (c ∷ d ∷ cs) before h =
+    let first = first_offset (marks_from n (canonical c)) in
+    let now = placed place first (c ∷ []) in
+    let rest = found (n + length (canonical c) + 1) (suc place) (d ∷ cs) (before ++ now) h.2 in
+    let not_end : is_end (bytes_of (marks_from n (canonical c))) ≡ false = ap is_end (bytes_of_marks n (canonical c)) ∙ h.1 in
+    record {
+      more = now ++ rest.more;
+      whole = one_line n (canonical c) (lines (d ∷ cs)) ∙ ap (λ (x : List Mark). marks_from n (canonical c) ++ x) rest.whole;
+      each = (is_one n c h.0, λ e. absurd (false≢true (sym not_end ∙ e)), rest.each);
+      ends = ap (λ t. t || has_end (marked (n + length (canonical c) + 1) (d ∷ cs))) not_end ∙ rest.ends;
+      commands = ap (λ r. r >>= commands_from (suc place) (marked (n + length (canonical c) + 1) (d ∷ cs))) (says place n c before h.0) ∙ (rest.commands ∙ ap (λ (x : Entries). Ok x) (append_assoc before now rest.more));
+      same = ap (λ (x : List Command). c ∷ x) rest.same;
+    }
+
+pub reads_as : (cs : List Command) (text : List ℕ) → text ≡ lines cs → length text ≤ text_limit → IsSayable cs → ReadsAs text cs
+reads_as cs text is le h =
+    let f = found 0 1 cs [] h in
+    let all = marked 0 cs in
+    let splits : Splits (marks (lines cs)) all [] = record { whole = f.whole ∙ sym (append-nil (flat_map (λ (i : List Mark). i) all)); each = f.each; partial = λ none. absurd (false≢true (sym none ∙ f.ends)) } in
+    let short : length (lines cs) ≤ text_limit = subst (λ (t : List ℕ). length t ≤ text_limit) is le in
+    let whole : ReadsAs (lines cs) cs = record { entries = f.more; reads = reads_ok (lines cs) all [] f.more splits (shown_ended all [] f.more f.ends f.commands) f.ends short; same = f.same } in
+    subst (λ (t : List ℕ). ReadsAs t cs) (sym is) whole

@@ -1,0 +1,38 @@
+use Rattle.std.proofs.Common.{◌≡◌, ℕ, List, [], ◌∷◌, ◌++◌, length, refl, sym, ap, subst, ◌∙◌, arith}
+use Rattle.std.proofs.lemmas.Bool.{eqb-false}
+use Rattle.std.proofs.lemmas.List.{length-append, nil_from_length}
+use Rattle.gerber_rows.specs.Items.{IsUnfinished}
+use Rattle.gerber_text.specs.Cut.{Mark, Splits, marks, bytes_of}
+use Rattle.gerber_text.proofs.Shown.{running_ok, show_ok, out_of_memory}
+use Rattle.std.proofs.lemmas.Result.{err_from_is_err_and}
+use Rattle.gerber_text.proofs.Splitting.{Splits-grow, IsUnfinished-one}
+use Rattle.gerber_text.proofs.Steps.{marks-push, length-bytes_of}
+use Rattle.gerber_text.proofs.reader.Progress.begin.Goals as goal
+
+pub returns-clause-ok : goal.returns-clause-ok
+returns-clause-ok c text h =
+    let b = c.args.byte in
+    let m : Mark = (length text, b) in
+    let none = sym h.ended ∙ c.requires.running in
+    let is = h.pending none in
+    let item_empty : c.args.self.now.item.items ≡ [] = nil_from_length _ (omega (arith, c.args.self.now.item.ok.0, c.requires.fresh)) in
+    let rest_empty : h.rest ≡ [] = nil_from_length h.rest (sym (length-bytes_of h.rest) ∙ (ap length (sym is) ∙ ap length item_empty)) in
+    let one : h.rest ++ m ∷ [] ≡ m ∷ [] = ap (λ (r : List Mark). r ++ m ∷ []) rest_empty in
+    let before = running_ok h.items h.rest _ none h.commands in
+    let grown = Splits-grow (marks text) h.items h.rest (m ∷ []) h.splits (λ _. subst (λ (r : List Mark). IsUnfinished (bytes_of r)) (sym one) (IsUnfinished-one b (eqb-false b 42 c.requires.inside.0))) in
+    record {
+      items = h.items;
+      rest = m ∷ [];
+      splits = subst (λ (r : List Mark). Splits (marks (text ++ b ∷ [])) h.items r) one (subst (λ (ms : List Mark). Splits ms h.items (h.rest ++ m ∷ [])) (sym (marks-push text b c.requires.inside.1)) grown);
+      commands = show_ok h.items (m ∷ []) _ none before.0 (omega arith);
+      count = h.count;
+      pending = λ _. c.in_ok-push.ensures.items ∙ ap (λ (x : List ℕ). x ++ b ∷ []) item_empty;
+      start = λ _ _. h.offset;
+      offset = omega (arith, h.offset, length-append text (b ∷ []));
+      ended = h.ended;
+    }
+
+pub returns-in_err-push-clause-err : goal.returns-in_err-push-clause-err
+returns-in_err-push-clause-err c =
+    let p = err_from_is_err_and c.from_residual.result c.from_residual.ensures.1 in
+    rw (p.1, p.2) (out_of_memory c.args.self.now c.args.self.now.commands.items (c.args.byte ∷ []) refl)

@@ -1,0 +1,87 @@
+use Rattle.std.proofs.Common.{refl, ◌≡◌, ◌+◌, ◌<◌, false, ℕ, List, [], ◌∷◌, ◌++◌, Err, length, Ok, sym, ap, subst, ◌∙◌, arith}
+use Rattle.std.proofs.lemmas.List.{length-append}
+use Rattle.gerber_text.specs.declared.reader.Progress.{Progress}
+use Rattle.gerber_rows.specs.Items.{ender, is_end}
+use Rattle.gerber_text.specs.Cut.{Mark, first_offset}
+use Rattle.std.proofs.lemmas.Result.{err_from_is_err_and}
+use Rattle.grid_units.specs.declared.fault.Fault.{Fault}
+use Rattle.grid_units.specs.declared.fault.Fail.{Fail}
+use Rattle.grid_units.specs.declared.fault.Fail.TheVariants.{Memory, Refused}
+use Rattle.gerber_text.specs.Reading.{Entries, spelled, Leaves}
+use Rattle.gerber_text.specs.Standing.{Refuses, Holds}
+use Rattle.gerber_text.proofs.Shown.{too_long, out_of_memory, kept_pushed, front_of_push}
+use Rattle.gerber_text.proofs.Steps.{Closed, closes, first_is, length-bytes_of, spelled_place}
+use Rattle.gerber_text.proofs.reader.Progress.close.Goals as goal
+
+-- the item that a last byte ends, for a reader that holds this text
+closed : (old : Progress) (last byte : ℕ) (text : List ℕ) (h : Holds old text) → old.ended ≡ false → last ≡ ender old.item.items → (length old.item.items ≡ 0 → byte ≡ old.offset) → (0 < length old.item.items → byte ≡ old.start)
+    → Closed text h.items (h.rest ++ (length text, last) ∷ []) (old.item.items ++ last ∷ []) last (old.items + 1) byte old.commands.items
+closed old last byte text h running last-is fresh begun =
+    let none = sym h.ended ∙ running in
+    let is = h.pending none in
+    let size : length h.rest ≡ length old.item.items = sym (length-bytes_of h.rest) ∙ ap length (sym is) in
+    let start : byte ≡ first_offset (h.rest ++ (length text, last) ∷ []) = first_is h.rest (length text, last) byte (λ e. fresh (sym size ∙ e) ∙ h.offset) (λ lt. begun (omega (arith, size, lt)) ∙ h.start none lt) in
+    closes text h.items h.rest (old.item.items ++ last ∷ []) last (old.items + 1) byte old.commands.items h.splits none h.commands (last-is ∙ ap ender is) (omega (arith, h.count)) start (ap (λ (x : List ℕ). x ++ last ∷ []) is)
+
+-- a fault of the item that a last byte ends
+refused : (old : Progress) (last byte : ℕ) → old.ended ≡ false → last ≡ ender old.item.items → (length old.item.items ≡ 0 → byte ≡ old.offset) → (0 < length old.item.items → byte ≡ old.start)
+    → (left : Entries) → left ≡ old.commands.items → (f : Fault) → spelled (old.items + 1) byte (old.item.items ++ last ∷ []) old.commands.items ≡ Err f → Refuses old left (last ∷ []) (Refused f)
+refused old last byte running last-is fresh begun left same f e = λ text h.
+    let k = closed old last byte text h running last-is fresh begun in
+    let item : List Mark = h.rest ++ (length text, last) ∷ [] in
+    record {
+      items = h.items ++ item ∷ [];
+      rest = [];
+      splits = k.splits;
+      kept = length h.items;
+      within = (front_of_push h.items item (length h.items) (omega arith)).0;
+      spelled = kept_pushed old text h item ∙ ap (λ (x : Entries). Ok x) (sym same);
+      told = (k.shows ∙ e, spelled_place (old.items + 1) byte (old.item.items ++ last ∷ []) old.commands.items f e ∙ omega (arith, h.count));
+    }
+
+refused_or_memory : (old : Progress) (last byte : ℕ) → old.ended ≡ false → last ≡ ender old.item.items → (length old.item.items ≡ 0 → byte ≡ old.offset) → (0 < length old.item.items → byte ≡ old.start)
+    → (left : Entries) → left ≡ old.commands.items → (e : Fail) → Leaves {X = Unit {0}} (Err e) left (spelled (old.items + 1) byte (old.item.items ++ last ∷ []) old.commands.items) → Refuses old left (last ∷ []) e
+refused_or_memory old last byte running last-is fresh begun left same Memory h = out_of_memory old left (last ∷ []) same
+refused_or_memory old last byte running last-is fresh begun left same (Refused f) h = refused old last byte running last-is fresh begun left same f h
+
+pub returns-clause-ok : goal.returns-clause-ok
+returns-clause-ok c text h =
+    let old = c.args.self.now in
+    let last = c.args.last in
+    let len = old.item.ok.0 in
+    let k = closed old last c.item_start-byte.result text h c.requires.running c.requires.last (λ e. c.item_start-byte.ensures.fresh (omega (arith, len, e))) (λ lt. c.item_start-byte.ensures.begun (omega (arith, len, lt))) in
+    let item : c.deref.result.now ≡ old.item.items ++ last ∷ [] = c.deref.ensures.value ∙ c.in_ok-push.ensures.items in
+    let item-2 : c.deref-2.result.now ≡ old.item.items ++ last ∷ [] = c.deref-2.ensures.value ∙ c.in_ok-push.ensures.items in
+    record {
+      items = h.items ++ (h.rest ++ (length text, last) ∷ []) ∷ [];
+      rest = [];
+      splits = k.splits;
+      commands = k.shows ∙ (ap (λ (b : List ℕ). spelled (old.items + 1) c.item_start-byte.result b old.commands.items) (sym item) ∙ c.in_ok-self.ensures.spelled);
+      count = ap (λ n. n + 1) h.count ∙ sym k.count;
+      pending = λ _. c.clear.ensures.items;
+      start = λ _ lt. absurd (omega arith);
+      offset = omega (arith, h.offset, length-append text (last ∷ []));
+      ended = c.is_text_end-self.ensures ∙ (ap is_end item-2 ∙ sym k.ends);
+    }
+
+pub returns-then-len-eq-ITEM_LIMIT-clause-err : goal.returns-then-len-eq-ITEM_LIMIT-clause-err
+returns-then-len-eq-ITEM_LIMIT-clause-err c =
+    let old = c.args.self.now in
+    let last = c.args.last in
+    let len = old.item.ok.0 in
+    subst (Refuses old old.commands.items (last ∷ [])) (sym c.refuse.ensures) (refused old last c.item_start-byte.result c.requires.running c.requires.last (λ e. c.item_start-byte.ensures.fresh (omega (arith, len, e))) (λ lt. c.item_start-byte.ensures.begun (omega (arith, len, lt))) old.commands.items refl _ (too_long (old.items + 1) c.item_start-byte.result (old.item.items ++ last ∷ []) old.commands.items (omega (arith, len, c.if-len-eq-ITEM_LIMIT.true, length-append old.item.items (last ∷ [])))))
+
+pub returns-in_err-self-clause-err : goal.returns-in_err-self-clause-err
+returns-in_err-self-clause-err c =
+    let old = c.args.self.now in
+    let last = c.args.last in
+    let len = old.item.ok.0 in
+    let item : c.deref.result.now ≡ old.item.items ++ last ∷ [] = c.deref.ensures.value ∙ c.in_ok-push.ensures.items in
+    let e = c.in_err-self.field-0.0 in
+    let p = err_from_is_err_and c.from_residual-in_err-self.result c.from_residual-in_err-self.ensures.1 in
+    rw (p.1, p.2) (refused_or_memory old last c.item_start-byte.result c.requires.running c.requires.last (λ z. c.item_start-byte.ensures.fresh (omega (arith, len, z))) (λ lt. c.item_start-byte.ensures.begun (omega (arith, len, lt))) c.spell.new.commands.items c.in_err-self.ensures.err e (subst (λ (b : List ℕ). Leaves {X = Unit {0}} (Err e) c.spell.new.commands.items (spelled (old.items + 1) c.item_start-byte.result b old.commands.items)) item c.in_err-self.ensures.spelled))
+
+pub returns-in_err-push-clause-err : goal.returns-in_err-push-clause-err
+returns-in_err-push-clause-err c =
+    let p = err_from_is_err_and c.from_residual.result c.from_residual.ensures.1 in
+    rw (p.1, p.2) (out_of_memory c.args.self.now c.args.self.now.commands.items (c.args.last ∷ []) refl)

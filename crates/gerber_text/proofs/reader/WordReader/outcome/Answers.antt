@@ -1,0 +1,25 @@
+use Rattle.std.proofs.Common.{◌≡◌, None, Some, Err, sym, subst, ◌∙◌}
+use Rattle.grid_units.specs.declared.fault.Fail.{Fail}
+use Rattle.gerber_text.specs.Reading.{Keeps}
+use Rattle.gerber_text.proofs.Whole.{ends_keeps, keeps_err}
+use Rattle.gerber_text.proofs.reader.WordReader.outcome.Goals as goal
+
+same : (a b : Fail) → Some a ≡ Some b → a ≡ b
+same a b h = cc
+
+never : (a : Fail) → Some a ≡ None → ⊥
+never a h = cc
+
+pub returns-in-Some-clause-stands : goal.returns-in-Some-clause-stands
+returns-in-Some-clause-stands c text h = absurd (never c.in-Some.fail (sym c.in-Some.is ∙ h.sound))
+
+pub returns-in-Some-clause-failed : goal.returns-in-Some-clause-failed
+returns-in-Some-clause-failed c text e h =
+    let cs = c.args.self.now.progress.commands.items in
+    subst (λ (f : Fail). Keeps {X = Unit {0}} text cs (Err f)) (same e c.in-Some.fail (sym h.failed ∙ c.in-Some.is)) (keeps_err text cs e h.fails)
+
+pub returns-in-None-clause-stands : goal.returns-in-None-clause-stands
+returns-in-None-clause-stands c text h = ends_keeps text c.args.self.now.progress.commands.items c.end.result (c.end.ensures text h.holds)
+
+pub returns-in-None-clause-failed : goal.returns-in-None-clause-failed
+returns-in-None-clause-failed c text e h = absurd (never e (sym h.failed ∙ c.in-None.is))

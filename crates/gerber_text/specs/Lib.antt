@@ -1,0 +1,5 @@
+pub mod Bytes
+pub mod Cut
+pub mod Reading
+pub mod Standing
+pub mod Writing

@@ -1,0 +1,18 @@
+//! A Gerber text and the commands that it spells: exactly these, or exactly its first fault, whole or in
+//! pieces.
+#![tactic(auto)]
+
+mod placed;
+mod reader;
+mod writer;
+
+pub use gerber_rows::{
+    Action, AttributeKind, Block, Command, Format, Interpolation, Pieces, QuadrantMode, Sizes,
+    Standard, Template,
+};
+pub use placed::Placed;
+pub use reader::{Kept, WordReader, one_reading, read_kept, read_words};
+pub use writer::{write_commands, write_placed};
+
+#[cfg(test)]
+mod tests;

@@ -1,0 +1,544 @@
+//! A Gerber text, read whole or in pieces.
+
+ghost use Rattle.std.specs.Prelude.{◌≡◌, List, Result, ℕ, ◌+◌, ◌≤◌, ◌<◌, ◌||◌, ◌==◌, true, false, Bool, if◌then◌else◌, Ok, OnOk, OnErr, IfOk, IfErr, IfNone, IfSome, take, length, vec_len, slice_index, All, IsTrue, map, ◌++◌, [], ◌∷◌, unwrap_or};
+ghost use Rattle.std.specs.List.{list_all};
+ghost use Rattle.grid_units.specs.declared.fault.Fault.{Fault};
+ghost use Rattle.grid_units.specs.declared.fault.Fail.TheVariants.{Refused};
+ghost use Rattle.grid_units.specs.Results.{fault, Answers};
+ghost use Rattle.gerber_rows.specs.declared.command.Command.TheVariants.{Mode};
+ghost use Rattle.gerber_text.specs.Reading.{Entries, Shows, spelled, placed, Leaves, plot_of, is_plotting, Reads, SpellsText, Keeps, entries_of, is_blank};
+ghost use Rattle.gerber_text.specs.Bytes.{IsInside, follows_or_drops};
+
+use crate::placed::Placed;
+use gerber_rows::{Action, Command, Interpolation, ItemFail, Spelled, is_text_end, read_item};
+use grid_units::{Fail, Fault, Reason};
+use std::alloc::{AllocError, Global};
+
+const ITEM_LIMIT: usize = 1_048_576;
+
+const TEXT_LIMIT: u64 = 268_435_456;
+
+/// What was read so far, and the item that has not ended.
+#[derive(Debug, Drop)]
+pub(crate) struct Progress {
+    alloc: Global,
+    commands: Vec<Placed<Command>>,
+    item: Vec<u8>,
+    start: u64,
+    offset: u64,
+    items: u64,
+    ended: bool,
+    plotting: bool,
+    ghost plots: { plotting ≡ is_plotting commands.items },
+    ghost counted: { items ≤ offset },
+    ghost in_text: { offset ≤ 268435456 },
+    ghost in_item: { vec_len item ≤ 1048576 },
+}
+
+fn is_break(byte: u8) -> bool
+    ensures { result ≡ ((byte == 10) || (byte == 13)) }
+{
+    byte == b'\n' || byte == b'\r'
+}
+
+fn is_inside(byte: u8, end: u8) -> bool
+    ensures yes { IsTrue result → IsInside end byte }
+    ensures no { result ≡ false → IsInside end byte → ⊥ }
+{
+    byte != end && !is_break(byte)
+}
+
+/// Whether the byte shows no fault behind the end of the text.
+fn may_stand(byte: u8) -> bool
+    ensures { result ≡ follows_or_drops byte }
+{
+    byte == b'\n' || byte == b'\r' || byte == b' ' || byte == b'\t' || byte == b'*'
+}
+
+/// How many bytes from the first on neither end the item nor are dropped.
+fn inside_len(bytes: &[u8], end: u8) -> usize
+    ensures within { result ≤ length bytes.now }
+    ensures inside { All (IsInside end) (take result bytes.now) }
+    ensures stops { 0 < length bytes.now → result ≡ 0 → IsInside end (slice_index bytes.now 0) → ⊥ }
+{
+    for (i, byte) in bytes.iter().enumerate() {
+        if !is_inside(*byte, end) {
+            return i;
+        }
+    }
+    bytes.len()
+}
+
+/// Where the first byte lies that may not stand behind the end of the text.
+fn first_stray(bytes: &[u8]) -> Option<usize>
+    ensures none { IfNone result (All (λ b. follows_or_drops b ≡ true) bytes.now) }
+    ensures some { IfSome result (λ i. (i < length bytes.now) × All (λ b. follows_or_drops b ≡ true) (take i bytes.now) × (follows_or_drops (slice_index bytes.now i) ≡ false)) }
+{
+    for (i, byte) in bytes.iter().enumerate() {
+        if !may_stand(*byte) {
+            return Some(i);
+        }
+    }
+    None
+}
+
+/// Whether all bytes are spaces and tabs.
+fn is_all_blank(bytes: &[u8]) -> bool
+    ensures { result ≡ list_all is_blank bytes.now }
+{
+    bytes.iter().all(|b| *b == b' ' || *b == b'\t')
+}
+
+/// Whether the last operation is a plot, after this command.
+fn plots_after(before: bool, what: &Command) -> bool
+    ensures { result ≡ unwrap_or (plot_of what.now) before }
+{
+    match what {
+        Command::Operate { action, .. } => matches!(action, Action::Plot),
+        _ => before,
+    }
+}
+
+/// Adds the commands of an item, both or none, and says whether the last operation is a plot.
+fn add(
+    plotting: bool,
+    place: u64,
+    byte: u64,
+    spelled: Spelled,
+    commands: &mut Vec<Placed<Command>>,
+) -> Result<bool, AllocError>
+    requires plotting { plotting ≡ is_plotting commands.old.items }
+    ensures added { OnOk result (commands.new.items ≡ commands.old.items ++ placed place byte spelled) }
+    ensures plotting { IfOk result (λ plotting. plotting ≡ is_plotting commands.new.items) }
+    ensures err { OnErr result (commands.new.items ≡ commands.old.items) }
+{
+    let (mode, command) = spelled.into_parts();
+    match (mode, command) {
+        (None, None) => Ok(plotting),
+        (Some(mode), None) => {
+            let what = Command::Mode(mode);
+            commands.push(Placed { place, byte, what })?;
+            Ok(plotting)
+        }
+        (None, Some(what)) => {
+            let plotting = plots_after(plotting, &what);
+            commands.push(Placed { place, byte, what })?;
+            Ok(plotting)
+        }
+        (Some(mode), Some(what)) => {
+            let plotting = plots_after(plotting, &what);
+            add_both(place, byte, mode, what, commands)?;
+            Ok(plotting)
+        }
+    }
+}
+
+/// Adds two commands, or none.
+fn add_both(
+    place: u64,
+    byte: u64,
+    mode: Interpolation,
+    what: Command,
+    commands: &mut Vec<Placed<Command>>,
+) -> Result<(), AllocError>
+    ensures added { OnOk result (commands.new.items ≡ commands.old.items ++ placed place byte (Mode mode ∷ what ∷ [])) }
+    ensures err { OnErr result (commands.new.items ≡ commands.old.items) }
+{
+    let len = commands.len();
+    commands.push(Placed {
+        place,
+        byte,
+        what: Command::Mode(mode),
+    })?;
+    let outcome = commands.push(Placed { place, byte, what });
+    if outcome.is_err() {
+        commands.truncate(len);
+    }
+    outcome?;
+    Ok(())
+}
+
+/// Adds the commands that an item spells.
+#[tactic(auto, unfolding(crate::specs::Reading::spelled))]
+fn spell(
+    alloc: Global,
+    plotting: bool,
+    place: u64,
+    byte: u64,
+    item: &[u8],
+    commands: &mut Vec<Placed<Command>>,
+) -> Result<bool, Fail>
+    requires short { length item.now ≤ 1048576 }
+    requires plotting { plotting ≡ is_plotting commands.old.items }
+    ensures spelled { Leaves result commands.new.items (spelled place byte item.now commands.old.items) }
+    ensures plotting { IfOk result (λ plotting. plotting ≡ is_plotting commands.new.items) }
+    ensures err { OnErr result (commands.new.items ≡ commands.old.items) }
+{
+    match read_item(alloc, plotting, item) {
+        Ok(spelled) => Ok(add(plotting, place, byte, spelled, commands)?),
+        Err(ItemFail::Memory) => Err(Fail::Memory),
+        Err(ItemFail::Refused(reason)) => Err(Fail::Refused(Fault {
+            place,
+            byte,
+            reason,
+        })),
+    }
+}
+
+impl Progress {
+    ghost use Rattle.std.specs.Prelude.{[], ◌∷◌, List};
+    ghost use Rattle.gerber_rows.specs.Items.{is_line_break, ender};
+    ghost use Rattle.gerber_text.specs.Standing.{Advances, Refuses, RefusesText, Holds, Ends};
+    ghost use Rattle.grid_units.specs.Results.{AnswersAlways};
+
+    /// The refusal of the item that comes next.
+    fn refuse(&self, byte: u64, reason: Reason) -> Fail
+        ensures { result ≡ Refused (fault (self.now.items + 1) byte reason) }
+    {
+        Fail::Refused(Fault {
+            place: self.items + 1,
+            byte,
+            reason,
+        })
+    }
+
+    /// The byte that ends the item.
+    fn ender(&self) -> u8
+        ensures { result ≡ ender self.now.item.items }
+    {
+        match self.item.first() {
+            Some(b'%') => b'%',
+            _ => b'*',
+        }
+    }
+
+    /// The offset of the item's first byte, also where that is the next one.
+    fn item_start(&self) -> u64
+        ensures fresh { vec_len self.now.item ≡ 0 → result ≡ self.now.offset }
+        ensures begun { 0 < vec_len self.now.item → result ≡ self.now.start }
+    {
+        if self.item.is_empty() {
+            self.offset
+        } else {
+            self.start
+        }
+    }
+
+    /// Drops a CR or LF.
+    fn skip_break(&mut self, byte: u8)
+        requires dropped { is_line_break byte ≡ true }
+        requires room { self.old.offset < 268435456 }
+        ensures offset { self.new.offset ≡ self.old.offset + 1 }
+        ensures ok { Advances self.old self.new (byte ∷ []) }
+    {
+        self.offset += 1;
+    }
+
+    /// Adds the first byte of an item.
+    fn begin(&mut self, byte: u8) -> Result<(), Fail>
+        requires running { self.old.ended ≡ false }
+        requires fresh { vec_len self.old.item ≡ 0 }
+        requires inside { IsInside 42 byte }
+        requires room { self.old.offset < 268435456 }
+        ensures offset { OnOk result (self.new.offset ≡ self.old.offset + 1) }
+        ensures ok { OnOk result (Advances self.old self.new (byte ∷ [])) }
+        ensures err { IfErr result (Refuses self.old self.new.commands.items (byte ∷ [])) }
+    {
+        self.item.push(byte)?;
+        self.start = self.offset;
+        self.offset += 1;
+        Ok(())
+    }
+
+    /// Adds bytes to an item that has begun.
+    fn extend(&mut self, run: &[u8]) -> Result<(), Fail>
+        requires running { self.old.ended ≡ false }
+        requires begun { 0 < vec_len self.old.item }
+        requires inside { All (IsInside (ender self.old.item.items)) run.now }
+        requires room { self.old.offset + length run.now ≤ 268435456 }
+        ensures offset { OnOk result (self.new.offset ≡ self.old.offset + length run.now) }
+        ensures ok { OnOk result (Advances self.old self.new run.now) }
+        ensures err { IfErr result (Refuses self.old self.new.commands.items run.now) }
+    {
+        if run.len() > ITEM_LIMIT - self.item.len() {
+            return Err(self.refuse(self.start, Reason::TooLong));
+        }
+        self.item.extend_from_slice(run)?;
+        self.offset += run.len() as u64;
+        Ok(())
+    }
+
+    /// Ends the item with its last byte.
+    fn close(&mut self, last: u8) -> Result<(), Fail>
+        requires running { self.old.ended ≡ false }
+        requires last { last ≡ ender self.old.item.items }
+        requires room { self.old.offset < 268435456 }
+        ensures offset { OnOk result (self.new.offset ≡ self.old.offset + 1) }
+        ensures ok { OnOk result (Advances self.old self.new (last ∷ [])) }
+        ensures err { IfErr result (Refuses self.old self.new.commands.items (last ∷ [])) }
+    {
+        let byte = self.item_start();
+        let place = self.items + 1;
+        if self.item.len() == ITEM_LIMIT {
+            return Err(self.refuse(byte, Reason::TooLong));
+        }
+        self.item.push(last)?;
+        self.plotting = spell(
+            self.alloc,
+            self.plotting,
+            place,
+            byte,
+            &self.item,
+            &mut self.commands,
+        )?;
+        self.ended = is_text_end(&self.item);
+        self.item.clear();
+        self.items += 1;
+        self.offset += 1;
+        Ok(())
+    }
+
+    /// Passes over bytes behind the end of the text.
+    fn pass(&mut self, bytes: &[u8]) -> Result<(), Fail>
+        requires ended { self.old.ended ≡ true }
+        requires room { self.old.offset + length bytes.now ≤ 268435456 }
+        ensures offset { OnOk result (self.new.offset ≡ self.old.offset + length bytes.now) }
+        ensures ok { OnOk result (Advances self.old self.new bytes.now) }
+        ensures err { IfErr result (Refuses self.old self.new.commands.items bytes.now) }
+    {
+        match first_stray(bytes) {
+            None => {
+                self.offset += bytes.len() as u64;
+                Ok(())
+            }
+            Some(at) => Err(self.refuse(self.offset + at as u64, Reason::AfterEnd)),
+        }
+    }
+
+    /// Takes some of the bytes, from the first on, and says how many.
+    fn take_some(&mut self, bytes: &[u8]) -> Result<usize, Fail>
+        requires some { 0 < length bytes.now }
+        requires room { self.old.offset + length bytes.now ≤ 268435456 }
+        ensures taken { IfOk result (λ n. (0 < n) × (n ≤ length bytes.now) × (self.new.offset ≡ self.old.offset + n)) }
+        ensures ok { IfOk result (λ n. Advances self.old self.new (take n bytes.now)) }
+        ensures err { IfErr result (Refuses self.old self.new.commands.items bytes.now) }
+    {
+        let first = bytes[0];
+        let end = self.ender();
+        if self.ended {
+            self.pass(bytes)?;
+            Ok(bytes.len())
+        } else if is_break(first) {
+            self.skip_break(first);
+            Ok(1)
+        } else if first == end {
+            self.close(first)?;
+            Ok(1)
+        } else if self.item.is_empty() {
+            self.begin(first)?;
+            Ok(1)
+        } else {
+            let run = &bytes[..inside_len(bytes, end)];
+            self.extend(run)?;
+            Ok(run.len())
+        }
+    }
+
+    /// Takes all of the bytes.
+    fn take_all(&mut self, bytes: &[u8]) -> Result<(), Fail>
+        requires room { self.old.offset + length bytes.now ≤ 268435456 }
+        ensures offset { OnOk result (self.new.offset ≡ self.old.offset + length bytes.now) }
+        ensures ok { OnOk result (Advances self.old self.new bytes.now) }
+        ensures err { IfErr result (Refuses self.old self.new.commands.items bytes.now) }
+    {
+        let mut taken = 0;
+        while taken < bytes.len() {
+            taken += self.take_some(&bytes[taken..])?;
+        }
+        Ok(())
+    }
+
+    /// Takes the next piece of the text.
+    fn take(&mut self, piece: &[u8]) -> Result<(), Fail>
+        ensures ok { OnOk result (Advances self.old self.new piece.now) }
+        ensures err { IfErr result (RefusesText self.old self.new.commands.items piece.now) }
+    {
+        let room = (TEXT_LIMIT - self.offset) as usize;
+        if piece.len() <= room {
+            return self.take_all(piece);
+        }
+        self.take_all(&piece[..room])?;
+        Err(self.refuse(TEXT_LIMIT, Reason::TooLong))
+    }
+
+    /// Where the end of the text is missing.
+    fn missing_at(&self) -> u64
+        ensures { result ≡ (if list_all is_blank self.now.item.items then self.now.offset else self.now.start) }
+    {
+        if is_all_blank(&self.item) {
+            self.offset
+        } else {
+            self.start
+        }
+    }
+
+    /// Whether the text has ended.
+    fn end(&self) -> Result<(), Fail>
+        ensures { (text : List ℕ) → Holds self.now text → Ends text self.now.commands.items result }
+    {
+        if self.ended {
+            return Ok(());
+        }
+        Err(self.refuse(self.missing_at(), Reason::Truncated))
+    }
+
+    /// The commands, if the text has ended.
+    fn finish(self) -> Result<Vec<Placed<Command>>, Fail>
+        ensures { (text : List ℕ) → Holds self text → AnswersAlways entries_of (λ answer. Reads text answer) result }
+    {
+        self.end()?;
+        Ok(self.commands)
+    }
+}
+
+/// A reader of a Gerber text that comes in pieces. It keeps the commands so far and the unfinished item,
+/// and not the text.
+#[derive(Debug, Drop)]
+pub struct WordReader {
+    progress: Progress,
+    failed: Option<Fail>,
+}
+
+impl WordReader {
+    ghost use Rattle.std.specs.Prelude.{List, Some, Ok, Err, [], ◌++◌};
+    ghost use Rattle.grid_units.specs.declared.fault.Fail.{Fail as TheFail};
+    ghost use Rattle.grid_units.specs.Results.{AnswersAlways};
+    ghost use Rattle.gerber_text.specs.Reading.{Shows, Reads, KeptBefore, Keeps};
+    ghost use Rattle.gerber_text.specs.Standing.{StandsAfter, HasFailed, failure};
+
+    /// A reader that has read nothing.
+    pub fn new(alloc: Global) -> WordReader
+        ensures { StandsAfter result [] }
+    {
+        let progress = Progress {
+            alloc,
+            commands: Vec::new(alloc),
+            item: Vec::new(alloc),
+            start: 0,
+            offset: 0,
+            items: 0,
+            ended: false,
+            plotting: false,
+        };
+        WordReader {
+            progress,
+            failed: None,
+        }
+    }
+
+    /// Takes the next piece of the text.
+    ///
+    /// # Errors
+    ///
+    /// The first fault that the text shows so far, whatever follows; `Memory` where a growth was refused. A
+    /// reader that has failed gives its failure again.
+    pub fn feed(&mut self, piece: &[u8]) -> Result<(), Fail>
+        ensures ok { (text : List ℕ) → StandsAfter self.old text → OnOk result (StandsAfter self.new (text ++ piece.now)) }
+        ensures err { (text : List ℕ) → StandsAfter self.old text → IfErr result (HasFailed self.new (text ++ piece.now)) }
+        ensures failed { IfSome (failure self.old) (λ e. (result ≡ Err e) × (self.new ≡ self.old)) }
+    {
+        if let Some(fail) = self.failed {
+            return Err(fail);
+        }
+        let outcome = self.progress.take(piece);
+        if let Err(fail) = outcome {
+            self.failed = Some(fail);
+        }
+        outcome
+    }
+
+    /// The commands of the items that have ended so far; after a fault those before its place, and after
+    /// want of memory those of some first items.
+    pub fn commands(&self) -> &[Placed<Command>]
+        ensures shown { (text : List ℕ) → StandsAfter self.now text → Shows text (Ok result.now) }
+        ensures kept { (text : List ℕ) (e : TheFail) → HasFailed self.now text e → KeptBefore text e result.now }
+    {
+        &self.progress.commands
+    }
+
+    /// The commands of the text.
+    ///
+    /// # Errors
+    ///
+    /// The first fault of the text. A reader that has failed gives its failure again.
+    pub fn finish(self) -> Result<Vec<Placed<Command>>, Fail>
+        ensures exact { (text : List ℕ) → StandsAfter self text → AnswersAlways entries_of (λ answer. Reads text answer) result }
+        ensures failed { IfSome (failure self) (λ e. result ≡ Err e) }
+    {
+        match self.failed {
+            Some(fail) => Err(fail),
+            None => self.progress.finish(),
+        }
+    }
+
+    /// The commands so far, and whether the text has ended; or those before the fault, and the fault.
+    fn into_kept(self) -> Kept
+        ensures stands { (text : List ℕ) → StandsAfter self text → Keeps text result.commands.items result.outcome }
+        ensures failed { (text : List ℕ) (e : TheFail) → HasFailed self text e → Keeps text result.commands.items result.outcome }
+    {
+        let outcome = self.outcome();
+        Kept {
+            commands: self.progress.commands,
+            outcome,
+        }
+    }
+
+    /// Whether the text ends here, or the failure.
+    fn outcome(&self) -> Result<(), Fail>
+        ensures stands { (text : List ℕ) → StandsAfter self.now text → Keeps text self.now.progress.commands.items result }
+        ensures failed { (text : List ℕ) (e : TheFail) → HasFailed self.now text e → Keeps text self.now.progress.commands.items result }
+    {
+        match self.failed {
+            Some(fail) => Err(fail),
+            None => self.progress.end(),
+        }
+    }
+}
+
+/// The commands of a text, or those before its first fault.
+#[derive(Debug, Drop)]
+pub struct Kept {
+    pub commands: Vec<Placed<Command>>,
+    pub outcome: Result<(), Fail>,
+}
+
+/// The commands that a text spells, the last one `Finish`.
+///
+/// # Errors
+///
+/// The first fault of the text; `Memory` where a growth was refused.
+pub fn read_words(alloc: Global, bytes: &[u8]) -> Result<Vec<Placed<Command>>, Fail>
+    ensures exact { Answers entries_of (λ answer. Reads bytes.now answer) result }
+    ensures found { IfOk result (λ v. SpellsText bytes.now v.items) }
+    ensures only { (cs : Entries) → SpellsText bytes.now cs → Answers entries_of (λ answer. answer ≡ Ok cs) result }
+{
+    let mut reader = WordReader::new(alloc);
+    reader.feed(bytes)?;
+    reader.finish()
+}
+
+/// The commands that a text spells, or those of the items before its first fault, and this fault. Where a
+/// growth was refused they are those of some first items.
+pub fn read_kept(alloc: Global, bytes: &[u8]) -> Kept
+    ensures { Keeps bytes.now result.commands.items result.outcome }
+{
+    let mut reader = WordReader::new(alloc);
+    let _ = reader.feed(bytes);
+    reader.into_kept()
+}
+
+/// A text shows one thing, and has one reading.
+pub fn one_reading()
+    ensures shown { (text : List ℕ) (a b : Result Entries Fault) → Shows text a → Shows text b → a ≡ b }
+    ensures read { (text : List ℕ) (a b : Result Entries Fault) → Reads text a → Reads text b → a ≡ b }
+{}

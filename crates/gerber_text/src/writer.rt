@@ -1,0 +1,86 @@
+//! The canonical text of commands.
+
+ghost use Rattle.std.specs.Prelude.{◌≡◌, ◌++◌, [], ◌∷◌, OnOk, IfOk};
+ghost use Rattle.grid_units.specs.Results.{Answers, AnswersAlways};
+ghost use Rattle.gerber_text.specs.Writing.{lines, limited, canonical_text, without_places, IsSayable, ReadsAs, bytes_of_vector};
+ghost use Rattle.gerber_rows.specs.Canonical.{canonical};
+
+use crate::placed::Placed;
+use gerber_rows::{Command, write_item};
+use grid_units::{Fail, Fault, Reason};
+use std::alloc::{AllocError, Global};
+
+/// The longest text, in bytes.
+const TEXT_LIMIT: usize = 268_435_456;
+
+/// Appends the canonical item of a command, and a line end.
+fn put_line(out: &mut Vec<u8>, command: &Command) -> Result<(), AllocError>
+    ensures { OnOk result (out.new.items ≡ out.old.items ++ (canonical command.now ++ 10 ∷ [])) }
+{
+    write_item(out, command)?;
+    out.push(b'\n')?;
+    Ok(())
+}
+
+/// A text within the limit.
+fn limited(text: Vec<u8>) -> Result<Vec<u8>, Fail>
+    ensures { AnswersAlways bytes_of_vector (λ answer. answer ≡ limited text.items) result }
+{
+    if text.len() > TEXT_LIMIT {
+        Err(Fail::Refused(Fault {
+            place: 0,
+            byte: 0,
+            reason: Reason::TooLong,
+        }))
+    } else {
+        Ok(text)
+    }
+}
+
+/// The lines of commands.
+fn lines_of(alloc: Global, commands: &[Command]) -> Result<Vec<u8>, AllocError>
+    ensures { IfOk result (λ text. text.items ≡ lines commands.now) }
+{
+    let mut out = Vec::new(alloc);
+    for command in commands {
+        put_line(&mut out, command)?;
+    }
+    Ok(out)
+}
+
+/// The canonical text of commands. Where the list is sayable, it spells just this list.
+///
+/// # Errors
+///
+/// [`Reason::TooLong`] at place 0 where the text would be above 268,435,456 bytes; `Memory` where a growth
+/// was refused.
+pub fn write_commands(alloc: Global, commands: &[Command]) -> Result<Vec<u8>, Fail>
+    ensures exact { Answers bytes_of_vector (λ answer. answer ≡ canonical_text commands.now) result }
+    ensures reads_back { IsSayable commands.now → IfOk result (λ text. ReadsAs text.items commands.now) }
+{
+    limited(lines_of(alloc, commands)?)
+}
+
+/// The lines of commands with their places.
+fn lines_of_placed(alloc: Global, commands: &[Placed<Command>]) -> Result<Vec<u8>, AllocError>
+    ensures { IfOk result (λ text. text.items ≡ lines (without_places commands.now)) }
+{
+    let mut out = Vec::new(alloc);
+    for command in commands {
+        put_line(&mut out, &command.what)?;
+    }
+    Ok(out)
+}
+
+/// The canonical text of commands without their places. Where the list is sayable, it spells just this list.
+///
+/// # Errors
+///
+/// [`Reason::TooLong`] at place 0 where the text would be above 268,435,456 bytes; `Memory` where a growth
+/// was refused.
+pub fn write_placed(alloc: Global, commands: &[Placed<Command>]) -> Result<Vec<u8>, Fail>
+    ensures exact { Answers bytes_of_vector (λ answer. answer ≡ canonical_text (without_places commands.now)) result }
+    ensures reads_back { IsSayable (without_places commands.now) → IfOk result (λ text. ReadsAs text.items (without_places commands.now)) }
+{
+    limited(lines_of_placed(alloc, commands)?)
+}
