@@ -1,0 +1,55 @@
+-- What it says of a command that it breaks no rule.
+use Rattle.std.proofs.Common.{◌≡◌, ℕ, ℤ, List, [], ◌∷◌, ◌++◌, Option, None, Some, Bool, true, false, cond, ◌||◌, ◌&&◌, refl, sym, ap, ◌∙◌}
+use Rattle.std.specs.List.{find, list_any}
+use Rattle.gerber_rows.specs.declared.command.Command.{Command}
+use Rattle.gerber_rows.specs.declared.command.Command.TheVariants as command
+use Rattle.gerber_rows.specs.declared.command.Action.{Action}
+use Rattle.gerber_rows.specs.declared.command.Template.{Template}
+use Rattle.grid_units.specs.declared.fault.Reason.{Reason}
+use Rattle.grid_units.specs.declared.fault.Reason.TheVariants as reason
+use Rattle.layer_image.specs.Lookback.{Standing}
+use Rattle.layer_image.specs.Flashes.{is_flash}
+use Rattle.layer_image.specs.Rules.{first_broken, applies, reaches_too_far, flashes_too_far, sizes_badly, is_badly_sized, is_far_in}
+
+-- where a search finds nothing, no element passes
+none_found : {A : Type 0} (p : A → Bool) (xs ys : List A) (x : A) → find p (xs ++ x ∷ ys) ≡ None → p x ≡ false
+none_found p [] ys x h = by (p x) refl
+  where
+    by : (b : Bool) → p x ≡ b → p x ≡ false
+    by true e = cc
+    by false e = e
+none_found p (y ∷ xs) ys x h = by (p y) refl (none_found p xs ys x)
+  where
+    by : (b : Bool) → p y ≡ b → (find p (xs ++ x ∷ ys) ≡ None → p x ≡ false) → p x ≡ false
+    by true e rest = cc
+    by false e rest = rest (ap (λ b. cond b (Some y) (find p (xs ++ x ∷ ys))) (sym e) ∙ h)
+
+-- a command that breaks no rule does not reach too far
+pub not_too_far : (s : Standing) (count : ℕ) (c : Command) → first_broken s count c ≡ None → reaches_too_far s c ≡ false
+unfolding first_broken
+not_too_far s count c h =
+    none_found (applies s count c)
+    (reason.InRegion ∷ reason.NotInRegion ∷ reason.NoFormat ∷ reason.NoUnit ∷ reason.UnitConflict ∷ reason.FormatConflict ∷ reason.Redefined
+    ∷ reason.UnknownMacro ∷ reason.UnknownAperture ∷ reason.NoAperture ∷ reason.BadSize ∷ reason.BadRepeat ∷ reason.TooManyDigits ∷ [])
+    (reason.TooManyPads ∷ []) reason.TooFar h
+
+-- nor does it have a size out of its range
+pub well_sized : (s : Standing) (count : ℕ) (c : Command) → first_broken s count c ≡ None → sizes_badly c ≡ false
+unfolding first_broken
+well_sized s count c h =
+    none_found (applies s count c)
+    (reason.InRegion ∷ reason.NotInRegion ∷ reason.NoFormat ∷ reason.NoUnit ∷ reason.UnitConflict ∷ reason.FormatConflict ∷ reason.Redefined
+    ∷ reason.UnknownMacro ∷ reason.UnknownAperture ∷ reason.NoAperture ∷ [])
+    (reason.BadRepeat ∷ reason.TooManyDigits ∷ reason.TooFar ∷ reason.TooManyPads ∷ []) reason.BadSize h
+
+pub neither : (a b : Bool) → (a || b) ≡ false → (a ≡ false) × (b ≡ false)
+neither true b h = cc
+neither false b h = (refl, h)
+
+second : (a b : Bool) → (a && b) ≡ false → a ≡ true → b ≡ false
+second true b h t = h
+second false b h t = cc
+
+-- so neither does a flash
+pub near_flash : (s : Standing) (action : Action) (x y i j : Option ℤ) → reaches_too_far s (command.Operate action x y i j) ≡ false → is_flash action ≡ true → flashes_too_far s x y ≡ false
+near_flash s action x y i j h flash = second (is_flash action) (flashes_too_far s x y) (neither (is_far_in s x || is_far_in s y) _ h).1 flash

@@ -1,0 +1,19 @@
+-- Where the judge stops is the first fault.
+use Rattle.std.proofs.Common.{◌≡◌, List, [], ◌∷◌, ◌++◌, length, Err, ap}
+use Rattle.std.specs.Option.{option_map}
+use Rattle.grid_units.specs.Lists.{breaks}
+use Rattle.grid_units.specs.Results.{fault, Tells}
+use Rattle.grid_units.proofs.Lookbacks.{breaks-first}
+use Rattle.gerber_rows.specs.declared.command.Command.{Command}
+use Rattle.gerber_text.specs.declared.placed.Placed.{Placed}
+use Rattle.gerber_text.specs.Reading.{Entries}
+use Rattle.layer_image.specs.declared.judge.Judge.{Judge}
+use Rattle.layer_image.specs.declared.judge.Stop.{Stop}
+use Rattle.layer_image.specs.declared.judge.Stop.TheVariants as stop
+use Rattle.layer_image.specs.Knows.{Judges}
+use Rattle.layer_image.specs.Faults.{without_places, fault_of, fail_at, IsFirstFault}
+
+pub stopped : (cs ds : Entries) (e : Placed Command) (new : Judge) (s : Stop) → breaks fault_of cs ≡ [] → Judges (without_places cs) e.what new (Err s) → Tells (IsFirstFault (cs ++ e ∷ ds)) (fail_at e.place e.byte s)
+stopped cs ds e new stop.Memory none answer = tt
+stopped cs ds e new (stop.Refused r) none answer =
+    (length cs, breaks-first fault_of cs ds e (fault e.place e.byte r) none (ap (option_map (fault e.place e.byte)) answer))

@@ -1,0 +1,7 @@
+pub mod Grids
+pub mod Knowing
+pub mod Broken
+pub mod Moves
+pub mod Places
+pub mod Faulty
+pub mod Listing

@@ -1,0 +1,45 @@
+-- Numbers with many digits, and places behind the eighth.
+use Rattle.std.proofs.Common.{◌≡◌, ℕ, ◌+◌, ◌-◌, ◌*◌, ◌/◌, ◌^◌, ◌≤◌, ◌<◌, Bool, true, false, nat_le, arith, ◌∙◌, ap, sym, subst, inl, inr, lit<}
+use Rattle.std.proofs.Math.Nat.{pow-le-pow_right, le-div_iff_mul-le}
+use Rattle.std.proofs.lemmas.Nat.{pow-add, div_below}
+use Rattle.std.proofs.lemmas.Bool.{cases_lt}
+use Rattle.std.proofs.lemmas.Bool.Decides.{nat_tests}
+use Rattle.grid_units.specs.declared.lengths.Unit.{Unit as Units}
+use Rattle.grid_units.specs.declared.lengths.Unit.TheVariants.{Inch, Millimetre}
+use Rattle.grid_units.specs.Numbers.{unit_length}
+
+test_yes : (a b : ℕ) → a ≤ b → nat_le a b ≡ true
+test_yes a b h = grind (arith, nat_tests)
+
+test_no : (a b : ℕ) → b < a → nat_le a b ≡ false
+test_no a b h = grind (arith, nat_tests)
+
+-- more digits than twelve and some more
+pub more_digits : (n d : ℕ) → 12 ≤ d → nat_le (10 ^ (d - 12)) (n / 10 ^ 12) ≡ nat_le (10 ^ d) n
+more_digits n d h =
+    let whole : (d - 12) + 12 ≡ d = omega arith in
+    let split : 10 ^ d ≡ 10 ^ (d - 12) * 10 ^ 12 = ap (λ e. 10 ^ e) (sym whole) ∙ pow-add 10 (d - 12) 12 in
+    elim (cases_lt (n / 10 ^ 12) (10 ^ (d - 12))) [
+      | inl less ↦ test_no _ _ less ∙ sym (test_no _ _ (elim (cases_lt n (10 ^ d)) [
+        | inl below ↦ below
+        | inr above ↦ absurd (omega (arith, less, (le-div_iff_mul-le {k = 10 ^ 12} {x = 10 ^ (d - 12)} {y = n} (lit< tt)).1 (subst (λ m. m ≤ n) split above)))
+      ]))
+      | inr more ↦ test_yes _ _ more ∙ sym (test_yes _ _ (subst (λ m. m ≤ n) (sym split) ((le-div_iff_mul-le {k = 10 ^ 12} {x = 10 ^ (d - 12)} {y = n} (lit< tt)).0 more)))
+    ]
+
+-- no number of 64 bits has more than twenty digits
+pub no_more_digits : (n d : ℕ) → n < 2 ^ 64 → 20 ≤ d → nat_le (10 ^ d) n ≡ false
+no_more_digits n d h k =
+    let large : 10 ^ 20 ≤ 10 ^ d = pow-le-pow_right {n = 10} (lit< tt) k in
+    test_no _ _ (omega (arith, large))
+
+short_unit : (unit : Units) → unit_length unit < 10 ^ 11
+short_unit Inch = lit< tt
+short_unit Millimetre = lit< tt
+
+-- no unit has whole picometres behind its tenth place
+pub no_place : (unit : Units) (d : ℕ) → 11 ≤ d → unit_length unit / 10 ^ d ≡ 0
+no_place unit d k =
+    let large : 10 ^ 11 ≤ 10 ^ d = pow-le-pow_right {n = 10} (lit< tt) k in
+    let below : unit_length unit / 10 ^ d < 1 = div_below (unit_length unit) (10 ^ d) 1 (omega (arith, large)) (omega (arith, large, short_unit unit)) in
+    omega (arith, below)

@@ -1,0 +1,19 @@
+-- A copy is far just where one at the ends is.
+use Rattle.std.proofs.Common.{◌≡◌, ◌≤◌, ◌^◌, ◌∙◌, ◌||◌, sym, ap, arith, suc, ◌-◌, ◌+ℤ◌, ◌*ℤ◌, pos, unsigned_abs, ℤ, ℕ, to_z, of_z}
+use mir.Syntax.{w128}
+use Rattle.grid_units.specs.Numbers.{is_far}
+use Rattle.layer_image.proofs.Grids.{far_copies, no_columns, no_rows, back_128, back_steps}
+use Rattle.layer_image.proofs.grid.Grid.is_far.Goals as goal
+use Rattle.layer_image.proofs.grid.Grid.is_far.Goals.{then-self-eq0-via-then-self-eq0, then-self-eq0-via-else-self-eq0+then-self-eq0-2}
+
+pub returns-then-self-eq0 : goal.returns-then-self-eq0
+returns-then-self-eq0 c = elim c.then-self-eq0.branch [ then-self-eq0-via-then-self-eq0 w ↦ sym (no_columns c.args.self.now w.if-self-eq0.true) | then-self-eq0-via-else-self-eq0+then-self-eq0-2 w ↦ sym (no_rows c.args.self.now w.if-self-eq0-2.true) ]
+
+pub returns : goal.returns
+returns c =
+    let grid = c.args.self.now in
+    c.is_any_far.ensures
+    ∙ (λ i. is_far (back_128 grid.x c.requires.x i) || (is_far (back_128 grid.y c.requires.y i)
+    || (is_far (back_steps grid.x grid.step_x (grid.columns - 1) c.stepped-last_x.result c.requires.x c.requires.step_x (omega arith) c.stepped-last_x.ensures i)
+    || is_far (back_steps grid.y grid.step_y (grid.rows - 1) c.stepped-last_y.result c.requires.y c.requires.step_y (omega arith) c.stepped-last_y.ensures i))))
+    ∙ sym (far_copies grid (grid.columns - 1) (grid.rows - 1) (omega arith) (omega arith))

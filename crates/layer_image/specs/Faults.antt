@@ -1,0 +1,31 @@
+-- Commands with their places, and the fault of the first that breaks a rule.
+use Rattle.std.specs.Prelude.{◌≡◌, ℕ, List, map, Option, Some, slice_get}
+use Rattle.std.specs.Option.{option_map}
+use Rattle.grid_units.specs.Lists.{breaks}
+use Rattle.grid_units.specs.Results.{fault}
+use Rattle.grid_units.specs.declared.fault.Fault.{Fault}
+use Rattle.grid_units.specs.declared.fault.Fail.{Fail}
+use Rattle.grid_units.specs.declared.fault.Fail.TheVariants as fails
+use Rattle.gerber_rows.specs.declared.command.Command.{Command}
+use Rattle.gerber_text.specs.declared.placed.Placed.{Placed}
+use Rattle.gerber_text.specs.Reading.{Entries}
+use Rattle.layer_image.specs.declared.judge.Stop.{Stop}
+use Rattle.layer_image.specs.declared.judge.Stop.TheVariants as stop
+use Rattle.layer_image.specs.Rules.{broken_rule}
+
+-- commands without their places (docs/FORMATS.md, Cutting a Gerber text)
+abbrev pub without_places : Entries → List Command
+without_places entries = map (λ entry. entry.what) entries
+
+-- the fault of a command that breaks a rule after those before it, at its place (docs/DEFINITIONS.md, Legal lists)
+abbrev pub fault_of : Entries → Placed Command → Option Fault
+fault_of before entry = option_map (fault entry.place entry.byte) (broken_rule (without_places before) entry.what)
+
+-- the first command that breaks a rule has this fault (docs/DEFINITIONS.md, Legal lists)
+abbrev pub IsFirstFault : Entries → Fault → Type 0
+IsFirstFault entries f = (k : ℕ) × (slice_get (breaks fault_of entries) 0 ≡ Some (k, f))
+
+-- a stop at a place and a byte (docs/DEFINITIONS.md, Legal lists)
+abbrev pub fail_at : ℕ → ℕ → Stop → Fail
+fail_at place byte stop.Memory = fails.Memory
+fail_at place byte (stop.Refused reason) = fails.Refused (fault place byte reason)

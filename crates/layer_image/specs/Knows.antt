@@ -1,0 +1,62 @@
+-- What a judge says of the commands that it has met.
+use Rattle.std.specs.Prelude.{◌≡◌, ◌||◌, List, [], ◌∷◌, ◌++◌, Some, None, unwrap_or, nat_eq, Result, Ok, Err}
+use Rattle.std.specs.Option.{option_or}
+use Rattle.std.specs.Cmp.Lexicographic.{pointwise}
+use Rattle.indexmap.specs.IndexMap.{get}
+use Rattle.indexmap.specs.IndexSet.{contains}
+use Rattle.gerber_rows.specs.declared.command.Command.{Command}
+use Rattle.layer_image.specs.declared.judge.Judge.{Judge}
+use Rattle.layer_image.specs.declared.judge.Stop.{Stop}
+use Rattle.layer_image.specs.declared.judge.Stop.TheVariants.{Memory, Refused}
+use Rattle.layer_image.specs.Lookback.{Standing, standing, unit_named, format_named, region_named, definition_named, defines_macro, number_named, x_named, y_named, turn_named, scale_named, block_named}
+use Rattle.layer_image.specs.Rules.{broken_rule}
+use Rattle.layer_image.specs.Flashes.{flashes_of, flashes_at}
+
+-- what the judge says to the next command (docs/DEFINITIONS.md, Legal lists)
+abbrev pub told : Judge → Standing
+told judge = record {
+  unit = judge.unit;
+  format = judge.format;
+  in_region = judge.in_region;
+  definition = λ number. get nat_eq judge.apertures number;
+  has_macro = λ name. contains (pointwise nat_eq) judge.macros name;
+  selected = judge.selected;
+  x = judge.x;
+  y = judge.y;
+  turn = judge.turn;
+  scale = judge.scale;
+  block = judge.block;
+}
+
+-- the judge has met just these commands (docs/DEFINITIONS.md, Legal lists)
+pub record Knows (judge : Judge) (before : List Command) : Type 0 where
+  pub standing : told judge ≡ standing before
+  pub flashes : judge.flashes.items ≡ flashes_of before
+
+-- what stands after one more command (docs/DEFINITIONS.md, Legal lists)
+abbrev pub after : Command → Standing → Standing
+after c s = record {
+  unit = option_or (unit_named c) s.unit;
+  format = option_or (format_named c) s.format;
+  in_region = unwrap_or (region_named c) s.in_region;
+  definition = λ number. option_or (definition_named number c) (s.definition number);
+  has_macro = λ name. defines_macro name c || s.has_macro name;
+  selected = option_or (number_named c) s.selected;
+  x = unwrap_or (x_named c) s.x;
+  y = unwrap_or (y_named c) s.y;
+  turn = unwrap_or (turn_named c) s.turn;
+  scale = unwrap_or (scale_named c) s.scale;
+  block = unwrap_or (block_named c) s.block;
+}
+
+-- the new judge is the old one after one more command (docs/DEFINITIONS.md, Legal lists)
+pub record Takes (old : Judge) (c : Command) (new : Judge) : Type 0 where
+  pub standing : told new ≡ after c (told old)
+  pub flashes : new.flashes.items ≡ old.flashes.items ++ flashes_at (told old) c
+
+-- The command breaks no rule and was taken in, or this is the first rule that it breaks, or memory ran out
+-- (docs/DEFINITIONS.md, Legal lists).
+abbrev pub Judges : List Command → Command → Judge → Result (Unit {0}) Stop → Type 0
+Judges before c new (Ok _) = (broken_rule before c ≡ None) × Knows new (before ++ c ∷ [])
+Judges before c new (Err (Refused reason)) = broken_rule before c ≡ Some reason
+Judges before c new (Err Memory) = Unit {0}

@@ -1,0 +1,9 @@
+pub mod Lookback
+pub mod Grids
+pub mod Numbers
+pub mod Moved
+pub mod Flashes
+pub mod Rules
+pub mod Knows
+pub mod Faults
+pub mod Functions

@@ -1,0 +1,140 @@
+-- What the commands before a position say to the next one, each word by looking back over the finished list.
+use Rattle.std.specs.Prelude.{ℕ, nat_eq, ℤ, pos, Bool, true, false, ◌==◌, List, [], ◌∷◌, Option, None, Some, unwrap_or, if◌then◌else◌, slice_get, drop, int_lt}
+use Rattle.std.specs.Option.{option_and_then}
+use Rattle.std.specs.List.{list_any}
+use Rattle.std.specs.Cmp.Lexicographic.{pointwise}
+use Rattle.grid_units.specs.Lists.{last_named}
+use Rattle.grid_units.specs.declared.lengths.Unit.{Unit as Units}
+use Rattle.gerber_rows.specs.declared.command.Format.{Format}
+use Rattle.gerber_rows.specs.declared.command.Block.{Block}
+use Rattle.gerber_rows.specs.declared.command.Standard.{Standard}
+use Rattle.gerber_rows.specs.declared.command.Standard.TheVariants as standard
+use Rattle.gerber_rows.specs.declared.command.Template.{Template}
+use Rattle.gerber_rows.specs.declared.command.Template.TheVariants as template
+use Rattle.gerber_rows.specs.declared.command.Command.{Command}
+use Rattle.gerber_rows.specs.declared.command.Command.TheVariants as command
+use Rattle.layer_image.specs.declared.aperture.Aperture.{Aperture}
+use Rattle.layer_image.specs.declared.aperture.Aperture.TheVariants as aperture
+
+-- ---- what one command names
+
+-- the unit (Gerber format, Unit MO)
+abbrev pub unit_named : Command → Option Units
+unit_named (command.UnitIs unit) = Some unit
+unit_named _ = None
+
+-- the digits of coordinates (Gerber format, Format specification FS)
+abbrev pub format_named : Command → Option Format
+format_named (command.FormatIs format) = Some format
+format_named _ = None
+
+-- a region begins, or ends (Gerber format, Region statement G36/G37)
+abbrev pub region_named : Command → Option Bool
+region_named command.RegionStart = Some true
+region_named command.RegionEnd = Some false
+region_named _ = None
+
+-- the number of the aperture from here on (Gerber format, Current aperture Dnn)
+abbrev pub number_named : Command → Option ℕ
+number_named (command.Select number) = Some number
+number_named _ = None
+
+-- the X of an operation, where it stands there (Gerber format, Coordinate data)
+abbrev pub x_named : Command → Option ℤ
+x_named (command.Operate action x y i j) = x
+x_named _ = None
+
+-- the Y of an operation, where it stands there (Gerber format, Coordinate data)
+abbrev pub y_named : Command → Option ℤ
+y_named (command.Operate action x y i j) = y
+y_named _ = None
+
+-- how far flashes are turned, in units of 10^-8 degrees (Gerber format, Load rotation LR)
+abbrev pub turn_named : Command → Option ℤ
+turn_named (command.Turn turn) = Some turn
+turn_named _ = None
+
+-- how flashes are scaled, in units of 10^-8 (Gerber format, Load scaling LS)
+abbrev pub scale_named : Command → Option ℤ
+scale_named (command.Scale scale) = Some scale
+scale_named _ = None
+
+-- no repetition: one column and one row (Gerber format, Step and repeat SR)
+abbrev pub single : Block
+single = record { columns = 1; rows = 1; step_x = pos 0; step_y = pos 0 }
+
+-- a block begins, or ends (Gerber format, Step and repeat SR)
+abbrev pub block_named : Command → Option Block
+block_named (command.Repeat block) = Some block
+block_named command.RepeatEnd = Some single
+block_named _ = None
+
+-- the parameter at a place, 0 where it is left out (Gerber format, Standard aperture templates)
+abbrev pub size_at : List ℤ → ℕ → ℤ
+size_at sizes place = unwrap_or (slice_get sizes place) (pos 0)
+
+-- one of the parameters from a place on is above 0 (Gerber format, Standard aperture templates)
+abbrev pub has_hole : List ℤ → ℕ → Bool
+has_hole sizes place = list_any (λ size. int_lt (pos 0) size) (drop place sizes)
+
+-- a standard aperture as a flash needs it (Gerber format, Standard aperture templates)
+abbrev pub standard_aperture : Standard → List ℤ → Aperture
+standard_aperture standard.Circle sizes = aperture.Circle (size_at sizes 0) (has_hole sizes 1)
+standard_aperture standard.Rectangle sizes = aperture.Rectangle (size_at sizes 0) (size_at sizes 1) (has_hole sizes 2)
+standard_aperture standard.Obround sizes = aperture.Obround (size_at sizes 0) (size_at sizes 1) (has_hole sizes 2)
+standard_aperture standard.Polygon sizes = aperture.Polygon
+
+-- an aperture as a flash needs it (Gerber format, Aperture definition AD)
+abbrev pub aperture_of : Template → Aperture
+aperture_of (template.Standard which sizes) = standard_aperture which sizes
+aperture_of (template.Named name parameters) = aperture.Macro
+
+-- the aperture of this number (Gerber format, Aperture definition AD)
+abbrev pub definition_named : ℕ → Command → Option Aperture
+definition_named number (command.Define other template) = if number == other then Some (aperture_of template) else None
+definition_named number _ = None
+
+-- a macro of this name (Gerber format, Aperture macro AM)
+abbrev pub defines_macro : List ℕ → Command → Bool
+defines_macro name (command.Macro other pieces) = pointwise nat_eq other name
+defines_macro name _ = false
+
+-- ---- what stands when a command comes
+
+-- what the commands before it say to the next one (docs/DEFINITIONS.md, Layers)
+pub record Standing : Type 0 where
+  pub unit : Option Units
+  pub format : Option Format
+  pub in_region : Bool
+  pub definition : ℕ → Option Aperture
+  pub has_macro : List ℕ → Bool
+  pub selected : Option ℕ
+  pub x : ℤ
+  pub y : ℤ
+  pub turn : ℤ
+  pub scale : ℤ
+  pub block : Block
+
+-- 1, in units of 10^-8 (docs/FORMATS.md, Numbers)
+abbrev pub one : ℤ
+one = pos 100000000
+
+-- each by what was named last, else as at the start (docs/FORMATS.md, Rules of a layer)
+abbrev pub standing : List Command → Standing
+standing before = record {
+  unit = last_named unit_named before;
+  format = last_named format_named before;
+  in_region = unwrap_or (last_named region_named before) false;
+  definition = λ number. last_named (definition_named number) before;
+  has_macro = λ name. list_any (defines_macro name) before;
+  selected = last_named number_named before;
+  x = unwrap_or (last_named x_named before) (pos 0);
+  y = unwrap_or (last_named y_named before) (pos 0);
+  turn = unwrap_or (last_named turn_named before) (pos 0);
+  scale = unwrap_or (last_named scale_named before) one;
+  block = unwrap_or (last_named block_named before) single;
+}
+
+-- the aperture of the number that was selected last (Gerber format, Current aperture Dnn)
+abbrev pub aperture_in : Standing → Option Aperture
+aperture_in s = option_and_then s.definition s.selected

@@ -1,0 +1,131 @@
+//! Apertures as a flash needs them.
+
+ghost use Rattle.std.specs.Prelude.{◌≡◌, false};
+ghost use Rattle.layer_image.specs.Lookback.{size_at, has_hole, aperture_of, standard_aperture};
+ghost use Rattle.layer_image.specs.Rules.{has_bad_size, is_badly_sized, is_negative, has_negative, lacks_size, counts_vertices};
+
+use crate::size::{Diameter, Side};
+use gerber_rows::{Sizes, Standard, Template};
+use grid_units::Dec;
+
+/// An aperture: of a disc, a rectangle or an obround the sizes, and whether it has a hole.
+#[derive(Clone, Copy)]
+pub enum Aperture {
+    Circle(Diameter, bool),
+    Rectangle(Side, Side, bool),
+    Obround(Side, Side, bool),
+    Polygon,
+    Macro,
+}
+
+/// The aperture of a template whose sizes are in range.
+pub(crate) fn aperture_of(template: &Template) -> Aperture
+    requires { is_badly_sized template.now ≡ false }
+    ensures { result ≡ aperture_of template.now }
+{
+    match template {
+        Template::Standard(which, sizes) => standard_aperture(*which, sizes),
+        Template::Named(_, _) => Aperture::Macro,
+    }
+}
+
+fn standard_aperture(which: Standard, sizes: &Sizes) -> Aperture
+    requires { has_bad_size which sizes.now ≡ false }
+    ensures { result ≡ standard_aperture which sizes.now }
+{
+    match which {
+        Standard::Circle => Aperture::Circle(diameter(sizes), has_hole(sizes, 1)),
+        Standard::Rectangle => Aperture::Rectangle(
+            side(sizes, 0),
+            side(sizes, 1),
+            has_hole(sizes, 2),
+        ),
+        Standard::Obround => Aperture::Obround(side(sizes, 0), side(sizes, 1), has_hole(sizes, 2)),
+        Standard::Polygon => Aperture::Polygon,
+    }
+}
+
+fn diameter(sizes: &Sizes) -> Diameter
+    requires { is_negative (size_at sizes.now 0) ≡ false }
+    ensures { result ≡ size_at sizes.now 0 }
+{
+    Diameter::new(size_at(sizes, 0)).unwrap()
+}
+
+fn side(sizes: &Sizes, place: usize) -> Side
+    requires { lacks_size sizes.now place ≡ false }
+    ensures { result ≡ size_at sizes.now place }
+{
+    Side::new(size_at(sizes, place)).unwrap()
+}
+
+/// The size at a place, 0 where it is left out.
+fn size_at(sizes: &Sizes, place: usize) -> Dec
+    ensures { result ≡ size_at sizes.now place }
+{
+    match sizes.as_slice().get(place) {
+        Some(size) => *size,
+        None => Dec::from_units(0).unwrap(),
+    }
+}
+
+/// Whether one of the sizes from a place on is above 0.
+fn has_hole(sizes: &Sizes, place: usize) -> bool
+    ensures { result ≡ has_hole sizes.now place }
+{
+    sizes
+        .as_slice()
+        .iter()
+        .skip(place)
+        .any(|size| size.units() > 0)
+}
+
+/// Whether a size of a template is out of its range.
+pub(crate) fn is_badly_sized(template: &Template) -> bool
+    ensures { result ≡ is_badly_sized template.now }
+{
+    match template {
+        Template::Standard(which, sizes) => has_bad_size(*which, sizes),
+        Template::Named(_, _) => false,
+    }
+}
+
+fn has_bad_size(which: Standard, sizes: &Sizes) -> bool
+    ensures { result ≡ has_bad_size which sizes.now }
+{
+    match which {
+        Standard::Circle => size_at(sizes, 0).units() < 0 || has_negative(sizes, 1),
+        Standard::Rectangle | Standard::Obround => {
+            lacks_size(sizes, 0) || lacks_size(sizes, 1) || has_negative(sizes, 2)
+        }
+        Standard::Polygon => {
+            lacks_size(sizes, 0) || !counts_vertices(size_at(sizes, 1)) || has_negative(sizes, 3)
+        }
+    }
+}
+
+/// Whether the size at a place is not above 0, or left out.
+fn lacks_size(sizes: &Sizes, place: usize) -> bool
+    ensures { result ≡ lacks_size sizes.now place }
+{
+    size_at(sizes, place).units() <= 0
+}
+
+/// Whether one of the sizes from a place on is below 0.
+fn has_negative(sizes: &Sizes, place: usize) -> bool
+    ensures { result ≡ has_negative sizes.now place }
+{
+    sizes
+        .as_slice()
+        .iter()
+        .skip(place)
+        .any(|size| size.units() < 0)
+}
+
+/// Whether a size is a whole number from 3 to 12.
+fn counts_vertices(size: Dec) -> bool
+    ensures { result ≡ counts_vertices size }
+{
+    let units = size.units();
+    300_000_000 <= units && units <= 1_200_000_000 && units.unsigned_abs() % 100_000_000 == 0
+}

@@ -1,0 +1,195 @@
+//! What is in force when a command comes: its unit and decimals, its points, its aperture, and what it would flash.
+
+ghost use Rattle.std.specs.Prelude.{◌≡◌, ◌≤◌, false};
+ghost use Rattle.std.specs.List.{find, list_any};
+ghost use Rattle.layer_image.specs.Lookback.{aperture_in};
+ghost use Rattle.layer_image.specs.Flashes.{unit_in_force, decimals_in_force, grid_at, keeps_from_pad, why_order, what_at, shape_at, exchanges_sides, disc_at, rect_at, obround_at};
+ghost use Rattle.layer_image.specs.Moved.{origin};
+ghost use Rattle.layer_image.specs.Rules.{is_far_pad, is_far_side, sides};
+ghost use Rattle.layer_image.specs.Grids.{IsBounded};
+ghost use Rattle.layer_image.specs.Knows.{told};
+
+use crate::aperture::Aperture;
+use crate::flash::{What, Why};
+use crate::grid::Grid;
+use crate::judge::Judge;
+use crate::length::{coordinate, fine_length};
+use crate::size::{Diameter, Side};
+use grid_units::{Point, Unit, is_far};
+use pad_shapes::{Disc, Obround, Pad, Rect};
+
+/// A quarter of a turn, in units of 10^-8 degrees.
+const QUARTER: u64 = 9_000_000_000;
+
+/// 1 in units of 10^-8.
+const ONE: i64 = 100_000_000;
+
+impl Judge {
+    pub(crate) fn unit_in_force(&self) -> Unit
+        ensures { result ≡ unit_in_force (told self.now) }
+    {
+        self.unit.unwrap_or(Unit::Millimetre)
+    }
+
+    pub(crate) fn decimals_in_force(&self) -> u8
+        ensures { result ≡ decimals_in_force (told self.now) }
+    {
+        match self.format {
+            Some(format) => format.decimals,
+            None => 0,
+        }
+    }
+
+    /// The point of an operation that names these, and the block that is open.
+    pub(crate) fn grid(&self, x: Option<i64>, y: Option<i64>) -> Grid
+        ensures value { result ≡ grid_at (told self.now) x y }
+        ensures bounded { IsBounded result }
+    {
+        let unit = self.unit_in_force();
+        let decimals = self.decimals_in_force();
+        Grid {
+            x: coordinate(x.unwrap_or(self.x), decimals, unit),
+            y: coordinate(y.unwrap_or(self.y), decimals, unit),
+            columns: self.block.columns,
+            rows: self.block.rows,
+            step_x: fine_length(self.block.step_x, unit),
+            step_y: fine_length(self.block.step_y, unit),
+        }
+    }
+
+    /// The aperture that was selected last.
+    pub(crate) fn aperture(&self) -> Option<Aperture>
+        ensures { result ≡ aperture_in (told self.now) }
+    {
+        match self.selected {
+            Some(number) => self.apertures.get(&number).copied(),
+            None => None,
+        }
+    }
+
+    /// Whether a flash of the aperture is a pad with a size beyond 10 m.
+    pub(crate) fn is_far_pad(&self, aperture: &Aperture) -> bool
+        ensures { result ≡ is_far_pad (told self.now) aperture.now }
+    {
+        self.why_no_pad(aperture).is_none() && self.has_far_side(aperture)
+    }
+
+    fn has_far_side(&self, aperture: &Aperture) -> bool
+        ensures { result ≡ list_any (is_far_side (unit_in_force (told self.now))) (sides aperture.now) }
+    {
+        let unit = self.unit_in_force();
+        match aperture {
+            Aperture::Circle(diameter, _) => is_far_diameter(*diameter, unit),
+            Aperture::Rectangle(width, height, _) | Aperture::Obround(width, height, _) => {
+                is_far_side(*width, unit) || is_far_side(*height, unit)
+            }
+            Aperture::Polygon | Aperture::Macro => false,
+        }
+    }
+
+    /// Why a flash of the aperture is no pad.
+    fn why_no_pad(&self, aperture: &Aperture) -> Option<Why>
+        ensures { result ≡ find (keeps_from_pad aperture.now self.now.scale self.now.turn) why_order }
+    {
+        let holed = match aperture {
+            Aperture::Macro => return Some(Why::Macro),
+            Aperture::Polygon => return Some(Why::Polygon),
+            Aperture::Circle(_, holed)
+            | Aperture::Rectangle(_, _, holed)
+            | Aperture::Obround(_, _, holed) => *holed,
+        };
+        if holed {
+            Some(Why::Holed)
+        } else if self.scale.units() != ONE {
+            Some(Why::Scaled)
+        } else if self.turn.units().unsigned_abs() % QUARTER != 0 {
+            Some(Why::Turned)
+        } else {
+            None
+        }
+    }
+
+    /// What the aperture leaves, as at the origin.
+    pub(crate) fn what(&self, aperture: &Aperture) -> What
+        requires { is_far_pad (told self.now) aperture.now ≡ false }
+        ensures { result ≡ what_at origin (unit_in_force (told self.now)) self.now.scale self.now.turn aperture.now }
+    {
+        match self.why_no_pad(aperture) {
+            Some(why) => What::Other(why),
+            None => self.shape(aperture),
+        }
+    }
+
+    fn shape(&self, aperture: &Aperture) -> What
+        requires { list_any (is_far_side (unit_in_force (told self.now))) (sides aperture.now) ≡ false }
+        ensures { result ≡ shape_at origin (unit_in_force (told self.now)) self.now.turn aperture.now }
+    {
+        let unit = self.unit_in_force();
+        let exchanged = self.exchanges_sides();
+        match aperture {
+            Aperture::Circle(diameter, _) => What::Pad(Pad::Disc(disc(*diameter, unit))),
+            Aperture::Rectangle(width, height, _) if exchanged => What::Pad(Pad::Rect(rect(
+                *height, *width, unit,
+            ))),
+            Aperture::Rectangle(width, height, _) => What::Pad(Pad::Rect(rect(
+                *width, *height, unit,
+            ))),
+            Aperture::Obround(width, height, _) if exchanged => What::Pad(Pad::Obround(obround(
+                *height, *width, unit,
+            ))),
+            Aperture::Obround(width, height, _) => What::Pad(Pad::Obround(obround(
+                *width, *height, unit,
+            ))),
+            Aperture::Polygon => What::Other(Why::Polygon),
+            Aperture::Macro => What::Other(Why::Macro),
+        }
+    }
+
+    /// Whether flashes are turned by an odd multiple of a quarter.
+    fn exchanges_sides(&self) -> bool
+        ensures { result ≡ exchanges_sides self.now.turn }
+    {
+        self.turn.units().unsigned_abs() % (2 * QUARTER) == QUARTER
+    }
+}
+
+fn is_far_diameter(diameter: Diameter, unit: Unit) -> bool
+    ensures { result ≡ is_far_side unit diameter }
+{
+    is_far(fine_length(diameter.size(), unit))
+}
+
+fn is_far_side(side: Side, unit: Unit) -> bool
+    ensures { result ≡ is_far_side unit side }
+{
+    is_far(fine_length(side.size(), unit))
+}
+
+fn origin() -> Point
+    ensures { result ≡ origin }
+{
+    Point::new(0, 0).unwrap()
+}
+
+fn disc(diameter: Diameter, unit: Unit) -> Disc
+    requires { is_far_side unit diameter ≡ false }
+    ensures { result ≡ disc_at origin unit diameter }
+{
+    Disc::new(origin(), diameter.half(unit)).unwrap()
+}
+
+fn rect(width: Side, height: Side, unit: Unit) -> Rect
+    requires width { is_far_side unit width ≡ false }
+    requires height { is_far_side unit height ≡ false }
+    ensures { result ≡ rect_at origin unit width height }
+{
+    Rect::new(origin(), width.half(unit), height.half(unit)).unwrap()
+}
+
+fn obround(width: Side, height: Side, unit: Unit) -> Obround
+    requires width { is_far_side unit width ≡ false }
+    requires height { is_far_side unit height ≡ false }
+    ensures { result ≡ obround_at origin unit width height }
+{
+    Obround::new(origin(), width.half(unit), height.half(unit)).unwrap()
+}

@@ -1,0 +1,116 @@
+//! The copies of a flashed point in a step and repeat block.
+
+ghost use Rattle.std.specs.Prelude.{◌≡◌, ◌++◌, ◌∷◌, [], ◌<◌, ◌≤◌, ◌^◌, ◌+ℤ◌, ◌*ℤ◌, ◌||◌, pos, unsigned_abs, false, length, map, OnOk};
+ghost use Rattle.std.specs.List.{list_any};
+ghost use Rattle.grid_units.specs.Numbers.{is_far};
+ghost use Rattle.grid_units.specs.Points.{max_coordinate};
+ghost use Rattle.layer_image.specs.Flashes.{copies, copy_at};
+ghost use Rattle.layer_image.specs.Moved.{flash_moved};
+ghost use Rattle.layer_image.specs.Rules.{is_far_point};
+ghost use Rattle.layer_image.specs.Grids.{IsBounded};
+
+use crate::flash::{Flash, What};
+use grid_units::{Point, is_far};
+use pad_shapes::Pad;
+use std::alloc::AllocError;
+
+/// A point and the counts and steps of its copies, in pm.
+#[derive(Clone, Copy)]
+pub struct Grid {
+    pub x: i128,
+    pub y: i128,
+    pub columns: u32,
+    pub rows: u32,
+    pub step_x: i128,
+    pub step_y: i128,
+}
+
+impl Grid {
+    /// How many copies there are.
+    pub fn count(&self) -> u64
+        ensures { result ≡ length (copies self.now) }
+    {
+        u64::from(self.columns) * u64::from(self.rows)
+    }
+
+    /// Whether a copy is beyond 10 m from an axis: one of those at the ends is.
+    pub fn is_far(&self) -> bool
+        requires { IsBounded self.now }
+        ensures { result ≡ list_any is_far_point (copies self.now) }
+    {
+        if self.columns == 0 || self.rows == 0 {
+            return false;
+        }
+        let last_x = stepped(self.x, self.step_x, self.columns - 1);
+        let last_y = stepped(self.y, self.step_y, self.rows - 1);
+        is_any_far(self.x, self.y, last_x, last_y)
+    }
+
+    /// One copy.
+    fn copy(&self, u: u32, v: u32) -> Point
+        requires bounded { IsBounded self.now }
+        requires near { list_any is_far_point (copies self.now) ≡ false }
+        requires column { u < self.now.columns }
+        requires row { v < self.now.rows }
+        ensures { result ≡ copy_at self.now u v }
+    {
+        point(
+            stepped(self.x, self.step_x, u),
+            stepped(self.y, self.step_y, v),
+        )
+    }
+
+    /// Flashes each copy, in order.
+    ///
+    /// # Errors
+    ///
+    /// An `AllocError` where there is no memory for a flash.
+    pub fn flash(&self, flashes: &mut Vec<Flash>, what: &What) -> Result<(), AllocError>
+        requires bounded { IsBounded self.now }
+        requires near { list_any is_far_point (copies self.now) ≡ false }
+        ensures { OnOk result (flashes.new.items ≡ flashes.old.items ++ map (flash_moved what.now) (copies self.now)) }
+    {
+        for u in 0..self.columns {
+            for v in 0..self.rows {
+                let at = self.copy(u, v);
+                push_flash(flashes, what, at)?;
+            }
+        }
+        Ok(())
+    }
+}
+
+/// Flashes one copy.
+fn push_flash(flashes: &mut Vec<Flash>, what: &What, at: Point) -> Result<(), AllocError>
+    ensures { OnOk result (flashes.new.items ≡ flashes.old.items ++ flash_moved what.now at ∷ []) }
+{
+    flashes.push(Flash {
+        at,
+        what: what.at(at),
+    })?;
+    Ok(())
+}
+
+/// The point of two coordinates that are near.
+fn point(x: i128, y: i128) -> Point
+    requires x { unsigned_abs x ≤ max_coordinate }
+    requires y { unsigned_abs y ≤ max_coordinate }
+    ensures { result ≡ record { x = x; y = y } }
+{
+    Point::new(x as i64, y as i64).unwrap()
+}
+
+/// So many steps from a start.
+fn stepped(start: i128, step: i128, count: u32) -> i128
+    requires start { unsigned_abs start ≤ 2 ^ 98 }
+    requires step { unsigned_abs step ≤ 2 ^ 71 }
+    ensures { result ≡ start +ℤ pos count *ℤ step }
+{
+    start + i128::from(count) * step
+}
+
+fn is_any_far(first_x: i128, first_y: i128, last_x: i128, last_y: i128) -> bool
+    ensures { result ≡ (is_far first_x || (is_far first_y || (is_far last_x || is_far last_y))) }
+{
+    is_far(first_x) || is_far(first_y) || is_far(last_x) || is_far(last_y)
+}

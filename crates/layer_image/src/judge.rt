@@ -1,0 +1,203 @@
+//! The judge: meets the commands of a list one by one, and says at the first that breaks a rule which rule it breaks.
+
+ghost use Rattle.std.specs.Prelude.{◌≡◌, ◌∷◌, ◌++◌, ◌*◌, [], List, Option, ℤ, OnOk, None, pos, length, true, false};
+ghost use Rattle.std.specs.Option.{option_map_or};
+ghost use Rattle.std.specs.List.{list_any};
+ghost use Rattle.gerber_rows.specs.declared.command.Action.{Action as TheAction};
+ghost use Rattle.gerber_rows.specs.declared.command.Command.{Command};
+ghost use Rattle.gerber_rows.specs.declared.command.Command.TheVariants as command;
+ghost use Rattle.layer_image.specs.declared.judge.Stop.TheVariants.{Memory};
+ghost use Rattle.layer_image.specs.Lookback.{aperture_in, single};
+ghost use Rattle.layer_image.specs.Flashes.{copies_at, flashed, is_flash};
+ghost use Rattle.layer_image.specs.Rules.{first_broken, flashes_too_far, is_badly_sized, is_far_pad, is_far_point};
+ghost use Rattle.layer_image.specs.Knows.{Knows, Takes, Judges, told, after};
+
+use crate::aperture::{Aperture, aperture_of};
+use crate::flash::Flash;
+use crate::rules::is_flash;
+use gerber_rows::{Action, Block, Command, Format, Template};
+use grid_units::{Dec, Reason, Text, Unit};
+use indexmap::{IndexMap, IndexSet};
+use std::alloc::{AllocError, Global};
+
+/// What the commands so far say to the next one, and the flashes that they made.
+#[derive(Drop)]
+pub(crate) struct Judge {
+    pub(crate) unit: Option<Unit>,
+    pub(crate) format: Option<Format>,
+    pub(crate) in_region: bool,
+    pub(crate) apertures: IndexMap<u32, Aperture>,
+    pub(crate) macros: IndexSet<Text>,
+    pub(crate) selected: Option<u32>,
+    pub(crate) x: i64,
+    pub(crate) y: i64,
+    pub(crate) turn: Dec,
+    pub(crate) scale: Dec,
+    pub(crate) block: Block,
+    pub(crate) flashes: Vec<Flash>,
+}
+
+/// Why a step stops.
+#[derive(Clone, Copy)]
+pub(crate) enum Stop {
+    Memory,
+    Refused(Reason),
+}
+
+impl From<AllocError> for Stop {
+    ghost from_gives = { λ _ stop. stop ≡ Memory };
+
+    fn from(_error: AllocError) -> Self {
+        Stop::Memory
+    }
+}
+
+impl Judge {
+    /// A judge that has met no command.
+    pub(crate) fn new(alloc: Global) -> Self
+        ensures { Knows result [] }
+    {
+        Judge {
+            unit: None,
+            format: None,
+            in_region: false,
+            apertures: IndexMap::new(alloc),
+            macros: IndexSet::new(alloc),
+            selected: None,
+            x: 0,
+            y: 0,
+            turn: decimal(0),
+            scale: decimal(1),
+            block: single(),
+            flashes: Vec::new(alloc),
+        }
+    }
+
+    /// Judges one more command, and takes it in where it breaks no rule. A refusal changes nothing.
+    pub(crate) fn step(&mut self, command: &Command) -> Result<(), Stop>
+        ensures { (before : List Command) → Knows self.old before → Judges before command.now self.new result }
+    {
+        if let Some(reason) = self.broken_rule(command) {
+            return Err(Stop::Refused(reason));
+        }
+        self.take(command)?;
+        Ok(())
+    }
+
+    /// The flashes of the commands that the judge has taken in.
+    pub(crate) fn into_flashes(self) -> Vec<Flash>
+        ensures { result ≡ self.flashes }
+    {
+        self.flashes
+    }
+
+    /// Takes in a command that breaks no rule.
+    fn take(&mut self, command: &Command) -> Result<(), AllocError>
+        requires { first_broken (told self.old) (length self.old.flashes.items) command.now ≡ None }
+        ensures { OnOk result (Takes self.old command.now self.new) }
+    {
+        match command {
+            Command::RegionStart => self.in_region = true,
+            Command::RegionEnd => self.in_region = false,
+            Command::UnitIs(unit) => self.unit = Some(*unit),
+            Command::FormatIs(format) => self.format = Some(*format),
+            Command::Define { number, template } => self.define(*number, template)?,
+            Command::Macro(name, _) => {
+                self.macros.insert(name.copy()?)?;
+            }
+            Command::Select(number) => self.selected = Some(*number),
+            Command::Operate { action, x, y, .. } => self.operate(*action, *x, *y)?,
+            Command::Turn(turn) => self.turn = *turn,
+            Command::Scale(scale) => self.scale = *scale,
+            Command::Repeat(block) => self.block = *block,
+            Command::RepeatEnd => self.block = single(),
+            Command::Comment(_)
+            | Command::Mode(_)
+            | Command::Quadrant(_)
+            | Command::Dark
+            | Command::Mirror { .. }
+            | Command::Attribute(_, _)
+            | Command::Remove(_)
+            | Command::Finish => {}
+        }
+        Ok(())
+    }
+
+    /// Takes in an aperture.
+    fn define(&mut self, number: u32, template: &Template) -> Result<(), AllocError>
+        requires { is_badly_sized template.now ≡ false }
+        ensures { OnOk result (Takes self.old (command.Define number template.now) self.new) }
+    {
+        self.apertures.insert(number, aperture_of(template))?;
+        Ok(())
+    }
+
+    /// Flashes the aperture at the point of an operation, once for each copy.
+    fn flash(
+        &mut self,
+        x: Option<i64>,
+        y: Option<i64>,
+        aperture: &Aperture,
+    ) -> Result<(), AllocError>
+        requires points { list_any is_far_point (copies_at (told self.old) x y) ≡ false }
+        requires pad { is_far_pad (told self.old) aperture.now ≡ false }
+        ensures told { told self.new ≡ told self.old }
+        ensures flashes { OnOk result (self.new.flashes.items ≡ self.old.flashes.items ++ flashed (told self.old) x y aperture.now) }
+    {
+        let what = self.what(aperture);
+        self.grid(x, y).flash(&mut self.flashes, &what)
+    }
+
+    /// Flashes the aperture that was selected last, if there is one.
+    fn flash_selected(&mut self, x: Option<i64>, y: Option<i64>) -> Result<(), AllocError>
+        requires points { list_any is_far_point (copies_at (told self.old) x y) ≡ false }
+        requires pad { option_map_or (is_far_pad (told self.old)) (aperture_in (told self.old)) false ≡ false }
+        ensures told { told self.new ≡ told self.old }
+        ensures flashes { OnOk result (self.new.flashes.items ≡ self.old.flashes.items ++ option_map_or (flashed (told self.old) x y) (aperture_in (told self.old)) []) }
+    {
+        match self.aperture() {
+            Some(aperture) => self.flash(x, y, &aperture),
+            None => Ok(()),
+        }
+    }
+
+    /// Takes in an operation.
+    fn operate(&mut self, action: Action, x: Option<i64>, y: Option<i64>) -> Result<(), AllocError>
+        requires { is_flash action ≡ true → flashes_too_far (told self.old) x y ≡ false }
+        ensures { OnOk result ((i j : Option ℤ) → Takes self.old (command.Operate action x y i j) self.new) }
+    {
+        if is_flash(action) {
+            self.flash_selected(x, y)?;
+        }
+        self.go_to(x, y);
+        Ok(())
+    }
+
+    /// Makes the point of an operation the current one.
+    fn go_to(&mut self, x: Option<i64>, y: Option<i64>)
+        ensures told { (action : TheAction) (i j : Option ℤ) → told self.new ≡ after (command.Operate action x y i j) (told self.old) }
+        ensures flashes { self.new.flashes ≡ self.old.flashes }
+    {
+        self.x = x.unwrap_or(self.x);
+        self.y = y.unwrap_or(self.y);
+    }
+}
+
+/// A decimal without a fraction.
+fn decimal(whole: u8) -> Dec
+    ensures { result ≡ pos (whole * 100000000) }
+{
+    Dec::from_units(i64::from(whole) * 100_000_000).unwrap()
+}
+
+/// No repetition: one column and one row.
+fn single() -> Block
+    ensures { result ≡ single }
+{
+    Block {
+        columns: 1,
+        rows: 1,
+        step_x: decimal(0),
+        step_y: decimal(0),
+    }
+}

@@ -1,0 +1,252 @@
+//! The rules of a legal list, in their order.
+
+ghost use Rattle.std.specs.Prelude.{◌≡◌, ◌+◌, ◌&&◌, ◌||◌, is_none, length, nat_lt, false};
+ghost use Rattle.std.specs.Option.{option_map_or};
+ghost use Rattle.std.specs.List.{find};
+ghost use Rattle.gerber_rows.specs.declared.command.Command.TheVariants as command;
+ghost use Rattle.layer_image.specs.Lookback.{aperture_in};
+ghost use Rattle.layer_image.specs.Flashes.{is_flash, copies_at};
+ghost use Rattle.layer_image.specs.Rules.{applies, later_rules, first_broken, differs_in_unit, differs_in_format, lacks_macro, needs_aperture, flashes_too_far, is_far_in, is_far_pad, is_long_by, repeats_badly, is_bad_count, is_not_positive, may_stand_in_region};
+ghost use Rattle.layer_image.specs.Knows.{told};
+
+use crate::aperture::is_badly_sized;
+use crate::judge::Judge;
+use crate::length::{coordinate, is_long};
+use gerber_rows::{Action, Block, Command, Format, Template};
+use grid_units::{Dec, Reason, Unit, is_far};
+
+/// The most flashes of a layer, copies counted.
+const MAX_FLASHES: u128 = 4_194_304;
+
+impl Judge {
+    /// The first rule that a command breaks.
+    #[tactic(auto, unfolding(crate::specs::Rules::first_broken))]
+    pub(crate) fn broken_rule(&self, command: &Command) -> Option<Reason>
+        ensures { result ≡ first_broken (told self.now) (length self.now.flashes.items) command.now }
+    {
+        if self.in_region && !may_stand_in_region(command) {
+            return Some(Reason::InRegion);
+        }
+        match command {
+            Command::RegionEnd => (!self.in_region).then_some(Reason::NotInRegion),
+            Command::UnitIs(unit) => self.differs_in_unit(*unit).then_some(Reason::UnitConflict),
+            Command::FormatIs(format) => self
+                .differs_in_format(*format)
+                .then_some(Reason::FormatConflict),
+            Command::Define { number, template } => self.definition_rule(*number, template),
+            Command::Macro(name, _) => self.macros.contains(name).then_some(Reason::Redefined),
+            Command::Select(number) => (!self.apertures.contains_key(number)).then_some(
+                Reason::UnknownAperture,
+            ),
+            Command::Operate { action, x, y, i, j } => self.operation_rule(*action, *x, *y, *i, *j),
+            Command::Scale(scale) => is_not_positive(*scale).then_some(Reason::BadSize),
+            Command::Repeat(block) => repeats_badly(*block).then_some(Reason::BadRepeat),
+            Command::Finish => self.finish_rule(),
+            Command::Comment(_)
+            | Command::Mode(_)
+            | Command::Quadrant(_)
+            | Command::RegionStart
+            | Command::Dark
+            | Command::Mirror { .. }
+            | Command::Turn(_)
+            | Command::RepeatEnd
+            | Command::Attribute(_, _)
+            | Command::Remove(_) => None,
+        }
+    }
+
+    fn differs_in_unit(&self, unit: Unit) -> bool
+        ensures { result ≡ differs_in_unit (told self.now) (command.UnitIs unit) }
+    {
+        match self.unit {
+            Some(other) => other != unit,
+            None => false,
+        }
+    }
+
+    fn differs_in_format(&self, format: Format) -> bool
+        ensures { result ≡ differs_in_format (told self.now) (command.FormatIs format) }
+    {
+        match self.format {
+            Some(other) => other.whole != format.whole || other.decimals != format.decimals,
+            None => false,
+        }
+    }
+
+    fn finish_rule(&self) -> Option<Reason>
+        ensures { result ≡ find (applies (told self.now) (length self.now.flashes.items) command.Finish) later_rules }
+    {
+        if self.format.is_none() {
+            Some(Reason::NoFormat)
+        } else if self.unit.is_none() {
+            Some(Reason::NoUnit)
+        } else {
+            None
+        }
+    }
+
+    fn definition_rule(&self, number: u32, template: &Template) -> Option<Reason>
+        ensures { result ≡ find (applies (told self.now) (length self.now.flashes.items) (command.Define number template.now)) later_rules }
+    {
+        if self.apertures.contains_key(&number) {
+            Some(Reason::Redefined)
+        } else if self.lacks_macro(template) {
+            Some(Reason::UnknownMacro)
+        } else if is_badly_sized(template) {
+            Some(Reason::BadSize)
+        } else {
+            None
+        }
+    }
+
+    fn lacks_macro(&self, template: &Template) -> bool
+        ensures { result ≡ lacks_macro (told self.now) template.now }
+    {
+        match template {
+            Template::Named(name, _) => !self.macros.contains(name),
+            Template::Standard(_, _) => false,
+        }
+    }
+
+    fn operation_rule(
+        &self,
+        action: Action,
+        x: Option<i64>,
+        y: Option<i64>,
+        i: Option<i64>,
+        j: Option<i64>,
+    ) -> Option<Reason>
+        ensures { result ≡ find (applies (told self.now) (length self.now.flashes.items) (command.Operate action x y i j)) later_rules }
+    {
+        let Some(format) = self.format else {
+            return Some(Reason::NoFormat);
+        };
+        if self.unit.is_none() {
+            Some(Reason::NoUnit)
+        } else if self.lacks_aperture(action) {
+            Some(Reason::NoAperture)
+        } else if names_too_many_digits(format, x, y, i, j) {
+            Some(Reason::TooManyDigits)
+        } else if self.reaches_too_far(action, x, y) {
+            Some(Reason::TooFar)
+        } else {
+            self.flashes_too_many(action, x, y)
+                .then_some(Reason::TooManyPads)
+        }
+    }
+
+    fn lacks_aperture(&self, action: Action) -> bool
+        ensures { result ≡ (needs_aperture action self.now.in_region && is_none self.now.selected) }
+    {
+        let needed = match action {
+            Action::Plot => !self.in_region,
+            Action::Move => false,
+            Action::Flash => true,
+        };
+        needed && self.selected.is_none()
+    }
+
+    fn reaches_too_far(&self, action: Action, x: Option<i64>, y: Option<i64>) -> bool
+        ensures { result ≡ ((is_far_in (told self.now) x || is_far_in (told self.now) y) || (is_flash action && flashes_too_far (told self.now) x y)) }
+    {
+        (self.is_far_named(x) || self.is_far_named(y))
+            || (is_flash(action) && self.flashes_too_far(x, y))
+    }
+
+    fn is_far_named(&self, named: Option<i64>) -> bool
+        ensures { result ≡ is_far_in (told self.now) named }
+    {
+        match named {
+            Some(n) => is_far(coordinate(n, self.decimals_in_force(), self.unit_in_force())),
+            None => false,
+        }
+    }
+
+    fn flashes_too_far(&self, x: Option<i64>, y: Option<i64>) -> bool
+        ensures { result ≡ flashes_too_far (told self.now) x y }
+    {
+        self.grid(x, y).is_far() || self.has_far_pad()
+    }
+
+    fn has_far_pad(&self) -> bool
+        ensures { result ≡ option_map_or (is_far_pad (told self.now)) (aperture_in (told self.now)) false }
+    {
+        match self.aperture() {
+            Some(aperture) => self.is_far_pad(&aperture),
+            None => false,
+        }
+    }
+
+    fn flashes_too_many(&self, action: Action, x: Option<i64>, y: Option<i64>) -> bool
+        ensures { result ≡ (is_flash action && nat_lt 4194304 (length self.now.flashes.items + length (copies_at (told self.now) x y))) }
+    {
+        is_flash(action)
+            && self.flashes.len() as u128 + u128::from(self.grid(x, y).count()) > MAX_FLASHES
+    }
+}
+
+fn repeats_badly(block: Block) -> bool
+    ensures { result ≡ repeats_badly (command.Repeat block) }
+{
+    is_bad_count(block.columns)
+        || is_bad_count(block.rows)
+        || block.step_x.units() < 0
+        || block.step_y.units() < 0
+}
+
+fn is_bad_count(count: u32) -> bool
+    ensures { result ≡ is_bad_count count }
+{
+    count == 0 || count > 10_000
+}
+
+fn is_not_positive(scale: Dec) -> bool
+    ensures { result ≡ is_not_positive scale }
+{
+    scale.units() <= 0
+}
+
+/// Whether the command may stand between a start and an end of a region.
+fn may_stand_in_region(command: &Command) -> bool
+    ensures { result ≡ may_stand_in_region command.now }
+{
+    match command {
+        Command::Comment(_) | Command::Mode(_) | Command::Quadrant(_) | Command::RegionEnd => true,
+        Command::Operate { action, .. } => !is_flash(*action),
+        _ => false,
+    }
+}
+
+/// Whether an operation is a flash.
+pub(crate) fn is_flash(action: Action) -> bool
+    ensures { result ≡ is_flash action }
+{
+    match action {
+        Action::Flash => true,
+        Action::Plot | Action::Move => false,
+    }
+}
+
+fn names_too_many_digits(
+    format: Format,
+    x: Option<i64>,
+    y: Option<i64>,
+    i: Option<i64>,
+    j: Option<i64>,
+) -> bool
+    ensures { result ≡ (is_long_by format x || (is_long_by format y || (is_long_by format i || is_long_by format j))) }
+{
+    is_long_named(format, x)
+        || is_long_named(format, y)
+        || is_long_named(format, i)
+        || is_long_named(format, j)
+}
+
+fn is_long_named(format: Format, named: Option<i64>) -> bool
+    ensures { result ≡ is_long_by format named }
+{
+    match named {
+        Some(n) => is_long(format, n),
+        None => false,
+    }
+}
