@@ -91,8 +91,8 @@ pointed_run v h =
     let fs = decimals n in
     record {
       numbers = all_append is_number (minus v ++ decimal (n / 10 ^ 8)) (behind_any_point fs)
-        (all_append is_number (minus v) (decimal (n / 10 ^ 8)) (minus_numbers v) (all_weaker is_digit is_number digit_number (decimal (n / 10 ^ 8)) (decimal_digits (n / 10 ^ 8) whole)))
-        (tail_numbers fs (trims (places 8 (n % 10 ^ 8)) (digits-places 8 (n % 10 ^ 8))).digits);
+          (all_append is_number (minus v) (decimal (n / 10 ^ 8)) (minus_numbers v) (all_weaker is_digit is_number digit_number (decimal (n / 10 ^ 8)) (decimal_digits (n / 10 ^ 8) whole)))
+          (tail_numbers fs (trims (places 8 (n % 10 ^ 8)) (digits-places 8 (n % 10 ^ 8))).digits);
       point = any_behind is_point (minus v ++ decimal (n / 10 ^ 8)) (behind_any_point fs) (tail_point fs);
       reads = pointed_reads v h;
     }

@@ -66,9 +66,9 @@ unit_said : (unit : Units) (line : List ℕ) → Said part.Header (unit_line uni
 unfolding unit_line
 unit_said unit line =
     one_cond part.Header (begins (codes ",LZ") line) (unit_format unit (Some Leading) (drop 3 line)) (cond (begins (codes ",TZ") line) (unit_format unit (Some Trailing) (drop 3 line)) (unit_format unit None line))
-      (λ _. format_said unit (Some Leading) (drop 3 line) refl)
-      (one_cond part.Header (begins (codes ",TZ") line) (unit_format unit (Some Trailing) (drop 3 line)) (unit_format unit None line)
-        (λ _. format_said unit (Some Trailing) (drop 3 line) refl) (format_said unit None line refl))
+    (λ _. format_said unit (Some Leading) (drop 3 line) refl)
+    (one_cond part.Header (begins (codes ",TZ") line) (unit_format unit (Some Trailing) (drop 3 line)) (unit_format unit None line)
+    (λ _. format_said unit (Some Trailing) (drop 3 line) refl) (format_said unit None line refl))
 
 -- ---- tools
 
@@ -94,7 +94,7 @@ fields_said : (digits fields : List ℕ) → Said part.Header (tool_fields digit
 unfolding tool_fields Said
 fields_said digits fields =
     one_cond part.Header (are_fields is_letter fields && eqb (count_by is_diameter fields) 1) (both (number_from 1 digits) (diameter_of (diameter_run fields)) >>= λ t. Ok (Tool t.0 t.1)) (Err BadLine)
-      (λ _. tool_both (number_from 1 digits) (diameter_of (diameter_run fields)) (λ n e. let r = number_range 1 n digits e in and_true (leb 1 n) (leb n 999) r.0 r.1)) tt
+    (λ _. tool_both (number_from 1 digits) (diameter_of (diameter_run fields)) (λ n e. let r = number_range 1 n digits e in and_true (leb 1 n) (leb n 999) r.0 r.1)) tt
 
 tool_said : (line : List ℕ) → Said part.Header (tool_line line)
 unfolding tool_line
@@ -104,7 +104,7 @@ picks_said : (digits fields : List ℕ) → Said part.Body (pick_fields digits f
 unfolding pick_fields Said
 picks_said digits fields =
     one_cond part.Body (are_fields is_skipped fields) (number_from 0 digits >>= λ n. Ok (Pick n)) (Err BadLine)
-      (λ _. one_bind part.Body (number_from 0 digits) (λ n. Ok (Pick n)) (λ n e. (number_range 0 n digits e).1)) tt
+    (λ _. one_bind part.Body (number_from 0 digits) (λ n. Ok (Pick n)) (λ n e. (number_range 0 n digits e).1)) tt
 
 pick_said : (line : List ℕ) → Said part.Body (pick_line line)
 unfolding pick_line
@@ -146,8 +146,8 @@ unfolding drill_from Said
 drilled_said s from rest h =
     let slot : Result DrillCommand Reason = cond (bytes_eq (take 3 rest) (codes "G85")) (slot_line s from (drop 3 rest)) (Err BadLine) in
     one_cond part.Body (eqb (length rest) 0) (coordinates s from >>= λ p. Ok (Hit p)) slot
-      (λ _. one_bind part.Body (coordinates s from) (λ p. Ok (Hit p)) (λ p e. point_named s from p e ∙ h))
-      (one_cond part.Body (bytes_eq (take 3 rest) (codes "G85")) (slot_line s from (drop 3 rest)) (Err BadLine) (λ _. slot_said s from (drop 3 rest) h) tt)
+    (λ _. one_bind part.Body (coordinates s from) (λ p. Ok (Hit p)) (λ p e. point_named s from p e ∙ h))
+    (one_cond part.Body (bytes_eq (take 3 rest) (codes "G85")) (slot_line s from (drop 3 rest)) (Err BadLine) (λ _. slot_said s from (drop 3 rest) h) tt)
 
 -- a field of a line that begins with its letter
 found : Bool → ℕ → List ℕ → Option (List ℕ) × List ℕ
@@ -202,7 +202,7 @@ header_said : (line : List ℕ) → AllSaid part.Header (header_line line)
 unfolding header_line
 header_said line =
     header_chain (ends_header line) (begins (codes "INCH") line) (begins (codes "METRIC") line) (begins (codes "T") line) (unit_line Inch (drop 4 line)) (unit_line Millimetre (drop 6 line)) (tool_line (drop 1 line)) (common_line line)
-      (unit_said Inch (drop 4 line)) (unit_said Millimetre (drop 6 line)) (tool_said (drop 1 line)) (common_said part.Header line refl refl)
+    (unit_said Inch (drop 4 line)) (unit_said Millimetre (drop 6 line)) (tool_said (drop 1 line)) (common_said part.Header line refl refl)
 
 word_chain : (a b c : Bool) (rest : Result (Option DrillCommand) Reason) → AllSaid part.Body rest → AllSaid part.Body (cond a (Ok (Some Finish)) (cond b (Err Routed) (cond c (Err Repeat) rest)))
 unfolding AllSaid
@@ -224,8 +224,8 @@ unfolding body_line
 body_said s line =
     let rest : Result (Option DrillCommand) Reason = cond (begins (codes "T") line) (one (pick_line (drop 1 line))) (body_word line) in
     all_cond part.Body (begins_point line) (one (drill_line s line)) rest
-      (λ h. all_one part.Body (drill_line s line) (point_said s line h))
-      (all_cond part.Body (begins (codes "T") line) (one (pick_line (drop 1 line))) (body_word line) (λ _. all_one part.Body (pick_line (drop 1 line)) (pick_said (drop 1 line))) (word_said line))
+    (λ h. all_one part.Body (drill_line s line) (point_said s line h))
+    (all_cond part.Body (begins (codes "T") line) (one (pick_line (drop 1 line))) (body_word line) (λ _. all_one part.Body (pick_line (drop 1 line)) (pick_said (drop 1 line))) (word_said line))
 
 part_said : (p : Part) (s : Settings) (line : List ℕ) → AllSaid p (line_in p s line)
 unfolding line_in AllSaid
@@ -295,8 +295,8 @@ unfolding meaning AllSaid
 kept_said s [] kept inside short = tt
 kept_said s (b ∷ bs) kept inside short =
     all_cond s.part (begins_comment s.part b) (Ok (Some (Comment bs))) (line_in s.part s (b ∷ bs)) (λ h.
-      let e : b ≡ 59 = begins_semicolon s.part b bs h in
-      comment_said s.part b bs h (comment_text bs (subst (λ x. trimmed (x ∷ bs) ≡ x ∷ bs) e kept) (both_true (not (eqb b 10)) (list_all (λ c. not (eqb c 10)) bs) inside).1 short))
+    let e : b ≡ 59 = begins_semicolon s.part b bs h in
+    comment_said s.part b bs h (comment_text bs (subst (λ x. trimmed (x ∷ bs) ≡ x ∷ bs) e kept) (both_true (not (eqb b 10)) (list_all (λ c. not (eqb c 10)) bs) inside).1 short))
     (part_said s.part s (b ∷ bs))
 
 pub said_is : (p : Part) (r : Result (Option DrillCommand) Reason) (c : DrillCommand) → AllSaid p r → r ≡ Ok (Some c) → is_sayable p c ≡ true

@@ -83,7 +83,6 @@ unit_read unit (Some Full) format h s = absurd cc
 unit_read unit None None h s = refl
 unit_read unit None (Some f) h s = bare_read unit f s ∙ format_read unit None f s
 
-
 -- ---- lines of a part
 
 -- a line without blanks at its end, in this part
@@ -268,10 +267,10 @@ solid_no_break b h = (both_true (not (is_blank b)) (not (eqb b 10)) h).1
 pub says : (s : Settings) (c : DrillCommand) → is_sayable s.part c ≡ true → IsTyped c → Says s c
 says s c h t = elim (solid_line s.part c h t) [
   | inl solid ↦ record {
-      spells = ap (meaning s) (solid_kept (canonical c) solid) ∙ (means s (canonical c) ∙ in_part s.part s c h t);
-      inside = all_weaker is_solid (λ b. not (eqb b 10)) solid_no_break (canonical c) solid;
-      short = line_short s.part c h t;
-    }
+    spells = ap (meaning s) (solid_kept (canonical c) solid) ∙ (means s (canonical c) ∙ in_part s.part s c h t);
+    inside = all_weaker is_solid (λ b. not (eqb b 10)) solid_no_break (canonical c) solid;
+    short = line_short s.part c h t;
+  }
   | inr comment ↦ (
       let text = comment.0 in
       let k = both_true (not (list_any (λ b. eqb b 10) text)) (eqb (length (trimmed text)) (length text) && ltb (length text) 1048576) comment.2 in

@@ -85,7 +85,6 @@ coordinate_spelled s (Some v) dec =
     let run = pointed_run v dec in
     λ i. cond (run.point i) (run.reads i) (zeros_of (pointed v) (format_in s).whole (format_in s).decimals (zeros_in s)) >>= λ x. Ok (Some x)
 
-
 field_spelled : (letter : ℕ) (v : Option ℤ) (rest : List ℕ) → eqb letter letter ≡ true → AreDecs v → prefix_len is_number rest ≡ 0 → field letter rest ≡ (None, rest)
     → field letter (coordinate_word letter v ++ rest) ≡ (runs_word v, rest)
 unfolding runs_word
@@ -111,8 +110,8 @@ runs_spelled : (p : Coordinates) (rest : List ℕ) → IsPoint p → prefix_len 
 unfolding runs_at
 runs_spelled p rest dec behind no_x no_y =
     let first : field 88 (point_word p ++ rest) ≡ (runs_word p.x, coordinate_word 89 p.y ++ rest) =
-        ap (field 88) (append_assoc (coordinate_word 88 p.x) (coordinate_word 89 p.y) rest)
-        ∙ field_spelled 88 p.x (coordinate_word 89 p.y ++ rest) refl dec.0 (y_first p.y rest behind) (y_no_x p.y rest no_x) in
+    ap (field 88) (append_assoc (coordinate_word 88 p.x) (coordinate_word 89 p.y) rest)
+    ∙ field_spelled 88 p.x (coordinate_word 89 p.y ++ rest) refl dec.0 (y_first p.y rest behind) (y_no_x p.y rest no_x) in
     let second : field 89 (coordinate_word 89 p.y ++ rest) ≡ (runs_word p.y, rest) = field_spelled 89 p.y rest refl dec.1 behind no_y in
     (λ i. (record { x = (first i).0; y = (field 89 (first i).1).0 }, (field 89 (first i).1).1))
     ∙ (λ i. (record { x = runs_word p.x; y = (second i).0 }, (second i).1))

@@ -103,10 +103,12 @@ is_sayable _ _ = false
 abbrev pub IsDec : ℤ → Type 0
 IsDec v = unsigned_abs v ≤ max_units
 
+-- the same where it stands (docs/FORMATS.md, Numbers)
 abbrev pub AreDecs : Option ℤ → Type 0
 AreDecs None = Unit {0}
 AreDecs (Some v) = IsDec v
 
+-- both coordinates of a point (docs/FORMATS.md, Numbers)
 abbrev pub IsPoint : Coordinates → Type 0
 IsPoint p = AreDecs p.x × AreDecs p.y
 

@@ -99,7 +99,10 @@ fn slot_line(
     if (to_x.is_none() && to_y.is_none()) || !rest.is_empty() {
         return Err(Reason::BadLine);
     }
-    let (from, to) = both(coordinates(settings, x, y), coordinates(settings, to_x, to_y))?;
+    let (from, to) = both(
+        coordinates(settings, x, y),
+        coordinates(settings, to_x, to_y),
+    )?;
     Ok(DrillCommand::Slot(from, to))
 }
 

@@ -6,7 +6,6 @@ ghost use Rattle.grid_units.specs.Numbers.{is_number};
 ghost use Rattle.drill_lines.specs.Header.{is_zero, is_size, sizes, pattern, pattern_from, unit_format, unit_line};
 
 use crate::command::{DrillCommand, Format};
-
 use grid_units::numbers::is_number;
 use grid_units::{Reason, Unit, Zeros};
 

@@ -37,9 +37,9 @@ reads_is r text h answer le e =
       rest = rest;
       splits = subst (λ (t : List ℕ). Splits t h.lines rest) (sym (take_all text_limit text short)) h.splits;
       answer_is = sym (ap (λ s. s >>= ends_with (length text) h.lines rest) h.commands
-        ∙ (ap (λ t. cond t (Err (fault (suc (length h.lines)) text_limit TooLong)) (spelled (suc (length h.lines)) (length (bytes_of h.lines)) rest cs >>= ended (length text) h.lines rest)) (le-ltb text_limit (length text) short)
-        ∙ (ap (λ p. spelled p (length (bytes_of h.lines)) rest cs >>= ended (length text) h.lines rest) place
-        ∙ (ap (λ b. spelled (r.lines + 1) b rest cs >>= ended (length text) h.lines rest) (sym h.start) ∙ e))));
+          ∙ (ap (λ t. cond t (Err (fault (suc (length h.lines)) text_limit TooLong)) (spelled (suc (length h.lines)) (length (bytes_of h.lines)) rest cs >>= ended (length text) h.lines rest)) (le-ltb text_limit (length text) short)
+          ∙ (ap (λ p. spelled p (length (bytes_of h.lines)) rest cs >>= ended (length text) h.lines rest) place
+          ∙ (ap (λ b. spelled (r.lines + 1) b rest cs >>= ended (length text) h.lines rest) (sym h.start) ∙ e))));
     }
 
 -- the last line has a fault

@@ -62,11 +62,11 @@ header-more names h cs c = header-cond names h cs c ∙ given_is (list_any ends_
 
 pub settings-more : (before : List DrillCommand) (c : DrillCommand) → settings_after (before ++ c ∷ []) ≡ settings_and c (list_any ends_header before) (settings_after before)
 settings-more before c = λ i. record {
-      part = (ap (λ o. unwrap_or o part.Before) (last_named-more part_named before c) ∙ unwrap_or_or (part_named c) (last_named part_named before) part.Before) i;
-      unit = header-more unit_named refl before c i;
-      zeros = header-more zeros_named refl before c i;
-      format = header-more format_named refl before c i;
-    }
+  part = (ap (λ o. unwrap_or o part.Before) (last_named-more part_named before c) ∙ unwrap_or_or (part_named c) (last_named part_named before) part.Before) i;
+  unit = header-more unit_named refl before c i;
+  zeros = header-more zeros_named refl before c i;
+  format = header-more format_named refl before c i;
+}
 
 points_of-more : (before : List DrillCommand) (c : DrillCommand) → points_of (before ++ c ∷ []) ≡ points_of before ++ points_named c
 points_of-more before c = flat_map-append points_named before (c ∷ []) ∙ ap (λ (x : List Coordinates). points_of before ++ x) (append-nil (points_named c))
@@ -77,22 +77,22 @@ coordinate-more names before c = ap (λ (x : List Coordinates). last_named names
 
 pub standing-more : (before : List DrillCommand) (c : DrillCommand) → standing (before ++ c ∷ []) ≡ after c (standing before)
 standing-more before c = λ i. record {
-      settings = settings-more before c i;
-      is_settled = list_any-more ends_header before c i;
-      diameter = λ number. last_named-more (diameter_named number) before c i;
-      tool = last_named-more tool_named before c i;
-      x = coordinate-more x_named before c i;
-      y = coordinate-more y_named before c i;
-    }
+  settings = settings-more before c i;
+  is_settled = list_any-more ends_header before c i;
+  diameter = λ number. last_named-more (diameter_named number) before c i;
+  tool = last_named-more tool_named before c i;
+  x = coordinate-more x_named before c i;
+  y = coordinate-more y_named before c i;
+}
 
 -- ---- holes
 
 -- a point behind others lies where a carried point says
 point-more : (unit : Units) (points : List Coordinates) (p : Coordinates) → onto unit (last_named x_named points) (last_named y_named points) p ≡ point_at unit (points ++ p ∷ [])
 point-more unit points p = λ i. record {
-      x = coordinate_in unit (sym (last_named-append x_named points (p ∷ [])) i);
-      y = coordinate_in unit (sym (last_named-append y_named points (p ∷ [])) i);
-    }
+  x = coordinate_in unit (sym (last_named-append x_named points (p ∷ [])) i);
+  y = coordinate_in unit (sym (last_named-append y_named points (p ∷ [])) i);
+}
 
 coordinate-more-two : (names : Coordinates → Option ℤ) (points : List Coordinates) (p q : Coordinates) → option_or (names q) (option_or (names p) (last_named names points)) ≡ last_named names (points ++ p ∷ q ∷ [])
 coordinate-more-two names points p q = sym (last_named-append names points (p ∷ q ∷ []) ∙ option_or_assoc (names q) (names p) (last_named names points))
@@ -100,9 +100,9 @@ coordinate-more-two names points p q = sym (last_named-append names points (p �
 point-more-two : (unit : Units) (points : List Coordinates) (p q : Coordinates)
     → onto unit (option_or p.x (last_named x_named points)) (option_or p.y (last_named y_named points)) q ≡ point_at unit (points ++ p ∷ q ∷ [])
 point-more-two unit points p q = λ i. record {
-      x = coordinate_in unit (coordinate-more-two x_named points p q i);
-      y = coordinate_in unit (coordinate-more-two y_named points p q i);
-    }
+  x = coordinate_in unit (coordinate-more-two x_named points p q i);
+  y = coordinate_in unit (coordinate-more-two y_named points p q i);
+}
 
 -- what is drilled from a carried point is what looking back gives
 pub drilled_back : (before : List DrillCommand) (c : DrillCommand) → drilled (standing before) c ≡ drilled_at before c
@@ -137,22 +137,22 @@ same_rule judge before c knows = (λ i. first_broken (knows.standing i) (length 
 
 pub knows_more : (old new : Judge) (before : List DrillCommand) (c : DrillCommand) → Knows old before → defines_again (told old) c ≡ false → Takes old c new → Knows new (before ++ c ∷ [])
 knows_more old new before c knows fresh takes = record {
-      standing = takes.standing ∙ ap (after c) knows.standing ∙ sym (standing-more before c);
-      holes = takes.holes ∙ (λ i. knows.holes i ++ option_to_list (option_map hole_of (drilled (knows.standing i) c))) ∙ ap (λ d. holes_of before ++ option_to_list (option_map hole_of d)) (drilled_back before c) ∙ sym (holes_of-more before c);
-      tools = takes.tools fresh ∙ ap (λ (x : List (ℕ × ℤ)). x ++ option_to_list (tool_defined c)) knows.tools ∙ sym (tools_of-more before c);
-    }
+  standing = takes.standing ∙ ap (after c) knows.standing ∙ sym (standing-more before c);
+  holes = takes.holes ∙ (λ i. knows.holes i ++ option_to_list (option_map hole_of (drilled (knows.standing i) c))) ∙ ap (λ d. holes_of before ++ option_to_list (option_map hole_of d)) (drilled_back before c) ∙ sym (holes_of-more before c);
+  tools = takes.tools fresh ∙ ap (λ (x : List (ℕ × ℤ)). x ++ option_to_list (tool_defined c)) knows.tools ∙ sym (tools_of-more before c);
+}
 
 -- ---- the arms of a hit and a slot
 
 pub moved_two : (p q : Coordinates) (s : Standing) → moved q (moved p s) ≡ after (command.Slot p q) s
 moved_two p q s = λ i. record {
-      settings = s.settings;
-      is_settled = s.is_settled;
-      diameter = s.diameter;
-      tool = s.tool;
-      x = sym (option_or_assoc q.x p.x s.x) i;
-      y = sym (option_or_assoc q.y p.y s.y) i;
-    }
+  settings = s.settings;
+  is_settled = s.is_settled;
+  diameter = s.diameter;
+  tool = s.tool;
+  x = sym (option_or_assoc q.x p.x s.x) i;
+  y = sym (option_or_assoc q.y p.y s.y) i;
+}
 
 pub moved_one : (p : Coordinates) (s : Standing) → moved nowhere (moved p s) ≡ after (command.Hit p) s
 moved_one p s = refl

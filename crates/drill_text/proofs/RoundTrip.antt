@@ -110,7 +110,7 @@ text_more cs c = ap bytes_of (map-append canonical cs (c ∷ [])) ∙ bytes_of-p
 pub text_front : (cs : List DrillCommand) (n : ℕ) → length (canonical_text (take n cs)) ≤ length (canonical_text cs)
 text_front cs n =
     let joined : canonical_text cs ≡ canonical_text (take n cs) ++ canonical_text (drop n cs) =
-        ap canonical_text (sym (take-append-drop n cs)) ∙ (ap bytes_of (map-append canonical (take n cs) (drop n cs)) ∙ flat_map-append ended_line (map canonical (take n cs)) (map canonical (drop n cs))) in
+    ap canonical_text (sym (take-append-drop n cs)) ∙ (ap bytes_of (map-append canonical (take n cs) (drop n cs)) ∙ flat_map-append ended_line (map canonical (take n cs)) (map canonical (drop n cs))) in
     omega (arith, ap length joined, length-append (canonical_text (take n cs)) (canonical_text (drop n cs)))
 
 pub written_long : (cs : List DrillCommand) → text_limit < length (canonical_text cs) → Err (fault 0 0 TooLong) ≡ written_result cs

@@ -50,17 +50,17 @@ record SaidBehind (before new : List DrillCommand) : Type 0 where
 said_next : (before new : List DrillCommand) (command : Option DrillCommand) → ((c : DrillCommand) → command ≡ Some c → is_sayable (part_after before) c ≡ true) → SaidBehind (before ++ option_to_list command) new → SaidBehind before new
 said_next before new None h k = subst (λ (x : List DrillCommand). SaidBehind x new) (append-nil before) k
 said_next before new (Some c) h k = record {
-      more = c ∷ k.more;
-      whole = k.whole ∙ append_assoc before (c ∷ []) k.more;
-      said = and_true (is_sayable (part_after before) c) (are_sayable (part_behind (part_after before) c) k.more) (h c refl) (ap (λ p. are_sayable p k.more) (sym (part_more before c)) ∙ k.said);
-    }
+  more = c ∷ k.more;
+  whole = k.whole ∙ append_assoc before (c ∷ []) k.more;
+  said = and_true (is_sayable (part_after before) c) (are_sayable (part_behind (part_after before) c) k.more) (h c refl) (ap (λ p. are_sayable p k.more) (sym (part_more before c)) ∙ k.said);
+}
 
 spelled_said : (before new : List DrillCommand) (lines : List (List ℕ)) → AllByRecursion HasNoBreak lines → AreShort lines → spelled_behind before lines ≡ Ok new → SaidBehind before new
 spelled_said before new [] inside short e = let same : before ≡ new = cc in record { more = []; whole = sym same ∙ sym (append-nil before); said = refl }
 spelled_said before new (line ∷ lines) inside short e =
     let b = bind_ok (meaning (settings_after before) (trimmed line)) (λ command. spelled_behind (before ++ option_to_list command) lines) new e in
     said_next before new b.0 (λ c k. line_said (settings_after before) line c (no_break line inside.0) short.0 (b.1 ∙ ap (λ (o : Option DrillCommand). Ok o) k))
-      (spelled_said (before ++ option_to_list b.0) new lines inside.1 short.1 b.2)
+    (spelled_said (before ++ option_to_list b.0) new lines inside.1 short.1 b.2)
 
 -- nothing is said behind the end
 over_alone : (cs : List DrillCommand) → are_sayable part.After cs ≡ true → is_over (part_from part.After cs) ≡ true

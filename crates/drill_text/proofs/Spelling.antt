@@ -64,10 +64,11 @@ all_kept place byte (line ∷ lines) before new e =
     let next : ℕ = byte + (length line + 1) in
     let b = bind_ok (spelled place byte line before) (commands_from (suc place) next lines) new e in
     let k = kept before line b.0 (at_ok place byte (step before line) b.0 b.1) in
-    let rest = all_kept (suc place) next lines b.0 new b.2 in
-    ((k.short, rest.0),
-     ap (λ r. r >>= λ command. spelled_behind (before ++ option_to_list command) lines) k.says ∙ (ap (λ (x : List DrillCommand). spelled_behind x lines) k.new_is ∙ rest.1),
-     λ legal. rest.2 (k.keeps legal))
+    let rest = all_kept (suc place) next lines b.0 new b.2 in (
+      (k.short, rest.0),
+      ap (λ r. r >>= λ command. spelled_behind (before ++ option_to_list command) lines) k.says ∙ (ap (λ (x : List DrillCommand). spelled_behind x lines) k.new_is ∙ rest.1),
+      λ legal. rest.2 (k.keeps legal),
+    )
 
 -- the front of a legal list is legal
 nil_front : {A : Type 0} (xs ys : List A) → xs ++ ys ≡ [] → xs ≡ []
@@ -179,7 +180,7 @@ drill_text_reads text cs d =
       rest = rest;
       splits = subst (λ (t : List ℕ). Splits t lines rest) (sym (take_all text_limit text s.within)) s.splits;
       answer_is = sym (ap (λ r. r >>= ends_with (length text) lines rest) (show_ok lines rest b.0 b.1 (last_short lines rest s.short))
-        ∙ (ap (λ t. cond t (Err (fault (suc n) text_limit TooLong)) (spelled (suc n) (length (bytes_of lines)) rest b.0 >>= ended (length text) lines rest)) (le-ltb _ _ s.within)
-        ∙ (ap (λ r. r >>= ended (length text) lines rest) last
-        ∙ ap (λ t. cond t (Ok cs) (Err (fault (place_behind lines rest) (length text) Truncated))) s.ends)));
+          ∙ (ap (λ t. cond t (Err (fault (suc n) text_limit TooLong)) (spelled (suc n) (length (bytes_of lines)) rest b.0 >>= ended (length text) lines rest)) (le-ltb _ _ s.within)
+          ∙ (ap (λ r. r >>= ended (length text) lines rest) last
+          ∙ ap (λ t. cond t (Ok cs) (Err (fault (place_behind lines rest) (length text) Truncated))) s.ends)));
     }

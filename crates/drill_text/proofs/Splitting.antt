@@ -55,9 +55,9 @@ commands_from-push place byte (x ∷ lines) line before =
     let j : next + length (bytes_of lines) ≡ byte + length (bytes_of (x ∷ lines)) = omega (arith, length-append (x ++ 10 ∷ []) (bytes_of lines), length-append x (10 ∷ [])) in
     let last = spelled (place + suc (length lines)) (byte + length (bytes_of (x ∷ lines))) line in
     let rest : (commands : List DrillCommand) → commands_from (suc place) next (lines ++ line ∷ []) commands ≡ (commands_from (suc place) next lines commands >>= last) = λ commands.
-        commands_from-push (suc place) next lines line commands
-        ∙ (ap (λ p. commands_from (suc place) next lines commands >>= spelled p (next + length (bytes_of lines)) line) k
-        ∙ ap (λ b. commands_from (suc place) next lines commands >>= spelled (place + suc (length lines)) b line) j) in
+    commands_from-push (suc place) next lines line commands
+    ∙ (ap (λ p. commands_from (suc place) next lines commands >>= spelled p (next + length (bytes_of lines)) line) k
+    ∙ ap (λ b. commands_from (suc place) next lines commands >>= spelled (place + suc (length lines)) b line) j) in
     let first = spelled place byte x before in
     bind_same first (commands_from (suc place) next (lines ++ line ∷ [])) (λ commands. commands_from (suc place) next lines commands >>= last) rest
     ∙ sym (bind_assoc first (commands_from (suc place) next lines) last)

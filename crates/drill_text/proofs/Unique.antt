@@ -9,7 +9,6 @@ use Rattle.drill_lines.specs.declared.command.DrillCommand.{DrillCommand}
 use Rattle.drill_text.specs.Lines.{bytes_of, HasNoBreak, Splits}
 use Rattle.drill_text.specs.Reading.{text_limit, Shows, Reads, shown_in, read_in}
 
-
 -- one more byte: the LF of a line, or another
 next : List (List ℕ) × List ℕ → ℕ → List (List ℕ) × List ℕ
 next c b = cond (eqb b 10) (c.0 ++ c.1 ∷ [], []) (c.0, c.1 ++ b ∷ [])

@@ -42,15 +42,15 @@ diameter_after before = option_and_then (λ number. last_named (diameter_named n
 -- what a command drills behind these commands: a hit at its point, a slot from its first point to its second (docs/DEFINITIONS.md, Drill files)
 abbrev pub drilled_at : List DrillCommand → DrillCommand → Option Drilled
 drilled_at before (command.Hit point) = Some (record {
-      from = point_at (unit_after before) (points_of before ++ point ∷ []);
-      to = point_at (unit_after before) (points_of before ++ point ∷ []);
-      diameter = coordinate_in (unit_after before) (diameter_after before);
-    })
+  from = point_at (unit_after before) (points_of before ++ point ∷ []);
+  to = point_at (unit_after before) (points_of before ++ point ∷ []);
+  diameter = coordinate_in (unit_after before) (diameter_after before);
+})
 drilled_at before (command.Slot first second) = Some (record {
-      from = point_at (unit_after before) (points_of before ++ first ∷ []);
-      to = point_at (unit_after before) (points_of before ++ first ∷ second ∷ []);
-      diameter = coordinate_in (unit_after before) (diameter_after before);
-    })
+  from = point_at (unit_after before) (points_of before ++ first ∷ []);
+  to = point_at (unit_after before) (points_of before ++ first ∷ second ∷ []);
+  diameter = coordinate_in (unit_after before) (diameter_after before);
+})
 drilled_at before _ = None
 
 -- the hole of what is drilled: its radius is half the diameter (docs/DEFINITIONS.md, Drill files)

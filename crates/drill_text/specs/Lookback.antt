@@ -29,6 +29,7 @@ part_after before = unwrap_or (last_named part_named before) part.Before
 
 -- ---- what the commands up to the end of the header give as a whole
 
+-- `%` or `M95` (docs/DEFINITIONS.md, Drill files)
 abbrev pub ends_header : DrillCommand → Bool
 ends_header command.HeaderEnd = true
 ends_header _ = false
@@ -71,11 +72,11 @@ format_named _ = None
 -- By what a line behind these commands is read: a comment or a line behind the header gives nothing (docs/DEFINITIONS.md, Drill files).
 abbrev pub settings_after : List DrillCommand → Settings
 settings_after before = record {
-      part = part_after before;
-      unit = last_named unit_named (header before);
-      zeros = last_named zeros_named (header before);
-      format = last_named format_named (header before);
-    }
+  part = part_after before;
+  unit = last_named unit_named (header before);
+  zeros = last_named zeros_named (header before);
+  format = last_named format_named (header before);
+}
 
 -- ---- tools and points
 
@@ -108,9 +109,11 @@ points_named _ = []
 abbrev pub points_of : List DrillCommand → List Coordinates
 points_of commands = flat_map points_named commands
 
+-- the X that a point names (docs/DEFINITIONS.md, Drill files)
 abbrev pub x_named : Coordinates → Option ℤ
 x_named point = point.x
 
+-- the Y that a point names (docs/DEFINITIONS.md, Drill files)
 abbrev pub y_named : Coordinates → Option ℤ
 y_named point = point.y
 
@@ -128,10 +131,10 @@ pub record Standing : Type 0 where
 -- each by looking back (docs/DEFINITIONS.md, Drill files)
 abbrev pub standing : List DrillCommand → Standing
 standing before = record {
-      settings = settings_after before;
-      is_settled = list_any ends_header before;
-      diameter = λ number. last_named (diameter_named number) before;
-      tool = last_named tool_named before;
-      x = last_named x_named (points_of before);
-      y = last_named y_named (points_of before);
-    }
+  settings = settings_after before;
+  is_settled = list_any ends_header before;
+  diameter = λ number. last_named (diameter_named number) before;
+  tool = last_named tool_named before;
+  x = last_named x_named (points_of before);
+  y = last_named y_named (points_of before);
+}

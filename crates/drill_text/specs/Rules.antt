@@ -17,17 +17,20 @@ use Rattle.drill_text.specs.Holes.{Drilled, drilled_at, holes_of}
 
 -- ---- one rule at a time
 
+-- the two units are one (docs/FORMATS.md, Rules of a drill file)
 abbrev pub same_unit : Units → Units → Bool
 same_unit unit.Inch unit.Inch = true
 same_unit unit.Millimetre unit.Millimetre = true
 same_unit _ _ = false
 
+-- the two zeros are one (docs/FORMATS.md, Rules of a drill file)
 abbrev pub same_zeros : Zeros → Zeros → Bool
 same_zeros zeros.Leading zeros.Leading = true
 same_zeros zeros.Trailing zeros.Trailing = true
 same_zeros zeros.Full zeros.Full = true
 same_zeros _ _ = false
 
+-- the two formats are one (docs/FORMATS.md, Rules of a drill file)
 abbrev pub same_format : Digits → Digits → Bool
 same_format a b = (a.whole == b.whole) && (a.decimals == b.decimals)
 

@@ -12,7 +12,7 @@ use Rattle.drill_text.specs.Lines.{bytes_of, Splits}
 use Rattle.drill_text.specs.Reading.{shown, Shows}
 use Rattle.drill_text.specs.Knowing.{Knows}
 
--- The text is cut into lines, which spell the commands, and into a rest, the line that has not ended.
+-- The text is cut into lines, which spell the commands, and into a rest, the line that has not ended (docs/DEFINITIONS.md, A drill reader in pieces).
 pub record Holds (reader : Progress) (text : List ℕ) : Type 0 where
   pub lines : List (List ℕ)
   pub splits : Splits text lines reader.line.items
@@ -22,31 +22,31 @@ pub record Holds (reader : Progress) (text : List ℕ) : Type 0 where
   pub start : reader.start ≡ length (bytes_of lines)
   pub offset : reader.offset ≡ length text
 
--- the text shows this fault, whatever follows it
+-- the text shows this fault, whatever follows it (docs/DEFINITIONS.md, A drill reader in pieces)
 pub record HasFault (text : List ℕ) (f : Fault) : Type 0 where
   pub lines : List (List ℕ)
   pub rest : List ℕ
   pub splits : Splits text lines rest
   pub fault : shown lines rest ≡ Err f
 
--- a reader went from all it may have read to that and these bytes
+-- a reader went from all it may have read to that and these bytes (docs/DEFINITIONS.md, A drill reader in pieces)
 abbrev pub Advances : Progress → Progress → List ℕ → Type 0
 Advances old new bytes = (text : List ℕ) → Holds old text → Holds new (text ++ bytes)
 
--- a fault that these bytes show behind what was read
+-- a fault that these bytes show behind what was read (docs/DEFINITIONS.md, A drill reader in pieces)
 abbrev pub Refuses : Progress → List ℕ → Fail → Type 0
 Refuses old bytes fails.Memory = Unit {0}
 Refuses old bytes (fails.Refused f) = (text : List ℕ) → Holds old text → HasFault (text ++ bytes) f
 
--- the fault that the text shows with these bytes behind it
+-- the fault that the text shows with these bytes behind it (docs/DEFINITIONS.md, A drill reader in pieces)
 abbrev pub RefusesText : Progress → List ℕ → Fail → Type 0
 RefusesText old piece e = (text : List ℕ) → Holds old text → Tells (λ f. Shows (text ++ piece) (Err f)) e
 
--- what a reader has failed with
+-- what a reader has failed with (docs/DEFINITIONS.md, A drill reader in pieces)
 abbrev pub failure : DrillReader → Option Fail
 failure reader = reader.failed
 
--- The reader has read this text, which shows no fault.
+-- The reader has read this text, which shows no fault (docs/DEFINITIONS.md, A drill reader in pieces).
 pub record StandsAfter (reader : DrillReader) (text : List ℕ) : Type 0 where
   pub sound : failure reader ≡ None
   pub holds : Holds reader.progress text

@@ -43,6 +43,20 @@ fn refused(reason: Reason, place: u64, byte: u64) -> Option<Fail> {
     }))
 }
 
+/// Whether a text has this fault, also in pieces.
+fn refuses(alloc: Global, text: &[u8], reason: Reason, place: u64, byte: u64) -> bool {
+    fault_of(alloc, text) == refused(reason, place, byte)
+        && splits_alike(alloc, text)
+        && cuts_alike(alloc, text)
+}
+
+/// Whether a text drills one round hole of this place, also in pieces.
+fn drills_one(alloc: Global, text: &[u8], x: i64, y: i64, radius: i64) -> bool {
+    drills(alloc, text, &[(x, y, x, y, radius)])
+        && splits_alike(alloc, text)
+        && cuts_alike(alloc, text)
+}
+
 /// A read of a text in two pieces.
 fn in_two(alloc: Global, text: &[u8], at: usize) -> Result<Drill, Fail> {
     let mut reader = DrillReader::new(alloc);
@@ -94,52 +108,67 @@ fn cuts_alike(alloc: Global, text: &[u8]) -> bool {
 const PLATED: &[u8; 36] = b"M48\nMETRIC\nT1C0.4\n%\nT1\nX0.0Y0.0\nM30\n";
 
 #[test]
-fn zeros_and_formats(rt: HostRuntime) -> Result<(), TestFail> {
-    let texts: [&[u8]; 6] = [
-        b"M48\nMETRIC,TZ\nT1C0.4\n%\nT1\nX2540Y0\nM30\n",
-        b"M48\nMETRIC,LZ\nT1C0.4\n%\nT1\nX00254Y0\nM30\n",
-        b"M48\nMETRIC\nT1C0.4\n%\nT1\nX2.54Y0.0\nM30\n",
-        b"M48\nMETRIC\nT1C0.4\n%\nT1\nX002540Y000000\nM30\n",
-        b"M48\nMETRIC,LZ,00.00\nT1C0.4\n%\nT1\nX0254Y0\nM30\n",
-        b"M48\n;FILE_FORMAT=2:4\nMETRIC,TZ\nT1C0.4\n%\nT1\nX25400Y0\nM30\n",
-    ];
-    for text in texts {
-        assert!(rt; drills(rt.alloc(), text, &[(2_540_000_000, 0, 2_540_000_000, 0, 200_000_000)]));
-        assert!(rt; splits_alike(rt.alloc(), text));
-        assert!(rt; cuts_alike(rt.alloc(), text));
-    }
-    Ok(())
+fn zeros(rt: HostRuntime) {
+    let alloc = rt.alloc();
+    let trailing = b"M48\nMETRIC,TZ\nT1C0.4\n%\nT1\nX2540Y0\nM30\n";
+    assert!(rt; drills_one(alloc, trailing, 2_540_000_000, 0, 200_000_000));
+    let leading = b"M48\nMETRIC,LZ\nT1C0.4\n%\nT1\nX00254Y0\nM30\n";
+    assert!(rt; drills_one(alloc, leading, 2_540_000_000, 0, 200_000_000));
+    let pointed = b"M48\nMETRIC\nT1C0.4\n%\nT1\nX2.54Y0.0\nM30\n";
+    assert!(rt; drills_one(alloc, pointed, 2_540_000_000, 0, 200_000_000));
+    let full = b"M48\nMETRIC\nT1C0.4\n%\nT1\nX002540Y000000\nM30\n";
+    assert!(rt; drills_one(alloc, full, 2_540_000_000, 0, 200_000_000));
 }
 
 /// The settings are those of the whole header, wherever a comment or a later line names them.
 #[test]
-fn the_header_as_a_whole(rt: HostRuntime) -> Result<(), TestFail> {
-    let hole = [(2_540_000_000, 0, 2_540_000_000, 0, 200_000_000)];
-    let texts: [&[u8]; 4] = [
-        b";FILE_FORMAT=2:4\nM48\nMETRIC,TZ\nT1C0.4\n%\nT1\nX25400Y0\nM30\n",
-        b"M48\nMETRIC,TZ\nT1C0.4\n;FILE_FORMAT=2:4\n%\nT1\nX25400Y0\nM30\n",
-        b"M48\nMETRIC\nT1C0.4\nMETRIC,TZ,00.0000\nM95\nT1\n;FILE_FORMAT=3:3\nX25400Y0\nM30",
-        b"M48\nM71\nMETRIC,LZ\nMETRIC,000.000\nT01C.4\n%\nT1\nX00254Y0\nM30\n\n \n",
-    ];
-    for text in texts {
-        assert!(rt; drills(rt.alloc(), text, &hole));
-    }
-    Ok(())
+fn formats(rt: HostRuntime) {
+    let alloc = rt.alloc();
+    let pattern = b"M48\nMETRIC,LZ,00.00\nT1C0.4\n%\nT1\nX0254Y0\nM30\n";
+    assert!(rt; drills_one(alloc, pattern, 2_540_000_000, 0, 200_000_000));
+    let comment = b"M48\n;FILE_FORMAT=2:4\nMETRIC,TZ\nT1C0.4\n%\nT1\nX25400Y0\nM30\n";
+    assert!(rt; drills_one(alloc, comment, 2_540_000_000, 0, 200_000_000));
+    let before = b";FILE_FORMAT=2:4\nM48\nMETRIC,TZ\nT1C0.4\n%\nT1\nX25400Y0\nM30\n";
+    assert!(rt; drills_one(alloc, before, 2_540_000_000, 0, 200_000_000));
+    let behind = b"M48\nMETRIC,TZ\nT1C0.4\n;FILE_FORMAT=2:4\n%\nT1\nX25400Y0\nM30\n";
+    assert!(rt; drills_one(alloc, behind, 2_540_000_000, 0, 200_000_000));
+}
+
+/// A comment in the body gives no format, and a later line takes nothing back.
+#[test]
+fn the_header_as_a_whole(rt: HostRuntime) {
+    let alloc = rt.alloc();
+    let in_body =
+        b"M48\nMETRIC\nT1C0.4\nMETRIC,TZ,00.0000\nM95\nT1\n;FILE_FORMAT=3:3\nX25400Y0\nM30";
+    assert!(rt; drills_one(alloc, in_body, 2_540_000_000, 0, 200_000_000));
+    let later = b"M48\nM71\nMETRIC,LZ\nMETRIC,000.000\nT01C.4\n%\nT1\nX00254Y0\nM30\n\n \n";
+    assert!(rt; drills_one(alloc, later, 2_540_000_000, 0, 200_000_000));
 }
 
 #[test]
 fn slots(rt: HostRuntime) -> Result<(), TestFail> {
-    let text = b"M48\nMETRIC\nT1C0.5\n%\nT1\nX0.0Y0.0G85X2.0Y0.0\nX0.0Y5.0G85X2.0Y6.0\nX9.0Y9.0G85X9.0Y9.0\nM30\n";
+    let text =
+        b"M48\nMETRIC\nT1C0.5\n%\nT1\nX0.0Y0.0G85X2.0Y0.0\nX0.0Y5.0G85X2.0Y6.0\nX9.0Y9.0G85X9.0Y9.0\nM30\n";
     let wanted = [
         (0, 0, 2_000_000_000, 0, 250_000_000),
         (0, 5_000_000_000, 2_000_000_000, 6_000_000_000, 250_000_000),
-        (9_000_000_000, 9_000_000_000, 9_000_000_000, 9_000_000_000, 250_000_000),
+        (
+            9_000_000_000,
+            9_000_000_000,
+            9_000_000_000,
+            9_000_000_000,
+            250_000_000,
+        ),
     ];
     assert!(rt; drills(rt.alloc(), text, &wanted));
     assert!(rt; splits_alike(rt.alloc(), text));
     assert!(rt; cuts_alike(rt.alloc(), text));
-    let routed = b"M48\nMETRIC\nT1C0.5\n%\nT1\nX0.0Y0.0G85X2.0Y0.0\nX0.0Y5.0G85X2.0Y6.0\nX9.0Y9.0G85X9.0Y9.0\nG00X1.0Y1.0\nM30\n";
-    assert_eq!(rt; fault_of(rt.alloc(), routed), refused(Reason::Routed, 9, 83));
+    let routed =
+        b"M48\nMETRIC\nT1C0.5\n%\nT1\nX0.0Y0.0G85X2.0Y0.0\nX0.0Y5.0G85X2.0Y6.0\nX9.0Y9.0G85X9.0Y9.0\nG00X1.0Y1.0\nM30\n";
+    assert_eq!(rt;
+        fault_of(rt.alloc(), routed),
+        refused(Reason::Routed, 9, 83)
+    );
     Ok(())
 }
 
@@ -148,8 +177,20 @@ fn slots(rt: HostRuntime) -> Result<(), TestFail> {
 fn coordinates_left_out(rt: HostRuntime) -> Result<(), TestFail> {
     let text = b"M48\nINCH,LZ\nT1C0.1\n%\nT1\nX01Y-005\nX02G85Y01\nY00\nM30\n";
     let wanted = [
-        (25_400_000_000, -12_700_000_000, 25_400_000_000, -12_700_000_000, 1_270_000_000),
-        (50_800_000_000, -12_700_000_000, 50_800_000_000, 25_400_000_000, 1_270_000_000),
+        (
+            25_400_000_000,
+            -12_700_000_000,
+            25_400_000_000,
+            -12_700_000_000,
+            1_270_000_000,
+        ),
+        (
+            50_800_000_000,
+            -12_700_000_000,
+            50_800_000_000,
+            25_400_000_000,
+            1_270_000_000,
+        ),
         (50_800_000_000, 0, 50_800_000_000, 0, 1_270_000_000),
     ];
     assert!(rt; drills(rt.alloc(), text, &wanted));
@@ -160,7 +201,13 @@ fn coordinates_left_out(rt: HostRuntime) -> Result<(), TestFail> {
 #[test]
 fn doubled_hits(rt: HostRuntime) -> Result<(), TestFail> {
     let text = b"M48\nMETRIC\nT1C0.4\n%\nT1\nX0.0Y0.0\nX0.0Y0.0\nM30\n";
-    assert!(rt; drills(rt.alloc(), text, &[(0, 0, 0, 0, 200_000_000), (0, 0, 0, 0, 200_000_000)]));
+    assert!(rt;
+        drills(
+            rt.alloc(),
+            text,
+            &[(0, 0, 0, 0, 200_000_000), (0, 0, 0, 0, 200_000_000)]
+        )
+    );
     Ok(())
 }
 
@@ -173,96 +220,310 @@ fn tools_in_order(rt: HostRuntime) -> Result<(), TestFail> {
         .iter()
         .map(|(number, diameter)| (*number, diameter.units()))
         .collect(rt.alloc())?;
-    assert_eq!(rt; tools.as_slice(), [(3, 30_000_000), (1, 3_500_000), (2, 200_000_000)].as_slice());
+    assert_eq!(rt;
+        tools.as_slice(),
+        [(3, 30_000_000), (1, 3_500_000), (2, 200_000_000)].as_slice()
+    );
     assert_eq!(rt; drill.commands().len(), 7);
     assert!(rt; matches!(drill.commands().last(), Some(DrillCommand::Finish)));
     Ok(())
 }
 
 #[test]
-fn refusals_of_lines(rt: HostRuntime) -> Result<(), TestFail> {
-    let rows: [(&[u8], Reason, u64, u64); 34] = [
-        (b"M48\nMETRIC\nT1C0.4\n%\nT1\nX2540Y000000\nM30\n", Reason::NoZeros, 6, 23),
-        (b"M48\nMETRIC\nT1C0.4\n%\nT1\nX0.0Y0.0\n", Reason::Truncated, 7, 32),
-        (b"M48\nMETRIC\nT1C0.4\n%\nT1\nX0.0Y0.0\nM30\nT1\n", Reason::AfterEnd, 8, 36),
-        (b"M48\nMETRIC\nT1C0.4\n%\nT1\nX0.0Y0.0\nM30\n;x\n", Reason::AfterEnd, 8, 36),
-        (b"M48\nMETRIC\nT1C0.4\n%\nT1\nX10000.00000001Y0.0\nM30\n", Reason::TooFar, 6, 23),
-        (b"M48\n;FILE_FORMAT=2:4\nMETRIC,TZ,000.000\nT1C0.4\n%\nT1\nX0.0Y0.0\nM30\n", Reason::FormatConflict, 3, 21),
-        (b";FILE_FORMAT=2:4\n;FILE_FORMAT=3:3\nM48\n", Reason::FormatConflict, 2, 17),
-        (b"M48\nT1C0.4\n%\nT1\nX0.0Y0.0\nM30\n", Reason::NoUnit, 3, 11),
-        (b"M48\nMETRIC\nT1C0.4\n%\nT2\nX0.0Y0.0\nM30\n", Reason::UnknownTool, 5, 20),
-        (b"M48\nMETRIC\nT1C0.4\n%\nT0\nX0.0Y0.0\nM30\n", Reason::NoTool, 6, 23),
-        (b"M48\nMETRIC\nT1C0.4\n%\nX0.0Y0.0\nM30\n", Reason::NoTool, 5, 20),
-        (b"M48\nMETRIC,TZ\nT1C0.4\n%\nT1\nX1234567Y0\nM30\n", Reason::TooManyDigits, 6, 26),
-        (b"M48\nMETRIC\nT1C0.4\n%\nT1\nX0000001Y0.0\nM30\n", Reason::NoZeros, 6, 23),
-        (b"M48\nMETRIC\nT1C0.4\n%\nT1\nX99999999999999999999.0Y0.0\nM30\n", Reason::TooFar, 6, 23),
-        (b"M48\nMETRIC\nT1C0.4\n%\nT99999999999\nX0.0Y0.0\nM30\n", Reason::BadNumber, 5, 20),
-        (b"M48\nMETRIC\nTC0.4\n%\n", Reason::BadNumber, 3, 11),
-        (b"M48\nMETRIC\nT1\n%\n", Reason::BadLine, 3, 11),
-        (b"M48\nMETRIC\nT1C0.4C0.5\n%\n", Reason::BadLine, 3, 11),
-        (b"M48\nMETRIC\nT1C4\n%\n", Reason::BadNumber, 3, 11),
-        (b"M48\nMETRIC\nT1C0.4\nT1C0.5\n", Reason::Redefined, 4, 18),
-        (b"M48\nMETRIC\nT1C0.0\n%\n", Reason::BadSize, 3, 11),
-        (b"M48\nMETRIC\nINCH\n%\n", Reason::UnitConflict, 3, 11),
-        (b"M48\nMETRIC,LZ\nMETRIC,TZ\n%\n", Reason::FormatConflict, 3, 14),
-        (b"M48\nMETRIC,x\n", Reason::BadLine, 2, 4),
-        (b"M48\nMETRIC,\n", Reason::BadNumber, 2, 4),
-        (b"M48\nMETRIC,0000000.0\n", Reason::BadNumber, 2, 4),
-        (b"M48\nFMAT,1\n", Reason::OldFormat, 2, 4),
-        (b"INCH\nM48\n", Reason::OldFormat, 1, 0),
-        (b"M48\nICI,ON\n", Reason::Incremental, 2, 4),
-        (b"M48\nMETRIC\n%\nR2M01\n", Reason::Repeat, 4, 13),
-        (b"M48\nMETRIC\n%\nM15\n", Reason::Routed, 4, 13),
-        (b"M48\nMETRIC\n%\nG85X1.0\n", Reason::BadLine, 4, 13),
-        (b"M48\nMETRIC\n%\nX1.123456789Y\n", Reason::BadNumber, 4, 13),
-        (b"M48\nMETRIC\n%\nX1.123456789Y1000000.0\n", Reason::TooFine, 4, 13),
-    ];
-    for (text, reason, place, byte) in rows {
-        assert_eq!(rt; fault_of(rt.alloc(), text), refused(reason, place, byte));
-        assert!(rt; splits_alike(rt.alloc(), text));
-        assert!(rt; cuts_alike(rt.alloc(), text));
-    }
-    Ok(())
+fn refused_coordinates(rt: HostRuntime) {
+    let alloc = rt.alloc();
+    assert!(rt;
+        refuses(
+            alloc,
+            b"M48\nMETRIC\nT1C0.4\n%\nT1\nX2540Y000000\nM30\n",
+            Reason::NoZeros,
+            6,
+            23
+        )
+    );
+    assert!(rt;
+        refuses(
+            alloc,
+            b"M48\nMETRIC\nT1C0.4\n%\nT1\nX10000.00000001Y0.0\nM30\n",
+            Reason::TooFar,
+            6,
+            23
+        )
+    );
+    assert!(rt;
+        refuses(
+            alloc,
+            b"M48\nMETRIC,TZ\nT1C0.4\n%\nT1\nX1234567Y0\nM30\n",
+            Reason::TooManyDigits,
+            6,
+            26
+        )
+    );
+    assert!(rt;
+        refuses(
+            alloc,
+            b"M48\nMETRIC\nT1C0.4\n%\nT1\nX0000001Y0.0\nM30\n",
+            Reason::NoZeros,
+            6,
+            23
+        )
+    );
+    assert!(rt;
+        refuses(
+            alloc,
+            b"M48\nMETRIC\nT1C0.4\n%\nT1\nX99999999999999999999.0Y0.0\nM30\n",
+            Reason::TooFar,
+            6,
+            23
+        )
+    );
+    assert!(rt;
+        refuses(
+            alloc,
+            b"M48\nMETRIC\n%\nX1.123456789Y1000000.0\n",
+            Reason::TooFine,
+            4,
+            13
+        )
+    );
+}
+
+#[test]
+fn refused_order(rt: HostRuntime) {
+    let alloc = rt.alloc();
+    assert!(rt;
+        refuses(
+            alloc,
+            b"M48\nMETRIC\nT1C0.4\n%\nT1\nX0.0Y0.0\n",
+            Reason::Truncated,
+            7,
+            32
+        )
+    );
+    assert!(rt;
+        refuses(
+            alloc,
+            b"M48\nMETRIC\nT1C0.4\n%\nT1\nX0.0Y0.0\nM30\nT1\n",
+            Reason::AfterEnd,
+            8,
+            36
+        )
+    );
+    assert!(rt;
+        refuses(
+            alloc,
+            b"M48\nMETRIC\nT1C0.4\n%\nT1\nX0.0Y0.0\nM30\n;x\n",
+            Reason::AfterEnd,
+            8,
+            36
+        )
+    );
+    assert!(rt;
+        refuses(
+            alloc,
+            b"M48\nMETRIC\nT1C0.4\n%\nT2\nX0.0Y0.0\nM30\n",
+            Reason::UnknownTool,
+            5,
+            20
+        )
+    );
+    assert!(rt;
+        refuses(
+            alloc,
+            b"M48\nMETRIC\nT1C0.4\n%\nT0\nX0.0Y0.0\nM30\n",
+            Reason::NoTool,
+            6,
+            23
+        )
+    );
+    assert!(rt;
+        refuses(
+            alloc,
+            b"M48\nMETRIC\nT1C0.4\n%\nX0.0Y0.0\nM30\n",
+            Reason::NoTool,
+            5,
+            20
+        )
+    );
+}
+
+#[test]
+fn refused_headers(rt: HostRuntime) {
+    let alloc = rt.alloc();
+    assert!(rt; refuses(alloc, b"M48\nMETRIC\nTC0.4\n%\n", Reason::BadNumber, 3, 11));
+    assert!(rt; refuses(alloc, b"M48\nMETRIC\nT1\n%\n", Reason::BadLine, 3, 11));
+    assert!(rt;
+        refuses(
+            alloc,
+            b"M48\nMETRIC\nT1C0.4C0.5\n%\n",
+            Reason::BadLine,
+            3,
+            11
+        )
+    );
+    assert!(rt; refuses(alloc, b"M48\nMETRIC\nT1C4\n%\n", Reason::BadNumber, 3, 11));
+    assert!(rt; refuses(alloc, b"M48\nMETRIC,x\n", Reason::BadLine, 2, 4));
+    assert!(rt; refuses(alloc, b"M48\nMETRIC,\n", Reason::BadNumber, 2, 4));
+}
+
+#[test]
+fn refused_headers_too(rt: HostRuntime) {
+    let alloc = rt.alloc();
+    assert!(rt; refuses(alloc, b"M48\nMETRIC,0000000.0\n", Reason::BadNumber, 2, 4));
+    assert!(rt; refuses(alloc, b"M48\nFMAT,1\n", Reason::OldFormat, 2, 4));
+    assert!(rt; refuses(alloc, b"INCH\nM48\n", Reason::OldFormat, 1, 0));
+    assert!(rt; refuses(alloc, b"M48\nICI,ON\n", Reason::Incremental, 2, 4));
+}
+
+#[test]
+fn refused_bodies(rt: HostRuntime) {
+    let alloc = rt.alloc();
+    assert!(rt;
+        refuses(
+            alloc,
+            b"M48\nMETRIC\nT1C0.4\n%\nT99999999999\nX0.0Y0.0\nM30\n",
+            Reason::BadNumber,
+            5,
+            20
+        )
+    );
+    assert!(rt; refuses(alloc, b"M48\nMETRIC\n%\nR2M01\n", Reason::Repeat, 4, 13));
+    assert!(rt; refuses(alloc, b"M48\nMETRIC\n%\nM15\n", Reason::Routed, 4, 13));
+    assert!(rt; refuses(alloc, b"M48\nMETRIC\n%\nG85X1.0\n", Reason::BadLine, 4, 13));
+    assert!(rt;
+        refuses(
+            alloc,
+            b"M48\nMETRIC\n%\nX1.123456789Y\n",
+            Reason::BadNumber,
+            4,
+            13
+        )
+    );
+}
+
+#[test]
+fn refused_settings(rt: HostRuntime) {
+    let alloc = rt.alloc();
+    assert!(rt;
+        refuses(
+            alloc,
+            b"M48\n;FILE_FORMAT=2:4\nMETRIC,TZ,000.000\nT1C0.4\n%\nT1\nX0.0Y0.0\nM30\n",
+            Reason::FormatConflict,
+            3,
+            21
+        )
+    );
+    assert!(rt;
+        refuses(
+            alloc,
+            b";FILE_FORMAT=2:4\n;FILE_FORMAT=3:3\nM48\n",
+            Reason::FormatConflict,
+            2,
+            17
+        )
+    );
+    assert!(rt;
+        refuses(
+            alloc,
+            b"M48\nT1C0.4\n%\nT1\nX0.0Y0.0\nM30\n",
+            Reason::NoUnit,
+            3,
+            11
+        )
+    );
+    assert!(rt;
+        refuses(
+            alloc,
+            b"M48\nMETRIC\nT1C0.4\nT1C0.5\n",
+            Reason::Redefined,
+            4,
+            18
+        )
+    );
+    assert!(rt; refuses(alloc, b"M48\nMETRIC\nT1C0.0\n%\n", Reason::BadSize, 3, 11));
+    assert!(rt;
+        refuses(
+            alloc,
+            b"M48\nMETRIC\nINCH\n%\n",
+            Reason::UnitConflict,
+            3,
+            11
+        )
+    );
+}
+
+#[test]
+fn refused_settings_too(rt: HostRuntime) {
+    let alloc = rt.alloc();
+    assert!(rt;
+        refuses(
+            alloc,
+            b"M48\nMETRIC,LZ\nMETRIC,TZ\n%\n",
+            Reason::FormatConflict,
+            3,
+            14
+        )
+    );
 }
 
 #[test]
 fn far_coordinates(rt: HostRuntime) -> Result<(), TestFail> {
     let text = b"M48\nMETRIC\nT1C0.4\n%\nT1\nX10000.0Y0.0\nM30\n";
-    assert!(rt; drills(rt.alloc(), text, &[(10_000_000_000_000, 0, 10_000_000_000_000, 0, 200_000_000)]));
+    assert!(rt;
+        drills(
+            rt.alloc(),
+            text,
+            &[(10_000_000_000_000, 0, 10_000_000_000_000, 0, 200_000_000)]
+        )
+    );
     Ok(())
 }
 
 /// A file cut off behind so many of its bytes.
+/// Whether a file cut off behind so many of its bytes has this fault.
+fn cut_refuses(alloc: Global, n: usize, reason: Reason, place: u64, byte: u64) -> bool {
+    n <= 36 && fault_of(alloc, &PLATED[..n]) == refused(reason, place, byte)
+}
+
 #[test]
-fn cut_off(rt: HostRuntime) -> Result<(), TestFail> {
-    let rows = [
-        (0, Reason::Truncated, 1, 0),
-        (2, Reason::OldFormat, 1, 0),
-        (6, Reason::BadLine, 2, 4),
-        (24, Reason::BadNumber, 6, 23),
-        (25, Reason::NoZeros, 6, 23),
-        (26, Reason::Truncated, 7, 26),
-        (32, Reason::Truncated, 7, 32),
-        (34, Reason::BadLine, 7, 32),
-    ];
-    for (n, reason, place, byte) in rows {
-        let front = PLATED.iter().copied().take(n).collect::<Vec<u8>>(rt.alloc())?;
-        assert_eq!(rt; fault_of(rt.alloc(), &front), refused(reason, place, byte));
-    }
-    assert_eq!(rt; fault_of(rt.alloc(), &PLATED[..35]), None);
-    assert_eq!(rt; fault_of(rt.alloc(), PLATED), None);
-    Ok(())
+fn cut_off(rt: HostRuntime) {
+    let alloc = rt.alloc();
+    assert!(rt; cut_refuses(alloc, 0, Reason::Truncated, 1, 0));
+    assert!(rt; cut_refuses(alloc, 2, Reason::OldFormat, 1, 0));
+    assert!(rt; cut_refuses(alloc, 6, Reason::BadLine, 2, 4));
+    assert!(rt; cut_refuses(alloc, 24, Reason::BadNumber, 6, 23));
+    assert!(rt; cut_refuses(alloc, 25, Reason::NoZeros, 6, 23));
+    assert!(rt; cut_refuses(alloc, 26, Reason::Truncated, 7, 26));
+    assert!(rt; cut_refuses(alloc, 32, Reason::Truncated, 7, 32));
+    assert!(rt; cut_refuses(alloc, 34, Reason::BadLine, 7, 32));
+    assert_eq!(rt; fault_of(alloc, &PLATED[..35]), None);
+    assert_eq!(rt; fault_of(alloc, PLATED), None);
 }
 
 /// A text that only begins with blanks, or ends with them.
 #[test]
 fn blanks(rt: HostRuntime) -> Result<(), TestFail> {
     let alloc = rt.alloc();
-    assert_eq!(rt; fault_of(alloc, b"M48\nMETRIC\n% "), refused(Reason::Truncated, 4, 13));
-    assert_eq!(rt; fault_of(alloc, b"M48\nMETRIC\n%\n "), refused(Reason::Truncated, 5, 14));
-    assert_eq!(rt; fault_of(alloc, b" ;x\nM48\n"), refused(Reason::OldFormat, 1, 0));
-    assert_eq!(rt; fault_of(alloc, b"M48\n ;x\n"), refused(Reason::BadLine, 2, 4));
-    assert_eq!(rt; fault_of(alloc, b"M48 \r\nMETRIC\t\r\n%\nM30\r\n \n\r\n"), None);
+    assert_eq!(rt;
+        fault_of(alloc, b"M48\nMETRIC\n% "),
+        refused(Reason::Truncated, 4, 13)
+    );
+    assert_eq!(rt;
+        fault_of(alloc, b"M48\nMETRIC\n%\n "),
+        refused(Reason::Truncated, 5, 14)
+    );
+    assert_eq!(rt;
+        fault_of(alloc, b" ;x\nM48\n"),
+        refused(Reason::OldFormat, 1, 0)
+    );
+    assert_eq!(rt;
+        fault_of(alloc, b"M48\n ;x\n"),
+        refused(Reason::BadLine, 2, 4)
+    );
+    assert_eq!(rt;
+        fault_of(alloc, b"M48 \r\nMETRIC\t\r\n%\nM30\r\n \n\r\n"),
+        None
+    );
     Ok(())
 }
 
@@ -291,8 +552,18 @@ fn a_fault_stays(rt: HostRuntime) -> Result<(), TestFail> {
 
 #[test]
 fn two_pieces(rt: HostRuntime) -> Result<(), TestFail> {
-    assert!(rt; same(&in_two(rt.alloc(), PLATED, 30), &read_drill(rt.alloc(), PLATED)));
-    assert!(rt; same(&byte_by_byte(rt.alloc(), PLATED), &read_drill(rt.alloc(), PLATED)));
+    assert!(rt;
+        same(
+            &in_two(rt.alloc(), PLATED, 30),
+            &read_drill(rt.alloc(), PLATED)
+        )
+    );
+    assert!(rt;
+        same(
+            &byte_by_byte(rt.alloc(), PLATED),
+            &read_drill(rt.alloc(), PLATED)
+        )
+    );
     assert!(rt; drills(rt.alloc(), PLATED, &[(0, 0, 0, 0, 200_000_000)]));
     Ok(())
 }
@@ -318,7 +589,10 @@ fn long_lines(rt: HostRuntime) -> Result<(), TestFail> {
     for _ in 0..1_048_575 {
         text.push(b' ')?;
     }
-    assert_eq!(rt; fault_of(rt.alloc(), &text), refused(Reason::Truncated, 2, 1_048_576));
+    assert_eq!(rt;
+        fault_of(rt.alloc(), &text),
+        refused(Reason::Truncated, 2, 1_048_576)
+    );
     text.push(b' ')?;
     assert_eq!(rt; fault_of(rt.alloc(), &text), refused(Reason::TooLong, 1, 0));
     text.push(b'\n')?;
@@ -334,14 +608,18 @@ fn many_holes(rt: HostRuntime) -> Result<(), TestFail> {
         text.extend_from_slice(b"X0.0Y0.0\n")?;
     }
     text.extend_from_slice(b"M30\n")?;
-    assert_eq!(rt; fault_of(rt.alloc(), &text), refused(Reason::TooManyHoles, 1_048_582, 9_437_207));
+    assert_eq!(rt;
+        fault_of(rt.alloc(), &text),
+        refused(Reason::TooManyHoles, 1_048_582, 9_437_207)
+    );
     Ok(())
 }
 
 /// The canonical text of a list of commands.
 #[test]
 fn written_back(rt: HostRuntime) -> Result<(), TestFail> {
-    let text = b"%\nM48\n;note\nINCH,LZ\nT01F00S00C.0350\nFMAT,2\nM95\nG90\nG05\nM72\nT01\nX01Y-005\nX02G85Y01\nT00\nM30";
+    let text =
+        b"%\nM48\n;note\nINCH,LZ\nT01F00S00C.0350\nFMAT,2\nM95\nG90\nG05\nM72\nT01\nX01Y-005\nX02G85Y01\nT00\nM30";
     let wanted = b"M48\n;note\nINCH,LZ\nT1C0.035\n%\nM72\nT1\nX1.0Y-0.5\nX2.0G85Y1.0\nT0\nM30\n";
     let drill = read_drill(rt.alloc(), text).map_err(|_| "refused")?;
     assert!(rt; drill_sayable(drill.commands()));
@@ -361,14 +639,55 @@ fn not_sayable(rt: HostRuntime) -> Result<(), TestFail> {
     let alloc = rt.alloc();
     let nowhere = Coordinates { x: None, y: None };
     assert!(rt; !drill_sayable(&[]));
-    assert!(rt; drill_sayable(&[DrillCommand::Start, DrillCommand::HeaderEnd, DrillCommand::Finish]));
-    assert!(rt; !drill_sayable(&[DrillCommand::Start, DrillCommand::HeaderEnd, DrillCommand::Finish, DrillCommand::Finish]));
+    assert!(rt;
+        drill_sayable(&[
+            DrillCommand::Start,
+            DrillCommand::HeaderEnd,
+            DrillCommand::Finish
+        ])
+    );
+    assert!(rt;
+        !drill_sayable(&[
+            DrillCommand::Start,
+            DrillCommand::HeaderEnd,
+            DrillCommand::Finish,
+            DrillCommand::Finish
+        ])
+    );
     assert!(rt; !drill_sayable(&[DrillCommand::Start, DrillCommand::Finish]));
-    assert!(rt; !drill_sayable(&[DrillCommand::Start, DrillCommand::HeaderEnd, DrillCommand::Hit(nowhere), DrillCommand::Finish]));
-    assert!(rt; !drill_sayable(&[DrillCommand::Start, DrillCommand::HeaderEnd, DrillCommand::Pick(1000), DrillCommand::Finish]));
+    assert!(rt;
+        !drill_sayable(&[
+            DrillCommand::Start,
+            DrillCommand::HeaderEnd,
+            DrillCommand::Hit(nowhere),
+            DrillCommand::Finish
+        ])
+    );
+    assert!(rt;
+        !drill_sayable(&[
+            DrillCommand::Start,
+            DrillCommand::HeaderEnd,
+            DrillCommand::Pick(1000),
+            DrillCommand::Finish
+        ])
+    );
     let blank = DrillCommand::Comment(Text::from_slice(alloc, b"a ")?);
-    assert!(rt; !drill_sayable(&[blank, DrillCommand::Start, DrillCommand::HeaderEnd, DrillCommand::Finish]));
+    assert!(rt;
+        !drill_sayable(&[
+            blank,
+            DrillCommand::Start,
+            DrillCommand::HeaderEnd,
+            DrillCommand::Finish
+        ])
+    );
     let broken = DrillCommand::Comment(Text::from_slice(alloc, b"a\nb")?);
-    assert!(rt; !drill_sayable(&[broken, DrillCommand::Start, DrillCommand::HeaderEnd, DrillCommand::Finish]));
+    assert!(rt;
+        !drill_sayable(&[
+            broken,
+            DrillCommand::Start,
+            DrillCommand::HeaderEnd,
+            DrillCommand::Finish
+        ])
+    );
     Ok(())
 }

@@ -17,9 +17,9 @@ returns-in_ok-insert-in-Tool c = record {
   standing = search rules;
   holes = search rules;
   tools = λ fresh.
-    let judge = c.args.self.now in
-    let number = c.in-Tool.number in
-    c.in_ok-insert-in-Tool.ensures.entries
-    ∙ insert_entry-new nat_eq judge.tools number c.in-Tool.diameter (none (get nat_eq judge.tools number) (ap (defines_again (told judge)) (sym c.in-Tool.is) ∙ fresh))
-    ∙ ap (λ (d : DrillCommand). judge.tools.entries ++ option_to_list (tool_defined d)) (sym c.in-Tool.is);
+      let judge = c.args.self.now in
+      let number = c.in-Tool.number in
+      c.in_ok-insert-in-Tool.ensures.entries
+      ∙ insert_entry-new nat_eq judge.tools number c.in-Tool.diameter (none (get nat_eq judge.tools number) (ap (defines_again (told judge)) (sym c.in-Tool.is) ∙ fresh))
+      ∙ ap (λ (d : DrillCommand). judge.tools.entries ++ option_to_list (tool_defined d)) (sym c.in-Tool.is);
 }

@@ -22,7 +22,7 @@ pub returns-then-has_finish-clause-exact : goal.returns-then-has_finish-clause-e
 returns-then-has_finish-clause-exact c text h =
     let k = c.in_ok-end.ensures.spelled h.knows in
     subst (λ (d : DrillFile). Reads text (Ok d.commands)) (sym c.new.ensures)
-      (reads_ended c.args.self text h c.end.new.self.commands.items c.args.self.in_text k.0 (ap (list_any is_finish) (sym c.deref.ensures.value) ∙ (sym c.has_finish.ensures ∙ c.if-has_finish.true)))
+    (reads_ended c.args.self text h c.end.new.self.commands.items c.args.self.in_text k.0 (ap (list_any is_finish) (sym c.deref.ensures.value) ∙ (sym c.has_finish.ensures ∙ c.if-has_finish.true)))
 
 pub returns-then-has_finish-clause-file : goal.returns-then-has_finish-clause-file
 returns-then-has_finish-clause-file c text h =
@@ -41,6 +41,6 @@ returns-clause-exact c text h =
     let none : list_any is_finish new.commands.items ≡ false = ap (list_any is_finish) (sym c.deref.ensures.value) ∙ (sym c.has_finish.ensures ∙ c.if-has_finish.false) in
     let place : c.place_behind.result ≡ place_behind_count self.lines self.line.items = c.place_behind.ensures ∙ (ap (λ n. place_behind_count n new.line.items) same.0 ∙ ap (place_behind_count self.lines) same.1) in
     subst (λ e. Answers commands_in (Reads text) (Err e)) (sym c.refusal.ensures)
-      (subst (λ p. Reads text (Err (fault p new.offset Truncated))) (sym place)
-      (subst (λ b. Reads text (Err (fault (place_behind_count self.lines self.line.items) b Truncated))) (sym same.2)
-      (reads_truncated self text h new.commands.items self.in_text k.0 none)))
+    (subst (λ p. Reads text (Err (fault p new.offset Truncated))) (sym place)
+    (subst (λ b. Reads text (Err (fault (place_behind_count self.lines self.line.items) b Truncated))) (sym same.2)
+    (reads_truncated self text h new.commands.items self.in_text k.0 none)))
