@@ -3,7 +3,7 @@ use Rattle.std.specs.Prelude.{◌≡◌, ◌≢◌, ℕ, Bool, ◌||◌, ◌==�
 use Rattle.std.specs.List.{AllByRecursion}
 use Rattle.std.specs.Str.{bytes_eq}
 
--- CR or LF, which are dropped wherever they stand (docs/FORMATS.md, Cutting a Gerber text)
+-- CR or LF, which are dropped wherever they stand (docs/FORMATS.md, Cutting)
 abbrev pub is_line_break : ℕ → Bool
 is_line_break b = (b == 10) || (b == 13)
 
@@ -17,11 +17,11 @@ abbrev pub behind_mark : List ℕ → List ℕ
 behind_mark [] = []
 behind_mark (b ∷ bs) = if b == 37 then bs else b ∷ bs
 
--- the bytes have not come to the end of their item (docs/FORMATS.md, Cutting a Gerber text)
+-- the bytes have not come to the end of their item (docs/FORMATS.md, Cutting)
 abbrev pub IsUnfinished : List ℕ → Type 0
 IsUnfinished bytes = AllByRecursion (λ b. b ≢ ender bytes) (behind_mark bytes)
 
--- an item: a word and its `*`, or an extended item between its two `%` (docs/FORMATS.md, Cutting a Gerber text)
+-- an item: a word and its `*`, or an extended item between its two `%` (docs/FORMATS.md, Cutting)
 pub record IsItem (bytes : List ℕ) : Type 0 where
   pub front : List ℕ
   pub unfinished : IsUnfinished front

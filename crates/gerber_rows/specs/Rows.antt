@@ -8,25 +8,25 @@ use Rattle.gerber_rows.specs.declared.command.Command.{Command}
 use Rattle.gerber_rows.specs.declared.command.Command.TheVariants.{Mode}
 use Rattle.gerber_rows.specs.declared.command.Interpolation.{Interpolation}
 
--- what an item spells: no, one or two commands, or the reason why it is refused (docs/FORMATS.md, What an item spells)
+-- what an item spells: no, one or two commands, or the reason why it is refused (docs/FORMATS.md, How a row fits and is read)
 abbrev pub Meaning : Type 0
 Meaning = Result (List Command) Reason
 
--- a row of the table says what a text spells that fits it, and nothing of any other (docs/FORMATS.md, What an item spells)
+-- a row of the table says what a text spells that fits it, and nothing of any other (docs/FORMATS.md, How a row fits and is read)
 abbrev pub Row : Type 0
 Row = Option Meaning
 
--- the first row that fits says what the text spells; where none fits it is refused (docs/FORMATS.md, What an item spells)
+-- the first row that fits says what the text spells; where none fits it is refused (docs/FORMATS.md, How a row fits and is read)
 abbrev pub first_fit : List Row → Meaning
 first_fit [] = Err BadWord
 first_fit (None ∷ rows) = first_fit rows
 first_fit (Some meaning ∷ rows) = meaning
 
--- what stands after this prefix, where a text begins so (docs/FORMATS.md, What an item spells)
+-- what stands after this prefix, where a text begins so (docs/FORMATS.md, How a row fits and is read)
 abbrev pub behind : List ℕ → List ℕ → Option (List ℕ)
 behind prefix text = if bytes_eq (take (length prefix) text) prefix then Some (drop (length prefix) text) else None
 
--- the run after this letter, where the letter stands, and the bytes after it (docs/FORMATS.md, Numbers)
+-- the run after this letter, where the letter stands, and the bytes after it (docs/FORMATS.md, Runs)
 abbrev pub field : (ℕ → Bool) → ℕ → List ℕ → Option (List ℕ) × List ℕ
 field test letter [] = (None, [])
 field test letter (b ∷ bs) = if b == letter then (Some (take_while test bs), drop (prefix_len test bs) bs) else (None, b ∷ bs)
@@ -36,7 +36,7 @@ abbrev pub modes_of : Option Interpolation → List Command
 modes_of None = []
 modes_of (Some mode) = Mode mode ∷ []
 
--- a command that may be there (docs/FORMATS.md, What an item spells)
+-- a command that may be there (docs/FORMATS.md, How a row fits and is read)
 abbrev pub commands_of : Option Command → List Command
 commands_of None = []
 commands_of (Some command) = command ∷ []

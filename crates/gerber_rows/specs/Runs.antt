@@ -3,7 +3,7 @@ use Rattle.std.specs.Option.{option_copied}
 use Rattle.gerber_rows.specs.declared.word.Runs.{Runs}
 use Rattle.gerber_rows.specs.Words.{Fields}
 
--- the fields that a reader found, by the bytes of their runs (docs/FORMATS.md, What an item spells)
+-- the fields that a reader found, by the bytes of their runs (docs/FORMATS.md, How a row fits and is read)
 abbrev pub fields_of : Runs → Fields
 fields_of r = record {
   x = option_copied r.x;

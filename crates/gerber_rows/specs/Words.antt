@@ -18,7 +18,7 @@ use Rattle.grid_units.specs.Numbers.{is_digit, is_number}
 use Rattle.gerber_rows.specs.Numbers.{int_of, nat_of}
 use Rattle.gerber_rows.specs.Rows.{Meaning, Row, first_fit, behind, field, modes_of}
 
--- the bytes are just these (docs/FORMATS.md, What an item spells)
+-- the bytes are just these (docs/FORMATS.md, How a row fits and is read)
 abbrev pub is : List ℕ → List ℕ → Bool
 is text literal = bytes_eq text literal
 
@@ -38,7 +38,7 @@ first_field text = take_while (λ b. not (b == 44)) text
 abbrev pub is_negative_image : List ℕ → Bool
 is_negative_image attribute = unwrap_or (option_map (λ value. is (first_field value) (codes "Negative")) (behind (codes ".FilePolarity,") attribute)) false
 
--- the text from its first byte on that is no space (docs/FORMATS.md, What an item spells)
+-- the text from its first byte on that is no space (docs/FORMATS.md, How a row fits and is read)
 abbrev pub behind_spaces : List ℕ → List ℕ
 behind_spaces text = drop (prefix_len (λ b. b == 32) text) text
 
@@ -61,12 +61,12 @@ abbrev pub interpolations : List (List ℕ × Interpolation)
 interpolations =
     (codes "G01", Linear) ∷ (codes "G1", Linear) ∷ (codes "G02", Clockwise) ∷ (codes "G2", Clockwise) ∷ (codes "G03", Counterclockwise) ∷ (codes "G3", Counterclockwise) ∷ []
 
--- the first of these words with which the text begins, and what stands after it (docs/FORMATS.md, What an item spells)
+-- the first of these words with which the text begins, and what stands after it (docs/FORMATS.md, How a row fits and is read)
 abbrev pub first_word : List (List ℕ × Interpolation) → List ℕ → Option Interpolation × List ℕ
 first_word [] text = (None, text)
 first_word (w ∷ words) text = unwrap_or (option_map (λ rest. (Some w.1, rest)) (behind w.0 text)) (first_word words text)
 
--- the interpolation in front of a word, and what stands after it (docs/FORMATS.md, What an item spells)
+-- the interpolation in front of a word, and what stands after it (docs/FORMATS.md, How a row fits and is read)
 unfoldable pub mode_front : List ℕ → Option Interpolation × List ℕ
 mode_front text = first_word interpolations text
 
@@ -98,7 +98,7 @@ incremental_row text = if is text (codes "G91") then Some (Err Incremental) else
 abbrev pub action : ℕ → Result Action Reason
 action n = if n == 1 then Ok Plot else (if n == 2 then Ok Move else (if n == 3 then Ok Flash else Err BadWord))
 
--- the run behind this prefix, where the text is the prefix and a digit run (docs/FORMATS.md, What an item spells)
+-- the run behind this prefix, where the text is the prefix and a digit run (docs/FORMATS.md, How a row fits and is read)
 abbrev pub numbered : List ℕ → List ℕ → Option (List ℕ)
 numbered prefix text = if list_all is_digit (unwrap_or (behind prefix text) []) then behind prefix text else None
 
@@ -130,7 +130,7 @@ unfoldable pub kind : Bool → Bool → Option (List ℕ) → Result Action Reas
 kind plotting offsets None = if plotting then Ok Plot else Err BareCoordinate
 kind plotting offsets (Some digits) = nat_of digits >>= action_with offsets
 
--- the fields of an operation, each as a run where its letter stands (docs/FORMATS.md, What an item spells)
+-- the fields of an operation, each as a run where its letter stands (docs/FORMATS.md, How a row fits and is read)
 pub record Fields : Type 0 where
   pub x : Option (List ℕ)
   pub y : Option (List ℕ)
@@ -139,7 +139,7 @@ pub record Fields : Type 0 where
   pub d : Option (List ℕ)
   pub rest : List ℕ
 
--- the fields in their order, and what stands after them (docs/FORMATS.md, What an item spells)
+-- the fields in their order, and what stands after them (docs/FORMATS.md, How a row fits and is read)
 unfoldable pub fields : List ℕ → Fields
 fields text =
     let x = field is_number 88 text in
@@ -149,12 +149,12 @@ fields text =
     let d = field is_digit 68 j.1 in
     record { x = x.0; y = y.0; i = i.0; j = j.0; d = d.0; rest = d.1 }
 
--- a D code of 1, 2 or 3 (docs/FORMATS.md, What an item spells)
+-- a D code of 1, 2 or 3 (docs/FORMATS.md, How a row fits and is read)
 unfoldable pub names_action : Option (List ℕ) → Bool
 names_action None = false
 names_action (Some digits) = is_ok (nat_of digits >>= action)
 
--- at least one coordinate, or a D code of 1, 2 or 3 (docs/FORMATS.md, What an item spells)
+-- at least one coordinate, or a D code of 1, 2 or 3 (docs/FORMATS.md, How a row fits and is read)
 abbrev pub is_operation : Fields → Bool
 is_operation f = (length f.rest == 0) && (is_some f.x || (is_some f.y || (is_some f.i || (is_some f.j || names_action f.d))))
 
@@ -162,7 +162,7 @@ is_operation f = (length f.rest == 0) && (is_some f.x || (is_some f.y || (is_som
 abbrev pub has_offsets : Fields → Bool
 has_offsets f = is_some f.i || is_some f.j
 
--- the values of the fields: x and y, i and j, and what is done (docs/FORMATS.md, What an item spells)
+-- the values of the fields: x and y, i and j, and what is done (docs/FORMATS.md, How a row fits and is read)
 unfoldable pub operands : Bool → Fields → Result (((Option ℤ × Option ℤ) × (Option ℤ × Option ℤ)) × Action) Reason
 operands plotting f = both (both (both (coordinate f.x) (coordinate f.y)) (both (coordinate f.i) (coordinate f.j))) (kind plotting (has_offsets f) f.d)
 

@@ -3,23 +3,23 @@ use Rattle.std.specs.Prelude.{◌≡◌, ℕ, Bool, true, false, not, List, [], 
 use Rattle.std.specs.List.{enumerate_from, flat_map, list_any}
 use Rattle.gerber_rows.specs.Items.{is_line_break, IsUnfinished, IsItem, is_end}
 
--- a byte of a text, behind its offset (docs/FORMATS.md, Cutting a Gerber text)
+-- a byte of a text, behind its offset (docs/FORMATS.md, Cutting)
 abbrev pub Mark : Type 0
 Mark = ℕ × ℕ
 
--- the bytes that are no line breaks, the first of all at this offset (docs/FORMATS.md, Cutting a Gerber text)
+-- the bytes that are no line breaks, the first of all at this offset (docs/FORMATS.md, Cutting)
 abbrev pub marks_from : ℕ → List ℕ → List Mark
 marks_from at bytes = filter (λ m. not (is_line_break m.1)) (enumerate_from at bytes)
 
--- the bytes of a text that are no line breaks (docs/FORMATS.md, Cutting a Gerber text)
+-- the bytes of a text that are no line breaks (docs/FORMATS.md, Cutting)
 abbrev pub marks : List ℕ → List Mark
 marks text = marks_from 0 text
 
--- bytes without their offsets (docs/FORMATS.md, Cutting a Gerber text)
+-- bytes without their offsets (docs/FORMATS.md, Cutting)
 abbrev pub bytes_of : List Mark → List ℕ
 bytes_of ms = map (λ m. m.1) ms
 
--- the offset of the first byte (docs/FORMATS.md, Cutting a Gerber text)
+-- the offset of the first byte (docs/FORMATS.md, Cutting)
 abbrev pub first_offset : List Mark → ℕ
 first_offset [] = 0
 first_offset (m ∷ ms) = m.0
@@ -28,13 +28,13 @@ first_offset (m ∷ ms) = m.0
 abbrev pub has_end : List (List Mark) → Bool
 has_end items = list_any (λ item. is_end (bytes_of item)) items
 
--- items one after the other, of which only the last may be the end of the text (docs/FORMATS.md, Cutting a Gerber text)
+-- items one after the other, of which only the last may be the end of the text (docs/FORMATS.md, Cutting)
 abbrev pub AreItems : List (List Mark) → Type 0
 AreItems [] = Unit {0}
 AreItems (item ∷ items) = IsItem (bytes_of item) × (is_end (bytes_of item) ≡ true → items ≡ []) × AreItems items
 
 -- A text is its items and a rest: what stands after the end of the text, or before that, less than an item
--- (docs/FORMATS.md, Cutting a Gerber text).
+-- (docs/FORMATS.md, Cutting).
 pub record Splits (ms : List Mark) (items : List (List Mark)) (rest : List Mark) : Type 0 where
   pub whole : ms ≡ flat_map (λ item. item) items ++ rest
   pub each : AreItems items

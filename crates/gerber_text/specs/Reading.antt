@@ -16,7 +16,7 @@ use Rattle.gerber_rows.specs.Meaning.{meaning}
 use Rattle.gerber_text.specs.declared.placed.Placed.{Placed}
 use Rattle.gerber_text.specs.Cut.{Mark, marks, bytes_of, first_offset, has_end, Splits}
 
--- commands with their places (docs/FORMATS.md, Cutting a Gerber text)
+-- commands with their places (docs/FORMATS.md, Cutting)
 abbrev pub Entries : Type 0
 Entries = List (Placed Command)
 
@@ -34,7 +34,7 @@ is_plot Plot = true
 is_plot Move = false
 is_plot Flash = false
 
--- whether a command is a plot, of an operation alone (docs/FORMATS.md, What an item spells)
+-- whether a command is a plot, of an operation alone (docs/FORMATS.md, How a row fits and is read)
 abbrev pub plot_of : Command → Option Bool
 plot_of (Operate action x y i j) = Some (is_plot action)
 plot_of _ = None
@@ -43,11 +43,11 @@ plot_of _ = None
 abbrev pub is_plotting : Entries → Bool
 is_plotting before = unwrap_or (last_named (λ entry. plot_of entry.what) before) false
 
--- commands with the place of their item and the offset of its first byte (docs/FORMATS.md, Cutting a Gerber text)
+-- commands with the place of their item and the offset of its first byte (docs/FORMATS.md, Cutting)
 abbrev pub placed : ℕ → ℕ → List Command → Entries
 placed place byte commands = map (λ what. record { place = place; byte = byte; what = what }) commands
 
--- these commands, and after them those that the item of these bytes spells, or the item's fault (docs/FORMATS.md, What an item spells)
+-- these commands, and after them those that the item of these bytes spells, or the item's fault (docs/FORMATS.md, How a row fits and is read)
 unfoldable pub spelled : ℕ → ℕ → List ℕ → Entries → Result Entries Fault
 spelled place byte bytes before = at place byte (if nat_lt item_limit (length bytes) then Err TooLong else (meaning (is_plotting before) bytes >>= λ commands. Ok (before ++ placed place byte commands)))
 
@@ -57,21 +57,21 @@ Leaves (Ok x) new read = read ≡ Ok new
 Leaves (Err fails.Memory) new read = Unit {0}
 Leaves (Err (fails.Refused f)) new read = read ≡ Err f
 
--- these commands and those of the items, from this place on; or the fault of the first item that has one (docs/FORMATS.md, What an item spells)
+-- these commands and those of the items, from this place on; or the fault of the first item that has one (docs/FORMATS.md, How a row fits and is read)
 abbrev pub commands_from : ℕ → List (List Mark) → Entries → Result Entries Fault
 commands_from place [] before = Ok before
 commands_from place (item ∷ items) before = spelled place (first_offset item) (bytes_of item) before >>= commands_from (suc place) items
 
--- a space, a tab or `*`, which may stand after the end of the text (docs/FORMATS.md, Cutting a Gerber text)
+-- a space, a tab or `*`, which may stand after the end of the text (docs/FORMATS.md, Cutting)
 abbrev pub may_follow : ℕ → Bool
 may_follow b = (b == 32) || ((b == 9) || (b == 42))
 
--- after the end of the text, the first byte that may not stand there is a fault (docs/FORMATS.md, Cutting a Gerber text)
+-- after the end of the text, the first byte that may not stand there is a fault (docs/FORMATS.md, Cutting)
 abbrev pub behind_end : ℕ → Entries → List Mark → Result Entries Fault
 behind_end place commands [] = Ok commands
 behind_end place commands (m ∷ ms) = if may_follow m.1 then behind_end place commands ms else Err (fault place m.0 AfterEnd)
 
--- the commands, or the first fault that these items and this rest show, whatever follows (docs/FORMATS.md, Cutting a Gerber text)
+-- the commands, or the first fault that these items and this rest show, whatever follows (docs/FORMATS.md, Cutting)
 abbrev pub shown : List (List Mark) → List Mark → Result Entries Fault
 shown items rest = commands_from 1 items [] >>= λ commands.
     if has_end items then behind_end (suc (length items)) commands rest
@@ -88,17 +88,17 @@ pub record Shows (text : List ℕ) (answer : Result Entries Fault) : Type 0 wher
   pub splits : Splits (marks (take text_limit text)) items rest
   pub answer_is : answer ≡ shown_in (length text) items rest
 
--- a space or a tab (docs/FORMATS.md, Cutting a Gerber text)
+-- a space or a tab (docs/FORMATS.md, Cutting)
 abbrev pub is_blank : ℕ → Bool
 is_blank b = (b == 32) || (b == 9)
 
--- the text ends here: the commands, or that the end is missing (docs/FORMATS.md, Cutting a Gerber text)
+-- the text ends here: the commands, or that the end is missing (docs/FORMATS.md, Cutting)
 abbrev pub ended : ℕ → List (List Mark) → List Mark → Entries → Result Entries Fault
 ended len items rest commands =
     if has_end items then Ok commands
     else Err (fault (suc (length items)) (if list_all is_blank (bytes_of rest) then len else first_offset rest) Truncated)
 
--- the commands of a text that ends here, or its fault (docs/FORMATS.md, Cutting a Gerber text)
+-- the commands of a text that ends here, or its fault (docs/FORMATS.md, Cutting)
 abbrev pub read_in : ℕ → List (List Mark) → List Mark → Result Entries Fault
 read_in len items rest = shown items rest >>= λ commands. if nat_lt text_limit len then Err (fault (suc (length items)) text_limit TooLong) else ended len items rest commands
 
@@ -110,7 +110,7 @@ pub record Reads (text : List ℕ) (answer : Result Entries Fault) : Type 0 wher
   pub answer_is : answer ≡ read_in (length text) items rest
 
 -- A text spells these commands: its items spell them in order, the last one is the end of the text, and only spaces, tabs
--- and `*` stand after it (docs/FORMATS.md, Cutting a Gerber text).
+-- and `*` stand after it (docs/FORMATS.md, Cutting).
 pub record SpellsText (text : List ℕ) (commands : Entries) : Type 0 where
   pub items : List (List Mark)
   pub tail : List Mark

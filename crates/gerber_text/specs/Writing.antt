@@ -32,7 +32,7 @@ abbrev pub unbroken : List ℕ → List ℕ
 unbroken text = filter (λ b. not (is_line_break b)) text
 
 -- A text without its line breaks is an item within the limit that spells this command alone, whatever stands before it
--- (docs/FORMATS.md, What an item spells).
+-- (docs/FORMATS.md, How a row fits and is read).
 pub record Spells (text : List ℕ) (command : Command) : Type 0 where
   pub one : IsItem (unbroken text)
   pub short : length (unbroken text) ≤ item_limit
