@@ -5,3 +5,4 @@ pub mod Moves
 pub mod Places
 pub mod Faulty
 pub mod Listing
+pub mod Reading

@@ -7,3 +7,4 @@ pub mod Rules
 pub mod Knows
 pub mod Faults
 pub mod Functions
+pub mod Layers

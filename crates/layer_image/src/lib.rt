@@ -8,8 +8,10 @@ mod function;
 mod grid;
 mod image;
 mod judge;
+mod layer;
 mod length;
 mod rules;
 mod size;
 
 pub use flash::{Flash, What, Why};
+pub use layer::{Layer, equal_commands, read_layer};

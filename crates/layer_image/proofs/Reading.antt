@@ -1,0 +1,52 @@
+-- What the judge says of the commands that were kept of a text is what the text reads as.
+use Rattle.std.proofs.Common.{◌≡◌, ◌⊎◌, inl, inr, ℕ, List, length, Bool, true, false, cond, Result, Ok, Err, [], refl, sym, ap, subst, ◌∙◌, nat_lt, arith}
+use Rattle.std.proofs.Math.Seq.{take-length}
+use Rattle.grid_units.specs.Results.{◌>>=◌, Answers, Tells}
+use Rattle.grid_units.specs.declared.fault.Fault.{Fault}
+use Rattle.grid_units.specs.declared.fault.Fail.{Fail}
+use Rattle.grid_units.specs.declared.fault.Fail.TheVariants as fails
+use Rattle.grid_units.proofs.Binds.{bind_ok}
+use Rattle.gerber_text.specs.Cut.{Mark, has_end}
+use Rattle.gerber_text.specs.Reading.{Entries, text_limit, commands_from, shown, ended, Reads, KeptOf, KeptBefore, Keeps}
+use Rattle.gerber_text.proofs.Shown.{shown_spelled}
+use Rattle.layer_image.specs.Faults.{without_places, IsFirstFault}
+use Rattle.layer_image.specs.Layers.{LayerImage, ReadsLayer, image_of}
+use Rattle.layer_image.specs.Rules.{IsLegal}
+
+ended_ok : (t u : Bool) (x cs : Entries) (e d : Fault) → cond t (Err e) (cond u (Ok x) (Err d)) ≡ Ok cs → x ≡ cs
+ended_ok true u x cs e d h = absurd cc
+ended_ok false true x cs e d h = cc
+ended_ok false false x cs e d h = absurd cc
+
+-- all items of a text that is read are kept
+pub kept_all : (text : List ℕ) (cs : Entries) → Reads text (Ok cs) → (kept : ℕ) × KeptOf text kept cs
+kept_all text cs r =
+    let first = bind_ok (shown r.items r.rest) _ cs (sym r.answer_is) in
+    let same : first.0 ≡ cs = ended_ok (nat_lt text_limit (length text)) (has_end r.items) first.0 cs _ _ first.2 in (
+      length r.items,
+      record {
+        items = r.items;
+        rest = r.rest;
+        splits = r.splits;
+        within = omega arith;
+        spelled = ap (λ (x : List (List Mark)). commands_from 1 x []) (take-length r.items) ∙ shown_spelled r.items r.rest first.0 first.1 ∙ ap (λ (x : Entries). Ok x) same;
+      },
+    )
+
+-- the fault of a rule among the commands that were kept
+pub by_rule : (text : List ℕ) (entries : Entries) (o : Result (Unit {0}) Fail) (e : Fail) → Keeps text entries o → Tells (IsFirstFault entries) e
+    → Answers {T = LayerImage} (λ layer. layer) (λ answer. ReadsLayer text answer) (Err e)
+by_rule text entries o fails.Memory k h = tt
+by_rule text entries (Ok x) (fails.Refused f) k h = let all = kept_all text entries k in inl (all.0, entries, all.1, h)
+by_rule text entries (Err fails.Memory) (fails.Refused f) k h = inl (k.1.0, entries, k.1.1, h)
+by_rule text entries (Err (fails.Refused g)) (fails.Refused f) k h = inl (k.1.0, entries, k.1.2, h)
+
+-- the fault of reading, where the commands before it are legal
+pub by_reading : (text : List ℕ) (entries : Entries) (e : Fail) → Keeps {X = Unit {0}} text entries (Err e) → IsLegal (without_places entries)
+    → Answers {T = LayerImage} (λ layer. layer) (λ answer. ReadsLayer text answer) (Err e)
+by_reading text entries fails.Memory k h = tt
+by_reading text entries (fails.Refused f) k h = inr (entries, k.0, k.1, h)
+
+-- no fault
+pub by_both : (text : List ℕ) (entries : Entries) (layer : LayerImage) → Reads text (Ok entries) → IsLegal (without_places entries) → layer ≡ image_of entries → ReadsLayer text (Ok layer)
+by_both text entries layer r legal is = subst (λ (l : LayerImage). ReadsLayer text (Ok l)) (sym is) (r, legal, refl)

@@ -1,0 +1,41 @@
+-- Layers: what a whole text says, or its first fault.
+use Rattle.std.specs.Prelude.{◌≡◌, ◌⊎◌, ℕ, List, Option, Result, Ok, Err}
+use Rattle.grid_units.specs.declared.fault.Fault.{Fault}
+use Rattle.grid_units.specs.declared.fault.Fail.TheVariants as fails
+use Rattle.pad_shapes.specs.declared.pad.Pad.{Pad}
+use Rattle.gerber_text.specs.Reading.{Entries, Reads, KeptOf, KeptBefore}
+use Rattle.layer_image.specs.declared.flash.Flash.{Flash}
+use Rattle.layer_image.specs.Flashes.{flashes_of, pads_of}
+use Rattle.layer_image.specs.Faults.{without_places, IsFirstFault}
+use Rattle.layer_image.specs.Functions.{file_function_of}
+use Rattle.layer_image.specs.Rules.{IsLegal}
+
+-- what is read of a layer (docs/DEFINITIONS.md, Layers)
+pub record LayerImage : Type 0 where
+  pub commands : Entries
+  pub flashes : List Flash
+  pub pads : List Pad
+  pub file_function : Option (List ℕ)
+
+-- the flashes, the pads and the file function of commands (docs/DEFINITIONS.md, Layers)
+abbrev pub image_of : Entries → LayerImage
+image_of entries = record {
+  commands = entries;
+  flashes = flashes_of (without_places entries);
+  pads = pads_of (flashes_of (without_places entries));
+  file_function = file_function_of (without_places entries);
+}
+
+-- A text reads as a layer: it spells these commands, they are legal, and the rest follows from them. Or it has this fault:
+-- some first items of it spell commands of which this one is the first to break a rule; or it is the fault of reading,
+-- and the commands before it are legal (docs/DEFINITIONS.md, Layers).
+abbrev pub ReadsLayer : List ℕ → Result LayerImage Fault → Type 0
+ReadsLayer text (Ok image) = Reads text (Ok image.commands) × IsLegal (without_places image.commands) × (image ≡ image_of image.commands)
+ReadsLayer text (Err f) =
+    ((kept : ℕ) × (entries : Entries) × KeptOf text kept entries × IsFirstFault entries f)
+    ⊎ ((entries : Entries) × Reads text (Err f) × KeptBefore text (fails.Refused f) entries × IsLegal (without_places entries))
+
+-- texts that spell equal commands, at whatever places, have equal flashes, pads and file function (docs/DEFINITIONS.md, Layers)
+abbrev pub EqualCommands : Type 0
+EqualCommands = (s t : List ℕ) (a b : LayerImage) → ReadsLayer s (Ok a) → ReadsLayer t (Ok b) → without_places a.commands ≡ without_places b.commands
+    → (a.flashes ≡ b.flashes) × (a.pads ≡ b.pads) × (a.file_function ≡ b.file_function)
