@@ -1,5 +1,5 @@
 #!/bin/sh
-# Builds bench/sweep_times in a copy of the repository, and runs it on the boards of standard input.
+# Builds the program of sweep_times.rt.txt in a copy of the repository, and runs it on the boards of standard input.
 set -e
 here=$(cd "$(dirname "$0")" && pwd)
 copy=$(mktemp -d)
@@ -7,7 +7,8 @@ trap 'rm -rf "$copy"' EXIT
 for part in HANDLES crates.txt crates; do
     cp -r "$here/../$part" "$copy"
 done
-cp -r "$here/sweep_times" "$copy/crates"
+mkdir -p "$copy/crates/sweep_times/src"
+cp "$here/sweep_times.rt.txt" "$copy/crates/sweep_times/src/main.rt"
 echo 'sweep_times: grid_units pad_shapes ring_rules' >> "$copy/crates.txt"
 (cd "$copy" && git init -q)
 cd "$copy/crates/sweep_times"
