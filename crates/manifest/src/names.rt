@@ -5,7 +5,7 @@ ghost use Rattle.std.specs.Prelude.{◌≡◌, IfOk, ℕ, List, string_bytes};
 use std::alloc::{AllocError, Global};
 use std::marker::Model;
 
-/// A name in a manifest: text without control characters. Contracts see the list of its bytes in UTF-8.
+/// A name that a manifest gives, of a file in reports or of the file as it is loaded. Contracts see the list of its bytes.
 #[derive(Debug, Drop)]
 pub struct Name {
     held: String,
