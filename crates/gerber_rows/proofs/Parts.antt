@@ -1,11 +1,11 @@
 -- Parts of a text.
-use Rattle.std.proofs.Common.{◌≡◌, ℕ, suc, ◌+◌, ◌<◌, ◌≤◌, Bool, true, false, cond, not, eqb, ltb, leb, ◌||◌, ◌&&◌, List, [], ◌∷◌, ◌++◌, length, take, drop, Option, None, Some, Result, Ok, Err, refl, sym, ap, subst, ◌∙◌, arith, append_assoc}
-use Rattle.std.specs.List.{list_all, count_by, slice_split, onto_first, position, position_or_len, before_first, after_first}
-use Rattle.std.proofs.lemmas.List.Splits.{slice_split_first, slice_split_none, length-slice_split}
-use Rattle.std.proofs.lemmas.Bool.{ltb-true, ltb-false, lt-ltb, le-ltb}
+use Rattle.std.proofs.Common.{◌≡◌, ℕ, suc, ◌+◌, ◌≤◌, Bool, true, false, cond, not, eqb, ltb, leb, ◌||◌, ◌&&◌, List, [], ◌∷◌, length, take, drop, Option, None, Some, refl, sym, ap, ◌∙◌, arith}
+use Rattle.std.specs.List.{list_all, count_by, onto_first, position, position_or_len}
+use Rattle.std.proofs.lemmas.List.Splits.{slice_split_first, length-slice_split}
+use Rattle.std.proofs.lemmas.Bool.{ltb-true, ltb-false}
 use Rattle.grid_units.specs.Numbers.{is_number}
 use Rattle.gerber_rows.specs.declared.command.Standard.{Standard}
-use Rattle.gerber_rows.specs.Pieces.{divided, divided_if, least_sizes, most_sizes, are_sizes}
+use Rattle.gerber_rows.specs.Pieces.{divided, least_sizes, most_sizes, are_sizes}
 
 -- ---- where all parts are runs
 

@@ -3,13 +3,11 @@ use Rattle.std.specs.Prelude.{ℕ, ◌-◌, ◌+◌, Bool, true, false, not, ◌
 use Rattle.std.specs.Option.{option_map, option_or}
 use Rattle.std.specs.Ordering.{int_eq}
 use Rattle.std.specs.List.{list_any, list_all, fold, prefix_len, take_while, slice_split}
-use Rattle.std.specs.Str.{bytes_eq}
 use Rattle.grid_units.specs.Results.{◌>>=◌, both}
 use Rattle.grid_units.specs.Numbers.{is_digit, is_number, dec_of}
 use Rattle.grid_units.specs.declared.fault.Reason.{Reason}
 use Rattle.grid_units.specs.declared.fault.Reason.TheVariants.{SeveralInOne, ClearPolarity, BlockAperture, NegativeImage, TrailingZeros, Incremental, OldParameter, BadWord, BadNumber}
 use Rattle.grid_units.specs.declared.lengths.Unit.TheVariants.{Inch, Millimetre}
-use Rattle.gerber_rows.specs.declared.command.Command.{Command}
 use Rattle.gerber_rows.specs.declared.command.Command.TheVariants.{UnitIs, FormatIs, Define, Macro, Dark, Mirror, Turn, Scale, Repeat, RepeatEnd, Attribute, Remove}
 use Rattle.gerber_rows.specs.declared.command.AttributeKind.{AttributeKind}
 use Rattle.gerber_rows.specs.declared.command.AttributeKind.TheVariants as kinds

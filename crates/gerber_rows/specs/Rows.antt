@@ -1,5 +1,5 @@
 -- Rows of the format's table: how one fits, and what stands in its fields.
-use Rattle.std.specs.Prelude.{◌≡◌, ℕ, Bool, ◌==◌, List, [], ◌∷◌, length, take, drop, if◌then◌else◌, Option, None, Some, Result, Ok, Err, codes}
+use Rattle.std.specs.Prelude.{ℕ, Bool, ◌==◌, List, [], ◌∷◌, length, take, drop, if◌then◌else◌, Option, None, Some, Result, Err}
 use Rattle.std.specs.List.{prefix_len, take_while}
 use Rattle.std.specs.Str.{bytes_eq}
 use Rattle.grid_units.specs.declared.fault.Reason.{Reason}

@@ -1,12 +1,11 @@
 -- What a word spells: the rows of the table of words, in its order.
-use Rattle.std.specs.Prelude.{ℕ, ◌-◌, Bool, true, false, not, ◌&&◌, ◌||◌, ◌==◌, nat_le, List, [], ◌∷◌, ◌++◌, length, take, drop, if◌then◌else◌, Option, None, Some, unwrap_or, is_some, Result, Ok, Err, is_ok, codes, ℤ}
+use Rattle.std.specs.Prelude.{ℕ, Bool, false, not, ◌&&◌, ◌||◌, ◌==◌, nat_le, List, [], ◌∷◌, ◌++◌, length, drop, if◌then◌else◌, Option, None, Some, unwrap_or, is_some, Result, Ok, Err, is_ok, codes, ℤ}
 use Rattle.std.specs.Option.{option_map, option_or}
 use Rattle.std.specs.List.{list_any, list_all, prefix_len, take_while}
 use Rattle.std.specs.Str.{bytes_eq}
 use Rattle.grid_units.specs.Results.{◌>>=◌, both}
 use Rattle.grid_units.specs.declared.fault.Reason.{Reason}
 use Rattle.grid_units.specs.declared.fault.Reason.TheVariants.{BadWord, BareCoordinate, NegativeImage, Incremental, OldParameter}
-use Rattle.gerber_rows.specs.declared.command.Command.{Command}
 use Rattle.gerber_rows.specs.declared.command.Command.TheVariants.{Comment, Mode, Quadrant, RegionStart, RegionEnd, UnitIs, Select, Operate, Finish}
 use Rattle.grid_units.specs.declared.lengths.Unit.TheVariants.{Inch, Millimetre}
 use Rattle.gerber_rows.specs.declared.command.Interpolation.{Interpolation}

@@ -1,5 +1,5 @@
 -- A text reads as commands just where it spells them.
-use Rattle.std.proofs.Common.{◌≡◌, ℕ, suc, ◌≤◌, ◌⊎◌, inl, inr, Bool, true, false, cond, ltb, List, [], ◌∷◌, ◌++◌, length, take, Result, Ok, Err, refl, sym, ap, subst, ◌∙◌, arith}
+use Rattle.std.proofs.Common.{◌≡◌, ℕ, suc, ◌≤◌, Bool, true, false, cond, ltb, List, [], ◌∷◌, length, Result, Ok, Err, refl, sym, ap, subst, ◌∙◌}
 use Rattle.std.specs.List.{list_all, AllByRecursion}
 use Rattle.std.proofs.lemmas.List.{take_all}
 use Rattle.std.proofs.lemmas.Bool.{ltb-false}
@@ -11,10 +11,10 @@ use Rattle.std.specs.Prelude.{IfOk}
 use Rattle.std.specs.Global.{Vec}
 use Rattle.gerber_rows.specs.declared.command.Command.{Command}
 use Rattle.gerber_text.specs.declared.placed.Placed.{Placed}
-use Rattle.grid_units.specs.Results.{◌>>=◌, fault, Answers, AnswersAlways}
+use Rattle.grid_units.specs.Results.{fault, Answers, AnswersAlways}
 use Rattle.grid_units.proofs.Binds.{bind_ok}
 use Rattle.gerber_text.specs.Cut.{Mark, marks, bytes_of, first_offset, has_end, Splits}
-use Rattle.gerber_text.specs.Reading.{Entries, text_limit, commands_from, shown, ended, Reads, is_blank, may_follow, behind_end, SpellsText, entries_of}
+use Rattle.gerber_text.specs.Reading.{Entries, text_limit, shown, ended, Reads, is_blank, may_follow, behind_end, SpellsText, entries_of}
 use Rattle.gerber_text.proofs.Shown.{shown_spelled, shown_ended}
 use Rattle.gerber_text.proofs.Unique.{one_read}
 use Rattle.gerber_text.proofs.Whole.{reads_ok}

@@ -1,8 +1,6 @@
 -- What a reader in pieces holds of the bytes so far.
 use Rattle.std.specs.Prelude.{◌≡◌, ℕ, suc, ◌<◌, ◌≤◌, false, List, [], ◌++◌, length, take, Result, Ok, Err, Option, None, Some}
-use Rattle.std.specs.Global.{Vec}
 use Rattle.grid_units.specs.Results.{Tells}
-use Rattle.grid_units.specs.declared.fault.Fault.{Fault}
 use Rattle.grid_units.specs.declared.fault.Fail.{Fail}
 use Rattle.grid_units.specs.declared.fault.Fail.TheVariants as fails
 use Rattle.gerber_text.specs.declared.reader.Progress.{Progress}

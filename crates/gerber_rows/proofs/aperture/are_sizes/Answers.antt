@@ -1,5 +1,4 @@
-use Rattle.std.proofs.Common.{sym, ap, ◌∙◌, ◌&&◌, cond}
-use Rattle.std.specs.List.{list_all, count_by}
+use Rattle.std.proofs.Common.{sym, ap, ◌∙◌, ◌&&◌}
 use Rattle.gerber_rows.proofs.Parts.{sizes_are, sizes_are_not}
 use Rattle.gerber_rows.proofs.aperture.are_sizes.Goals as goal
 

@@ -1,9 +1,8 @@
-use Rattle.std.proofs.Common.{◌≡◌, ℕ, Bool, false, List, [], ◌∷◌, ◌++◌, unwrap_or, refl, sym, ap, ◌∙◌, append_assoc}
+use Rattle.std.proofs.Common.{◌≡◌, Bool, false, [], ◌∷◌, ◌++◌, unwrap_or, refl, sym, ap, ◌∙◌}
 use Rattle.grid_units.specs.Lists.{last_named}
 use Rattle.grid_units.proofs.Lookbacks.{last_or-append, option_or_none}
 use Rattle.gerber_rows.specs.declared.command.Command.{Command}
 use Rattle.gerber_rows.specs.declared.command.Command.TheVariants.{Mode}
-use Rattle.gerber_rows.specs.declared.command.Interpolation.{Interpolation}
 use Rattle.gerber_text.specs.Reading.{Entries, plot_of, is_plotting, placed}
 use Rattle.gerber_text.proofs.reader.add.Goals as goal
 

@@ -1,4 +1,4 @@
-use Rattle.std.proofs.Common.{◌≡◌, ℕ, List, [], Result, Ok, Err}
+use Rattle.std.proofs.Common.{ℕ, List, [], Result, Ok, Err}
 use Rattle.std.specs.Prelude.{OnOk, IfErr}
 use Rattle.grid_units.specs.declared.fault.Fail.{Fail}
 use Rattle.gerber_text.specs.declared.reader.WordReader.{WordReader}

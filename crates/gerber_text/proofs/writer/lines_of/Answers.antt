@@ -1,7 +1,5 @@
-use Rattle.std.proofs.Common.{◌∙◌}
 use Rattle.gerber_rows.specs.declared.command.Command.{Command}
-use Rattle.gerber_text.specs.declared.placed.Placed.{Placed}
-use Rattle.gerber_text.proofs.Written.{line, written_more, written_all, lines_placed}
+use Rattle.gerber_text.proofs.Written.{line, written_more, written_all}
 use Rattle.gerber_text.proofs.writer.lines_of.Goals as goal
 
 pub loop-command-preserved : goal.loop-command-preserved

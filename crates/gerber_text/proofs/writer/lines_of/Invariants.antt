@@ -1,7 +1,6 @@
 use Rattle.std.proofs.Common.{◌≡◌, take}
 use Rattle.std.specs.List.{flat_map}
 use Rattle.gerber_rows.specs.declared.command.Command.{Command}
-use Rattle.gerber_text.specs.declared.placed.Placed.{Placed}
 use Rattle.gerber_text.proofs.Written.{line}
 use Rattle.gerber_text.proofs.writer.lines_of.Given as goal
 

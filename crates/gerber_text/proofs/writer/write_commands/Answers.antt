@@ -1,4 +1,3 @@
-use Rattle.gerber_text.specs.Writing.{without_places}
 use Rattle.gerber_text.proofs.Written.{exact_of, reads_back}
 use Rattle.gerber_text.proofs.writer.write_commands.Goals as goal
 
