@@ -1,15 +1,13 @@
 -- What it says of a command that it breaks no rule.
 use Rattle.std.proofs.Common.{◌≡◌, ℕ, ℤ, List, [], ◌∷◌, ◌++◌, Option, None, Some, Bool, true, false, cond, ◌||◌, ◌&&◌, refl, sym, ap, ◌∙◌}
-use Rattle.std.specs.List.{find, list_any}
+use Rattle.std.specs.List.{find}
 use Rattle.gerber_rows.specs.declared.command.Command.{Command}
 use Rattle.gerber_rows.specs.declared.command.Command.TheVariants as command
 use Rattle.gerber_rows.specs.declared.command.Action.{Action}
-use Rattle.gerber_rows.specs.declared.command.Template.{Template}
-use Rattle.grid_units.specs.declared.fault.Reason.{Reason}
 use Rattle.grid_units.specs.declared.fault.Reason.TheVariants as reason
 use Rattle.layer_image.specs.Lookback.{Standing}
 use Rattle.layer_image.specs.Flashes.{is_flash}
-use Rattle.layer_image.specs.Rules.{first_broken, applies, reaches_too_far, flashes_too_far, sizes_badly, is_badly_sized, is_far_in}
+use Rattle.layer_image.specs.Rules.{first_broken, applies, reaches_too_far, flashes_too_far, sizes_badly, is_far_in}
 
 -- where a search finds nothing, no element passes
 none_found : {A : Type 0} (p : A → Bool) (xs ys : List A) (x : A) → find p (xs ++ x ∷ ys) ≡ None → p x ≡ false

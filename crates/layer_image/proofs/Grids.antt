@@ -1,6 +1,6 @@
 -- Sums of lengths, and the copies of a point.
-use Rattle.std.proofs.Common.{◌≡◌, ℕ, ◌+◌, ◌*◌, ◌^◌, ◌<◌, ◌≤◌, ◌/◌, zero, suc, ℤ, pos, negsuc, ◌+ℤ◌, ◌*ℤ◌, ◌≤ℤ◌, unsigned_abs, FitsSigned, Bool, true, false, List, [], ◌∷◌, ◌++◌, map, length, ◌||◌, nat_lt, refl, sym, ap, ◌∙◌, arith, to_z, of_z, cond, IsTrue, ◌⊎◌, inl, inr, mul-le-mul_right, mul-le-mul, true≢false, lit<, zero-mul, length-append, append-nil, append_assoc, add-one}
-use Rattle.std.proofs.lemmas.Int.{ints, fits_signed_mul, fits_signed_from_abs, unsigned_abs-mul, to_z-of_z}
+use Rattle.std.proofs.Common.{◌≡◌, ℕ, ◌+◌, ◌*◌, ◌^◌, ◌<◌, ◌≤◌, zero, suc, ℤ, pos, negsuc, ◌+ℤ◌, ◌*ℤ◌, unsigned_abs, FitsSigned, Bool, true, false, List, [], ◌∷◌, ◌++◌, map, length, ◌||◌, nat_lt, refl, sym, ap, ◌∙◌, arith, to_z, of_z, mul-le-mul_right, mul-le-mul, true≢false, zero-mul, length-append, append-nil, append_assoc, add-one}
+use Rattle.std.proofs.lemmas.Int.{ints, unsigned_abs-mul, to_z-of_z}
 use Rattle.std.proofs.lemmas.List.Folds.{list_any-append}
 use Rattle.std.proofs.lemmas.Grind.{common_steps, flat_map-append}
 use Rattle.std.specs.List.{list_any, flat_map}

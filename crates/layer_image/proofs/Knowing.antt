@@ -1,13 +1,10 @@
 -- A judge that has taken in one more command knows it.
-use Rattle.std.proofs.Common.{◌≡◌, ℕ, List, [], ◌∷◌, ◌++◌, length, Option, None, Some, unwrap_or, pos, Bool, ◌||◌, false, true, refl, sym, ap, ◌∙◌}
-use Rattle.std.proofs.lemmas.List.Folds.{list_any-append}
-use Rattle.std.specs.Option.{option_or}
-use Rattle.std.specs.List.{list_any}
+use Rattle.std.proofs.Common.{◌≡◌, List, [], ◌∷◌, ◌++◌, length, pos, false, sym, ap, ◌∙◌}
 use Rattle.gerber_rows.specs.declared.command.Command.{Command}
 use Rattle.layer_image.specs.declared.judge.Judge.{Judge}
-use Rattle.layer_image.specs.Lookback.{Standing, standing, single, one, unit_named, format_named, region_named, definition_named, defines_macro, number_named, x_named, y_named, turn_named, scale_named, block_named}
+use Rattle.layer_image.specs.Lookback.{standing, single, one, unit_named, format_named, region_named, definition_named, defines_macro, number_named, x_named, y_named, turn_named, scale_named, block_named}
 use Rattle.layer_image.specs.Rules.{broken_rule, first_broken}
-use Rattle.layer_image.specs.Flashes.{flashes_of, flashes_at}
+use Rattle.layer_image.specs.Flashes.{flashes_at}
 use Rattle.layer_image.specs.Knows.{Knows, Takes, after, told}
 use Rattle.grid_units.proofs.Lookbacks.{last_named-more, last_or-more, list_any-more, flat_positions-more}
 

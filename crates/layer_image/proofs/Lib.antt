@@ -6,3 +6,4 @@ pub mod Places
 pub mod Faulty
 pub mod Listing
 pub mod Reading
+pub mod Unique

@@ -8,9 +8,7 @@ use Rattle.pad_shapes.specs.declared.pad.Pad.TheVariants as pads
 use Rattle.layer_image.specs.declared.aperture.Aperture.{Aperture}
 use Rattle.layer_image.specs.declared.aperture.Aperture.TheVariants as aperture
 use Rattle.layer_image.specs.declared.flash.Why.{Why}
-use Rattle.layer_image.specs.declared.flash.What.{What}
 use Rattle.layer_image.specs.declared.flash.What.TheVariants as what
-use Rattle.layer_image.specs.declared.flash.Flash.{Flash}
 use Rattle.layer_image.specs.Lookback.{Standing}
 use Rattle.layer_image.specs.Flashes.{what_at, shape_at, rect_at, obround_at, exchanges_sides, keeps_from_pad, why_order, unit_in_force, flash_at}
 use Rattle.layer_image.specs.Moved.{moved, origin, flash_moved}

@@ -1,13 +1,13 @@
 -- What the judge says of the commands that were kept of a text is what the text reads as.
-use Rattle.std.proofs.Common.{◌≡◌, ◌⊎◌, inl, inr, ℕ, List, length, Bool, true, false, cond, Result, Ok, Err, [], refl, sym, ap, subst, ◌∙◌, nat_lt, arith}
+use Rattle.std.proofs.Common.{◌≡◌, inl, inr, ℕ, List, length, Bool, true, false, cond, Result, Ok, Err, [], refl, sym, ap, subst, ◌∙◌, nat_lt, arith}
 use Rattle.std.proofs.Math.Seq.{take-length}
-use Rattle.grid_units.specs.Results.{◌>>=◌, Answers, Tells}
+use Rattle.grid_units.specs.Results.{Answers, Tells}
 use Rattle.grid_units.specs.declared.fault.Fault.{Fault}
 use Rattle.grid_units.specs.declared.fault.Fail.{Fail}
 use Rattle.grid_units.specs.declared.fault.Fail.TheVariants as fails
 use Rattle.grid_units.proofs.Binds.{bind_ok}
 use Rattle.gerber_text.specs.Cut.{Mark, has_end}
-use Rattle.gerber_text.specs.Reading.{Entries, text_limit, commands_from, shown, ended, Reads, KeptOf, KeptBefore, Keeps}
+use Rattle.gerber_text.specs.Reading.{Entries, text_limit, commands_from, shown, Reads, KeptOf, Keeps}
 use Rattle.gerber_text.proofs.Shown.{shown_spelled}
 use Rattle.layer_image.specs.Faults.{without_places, IsFirstFault}
 use Rattle.layer_image.specs.Layers.{LayerImage, ReadsLayer, image_of}
@@ -19,7 +19,7 @@ ended_ok false true x cs e d h = cc
 ended_ok false false x cs e d h = absurd cc
 
 -- all items of a text that is read are kept
-pub kept_all : (text : List ℕ) (cs : Entries) → Reads text (Ok cs) → (kept : ℕ) × KeptOf text kept cs
+pub kept_all : (text : List ℕ) (cs : Entries) → Reads text (Ok cs) → (kept : ℕ) × (k : KeptOf text kept cs) × (kept ≡ length k.items)
 kept_all text cs r =
     let first = bind_ok (shown r.items r.rest) _ cs (sym r.answer_is) in
     let same : first.0 ≡ cs = ended_ok (nat_lt text_limit (length text)) (has_end r.items) first.0 cs _ _ first.2 in (
@@ -31,6 +31,7 @@ kept_all text cs r =
         within = omega arith;
         spelled = ap (λ (x : List (List Mark)). commands_from 1 x []) (take-length r.items) ∙ shown_spelled r.items r.rest first.0 first.1 ∙ ap (λ (x : Entries). Ok x) same;
       },
+      refl,
     )
 
 -- the fault of a rule among the commands that were kept

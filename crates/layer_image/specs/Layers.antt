@@ -39,3 +39,7 @@ ReadsLayer text (Err f) =
 abbrev pub EqualCommands : Type 0
 EqualCommands = (s t : List ℕ) (a b : LayerImage) → ReadsLayer s (Ok a) → ReadsLayer t (Ok b) → without_places a.commands ≡ without_places b.commands
     → (a.flashes ≡ b.flashes) × (a.pads ≡ b.pads) × (a.file_function ≡ b.file_function)
+
+-- a text reads as one layer, or has one fault (docs/DEFINITIONS.md, Layers)
+abbrev pub OneReading : Type 0
+OneReading = (text : List ℕ) (a b : Result LayerImage Fault) → ReadsLayer text a → ReadsLayer text b → a ≡ b

@@ -1,5 +1,5 @@
 -- What the commands before a position say to the next one, each word by looking back over the finished list.
-use Rattle.std.specs.Prelude.{ℕ, nat_eq, ℤ, pos, Bool, true, false, ◌==◌, List, [], ◌∷◌, Option, None, Some, unwrap_or, if◌then◌else◌, slice_get, drop, int_lt}
+use Rattle.std.specs.Prelude.{ℕ, nat_eq, ℤ, pos, Bool, true, false, ◌==◌, List, Option, None, Some, unwrap_or, if◌then◌else◌, slice_get, drop, int_lt}
 use Rattle.std.specs.Option.{option_and_then}
 use Rattle.std.specs.List.{list_any}
 use Rattle.std.specs.Cmp.Lexicographic.{pointwise}

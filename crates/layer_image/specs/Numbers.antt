@@ -1,5 +1,5 @@
 -- Lengths of a layer, in picometres.
-use Rattle.std.specs.Prelude.{◌≤◌, ◌+◌, ◌/◌, ◌^◌, ℤ, pos, ◌*ℤ◌, Bool, nat_le, unsigned_abs}
+use Rattle.std.specs.Prelude.{◌+◌, ◌/◌, ◌^◌, ℤ, pos, ◌*ℤ◌, Bool, nat_le, unsigned_abs}
 use Rattle.grid_units.specs.declared.lengths.Unit.{Unit as Units}
 use Rattle.grid_units.specs.Numbers.{unit_length, picometres}
 use Rattle.gerber_rows.specs.declared.command.Format.{Format}

@@ -6,7 +6,7 @@ ghost use Rattle.grid_units.specs.Results.{Answers};
 ghost use Rattle.layer_image.specs.Flashes.{flashes_of, pads_of};
 ghost use Rattle.layer_image.specs.Faults.{without_places};
 ghost use Rattle.layer_image.specs.Functions.{file_function_of};
-ghost use Rattle.layer_image.specs.Layers.{ReadsLayer, EqualCommands, image_of};
+ghost use Rattle.layer_image.specs.Layers.{ReadsLayer, EqualCommands, OneReading, image_of};
 
 use crate::flash::{Flash, What};
 use crate::function::file_function;
@@ -126,6 +126,11 @@ fn copied(alloc: Global, text: Option<&[u8]>) -> Result<Option<Text>, AllocError
         None => Ok(None),
     }
 }
+
+/// A text reads as one layer, or has one fault.
+pub fn one_reading()
+    ensures { OneReading }
+{}
 
 /// Texts that spell equal commands have equal flashes, pads and file function.
 pub fn equal_commands()

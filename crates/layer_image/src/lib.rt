@@ -14,4 +14,7 @@ mod rules;
 mod size;
 
 pub use flash::{Flash, What, Why};
-pub use layer::{Layer, equal_commands, read_layer};
+pub use layer::{Layer, equal_commands, one_reading, read_layer};
+
+#[cfg(test)]
+mod tests;

@@ -1,6 +1,6 @@
 //! All bytes of a reader, within a limit.
 
-ghost use Rattle.std.specs.Prelude.{◌≡◌, ◌<◌, ◌≤◌, ◌+◌, ◌++◌, length, OnOk, IfErr, vec_len};
+ghost use Rattle.std.specs.Prelude.{◌≡◌, ◌<◌, ◌≤◌, ◌+◌, ◌++◌, length, OnOk, IfErr, vec_len, vec_capacity, max, ◌/◌};
 ghost use Rattle.std.specs.Io.KnownBytes.{IsAtEnd};
 ghost use Rattle.loading.specs.Reading.{ReadsAll, max_limit};
 ghost use Rattle.loading.specs.declared.reading.ReadFail.TheVariants as fails;
@@ -82,7 +82,9 @@ fn append(bytes: &mut Vec<u8>, more: &[u8], limit: u64) -> Result<(), ReadFail>
 /// Room for so many more bytes, and where the vector has to grow for them, by a sixteenth at least: so it holds little more
 /// than its bytes, and is seldom moved.
 fn make_room(bytes: &mut Vec<u8>, count: usize) -> Result<(), AllocError>
-    ensures { bytes.new.items ≡ bytes.old.items }
+    ensures items { bytes.new.items ≡ bytes.old.items }
+    ensures room { OnOk result (vec_len bytes.new + count ≤ vec_capacity bytes.new) }
+    ensures little { OnOk result (vec_capacity bytes.new ≤ max (vec_capacity bytes.old) (vec_len bytes.old + max count (vec_len bytes.old / 16))) }
 {
     if count <= bytes.capacity() - bytes.len() {
         return Ok(());

@@ -1,4 +1,4 @@
-use Rattle.std.proofs.Common.{◌≡◌, true, not, get_or, eqb, sym, ◌∙◌, arith, below_more}
+use Rattle.std.proofs.Common.{◌≡◌, true, get_or, eqb, sym, ◌∙◌, arith, below_more}
 use Rattle.std.proofs.lemmas.List.Sums.{prefix_len_is}
 use Rattle.layer_image.proofs.function.spaces_len.Goals as goal
 

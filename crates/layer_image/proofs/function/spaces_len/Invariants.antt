@@ -1,4 +1,4 @@
-use Rattle.std.proofs.Common.{◌≡◌, true, ℕ, ◌<◌, not, get_or, eqb}
+use Rattle.std.proofs.Common.{◌≡◌, true, ℕ, ◌<◌, get_or, eqb}
 use Rattle.layer_image.proofs.function.spaces_len.Given as goal
 
 abbrev pub invariant-loop-i : goal.invariant-loop-i

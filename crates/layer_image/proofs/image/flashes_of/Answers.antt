@@ -1,6 +1,6 @@
 -- One command more, and the fault of the first that breaks a rule.
-use Rattle.std.proofs.Common.{arith, ◌≡◌, ◌+◌, ◌<◌, ℕ, [], ◌∷◌, ◌++◌, length, take, drop, get_or, ap, sym, subst, ◌∙◌, drop-cons, add-one}
-use Rattle.std.proofs.lemmas.List.{take_more, take-append-drop, map-append}
+use Rattle.std.proofs.Common.{arith, ◌≡◌, ◌+◌, [], ◌∷◌, ◌++◌, take, drop, ap, sym, subst, ◌∙◌}
+use Rattle.std.proofs.lemmas.List.{map-append}
 use Rattle.grid_units.specs.Lists.{breaks}
 use Rattle.grid_units.specs.Results.{fault, Tells}
 use Rattle.grid_units.proofs.Lookbacks.{breaks-more}

@@ -1,5 +1,5 @@
 -- The commands that were kept of the text break a rule.
-use Rattle.std.proofs.Common.{rules, ◌≡◌, List, Result, Err, sym, subst}
+use Rattle.std.proofs.Common.{rules, ◌≡◌, Result, Err, sym, subst}
 use Rattle.grid_units.specs.Results.{Answers, Tells}
 use Rattle.grid_units.specs.declared.fault.Fail.{Fail}
 use Rattle.gerber_text.specs.Reading.{Entries}

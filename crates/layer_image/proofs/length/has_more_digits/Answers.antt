@@ -1,4 +1,4 @@
-use Rattle.std.proofs.Common.{◌≡◌, ◌∙◌, ◌/◌, nat_le, sym, arith}
+use Rattle.std.proofs.Common.{◌∙◌, ◌/◌, nat_le, sym, arith}
 use Rattle.layer_image.proofs.Places.{more_digits, no_more_digits}
 use Rattle.layer_image.proofs.length.has_more_digits.Goals as goal
 

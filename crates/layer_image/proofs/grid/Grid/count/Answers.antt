@@ -1,4 +1,4 @@
-use Rattle.std.proofs.Common.{◌≡◌, ◌*◌, sym, ◌∙◌}
+use Rattle.std.proofs.Common.{◌*◌, sym, ◌∙◌}
 use Rattle.layer_image.proofs.Grids.{count_copies}
 use Rattle.layer_image.proofs.grid.Grid.count.Goals as goal
 

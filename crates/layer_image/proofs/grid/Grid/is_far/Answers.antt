@@ -1,6 +1,5 @@
 -- A copy is far just where one at the ends is.
-use Rattle.std.proofs.Common.{◌≡◌, ◌≤◌, ◌^◌, ◌∙◌, ◌||◌, sym, ap, arith, suc, ◌-◌, ◌+ℤ◌, ◌*ℤ◌, pos, unsigned_abs, ℤ, ℕ, to_z, of_z}
-use mir.Syntax.{w128}
+use Rattle.std.proofs.Common.{◌∙◌, ◌||◌, sym, arith, ◌-◌}
 use Rattle.grid_units.specs.Numbers.{is_far}
 use Rattle.layer_image.proofs.Grids.{far_copies, no_columns, no_rows, back_128, back_steps}
 use Rattle.layer_image.proofs.grid.Grid.is_far.Goals as goal

@@ -1,5 +1,5 @@
 -- Each length is that of the number that is named, else of the last one.
-use Rattle.std.proofs.Common.{rules, arith, ◌≡◌, ◌≤◌, ◌^◌, unsigned_abs, ℤ, ℕ, FitsSigned, to_z, of_z, ◌∙◌, sym, ap, unwrap_or, Option}
+use Rattle.std.proofs.Common.{rules, arith, ◌≡◌, ◌≤◌, ◌^◌, unsigned_abs, ℤ, ℕ, FitsSigned, to_z, of_z, ◌∙◌, ap, unwrap_or, Option}
 use Rattle.std.proofs.lemmas.Int.{to_z-of_z}
 use mir.Syntax.{w128, w64}
 use Rattle.grid_units.specs.declared.lengths.Unit.{Unit as Units}

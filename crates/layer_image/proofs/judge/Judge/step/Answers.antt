@@ -1,6 +1,6 @@
 -- The command breaks no rule, so the judge that took it in knows one command more.
-use Rattle.std.proofs.Common.{◌≡◌, List, length, sym, ◌∙◌, None, Some}
-use Rattle.layer_image.specs.Rules.{broken_rule, first_broken}
+use Rattle.std.proofs.Common.{◌≡◌, length, sym, ◌∙◌, None}
+use Rattle.layer_image.specs.Rules.{first_broken}
 use Rattle.layer_image.specs.Knows.{told}
 use Rattle.layer_image.proofs.Knowing.{knows_more, same_rule}
 use Rattle.layer_image.proofs.judge.Judge.step.Goals as goal

@@ -1,5 +1,5 @@
 -- What breaks no rule does not reach too far, and has no size out of its range.
-use Rattle.std.proofs.Common.{◌≡◌, ◌∙◌, ap, sym, subst, length, None, false}
+use Rattle.std.proofs.Common.{◌≡◌, sym, subst, length, false}
 use Rattle.gerber_rows.specs.declared.command.Command.{Command}
 use Rattle.layer_image.specs.Rules.{reaches_too_far, sizes_badly}
 use Rattle.layer_image.specs.Knows.{told, Takes}

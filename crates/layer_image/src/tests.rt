@@ -1,0 +1,557 @@
+//! Layers that are read, and why others are refused.
+
+use crate::{Flash, What, Why, read_layer};
+use grid_units::{Fail, Fault, Point, Reason};
+use pad_shapes::{Disc, Obround, Pad, Rect};
+use std::alloc::{AllocError, Global};
+use std::test::Fail as TestFail;
+
+/// A format, a unit, an aperture, its selection, a flash and the end: items at the bytes 0, 14, 22, 37, 42 and 51.
+const LAYER: [&[u8]; 6] = [
+    b"%FSLAX46Y46*%\n",
+    b"%MOMM*%\n",
+    b"%ADD10C,0.65*%\n",
+    b"D10*\n",
+    b"X0Y0D03*\n",
+    b"M02*\n",
+];
+
+/// The text of some lines.
+fn joined(alloc: Global, lines: &[&[u8]]) -> Result<Vec<u8>, AllocError> {
+    let mut text = Vec::new(alloc);
+    for line in lines {
+        text.extend_from_slice(line)?;
+    }
+    Ok(text)
+}
+
+/// The layer above, with this text in place of one of its lines.
+fn with(alloc: Global, place: usize, line: &[u8]) -> Result<Vec<u8>, AllocError> {
+    let mut text = Vec::new(alloc);
+    for (i, old) in LAYER.iter().enumerate() {
+        if i + 1 == place {
+            text.extend_from_slice(line)?;
+        } else {
+            text.extend_from_slice(old)?;
+        }
+    }
+    Ok(text)
+}
+
+/// The first bytes of a text, at most so many.
+fn front(text: &[u8], count: usize) -> &[u8] {
+    &text[..count.min(text.len())]
+}
+
+/// The fault of a text, if it has one.
+fn fault_of(alloc: Global, text: &[u8]) -> Option<Fail> {
+    match read_layer(alloc, text) {
+        Ok(_) => None,
+        Err(fail) => Some(fail),
+    }
+}
+
+fn refused(place: u64, byte: u64, reason: Reason) -> Option<Fail> {
+    Some(Fail::Refused(Fault {
+        place,
+        byte,
+        reason,
+    }))
+}
+
+/// A flash of a disc, all in pm.
+fn disc(x: i64, y: i64, radius: i64) -> Result<Flash, TestFail> {
+    let at = Point::new(x, y).ok_or("point")?;
+    let disc = Disc::new(at, radius).ok_or("disc")?;
+    Ok(Flash {
+        at,
+        what: What::Pad(Pad::Disc(disc)),
+    })
+}
+
+/// Whether the flashes of a text are these, and the pads those among them.
+fn flashes(alloc: Global, text: &[u8], flashes: &[Flash]) -> bool {
+    match read_layer(alloc, text) {
+        Ok(layer) => layer.flashes() == flashes && layer.pads().len() == flashes.len(),
+        Err(_) => false,
+    }
+}
+
+/// Whether the layer has one flash, which leaves this.
+fn leaves(alloc: Global, text: &[u8], what: What) -> bool {
+    match read_layer(alloc, text) {
+        Ok(layer) => match layer.flashes() {
+            [flash] => flash.what == what,
+            _ => false,
+        },
+        Err(_) => false,
+    }
+}
+
+/// How many flashes and pads a text has.
+fn counts(alloc: Global, text: &[u8]) -> Option<(usize, usize)> {
+    match read_layer(alloc, text) {
+        Ok(layer) => Some((layer.flashes().len(), layer.pads().len())),
+        Err(_) => None,
+    }
+}
+
+#[test]
+fn a_layer_with_one_pad(rt: HostRuntime) -> Result<(), TestFail> {
+    let alloc = rt.alloc();
+    let text = joined(alloc, &LAYER)?;
+    let layer = read_layer(alloc, &text).map_err(|_| "refused")?;
+    assert_eq!(rt; layer.commands().len(), 6);
+    assert_eq!(rt; layer.flashes(), [disc(0, 0, 325_000_000)?].as_slice());
+    assert_eq!(rt; layer.pads().len(), 1);
+    assert!(rt; layer.file_function().is_none());
+    Ok(())
+}
+
+#[test]
+fn cut_layers_are_truncated(rt: HostRuntime) -> Result<(), TestFail> {
+    let alloc = rt.alloc();
+    let text = joined(alloc, &LAYER)?;
+    assert_eq!(rt;
+        fault_of(alloc, front(&text, 51)),
+        refused(6, 51, Reason::Truncated)
+    );
+    assert_eq!(rt;
+        fault_of(alloc, front(&text, 33)),
+        refused(3, 22, Reason::Truncated)
+    );
+    assert_eq!(rt; fault_of(alloc, &[]), refused(1, 0, Reason::Truncated));
+    assert_eq!(rt;
+        fault_of(alloc, front(&text, 21)),
+        refused(3, 21, Reason::Truncated)
+    );
+    assert_eq!(rt;
+        fault_of(alloc, front(&text, 22)),
+        refused(3, 22, Reason::Truncated)
+    );
+    assert_eq!(rt;
+        fault_of(alloc, front(&text, 23)),
+        refused(3, 22, Reason::Truncated)
+    );
+    assert!(rt; fault_of(alloc, front(&text, 55)).is_none());
+    for n in 0..55 {
+        let truncated = match fault_of(alloc, front(&text, n)) {
+            Some(Fail::Refused(fault)) => fault.reason == Reason::Truncated,
+            _ => false,
+        };
+        assert!(rt; truncated);
+    }
+    Ok(())
+}
+
+#[test]
+fn the_current_point_is_kept(rt: HostRuntime) -> Result<(), TestFail> {
+    let alloc = rt.alloc();
+    let both = [
+        disc(1_000_000_000, 2_000_000_000, 325_000_000)?,
+        disc(3_000_000_000, 2_000_000_000, 325_000_000)?,
+    ];
+    let moved = with(alloc, 5, b"X1000000Y2000000D02*\nD03*\nX3000000D03*\n")?;
+    assert!(rt; flashes(alloc, &moved, &both));
+    let drawn = with(
+        alloc,
+        5,
+        b"X1000000Y2000000D02*\nD03*\nX3000000D03*\nG01X1000000D01*\nX0*\n",
+    )?;
+    assert!(rt; flashes(alloc, &drawn, &both));
+    let bare = with(alloc, 6, b"X6*\nM02*\n")?;
+    assert_eq!(rt;
+        fault_of(alloc, &bare),
+        refused(6, 51, Reason::BareCoordinate)
+    );
+    Ok(())
+}
+
+#[test]
+fn layers_without_a_flash(rt: HostRuntime) -> Result<(), TestFail> {
+    let alloc = rt.alloc();
+    assert_eq!(rt; fault_of(alloc, b"M02*"), refused(1, 0, Reason::NoFormat));
+    let text = joined(alloc, &[LAYER[0], LAYER[1], LAYER[5]])?;
+    assert_eq!(rt; counts(alloc, &text), Some((0, 0)));
+    Ok(())
+}
+
+#[test]
+fn what_stands_behind_the_end(rt: HostRuntime) -> Result<(), TestFail> {
+    let alloc = rt.alloc();
+    assert_eq!(rt;
+        fault_of(alloc, &with(alloc, 6, b"M02*\nX0D03*\n")?),
+        refused(7, 56, Reason::AfterEnd)
+    );
+    assert_eq!(rt; counts(alloc, &with(alloc, 6, b"M02*\n*  ")?), Some((1, 1)));
+    Ok(())
+}
+
+#[test]
+fn lengths_beyond_ten_metres(rt: HostRuntime) -> Result<(), TestFail> {
+    let alloc = rt.alloc();
+    let long = with(alloc, 5, b"X10000000000Y0D03*\n")?;
+    assert_eq!(rt;
+        fault_of(alloc, &long),
+        refused(5, 42, Reason::TooManyDigits)
+    );
+    let fine = with(alloc, 3, b"%ADD10C,0.123456789*%\n")?;
+    assert_eq!(rt; fault_of(alloc, &fine), refused(3, 22, Reason::TooFine));
+    let far = joined(
+        alloc,
+        &[
+            LAYER[0],
+            b"%MOIN*%\n",
+            LAYER[2],
+            LAYER[3],
+            b"X393800000Y0D03*\n",
+            LAYER[5],
+        ],
+    )?;
+    assert_eq!(rt; fault_of(alloc, &far), refused(5, 42, Reason::TooFar));
+    let near = joined(
+        alloc,
+        &[
+            LAYER[0],
+            b"%MOIN*%\n",
+            LAYER[2],
+            LAYER[3],
+            b"X393700000Y0D03*\n",
+            LAYER[5],
+        ],
+    )?;
+    assert_eq!(rt; counts(alloc, &near), Some((1, 1)));
+    Ok(())
+}
+
+#[test]
+fn inches(rt: HostRuntime) -> Result<(), TestFail> {
+    let alloc = rt.alloc();
+    let text = b"%FSLAX24Y24*%\n%MOIN*%\n%ADD10C,0.0256*%\nD10*\nX1000Y0D03*\nM02*\n";
+    assert!(rt;
+        flashes(
+            alloc,
+            text.as_slice(),
+            &[disc(2_540_000_000, 0, 325_120_000)?]
+        )
+    );
+    Ok(())
+}
+
+#[test]
+fn an_early_rule_before_a_late_item(rt: HostRuntime) -> Result<(), TestFail> {
+    let alloc = rt.alloc();
+    let unknown = with(alloc, 4, b"D11*\n")?;
+    assert_eq!(rt;
+        fault_of(alloc, &unknown),
+        refused(4, 37, Reason::UnknownAperture)
+    );
+    let both = joined(
+        alloc,
+        &[
+            LAYER[0],
+            LAYER[1],
+            LAYER[2],
+            b"D11*\n",
+            b"%LPC*%\n",
+            LAYER[4],
+            LAYER[5],
+        ],
+    )?;
+    assert_eq!(rt;
+        fault_of(alloc, &both),
+        refused(4, 37, Reason::UnknownAperture)
+    );
+    let clear = with(alloc, 5, b"%LPC*%\nX0Y0D03*\n")?;
+    assert_eq!(rt;
+        fault_of(alloc, &clear),
+        refused(5, 42, Reason::ClearPolarity)
+    );
+    Ok(())
+}
+
+#[test]
+fn flashes_that_are_no_pads(rt: HostRuntime) -> Result<(), TestFail> {
+    let alloc = rt.alloc();
+    assert!(rt;
+        flashes(
+            alloc,
+            &with(alloc, 3, b"%ADD10C,0.65X0*%\n")?,
+            &[disc(0, 0, 325_000_000)?]
+        )
+    );
+    assert!(rt;
+        leaves(
+            alloc,
+            &with(alloc, 3, b"%ADD10C,0.65X0.2*%\n")?,
+            What::Other(Why::Holed)
+        )
+    );
+    assert!(rt;
+        leaves(
+            alloc,
+            &with(alloc, 3, b"%ADD10P,1X6*%\n")?,
+            What::Other(Why::Polygon)
+        )
+    );
+    assert!(rt;
+        leaves(
+            alloc,
+            &with(alloc, 3, b"%ADD10P,1X6X0X0.2*%\n")?,
+            What::Other(Why::Polygon)
+        )
+    );
+    assert!(rt;
+        leaves(
+            alloc,
+            &with(alloc, 5, b"%LS2*%\nX0Y0D03*\n")?,
+            What::Other(Why::Scaled)
+        )
+    );
+    assert!(rt;
+        leaves(
+            alloc,
+            &with(alloc, 5, b"%LR45*%\nX0Y0D03*\n")?,
+            What::Other(Why::Turned)
+        )
+    );
+    assert!(rt;
+        leaves(
+            alloc,
+            &with(alloc, 5, b"%LR90.00000001*%\nX0Y0D03*\n")?,
+            What::Other(Why::Turned)
+        )
+    );
+    assert!(rt;
+        leaves(
+            alloc,
+            &with(alloc, 3, b"%AMa*21,1,1,1,0,0,0*%\n%ADD10a*%\n")?,
+            What::Other(Why::Macro)
+        )
+    );
+    let holed = with(alloc, 3, b"%LS2*%\n%LR45*%\n%ADD10R,1X1X0.5*%\n")?;
+    assert!(rt; leaves(alloc, &holed, What::Other(Why::Holed)));
+    Ok(())
+}
+
+#[test]
+fn sides_after_turns(rt: HostRuntime) -> Result<(), TestFail> {
+    let alloc = rt.alloc();
+    let at = Point::new(0, 0).ok_or("point")?;
+    let upright = Rect::new(at, 350_000_000, 1_000_000_000).ok_or("rect")?;
+    let lying = Rect::new(at, 1_000_000_000, 350_000_000).ok_or("rect")?;
+    let obround = Obround::new(at, 500_000_000, 1_000_000_000).ok_or("obround")?;
+    assert!(rt;
+        leaves(
+            alloc,
+            &with(alloc, 3, b"%LR-90*%\n%ADD10R,2X0.7*%\n")?,
+            What::Pad(Pad::Rect(upright))
+        )
+    );
+    assert!(rt;
+        leaves(
+            alloc,
+            &with(alloc, 3, b"%LR90*%\n%ADD10R,2X0.7*%\n")?,
+            What::Pad(Pad::Rect(upright))
+        )
+    );
+    assert!(rt;
+        leaves(
+            alloc,
+            &with(alloc, 3, b"%LR180*%\n%ADD10R,2X0.7*%\n")?,
+            What::Pad(Pad::Rect(lying))
+        )
+    );
+    assert!(rt;
+        leaves(
+            alloc,
+            &with(alloc, 3, b"%LR270*%\n%LMXY*%\n%ADD10O,2X1*%\n")?,
+            What::Pad(Pad::Obround(obround))
+        )
+    );
+    Ok(())
+}
+
+#[test]
+fn copies_in_blocks(rt: HostRuntime) -> Result<(), TestFail> {
+    let alloc = rt.alloc();
+    let six = [
+        disc(0, 0, 325_000_000)?,
+        disc(0, 2_000_000_000, 325_000_000)?,
+        disc(1_000_000_000, 0, 325_000_000)?,
+        disc(1_000_000_000, 2_000_000_000, 325_000_000)?,
+        disc(2_000_000_000, 0, 325_000_000)?,
+        disc(2_000_000_000, 2_000_000_000, 325_000_000)?,
+    ];
+    assert!(rt; flashes(alloc, &with(alloc, 5, b"%SRX3Y2I1J2*%\nX0Y0D03*\n")?, &six));
+    let two = [
+        disc(0, 0, 325_000_000)?,
+        disc(5_000_000_000, 0, 325_000_000)?,
+    ];
+    assert!(rt;
+        flashes(
+            alloc,
+            &with(alloc, 5, b"%SRX2Y1I5.0J0*%\nX0Y0D03*\n%SR*%\n")?,
+            &two
+        )
+    );
+    assert!(rt;
+        flashes(
+            alloc,
+            &with(alloc, 5, b"%SRX2Y1I5.0J0*%\nX0Y0D03*\n")?,
+            &two
+        )
+    );
+    let one = [disc(0, 0, 325_000_000)?];
+    assert!(rt; flashes(alloc, &with(alloc, 5, b"%SR*%\nX0Y0D03*\n")?, &one));
+    assert!(rt;
+        flashes(
+            alloc,
+            &with(alloc, 5, b"%SRX2Y1I5J0*%\n%SRX1Y1I0J0*%\nX0Y0D03*\n")?,
+            &one
+        )
+    );
+    Ok(())
+}
+
+#[test]
+fn blocks_out_of_range(rt: HostRuntime) -> Result<(), TestFail> {
+    let alloc = rt.alloc();
+    let rows: [(&[u8], Reason); 5] = [
+        (b"%SRX0Y1I0J0*%\nX0Y0D03*\n", Reason::BadRepeat),
+        (b"%SRX2Y1I-1J0*%\nX0Y0D03*\n", Reason::BadRepeat),
+        (b"%SRX10001Y1I0J0*%\n", Reason::BadRepeat),
+        (b"%SRX2147483647Y1I1J0*%\nX0Y0D03*\n", Reason::BadRepeat),
+        (b"%SRX2147483648Y1I1J0*%\nX0Y0D03*\n", Reason::BadNumber),
+    ];
+    for (line, reason) in rows {
+        assert_eq!(rt;
+            fault_of(alloc, &with(alloc, 5, line)?),
+            refused(5, 42, reason)
+        );
+    }
+    let many = with(alloc, 5, b"%SRX10000Y10000I1J1*%\nX0Y0D03*\n")?;
+    assert_eq!(rt; fault_of(alloc, &many), refused(6, 64, Reason::TooManyPads));
+    let far = with(alloc, 5, b"%SRX2Y1I999999J0*%\nX0Y0D03*\n")?;
+    assert_eq!(rt; fault_of(alloc, &far), refused(6, 61, Reason::TooFar));
+    assert_eq!(rt;
+        counts(
+            alloc,
+            &with(alloc, 5, b"%SRX1Y1I999999J999999*%\nX0Y0D03*\n")?
+        ),
+        Some((1, 1))
+    );
+    assert_eq!(rt;
+        counts(alloc, &with(alloc, 5, b"%SRX10000Y1I0J0*%\nX0Y0D03*\n")?),
+        Some((10_000, 10_000))
+    );
+    Ok(())
+}
+
+#[test]
+fn as_many_flashes_as_the_limit(rt: HostRuntime) -> Result<(), TestFail> {
+    let alloc = rt.alloc();
+    let full = with(alloc, 5, b"%SRX2048Y2048I0J0*%\nX0Y0D03*\n")?;
+    assert_eq!(rt; counts(alloc, &full), Some((4_194_304, 4_194_304)));
+    let more = with(alloc, 5, b"%SRX2048Y2048I0J0*%\nX0Y0D03*\n%SR*%\nD03*\n")?;
+    assert_eq!(rt; fault_of(alloc, &more), refused(8, 77, Reason::TooManyPads));
+    Ok(())
+}
+
+#[test]
+fn rules_that_are_broken(rt: HostRuntime) -> Result<(), TestFail> {
+    let alloc = rt.alloc();
+    let rows: [(usize, &[u8], u64, u64, Reason); 19] = [
+        (5, b"G36*\nX0Y0D03*\n", 6, 47, Reason::InRegion),
+        (6, b"G36*\nM02*\n", 7, 56, Reason::InRegion),
+        (6, b"G36*\nG36*\n", 7, 56, Reason::InRegion),
+        (6, b"G36*\n%TAa*%\n", 7, 56, Reason::InRegion),
+        (6, b"G36*\n%TD*%\n", 7, 56, Reason::InRegion),
+        (6, b"G36*\nX10000000000D03*\n", 7, 56, Reason::InRegion),
+        (5, b"G37*\n", 5, 42, Reason::NotInRegion),
+        (5, b"%MOIN*%\n", 5, 42, Reason::UnitConflict),
+        (5, b"%FSLAX24Y24*%\n", 5, 42, Reason::FormatConflict),
+        (5, b"%ADD10C,1*%\n", 5, 42, Reason::Redefined),
+        (5, b"%AMa*%\n%AMa*%\n", 6, 49, Reason::Redefined),
+        (5, b"%ADD11a*%\n", 5, 42, Reason::UnknownMacro),
+        (5, b"%ADD11C0.5*%\n", 5, 42, Reason::UnknownMacro),
+        (4, b"X0Y0D03*\n", 4, 37, Reason::NoAperture),
+        (4, b"X0Y0D01*\n", 4, 37, Reason::NoAperture),
+        (3, b"%ADD10C,-1*%\n", 3, 22, Reason::BadSize),
+        (3, b"%ADD10R,1X0*%\n", 3, 22, Reason::BadSize),
+        (3, b"%ADD10P,1X13*%\n", 3, 22, Reason::BadSize),
+        (5, b"%LS0*%\n", 5, 42, Reason::BadSize),
+    ];
+    for (line, text, place, byte, reason) in rows {
+        assert_eq!(rt;
+            fault_of(alloc, &with(alloc, line, text)?),
+            refused(place, byte, reason)
+        );
+    }
+    let no_unit = joined(alloc, &[LAYER[0], b"X0D02*\n", LAYER[1]])?;
+    assert_eq!(rt; fault_of(alloc, &no_unit), refused(2, 14, Reason::NoUnit));
+    Ok(())
+}
+
+#[test]
+fn what_breaks_no_rule(rt: HostRuntime) -> Result<(), TestFail> {
+    let alloc = rt.alloc();
+    let rows: [(usize, &[u8], (usize, usize)); 8] = [
+        (5, b"X0Y0D03*\n%MOMM*%\n%FSLAX46Y46*%\n", (1, 1)),
+        (
+            5,
+            b"G36*\n*G90*%IPPOS*%G04 a*X0Y0D02*G75*G03X1I1J1D01*G37*\n",
+            (0, 0),
+        ),
+        (3, b"%ADD10C,0*%\n", (1, 1)),
+        (3, b"%ADD10C,10001X0.1*%\n", (1, 0)),
+        (3, b"%LS2*%\n%ADD10C,10001*%\n", (1, 0)),
+        (3, b"%ADD10C,1*%\n%ADD11C,10001*%\n", (1, 1)),
+        (3, b"%ADD10P,1X12*%\n", (1, 0)),
+        (3, b"%AMa*%\n%ADD11a*%\n%ADD10C,1*%\n", (1, 1)),
+    ];
+    for (line, text, expected) in rows {
+        assert_eq!(rt; counts(alloc, &with(alloc, line, text)?), Some(expected));
+    }
+    let far = with(alloc, 3, b"%ADD10C,10001*%\n")?;
+    assert_eq!(rt; fault_of(alloc, &far), refused(5, 43, Reason::TooFar));
+    Ok(())
+}
+
+#[test]
+fn file_functions(rt: HostRuntime) -> Result<(), TestFail> {
+    let alloc = rt.alloc();
+    let rows: [(&[u8], Option<&[u8]>); 9] = [
+        (
+            b"%TF.FileFunction,Copper,L1,Top*%\n",
+            Some(b"Copper,L1,Top"),
+        ),
+        (
+            b"G04 #@! TF.FileFunction,Copper,L1,Top*\n",
+            Some(b"Copper,L1,Top"),
+        ),
+        (
+            b"G04   #@! TF.FileFunction,Soldermask*\n",
+            Some(b"Soldermask"),
+        ),
+        (b"%TF.FileFunction*%\n", Some(b"")),
+        (b"%TF.FileFunctions,Legend*%\n", None),
+        (b"%TA.FileFunction,Copper*%\n", None),
+        (b"G04\t#@! TF.FileFunction,Copper*\n", None),
+        (
+            b"%TF.FileFunction,Soldermask*%\nG04 #@! TF.FileFunction,Copper*\n",
+            Some(b"Copper"),
+        ),
+        (
+            b"%TF.FileFunction,Copper*%\n%TD.FileFunction*%\n",
+            Some(b"Copper"),
+        ),
+    ];
+    for (line, expected) in rows {
+        let layer = read_layer(alloc, &with(alloc, 1, &joined(alloc, &[line, LAYER[0]])?)?).map_err(
+            |_| "refused",
+        )?;
+        assert_eq!(rt; layer.file_function(), expected);
+    }
+    Ok(())
+}

@@ -1,0 +1,17 @@
+use Rattle.std.proofs.Common.{map}
+use Rattle.ringcheck.specs.Package.{source_of}
+use Rattle.ringcheck.proofs.Gathering.{sums_length}
+use Rattle.ringcheck.proofs.Checking.{refused_file, reported}
+use Rattle.ringcheck.proofs.program.answer.Goals as goal
+
+pub returns-in-Err-File : goal.returns-in-Err-File
+returns-in-Err-File g c =
+    refused_file (map source_of c.args.files.now) c.args.rules _ _ (c.in-Err-File.index, c.in-Err-File.fault) c.say_made.result (rw c.in-Err-File.field-0-is at c.in-Err-File.ensures.exact) c.say_made.ensures
+
+pub returns : goal.returns
+returns g c =
+    reported (map source_of c.args.files.now) c.args.rules _ _ c.in-Ok.report c.say_status-2.result c.in-Ok.ensures.exact c.in-Ok.ensures.sound
+    (rw (c.as_slice.ensures.value, c.in-Ok-write_report.ensures, c.status_of-status.ensures) at c.say_status-2.ensures)
+
+pub write_report-requires : goal.write_report-requires
+write_report-requires g c = sums_length c.args.files.now c.args.rules c.in-Ok.report c.in-Ok.ensures.exact

@@ -1,0 +1,85 @@
+-- What a loader has under names, and what a run says over it.
+use Rattle.std.specs.Prelude.{◌≡◌, ◌<◌, ◌⊎◌, ℕ, List, [], ◌∷◌, length, Result, Ok, Err, ⊤, Option}
+use Rattle.std.specs.List.{Contains}
+use Rattle.std.specs.Io.KnownBytes.{Appends}
+use Rattle.grid_units.specs.Holes.{GridRules}
+use Rattle.grid_units.specs.declared.fault.Fault.{Fault}
+use Rattle.grid_units.specs.declared.fault.Reason.{Reason}
+use Rattle.manifest.specs.declared.Entry.{Entry}
+use Rattle.manifest.specs.Manifest.{manifest}
+use Rattle.ringcheck.specs.declared.Status.{Status}
+use Rattle.ringcheck.specs.declared.Status.TheVariants as status
+use Rattle.ringcheck.specs.Reports.{Account}
+use Rattle.ringcheck.specs.Package.{Source, IsAnswer}
+use Rattle.ringcheck.specs.Soundness.{IsSound}
+use Rattle.ringcheck.specs.Texts.{report_text}
+
+-- the bytes that a loader may have under a name (docs/DEFINITIONS.md, Runs)
+abbrev pub Relation : Type 1
+Relation = List ℕ → List ℕ → Type 0
+
+-- the files that a manifest's entries and their bytes make (docs/DEFINITIONS.md, Runs)
+abbrev pub sources : List Entry → List (List ℕ) → List Source
+sources [] bytes = []
+sources (entry ∷ entries) [] = []
+sources (entry ∷ entries) (bytes ∷ rest) = record { role = entry.role; name = entry.name; bytes = bytes } ∷ sources entries rest
+
+-- the loader has these bytes for the files of these entries, one by one (docs/DEFINITIONS.md, Runs)
+abbrev pub HasFiles : Relation → List Entry → List (List ℕ) → Type 0
+HasFiles has [] [] = ⊤
+HasFiles has [] (bytes ∷ rest) = ⊥
+HasFiles has (entry ∷ entries) [] = ⊥
+HasFiles has (entry ∷ entries) (bytes ∷ rest) = has entry.file bytes × HasFiles has entries rest
+
+-- the most bytes of a file (docs/FORMATS.md, Limits)
+abbrev pub file_limit : ℕ
+file_limit = 268435456
+
+-- the most bytes of a manifest (docs/FORMATS.md, Limits)
+abbrev pub manifest_limit : ℕ
+manifest_limit = 1048576
+
+-- the manifest and the files of a package, as the loader has them (docs/DEFINITIONS.md, Runs)
+pub record HasPackage (has : Relation) (name : List ℕ) (entries : List Entry) (files : List (List ℕ)) : Type 0 where
+  pub text : List ℕ
+  pub held : has name text
+  pub names : manifest text ≡ Ok entries
+  pub loaded : HasFiles has entries files
+
+-- a package that the loader has, whose report the writer got (docs/DEFINITIONS.md, Runs)
+pub record Reported (has : Relation) (name : List ℕ) (rules : GridRules) (before after : Option (List ℕ)) (report : Account) : Type 0 where
+  pub entries : List Entry
+  pub files : List (List ℕ)
+  pub held : HasPackage has name entries files
+  pub answer : IsAnswer (sources entries files) rules (Ok report)
+  pub written : Appends before after (report_text (sources entries files) report)
+
+-- The same of a package that passes: nothing was found, and the package is sound (docs/DEFINITIONS.md, Runs).
+pub record Passed (has : Relation) (name : List ℕ) (rules : GridRules) (before after : Option (List ℕ)) : Type 0 where
+  pub report : Account
+  pub reported : Reported has name rules before after report
+  pub passes : report.findings ≡ []
+  pub sound : IsSound (sources reported.entries reported.files) rules
+
+-- Bytes that the loader has are refused: those of the manifest for their length or their records, those of a file for
+-- their length, or the package for a file (docs/DEFINITIONS.md, Runs).
+pub data RefusedIn (has : Relation) (name : List ℕ) (rules : GridRules) : Type 0 where
+  long_manifest : (text : List ℕ) → has name text → manifest_limit < length text → RefusedIn has name rules
+  bad_manifest : (text : List ℕ) (fault : Fault) → has name text → manifest text ≡ Err fault → RefusedIn has name rules
+  long_file : (text : List ℕ) (entries : List Entry) (entry : Entry) (bytes : List ℕ) → has name text → manifest text ≡ Ok entries
+      → Contains entries entry → has entry.file bytes → file_limit < length bytes → RefusedIn has name rules
+  bad_file : (entries : List Entry) (files : List (List ℕ)) (fault : ℕ × Fault) → HasPackage has name entries files
+      → IsAnswer (sources entries files) rules (Err fault) → RefusedIn has name rules
+
+-- what a status says of a check under rules that were named (docs/DEFINITIONS.md, Runs)
+abbrev pub Says : Relation → List ℕ → GridRules → Option (List ℕ) → Option (List ℕ) → Status → Type 0
+Says has name rules before after status.Pass = Passed has name rules before after
+Says has name rules before after status.Findings = (report : Account) × Reported has name rules before after report × (0 < length report.findings)
+Says has name rules before after status.Refused = RefusedIn has name rules
+Says has name rules before after status.Usage = ⊥
+Says has name rules before after status.Device = ⊤
+
+-- the same, of rules that two words name, or that they do not name (docs/DEFINITIONS.md, Runs)
+abbrev pub SaysOf : Relation → List ℕ → Result GridRules Reason → Option (List ℕ) → Option (List ℕ) → Status → Type 0
+SaysOf has name (Ok rules) before after s = Says has name rules before after s
+SaysOf has name (Err why) before after s = (s ≡ status.Usage) ⊎ (s ≡ status.Device)

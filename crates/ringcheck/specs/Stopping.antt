@@ -1,0 +1,73 @@
+-- Why a package was not loaded or not checked, and the status that tells of it.
+use Rattle.std.specs.Prelude.{◌≡◌, ◌<◌, ◌⊎◌, ℕ, List, [], ◌∷◌, length, Ok, Err, ⊤, Option}
+use Rattle.std.specs.List.{Contains}
+use Rattle.std.specs.Io.KnownBytes.{Appends}
+use Rattle.grid_units.specs.Holes.{GridRules}
+use Rattle.grid_units.specs.declared.fault.Fault.{Fault}
+use Rattle.manifest.specs.declared.Entry.{Entry}
+use Rattle.manifest.specs.Manifest.{manifest}
+use Rattle.ring_rules.specs.declared.finding.Finding.{Finding}
+use Rattle.ringcheck.specs.declared.Status.{Status}
+use Rattle.ringcheck.specs.declared.Status.TheVariants as status
+use Rattle.ringcheck.specs.declared.loading_files.Stop.{Stop}
+use Rattle.ringcheck.specs.declared.loading_files.Stop.TheVariants as stop
+use Rattle.ringcheck.specs.Reports.{Account}
+use Rattle.ringcheck.specs.Package.{Source, IsAnswer}
+use Rattle.ringcheck.specs.Soundness.{IsSound}
+use Rattle.ringcheck.specs.Texts.{report_text}
+use Rattle.ringcheck.specs.Running.{Relation, manifest_limit, file_limit}
+
+-- bytes of a manifest that are refused (docs/DEFINITIONS.md, Runs)
+abbrev pub RefusedManifest : Relation → List ℕ → Type 0
+RefusedManifest has name = (text : List ℕ) × has name text × ((manifest_limit < length text) ⊎ ((fault : Fault) × (manifest text ≡ Err fault)))
+
+-- a file above its limit (docs/DEFINITIONS.md, Runs)
+abbrev pub LongFile : Relation → List Entry → Type 0
+LongFile has entries = (entry : Entry) × Contains entries entry × (bytes : List ℕ) × has entry.file bytes × (file_limit < length bytes)
+
+-- what a stop says of the bytes that the loader has for a manifest (docs/DEFINITIONS.md, Runs)
+abbrev pub StopsManifest : Relation → List ℕ → Stop → Type 0
+StopsManifest has name (stop.Manifest place reason) = RefusedManifest has name
+StopsManifest has name (stop.LongFile index) = ⊥
+StopsManifest has name stop.Memory = ⊤
+StopsManifest has name stop.Device = ⊤
+StopsManifest has name (stop.DeviceFile index) = ⊤
+
+-- and for the files of its entries (docs/DEFINITIONS.md, Runs)
+abbrev pub StopsFiles : Relation → List Entry → Stop → Type 0
+StopsFiles has entries (stop.LongFile index) = LongFile has entries
+StopsFiles has entries (stop.Manifest place reason) = ⊥
+StopsFiles has entries stop.Memory = ⊤
+StopsFiles has entries stop.Device = ⊤
+StopsFiles has entries (stop.DeviceFile index) = ⊤
+
+-- a stop that is a refusal (docs/DEFINITIONS.md, Runs)
+abbrev pub IsRefusal : Stop → Type 0
+IsRefusal (stop.Manifest place reason) = ⊤
+IsRefusal (stop.LongFile index) = ⊤
+IsRefusal stop.Memory = ⊥
+IsRefusal stop.Device = ⊥
+IsRefusal (stop.DeviceFile index) = ⊥
+
+-- the status that tells of a stop (docs/DEFINITIONS.md, Runs)
+abbrev pub TellsOf : Stop → Status → Type 0
+TellsOf s status.Pass = ⊥
+TellsOf s status.Findings = ⊥
+TellsOf s status.Refused = IsRefusal s
+TellsOf s status.Usage = ⊥
+TellsOf s status.Device = ⊤
+
+-- the status of a report (docs/DEFINITIONS.md, Runs)
+abbrev pub status_of : List Finding → Status
+status_of [] = status.Pass
+status_of (finding ∷ findings) = status.Findings
+
+-- what a status says of the check of files that are at hand (docs/DEFINITIONS.md, Runs)
+abbrev pub Answered : List Source → GridRules → Option (List ℕ) → Option (List ℕ) → Status → Type 0
+Answered all rules before after status.Pass =
+    (report : Account) × IsAnswer all rules (Ok report) × Appends before after (report_text all report) × (report.findings ≡ []) × IsSound all rules
+Answered all rules before after status.Findings =
+    (report : Account) × IsAnswer all rules (Ok report) × Appends before after (report_text all report) × (0 < length report.findings)
+Answered all rules before after status.Refused = (fault : ℕ × Fault) × IsAnswer all rules (Err fault)
+Answered all rules before after status.Usage = ⊥
+Answered all rules before after status.Device = ⊤
