@@ -41,7 +41,7 @@ pub(crate) struct Progress {
 fn line_len(bytes: &[u8]) -> usize
     ensures within { result ≤ length bytes.now }
     ensures inside { All (λ b. b ≢ 10) (take result bytes.now) }
-    ensures stops { 0 < length bytes.now → result ≡ 0 → slice_index bytes.now 0 ≡ 10 }
+    ensures stops { result < length bytes.now → slice_index bytes.now result ≡ 10 }
 {
     for (i, byte) in bytes.iter().enumerate() {
         if *byte == b'\n' {
@@ -90,7 +90,7 @@ fn spell(
 }
 
 impl Progress {
-    ghost use Rattle.std.specs.Prelude.{[], ◌∷◌, List};
+    ghost use Rattle.std.specs.Prelude.{[], ◌∷◌, ◌++◌, List};
     ghost use Rattle.drill_text.specs.Standing.{Advances, Refuses, RefusesText, Holds};
 
     /// Adds bytes to the line.
@@ -131,6 +131,45 @@ impl Progress {
         Ok(())
     }
 
+    /// Reads a line that stands in the piece from its first byte to its LF.
+    fn read_whole(&mut self, line: &[u8]) -> Result<(), Fail>
+        requires empty { self.old.line.items ≡ [] }
+        requires inside { All (λ b. b ≢ 10) line.now }
+        requires short { length line.now ≤ 1048576 }
+        requires room { self.old.offset + length line.now < 268435456 }
+        ensures offset { OnOk result (self.new.offset ≡ self.old.offset + (length line.now + 1)) }
+        ensures ok { OnOk result (Advances self.old self.new (line.now ++ 10 ∷ [])) }
+        ensures err { IfErr result (Refuses self.old (line.now ++ 10 ∷ [])) }
+    {
+        spell(
+            self.alloc,
+            self.lines + 1,
+            self.start,
+            line,
+            &mut self.judge,
+            &mut self.commands,
+        )?;
+        self.lines += 1;
+        self.offset += line.len() as u64 + 1;
+        self.start = self.offset;
+        Ok(())
+    }
+
+    /// Adds bytes to the line and ends it with its LF.
+    fn take_line(&mut self, run: &[u8]) -> Result<(), Fail>
+        requires inside { All (λ b. b ≢ 10) run.now }
+        requires room { self.old.offset + length run.now < 268435456 }
+        ensures offset { OnOk result (self.new.offset ≡ self.old.offset + (length run.now + 1)) }
+        ensures ok { OnOk result (Advances self.old self.new (run.now ++ 10 ∷ [])) }
+        ensures err { IfErr result (Refuses self.old (run.now ++ 10 ∷ [])) }
+    {
+        if self.line.is_empty() && run.len() <= LINE_LIMIT {
+            return self.read_whole(run);
+        }
+        self.extend(run)?;
+        self.close()
+    }
+
     /// Takes some of the bytes, from the first on, and says how many.
     fn take_some(&mut self, bytes: &[u8]) -> Result<usize, Fail>
         requires some { 0 < length bytes.now }
@@ -140,11 +179,11 @@ impl Progress {
         ensures err { IfErr result (Refuses self.old bytes.now) }
     {
         let len = line_len(bytes);
-        if len == 0 {
-            self.close()?;
-            return Ok(1);
+        if len < bytes.len() {
+            self.take_line(&bytes[..len])?;
+            return Ok(len + 1);
         }
-        self.extend(&bytes[..len])?;
+        self.extend(bytes)?;
         Ok(len)
     }
 
