@@ -130,7 +130,7 @@ in_part p s c h t = absurd cc
 
 -- ---- bytes of a line
 
-numbers_solid : (xs : List ℕ) → list_all is_number xs ≡ true → list_all is_solid xs ≡ true
+pub numbers_solid : (xs : List ℕ) → list_all is_number xs ≡ true → list_all is_solid xs ≡ true
 numbers_solid xs h = all_weaker is_number is_solid solid_number xs h
 
 coordinate_solid : (letter : ℕ) (v : Option ℤ) → is_solid letter ≡ true → AreDecs v → list_all is_solid (coordinate_word letter v) ≡ true
@@ -258,7 +258,7 @@ line_short part.Body (Slot p q) h t = omega (arith, length-append (point_word p)
 line_short part.Body Finish h t = lit≤ tt
 line_short p c h t = absurd cc
 
-solid_no_break : (b : ℕ) → is_solid b ≡ true → not (eqb b 10) ≡ true
+pub solid_no_break : (b : ℕ) → is_solid b ≡ true → not (eqb b 10) ≡ true
 unfolding is_solid
 solid_no_break b h = (both_true (not (is_blank b)) (not (eqb b 10)) h).1
 

@@ -1,5 +1,5 @@
 -- The lines that drill: a hit at a point, a slot from one point to another.
-use Rattle.std.specs.Prelude.{◌≡◌, ℕ, ℤ, Bool, ◌||◌, ◌&&◌, ◌==◌, List, [], ◌∷◌, length, take, drop, if◌then◌else◌, Option, Some, None, unwrap_or, is_some, Result, Ok, Err, codes, take_while}
+use Rattle.std.specs.Prelude.{ℕ, ℤ, Bool, ◌||◌, ◌&&◌, ◌==◌, List, [], ◌∷◌, length, take, drop, if◌then◌else◌, Option, Some, None, unwrap_or, is_some, Result, Ok, Err, codes, take_while}
 use Rattle.std.specs.List.{list_any, prefix_len}
 use Rattle.std.specs.Str.{bytes_eq}
 use Rattle.grid_units.specs.declared.fault.Reason.{Reason}
@@ -80,15 +80,3 @@ drill_from settings from rest =
 -- a hit or a slot (docs/FORMATS.md, Drill lines)
 unfoldable pub drill_line : Settings → List ℕ → Result DrillCommand Reason
 drill_line settings line = drill_from settings (runs_of line).0 (runs_of line).1
-
--- ---- a hit by the short way
-
--- The letter stands there with a decimal that has a point, and behind that the rest (docs/FORMATS.md, Drill lines).
-pub record NamesDecimal (letter : ℕ) (v : ℤ) (rest bytes : List ℕ) : Type 0 where
-  pub run : List ℕ
-  pub is_field : field letter bytes ≡ (Some run, rest)
-  pub reads : (settings : Settings) → coordinate_of settings run ≡ Ok v
-
--- the line is a hit at this point, whatever the settings (docs/FORMATS.md, Drill lines)
-abbrev pub IsHit : Coordinates → List ℕ → Type 0
-IsHit point line = (settings : Settings) → drill_line settings line ≡ Ok (Hit point)

@@ -1,9 +1,9 @@
 //! The lines that drill: a hit at a point, a slot from one point to another.
 
-ghost use Rattle.std.specs.Prelude.{◌≡◌, IfSome};
+ghost use Rattle.std.specs.Prelude.{◌≡◌};
 ghost use Rattle.std.specs.Option.{option_copied};
 ghost use Rattle.drill_lines.specs.Formats.{AreSizes};
-ghost use Rattle.drill_lines.specs.Drilling.{default_format, format_in, zeros_in, coordinate_of, coordinate, field, coordinates, slot_line, drill_from, drill_line, NamesDecimal, IsHit};
+ghost use Rattle.drill_lines.specs.Drilling.{default_format, format_in, zeros_in, coordinate_of, coordinate, field, coordinates, slot_line, drill_from, drill_line};
 
 use crate::command::{Coordinates, DrillCommand, Format, Settings};
 use crate::tools::has_point;
@@ -39,6 +39,11 @@ fn sizes_in(settings: &Settings) -> (u8, u8)
 fn coordinate_of(settings: &Settings, run: &[u8]) -> Result<Dec, Reason>
     ensures { result ≡ coordinate_of settings.now run.now }
 {
+    let (value, rest) = Dec::in_front(run);
+    match value {
+        Some(value) if rest.is_empty() => return Ok(value),
+        _ => {}
+    }
     if has_point(run) {
         return Dec::read(run);
     }
@@ -125,37 +130,11 @@ fn drill_from(
     }
 }
 
-/// A decimal with a point behind a letter, where the short way finds one, and what stands behind it.
-fn short_field(letter: u8, bytes: &[u8]) -> (Option<Dec>, &[u8])
-    ensures { IfSome result.0 (λ v. NamesDecimal letter v result.1.now bytes.now) }
-{
-    match bytes.split_first() {
-        Some((first, rest)) if *first == letter => Dec::in_front(rest),
-        _ => (None, bytes),
-    }
-}
-
-/// A hit at decimals with points, as most lines of a file are: it needs no settings.
-fn short_hit(line: &[u8]) -> Option<Coordinates>
-    ensures { IfSome result (λ point. IsHit point line.now) }
-{
-    let (x, behind_x) = short_field(b'X', line);
-    let (y, behind_y) = short_field(b'Y', behind_x);
-    if x.is_some() && y.is_some() && behind_y.is_empty() {
-        Some(Coordinates { x, y })
-    } else {
-        None
-    }
-}
-
 /// A hit or a slot.
 #[tactic(auto, unfolding(crate::specs::Drilling::drill_line))]
 pub(crate) fn drill_line(settings: Settings, line: &[u8]) -> Result<DrillCommand, Reason>
     ensures { result ≡ drill_line settings line.now }
 {
-    if let Some(point) = short_hit(line) {
-        return Ok(DrillCommand::Hit(point));
-    }
     let (x, rest) = field(b'X', line);
     let (y, rest) = field(b'Y', rest);
     drill_from(&settings, x, y, rest)

@@ -30,11 +30,12 @@ pub(crate) struct Judge {
 }
 
 impl Judge {
-    ghost use Rattle.std.specs.Prelude.{◌≡◌, [], List, OnOk, IfOk, length, Some, None, Ok, false};
+    ghost use Rattle.std.specs.Prelude.{◌≡◌, [], List, OnOk, IfOk, length, Some, None, Ok, true, false};
     ghost use Rattle.std.specs.Option.{option_or};
     ghost use Rattle.std.specs.List.{find};
     ghost use Rattle.drill_lines.specs.declared.command.DrillCommand.{DrillCommand as TheCommand};
     ghost use Rattle.drill_lines.specs.declared.command.DrillCommand.TheVariants as command;
+    ghost use Rattle.drill_lines.specs.declared.command.Part.TheVariants as part;
     ghost use Rattle.grid_units.specs.declared.fault.Reason.TheVariants as reason;
     ghost use Rattle.drill_text.specs.Rules.{first_broken, applies, rules, differs, same_unit, same_zeros, same_format, picks_unknown, drills, has_no_tool};
     ghost use Rattle.drill_text.specs.Holes.{unit_or};
@@ -67,6 +68,13 @@ impl Judge {
         ensures { result ≡ self.now.settings }
     {
         self.settings
+    }
+
+    /// Whether the next line stands in the body.
+    pub(crate) fn is_in_body(&self) -> bool
+        ensures { result ≡ true → self.now.settings.part ≡ part.Body }
+    {
+        matches!(self.settings.part, Part::Body)
     }
 
     /// The holes and the tools of the commands that the judge has taken in.

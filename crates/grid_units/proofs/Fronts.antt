@@ -1,8 +1,8 @@
 -- A decimal that stands in front of other bytes, by its parts.
-use Rattle.std.proofs.Common.{◌≡◌, ℕ, ◌+◌, ◌-◌, ◌*◌, ◌^◌, ◌<◌, ◌≤◌, Bool, true, false, cond, not, ◌&&◌, ◌||◌, eqb, ltb, List, [], ◌∷◌, ◌++◌, length, ℤ, refl, sym, ap, ◌∙◌, inl, arith, append_assoc}
+use Rattle.std.proofs.Common.{◌≡◌, ℕ, ◌+◌, ◌-◌, ◌*◌, ◌^◌, ◌<◌, ◌≤◌, Bool, true, false, cond, not, ◌&&◌, ◌||◌, eqb, ltb, List, [], ◌∷◌, ◌++◌, length, ℤ, refl, sym, ap, ◌∙◌, inl, arith, append_assoc, lit≤}
 use Rattle.std.specs.Prelude.{neg_ℤ, pos}
 use Rattle.std.specs.List.{list_all, list_any, prefix_len, before_first, after_first, AllByRecursion}
-use Rattle.std.proofs.lemmas.List.{take_all, drop_all}
+use Rattle.std.proofs.lemmas.List.{take_all, drop_all, length-append}
 use Rattle.std.proofs.lemmas.List.Folds.{list_all-append, list_any-append}
 use Rattle.std.proofs.lemmas.List.Elements.{All-from_recursion}
 use Rattle.std.proofs.lemmas.Bool.{le-ltb}
@@ -17,6 +17,7 @@ record HasSign (bytes sign : List ℕ) : Type 0 where
   whole : bytes ≡ sign ++ unsigned bytes
   numbers : list_all is_number sign ≡ true
   behind : (body : List ℕ) → unsigned body ≡ body → unsigned (sign ++ body) ≡ body
+  short : length sign ≤ 1
   negative : (body : List ℕ) → is_negative body ≡ false → is_negative (sign ++ body) ≡ is_negative bytes
 
 or_false : (a b : Bool) → (a || b) ≡ false → b ≡ false
@@ -33,7 +34,7 @@ sign_number b h = by (is_digit b) (eqb b 43) (eqb b 45) (eqb b 46) h
     by false false false o h = absurd cc
 
 has_sign : (bytes : List ℕ) → (sign : List ℕ) × HasSign bytes sign
-has_sign [] = ([], record { whole = refl; numbers = refl; behind = λ body h. h; negative = λ body h. h })
+has_sign [] = ([], record { whole = refl; numbers = refl; short = lit≤ tt; behind = λ body h. h; negative = λ body h. h })
 has_sign (b ∷ bs) = by (eqb b 43 || eqb b 45) refl
   where
     by : (t : Bool) → (eqb b 43 || eqb b 45) ≡ t → (sign : List ℕ) × HasSign (b ∷ bs) sign
@@ -42,6 +43,7 @@ has_sign (b ∷ bs) = by (eqb b 43 || eqb b 45) refl
       record {
         whole = ap (λ t. b ∷ cond t bs (b ∷ bs)) (sym e);
         numbers = and_true (is_number b) true (sign_number b e) refl;
+        short = lit≤ tt;
         behind = λ body h. ap (λ t. cond t body (b ∷ body)) e;
         negative = λ body h. refl;
       },
@@ -51,6 +53,7 @@ has_sign (b ∷ bs) = by (eqb b 43 || eqb b 45) refl
       record {
         whole = ap (λ t. cond t bs (b ∷ bs)) (sym e);
         numbers = refl;
+        short = lit≤ tt;
         behind = λ body h. h;
         negative = λ body h. h ∙ sym (or_false (eqb b 43) (eqb b 45) e);
       },
@@ -128,4 +131,5 @@ front_is bytes ds fs rest v cut dd fd some dl fl ends is =
       ends = ends;
       point = any_behind s.0 body (any_point ds fs);
       reads = sym (dec_ok run v number (ap is_coarse f ∙ coarse) low same);
+      short = omega (arith, length-append s.0 body, length-append ds (46 ∷ fs), s.1.short, dl, fl);
     }

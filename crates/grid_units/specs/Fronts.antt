@@ -1,5 +1,5 @@
 -- A decimal that stands in front of other bytes.
-use Rattle.std.specs.Prelude.{◌≡◌, ℕ, ℤ, true, ◌==◌, List, ◌++◌, Ok}
+use Rattle.std.specs.Prelude.{◌≡◌, ◌≤◌, ℕ, ℤ, true, ◌==◌, List, ◌++◌, length, Ok}
 use Rattle.std.specs.List.{list_all, list_any, prefix_len}
 use Rattle.grid_units.specs.Numbers.{is_number, dec_of}
 
@@ -11,3 +11,4 @@ pub record IsInFront (v : ℤ) (rest bytes : List ℕ) : Type 0 where
   pub ends : prefix_len is_number rest ≡ 0
   pub point : list_any (λ b. b == 46) run ≡ true
   pub reads : dec_of run ≡ Ok v
+  pub short : length run ≤ 16

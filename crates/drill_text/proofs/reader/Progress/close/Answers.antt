@@ -1,4 +1,4 @@
-use Rattle.std.proofs.Common.{◌≡◌, ◌+◌, suc, ℕ, List, [], ◌∷◌, ◌++◌, Err, length, sym, ap, subst, ◌∙◌, arith}
+use Rattle.std.proofs.Common.{◌≡◌, ◌+◌, ℕ, List, [], ◌∷◌, ◌++◌, Err, length, sym, ap, subst, ◌∙◌, arith}
 use Rattle.std.proofs.lemmas.List.{length-append}
 use Rattle.std.proofs.lemmas.Result.{err_from_is_err_and}
 use Rattle.drill_lines.specs.declared.command.DrillCommand.{DrillCommand}
@@ -9,7 +9,7 @@ use Rattle.drill_text.specs.declared.reader.Progress.{Progress}
 use Rattle.drill_text.specs.Lines.{Splits, bytes_of}
 use Rattle.drill_text.specs.Reading.{spelled, shown}
 use Rattle.drill_text.specs.Knowing.{Knows, Leaves}
-use Rattle.drill_text.specs.Standing.{Holds, Refuses}
+use Rattle.drill_text.specs.Standing.{Refuses}
 use Rattle.drill_text.proofs.Splitting.{Splits-close, bytes_of-push}
 use Rattle.drill_text.proofs.Shown.{closed}
 use Rattle.drill_text.proofs.reader.Progress.close.Goals as goal
