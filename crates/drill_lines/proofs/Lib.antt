@@ -3,3 +3,4 @@ pub mod Runs
 pub mod Words
 pub mod Says
 pub mod Said
+pub mod Fronts

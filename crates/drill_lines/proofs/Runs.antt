@@ -2,13 +2,13 @@
 use Rattle.std.proofs.Common.{◌≡◌, ℕ, zero, suc, ◌+◌, ◌<◌, ◌≤◌, Bool, true, false, cond, not, ◌||◌, ◌&&◌, ◌/◌, ◌%◌, ◌^◌, eqb, List, [], ◌∷◌, ◌++◌, length, take, drop, ℤ, pos, negsuc, Ok, refl, sym, ap, ◌∙◌, arith, replicate, lit<, lit≤}
 use Rattle.std.specs.Prelude.{unsigned_abs, decimal, take_while}
 use Rattle.std.specs.List.{list_all, list_any, prefix_len, fold}
-use Rattle.std.proofs.lemmas.List.{append-nil, length-append, take_at, drop_at, take_all}
+use Rattle.std.proofs.lemmas.List.{append-nil, length-append, take_at, drop_at}
 use Rattle.std.proofs.lemmas.List.Folds.{list_all-append}
 use Rattle.std.proofs.lemmas.Bool.Decides.{nat_tests}
 use Rattle.std.proofs.lemmas.Fmt.{length-decimal-le}
 use Rattle.grid_units.proofs.Places.{length-places}
-use Rattle.grid_units.specs.Numbers.{is_digit, is_number, value, dec_of, max_units}
-use Rattle.grid_units.specs.Spellings.{minus, decimals, behind_any_point, signed_whole, pointed, places}
+use Rattle.grid_units.specs.Numbers.{is_digit, is_number, dec_of, max_units}
+use Rattle.grid_units.specs.Spellings.{minus, decimals, behind_any_point, pointed, places}
 use Rattle.grid_units.proofs.Spelled.{spells_decimal, digits-places, trims, pointed_reads}
 use Rattle.drill_lines.specs.Lines.{is_blank, trimmed}
 use Rattle.drill_lines.specs.Tools.{is_point, is_diameter}

@@ -1,11 +1,10 @@
 -- The canonical line of a command spells just it.
-use Rattle.std.proofs.Common.{◌≡◌, ℕ, zero, suc, ◌+◌, ◌<◌, ◌≤◌, ◌^◌, Bool, true, false, cond, not, ◌||◌, ◌&&◌, eqb, leb, ltb, List, [], ◌∷◌, ◌++◌, length, take, drop, ℤ, Option, Some, None, is_some, Result, Ok, Err, refl, sym, ap, ◌∙◌, arith, replicate, ◌⊎◌, inl, inr, lit<, lit≤}
-use Rattle.std.specs.Prelude.{unsigned_abs, decimal, codes}
+use Rattle.std.proofs.Common.{◌≡◌, ℕ, zero, suc, ◌≤◌, Bool, true, false, cond, not, ◌||◌, ◌&&◌, eqb, leb, ltb, List, [], ◌∷◌, ◌++◌, length, drop, ℤ, Option, Some, None, is_some, Result, Ok, Err, refl, sym, ap, ◌∙◌, arith, replicate, ◌⊎◌, inl, inr, lit<, lit≤}
+use Rattle.std.specs.Prelude.{decimal, codes}
 use Rattle.std.specs.List.{list_all, list_any, prefix_len}
 use Rattle.std.proofs.lemmas.List.{length-append}
 use Rattle.std.proofs.lemmas.Fmt.{length-decimal-le}
 use Rattle.std.proofs.lemmas.Bool.{leb-true, le-leb, eqb-true, ltb-true}
-use Rattle.std.proofs.lemmas.Bool.Decides.{nat_tests}
 use Rattle.grid_units.specs.declared.fault.Reason.{Reason}
 use Rattle.grid_units.specs.declared.fault.Reason.TheVariants.{BadLine, BadNumber}
 use Rattle.grid_units.specs.declared.lengths.Unit.{Unit as Units}
@@ -13,7 +12,7 @@ use Rattle.grid_units.specs.declared.lengths.Unit.TheVariants.{Inch, Millimetre}
 use Rattle.grid_units.specs.declared.zero_filling.Zeros.{Zeros}
 use Rattle.grid_units.specs.declared.zero_filling.Zeros.TheVariants.{Leading, Trailing, Full}
 use Rattle.grid_units.specs.Results.{◌>>=◌}
-use Rattle.grid_units.specs.Numbers.{is_digit, is_number, max_units}
+use Rattle.grid_units.specs.Numbers.{is_digit, is_number}
 use Rattle.grid_units.specs.Spellings.{pointed}
 use Rattle.grid_units.proofs.Spelled.{length-zeros}
 use Rattle.drill_lines.specs.declared.command.Coordinates.{Coordinates}
@@ -25,11 +24,10 @@ use Rattle.drill_lines.specs.declared.command.DrillCommand.TheVariants.{Comment,
 use Rattle.drill_lines.specs.Formats.{Digits, AreSizes}
 use Rattle.drill_lines.specs.Lines.{is_blank, trimmed}
 use Rattle.drill_lines.specs.Header.{is_zero, is_size, sizes, pattern, pattern_from, unit_format, unit_line}
-use Rattle.drill_lines.specs.Tools.{tool_line, pick_line}
 use Rattle.drill_lines.specs.Drilling.{drill_line}
 use Rattle.drill_lines.specs.Meaning.{one, begins_comment, line_before, common_line, header_line, body_word, body_line, line_in, meaning}
-use Rattle.drill_lines.specs.Writing.{unit_word, zeros_word, pattern_word, unit_code, coordinate_word, point_word, canonical, is_comment_text, can_name_zeros, is_tool_number, names_any, is_sayable, IsDec, AreDecs, IsPoint, IsTyped}
-use Rattle.drill_lines.proofs.Runs.{and_true, both_true, all_weaker, all_append, prefix_run, rest_behind, IsRun, decimal_digits, digit_number, pointed_run, pointed_short, is_solid, solid_number, solid_kept, zeros_pass}
+use Rattle.drill_lines.specs.Writing.{unit_word, zeros_word, pattern_word, coordinate_word, point_word, canonical, is_comment_text, can_name_zeros, names_any, is_sayable, AreDecs, IsPoint, IsTyped}
+use Rattle.drill_lines.proofs.Runs.{and_true, both_true, all_weaker, all_append, prefix_run, rest_behind, decimal_digits, digit_number, pointed_run, pointed_short, is_solid, solid_number, solid_kept, zeros_pass}
 use Rattle.drill_lines.proofs.Words.{tool_spelled, pick_spelled, hit_spelled, slot_spelled}
 
 -- ---- unit lines
@@ -132,7 +130,7 @@ in_part p s c h t = absurd cc
 
 -- ---- bytes of a line
 
-numbers_solid : (xs : List ℕ) → list_all is_number xs ≡ true → list_all is_solid xs ≡ true
+pub numbers_solid : (xs : List ℕ) → list_all is_number xs ≡ true → list_all is_solid xs ≡ true
 numbers_solid xs h = all_weaker is_number is_solid solid_number xs h
 
 coordinate_solid : (letter : ℕ) (v : Option ℤ) → is_solid letter ≡ true → AreDecs v → list_all is_solid (coordinate_word letter v) ≡ true
@@ -260,7 +258,7 @@ line_short part.Body (Slot p q) h t = omega (arith, length-append (point_word p)
 line_short part.Body Finish h t = lit≤ tt
 line_short p c h t = absurd cc
 
-solid_no_break : (b : ℕ) → is_solid b ≡ true → not (eqb b 10) ≡ true
+pub solid_no_break : (b : ℕ) → is_solid b ≡ true → not (eqb b 10) ≡ true
 unfolding is_solid
 solid_no_break b h = (both_true (not (is_blank b)) (not (eqb b 10)) h).1
 

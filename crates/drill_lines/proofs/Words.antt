@@ -1,25 +1,22 @@
 -- What the canonical lines spell: tools, picks and points.
-use Rattle.std.proofs.Common.{◌≡◌, ℕ, zero, suc, ◌+◌, ◌<◌, ◌≤◌, ◌^◌, Bool, true, false, cond, not, ◌||◌, ◌&&◌, eqb, leb, List, [], ◌∷◌, ◌++◌, length, take, drop, ℤ, Option, Some, None, is_some, Result, Ok, Err, refl, sym, ap, ◌∙◌, arith, replicate, append_assoc}
-use Rattle.std.specs.Prelude.{unsigned_abs, decimal, take_while, codes}
-use Rattle.std.specs.List.{list_all, list_any, prefix_len, count_by, after_first}
-use Rattle.std.specs.Str.{bytes_eq}
+use Rattle.std.proofs.Common.{◌≡◌, ℕ, suc, ◌<◌, ◌≤◌, true, false, cond, not, ◌||◌, ◌&&◌, eqb, leb, List, [], ◌∷◌, ◌++◌, length, drop, ℤ, Option, Some, None, is_some, Ok, Err, refl, sym, ap, ◌∙◌, arith, append_assoc}
+use Rattle.std.specs.Prelude.{decimal, take_while, codes}
+use Rattle.std.specs.List.{list_all, prefix_len, count_by}
 use Rattle.std.proofs.lemmas.List.{append-nil}
 use Rattle.std.proofs.lemmas.Bool.{leb-true, le-leb}
 use Rattle.std.proofs.lemmas.Bool.Decides.{nat_tests}
-use Rattle.grid_units.specs.declared.fault.Reason.{Reason}
 use Rattle.grid_units.specs.declared.fault.Reason.TheVariants.{BadLine, BadNumber}
 use Rattle.grid_units.specs.Results.{◌>>=◌, both}
-use Rattle.grid_units.specs.Numbers.{is_digit, is_number, is_digits, value, dec_of, zeros_of, max_units}
+use Rattle.grid_units.specs.Numbers.{is_digit, is_number, is_digits, value, zeros_of}
 use Rattle.grid_units.specs.Spellings.{pointed}
 use Rattle.grid_units.proofs.Spelled.{spells_decimal}
 use Rattle.drill_lines.specs.declared.command.Coordinates.{Coordinates}
 use Rattle.drill_lines.specs.declared.command.Settings.{Settings}
-use Rattle.drill_lines.specs.declared.command.DrillCommand.{DrillCommand}
 use Rattle.drill_lines.specs.declared.command.DrillCommand.TheVariants.{Tool, Pick, Hit, Slot}
-use Rattle.drill_lines.specs.Tools.{is_point, is_diameter, is_skipped, is_letter, are_fields, number_from, diameter_of, diameter_run, tool_fields, tool_line, pick_fields, pick_line}
+use Rattle.drill_lines.specs.Tools.{is_diameter, is_letter, number_from, diameter_of, diameter_run, tool_fields, tool_line, pick_fields, pick_line}
 use Rattle.drill_lines.specs.Drilling.{format_in, zeros_in, coordinate_of, coordinate, field, Runs, runs_of, names_one, coordinates, slot_line, drill_from, drill_line}
 use Rattle.drill_lines.specs.Writing.{coordinate_word, point_word, names_any, is_tool_number, IsDec, AreDecs, IsPoint}
-use Rattle.drill_lines.proofs.Runs.{or_right, and_true, both_true, all_weaker, prefix_run, run_in_front, rest_behind, run_alone, rest_alone, IsRun, decimal_digits, pointed_run, no_diameters}
+use Rattle.drill_lines.proofs.Runs.{or_right, and_true, both_true, all_weaker, run_in_front, rest_behind, run_alone, rest_alone, pointed_run, no_diameters}
 
 -- ---- tools
 

@@ -1,6 +1,5 @@
 -- What a line spells, by the part of the file in which it stands.
-use Rattle.std.specs.Prelude.{◌≡◌, ℕ, Bool, not, true, false, ◌||◌, ◌==◌, ◌&&◌, List, [], ◌∷◌, drop, if◌then◌else◌, Option, Some, None, Result, Ok, Err, codes}
-use Rattle.std.specs.List.{list_any}
+use Rattle.std.specs.Prelude.{ℕ, Bool, false, ◌||◌, ◌==◌, List, [], ◌∷◌, drop, if◌then◌else◌, Option, Some, None, Result, Ok, Err, codes}
 use Rattle.std.specs.Str.{bytes_eq}
 use Rattle.grid_units.specs.declared.fault.Reason.{Reason}
 use Rattle.grid_units.specs.declared.fault.Reason.TheVariants.{AfterEnd, OldFormat, Incremental, Routed, Repeat, BadLine}

@@ -39,6 +39,11 @@ fn sizes_in(settings: &Settings) -> (u8, u8)
 fn coordinate_of(settings: &Settings, run: &[u8]) -> Result<Dec, Reason>
     ensures { result ≡ coordinate_of settings.now run.now }
 {
+    let (value, rest) = Dec::in_front(run);
+    match value {
+        Some(value) if rest.is_empty() => return Ok(value),
+        _ => {}
+    }
     if has_point(run) {
         return Dec::read(run);
     }

@@ -1,5 +1,5 @@
 -- What is drilled, and the first rule that it breaks.
-use Rattle.std.proofs.Common.{◌≡◌, ℕ, ℤ, Bool, true, false, cond, ◌||◌, ◌/◌, unsigned_abs, nat_le, List, [], ◌∷◌, Option, None, Some, Result, Ok, Err, refl, sym, ap, ◌∙◌}
+use Rattle.std.proofs.Common.{◌≡◌, ℕ, ℤ, Bool, true, false, cond, ◌||◌, ◌/◌, unsigned_abs, nat_le, [], ◌∷◌, Option, None, Some, Result, Ok, Err, refl}
 use Rattle.std.specs.List.{find}
 use Rattle.grid_units.specs.declared.fault.Reason.{Reason}
 use Rattle.grid_units.specs.declared.fault.Reason.TheVariants.{NoUnit, UnitConflict, FormatConflict, Redefined, UnknownTool, NoTool, BadSize, TooFar, TooManyHoles}

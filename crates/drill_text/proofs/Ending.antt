@@ -1,5 +1,5 @@
 -- The end of a text, from what a reader holds.
-use Rattle.std.proofs.Common.{◌≡◌, ℕ, suc, ◌+◌, ◌≤◌, Bool, true, false, cond, ltb, List, length, Result, Ok, Err, IfOk, refl, sym, ap, subst, ◌∙◌, arith, inl, inr}
+use Rattle.std.proofs.Common.{◌≡◌, ℕ, suc, ◌+◌, ◌≤◌, true, false, cond, ltb, List, length, Result, Ok, Err, IfOk, sym, ap, subst, ◌∙◌, arith, inl, inr}
 use Rattle.std.specs.List.{list_any}
 use Rattle.std.proofs.lemmas.List.{take_all}
 use Rattle.std.proofs.lemmas.Bool.{le-ltb}
@@ -14,8 +14,6 @@ use Rattle.drill_text.specs.Lines.{bytes_of, Splits}
 use Rattle.grid_units.specs.Results.{◌>>=◌, fault, Answers, Tells}
 use Rattle.drill_text.specs.Reading.{text_limit, shown, spelled, ended, is_finish, place_behind_count, Reads, Shows}
 use Rattle.drill_text.specs.Knowing.{Knows, Leaves}
-use Rattle.drill_text.specs.Lookback.{tools_of}
-use Rattle.drill_text.specs.Holes.{holes_of}
 use Rattle.drill_text.specs.Outcome.{DrillFile, commands_in, file_of}
 use Rattle.drill_text.specs.Standing.{Holds}
 use Rattle.grid_units.proofs.Binds.{bind_err, guard_err}

@@ -1,5 +1,5 @@
 -- A judge that drilled knows one command more.
-use Rattle.std.proofs.Common.{◌≡◌, ℕ, ℤ, List, [], ◌∷◌, ◌++◌, length, Option, None, Some, Result, Ok, Err, refl, sym, ap, ◌∙◌, append-nil}
+use Rattle.std.proofs.Common.{◌≡◌, ℕ, ℤ, List, [], ◌∷◌, ◌++◌, length, Option, None, Some, Result, Ok, Err, sym, ap, ◌∙◌, append-nil}
 use Rattle.std.specs.Option.{option_map, option_to_list}
 use Rattle.grid_units.specs.Holes.{GridHole}
 use Rattle.drill_lines.specs.declared.line.LineFail.{LineFail}

@@ -1,12 +1,12 @@
 -- A line that is read and judged.
-use Rattle.std.proofs.Common.{◌≡◌, ℕ, ◌≤◌, List, [], ◌∷◌, ◌++◌, length, Option, None, Some, Result, Ok, Err, refl, sym, ap, ◌∙◌, arith}
+use Rattle.std.proofs.Common.{◌≡◌, ℕ, ◌≤◌, List, [], ◌∷◌, ◌++◌, length, Option, None, Some, Result, Ok, Err, sym, ap, ◌∙◌}
 use Rattle.std.proofs.lemmas.Bool.{le-ltb}
 use Rattle.grid_units.specs.declared.fault.Reason.{Reason}
 use Rattle.drill_lines.specs.declared.command.DrillCommand.{DrillCommand}
 use Rattle.drill_lines.specs.declared.command.Settings.{Settings}
 use Rattle.drill_text.specs.declared.judge.Judge.{Judge}
 use Rattle.drill_lines.specs.Lines.{trimmed}
-use Rattle.drill_text.specs.Lookback.{Standing, settings_after}
+use Rattle.drill_text.specs.Lookback.{Standing}
 use Rattle.grid_units.specs.Results.{◌>>=◌}
 use Rattle.drill_lines.specs.Meaning.{meaning}
 use Rattle.drill_text.specs.Rules.{broken_rule}

@@ -11,3 +11,5 @@ pub mod Unique
 pub mod Spelling
 pub mod RoundTrip
 pub mod Sayable
+pub mod LeadingHits
+pub mod WholeLines

@@ -1,24 +1,21 @@
 -- What one more command changes of the words that look back.
-use Rattle.std.proofs.Common.{◌≡◌, ℕ, ℤ, List, [], ◌∷◌, ◌++◌, length, Option, None, Some, unwrap_or, Bool, true, false, cond, ◌||◌, nat_eq, refl, sym, ap, ◌∙◌, append-nil}
+use Rattle.std.proofs.Common.{◌≡◌, ℕ, ℤ, List, [], ◌∷◌, ◌++◌, length, Option, None, Some, unwrap_or, Bool, true, false, cond, ◌||◌, refl, sym, ap, ◌∙◌, append-nil}
 use Rattle.std.proofs.lemmas.List.Concat.{flat_map-append}
 use Rattle.std.proofs.lemmas.List.Elements.{filter_map-append}
-use Rattle.std.specs.Option.{option_or, option_and_then, option_map, option_to_list}
-use Rattle.std.specs.List.{flat_map, filter_map, list_any, cons_option}
+use Rattle.std.specs.Option.{option_or, option_map, option_to_list}
+use Rattle.std.specs.List.{list_any, cons_option}
 use Rattle.grid_units.specs.Lists.{last_named}
-use Rattle.grid_units.specs.Points.{GridPoint}
-use Rattle.grid_units.specs.Holes.{GridHole}
 use Rattle.grid_units.proofs.Lookbacks.{option_or_none, option_or_assoc, unwrap_or_or, last_named-append, last_named-more, list_any-more, flat_positions-more}
 use Rattle.grid_units.specs.declared.lengths.Unit.{Unit as Units}
-use Rattle.drill_lines.specs.declared.command.Settings.{Settings}
 use Rattle.drill_lines.specs.declared.command.Coordinates.{Coordinates}
 use Rattle.drill_lines.specs.declared.command.DrillCommand.{DrillCommand}
 use Rattle.drill_lines.specs.declared.command.DrillCommand.TheVariants as command
 use Rattle.drill_lines.specs.declared.command.Part.TheVariants as part
 use Rattle.drill_text.specs.declared.judge.Judge.{Judge}
 use Rattle.drill_text.specs.Lookback.{Standing, standing, settings_after, header, ends_header, part_named, unit_named, zeros_named, format_named, diameter_named, tool_named, tool_defined, tools_of, points_named, points_of, x_named, y_named}
-use Rattle.drill_text.specs.Holes.{Drilled, unit_after, point_at, coordinate_in, diameter_after, drilled_at, hole_of, holes_at, holes_of}
+use Rattle.drill_text.specs.Holes.{unit_after, point_at, coordinate_in, diameter_after, drilled_at, hole_of, holes_at, holes_of}
 use Rattle.drill_text.specs.Rules.{broken_rule, first_broken, defines_again}
-use Rattle.drill_text.specs.Knowing.{told, Knows, Takes, after, settings_and, given_last, moved, nowhere, drilled, drilled_between, onto}
+use Rattle.drill_text.specs.Knowing.{told, Knows, Takes, after, settings_and, given_last, moved, nowhere, drilled, onto}
 
 -- ---- the header as a whole
 

@@ -1,5 +1,5 @@
 -- Lengths of a drill file in pm.
-use Rattle.std.proofs.Common.{◌≡◌, ℤ, pos, ◌≤ℤ◌, ◌≤◌, unsigned_abs, false, nat_lt, refl, sym, subst, arith, Result, Ok, Err, IfOk}
+use Rattle.std.proofs.Common.{◌≡◌, ℤ, pos, ◌≤ℤ◌, ◌≤◌, unsigned_abs, refl, sym, subst, arith, Result, Ok, Err, IfOk}
 use Rattle.std.proofs.lemmas.Int.{ints}
 use Rattle.std.proofs.lemmas.Bool.{ltb-false}
 use Rattle.grid_units.specs.declared.lengths.Unit.{Unit as Units}

@@ -1,5 +1,5 @@
 -- The canonical text of a sayable list spells just the list.
-use Rattle.std.proofs.Common.{◌≡◌, ◌≢◌, ℕ, ◌≤◌, Bool, true, false, not, ◌&&◌, ◌||◌, eqb, List, [], ◌∷◌, ◌++◌, length, map, take, drop, get_or, Option, None, Some, unwrap_or, Result, Ok, Err, refl, sym, ap, subst, ◌∙◌, arith, append_assoc, append-nil, lit≤, add-one, suc, ◌+◌, ◌<◌, cond}
+use Rattle.std.proofs.Common.{◌≡◌, ◌≢◌, ℕ, ◌≤◌, Bool, true, false, not, ◌&&◌, eqb, List, [], ◌∷◌, ◌++◌, length, map, take, drop, get_or, Ok, Err, refl, sym, ap, subst, ◌∙◌, arith, append_assoc, append-nil, lit≤, add-one, suc, ◌+◌, ◌<◌, cond}
 use Rattle.std.specs.List.{list_any, list_all, AllByRecursion}
 use Rattle.std.specs.Option.{option_to_list}
 use Rattle.std.proofs.lemmas.List.{map-append, length-append, take-append-drop}
@@ -8,19 +8,17 @@ use Rattle.std.proofs.Math.Seq.{drop-cons}
 use Rattle.std.proofs.lemmas.Bool.{eq-eqb, false≢true, lt-ltb, le-ltb}
 use Rattle.grid_units.specs.declared.fault.Reason.TheVariants.{TooLong}
 use Rattle.grid_units.specs.Results.{◌>>=◌, fault}
-use Rattle.grid_units.specs.Lists.{last_named}
 use Rattle.grid_units.proofs.Lookbacks.{last_or-more}
 use Rattle.drill_lines.specs.declared.command.Part.{Part}
 use Rattle.drill_lines.specs.declared.command.Part.TheVariants as part
 use Rattle.drill_lines.specs.declared.command.DrillCommand.{DrillCommand}
 use Rattle.drill_lines.specs.declared.command.DrillCommand.TheVariants as command
-use Rattle.drill_lines.specs.Lines.{trimmed}
 use Rattle.drill_lines.specs.Meaning.{meaning}
 use Rattle.drill_lines.specs.Writing.{canonical, is_sayable, IsTyped}
 use Rattle.drill_lines.proofs.Says.{says}
-use Rattle.drill_text.specs.Lines.{ended_line, bytes_of, HasNoBreak, Splits}
+use Rattle.drill_text.specs.Lines.{ended_line, bytes_of, HasNoBreak}
 use Rattle.drill_text.specs.Lookback.{settings_after, part_after, part_named}
-use Rattle.drill_text.specs.Reading.{line_limit, text_limit, is_finish}
+use Rattle.drill_text.specs.Reading.{text_limit, is_finish}
 use Rattle.drill_text.specs.Texts.{spelled_behind, AreShort, SpellsText}
 use Rattle.drill_text.specs.Writing.{part_behind, part_from, are_sayable, is_over, drill_sayable, canonical_text, written as written_result}
 use Rattle.drill_text.proofs.Splitting.{AllR-append, bytes_of-push}

@@ -1,6 +1,5 @@
 -- What a text shows as it goes on: commands that stay, and the first fault, which stays too.
-use Rattle.std.proofs.Common.{◌≡◌, ◌≢◌, ℕ, zero, suc, ◌+◌, ◌<◌, ◌≤◌, ◌⊎◌, inl, inr, Bool, true, false, cond, eqb, ltb, List, [], ◌∷◌, ◌++◌, length, take, drop, get_or, Result, Ok, Err, refl, sym, ap, subst, ◌∙◌, arith, append_assoc}
-use Rattle.std.specs.List.{AllByRecursion}
+use Rattle.std.proofs.Common.{◌≡◌, ◌≢◌, ℕ, suc, ◌+◌, ◌<◌, ◌≤◌, ◌⊎◌, inl, inr, Bool, true, false, cond, eqb, ltb, List, [], ◌∷◌, ◌++◌, length, take, drop, get_or, Result, Ok, Err, refl, sym, ap, subst, ◌∙◌, arith, append_assoc}
 use Rattle.std.proofs.lemmas.List.{append-nil, length-append, take-append-drop}
 use Rattle.std.proofs.lemmas.Bool.{eqb-true, eqb-false, lt-ltb, le-ltb, ltb-true, ltb-false}
 use Rattle.drill_lines.specs.declared.command.DrillCommand.{DrillCommand}
@@ -9,7 +8,7 @@ use Rattle.grid_units.specs.declared.fault.Fail.{Fail}
 use Rattle.grid_units.specs.declared.fault.Fail.TheVariants as fails
 use Rattle.grid_units.specs.declared.fault.Reason.TheVariants.{TooLong}
 use Rattle.drill_text.specs.declared.reader.Progress.{Progress}
-use Rattle.drill_text.specs.Lines.{bytes_of, HasNoBreak, Splits}
+use Rattle.drill_text.specs.Lines.{bytes_of}
 use Rattle.grid_units.specs.Results.{◌>>=◌, fault}
 use Rattle.grid_units.proofs.Binds.{bind_ok, bind_err, guard_ok, guard_err}
 use Rattle.drill_text.specs.Reading.{line_limit, step, spelled, commands_from, shown}
@@ -103,6 +102,14 @@ fault_stays text (b ∷ more) f h =
     (fault_stays (text ++ b ∷ []) more f (one_more (eqb b 10) text b f refl h))
 
 -- ---- readers
+
+-- what is shown with one more line, by a reader that holds this text
+pub closed : (old : Progress) (text line : List ℕ) (h : Holds old text) → shown (h.lines ++ line ∷ []) [] ≡ spelled (old.lines + 1) old.start line old.commands.items
+closed old text line h =
+    let cs = old.commands.items in
+    let place : suc (length h.lines) ≡ old.lines + 1 = omega (arith, h.count) in
+    show_push h.lines line cs (shown_ok h.lines old.line.items cs h.commands).0
+    ∙ (ap (λ p. spelled p (length (bytes_of h.lines)) line cs) place ∙ ap (λ b. spelled (old.lines + 1) b line cs) (sym h.start))
 
 pub Refuses-longer : (old : Progress) (xs ys : List ℕ) (e : Fail) → Refuses old xs e → Refuses old (xs ++ ys) e
 Refuses-longer old xs ys fails.Memory h = tt

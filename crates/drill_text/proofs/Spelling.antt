@@ -1,15 +1,15 @@
 -- A text is read where its lines spell a legal list of commands.
-use Rattle.std.proofs.Common.{◌≡◌, ℕ, suc, ◌+◌, ◌≤◌, Bool, true, false, cond, ltb, List, [], ◌∷◌, ◌++◌, length, take, Option, None, Some, Result, Ok, Err, refl, sym, ap, subst, ◌∙◌, arith, append_assoc, append-nil}
+use Rattle.std.proofs.Common.{◌≡◌, ℕ, suc, ◌+◌, ◌≤◌, Bool, true, false, cond, ltb, List, [], ◌∷◌, ◌++◌, length, Option, None, Some, Result, Ok, Err, refl, sym, ap, subst, ◌∙◌, arith, append_assoc, append-nil}
 use Rattle.std.specs.List.{list_any, filter_map, cons_option}
 use Rattle.std.specs.Option.{option_to_list, option_map}
-use Rattle.std.proofs.lemmas.List.{take_all, length-append}
+use Rattle.std.proofs.lemmas.List.{take_all}
 use Rattle.std.proofs.lemmas.Bool.{le-ltb, ltb-false}
 use Rattle.grid_units.specs.declared.fault.Fault.{Fault}
 use Rattle.grid_units.specs.declared.fault.Reason.{Reason}
 use Rattle.grid_units.specs.declared.fault.Reason.TheVariants.{TooLong, Truncated}
 use Rattle.grid_units.specs.Results.{◌>>=◌, fault, at}
 use Rattle.grid_units.specs.Lists.{breaks, break_at, positions_after}
-use Rattle.grid_units.proofs.Binds.{bind_ok, guard_ok}
+use Rattle.grid_units.proofs.Binds.{bind_ok}
 use Rattle.grid_units.proofs.Lookbacks.{breaks-more, breaks-append}
 use Rattle.drill_lines.specs.declared.command.DrillCommand.{DrillCommand}
 use Rattle.drill_lines.specs.Lines.{trimmed}
@@ -17,8 +17,8 @@ use Rattle.drill_lines.specs.Meaning.{meaning}
 use Rattle.drill_text.specs.Lines.{bytes_of, Splits}
 use Rattle.drill_text.specs.Lookback.{settings_after}
 use Rattle.drill_text.specs.Rules.{broken_rule}
-use Rattle.drill_text.specs.Reading.{line_limit, text_limit, is_finish, kept_unless, judged, step, spelled, commands_from, shown, ended, place_behind, read_in, Reads}
-use Rattle.drill_text.specs.Texts.{spelled_behind, AreShort, SpellsText, IsLegal, IsDrillText}
+use Rattle.drill_text.specs.Reading.{line_limit, text_limit, is_finish, kept_unless, judged, step, spelled, commands_from, shown, ended, place_behind, Reads}
+use Rattle.drill_text.specs.Texts.{spelled_behind, AreShort, IsLegal, IsDrillText}
 use Rattle.drill_text.proofs.Splitting.{commands_from-push}
 use Rattle.drill_text.proofs.Shown.{shown_ok, show_ok, show_push}
 

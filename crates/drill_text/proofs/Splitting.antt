@@ -1,10 +1,9 @@
 -- A text that goes on: its lines, its rest, and what the lines spell.
 use Rattle.std.proofs.Common.{◌≡◌, ◌≢◌, ℕ, suc, ◌+◌, List, [], ◌∷◌, ◌++◌, length, Result, Ok, Err, refl, sym, ap, ◌∙◌, arith, append_assoc}
-use Rattle.std.specs.List.{flat_map, AllByRecursion}
+use Rattle.std.specs.List.{AllByRecursion}
 use Rattle.std.proofs.lemmas.List.{append-nil, length-append}
 use Rattle.std.proofs.lemmas.List.Concat.{flat_map-append}
 use Rattle.drill_lines.specs.declared.command.DrillCommand.{DrillCommand}
-use Rattle.grid_units.specs.declared.fault.Fault.{Fault}
 use Rattle.drill_text.specs.Lines.{ended_line, bytes_of, HasNoBreak, Splits}
 use Rattle.grid_units.specs.Results.{◌>>=◌}
 use Rattle.grid_units.proofs.Binds.{bind_assoc}

@@ -1,7 +1,7 @@
 -- What a whole text shows, from what a reader holds.
-use Rattle.std.proofs.Common.{◌≡◌, ℕ, suc, ◌+◌, ◌<◌, ◌≤◌, Bool, true, false, cond, ltb, List, [], ◌∷◌, ◌++◌, length, Result, Ok, Err, refl, sym, ap, subst, ◌∙◌, arith, append_assoc}
+use Rattle.std.proofs.Common.{◌≡◌, ℕ, suc, ◌+◌, ◌<◌, ◌≤◌, cond, ltb, List, ◌++◌, length, Result, Ok, Err, sym, ap, subst, ◌∙◌, arith, append_assoc}
 use Rattle.std.proofs.lemmas.List.{take_all, take_at, length-append}
-use Rattle.std.proofs.lemmas.Bool.{lt-ltb, le-ltb}
+use Rattle.std.proofs.lemmas.Bool.{lt-ltb}
 use Rattle.drill_lines.specs.declared.command.DrillCommand.{DrillCommand}
 use Rattle.grid_units.specs.declared.fault.Fault.{Fault}
 use Rattle.grid_units.specs.declared.fault.Fail.{Fail}
@@ -11,9 +11,8 @@ use Rattle.drill_text.specs.declared.reader.Progress.{Progress}
 use Rattle.drill_text.specs.Lines.{Splits}
 use Rattle.grid_units.specs.Results.{◌>>=◌}
 use Rattle.grid_units.specs.Results.{fault}
-use Rattle.drill_text.specs.Reading.{text_limit, shown, Shows}
+use Rattle.drill_text.specs.Reading.{text_limit, Shows}
 use Rattle.drill_text.specs.Standing.{Holds, HasFault, Refuses, RefusesText}
-use Rattle.grid_units.specs.Results.{Tells}
 
 -- behind a text that is too long, its front shows what it shows
 checks_len : ℕ → List (List ℕ) → List DrillCommand → Result (List DrillCommand) Fault

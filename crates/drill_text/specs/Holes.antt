@@ -1,5 +1,5 @@
 -- The holes of a drill file. Lengths are whole picometres.
-use Rattle.std.specs.Prelude.{ℕ, ◌/◌, ℤ, pos, List, [], ◌∷◌, ◌++◌, Option, None, Some, unwrap_or, unsigned_abs}
+use Rattle.std.specs.Prelude.{◌/◌, ℤ, pos, List, [], ◌∷◌, ◌++◌, Option, None, Some, unwrap_or, unsigned_abs}
 use Rattle.std.specs.Option.{option_and_then, option_map, option_to_list}
 use Rattle.std.specs.List.{flat_map}
 use Rattle.grid_units.specs.Lists.{last_named, positions}

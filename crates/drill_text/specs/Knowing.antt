@@ -1,7 +1,6 @@
 -- What a judge says of the commands that it has met.
 use Rattle.std.specs.Prelude.{◌≡◌, ℕ, ℤ, Bool, false, ◌||◌, List, [], ◌∷◌, ◌++◌, length, ◌≤ℤ◌, ◌/◌, nat_le, int_le, pos, unsigned_abs, Result, Ok, Err, Option, None, Some, unwrap_or, nat_eq, if◌then◌else◌}
 use Rattle.std.specs.Option.{option_or, option_and_then, option_map, option_to_list}
-use Rattle.std.specs.Global.{Vec}
 use Rattle.indexmap.specs.IndexMap.{get}
 use Rattle.grid_units.specs.declared.fault.Reason.{Reason}
 use Rattle.grid_units.specs.declared.fault.Reason.TheVariants.{NoTool, BadSize, TooFar, TooManyHoles}

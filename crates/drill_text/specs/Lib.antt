@@ -8,3 +8,4 @@ pub mod Writing
 pub mod Knowing
 pub mod Standing
 pub mod Outcome
+pub mod Hits

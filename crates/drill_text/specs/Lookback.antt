@@ -1,7 +1,6 @@
 -- What the commands before a line say, each word by looking back over the list.
-use Rattle.std.specs.Prelude.{ℕ, ◌-◌, ℤ, Bool, true, false, ◌==◌, ◌&&◌, nat_le, List, [], ◌∷◌, take, drop, Option, None, Some, unwrap_or, if◌then◌else◌, codes}
+use Rattle.std.specs.Prelude.{ℕ, ◌-◌, ℤ, Bool, true, false, ◌==◌, ◌&&◌, nat_le, List, [], ◌∷◌, drop, Option, None, Some, unwrap_or, if◌then◌else◌, codes}
 use Rattle.std.specs.List.{list_any, flat_map, filter_map}
-use Rattle.std.specs.Str.{bytes_eq}
 use Rattle.grid_units.specs.Lists.{last_named}
 use Rattle.grid_units.specs.declared.lengths.Unit.{Unit as Units}
 use Rattle.grid_units.specs.declared.zero_filling.Zeros.{Zeros}

@@ -1,5 +1,5 @@
 -- The rules of a legal drill file.
-use Rattle.std.specs.Prelude.{ℕ, ℤ, pos, Bool, true, false, not, ◌==◌, ◌&&◌, ◌||◌, nat_le, int_le, List, [], ◌∷◌, length, Option, None, Some, is_none, is_some}
+use Rattle.std.specs.Prelude.{ℕ, pos, Bool, true, false, not, ◌==◌, ◌&&◌, ◌||◌, nat_le, int_le, List, [], ◌∷◌, length, Option, None, Some, is_none, is_some}
 use Rattle.std.specs.Option.{option_map_or}
 use Rattle.std.specs.List.{find}
 use Rattle.grid_units.specs.declared.fault.Reason.{Reason}

@@ -1,6 +1,8 @@
 //! The judge: meets the commands of a drill file one by one, and says at the first that breaks a rule which rule it breaks.
 
-ghost use Rattle.std.specs.Prelude.{◌≡◌};
+ghost use Rattle.std.specs.Prelude.{◌≡◌, nat_eq};
+ghost use Rattle.std.specs.Option.{option_and_then};
+ghost use Rattle.indexmap.specs.IndexMap.{get};
 ghost use Rattle.drill_text.specs.Rules.{same_unit, same_zeros, same_format};
 ghost use Rattle.drill_text.specs.Lookback.{is_size_digit, sizes_named, file_format};
 
@@ -19,17 +21,21 @@ pub(crate) struct Judge {
     is_settled: bool,
     tools: IndexMap<u16, Dec>,
     tool: Option<u16>,
+    // Kept beside the two, so that no hole looks its tool up.
+    diameter: Option<Dec>,
     x: Option<Dec>,
     y: Option<Dec>,
     holes: Vec<Hole>,
+    ghost picked: { diameter ≡ option_and_then (λ number. get nat_eq tools number) tool },
 }
 
 impl Judge {
-    ghost use Rattle.std.specs.Prelude.{◌≡◌, [], List, OnOk, IfOk, length, Some, None, false};
-    ghost use Rattle.std.specs.Option.{option_and_then};
+    ghost use Rattle.std.specs.Prelude.{◌≡◌, [], List, OnOk, IfOk, length, Some, None, Ok, true, false};
+    ghost use Rattle.std.specs.Option.{option_or};
     ghost use Rattle.std.specs.List.{find};
     ghost use Rattle.drill_lines.specs.declared.command.DrillCommand.{DrillCommand as TheCommand};
     ghost use Rattle.drill_lines.specs.declared.command.DrillCommand.TheVariants as command;
+    ghost use Rattle.drill_lines.specs.declared.command.Part.TheVariants as part;
     ghost use Rattle.grid_units.specs.declared.fault.Reason.TheVariants as reason;
     ghost use Rattle.drill_text.specs.Rules.{first_broken, applies, rules, differs, same_unit, same_zeros, same_format, picks_unknown, drills, has_no_tool};
     ghost use Rattle.drill_text.specs.Holes.{unit_or};
@@ -50,6 +56,7 @@ impl Judge {
             is_settled: false,
             tools: IndexMap::new(alloc),
             tool: None,
+            diameter: None,
             x: None,
             y: None,
             holes: Vec::new(alloc),
@@ -61,6 +68,13 @@ impl Judge {
         ensures { result ≡ self.now.settings }
     {
         self.settings
+    }
+
+    /// Whether the next line stands in the body.
+    pub(crate) fn is_in_body(&self) -> bool
+        ensures { result ≡ true → self.now.settings.part ≡ part.Body }
+    {
+        matches!(self.settings.part, Part::Body)
     }
 
     /// The holes and the tools of the commands that the judge has taken in.
@@ -203,13 +217,17 @@ impl Judge {
             DrillCommand::UnitLine(unit, zeros, format) => self.give(Some(*unit), *zeros, *format),
             DrillCommand::Tool(number, diameter) => {
                 self.tools.insert(*number, *diameter)?;
+                self.diameter = diameter_of(&self.tools, self.tool);
             }
             DrillCommand::HeaderEnd => {
                 self.settings.part = Part::Body;
                 self.is_settled = true;
             }
             DrillCommand::UnitCode(unit) => self.give(Some(*unit), None, None),
-            DrillCommand::Pick(number) => self.tool = Some(*number),
+            DrillCommand::Pick(number) => {
+                self.tool = Some(*number);
+                self.diameter = diameter_of(&self.tools, self.tool);
+            }
             DrillCommand::Finish => self.settings.part = Part::After,
             DrillCommand::Hit(_) | DrillCommand::Slot(_, _) => {}
         }
@@ -255,11 +273,22 @@ impl Judge {
     {
         let width = self.width()?;
         let from = self.point(first.x.or(self.x), first.y.or(self.y))?;
-        let to = self.point(
+        let to = self.end(from, first, second)?;
+        self.hole_between(width, from, to)
+    }
+
+    /// Where a drill comes out that went in at this point: there, where the second point names no coordinate.
+    fn end(&self, from: Point, first: &Coordinates, second: &Coordinates) -> Result<Point, Reason>
+        requires { point_in (unit_or self.now.settings.unit) (option_or first.now.x self.now.x) (option_or first.now.y self.now.y) ≡ Ok from }
+        ensures { result ≡ point_in (unit_or self.now.settings.unit) (option_or second.now.x (option_or first.now.x self.now.x)) (option_or second.now.y (option_or first.now.y self.now.y)) }
+    {
+        if second.x.is_none() && second.y.is_none() {
+            return Ok(from);
+        }
+        self.point(
             second.x.or(first.x.or(self.x)),
             second.y.or(first.y.or(self.y)),
-        )?;
-        self.hole_between(width, from, to)
+        )
     }
 
     /// The hole between two points, with a tool of this diameter in pm.
@@ -321,16 +350,6 @@ impl Judge {
         }
     }
 
-    /// The diameter of the picked tool, in the unit of the file.
-    fn diameter(&self) -> Option<Dec>
-        ensures { result ≡ option_and_then (told self.now).diameter self.now.tool }
-    {
-        match self.tool {
-            Some(number) => self.tools.get(&number).copied(),
-            None => None,
-        }
-    }
-
     /// The diameter of the picked tool in pm, or the first rule that it breaks.
     fn width(&self) -> Result<i64, Reason>
         ensures exact { result ≡ width_of (told self.now) }
@@ -339,10 +358,20 @@ impl Judge {
         if self.has_no_tool() {
             return Err(Reason::NoTool);
         }
-        match self.diameter() {
+        match self.diameter {
             Some(diameter) if diameter.units() > 0 => diameter.picometres(self.unit()),
             _ => Err(Reason::BadSize),
         }
+    }
+}
+
+/// The diameter of a tool, in the unit of the file.
+fn diameter_of(tools: &IndexMap<u16, Dec>, tool: Option<u16>) -> Option<Dec>
+    ensures { result ≡ option_and_then (λ number. get nat_eq tools.now number) tool }
+{
+    match tool {
+        Some(number) => tools.get(&number).copied(),
+        None => None,
     }
 }
 

@@ -2,6 +2,7 @@
 #![tactic(auto)]
 
 mod drill;
+mod hits;
 mod judge;
 pub mod laws;
 mod reader;

@@ -8,13 +8,16 @@ ghost use Rattle.grid_units.specs.Results.{fault, Answers};
 ghost use Rattle.drill_text.specs.Reading.{spelled, Reads, is_finish, place_behind_count};
 ghost use Rattle.std.specs.List.{list_any};
 ghost use Rattle.drill_text.specs.Knowing.{Knows, Leaves};
+ghost use Rattle.drill_lines.specs.Lines.{trimmed};
+ghost use Rattle.drill_lines.specs.Meaning.{meaning};
 ghost use Rattle.drill_text.specs.Outcome.{commands_in, file_of};
 ghost use Rattle.drill_text.specs.Texts.{IsDrillText};
 ghost use Rattle.drill_text.specs.Writing.{drill_sayable};
 
 use crate::drill::Drill;
+use crate::hits::leading_hit;
 use crate::judge::Judge;
-use drill_lines::{DrillCommand, LineFail, read_line};
+use drill_lines::{Coordinates, DrillCommand, LineFail, read_line};
 use grid_units::{Fail, Fault, Reason};
 use std::alloc::Global;
 
@@ -41,7 +44,7 @@ pub(crate) struct Progress {
 fn line_len(bytes: &[u8]) -> usize
     ensures within { result ≤ length bytes.now }
     ensures inside { All (λ b. b ≢ 10) (take result bytes.now) }
-    ensures stops { 0 < length bytes.now → result ≡ 0 → slice_index bytes.now 0 ≡ 10 }
+    ensures stops { result < length bytes.now → slice_index bytes.now result ≡ 10 }
 {
     for (i, byte) in bytes.iter().enumerate() {
         if *byte == b'\n' {
@@ -61,6 +64,26 @@ fn refusal(place: u64, byte: u64, reason: Reason) -> Fail
     })
 }
 
+/// Judges the command that a line spells, and adds it where it breaks no rule.
+fn keep(
+    place: u64,
+    byte: u64,
+    command: DrillCommand,
+    judge: &mut Judge,
+    commands: &mut Vec<DrillCommand>,
+) -> Result<(), Fail>
+    ensures { (line : List ℕ) → length line ≤ 1048576 → meaning judge.old.settings (trimmed line) ≡ Ok (Some command) → Knows judge.old commands.old.items → Leaves result judge.new commands.new.items (spelled place byte line commands.old.items) }
+{
+    match judge.step(&command) {
+        Ok(()) => {
+            commands.push(command)?;
+            Ok(())
+        }
+        Err(LineFail::Memory) => Err(Fail::Memory),
+        Err(LineFail::Refused(reason)) => Err(refusal(place, byte, reason)),
+    }
+}
+
 /// Reads and judges a line, and adds the command that it spells.
 fn spell(
     alloc: Global,
@@ -73,24 +96,18 @@ fn spell(
     requires short { length line.now ≤ 1048576 }
     ensures { Knows judge.old commands.old.items → Leaves result judge.new commands.new.items (spelled place byte line.now commands.old.items) }
 {
-    let command = match read_line(alloc, judge.settings(), line) {
-        Ok(None) => return Ok(()),
-        Ok(Some(command)) => command,
-        Err(LineFail::Memory) => return Err(Fail::Memory),
-        Err(LineFail::Refused(reason)) => return Err(refusal(place, byte, reason)),
-    };
-    match judge.step(&command) {
-        Ok(()) => {
-            commands.push(command)?;
-            Ok(())
-        }
+    match read_line(alloc, judge.settings(), line) {
+        Ok(None) => Ok(()),
+        Ok(Some(command)) => keep(place, byte, command, judge, commands),
         Err(LineFail::Memory) => Err(Fail::Memory),
         Err(LineFail::Refused(reason)) => Err(refusal(place, byte, reason)),
     }
 }
 
 impl Progress {
-    ghost use Rattle.std.specs.Prelude.{[], ◌∷◌, List};
+    ghost use Rattle.std.specs.Prelude.{[], ◌∷◌, ◌++◌, List};
+    ghost use Rattle.drill_lines.specs.declared.command.Part.TheVariants as part;
+    ghost use Rattle.drill_text.specs.Hits.{LeadsHit};
     ghost use Rattle.drill_text.specs.Standing.{Advances, Refuses, RefusesText, Holds};
 
     /// Adds bytes to the line.
@@ -131,6 +148,68 @@ impl Progress {
         Ok(())
     }
 
+    /// Reads a line that stands in the piece from its first byte to its LF.
+    fn read_whole(&mut self, line: &[u8]) -> Result<(), Fail>
+        requires empty { self.old.line.items ≡ [] }
+        requires inside { All (λ b. b ≢ 10) line.now }
+        requires short { length line.now ≤ 1048576 }
+        requires room { self.old.offset + length line.now < 268435456 }
+        ensures offset { OnOk result (self.new.offset ≡ self.old.offset + (length line.now + 1)) }
+        ensures ok { OnOk result (Advances self.old self.new (line.now ++ 10 ∷ [])) }
+        ensures err { IfErr result (Refuses self.old (line.now ++ 10 ∷ [])) }
+    {
+        spell(
+            self.alloc,
+            self.lines + 1,
+            self.start,
+            line,
+            &mut self.judge,
+            &mut self.commands,
+        )?;
+        self.lines += 1;
+        self.offset += line.len() as u64 + 1;
+        self.start = self.offset;
+        Ok(())
+    }
+
+    /// Takes in the hit that stands in front of the bytes with its LF.
+    fn take_hit(&mut self, point: Coordinates, len: usize, bytes: &[u8]) -> Result<(), Fail>
+        requires leads { LeadsHit point len bytes.now }
+        requires body { self.old.judge.settings.part ≡ part.Body }
+        requires empty { self.old.line.items ≡ [] }
+        requires room { self.old.offset + length bytes.now ≤ 268435456 }
+        ensures offset { OnOk result (self.new.offset ≡ self.old.offset + (len + 1)) }
+        ensures ok { OnOk result (Advances self.old self.new (take (len + 1) bytes.now)) }
+        ensures err { IfErr result (Refuses self.old bytes.now) }
+    {
+        keep(
+            self.lines + 1,
+            self.start,
+            DrillCommand::Hit(point),
+            &mut self.judge,
+            &mut self.commands,
+        )?;
+        self.lines += 1;
+        self.offset += len as u64 + 1;
+        self.start = self.offset;
+        Ok(())
+    }
+
+    /// Adds bytes to the line and ends it with its LF.
+    fn take_line(&mut self, run: &[u8]) -> Result<(), Fail>
+        requires inside { All (λ b. b ≢ 10) run.now }
+        requires room { self.old.offset + length run.now < 268435456 }
+        ensures offset { OnOk result (self.new.offset ≡ self.old.offset + (length run.now + 1)) }
+        ensures ok { OnOk result (Advances self.old self.new (run.now ++ 10 ∷ [])) }
+        ensures err { IfErr result (Refuses self.old (run.now ++ 10 ∷ [])) }
+    {
+        if self.line.is_empty() && run.len() <= LINE_LIMIT {
+            return self.read_whole(run);
+        }
+        self.extend(run)?;
+        self.close()
+    }
+
     /// Takes some of the bytes, from the first on, and says how many.
     fn take_some(&mut self, bytes: &[u8]) -> Result<usize, Fail>
         requires some { 0 < length bytes.now }
@@ -139,12 +218,18 @@ impl Progress {
         ensures ok { IfOk result (λ n. Advances self.old self.new (take n bytes.now)) }
         ensures err { IfErr result (Refuses self.old bytes.now) }
     {
-        let len = line_len(bytes);
-        if len == 0 {
-            self.close()?;
-            return Ok(1);
+        if self.line.is_empty() && self.judge.is_in_body() {
+            if let Some((point, len)) = leading_hit(bytes) {
+                self.take_hit(point, len, bytes)?;
+                return Ok(len + 1);
+            }
         }
-        self.extend(&bytes[..len])?;
+        let len = line_len(bytes);
+        if len < bytes.len() {
+            self.take_line(&bytes[..len])?;
+            return Ok(len + 1);
+        }
+        self.extend(bytes)?;
         Ok(len)
     }
 

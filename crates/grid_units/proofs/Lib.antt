@@ -6,3 +6,4 @@ pub mod Digits
 pub mod Places
 pub mod Spelled
 pub mod Filling
+pub mod Fronts

@@ -25,7 +25,7 @@ pub record IsSpelling (n : ℕ) (ds : List ℕ) : Type 0 where
 digit_is : (d : ℕ) → d < 10 → is_digit (48 + d) ≡ true
 digit_is d h = grind (arith, nat_tests)
 
-and_true : (a b : Bool) → a ≡ true → b ≡ true → (a && b) ≡ true
+pub and_true : (a b : Bool) → a ≡ true → b ≡ true → (a && b) ≡ true
 and_true a b h k = λ i. (h i && k i)
 
 one_digit : (d : ℕ) → d < 10 → list_all is_digit ((48 + d) ∷ []) ≡ true
@@ -69,7 +69,7 @@ trimmed_at : (d : ℕ) (ds : List ℕ) → trimmed (d ∷ ds) ≡ cond (eqb d 48
 unfolding trimmed
 trimmed_at d ds = refl
 
-both_true : (a b : Bool) → (a && b) ≡ true → (a ≡ true) × (b ≡ true)
+pub both_true : (a b : Bool) → (a && b) ≡ true → (a ≡ true) × (b ≡ true)
 both_true true b h = (refl, h)
 both_true false b h = absurd (false≢true h)
 
@@ -121,10 +121,10 @@ trims ds h =
 
 -- ---- the parts of a spelling
 
-no_sign : (d : ℕ) → is_digit d ≡ true → (eqb d 43 || eqb d 45) ≡ false
+pub no_sign : (d : ℕ) → is_digit d ≡ true → (eqb d 43 || eqb d 45) ≡ false
 no_sign d h = grind (arith, nat_tests)
 
-no_minus : (d : ℕ) → is_digit d ≡ true → eqb d 45 ≡ false
+pub no_minus : (d : ℕ) → is_digit d ≡ true → eqb d 45 ≡ false
 no_minus d h = grind (arith, nat_tests)
 
 no_point : (d : ℕ) → is_digit d ≡ true → not (eqb d 46) ≡ true
@@ -151,14 +151,14 @@ point_nowhere (d ∷ ds) h =
     ap (λ t. cond t (1 + prefix_len (λ b. not (eqb b 46)) ds) 0) (no_point d b.0) ∙ omega (arith, point_nowhere ds b.1)
 
 -- digits, and behind a point the decimals, or nothing
-abbrev IsTail : List ℕ → List ℕ → Type 0
+abbrev pub IsTail : List ℕ → List ℕ → Type 0
 IsTail fs tail = (tail ≡ 46 ∷ fs) ⊎ ((tail ≡ []) × (fs ≡ []))
 
-before_point : (ds fs tail : List ℕ) → list_all is_digit ds ≡ true → IsTail fs tail → before_first (λ b. eqb b 46) (ds ++ tail) ≡ ds
+pub before_point : (ds fs tail : List ℕ) → list_all is_digit ds ≡ true → IsTail fs tail → before_first (λ b. eqb b 46) (ds ++ tail) ≡ ds
 before_point ds fs tail h (inl e) = ap (λ t. before_first (λ b. eqb b 46) (ds ++ t)) e ∙ ap (λ n. take n (ds ++ 46 ∷ fs)) (point_behind ds fs h) ∙ take_at ds (46 ∷ fs) (length ds) refl
 before_point ds fs tail h (inr n) = ap (λ t. before_first (λ b. eqb b 46) (ds ++ t)) n.0 ∙ ap (before_first (λ b. eqb b 46)) (append-nil ds) ∙ ap (λ k. take k ds) (point_nowhere ds h) ∙ take_all (length ds) ds (omega arith)
 
-behind_the_point : (ds fs tail : List ℕ) → list_all is_digit ds ≡ true → IsTail fs tail → after_first (λ b. eqb b 46) (ds ++ tail) ≡ fs
+pub behind_the_point : (ds fs tail : List ℕ) → list_all is_digit ds ≡ true → IsTail fs tail → after_first (λ b. eqb b 46) (ds ++ tail) ≡ fs
 behind_the_point ds fs tail h (inl e) =
     ap (λ t. after_first (λ b. eqb b 46) (ds ++ t)) e
     ∙ ap (λ n. drop (n + 1) (ds ++ 46 ∷ fs)) (point_behind ds fs h)

@@ -5,4 +5,5 @@ pub mod Points
 pub mod Holes
 pub mod Numbers
 pub mod Spellings
+pub mod Fronts
 pub mod Laws

@@ -6,7 +6,7 @@ ghost use Rattle.grid_units.specs.Numbers.{is_digit, value, whole, fraction, sig
 ghost use Rattle.grid_units.specs.Spellings.{canonical, pointed};
 
 use crate::fault::Reason;
-use crate::lengths::{Unit, picometres, power_of_ten, within_limit};
+use crate::lengths::{Unit, fine_picometres, power_of_ten, within_ten_metres};
 use crate::numbers::{are_all_digits, behind_sign, capped_value, is_negative};
 use crate::spelling::{push_decimals, push_decimals_or_zero, signed_whole};
 use arrayvec::ArrayString;
@@ -113,7 +113,7 @@ impl Dec {
         ensures exact { result ≡ within_limit (picometres unit 8 self) }
         ensures equation { IfOk result (λ p. p *ℤ pos (10 ^ 8) ≡ self *ℤ pos (unit_length unit)) }
     {
-        within_limit(picometres(self.units(), 8, unit))
+        within_ten_metres(fine_picometres(self.units(), unit))
     }
 }
 
@@ -173,7 +173,7 @@ fn behind_eighth(decimals: &[u8]) -> &[u8]
 }
 
 /// The first eight decimals, or all.
-fn first_eight(decimals: &[u8]) -> &[u8]
+pub(crate) fn first_eight(decimals: &[u8]) -> &[u8]
     ensures value { result.now ≡ take 8 decimals.now }
     ensures short { length result.now ≤ 8 }
 {

@@ -2,7 +2,7 @@
 
 ghost use Rattle.std.specs.Prelude.{◌≡◌, ◌≤◌, ◌<◌, ◌^◌, ◌/◌, ◌*ℤ◌, pos, ℕ, ℤ, unsigned_abs, IfOk};
 ghost use Rattle.grid_units.specs.declared.lengths.Unit.{Unit as Units};
-ghost use Rattle.grid_units.specs.Numbers.{unit_length, picometres, within_limit, is_far};
+ghost use Rattle.grid_units.specs.Numbers.{unit_length, picometres, within_limit, is_far, max_units};
 
 use crate::fault::Reason;
 use crate::plane::MAX_COORDINATE;
@@ -58,6 +58,17 @@ pub fn picometres(n: i64, decimals: u8, unit: Unit) -> i128
     i128::from(n) * i128::from(unit_length(unit) / power_of_ten(decimals))
 }
 
+/// So many times 10^-8 of a unit, in pm.
+pub(crate) fn fine_picometres(units: i64, unit: Unit) -> i64
+    requires { unsigned_abs units ≤ max_units }
+    ensures { result ≡ picometres unit 8 units }
+{
+    match unit {
+        Unit::Inch => units * 254,
+        Unit::Millimetre => units * 10,
+    }
+}
+
 /// Whether a length in pm is beyond 10 m.
 pub fn is_far(length: i128) -> bool
     ensures { result ≡ is_far length }
@@ -67,13 +78,25 @@ pub fn is_far(length: i128) -> bool
 
 /// A length in pm that is not beyond 10 m.
 #[tactic(auto, unfolding(crate::specs::Numbers::within_limit))]
-pub(crate) fn within_limit(length: i128) -> Result<i64, Reason>
+fn within_limit(length: i128) -> Result<i64, Reason>
     ensures { result ≡ within_limit length }
 {
     if is_far(length) {
         Err(Reason::TooFar)
     } else {
         Ok(length as i64)
+    }
+}
+
+/// A length in pm of 64 bits that is not beyond 10 m.
+#[tactic(auto, unfolding(crate::specs::Numbers::within_limit))]
+pub(crate) fn within_ten_metres(length: i64) -> Result<i64, Reason>
+    ensures { result ≡ within_limit length }
+{
+    if length.unsigned_abs() > MAX_COORDINATE {
+        Err(Reason::TooFar)
+    } else {
+        Ok(length)
     }
 }
 

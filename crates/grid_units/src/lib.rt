@@ -5,6 +5,7 @@
 
 mod decimal;
 mod fault;
+mod front;
 mod holes;
 pub mod laws;
 mod lengths;

@@ -1,6 +1,5 @@
-use Rattle.std.proofs.Common.{ℕ, ◌+◌, Bool, List, [], drop, ◌&&◌, sym, ap, ◌∙◌}
+use Rattle.std.proofs.Common.{◌+◌, drop, ◌&&◌, sym, ap, ◌∙◌}
 use Rattle.std.proofs.lemmas.List.{drop_all}
-use Rattle.drill_lines.specs.declared.command.DrillCommand.{DrillCommand}
 use Rattle.drill_lines.specs.declared.command.Part.TheVariants.{Before}
 use Rattle.drill_text.specs.Writing.{are_sayable, part_from, is_over}
 use Rattle.drill_text.proofs.RoundTrip.{said_more, said_not, part_at}

@@ -1,4 +1,4 @@
-use Rattle.std.proofs.Common.{◌≡◌, refl, ℕ, ℤ, false, List, ◌++◌, Option, None, Some, is_some, nat_eq, rules, sym, ap, subst, ◌∙◌}
+use Rattle.std.proofs.Common.{◌≡◌, refl, false, ◌++◌, Option, None, Some, is_some, nat_eq, rules, sym, ap, ◌∙◌}
 use Rattle.std.specs.Option.{option_to_list}
 use Rattle.indexmap.specs.IndexMap.{get}
 use Rattle.indexmap.proofs.CallerLemmas.{insert_entry-new}

@@ -1,4 +1,4 @@
-use Rattle.std.proofs.Common.{◌≡◌, ◌+◌, suc, ℕ, List, [], ◌∷◌, ◌++◌, Err, length, sym, ap, subst, ◌∙◌, arith}
+use Rattle.std.proofs.Common.{◌≡◌, ◌+◌, ℕ, List, [], ◌∷◌, ◌++◌, Err, length, sym, ap, subst, ◌∙◌, arith}
 use Rattle.std.proofs.lemmas.List.{length-append}
 use Rattle.std.proofs.lemmas.Result.{err_from_is_err_and}
 use Rattle.drill_lines.specs.declared.command.DrillCommand.{DrillCommand}
@@ -9,22 +9,14 @@ use Rattle.drill_text.specs.declared.reader.Progress.{Progress}
 use Rattle.drill_text.specs.Lines.{Splits, bytes_of}
 use Rattle.drill_text.specs.Reading.{spelled, shown}
 use Rattle.drill_text.specs.Knowing.{Knows, Leaves}
-use Rattle.drill_text.specs.Standing.{Holds, Refuses}
+use Rattle.drill_text.specs.Standing.{Refuses}
 use Rattle.drill_text.proofs.Splitting.{Splits-close, bytes_of-push}
-use Rattle.drill_text.proofs.Shown.{shown_ok, show_push}
+use Rattle.drill_text.proofs.Shown.{closed}
 use Rattle.drill_text.proofs.reader.Progress.close.Goals as goal
-
--- the line that an LF ends, for a reader that holds this text
-closed : (old : Progress) (text : List ℕ) (h : Holds old text) → shown (h.lines ++ old.line.items ∷ []) [] ≡ spelled (old.lines + 1) old.start old.line.items old.commands.items
-closed old text h =
-    let cs = old.commands.items in
-    let place : suc (length h.lines) ≡ old.lines + 1 = omega (arith, h.count) in
-    show_push h.lines old.line.items cs (shown_ok h.lines old.line.items cs h.commands).0
-    ∙ (ap (λ p. spelled p (length (bytes_of h.lines)) old.line.items cs) place ∙ ap (λ b. spelled (old.lines + 1) b old.line.items cs) (sym h.start))
 
 refused : (old : Progress) (e : Fail) (judge : Judge) (new : List DrillCommand) → (Knows old.judge old.commands.items → Leaves {X = Unit {0}} (Err e) judge new (spelled (old.lines + 1) old.start old.line.items old.commands.items)) → Refuses old (10 ∷ []) e
 refused old Memory judge new k = tt
-refused old (Refused f) judge new k = λ text h. record { lines = h.lines ++ old.line.items ∷ []; rest = []; splits = Splits-close text h.lines old.line.items h.splits; fault = closed old text h ∙ k h.knows }
+refused old (Refused f) judge new k = λ text h. record { lines = h.lines ++ old.line.items ∷ []; rest = []; splits = Splits-close text h.lines old.line.items h.splits; fault = closed old text old.line.items h ∙ k h.knows }
 
 pub returns-clause-ok : goal.returns-clause-ok
 returns-clause-ok c text h =
@@ -35,7 +27,7 @@ returns-clause-ok c text h =
     record {
       lines = lines;
       splits = subst (λ (x : List ℕ). Splits (text ++ 10 ∷ []) lines x) (sym c.clear.ensures.items) (Splits-close text h.lines old.line.items h.splits);
-      commands = ap (shown lines) c.clear.ensures.items ∙ (closed old text h ∙ (ap (λ (x : List ℕ). spelled (old.lines + 1) old.start x old.commands.items) line ∙ k.0));
+      commands = ap (shown lines) c.clear.ensures.items ∙ (closed old text old.line.items h ∙ (ap (λ (x : List ℕ). spelled (old.lines + 1) old.start x old.commands.items) line ∙ k.0));
       knows = k.1;
       count = omega (arith, h.count, length-append h.lines (old.line.items ∷ []));
       start = omega (arith, h.offset, ap length h.splits.whole, length-append (bytes_of h.lines) old.line.items, ap length (bytes_of-push h.lines old.line.items), length-append (bytes_of h.lines) (old.line.items ++ 10 ∷ []), length-append old.line.items (10 ∷ []));

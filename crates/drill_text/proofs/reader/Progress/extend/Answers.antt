@@ -2,7 +2,7 @@ use Rattle.std.proofs.Common.{◌≡◌, ◌≢◌, ◌+◌, suc, ℕ, List, ◌
 use Rattle.std.proofs.lemmas.List.{length-append}
 use Rattle.std.proofs.lemmas.List.Elements.{recursion_from_All}
 use Rattle.grid_units.specs.declared.fault.Reason.TheVariants.{TooLong}
-use Rattle.drill_text.specs.Lines.{Splits, bytes_of}
+use Rattle.drill_text.specs.Lines.{Splits}
 use Rattle.grid_units.specs.Results.{fault}
 use Rattle.drill_text.specs.Reading.{shown}
 use Rattle.drill_text.specs.Standing.{Refuses}

@@ -1,0 +1,60 @@
+-- A line that stands in a piece from its first byte to its LF, for a reader that holds no unfinished line.
+use Rattle.std.proofs.Common.{◌≡◌, ◌+◌, ℕ, Bool, true, false, not, eqb, refl, List, [], ◌∷◌, ◌++◌, Ok, Err, length, sym, ap, subst, ◌∙◌, arith, append_assoc}
+use Rattle.std.specs.List.{list_all}
+use Rattle.std.proofs.lemmas.List.{length-append}
+use Rattle.std.proofs.lemmas.Bool.{eqb-false}
+use Rattle.drill_lines.proofs.Runs.{both_true}
+use Rattle.drill_lines.specs.declared.command.DrillCommand.{DrillCommand}
+use Rattle.grid_units.specs.declared.fault.Fail.{Fail}
+use Rattle.grid_units.specs.declared.fault.Fail.TheVariants.{Memory, Refused}
+use Rattle.drill_text.specs.declared.judge.Judge.{Judge}
+use Rattle.drill_text.specs.declared.reader.Progress.{Progress}
+use Rattle.drill_text.specs.Lines.{HasNoBreak, Splits, bytes_of}
+use Rattle.drill_text.specs.Reading.{shown, spelled}
+use Rattle.drill_text.specs.Knowing.{Knows, Leaves}
+use Rattle.drill_text.specs.Standing.{Holds, Refuses}
+use Rattle.drill_text.proofs.Splitting.{Splits-grow, Splits-close, bytes_of-push}
+use Rattle.drill_text.proofs.Shown.{closed}
+
+pub no_break : (bs : List ℕ) → list_all (λ b. not (eqb b 10)) bs ≡ true → HasNoBreak bs
+no_break [] h = tt
+no_break (b ∷ bs) h = let k = both_true (not (eqb b 10)) (list_all (λ b. not (eqb b 10)) bs) h in (eqb-false b 10 (negated (eqb b 10) k.0), no_break bs k.1)
+  where
+    negated : (t : Bool) → not t ≡ true → t ≡ false
+    negated true e = absurd cc
+    negated false e = refl
+
+-- the text with this line and its LF behind it
+whole_splits : (old : Progress) (text line : List ℕ) (h : Holds old text) → old.line.items ≡ [] → HasNoBreak line → Splits (text ++ (line ++ 10 ∷ [])) (h.lines ++ line ∷ []) []
+whole_splits old text line h none inside =
+    let alone : Splits text h.lines [] = subst (λ (x : List ℕ). Splits text h.lines x) none h.splits in
+    subst (λ (x : List ℕ). Splits x (h.lines ++ line ∷ []) []) (append_assoc text line (10 ∷ []))
+    (Splits-close (text ++ line) h.lines line (Splits-grow text h.lines [] line alone inside))
+
+-- the reader that took the line in
+pub whole_holds : (old new : Progress) (text line : List ℕ) (h : Holds old text) → old.line.items ≡ [] → HasNoBreak line → new.line.items ≡ old.line.items → spelled (old.lines + 1) old.start line old.commands.items ≡ Ok new.commands.items → Knows new.judge new.commands.items
+    → new.lines ≡ old.lines + 1 → new.start ≡ new.offset → new.offset ≡ old.offset + (length line + 1) → Holds new (text ++ (line ++ 10 ∷ []))
+whole_holds old new text line h none inside kept spells knows count start offset =
+    let lines : List (List ℕ) = h.lines ++ line ∷ [] in
+    let empty : new.line.items ≡ [] = kept ∙ none in
+    record {
+      lines = lines;
+      splits = subst (λ (x : List ℕ). Splits (text ++ (line ++ 10 ∷ [])) lines x) (sym empty) (whole_splits old text line h none inside);
+      commands = ap (shown lines) empty ∙ (closed old text line h ∙ spells);
+      knows = knows;
+      count = omega (arith, count, h.count, length-append h.lines (line ∷ []));
+      start = omega (arith, start, offset, h.start, h.offset, ap length h.splits.whole, length-append (bytes_of h.lines) old.line.items, ap length none, ap length (bytes_of-push h.lines line), length-append (bytes_of h.lines) (line ++ 10 ∷ []), length-append line (10 ∷ []));
+      offset = omega (arith, offset, h.offset, length-append text (line ++ 10 ∷ []), length-append line (10 ∷ []));
+    }
+
+-- the same of the bytes that the line and its LF are
+pub whole_taken : (old new : Progress) (text line taken : List ℕ) (h : Holds old text) → line ++ 10 ∷ [] ≡ taken → old.line.items ≡ [] → HasNoBreak line → new.line.items ≡ old.line.items → spelled (old.lines + 1) old.start line old.commands.items ≡ Ok new.commands.items
+    → Knows new.judge new.commands.items → new.lines ≡ old.lines + 1 → new.start ≡ new.offset → new.offset ≡ old.offset + (length line + 1) → Holds new (text ++ taken)
+whole_taken old new text line taken h is none inside kept spells knows count start offset =
+    subst (λ (x : List ℕ). Holds new (text ++ x)) is (whole_holds old new text line h none inside kept spells knows count start offset)
+
+-- the fault that the line shows
+pub whole_refused : (old : Progress) (line : List ℕ) (e : Fail) (judge : Judge) (new : List DrillCommand) → old.line.items ≡ [] → HasNoBreak line
+    → (Knows old.judge old.commands.items → Leaves {X = Unit {0}} (Err e) judge new (spelled (old.lines + 1) old.start line old.commands.items)) → Refuses old (line ++ 10 ∷ []) e
+whole_refused old line Memory judge new none inside k = tt
+whole_refused old line (Refused f) judge new none inside k = λ text h. record { lines = h.lines ++ line ∷ []; rest = []; splits = whole_splits old text line h none inside; fault = closed old text line h ∙ k h.knows }

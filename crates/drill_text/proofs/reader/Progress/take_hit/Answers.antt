@@ -1,0 +1,35 @@
+use Rattle.std.proofs.Common.{◌≡◌, ◌≤◌, ◌+◌, ℕ, List, [], ◌∷◌, ◌++◌, length, take, sym, ap, subst, ◌∙◌, refl, arith, append_assoc}
+use Rattle.std.proofs.lemmas.List.{length-append, take_at}
+use Rattle.std.proofs.lemmas.Result.{err_from_is_err_and}
+use Rattle.drill_lines.specs.declared.command.Coordinates.{Coordinates}
+use Rattle.drill_text.specs.Hits.{LeadsHit}
+use Rattle.drill_text.specs.Standing.{Refuses}
+use Rattle.drill_text.proofs.Shown.{Refuses-front}
+use Rattle.drill_text.proofs.WholeLines.{no_break, whole_taken, whole_refused}
+use Rattle.drill_text.proofs.reader.Progress.take_hit.Goals as goal
+
+-- the line and its LF
+front : (point : Coordinates) (len : ℕ) (bytes : List ℕ) (h : LeadsHit point len bytes) → h.line ++ 10 ∷ [] ≡ take (len + 1) bytes
+front point len bytes h =
+    let whole : bytes ≡ (h.line ++ 10 ∷ []) ++ h.more = h.whole ∙ sym (append_assoc h.line (10 ∷ []) h.more) in
+    let count : length (h.line ++ 10 ∷ []) ≡ len + 1 = omega (arith, length-append h.line (10 ∷ []), h.count) in
+    sym (ap (take (len + 1)) whole ∙ take_at (h.line ++ 10 ∷ []) h.more (len + 1) count)
+
+pub returns-clause-ok : goal.returns-clause-ok
+returns-clause-ok c text h =
+    let leads = c.requires.leads in
+    let old = c.args.self.now in
+    let short : length leads.line ≤ 1048576 = omega (arith, leads.count, leads.short) in
+    let k = c.in_ok-keep.ensures leads.line short (leads.spells old.judge.settings c.requires.body) h.knows in
+    whole_taken old _ text leads.line _ h (front c.args.point c.args.len c.args.bytes.now leads) c.requires.empty (no_break leads.line leads.inside) refl k.0 k.1 refl refl (ap (λ n. old.offset + (n + 1)) (sym leads.count))
+
+pub returns-in_err-keep-clause-err : goal.returns-in_err-keep-clause-err
+returns-in_err-keep-clause-err c =
+    let leads = c.requires.leads in
+    let old = c.args.self.now in
+    let bytes = c.args.bytes.now in
+    let e = c.in_err-keep.field-0.0 in
+    let p = err_from_is_err_and c.from_residual.result c.from_residual.ensures.1 in
+    let short : length leads.line ≤ 1048576 = omega (arith, leads.count, leads.short) in
+    rw (p.1, p.2) (Refuses-front old bytes (c.args.len + 1) e (subst (λ (x : List ℕ). Refuses old x e) (front c.args.point c.args.len bytes leads)
+    (whole_refused old leads.line e c.keep.new.judge c.keep.new.commands.items c.requires.empty (no_break leads.line leads.inside) (c.in_err-keep.ensures leads.line short (leads.spells old.judge.settings c.requires.body)))))

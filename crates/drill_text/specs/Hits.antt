@@ -1,0 +1,36 @@
+-- A hit in front of the bytes of a file, at decimals with points.
+use Rattle.std.specs.Prelude.{◌≡◌, ◌≤◌, ℕ, ℤ, true, not, ◌==◌, List, ◌∷◌, ◌++◌, length, Some, Ok}
+use Rattle.std.specs.List.{list_all}
+use Rattle.grid_units.specs.Fronts.{IsInFront}
+use Rattle.drill_lines.specs.Lines.{is_blank, trimmed}
+use Rattle.drill_lines.specs.Meaning.{meaning}
+use Rattle.drill_lines.specs.declared.command.Coordinates.{Coordinates}
+use Rattle.drill_lines.specs.declared.command.Part.TheVariants as part
+use Rattle.drill_lines.specs.declared.command.Settings.{Settings}
+use Rattle.drill_lines.specs.declared.command.DrillCommand.TheVariants as command
+
+-- The bytes are this letter, a decimal with a point, and the rest (docs/FORMATS.md, Drill lines).
+pub record NamesDecimal (letter : ℕ) (v : ℤ) (rest bytes : List ℕ) : Type 0 where
+  pub behind : List ℕ
+  pub whole : bytes ≡ letter ∷ behind
+  pub is_decimal : IsInFront v rest behind
+
+-- The bytes are so many blanks, an LF and more (docs/FORMATS.md, Drill lines).
+pub record EndsLine (n : ℕ) (bytes : List ℕ) : Type 0 where
+  pub blanks : List ℕ
+  pub more : List ℕ
+  pub whole : bytes ≡ blanks ++ 10 ∷ more
+  pub all_blank : list_all is_blank blanks ≡ true
+  pub no_break : list_all (λ b. not (b == 10)) blanks ≡ true
+  pub count : length blanks ≡ n
+  pub short : n ≤ 1
+
+-- The bytes are a line of so many bytes that spells this hit in the body, its LF and more (docs/FORMATS.md, Drill lines).
+pub record LeadsHit (point : Coordinates) (len : ℕ) (bytes : List ℕ) : Type 0 where
+  pub line : List ℕ
+  pub more : List ℕ
+  pub whole : bytes ≡ line ++ 10 ∷ more
+  pub count : length line ≡ len
+  pub short : len ≤ 64
+  pub inside : list_all (λ b. not (b == 10)) line ≡ true
+  pub spells : (settings : Settings) → settings.part ≡ part.Body → meaning settings (trimmed line) ≡ Ok (Some (command.Hit point))

@@ -1,0 +1,48 @@
+//! Hits at decimals with points, as most lines are: read in one pass, from the first byte of a line to its LF.
+
+ghost use Rattle.std.specs.Prelude.{IfSome};
+ghost use Rattle.drill_text.specs.Hits.{NamesDecimal, EndsLine, LeadsHit};
+
+use drill_lines::Coordinates;
+use grid_units::Dec;
+
+/// A decimal with a point behind a letter, where there is one, and what stands behind it.
+fn named_decimal(letter: u8, bytes: &[u8]) -> (Option<Dec>, &[u8])
+    ensures { IfSome result.0 (λ v. NamesDecimal letter v result.1.now bytes.now) }
+{
+    match bytes.split_first() {
+        Some((first, behind)) if *first == letter => Dec::in_front(behind),
+        _ => (None, bytes),
+    }
+}
+
+/// How many blanks stand before an LF in front of the bytes: none, or a CR.
+fn blanks_at_end(bytes: &[u8]) -> Option<usize>
+    ensures { IfSome result (λ count. EndsLine count bytes.now) }
+{
+    let Some((first, behind)) = bytes.split_first() else {
+        return None;
+    };
+    match behind.split_first() {
+        _ if *first == b'\n' => Some(0),
+        Some((second, _)) if *first == b'\r' && *second == b'\n' => Some(1),
+        _ => None,
+    }
+}
+
+/// The hit that the line in front of the bytes spells in the body, and how many bytes stand before its LF. `None`
+/// says only that this short way does not find one.
+pub(crate) fn leading_hit(bytes: &[u8]) -> Option<(Coordinates, usize)>
+    ensures { IfSome result (λ hit. LeadsHit hit.0 hit.1 bytes.now) }
+{
+    let (x, behind_x) = named_decimal(b'X', bytes);
+    let (y, behind_y) = named_decimal(b'Y', behind_x);
+    let Some(blanks) = blanks_at_end(behind_y) else {
+        return None;
+    };
+    if x.is_none() || y.is_none() {
+        return None;
+    }
+    let len = bytes.len() - behind_y.len() + blanks;
+    Some((Coordinates { x, y }, len))
+}
