@@ -56,7 +56,8 @@ pub(crate) fn read_int(run: &[u8]) -> Result<i64, Reason>
     Ok(signed(is_negative(run), value_of(significant)))
 }
 
-fn signed(negative: bool, magnitude: u64) -> i64
+/// A number with its sign.
+pub(crate) fn signed(negative: bool, magnitude: u64) -> i64
     requires { magnitude < 10 ^ 12 }
     ensures { result ≡ (if negative then neg_ℤ (pos magnitude) else pos magnitude) }
 {
