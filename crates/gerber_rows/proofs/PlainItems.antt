@@ -1,21 +1,20 @@
 -- Operations that are spelled as most are.
-use Rattle.std.proofs.Common.{◌≡◌, ◌≢◌, ℕ, zero, suc, ◌+◌, ◌-◌, ◌*◌, ◌^◌, ◌<◌, ◌≤◌, Bool, true, false, cond, eqb, not, ◌||◌, ◌&&◌, List, [], ◌∷◌, ◌++◌, length, take, drop, get_or, Option, None, Some, Result, Ok, Err, refl, sym, ap, subst, ◌∙◌, arith, append_assoc}
+use Rattle.std.proofs.Common.{◌≡◌, ◌≢◌, ℕ, zero, suc, ◌+◌, ◌-◌, ◌<◌, ◌≤◌, Bool, true, false, cond, eqb, ◌||◌, List, [], ◌∷◌, ◌++◌, length, take, drop, get_or, Option, None, Some, Result, Ok, Err, refl, sym, ap, subst, ◌∙◌, arith, append_assoc}
 use Rattle.std.specs.Prelude.{ℤ, pos, neg_ℤ, is_some, IfSome}
-use Rattle.std.specs.List.{list_all, list_any, take_while, prefix_len, AllByRecursion}
+use Rattle.std.specs.List.{list_any, take_while, prefix_len, AllByRecursion}
 use Rattle.std.proofs.lemmas.Bool.{eqb-true, eqb-false, eq-eqb, false≢true}
-use Rattle.std.proofs.lemmas.List.{take_more, length-append, length-take, length-drop, take-append-drop, take_all}
-use Rattle.std.proofs.lemmas.List.Sums.{fold-append, take_while-cons}
+use Rattle.std.proofs.lemmas.List.{length-append, length-take, take-append-drop, take_all}
+use Rattle.std.proofs.lemmas.List.Sums.{take_while-cons}
 use Rattle.std.proofs.Math.Seq.{take-append_seam}
-use Rattle.std.proofs.Math.Nat.{pow-suc}
 use Rattle.grid_units.specs.Results.{◌>>=◌, both}
-use Rattle.grid_units.specs.Numbers.{is_digit, is_number, is_digits, value, unsigned, is_negative}
+use Rattle.grid_units.specs.Numbers.{is_digit, is_number, value, unsigned, is_negative}
 use Rattle.grid_units.specs.declared.fault.Reason.{Reason}
 use Rattle.grid_units.specs.declared.fault.Reason.TheVariants.{BadWord}
 use Rattle.gerber_rows.specs.declared.command.Command.TheVariants.{Operate}
 use Rattle.gerber_rows.specs.declared.command.Action.{Action}
 use Rattle.gerber_rows.specs.declared.command.Action.TheVariants.{Plot, Move, Flash}
 use Rattle.gerber_rows.specs.Items.{is_line_break, ender, IsItem, is_end}
-use Rattle.gerber_rows.specs.Numbers.{significant, int_of, nat_of}
+use Rattle.gerber_rows.specs.Numbers.{int_of, nat_of}
 use Rattle.gerber_rows.specs.Rows.{first_fit, field, modes_of}
 use Rattle.gerber_rows.specs.Words.{coordinate, kind, Fields, fields, is_operation, operands, operate, words, word}
 use Rattle.gerber_rows.specs.Pieces.{extended}
@@ -25,29 +24,9 @@ use Rattle.gerber_rows.specs.Canonical.{action_code}
 use Rattle.gerber_rows.specs.Plain.{BeginsWith, BeginsWithInt, BeginsWithCoordinate, coordinate_word}
 use Rattle.grid_units.proofs.Binds.{bind_ok}
 use Rattle.gerber_rows.proofs.Beginnings.{fits_operation}
-use Rattle.gerber_rows.proofs.Numerals.{value_significant, int_ok}
-
--- ---- one more digit
-
-pub value_more : (bytes : List ℕ) (i n b d : ℕ) → i < length bytes → b ≡ get_or bytes i d → n ≡ value (take i bytes) → n * 10 + (b - 48) ≡ value (take (i + 1) bytes)
-value_more bytes i n b d lt is before =
-    let all : value (take (i + 1) bytes) ≡ value (take i bytes) * 10 + (get_or bytes i d - 48) = ap value (take_more bytes i d lt) ∙ fold-append (λ m x. m * 10 + (x - 48)) 0 (take i bytes) (get_or bytes i d ∷ []) in
-    (λ j. before j * 10 + (is j - 48)) ∙ sym all
-
-pub bound_more : (n i d : ℕ) → n < 10 ^ i → d ≤ 9 → n * 10 + d < 10 ^ (i + 1)
-bound_more n i d lt le =
-    let k : i + 1 ≡ suc i = omega arith in
-    let p : 10 ^ (i + 1) ≡ 10 ^ i * 10 = ap (λ j. 10 ^ j) k ∙ pow-suc 10 i in
-    omega (arith, p, lt, le)
-
-pub digit_small : (b : ℕ) → is_digit b ≡ true → b - 48 ≤ 9
-digit_small b h = grind arith
+use Rattle.gerber_rows.proofs.Numerals.{spells}
 
 -- ---- an integer
-
-pub all_true : (p : ℕ → Bool) (xs : List ℕ) → AllByRecursion (λ b. p b ≡ true) xs → list_all p xs ≡ true
-all_true p [] h = refl
-all_true p (x ∷ xs) h = ap (λ t. t && list_all p xs) h.0 ∙ all_true p xs h.1
 
 pub numbers_of : (xs : List ℕ) → AllByRecursion (λ b. is_digit b ≡ true) xs → AllByRecursion (λ b. is_number b ≡ true) xs
 numbers_of [] h = tt
@@ -58,21 +37,6 @@ sign_is_number true t u v h = refl
 sign_is_number false true u v h = refl
 sign_is_number false false true v h = refl
 sign_is_number false false false v h = absurd (false≢true h)
-
-not_empty : (xs : List ℕ) → 0 < length xs → not (eqb (length xs) 0) ≡ true
-not_empty xs lt = by (eqb (length xs) 0) refl
-  where
-    by : (t : Bool) → eqb (length xs) 0 ≡ t → not t ≡ true
-    by true e = absurd (omega (arith, eqb-true (length xs) 0 e, lt))
-    by false e = refl
-
-are_digits : (xs : List ℕ) → 0 < length xs → AllByRecursion (λ b. is_digit b ≡ true) xs → is_digits xs ≡ true
-are_digits xs lt h = ap (λ t. t && list_all is_digit xs) (not_empty xs lt) ∙ all_true is_digit xs h
-
-spells : (run part : List ℕ) (n : ℕ) → unsigned run ≡ part → 0 < length part → length part ≤ 12 → AllByRecursion (λ b. is_digit b ≡ true) part → n ≡ value part → int_of run ≡ Ok (cond (is_negative run) (neg_ℤ (pos n)) (pos n))
-spells run part n is some short digits n-is =
-    let size : length (significant (unsigned run)) ≤ 12 = omega (arith, ap length is, short, length-drop (prefix_len (λ b. eqb b 48) (unsigned run)) (unsigned run)) in
-    int_ok run n (ap is_digits is ∙ are_digits part some digits) size (n-is ∙ ap value (sym is) ∙ sym (value_significant (unsigned run)))
 
 begins : (t : Bool) (b : ℕ) (bs : List ℕ) (n len : ℕ) → (eqb b 43 || eqb b 45) ≡ t → 0 < len → len ≤ length (cond t bs (b ∷ bs)) → len ≤ 12 → AllByRecursion (λ x. is_digit x ≡ true) (take len (cond t bs (b ∷ bs))) → n ≡ value (take len (cond t bs (b ∷ bs)))
     → BeginsWithInt (b ∷ bs) (cond (eqb b 45) (neg_ℤ (pos n)) (pos n)) (drop len (cond t bs (b ∷ bs)))

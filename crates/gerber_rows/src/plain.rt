@@ -1,14 +1,13 @@
 //! Operations that are spelled as most are, read in one pass over their bytes.
 
-ghost use Rattle.std.specs.Prelude.{◌≡◌, ◌≤◌, ◌<◌, ◌^◌, ◌++◌, List, ℕ, length, take, All, true, None, IfSome};
-ghost use Rattle.grid_units.specs.Numbers.{is_digit, value};
+ghost use Rattle.std.specs.Prelude.{◌≡◌, ◌++◌, List, ℕ, None, IfSome};
 ghost use Rattle.gerber_rows.specs.declared.command.Command.TheVariants.{Operate};
 ghost use Rattle.gerber_rows.specs.Canonical.{action_code};
 ghost use Rattle.gerber_rows.specs.Plain.{BeginsWith, BeginsWithInt, BeginsWithCoordinate};
 
 use crate::command::Action;
-use crate::number::signed;
-use grid_units::numbers::{behind_sign, is_digit, is_negative};
+use crate::number::{first_digits, signed};
+use grid_units::numbers::{behind_sign, is_negative};
 
 /// An operation by `X` and `Y` alone, and how many bytes its item takes.
 #[derive(Clone, Copy, Debug, PartialEq, Eq)]
@@ -17,24 +16,6 @@ pub struct PlainOperation {
     pub x: Option<i64>,
     pub y: Option<i64>,
     pub len: usize,
-}
-
-/// The number that the first digits spell, at most 12 of them, and how many these are.
-fn first_digits(bytes: &[u8]) -> (u64, usize)
-    ensures within { result.1 ≤ length bytes.now }
-    ensures short { result.1 ≤ 12 }
-    ensures digits { All (λ b. is_digit b ≡ true) (take result.1 bytes.now) }
-    ensures value { result.0 ≡ value (take result.1 bytes.now) }
-    ensures bound { result.0 < 10 ^ 12 }
-{
-    let mut n = 0;
-    for (i, byte) in bytes.iter().enumerate() {
-        if i == 12 || !is_digit(*byte) {
-            return (n, i);
-        }
-        n = n * 10 + u64::from(*byte - b'0');
-    }
-    (n, bytes.len())
 }
 
 /// The integer at the start of these bytes, with a sign and at most 12 digits, and what stands behind it.

@@ -2,8 +2,8 @@ use Rattle.std.proofs.Common.{◌≡◌, ◌+◌, ◌*◌, ◌≤◌, ◌^◌, g
 use Rattle.std.proofs.Math.Nat.{pow-le-pow_right}
 use Rattle.std.proofs.lemmas.List.Elements.{All-more}
 use Rattle.grid_units.specs.Numbers.{is_digit}
-use Rattle.gerber_rows.proofs.PlainItems.{value_more, bound_more, digit_small}
-use Rattle.gerber_rows.proofs.plain.first_digits.Goals as goal
+use Rattle.gerber_rows.proofs.Numerals.{value_more, bound_more, digit_small}
+use Rattle.gerber_rows.proofs.number.first_digits.Goals as goal
 
 pub returns-then-i-eq12-clause-bound : goal.returns-then-i-eq12-clause-bound
 returns-then-i-eq12-clause-bound c =

@@ -1,6 +1,6 @@
 use Rattle.std.proofs.Common.{◌≡◌, ◌≤◌, ◌<◌, ◌^◌, take, All, true}
 use Rattle.grid_units.specs.Numbers.{is_digit, value}
-use Rattle.gerber_rows.proofs.plain.first_digits.Given as goal
+use Rattle.gerber_rows.proofs.number.first_digits.Given as goal
 
 abbrev pub invariant-loop-i : goal.invariant-loop-i
 invariant-loop-i l = record {
