@@ -1,6 +1,9 @@
 ghost use Rattle.std.specs.Prelude.{◌≤◌, length};
 
-use crate::{Command, Placed, WordReader, read_kept, read_words, write_commands, write_placed};
+use crate::{
+    Action, Command, Placed, WordReader, read_kept, read_words, write_commands, write_placed,
+};
+use gerber_rows::{PlainOperation, plain_operation};
 use grid_units::{Fail, Fault, Reason};
 use std::alloc::{AllocError, Global};
 use std::test::Fail as TestFail;
@@ -243,12 +246,6 @@ fn with_line(alloc: Global, begins: usize, ends: usize, line: &[u8]) -> Result<V
     Ok(text)
 }
 
-/// The fault of the layer with one command more before its third item.
-fn fault_at_third(alloc: Global, line: &[u8]) -> Result<Option<Fail>, AllocError> {
-    let text = with_line(alloc, 22, 22, line)?;
-    Ok(fault_of(alloc, &text))
-}
-
 #[test]
 fn a_refused_command_in_a_layer(rt: HostRuntime) -> Result<(), TestFail> {
     let alloc = rt.alloc();
@@ -263,8 +260,30 @@ fn a_refused_command_in_a_layer(rt: HostRuntime) -> Result<(), TestFail> {
         (b"%ADD10C,0.123456789*%", Reason::TooFine),
     ];
     for (line, reason) in rows {
-        assert_eq!(rt; fault_at_third(alloc, line)?, refused(3, 22, reason));
+        let text = with_line(alloc, 22, 22, line)?;
+        assert_eq!(rt; fault_of(alloc, &text), refused(3, 22, reason));
+        assert!(rt; is_same_in_pieces(alloc, &text));
     }
+    Ok(())
+}
+
+#[test]
+fn operations_read_in_one_pass(rt: HostRuntime) -> Result<(), TestFail> {
+    let flash = PlainOperation {
+        action: Action::Flash,
+        x: Some(1),
+        y: Some(-2),
+        len: 9,
+    };
+    assert_eq!(rt; plain_operation(b"X1Y-2D03*\nD10*"), Some(flash));
+    let plot = PlainOperation {
+        action: Action::Plot,
+        x: None,
+        y: Some(5),
+        len: 7,
+    };
+    assert_eq!(rt; plain_operation(b"Y+5D01*"), Some(plot));
+    assert_eq!(rt; plain_operation(b"X1Y2D0"), None);
     Ok(())
 }
 
