@@ -2,3 +2,4 @@ pub mod Beginnings
 pub mod Joined
 pub mod Numerals
 pub mod Parts
+pub mod PlainItems

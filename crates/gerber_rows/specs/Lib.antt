@@ -4,6 +4,7 @@ pub mod Items
 pub mod Meaning
 pub mod Numbers
 pub mod Pieces
+pub mod Plain
 pub mod Rows
 pub mod Runs
 pub mod Words

@@ -8,6 +8,7 @@ mod fields;
 mod item;
 mod number;
 mod piece;
+mod plain;
 mod word;
 
 pub use canonical::write_item;
@@ -16,3 +17,4 @@ pub use command::{
     Spelled, Standard, Template,
 };
 pub use item::{ItemFail, is_text_end, read_item};
+pub use plain::{PlainOperation, plain_operation};

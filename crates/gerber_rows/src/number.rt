@@ -1,12 +1,12 @@
 //! The numbers of a Gerber text that are not decimals.
 
-ghost use Rattle.std.specs.Prelude.{◌≡◌, ◌<◌, ◌^◌, ◌≤◌, ◌==◌, length, All, true, neg_ℤ, pos, if◌then◌else◌};
+ghost use Rattle.std.specs.Prelude.{◌≡◌, ◌<◌, ◌^◌, ◌≤◌, ◌==◌, length, take, All, true, neg_ℤ, pos, if◌then◌else◌};
 ghost use Rattle.std.specs.List.{prefix_len};
 ghost use Rattle.grid_units.specs.Numbers.{is_digit, value};
 ghost use Rattle.gerber_rows.specs.Numbers.{int_of, nat_of};
 
 use grid_units::Reason;
-use grid_units::numbers::{behind_sign, capped_value, is_digits, is_negative};
+use grid_units::numbers::{behind_sign, capped_value, is_digit, is_digits, is_negative};
 
 /// The number that at most 12 digits spell.
 fn value_of(digits: &[u8]) -> u64
@@ -20,6 +20,24 @@ fn value_of(digits: &[u8]) -> u64
         n = n * 10 + u64::from(*byte - b'0');
     }
     n
+}
+
+/// The number that the first digits spell, at most 12 of them, and how many these are.
+pub(crate) fn first_digits(bytes: &[u8]) -> (u64, usize)
+    ensures within { result.1 ≤ length bytes.now }
+    ensures short { result.1 ≤ 12 }
+    ensures digits { All (λ b. is_digit b ≡ true) (take result.1 bytes.now) }
+    ensures value { result.0 ≡ value (take result.1 bytes.now) }
+    ensures bound { result.0 < 10 ^ 12 }
+{
+    let mut n = 0;
+    for (i, byte) in bytes.iter().enumerate() {
+        if i == 12 || !is_digit(*byte) {
+            return (n, i);
+        }
+        n = n * 10 + u64::from(*byte - b'0');
+    }
+    (n, bytes.len())
 }
 
 fn is_zero(byte: u8) -> bool
@@ -46,6 +64,10 @@ pub(crate) fn read_int(run: &[u8]) -> Result<i64, Reason>
     ensures { result ≡ int_of run.now }
 {
     let digits = behind_sign(run);
+    let (magnitude, len) = first_digits(digits);
+    if len > 0 && len == digits.len() {
+        return Ok(signed(is_negative(run), magnitude));
+    }
     if !is_digits(digits) {
         return Err(Reason::BadNumber);
     }
@@ -56,7 +78,8 @@ pub(crate) fn read_int(run: &[u8]) -> Result<i64, Reason>
     Ok(signed(is_negative(run), value_of(significant)))
 }
 
-fn signed(negative: bool, magnitude: u64) -> i64
+/// A number with its sign.
+pub(crate) fn signed(negative: bool, magnitude: u64) -> i64
     requires { magnitude < 10 ^ 12 }
     ensures { result ≡ (if negative then neg_ℤ (pos magnitude) else pos magnitude) }
 {

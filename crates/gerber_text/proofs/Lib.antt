@@ -1,3 +1,5 @@
+pub mod Adding
+pub mod Items
 pub mod Marks
 pub mod RoundTrip
 pub mod Shown

@@ -10,7 +10,10 @@ ghost use Rattle.gerber_text.specs.Reading.{Entries, Shows, spelled, placed, Lea
 ghost use Rattle.gerber_text.specs.Bytes.{IsInside, follows_or_drops};
 
 use crate::placed::Placed;
-use gerber_rows::{Action, Command, Interpolation, ItemFail, Spelled, is_text_end, read_item};
+use gerber_rows::{
+    Action, Command, Interpolation, ItemFail, PlainOperation, Spelled, is_text_end,
+    plain_operation, read_item,
+};
 use grid_units::{Fail, Fault, Reason};
 use std::alloc::{AllocError, Global};
 
@@ -115,22 +118,32 @@ fn add(
     let (mode, command) = spelled.into_parts();
     match (mode, command) {
         (None, None) => Ok(plotting),
-        (Some(mode), None) => {
-            let what = Command::Mode(mode);
-            commands.push(Placed { place, byte, what })?;
-            Ok(plotting)
-        }
-        (None, Some(what)) => {
-            let plotting = plots_after(plotting, &what);
-            commands.push(Placed { place, byte, what })?;
-            Ok(plotting)
-        }
+        (Some(mode), None) => add_one(plotting, place, byte, Command::Mode(mode), commands),
+        (None, Some(what)) => add_one(plotting, place, byte, what, commands),
         (Some(mode), Some(what)) => {
             let plotting = plots_after(plotting, &what);
             add_both(place, byte, mode, what, commands)?;
             Ok(plotting)
         }
     }
+}
+
+/// Adds a command, and says whether the last operation is a plot.
+fn add_one(
+    plotting: bool,
+    place: u64,
+    byte: u64,
+    what: Command,
+    commands: &mut Vec<Placed<Command>>,
+) -> Result<bool, AllocError>
+    requires plotting { plotting ≡ is_plotting commands.old.items }
+    ensures added { OnOk result (commands.new.items ≡ commands.old.items ++ placed place byte (what ∷ [])) }
+    ensures plotting { IfOk result (λ plotting. plotting ≡ is_plotting commands.new.items) }
+    ensures err { OnErr result (commands.new.items ≡ commands.old.items) }
+{
+    let plotting = plots_after(plotting, &what);
+    commands.push(Placed { place, byte, what })?;
+    Ok(plotting)
 }
 
 /// Adds two commands, or none.
@@ -186,8 +199,10 @@ fn spell(
 }
 
 impl Progress {
-    ghost use Rattle.std.specs.Prelude.{[], ◌∷◌, List};
+    ghost use Rattle.std.specs.Prelude.{[], ◌∷◌, List, None};
     ghost use Rattle.gerber_rows.specs.Items.{is_line_break, ender};
+    ghost use Rattle.gerber_rows.specs.Plain.{BeginsWith};
+    ghost use Rattle.gerber_rows.specs.declared.command.Command.TheVariants.{Operate};
     ghost use Rattle.gerber_text.specs.Standing.{Advances, Refuses, RefusesText, Holds, Ends};
     ghost use Rattle.grid_units.specs.Results.{AnswersAlways};
 
@@ -232,6 +247,55 @@ impl Progress {
         ensures ok { Advances self.old self.new (byte ∷ []) }
     {
         self.offset += 1;
+    }
+
+    /// Takes the item of an operation.
+    fn operate(&mut self, bytes: &[u8], operation: PlainOperation) -> Result<(), Fail>
+        requires running { self.old.ended ≡ false }
+        requires fresh { vec_len self.old.item ≡ 0 }
+        requires begins { BeginsWith bytes.now operation.len (Operate operation.action operation.x operation.y None None) }
+        requires room { self.old.offset + length bytes.now ≤ 268435456 }
+        ensures offset { OnOk result (self.new.offset ≡ self.old.offset + operation.len) }
+        ensures ok { OnOk result (Advances self.old self.new (take operation.len bytes.now)) }
+        ensures err { IfErr result (Refuses self.old self.new.commands.items (take operation.len bytes.now)) }
+    {
+        let PlainOperation { action, x, y, len } = operation;
+        let what = Command::Operate {
+            action,
+            x,
+            y,
+            i: None,
+            j: None,
+        };
+        let place = self.items + 1;
+        self.plotting = add_one(self.plotting, place, self.offset, what, &mut self.commands)?;
+        self.items += 1;
+        self.offset += len as u64;
+        Ok(())
+    }
+
+    /// Takes the operation at the start of these bytes, where it stands there plainly, else the first byte of
+    /// an item, and says how many bytes these are.
+    fn start(&mut self, bytes: &[u8]) -> Result<usize, Fail>
+        requires running { self.old.ended ≡ false }
+        requires fresh { vec_len self.old.item ≡ 0 }
+        requires some { 0 < length bytes.now }
+        requires inside { IsInside 42 (slice_index bytes.now 0) }
+        requires room { self.old.offset + length bytes.now ≤ 268435456 }
+        ensures taken { IfOk result (λ n. (0 < n) × (n ≤ length bytes.now) × (self.new.offset ≡ self.old.offset + n)) }
+        ensures ok { IfOk result (λ n. Advances self.old self.new (take n bytes.now)) }
+        ensures err { IfErr result (Refuses self.old self.new.commands.items bytes.now) }
+    {
+        match plain_operation(bytes) {
+            Some(operation) => {
+                self.operate(bytes, operation)?;
+                Ok(operation.len)
+            }
+            None => {
+                self.begin(bytes[0])?;
+                Ok(1)
+            }
+        }
     }
 
     /// Adds the first byte of an item.
@@ -335,8 +399,7 @@ impl Progress {
             self.close(first)?;
             Ok(1)
         } else if self.item.is_empty() {
-            self.begin(first)?;
-            Ok(1)
+            self.start(bytes)
         } else {
             let run = &bytes[..inside_len(bytes, end)];
             self.extend(run)?;

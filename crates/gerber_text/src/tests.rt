@@ -1,6 +1,9 @@
 ghost use Rattle.std.specs.Prelude.{◌≤◌, length};
 
-use crate::{Command, WordReader, read_kept, read_words, write_placed};
+use crate::{
+    Action, Command, Placed, WordReader, read_kept, read_words, write_commands, write_placed,
+};
+use gerber_rows::{PlainOperation, plain_operation};
 use grid_units::{Fail, Fault, Reason};
 use std::alloc::{AllocError, Global};
 use std::test::Fail as TestFail;
@@ -56,6 +59,19 @@ fn is_same_in_pieces(alloc: Global, text: &[u8]) -> bool {
     true
 }
 
+/// Whether two lists have the same places and bytes, and the same canonical text.
+fn are_same(
+    alloc: Global,
+    commands: &[Placed<Command>],
+    others: &[Placed<Command>],
+) -> Result<bool, Fail> {
+    let mut same = commands.len() == others.len();
+    for (one, other) in commands.iter().zip(others.iter()) {
+        same = same && one.place == other.place && one.byte == other.byte;
+    }
+    Ok(same && write_placed(alloc, commands)? == write_placed(alloc, others)?)
+}
+
 fn refused(place: u64, byte: u64, reason: Reason) -> Option<Fail> {
     Some(Fail::Refused(Fault {
         place,
@@ -71,10 +87,21 @@ fn ended(alloc: Global, item: &[u8]) -> Result<Vec<u8>, AllocError> {
     Ok(text)
 }
 
+/// The first of these items that is refused otherwise than told, where it stands in front of the end of a text.
+fn first_other(alloc: Global, rows: &[(&[u8], Reason)]) -> Result<Option<usize>, AllocError> {
+    for (i, row) in rows.iter().enumerate() {
+        let text = ended(alloc, row.0)?;
+        let whole = fault_of(alloc, &text);
+        if whole != refused(1, 0, row.1) || !is_same_in_pieces(alloc, &text) {
+            return Ok(Some(i));
+        }
+    }
+    Ok(None)
+}
+
 #[test]
-fn items_refused_alone(rt: HostRuntime) -> Result<(), TestFail> {
-    let alloc = rt.alloc();
-    let rows: [(&[u8], Reason); 40] = [
+fn items_refused_by_name(rt: HostRuntime) -> Result<(), TestFail> {
+    let rows: [(&[u8], Reason); 23] = [
         (b"%FSLAX24Y24*MOMM*%", Reason::SeveralInOne),
         (b"%LPC*LPD*%", Reason::SeveralInOne),
         (b"%**%", Reason::SeveralInOne),
@@ -89,46 +116,92 @@ fn items_refused_alone(rt: HostRuntime) -> Result<(), TestFail> {
         (b"%SFA2B1*%", Reason::OldParameter),
         (b"%OFA1*%", Reason::OldParameter),
         (b"%OFB0A0*%", Reason::OldParameter),
+        (b"%OFA*%", Reason::OldParameter),
+        (b"%SFA1B*%", Reason::OldParameter),
+        (b"%IR*%", Reason::OldParameter),
         (b"%IR0.000000001*%", Reason::OldParameter),
+        (b"%ASAYBX*%", Reason::OldParameter),
+        (b"%MIA1*%", Reason::OldParameter),
+        (b"M00*", Reason::OldParameter),
+        (b"M01*", Reason::OldParameter),
         (b"N10*", Reason::OldParameter),
+    ];
+    assert_eq!(rt; first_other(rt.alloc(), &rows)?, None);
+    Ok(())
+}
+
+#[test]
+fn items_of_no_row(rt: HostRuntime) -> Result<(), TestFail> {
+    let rows: [(&[u8], Reason); 27] = [
         (b"X1%*", Reason::BadWord),
+        (b"X1%MOMM*", Reason::BadWord),
         (b"X1I1D02*", Reason::BadWord),
         (b"%ABD10%", Reason::BadWord),
+        (b"%FSLAX24Y24*MOMM%", Reason::BadWord),
         (b"%%", Reason::BadWord),
         (b"%*%", Reason::BadWord),
+        (b"%AM*LPC*%", Reason::BadWord),
+        (b"%AMC*1*%", Reason::BadWord),
         (b"G01D*", Reason::BadWord),
+        (b"G01D99999999999*", Reason::BadWord),
+        (b"D4*", Reason::BadWord),
         (b"XD5*", Reason::BadWord),
         (b"X1D5*", Reason::BadWord),
         (b"G54D01*", Reason::BadWord),
+        (b"G4*", Reason::BadWord),
+        (b"G91X1*", Reason::BadWord),
+        (b"M0*", Reason::BadWord),
+        (b"M002*", Reason::BadWord),
         (b"%ADD10C*%", Reason::BadWord),
         (b"%ADD10C,1X1X1X1*%", Reason::BadWord),
         (b"%ADD9C,1X1X1X1*%", Reason::BadWord),
         (b"%FSLAX2Y2*%", Reason::BadWord),
+        (b"%FSLAX246Y246*%", Reason::BadWord),
+        (b"%SRX2Y1*%", Reason::BadWord),
         (b"%IPX*%", Reason::BadWord),
+        (b"\xEF\xBB\xBFG04*", Reason::BadWord),
+    ];
+    assert_eq!(rt; first_other(rt.alloc(), &rows)?, None);
+    Ok(())
+}
+
+#[test]
+fn items_refused_by_their_numbers(rt: HostRuntime) -> Result<(), TestFail> {
+    let rows: [(&[u8], Reason); 23] = [
         (b"D*", Reason::BadNumber),
+        (b"D99999999999*", Reason::BadNumber),
         (b"X1D*", Reason::BadNumber),
+        (b"X1I1D*", Reason::BadNumber),
+        (b"X1Y+-D03*", Reason::BadNumber),
+        (b"X9999999999999Y+-D03*", Reason::BadNumber),
+        (b"X1.0D03*", Reason::BadNumber),
+        (b"%ADDC,1*%", Reason::BadNumber),
         (b"%ADD10C,*%", Reason::BadNumber),
+        (b"%ADD10C,1X*%", Reason::BadNumber),
         (b"%ADD09C,0.123456789*%", Reason::BadNumber),
         (b"%FSLAX24Y25*%", Reason::BadNumber),
+        (b"%LR*%", Reason::BadNumber),
+        (b"%LS*%", Reason::BadNumber),
         (b"%SRXYIJ*%", Reason::BadNumber),
+        (b"%SRX2147483648Y1I1J0*%", Reason::BadNumber),
         (b"X9999999999999D03*", Reason::TooManyDigits),
+        (b"X1Y-1000000000000D03*", Reason::TooManyDigits),
         (b"%ADD10C,1000000X0.123456789*%", Reason::TooFine),
         (b"%ADD10C,1000000*%", Reason::TooFar),
+        (b"X1*", Reason::BareCoordinate),
         (b"I5*", Reason::BareCoordinate),
+        (b"G01X1Y1*", Reason::BareCoordinate),
     ];
-    for (item, reason) in rows {
-        let text = ended(alloc, item)?;
-        assert_eq!(rt; fault_of(alloc, &text), refused(1, 0, reason));
-        assert!(rt; is_same_in_pieces(alloc, &text));
-    }
+    assert_eq!(rt; first_other(rt.alloc(), &rows)?, None);
     Ok(())
 }
 
 #[test]
 fn texts_refused(rt: HostRuntime) -> Result<(), TestFail> {
     let alloc = rt.alloc();
-    let rows: [(&[u8], u64, u64, Reason); 12] = [
+    let rows: [(&[u8], u64, u64, Reason); 13] = [
         (b"M02*D", 2, 4, Reason::AfterEnd),
+        (b"X1%M02*", 1, 0, Reason::BadWord),
         (b"", 1, 0, Reason::Truncated),
         (b"X1%", 1, 0, Reason::Truncated),
         (b"X1%MOMM*%", 1, 0, Reason::BadWord),
@@ -160,6 +233,121 @@ fn texts_refused(rt: HostRuntime) -> Result<(), TestFail> {
 
 const LAYER: &[u8; 56] = b"%FSLAX46Y46*%\n%MOMM*%\n%ADD10C,0.65*%\nD10*\nX0Y0D03*\nM02*\n";
 
+/// The layer with a line in place of what stands between these bytes.
+fn with_line(alloc: Global, begins: usize, ends: usize, line: &[u8]) -> Result<Vec<u8>, AllocError>
+    requires begins { begins ≤ 56 }
+    requires ends { ends ≤ 56 }
+{
+    let layer = LAYER.as_slice();
+    let mut text = Vec::from_slice(alloc, &layer[..begins])?;
+    text.extend_from_slice(line)?;
+    text.push(b'\n')?;
+    text.extend_from_slice(&layer[ends..])?;
+    Ok(text)
+}
+
+#[test]
+fn a_refused_command_in_a_layer(rt: HostRuntime) -> Result<(), TestFail> {
+    let alloc = rt.alloc();
+    let rows: [(&[u8], Reason); 8] = [
+        (b"%LPC*%", Reason::ClearPolarity),
+        (b"%ABD12*%", Reason::BlockAperture),
+        (b"%TF.FilePolarity,Negative*%", Reason::NegativeImage),
+        (b"G04 #@! TF.FilePolarity,Negative*", Reason::NegativeImage),
+        (b"%IPNEG*%", Reason::NegativeImage),
+        (b"%SFA2B1*%", Reason::OldParameter),
+        (b"%OFA1*%", Reason::OldParameter),
+        (b"%ADD10C,0.123456789*%", Reason::TooFine),
+    ];
+    for (line, reason) in rows {
+        let text = with_line(alloc, 22, 22, line)?;
+        assert_eq!(rt; fault_of(alloc, &text), refused(3, 22, reason));
+        assert!(rt; is_same_in_pieces(alloc, &text));
+    }
+    Ok(())
+}
+
+#[test]
+fn operations_read_in_one_pass(rt: HostRuntime) -> Result<(), TestFail> {
+    let flash = PlainOperation {
+        action: Action::Flash,
+        x: Some(1),
+        y: Some(-2),
+        len: 9,
+    };
+    assert_eq!(rt; plain_operation(b"X1Y-2D03*\nD10*"), Some(flash));
+    let plot = PlainOperation {
+        action: Action::Plot,
+        x: None,
+        y: Some(5),
+        len: 7,
+    };
+    assert_eq!(rt; plain_operation(b"Y+5D01*"), Some(plot));
+    assert_eq!(rt; plain_operation(b"X1Y2D0"), None);
+    Ok(())
+}
+
+#[test]
+fn other_layers_refused(rt: HostRuntime) -> Result<(), TestFail> {
+    let alloc = rt.alloc();
+    let bare = with_line(alloc, 51, 51, b"X6*")?;
+    assert_eq!(rt;
+        fault_of(alloc, &bare),
+        refused(6, 51, Reason::BareCoordinate)
+    );
+    let clear = with_line(alloc, 42, 42, b"%LPC*%")?;
+    assert_eq!(rt;
+        fault_of(alloc, &clear),
+        refused(5, 42, Reason::ClearPolarity)
+    );
+    let several = with_line(alloc, 42, 42, b"%SRX2147483648Y1I1J0*%")?;
+    assert_eq!(rt;
+        fault_of(alloc, &several),
+        refused(5, 42, Reason::BadNumber)
+    );
+    let behind = with_line(alloc, 56, 56, b"X0D03*")?;
+    assert_eq!(rt; fault_of(alloc, &behind), refused(7, 56, Reason::AfterEnd));
+    let blanks = with_line(alloc, 56, 56, b"*   ")?;
+    assert_eq!(rt; fault_of(alloc, &blanks), None);
+    Ok(())
+}
+
+#[test]
+fn plots_without_a_code(rt: HostRuntime) -> Result<(), TestFail> {
+    let alloc = rt.alloc();
+    let text = b"X1Y1D02*X2D01*Y3*I5*X4J6*M02*";
+    let canonical = b"X1Y1D02*\nX2D01*\nY3D01*\nI5D01*\nX4J6D01*\nM02*\n";
+    let written = rewritten(alloc, text)?;
+    assert_eq!(rt; written.as_slice(), canonical.as_slice());
+    assert!(rt; is_same_in_pieces(alloc, text));
+    Ok(())
+}
+
+#[test]
+fn a_file_function_without_a_value(rt: HostRuntime) -> Result<(), TestFail> {
+    let alloc = rt.alloc();
+    let text = with_line(alloc, 0, 0, b"%TF.FileFunction*%")?;
+    assert_eq!(rt; read_words(alloc, &text).map_err(|_| "refused")?.len(), 7);
+    Ok(())
+}
+
+#[test]
+fn a_layer_in_pieces(rt: HostRuntime) -> Result<(), TestFail> {
+    let alloc = rt.alloc();
+    let layer = LAYER.as_slice();
+    let whole = read_words(alloc, layer)?;
+    let mut reader = WordReader::new(alloc);
+    reader.feed(&layer[..30])?;
+    reader.feed(&layer[30..])?;
+    assert!(rt; are_same(alloc, &whole, &reader.finish()?)?);
+    let mut reader = WordReader::new(alloc);
+    for i in 0..layer.len() {
+        reader.feed(&layer[i..i + 1])?;
+    }
+    assert!(rt; are_same(alloc, &whole, &reader.finish()?)?);
+    Ok(())
+}
+
 #[test]
 fn a_layer_cut_short(rt: HostRuntime) -> Result<(), TestFail> {
     let alloc = rt.alloc();
@@ -169,6 +357,18 @@ fn a_layer_cut_short(rt: HostRuntime) -> Result<(), TestFail> {
     );
     assert_eq!(rt;
         fault_of(alloc, &LAYER[..33]),
+        refused(3, 22, Reason::Truncated)
+    );
+    assert_eq!(rt;
+        fault_of(alloc, &LAYER[..21]),
+        refused(3, 21, Reason::Truncated)
+    );
+    assert_eq!(rt;
+        fault_of(alloc, &LAYER[..22]),
+        refused(3, 22, Reason::Truncated)
+    );
+    assert_eq!(rt;
+        fault_of(alloc, &LAYER[..23]),
         refused(3, 22, Reason::Truncated)
     );
     assert_eq!(rt; fault_of(alloc, &LAYER[..55]), None);
@@ -236,6 +436,19 @@ fn long_items(rt: HostRuntime) -> Result<(), TestFail> {
     Ok(())
 }
 
+#[test]
+fn items_without_an_end(rt: HostRuntime) -> Result<(), TestFail> {
+    let alloc = rt.alloc();
+    let mut text = Vec::new(alloc);
+    for _ in 0..1_048_576 {
+        text.push(b'a')?;
+    }
+    assert_eq!(rt; fault_of(alloc, &text), refused(1, 0, Reason::Truncated));
+    text.push(b'a')?;
+    assert_eq!(rt; fault_of(alloc, &text), refused(1, 0, Reason::TooLong));
+    Ok(())
+}
+
 /// The canonical text of what a text spells.
 fn rewritten(alloc: Global, text: &[u8]) -> Result<Vec<u8>, Fail> {
     let commands = read_words(alloc, text)?;
@@ -254,6 +467,18 @@ fn older_spellings_rewritten(rt: HostRuntime) -> Result<(), TestFail> {
     let again = rewritten(alloc, &written)?;
     assert_eq!(rt; again.as_slice(), canonical.as_slice());
     assert!(rt; is_same_in_pieces(alloc, text));
+    Ok(())
+}
+
+#[test]
+fn commands_without_places_written(rt: HostRuntime) -> Result<(), TestFail> {
+    let alloc = rt.alloc();
+    let mut commands = Vec::new(alloc);
+    for entry in read_words(alloc, LAYER)? {
+        commands.push(entry.what)?;
+    }
+    let written = write_commands(alloc, &commands)?;
+    assert_eq!(rt; written.as_slice(), LAYER.as_slice());
     Ok(())
 }
 

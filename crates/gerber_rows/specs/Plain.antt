@@ -1,0 +1,41 @@
+-- Items at the start of a text, and the words that most items are.
+use Rattle.std.specs.Prelude.{◌≡◌, ℕ, ◌<◌, ◌≤◌, Bool, true, false, List, [], ◌∷◌, ◌++◌, length, take, Option, None, Some, IfSome, Ok, ℤ}
+use Rattle.std.specs.List.{AllByRecursion}
+use Rattle.grid_units.specs.Numbers.{is_number}
+use Rattle.gerber_rows.specs.declared.command.Command.{Command}
+use Rattle.gerber_rows.specs.Items.{is_line_break, IsItem, is_end}
+use Rattle.gerber_rows.specs.Meaning.{meaning}
+use Rattle.gerber_rows.specs.Numbers.{int_of}
+use Rattle.gerber_rows.specs.Words.{coordinate}
+
+-- The bytes begin with an item of this length and without line breaks, which spells this command alone, whatever stands
+-- before it, and is not the end of the text (docs/FORMATS.md, Cutting).
+pub record BeginsWith (bytes : List ℕ) (len : ℕ) (command : Command) : Type 0 where
+  pub some : 0 < len
+  pub within : len ≤ length bytes
+  pub short : len ≤ 64
+  pub one : IsItem (take len bytes)
+  pub kept : AllByRecursion (λ b. is_line_break b ≡ false) (take len bytes)
+  pub goes_on : is_end (take len bytes) ≡ false
+  pub says : (plotting : Bool) → meaning plotting (take len bytes) ≡ Ok (command ∷ [])
+
+-- The bytes are number characters that spell this integer, and this rest (docs/FORMATS.md, Runs).
+pub record BeginsWithInt (bytes : List ℕ) (n : ℤ) (rest : List ℕ) : Type 0 where
+  pub run : List ℕ
+  pub whole : bytes ≡ run ++ rest
+  pub numbers : AllByRecursion (λ b. is_number b ≡ true) run
+  pub short : length run ≤ 13
+  pub value : int_of run ≡ Ok n
+
+-- a coordinate's letter and its run, or nothing where it is left out (Gerber format, Coordinate data)
+abbrev pub coordinate_word : ℕ → Option (List ℕ) → List ℕ
+coordinate_word letter None = []
+coordinate_word letter (Some run) = letter ∷ run
+
+-- The bytes are a coordinate of this letter and value, which may be left out, and this rest (Gerber format, Coordinate data).
+pub record BeginsWithCoordinate (letter : ℕ) (bytes : List ℕ) (value : Option ℤ) (rest : List ℕ) : Type 0 where
+  pub run : Option (List ℕ)
+  pub whole : bytes ≡ coordinate_word letter run ++ rest
+  pub numbers : IfSome run (AllByRecursion (λ b. is_number b ≡ true))
+  pub short : length (coordinate_word letter run) ≤ 14
+  pub value_is : coordinate run ≡ Ok value
