@@ -10,9 +10,11 @@ mod number;
 mod piece;
 mod word;
 
+pub use aperture::{is_name, least_sizes, most_sizes, standard};
 pub use canonical::write_item;
 pub use command::{
     Action, AttributeKind, Block, Command, Format, Interpolation, Pieces, QuadrantMode, Sizes,
     Spelled, Standard, Template,
 };
 pub use item::{ItemFail, is_text_end, read_item};
+pub use word::{comments_negative, is_negative_image};
