@@ -57,7 +57,7 @@ format_is_said i d j e =
     let ld : d ≤ 54 = leb-true d 54 c.1 in
     let l : 96 < i + d = ltb-true 96 (i + d) a.1 in
     let f : Format = record { whole = i - 48; decimals = d - 48 } in
-    one_command (FormatIs f) (format_sayable f
+    one_command (FormatIs f) refl (format_sayable f
     (and_true (leb (i - 48) 6) (leb (d - 48) 6 && leb 1 ((i - 48) + (d - 48))) (le-leb (i - 48) 6 (omega (arith, li)))
     (and_true (leb (d - 48) 6) (leb 1 ((i - 48) + (d - 48))) (le-leb (d - 48) 6 (omega (arith, ld))) (le-leb 1 ((i - 48) + (d - 48)) (omega (arith, li, ld, l)))))))
     (λ _. no_said BadNumber)
@@ -79,8 +79,8 @@ format_said text = fields_said (unwrap_or (behind (codes "FSLAX") text) [])
 unit_said : (text : List ℕ) → RowSaid (unit_piece_row text)
 unfolding unit_piece_row
 unit_said text =
-    row_cond (is text (codes "MOIN")) (Some (Ok (UnitIs Inch ∷ []))) (cond (is text (codes "MOMM")) (Some (Ok (UnitIs Millimetre ∷ []))) None) (λ _. one_row (UnitIs Inch) inch_sayable)
-    (row_cond (is text (codes "MOMM")) (Some (Ok (UnitIs Millimetre ∷ []))) None (λ _. one_row (UnitIs Millimetre) millimetre_sayable) no_row)
+    row_cond (is text (codes "MOIN")) (Some (Ok (UnitIs Inch ∷ []))) (cond (is text (codes "MOMM")) (Some (Ok (UnitIs Millimetre ∷ []))) None) (λ _. one_row (UnitIs Inch) refl inch_sayable)
+    (row_cond (is text (codes "MOMM")) (Some (Ok (UnitIs Millimetre ∷ []))) None (λ _. one_row (UnitIs Millimetre) refl millimetre_sayable) no_row)
 
 -- ---- polarity, mirroring, turns and scales, step and repeat
 
@@ -91,7 +91,7 @@ dark_sayable = bounded Dark refl refl
 polarity_said : (text : List ℕ) → RowSaid (polarity_row text)
 unfolding polarity_row
 polarity_said text =
-    row_cond (is text (codes "LPD")) (Some (Ok (Dark ∷ []))) (cond (is text (codes "LPC")) (Some (Err ClearPolarity)) None) (λ _. one_row Dark dark_sayable)
+    row_cond (is text (codes "LPD")) (Some (Ok (Dark ∷ []))) (cond (is text (codes "LPC")) (Some (Err ClearPolarity)) None) (λ _. one_row Dark refl dark_sayable)
     (row_cond (is text (codes "LPC")) (Some (Err ClearPolarity)) None (λ _. no_answer ClearPolarity) no_row)
 
 mirror_sayable : (x y : Bool) → is_sayable (Mirror x y) ≡ true
@@ -103,10 +103,10 @@ unfolding mirror_row
 mirror_said text = by (is text (codes "LMN")) (is text (codes "LMX")) (is text (codes "LMY")) (is text (codes "LMXY"))
   where
     by : (a b c d : Bool) → RowSaid (cond a (Some (Ok (Mirror false false ∷ []))) (cond b (Some (Ok (Mirror true false ∷ []))) (cond c (Some (Ok (Mirror false true ∷ []))) (cond d (Some (Ok (Mirror true true ∷ []))) None))))
-    by true b c d = one_row (Mirror false false) (mirror_sayable false false)
-    by false true c d = one_row (Mirror true false) (mirror_sayable true false)
-    by false false true d = one_row (Mirror false true) (mirror_sayable false true)
-    by false false false true = one_row (Mirror true true) (mirror_sayable true true)
+    by true b c d = one_row (Mirror false false) refl (mirror_sayable false false)
+    by false true c d = one_row (Mirror true false) refl (mirror_sayable true false)
+    by false false true d = one_row (Mirror false true) refl (mirror_sayable false true)
+    by false false false true = one_row (Mirror true true) refl (mirror_sayable true true)
     by false false false false = no_row
 
 turn_sayable : (v : ℤ) → is_dec v ≡ true → is_sayable (Turn v) ≡ true
@@ -121,8 +121,8 @@ transform_said : (text : List ℕ) → RowSaid (transform_row text)
 unfolding transform_row turn scale
 transform_said text =
     row_or (option_map turn (run_behind (codes "LR") text)) (option_map scale (run_behind (codes "LS") text))
-    (row_map turn (run_behind (codes "LR") text) (λ run _. said_bind (dec_of run) (λ v. Ok (Turn v ∷ [])) (λ v e. one_command (Turn v) (turn_sayable v (was_dec run v e)))))
-    (row_map scale (run_behind (codes "LS") text) (λ run _. said_bind (dec_of run) (λ v. Ok (Scale v ∷ [])) (λ v e. one_command (Scale v) (scale_sayable v (was_dec run v e)))))
+    (row_map turn (run_behind (codes "LR") text) (λ run _. said_bind (dec_of run) (λ v. Ok (Turn v ∷ [])) (λ v e. one_command (Turn v) refl (turn_sayable v (was_dec run v e)))))
+    (row_map scale (run_behind (codes "LS") text) (λ run _. said_bind (dec_of run) (λ v. Ok (Scale v ∷ [])) (λ v e. one_command (Scale v) refl (scale_sayable v (was_dec run v e)))))
 
 block_sayable : (b : Block) → is_block b ≡ true → is_sayable (Repeat b) ≡ true
 unfolding has_fields is_bounded
@@ -136,7 +136,7 @@ block_said x y i j =
     let n = both_ok (nat_of x) (nat_of y) p.0 o.0 in
     let d = both_ok (dec_of i) (dec_of j) p.1 o.1 in
     let b : Block = record { columns = p.0.0; rows = p.0.1; step_x = p.1.0; step_y = p.1.1 } in
-    one_command (Repeat b) (block_sayable b
+    one_command (Repeat b) refl (block_sayable b
     (and_true (is_nat p.0.0 && is_nat p.0.1) (is_dec p.1.0 && is_dec p.1.1)
     (and_true (is_nat p.0.0) (is_nat p.0.1) (was_nat x p.0.0 n.0).range (was_nat y p.0.1 n.1).range)
     (and_true (is_dec p.1.0) (is_dec p.1.1) (was_dec i p.1.0 d.0) (was_dec j p.1.1 d.1)))))
@@ -165,7 +165,7 @@ end_sayable = bounded RepeatEnd refl refl
 
 repeat_said : (text : List ℕ) → RowSaid (repeat_row text)
 unfolding repeat_row
-repeat_said text = row_cond (is text (codes "SR")) (Some (Ok (RepeatEnd ∷ []))) (repeat_start (unwrap_or (behind (codes "SR") text) [])) (λ _. one_row RepeatEnd end_sayable) (start_said (unwrap_or (behind (codes "SR") text) []))
+repeat_said text = row_cond (is text (codes "SR")) (Some (Ok (RepeatEnd ∷ []))) (repeat_start (unwrap_or (behind (codes "SR") text) [])) (λ _. one_row RepeatEnd refl end_sayable) (start_said (unwrap_or (behind (codes "SR") text) []))
 
 -- ---- attributes
 
@@ -184,19 +184,19 @@ file_said : (text : List ℕ) → is_text text ≡ true → length text + 3 ≤ 
 unfolding file_attribute
 file_said text h l = row_map file_attribute (behind (codes "TF") text) (λ rest e.
     said_cond (is_negative_image rest) (Err NegativeImage) (Ok (Attribute kinds.File rest ∷ [])) (λ _. no_said NegativeImage) (λ n.
-    one_command (Attribute kinds.File rest) (attribute_sayable kinds.File rest (and_true (is_text rest) (not (is_negative_image rest)) (behind_text (codes "TF") text rest h e) (ap not n)) (two_less (codes "TF") text rest refl e l))))
+    one_command (Attribute kinds.File rest) refl (attribute_sayable kinds.File rest (and_true (is_text rest) (not (is_negative_image rest)) (behind_text (codes "TF") text rest h e) (ap not n)) (two_less (codes "TF") text rest refl e l))))
 
 aperture_said : (text : List ℕ) → is_text text ≡ true → length text + 3 ≤ item_limit → RowSaid (option_map (attribute kinds.Aperture) (behind (codes "TA") text))
 unfolding attribute
-aperture_said text h l = row_map (attribute kinds.Aperture) (behind (codes "TA") text) (λ rest e. one_command (Attribute kinds.Aperture rest) (attribute_sayable kinds.Aperture rest (behind_text (codes "TA") text rest h e) (two_less (codes "TA") text rest refl e l)))
+aperture_said text h l = row_map (attribute kinds.Aperture) (behind (codes "TA") text) (λ rest e. one_command (Attribute kinds.Aperture rest) refl (attribute_sayable kinds.Aperture rest (behind_text (codes "TA") text rest h e) (two_less (codes "TA") text rest refl e l)))
 
 object_said : (text : List ℕ) → is_text text ≡ true → length text + 3 ≤ item_limit → RowSaid (option_map (attribute kinds.Object) (behind (codes "TO") text))
 unfolding attribute
-object_said text h l = row_map (attribute kinds.Object) (behind (codes "TO") text) (λ rest e. one_command (Attribute kinds.Object rest) (attribute_sayable kinds.Object rest (behind_text (codes "TO") text rest h e) (two_less (codes "TO") text rest refl e l)))
+object_said text h l = row_map (attribute kinds.Object) (behind (codes "TO") text) (λ rest e. one_command (Attribute kinds.Object rest) refl (attribute_sayable kinds.Object rest (behind_text (codes "TO") text rest h e) (two_less (codes "TO") text rest refl e l)))
 
 removal_said : (text : List ℕ) → is_text text ≡ true → length text + 3 ≤ item_limit → RowSaid (option_map removal (behind (codes "TD") text))
 unfolding removal
-removal_said text h l = row_map removal (behind (codes "TD") text) (λ rest e. one_command (Remove rest) (removal_sayable rest (behind_text (codes "TD") text rest h e) (two_less (codes "TD") text rest refl e l)))
+removal_said text h l = row_map removal (behind (codes "TD") text) (λ rest e. one_command (Remove rest) refl (removal_sayable rest (behind_text (codes "TD") text rest h e) (two_less (codes "TD") text rest refl e l)))
 
 -- ---- older parameters
 
@@ -281,7 +281,7 @@ standard_said : (digits : List ℕ) (aperture : Standard) (parameters : Option (
 unfolding define_standard
 standard_said digits aperture parameters = said_bind (both (aperture_number digits) (sizes_of aperture parameters)) (λ p. Ok (Define p.0 (templates.Standard aperture p.1) ∷ [])) (λ p e.
     let o = both_ok (aperture_number digits) (sizes_of aperture parameters) p e in
-    one_command (Define p.0 (templates.Standard aperture p.1)) (standard_sayable p.0 aperture p.1 (number_is digits p.0 o.0).0 (parameters_are aperture parameters p.1 o.1)))
+    one_command (Define p.0 (templates.Standard aperture p.1)) refl (standard_sayable p.0 aperture p.1 (number_is digits p.0 o.0).0 (parameters_are aperture parameters p.1 o.1)))
 
 -- how long a name and its parameters are, with the comma between them
 parts_length : List ℕ → Option (List ℕ) → ℕ
@@ -303,7 +303,7 @@ named_said : (digits name : List ℕ) (parameters : Option (List ℕ)) → is_ma
 unfolding define_named
 named_said digits name parameters h m l = said_bind (aperture_number digits) (λ n. Ok (Define n (templates.Named name parameters) ∷ [])) (λ n e.
     let k = number_is digits n e in
-    one_command (Define n (templates.Named name parameters)) (named_sayable n name parameters k.0 h m (omega (arith, k.1, l))))
+    one_command (Define n (templates.Named name parameters)) refl (named_sayable n name parameters k.0 h m (omega (arith, k.1, l))))
 
 as_said : (digits name : List ℕ) (aperture : Option Standard) (parameters : Option (List ℕ)) → is_name name ≡ true → standard name ≡ aperture → may_be_text parameters ≡ true → 6 + (length digits + parts_length name parameters) ≤ item_limit → Said (define_as digits name aperture parameters)
 as_said digits name None parameters h e m l = named_said digits name parameters (and_true (is_name name) (not (is_some (standard name))) h (ap (λ o. not (is_some o)) e)) m l
@@ -361,7 +361,7 @@ macro_is_said (name ∷ ps) h l =
     let k = both_true (is_text name) (list_all is_text ps) h in
     let ends : name ++ 42 ∷ (starred ps ++ []) ≡ join_with_byte 42 (name ∷ ps) ++ 42 ∷ [] = joined_ends name ps [] in
     said_cond (is_name name && not (is_some (standard name))) (Ok (Macro name ps ∷ [])) (Err BadWord)
-    (λ n. one_command (Macro name ps) (macro_sayable name ps n k.1 (omega (arith, l, ap length ends, length-append name (42 ∷ (starred ps ++ [])), length-append (starred ps) [], length-append (join_with_byte 42 (name ∷ ps)) (42 ∷ [])))))
+    (λ n. one_command (Macro name ps) refl (macro_sayable name ps n k.1 (omega (arith, l, ap length ends, length-append name (42 ∷ (starred ps ++ [])), length-append (starred ps) [], length-append (join_with_byte 42 (name ∷ ps)) (42 ∷ [])))))
     (λ _. no_said BadWord)
 
 pub macro_text_said : (text : List ℕ) → list_all is_half text ≡ true → length text + 5 ≤ item_limit → Said (macro_text text)

@@ -1,5 +1,5 @@
 -- What a word spells is sayable.
-use Rattle.std.proofs.Common.{◌≡◌, ℕ, ◌+◌, ◌-◌, ◌≤◌, Bool, true, false, cond, not, ◌||◌, ◌&&◌, eqb, leb, List, [], ◌∷◌, ◌++◌, length, take, drop, ℤ, Option, Some, None, is_some, Result, Ok, Err, refl, sym, ap, ◌∙◌, arith}
+use Rattle.std.proofs.Common.{◌≡◌, ℕ, ◌+◌, ◌-◌, ◌≤◌, Bool, true, false, cond, not, ◌||◌, ◌&&◌, eqb, leb, List, [], ◌∷◌, ◌++◌, length, take, drop, ℤ, Option, Some, None, is_some, Result, Ok, Err, refl, sym, ap, subst, ◌∙◌, arith}
 use Rattle.std.specs.Prelude.{codes}
 use Rattle.std.specs.Option.{option_map, option_or}
 use Rattle.std.specs.List.{list_any, AllByRecursion}
@@ -21,16 +21,16 @@ use Rattle.gerber_rows.specs.Numbers.{nat_of}
 use Rattle.gerber_rows.specs.Rows.{Meaning, Row, first_fit, behind, modes_of}
 use Rattle.gerber_rows.specs.Words.{is, nothing_row, comments_negative, comment, comment_row, mode_front, mode_row, quadrant_row, region_row, unit_row, incremental_row, action, numbered, alone, prepared, select_row, coordinate, kind, Fields, fields, is_operation, has_offsets, operands, operate, operation_row, finish_row, old_row, words, word}
 use Rattle.gerber_sayable.specs.Cut.{item_limit}
-use Rattle.gerber_sayable.specs.Sayable.{is_text_byte, is_text, is_nat, is_plot, is_operation as has_operands, has_fields, is_short, is_sayable}
+use Rattle.gerber_sayable.specs.Sayable.{is_text_byte, is_text, is_nat, is_plot, is_operation as has_operands, has_fields, is_short, is_sayable, is_finish}
 use Rattle.gerber_sayable.proofs.Runs.{and_true}
 use Rattle.gerber_sayable.proofs.Lengths.{is_bounded, bounded_short, short_true, comment_test}
 use Rattle.gerber_sayable.proofs.Ranges.{both_ok, all_drop, was_nat, was_coordinate, was_kind}
 
 -- ---- what is said of an answer, of a row and of rows
 
--- each command of an answer is sayable
+-- each command of an answer is sayable, and not the end of the text
 unfoldable pub Said : Meaning → Type 0
-Said (Ok cs) = AllByRecursion (λ c. is_sayable c ≡ true) cs
+Said (Ok cs) = AllByRecursion (λ c. (is_sayable c ≡ true) × (is_finish c ≡ false)) cs
 Said (Err r) = Unit {0}
 
 -- and of a row, where it fits
@@ -85,13 +85,13 @@ unfolding RowSaid
 no_row = tt
 
 -- one sayable command
-pub one_command : (c : Command) → is_sayable c ≡ true → Said (Ok (c ∷ []))
+pub one_command : (c : Command) → is_finish c ≡ false → is_sayable c ≡ true → Said (Ok (c ∷ []))
 unfolding Said
-one_command c h = (h, tt)
+one_command c e h = ((h, e), tt)
 
-pub one_row : (c : Command) → is_sayable c ≡ true → RowSaid (Some (Ok (c ∷ [])))
+pub one_row : (c : Command) → is_finish c ≡ false → is_sayable c ≡ true → RowSaid (Some (Ok (c ∷ [])))
 unfolding RowSaid
-one_row c h = one_command c h
+one_row c e h = one_command c e h
 
 -- a command whose item is never too long
 pub bounded : (c : Command) → has_fields c ≡ true → is_bounded c ≡ true → is_sayable c ≡ true
@@ -122,14 +122,14 @@ mode_sayable Counterclockwise = bounded (Mode Counterclockwise) refl refl
 quadrant_said : (text : List ℕ) → RowSaid (quadrant_row text)
 unfolding quadrant_row has_fields is_bounded
 quadrant_said text =
-    row_cond (is text (codes "G74")) (Some (Ok (Quadrant Single ∷ []))) (cond (is text (codes "G75")) (Some (Ok (Quadrant Multi ∷ []))) None) (λ _. one_row (Quadrant Single) (bounded (Quadrant Single) refl refl))
-    (row_cond (is text (codes "G75")) (Some (Ok (Quadrant Multi ∷ []))) None (λ _. one_row (Quadrant Multi) (bounded (Quadrant Multi) refl refl)) no_row)
+    row_cond (is text (codes "G74")) (Some (Ok (Quadrant Single ∷ []))) (cond (is text (codes "G75")) (Some (Ok (Quadrant Multi ∷ []))) None) (λ _. one_row (Quadrant Single) refl (bounded (Quadrant Single) refl refl))
+    (row_cond (is text (codes "G75")) (Some (Ok (Quadrant Multi ∷ []))) None (λ _. one_row (Quadrant Multi) refl (bounded (Quadrant Multi) refl refl)) no_row)
 
 region_said : (text : List ℕ) → RowSaid (region_row text)
 unfolding region_row has_fields is_bounded
 region_said text =
-    row_cond (is text (codes "G36")) (Some (Ok (RegionStart ∷ []))) (cond (is text (codes "G37")) (Some (Ok (RegionEnd ∷ []))) None) (λ _. one_row RegionStart (bounded RegionStart refl refl))
-    (row_cond (is text (codes "G37")) (Some (Ok (RegionEnd ∷ []))) None (λ _. one_row RegionEnd (bounded RegionEnd refl refl)) no_row)
+    row_cond (is text (codes "G36")) (Some (Ok (RegionStart ∷ []))) (cond (is text (codes "G37")) (Some (Ok (RegionEnd ∷ []))) None) (λ _. one_row RegionStart refl (bounded RegionStart refl refl))
+    (row_cond (is text (codes "G37")) (Some (Ok (RegionEnd ∷ []))) None (λ _. one_row RegionEnd refl (bounded RegionEnd refl refl)) no_row)
 
 pub inch_sayable : is_sayable (UnitIs Inch) ≡ true
 unfolding has_fields is_bounded
@@ -142,16 +142,16 @@ millimetre_sayable = bounded (UnitIs Millimetre) refl refl
 unit_said : (text : List ℕ) → RowSaid (unit_row text)
 unfolding unit_row
 unit_said text =
-    row_cond (is text (codes "G70")) (Some (Ok (UnitIs Inch ∷ []))) (cond (is text (codes "G71")) (Some (Ok (UnitIs Millimetre ∷ []))) None) (λ _. one_row (UnitIs Inch) inch_sayable)
-    (row_cond (is text (codes "G71")) (Some (Ok (UnitIs Millimetre ∷ []))) None (λ _. one_row (UnitIs Millimetre) millimetre_sayable) no_row)
+    row_cond (is text (codes "G70")) (Some (Ok (UnitIs Inch ∷ []))) (cond (is text (codes "G71")) (Some (Ok (UnitIs Millimetre ∷ []))) None) (λ _. one_row (UnitIs Inch) refl inch_sayable)
+    (row_cond (is text (codes "G71")) (Some (Ok (UnitIs Millimetre ∷ []))) None (λ _. one_row (UnitIs Millimetre) refl millimetre_sayable) no_row)
 
 incremental_said : (text : List ℕ) → RowSaid (incremental_row text)
 unfolding incremental_row
 incremental_said text = row_cond (is text (codes "G91")) (Some (Err Incremental)) None (λ _. no_answer Incremental) no_row
 
-finish_said : (text : List ℕ) → RowSaid (finish_row text)
-unfolding finish_row has_fields is_bounded
-finish_said text = row_cond (is text (codes "M02") || is text (codes "M2")) (Some (Ok (Finish ∷ []))) None (λ _. one_row Finish (bounded Finish refl refl)) no_row
+finish_said : (text : List ℕ) → (is text (codes "M02") || is text (codes "M2")) ≡ false → RowSaid (finish_row text)
+unfolding finish_row
+finish_said text e = subst RowSaid (sym (ap (λ t. cond {A = Row} t (Some (Ok (Finish ∷ []))) None) e)) no_row
 
 old_said : (text : List ℕ) → RowSaid (old_row text)
 unfolding old_row
@@ -163,7 +163,7 @@ nothing_said text = row_cond (eqb (length text) 0 || is text (codes "G90")) (Som
 
 mode_said : (text : List ℕ) → RowSaid (mode_row text)
 unfolding mode_row
-mode_said text = row_cond (eqb (length (mode_front text).1) 0) (option_map (λ mode. Ok (Mode mode ∷ [])) (mode_front text).0) None (λ _. row_map (λ mode. Ok (Mode mode ∷ [])) (mode_front text).0 (λ m _. one_command (Mode m) (mode_sayable m))) no_row
+mode_said text = row_cond (eqb (length (mode_front text).1) 0) (option_map (λ mode. Ok (Mode mode ∷ [])) (mode_front text).0) None (λ _. row_map (λ mode. Ok (Mode mode ∷ [])) (mode_front text).0 (λ m _. one_command (Mode m) refl (mode_sayable m))) no_row
 
 -- ---- comments
 
@@ -172,7 +172,7 @@ unfolding comment has_fields
 comment_said text h l =
     said_cond (comments_negative text) (Err NegativeImage) (Ok (Comment text ∷ [])) (λ _. no_said NegativeImage) (λ n.
     let k : (is_text text && not (comments_negative text)) ≡ true = and_true (is_text text) (not (comments_negative text)) h (ap not n) in
-    one_command (Comment text) (and_true (has_fields (Comment text)) (is_short (Comment text)) k (sym (comment_test (Comment text) text refl k) ∙ le-leb (length text) 1048572 l)))
+    one_command (Comment text) refl (and_true (has_fields (Comment text)) (is_short (Comment text)) k (sym (comment_test (Comment text) text refl k) ∙ le-leb (length text) 1048572 l)))
 
 comments_said : (text : List ℕ) → is_text text ≡ true → length text + 1 ≤ item_limit → RowSaid (comment_row text)
 comments_said text h l = row_map comment (behind (codes "G04") text) (λ rest e. comment_said rest (behind_text (codes "G04") text rest h e) (omega (arith, behind_length (codes "G04") text rest e, l)))
@@ -193,13 +193,13 @@ alone_said : (digits : List ℕ) → Said (alone digits)
 unfolding alone
 alone_said digits = said_bind (nat_of digits) (λ n. cond (leb 10 n) (Ok (Select n ∷ [])) (action n >>= λ what. Ok (Operate what None None None None ∷ []))) (λ n e.
     said_cond (leb 10 n) (Ok (Select n ∷ [])) (action n >>= λ what. Ok (Operate what None None None None ∷ []))
-    (λ h. one_command (Select n) (select_sayable digits n e h))
-    (λ _. said_bind (action n) (λ what. Ok (Operate what None None None None ∷ [])) (λ a _. one_command (Operate a None None None None) (bare_sayable a))))
+    (λ h. one_command (Select n) refl (select_sayable digits n e h))
+    (λ _. said_bind (action n) (λ what. Ok (Operate what None None None None ∷ [])) (λ a _. one_command (Operate a None None None None) refl (bare_sayable a))))
 
 prepared_said : (digits : List ℕ) → Said (prepared digits)
 unfolding prepared Said
 prepared_said digits = said_bind (nat_of digits) (λ n. cond (leb 10 n) (Ok (Select n ∷ [])) (Err BadWord)) (λ n e.
-    said_cond (leb 10 n) (Ok (Select n ∷ [])) (Err BadWord) (λ h. one_command (Select n) (select_sayable digits n e h)) (λ _. tt))
+    said_cond (leb 10 n) (Ok (Select n ∷ [])) (Err BadWord) (λ h. one_command (Select n) refl (select_sayable digits n e h)) (λ _. tt))
 
 select_said : (text : List ℕ) → RowSaid (select_row text)
 unfolding select_row
@@ -209,10 +209,10 @@ select_said text =
     (row_map prepared (numbered (codes "G54D") text) (λ digits _. prepared_said digits))
 
 -- the interpolation in front of an operation, and the operation
-operate_both : (mode : Option Interpolation) (c : Command) → is_sayable c ≡ true → Said (Ok (modes_of mode ++ c ∷ []))
+operate_both : (mode : Option Interpolation) (c : Command) → is_finish c ≡ false → is_sayable c ≡ true → Said (Ok (modes_of mode ++ c ∷ []))
 unfolding Said
-operate_both None c h = (h, tt)
-operate_both (Some m) c h = (mode_sayable m, (h, tt))
+operate_both None c e h = ((h, e), tt)
+operate_both (Some m) c e h = ((mode_sayable m, refl), ((h, e), tt))
 
 operate_sayable : (a : Action) (x y i j : Option ℤ) → has_operands a x y i j ≡ true → is_sayable (Operate a x y i j) ≡ true
 unfolding has_fields is_bounded
@@ -233,7 +233,7 @@ operate_said plotting mode f =
     let offsets : (is_some r.0.1.0 || is_some r.0.1.1) ≡ has_offsets f = λ k. i.1 k || j.1 k in
     let plot : (is_plot r.1 || not (is_some r.0.1.0 || is_some r.0.1.1)) ≡ true = ap (λ t. is_plot r.1 || not t) offsets ∙ was_kind plotting (has_offsets f) f.d r.1 o.1 in
     let h : has_operands r.1 r.0.0.0 r.0.0.1 r.0.1.0 r.0.1.1 ≡ true = λ k. (x.0 k && y.0 k) && ((i.0 k && j.0 k) && plot k) in
-    operate_both mode (Operate r.1 r.0.0.0 r.0.0.1 r.0.1.0 r.0.1.1) (operate_sayable r.1 r.0.0.0 r.0.0.1 r.0.1.0 r.0.1.1 h))
+    operate_both mode (Operate r.1 r.0.0.0 r.0.0.1 r.0.1.0 r.0.1.1) refl (operate_sayable r.1 r.0.0.0 r.0.0.1 r.0.1.0 r.0.1.1 h))
 
 operation_said : (plotting : Bool) (text : List ℕ) → RowSaid (operation_row plotting text)
 unfolding operation_row RowSaid
@@ -242,8 +242,8 @@ operation_said plotting text =
 
 -- ---- words
 
-pub word_said : (plotting : Bool) (text : List ℕ) → (list_any (λ b. eqb b 37) text ≡ false → is_text text ≡ true) → length text + 1 ≤ item_limit → Said (word plotting text)
+pub word_said : (plotting : Bool) (text : List ℕ) → (list_any (λ b. eqb b 37) text ≡ false → is_text text ≡ true) → length text + 1 ≤ item_limit → (is text (codes "M02") || is text (codes "M2")) ≡ false → Said (word plotting text)
 unfolding word Said
-word_said plotting text h l = said_cond (list_any (λ b. eqb b 37) text) (Err BadWord) (first_fit (words plotting text)) (λ _. tt) (λ e.
+word_said plotting text h l n = said_cond (list_any (λ b. eqb b 37) text) (Err BadWord) (first_fit (words plotting text)) (λ _. tt) (λ e.
     first_said (words plotting text)
-    (nothing_said text, (comments_said text (h e) l, (mode_said text, (quadrant_said text, (region_said text, (unit_said text, (incremental_said text, (select_said text, (operation_said plotting text, (finish_said text, (old_said text, tt))))))))))))
+    (nothing_said text, (comments_said text (h e) l, (mode_said text, (quadrant_said text, (region_said text, (unit_said text, (incremental_said text, (select_said text, (operation_said plotting text, (finish_said text n, (old_said text, tt))))))))))))

@@ -3,7 +3,7 @@ use Rattle.std.specs.Prelude.{ℕ, ◌+◌, ◌^◌, ℤ, Bool, true, false, not
 use Rattle.std.specs.List.{list_all}
 use Rattle.grid_units.specs.Numbers.{max_units}
 use Rattle.gerber_rows.specs.declared.command.Command.{Command}
-use Rattle.gerber_rows.specs.declared.command.Command.TheVariants.{Comment, FormatIs, Define, Macro, Select, Operate, Turn, Scale, Repeat, Attribute, Remove}
+use Rattle.gerber_rows.specs.declared.command.Command.TheVariants.{Comment, FormatIs, Define, Macro, Select, Operate, Turn, Scale, Repeat, Attribute, Remove, Finish}
 use Rattle.gerber_rows.specs.declared.command.Format.{Format}
 use Rattle.gerber_rows.specs.declared.command.Block.{Block}
 use Rattle.gerber_rows.specs.declared.command.Action.{Action}
@@ -118,3 +118,8 @@ is_short command = nat_le (length (unbroken (canonical command))) item_limit
 -- A command is sayable where some item spells it and its canonical item is within the limit (docs/FORMATS.md, The canonical Gerber text).
 abbrev pub is_sayable : Command → Bool
 is_sayable command = has_fields command && is_short command
+
+-- the end of the text (Gerber format, End-of-file M02)
+abbrev pub is_finish : Command → Bool
+is_finish Finish = true
+is_finish _ = false

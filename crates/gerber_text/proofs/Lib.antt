@@ -1,3 +1,4 @@
+pub mod AllSaid
 pub mod Marks
 pub mod RoundTrip
 pub mod Shown
