@@ -34,9 +34,10 @@ fn are_all_of_name(bytes: &[u8]) -> bool
     bytes.iter().all(|byte| goes_on_name(*byte))
 }
 
-/// Whether these bytes are a name.
+/// Whether these bytes are a name: 1 to 127, the first a letter, `_`, `.` or `$`, further ones also digits or
+/// `-` (Gerber format, Names).
 #[tactic(auto, unfolding(crate::specs::Pieces::is_name))]
-pub(crate) fn is_name(name: &[u8]) -> bool
+pub fn is_name(name: &[u8]) -> bool
     ensures { result ≡ is_name name.now }
 {
     match name {
@@ -45,8 +46,8 @@ pub(crate) fn is_name(name: &[u8]) -> bool
     }
 }
 
-/// The standard aperture of a name.
-pub(crate) fn standard(name: &[u8]) -> Option<Standard>
+/// The standard aperture of a name, where it is one of `C`, `R`, `O`, `P`.
+pub fn standard(name: &[u8]) -> Option<Standard>
     ensures { result ≡ standard name.now }
 {
     if name == b"C".as_slice() {
@@ -62,7 +63,8 @@ pub(crate) fn standard(name: &[u8]) -> Option<Standard>
     }
 }
 
-pub(crate) fn least_sizes(aperture: Standard) -> usize
+/// The least number of parameters of a standard aperture.
+pub fn least_sizes(aperture: Standard) -> usize
     ensures { result ≡ least_sizes aperture }
 {
     match aperture {
@@ -71,7 +73,8 @@ pub(crate) fn least_sizes(aperture: Standard) -> usize
     }
 }
 
-pub(crate) fn most_sizes(aperture: Standard) -> usize
+/// The largest number of parameters of a standard aperture, at most 5.
+pub fn most_sizes(aperture: Standard) -> usize
     ensures value { result ≡ most_sizes aperture }
     ensures few { result ≤ 5 }
 {

@@ -11,6 +11,7 @@ mod piece;
 mod plain;
 mod word;
 
+pub use aperture::{is_name, least_sizes, most_sizes, standard};
 pub use canonical::write_item;
 pub use command::{
     Action, AttributeKind, Block, Command, Format, Interpolation, Pieces, QuadrantMode, Sizes,
@@ -18,3 +19,4 @@ pub use command::{
 };
 pub use item::{ItemFail, is_text_end, read_item};
 pub use plain::{PlainOperation, plain_operation};
+pub use word::{comments_negative, is_negative_image};

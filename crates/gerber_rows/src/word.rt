@@ -59,8 +59,8 @@ pub(crate) fn first_field(text: &[u8]) -> &[u8]
     text.split_at(plain_len(text)).0
 }
 
-/// Whether a file attribute makes the image negative.
-pub(crate) fn is_negative_image(attribute: &[u8]) -> bool
+/// Whether the text of a file attribute makes the image negative (Gerber format, .FilePolarity).
+pub fn is_negative_image(attribute: &[u8]) -> bool
     ensures { result ≡ is_negative_image attribute.now }
 {
     match behind(b".FilePolarity,", attribute) {
@@ -95,8 +95,8 @@ fn behind_spaces(text: &[u8]) -> &[u8]
     text.split_at(spaces_len(text)).1
 }
 
-/// Whether a comment holds such a file attribute.
-fn comments_negative(text: &[u8]) -> bool
+/// Whether the text of a comment holds such a file attribute.
+pub fn comments_negative(text: &[u8]) -> bool
     ensures { result ≡ comments_negative text.now }
 {
     match behind(b"#@! TF", behind_spaces(text)) {

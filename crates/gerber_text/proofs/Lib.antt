@@ -1,5 +1,6 @@
 pub mod Adding
 pub mod Items
+pub mod AllSaid
 pub mod Marks
 pub mod RoundTrip
 pub mod Shown

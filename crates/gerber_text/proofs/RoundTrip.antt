@@ -1,5 +1,5 @@
 -- The canonical text of a sayable list spells just this list.
-use Rattle.std.proofs.Common.{◌≡◌, ℕ, suc, ◌+◌, ◌≤◌, Bool, true, false, cond, not, ◌||◌, List, [], ◌∷◌, ◌++◌, length, Ok, refl, sym, ap, subst, ◌∙◌, arith, append_assoc}
+use Rattle.std.proofs.Common.{◌≡◌, ℕ, suc, ◌+◌, ◌≤◌, Bool, true, false, cond, not, ◌||◌, ◌&&◌, List, [], ◌∷◌, ◌++◌, length, Ok, refl, sym, ap, subst, ◌∙◌, arith, append_assoc}
 use Rattle.std.specs.List.{flat_map}
 use Rattle.std.proofs.lemmas.List.{append-nil, length-append}
 use Rattle.std.proofs.lemmas.Bool.{le-ltb, false≢true}
@@ -9,10 +9,37 @@ use Rattle.gerber_rows.specs.Items.{is_line_break, is_end, IsItem}
 use Rattle.gerber_rows.specs.Canonical.{canonical}
 use Rattle.gerber_text.specs.Cut.{Mark, marks_from, marks, bytes_of, first_offset, has_end, AreItems, Splits}
 use Rattle.gerber_text.specs.Reading.{Entries, is_plotting, spelled, commands_from, placed, text_limit}
-use Rattle.gerber_text.specs.Writing.{lines, unbroken, Spells, IsSayable, without_places, ReadsAs}
+use Rattle.gerber_sayable.specs.Cut.{unbroken, Spells}
+use Rattle.gerber_sayable.specs.Sayable.{is_sayable, is_finish}
+use Rattle.gerber_sayable.proofs.Says.{says as canonical_spells}
+use Rattle.gerber_sayable.proofs.Said.{canonical_ends}
+use Rattle.gerber_text.specs.Writing.{lines, sayable, without_places, ReadsAs}
 use Rattle.gerber_text.proofs.Marks.{marks_from-append}
 use Rattle.gerber_text.proofs.Shown.{shown_ended}
 use Rattle.gerber_text.proofs.Whole.{reads_ok}
+
+-- each command is one that its canonical item spells, and the end of the text is the last and no other
+abbrev IsSayable : List Command → Type 0
+IsSayable [] = ⊥
+IsSayable (c ∷ []) = Spells (canonical c) c × (is_end (unbroken (canonical c)) ≡ true)
+IsSayable (c ∷ d ∷ cs) = Spells (canonical c) c × (is_end (unbroken (canonical c)) ≡ false) × IsSayable (d ∷ cs)
+
+both_true : (a b : Bool) → (a && b) ≡ true → (a ≡ true) × (b ≡ true)
+both_true true b h = (refl, h)
+both_true false b h = absurd (false≢true h)
+
+not_true : (a : Bool) → not a ≡ true → a ≡ false
+not_true true h = absurd (false≢true h)
+not_true false h = refl
+
+-- a list is sayable by its test
+are_spelled : (cs : List Command) → sayable cs ≡ true → IsSayable cs
+are_spelled [] h = absurd (false≢true h)
+are_spelled (c ∷ []) h = let k = both_true (is_sayable c) (is_finish c) h in (canonical_spells c k.0, canonical_ends c k.0 ∙ k.1)
+are_spelled (c ∷ d ∷ cs) h =
+    let k = both_true (is_sayable c) (not (is_finish c) && sayable (d ∷ cs)) h in
+    let l = both_true (not (is_finish c)) (sayable (d ∷ cs)) k.1 in
+    (canonical_spells c k.0, canonical_ends c k.0 ∙ not_true (is_finish c) l.0, are_spelled (d ∷ cs) l.1)
 
 -- the bytes of marks are those that are no line breaks
 bytes_of_marks : (n : ℕ) (text : List ℕ) → bytes_of (marks_from n text) ≡ unbroken text
@@ -77,9 +104,9 @@ found n place (c ∷ d ∷ cs) before h =
       same = ap (λ (x : List Command). c ∷ x) rest.same;
     }
 
-pub reads_as : (cs : List Command) (text : List ℕ) → text ≡ lines cs → length text ≤ text_limit → IsSayable cs → ReadsAs text cs
+pub reads_as : (cs : List Command) (text : List ℕ) → text ≡ lines cs → length text ≤ text_limit → sayable cs ≡ true → ReadsAs text cs
 reads_as cs text is le h =
-    let f = found 0 1 cs [] h in
+    let f = found 0 1 cs [] (are_spelled cs h) in
     let all = marked 0 cs in
     let splits : Splits (marks (lines cs)) all [] = record { whole = f.whole ∙ sym (append-nil (flat_map (λ (i : List Mark). i) all)); each = f.each; partial = λ none. absurd (false≢true (sym none ∙ f.ends)) } in
     let short : length (lines cs) ≤ text_limit = subst (λ (t : List ℕ). length t ≤ text_limit) is le in

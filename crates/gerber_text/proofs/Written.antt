@@ -14,7 +14,7 @@ use Rattle.gerber_rows.specs.declared.command.Command.{Command}
 use Rattle.gerber_rows.specs.Canonical.{canonical}
 use Rattle.gerber_text.specs.declared.placed.Placed.{Placed}
 use Rattle.gerber_text.specs.Reading.{text_limit}
-use Rattle.gerber_text.specs.Writing.{lines, limited, canonical_text, without_places, IsSayable, ReadsAs, bytes_of_vector}
+use Rattle.gerber_text.specs.Writing.{lines, limited, canonical_text, without_places, sayable, ReadsAs, bytes_of_vector}
 use Rattle.gerber_text.proofs.RoundTrip.{reads_as}
 
 -- one more element is written behind the others
@@ -48,6 +48,6 @@ within text other h = by (ltb text_limit (length text)) refl h
     by true e k = absurd cc
     by false e k = (cc, ltb-false _ _ e)
 
-pub reads_back : (cs : List Command) (text : List ℕ) (r : Result (Vec ℕ) Fail) → text ≡ lines cs → AnswersAlways bytes_of_vector (λ answer. answer ≡ limited text) r → IsSayable cs → IfOk r (λ v. ReadsAs v.items cs)
+pub reads_back : (cs : List Command) (text : List ℕ) (r : Result (Vec ℕ) Fail) → text ≡ lines cs → AnswersAlways bytes_of_vector (λ answer. answer ≡ limited text) r → sayable cs ≡ true → IfOk r (λ v. ReadsAs v.items cs)
 reads_back cs text (Ok v) is h s = let k = within text v.items h in subst (λ (t : List ℕ). ReadsAs t cs) (sym k.0) (reads_as cs text is k.1 s)
 reads_back cs text (Err e) is h s = tt

@@ -1,15 +1,14 @@
 -- The canonical text of commands.
-use Rattle.std.specs.Prelude.{◌≡◌, ℕ, ◌≤◌, Bool, true, false, not, nat_lt, List, [], ◌∷◌, ◌++◌, length, map, filter, Result, Ok, Err, if◌then◌else◌}
+use Rattle.std.specs.Prelude.{◌≡◌, ℕ, Bool, false, not, ◌&&◌, nat_lt, List, [], ◌∷◌, ◌++◌, length, map, Result, Ok, Err, if◌then◌else◌}
 use Rattle.std.specs.List.{flat_map}
 use Rattle.std.specs.Global.{Vec}
 use Rattle.grid_units.specs.Results.{fault}
 use Rattle.grid_units.specs.declared.fault.Fault.{Fault}
 use Rattle.grid_units.specs.declared.fault.Reason.TheVariants.{TooLong}
 use Rattle.gerber_rows.specs.declared.command.Command.{Command}
-use Rattle.gerber_rows.specs.Items.{is_line_break, is_end, IsItem}
-use Rattle.gerber_rows.specs.Meaning.{meaning}
 use Rattle.gerber_rows.specs.Canonical.{canonical}
-use Rattle.gerber_text.specs.Reading.{Entries, Reads, item_limit, text_limit}
+use Rattle.gerber_sayable.specs.Sayable.{is_sayable, is_finish}
+use Rattle.gerber_text.specs.Reading.{Entries, Reads, text_limit}
 
 -- each command's canonical item, and a line end after it (docs/FORMATS.md, The canonical Gerber text)
 abbrev pub lines : List Command → List ℕ
@@ -27,22 +26,12 @@ canonical_text commands = limited (lines commands)
 abbrev pub without_places : Entries → List Command
 without_places entries = map (λ entry. entry.what) entries
 
--- the bytes of a text without its line breaks (docs/FORMATS.md, Cutting)
-abbrev pub unbroken : List ℕ → List ℕ
-unbroken text = filter (λ b. not (is_line_break b)) text
-
--- A text without its line breaks is an item within the limit that spells this command alone, whatever stands before it
--- (docs/FORMATS.md, How a row fits and is read).
-pub record Spells (text : List ℕ) (command : Command) : Type 0 where
-  pub one : IsItem (unbroken text)
-  pub short : length (unbroken text) ≤ item_limit
-  pub says : (plotting : Bool) → meaning plotting (unbroken text) ≡ Ok (command ∷ [])
-
--- each command is one that its canonical item spells, and the end of the text is the last and no other (docs/FORMATS.md, The canonical Gerber text)
-abbrev pub IsSayable : List Command → Type 0
-IsSayable [] = ⊥
-IsSayable (c ∷ []) = Spells (canonical c) c × (is_end (unbroken (canonical c)) ≡ true)
-IsSayable (c ∷ d ∷ cs) = Spells (canonical c) c × (is_end (unbroken (canonical c)) ≡ false) × IsSayable (d ∷ cs)
+-- A list is sayable where the end of the text is its last command and stands nowhere else, and each command is one that some item
+-- spells and whose canonical item is within the limit (docs/FORMATS.md, The canonical Gerber text).
+abbrev pub sayable : List Command → Bool
+sayable [] = false
+sayable (c ∷ []) = is_sayable c && is_finish c
+sayable (c ∷ d ∷ cs) = is_sayable c && (not (is_finish c) && sayable (d ∷ cs))
 
 -- The text spells just these commands (docs/FORMATS.md, The canonical Gerber text).
 pub record ReadsAs (text : List ℕ) (commands : List Command) : Type 0 where

@@ -4,6 +4,7 @@
 
 mod placed;
 mod reader;
+mod sayable_lists;
 mod writer;
 
 pub use gerber_rows::{
@@ -12,7 +13,10 @@ pub use gerber_rows::{
 };
 pub use placed::Placed;
 pub use reader::{Kept, WordReader, one_reading, read_kept, read_words};
+pub use sayable_lists::{sayable, sayable_texts};
 pub use writer::{write_commands, write_placed};
 
+#[cfg(test)]
+mod sayable_tests;
 #[cfg(test)]
 mod tests;

@@ -8,6 +8,7 @@ ghost use Rattle.grid_units.specs.Results.{fault, Answers};
 ghost use Rattle.gerber_rows.specs.declared.command.Command.TheVariants.{Mode};
 ghost use Rattle.gerber_text.specs.Reading.{Entries, Shows, spelled, placed, Leaves, plot_of, is_plotting, Reads, SpellsText, Keeps, entries_of, is_blank};
 ghost use Rattle.gerber_text.specs.Bytes.{IsInside, follows_or_drops};
+ghost use Rattle.gerber_text.specs.Writing.{without_places, sayable};
 
 use crate::placed::Placed;
 use gerber_rows::{
@@ -536,6 +537,7 @@ impl WordReader {
     /// The first fault of the text. A reader that has failed gives its failure again.
     pub fn finish(self) -> Result<Vec<Placed<Command>>, Fail>
         ensures exact { (text : List ℕ) → StandsAfter self text → AnswersAlways entries_of (λ answer. Reads text answer) result }
+        ensures sayable { (text : List ℕ) → StandsAfter self text → IfOk result (λ v. sayable (without_places v.items) ≡ true) }
         ensures failed { IfSome (failure self) (λ e. result ≡ Err e) }
     {
         match self.failed {
@@ -584,6 +586,7 @@ pub fn read_words(alloc: Global, bytes: &[u8]) -> Result<Vec<Placed<Command>>, F
     ensures exact { Answers entries_of (λ answer. Reads bytes.now answer) result }
     ensures found { IfOk result (λ v. SpellsText bytes.now v.items) }
     ensures only { (cs : Entries) → SpellsText bytes.now cs → Answers entries_of (λ answer. answer ≡ Ok cs) result }
+    ensures sayable { IfOk result (λ v. sayable (without_places v.items) ≡ true) }
 {
     let mut reader = WordReader::new(alloc);
     reader.feed(bytes)?;

@@ -1,8 +1,8 @@
 //! The canonical text of commands.
 
-ghost use Rattle.std.specs.Prelude.{◌≡◌, ◌++◌, [], ◌∷◌, OnOk, IfOk};
+ghost use Rattle.std.specs.Prelude.{◌≡◌, ◌++◌, [], ◌∷◌, true, OnOk, IfOk};
 ghost use Rattle.grid_units.specs.Results.{Answers, AnswersAlways};
-ghost use Rattle.gerber_text.specs.Writing.{lines, limited, canonical_text, without_places, IsSayable, ReadsAs, bytes_of_vector};
+ghost use Rattle.gerber_text.specs.Writing.{lines, limited, canonical_text, without_places, sayable, ReadsAs, bytes_of_vector};
 ghost use Rattle.gerber_rows.specs.Canonical.{canonical};
 
 use crate::placed::Placed;
@@ -56,7 +56,7 @@ fn lines_of(alloc: Global, commands: &[Command]) -> Result<Vec<u8>, AllocError>
 /// was refused.
 pub fn write_commands(alloc: Global, commands: &[Command]) -> Result<Vec<u8>, Fail>
     ensures exact { Answers bytes_of_vector (λ answer. answer ≡ canonical_text commands.now) result }
-    ensures reads_back { IsSayable commands.now → IfOk result (λ text. ReadsAs text.items commands.now) }
+    ensures reads_back { sayable commands.now ≡ true → IfOk result (λ text. ReadsAs text.items commands.now) }
 {
     limited(lines_of(alloc, commands)?)
 }
@@ -80,7 +80,7 @@ fn lines_of_placed(alloc: Global, commands: &[Placed<Command>]) -> Result<Vec<u8
 /// was refused.
 pub fn write_placed(alloc: Global, commands: &[Placed<Command>]) -> Result<Vec<u8>, Fail>
     ensures exact { Answers bytes_of_vector (λ answer. answer ≡ canonical_text (without_places commands.now)) result }
-    ensures reads_back { IsSayable (without_places commands.now) → IfOk result (λ text. ReadsAs text.items (without_places commands.now)) }
+    ensures reads_back { sayable (without_places commands.now) ≡ true → IfOk result (λ text. ReadsAs text.items (without_places commands.now)) }
 {
     limited(lines_of_placed(alloc, commands)?)
 }

@@ -1,6 +1,7 @@
 use Rattle.std.proofs.lemmas.Result.{err_from_is_err_and}
 use Rattle.std.proofs.Common.{[]}
 use Rattle.gerber_text.proofs.Whole.{answers_err}
+use Rattle.gerber_text.proofs.AllSaid.{always_said}
 use Rattle.gerber_text.proofs.Spelling.{only_err, always_exact, always_found, always_only}
 use Rattle.gerber_text.proofs.reader.read_words.Goals as goal
 
@@ -14,6 +15,7 @@ returns-in_err-feed c =
       exact = rw (p.1, p.2) exact;
       found = rw p.1 tt;
       only = λ cs s. rw (p.1, p.2) (only_err c.args.bytes.now cs e exact s);
+      sayable = rw p.1 tt;
     }
 
 pub returns : goal.returns
@@ -23,4 +25,5 @@ returns c =
       exact = always_exact c.args.bytes.now c.finish.result h;
       found = always_found c.args.bytes.now c.finish.result h;
       only = always_only c.args.bytes.now c.finish.result h;
+      sayable = always_said c.args.bytes.now c.finish.result h;
     }

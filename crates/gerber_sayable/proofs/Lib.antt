@@ -1,0 +1,11 @@
+pub mod Runs
+pub mod Items
+pub mod Numerals
+pub mod Words
+pub mod Pieces
+pub mod Lengths
+pub mod Says
+pub mod Ranges
+pub mod SaidWords
+pub mod SaidPieces
+pub mod Said

@@ -1,0 +1,125 @@
+-- Which commands some item of a Gerber text spells: the ranges of their fields, and the bytes of their texts.
+use Rattle.std.specs.Prelude.{ℕ, ◌+◌, ◌^◌, ℤ, Bool, true, false, not, ◌||◌, ◌&&◌, ◌==◌, nat_le, nat_lt, unsigned_abs, List, length, Option, None, Some, is_some}
+use Rattle.std.specs.List.{list_all}
+use Rattle.grid_units.specs.Numbers.{max_units}
+use Rattle.gerber_rows.specs.declared.command.Command.{Command}
+use Rattle.gerber_rows.specs.declared.command.Command.TheVariants.{Comment, FormatIs, Define, Macro, Select, Operate, Turn, Scale, Repeat, Attribute, Remove, Finish}
+use Rattle.gerber_rows.specs.declared.command.Format.{Format}
+use Rattle.gerber_rows.specs.declared.command.Block.{Block}
+use Rattle.gerber_rows.specs.declared.command.Action.{Action}
+use Rattle.gerber_rows.specs.declared.command.Action.TheVariants.{Plot}
+use Rattle.gerber_rows.specs.declared.command.AttributeKind.{AttributeKind}
+use Rattle.gerber_rows.specs.declared.command.AttributeKind.TheVariants as kinds
+use Rattle.gerber_rows.specs.declared.command.Template.{Template}
+use Rattle.gerber_rows.specs.declared.command.Template.TheVariants as templates
+use Rattle.gerber_rows.specs.declared.command.Standard.{Standard}
+use Rattle.gerber_rows.specs.Items.{is_line_break}
+use Rattle.gerber_rows.specs.Words.{comments_negative}
+use Rattle.gerber_rows.specs.Words.{is_negative_image}
+use Rattle.gerber_rows.specs.Pieces.{is_name, standard, least_sizes, most_sizes}
+use Rattle.gerber_rows.specs.Canonical.{canonical}
+use Rattle.gerber_sayable.specs.Cut.{unbroken, item_limit}
+
+-- ---- fields
+
+-- neither `*` nor `%`, which end items, nor CR nor LF, which are dropped (docs/FORMATS.md, How a row fits and is read)
+abbrev pub is_text_byte : ℕ → Bool
+is_text_byte b = not ((b == 42) || ((b == 37) || is_line_break b))
+
+-- a text in an item (docs/FORMATS.md, How a row fits and is read)
+abbrev pub is_text : List ℕ → Bool
+is_text text = list_all is_text_byte text
+
+-- the same where it stands (docs/FORMATS.md, How a row fits and is read)
+abbrev pub may_be_text : Option (List ℕ) → Bool
+may_be_text None = true
+may_be_text (Some text) = is_text text
+
+-- a whole number without a sign: at most 2,147,483,647 (docs/FORMATS.md, The three kinds of number)
+abbrev pub is_nat : ℕ → Bool
+is_nat n = nat_le n 2147483647
+
+-- a whole number with a sign: at most 12 digits (docs/FORMATS.md, The three kinds of number)
+abbrev pub is_int : ℤ → Bool
+is_int z = nat_lt (unsigned_abs z) (10 ^ 12)
+
+-- the same where it stands (docs/FORMATS.md, The three kinds of number)
+abbrev pub may_be_int : Option ℤ → Bool
+may_be_int None = true
+may_be_int (Some z) = is_int z
+
+-- a decimal, in units of 10^-8: at most 999,999.99999999 from zero (docs/FORMATS.md, The three kinds of number)
+abbrev pub is_dec : ℤ → Bool
+is_dec v = nat_le (unsigned_abs v) max_units
+
+-- ---- kinds of commands
+
+-- digits of a format: none above 6, not both 0 (docs/FORMATS.md, Extended items)
+abbrev pub is_format : Format → Bool
+is_format f = nat_le f.whole 6 && (nat_le f.decimals 6 && nat_le 1 (f.whole + f.decimals))
+
+-- the number of an aperture, from 10 on (docs/FORMATS.md, Apertures)
+abbrev pub is_aperture_number : ℕ → Bool
+is_aperture_number n = nat_le 10 n && is_nat n
+
+-- the name of a macro: a name, and none of the standard apertures (docs/FORMATS.md, Apertures)
+abbrev pub is_macro_name : List ℕ → Bool
+is_macro_name name = is_name name && not (is_some (standard name))
+
+-- the parameters of a standard aperture: as many as it takes, each a decimal (docs/FORMATS.md, Apertures)
+abbrev pub is_parameters : Standard → List ℤ → Bool
+is_parameters aperture sizes = list_all is_dec sizes && (nat_le (least_sizes aperture) (length sizes) && nat_le (length sizes) (most_sizes aperture))
+
+-- a template: a standard aperture, or a macro's name and a text (docs/FORMATS.md, Apertures)
+abbrev pub is_template : Template → Bool
+is_template (templates.Standard aperture sizes) = is_parameters aperture sizes
+is_template (templates.Named name parameters) = is_macro_name name && may_be_text parameters
+
+-- a plot (docs/FORMATS.md, Words)
+abbrev pub is_plot : Action → Bool
+is_plot Plot = true
+is_plot _ = false
+
+-- an operation: its coordinates are whole numbers, and offsets stand with a plot alone (docs/FORMATS.md, Words)
+abbrev pub is_operation : Action → Option ℤ → Option ℤ → Option ℤ → Option ℤ → Bool
+is_operation action x y i j = (may_be_int x && may_be_int y) && ((may_be_int i && may_be_int j) && (is_plot action || not (is_some i || is_some j)))
+
+-- a step and repeat block (docs/FORMATS.md, Extended items)
+abbrev pub is_block : Block → Bool
+is_block b = (is_nat b.columns && is_nat b.rows) && (is_dec b.step_x && is_dec b.step_y)
+
+-- an attribute: a text, of files none that makes the image negative (docs/FORMATS.md, Names, first fields, negative images)
+abbrev pub is_attribute : AttributeKind → List ℕ → Bool
+is_attribute kinds.File text = is_text text && not (is_negative_image text)
+is_attribute kinds.Aperture text = is_text text
+is_attribute kinds.Object text = is_text text
+
+-- ---- commands
+
+-- The fields of a command are those that some item spells, whatever the item's length (docs/FORMATS.md, The canonical Gerber text).
+unfoldable pub has_fields : Command → Bool
+has_fields (Comment text) = is_text text && not (comments_negative text)
+has_fields (FormatIs format) = is_format format
+has_fields (Define number template) = is_aperture_number number && is_template template
+has_fields (Macro name pieces) = is_macro_name name && list_all is_text pieces
+has_fields (Select number) = is_aperture_number number
+has_fields (Operate action x y i j) = is_operation action x y i j
+has_fields (Turn degrees) = is_dec degrees
+has_fields (Scale factor) = is_dec factor
+has_fields (Repeat block) = is_block block
+has_fields (Attribute kind text) = is_attribute kind text
+has_fields (Remove text) = is_text text
+has_fields _ = true
+
+-- the canonical item of a command is at most 1,048,576 bytes without its line breaks (docs/FORMATS.md, The canonical Gerber text)
+abbrev pub is_short : Command → Bool
+is_short command = nat_le (length (unbroken (canonical command))) item_limit
+
+-- A command is sayable where some item spells it and its canonical item is within the limit (docs/FORMATS.md, The canonical Gerber text).
+abbrev pub is_sayable : Command → Bool
+is_sayable command = has_fields command && is_short command
+
+-- the end of the text (Gerber format, End-of-file M02)
+abbrev pub is_finish : Command → Bool
+is_finish Finish = true
+is_finish _ = false

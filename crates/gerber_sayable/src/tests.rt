@@ -1,0 +1,189 @@
+use crate::{canonical_items, is_sayable, spelled_commands};
+use gerber_rows::{
+    Action, AttributeKind, Block, Command, Format, Pieces, Sizes, Standard, Template,
+};
+use grid_units::{Dec, Text};
+use std::alloc::{AllocError, Global};
+use std::test::Fail as TestFail;
+
+fn text(alloc: Global, bytes: &[u8]) -> Result<Text, AllocError> {
+    Text::from_slice(alloc, bytes)
+}
+
+fn comment(alloc: Global, bytes: &[u8]) -> Result<Command, AllocError> {
+    Ok(Command::Comment(text(alloc, bytes)?))
+}
+
+/// An aperture 10 of a macro.
+fn named(alloc: Global, name: &[u8]) -> Result<Command, AllocError> {
+    let name = text(alloc, name)?;
+    Ok(Command::Define {
+        number: 10,
+        template: Template::Named(name, None),
+    })
+}
+
+/// An aperture of one parameter.
+fn of_one(number: u32, aperture: Standard) -> Option<Command> {
+    let mut sizes = Sizes::new();
+    sizes.push(Dec::from_units(65_000_000)?);
+    Some(Command::Define {
+        number,
+        template: Template::Standard(aperture, sizes),
+    })
+}
+
+/// An operation with an offset along x.
+fn with_offset(action: Action, i: i64) -> Command {
+    Command::Operate {
+        action,
+        x: None,
+        y: None,
+        i: Some(i),
+        j: None,
+    }
+}
+
+/// A step and repeat block with these counts.
+fn block(columns: u32, rows: u32) -> Option<Command> {
+    let step = Dec::from_units(-1)?;
+    Some(Command::Repeat(Block {
+        columns,
+        rows,
+        step_x: step,
+        step_y: step,
+    }))
+}
+
+/// So many letters.
+fn letters(alloc: Global, count: usize) -> Result<Vec<u8>, AllocError> {
+    let mut bytes = Vec::new(alloc);
+    for _ in 0..count {
+        bytes.push(b'a')?;
+    }
+    Ok(bytes)
+}
+
+#[test]
+fn commands_that_no_item_spells(rt: HostRuntime) -> Result<(), TestFail> {
+    let alloc = rt.alloc();
+    assert!(rt; !is_sayable(&Command::Select(9)));
+    assert!(rt; !is_sayable(&named(alloc, b"C")?));
+    assert!(rt; !is_sayable(&with_offset(Action::Move, 5)));
+    assert!(rt; !is_sayable(&comment(alloc, b"#@! TF.FilePolarity,Negative")?));
+    assert!(rt; !is_sayable(&comment(alloc, b"  #@! TF.FilePolarity,Negative,x")?));
+    assert!(rt;
+        !is_sayable(&Command::FormatIs(Format {
+            whole: 0,
+            decimals: 0
+        }))
+    );
+    Ok(())
+}
+
+#[test]
+fn commands_that_items_spell(rt: HostRuntime) -> Result<(), TestFail> {
+    let alloc = rt.alloc();
+    assert!(rt; is_sayable(&Command::Select(10)));
+    assert!(rt; is_sayable(&named(alloc, b"C0.5")?));
+    assert!(rt; is_sayable(&with_offset(Action::Plot, 5)));
+    assert!(rt; is_sayable(&comment(alloc, b"#@! TF.FilePolarity,Positive")?));
+    assert!(rt; is_sayable(&comment(alloc, b"")?));
+    assert!(rt;
+        is_sayable(&Command::FormatIs(Format {
+            whole: 0,
+            decimals: 6
+        }))
+    );
+    assert!(rt; is_sayable(&Command::RepeatEnd));
+    Ok(())
+}
+
+#[test]
+fn numbers_at_their_bounds(rt: HostRuntime) -> Result<(), TestFail> {
+    assert!(rt; is_sayable(&Command::Select(2_147_483_647)));
+    assert!(rt; !is_sayable(&Command::Select(2_147_483_648)));
+    assert!(rt; is_sayable(&with_offset(Action::Plot, -999_999_999_999)));
+    assert!(rt; !is_sayable(&with_offset(Action::Plot, -1_000_000_000_000)));
+    assert!(rt;
+        is_sayable(&Command::FormatIs(Format {
+            whole: 6,
+            decimals: 6
+        }))
+    );
+    assert!(rt;
+        !is_sayable(&Command::FormatIs(Format {
+            whole: 2,
+            decimals: 7
+        }))
+    );
+    assert!(rt; is_sayable(&block(2_147_483_647, 0).ok_or("block")?));
+    assert!(rt; !is_sayable(&block(2_147_483_648, 0).ok_or("block")?));
+    assert!(rt; !is_sayable(&block(0, 2_147_483_648).ok_or("block")?));
+    Ok(())
+}
+
+#[test]
+fn apertures(rt: HostRuntime) -> Result<(), TestFail> {
+    assert!(rt; is_sayable(&of_one(10, Standard::Circle).ok_or("C")?));
+    assert!(rt; !is_sayable(&of_one(9, Standard::Circle).ok_or("C")?));
+    assert!(rt; !is_sayable(&of_one(10, Standard::Rectangle).ok_or("R")?));
+    Ok(())
+}
+
+#[test]
+fn bytes_of_texts(rt: HostRuntime) -> Result<(), TestFail> {
+    let alloc = rt.alloc();
+    for bytes in [b"a*".as_slice(), b"%", b"a\nb", b"\r"] {
+        assert!(rt; !is_sayable(&comment(alloc, bytes)?));
+        assert!(rt; !is_sayable(&Command::Remove(text(alloc, bytes)?)));
+        let attribute = Command::Attribute(AttributeKind::Object, text(alloc, bytes)?);
+        assert!(rt; !is_sayable(&attribute));
+    }
+    let polarity = b".FilePolarity,Negative";
+    let of_file = Command::Attribute(AttributeKind::File, text(alloc, polarity)?);
+    assert!(rt; !is_sayable(&of_file));
+    let of_object = Command::Attribute(AttributeKind::Object, text(alloc, polarity)?);
+    assert!(rt; is_sayable(&of_object));
+    Ok(())
+}
+
+#[test]
+fn items_at_their_longest(rt: HostRuntime) -> Result<(), TestFail> {
+    let alloc = rt.alloc();
+    let mut bytes = letters(alloc, 1_048_572)?;
+    assert!(rt; is_sayable(&comment(alloc, &bytes)?));
+    assert!(rt; !is_sayable(&Command::Remove(text(alloc, &bytes)?)));
+    bytes.push(b'a')?;
+    assert!(rt; !is_sayable(&comment(alloc, &bytes)?));
+    let longest = letters(alloc, 1_048_571)?;
+    assert!(rt; is_sayable(&Command::Remove(text(alloc, &longest)?)));
+    Ok(())
+}
+
+/// A macro `a` of one piece.
+fn of_piece(alloc: Global, piece: &[u8]) -> Result<Command, AllocError> {
+    let mut pieces = Vec::new(alloc);
+    pieces.push(text(alloc, piece)?)?;
+    Ok(Command::Macro(text(alloc, b"a")?, Pieces::new(pieces)))
+}
+
+#[test]
+fn macros(rt: HostRuntime) -> Result<(), TestFail> {
+    let alloc = rt.alloc();
+    assert!(rt; is_sayable(&of_piece(alloc, b"1,1,$1")?));
+    assert!(rt; !is_sayable(&of_piece(alloc, b"1,1*")?));
+    let longest = letters(alloc, 1_048_569)?;
+    assert!(rt; is_sayable(&of_piece(alloc, &longest)?));
+    let longer = letters(alloc, 1_048_570)?;
+    assert!(rt; !is_sayable(&of_piece(alloc, &longer)?));
+    Ok(())
+}
+
+#[test]
+fn laws(rt: HostRuntime) -> Result<(), TestFail> {
+    canonical_items();
+    spelled_commands();
+    assert!(rt; is_sayable(&Command::Finish));
+    Ok(())
+}
