@@ -39,14 +39,14 @@ same_test a b m n h k = by (leb a b) (leb m n) refl refl
     by false true e f = le-leb a b (k (leb-true m n f)) ∙ sym f
     by false false e f = e ∙ sym f
 
-filter_one : (t : Bool) (x m n : ℕ) (ys : List ℕ) → length ys ≤ n → length (cond t (x ∷ ys) ys) ≤ suc n
-filter_one true x m n ys h = omega (arith, h)
-filter_one false x m n ys h = omega (arith, h)
+filter_one : (t : Bool) (x n : ℕ) (ys : List ℕ) → length ys ≤ n → length (cond t (x ∷ ys) ys) ≤ suc n
+filter_one true x n ys h = omega (arith, h)
+filter_one false x n ys h = omega (arith, h)
 
 -- dropping lengthens nothing
 pub filter_short : (p : ℕ → Bool) (xs : List ℕ) → length (filter p xs) ≤ length xs
 filter_short p [] = lit≤ tt
-filter_short p (x ∷ xs) = filter_one (p x) x 0 (length xs) (filter p xs) (filter_short p xs)
+filter_short p (x ∷ xs) = filter_one (p x) x (length xs) (filter p xs) (filter_short p xs)
 
 -- ---- items of a bounded length
 

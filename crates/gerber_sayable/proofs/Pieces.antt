@@ -29,6 +29,7 @@ use Rattle.gerber_sayable.specs.Cut.{is_kept, unbroken}
 use Rattle.gerber_sayable.specs.Sayable.{is_text_byte, is_text, is_nat, is_dec, is_format, is_aperture_number, is_macro_name, is_parameters, is_template, is_block, is_attribute}
 use Rattle.gerber_sayable.proofs.Runs.{and_true, both_true, not_true, all_weaker, all_append, kept_whole, prefix_run, prefix_alone, run_in_front, rest_behind, run_alone, rest_alone}
 use Rattle.gerber_sayable.proofs.Items.{is_inner, text_inner, text_kept, piece_item}
+use Rattle.gerber_sayable.proofs.Words.{behind_all}
 use Rattle.gerber_sayable.proofs.Numerals.{number_text, numbers_text, digits_numbers, nat_is, dec_is}
 
 -- ---- turns and scales
@@ -165,9 +166,6 @@ block_starts b h =
 pub block_piece : (b : Block) → is_block b ≡ true → first_fit (pieces (block_text b)) ≡ Ok (Repeat b ∷ [])
 unfolding system_row format_row unit_piece_row polarity_row mirror_row transform_row repeat_row block_text
 block_piece b h = ap (λ r. first_fit (r ∷ pieces_from_attributes (block_text b))) (block_starts b h)
-
-behind_all : (a xs ys s : List ℕ) → xs ≡ ys ++ s → a ++ xs ≡ (a ++ ys) ++ s
-behind_all a xs ys s h = ap (λ (l : List ℕ). a ++ l) h ∙ sym (append_assoc a ys s)
 
 pub block_whole : (b : Block) → canonical (Repeat b) ≡ piece_item (block_text b)
 unfolding canonical block_text

@@ -139,9 +139,9 @@ pub or_true : (t : Bool) → (t || true) ≡ true
 or_true true = refl
 or_true false = refl
 
-was_plot : (t : Bool) (n : ℕ) (rest : Result Action Reason) (a : Action) → cond t (Ok Plot) rest ≡ Ok a → t ≡ true → is_plot a ≡ true
-was_plot true n rest a e h = let same : Plot ≡ a = let o : Ok Plot ≡ Ok a = e in cc in ap is_plot (sym same)
-was_plot false n rest a e h = absurd cc
+was_plot : (t : Bool) (rest : Result Action Reason) (a : Action) → cond t (Ok Plot) rest ≡ Ok a → t ≡ true → is_plot a ≡ true
+was_plot true rest a e h = let same : Plot ≡ a = let o : Ok Plot ≡ Ok a = e in cc in ap is_plot (sym same)
+was_plot false rest a e h = absurd cc
 
 not_false : (t : Bool) → not t ≡ false → t ≡ true
 not_false true h = refl
@@ -153,7 +153,7 @@ was_action true n a e =
     let b = bind_ok (action n) (λ what. cond (not (eqb n 1)) (Err BadWord) (Ok what)) a e in
     let r = refused (not (eqb n 1)) (Ok b.0) a BadWord b.2 in
     let same : b.0 ≡ a = let o : Ok b.0 ≡ Ok a = r.1 in cc in
-    let plot : is_plot b.0 ≡ true = was_plot (eqb n 1) n (cond (eqb n 2) (Ok Move) (cond (eqb n 3) (Ok Flash) (Err BadWord))) b.0 b.1 (not_false (eqb n 1) r.0) in
+    let plot : is_plot b.0 ≡ true = was_plot (eqb n 1) (cond (eqb n 2) (Ok Move) (cond (eqb n 3) (Ok Flash) (Err BadWord))) b.0 b.1 (not_false (eqb n 1) r.0) in
     ap (λ u. u || false) (ap is_plot (sym same) ∙ plot)
 
 bare_plot : (plotting : Bool) (e : Reason) (a : Action) → cond plotting (Ok Plot) (Err e) ≡ Ok a → is_plot a ≡ true
