@@ -117,8 +117,8 @@ fn push_point(text: &mut Vec<u8>, point: &Coordinates) -> Result<(), AllocError>
     ensures items { OnOk result (text.new.items ≡ text.old.items ++ point_word point.now) }
     ensures typed { OnOk result (IsPoint point.now) }
 {
-    push_coordinate(text, b'X', point.x)?;
-    push_coordinate(text, b'Y', point.y)
+    push_coordinate(text, b'X', point.x.get())?;
+    push_coordinate(text, b'Y', point.y.get())
 }
 
 /// Appends a tool's definition.
@@ -216,7 +216,7 @@ fn is_tool_number(number: u16) -> bool
 fn names_any(point: &Coordinates) -> bool
     ensures { result ≡ names_any point.now }
 {
-    point.x.is_some() || point.y.is_some()
+    point.x.get().is_some() || point.y.get().is_some()
 }
 
 fn is_said_before(command: &DrillCommand) -> bool

@@ -56,11 +56,76 @@ impl Format {
     }
 }
 
+/// What no decimal has as its units: a coordinate that is left out.
+const LEFT_OUT: i64 = 100_000_000_000_000;
+
+/// A coordinate of a line, or that it is left out. It takes eight bytes, since a file has many; contracts see
+/// the optional decimal.
+#[derive(Clone, Copy, Debug, PartialEq, Eq)]
+pub struct Coordinate {
+    units: i64,
+}
+
+impl Model for Coordinate {
+    ghost use Rattle.std.specs.Prelude.{ℤ, Option, unwrap_or};
+    ghost use Rattle.drill_lines.specs.Formats.{named_units, left_out, IsStored};
+
+    ghost Value = { Option ℤ };
+
+    ghost view = { λ c. named_units c.units };
+
+    ghost invariant = { λ c. IsStored c.units };
+
+    ghost inverse = { λ v. record { units = unwrap_or v left_out } };
+}
+
+impl Coordinate {
+    ghost use Rattle.std.specs.Option.{option_or};
+
+    /// This coordinate, or none.
+    pub fn new(value: Option<Dec>) -> Coordinate
+        ensures { result ≡ value }
+    {
+        match value {
+            Some(value) => Coordinate {
+                units: value.units(),
+            },
+            None => Coordinate { units: LEFT_OUT },
+        }
+    }
+
+    /// The coordinate, in the unit of its file, where it is not left out.
+    pub fn get(self) -> Option<Dec>
+        ensures { result ≡ self }
+    {
+        Dec::from_units(self.units)
+    }
+
+    /// This coordinate, or the other one where this is left out.
+    pub fn or(self, other: Coordinate) -> Coordinate
+        ensures { result ≡ option_or self other }
+    {
+        if self.units == LEFT_OUT { other } else { self }
+    }
+}
+
 /// The coordinates that a line names for a point, in the unit of its file.
 #[derive(Clone, Copy, Debug, PartialEq, Eq)]
 pub struct Coordinates {
-    pub x: Option<Dec>,
-    pub y: Option<Dec>,
+    pub x: Coordinate,
+    pub y: Coordinate,
+}
+
+impl Coordinates {
+    /// The point of these coordinates, each of which may be left out.
+    pub fn new(x: Option<Dec>, y: Option<Dec>) -> Coordinates
+        ensures { result ≡ record { x = x; y = y } }
+    {
+        Coordinates {
+            x: Coordinate::new(x),
+            y: Coordinate::new(y),
+        }
+    }
 }
 
 /// What a line of a drill file commands.

@@ -86,7 +86,7 @@ fn coordinates(
     ensures { result ≡ coordinates settings.now (record { x = option_copied x.entry; y = option_copied y.entry }) }
 {
     let (x, y) = both(coordinate(settings, x), coordinate(settings, y))?;
-    Ok(Coordinates { x, y })
+    Ok(Coordinates::new(x, y))
 }
 
 /// A slot from a point, by what stands behind its `G85`.

@@ -9,5 +9,5 @@ mod line;
 mod tools;
 
 pub use canonical::{is_sayable, push_canonical};
-pub use command::{Coordinates, DrillCommand, Format, Part, Settings};
+pub use command::{Coordinate, Coordinates, DrillCommand, Format, Part, Settings};
 pub use line::{LineFail, read_line};

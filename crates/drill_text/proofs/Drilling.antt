@@ -11,9 +11,10 @@ use Rattle.drill_lines.specs.declared.command.Coordinates.{Coordinates}
 use Rattle.drill_lines.specs.declared.command.DrillCommand.{DrillCommand}
 use Rattle.drill_lines.specs.declared.command.DrillCommand.TheVariants as command
 use Rattle.drill_text.specs.Lookback.{Standing}
-use Rattle.drill_text.specs.Holes.{Drilled, hole_of}
+use Rattle.std.specs.Option.{option_or}
+use Rattle.drill_text.specs.Holes.{Drilled, hole_of, unit_or}
 use Rattle.drill_text.specs.Rules.{first_broken, applies, has_no_tool, is_bad, defines_again, max_holes}
-use Rattle.drill_text.specs.Knowing.{drilled_between, nowhere, hole_in, width_in}
+use Rattle.drill_text.specs.Knowing.{drilled_between, nowhere, hole_in, width_in, width_of, point_in, hole_between, round_hole}
 
 -- a value, unless a rule is broken
 pub ok_unless : {A : Type 0} → Option Reason → A → Result A Reason
@@ -79,3 +80,17 @@ unfolding first_broken
 fresh s count drilled c e =
     let a = applies s count drilled c in
     fourth (a NoUnit) (a UnitConflict) (a FormatConflict) (defines_again s c) NoUnit UnitConflict FormatConflict Redefined (find a (UnknownTool ∷ NoTool ∷ BadSize ∷ TooFar ∷ TooManyHoles ∷ [])) e
+
+-- a value that is asked for twice
+asked_twice : {A B E : Type 0} (r : Result A E) (f : A → A → Result B E) → (r >>= λ a. (r >>= λ b. f a b)) ≡ (r >>= λ a. f a a)
+asked_twice (Ok x) f = refl
+asked_twice (Err e) f = refl
+
+-- a hit drills a round hole
+pub round_is : (s : Standing) (count : ℕ) (p : Coordinates) → hole_in s count p nowhere ≡ round_hole s count (option_or p.x s.x) (option_or p.y s.y)
+round_is s count p = by (width_of s)
+  where
+    by : (w : Result ℤ Reason) → (w >>= λ width. (point_in (unit_or s.settings.unit) (option_or p.x s.x) (option_or p.y s.y) >>= λ from. (point_in (unit_or s.settings.unit) (option_or p.x s.x) (option_or p.y s.y) >>= λ to. hole_between count width from to)))
+        ≡ (w >>= λ width. (point_in (unit_or s.settings.unit) (option_or p.x s.x) (option_or p.y s.y) >>= λ at. hole_between count width at at))
+    by (Ok width) = asked_twice (point_in (unit_or s.settings.unit) (option_or p.x s.x) (option_or p.y s.y)) (hole_between count width)
+    by (Err e) = refl

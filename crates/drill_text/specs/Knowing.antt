@@ -123,6 +123,10 @@ hole_in s count first second = width_of s >>= λ width.
     (point_in (unit_or s.settings.unit) (option_or second.x (option_or first.x s.x)) (option_or second.y (option_or first.y s.y)) >>= λ to.
     hole_between count width from to))
 
+-- the round hole at these coordinates, or the first rule that it breaks (docs/DEFINITIONS.md, The judge of a drill file)
+abbrev pub round_hole : Standing → ℕ → Option ℤ → Option ℤ → Result GridHole Reason
+round_hole s count x y = width_of s >>= λ width. (point_in (unit_or s.settings.unit) x y >>= λ at. hole_between count width at at)
+
 -- what stands after a line that gives these settings (docs/DEFINITIONS.md, The judge of a drill file)
 abbrev pub given : Option Units → Option Zeros → Option Digits → Standing → Standing
 given unit zeros format s = record {

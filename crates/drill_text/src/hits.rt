@@ -44,5 +44,5 @@ pub(crate) fn leading_hit(bytes: &[u8]) -> Option<(Coordinates, usize)>
         return None;
     }
     let len = bytes.len() - behind_y.len() + blanks;
-    Some((Coordinates { x, y }, len))
+    Some((Coordinates::new(x, y), len))
 }

@@ -6,7 +6,7 @@ ghost use Rattle.indexmap.specs.IndexMap.{get};
 ghost use Rattle.drill_text.specs.Rules.{same_unit, same_zeros, same_format};
 ghost use Rattle.drill_text.specs.Lookback.{is_size_digit, sizes_named, file_format};
 
-use drill_lines::{Coordinates, DrillCommand, Format, LineFail, Part, Settings};
+use drill_lines::{Coordinate, Coordinates, DrillCommand, Format, LineFail, Part, Settings};
 use grid_units::{Dec, Hole, Point, Reason, Text, Unit, Zeros};
 use indexmap::IndexMap;
 use std::alloc::{AllocError, Global};
@@ -23,14 +23,15 @@ pub(crate) struct Judge {
     tool: Option<u16>,
     // Kept beside the two, so that no hole looks its tool up.
     diameter: Option<Dec>,
-    x: Option<Dec>,
-    y: Option<Dec>,
+    x: Coordinate,
+    y: Coordinate,
     holes: Vec<Hole>,
     ghost picked: { diameter ≡ option_and_then (λ number. get nat_eq tools number) tool },
 }
 
 impl Judge {
-    ghost use Rattle.std.specs.Prelude.{◌≡◌, [], List, OnOk, IfOk, length, Some, None, Ok, true, false};
+    ghost use Rattle.std.specs.Prelude.{◌≡◌, [], ◌∷◌, ◌++◌, List, OnOk, IfOk, IfErr, length, Some, None, Ok, true, false};
+    ghost use Rattle.drill_lines.specs.declared.line.LineFail.TheVariants.{Memory};
     ghost use Rattle.std.specs.Option.{option_or};
     ghost use Rattle.std.specs.List.{find};
     ghost use Rattle.drill_lines.specs.declared.command.DrillCommand.{DrillCommand as TheCommand};
@@ -39,7 +40,7 @@ impl Judge {
     ghost use Rattle.grid_units.specs.declared.fault.Reason.TheVariants as reason;
     ghost use Rattle.drill_text.specs.Rules.{first_broken, applies, rules, differs, same_unit, same_zeros, same_format, picks_unknown, drills, has_no_tool};
     ghost use Rattle.drill_text.specs.Holes.{unit_or};
-    ghost use Rattle.drill_text.specs.Knowing.{told, Knows, Takes, Judges, Drills, given, moved, drilled, length_in, point_in, width_of, IsWidth, hole_between, hole_in};
+    ghost use Rattle.drill_text.specs.Knowing.{told, Knows, Takes, Judges, Drills, given, moved, drilled, length_in, point_in, width_of, IsWidth, nowhere, hole_between, hole_in, round_hole};
 
     /// A judge that has met no command.
     pub(crate) fn new(alloc: Global) -> Judge
@@ -57,8 +58,8 @@ impl Judge {
             tools: IndexMap::new(alloc),
             tool: None,
             diameter: None,
-            x: None,
-            y: None,
+            x: Coordinate::new(None),
+            y: Coordinate::new(None),
             holes: Vec::new(alloc),
         }
     }
@@ -90,8 +91,8 @@ impl Judge {
         ensures { (before : List TheCommand) → Knows self.old before → Judges before command.now self.new result }
     {
         match command {
-            DrillCommand::Hit(point) => self.drill(point, &NOWHERE),
-            DrillCommand::Slot(first, second) => self.drill(first, second),
+            DrillCommand::Hit(point) => self.drill_at(point),
+            DrillCommand::Slot(first, second) => self.drill_slot(first, second),
             _ => self.settle(command),
         }
     }
@@ -254,41 +255,64 @@ impl Judge {
         }
     }
 
+    /// Drills at a point, where that breaks no rule.
+    fn drill_at(&mut self, point: &Coordinates) -> Result<(), LineFail>
+        ensures { Drills self.old point.now nowhere self.new result }
+    {
+        let hole = self.hit_hole(point)?;
+        self.go(point);
+        self.add(hole)
+    }
+
+    /// The hole that a hit at a point drills, or the first rule that it breaks.
+    fn hit_hole(&self, point: &Coordinates) -> Result<Hole, Reason>
+        ensures { result ≡ hole_in (told self.now) (length self.now.holes.items) point.now nowhere }
+    {
+        self.round_hole(point.x.or(self.x), point.y.or(self.y))
+    }
+
+    /// The round hole at these coordinates, or the first rule that it breaks.
+    fn round_hole(&self, x: Coordinate, y: Coordinate) -> Result<Hole, Reason>
+        ensures { result ≡ round_hole (told self.now) (length self.now.holes.items) x y }
+    {
+        let width = self.width()?;
+        let at = self.point(x, y)?;
+        self.hole_between(width, at, at)
+    }
+
     /// Drills from one point to another, where that breaks no rule.
-    fn drill(&mut self, first: &Coordinates, second: &Coordinates) -> Result<(), LineFail>
+    fn drill_slot(&mut self, first: &Coordinates, second: &Coordinates) -> Result<(), LineFail>
         ensures { Drills self.old first.now second.now self.new result }
     {
         let hole = self.hole(first, second)?;
         self.go(first);
         self.go(second);
-        match self.holes.push(hole) {
-            Ok(()) => Ok(()),
-            Err(_) => Err(LineFail::Memory),
-        }
+        self.add(hole)
     }
 
     /// The hole from one point to another, or the first rule that it breaks.
     fn hole(&self, first: &Coordinates, second: &Coordinates) -> Result<Hole, Reason>
         ensures { result ≡ hole_in (told self.now) (length self.now.holes.items) first.now second.now }
     {
+        let x = first.x.or(self.x);
+        let y = first.y.or(self.y);
         let width = self.width()?;
-        let from = self.point(first.x.or(self.x), first.y.or(self.y))?;
-        let to = self.end(from, first, second)?;
+        let from = self.point(x, y)?;
+        let to = self.point(second.x.or(x), second.y.or(y))?;
         self.hole_between(width, from, to)
     }
 
-    /// Where a drill comes out that went in at this point: there, where the second point names no coordinate.
-    fn end(&self, from: Point, first: &Coordinates, second: &Coordinates) -> Result<Point, Reason>
-        requires { point_in (unit_or self.now.settings.unit) (option_or first.now.x self.now.x) (option_or first.now.y self.now.y) ≡ Ok from }
-        ensures { result ≡ point_in (unit_or self.now.settings.unit) (option_or second.now.x (option_or first.now.x self.now.x)) (option_or second.now.y (option_or first.now.y self.now.y)) }
+    /// Adds a hole.
+    fn add(&mut self, hole: Hole) -> Result<(), LineFail>
+        ensures told { told self.new ≡ told self.old }
+        ensures tools { self.new.tools ≡ self.old.tools }
+        ensures holes { OnOk result (self.new.holes.items ≡ self.old.holes.items ++ hole ∷ []) }
+        ensures err { IfErr result (λ e. e ≡ Memory) }
     {
-        if second.x.is_none() && second.y.is_none() {
-            return Ok(from);
+        match self.holes.push(hole) {
+            Ok(()) => Ok(()),
+            Err(_) => Err(LineFail::Memory),
         }
-        self.point(
-            second.x.or(first.x.or(self.x)),
-            second.y.or(first.y.or(self.y)),
-        )
     }
 
     /// The hole between two points, with a tool of this diameter in pm.
@@ -308,12 +332,8 @@ impl Judge {
         ensures holes { self.new.holes ≡ self.old.holes }
         ensures tools { self.new.tools ≡ self.old.tools }
     {
-        if point.x.is_some() {
-            self.x = point.x;
-        }
-        if point.y.is_some() {
-            self.y = point.y;
-        }
+        self.x = point.x.or(self.x);
+        self.y = point.y.or(self.y);
     }
 
     /// The unit of the file; a header without one has no legal body.
@@ -324,10 +344,10 @@ impl Judge {
     }
 
     /// A length in pm; 0 where none was named.
-    fn length(&self, value: Option<Dec>) -> Result<i64, Reason>
+    fn length(&self, value: Coordinate) -> Result<i64, Reason>
         ensures { result ≡ length_in (unit_or self.now.settings.unit) value }
     {
-        match value {
+        match value.get() {
             Some(value) => value.picometres(self.unit()),
             None => Ok(0),
         }
@@ -335,7 +355,7 @@ impl Judge {
 
     /// The point at these coordinates.
     #[tactic(auto, unfolding(grid_units::specs::Numbers::within_limit))]
-    fn point(&self, x: Option<Dec>, y: Option<Dec>) -> Result<Point, Reason>
+    fn point(&self, x: Coordinate, y: Coordinate) -> Result<Point, Reason>
         ensures { result ≡ point_in (unit_or self.now.settings.unit) x y }
     {
         Point::new(self.length(x)?, self.length(y)?).ok_or(Reason::TooFar)
@@ -374,9 +394,6 @@ fn diameter_of(tools: &IndexMap<u16, Dec>, tool: Option<u16>) -> Option<Dec>
         None => None,
     }
 }
-
-/// A point that names no coordinate: the one before it.
-const NOWHERE: Coordinates = Coordinates { x: None, y: None };
 
 fn same_unit(first: Unit, second: Unit) -> bool
     ensures { result ≡ same_unit first second }

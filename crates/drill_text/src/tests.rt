@@ -259,6 +259,11 @@ fn refused_coordinates(rt: HostRuntime) {
             26
         )
     );
+}
+
+#[test]
+fn refused_digits(rt: HostRuntime) {
+    let alloc = rt.alloc();
     assert!(rt;
         refuses(
             alloc,
@@ -289,7 +294,7 @@ fn refused_coordinates(rt: HostRuntime) {
 }
 
 #[test]
-fn refused_order(rt: HostRuntime) {
+fn refused_ends(rt: HostRuntime) {
     let alloc = rt.alloc();
     assert!(rt;
         refuses(
@@ -318,6 +323,11 @@ fn refused_order(rt: HostRuntime) {
             36
         )
     );
+}
+
+#[test]
+fn refused_tools(rt: HostRuntime) {
+    let alloc = rt.alloc();
     assert!(rt;
         refuses(
             alloc,
@@ -422,6 +432,11 @@ fn refused_settings(rt: HostRuntime) {
             17
         )
     );
+}
+
+#[test]
+fn refused_definitions(rt: HostRuntime) {
+    let alloc = rt.alloc();
     assert!(rt;
         refuses(
             alloc,
@@ -498,6 +513,16 @@ fn cut_off(rt: HostRuntime) {
     assert!(rt; cut_refuses(alloc, 34, Reason::BadLine, 7, 32));
     assert_eq!(rt; fault_of(alloc, &PLATED[..35]), None);
     assert_eq!(rt; fault_of(alloc, PLATED), None);
+}
+
+/// Lines that end with CR and LF, and one with a CR among its bytes.
+#[test]
+fn carriage_returns(rt: HostRuntime) {
+    let alloc = rt.alloc();
+    let text = b"M48\r\nMETRIC\r\nT1C0.4\r\n%\r\nT1\r\nX0.5Y-0.25\r\nM30\r\n";
+    assert!(rt; drills_one(alloc, text, 500_000_000, -250_000_000, 200_000_000));
+    let broken = b"M48\nMETRIC\nT1C0.4\n%\nT1\nX0.5Y-0.25\rX1.0\nM30\n";
+    assert!(rt; refuses(alloc, broken, Reason::BadLine, 6, 23));
 }
 
 /// A text that only begins with blanks, or ends with them.
@@ -635,9 +660,7 @@ fn written_back(rt: HostRuntime) -> Result<(), TestFail> {
 
 /// Lists that no text spells.
 #[test]
-fn not_sayable(rt: HostRuntime) -> Result<(), TestFail> {
-    let alloc = rt.alloc();
-    let nowhere = Coordinates { x: None, y: None };
+fn not_sayable(rt: HostRuntime) {
     assert!(rt; !drill_sayable(&[]));
     assert!(rt;
         drill_sayable(&[
@@ -655,39 +678,27 @@ fn not_sayable(rt: HostRuntime) -> Result<(), TestFail> {
         ])
     );
     assert!(rt; !drill_sayable(&[DrillCommand::Start, DrillCommand::Finish]));
-    assert!(rt;
-        !drill_sayable(&[
-            DrillCommand::Start,
-            DrillCommand::HeaderEnd,
-            DrillCommand::Hit(nowhere),
-            DrillCommand::Finish
-        ])
-    );
-    assert!(rt;
-        !drill_sayable(&[
-            DrillCommand::Start,
-            DrillCommand::HeaderEnd,
-            DrillCommand::Pick(1000),
-            DrillCommand::Finish
-        ])
-    );
-    let blank = DrillCommand::Comment(Text::from_slice(alloc, b"a ")?);
-    assert!(rt;
-        !drill_sayable(&[
-            blank,
-            DrillCommand::Start,
-            DrillCommand::HeaderEnd,
-            DrillCommand::Finish
-        ])
-    );
-    let broken = DrillCommand::Comment(Text::from_slice(alloc, b"a\nb")?);
-    assert!(rt;
-        !drill_sayable(&[
-            broken,
-            DrillCommand::Start,
-            DrillCommand::HeaderEnd,
-            DrillCommand::Finish
-        ])
-    );
+}
+
+/// Whether a list that has just this command in its body is sayable.
+fn is_said_in_body(command: DrillCommand) -> bool {
+    drill_sayable(&[
+        DrillCommand::Start,
+        DrillCommand::HeaderEnd,
+        command,
+        DrillCommand::Finish,
+    ])
+}
+
+#[test]
+fn not_sayable_in_the_body(rt: HostRuntime) -> Result<(), TestFail> {
+    let alloc = rt.alloc();
+    let nowhere = Coordinates::new(None, None);
+    assert!(rt; !is_said_in_body(DrillCommand::Hit(nowhere)));
+    assert!(rt; !is_said_in_body(DrillCommand::Pick(1000)));
+    let blank = Text::from_slice(alloc, b"a ")?;
+    assert!(rt; !is_said_in_body(DrillCommand::Comment(blank)));
+    let broken = Text::from_slice(alloc, b"a\nb")?;
+    assert!(rt; !is_said_in_body(DrillCommand::Comment(broken)));
     Ok(())
 }

@@ -7,4 +7,4 @@ use Rattle.drill_text.proofs.judge.Judge.length.Goals as goal
 pub returns-in-None : goal.returns-in-None
 returns-in-None c =
     let unit = unit_or c.args.self.now.settings.unit in
-    no_length unit ∙ ap (λ (v : Option ℤ). length_in unit v) (sym c.in-None.is)
+    no_length unit ∙ ap (λ (v : Option ℤ). length_in unit v) (sym c.in-None.is ∙ c.get.ensures)

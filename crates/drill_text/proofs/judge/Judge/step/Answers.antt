@@ -11,13 +11,13 @@ pub returns-in-Hit : goal.returns-in-Hit
 returns-in-Hit c before knows =
     let old = c.args.self.now in
     let p = c.in-Hit.point in
-    subst (λ (d : DrillCommand). Judges before d c.drill.new.self c.drill.result) (sym c.in-Hit.is)
-    (judges_drilled old c.drill.new.self before (command.Hit p) p nowhere (drilled_between (told old) p nowhere) c.drill.result knows refl (hit_rule (told old) (length old.holes.items) p) (moved_one p (told old)) refl c.drill.ensures)
+    subst (λ (d : DrillCommand). Judges before d c.drill_at.new.self c.drill_at.result) (sym c.in-Hit.is)
+    (judges_drilled old c.drill_at.new.self before (command.Hit p) p nowhere (drilled_between (told old) p nowhere) c.drill_at.result knows refl (hit_rule (told old) (length old.holes.items) p) (moved_one p (told old)) refl c.drill_at.ensures)
 
 pub returns-in-Slot : goal.returns-in-Slot
 returns-in-Slot c before knows =
     let old = c.args.self.now in
     let p = c.in-Slot.first in
     let q = c.in-Slot.second in
-    subst (λ (d : DrillCommand). Judges before d c.drill-in-Slot.new.self c.drill-in-Slot.result) (sym c.in-Slot.is)
-    (judges_drilled old c.drill-in-Slot.new.self before (command.Slot p q) p q (drilled_between (told old) p q) c.drill-in-Slot.result knows refl (slot_rule (told old) (length old.holes.items) p q) (moved_two p q (told old)) refl c.drill-in-Slot.ensures)
+    subst (λ (d : DrillCommand). Judges before d c.drill_slot.new.self c.drill_slot.result) (sym c.in-Slot.is)
+    (judges_drilled old c.drill_slot.new.self before (command.Slot p q) p q (drilled_between (told old) p q) c.drill_slot.result knows refl (slot_rule (told old) (length old.holes.items) p q) (moved_two p q (told old)) refl c.drill_slot.ensures)
