@@ -165,10 +165,7 @@ fn slots(rt: HostRuntime) -> Result<(), TestFail> {
     assert!(rt; cuts_alike(rt.alloc(), text));
     let routed =
         b"M48\nMETRIC\nT1C0.5\n%\nT1\nX0.0Y0.0G85X2.0Y0.0\nX0.0Y5.0G85X2.0Y6.0\nX9.0Y9.0G85X9.0Y9.0\nG00X1.0Y1.0\nM30\n";
-    assert_eq!(rt;
-        fault_of(rt.alloc(), routed),
-        refused(Reason::Routed, 9, 83)
-    );
+    assert!(rt; refuses(rt.alloc(), routed, Reason::Routed, 9, 83));
     Ok(())
 }
 
@@ -194,6 +191,8 @@ fn coordinates_left_out(rt: HostRuntime) -> Result<(), TestFail> {
         (50_800_000_000, 0, 50_800_000_000, 0, 1_270_000_000),
     ];
     assert!(rt; drills(rt.alloc(), text, &wanted));
+    assert!(rt; splits_alike(rt.alloc(), text));
+    assert!(rt; cuts_alike(rt.alloc(), text));
     Ok(())
 }
 
@@ -208,6 +207,8 @@ fn doubled_hits(rt: HostRuntime) -> Result<(), TestFail> {
             &[(0, 0, 0, 0, 200_000_000), (0, 0, 0, 0, 200_000_000)]
         )
     );
+    assert!(rt; splits_alike(rt.alloc(), text));
+    assert!(rt; cuts_alike(rt.alloc(), text));
     Ok(())
 }
 
@@ -226,6 +227,8 @@ fn tools_in_order(rt: HostRuntime) -> Result<(), TestFail> {
     );
     assert_eq!(rt; drill.commands().len(), 7);
     assert!(rt; matches!(drill.commands().last(), Some(DrillCommand::Finish)));
+    assert!(rt; splits_alike(rt.alloc(), text));
+    assert!(rt; cuts_alike(rt.alloc(), text));
     Ok(())
 }
 
@@ -494,7 +497,6 @@ fn far_coordinates(rt: HostRuntime) -> Result<(), TestFail> {
     Ok(())
 }
 
-/// A file cut off behind so many of its bytes.
 /// Whether a file cut off behind so many of its bytes has this fault.
 fn cut_refuses(alloc: Global, n: usize, reason: Reason, place: u64, byte: u64) -> bool {
     n <= 36 && fault_of(alloc, &PLATED[..n]) == refused(reason, place, byte)
@@ -513,6 +515,8 @@ fn cut_off(rt: HostRuntime) {
     assert!(rt; cut_refuses(alloc, 34, Reason::BadLine, 7, 32));
     assert_eq!(rt; fault_of(alloc, &PLATED[..35]), None);
     assert_eq!(rt; fault_of(alloc, PLATED), None);
+    assert!(rt; splits_alike(alloc, PLATED));
+    assert!(rt; cuts_alike(alloc, PLATED));
 }
 
 /// Lines that end with CR and LF, and one with a CR among its bytes.
@@ -529,26 +533,14 @@ fn carriage_returns(rt: HostRuntime) {
 #[test]
 fn blanks(rt: HostRuntime) -> Result<(), TestFail> {
     let alloc = rt.alloc();
-    assert_eq!(rt;
-        fault_of(alloc, b"M48\nMETRIC\n% "),
-        refused(Reason::Truncated, 4, 13)
-    );
-    assert_eq!(rt;
-        fault_of(alloc, b"M48\nMETRIC\n%\n "),
-        refused(Reason::Truncated, 5, 14)
-    );
-    assert_eq!(rt;
-        fault_of(alloc, b" ;x\nM48\n"),
-        refused(Reason::OldFormat, 1, 0)
-    );
-    assert_eq!(rt;
-        fault_of(alloc, b"M48\n ;x\n"),
-        refused(Reason::BadLine, 2, 4)
-    );
-    assert_eq!(rt;
-        fault_of(alloc, b"M48 \r\nMETRIC\t\r\n%\nM30\r\n \n\r\n"),
-        None
-    );
+    assert!(rt; refuses(alloc, b"M48\nMETRIC\n% ", Reason::Truncated, 4, 13));
+    assert!(rt; refuses(alloc, b"M48\nMETRIC\n%\n ", Reason::Truncated, 5, 14));
+    assert!(rt; refuses(alloc, b" ;x\nM48\n", Reason::OldFormat, 1, 0));
+    assert!(rt; refuses(alloc, b"M48\n ;x\n", Reason::BadLine, 2, 4));
+    let read = b"M48 \r\nMETRIC\t\r\n%\nM30\r\n \n\r\n";
+    assert_eq!(rt; fault_of(alloc, read), None);
+    assert!(rt; splits_alike(alloc, read));
+    assert!(rt; cuts_alike(alloc, read));
     Ok(())
 }
 

@@ -1,3 +1,4 @@
+use crate::tests::is_same_in_pieces;
 use crate::{Command, Placed, read_words, sayable, sayable_texts, write_commands, write_placed};
 use gerber_rows::{Action, Block, Format, Pieces, Template};
 use grid_units::{Dec, Fail, Text};
@@ -134,6 +135,8 @@ fn all_kinds_of_commands(rt: HostRuntime) -> Result<(), TestFail> {
     let placed = read_words(alloc, &written)?;
     assert_eq!(rt; placed.len(), 22);
     assert_eq!(rt; write_placed(alloc, &placed)?.as_slice(), CANONICAL);
+    assert!(rt; is_same_in_pieces(alloc, ALL_KINDS));
+    assert!(rt; is_same_in_pieces(alloc, CANONICAL));
     Ok(())
 }
 

@@ -16,47 +16,23 @@ fn fault_of(alloc: Global, text: &[u8]) -> Option<Fail> {
     }
 }
 
-/// The fault of a text that comes in two pieces.
-fn fault_in_two(alloc: Global, text: &[u8], at: usize) -> Option<Fail>
+/// What a text that comes in two pieces reads as.
+fn in_two(alloc: Global, text: &[u8], at: usize) -> Result<Vec<Placed<Command>>, Fail>
     requires { at ≤ length text.now }
 {
     let mut reader = WordReader::new(alloc);
     let _ = reader.feed(&text[..at]);
     let _ = reader.feed(&text[at..]);
-    match reader.finish() {
-        Ok(_) => None,
-        Err(fail) => Some(fail),
-    }
+    reader.finish()
 }
 
-/// The fault of a text that comes byte by byte.
-fn fault_in_bytes(alloc: Global, text: &[u8]) -> Option<Fail> {
+/// What a text that comes byte by byte reads as.
+fn in_bytes(alloc: Global, text: &[u8]) -> Result<Vec<Placed<Command>>, Fail> {
     let mut reader = WordReader::new(alloc);
     for i in 0..text.len() {
         let _ = reader.feed(&text[i..i + 1]);
     }
-    match reader.finish() {
-        Ok(_) => None,
-        Err(fail) => Some(fail),
-    }
-}
-
-/// Whether every front of a text has the same answer whole, in two pieces at each byte, and byte by byte.
-fn is_same_in_pieces(alloc: Global, text: &[u8]) -> bool {
-    for n in 0..text.len() + 1 {
-        let front = &text[..n];
-        let whole = fault_of(alloc, front);
-        if fault_in_bytes(alloc, front) != whole {
-            return false;
-        }
-    }
-    let whole = fault_of(alloc, text);
-    for at in 0..text.len() + 1 {
-        if fault_in_two(alloc, text, at) != whole {
-            return false;
-        }
-    }
-    true
+    reader.finish()
 }
 
 /// Whether two lists have the same places and bytes, and the same canonical text.
@@ -70,6 +46,41 @@ fn are_same(
         same = same && one.place == other.place && one.byte == other.byte;
     }
     Ok(same && write_placed(alloc, commands)? == write_placed(alloc, others)?)
+}
+
+/// Whether two answers are the same fault, or the same commands at the same places.
+fn agree(
+    alloc: Global,
+    answer: &Result<Vec<Placed<Command>>, Fail>,
+    other: &Result<Vec<Placed<Command>>, Fail>,
+) -> bool {
+    match (answer, other) {
+        (Ok(commands), Ok(others)) => matches!(are_same(alloc, commands, others), Ok(true)),
+        (Err(fault), Err(other)) => fault == other,
+        _ => false,
+    }
+}
+
+/// Whether every front of a text has the same answer whole and byte by byte.
+fn is_same_in_bytes(alloc: Global, text: &[u8]) -> bool {
+    for n in 0..text.len() + 1 {
+        let front = &text[..n];
+        if !agree(alloc, &in_bytes(alloc, front), &read_words(alloc, front)) {
+            return false;
+        }
+    }
+    true
+}
+
+/// Whether every front of a text has the same answer byte by byte, and the text the same in two pieces at each byte.
+pub(crate) fn is_same_in_pieces(alloc: Global, text: &[u8]) -> bool {
+    let whole = read_words(alloc, text);
+    for at in 0..text.len() + 1 {
+        if !agree(alloc, &in_two(alloc, text, at), &whole) {
+            return false;
+        }
+    }
+    is_same_in_bytes(alloc, text)
 }
 
 fn refused(place: u64, byte: u64, reason: Reason) -> Option<Fail> {
@@ -290,25 +301,22 @@ fn operations_read_in_one_pass(rt: HostRuntime) -> Result<(), TestFail> {
 #[test]
 fn other_layers_refused(rt: HostRuntime) -> Result<(), TestFail> {
     let alloc = rt.alloc();
-    let bare = with_line(alloc, 51, 51, b"X6*")?;
-    assert_eq!(rt;
-        fault_of(alloc, &bare),
-        refused(6, 51, Reason::BareCoordinate)
-    );
-    let clear = with_line(alloc, 42, 42, b"%LPC*%")?;
-    assert_eq!(rt;
-        fault_of(alloc, &clear),
-        refused(5, 42, Reason::ClearPolarity)
-    );
-    let several = with_line(alloc, 42, 42, b"%SRX2147483648Y1I1J0*%")?;
-    assert_eq!(rt;
-        fault_of(alloc, &several),
-        refused(5, 42, Reason::BadNumber)
-    );
-    let behind = with_line(alloc, 56, 56, b"X0D03*")?;
-    assert_eq!(rt; fault_of(alloc, &behind), refused(7, 56, Reason::AfterEnd));
-    let blanks = with_line(alloc, 56, 56, b"*   ")?;
-    assert_eq!(rt; fault_of(alloc, &blanks), None);
+    let rows: [(usize, &[u8], Option<Fail>); 5] = [
+        (51, b"X6*", refused(6, 51, Reason::BareCoordinate)),
+        (42, b"%LPC*%", refused(5, 42, Reason::ClearPolarity)),
+        (
+            42,
+            b"%SRX2147483648Y1I1J0*%",
+            refused(5, 42, Reason::BadNumber),
+        ),
+        (56, b"X0D03*", refused(7, 56, Reason::AfterEnd)),
+        (56, b"*   ", None),
+    ];
+    for (at, line, fault) in rows {
+        let text = with_line(alloc, at, at, line)?;
+        assert_eq!(rt; fault_of(alloc, &text), fault);
+        assert!(rt; is_same_in_pieces(alloc, &text));
+    }
     Ok(())
 }
 
@@ -328,6 +336,7 @@ fn a_file_function_without_a_value(rt: HostRuntime) -> Result<(), TestFail> {
     let alloc = rt.alloc();
     let text = with_line(alloc, 0, 0, b"%TF.FileFunction*%")?;
     assert_eq!(rt; read_words(alloc, &text).map_err(|_| "refused")?.len(), 7);
+    assert!(rt; is_same_in_pieces(alloc, &text));
     Ok(())
 }
 
@@ -391,6 +400,7 @@ fn commands_before_a_fault(rt: HostRuntime) -> Result<(), TestFail> {
             reason: Reason::ClearPolarity
         }))
     );
+    assert!(rt; is_same_in_pieces(alloc, text));
     Ok(())
 }
 
@@ -400,6 +410,7 @@ fn older_parameters_without_effect(rt: HostRuntime) -> Result<(), TestFail> {
         b"%FSLAX46Y46*%\n%MOMM*%\n%OFA0*%%SFA1B1*%%IR0.0*%%IPPOS*%%INname*%%ADD10C,0.65*%\nD10*\nX0Y0D03*\nM02*\n";
     let commands = read_words(rt.alloc(), text).map_err(|_| "refused")?;
     assert_eq!(rt; commands.len(), 6);
+    assert!(rt; is_same_in_pieces(rt.alloc(), text));
     Ok(())
 }
 

@@ -273,64 +273,22 @@ fn an_early_rule_before_a_late_item(rt: HostRuntime) -> Result<(), TestFail> {
 #[test]
 fn flashes_that_are_no_pads(rt: HostRuntime) -> Result<(), TestFail> {
     let alloc = rt.alloc();
-    assert!(rt;
-        flashes(
-            alloc,
-            &with(alloc, 3, b"%ADD10C,0.65X0*%\n")?,
-            &[disc(0, 0, 325_000_000)?]
-        )
-    );
-    assert!(rt;
-        leaves(
-            alloc,
-            &with(alloc, 3, b"%ADD10C,0.65X0.2*%\n")?,
-            What::Other(Why::Holed)
-        )
-    );
-    assert!(rt;
-        leaves(
-            alloc,
-            &with(alloc, 3, b"%ADD10P,1X6*%\n")?,
-            What::Other(Why::Polygon)
-        )
-    );
-    assert!(rt;
-        leaves(
-            alloc,
-            &with(alloc, 3, b"%ADD10P,1X6X0X0.2*%\n")?,
-            What::Other(Why::Polygon)
-        )
-    );
-    assert!(rt;
-        leaves(
-            alloc,
-            &with(alloc, 5, b"%LS2*%\nX0Y0D03*\n")?,
-            What::Other(Why::Scaled)
-        )
-    );
-    assert!(rt;
-        leaves(
-            alloc,
-            &with(alloc, 5, b"%LR45*%\nX0Y0D03*\n")?,
-            What::Other(Why::Turned)
-        )
-    );
-    assert!(rt;
-        leaves(
-            alloc,
-            &with(alloc, 5, b"%LR90.00000001*%\nX0Y0D03*\n")?,
-            What::Other(Why::Turned)
-        )
-    );
-    assert!(rt;
-        leaves(
-            alloc,
-            &with(alloc, 3, b"%AMa*21,1,1,1,0,0,0*%\n%ADD10a*%\n")?,
-            What::Other(Why::Macro)
-        )
-    );
-    let holed = with(alloc, 3, b"%LS2*%\n%LR45*%\n%ADD10R,1X1X0.5*%\n")?;
-    assert!(rt; leaves(alloc, &holed, What::Other(Why::Holed)));
+    let plain = with(alloc, 3, b"%ADD10C,0.65X0*%\n")?;
+    assert!(rt; flashes(alloc, &plain, &[disc(0, 0, 325_000_000)?]));
+    let rows: [(usize, &[u8], Why); 8] = [
+        (3, b"%ADD10C,0.65X0.2*%\n", Why::Holed),
+        (3, b"%ADD10P,1X6*%\n", Why::Polygon),
+        (3, b"%ADD10P,1X6X0X0.2*%\n", Why::Polygon),
+        (5, b"%LS2*%\nX0Y0D03*\n", Why::Scaled),
+        (5, b"%LR45*%\nX0Y0D03*\n", Why::Turned),
+        (5, b"%LR90.00000001*%\nX0Y0D03*\n", Why::Turned),
+        (3, b"%AMa*21,1,1,1,0,0,0*%\n%ADD10a*%\n", Why::Macro),
+        (3, b"%LS2*%\n%LR45*%\n%ADD10R,1X1X0.5*%\n", Why::Holed),
+    ];
+    for (place, line, why) in rows {
+        let text = with(alloc, place, line)?;
+        assert!(rt; leaves(alloc, &text, What::Other(why)));
+    }
     Ok(())
 }
 
