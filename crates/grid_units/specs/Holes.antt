@@ -4,7 +4,7 @@ use Rattle.std.specs.Int.{int_min, int_max}
 use Rattle.std.specs.Ordering.{int_eq}
 use Rattle.grid_units.specs.Points.{GridPoint, square_distance, square, max_coordinate}
 
--- a hole that a drill makes on its way from one point to another (docs/DEFINITIONS.md, Points and holes)
+-- a hole that a drill makes on its way from one end to another (docs/DEFINITIONS.md, Points and holes)
 pub record GridHole : Type 0 where
   pub from : GridPoint
   pub to : GridPoint
@@ -47,6 +47,6 @@ AreClear gap a b = (p q : GridPoint) → IsInCore a p → IsInCore b q → squar
 abbrev pub AreApart : ℕ → GridHole → GridHole → Type 0
 AreApart gap a b = (p q : GridPoint) → IsInHole a p → IsInHole b q → square gap ≤ square_distance p q
 
--- the drill comes out where it went in (docs/DEFINITIONS.md, Points and holes)
+-- both ends are equal (docs/DEFINITIONS.md, Points and holes)
 abbrev pub is_round : GridHole → Bool
 is_round h = int_eq h.from.x h.to.x && int_eq h.from.y h.to.y

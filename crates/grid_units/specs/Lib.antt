@@ -3,6 +3,7 @@ pub mod Results
 pub mod Lists
 pub mod Points
 pub mod Holes
+pub mod Spans
 pub mod Numbers
 pub mod Spellings
 pub mod Fronts

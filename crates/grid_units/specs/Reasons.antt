@@ -1,7 +1,7 @@
 -- The names of the reasons.
 use Rattle.std.specs.Prelude.{ℕ, List, codes}
 use Rattle.grid_units.specs.declared.fault.Reason.{Reason}
-use Rattle.grid_units.specs.declared.fault.Reason.TheVariants.{TooLong, AfterEnd, Truncated, SeveralInOne, ClearPolarity, BlockAperture, NegativeImage, TrailingZeros, Incremental, OldParameter, OldFormat, Routed, Repeat, BadWord, BadLine, BadNumber, NoZeros, TooManyDigits, TooFine, TooFar, BareCoordinate, InRegion, NotInRegion, NoFormat, NoUnit, UnitConflict, FormatConflict, Redefined, UnknownMacro, UnknownAperture, UnknownTool, NoAperture, NoTool, BadSize, BadRepeat, TooManyPads, TooManyHoles, BadRule, BadManifest, BadRole, EmptyName, RepeatedName, NoCopper, NoDrill, NotCopper}
+use Rattle.grid_units.specs.declared.fault.Reason.TheVariants.{TooLong, AfterEnd, Truncated, SeveralInOne, ClearPolarity, BlockAperture, NegativeImage, TrailingZeros, Incremental, OldParameter, OldFormat, Routed, Repeat, BadWord, BadLine, BadNumber, NoZeros, TooManyDigits, TooFine, TooFar, BareCoordinate, InRegion, NotInRegion, NoFormat, NoUnit, UnitConflict, FormatConflict, Redefined, UnknownMacro, UnknownAperture, UnknownTool, NoAperture, NoTool, BadSize, BadRepeat, TooManyPads, TooManyHoles, BadRule, BadManifest, BadRole, EmptyName, RepeatedName, NoCopper, NoDrill, NotCopper, BadSpan}
 
 -- the name of a reason, as it is printed (docs/FORMATS.md, the table of reasons)
 unfoldable pub name_of : Reason → List ℕ
@@ -50,6 +50,7 @@ name_of RepeatedName = codes "RepeatedName"
 name_of NoCopper = codes "NoCopper"
 name_of NoDrill = codes "NoDrill"
 name_of NotCopper = codes "NotCopper"
+name_of BadSpan = codes "BadSpan"
 
 -- the number of a reason (docs/FORMATS.md, the table of reasons)
 abbrev pub number_of : Reason → ℕ
@@ -98,3 +99,4 @@ number_of RepeatedName = 42
 number_of NoCopper = 43
 number_of NoDrill = 44
 number_of NotCopper = 45
+number_of BadSpan = 46

@@ -100,6 +100,8 @@ pub enum Reason {
     NoDrill = 44,
     /// A copper file whose file function is another.
     NotCopper = 45,
+    /// A span of layers that is none, or that stands where none may.
+    BadSpan = 46,
 }
 
 impl Reason {
@@ -163,6 +165,7 @@ impl Reason {
             Reason::NoCopper => "NoCopper",
             Reason::NoDrill => "NoDrill",
             Reason::NotCopper => "NotCopper",
+            Reason::BadSpan => "BadSpan",
         }
     }
 }

@@ -1,7 +1,7 @@
 //! Holes that a drill makes.
 
 ghost use Rattle.std.specs.Prelude.{◌≡◌, pos, ◌≤◌, ◌↔◌, ◌≤ℤ◌, IsSome, IfSome, IsTrue, unsigned_abs};
-ghost use Rattle.grid_units.specs.Holes.{IsRadius, is_round};
+ghost use Rattle.grid_units.specs.Holes.{IsRadius, is_round, max_radius};
 
 use crate::plane::Point;
 use std::marker::Model;
@@ -9,7 +9,7 @@ use std::marker::Model;
 /// The largest radius of a hole, in pm: five metres.
 const MAX_RADIUS: i64 = 5_000_000_000_000;
 
-/// A hole that a drill makes on its way from one point to another. It is round where they are equal,
+/// A hole that a drill makes on its way from one end to another. It is round where the ends are equal,
 /// else a slot. Its radius is 1 to 5,000,000,000,000 pm.
 #[derive(Clone, Copy, Debug, PartialEq, Eq)]
 pub struct Hole {
@@ -31,9 +31,9 @@ impl Model for Hole {
 }
 
 impl Hole {
-    /// The hole between these points, or `None` where the radius in pm is out of range.
+    /// The hole between these ends, or `None` where the radius in pm is out of range.
     pub fn new(from: Point, to: Point, radius: i64) -> Option<Hole>
-        ensures valid { IsSome result ↔ ((pos 1 ≤ℤ radius) × (radius ≤ℤ MAX_RADIUS)) }
+        ensures valid { IsSome result ↔ ((pos 1 ≤ℤ radius) × (radius ≤ℤ pos max_radius)) }
         ensures value { IfSome result (λ h. h ≡ record { from = from; to = to; radius = unsigned_abs radius }) }
     {
         if 1 <= radius && radius <= MAX_RADIUS {
@@ -47,14 +47,14 @@ impl Hole {
         }
     }
 
-    /// Where the drill goes in.
+    /// The first end.
     pub fn from(&self) -> Point
         ensures { result ≡ self.now.from }
     {
         self.from
     }
 
-    /// Where the drill comes out.
+    /// The second end.
     pub fn to(&self) -> Point
         ensures { result ≡ self.now.to }
     {
@@ -69,7 +69,7 @@ impl Hole {
         self.radius as i64
     }
 
-    /// Whether the drill comes out where it went in.
+    /// Whether both ends are equal.
     pub fn is_round(&self) -> bool
         ensures test { result ≡ is_round self.now }
         ensures exact { IsTrue result ↔ (self.now.from ≡ self.now.to) }

@@ -2,6 +2,7 @@
 
 ghost use Rattle.std.specs.Prelude.{◌≡◌, pos, ◌≤◌, ◌↔◌, IsOk, IfOk, IfErr, unsigned_abs};
 ghost use Rattle.grid_units.specs.Holes.{AreRules};
+ghost use Rattle.grid_units.specs.Points.{max_coordinate};
 
 use crate::fault::Reason;
 use crate::plane::MAX_COORDINATE;
@@ -55,7 +56,7 @@ impl Rules {
     /// The ring in pm, from 0 to 10 m.
     pub fn ring(&self) -> i64
         ensures value { result ≡ pos self.now.ring }
-        ensures in_range { self.now.ring ≤ MAX_COORDINATE }
+        ensures in_range { self.now.ring ≤ max_coordinate }
     {
         self.ring as i64
     }
@@ -63,7 +64,7 @@ impl Rules {
     /// The gap in pm, from 1 to 10 m.
     pub fn gap(&self) -> i64
         ensures value { result ≡ pos self.now.gap }
-        ensures in_range { (1 ≤ self.now.gap) × (self.now.gap ≤ MAX_COORDINATE) }
+        ensures in_range { (1 ≤ self.now.gap) × (self.now.gap ≤ max_coordinate) }
     {
         self.gap as i64
     }

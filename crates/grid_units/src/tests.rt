@@ -315,6 +315,8 @@ fn reasons_have_their_numbers_and_names(rt: HostRuntime) {
     assert_eq!(rt; Reason::TooManyHoles.number(), 37);
     assert_eq!(rt; Reason::NotCopper.number(), 45);
     assert_eq!(rt; Reason::NotCopper.name(), "NotCopper");
+    assert_eq!(rt; Reason::BadSpan.number(), 46);
+    assert_eq!(rt; Reason::BadSpan.name(), "BadSpan");
 }
 
 #[test]
