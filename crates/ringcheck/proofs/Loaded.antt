@@ -3,7 +3,7 @@ use Rattle.std.proofs.Common.{◌≡◌, ◌<◌, ◌≤◌, ◌+◌, ◌++◌, 
 use Rattle.std.specs.Prelude.{Vec}
 use Rattle.std.specs.declared.alloc.Global.{Global}
 use Rattle.manifest.specs.declared.Entry.{Entry}
-use Rattle.ringcheck.specs.Package.{Source}
+use Rattle.package_check.specs.Package.{Source}
 use Rattle.ringcheck.specs.Running.{HasFiles, sources}
 
 pub has_more : (has : List ℕ → List ℕ → Type 0) (entries : List Entry) (files : List (List ℕ)) (entry : Entry) (bytes : List ℕ)

@@ -1,10 +1,3 @@
-pub mod Alike
-pub mod Images
-pub mod Package
-pub mod Readers
-pub mod Reports
-pub mod Soundness
-pub mod Texts
 pub mod Naming
 pub mod Running
 pub mod Stopping

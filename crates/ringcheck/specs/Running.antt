@@ -9,10 +9,10 @@ use Rattle.manifest.specs.declared.Entry.{Entry}
 use Rattle.manifest.specs.Manifest.{manifest}
 use Rattle.ringcheck.specs.declared.Status.{Status}
 use Rattle.ringcheck.specs.declared.Status.TheVariants as status
-use Rattle.ringcheck.specs.Reports.{Account}
-use Rattle.ringcheck.specs.Package.{Source, IsAnswer}
-use Rattle.ringcheck.specs.Soundness.{IsSound}
-use Rattle.ringcheck.specs.Texts.{report_text}
+use Rattle.package_check.specs.Reports.{Account}
+use Rattle.package_check.specs.Package.{Source, IsAnswer}
+use Rattle.package_check.specs.Soundness.{IsSound}
+use Rattle.package_check.specs.Texts.{report_text}
 
 -- the bytes that a loader may have under a name (docs/DEFINITIONS.md, Runs)
 abbrev pub Relation : Type 1

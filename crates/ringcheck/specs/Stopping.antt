@@ -11,10 +11,10 @@ use Rattle.ringcheck.specs.declared.Status.{Status}
 use Rattle.ringcheck.specs.declared.Status.TheVariants as status
 use Rattle.ringcheck.specs.declared.loading_files.Stop.{Stop}
 use Rattle.ringcheck.specs.declared.loading_files.Stop.TheVariants as stop
-use Rattle.ringcheck.specs.Reports.{Account}
-use Rattle.ringcheck.specs.Package.{Source, IsAnswer}
-use Rattle.ringcheck.specs.Soundness.{IsSound}
-use Rattle.ringcheck.specs.Texts.{report_text}
+use Rattle.package_check.specs.Reports.{Account}
+use Rattle.package_check.specs.Package.{Source, IsAnswer}
+use Rattle.package_check.specs.Soundness.{IsSound}
+use Rattle.package_check.specs.Texts.{report_text}
 use Rattle.ringcheck.specs.Running.{Relation, manifest_limit, file_limit}
 
 -- bytes of a manifest that are refused (docs/DEFINITIONS.md, Runs)

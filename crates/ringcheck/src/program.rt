@@ -4,7 +4,7 @@ ghost use Rattle.std.specs.Prelude.{◌≡◌, ◌≢◌, ℕ, List, IfOk, IsTru
 ghost use Rattle.std.specs.Io.KnownBytes.{Appends};
 ghost use Rattle.command_line.specs.Line.{check_words, is_plain_word};
 ghost use Rattle.ringcheck.specs.Naming as named;
-ghost use Rattle.ringcheck.specs.Package.{source_of};
+ghost use Rattle.package_check.specs.Package.{source_of};
 ghost use Rattle.ringcheck.specs.Running.{SaysOf, sources};
 ghost use Rattle.ringcheck.specs.Stopping.{Answered, TellsOf};
 ghost use Rattle.ringcheck.specs.Stopping as stopping;

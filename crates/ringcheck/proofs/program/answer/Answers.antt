@@ -1,6 +1,6 @@
 use Rattle.std.proofs.Common.{map}
-use Rattle.ringcheck.specs.Package.{source_of}
-use Rattle.ringcheck.proofs.Gathering.{sums_length}
+use Rattle.package_check.specs.Package.{source_of}
+use Rattle.package_check.proofs.Gathering.{sums_length}
 use Rattle.ringcheck.proofs.Checking.{refused_file, reported}
 use Rattle.ringcheck.proofs.program.answer.Goals as goal
 

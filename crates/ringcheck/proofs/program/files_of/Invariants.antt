@@ -1,5 +1,5 @@
 use Rattle.std.proofs.Common.{◌≡◌, map, take}
-use Rattle.ringcheck.specs.Package.{source_of}
+use Rattle.package_check.specs.Package.{source_of}
 use Rattle.ringcheck.specs.Running.{sources}
 use Rattle.ringcheck.proofs.program.files_of.Given as goal
 

@@ -1,0 +1,86 @@
+-- Lists that grow by one file or one hole at a time.
+use Rattle.std.proofs.Common.{◌≡◌, ◌<◌, ◌≤◌, ◌+◌, ◌++◌, ℕ, zero, suc, List, [], ◌∷◌, Ok, length, map, take, get_or, arith, refl, sym, ap, ◌∙◌, Bool}
+use Rattle.std.specs.List.{flat_map, enumerate_from}
+use Rattle.std.proofs.lemmas.List.{append-nil, take_more, map-append, length-map}
+use Rattle.grid_units.specs.Holes.{GridHole, GridRules}
+use Rattle.ring_rules.proofs.Listing.{flat_listed_more}
+use Rattle.package_check.specs.declared.File.{File}
+use Rattle.package_check.specs.declared.Numbered.{Numbered}
+use Rattle.manifest.specs.declared.Role.TheVariants as role
+use Rattle.package_check.specs.declared.contents.Content.{Content}
+use Rattle.package_check.specs.Reports.{Account}
+use Rattle.package_check.specs.Package.{Source, Reads, AreRead, IsReport, source_of, file_holes, sum_of}
+
+-- what one more element gives
+pub placed_more : {X Y : Type 0} (f : ℕ × X → List Y) (out ys : List Y) (xs : List X) (i : ℕ) (x : X) → i < length xs → x ≡ get_or xs i x → f (i, x) ≡ ys
+    → out ≡ flat_map f (take i (enumerate_from 0 xs)) → out ++ ys ≡ flat_map f (take (i + 1) (enumerate_from 0 xs))
+placed_more f out ys xs i x lt is value was =
+    ap (λ zs. out ++ zs) (sym value ∙ ap (λ z. f (i, z)) is) ∙ flat_listed_more f out xs i x lt was
+
+-- and one that gives nothing
+pub placed_none : {X Y : Type 0} (f : ℕ × X → List Y) (out : List Y) (xs : List X) (i : ℕ) (x : X) → i < length xs → x ≡ get_or xs i x → f (i, x) ≡ []
+    → out ≡ flat_map f (take i (enumerate_from 0 xs)) → out ≡ flat_map f (take (i + 1) (enumerate_from 0 xs))
+placed_none f out xs i x lt is value was = sym (append-nil out) ∙ placed_more f out [] xs i x lt is value was
+
+-- the list with its places, by one more element
+numbered_push : {X : Type 0} (n : ℕ) (xs : List X) (x : X) → enumerate_from n (xs ++ x ∷ []) ≡ enumerate_from n xs ++ (n + length xs, x) ∷ []
+numbered_push n [] x = let e : n + 0 ≡ n = omega arith in rw e refl
+numbered_push n (y ∷ ys) x =
+    let e : n + suc (length ys) ≡ n + 1 + length ys = omega arith in
+    ap (λ zs. (n, y) ∷ zs) (numbered_push (n + 1) ys x) ∙ ap (λ k. (n, y) ∷ (enumerate_from (n + 1) ys ++ (k, x) ∷ [])) (sym e)
+
+length_take : {X : Type 0} (i : ℕ) (xs : List X) → i ≤ length xs → length (take i xs) ≡ i
+length_take zero xs h = refl
+length_take (suc i) [] h = absurd (omega arith)
+length_take (suc i) (x ∷ xs) h = ap suc (length_take i xs (omega arith))
+
+pub holes_more : (file : ℕ) (plated : Bool) (xs : List GridHole) (i : ℕ) (x : GridHole) → i < length xs → x ≡ get_or xs i x
+    → file_holes file plated (take (i + 1) xs) ≡ file_holes file plated (take i xs) ++ record { file = file; number = i + 1; drilled = record { hole = x; plated = plated } } ∷ []
+holes_more file plated xs i x lt is =
+    let f = λ (hole : ℕ × GridHole). let n : Numbered = record { file = file; number = hole.0; drilled = record { hole = hole.1; plated = plated } } in n in
+    let e : 1 + length (take i xs) ≡ i + 1 = omega (arith, length_take i xs (omega (arith, lt))) in
+    ap (file_holes file plated) (take_more xs i x lt)
+    ∙ (ap (λ h. file_holes file plated (take i xs ++ h ∷ [])) (sym is)
+    ∙ (ap (map f) (numbered_push 1 (take i xs) x)
+    ∙ (map-append f (enumerate_from 1 (take i xs)) ((1 + length (take i xs), x) ∷ [])
+    ∙ ap (λ k. file_holes file plated (take i xs) ++ f (k, x) ∷ []) e)))
+
+pub read_more : (sources : List Source) (contents : List Content) (source : Source) (one : Content) → AreRead sources contents → Reads source (Ok one)
+    → AreRead (sources ++ source ∷ []) (contents ++ one ∷ [])
+read_more [] [] source one h r = (r, tt)
+read_more [] (c ∷ cs) source one h r = absurd h
+read_more (s ∷ ss) [] source one h r = absurd h
+read_more (s ∷ ss) (c ∷ cs) source one h r = (h.0, read_more ss cs source one h.1 r)
+
+-- the files at hand, by their places
+pub source_at : (xs : List File) (i : ℕ) (d : File) (e : Source) → i < length xs → source_of (get_or xs i d) ≡ get_or (map source_of xs) i e
+source_at [] i d e lt = absurd (omega arith)
+source_at (x ∷ xs) zero d e lt = refl
+source_at (x ∷ xs) (suc i) d e lt = source_at xs i d e (omega arith)
+
+pub same_length : (xs : List File) → length (map source_of xs) ≡ length xs
+same_length [] = refl
+same_length (x ∷ xs) = ap suc (same_length xs)
+
+-- what a read past the end of a list of files would give, as the check writes it
+abbrev pub nothing : File
+nothing = record { role = role.Copper; name = record { ref_ptr = (0, 0); now = [] }; bytes = record { ref_ptr = (0, 0); now = [] } }
+
+pub one_more_read : (xs : List File) (i : ℕ) (contents after : List Content) (one : Content) → i < length xs → AreRead (take i (map source_of xs)) contents
+    → Reads (source_of (get_or xs i nothing)) (Ok one) → after ≡ contents ++ one ∷ [] → AreRead (take (i + 1) (map source_of xs)) after
+one_more_read xs i contents after one lt was reads is =
+    let inside : i < length (map source_of xs) = omega (arith, same_length xs) in
+    let more = take_more (map source_of xs) i (source_of nothing) inside in
+    let here = source_at xs i nothing (source_of nothing) lt in
+    rw (is, more, ← here) (read_more (take i (map source_of xs)) contents (source_of (get_or xs i nothing)) one was reads)
+
+read_length : (sources : List Source) (contents : List Content) → AreRead sources contents → length sources ≡ length contents
+read_length [] [] h = refl
+read_length [] (c ∷ cs) h = absurd h
+read_length (s ∷ ss) [] h = absurd h
+read_length (s ∷ ss) (c ∷ cs) h = ap suc (read_length ss cs h.1)
+
+-- a report has a sum for each file
+pub sums_length : (files : List File) (rules : GridRules) (report : Account) → IsReport (map source_of files) rules report → length files ≡ length report.files
+sums_length files rules report h =
+    sym (same_length files) ∙ read_length (map source_of files) h.contents h.read ∙ sym (length-map h.contents sum_of) ∙ ap (λ (r : Account). length r.files) (sym h.is)

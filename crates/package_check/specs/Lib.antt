@@ -1,0 +1,7 @@
+pub mod Alike
+pub mod Images
+pub mod Package
+pub mod Readers
+pub mod Reports
+pub mod Soundness
+pub mod Texts

@@ -1,0 +1,14 @@
+-- What a report holds.
+use Rattle.std.specs.Prelude.{ℕ, List}
+use Rattle.grid_units.specs.Holes.{GridRules}
+use Rattle.ring_rules.specs.declared.finding.Finding.{Finding}
+use Rattle.package_check.specs.declared.FileSum.{FileSum}
+use Rattle.package_check.specs.declared.Numbered.{Numbered}
+
+-- the parts of a report (docs/DEFINITIONS.md, Packages)
+pub record Account : Type 0 where
+  pub rules : GridRules
+  pub files : List FileSum
+  pub layers : List ℕ
+  pub holes : List Numbered
+  pub findings : List Finding

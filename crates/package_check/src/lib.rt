@@ -1,0 +1,53 @@
+//! The check of a package: each file is read, and the rules are applied to what the files say.
+#![tactic(auto)]
+
+mod contents;
+pub mod laws;
+mod package;
+mod printing;
+mod readers;
+mod report;
+
+use grid_units::Fault;
+pub use manifest::Role;
+pub use package::check_bytes;
+pub use printing::write_report;
+pub use report::Report;
+use ring_rules::Drilled;
+
+/// A file of a package.
+#[derive(Clone, Copy)]
+pub struct File<'a> {
+    pub role: Role,
+    pub name: &'a str,
+    pub bytes: &'a [u8],
+}
+
+/// Why there is no report: want of memory, or a file that is refused.
+#[derive(Clone, Copy, Debug, PartialEq, Eq)]
+pub enum PackageFault {
+    Memory,
+    File { index: usize, fault: Fault },
+}
+
+/// How much a file holds.
+#[derive(Clone, Copy, Debug, PartialEq, Eq)]
+pub enum FileSum {
+    Layer {
+        pads: usize,
+        other: usize,
+    },
+    Drill {
+        plated: bool,
+        round: usize,
+        slots: usize,
+    },
+}
+
+/// A hole, with the index of its file, and its number in it from 1.
+#[derive(Clone, Copy, Debug, PartialEq, Eq)]
+pub struct Numbered {
+    pub file: usize,
+    pub number: usize,
+    pub drilled: Drilled,
+}

@@ -1,0 +1,232 @@
+//! The text of a report.
+
+ghost use Rattle.std.specs.Prelude.{◌≡◌, ◌++◌, IfOk, OnOk, map, length, slice_get, string_bytes};
+ghost use Rattle.std.specs.List.{flat_map};
+ghost use Rattle.package_check.specs.Package.{source_of};
+ghost use Rattle.package_check.specs.Texts.{answer_word, drill_words, file_line, file_lines, finding_line, gap_line, last_line, length_words, lengths_of, line_of, place_words, report_text, ring_line, rules_line, rules_words};
+
+use crate::{File, FileSum, Numbered, Report};
+use grid_units::{Hole, Rules, write_mm};
+use ring_rules::Finding;
+use std::alloc::{AllocError, Global};
+use std::fmt::Write;
+
+fn push_rules(text: &mut String, rules: Rules) -> Result<(), AllocError>
+    ensures { OnOk result (string_bytes text.new ≡ string_bytes text.old ++ rules_line rules) }
+{
+    let ring = write_mm(rules.ring());
+    let gap = write_mm(rules.gap());
+    push_rules_words(text, ring.as_str(), gap.as_str())
+}
+
+fn push_rules_words(text: &mut String, ring: &str, gap: &str) -> Result<(), AllocError>
+    ensures { OnOk result (string_bytes text.new ≡ string_bytes text.old ++ rules_words ring.now gap.now) }
+{
+    match write!(text, "rules ring={ring} gap={gap}\n") {
+        Ok(()) => Ok(()),
+        Err(e) => Err(e),
+    }
+}
+
+fn answer_word(plated: bool) -> &'static str
+    ensures { result.now ≡ answer_word plated }
+{
+    if plated { "yes" } else { "no" }
+}
+
+fn push_file(text: &mut String, number: u64, name: &str, sum: &FileSum) -> Result<(), AllocError>
+    ensures { OnOk result (string_bytes text.new ≡ string_bytes text.old ++ file_line number name.now sum.now) }
+{
+    match sum {
+        FileSum::Layer { pads, other } => push_layer(text, number, name, *pads, *other),
+        FileSum::Drill {
+            plated,
+            round,
+            slots,
+        } => { push_drill(text, number, name, answer_word(*plated), *round, *slots) }
+    }
+}
+
+fn push_layer(
+    text: &mut String,
+    number: u64,
+    name: &str,
+    pads: usize,
+    other: usize,
+) -> Result<(), AllocError>
+    ensures { OnOk result (string_bytes text.new ≡ string_bytes text.old ++ file_line number name.now (FileSum.Layer pads other)) }
+{
+    match write!(
+        text,
+        "file {number} layer pads={pads} other={other} name={name}\n"
+    ) {
+        Ok(()) => Ok(()),
+        Err(e) => Err(e),
+    }
+}
+
+fn push_drill(
+    text: &mut String,
+    number: u64,
+    name: &str,
+    plated: &str,
+    round: usize,
+    slots: usize,
+) -> Result<(), AllocError>
+    ensures { OnOk result (string_bytes text.new ≡ string_bytes text.old ++ drill_words number plated.now round slots name.now) }
+{
+    match write!(
+        text,
+        "file {number} drill plated={plated} round={round} slots={slots} name={name}\n"
+    ) {
+        Ok(()) => Ok(()),
+        Err(e) => Err(e),
+    }
+}
+
+fn push_ring(text: &mut String, layer: usize, hole: &Numbered) -> Result<(), AllocError>
+    ensures { OnOk result (string_bytes text.new ≡ string_bytes text.old ++ ring_line layer hole.now) }
+{
+    push_place(text, layer as u128 + 1, hole.file as u128 + 1, hole.number)?;
+    push_lengths_of(text, &hole.drilled.hole)
+}
+
+fn push_lengths_of(text: &mut String, hole: &Hole) -> Result<(), AllocError>
+    ensures { OnOk result (string_bytes text.new ≡ string_bytes text.old ++ lengths_of hole.now) }
+{
+    let centre = hole.from();
+    let (x, y) = (write_mm(centre.x()), write_mm(centre.y()));
+    let diameter = write_mm(2 * hole.radius());
+    push_lengths(text, x.as_str(), y.as_str(), diameter.as_str())
+}
+
+#[tactic(auto, unfolding(crate::specs::Texts::place_words))]
+fn push_place(text: &mut String, layer: u128, drill: u128, number: usize) -> Result<(), AllocError>
+    ensures { OnOk result (string_bytes text.new ≡ string_bytes text.old ++ place_words layer drill number) }
+{
+    match write!(text, "RING layer={layer} drill={drill} hole={number}") {
+        Ok(()) => Ok(()),
+        Err(e) => Err(e),
+    }
+}
+
+#[tactic(auto, unfolding(crate::specs::Texts::length_words))]
+fn push_lengths(text: &mut String, x: &str, y: &str, diameter: &str) -> Result<(), AllocError>
+    ensures { OnOk result (string_bytes text.new ≡ string_bytes text.old ++ length_words x.now y.now diameter.now) }
+{
+    match write!(text, " x={x} y={y} diameter={diameter}\n") {
+        Ok(()) => Ok(()),
+        Err(e) => Err(e),
+    }
+}
+
+fn push_gap(text: &mut String, first: &Numbered, second: &Numbered) -> Result<(), AllocError>
+    ensures { OnOk result (string_bytes text.new ≡ string_bytes text.old ++ gap_line first.now second.now) }
+{
+    let (drill, hole) = (first.file as u128 + 1, first.number);
+    let (other_drill, other_hole) = (second.file as u128 + 1, second.number);
+    match write!(
+        text,
+        "GAP drill={drill} hole={hole} drill={other_drill} hole={other_hole}\n"
+    ) {
+        Ok(()) => Ok(()),
+        Err(e) => Err(e),
+    }
+}
+
+fn push_last(text: &mut String, findings: usize) -> Result<(), AllocError>
+    ensures { OnOk result (string_bytes text.new ≡ string_bytes text.old ++ last_line findings) }
+{
+    if findings == 0 {
+        return text.push_str("PASS\n");
+    }
+    match write!(text, "FINDINGS {findings}\n") {
+        Ok(()) => Ok(()),
+        Err(e) => Err(e),
+    }
+}
+
+fn push_ring_at(
+    text: &mut String,
+    report: &Report,
+    layer: usize,
+    hole: usize,
+) -> Result<(), AllocError>
+    ensures { OnOk result (string_bytes text.new ≡ string_bytes text.old ++ line_of ring_line (slice_get report.now.layers layer) (slice_get report.now.holes hole)) }
+{
+    let Some(layer) = report.layers().get(layer) else {
+        return Ok(());
+    };
+    let Some(hole) = report.holes().get(hole) else {
+        return Ok(());
+    };
+    push_ring(text, *layer, hole)
+}
+
+fn push_gap_at(
+    text: &mut String,
+    report: &Report,
+    first: usize,
+    second: usize,
+) -> Result<(), AllocError>
+    ensures { OnOk result (string_bytes text.new ≡ string_bytes text.old ++ line_of gap_line (slice_get report.now.holes first) (slice_get report.now.holes second)) }
+{
+    let Some(first) = report.holes().get(first) else {
+        return Ok(());
+    };
+    let Some(second) = report.holes().get(second) else {
+        return Ok(());
+    };
+    push_gap(text, first, second)
+}
+
+/// Appends the line of a finding: nothing where it names no layer or hole of the report.
+#[tactic(auto, unfolding(crate::specs::Texts::finding_line))]
+fn push_finding(text: &mut String, report: &Report, finding: Finding) -> Result<(), AllocError>
+    ensures { OnOk result (string_bytes text.new ≡ string_bytes text.old ++ finding_line report.now.layers report.now.holes finding) }
+{
+    match finding {
+        Finding::Ring { layer, hole } => push_ring_at(text, report, layer, hole),
+        Finding::Gap { first, second } => push_gap_at(text, report, first, second),
+    }
+}
+
+/// Appends the lines of the files, numbered from 1.
+fn push_files(text: &mut String, files: &[File], sums: &[FileSum]) -> Result<(), AllocError>
+    requires { length files.now ≡ length sums.now }
+    ensures { OnOk result (string_bytes text.new ≡ string_bytes text.old ++ file_lines 1 (map (λ file. file.name.now) files.now) sums.now) }
+{
+    let mut number: u64 = 1;
+    for (index, file) in files.iter().enumerate() {
+        push_file(text, number, file.name, &sums[index])?;
+        number += 1;
+    }
+    Ok(())
+}
+
+/// Appends the lines of the findings.
+fn push_findings(text: &mut String, report: &Report) -> Result<(), AllocError>
+    ensures { OnOk result (string_bytes text.new ≡ string_bytes text.old ++ flat_map (finding_line report.now.layers report.now.holes) report.now.findings) }
+{
+    for finding in report.findings() {
+        push_finding(text, report, *finding)?;
+    }
+    Ok(())
+}
+
+/// The text of a report on these files.
+///
+/// # Errors
+///
+/// An `AllocError` where there is no memory for it.
+pub fn write_report(alloc: Global, files: &[File], report: &Report) -> Result<Vec<u8>, AllocError>
+    requires { length files.now ≡ length report.now.files }
+    ensures { IfOk result (λ text. text.items ≡ report_text (map source_of files.now) report.now) }
+{
+    let mut text = String::new(alloc);
+    push_rules(&mut text, report.rules())?;
+    push_files(&mut text, files, report.files())?;
+    push_findings(&mut text, report)?;
+    push_last(&mut text, report.findings().len())?;
+    Ok(text.into_bytes())
+}
