@@ -1,6 +1,6 @@
 use Rattle.std.proofs.Common.{is_ok, true, rules, ◌≡◌}
 use Rattle.package_check.proofs.Gathering.{one_more_read}
-use Rattle.ringcheck.proofs.contents.read_files.Goals as goal
+use Rattle.package_check.proofs.contents.read_files.Goals as goal
 
 pub loop-index-preserved : goal.loop-index-preserved
 loop-index-preserved c =

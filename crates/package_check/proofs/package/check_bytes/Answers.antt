@@ -1,7 +1,7 @@
 use Rattle.std.proofs.Common.{map}
 use Rattle.package_check.specs.Package.{source_of}
 use Rattle.package_check.proofs.Answering.{just, named, passed}
-use Rattle.ringcheck.proofs.package.check_bytes.Goals as goal
+use Rattle.package_check.proofs.package.check_bytes.Goals as goal
 
 pub returns-clause-only : goal.returns-clause-only
 returns-clause-only c = just (map source_of c.args.files.now) c.args.rules c.one_answer.ensures c.report_of.result c.report_of.ensures

@@ -2,7 +2,7 @@ use Rattle.std.proofs.Common.{arith}
 use Rattle.package_check.specs.declared.FileSum.TheVariants as sum
 use Rattle.package_check.proofs.Gathering.{nothing}
 use Rattle.package_check.proofs.Lining.{line_more, lines_end}
-use Rattle.ringcheck.proofs.printing.push_files.Goals as goal
+use Rattle.package_check.proofs.printing.push_files.Goals as goal
 
 pub loop-index-preserved : goal.loop-index-preserved
 loop-index-preserved c = record {

@@ -2,7 +2,7 @@ use Rattle.std.proofs.Common.{ap, sym, ◌∙◌, ◌++◌, ℕ, List, length}
 use Rattle.std.specs.List.{flat_map}
 use Rattle.package_check.specs.Texts.{file_lines, finding_line, last_line, rules_line}
 use Rattle.package_check.proofs.Lining.{same_names, names_of}
-use Rattle.ringcheck.proofs.printing.write_report.Goals as goal
+use Rattle.package_check.proofs.printing.write_report.Goals as goal
 
 pub returns : goal.returns
 returns c =

@@ -3,8 +3,8 @@ use Rattle.package_check.specs.Package.{holes_of, file_holes}
 use Rattle.ring_rules.proofs.Listing.{enumerated_all}
 use Rattle.std.specs.List.{flat_map}
 use Rattle.package_check.proofs.Gathering.{placed_more, placed_none}
-use Rattle.ringcheck.proofs.report.numbered_holes.Goals as goal
-use Rattle.ringcheck.proofs.report.numbered_holes.Goals.{in-Drill+in_ok-push_holes, in_default}
+use Rattle.package_check.proofs.report.numbered_holes.Goals as goal
+use Rattle.package_check.proofs.report.numbered_holes.Goals.{in-Drill+in_ok-push_holes, in_default}
 
 pub loop-file-preserved : goal.loop-file-preserved
 loop-file-preserved c = elim c.match-content.branch [

@@ -1,7 +1,7 @@
 use Rattle.std.proofs.Common.{◌++◌, ◌∷◌, [], ap, sym, ◌∙◌, append_assoc, take, ◌+◌}
 use Rattle.package_check.specs.Package.{file_holes}
 use Rattle.package_check.proofs.Gathering.{holes_more}
-use Rattle.ringcheck.proofs.report.push_holes.Goals as goal
+use Rattle.package_check.proofs.report.push_holes.Goals as goal
 
 pub loop-place-preserved : goal.loop-place-preserved
 loop-place-preserved c =
