@@ -1,4 +1,4 @@
-use Rattle.std.proofs.Common.{◌≡◌, ◌∙◌, ap, sym, rules, true, map, not, arith, ◌++◌, ◌∷◌, [], List, ℕ, take}
+use Rattle.std.proofs.Common.{◌≡◌, ◌∙◌, ap, sym, rules, true, map, not, arith, take}
 use Rattle.std.specs.Result.{is_ok}
 use Rattle.std.proofs.lemmas.Result.{err_from_is_err_and}
 use Rattle.csv.specs.Records.{fields_of}
