@@ -9,10 +9,9 @@ ghost use Rattle.ringcheck.specs.Stopping.{Answered, TellsOf};
 ghost use Rattle.ringcheck.specs.Stopping as stopping;
 
 use crate::ending::{Ended, say, say_line, say_out_of_memory};
-use crate::lines;
 use crate::loading_files::{Stop, load_files, load_manifest};
 use crate::naming::rules_named;
-use crate::{Entry, File, Loader, PackageFault, Report, Status, check_bytes, write_report};
+use crate::{Entry, File, Loader, PackageFault, Report, Status, check_bytes, lines, write_report};
 use grid_units::{Fault, Reason, Rules};
 use std::alloc::{AllocError, Global};
 use std::io::Write;
