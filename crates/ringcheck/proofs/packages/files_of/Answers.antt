@@ -2,7 +2,7 @@ use Rattle.std.proofs.Common.{◌≡◌, ◌∙◌, sym, ap, is_ok, true, rules,
 use Rattle.std.proofs.lemmas.List.{map-append}
 use Rattle.package_check.specs.Package.{Source, source_of}
 use Rattle.ringcheck.proofs.Loaded.{all_sources, next_source}
-use Rattle.ringcheck.proofs.program.files_of.Goals as goal
+use Rattle.ringcheck.proofs.packages.files_of.Goals as goal
 
 pub loop-index-preserved : goal.loop-index-preserved
 loop-index-preserved c =
