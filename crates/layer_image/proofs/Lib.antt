@@ -1,4 +1,5 @@
 pub mod Grids
+pub mod Adding
 pub mod Knowing
 pub mod Broken
 pub mod Moves

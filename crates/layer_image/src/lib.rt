@@ -3,6 +3,7 @@
 
 mod aperture;
 mod flash;
+mod flashes;
 mod force;
 mod function;
 mod grid;

@@ -2,10 +2,8 @@
 
 ghost use Rattle.std.specs.Prelude.{◌≡◌, ◌++◌, [], ℕ, List, Ok, Err, Some, true, OnOk, IfErr, IfOk, IfSome};
 ghost use Rattle.grid_units.specs.Results.{Answers, Tells};
-ghost use Rattle.layer_image.specs.Flashes.{is_other, others_in};
 
-use crate::flash::{Flash, What};
-use crate::layer::{Layer, layer_of, pads_of};
+use crate::layer::{Layer, layer_of};
 use crate::scan::Scan;
 use gerber_rows::Command;
 use gerber_text::{Placed, WordReader};
@@ -38,7 +36,7 @@ impl Core {
         Core {
             alloc,
             words: WordReader::new(alloc),
-            scan: Scan::new(alloc),
+            scan: Scan::new(alloc, whole),
             kept: Vec::new(alloc),
             whole,
             failed: None,
@@ -165,29 +163,12 @@ impl LayerReader {
         if let Some(fail) = self.core.failed {
             return Err(fail);
         }
-        let alloc = self.core.alloc;
         let (scan, commands) = self.core.end()?;
         let Scan {
             judge,
             file_function,
         } = scan;
-        Ok(layer_of(alloc, commands, judge.into_flashes(), file_function)?)
-    }
-}
-
-/// How many of the flashes are no pads.
-fn others_in(flashes: &[Flash]) -> usize
-    ensures { result ≡ others_in flashes.now }
-{
-    flashes.iter().filter(|flash| is_other(&flash.what)).count()
-}
-
-fn is_other(what: &What) -> bool
-    ensures { result ≡ is_other what.now }
-{
-    match what {
-        What::Pad(_) => false,
-        What::Other(_) => true,
+        Ok(layer_of(commands, judge.into_flashes(), file_function))
     }
 }
 
@@ -235,18 +216,15 @@ impl SumReader {
         if let Some(fail) = self.core.failed {
             return Err(fail);
         }
-        let alloc = self.core.alloc;
         let (scan, _) = self.core.end()?;
         let Scan {
             judge,
             file_function,
         } = scan;
         let flashes = judge.into_flashes();
-        let pads = pads_of(alloc, &flashes)?;
-        let other = others_in(&flashes);
         Ok(LayerSum {
-            pads,
-            other,
+            pads: flashes.pads,
+            other: flashes.others as usize,
             file_function,
         })
     }

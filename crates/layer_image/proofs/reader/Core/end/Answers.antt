@@ -1,5 +1,5 @@
 -- The words are all met, so the commands are those that are gone.
-use Rattle.std.proofs.Common.{◌≡◌, ◌++◌, [], Ok, sym, ap, subst, ◌∙◌, append-nil}
+use Rattle.std.proofs.Common.{◌≡◌, ◌++◌, Ok, ap, subst, ◌∙◌, append-nil}
 use Rattle.std.proofs.lemmas.Result.{err_from_is_err_and}
 use Rattle.gerber_text.specs.Reading.{Entries, Reads, KeptBefore}
 use Rattle.gerber_text.specs.Standing.{held}
