@@ -1,4 +1,5 @@
 pub mod Grids
+pub mod Adding
 pub mod Knowing
 pub mod Broken
 pub mod Moves
@@ -7,3 +8,4 @@ pub mod Faulty
 pub mod Listing
 pub mod Reading
 pub mod Unique
+pub mod Pieces

@@ -4,7 +4,9 @@ pub mod Numbers
 pub mod Moved
 pub mod Flashes
 pub mod Rules
+pub mod Keeping
 pub mod Knows
 pub mod Faults
 pub mod Functions
 pub mod Layers
+pub mod Standing

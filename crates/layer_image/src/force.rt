@@ -165,7 +165,7 @@ fn is_far_side(side: Side, unit: Unit) -> bool
     is_far(fine_length(side.size(), unit))
 }
 
-fn origin() -> Point
+pub(crate) fn origin() -> Point
     ensures { result ≡ origin }
 {
     Point::new(0, 0).unwrap()

@@ -1,3 +1,4 @@
+pub mod Endings
 pub mod Naming
 pub mod Running
 pub mod Stopping

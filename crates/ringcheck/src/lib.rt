@@ -1,8 +1,11 @@
 //! The program: packages, layers and drill files from a loader, and what is printed of them to a writer.
 #![tactic(auto)]
 
+mod ending;
+mod lines;
 mod loading_files;
 mod naming;
+mod packages;
 mod program;
 
 pub use loading::{LoadFault, Loader, ReadFail, read_all};
