@@ -7,3 +7,4 @@ pub mod Faulty
 pub mod Listing
 pub mod Reading
 pub mod Unique
+pub mod Pieces

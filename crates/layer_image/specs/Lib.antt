@@ -8,3 +8,4 @@ pub mod Knows
 pub mod Faults
 pub mod Functions
 pub mod Layers
+pub mod Standing

@@ -9,10 +9,9 @@ ghost use Rattle.layer_image.specs.Functions.{file_function_of};
 ghost use Rattle.layer_image.specs.Layers.{ReadsLayer, EqualCommands, OneReading, image_of};
 
 use crate::flash::{Flash, What};
-use crate::function::file_function;
-use crate::image::flashes_of;
+use crate::reader::LayerReader;
 use gerber_rows::Command;
-use gerber_text::{Kept, Placed, read_kept};
+use gerber_text::Placed;
 use grid_units::{Fail, Text};
 use pad_shapes::Pad;
 use std::alloc::{AllocError, Global};
@@ -57,6 +56,13 @@ impl Layer {
         &self.pads
     }
 
+    /// The pads alone, in order, which takes no memory.
+    pub fn into_pads(self) -> Vec<Pad>
+        ensures { result.items ≡ self.pads }
+    {
+        self.pads
+    }
+
     /// The text behind `.FileFunction,` in the last file attribute or comment that names it.
     pub fn file_function(&self) -> Option<&[u8]>
         ensures { option_copied result ≡ self.now.file_function }
@@ -74,27 +80,24 @@ impl Layer {
 ///
 /// The first fault of the text: of its items or of the rules, whichever stands first; `Memory` where a
 /// growth was refused.
-#[tactic(auto, using(crate::proofs::Reading::by_rule))]
 pub fn read_layer(alloc: Global, bytes: &[u8]) -> Result<Layer, Fail>
     ensures { Answers (λ layer. layer) (λ answer. ReadsLayer bytes.now answer) result }
 {
-    let Kept { commands, outcome } = read_kept(alloc, bytes);
-    let flashes = flashes_of(alloc, &commands)?;
-    outcome?;
-    Ok(layer_of(alloc, commands, flashes)?)
+    let mut reader = LayerReader::new(alloc);
+    reader.feed(bytes)?;
+    reader.finish()
 }
 
 /// The layer of legal commands and their flashes.
-fn layer_of(
+pub(crate) fn layer_of(
     alloc: Global,
     commands: Vec<Placed<Command>>,
     flashes: Vec<Flash>,
+    file_function: Option<Text>,
 ) -> Result<Layer, AllocError>
-    requires { flashes.items ≡ flashes_of (without_places commands.items) }
-    ensures { IfOk result (λ layer. layer ≡ image_of commands.items) }
+    ensures { IfOk result (λ layer. layer ≡ record { commands = commands.items; flashes = flashes.items; pads = pads_of flashes.items; file_function = file_function }) }
 {
     let pads = pads_of(alloc, &flashes)?;
-    let file_function = copied(alloc, file_function(&commands))?;
     Ok(Layer {
         commands,
         flashes,
@@ -104,7 +107,7 @@ fn layer_of(
 }
 
 /// The pads among the flashes.
-fn pads_of(alloc: Global, flashes: &[Flash]) -> Result<Vec<Pad>, AllocError>
+pub(crate) fn pads_of(alloc: Global, flashes: &[Flash]) -> Result<Vec<Pad>, AllocError>
     ensures { IfOk result (λ pads. pads.items ≡ pads_of flashes.now) }
 {
     let mut pads = Vec::new(alloc);
@@ -115,16 +118,6 @@ fn pads_of(alloc: Global, flashes: &[Flash]) -> Result<Vec<Pad>, AllocError>
         }
     }
     Ok(pads)
-}
-
-/// A text that may be there, in memory of its own.
-fn copied(alloc: Global, text: Option<&[u8]>) -> Result<Option<Text>, AllocError>
-    ensures { IfOk result (λ copy. copy ≡ option_copied text.entry) }
-{
-    match text {
-        Some(bytes) => Ok(Some(Text::from_slice(alloc, bytes)?)),
-        None => Ok(None),
-    }
 }
 
 /// A text reads as one layer, or has one fault.

@@ -6,15 +6,19 @@ mod flash;
 mod force;
 mod function;
 mod grid;
-mod image;
 mod judge;
+mod laws;
 mod layer;
 mod length;
+mod reader;
 mod rules;
+mod scan;
 mod size;
 
 pub use flash::{Flash, What, Why};
+pub use laws::shown_faults;
 pub use layer::{Layer, equal_commands, one_reading, read_layer};
+pub use reader::{LayerReader, LayerSum, SumReader};
 
 #[cfg(test)]
 mod tests;

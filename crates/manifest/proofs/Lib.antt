@@ -1,3 +1,4 @@
 pub mod Fields
 pub mod OneByOne
 pub mod Records
+pub mod SpanFields
