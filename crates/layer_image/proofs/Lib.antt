@@ -3,6 +3,7 @@ pub mod Adding
 pub mod Knowing
 pub mod Broken
 pub mod Moves
+pub mod Naming
 pub mod Places
 pub mod Faulty
 pub mod Listing

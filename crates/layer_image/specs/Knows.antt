@@ -1,9 +1,6 @@
 -- What a judge says of the commands that it has met.
-use Rattle.std.specs.Prelude.{◌≡◌, ◌||◌, Bool, List, [], ◌∷◌, ◌++◌, Some, None, unwrap_or, nat_eq, Result, Ok, Err}
+use Rattle.std.specs.Prelude.{◌≡◌, ◌||◌, Bool, List, [], ◌∷◌, ◌++◌, Some, None, unwrap_or, Result, Ok, Err}
 use Rattle.std.specs.Option.{option_or}
-use Rattle.std.specs.Cmp.Lexicographic.{pointwise}
-use Rattle.indexmap.specs.IndexMap.{get}
-use Rattle.indexmap.specs.IndexSet.{contains}
 use Rattle.gerber_rows.specs.declared.command.Command.{Command}
 use Rattle.layer_image.specs.declared.judge.Judge.{Judge}
 use Rattle.layer_image.specs.declared.judge.Stop.{Stop}
@@ -12,6 +9,7 @@ use Rattle.layer_image.specs.Lookback.{Standing, standing, unit_named, format_na
 use Rattle.layer_image.specs.Rules.{broken_rule}
 use Rattle.layer_image.specs.Flashes.{flashes_of, flashes_at}
 use Rattle.layer_image.specs.Keeping.{KeepsFlashes, Adds}
+use Rattle.layer_image.specs.Tables.{aperture_at, has_name}
 
 -- what the judge says to the next command (docs/DEFINITIONS.md, Legal lists)
 abbrev pub told : Judge → Standing
@@ -19,8 +17,8 @@ told judge = record {
   unit = judge.unit;
   format = judge.format;
   in_region = judge.in_region;
-  definition = λ number. get nat_eq judge.apertures number;
-  has_macro = λ name. contains (pointwise nat_eq) judge.macros name;
+  definition = aperture_at judge.apertures;
+  has_macro = has_name judge.macros;
   selected = judge.selected;
   x = judge.x;
   y = judge.y;

@@ -62,7 +62,7 @@ impl Judge {
         ensures { result ≡ aperture_in (told self.now) }
     {
         match self.selected {
-            Some(number) => self.apertures.get(&number).copied(),
+            Some(number) => self.apertures.get(number),
             None => None,
         }
     }

@@ -18,19 +18,20 @@ use crate::flash::Flash;
 use crate::flashes::Flashes;
 use crate::force::origin;
 use crate::rules::is_flash;
+use crate::tables::{Apertures, Names};
 use gerber_rows::{Action, Block, Command, Format, Template};
-use grid_units::{Dec, Reason, Text, Unit};
-use indexmap::{IndexMap, IndexSet};
+use grid_units::{Dec, Reason, Unit};
 use std::alloc::{AllocError, Global};
 
 /// What the commands so far say to the next one, and the flashes that they made.
 #[derive(Drop)]
 pub(crate) struct Judge {
+    alloc: Global,
     pub(crate) unit: Option<Unit>,
     pub(crate) format: Option<Format>,
     pub(crate) in_region: bool,
-    pub(crate) apertures: IndexMap<u32, Aperture>,
-    pub(crate) macros: IndexSet<Text>,
+    pub(crate) apertures: Apertures,
+    pub(crate) macros: Names,
     pub(crate) selected: Option<u32>,
     pub(crate) x: i64,
     pub(crate) y: i64,
@@ -61,11 +62,12 @@ impl Judge {
         ensures { Knows result whole [] }
     {
         Judge {
+            alloc,
             unit: None,
             format: None,
             in_region: false,
-            apertures: IndexMap::new(alloc),
-            macros: IndexSet::new(alloc),
+            apertures: Apertures::new(alloc),
+            macros: Names::new(alloc),
             selected: None,
             x: 0,
             y: 0,
@@ -105,9 +107,7 @@ impl Judge {
             Command::UnitIs(unit) => self.unit = Some(*unit),
             Command::FormatIs(format) => self.format = Some(*format),
             Command::Define { number, template } => self.define(*number, template)?,
-            Command::Macro(name, _) => {
-                self.macros.insert(name.copy()?)?;
-            }
+            Command::Macro(name, _) => self.macros.insert(self.alloc, name)?,
             Command::Select(number) => self.selected = Some(*number),
             Command::Operate { action, x, y, .. } => self.operate(*action, *x, *y)?,
             Command::Turn(turn) => self.turn = *turn,

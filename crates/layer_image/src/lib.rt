@@ -15,6 +15,7 @@ mod reader;
 mod rules;
 mod scan;
 mod size;
+mod tables;
 
 pub use flash::{Flash, What, Why};
 pub use laws::shown_faults;

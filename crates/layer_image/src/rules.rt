@@ -35,8 +35,8 @@ impl Judge {
                 .differs_in_format(*format)
                 .then_some(Reason::FormatConflict),
             Command::Define { number, template } => self.definition_rule(*number, template),
-            Command::Macro(name, _) => self.macros.contains(name).then_some(Reason::Redefined),
-            Command::Select(number) => (!self.apertures.contains_key(number)).then_some(
+            Command::Macro(name, _) => self.macros.has(name).then_some(Reason::Redefined),
+            Command::Select(number) => (!self.apertures.has(*number)).then_some(
                 Reason::UnknownAperture,
             ),
             Command::Operate { action, x, y, i, j } => self.operation_rule(*action, *x, *y, *i, *j),
@@ -89,7 +89,7 @@ impl Judge {
     fn definition_rule(&self, number: u32, template: &Template) -> Option<Reason>
         ensures { result ≡ find (applies (told self.now) (flash_count self.now.flashes) (command.Define number template.now)) later_rules }
     {
-        if self.apertures.contains_key(&number) {
+        if self.apertures.has(number) {
             Some(Reason::Redefined)
         } else if self.lacks_macro(template) {
             Some(Reason::UnknownMacro)
@@ -104,7 +104,7 @@ impl Judge {
         ensures { result ≡ lacks_macro (told self.now) template.now }
     {
         match template {
-            Template::Named(name, _) => !self.macros.contains(name),
+            Template::Named(name, _) => !self.macros.has(name),
             Template::Standard(_, _) => false,
         }
     }
