@@ -1,5 +1,5 @@
 -- What a reader has met and keeps of the commands of a text.
-use Rattle.std.specs.Prelude.{◌≡◌, ℕ, true, List, Result, Ok, Err}
+use Rattle.std.specs.Prelude.{◌≡◌, ℕ, true, false, List, [], Result, Ok, Err}
 use Rattle.std.specs.List.{list_any}
 use Rattle.grid_units.specs.declared.fault.Fault.{Fault}
 use Rattle.grid_units.specs.declared.fault.Fail.{Fail}
@@ -10,9 +10,10 @@ use Rattle.drill_text.specs.declared.kept.Kept.{Kept}
 use Rattle.drill_text.specs.Reading.{is_finish, Reads}
 use Rattle.drill_text.specs.Knowing.{Knows}
 
--- the commands are kept, unless they are let go of, and whether the end of the file is among them (docs/DEFINITIONS.md, The judge of a drill file)
+-- All of the commands are kept, or nothing of them but whether the end of the file is among them (docs/DEFINITIONS.md, The judge of a drill file).
 pub record Keeps (kept : Kept) (commands : List DrillCommand) : Type 0 where
   pub whole : kept.is_whole ≡ true → kept.commands.items ≡ commands
+  pub none : kept.is_whole ≡ false → kept.commands.items ≡ []
   pub finished : kept.is_finished ≡ list_any is_finish commands
 
 -- the judge has met just these commands, and they are kept (docs/DEFINITIONS.md, The judge of a drill file)

@@ -1,5 +1,5 @@
 -- What a reader holds of the bytes so far.
-use Rattle.std.specs.Prelude.{◌≡◌, ℕ, true, List, ◌++◌, length, Ok, Err, Option, None}
+use Rattle.std.specs.Prelude.{◌≡◌, ℕ, true, false, List, ◌++◌, length, Ok, Err, Option, None}
 use Rattle.grid_units.specs.declared.fault.Fault.{Fault}
 use Rattle.grid_units.specs.declared.fault.Fail.{Fail}
 use Rattle.grid_units.specs.declared.fault.Fail.TheVariants as fails
@@ -57,7 +57,8 @@ pub record StandsAfter (reader : DrillReader) (text : List ℕ) : Type 0 where
 abbrev pub holes_failure : HolesReader → Option Fail
 holes_failure reader = reader.failed
 
--- The reader of the holes has read this text, which shows no fault (docs/DEFINITIONS.md, A drill reader in pieces).
+-- The reader of the holes has read this text, which shows no fault, and keeps none of its commands (docs/DEFINITIONS.md, A drill reader in pieces).
 pub record HolesStandAfter (reader : HolesReader) (text : List ℕ) : Type 0 where
   pub sound : holes_failure reader ≡ None
   pub holds : Holds reader.progress text
+  pub light : reader.progress.kept.is_whole ≡ false
