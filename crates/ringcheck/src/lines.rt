@@ -1,5 +1,9 @@
 //! The lines that tell of refusals and failures. Numbers of files begin with 1.
 
+ghost use Rattle.std.specs.Prelude.{◌≡◌, IfOk};
+ghost use Rattle.std.specs.String.{string_bytes};
+ghost use Rattle.ringcheck.specs.Printing.{refusal};
+
 use grid_units::{Fault, Reason};
 use std::alloc::{AllocError, Global};
 
@@ -16,6 +20,15 @@ pub(crate) fn refused(
     format!(in alloc;
         "refused file={number} place={place} byte={byte} reason={reason} name={name}\n"
     )
+}
+
+/// The line of a file that is refused and is the only one.
+pub(crate) fn refused_alone(alloc: Global, fault: Fault) -> Result<String, AllocError>
+    ensures { IfOk result (λ line. string_bytes line ≡ refusal fault) }
+{
+    let reason = fault.reason.name();
+    let (place, byte) = (fault.place, fault.byte);
+    format!(in alloc; "refused place={place} byte={byte} reason={reason}\n")
 }
 
 /// The line of a manifest that is refused.

@@ -1,13 +1,15 @@
 //! The whole program, over a loader and a writer.
 
-ghost use Rattle.std.specs.Prelude.{◌≡◌, map, true, ℕ, List};
-ghost use Rattle.command_line.specs.Line.{check_words, is_plain_word};
+ghost use Rattle.std.specs.Prelude.{◌≡◌, map, true, ℕ, List, codes};
+ghost use Rattle.command_line.specs.Line.{check_words, file_words, is_plain_word};
 ghost use Rattle.ringcheck.specs.Endings.{HasCause, status_after};
 ghost use Rattle.ringcheck.specs.Naming as named;
+ghost use Rattle.ringcheck.specs.Printing.{SaysFileOf, kind_named};
 ghost use Rattle.ringcheck.specs.Running.{SaysOf};
 
 use crate::ending::{Ended, say, say_line, say_out_of_memory};
 use crate::packages::check;
+use crate::single_files::{Task, print};
 use crate::{Loader, Status, lines};
 use command_line::{Refusal, Request, parse};
 use std::alloc::Global;
@@ -22,6 +24,10 @@ fn run_to_end<L: Loader, W: Write>(
 ) -> Ended
     ensures check { (r g m : List ℕ) → map (λ w. w.now) words.now ≡ check_words r g m → is_plain_word r ≡ true → is_plain_word g ≡ true
         → is_plain_word m ≡ true → SaysOf (L.has loader.old) m (named.rules_named r g) (W.contents out.old) (W.contents out.new) (status_after result) }
+    ensures show { (k f : List ℕ) → map (λ w. w.now) words.now ≡ file_words (codes "show") k f → is_plain_word k ≡ true → is_plain_word f ≡ true
+        → SaysFileOf Task.Show (kind_named k) (L.has loader.old) f (W.contents out.old) (W.contents out.new) (status_after result) }
+    ensures rewrite { (k f : List ℕ) → map (λ w. w.now) words.now ≡ file_words (codes "rewrite") k f → is_plain_word k ≡ true → is_plain_word f ≡ true
+        → SaysFileOf Task.Rewrite (kind_named k) (L.has loader.old) f (W.contents out.old) (W.contents out.new) (status_after result) }
     ensures cause { HasCause (L.failed loader.old) (L.failed loader.new) result }
 {
     match parse(alloc, words) {
@@ -32,7 +38,8 @@ fn run_to_end<L: Loader, W: Write>(
                 manifest,
             },
         ) => check(alloc, ring, gap, manifest, loader, out),
-        Ok(_) => say(out, b"usage\n", Ended::Said(Status::Usage)),
+        Ok(Request::Show { kind, file }) => print(alloc, Task::Show, kind, file, loader, out),
+        Ok(Request::Rewrite { kind, file }) => print(alloc, Task::Rewrite, kind, file, loader, out),
         Err(Refusal::Memory) => say_out_of_memory(out),
         Err(Refusal::Help(text)) => say(out, text.as_str().as_bytes(), Ended::Said(Status::Pass)),
         Err(Refusal::Usage(text)) => {
@@ -52,6 +59,10 @@ pub fn run<L: Loader, W: Write>(
 ) -> Status
     ensures check { (r g m : List ℕ) → map (λ w. w.now) words.now ≡ check_words r g m → is_plain_word r ≡ true → is_plain_word g ≡ true
         → is_plain_word m ≡ true → SaysOf (L.has loader.old) m (named.rules_named r g) (W.contents out.old) (W.contents out.new) result }
+    ensures show { (k f : List ℕ) → map (λ w. w.now) words.now ≡ file_words (codes "show") k f → is_plain_word k ≡ true → is_plain_word f ≡ true
+        → SaysFileOf Task.Show (kind_named k) (L.has loader.old) f (W.contents out.old) (W.contents out.new) result }
+    ensures rewrite { (k f : List ℕ) → map (λ w. w.now) words.now ≡ file_words (codes "rewrite") k f → is_plain_word k ≡ true → is_plain_word f ≡ true
+        → SaysFileOf Task.Rewrite (kind_named k) (L.has loader.old) f (W.contents out.old) (W.contents out.new) result }
 {
     run_to_end(alloc, words, loader, out).status()
 }
