@@ -1,6 +1,6 @@
 //! A layer that is read in pieces.
 
-ghost use Rattle.std.specs.Prelude.{◌≡◌, ◌++◌, [], ℕ, List, Ok, Err, Some, true, OnOk, IfErr, IfOk, IfSome};
+ghost use Rattle.std.specs.Prelude.{◌≡◌, ◌++◌, [], ℕ, List, Ok, Err, Some, None, true, IsOk, OnOk, IfErr, IfOk, IfSome};
 ghost use Rattle.grid_units.specs.Results.{Answers, Tells};
 
 use crate::layer::{Layer, layer_of};
@@ -92,10 +92,23 @@ impl Core {
         push_all(&mut self.kept, commands)
     }
 
-    /// What was met and what was kept, if the text has ended.
-    fn end(self) -> Result<(Scan, Vec<Placed<Command>>), Fail>
-        ensures { (text : List ℕ) → CoreStands self text → CoreEnds text self.whole result }
+    /// What the reader has failed with, if it has.
+    fn outcome(&self) -> Result<(), Fail>
+        ensures sound { self.now.failed ≡ None → IsOk result }
+        ensures failed { IfSome self.now.failed (λ e. result ≡ Err e) }
     {
+        match self.failed {
+            Some(fail) => Err(fail),
+            None => Ok(()),
+        }
+    }
+
+    /// What was met and what was kept, if the text has ended. A reader that has failed gives its failure again.
+    fn end(self) -> Result<(Scan, Vec<Placed<Command>>), Fail>
+        ensures exact { (text : List ℕ) → CoreStands self text → CoreEnds text self.whole result }
+        ensures failed { IfSome self.failed (λ e. result ≡ Err e) }
+    {
+        self.outcome()?;
         self.words.finish()?;
         Ok((self.scan, self.kept))
     }
@@ -160,9 +173,6 @@ impl LayerReader {
         ensures exact { (text : List ℕ) → LayerStandsAfter self text → Answers (λ layer. layer) (λ answer. ReadsLayer text answer) result }
         ensures failed { IfSome (layer_failure self) (λ e. result ≡ Err e) }
     {
-        if let Some(fail) = self.core.failed {
-            return Err(fail);
-        }
         let (scan, commands) = self.core.end()?;
         let Scan {
             judge,
@@ -213,9 +223,6 @@ impl SumReader {
         ensures exact { (text : List ℕ) → SumStandsAfter self text → Answers sum_view (ReadsSum text) result }
         ensures failed { IfSome (sum_failure self) (λ e. result ≡ Err e) }
     {
-        if let Some(fail) = self.core.failed {
-            return Err(fail);
-        }
         let (scan, _) = self.core.end()?;
         let Scan {
             judge,

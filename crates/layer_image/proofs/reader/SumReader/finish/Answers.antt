@@ -10,11 +10,11 @@ use Rattle.layer_image.proofs.reader.SumReader.finish.Goals as goal
 pub returns-in_err-scan-clause-exact : goal.returns-in_err-scan-clause-exact
 returns-in_err-scan-clause-exact c text h =
     let p = err_from_is_err_and c.from_residual.result c.from_residual.ensures.1 in
-    rw (p.1, p.2) (ends_sum text _ sum_view c.args.self.core.whole c.in_err-scan.field-0.0 (c.in_err-scan.ensures text h))
+    rw (p.1, p.2) (ends_sum text _ sum_view c.args.self.core.whole c.in_err-scan.field-0.0 (c.in_err-scan.ensures.exact text h))
 
 pub returns-clause-exact : goal.returns-clause-exact
 returns-clause-exact c text h =
-    let ends = c.in_ok-scan.ensures text h in
+    let ends = c.in_ok-scan.ensures.exact text h in
     let gone = ends.0 in
     let met = ends.2.met in
     let flashes = met.knows.flashes in (
