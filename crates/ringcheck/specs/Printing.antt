@@ -3,7 +3,9 @@ use Rattle.std.specs.Prelude.{◌≡◌, ◌<◌, ◌⊎◌, ◌++◌, ◌∷◌
 use Rattle.std.specs.Str.{bytes_eq}
 use Rattle.std.specs.Io.KnownBytes.{Appends}
 use Rattle.grid_units.specs.declared.fault.Fault.{Fault}
+use Rattle.grid_units.specs.declared.fault.Reason.TheVariants.{TooLong}
 use Rattle.grid_units.specs.Reasons.{name_of}
+use Rattle.grid_units.specs.Results.{fault}
 use Rattle.rewriting.specs.declared.Kind.{Kind}
 use Rattle.rewriting.specs.declared.Kind.TheVariants as kind
 use Rattle.rewriting.specs.Rewriting.{Rewrites}
@@ -32,8 +34,8 @@ Prints task.Rewrite kind bytes answer = Rewrites kind bytes answer
 
 -- the line of a file that is refused (docs/FORMATS.md, The program)
 abbrev pub refusal : Fault → List ℕ
-refusal fault =
-    codes "refused place=" ++ (decimal fault.place ++ (codes " byte=" ++ (decimal fault.byte ++ (codes " reason=" ++ (name_of fault.reason ++ 10 ∷ [])))))
+refusal why =
+    codes "refused place=" ++ (decimal why.place ++ (codes " byte=" ++ (decimal why.byte ++ (codes " reason=" ++ (name_of why.reason ++ 10 ∷ [])))))
 
 -- bytes that the loader has within the limit, whose table or text the writer got (docs/DEFINITIONS.md, Runs)
 pub record Printed (what : Task) (kind : Kind) (has : Relation) (name : List ℕ) (before after : Option (List ℕ)) : Type 0 where
@@ -43,15 +45,27 @@ pub record Printed (what : Task) (kind : Kind) (has : Relation) (name : List ℕ
   pub answer : Prints what kind bytes (Ok text)
   pub written : Appends before after text
 
--- bytes that the loader has are refused: they are above the limit, or have a fault (docs/DEFINITIONS.md, Runs)
-abbrev pub RefusesFile : Task → Kind → Relation → List ℕ → Type 0
-RefusesFile what kind has name = (bytes : List ℕ) × has name bytes × ((file_limit < length bytes) ⊎ ((fault : Fault) × Prints what kind bytes (Err fault)))
+-- the fault of bytes that are above the limit (docs/FORMATS.md, The program)
+abbrev pub too_long : Fault
+too_long = fault 0 0 TooLong
+
+-- the bytes have this fault, or are above the limit (docs/DEFINITIONS.md, Runs)
+abbrev pub HasFault : Task → Kind → List ℕ → Fault → Type 0
+HasFault what kind bytes why = ((file_limit < length bytes) × (why ≡ too_long)) ⊎ Prints what kind bytes (Err why)
+
+-- bytes that the loader has are refused for a fault, of which the writer got the line (docs/DEFINITIONS.md, Runs)
+pub record Refuses (what : Task) (kind : Kind) (has : Relation) (name : List ℕ) (before after : Option (List ℕ)) : Type 0 where
+  pub bytes : List ℕ
+  pub held : has name bytes
+  pub why : Fault
+  pub fault : HasFault what kind bytes why
+  pub told : Appends before after (refusal why)
 
 -- what a status says of the printing of a file of this kind (docs/DEFINITIONS.md, Runs)
 abbrev pub SaysFile : Task → Kind → Relation → List ℕ → Option (List ℕ) → Option (List ℕ) → Status → Type 0
 SaysFile what kind has name before after status.Pass = Printed what kind has name before after
 SaysFile what kind has name before after status.Findings = ⊥
-SaysFile what kind has name before after status.Refused = RefusesFile what kind has name
+SaysFile what kind has name before after status.Refused = Refuses what kind has name before after
 SaysFile what kind has name before after status.Usage = ⊥
 SaysFile what kind has name before after status.Device = ⊤
 
@@ -64,7 +78,7 @@ SaysFileOf what None has name before after s = (s ≡ status.Usage) ⊎ (s ≡ s
 abbrev pub PrintsBytes : Task → Kind → List ℕ → Option (List ℕ) → Option (List ℕ) → Ended → Type 0
 PrintsBytes what kind bytes before after (ended.Said status.Pass) = (text : List ℕ) × Prints what kind bytes (Ok text) × Appends before after text
 PrintsBytes what kind bytes before after (ended.Said status.Findings) = ⊥
-PrintsBytes what kind bytes before after (ended.Said status.Refused) = (fault : Fault) × Prints what kind bytes (Err fault)
+PrintsBytes what kind bytes before after (ended.Said status.Refused) = (why : Fault) × Prints what kind bytes (Err why) × Appends before after (refusal why)
 PrintsBytes what kind bytes before after (ended.Said status.Usage) = ⊥
 PrintsBytes what kind bytes before after (ended.Said status.Device) = ⊥
 PrintsBytes what kind bytes before after ended.LoaderFailed = ⊥

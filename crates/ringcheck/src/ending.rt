@@ -1,6 +1,7 @@
 //! Why a run ended, and what it says last.
 
-ghost use Rattle.std.specs.Prelude.{◌≡◌, ◌≢◌};
+ghost use Rattle.std.specs.Prelude.{◌≡◌, ◌≢◌, MatchResult};
+ghost use Rattle.std.specs.String.{string_bytes};
 ghost use Rattle.std.specs.Io.KnownBytes.{Appends};
 ghost use Rattle.ringcheck.specs.Endings.{status_after};
 
@@ -56,7 +57,9 @@ pub(crate) fn say_line<W: Write>(
     line: Result<String, AllocError>,
     ended: Ended,
 ) -> Ended
-    ensures { result ≢ Ended.WriterFailed → result ≢ Ended.OutOfMemory → result ≡ ended }
+    ensures ends { result ≢ Ended.WriterFailed → result ≢ Ended.OutOfMemory → result ≡ ended }
+    ensures tells { result ≢ Ended.WriterFailed → result ≢ Ended.OutOfMemory
+        → MatchResult line (λ text. Appends (W.contents out.old) (W.contents out.new) (string_bytes text)) (λ _. ⊥) }
 {
     match line {
         Ok(line) => say(out, line.as_str().as_bytes(), ended),

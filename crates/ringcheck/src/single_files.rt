@@ -53,13 +53,7 @@ fn text_of(alloc: Global, task: Task, kind: Kind, bytes: &[u8]) -> Result<Vec<u8
     }
 }
 
-fn print_bytes<W: Write>(
-    alloc: Global,
-    task: Task,
-    kind: Kind,
-    bytes: &[u8],
-    out: &mut W,
-) -> Ended
+fn print_bytes<W: Write>(alloc: Global, task: Task, kind: Kind, bytes: &[u8], out: &mut W) -> Ended
     ensures { PrintsBytes task kind bytes.now (W.contents out.old) (W.contents out.new) result }
 {
     match text_of(alloc, task, kind, bytes) {

@@ -959,11 +959,11 @@ fn want_of_memory_changes_no_answer(rt: HostRuntime) {
 }
 
 /// Whether a command on one file of this kind ends so and prints just this.
-fn prints_file<'x>(
+fn prints_file(
     alloc: Global,
-    command: &'x str,
-    kind: &'x str,
-    file: &'x str,
+    command: &'static str,
+    kind: &'static str,
+    file: &'static str,
     status: Status,
     text: &str,
 ) -> bool {
@@ -1021,7 +1021,10 @@ fn tables_are_shown(rt: HostRuntime) {
 ",
         ),
     ] {
-        assert!(rt; prints_file(rt.alloc(), "show", kind, file, Status::Pass, table), "{file}");
+        assert!(rt;
+            prints_file(rt.alloc(), "show", kind, file, Status::Pass, table),
+            "{file}"
+        );
     }
 }
 
@@ -1061,8 +1064,14 @@ M30
 ",
         ),
     ] {
-        assert!(rt; prints_file(rt.alloc(), "rewrite", kind, file, Status::Pass, text), "{file}");
-        assert!(rt; prints_file(rt.alloc(), "rewrite", kind, text, Status::Pass, text), "{text}");
+        assert!(rt;
+            prints_file(rt.alloc(), "rewrite", kind, file, Status::Pass, text),
+            "{file}"
+        );
+        assert!(rt;
+            prints_file(rt.alloc(), "rewrite", kind, text, Status::Pass, text),
+            "{text}"
+        );
     }
 }
 
@@ -1083,12 +1092,19 @@ M30
     for command in ["show", "rewrite"] {
         for (kind, file, text) in [
             ("layer", "M02*", "refused place=1 byte=0 reason=NoFormat\n"),
-            ("layer", bare, "refused place=6 byte=51 reason=BareCoordinate\n"),
+            (
+                "layer",
+                bare,
+                "refused place=6 byte=51 reason=BareCoordinate\n",
+            ),
             ("layer", "", "refused place=1 byte=0 reason=Truncated\n"),
             ("drill", routed, "refused place=9 byte=83 reason=Routed\n"),
             ("drill", LAYER, "refused place=1 byte=0 reason=OldFormat\n"),
         ] {
-            assert!(rt; prints_file(rt.alloc(), command, kind, file, Status::Refused, text), "{text}");
+            assert!(rt;
+                prints_file(rt.alloc(), command, kind, file, Status::Refused, text),
+                "{text}"
+            );
         }
     }
 }

@@ -6,7 +6,7 @@ use Rattle.ringcheck.proofs.packages.answer.Goals as goal
 
 pub returns-in-Err-File : goal.returns-in-Err-File
 returns-in-Err-File g c =
-    refused_file (map source_of c.args.files.now) c.args.rules _ _ (c.in-Err-File.index, c.in-Err-File.fault) c.say_line.result (rw c.in-Err-File.field-0-is at c.in-Err-File.ensures.exact) c.say_line.ensures
+    refused_file (map source_of c.args.files.now) c.args.rules _ _ (c.in-Err-File.index, c.in-Err-File.fault) c.say_line.result (rw c.in-Err-File.field-0-is at c.in-Err-File.ensures.exact) c.say_line.ensures.ends
 
 pub returns : goal.returns
 returns g c =
