@@ -1,17 +1,21 @@
 -- Lists that grow by one file or one hole at a time.
-use Rattle.std.proofs.Common.{◌≡◌, ◌<◌, ◌≤◌, ◌+◌, ◌++◌, ℕ, zero, suc, List, [], ◌∷◌, Ok, length, map, take, get_or, arith, refl, sym, ap, subst, ◌∙◌, Bool}
+use Rattle.std.proofs.Common.{◌≡◌, ◌<◌, ◌≤◌, ◌+◌, ◌++◌, ℕ, zero, suc, List, [], ◌∷◌, Ok, Err, Result, length, map, take, get_or, arith, refl, sym, ap, subst, ◌∙◌, Bool, true, false, Option}
 use Rattle.std.specs.List.{flat_map, enumerate_from}
 use Rattle.std.proofs.lemmas.List.{append-nil, take_more, map-append, length-map}
 use Rattle.grid_units.specs.Holes.{GridHole, GridRules}
+use Rattle.grid_units.specs.Results.{Answers}
+use Rattle.grid_units.specs.declared.fault.Fault.{Fault}
+use Rattle.grid_units.specs.declared.fault.Fail.{Fail}
+use Rattle.grid_units.specs.declared.fault.Fail.TheVariants as fails
 use Rattle.ring_rules.proofs.Listing.{flat_listed_more}
 use Rattle.package_check.specs.declared.File.{File}
 use Rattle.package_check.specs.declared.Numbered.{Numbered}
-use Rattle.std.specs.Prelude.{Option, None}
+use Rattle.std.specs.Prelude.{Option}
 use Rattle.grid_units.specs.Spans.{LayerSpan}
-use Rattle.manifest.specs.declared.Role.TheVariants as role
+use Rattle.manifest.specs.declared.Role.{Role}
 use Rattle.package_check.specs.declared.contents.Content.{Content}
 use Rattle.package_check.specs.Reports.{Account}
-use Rattle.package_check.specs.Package.{Source, Reads, AreRead, IsReport, layer_count, source_of, sources_of, file_holes, sum_of}
+use Rattle.package_check.specs.Package.{Source, Reads, ReadsUnless, is_bad_span, nameless, AreRead, IsReport, layer_count, source_of, sources_of, file_holes, sum_of}
 
 -- what one more element gives
 pub placed_more : {X Y : Type 0} (f : ℕ × X → List Y) (out ys : List Y) (xs : List X) (i : ℕ) (x : X) → i < length xs → x ≡ get_or xs i x → f (i, x) ≡ ys
@@ -55,27 +59,24 @@ read_more (s ∷ ss) [] source one h r = absurd h
 read_more (s ∷ ss) (c ∷ cs) source one h r = (h.0, read_more ss cs source one h.1 r)
 
 -- the files at hand, by their places
-pub source_at : (n : ℕ) (xs : List File) (i : ℕ) (d : File) (e : Source) → i < length xs → source_of n (get_or xs i d) ≡ get_or (map (source_of n) xs) i e
-source_at n [] i d e lt = absurd (omega arith)
-source_at n (x ∷ xs) zero d e lt = refl
-source_at n (x ∷ xs) (suc i) d e lt = source_at n xs i d e (omega arith)
+module _ {X : Type 0} (seen : X → Source) where
+  source_at : (xs : List X) (i : ℕ) (d : X) (e : Source) → i < length xs → seen (get_or xs i d) ≡ get_or (map seen xs) i e
+  source_at [] i d e lt = absurd (omega arith)
+  source_at (x ∷ xs) zero d e lt = refl
+  source_at (x ∷ xs) (suc i) d e lt = source_at xs i d e (omega arith)
 
-pub same_length : (n : ℕ) (xs : List File) → length (map (source_of n) xs) ≡ length xs
-same_length n [] = refl
-same_length n (x ∷ xs) = ap suc (same_length n xs)
+  pub same_length : (xs : List X) → length (map seen xs) ≡ length xs
+  same_length [] = refl
+  same_length (x ∷ xs) = ap suc (same_length xs)
 
--- what a read past the end of a list of files would give, as the check writes it
-abbrev pub nothing : File
-nothing = record { role = role.Copper; name = record { ref_ptr = (0, 0); now = [] }; span = None; bytes = record { ref_ptr = (0, 0); now = [] } }
-
-pub one_more_read : (n : ℕ) (xs : List File) (i : ℕ) (contents after : List Content) (one : Content) (x : File) → x ≡ get_or xs i x → i < length xs → AreRead (take i (map (source_of n) xs)) contents
-    → Reads (source_of n x) (Ok one) → after ≡ contents ++ one ∷ [] → AreRead (take (i + 1) (map (source_of n) xs)) after
-one_more_read n xs i contents after one x at lt was reads is =
-    let inside : i < length (map (source_of n) xs) = omega (arith, same_length n xs) in
-    let more = take_more (map (source_of n) xs) i (source_of n x) inside in
-    let here = source_at n xs i x (source_of n x) lt in
-    let there : Reads (source_of n (get_or xs i x)) (Ok one) = subst (λ (f : File). Reads (source_of n f) (Ok one)) at reads in
-    rw (is, more, ← here) (read_more (take i (map (source_of n) xs)) contents (source_of n (get_or xs i x)) one was there)
+  pub one_more_read : (xs : List X) (i : ℕ) (contents after : List Content) (one : Content) (x : X) → x ≡ get_or xs i x → i < length xs → AreRead (take i (map seen xs)) contents
+      → Reads (seen x) (Ok one) → after ≡ contents ++ one ∷ [] → AreRead (take (i + 1) (map seen xs)) after
+  one_more_read xs i contents after one x at lt was reads is =
+      let inside : i < length (map seen xs) = omega (arith, same_length xs) in
+      let more = take_more (map seen xs) i (seen x) inside in
+      let here = source_at xs i x (seen x) lt in
+      let there : Reads (seen (get_or xs i x)) (Ok one) = subst (λ (f : X). Reads (seen f) (Ok one)) at reads in
+      rw (is, more, ← here) (read_more (take i (map seen xs)) contents (seen (get_or xs i x)) one was there)
 
 read_length : (sources : List Source) (contents : List Content) → AreRead sources contents → length sources ≡ length contents
 read_length [] [] h = refl
@@ -86,4 +87,19 @@ read_length (s ∷ ss) (c ∷ cs) h = ap suc (read_length ss cs h.1)
 -- a report has a sum for each file
 pub sums_length : (files : List File) (rules : GridRules) (report : Account) → IsReport (sources_of files) rules report → length files ≡ length report.files
 sums_length files rules report h =
-    sym (same_length (layer_count files) files) ∙ read_length (sources_of files) h.contents h.read ∙ sym (length-map h.contents sum_of) ∙ ap (λ (r : Account). length r.files) (sym h.is)
+    sym (same_length (source_of (layer_count files)) files) ∙ read_length (sources_of files) h.contents h.read ∙ sym (length-map h.contents sum_of) ∙ ap (λ (r : Account). length r.files) (sym h.is)
+
+-- what one file says, the other says
+pub answers_alike : (s t : Source) (r : Result Content Fail) → ((answer : Result Content Fault) → Reads s answer → Reads t answer) → Answers {T = Content} (λ x. x) (Reads s) r → Answers {T = Content} (λ x. x) (Reads t) r
+answers_alike s t (Ok x) f h = f (Ok x) h
+answers_alike s t (Err fails.Memory) f h = tt
+answers_alike s t (Err (fails.Refused e)) f h = f (Err e) h
+
+-- what a file says does not depend on its name
+pub any_name : (q : Role) (name : List ℕ) (span : Option LayerSpan) (bytes : List ℕ) (n : ℕ) (answer : Result Content Fault) → Reads (nameless q span n bytes) answer
+    → Reads (record { role = q; name = name; span = span; bytes = bytes; layers = n }) answer
+any_name q name span bytes n answer h = by (is_bad_span q span n) h
+  where
+    by : (t : Bool) → ReadsUnless t (nameless q span n bytes) answer → ReadsUnless t (record { role = q; name = name; span = span; bytes = bytes; layers = n }) answer
+    by true k = k
+    by false k = k

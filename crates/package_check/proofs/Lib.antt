@@ -7,3 +7,4 @@ pub mod Once
 pub mod Answering
 pub mod Lining
 pub mod Rewritten
+pub mod Joining

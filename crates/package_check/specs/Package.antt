@@ -44,6 +44,10 @@ is_copper role.Unplated = false
 abbrev pub source_of : ℕ → File → Source
 source_of layers file = record { role = file.role; name = file.name.now; span = file.span; bytes = file.bytes.now; layers = layers }
 
+-- a file of this role, span and bytes in a package of so many copper files, whatever its name (docs/DEFINITIONS.md, Packages)
+abbrev pub nameless : Role → Option LayerSpan → ℕ → List ℕ → Source
+nameless role span layers bytes = record { role = role; name = []; span = span; bytes = bytes; layers = layers }
+
 -- how many of the files are copper (docs/DEFINITIONS.md, Packages)
 abbrev pub layer_count : List File → ℕ
 layer_count files = count_by (λ file. is_copper file.role) files

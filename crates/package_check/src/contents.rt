@@ -1,7 +1,8 @@
 // What the files of a package say, in order.
-ghost use Rattle.std.specs.Prelude.{◌≡◌, ◌++◌, IfOk, IfErr, OnOk, map};
+ghost use Rattle.std.specs.Prelude.{◌≡◌, ◌++◌, ◌∷◌, [], IfOk, IfErr, OnOk, map};
+ghost use Rattle.std.specs.List.{concat};
 ghost use Rattle.grid_units.specs.Results.{Answers};
-ghost use Rattle.package_check.specs.Package.{Reads, ReadsCopper, ReadsHoles, AreRead, IsRefused, is_bad_span, is_copper, layer_count, source_of, sources_of};
+ghost use Rattle.package_check.specs.Package.{Reads, ReadsCopper, ReadsHoles, AreRead, IsRefused, is_bad_span, is_copper, layer_count, nameless, source_of, sources_of};
 
 use crate::readers::{Drill, Layer, read_holes, read_image};
 use crate::{File, PackageFault, Role};
@@ -20,10 +21,10 @@ pub(crate) enum Content {
     },
 }
 
-fn read_copper(alloc: Global, bytes: &[u8]) -> Result<Content, Fail>
-    ensures { Answers (λ x. x) (ReadsCopper bytes.now) result }
+fn read_copper(alloc: Global, pieces: &[&[u8]]) -> Result<Content, Fail>
+    ensures { Answers (λ x. x) (ReadsCopper (concat (map (λ piece. piece.now) pieces.now))) result }
 {
-    let layer = read_image(alloc, bytes)?;
+    let layer = read_image(alloc, pieces)?;
     if layer.is_copper() {
         Ok(Content::Layer(layer))
     } else {
@@ -39,11 +40,11 @@ fn read_drilled(
     alloc: Global,
     plated: bool,
     span: Option<Span>,
-    bytes: &[u8],
+    pieces: &[&[u8]],
 ) -> Result<Content, Fail>
-    ensures { Answers (λ x. x) (ReadsHoles plated span bytes.now) result }
+    ensures { Answers (λ x. x) (ReadsHoles plated span (concat (map (λ piece. piece.now) pieces.now))) result }
 {
-    let drill = read_holes(alloc, bytes)?;
+    let drill = read_holes(alloc, pieces)?;
     Ok(Content::Drill {
         plated,
         span,
@@ -51,7 +52,7 @@ fn read_drilled(
     })
 }
 
-fn is_copper(role: Role) -> bool
+pub(crate) fn is_copper(role: Role) -> bool
     ensures { result ≡ is_copper role }
 {
     matches!(role, Role::Copper)
@@ -67,22 +68,34 @@ fn is_bad_span(role: Role, span: Option<Span>, layers: usize) -> bool
     }
 }
 
-/// What a file says, among so many copper files.
-fn read_file(alloc: Global, file: &File, layers: usize) -> Result<Content, Fail>
-    ensures { Answers (λ x. x) (Reads (source_of layers file.now)) result }
+/// What a file of this role and with this span says, among so many copper files. Its bytes come in pieces.
+pub(crate) fn read_file(
+    alloc: Global,
+    role: Role,
+    span: &Option<Span>,
+    layers: usize,
+    pieces: &[&[u8]],
+) -> Result<Content, Fail>
+    ensures { Answers (λ x. x) (Reads (nameless role span.now layers (concat (map (λ piece. piece.now) pieces.now)))) result }
 {
-    if is_bad_span(file.role, file.span, layers) {
+    if is_bad_span(role, *span, layers) {
         return Err(Fail::Refused(Fault {
             place: 0,
             byte: 0,
             reason: Reason::BadSpan,
         }));
     }
-    match file.role {
-        Role::Copper => read_copper(alloc, file.bytes),
-        Role::Plated => read_drilled(alloc, true, file.span, file.bytes),
-        Role::Unplated => read_drilled(alloc, false, file.span, file.bytes),
+    match role {
+        Role::Copper => read_copper(alloc, pieces),
+        Role::Plated => read_drilled(alloc, true, *span, pieces),
+        Role::Unplated => read_drilled(alloc, false, *span, pieces),
     }
+}
+
+fn read_whole(alloc: Global, file: &File, layers: usize) -> Result<Content, Fail>
+    ensures { Answers (λ x. x) (Reads (source_of layers file.now)) result }
+{
+    read_file(alloc, file.role, &file.span, layers, &[file.bytes])
 }
 
 fn layer_count(files: &[File]) -> usize
@@ -106,7 +119,7 @@ fn read_all(alloc: Global, files: &[File], layers: usize) -> Result<Vec<Content>
 {
     let mut contents = Vec::new(alloc);
     for (index, file) in files.iter().enumerate() {
-        match read_file(alloc, file, layers) {
+        match read_whole(alloc, file, layers) {
             Ok(content) => {
                 if contents.push(content).is_err() {
                     return Err(PackageFault::Memory);

@@ -4,6 +4,7 @@
 mod contents;
 pub mod laws;
 mod package;
+mod pieces;
 mod printing;
 mod readers;
 mod report;
@@ -11,6 +12,7 @@ mod report;
 use grid_units::Fault;
 pub use manifest::Role;
 pub use package::check_bytes;
+pub use pieces::check_pieces;
 pub use printing::write_report;
 pub use report::Report;
 use ring_rules::Drilled;
@@ -24,6 +26,16 @@ pub struct File<'a> {
     /// The layers that a drill file's holes go through: all where there is no span.
     pub span: Option<Span>,
     pub bytes: &'a [u8],
+}
+
+/// A file of a package whose bytes come in pieces.
+#[derive(Clone, Copy)]
+pub struct PiecedFile<'a> {
+    pub role: Role,
+    pub name: &'a str,
+    /// The layers that a drill file's holes go through: all where there is no span.
+    pub span: Option<Span>,
+    pub pieces: &'a [&'a [u8]],
 }
 
 /// Why there is no report: want of memory, or a file that is refused.

@@ -22,8 +22,9 @@ fn report_of(alloc: Global, files: &[File], rules: Rules) -> Result<Report, Pack
     }
 }
 
-/// The report on the files. Where it has no finding, each plated round hole lies with its ring in one flashed pad of each
-/// copper layer, and no points of two holes are nearer than the gap.
+/// The report on the files. Where it has no finding, each plated round hole, and each plated slot along an axis, lies with
+/// its ring in one flashed pad of each copper layer of its file's span; no plated slot through a copper layer is oblique;
+/// and no points of two holes are nearer than the gap.
 ///
 /// # Errors
 ///

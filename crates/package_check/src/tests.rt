@@ -1,4 +1,4 @@
-use crate::{File, PackageFault, Role, Span, check_bytes, write_report};
+use crate::{File, PackageFault, PiecedFile, Role, Span, check_bytes, check_pieces, write_report};
 use grid_units::{Fault, Reason, Rules};
 use std::alloc::Global;
 use std::test::Fail as Failure;
@@ -60,10 +60,66 @@ fn told(alloc: Global, files: &[File]) -> Option<Vec<u8>> {
     }
 }
 
+/// The text's bytes one by one, with an empty piece behind each.
+fn in_bytes<'a>(alloc: Global, text: &'a [u8]) -> Option<Vec<&'a [u8]>> {
+    let mut pieces = Vec::new(alloc);
+    for piece in text.chunks(1) {
+        pieces.push(piece).ok()?;
+        pieces.push(&text[..0]).ok()?;
+    }
+    Some(pieces)
+}
+
+/// The text of the report on a layer and a plated drill file in such pieces, under the same rules.
+fn told_in_bytes<'a>(alloc: Global, top: &'a [u8], pth: &'a [u8]) -> Option<Vec<u8>> {
+    let rules = Rules::new(125_000_000, 250_000_000).ok()?;
+    let (top_pieces, pth_pieces) = (in_bytes(alloc, top)?, in_bytes(alloc, pth)?);
+    let files = [
+        PiecedFile {
+            role: Role::Copper,
+            name: "top",
+            span: None,
+            pieces: &top_pieces,
+        },
+        PiecedFile {
+            role: Role::Plated,
+            name: "pth",
+            span: None,
+            pieces: &pth_pieces,
+        },
+    ];
+    let report = check_pieces(alloc, &files, rules).ok()?;
+    let named = [layer("top", top), drill(Role::Plated, None, pth)];
+    if report.files().len() == named.len() {
+        write_report(alloc, &named, &report).ok()
+    } else {
+        None
+    }
+}
+
 /// What refuses the files, under the same rules.
 fn refused(alloc: Global, files: &[File]) -> Option<PackageFault> {
     let rules = Rules::new(125_000_000, 250_000_000).ok()?;
     check_bytes(alloc, files, rules).err()
+}
+
+#[test]
+fn pieces_give_the_report_of_the_whole(rt: HostRuntime) -> Result<(), Failure> {
+    let wanted = format!(in rt.alloc();
+        "{RULES}file 1 layer pads=1 other=0 name=top\nfile 2 drill plated=yes round=1 slots=0 name=pth\nPASS\n"
+    )?;
+    let files = [layer("top", LAYER), drill(Role::Plated, None, DRILL)];
+    assert_eq!(rt;
+        told(rt.alloc(), &files).ok_or("no report")?.as_slice(),
+        wanted.as_bytes()
+    );
+    assert_eq!(rt;
+        told_in_bytes(rt.alloc(), LAYER, DRILL)
+            .ok_or("no report")?
+            .as_slice(),
+        wanted.as_bytes()
+    );
+    Ok(())
 }
 
 #[test]
