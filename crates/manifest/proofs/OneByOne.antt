@@ -1,5 +1,5 @@
 -- One record after another.
-use Rattle.std.proofs.Common.{◌≡◌, ◌∙◌, ◌<◌, ◌≤◌, ◌+◌, ◌++◌, ℕ, zero, suc, List, [], ◌∷◌, Option, Some, None, Ok, Err, length, map, take, drop, get_or, slice_get, arith, refl, ap, sym}
+use Rattle.std.proofs.Common.{◌≡◌, ◌∙◌, ◌<◌, ◌≤◌, ◌+◌, ◌++◌, ℕ, zero, suc, Bool, List, [], ◌∷◌, Option, Some, None, Ok, Err, length, map, take, drop, get_or, slice_get, arith, refl, ap, sym}
 use Rattle.std.proofs.lemmas.List.{map-append}
 use Rattle.std.specs.Prelude.{Vec}
 use Rattle.std.specs.declared.alloc.Global.{Global}
@@ -12,7 +12,7 @@ use Rattle.grid_units.specs.declared.fault.Fault.{Fault}
 use Rattle.grid_units.specs.declared.fault.Fail.{Fail}
 use Rattle.grid_units.specs.declared.fault.Fail.TheVariants as fails
 use Rattle.manifest.specs.declared.Entry.{Entry}
-use Rattle.manifest.specs.Manifest.{Row, broken_behind, broken_rule, entries_of, entry_of, unless_wrong, wrong_together}
+use Rattle.manifest.specs.Manifest.{Row, broken_behind, broken_rule, entries_of, entry_of, field, is_repeated, unless_wrong, wrong_together}
 use Rattle.manifest.specs.OneRecord.{judged, unless_broken}
 
 broken : (o : Option Reason) (given : Entry) (place : ℕ) (f : Fault) → Err f ≡ at place 0 (unless_broken o given) → (why : Reason) × (o ≡ Some why) × (f ≡ fault place 0 why)
@@ -20,8 +20,8 @@ broken None given place f e = absurd cc
 broken (Some why) given place f e = (why, refl, cc)
 
 -- a record that gives an entry breaks no rule
-accepted : (width : ℕ) (earlier : List Entry) (row : Row) (entry : Entry) (place : ℕ) → Ok entry ≡ at place 0 (judged width earlier row) → (broken_rule width earlier row ≡ None) × (entry ≡ entry_of row)
-accepted width earlier row entry place e = by (broken_rule width earlier row) e
+accepted : (width : ℕ) (repeated : Bool) (row : Row) (entry : Entry) (place : ℕ) → Ok entry ≡ at place 0 (judged width repeated row) → (broken_rule width repeated row ≡ None) × (entry ≡ entry_of row)
+accepted width repeated row entry place e = by (broken_rule width repeated row) e
   where
     by : (o : Option Reason) → Ok entry ≡ at place 0 (unless_broken o (entry_of row)) → (o ≡ None) × (entry ≡ entry_of row)
     by None h = (refl, cc)
@@ -61,21 +61,22 @@ module _ (width : ℕ) where
       (breaks-first (broken_behind width) before rest row why none is)
 
   -- a record that is refused behind lawful ones, as a failure
-  pub refused : (before rest : List Row) (row : Row) (all : List Row) (earlier : List Entry) (i : ℕ) (e : Fail) → all ≡ before ++ row ∷ rest → i ≡ length before → earlier ≡ map entry_of before
-      → breaks (broken_behind width) before ≡ [] → Answers (λ (x : Entry). x) (λ answer. answer ≡ at (i + 2) 0 (judged width earlier row)) (Err e)
+  pub refused : (before rest : List Row) (row : Row) (all : List Row) (repeated : Bool) (i : ℕ) (e : Fail) → all ≡ before ++ row ∷ rest → i ≡ length before → repeated ≡ is_repeated (field 1 row) (map entry_of before)
+      → breaks (broken_behind width) before ≡ [] → Answers (λ (x : Entry). x) (λ answer. answer ≡ at (i + 2) 0 (judged width repeated row)) (Err e)
       → Answers {T = Vec Entry Global} (λ entries. entries.items) (λ answer. answer ≡ entries_of width all) (Err e)
-  refused before rest row all earlier i fails.Memory split place are none h = tt
-  refused before rest row all earlier i (fails.Refused f) split place are none h =
-      let (why, is, same) = broken (broken_rule width earlier row) (entry_of row) (i + 2) f h in
-      let rule : broken_behind width before row ≡ Some why = ap (λ (l : List Entry). broken_rule width l row) (sym are) ∙ is in
+  refused before rest row all repeated i fails.Memory split place was none h = tt
+  refused before rest row all repeated i (fails.Refused f) split place was none h =
+      let (why, is, same) = broken (broken_rule width repeated row) (entry_of row) (i + 2) f h in
+      let rule : broken_behind width before row ≡ Some why = ap (λ (b : Bool). broken_rule width b row) (sym was) ∙ is in
       ap (λ (g : Fault). Err g) (same ∙ ap (λ (n : ℕ). fault (n + 2) 0 why) place) ∙ sym (refused_at before rest row why none rule) ∙ ap (entries_of width) (sym split)
 
   -- a record that is accepted behind lawful ones
-  pub accepted_more : (before : List Row) (row : Row) (after : List Row) (earlier items : List Entry) (entry : Entry) (place : ℕ) → after ≡ before ++ row ∷ [] → earlier ≡ map entry_of before
-      → items ≡ earlier ++ entry ∷ [] → breaks (broken_behind width) before ≡ [] → Ok entry ≡ at place 0 (judged width earlier row) → (items ≡ map entry_of after) × (breaks (broken_behind width) after ≡ [])
-  accepted_more before row after earlier items entry place grown are more none e =
-      let (lawful, is) = accepted width earlier row entry place e in
-      let rule : broken_behind width before row ≡ None = ap (λ (l : List Entry). broken_rule width l row) (sym are) ∙ lawful in
+  pub accepted_more : (before : List Row) (row : Row) (after : List Row) (repeated : Bool) (earlier items : List Entry) (entry : Entry) (place : ℕ) → after ≡ before ++ row ∷ [] → repeated ≡ is_repeated (field 1 row) (map entry_of before)
+      → earlier ≡ map entry_of before → items ≡ earlier ++ entry ∷ [] → breaks (broken_behind width) before ≡ [] → Ok entry ≡ at place 0 (judged width repeated row)
+      → (items ≡ map entry_of after) × (breaks (broken_behind width) after ≡ [])
+  accepted_more before row after repeated earlier items entry place grown was are more none e =
+      let (lawful, is) = accepted width repeated row entry place e in
+      let rule : broken_behind width before row ≡ None = ap (λ (b : Bool). broken_rule width b row) (sym was) ∙ lawful in
       let all : items ≡ map entry_of (before ++ row ∷ []) = more ∙ (λ k. are k ++ is k ∷ []) ∙ sym (map-append entry_of before (row ∷ [])) in
       (all ∙ ap (map entry_of) (sym grown), ap (breaks (broken_behind width)) grown ∙ breaks-more (broken_behind width) before row none rule)
 

@@ -104,13 +104,13 @@ is_bad_span role first last = not (are_empty first last) && (is_layer role || no
 abbrev pub is_repeated : List ℕ → List Entry → Bool
 is_repeated name earlier = list_any (λ entry. bytes_eq entry.name name) earlier
 
--- the first rule that a file's record breaks, behind the files before it (docs/FORMATS.md, Judging)
-abbrev pub broken_rule : ℕ → List Entry → Row → Option Reason
-broken_rule width earlier row =
+-- the first rule that a file's record breaks, where each has so many fields and its name is repeated or not (docs/FORMATS.md, Judging)
+abbrev pub broken_rule : ℕ → Bool → Row → Option Reason
+broken_rule width repeated row =
     if not (is_well_formed width row) then Some BadManifest
     else (if not (is_some (role_named (field 0 row))) then Some BadRole
     else (if (length (field 1 row) == 0) || (length (field 2 row) == 0) then Some EmptyName
-    else (if is_repeated (field 1 row) earlier then Some RepeatedName
+    else (if repeated then Some RepeatedName
     else (if is_bad_span (entry_of row).role (field 3 row) (field 4 row) then Some BadSpan else None))))
 
 -- ---- all records
@@ -140,7 +140,7 @@ wrong_together entries = option_or (option_map (λ why. (length entries, why)) (
 
 -- the first rule that a record breaks behind the records of files before it (docs/FORMATS.md, Judging)
 abbrev pub broken_behind : ℕ → List Row → Row → Option Reason
-broken_behind width before row = broken_rule width (map entry_of before) row
+broken_behind width before row = broken_rule width (is_repeated (field 1 row) (map entry_of before)) row
 
 -- What is wrong with the records of files, counted from 0: the first record that breaks a rule, or else what is wrong with the
 -- files together (docs/FORMATS.md, Judging).

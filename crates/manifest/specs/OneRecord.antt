@@ -1,5 +1,5 @@
 -- What one record gives: words between the public ones and those of a single rule.
-use Rattle.std.specs.Prelude.{ℕ, List, Option, Some, None, Result, Ok, Err, if◌then◌else◌}
+use Rattle.std.specs.Prelude.{ℕ, Bool, List, Option, Some, None, Result, Ok, Err, if◌then◌else◌}
 use Rattle.grid_units.specs.Numbers.{value}
 use Rattle.grid_units.specs.Spans.{LayerSpan}
 use Rattle.grid_units.specs.declared.fault.Reason.{Reason}
@@ -25,6 +25,6 @@ abbrev pub unless_broken : Option Reason → Entry → Result Entry Reason
 unless_broken None entry = Ok entry
 unless_broken (Some why) entry = Err why
 
--- what a file's record gives behind the files before it (docs/FORMATS.md, Judging)
-abbrev pub judged : ℕ → List Entry → Row → Result Entry Reason
-judged width earlier row = unless_broken (broken_rule width earlier row) (entry_of row)
+-- what a file's record gives, where its name is repeated or not (docs/FORMATS.md, Judging)
+abbrev pub judged : ℕ → Bool → Row → Result Entry Reason
+judged width repeated row = unless_broken (broken_rule width repeated row) (entry_of row)

@@ -16,6 +16,7 @@ use csv::ByteRecord;
 use grid_units::numbers::{capped_value, is_digits};
 use grid_units::{Fail, Fault, Reason, Span};
 use std::alloc::Global;
+use std::collections::BTreeSet;
 use std::str;
 
 /// The files that the records name.
@@ -36,9 +37,11 @@ fn entries_of(alloc: Global, width: usize, files: &[ByteRecord]) -> Result<Vec<E
     requires { width ≤ 5 }
     ensures { Answers (λ entries. entries.items) (λ answer. answer ≡ naming.entries_of width (map fields_of files.now)) result }
 {
+    let mut names = BTreeSet::new(alloc);
     let mut entries = Vec::new(alloc);
     for (i, row) in files.iter().enumerate() {
-        let entry = entry_named(alloc, i as u64 + 2, width, row, entries.as_slice())?;
+        let is_new = names.insert(name_of(row))?;
+        let entry = entry_named(alloc, i as u64 + 2, width, !is_new, row)?;
         entries.push(entry)?;
     }
     match wrong_together(entries.as_slice()) {
@@ -58,16 +61,26 @@ fn refused(place: u64, reason: Reason) -> Fail
     })
 }
 
-/// The file that a record names, behind the files before it.
+/// The name of a record's file, empty where the record has none.
+fn name_of(row: &ByteRecord) -> &[u8]
+    ensures { result.now ≡ field 1 (fields_of row.now) }
+{
+    match row.get(1) {
+        Some(name) => name,
+        None => &[],
+    }
+}
+
+/// The file that a record names, where a file before it has the same name or not.
 fn entry_named(
     alloc: Global,
     place: u64,
     width: usize,
+    repeated: bool,
     row: &ByteRecord,
-    earlier: &[Entry],
 ) -> Result<Entry, Fail>
     requires { width ≤ 5 }
-    ensures { Answers (λ entry. entry) (λ answer. answer ≡ at place 0 (judged width earlier.now (fields_of row.now))) result }
+    ensures { Answers (λ entry. entry) (λ answer. answer ≡ at place 0 (judged width repeated (fields_of row.now))) result }
 {
     let Some(fields) = text_fields(row, width) else {
         return Err(refused(place, Reason::BadManifest));
@@ -78,7 +91,7 @@ fn entry_named(
     if fields.name.is_empty() || fields.file.is_empty() {
         return Err(refused(place, Reason::EmptyName));
     }
-    if is_repeated(fields.name, earlier) {
+    if repeated {
         return Err(refused(place, Reason::RepeatedName));
     }
     let Ok(span) = span_of(role, fields.first, fields.last) else {
@@ -196,13 +209,6 @@ fn role_named(word: &str) -> Option<Role>
         "unplated" => Some(Role::Unplated),
         _ => None,
     }
-}
-
-/// Whether a file before has this name.
-fn is_repeated(name: &str, earlier: &[Entry]) -> bool
-    ensures { result ≡ naming.is_repeated name.now earlier.now }
-{
-    earlier.iter().any(|entry| entry.name.as_str() == name)
 }
 
 /// The span that two fields of a file of this role name: none where both are empty.

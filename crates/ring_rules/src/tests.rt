@@ -7,7 +7,7 @@ ghost use Rattle.pad_shapes.specs.ShapeLaws.{disc_holds, disc_holds_slots, disc_
 use super::*;
 use grid_units::{Hole, Point, Rules};
 use pad_shapes::{Disc, Obround, Pad, PadShape, Rect};
-use std::alloc::Global;
+use std::alloc::{AllocError, Global};
 use std::cell::Cell;
 use std::rc::Rc;
 use std::test::Fail;
@@ -292,22 +292,43 @@ fn counted_discs(alloc: Global, calls: &Rc<Cell<u64>>) -> Result<Vec<Counted>, F
     Ok(pads)
 }
 
-/// A hole at each centre, in falling order of x and then of y.
-fn centres(alloc: Global) -> Result<Vec<Drilled>, Fail> {
+/// A plated hole of 0.4 mm at each of these points.
+fn plated_at(alloc: Global, centres: &[Point]) -> Result<Vec<Drilled>, Fail> {
     let mut holes = Vec::new(alloc);
-    for column in (0..100u8).rev() {
-        for row in (0..100u8).rev() {
-            holes.push(round(i64::from(column) * MM, i64::from(row) * MM, 200_000_000)?)?;
-        }
+    for centre in centres {
+        let hole = Hole::new(*centre, *centre, 200_000_000).ok_or("hole")?;
+        add_hole(&mut holes, hole, None)?;
     }
     Ok(holes)
+}
+
+/// Appends a plated hole.
+fn add_hole(holes: &mut Vec<Drilled>, hole: Hole, span: Option<Span>) -> Result<(), AllocError> {
+    holes.push(Drilled {
+        hole,
+        plated: true,
+        span,
+    })?;
+    Ok(())
+}
+
+/// The centres of the discs, in falling order of x and then of y.
+fn centres(alloc: Global) -> Result<Vec<Point>, Fail> {
+    let mut centres = Vec::new(alloc);
+    for column in (0..100u8).rev() {
+        for row in (0..100u8).rev() {
+            let at = Point::new(i64::from(column) * MM, i64::from(row) * MM).ok_or("point")?;
+            centres.push(at)?;
+        }
+    }
+    Ok(centres)
 }
 
 #[test]
 fn a_sweep_asks_few_pads(rt: HostRuntime) -> Result<(), Fail> {
     let calls = Rc::new(rt.alloc(), Cell::new(0))?;
     let pads = counted_discs(rt.alloc(), &calls)?;
-    let holes = centres(rt.alloc())?;
+    let holes = plated_at(rt.alloc(), &centres(rt.alloc())?)?;
     let found = ring_findings(rt.alloc(), &[pads.as_slice()], &holes, usual_rules()?)?;
     assert_eq!(rt; found.len(), 0);
     assert!(rt; calls.get() <= 1_000_000);
@@ -316,9 +337,11 @@ fn a_sweep_asks_few_pads(rt: HostRuntime) -> Result<(), Fail> {
 
 #[test]
 fn a_hole_drilled_twice_is_two_holes(rt: HostRuntime) -> Result<(), Fail> {
-    let mut holes = centres(rt.alloc())?;
+    let mut centres = centres(rt.alloc())?;
+    let holes = plated_at(rt.alloc(), &centres)?;
     assert_eq!(rt; gap_findings(rt.alloc(), &holes, usual_rules()?)?.len(), 0);
-    holes.push(round(0, 0, 200_000_000)?)?;
+    centres.push(Point::new(0, 0).ok_or("point")?)?;
+    let holes = plated_at(rt.alloc(), &centres)?;
     let found = gap_findings(rt.alloc(), &holes, usual_rules()?)?;
     let wanted = [Finding::Gap {
         first: 9_999,
@@ -370,6 +393,64 @@ fn oblique_slots_stand_among_rings_by_layer_and_hole(rt: HostRuntime) -> Result<
         Finding::Ring { layer: 0, hole: 2 },
         Finding::Oblique { layer: 1, hole: 1 },
     ];
+    assert_eq!(rt; found.as_slice(), wanted.as_slice());
+    Ok(())
+}
+
+#[test]
+fn an_oblique_slot_is_found_where_it_is_plated(rt: HostRuntime) -> Result<(), Fail> {
+    let oblique = slot((0, 5 * MM), (2 * MM, 6 * MM), 250_000_000)?;
+    let pads = [rect(0, 0, 50 * MM, 50 * MM)?];
+    let found = ring_findings(rt.alloc(), &[pads.as_slice()], &[oblique], usual_rules()?)?;
+    let wanted = [Finding::Oblique { layer: 0, hole: 0 }];
+    assert_eq!(rt; found.as_slice(), wanted.as_slice());
+    let bare = Drilled {
+        plated: false,
+        ..oblique
+    };
+    let found = ring_findings(rt.alloc(), &[pads.as_slice()], &[bare], usual_rules()?)?;
+    assert_eq!(rt; found.len(), 0);
+    Ok(())
+}
+
+/// The findings of rings of a hole of 0.4 mm through these layers of two, of which the first alone holds it.
+fn rings_through(alloc: Global, span: Option<Span>) -> Result<Vec<Finding>, Fail> {
+    let top = [disc(0, 0, 325_000_000)?];
+    let bottom = [disc(1_000, 0, 325_000_000)?];
+    let hole = Drilled {
+        span,
+        ..round(0, 0, 200_000_000)?
+    };
+    let layers = [top.as_slice(), bottom.as_slice()];
+    Ok(ring_findings(alloc, &layers, &[hole], usual_rules()?)?)
+}
+
+#[test]
+fn a_span_names_the_layers_that_need_a_ring(rt: HostRuntime) -> Result<(), Fail> {
+    assert_eq!(rt; rings_through(rt.alloc(), Span::new(1, 1))?.len(), 0);
+    let wanted = [Finding::Ring { layer: 1, hole: 0 }];
+    let found = rings_through(rt.alloc(), Span::new(1, 2))?;
+    assert_eq!(rt; found.as_slice(), wanted.as_slice());
+    let found = rings_through(rt.alloc(), None)?;
+    assert_eq!(rt; found.as_slice(), wanted.as_slice());
+    Ok(())
+}
+
+#[test]
+fn a_span_changes_no_gap(rt: HostRuntime) -> Result<(), Fail> {
+    let upper = Drilled {
+        span: Span::new(1, 2),
+        ..round(0, 0, 200_000_000)?
+    };
+    let lower = Drilled {
+        span: Span::new(3, 4),
+        ..round(100_000_000, 0, 200_000_000)?
+    };
+    let found = gap_findings(rt.alloc(), &[upper, lower], usual_rules()?)?;
+    let wanted = [Finding::Gap {
+        first: 0,
+        second: 1,
+    }];
     assert_eq!(rt; found.as_slice(), wanted.as_slice());
     Ok(())
 }

@@ -1,7 +1,6 @@
 use Rattle.std.proofs.Common.{◌≡◌, arith, true}
 use Rattle.std.proofs.lemmas.Grind.{common_steps}
-use Rattle.csv.specs.Records.{fields_of}
-use Rattle.manifest.specs.Manifest.{field, is_bad_span}
+use Rattle.manifest.specs.Manifest.{is_bad_span}
 use Rattle.manifest.proofs.SpanFields.{bad_span}
 use Rattle.manifest.proofs.judging.entry_named.Goals as goal
 

@@ -1,4 +1,4 @@
-use Rattle.std.proofs.Common.{◌≡◌, ◌∙◌, ap, min, arith, sym, true}
+use Rattle.std.proofs.Common.{◌≡◌, ◌∙◌, ap, min, sym, true}
 use Rattle.grid_units.specs.Numbers.{is_digits, value}
 use Rattle.manifest.proofs.SpanFields.{layer_number_is}
 use Rattle.manifest.proofs.judging.layer_number.Goals as goal

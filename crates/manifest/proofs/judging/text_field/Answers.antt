@@ -1,6 +1,6 @@
-use Rattle.std.proofs.Common.{◌≡◌, sym, ap, ◌∙◌, true, List, ℕ}
+use Rattle.std.proofs.Common.{sym, ap, ◌∙◌}
 use Rattle.csv.specs.Records.{fields_of}
-use Rattle.manifest.specs.Manifest.{field, is_plain_text}
+use Rattle.manifest.specs.Manifest.{is_plain_text}
 use Rattle.manifest.proofs.Fields.{empty_plain, field_is, no_field}
 use Rattle.manifest.proofs.judging.text_field.Goals as goal
 

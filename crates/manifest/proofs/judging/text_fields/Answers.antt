@@ -1,6 +1,5 @@
-use Rattle.std.proofs.Common.{◌≡◌, ◌∙◌, sym, length, arith, false}
+use Rattle.std.proofs.Common.{◌∙◌, sym}
 use Rattle.csv.specs.Records.{fields_of}
-use Rattle.manifest.specs.Manifest.{is_well_formed}
 use Rattle.manifest.proofs.Fields.{ill_formed, well_formed}
 use Rattle.manifest.proofs.judging.text_fields.Goals as goal
 
