@@ -4,10 +4,7 @@ use Rattle.std.specs.List.{take_while}
 use Rattle.std.specs.Str.{bytes_eq}
 use Rattle.grid_units.specs.Holes.{GridHole}
 use Rattle.grid_units.specs.declared.fault.Fault.{Fault}
-use Rattle.drill_lines.specs.declared.command.DrillCommand.{DrillCommand}
-use Rattle.drill_text.specs.Holes.{holes_of}
-use Rattle.drill_text.specs.Reading as drills
-use Rattle.drill_text.specs.Texts.{IsDrillText}
+use Rattle.drill_text.specs.Texts as drills
 use Rattle.layer_image.specs.Flashes.{others_in}
 use Rattle.layer_image.specs.Layers as layers
 use Rattle.layer_image.specs.Layers.{LayerImage}
@@ -33,5 +30,4 @@ ReadsLayer bytes (Err fault) = layers.ReadsLayer bytes (Err fault)
 
 -- the bytes are a drill text of commands that drill these holes, or they have this fault (docs/DEFINITIONS.md, Packages)
 abbrev pub ReadsDrill : List ℕ → Result (List GridHole) Fault → Type 0
-ReadsDrill bytes (Ok holes) = (commands : List DrillCommand) × IsDrillText bytes commands × (holes ≡ holes_of commands)
-ReadsDrill bytes (Err fault) = drills.Reads bytes (Err fault)
+ReadsDrill bytes answer = drills.ReadsHoles bytes answer

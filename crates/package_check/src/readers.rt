@@ -3,13 +3,11 @@
 ghost use Rattle.std.specs.Prelude.{◌≡◌, ◌≤◌, ◌++◌, ◌==◌, not, ℕ, List, Err, IfErr, IfOk, OnOk, length, map};
 ghost use Rattle.std.specs.List.{concat, prefix_len, take_while};
 ghost use Rattle.grid_units.specs.Results.{Answers, Tells};
-ghost use Rattle.drill_text.specs.Outcome.{commands_in, file_of};
-ghost use Rattle.drill_text.specs.Reading as drills;
 ghost use Rattle.layer_image.specs.Standing.{ReadsSum, ShowsLayerFault, SumStandsAfter, sum_view};
 ghost use Rattle.package_check.specs.Readers.{ReadsLayer, ReadsDrill, is_copper_function};
 
-use drill_text::DrillReader;
-use drill_text::laws::drill_texts;
+use drill_text::HolesReader;
+use drill_text::laws::faults_stay;
 use grid_units::{Fail, Hole, Text};
 use layer_image::{LayerSum, SumReader, shown_faults};
 use pad_shapes::Pad;
@@ -151,12 +149,12 @@ pub(crate) fn read_image(alloc: Global, pieces: &[&[u8]]) -> Result<Layer, Fail>
     })
 }
 
-/// The drill file whose text comes in these pieces.
-fn read_pieces(alloc: Global, pieces: &[&[u8]]) -> Result<drill_text::Drill, Fail>
-    ensures exact { Answers commands_in (drills.Reads (concat (map (λ piece. piece.now) pieces.now))) result }
-    ensures file { IfOk result (λ drill. drill ≡ file_of drill.commands) }
+/// The holes of the drill file whose text comes in these pieces.
+fn read_drill(alloc: Global, pieces: &[&[u8]]) -> Result<Vec<Hole>, Fail>
+    ensures { Answers (λ holes. holes.items) (ReadsDrill (concat (map (λ piece. piece.now) pieces.now))) result }
 {
-    let mut reader = DrillReader::new(alloc);
+    faults_stay();
+    let mut reader = HolesReader::new(alloc);
     for piece in pieces {
         reader.feed(piece)?;
     }
@@ -167,8 +165,6 @@ fn read_pieces(alloc: Global, pieces: &[&[u8]]) -> Result<drill_text::Drill, Fai
 pub(crate) fn read_holes(alloc: Global, pieces: &[&[u8]]) -> Result<Drill, Fail>
     ensures { Answers (λ x. x) (ReadsDrill (concat (map (λ piece. piece.now) pieces.now))) result }
 {
-    drill_texts();
-    let drill = read_pieces(alloc, pieces)?;
-    let holes = Vec::from_slice(alloc, drill.holes())?;
+    let holes = read_drill(alloc, pieces)?;
     Ok(Drill { holes })
 }
