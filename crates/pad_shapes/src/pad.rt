@@ -8,6 +8,7 @@ use crate::disc::Disc;
 use crate::obround::Obround;
 use crate::rect::Rect;
 use crate::shape::PadShape;
+use crate::zone::Zone;
 use grid_units::Point;
 
 /// A flashed pad.
@@ -59,6 +60,22 @@ impl PadShape for Pad {
             Pad::Disc(disc) => disc.right(),
             Pad::Rect(rect) => rect.right(),
             Pad::Obround(obround) => obround.right(),
+        }
+    }
+
+    fn zone(&self, reach: u64) -> Option<Zone> {
+        match self {
+            Pad::Disc(disc) => disc.zone(reach),
+            Pad::Rect(rect) => rect.zone(reach),
+            Pad::Obround(obround) => obround.zone(reach),
+        }
+    }
+
+    fn may_cover(&self, zone: &Zone, reach: u64) -> bool {
+        match self {
+            Pad::Disc(disc) => disc.may_cover(zone, reach),
+            Pad::Rect(rect) => rect.may_cover(zone, reach),
+            Pad::Obround(obround) => obround.may_cover(zone, reach),
         }
     }
 }

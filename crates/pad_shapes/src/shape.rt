@@ -1,9 +1,11 @@
 //! What every shape of a pad tells.
 
-ghost use Rattle.std.specs.Prelude.{◌≡◌, ℕ, ℤ, Bool, ◌↔◌, IsTrue, unsigned_abs};
+ghost use Rattle.std.specs.Prelude.{◌≡◌, ◌≤◌, ℕ, ℤ, Bool, false, ◌↔◌, IsTrue, IfSome, unsigned_abs};
 ghost use Rattle.grid_units.specs.Points.{GridPoint};
 ghost use Rattle.pad_shapes.specs.Shapes.{IsHalfSide, IsReach, IsAlongAxis, covers_ends, HoldsWhatItCovers, HoldsSlots, CoversBetween, HasExtent};
+ghost use Rattle.pad_shapes.specs.Zones.{BoundsCentres, CoversNone};
 
+use crate::zone::Zone;
 use grid_units::Point;
 
 /// The largest radius of a pad and the largest half of a side, in pm: five metres.
@@ -53,6 +55,21 @@ pub trait PadShape {
     /// The greatest x of its points, in pm.
     fn right(&self) -> i64
         ensures { result ≡ right self.now };
+
+    /// A zone of the centres that it covers with this reach or a greater one, if it tells any.
+    fn zone(&self, reach: u64) -> Option<Zone>
+        requires { reach ≤ 20000000000000 }
+        ensures { IfSome result (BoundsCentres covers self.now reach) }
+    {
+        None
+    }
+
+    /// Whether it may cover a centre of the zone with this reach or a greater one. `true` says nothing.
+    fn may_cover(&self, zone: &Zone, reach: u64) -> bool
+        ensures { result ≡ false → CoversNone covers self.now reach zone.now }
+    {
+        true
+    }
 
     /// Each point within the reach of a covered centre is a point of it.
     ghost holds: { HoldsWhatItCovers points covers };

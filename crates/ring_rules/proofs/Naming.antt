@@ -8,8 +8,8 @@ use Rattle.ring_rules.specs.Findings.{is_oblique, is_wanting, finding_of, layer_
 use Rattle.ring_rules.specs.Passing.{NamesPlaces, RingsNamePlaces, GapsNamePlaces}
 use Rattle.ring_rules.specs.declared.finding.Drilled.{Drilled}
 use Rattle.ring_rules.specs.declared.finding.Finding.TheVariants.{Gap}
-use Rattle.ring_rules.proofs.Sweeping.{placed_right}
-use Rattle.ring_rules.proofs.Clashing.{IsClash, IsPlaced, all_flat_map, gap_pairs, gap_pairs_listed, gap_pairs_clash}
+use Rattle.ring_rules.specs.Meeting.{IsClash}
+use Rattle.ring_rules.proofs.Clashing.{IsPlaced, placed_right, all_flat_map, gap_pairs, gap_pairs_listed, gap_pairs_clash}
 
 -- what is found at a hole names it and the layer, whatever its kind
 finding_names : (layers holes layer : ℕ) (hole : ℕ × Drilled) → layer < layers → hole.0 < holes → NamesPlaces layers holes (finding_of layer hole)

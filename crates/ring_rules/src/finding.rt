@@ -1,5 +1,9 @@
 //! The holes of a board, and what is found at them.
 
+ghost use Rattle.std.specs.Prelude.{◌≡◌, false};
+ghost use Rattle.pad_shapes.specs.Shapes.{IsAlongAxis};
+ghost use Rattle.ring_rules.specs.Findings.{is_oblique};
+
 use grid_units::{Hole, Span};
 
 /// A hole of a board, whether its wall is plated, and the layers that it goes through.
@@ -37,4 +41,12 @@ pub enum Finding {
         /// The hole that comes later.
         second: usize,
     },
+}
+
+/// Whether the ends of a hole differ in x and in y.
+pub(crate) fn is_oblique(hole: &Hole) -> bool
+    ensures test { result ≡ is_oblique hole.now }
+    ensures along { result ≡ false → IsAlongAxis hole.now.from hole.now.to }
+{
+    hole.from().x() != hole.to().x() && hole.from().y() != hole.to().y()
 }

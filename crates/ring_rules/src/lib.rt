@@ -3,13 +3,24 @@
 //! All lengths are whole picometres (pm).
 #![tactic(auto)]
 
+mod blocks;
+mod board;
+mod cells;
+mod clashes;
 mod cores;
+mod crowds;
+mod dividing;
 mod finding;
-mod gap_sweep;
 mod gaps;
 pub mod laws;
-mod ring_sweep;
+mod marks;
+mod near;
+mod pads;
+mod places;
+mod regions;
 mod rings;
+mod scale;
+mod shape;
 
 pub use cores::clear_of;
 pub use finding::{Drilled, Finding};

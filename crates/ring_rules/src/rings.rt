@@ -1,48 +1,17 @@
 //! The rings of copper round plated holes.
 
-ghost use Rattle.std.specs.Prelude.{◌≡◌, ◌++◌, Bool, false, length, map, unsigned_abs, IfOk, OnOk};
-ghost use Rattle.std.specs.List.{list_any, filter, enumerate_from};
-ghost use Rattle.pad_shapes.specs.Shapes.{IsReach, IsAlongAxis, covers_ends};
-ghost use Rattle.ring_rules.specs.Findings.{is_oblique, lacks_ring, is_wanting, finding_of, ring_findings};
+ghost use Rattle.std.specs.Prelude.{◌≡◌, ◌++◌, Bool, length, map, IfOk, OnOk};
+ghost use Rattle.std.specs.List.{filter, enumerate_from};
+ghost use Rattle.ring_rules.specs.Findings.{finding_of, ring_findings};
 ghost use Rattle.ring_rules.specs.declared.finding.Drilled.{Drilled};
 
-use crate::finding::{Drilled, Finding};
-use crate::ring_sweep::{holes_by_x, wanting};
-use grid_units::{Hole, Point, Rules, is_in_span};
+use crate::board::lay_out;
+use crate::finding::{Drilled, Finding, is_oblique};
+use crate::pads::wanting;
+use crate::shape::drawn;
+use grid_units::Rules;
 use pad_shapes::PadShape;
 use std::alloc::{AllocError, Global};
-
-/// Whether the ends of a hole differ in x and in y.
-fn is_oblique(hole: &Hole) -> bool
-    ensures test { result ≡ is_oblique hole.now }
-    ensures along { result ≡ false → IsAlongAxis hole.now.from hole.now.to }
-{
-    hole.from().x() != hole.to().x() && hole.from().y() != hole.to().y()
-}
-
-/// Whether some pad covers both ends of a slot along an axis with the reach round them.
-fn is_covered<S: PadShape>(pads: &[&S], from: Point, to: Point, reach: i64) -> bool
-    requires along { IsAlongAxis from to }
-    requires reach { IsReach reach }
-    ensures { result ≡ list_any (λ pad. covers_ends S.covers pad.now from to (unsigned_abs reach)) pads.now }
-{
-    pads.iter().any(|pad| pad.covers_slot(from, to, reach))
-}
-
-/// Whether a hole is an oblique slot, or no single one of the pads covers it with the ring round it.
-fn lacks_ring<S: PadShape>(pads: &[&S], hole: &Hole, rules: Rules) -> bool
-    ensures { result ≡ lacks_ring (λ pad. S.covers pad.now) rules.ring pads.now hole.now }
-{
-    let reach = hole.radius() + rules.ring();
-    is_oblique(hole) || !is_covered(pads, hole.from(), hole.to(), reach)
-}
-
-/// Whether a hole is plated, goes through this layer and lacks its ring among the pads.
-pub fn is_wanting<S: PadShape>(layer: usize, pads: &[&S], drilled: &Drilled, rules: Rules) -> bool
-    ensures { result ≡ is_wanting (λ pad. S.covers pad.now) rules.ring layer pads.now drilled.now }
-{
-    drilled.plated && is_in_span(layer, drilled.span) && lacks_ring(pads, &drilled.hole, rules)
-}
 
 /// What is found at a hole that lacks its ring.
 fn finding_of(layer: usize, hole: usize, drilled: &Drilled) -> Finding
@@ -73,6 +42,25 @@ fn layer_findings(
     Ok(())
 }
 
+/// How wide and how high the zones of the pads are in the middle, of a sample. Any answer is right.
+fn asked<S: PadShape>(layers: &[&[S]]) -> (u64, u64) {
+    let mut width: u64 = 0;
+    let mut height: u64 = 0;
+    let mut count: u64 = 0;
+    for pads in layers {
+        for draw in 0..(pads.len() as u64).min(256) {
+            if let Some(pad) = pads.get(drawn(draw, pads.len())) {
+                if let Some(zone) = pad.zone(0) {
+                    width = width.saturating_add(zone.left.abs_diff(zone.right));
+                    height = height.saturating_add(zone.bottom.abs_diff(zone.top));
+                    count = count.saturating_add(1);
+                }
+            }
+        }
+    }
+    (width / count.max(1), height / count.max(1))
+}
+
 /// Lists, layer by layer and hole by hole, each plated hole that goes through the layer and is an oblique slot, or
 /// that no single pad of the layer covers with the ring round it.
 ///
@@ -87,10 +75,11 @@ pub fn ring_findings<S: PadShape>(
 ) -> Result<Vec<Finding>, AllocError>
     ensures { IfOk result (λ findings. findings.items ≡ ring_findings S.covers rules.ring (map (λ pads. pads.now) layers.now) holes.now) }
 {
-    let by_x = holes_by_x(alloc, holes)?;
+    let (width, height) = asked(layers);
+    let board = lay_out(alloc, holes, rules, width, height)?;
     let mut findings = Vec::new(alloc);
     for (layer, pads) in layers.iter().enumerate() {
-        let wanting = wanting(alloc, layer, pads, holes, &by_x, rules)?;
+        let wanting = wanting(alloc, layer, pads, holes, &board, rules)?;
         layer_findings(&mut findings, layer, holes, &wanting)?;
     }
     Ok(findings)

@@ -336,6 +336,60 @@ fn a_sweep_asks_few_pads(rt: HostRuntime) -> Result<(), Fail> {
 }
 
 #[test]
+fn a_large_pad_holds_what_lies_in_it(rt: HostRuntime) -> Result<(), Fail> {
+    let holes = plated_at(rt.alloc(), &centres(rt.alloc())?)?;
+    let all = [rect(50 * MM, 50 * MM, 51 * MM, 51 * MM)?];
+    let found = ring_findings(rt.alloc(), &[all.as_slice()], &holes, usual_rules()?)?;
+    assert_eq!(rt; found.len(), 0);
+    let less = [rect(49 * MM, 50 * MM, 49_400_000_000, 51 * MM)?];
+    let found = ring_findings(rt.alloc(), &[less.as_slice()], &holes, usual_rules()?)?;
+    assert_eq!(rt; found.len(), 100);
+    assert_eq!(rt; found.first(), Some(&Finding::Ring { layer: 0, hole: 0 }));
+    Ok(())
+}
+
+/// A thousand points in a crowd, and a thousand others over 18 m, in turn.
+fn crowd(alloc: Global) -> Result<Vec<Point>, Fail> {
+    let mut points = Vec::new(alloc);
+    for number in 0..1_000u16 {
+        let k = i64::from(number);
+        points.push(Point::new(k % 32 * MM, k / 32 * MM).ok_or("near")?)?;
+        let x = k % 40 * 450_000_000_000 - 9_000_000_000_000;
+        let y = k / 40 * 700_000_000_000 - 9_000_000_000_000;
+        points.push(Point::new(x, y).ok_or("far")?)?;
+    }
+    Ok(points)
+}
+
+#[test]
+fn a_crowd_hides_no_finding(rt: HostRuntime) -> Result<(), Fail> {
+    let mut points = crowd(rt.alloc())?;
+    let mut pads = Vec::new(rt.alloc());
+    for point in &points {
+        pads.push(Disc::new(*point, 325_000_000).ok_or("disc")?)?;
+    }
+    let holes = plated_at(rt.alloc(), &points)?;
+    let layers = [pads.as_slice(), &pads[..pads.len().min(1_000)]];
+    let found = ring_findings(rt.alloc(), &layers, &holes, usual_rules()?)?;
+    assert_eq!(rt; found.len(), 1_000);
+    let wanted = Finding::Ring {
+        layer: 1,
+        hole: 1_000,
+    };
+    assert_eq!(rt; found.first(), Some(&wanted));
+    assert_eq!(rt; gap_findings(rt.alloc(), &holes, usual_rules()?)?.len(), 0);
+    points.push(Point::new(5 * MM, 5 * MM).ok_or("point")?)?;
+    let holes = plated_at(rt.alloc(), &points)?;
+    let found = gap_findings(rt.alloc(), &holes, usual_rules()?)?;
+    let wanted = [Finding::Gap {
+        first: 330,
+        second: 2_000,
+    }];
+    assert_eq!(rt; found.as_slice(), wanted.as_slice());
+    Ok(())
+}
+
+#[test]
 fn a_hole_drilled_twice_is_two_holes(rt: HostRuntime) -> Result<(), Fail> {
     let mut centres = centres(rt.alloc())?;
     let holes = plated_at(rt.alloc(), &centres)?;

@@ -15,7 +15,7 @@ loop-layer-preserved g c =
     ∙ ap (λ (pads : Bor (List g.row.S.Denot)). pads.now) (sym c.index-layers-layer.is) in
     let pads = c.index-layers-layer.result.now in
     let test : Drilled → Bool = is_wanting g.S.PadShape.covers c.args.rules.ring c.loop-layer.layer pads in
-    let marks : c.deref-in-loop-layer.result.now ≡ map test c.args.holes.now = c.deref-in-loop-layer.ensures.value ∙ c.in_ok-wanting.ensures in
+    let marks : c.deref.result.now ≡ map test c.args.holes.now = c.deref.ensures.value ∙ c.in_ok-wanting.ensures in
     c.in_ok-layer_findings.ensures test marks
     ∙ (ap (λ pads. c.loop-layer.findings.items ++ layer_findings g.S.PadShape.covers c.args.rules.ring c.args.holes.now c.loop-layer.layer pads) (sym read)
     ∙ flat_listed_more (λ layer. layer_findings g.S.PadShape.covers c.args.rules.ring c.args.holes.now layer.0 layer.1) c.loop-layer.findings.items (map (λ (pads : Bor (List g.row.S.Denot)). pads.now) c.args.layers.now) c.loop-layer.layer c.index-layers-layer.result.now inside c.loop-layer.invariant)
