@@ -19,12 +19,12 @@ pub(crate) fn ringcheck<'a>(alloc: Global) -> Result<Command<'a>, AllocError>
     let show = of_file(
         alloc,
         "show",
-        "Print the table of a layer's flashes or of a drill file's holes, as CSV (not yet: ends with status 3)",
+        "Print the table of a layer's flashes or of a drill file's holes, as CSV",
     )?;
     let rewrite = of_file(
         alloc,
         "rewrite",
-        "Print the canonical text of a layer or a drill file (not yet: ends with status 3)",
+        "Print the canonical text of a layer or a drill file",
     )?;
     let bare = described(
         alloc,
