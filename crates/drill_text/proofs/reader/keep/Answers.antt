@@ -1,5 +1,4 @@
-use Rattle.std.proofs.Common.{List, [], ◌∷◌, ◌++◌, Ok, Err, sym, ap, subst, ◌∙◌}
-use Rattle.drill_lines.specs.declared.command.DrillCommand.{DrillCommand}
+use Rattle.std.proofs.Common.{[], ◌∷◌, ◌++◌, Err, sym, subst}
 use Rattle.grid_units.specs.declared.fault.Fail.{Fail}
 use Rattle.drill_lines.specs.declared.line.LineFail.{LineFail}
 use Rattle.drill_text.specs.Reading.{spelled}
