@@ -1,0 +1,197 @@
+//! Each call on a package that takes memory.
+
+use crate::answer::Answer;
+use crate::inputs::Board;
+use drill_text::read_drill;
+use grid_units::{Fail, Hole, Rules, Span};
+use layer_image::read_layer;
+use manifest::Role;
+use package_check::{
+    File, PackageFault, PiecedFile, Report, check_bytes, check_pieces, write_report,
+};
+use ring_rules::{Drilled, Finding, gap_findings, ring_findings};
+use std::alloc::{AllocError, Global};
+
+/// A call on a package.
+#[derive(Clone, Copy, Debug)]
+pub(crate) enum BoardCall {
+    Bytes,
+    Whole,
+    TwoPieces,
+    BytePieces,
+    Report,
+    Rings,
+    Gaps,
+}
+
+pub(crate) const ON_BOARDS: [BoardCall; 7] = [
+    BoardCall::Bytes,
+    BoardCall::Whole,
+    BoardCall::TwoPieces,
+    BoardCall::BytePieces,
+    BoardCall::Report,
+    BoardCall::Rings,
+    BoardCall::Gaps,
+];
+
+/// What the call answers.
+pub(crate) fn ask(call: BoardCall, alloc: Global, board: &Board) -> Answer {
+    let Ok(rules) = Rules::new(125_000_000, 250_000_000) else {
+        return Answer::Changed;
+    };
+    match call {
+        BoardCall::Bytes => whole(alloc, board, rules, false),
+        BoardCall::Report => whole(alloc, board, rules, true),
+        BoardCall::Whole => in_pieces(alloc, board, rules, 1_000_000),
+        BoardCall::TwoPieces => in_pieces(alloc, board, rules, 30),
+        BoardCall::BytePieces => in_pieces(alloc, board, rules, 1),
+        BoardCall::Rings => found(rings(alloc, board, rules)),
+        BoardCall::Gaps => found(gaps(alloc, board, rules)),
+    }
+}
+
+fn span_of(board: &Board) -> Option<Span> {
+    let (first, last) = board.span?;
+    Span::new(first, last)
+}
+
+fn file(role: Role, name: &'static str, span: Option<Span>, text: &'static str) -> File<'static> {
+    File {
+        role,
+        name,
+        span,
+        bytes: text.as_bytes(),
+    }
+}
+
+/// What the check of the whole files answers, or its report.
+fn whole(alloc: Global, board: &Board, rules: Rules, is_report: bool) -> Answer {
+    let top = file(Role::Copper, "top", None, board.top);
+    let drill = file(board.role, "pth", span_of(board), board.drill);
+    match board.bottom {
+        None => judged(alloc, &[top, drill], rules, is_report),
+        Some(text) => {
+            let bottom = file(Role::Copper, "bot", None, text);
+            judged(alloc, &[top, bottom, drill], rules, is_report)
+        }
+    }
+}
+
+fn judged(alloc: Global, files: &[File], rules: Rules, is_report: bool) -> Answer {
+    match check_bytes(alloc, files, rules) {
+        Ok(report) if is_report => written(alloc, files, &report),
+        outcome => checked(outcome),
+    }
+}
+
+fn written(alloc: Global, files: &[File], report: &Report) -> Answer {
+    if report.files().len() != files.len() {
+        return Answer::Changed;
+    }
+    match write_report(alloc, files, report) {
+        Ok(text) => Answer::of_text(&text),
+        Err(_) => Answer::Failed(Fail::Memory),
+    }
+}
+
+fn checked(outcome: Result<Report, PackageFault>) -> Answer {
+    match outcome {
+        Ok(report) => Answer::of_report(&report),
+        Err(PackageFault::Memory) => Answer::Failed(Fail::Memory),
+        Err(PackageFault::File { fault, .. }) => Answer::Failed(Fail::Refused(fault)),
+    }
+}
+
+/// The pieces of a text, of so many bytes each.
+fn pieces_of(
+    alloc: Global,
+    text: &'static str,
+    length: usize,
+) -> Result<Vec<&'static [u8]>, AllocError> {
+    let mut pieces = Vec::new(alloc);
+    for piece in text.as_bytes().chunks(length.max(1)) {
+        pieces.push(piece)?;
+    }
+    Ok(pieces)
+}
+
+/// What the check of files in pieces of so many bytes answers.
+fn in_pieces(alloc: Global, board: &Board, rules: Rules, length: usize) -> Answer {
+    match pieced(alloc, board, rules, length) {
+        Ok(answer) => answer,
+        Err(_) => Answer::Failed(Fail::Memory),
+    }
+}
+
+fn pieced(alloc: Global, board: &Board, rules: Rules, length: usize) -> Result<Answer, AllocError> {
+    let top = pieces_of(alloc, board.top, length)?;
+    let bottom = pieces_of(alloc, board.bottom.unwrap_or(""), length)?;
+    let drill = pieces_of(alloc, board.drill, length)?;
+    let top = pieced_file(Role::Copper, "top", None, &top);
+    let drill = pieced_file(board.role, "pth", span_of(board), &drill);
+    let outcome = match board.bottom {
+        None => check_pieces(alloc, &[top, drill], rules),
+        Some(_) => {
+            let bottom = pieced_file(Role::Copper, "bot", None, &bottom);
+            check_pieces(alloc, &[top, bottom, drill], rules)
+        }
+    };
+    Ok(checked(outcome))
+}
+
+fn pieced_file<'a>(
+    role: Role,
+    name: &'static str,
+    span: Option<Span>,
+    pieces: &'a [&'static [u8]],
+) -> PiecedFile<'a> {
+    PiecedFile {
+        role,
+        name,
+        span,
+        pieces,
+    }
+}
+
+fn found(outcome: Result<Vec<Finding>, Fail>) -> Answer {
+    match outcome {
+        Ok(findings) => Answer::of_findings(&findings),
+        Err(fail) => Answer::Failed(fail),
+    }
+}
+
+/// The holes of the drill file.
+fn drilled(alloc: Global, board: &Board) -> Result<Vec<Drilled>, Fail> {
+    let plated = matches!(board.role, Role::Plated);
+    let drill = read_drill(alloc, board.drill.as_bytes())?;
+    all_drilled(alloc, drill.holes(), plated, &span_of(board)).map_err(|_| Fail::Memory)
+}
+
+fn all_drilled(
+    alloc: Global,
+    holes: &[Hole],
+    plated: bool,
+    span: &Option<Span>,
+) -> Result<Vec<Drilled>, AllocError> {
+    let mut all = Vec::new(alloc);
+    for hole in holes {
+        all.push(Drilled {
+            hole: *hole,
+            plated,
+            span: *span,
+        })?;
+    }
+    Ok(all)
+}
+
+/// The findings of rings of the first layer.
+fn rings(alloc: Global, board: &Board, rules: Rules) -> Result<Vec<Finding>, Fail> {
+    let layer = read_layer(alloc, board.top.as_bytes())?;
+    let holes = drilled(alloc, board)?;
+    ring_findings(alloc, &[layer.pads()], &holes, rules).map_err(|_| Fail::Memory)
+}
+
+fn gaps(alloc: Global, board: &Board, rules: Rules) -> Result<Vec<Finding>, Fail> {
+    let holes = drilled(alloc, board)?;
+    gap_findings(alloc, &holes, rules).map_err(|_| Fail::Memory)
+}

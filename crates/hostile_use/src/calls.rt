@@ -1,0 +1,121 @@
+//! Each call on one text that takes memory.
+
+use crate::answer::Answer;
+use crate::readers::Reader;
+use drill_text::{drill_sayable, read_drill, write_drill};
+use gerber_text::{Command, Kept, Placed, read_kept, read_words, write_commands, write_placed};
+use grid_units::Fail;
+use loading::{ReadFail, read_all};
+use manifest::read_manifest;
+use rewriting::{Kind, rewrite_bytes};
+use std::alloc::{AllocError, Global};
+use tables::{show_drill, show_layer};
+
+/// A call on one text.
+#[derive(Clone, Copy, Debug)]
+pub(crate) enum Call {
+    Whole(Reader),
+    InTwo(Reader),
+    InBytes(Reader),
+    Kept,
+    WriteCommands,
+    WritePlaced,
+    WriteDrill,
+    Show(Kind),
+    Rewrite(Kind),
+    Manifest,
+    ReadAll,
+}
+
+pub(crate) const ON_LAYERS: [Call; 13] = [
+    Call::Whole(Reader::Words),
+    Call::InTwo(Reader::Words),
+    Call::InBytes(Reader::Words),
+    Call::Whole(Reader::Layer),
+    Call::InTwo(Reader::Layer),
+    Call::InBytes(Reader::Layer),
+    Call::InTwo(Reader::Sum),
+    Call::InBytes(Reader::Sum),
+    Call::Kept,
+    Call::WriteCommands,
+    Call::WritePlaced,
+    Call::Show(Kind::Layer),
+    Call::Rewrite(Kind::Layer),
+];
+
+pub(crate) const ON_DRILLS: [Call; 8] = [
+    Call::Whole(Reader::Drill),
+    Call::InTwo(Reader::Drill),
+    Call::InBytes(Reader::Drill),
+    Call::InTwo(Reader::Holes),
+    Call::InBytes(Reader::Holes),
+    Call::WriteDrill,
+    Call::Show(Kind::Drill),
+    Call::Rewrite(Kind::Drill),
+];
+
+pub(crate) const ON_MANIFESTS: [Call; 2] = [Call::Manifest, Call::ReadAll];
+
+/// What the call answers. A reader's text is cut behind 30 bytes where it comes in two pieces.
+pub(crate) fn ask(call: Call, alloc: Global, text: &[u8]) -> Answer {
+    match call {
+        Call::Whole(reader) => reader.whole(alloc, text),
+        Call::InTwo(reader) => reader.in_two(alloc, text, 30),
+        Call::InBytes(reader) => reader.in_bytes(alloc, text),
+        Call::Kept => kept(alloc, text),
+        Call::WriteCommands => Answer::of_bytes(commands_written(alloc, text)),
+        Call::WritePlaced => Answer::of_bytes(placed_written(alloc, text)),
+        Call::WriteDrill => Answer::of_bytes(drill_written(alloc, text)),
+        Call::Show(Kind::Layer) => Answer::of_bytes(show_layer(alloc, text)),
+        Call::Show(Kind::Drill) => Answer::of_bytes(show_drill(alloc, text)),
+        Call::Rewrite(kind) => Answer::of_bytes(rewrite_bytes(alloc, kind, text)),
+        Call::Manifest => Answer::of_manifest(read_manifest(alloc, text)),
+        Call::ReadAll => all_read(alloc, text),
+    }
+}
+
+/// The commands before a fault; or that memory ran out, whatever is kept then.
+fn kept(alloc: Global, text: &[u8]) -> Answer {
+    let Kept { commands, outcome } = read_kept(alloc, text);
+    match outcome {
+        Err(Fail::Memory) => Answer::Failed(Fail::Memory),
+        _ => Answer::of_words(Ok(commands)),
+    }
+}
+
+fn without_places(alloc: Global, placed: Vec<Placed<Command>>) -> Result<Vec<Command>, AllocError> {
+    let mut commands = Vec::new(alloc);
+    for entry in placed {
+        commands.push(entry.what)?;
+    }
+    Ok(commands)
+}
+
+fn commands_written(alloc: Global, text: &[u8]) -> Result<Vec<u8>, Fail> {
+    let placed = read_words(alloc, text)?;
+    let commands = without_places(alloc, placed).map_err(|_| Fail::Memory)?;
+    write_commands(alloc, &commands)
+}
+
+fn placed_written(alloc: Global, text: &[u8]) -> Result<Vec<u8>, Fail> {
+    let placed = read_words(alloc, text)?;
+    write_placed(alloc, &placed)
+}
+
+/// What is written of the commands of a drill file, which are sayable.
+fn drill_written(alloc: Global, text: &[u8]) -> Result<Vec<u8>, Fail> {
+    let drill = read_drill(alloc, text)?;
+    if !drill_sayable(drill.commands()) {
+        return Ok(Vec::new(alloc));
+    }
+    write_drill(alloc, drill.commands())
+}
+
+fn all_read(alloc: Global, text: &[u8]) -> Answer {
+    let mut reader = text;
+    match read_all(alloc, &mut reader, 1_048_576) {
+        Ok(bytes) => Answer::of_text(&bytes),
+        Err(ReadFail::Memory) => Answer::Failed(Fail::Memory),
+        Err(_) => Answer::Changed,
+    }
+}

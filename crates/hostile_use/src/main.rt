@@ -1,0 +1,105 @@
+//! Hostile use: texts that are cut, rows at the limits, and calls whose answers a script compares while it refuses allocations.
+#![tactic(auto)]
+
+mod answer;
+mod boards;
+mod calls;
+mod cuts;
+mod digest;
+mod groups;
+mod inputs;
+mod readers;
+mod texts;
+
+use cuts::Tally;
+use loading::read_all;
+use std::alloc::Global;
+use std::process::ExitCode;
+use std::{env, fs, io};
+use texts::Paragraph;
+
+/// The greatest size of a data file, in bytes.
+const GREATEST_SIZE: u64 = 1_048_576;
+
+/// Which paragraphs a run is over, and what is done with each.
+#[derive(Clone, Copy, PartialEq, Eq)]
+enum Task {
+    Cuts,
+    Rows,
+}
+
+/// Does the task with one paragraph, and tells a row that is not answered as it says.
+fn judge(rt: &HostRuntime, task: Task, paragraph: &Paragraph, tally: &mut Tally) -> io::Result<()> {
+    let alloc = rt.alloc();
+    match task {
+        Task::Cuts => cuts::cut(alloc, &paragraph.text, tally),
+        Task::Rows => {
+            let is_right = cuts::is_answered(alloc, paragraph)?;
+            tally.count(is_right);
+            if !is_right {
+                println!(rt; "differs: {}", paragraph.title.as_str())?;
+            }
+        }
+    }
+    Ok(())
+}
+
+/// Does the task with all paragraphs of a data file: each is some lines, and an empty line ends it.
+fn judge_all(rt: &HostRuntime, task: Task, text: &str) -> io::Result<Tally> {
+    let alloc = rt.alloc();
+    let mut tally = Tally::new();
+    let mut paragraph = Paragraph::new(alloc);
+    for line in text.split('\n') {
+        if !line.is_empty() {
+            paragraph.take(alloc, line)?;
+        } else if paragraph.is_begun {
+            judge(rt, task, &paragraph, &mut tally)?;
+            paragraph = Paragraph::new(alloc);
+        }
+    }
+    Ok(tally)
+}
+
+/// Does the task with a data file.
+fn run_file(rt: &HostRuntime, task: Task, name: &str) -> io::Result<()> {
+    let mut file = fs::open(rt, name)?;
+    let Ok(bytes) = read_all(rt.alloc(), &mut file, GREATEST_SIZE) else {
+        return println!(rt; "{name} cannot be read");
+    };
+    let Ok(text) = std::str::from_utf8(bytes.as_slice()) else {
+        return println!(rt; "{name} is no text");
+    };
+    let tally = judge_all(rt, task, text)?;
+    let (all, different) = (tally.all, tally.different);
+    match task {
+        Task::Cuts => println!(rt; "cuts: {all}, different: {different}"),
+        Task::Rows => println!(rt; "rows: {all}, different: {different}"),
+    }
+}
+
+/// With `call NUMBER`, makes the calls over the input of that number; with no words, runs the rows and the cuts.
+fn run_words(rt: &HostRuntime) -> io::Result<()> {
+    let words: Vec<String> = env::args(rt)?.collect(rt.alloc())?;
+    match (words.get(1), words.get(2)) {
+        (Some(word), Some(number)) if word.as_str() == "call" => {
+            groups::run(rt, number.as_str().parse().unwrap_or(usize::MAX))
+        }
+        _ => {
+            run_file(rt, Task::Rows, "rows.txt")?;
+            run_file(rt, Task::Cuts, "texts.txt")
+        }
+    }
+}
+
+fn main(rt: HostRuntime) -> ExitCode {
+    match run_words(&rt) {
+        Ok(()) => ExitCode::SUCCESS,
+        Err(error) => {
+            let _ = match error.kind() {
+                io::ErrorKind::OutOfMemory => println!(rt; "memory"),
+                _ => println!(rt; "a file cannot be read or written"),
+            };
+            ExitCode::from(4)
+        }
+    }
+}
