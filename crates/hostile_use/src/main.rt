@@ -12,14 +12,17 @@ mod readers;
 mod texts;
 
 use cuts::Tally;
-use loading::read_all;
-use std::alloc::Global;
+use loading::{ReadFail, read_all};
+use readers::Reader;
 use std::process::ExitCode;
 use std::{env, fs, io};
 use texts::Paragraph;
 
 /// The greatest size of a data file, in bytes.
 const GREATEST_SIZE: u64 = 1_048_576;
+
+/// The greatest size of a file that is read by a reader, in bytes.
+const GREATEST_FILE: u64 = 268_435_456;
 
 /// Which paragraphs a run is over, and what is done with each.
 #[derive(Clone, Copy, PartialEq, Eq)]
@@ -77,18 +80,39 @@ fn run_file(rt: &HostRuntime, task: Task, name: &str) -> io::Result<()> {
     }
 }
 
-/// With `call NUMBER`, makes the calls over the input of that number; with no words, runs the rows and the cuts.
+/// Prints what a reader answers of a file in two pieces.
+fn read_file(rt: &HostRuntime, reader: Reader, name: &str) -> io::Result<()> {
+    let mut file = fs::open(rt, name)?;
+    match read_all(rt.alloc(), &mut file, GREATEST_FILE) {
+        Ok(bytes) => {
+            let answer = reader.in_two(rt.alloc(), &bytes, bytes.len() / 2);
+            println!(rt; "{answer}")
+        }
+        Err(ReadFail::Memory) => println!(rt; "memory"),
+        Err(_) => println!(rt; "{name} cannot be read"),
+    }
+}
+
+/// The word of this place, or an empty one.
+fn word(words: &[String], at: usize) -> &str {
+    match words.get(at) {
+        Some(word) => word.as_str(),
+        None => "",
+    }
+}
+
+/// With `call NUMBER`, makes the calls over the input of that number; with `read READER FILE`, reads a file; with no words, runs
+/// the rows and the cuts.
 fn run_words(rt: &HostRuntime) -> io::Result<()> {
     let words: Vec<String> = env::args(rt)?.collect(rt.alloc())?;
-    match (words.get(1), words.get(2)) {
-        (Some(word), Some(number)) if word.as_str() == "call" => {
-            groups::run(rt, number.as_str().parse().unwrap_or(usize::MAX))
-        }
-        _ => {
-            run_file(rt, Task::Rows, "rows.txt")?;
-            run_file(rt, Task::Cuts, "texts.txt")
-        }
+    if word(&words, 1) == "call" {
+        return groups::run(rt, word(&words, 2).parse().unwrap_or(usize::MAX));
     }
+    if let Some(reader) = Reader::named(word(&words, 2)) {
+        return read_file(rt, reader, word(&words, 3));
+    }
+    run_file(rt, Task::Rows, "rows.txt")?;
+    run_file(rt, Task::Cuts, "texts.txt")
 }
 
 fn main(rt: HostRuntime) -> ExitCode {
