@@ -6,3 +6,5 @@ pub mod Unique
 pub mod Once
 pub mod Answering
 pub mod Lining
+pub mod Rewritten
+pub mod Joining

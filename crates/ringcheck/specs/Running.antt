@@ -1,5 +1,5 @@
 -- What a loader has under names, and what a run says over it.
-use Rattle.std.specs.Prelude.{◌≡◌, ◌<◌, ◌⊎◌, ℕ, List, [], ◌∷◌, length, Result, Ok, Err, ⊤, Option}
+use Rattle.std.specs.Prelude.{◌≡◌, ◌<◌, ◌≤◌, ◌⊎◌, ℕ, List, [], ◌∷◌, length, Result, Ok, Err, ⊤, Option}
 use Rattle.std.specs.List.{Contains}
 use Rattle.std.specs.Io.KnownBytes.{Appends}
 use Rattle.grid_units.specs.Holes.{GridRules}
@@ -39,12 +39,17 @@ file_limit = 268435456
 abbrev pub manifest_limit : ℕ
 manifest_limit = 1048576
 
--- the manifest and the files of a package, as the loader has them (docs/DEFINITIONS.md, Runs)
+-- the bytes that a loader may have under a name, as far as they are within a limit (docs/DEFINITIONS.md, Runs)
+abbrev pub within : ℕ → Relation → Relation
+within limit has name bytes = has name bytes × (length bytes ≤ limit)
+
+-- the manifest and the files of a package, as the loader has them, none above its limit (docs/DEFINITIONS.md, Runs)
 pub record HasPackage (has : Relation) (name : List ℕ) (entries : List Entry) (files : List (List ℕ)) : Type 0 where
   pub text : List ℕ
   pub held : has name text
   pub names : manifest text ≡ Ok entries
-  pub loaded : HasFiles has entries files
+  pub short : length text ≤ manifest_limit
+  pub loaded : HasFiles (within file_limit has) entries files
 
 -- a package that the loader has, whose report the writer got (docs/DEFINITIONS.md, Runs)
 pub record Reported (has : Relation) (name : List ℕ) (rules : GridRules) (before after : Option (List ℕ)) (report : Account) : Type 0 where

@@ -1,5 +1,5 @@
 use Rattle.package_check.proofs.Same.{answers_the_same}
-use Rattle.ringcheck.proofs.laws.answers_the_same.Goals as goal
+use Rattle.package_check.proofs.laws.answers_the_same.Goals as goal
 
 pub returns : goal.returns
 returns c = answers_the_same

@@ -1,6 +1,6 @@
 use Rattle.std.proofs.Common.{◌≡◌, true, not, eqb, get_or, sym, ◌∙◌, arith, below_more}
 use Rattle.std.proofs.lemmas.List.Sums.{prefix_len_is}
-use Rattle.ringcheck.proofs.readers.comma_at.Goals as goal
+use Rattle.package_check.proofs.readers.comma_at.Goals as goal
 
 pub loop-i-preserved : goal.loop-i-preserved
 loop-i-preserved c = below_more (λ k. not (eqb (get_or c.args.text.now k 0) 44) ≡ true) c.loop-i.i c.loop-i.invariant (sym c.is_no_comma.ensures ∙ c.if-not-is_no_comma.false)

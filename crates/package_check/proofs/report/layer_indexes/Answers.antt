@@ -3,8 +3,8 @@ use Rattle.package_check.specs.Package.{index_of}
 use Rattle.ring_rules.proofs.Listing.{enumerated_all}
 use Rattle.std.specs.List.{flat_map}
 use Rattle.package_check.proofs.Gathering.{placed_more, placed_none}
-use Rattle.ringcheck.proofs.report.layer_indexes.Goals as goal
-use Rattle.ringcheck.proofs.report.layer_indexes.Goals.{in-Layer+in_ok-push, in_default}
+use Rattle.package_check.proofs.report.layer_indexes.Goals as goal
+use Rattle.package_check.proofs.report.layer_indexes.Goals.{in-Layer+in_ok-push, in_default}
 
 pub loop-file-preserved : goal.loop-file-preserved
 loop-file-preserved c = elim c.match-content.branch [

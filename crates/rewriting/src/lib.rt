@@ -1,0 +1,19 @@
+//! A layer or a drill file, read and written anew as its canonical text.
+#![tactic(auto)]
+
+pub mod laws;
+mod rewrite;
+
+pub use rewrite::rewrite_bytes;
+
+/// What a text is read as.
+#[derive(Clone, Copy, Debug, PartialEq, Eq)]
+pub enum Kind {
+    /// A Gerber layer.
+    Layer,
+    /// An Excellon drill file.
+    Drill,
+}
+
+#[cfg(test)]
+mod tests;

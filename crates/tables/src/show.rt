@@ -1,0 +1,101 @@
+//! The tables of a layer and of a drill file, from their bytes.
+
+ghost use Rattle.std.specs.Prelude.{◌≡◌, IfOk};
+ghost use Rattle.grid_units.specs.Results.{Answers};
+ghost use Rattle.tables.specs.Tables.{ShowsDrill, ShowsLayer, drill_header, drill_table, layer_header, layer_table};
+
+use crate::fields::{with_flash, with_hole};
+use crate::table::Table;
+use csv::Error;
+use drill_text::laws::drill_texts;
+use drill_text::read_drill;
+use grid_units::{Fail, Hole};
+use layer_image::{Flash, read_layer};
+use std::alloc::Global;
+
+/// The header of a table of flashes.
+fn layer_header(alloc: Global) -> Result<Table, Error>
+    ensures { IfOk result (λ table. table ≡ layer_header) }
+{
+    Table::new(alloc).with_row(&[
+        b"flash".as_slice(),
+        b"what".as_slice(),
+        b"x".as_slice(),
+        b"y".as_slice(),
+        b"width".as_slice(),
+        b"height".as_slice(),
+    ])
+}
+
+/// The table of flashes, numbered from 1.
+fn layer_table(alloc: Global, flashes: &[Flash]) -> Result<Vec<u8>, Error>
+    ensures { IfOk result (λ text. text.items ≡ layer_table flashes.now) }
+{
+    let mut table = layer_header(alloc)?;
+    let mut number: u64 = 1;
+    for flash in flashes {
+        table = with_flash(table, number, flash)?;
+        number += 1;
+    }
+    table.into_bytes()
+}
+
+/// The header of a table of holes.
+fn drill_header(alloc: Global) -> Result<Table, Error>
+    ensures { IfOk result (λ table. table ≡ drill_header) }
+{
+    Table::new(alloc).with_row(&[
+        b"hole".as_slice(),
+        b"x1".as_slice(),
+        b"y1".as_slice(),
+        b"x2".as_slice(),
+        b"y2".as_slice(),
+        b"diameter".as_slice(),
+    ])
+}
+
+/// The table of holes, numbered from 1.
+fn drill_table(alloc: Global, holes: &[Hole]) -> Result<Vec<u8>, Error>
+    ensures { IfOk result (λ text. text.items ≡ drill_table holes.now) }
+{
+    let mut table = drill_header(alloc)?;
+    let mut number: u64 = 1;
+    for hole in holes {
+        table = with_hole(table, number, hole)?;
+        number += 1;
+    }
+    table.into_bytes()
+}
+
+/// The table of a layer's flashes: a row for each, numbered from 1, with what it leaves, its point, and the width
+/// and height of a pad, in millimetres with nine decimals.
+///
+/// # Errors
+///
+/// The first fault of the text; `Memory` where a growth was refused.
+pub fn show_layer(alloc: Global, bytes: &[u8]) -> Result<Vec<u8>, Fail>
+    ensures exact { Answers (λ text. text.items) (ShowsLayer bytes.now) result }
+{
+    let layer = read_layer(alloc, bytes)?;
+    match layer_table(alloc, layer.flashes()) {
+        Ok(text) => Ok(text),
+        Err(_) => Err(Fail::Memory),
+    }
+}
+
+/// The table of a drill file's holes: a row for each, numbered from 1, with its two ends and its diameter, in
+/// millimetres with nine decimals.
+///
+/// # Errors
+///
+/// The first fault of the text; `Memory` where a growth was refused.
+pub fn show_drill(alloc: Global, bytes: &[u8]) -> Result<Vec<u8>, Fail>
+    ensures exact { Answers (λ text. text.items) (ShowsDrill bytes.now) result }
+{
+    drill_texts();
+    let drill = read_drill(alloc, bytes)?;
+    match drill_table(alloc, drill.holes()) {
+        Ok(text) => Ok(text),
+        Err(_) => Err(Fail::Memory),
+    }
+}
