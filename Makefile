@@ -1,4 +1,5 @@
-# make install PREFIX=/usr/local: puts the built program under the name `ringcheck`.
+# make install PREFIX=/usr/local: puts the program under the name `ringcheck`, where it is proved from the sources as they stand.
+# The launcher ends with status 5 where it is not, and then nothing is installed.
 PREFIX ?= /usr/local
 
 .PHONY: build install test

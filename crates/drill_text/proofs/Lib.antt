@@ -7,6 +7,7 @@ pub mod Ending
 pub mod Drilling
 pub mod Measures
 pub mod Judgements
+pub mod Staying
 pub mod Unique
 pub mod Spelling
 pub mod RoundTrip

@@ -53,6 +53,14 @@ impl Drill {
         &self.holes
     }
 
+    /// The holes alone, moved out of the file.
+    pub fn into_holes(self) -> Vec<Hole>
+        ensures { result.items ≡ self.holes }
+    {
+        let Drill { holes, .. } = self;
+        holes
+    }
+
     /// The diameters by tool number in order of definition, in the unit of the file.
     pub fn tools(&self) -> &IndexMap<u16, Dec>
         ensures { result.now.entries ≡ self.now.tools }

@@ -1,6 +1,6 @@
 //! Laws of the definitions of a drill file. A call of one does nothing, and gives its clause.
 
-ghost use Rattle.std.specs.Prelude.{◌≡◌, ◌↔◌, true, ℕ, List, Result, Ok};
+ghost use Rattle.std.specs.Prelude.{◌≡◌, ◌↔◌, ◌++◌, true, ℕ, List, Result, Ok, Err};
 ghost use Rattle.grid_units.specs.declared.fault.Fault.{Fault};
 ghost use Rattle.drill_lines.specs.declared.command.DrillCommand.{DrillCommand};
 ghost use Rattle.drill_text.specs.Lookback.{tools_of};
@@ -13,6 +13,12 @@ ghost use Rattle.drill_text.specs.Writing.{drill_sayable};
 pub fn one_reading()
     ensures shown { (text : List ℕ) (a b : Result (List DrillCommand) Fault) → Shows text a → Shows text b → a ≡ b }
     ensures read { (text : List ℕ) (a b : Result (List DrillCommand) Fault) → Reads text a → Reads text b → a ≡ b }
+{}
+
+/// A fault that a text shows is the fault of each text that begins with it, read in pieces or as a whole.
+pub fn faults_stay()
+    ensures shown { (text more : List ℕ) (f : Fault) → Shows text (Err f) → Shows (text ++ more) (Err f) }
+    ensures read { (text more : List ℕ) (f : Fault) → Shows text (Err f) → Reads (text ++ more) (Err f) }
 {}
 
 /// A text is read as just the commands of which it is a drill text.

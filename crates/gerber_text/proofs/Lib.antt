@@ -1,6 +1,7 @@
 pub mod Adding
 pub mod Items
 pub mod AllSaid
+pub mod Longer
 pub mod Marks
 pub mod RoundTrip
 pub mod Shown

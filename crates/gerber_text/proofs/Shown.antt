@@ -216,36 +216,36 @@ shown_spelled_by true items rest cs some e =
 pub shown_spelled : (items : List (List Mark)) (rest : List Mark) (cs : Entries) → shown items rest ≡ Ok cs → commands_from 1 items [] ≡ Ok cs
 shown_spelled items rest cs e = shown_spelled_by (has_end items) items rest cs refl e
 
-pub kept_all : (r : Progress) (text : List ℕ) (h : Holds r text) → commands_from 1 (take (length h.items) h.items) [] ≡ Ok r.commands.items
-kept_all r text h = ap (λ (x : List (List Mark)). commands_from 1 x []) (take_all (length h.items) h.items (omega arith)) ∙ shown_spelled h.items h.rest r.commands.items h.commands
+pub kept_all : (r : Progress) (gone : Entries) (text : List ℕ) (h : Holds r gone text) → commands_from 1 (take (length h.items) h.items) [] ≡ Ok (gone ++ r.commands.items)
+kept_all r gone text h = ap (λ (x : List (List Mark)). commands_from 1 x []) (take_all (length h.items) h.items (omega arith)) ∙ shown_spelled h.items h.rest (gone ++ r.commands.items) h.commands
 
-pub kept_pushed : (r : Progress) (text : List ℕ) (h : Holds r text) (item : List Mark) → commands_from 1 (take (length h.items) (h.items ++ item ∷ [])) [] ≡ Ok r.commands.items
-kept_pushed r text h item = ap (λ (x : List (List Mark)). commands_from 1 x []) (front_of_push h.items item (length h.items) (omega arith)).1 ∙ kept_all r text h
+pub kept_pushed : (r : Progress) (gone : Entries) (text : List ℕ) (h : Holds r gone text) (item : List Mark) → commands_from 1 (take (length h.items) (h.items ++ item ∷ [])) [] ≡ Ok (gone ++ r.commands.items)
+kept_pushed r gone text h item = ap (λ (x : List (List Mark)). commands_from 1 x []) (front_of_push h.items item (length h.items) (omega arith)).1 ∙ kept_all r gone text h
 
 -- want of memory stops a reader anywhere, with the commands that it has
 pub out_of_memory : (old : Progress) (left : Entries) (bytes : List ℕ) → left ≡ old.commands.items → Refuses old left bytes fails.Memory
-out_of_memory old left bytes same = λ text h.
-    let here : Stops (marks text) left fails.Memory = record {
+out_of_memory old left bytes same = λ gone text h.
+    let here : Stops (marks text) (gone ++ left) fails.Memory = record {
       items = h.items;
       rest = h.rest;
       splits = h.splits;
       kept = length h.items;
       within = omega arith;
-      spelled = kept_all old text h ∙ ap (λ (x : Entries). Ok x) (sym same);
+      spelled = kept_all old gone text h ∙ ap (λ (x : Entries). Ok (gone ++ x)) (sym same);
       told = tt;
     } in
-    subst (λ (x : List Mark). Stops x left fails.Memory) (sym (marks-append text bytes)) (stops_stay (marks text) (marks_from (length text) bytes) left fails.Memory here)
+    subst (λ (x : List Mark). Stops x (gone ++ left) fails.Memory) (sym (marks-append text bytes)) (stops_stay (marks text) (marks_from (length text) bytes) (gone ++ left) fails.Memory here)
 
 pub Refuses-longer : (old : Progress) (left : Entries) (xs ys : List ℕ) (e : Fail) → Refuses old left xs e → Refuses old left (xs ++ ys) e
-Refuses-longer old left xs ys e h = λ text holds.
+Refuses-longer old left xs ys e h = λ gone text holds.
     let joined : marks (text ++ (xs ++ ys)) ≡ marks (text ++ xs) ++ marks_from (length (text ++ xs)) ys = ap marks (sym (append_assoc text xs ys)) ∙ marks-append (text ++ xs) ys in
-    subst (λ (x : List Mark). Stops x left e) (sym joined) (stops_stay (marks (text ++ xs)) (marks_from (length (text ++ xs)) ys) left e (h text holds))
+    subst (λ (x : List Mark). Stops x (gone ++ left) e) (sym joined) (stops_stay (marks (text ++ xs)) (marks_from (length (text ++ xs)) ys) (gone ++ left) e (h gone text holds))
 
 pub Advances-then : (a b c : Progress) (xs ys : List ℕ) → Advances a b xs → Advances b c ys → Advances a c (xs ++ ys)
-Advances-then a b c xs ys h k = λ text holds. subst (Holds c) (append_assoc text xs ys) (k (text ++ xs) (h text holds))
+Advances-then a b c xs ys h k = λ gone text holds. subst (Holds c gone) (append_assoc text xs ys) (k gone (text ++ xs) (h gone text holds))
 
 pub Refuses-then : (a b : Progress) (left : Entries) (xs ys : List ℕ) (e : Fail) → Advances a b xs → Refuses b left ys e → Refuses a left (xs ++ ys) e
-Refuses-then a b left xs ys e h k = λ text holds. subst (λ (x : List ℕ). Stops (marks x) left e) (append_assoc text xs ys) (k (text ++ xs) (h text holds))
+Refuses-then a b left xs ys e h k = λ gone text holds. subst (λ (x : List ℕ). Stops (marks x) (gone ++ left) e) (append_assoc text xs ys) (k gone (text ++ xs) (h gone text holds))
 
 pub Refuses-first : (old : Progress) (left : Entries) (bytes : List ℕ) (e : Fail) → 0 < length bytes → Refuses old left (get_or bytes 0 0 ∷ []) e → Refuses old left bytes e
 Refuses-first old left [] e some h = absurd (omega arith)

@@ -10,7 +10,7 @@ use Rattle.grid_units.specs.declared.fault.Reason.TheVariants.{TooLong, Truncate
 use Rattle.gerber_text.specs.declared.reader.Progress.{Progress}
 use Rattle.gerber_text.specs.Cut.{Mark, marks, bytes_of, first_offset, has_end, Splits}
 use Rattle.grid_units.specs.Results.{◌>>=◌, fault, Answers, AnswersAlways}
-use Rattle.gerber_text.specs.Reading.{Entries, text_limit, commands_from, shown, Shows, ended, Reads, is_blank, KeptOf, KeptBefore, Keeps, entries_of}
+use Rattle.gerber_text.specs.Reading.{Entries, text_limit, commands_from, shown, Shows, ended, Reads, is_blank, KeptOf, KeptBefore, Keeps, entries_of, entries_behind}
 use Rattle.gerber_text.specs.Standing.{Holds, Stops, Refuses, FailsWith, RefusesText, Ends}
 use Rattle.grid_units.proofs.Binds.{bind_err, guard_err}
 use Rattle.gerber_text.proofs.Shown.{kept_all}
@@ -33,13 +33,13 @@ kept_of : (text : List ℕ) (kept : ℕ) (items : List (List Mark)) (rest : List
 kept_of text kept items rest cs s le e = record { items = items; rest = rest; splits = s; within = le; spelled = e }
 
 -- what a reader holds of a text is kept before the next place
-pub kept_before : (r : Progress) (text : List ℕ) (h : Holds r text) → length text ≤ text_limit → (byte : ℕ) → KeptBefore text (fails.Refused (fault (r.items + 1) byte Truncated)) r.commands.items
-kept_before r text h le byte =
+pub kept_before : (r : Progress) (gone : Entries) (text : List ℕ) (h : Holds r gone text) → length text ≤ text_limit → (byte : ℕ) → KeptBefore text (fails.Refused (fault (r.items + 1) byte Truncated)) (gone ++ r.commands.items)
+kept_before r gone text h le byte =
     let place : r.items + 1 ≡ suc (length h.items) = omega (arith, h.count) in
-    (length h.items, place, kept_of text (length h.items) h.items h.rest r.commands.items (subst (λ (t : List ℕ). Splits (marks t) h.items h.rest) (sym (take_all text_limit text le)) h.splits) (omega arith) (kept_all r text h))
+    (length h.items, place, kept_of text (length h.items) h.items h.rest (gone ++ r.commands.items) (subst (λ (t : List ℕ). Splits (marks t) h.items h.rest) (sym (take_all text_limit text le)) h.splits) (omega arith) (kept_all r gone text h))
 
 -- a failure within the first bytes of a text
-fails_by : (text front : List ℕ) (cs : Entries) (e : Fail) → front ≡ take text_limit text → Stops (marks front) cs e → FailsWith text cs e
+pub fails_by : (text front : List ℕ) (cs : Entries) (e : Fail) → front ≡ take text_limit text → Stops (marks front) cs e → FailsWith text cs e
 fails_by text front cs fails.Memory same h =
     let s = subst (λ (t : List ℕ). Splits (marks t) h.items h.rest) same h.splits in
     record { told = tt; kept = (h.kept, kept_of text h.kept h.items h.rest cs s h.within h.spelled) }
@@ -47,9 +47,9 @@ fails_by text front cs (fails.Refused f) same h =
     let s = subst (λ (t : List ℕ). Splits (marks t) h.items h.rest) same h.splits in
     record { told = fault_shown text h.items h.rest f s h.told.0; kept = (h.kept, h.told.1, kept_of text h.kept h.items h.rest cs s h.within h.spelled) }
 
-pub too_long_text : (r : Progress) (front more : List ℕ) → length front ≡ text_limit → 0 < length more → Holds r front → FailsWith (front ++ more) r.commands.items (fails.Refused (fault (r.items + 1) text_limit TooLong))
+pub too_long_text : (r : Progress) (gone : Entries) (front more : List ℕ) → length front ≡ text_limit → 0 < length more → Holds r gone front → FailsWith (front ++ more) (gone ++ r.commands.items) (fails.Refused (fault (r.items + 1) text_limit TooLong))
 unfolding checks_len
-too_long_text r front more e some h =
+too_long_text r gone front more e some h =
     let long : text_limit < length (front ++ more) = omega (arith, length-append front more) in
     let place : suc (length h.items) ≡ r.items + 1 = omega (arith, h.count) in
     let s = subst (λ (t : List ℕ). Splits (marks t) h.items h.rest) (sym (take_at front more text_limit e)) h.splits in
@@ -58,19 +58,19 @@ too_long_text r front more e some h =
         items = h.items;
         rest = h.rest;
         splits = s;
-        answer_is = sym (ap (λ s. s >>= checks_len (length (front ++ more)) h.items) h.commands ∙ (ap (λ t. cond t (Err (fault (suc (length h.items)) text_limit TooLong)) (Ok r.commands.items)) (lt-ltb text_limit (length (front ++ more)) long) ∙ ap (λ p. Err (fault p text_limit TooLong)) place));
+        answer_is = sym (ap (λ s. s >>= checks_len (length (front ++ more)) h.items) h.commands ∙ (ap (λ t. cond t (Err (fault (suc (length h.items)) text_limit TooLong)) (Ok (gone ++ r.commands.items))) (lt-ltb text_limit (length (front ++ more)) long) ∙ ap (λ p. Err (fault p text_limit TooLong)) place));
       };
-      kept = (length h.items, sym place, kept_of (front ++ more) (length h.items) h.items h.rest r.commands.items s (omega arith) (kept_all r front h));
+      kept = (length h.items, sym place, kept_of (front ++ more) (length h.items) h.items h.rest (gone ++ r.commands.items) s (omega arith) (kept_all r gone front h));
     }
 
 pub refuses_within : (old : Progress) (left : Entries) (piece : List ℕ) (e : Fail) → old.offset + length piece ≤ text_limit → Refuses old left piece e → RefusesText old left piece e
-refuses_within old left piece e le h = λ text holds.
-    fails_by (text ++ piece) (text ++ piece) left e (sym (take_all text_limit (text ++ piece) (omega (arith, holds.offset, length-append text piece)))) (h text holds)
+refuses_within old left piece e le h = λ gone text holds.
+    fails_by (text ++ piece) (text ++ piece) (gone ++ left) e (sym (take_all text_limit (text ++ piece) (omega (arith, holds.offset, length-append text piece)))) (h gone text holds)
 
 pub refuses_beyond : (old : Progress) (left : Entries) (front more : List ℕ) (e : Fail) → old.offset + length front ≡ text_limit → Refuses old left front e → RefusesText old left (front ++ more) e
-refuses_beyond old left front more e len h = λ text holds.
-    subst (λ (t : List ℕ). FailsWith t left e) (append_assoc text front more)
-    (fails_by ((text ++ front) ++ more) (text ++ front) left e (sym (take_at (text ++ front) more text_limit (omega (arith, holds.offset, length-append text front)))) (h text holds))
+refuses_beyond old left front more e len h = λ gone text holds.
+    subst (λ (t : List ℕ). FailsWith t (gone ++ left) e) (append_assoc text front more)
+    (fails_by ((text ++ front) ++ more) (text ++ front) (gone ++ left) e (sym (take_at (text ++ front) more text_limit (omega (arith, holds.offset, length-append text front)))) (h gone text holds))
 
 -- ---- the end of the text
 
@@ -123,9 +123,13 @@ pub keeps_err : (text : List ℕ) (cs : Entries) (e : Fail) → FailsWith text c
 keeps_err text cs fails.Memory h = (tt, h.kept)
 keeps_err text cs (fails.Refused f) h = (shows_reads text f h.told, h.kept)
 
-pub ends_answers : (text : List ℕ) (cs : Entries) (e : Fail) → Ends {X = Unit {0}} text cs (Err e) → AnswersAlways entries_of (λ answer. Reads text answer) (Err e)
-ends_answers text cs fails.Memory h = absurd h
-ends_answers text cs (fails.Refused f) h = h.0
+pub ends_answers : (text : List ℕ) (gone cs : Entries) (e : Fail) → Ends {X = Unit {0}} text cs (Err e) → AnswersAlways (entries_behind gone) (λ answer. Reads text answer) (Err e)
+ends_answers text gone cs fails.Memory h = absurd h
+ends_answers text gone cs (fails.Refused f) h = h.0
+
+pub ends_kept : (text : List ℕ) (cs : Entries) (e : Fail) → Ends {X = Unit {0}} text cs (Err e) → KeptBefore text e cs
+ends_kept text cs fails.Memory h = absurd h
+ends_kept text cs (fails.Refused f) h = h.1
 
 pub ends_keeps : (text : List ℕ) (cs : Entries) (r : Result (Unit {0}) Fail) → Ends text cs r → Keeps text cs r
 ends_keeps text cs (Ok x) h = h
@@ -133,13 +137,13 @@ ends_keeps text cs (Err fails.Memory) h = absurd h
 ends_keeps text cs (Err (fails.Refused f)) h = (h.0, h.1)
 
 -- what a reader holds is what its text shows
-pub holds_shows : (r : Progress) (text : List ℕ) (cs : Entries) → cs ≡ r.commands.items → r.offset ≤ text_limit → Holds r text → Shows text (Ok cs)
+pub holds_shows : (r : Progress) (gone : Entries) (text : List ℕ) (cs : Entries) → cs ≡ gone ++ r.commands.items → r.offset ≤ text_limit → Holds r gone text → Shows text (Ok cs)
 unfolding checks_len
-holds_shows r text cs same le h =
+holds_shows r gone text cs same le h =
     let short : length text ≤ text_limit = omega (arith, h.offset, le) in
     record {
       items = h.items;
       rest = h.rest;
       splits = subst (λ (t : List ℕ). Splits (marks t) h.items h.rest) (sym (take_all text_limit text short)) h.splits;
-      answer_is = sym (ap (λ s. s >>= checks_len (length text) h.items) h.commands ∙ (ap (λ t. cond t (Err (fault (suc (length h.items)) text_limit TooLong)) (Ok r.commands.items)) (le-ltb text_limit (length text) short) ∙ ap (λ (x : Entries). Ok x) (sym same)));
+      answer_is = sym (ap (λ s. s >>= checks_len (length text) h.items) h.commands ∙ (ap (λ t. cond t (Err (fault (suc (length h.items)) text_limit TooLong)) (Ok (gone ++ r.commands.items))) (le-ltb text_limit (length text) short) ∙ ap (λ (x : Entries). Ok x) (sym same)));
     }

@@ -138,6 +138,10 @@ abbrev pub Keeps : {X : Type 0} → List ℕ → Entries → Result X Fail → T
 Keeps text commands (Ok _) = Reads text (Ok commands)
 Keeps text commands (Err e) = Tells (λ f. Reads text (Err f)) e × KeptBefore text e commands
 
+-- the commands that are gone, and after them those of a vector (docs/DEFINITIONS.md, Reading in pieces)
+abbrev pub entries_behind : Entries → Vec (Placed Command) → Entries
+entries_behind gone v = gone ++ v.items
+
 -- the entries of a vector (docs/DEFINITIONS.md, Reading a Gerber text)
 abbrev pub entries_of : Vec (Placed Command) → Entries
 entries_of v = v.items

@@ -6,7 +6,7 @@ ghost use Rattle.grid_units.specs.declared.fault.Fault.{Fault};
 ghost use Rattle.grid_units.specs.declared.fault.Fail.TheVariants.{Refused};
 ghost use Rattle.grid_units.specs.Results.{fault, Answers};
 ghost use Rattle.gerber_rows.specs.declared.command.Command.TheVariants.{Mode};
-ghost use Rattle.gerber_text.specs.Reading.{Entries, Shows, spelled, placed, Leaves, plot_of, is_plotting, Reads, SpellsText, Keeps, entries_of, is_blank};
+ghost use Rattle.gerber_text.specs.Reading.{Entries, Shows, spelled, placed, Leaves, plot_of, is_plotting, Reads, SpellsText, Keeps, KeptBefore, entries_of, entries_behind, is_blank};
 ghost use Rattle.gerber_text.specs.Bytes.{IsInside, follows_or_drops};
 ghost use Rattle.gerber_text.specs.Writing.{without_places, sayable};
 
@@ -17,6 +17,7 @@ use gerber_rows::{
 };
 use grid_units::{Fail, Fault, Reason};
 use std::alloc::{AllocError, Global};
+use std::mem::replace;
 
 const ITEM_LIMIT: usize = 1_048_576;
 
@@ -33,7 +34,6 @@ pub(crate) struct Progress {
     items: u64,
     ended: bool,
     plotting: bool,
-    ghost plots: { plotting ≡ is_plotting commands.items },
     ghost counted: { items ≤ offset },
     ghost in_text: { offset ≤ 268435456 },
     ghost in_item: { vec_len item ≤ 1048576 },
@@ -111,9 +111,8 @@ fn add(
     spelled: Spelled,
     commands: &mut Vec<Placed<Command>>,
 ) -> Result<bool, AllocError>
-    requires plotting { plotting ≡ is_plotting commands.old.items }
     ensures added { OnOk result (commands.new.items ≡ commands.old.items ++ placed place byte spelled) }
-    ensures plotting { IfOk result (λ plotting. plotting ≡ is_plotting commands.new.items) }
+    ensures plotting { (before : Entries) → plotting ≡ is_plotting before → IfOk result (λ new. new ≡ is_plotting (before ++ placed place byte spelled)) }
     ensures err { OnErr result (commands.new.items ≡ commands.old.items) }
 {
     let (mode, command) = spelled.into_parts();
@@ -137,9 +136,8 @@ fn add_one(
     what: Command,
     commands: &mut Vec<Placed<Command>>,
 ) -> Result<bool, AllocError>
-    requires plotting { plotting ≡ is_plotting commands.old.items }
     ensures added { OnOk result (commands.new.items ≡ commands.old.items ++ placed place byte (what ∷ [])) }
-    ensures plotting { IfOk result (λ plotting. plotting ≡ is_plotting commands.new.items) }
+    ensures plotting { (before : Entries) → plotting ≡ is_plotting before → IfOk result (λ new. new ≡ is_plotting (before ++ placed place byte (what ∷ []))) }
     ensures err { OnErr result (commands.new.items ≡ commands.old.items) }
 {
     let plotting = plots_after(plotting, &what);
@@ -183,9 +181,8 @@ fn spell(
     commands: &mut Vec<Placed<Command>>,
 ) -> Result<bool, Fail>
     requires short { length item.now ≤ 1048576 }
-    requires plotting { plotting ≡ is_plotting commands.old.items }
-    ensures spelled { Leaves result commands.new.items (spelled place byte item.now commands.old.items) }
-    ensures plotting { IfOk result (λ plotting. plotting ≡ is_plotting commands.new.items) }
+    ensures spelled { (gone : Entries) → plotting ≡ is_plotting (gone ++ commands.old.items) → Leaves result (gone ++ commands.new.items) (spelled place byte item.now (gone ++ commands.old.items)) }
+    ensures plotting { (gone : Entries) → plotting ≡ is_plotting (gone ++ commands.old.items) → IfOk result (λ new. new ≡ is_plotting (gone ++ commands.new.items)) }
     ensures err { OnErr result (commands.new.items ≡ commands.old.items) }
 {
     match read_item(alloc, plotting, item) {
@@ -448,7 +445,7 @@ impl Progress {
 
     /// Whether the text has ended.
     fn end(&self) -> Result<(), Fail>
-        ensures { (text : List ℕ) → Holds self.now text → Ends text self.now.commands.items result }
+        ensures { (gone : Entries) (text : List ℕ) → Holds self.now gone text → Ends text (gone ++ self.now.commands.items) result }
     {
         if self.ended {
             return Ok(());
@@ -458,7 +455,9 @@ impl Progress {
 
     /// The commands, if the text has ended.
     fn finish(self) -> Result<Vec<Placed<Command>>, Fail>
-        ensures { (text : List ℕ) → Holds self text → AnswersAlways entries_of (λ answer. Reads text answer) result }
+        ensures held { IfOk result (λ v. v.items ≡ self.commands.items) }
+        ensures kept { (gone : Entries) (text : List ℕ) → Holds self gone text → IfErr result (λ e. KeptBefore text e (gone ++ self.commands.items)) }
+        ensures exact { (gone : Entries) (text : List ℕ) → Holds self gone text → AnswersAlways (entries_behind gone) (λ answer. Reads text answer) result }
     {
         self.end()?;
         Ok(self.commands)
@@ -477,8 +476,8 @@ impl WordReader {
     ghost use Rattle.std.specs.Prelude.{List, Some, Ok, Err, [], ◌++◌};
     ghost use Rattle.grid_units.specs.declared.fault.Fail.{Fail as TheFail};
     ghost use Rattle.grid_units.specs.Results.{AnswersAlways};
-    ghost use Rattle.gerber_text.specs.Reading.{Shows, Reads, KeptBefore, Keeps};
-    ghost use Rattle.gerber_text.specs.Standing.{StandsAfter, HasFailed, failure};
+    ghost use Rattle.gerber_text.specs.Reading.{Shows, Reads, Keeps};
+    ghost use Rattle.gerber_text.specs.Standing.{StandsAfter, StandsBehind, HasFailed, FailedBehind, failure, held};
 
     /// A reader that has read nothing.
     pub fn new(alloc: Global) -> WordReader
@@ -507,8 +506,8 @@ impl WordReader {
     /// The first fault that the text shows so far, whatever follows; `Memory` where a growth was refused. A
     /// reader that has failed gives its failure again.
     pub fn feed(&mut self, piece: &[u8]) -> Result<(), Fail>
-        ensures ok { (text : List ℕ) → StandsAfter self.old text → OnOk result (StandsAfter self.new (text ++ piece.now)) }
-        ensures err { (text : List ℕ) → StandsAfter self.old text → IfErr result (HasFailed self.new (text ++ piece.now)) }
+        ensures ok { (gone : Entries) (text : List ℕ) → StandsBehind self.old gone text → OnOk result (StandsBehind self.new gone (text ++ piece.now)) }
+        ensures err { (gone : Entries) (text : List ℕ) → StandsBehind self.old gone text → IfErr result (FailedBehind self.new gone (text ++ piece.now)) }
         ensures failed { IfSome (failure self.old) (λ e. (result ≡ Err e) × (self.new ≡ self.old)) }
     {
         if let Some(fail) = self.failed {
@@ -524,10 +523,31 @@ impl WordReader {
     /// The commands of the items that have ended so far; after a fault those before its place, and after
     /// want of memory those of some first items.
     pub fn commands(&self) -> &[Placed<Command>]
-        ensures shown { (text : List ℕ) → StandsAfter self.now text → Shows text (Ok result.now) }
-        ensures kept { (text : List ℕ) (e : TheFail) → HasFailed self.now text e → KeptBefore text e result.now }
+        ensures held { result.now ≡ held self.now }
+        ensures shown { (gone : Entries) (text : List ℕ) → StandsBehind self.now gone text → Shows text (Ok (gone ++ result.now)) }
+        ensures kept { (gone : Entries) (text : List ℕ) (e : TheFail) → FailedBehind self.now gone text e → KeptBefore text e (gone ++ result.now) }
     {
         &self.progress.commands
+    }
+
+    /// Lets go of the commands so far: from here on [`WordReader::commands`] gives those that come after them.
+    pub fn let_go(&mut self)
+        ensures none { held self.new ≡ [] }
+        ensures gone { (gone : Entries) (text : List ℕ) → StandsBehind self.old gone text → StandsBehind self.new (gone ++ held self.old) text }
+        ensures failed { failure self.new ≡ failure self.old }
+    {
+        self.progress.commands.clear();
+    }
+
+    /// The commands so far, which the reader lets go of.
+    pub fn take_commands(&mut self) -> Vec<Placed<Command>>
+        ensures taken { result.items ≡ held self.old }
+        ensures none { held self.new ≡ [] }
+        ensures gone { (gone : Entries) (text : List ℕ) → StandsBehind self.old gone text → StandsBehind self.new (gone ++ held self.old) text }
+        ensures failed { failure self.new ≡ failure self.old }
+    {
+        let alloc = self.progress.alloc;
+        replace(&mut self.progress.commands, Vec::new(alloc))
     }
 
     /// The commands of the text.
@@ -536,7 +556,9 @@ impl WordReader {
     ///
     /// The first fault of the text. A reader that has failed gives its failure again.
     pub fn finish(self) -> Result<Vec<Placed<Command>>, Fail>
-        ensures exact { (text : List ℕ) → StandsAfter self text → AnswersAlways entries_of (λ answer. Reads text answer) result }
+        ensures exact { (gone : Entries) (text : List ℕ) → StandsBehind self gone text → AnswersAlways (entries_behind gone) (λ answer. Reads text answer) result }
+        ensures held { IfOk result (λ v. v.items ≡ held self) }
+        ensures kept { (gone : Entries) (text : List ℕ) → StandsBehind self gone text → IfErr result (λ e. KeptBefore text e (gone ++ held self)) }
         ensures sayable { (text : List ℕ) → StandsAfter self text → IfOk result (λ v. sayable (without_places v.items) ≡ true) }
         ensures failed { IfSome (failure self) (λ e. result ≡ Err e) }
     {

@@ -1,9 +1,12 @@
 pub mod Grids
+pub mod Adding
 pub mod Knowing
 pub mod Broken
 pub mod Moves
+pub mod Naming
 pub mod Places
 pub mod Faulty
 pub mod Listing
 pub mod Reading
 pub mod Unique
+pub mod Pieces

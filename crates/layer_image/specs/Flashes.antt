@@ -1,5 +1,5 @@
 -- The flashes of a list of commands, one for each copy.
-use Rattle.std.specs.Prelude.{ℕ, zero, suc, ◌*◌, ◌%◌, ℤ, pos, ◌+ℤ◌, ◌*ℤ◌, Bool, true, false, not, ◌==◌, List, [], ◌∷◌, ◌++◌, map, Option, None, Some, unwrap_or, if◌then◌else◌, unsigned_abs}
+use Rattle.std.specs.Prelude.{ℕ, zero, suc, ◌*◌, ◌%◌, ℤ, pos, ◌+ℤ◌, ◌*ℤ◌, Bool, true, false, not, ◌==◌, List, [], ◌∷◌, ◌++◌, map, count_by, Option, None, Some, unwrap_or, if◌then◌else◌, unsigned_abs}
 use Rattle.std.specs.Option.{option_map_or}
 use Rattle.std.specs.Ordering.{int_eq}
 use Rattle.std.specs.List.{flat_map, filter_map, find}
@@ -167,3 +167,12 @@ pad_in (what.Other why) = None
 -- the pads among the flashes, in order (docs/DEFINITIONS.md, Flashes and pads)
 abbrev pub pads_of : List Flash → List Pad
 pads_of flashes = filter_map (λ flash. pad_in flash.what) flashes
+
+-- what was left is no pad (docs/DEFINITIONS.md, Flashes and pads)
+abbrev pub is_other : What → Bool
+is_other (what.Pad pad) = false
+is_other (what.Other why) = true
+
+-- how many of the flashes are no pads (docs/DEFINITIONS.md, Flashes and pads)
+abbrev pub others_in : List Flash → ℕ
+others_in flashes = count_by (λ flash. is_other flash.what) flashes

@@ -4,7 +4,10 @@ pub mod Numbers
 pub mod Moved
 pub mod Flashes
 pub mod Rules
+pub mod Tables
+pub mod Keeping
 pub mod Knows
 pub mod Faults
 pub mod Functions
 pub mod Layers
+pub mod Standing

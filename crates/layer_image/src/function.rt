@@ -5,25 +5,12 @@ ghost use Rattle.std.specs.List.{position_or_len, prefix_len, before_first, afte
 ghost use Rattle.std.specs.Option.{option_copied};
 ghost use Rattle.gerber_rows.specs.Rows.{behind};
 ghost use Rattle.gerber_rows.specs.Words.{behind_spaces};
-ghost use Rattle.layer_image.specs.Functions.{is_comma, function_in, function_named, file_function_of};
-ghost use Rattle.layer_image.specs.Faults.{without_places};
+ghost use Rattle.layer_image.specs.Functions.{is_comma, function_in, function_named};
 
 use gerber_rows::{AttributeKind, Command};
-use gerber_text::Placed;
-
-/// The last file function that the commands name.
-pub(crate) fn file_function(entries: &[Placed<Command>]) -> Option<&[u8]>
-    ensures { option_copied result ≡ file_function_of (without_places entries.now) }
-{
-    let mut last = None;
-    for entry in entries {
-        last = function_named(&entry.what).or(last);
-    }
-    last
-}
 
 /// The file function in a file attribute, also in one that a comment holds.
-fn function_named(command: &Command) -> Option<&[u8]>
+pub(crate) fn function_named(command: &Command) -> Option<&[u8]>
     ensures { option_copied result ≡ function_named command.now }
 {
     match command {

@@ -3,18 +3,24 @@
 
 mod aperture;
 mod flash;
+mod flashes;
 mod force;
 mod function;
 mod grid;
-mod image;
 mod judge;
+mod laws;
 mod layer;
 mod length;
+mod reader;
 mod rules;
+mod scan;
 mod size;
+mod tables;
 
 pub use flash::{Flash, What, Why};
+pub use laws::shown_faults;
 pub use layer::{Layer, equal_commands, one_reading, read_layer};
+pub use reader::{LayerReader, LayerSum, SumReader};
 
 #[cfg(test)]
 mod tests;

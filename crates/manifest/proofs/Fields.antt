@@ -1,58 +1,57 @@
--- A record of three fields.
-use Rattle.std.proofs.Common.{◌≡◌, ◌&&◌, ◌<◌, ℕ, zero, suc, List, [], ◌∷◌, Bool, true, false, Some, None, sym, length, arith, refl, ap, ◌∙◌}
+-- A record of at most five fields.
+use Rattle.std.proofs.Common.{◌≡◌, ◌∙◌, ◌&&◌, ◌≤◌, ◌<◌, ◌==◌, ◌⊎◌, ℕ, zero, suc, List, [], ◌∷◌, Bool, true, false, Some, None, length, arith, refl, ap, sym, inl, inr}
+use Rattle.std.specs.List.{list_all}
+use Rattle.std.specs.Str.{bytes_eq, is_utf8}
+use Rattle.std.proofs.lemmas.Str.{is_utf8-from_IsUtf8}
+use Rattle.std.proofs.lemmas.Bool.{false≢true}
+use Rattle.std.proofs.lemmas.List.Folds.{list_all_at}
 use Rattle.csv.specs.Records.{field_at}
 use Rattle.manifest.specs.Manifest.{Row, field, is_plain_text, is_well_formed}
 
--- three fields are all of a record of three
-pub three_fields : (row : Row) (a b c : List ℕ) → length row ≡ 3 → Some a ≡ field_at row 0 → Some b ≡ field_at row 1 → Some c ≡ field_at row 2 → row ≡ a ∷ b ∷ c ∷ []
-unfolding field_at
-three_fields [] a b c n p q r = absurd (omega arith)
-three_fields (x ∷ []) a b c n p q r = absurd (omega arith)
-three_fields (x ∷ y ∷ []) a b c n p q r = absurd (omega arith)
-three_fields (x ∷ y ∷ z ∷ []) a b c n p q r = cc
-three_fields (x ∷ y ∷ z ∷ w ∷ rest) a b c n p q r = absurd (omega arith)
+-- the empty text is plain
+pub empty_plain : is_plain_text [] ≡ true
+empty_plain = let text : is_utf8 [] ≡ true = is_utf8-from_IsUtf8 [] ([], (refl, refl)) in rw text refl
 
--- a place below the length has a field
-pub has_field : (row : Row) (k : ℕ) → k < length row → (f : List ℕ) × (Some f ≡ field_at row k)
-unfolding field_at
-has_field [] k lt = absurd (omega arith)
-has_field (x ∷ rest) zero lt = (x, refl)
-has_field (x ∷ rest) (suc k) lt = has_field rest k (omega arith)
+and_true : (b : Bool) → (b && true) ≡ b
+and_true true = refl
+and_true false = refl
 
--- what `is_well_formed` is at a record of three fields
-formed : (row : Row) (a b c : List ℕ) → length row ≡ 3 → Some a ≡ field_at row 0 → Some b ≡ field_at row 1 → Some c ≡ field_at row 2
-    → is_well_formed row ≡ (is_plain_text a && (is_plain_text b && (is_plain_text c && true)))
-formed row a b c n p q r = ap is_well_formed (three_fields row a b c n p q r)
+-- the fields all pass where the five places do, as a test passes the empty text
+five_fields : (p : List ℕ → Bool) (row : Row) → length row ≤ 5 → p [] ≡ true
+    → list_all p row ≡ (p (field 0 row) && (p (field 1 row) && (p (field 2 row) && (p (field 3 row) && p (field 4 row)))))
+five_fields p [] n e = rw e refl
+five_fields p (a ∷ []) n e = rw e refl
+five_fields p (a ∷ b ∷ []) n e = rw e refl
+five_fields p (a ∷ b ∷ c ∷ []) n e = rw e refl
+five_fields p (a ∷ b ∷ c ∷ d ∷ []) n e = rw e refl
+five_fields p (a ∷ b ∷ c ∷ d ∷ f ∷ []) n e = rw (and_true (p f)) refl
+five_fields p (a ∷ b ∷ c ∷ d ∷ f ∷ g ∷ rest) n e = absurd (omega arith)
 
-pub well_formed : (row : Row) (a b c : List ℕ) → length row ≡ 3 → Some a ≡ field_at row 0 → Some b ≡ field_at row 1 → Some c ≡ field_at row 2
-    → is_plain_text a ≡ true → is_plain_text b ≡ true → is_plain_text c ≡ true → is_well_formed row ≡ true
-well_formed row a b c n p q r x y z = formed row a b c n p q r ∙ rw (x, y, z) refl
+same_length : (row : Row) (width : ℕ) → length row ≡ width → (length row == width) ≡ true
+same_length row width n = rw n (grind arith)
+
+-- five plain fields are a record, as far as it has them
+pub well_formed : (row : Row) (width : ℕ) → length row ≡ width → width ≤ 5 → is_plain_text (field 0 row) ≡ true → is_plain_text (field 1 row) ≡ true
+    → is_plain_text (field 2 row) ≡ true → is_plain_text (field 3 row) ≡ true → is_plain_text (field 4 row) ≡ true → is_well_formed width row ≡ true
+well_formed row width n five a b c d e =
+    let all : list_all is_plain_text row ≡ true = five_fields is_plain_text row (omega arith) empty_plain ∙ rw (a, b, c, d, e) refl in
+    rw (same_length row width n, all) refl
+
+either_place : (row : Row) (k : ℕ) → (k < length row) ⊎ (field k row ≡ [])
+either_place [] k = inr refl
+either_place (x ∷ rest) zero = inl (omega arith)
+either_place (x ∷ rest) (suc k) = elim (either_place rest k) [ inl lt ↦ inl (omega arith) | inr e ↦ inr e ]
 
 second_false : (x y : Bool) → y ≡ false → (x && y) ≡ false
 second_false true y e = e
 second_false false y e = refl
 
--- a wrong field at some place
-pub wrong_first : (row : Row) (a : List ℕ) → length row ≡ 3 → Some a ≡ field_at row 0 → is_plain_text a ≡ false → is_well_formed row ≡ false
-wrong_first row a n p x =
-    let (b, q) = has_field row 1 (omega arith) in
-    let (c, r) = has_field row 2 (omega arith) in
-    formed row a b c n p q r ∙ rw x refl
-
-pub wrong_second : (row : Row) (b : List ℕ) → length row ≡ 3 → Some b ≡ field_at row 1 → is_plain_text b ≡ false → is_well_formed row ≡ false
-wrong_second row b n q x =
-    let (a, p) = has_field row 0 (omega arith) in
-    let (c, r) = has_field row 2 (omega arith) in
-    formed row a b c n p q r ∙ rw x (second_false (is_plain_text a) _ refl)
-
-pub wrong_third : (row : Row) (c : List ℕ) → length row ≡ 3 → Some c ≡ field_at row 2 → is_plain_text c ≡ false → is_well_formed row ≡ false
-wrong_third row c n r x =
-    let (a, p) = has_field row 0 (omega arith) in
-    let (b, q) = has_field row 1 (omega arith) in
-    formed row a b c n p q r ∙ rw x (second_false (is_plain_text a) _ (second_false (is_plain_text b) _ refl))
-
-pub no_field : (row : Row) (k : ℕ) → k < length row → None ≡ field_at row k → ⊥
-no_field row k lt e = let (f, s) = has_field row k lt in cc (e ∙ sym s)
+-- a field that is not plain is none of a record
+pub ill_formed : (row : Row) (width k : ℕ) → is_plain_text (field k row) ≡ false → is_well_formed width row ≡ false
+ill_formed row width k wrong = elim (either_place row k) [
+  | inl lt ↦ second_false (length row == width) _ (list_all_at is_plain_text row k [] lt wrong)
+  | inr e ↦ let plain : is_plain_text (field k row) ≡ true = ap is_plain_text e ∙ empty_plain in absurd (false≢true (sym wrong ∙ plain))
+]
 
 -- the field at a place, as the definitions name it
 pub field_is : (row : Row) (k : ℕ) (f : List ℕ) → Some f ≡ field_at row k → f ≡ field k row
@@ -60,3 +59,15 @@ unfolding field_at
 field_is [] k f e = cc
 field_is (x ∷ rest) zero f e = cc
 field_is (x ∷ rest) (suc k) f e = field_is rest k f e
+
+-- a place without a field has the empty one
+pub no_field : (row : Row) (k : ℕ) → None ≡ field_at row k → field k row ≡ []
+unfolding field_at
+no_field [] k e = refl
+no_field (x ∷ rest) zero e = cc
+no_field (x ∷ rest) (suc k) e = no_field rest k e
+
+-- the empty text is no other one
+pub empty_differs : (text : List ℕ) → 0 < length text → bytes_eq [] text ≡ false
+empty_differs [] h = absurd (omega arith)
+empty_differs (x ∷ rest) h = refl

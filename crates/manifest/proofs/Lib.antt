@@ -1,3 +1,5 @@
 pub mod Fields
+pub mod NamesBefore
 pub mod OneByOne
 pub mod Records
+pub mod SpanFields

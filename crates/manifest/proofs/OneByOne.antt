@@ -1,9 +1,9 @@
 -- One record after another.
-use Rattle.std.proofs.Common.{◌≡◌, ◌∙◌, ◌<◌, ◌≤◌, ◌+◌, ◌++◌, ℕ, zero, suc, List, [], ◌∷◌, Option, Some, None, Ok, Err, length, map, take, drop, get_or, slice_get, arith, refl, ap, sym}
+use Rattle.std.proofs.Common.{◌≡◌, ◌∙◌, ◌<◌, ◌≤◌, ◌+◌, ◌++◌, ℕ, zero, suc, Bool, List, [], ◌∷◌, Option, Some, None, Ok, Err, length, map, take, drop, get_or, slice_get, arith, refl, ap, sym}
 use Rattle.std.proofs.lemmas.List.{map-append}
 use Rattle.std.specs.Prelude.{Vec}
 use Rattle.std.specs.declared.alloc.Global.{Global}
-use Rattle.std.specs.Option.{option_map, option_or}
+use Rattle.std.specs.Option.{option_or}
 use Rattle.grid_units.proofs.Lookbacks.{breaks-first, breaks-more}
 use Rattle.grid_units.specs.Lists.{breaks}
 use Rattle.grid_units.specs.Results.{Answers, at, fault}
@@ -12,7 +12,7 @@ use Rattle.grid_units.specs.declared.fault.Fault.{Fault}
 use Rattle.grid_units.specs.declared.fault.Fail.{Fail}
 use Rattle.grid_units.specs.declared.fault.Fail.TheVariants as fails
 use Rattle.manifest.specs.declared.Entry.{Entry}
-use Rattle.manifest.specs.Manifest.{Row, broken_behind, broken_rule, entries_of, entry_of, missing_role, unless_wrong}
+use Rattle.manifest.specs.Manifest.{Row, broken_behind, broken_rule, entries_of, entry_of, field, is_repeated, unless_wrong, wrong_together}
 use Rattle.manifest.specs.OneRecord.{judged, unless_broken}
 
 broken : (o : Option Reason) (given : Entry) (place : ℕ) (f : Fault) → Err f ≡ at place 0 (unless_broken o given) → (why : Reason) × (o ≡ Some why) × (f ≡ fault place 0 why)
@@ -20,8 +20,8 @@ broken None given place f e = absurd cc
 broken (Some why) given place f e = (why, refl, cc)
 
 -- a record that gives an entry breaks no rule
-accepted : (earlier : List Entry) (row : Row) (entry : Entry) (place : ℕ) → Ok entry ≡ at place 0 (judged earlier row) → (broken_rule earlier row ≡ None) × (entry ≡ entry_of row)
-accepted earlier row entry place e = by (broken_rule earlier row) e
+accepted : (width : ℕ) (repeated : Bool) (row : Row) (entry : Entry) (place : ℕ) → Ok entry ≡ at place 0 (judged width repeated row) → (broken_rule width repeated row ≡ None) × (entry ≡ entry_of row)
+accepted width repeated row entry place e = by (broken_rule width repeated row) e
   where
     by : (o : Option Reason) → Ok entry ≡ at place 0 (unless_broken o (entry_of row)) → (o ≡ None) × (entry ≡ entry_of row)
     by None h = (refl, cc)
@@ -52,42 +52,37 @@ module _ {A : Type 0} (f : A → Row) where
   length_before (y ∷ ys) zero lt = refl
   length_before (y ∷ ys) (suc i) lt = ap suc (length_before ys i (omega arith))
 
--- the first record that breaks a rule is the refusal
-refused_at : (before rest : List Row) (row : Row) (why : Reason) → breaks broken_behind before ≡ [] → broken_behind before row ≡ Some why
-    → entries_of (before ++ row ∷ rest) ≡ Err (fault (length before + 2) 0 why)
-refused_at before rest row why none is =
-    ap (λ (o : Option (ℕ × Reason)). unless_wrong (option_or o (option_map (λ w. (length (before ++ row ∷ rest), w)) (missing_role (map entry_of (before ++ row ∷ rest))))) (map entry_of (before ++ row ∷ rest)))
-    (breaks-first broken_behind before rest row why none is)
+module _ (width : ℕ) where
+  -- the first record that breaks a rule is the refusal
+  refused_at : (before rest : List Row) (row : Row) (why : Reason) → breaks (broken_behind width) before ≡ [] → broken_behind width before row ≡ Some why
+      → entries_of width (before ++ row ∷ rest) ≡ Err (fault (length before + 2) 0 why)
+  refused_at before rest row why none is =
+      ap (λ (o : Option (ℕ × Reason)). unless_wrong (option_or o (wrong_together (map entry_of (before ++ row ∷ rest)))) (map entry_of (before ++ row ∷ rest)))
+      (breaks-first (broken_behind width) before rest row why none is)
 
--- a record that is refused behind lawful ones, as a failure
-pub refused : (before rest : List Row) (row : Row) (all : List Row) (earlier : List Entry) (i : ℕ) (e : Fail) → all ≡ before ++ row ∷ rest → i ≡ length before → earlier ≡ map entry_of before
-    → breaks broken_behind before ≡ [] → Answers (λ (x : Entry). x) (λ answer. answer ≡ at (i + 2) 0 (judged earlier row)) (Err e)
-    → Answers {T = Vec Entry Global} (λ entries. entries.items) (λ answer. answer ≡ entries_of all) (Err e)
-refused before rest row all earlier i fails.Memory split place are none h = tt
-refused before rest row all earlier i (fails.Refused f) split place are none h =
-    let (why, is, same) = broken (broken_rule earlier row) (entry_of row) (i + 2) f h in
-    let rule : broken_behind before row ≡ Some why = ap (λ (l : List Entry). broken_rule l row) (sym are) ∙ is in
-    ap (λ (g : Fault). Err g) (same ∙ ap (λ (n : ℕ). fault (n + 2) 0 why) place) ∙ sym (refused_at before rest row why none rule) ∙ ap entries_of (sym split)
+  -- a record that is refused behind lawful ones, as a failure
+  pub refused : (before rest : List Row) (row : Row) (all : List Row) (repeated : Bool) (i : ℕ) (e : Fail) → all ≡ before ++ row ∷ rest → i ≡ length before → repeated ≡ is_repeated (field 1 row) (map entry_of before)
+      → breaks (broken_behind width) before ≡ [] → Answers (λ (x : Entry). x) (λ answer. answer ≡ at (i + 2) 0 (judged width repeated row)) (Err e)
+      → Answers {T = Vec Entry Global} (λ entries. entries.items) (λ answer. answer ≡ entries_of width all) (Err e)
+  refused before rest row all repeated i fails.Memory split place was none h = tt
+  refused before rest row all repeated i (fails.Refused f) split place was none h =
+      let (why, is, same) = broken (broken_rule width repeated row) (entry_of row) (i + 2) f h in
+      let rule : broken_behind width before row ≡ Some why = ap (λ (b : Bool). broken_rule width b row) (sym was) ∙ is in
+      ap (λ (g : Fault). Err g) (same ∙ ap (λ (n : ℕ). fault (n + 2) 0 why) place) ∙ sym (refused_at before rest row why none rule) ∙ ap (entries_of width) (sym split)
 
--- a record that is accepted behind lawful ones
-pub accepted_more : (before : List Row) (row : Row) (after : List Row) (earlier items : List Entry) (entry : Entry) (place : ℕ) → after ≡ before ++ row ∷ [] → earlier ≡ map entry_of before
-    → items ≡ earlier ++ entry ∷ [] → breaks broken_behind before ≡ [] → Ok entry ≡ at place 0 (judged earlier row) → (items ≡ map entry_of after) × (breaks broken_behind after ≡ [])
-accepted_more before row after earlier items entry place grown are more none e =
-    let (lawful, is) = accepted earlier row entry place e in
-    let rule : broken_behind before row ≡ None = ap (λ (l : List Entry). broken_rule l row) (sym are) ∙ lawful in
-    let all : items ≡ map entry_of (before ++ row ∷ []) = more ∙ (λ k. are k ++ is k ∷ []) ∙ sym (map-append entry_of before (row ∷ [])) in
-    (all ∙ ap (map entry_of) (sym grown), ap (breaks broken_behind) grown ∙ breaks-more broken_behind before row none rule)
+  -- a record that is accepted behind lawful ones
+  pub accepted_more : (before : List Row) (row : Row) (after : List Row) (repeated : Bool) (earlier items : List Entry) (entry : Entry) (place : ℕ) → after ≡ before ++ row ∷ [] → repeated ≡ is_repeated (field 1 row) (map entry_of before)
+      → earlier ≡ map entry_of before → items ≡ earlier ++ entry ∷ [] → breaks (broken_behind width) before ≡ [] → Ok entry ≡ at place 0 (judged width repeated row)
+      → (items ≡ map entry_of after) × (breaks (broken_behind width) after ≡ [])
+  accepted_more before row after repeated earlier items entry place grown was are more none e =
+      let (lawful, is) = accepted width repeated row entry place e in
+      let rule : broken_behind width before row ≡ None = ap (λ (b : Bool). broken_rule width b row) (sym was) ∙ lawful in
+      let all : items ≡ map entry_of (before ++ row ∷ []) = more ∙ (λ k. are k ++ is k ∷ []) ∙ sym (map-append entry_of before (row ∷ [])) in
+      (all ∙ ap (map entry_of) (sym grown), ap (breaks (broken_behind width)) grown ∙ breaks-more (broken_behind width) before row none rule)
 
--- where no record breaks a rule, a missing role decides
-at_end : (files : List Row) (entries : List Entry) (missing : Option Reason) → entries ≡ map entry_of files → missing ≡ missing_role entries → breaks broken_behind files ≡ []
-    → entries_of files ≡ unless_wrong (option_map (λ why. (length files, why)) missing) entries
-at_end files entries missing are is none =
-    ap (λ (l : List (ℕ × Reason)). unless_wrong (option_or (slice_get l 0) (option_map (λ w. (length files, w)) (missing_role (map entry_of files)))) (map entry_of files)) none
-    ∙ (λ k. unless_wrong (option_map (λ w. (length files, w)) (sym (is ∙ ap missing_role are) k)) (sym are k))
-
-pub lacking : (files : List Row) (entries : List Entry) (why : Reason) (n : ℕ) → entries ≡ map entry_of files → Some why ≡ missing_role entries → breaks broken_behind files ≡ [] → n ≡ length files
-    → Err (fault (n + 2) 0 why) ≡ entries_of files
-lacking files entries why n are is none count = ap (λ (m : ℕ). Err (fault (m + 2) 0 why)) count ∙ sym (at_end files entries (Some why) are is none)
-
-pub complete : (files : List Row) (entries : List Entry) → entries ≡ map entry_of files → None ≡ missing_role entries → breaks broken_behind files ≡ [] → Ok entries ≡ entries_of files
-complete files entries are is none = sym (at_end files entries None are is none)
+  -- where no record breaks a rule, the files together decide
+  pub at_end : (files : List Row) (entries : List Entry) (wrong : Option (ℕ × Reason)) → entries ≡ map entry_of files → wrong ≡ wrong_together entries → breaks (broken_behind width) files ≡ []
+      → unless_wrong wrong entries ≡ entries_of width files
+  at_end files entries wrong are is none =
+      sym (ap (λ (l : List (ℕ × Reason)). unless_wrong (option_or (slice_get l 0) (wrong_together (map entry_of files))) (map entry_of files)) none
+      ∙ (λ k. unless_wrong (sym (is ∙ ap wrong_together are) k) (sym are k)))

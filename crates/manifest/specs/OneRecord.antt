@@ -1,14 +1,30 @@
--- What one record gives: a word between the public one and those of a single rule.
-use Rattle.std.specs.Prelude.{List, Option, Some, None, Result, Ok, Err}
+-- What one record gives: words between the public ones and those of a single rule.
+use Rattle.std.specs.Prelude.{ℕ, Bool, List, Option, Some, None, Result, Ok, Err, if◌then◌else◌}
+use Rattle.grid_units.specs.Numbers.{value}
+use Rattle.grid_units.specs.Spans.{LayerSpan}
 use Rattle.grid_units.specs.declared.fault.Reason.{Reason}
+use Rattle.grid_units.specs.declared.fault.Reason.TheVariants.{BadSpan}
 use Rattle.manifest.specs.declared.Entry.{Entry}
-use Rattle.manifest.specs.Manifest.{Row, broken_rule, entry_of}
+use Rattle.manifest.specs.declared.Role.{Role}
+use Rattle.manifest.specs.Manifest.{Row, are_span_numbers, broken_rule, entry_of, is_bad_span, is_layer_number, span_named}
+
+-- the number of a layer that a text spells (docs/FORMATS.md, Judging)
+abbrev pub layer_number : List ℕ → Option ℕ
+layer_number text = if is_layer_number text then Some (value text) else None
+
+-- the span of layers with these numbers (docs/FORMATS.md, Judging)
+abbrev pub numbered_span : List ℕ → List ℕ → Option LayerSpan
+numbered_span first last = if are_span_numbers first last then Some (record { first = value first; last = value last }) else None
+
+-- the span that a file of the role names, if it may (docs/FORMATS.md, Judging)
+abbrev pub span_of : Role → List ℕ → List ℕ → Result (Option LayerSpan) Reason
+span_of role first last = if is_bad_span role first last then Err BadSpan else Ok (span_named first last)
 
 -- an entry, if no rule is broken (docs/FORMATS.md, Judging)
 abbrev pub unless_broken : Option Reason → Entry → Result Entry Reason
 unless_broken None entry = Ok entry
 unless_broken (Some why) entry = Err why
 
--- what a file's record gives behind the files before it (docs/FORMATS.md, Judging)
-abbrev pub judged : List Entry → Row → Result Entry Reason
-judged earlier row = unless_broken (broken_rule earlier row) (entry_of row)
+-- what a file's record gives, where its name is repeated or not (docs/FORMATS.md, Judging)
+abbrev pub judged : ℕ → Bool → Row → Result Entry Reason
+judged width repeated row = unless_broken (broken_rule width repeated row) (entry_of row)

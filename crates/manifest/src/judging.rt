@@ -1,19 +1,22 @@
 //! Which records name files, and by which rule the first wrong one is refused.
 
-ghost use Rattle.std.specs.Prelude.{◌≡◌, ◌<◌, ◌∷◌, [], length, map, true, false, Some, MatchOption, List, ℕ};
-ghost use Rattle.std.specs.List.{list_any};
+ghost use Rattle.std.specs.Prelude.{◌≡◌, ◌<◌, ◌≤◌, length, map, true, false, MatchOption, IfSome};
+ghost use Rattle.std.specs.List.{list_any, count_by};
 ghost use Rattle.std.specs.Str.{bytes_eq};
-ghost use Rattle.csv.specs.Records.{field_at, fields_of};
+ghost use Rattle.csv.specs.Records.{fields_of};
 ghost use Rattle.grid_units.specs.Results.{Answers, at, fault};
 ghost use Rattle.manifest.specs.Manifest as naming;
 ghost use Rattle.manifest.specs.Manifest.{field, is_control, is_plain_text, is_well_formed, manifest_of};
+ghost use Rattle.manifest.specs.OneRecord as reading;
 ghost use Rattle.manifest.specs.OneRecord.{judged};
 
 use crate::names::Name;
 use crate::{Entry, Role};
 use csv::ByteRecord;
-use grid_units::{Fail, Fault, Reason};
+use grid_units::numbers::{capped_value, is_digits};
+use grid_units::{Fail, Fault, Reason, Span};
 use std::alloc::Global;
+use std::collections::BTreeSet;
 use std::str;
 
 /// The files that the records name.
@@ -23,23 +26,26 @@ pub(crate) fn manifest_of(alloc: Global, rows: &[ByteRecord]) -> Result<Vec<Entr
     let Some((first, files)) = rows.split_first() else {
         return Err(refused(1, Reason::BadManifest));
     };
-    if !is_heading(first) {
+    let Some(width) = width_of(first) else {
         return Err(refused(1, Reason::BadManifest));
-    }
-    entries_of(alloc, files)
+    };
+    entries_of(alloc, width, files)
 }
 
-/// The files that the records behind the first one name.
-fn entries_of(alloc: Global, files: &[ByteRecord]) -> Result<Vec<Entry>, Fail>
-    ensures { Answers (λ entries. entries.items) (λ answer. answer ≡ naming.entries_of (map fields_of files.now)) result }
+/// The files that the records behind the first one name, where each has so many fields.
+fn entries_of(alloc: Global, width: usize, files: &[ByteRecord]) -> Result<Vec<Entry>, Fail>
+    requires { width ≤ 5 }
+    ensures { Answers (λ entries. entries.items) (λ answer. answer ≡ naming.entries_of width (map fields_of files.now)) result }
 {
+    let mut names = BTreeSet::new(alloc);
     let mut entries = Vec::new(alloc);
     for (i, row) in files.iter().enumerate() {
-        let entry = entry_named(alloc, i as u64 + 2, row, entries.as_slice())?;
+        let is_new = names.insert(name_of(row))?;
+        let entry = entry_named(alloc, i as u64 + 2, width, !is_new, row)?;
         entries.push(entry)?;
     }
-    match missing_role(entries.as_slice()) {
-        Some(reason) => Err(refused(files.len() as u64 + 2, reason)),
+    match wrong_together(entries.as_slice()) {
+        Some((i, reason)) => Err(refused(i as u64 + 2, reason)),
         None => Ok(entries),
     }
 }
@@ -55,16 +61,28 @@ fn refused(place: u64, reason: Reason) -> Fail
     })
 }
 
-/// The file that a record names, behind the files before it.
+/// The name of a record's file, empty where the record has none.
+fn name_of(row: &ByteRecord) -> &[u8]
+    ensures { result.now ≡ field 1 (fields_of row.now) }
+{
+    match row.get(1) {
+        Some(name) => name,
+        None => &[],
+    }
+}
+
+/// The file that a record names, where a file before it has the same name or not.
 fn entry_named(
     alloc: Global,
     place: u64,
+    width: usize,
+    repeated: bool,
     row: &ByteRecord,
-    earlier: &[Entry],
 ) -> Result<Entry, Fail>
-    ensures { Answers (λ entry. entry) (λ answer. answer ≡ at place 0 (judged earlier.now (fields_of row.now))) result }
+    requires { width ≤ 5 }
+    ensures { Answers (λ entry. entry) (λ answer. answer ≡ at place 0 (judged width repeated (fields_of row.now))) result }
 {
-    let Some(fields) = text_fields(row) else {
+    let Some(fields) = text_fields(row, width) else {
         return Err(refused(place, Reason::BadManifest));
     };
     let Some(role) = role_named(fields.role) else {
@@ -73,54 +91,57 @@ fn entry_named(
     if fields.name.is_empty() || fields.file.is_empty() {
         return Err(refused(place, Reason::EmptyName));
     }
-    if is_repeated(fields.name, earlier) {
+    if repeated {
         return Err(refused(place, Reason::RepeatedName));
     }
+    let Ok(span) = span_of(role, fields.first, fields.last) else {
+        return Err(refused(place, Reason::BadSpan));
+    };
     Ok(Entry {
         role,
         name: Name::new(alloc, fields.name)?,
         file: Name::new(alloc, fields.file)?,
+        span,
     })
 }
 
-/// The fields of a record of three, each of plain text.
+/// The fields of a record, each of plain text. Those that it lacks are empty.
 #[derive(Clone, Copy)]
 struct Fields<'a> {
     role: &'a str,
     name: &'a str,
     file: &'a str,
+    first: &'a str,
+    last: &'a str,
 }
 
 /// The fields of a record, if it is well formed.
-fn text_fields<'a>(row: &'a ByteRecord) -> Option<Fields<'a>>
-    ensures { MatchOption result (is_well_formed (fields_of row.now) ≡ false)
-        (λ f. (is_well_formed (fields_of row.now) ≡ true) × (fields_of row.now ≡ f.role.now ∷ f.name.now ∷ f.file.now ∷ [])) }
+fn text_fields<'a>(row: &'a ByteRecord, width: usize) -> Option<Fields<'a>>
+    requires { width ≤ 5 }
+    ensures { MatchOption result (is_well_formed width (fields_of row.now) ≡ false)
+        (λ f. (is_well_formed width (fields_of row.now) ≡ true) × (f.role.now ≡ field 0 (fields_of row.now)) × (f.name.now ≡ field 1 (fields_of row.now))
+        × (f.file.now ≡ field 2 (fields_of row.now)) × (f.first.now ≡ field 3 (fields_of row.now)) × (f.last.now ≡ field 4 (fields_of row.now))) }
 {
-    if row.len() != 3 {
+    if row.len() != width {
         return None;
     }
-    let Some(role) = text_field(row, 0) else {
-        return None;
-    };
-    let Some(name) = text_field(row, 1) else {
-        return None;
-    };
-    let Some(file) = text_field(row, 2) else {
-        return None;
-    };
-    Some(Fields { role, name, file })
+    Some(Fields {
+        role: text_field(row, 0)?,
+        name: text_field(row, 1)?,
+        file: text_field(row, 2)?,
+        first: text_field(row, 3)?,
+        last: text_field(row, 4)?,
+    })
 }
 
-/// A field, if it is plain text.
+/// A field, if it is plain text. One that the record lacks is empty.
 fn text_field(row: &ByteRecord, i: usize) -> Option<&str>
-    requires { i < length (fields_of row.now) }
-    ensures { MatchOption result
-        ((field : List ℕ) × (Some field ≡ field_at (fields_of row.now) i) × (is_plain_text field ≡ false))
-        (λ text. (Some text.now ≡ field_at (fields_of row.now) i) × (is_plain_text text.now ≡ true)) }
+    ensures { MatchOption result (is_plain_text (field i (fields_of row.now)) ≡ false)
+        (λ text. (is_plain_text (field i (fields_of row.now)) ≡ true) × (text.now ≡ field i (fields_of row.now))) }
 {
     match row.get(i) {
         Some(field) => plain_text(field),
-        None => None,
+        None => Some(""),
     }
 }
 
@@ -141,19 +162,35 @@ fn has_control(bytes: &[u8]) -> bool
     bytes.iter().any(|byte| *byte < 0x20 || *byte == 0x7F)
 }
 
-/// Whether the record is `role,name,file`.
-fn is_heading(row: &ByteRecord) -> bool
-    ensures { result ≡ naming.is_heading (fields_of row.now) }
+/// How many fields each record has, if this is the first one of a manifest.
+fn width_of(first: &ByteRecord) -> Option<usize>
+    ensures value { result ≡ naming.width_of (fields_of first.now) }
+    ensures bound { IfSome result (λ width. width ≤ 5) }
 {
-    row.len() == 3
-        && has_field(row, 0, "role")
-        && has_field(row, 1, "name")
-        && has_field(row, 2, "file")
+    if first.len() == 3 && names_files(first) {
+        return Some(3);
+    }
+    if first.len() == 5 && names_files(first) && names_spans(first) {
+        return Some(5);
+    }
+    None
+}
+
+fn names_files(row: &ByteRecord) -> bool
+    ensures { result ≡ naming.names_files (fields_of row.now) }
+{
+    has_field(row, 0, "role") && has_field(row, 1, "name") && has_field(row, 2, "file")
+}
+
+fn names_spans(row: &ByteRecord) -> bool
+    ensures { result ≡ naming.names_spans (fields_of row.now) }
+{
+    has_field(row, 3, "first") && has_field(row, 4, "last")
 }
 
 /// Whether the field at a place is this text.
 fn has_field(row: &ByteRecord, i: usize, text: &str) -> bool
-    requires { i < length (fields_of row.now) }
+    requires { 0 < length text.now }
     ensures { result ≡ bytes_eq (field i (fields_of row.now)) text.now }
 {
     match row.get(i) {
@@ -174,17 +211,49 @@ fn role_named(word: &str) -> Option<Role>
     }
 }
 
-/// Whether a file before has this name.
-fn is_repeated(name: &str, earlier: &[Entry]) -> bool
-    ensures { result ≡ naming.is_repeated name.now earlier.now }
+/// The span that two fields of a file of this role name: none where both are empty.
+fn span_of(role: Role, first: &str, last: &str) -> Result<Option<Span>, Reason>
+    ensures { result ≡ reading.span_of role first.now last.now }
 {
-    earlier.iter().any(|entry| entry.name.as_str() == name)
+    if first.is_empty() && last.is_empty() {
+        return Ok(None);
+    }
+    if is_layer(role) {
+        return Err(Reason::BadSpan);
+    }
+    match numbered_span(first, last) {
+        Some(span) => Ok(Some(span)),
+        None => Err(Reason::BadSpan),
+    }
+}
+
+/// The span whose layers have these numbers.
+fn numbered_span(first: &str, last: &str) -> Option<Span>
+    ensures { result ≡ reading.numbered_span first.now last.now }
+{
+    Span::new(layer_number(first)?, layer_number(last)?)
+}
+
+/// The number of a layer that one to nine digits spell.
+fn layer_number(text: &str) -> Option<usize>
+    ensures { result ≡ reading.layer_number text.now }
+{
+    if !is_digits(text.as_bytes()) || text.len() > 9 {
+        return None;
+    }
+    Some(capped_value(text.as_bytes(), 999_999_999) as usize)
+}
+
+fn is_layer(role: Role) -> bool
+    ensures { result ≡ naming.is_layer role }
+{
+    matches!(role, Role::Copper)
 }
 
 fn is_copper(entry: &Entry) -> bool
     ensures { result ≡ naming.is_copper entry.now }
 {
-    matches!(entry.role, Role::Copper)
+    is_layer(entry.role)
 }
 
 /// The role that a package needs and that these files lack.
@@ -198,4 +267,44 @@ fn missing_role(entries: &[Entry]) -> Option<Reason>
         return Some(Reason::NoDrill);
     }
     None
+}
+
+/// What is wrong with the files together, at which place from 0.
+fn wrong_together(entries: &[Entry]) -> Option<(usize, Reason)>
+    ensures { result ≡ naming.wrong_together entries.now }
+{
+    if let Some(reason) = missing_role(entries) {
+        return Some((entries.len(), reason));
+    }
+    match first_beyond(entries) {
+        Some(i) => Some((i, Reason::BadSpan)),
+        None => None,
+    }
+}
+
+/// How many layers there are.
+fn layers(entries: &[Entry]) -> usize
+    ensures { result ≡ count_by naming.is_copper entries.now }
+{
+    entries.iter().filter(|entry| is_copper(entry)).count()
+}
+
+/// Whether a span ends above the last of so many layers.
+fn ends_beyond(layers: usize, span: Option<Span>) -> bool
+    ensures { result ≡ naming.ends_beyond layers span }
+{
+    match span {
+        Some(span) => span.last() > layers,
+        None => false,
+    }
+}
+
+/// The place of the first file whose span ends above the last copper layer.
+fn first_beyond(entries: &[Entry]) -> Option<usize>
+    ensures { result ≡ naming.first_beyond entries.now }
+{
+    let layers = layers(entries);
+    entries
+        .iter()
+        .position(|entry| ends_beyond(layers, entry.span))
 }

@@ -1,6 +1,7 @@
 //! The manifest of a package: its files, each with a role and a name.
 //!
-//! A manifest is CSV text whose first record is `role,name,file`. Each further record is one file of the package.
+//! A manifest is CSV text. Its first record is `role,name,file`, or `role,name,file,first,last` in version 2. Each further record
+//! is one file of the package, in version 2 with the numbers of the first and the last layer that a drill file's holes go through.
 #![tactic(auto)]
 
 ghost use Rattle.std.specs.Prelude.{◌≡◌};
@@ -13,7 +14,7 @@ mod rows;
 #[cfg(test)]
 mod tests;
 
-use grid_units::Fail;
+use grid_units::{Fail, Span};
 pub use names::Name;
 use std::alloc::Global;
 
@@ -36,6 +37,9 @@ pub struct Entry {
     pub name: Name,
     /// The name of the file, as it is loaded.
     pub file: Name,
+    /// The layers that its holes go through. Layers are numbered from 1 in the order of the copper files. `None` means all of
+    /// them: a copper file and each file of version 1 have none.
+    pub span: Option<Span>,
 }
 
 /// The files that a manifest names, in its order. A byte order mark before its text is dropped.
@@ -43,14 +47,18 @@ pub struct Entry {
 /// # Errors
 ///
 /// The first refusal, with the number of its record from 1 as the place, and 0 as the byte. In this order:
-/// [`Reason::BadManifest`] where the first record is not `role,name,file`, where there is none, or where a record is not of
-/// three fields of UTF-8 without control bytes; [`Reason::BadRole`], [`Reason::EmptyName`], [`Reason::RepeatedName`]; and one
-/// place behind the last record [`Reason::NoCopper`] and [`Reason::NoDrill`]. [`Fail::Memory`] where there is no memory.
+/// [`Reason::BadManifest`] where the first record is neither `role,name,file` nor `role,name,file,first,last`, where there is
+/// none, or where a record has not as many fields as the first, each of UTF-8 without control bytes; [`Reason::BadRole`],
+/// [`Reason::EmptyName`], [`Reason::RepeatedName`]; [`Reason::BadSpan`] where not both fields of a span are empty, and the file
+/// is copper or the fields are not both one to nine digits with 1 ≤ first ≤ last; one place behind the last record
+/// [`Reason::NoCopper`] and [`Reason::NoDrill`]; and [`Reason::BadSpan`] at the first record whose span ends above the number of
+/// copper files. [`Fail::Memory`] where there is no memory.
 ///
 /// [`Reason::BadManifest`]: grid_units::Reason::BadManifest
 /// [`Reason::BadRole`]: grid_units::Reason::BadRole
 /// [`Reason::EmptyName`]: grid_units::Reason::EmptyName
 /// [`Reason::RepeatedName`]: grid_units::Reason::RepeatedName
+/// [`Reason::BadSpan`]: grid_units::Reason::BadSpan
 /// [`Reason::NoCopper`]: grid_units::Reason::NoCopper
 /// [`Reason::NoDrill`]: grid_units::Reason::NoDrill
 pub fn read_manifest(alloc: Global, bytes: &[u8]) -> Result<Vec<Entry>, Fail>

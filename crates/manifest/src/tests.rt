@@ -52,6 +52,134 @@ fn records_that_break_a_rule_are_refused(rt: HostRuntime) {
     }
 }
 
+/// The spans of the files that a manifest names, if it is accepted.
+fn spans(rt: HostRuntime, text: &str) -> Option<Vec<Option<(usize, usize)>>> {
+    let Ok(entries) = read_manifest(rt.alloc(), text.as_bytes()) else {
+        return None;
+    };
+    let mut spans = Vec::new(rt.alloc());
+    for entry in entries.iter() {
+        let span = match entry.span {
+            Some(span) => Some((span.first(), span.last())),
+            None => None,
+        };
+        if spans.push(span).is_err() {
+            return None;
+        }
+    }
+    Some(spans)
+}
+
+/// A manifest of version 2 with these records of files.
+fn with_records(rt: HostRuntime, records: &str) -> Option<String> {
+    format!(in rt.alloc(); "role,name,file,first,last\n{records}").ok()
+}
+
+/// A manifest of version 2: two copper layers, and a drill file with these fields for its span.
+fn with_span(rt: HostRuntime, fields: &str) -> Option<String> {
+    format!(in rt.alloc();
+        "role,name,file,first,last\ncopper,top,top.gbr,,\ncopper,bot,bot.gbr,,\nplated,pth,pth.drl,{fields}\n"
+    ).ok()
+}
+
+#[test]
+fn drill_files_name_the_layers_that_they_go_through(rt: HostRuntime) {
+    for (fields, span) in [
+        ("1,1", Some((1, 1))),
+        ("1,2", Some((1, 2))),
+        ("2,2", Some((2, 2))),
+        ("01,000000002", Some((1, 2))),
+        (",", None),
+    ] {
+        let text = with_span(rt, fields).expect(&rt, "memory");
+        let spans = spans(rt, text.as_str()).expect(&rt, "accepted");
+        assert!(rt;
+            spans.as_slice() == [None, None, span].as_slice(),
+            "of {fields}"
+        );
+    }
+}
+
+#[test]
+fn spans_that_are_none_are_refused(rt: HostRuntime) {
+    for fields in [
+        "2,1",
+        "1,",
+        ",1",
+        "0,1",
+        "0,0",
+        "000,1",
+        "1,3",
+        "x,1",
+        "1,-1",
+        "+1,1",
+        "1 ,1",
+        "1,1.0",
+        "1,0000000001",
+        "0000000001,1",
+        "1,1000000000",
+    ] {
+        let text = with_span(rt, fields).expect(&rt, "memory");
+        assert_eq!(rt;
+            refusal(rt, text.as_str()),
+            Some((4, 0, Reason::BadSpan)),
+            "of {fields}"
+        );
+    }
+    for (records, place, reason) in [
+        ("copper,top,top.gbr,1,1\n", 2, Reason::BadSpan),
+        ("copper,top,top.gbr,,1\n", 2, Reason::BadSpan),
+        ("plated,pth,pth.drl,1,1\n", 3, Reason::NoCopper),
+        ("copper,top,top.gbr,,\n", 3, Reason::NoDrill),
+        (
+            "unplated,a,a.drl,1,2\nplated,b,b.drl,1,3\ncopper,c,c.gbr,,\n",
+            2,
+            Reason::BadSpan,
+        ),
+        (
+            "unplated,a,a.drl,1,1\nplated,b,b.drl,1,3\ncopper,c,c.gbr,,\n",
+            3,
+            Reason::BadSpan,
+        ),
+        ("copper,a,b,,\nplated,a,c,2,1\n", 3, Reason::RepeatedName),
+        ("plated,,c,2,1\n", 2, Reason::EmptyName),
+        ("via,a,c,2,1\n", 2, Reason::BadRole),
+        ("plated,a,c,2,\t\n", 2, Reason::BadManifest),
+    ] {
+        let text = with_records(rt, records).expect(&rt, "memory");
+        assert_eq!(rt;
+            refusal(rt, text.as_str()),
+            Some((place, 0, reason)),
+            "of {records}"
+        );
+    }
+}
+
+#[test]
+fn every_record_has_as_many_fields_as_the_first(rt: HostRuntime) {
+    for (text, place) in [
+        ("role,name,file,first,last\ncopper,a,b\n", 2),
+        ("role,name,file,first,last\ncopper,a,b,\n", 2),
+        ("role,name,file,first,last\ncopper,a,b,,,\n", 2),
+        ("role,name,file\ncopper,a,b,,\n", 2),
+        ("role,name,file,first\n", 1),
+        ("role,name,file,last,first\n", 1),
+        ("role,name,file,first,last,\n", 1),
+    ] {
+        assert_eq!(rt;
+            refusal(rt, text),
+            Some((place, 0, Reason::BadManifest)),
+            "of {text}"
+        );
+    }
+}
+
+#[test]
+fn files_of_version_1_have_no_span(rt: HostRuntime) {
+    let spans = spans(rt, "role,name,file\ncopper,a,b\nplated,c,d\n").expect(&rt, "accepted");
+    assert!(rt; spans.as_slice() == [None, None].as_slice());
+}
+
 #[test]
 fn a_byte_order_mark_is_dropped(rt: HostRuntime) {
     let files = [(Role::Copper, "a", "b"), (Role::Plated, "c", "d")];

@@ -6,3 +6,4 @@ pub mod Unique
 pub mod Once
 pub mod Answering
 pub mod Lining
+pub mod Rewritten

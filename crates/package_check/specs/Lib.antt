@@ -5,3 +5,4 @@ pub mod Readers
 pub mod Reports
 pub mod Soundness
 pub mod Texts
+pub mod Rewriting

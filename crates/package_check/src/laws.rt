@@ -1,6 +1,7 @@
 // What follows from the definitions alone.
 ghost use Rattle.package_check.specs.Alike.{AnswersTheSame, OneAnswer, OneReading};
 ghost use Rattle.package_check.specs.Package.{FindingsNameTheirPlaces};
+ghost use Rattle.package_check.specs.Rewriting.{RewritingChangesNothing};
 ghost use Rattle.package_check.specs.Soundness.{PassingIsSound};
 
 use pad_shapes::Pad;
@@ -40,4 +41,16 @@ pub fn one_answer()
     ensures { OneAnswer }
 {
     one_reading();
+}
+
+/// A package any of whose files are written anew, by the kind of text that their roles want, has the same answer.
+pub fn rewriting_changes_nothing()
+    ensures { RewritingChangesNothing }
+{
+    layer_image::one_reading();
+    layer_image::equal_commands();
+    drill_text::laws::one_reading();
+    drill_text::laws::drill_texts();
+    rewriting::laws::keeps_commands();
+    answers_the_same();
 }

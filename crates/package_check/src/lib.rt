@@ -14,12 +14,15 @@ pub use package::check_bytes;
 pub use printing::write_report;
 pub use report::Report;
 use ring_rules::Drilled;
+pub use ring_rules::Span;
 
 /// A file of a package.
 #[derive(Clone, Copy)]
 pub struct File<'a> {
     pub role: Role,
     pub name: &'a str,
+    /// The layers that a drill file's holes go through: all where there is no span.
+    pub span: Option<Span>,
     pub bytes: &'a [u8],
 }
 
@@ -39,6 +42,7 @@ pub enum FileSum {
     },
     Drill {
         plated: bool,
+        span: Option<Span>,
         round: usize,
         slots: usize,
     },
@@ -51,3 +55,6 @@ pub struct Numbered {
     pub number: usize,
     pub drilled: Drilled,
 }
+
+#[cfg(test)]
+mod tests;

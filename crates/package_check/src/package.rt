@@ -1,7 +1,7 @@
 // The check of a package.
-ghost use Rattle.std.specs.Prelude.{◌≡◌, ℕ, [], Result, IfOk, map};
+ghost use Rattle.std.specs.Prelude.{◌≡◌, ℕ, [], Result, IfOk};
 ghost use Rattle.grid_units.specs.declared.fault.Fault.{Fault as TheFault};
-ghost use Rattle.package_check.specs.Package.{AnswersJust, AnswersPackage, IsAnswer, NamesItsPlaces, source_of};
+ghost use Rattle.package_check.specs.Package.{AnswersJust, AnswersPackage, IsAnswer, NamesItsPlaces, sources_of};
 ghost use Rattle.package_check.specs.Reports.{Account};
 ghost use Rattle.package_check.specs.Soundness.{IsSound};
 
@@ -13,7 +13,7 @@ use grid_units::Rules;
 use std::alloc::Global;
 
 fn report_of(alloc: Global, files: &[File], rules: Rules) -> Result<Report, PackageFault>
-    ensures { AnswersPackage (map source_of files.now) rules result }
+    ensures { AnswersPackage (sources_of files.now) rules result }
 {
     let contents = read_files(alloc, files)?;
     match report_on(alloc, &contents, rules) {
@@ -29,10 +29,10 @@ fn report_of(alloc: Global, files: &[File], rules: Rules) -> Result<Report, Pack
 ///
 /// The first file that is refused, by its index, with its fault; `Memory` where there is no memory.
 pub fn check_bytes(alloc: Global, files: &[File], rules: Rules) -> Result<Report, PackageFault>
-    ensures exact { AnswersPackage (map source_of files.now) rules result }
-    ensures only { (answer : Result Account (ℕ × TheFault)) → IsAnswer (map source_of files.now) rules answer → AnswersJust answer result }
+    ensures exact { AnswersPackage (sources_of files.now) rules result }
+    ensures only { (answer : Result Account (ℕ × TheFault)) → IsAnswer (sources_of files.now) rules answer → AnswersJust answer result }
     ensures places { IfOk result NamesItsPlaces }
-    ensures sound { IfOk result (λ report. report.findings ≡ [] → IsSound (map source_of files.now) rules) }
+    ensures sound { IfOk result (λ report. report.findings ≡ [] → IsSound (sources_of files.now) rules) }
 {
     one_answer();
     findings_name_their_places();

@@ -2,7 +2,7 @@
 
 ghost use Rattle.std.specs.Prelude.{◌≡◌, pos, ◌+ℤ◌, ◌-ℤ◌, ◌↔◌, IsSome, IfSome, unsigned_abs};
 ghost use Rattle.pad_shapes.specs.Shapes.{IsPadRadius, IsInDisc, disc_covers};
-ghost use Rattle.pad_shapes.specs.ShapeLaws.{disc_holds, disc_between, disc_extent};
+ghost use Rattle.pad_shapes.specs.ShapeLaws.{disc_holds, disc_holds_slots, disc_between, disc_extent};
 
 use crate::shape::{MAX_HALF_SIDE, PadShape};
 use grid_units::{Point, square, square_distance};
@@ -70,6 +70,8 @@ impl PadShape for Disc {
     ghost right = { λ d. d.centre.x +ℤ pos d.radius };
 
     ghost holds = { disc_holds };
+
+    ghost holds_slots = { disc_holds_slots };
 
     ghost between = { disc_between };
 

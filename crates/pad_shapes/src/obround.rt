@@ -2,7 +2,7 @@
 
 ghost use Rattle.std.specs.Prelude.{◌≡◌, pos, ◌≤◌, ◌+ℤ◌, ◌-ℤ◌, ◌↔◌, IsSome, IfSome, unsigned_abs};
 ghost use Rattle.pad_shapes.specs.Shapes.{IsHalfSide, IsInObround, end_radius, square_from_axis, obround_covers, max_half_side};
-ghost use Rattle.pad_shapes.specs.ShapeLaws.{obround_holds, obround_between, obround_extent};
+ghost use Rattle.pad_shapes.specs.ShapeLaws.{obround_holds, obround_holds_slots, obround_between, obround_extent};
 
 use crate::shape::{PadShape, is_half_side};
 use grid_units::{Point, square, square_length};
@@ -101,6 +101,8 @@ impl PadShape for Obround {
     ghost right = { λ o. o.centre.x +ℤ pos o.half_x };
 
     ghost holds = { obround_holds };
+
+    ghost holds_slots = { obround_holds_slots };
 
     ghost between = { obround_between };
 

@@ -2,7 +2,7 @@
 
 ghost use Rattle.std.specs.Prelude.{◌≡◌, pos, ◌+ℤ◌, ◌-ℤ◌, ◌↔◌, IsSome, IfSome, unsigned_abs};
 ghost use Rattle.pad_shapes.specs.Shapes.{IsHalfSide, IsInRect, rect_covers};
-ghost use Rattle.pad_shapes.specs.ShapeLaws.{rect_holds, rect_between, rect_extent};
+ghost use Rattle.pad_shapes.specs.ShapeLaws.{rect_holds, rect_holds_slots, rect_between, rect_extent};
 
 use crate::shape::{PadShape, is_half_side};
 use grid_units::Point;
@@ -80,6 +80,8 @@ impl PadShape for Rect {
     ghost right = { λ r. r.centre.x +ℤ pos r.half_x };
 
     ghost holds = { rect_holds };
+
+    ghost holds_slots = { rect_holds_slots };
 
     ghost between = { rect_between };
 

@@ -78,3 +78,23 @@ fn lengths_out_of_range_are_refused(rt: HostRuntime) -> Result<(), Fail> {
     assert!(rt; Obround::new(centre, 1, 0).is_none());
     Ok(())
 }
+
+#[test]
+fn a_slot_is_covered_by_its_two_ends(rt: HostRuntime) -> Result<(), Fail> {
+    let from = at(0, 0)?;
+    let to = at(2_000_000_000, 0)?;
+    let middle = at(1_000_000_000, 0)?;
+    let reach = 375_000_000;
+    let exact = Pad::Obround(Obround::new(middle, 1_375_000_000, reach).ok_or("exact")?);
+    assert!(rt; exact.covers_slot(from, to, reach));
+    assert!(rt; exact.covers_slot(to, from, reach));
+    assert!(rt; exact.covers_slot(from, from, reach));
+    let short = Pad::Obround(Obround::new(middle, 1_370_000_000, reach).ok_or("short")?);
+    assert!(rt; !short.covers_slot(from, to, reach));
+    let end = Disc::new(from, reach).ok_or("end")?;
+    assert!(rt; !end.covers_slot(from, to, reach));
+    assert!(rt; !end.covers_slot(to, from, reach));
+    let rect = Rect::new(middle, 1_375_000_000, reach).ok_or("rect")?;
+    assert!(rt; rect.covers_slot(from, to, reach));
+    Ok(())
+}

@@ -24,3 +24,20 @@ RewritesDrill bytes (Err fault) = drills.Reads bytes (Err fault) ⊎ ((commands 
 abbrev pub Rewrites : Kind → List ℕ → Result (List ℕ) Fault → Type 0
 Rewrites kind.Layer bytes answer = RewritesLayer bytes answer
 Rewrites kind.Drill bytes answer = RewritesDrill bytes answer
+
+-- the two texts are of this kind and spell the same commands, whatever the places of these (docs/DEFINITIONS.md, Rewriting)
+abbrev pub SpellAlike : Kind → List ℕ → List ℕ → Type 0
+SpellAlike kind.Layer s t = (a b : LayerImage) × ReadsLayer s (Ok a) × ReadsLayer t (Ok b) × (without_places a.commands ≡ without_places b.commands)
+SpellAlike kind.Drill s t = (commands : List DrillCommand) × IsDrillText s commands × IsDrillText t commands
+
+-- a text that was written anew spells the commands of the text that it was written from (docs/DEFINITIONS.md, Rewriting)
+abbrev pub KeepsCommands : Type 0
+KeepsCommands = (kind : Kind) (bytes text : List ℕ) → Rewrites kind bytes (Ok text) → SpellAlike kind bytes text
+
+-- a text that was written anew is written anew as it is (docs/DEFINITIONS.md, Rewriting)
+abbrev pub StaysAsItIs : Type 0
+StaysAsItIs = (kind : Kind) (bytes text : List ℕ) → Rewrites kind bytes (Ok text) → Rewrites kind text (Ok text)
+
+-- bytes are written anew in one way, or have one fault (docs/DEFINITIONS.md, Rewriting)
+abbrev pub OneRewriting : Type 0
+OneRewriting = (kind : Kind) (bytes : List ℕ) (a b : Result (List ℕ) Fault) → Rewrites kind bytes a → Rewrites kind bytes b → a ≡ b

@@ -1,6 +1,7 @@
 //! A layer or a drill file, read and written anew as its canonical text.
 #![tactic(auto)]
 
+pub mod laws;
 mod rewrite;
 
 pub use rewrite::rewrite_bytes;

@@ -68,7 +68,7 @@ all_flat_map P f [] all = All-nil P
 all_flat_map {X} {Y} P f (x ∷ xs) all =
     All-same P (flat_map f (x ∷ xs)) (f x ++ flat_map f xs) (flat_map-cons f x xs) (All-append P (f x) (flat_map f xs) (All-head (λ (z : X). All P (f z)) x xs all) (all_flat_map P f xs (All-tail (λ (z : X). All P (f z)) x xs all)))
 
-enumerated_at : {X : Type 0} (xs : List X) (k : ℕ) (d : X) → k < length xs → Contains (enumerate_from 0 xs) (k, get_or xs k d)
+pub enumerated_at : {X : Type 0} (xs : List X) (k : ℕ) (d : X) → k < length xs → Contains (enumerate_from 0 xs) (k, get_or xs k d)
 enumerated_at {X} xs k d h =
     let z : 0 + k ≡ k = omega arith in
     (k, omega (arith, h, length-enumerate_from 0 xs), get_or-enumerate_from 0 xs k (k, get_or xs k d) h ∙ (ap (λ (n : ℕ). (n, get_or xs k (get_or xs k d))) z ∙ ap (λ (y : X). (k, y)) (get_or_default xs k (get_or xs k d) d h)))

@@ -1,6 +1,6 @@
 -- The pads that a sweep keeps at hand tell as much of a hole as all pads do.
 use Rattle.std.proofs.Common.{inl, inr, ◌≡◌, ℕ, ℤ, ◌+◌, ◌<◌, ◌≤◌, ◌≤ℤ◌, ◌<ℤ◌, Bool, true, false, List, [], ◌∷◌, ◌++◌, map, length, get_or, take, drop, set, Bor, refl, sym, ap, ◌∙◌, zero, suc, arith}
-use Rattle.std.specs.Prelude.{int_le, not, ◌&&◌}
+use Rattle.std.specs.Prelude.{int_le, not, ◌&&◌, ◌||◌}
 use Rattle.std.specs.List.{filter, list_any, enumerate_from, Contains, All}
 use Rattle.std.specs.List.Sorted.{IsSortedByKey, IsPermutation}
 use Rattle.std.specs.Ordering.{int_cmp}
@@ -11,9 +11,9 @@ use Rattle.std.proofs.lemmas.List.Sorted.{list_any-IsPermutation, IsPermutation-
 use Rattle.std.proofs.lemmas.Int.{ints}
 use Rattle.std.proofs.lemmas.Bool.{cases_eq, cases_lt}
 use Rattle.grid_units.specs.Points.{GridPoint}
-use Rattle.grid_units.specs.Holes.{is_round}
 use Rattle.pad_shapes.specs.Shapes.{CoversBetween}
-use Rattle.ring_rules.specs.Findings.{is_wanting}
+use Rattle.ring_rules.specs.Findings.{covers_hole, is_oblique, is_wanting}
+use Rattle.grid_units.specs.Spans.{is_in_span}
 use Rattle.ring_rules.specs.declared.finding.Drilled.{Drilled}
 use Rattle.ring_rules.proofs.Sorting.{sorted_keys, filter-weaker, list_any-filter, list_any-take, list_any-map}
 
@@ -65,30 +65,38 @@ module _ {S : Type 0} (covers : S → GridPoint → ℕ → Bool) (left right : 
     by_test true e = absurd (let f : left s ≤ℤ c.x = (between s c reach e).0 in omega (arith, ints))
     by_test false e = refl
 
-  covered_ends_after : (d : Drilled) (ring : ℕ) (pad : Bor S) → covers pad.now d.hole.from (d.hole.radius + ring) ≡ true → ends_after right d.hole.from.x pad ≡ true
-  covered_ends_after d ring pad h = le_tested d.hole.from.x (right pad.now) (between pad.now d.hole.from (d.hole.radius + ring) h).1
+  covered_from : (s : S) (d : Drilled) (ring : ℕ) → covers_hole covers ring d.hole s ≡ true → covers s d.hole.from (d.hole.radius + ring) ≡ true
+  covered_from s d ring e = by_test (covers s d.hole.from (d.hole.radius + ring)) refl where
+    by_test : (b : Bool) → covers s d.hole.from (d.hole.radius + ring) ≡ b → b ≡ true
+    by_test true t = refl
+    by_test false t = absurd (let f : (false && covers s d.hole.to (d.hole.radius + ring)) ≡ true = sym (ap (λ b. b && covers s d.hole.to (d.hole.radius + ring)) t) ∙ e in cc)
+
+  covered_ends_after : (d : Drilled) (ring : ℕ) (pad : Bor S) → covers_hole covers ring d.hole pad.now ≡ true → ends_after right d.hole.from.x pad ≡ true
+  covered_ends_after d ring pad h = le_tested d.hole.from.x (right pad.now) (between pad.now d.hole.from (d.hole.radius + ring) (covered_from pad.now d ring h)).1
+
+  hole_not_covered : (s : S) (d : Drilled) (ring : ℕ) → d.hole.from.x <ℤ left s → covers_hole covers ring d.hole s ≡ false
+  hole_not_covered s d ring h = ap (λ b. b && covers s d.hole.to (d.hole.radius + ring)) (not_covered s d.hole.from (d.hole.radius + ring) h)
 
   -- a hole lacks its ring among the pads at hand just where it lacks it among all
-  pub wanting_near : (near by_left : List (Bor S)) (n : ℕ) (ring : ℕ) (d : Drilled) →
+  pub wanting_near : (layer : ℕ) (near by_left : List (Bor S)) (n : ℕ) (ring : ℕ) (d : Drilled) →
       filter (ends_after right d.hole.from.x) near ≡ filter (ends_after right d.hole.from.x) (take n by_left) →
       IsSortedByKey (λ pad. left pad.now) int_cmp by_left →
       (n < length by_left → (e : Bor S) → d.hole.from.x <ℤ left (get_or by_left n e).now) →
-      is_wanting (λ (pad : Bor S). covers pad.now) ring near d ≡ is_wanting (λ (pad : Bor S). covers pad.now) ring by_left d
-  wanting_near near by_left n ring d e sorted next =
-      let c = d.hole.from in
-      let reach = d.hole.radius + ring in
-      ap (λ b. (d.plated && is_round d.hole) && not b)
-      (sym (list_any-filter (λ (pad : Bor S). covers pad.now d.hole.from (d.hole.radius + ring)) (ends_after right d.hole.from.x) (covered_ends_after d ring) near)
-      ∙ (ap (list_any (λ (pad : Bor S). covers pad.now d.hole.from (d.hole.radius + ring))) e
-      ∙ (list_any-filter (λ (pad : Bor S). covers pad.now d.hole.from (d.hole.radius + ring)) (ends_after right d.hole.from.x) (covered_ends_after d ring) (take n by_left)
-      ∙ list_any-take (λ (pad : Bor S). covers pad.now d.hole.from (d.hole.radius + ring)) by_left n (λ k f h l. not_covered (get_or by_left k f).now d.hole.from (d.hole.radius + ring) (let low : left (get_or by_left n f).now ≤ℤ left (get_or by_left k f).now = sorted_keys (λ (pad : Bor S). left pad.now) by_left sorted n k f h l in let past : d.hole.from.x <ℤ left (get_or by_left n f).now = next (omega (arith, h, l)) f in omega (arith, ints))))))
+      is_wanting (λ (pad : Bor S). covers pad.now) ring layer near d ≡ is_wanting (λ (pad : Bor S). covers pad.now) ring layer by_left d
+  wanting_near layer near by_left n ring d e sorted next =
+      let test : Bor S → Bool = λ (pad : Bor S). covers_hole covers ring d.hole pad.now in
+      ap (λ b. (d.plated && is_in_span layer d.span) && (is_oblique d.hole || not b))
+      (sym (list_any-filter test (ends_after right d.hole.from.x) (covered_ends_after d ring) near)
+      ∙ (ap (list_any test) e
+      ∙ (list_any-filter test (ends_after right d.hole.from.x) (covered_ends_after d ring) (take n by_left)
+      ∙ list_any-take test by_left n (λ k f h l. hole_not_covered (get_or by_left k f).now d ring (let low : left (get_or by_left n f).now ≤ℤ left (get_or by_left k f).now = sorted_keys (λ (pad : Bor S). left pad.now) by_left sorted n k f h l in let past : d.hole.from.x <ℤ left (get_or by_left n f).now = next (omega (arith, h, l)) f in omega (arith, ints))))))
 
   -- it lacks its ring among references in another order just where it lacks it
-  pub wanting_same : (by_left : List (Bor S)) (pads : List S) (ring : ℕ) (d : Drilled) → IsPermutation pads (map (λ pad. pad.now) by_left) → is_wanting (λ (pad : Bor S). covers pad.now) ring by_left d ≡ is_wanting covers ring pads d
-  wanting_same by_left pads ring d same =
-      ap (λ b. (d.plated && is_round d.hole) && not b)
-      (list_any-map (λ s. covers s d.hole.from (d.hole.radius + ring)) (λ (pad : Bor S). pad.now) by_left
-      ∙ list_any-IsPermutation (λ s. covers s d.hole.from (d.hole.radius + ring)) (map (λ (pad : Bor S). pad.now) by_left) pads (IsPermutation-sym pads (map (λ (pad : Bor S). pad.now) by_left) same))
+  pub wanting_same : (layer : ℕ) (by_left : List (Bor S)) (pads : List S) (ring : ℕ) (d : Drilled) → IsPermutation pads (map (λ pad. pad.now) by_left) → is_wanting (λ (pad : Bor S). covers pad.now) ring layer by_left d ≡ is_wanting covers ring layer pads d
+  wanting_same layer by_left pads ring d same =
+      ap (λ b. (d.plated && is_in_span layer d.span) && (is_oblique d.hole || not b))
+      (list_any-map (λ s. covers_hole covers ring d.hole s) (λ (pad : Bor S). pad.now) by_left
+      ∙ list_any-IsPermutation (λ s. covers_hole covers ring d.hole s) (map (λ (pad : Bor S). pad.now) by_left) pads (IsPermutation-sym pads (map (λ (pad : Bor S). pad.now) by_left) same))
 
 -- each placed element is that of its place
 pub placed_right : {X : Type 0} (xs : List X) (es : List (ℕ × X)) → IsPermutation (enumerate_from 0 xs) es → All (λ e. (e.0 < length xs) × ((d : X) → e.1 ≡ get_or xs e.0 d)) es
@@ -140,11 +148,3 @@ done_more {X} f xs es ys m e v same long inside is told done k d h =
                 absurd (other (ap (λ n. (get_or es n d).0) at ∙ (ap (λ (q : ℕ × X). q.0) (get_or_default es m d e inside) ∙ ap (λ (q : ℕ × X). q.0) (sym is))))
           ]
     ]
-
--- the places of the elements that pass, by the list of their tests
-pub listed_tests : {X Y : Type 0} (t : X → Bool) (f : ℕ → Y) (n : ℕ) (xs : List X) → map (λ (h : ℕ × Bool). f h.0) (filter (λ (h : ℕ × Bool). h.1) (enumerate_from n (map t xs))) ≡ map (λ (h : ℕ × X). f h.0) (filter (λ (h : ℕ × X). t h.1) (enumerate_from n xs))
-listed_tests t f n [] = refl
-listed_tests {X} {Y} t f n (x ∷ xs) = by_test (t x) refl (listed_tests t f (n + 1) xs) where
-  by_test : (b : Bool) → t x ≡ b → map (λ (h : ℕ × Bool). f h.0) (filter (λ (h : ℕ × Bool). h.1) (enumerate_from (n + 1) (map t xs))) ≡ map (λ (h : ℕ × X). f h.0) (filter (λ (h : ℕ × X). t h.1) (enumerate_from (n + 1) xs)) → map (λ (h : ℕ × Bool). f h.0) (filter (λ (h : ℕ × Bool). h.1) (enumerate_from n (map t (x ∷ xs)))) ≡ map (λ (h : ℕ × X). f h.0) (filter (λ (h : ℕ × X). t h.1) (enumerate_from n (x ∷ xs)))
-  by_test true e rest = rw e (ap (λ ys. f n ∷ ys) rest)
-  by_test false e rest = rw e rest

@@ -1,21 +1,30 @@
 //! The holes of a board, and what is found at them.
 
-use grid_units::Hole;
+use grid_units::{Hole, Span};
 
-/// A hole of a board, and whether its wall is plated.
+/// A hole of a board, whether its wall is plated, and the layers that it goes through.
 #[derive(Clone, Copy, Debug, PartialEq, Eq)]
 pub struct Drilled {
     /// The hole.
     pub hole: Hole,
     /// Whether its wall is plated.
     pub plated: bool,
+    /// The layers that it goes through: all where there is no span.
+    pub span: Option<Span>,
 }
 
 /// Where a rule is broken. Layers and holes are named by their places in the lists that were judged, from 0.
 #[derive(Clone, Copy, Debug, PartialEq, Eq)]
 pub enum Finding {
-    /// A plated round hole that no single pad of a layer covers with the ring round it.
+    /// A plated hole, round or a slot along an axis, that no single pad of a layer covers with the ring round it.
     Ring {
+        /// The layer.
+        layer: usize,
+        /// The hole.
+        hole: usize,
+    },
+    /// A plated slot whose ends differ in x and in y.
+    Oblique {
         /// The layer.
         layer: usize,
         /// The hole.

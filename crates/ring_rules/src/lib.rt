@@ -14,6 +14,7 @@ mod rings;
 pub use cores::clear_of;
 pub use finding::{Drilled, Finding};
 pub use gaps::gap_findings;
+pub use grid_units::Span;
 pub use rings::ring_findings;
 
 #[cfg(test)]

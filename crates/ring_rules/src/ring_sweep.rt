@@ -93,6 +93,7 @@ fn add_reached<'a, S: PadShape>(
 /// Meets the holes in order of x with the pads that reach as far.
 fn meet<S: PadShape>(
     alloc: Global,
+    layer: usize,
     by_left: &[&S],
     holes: &[Drilled],
     by_x: &[(usize, Drilled)],
@@ -101,7 +102,7 @@ fn meet<S: PadShape>(
     requires pads_sorted { IsSortedByKey (λ pad. S.left pad.now) int_cmp by_left.now }
     requires same { IsPermutation (enumerate_from 0 holes.now) by_x.now }
     requires sorted { IsSortedByKey (λ hole. hole.1.hole.from.x) int_cmp by_x.now }
-    ensures { IfOk result (λ wanting. wanting.items ≡ map (is_wanting (λ pad. S.covers pad.now) rules.ring by_left.now) holes.now) }
+    ensures { IfOk result (λ wanting. wanting.items ≡ map (is_wanting (λ pad. S.covers pad.now) rules.ring layer by_left.now) holes.now) }
 {
     let mut wanting = vec![in alloc; false; holes.len()]?;
     let mut near = Vec::new(alloc);
@@ -111,7 +112,7 @@ fn meet<S: PadShape>(
         let at = drilled.hole.from();
         drop_passed(&mut near, last, at);
         added = add_reached(&mut near, by_left, added, at)?;
-        wanting[*place] = is_wanting(&near, drilled, rules);
+        wanting[*place] = is_wanting(layer, &near, drilled, rules);
         last = Some(at.x());
     }
     Ok(wanting)
@@ -120,6 +121,7 @@ fn meet<S: PadShape>(
 /// Whether each hole lacks its ring on a layer of these pads.
 pub fn wanting<S: PadShape>(
     alloc: Global,
+    layer: usize,
     pads: &[S],
     holes: &[Drilled],
     by_x: &[(usize, Drilled)],
@@ -127,8 +129,8 @@ pub fn wanting<S: PadShape>(
 ) -> Result<Vec<bool>, AllocError>
     requires same { IsPermutation (enumerate_from 0 holes.now) by_x.now }
     requires sorted { IsSortedByKey (λ hole. hole.1.hole.from.x) int_cmp by_x.now }
-    ensures { IfOk result (λ wanting. wanting.items ≡ map (is_wanting S.covers rules.ring pads.now) holes.now) }
+    ensures { IfOk result (λ wanting. wanting.items ≡ map (is_wanting S.covers rules.ring layer pads.now) holes.now) }
 {
     let by_left = pads_by_left(alloc, pads)?;
-    meet(alloc, &by_left, holes, by_x, rules)
+    meet(alloc, layer, &by_left, holes, by_x, rules)
 }

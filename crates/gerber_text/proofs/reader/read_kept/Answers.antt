@@ -12,4 +12,4 @@ either K (Err e) reader text s f ok err = err e f
 
 pub returns : goal.returns
 returns c =
-    either _ c.feed.result c.feed.new.self c.args.bytes.now (c.feed.ensures.ok [] c.new-reader.ensures) (c.feed.ensures.err [] c.new-reader.ensures) (c.into_kept.ensures.stands c.args.bytes.now) (c.into_kept.ensures.failed c.args.bytes.now)
+    either _ c.feed.result c.feed.new.self c.args.bytes.now (c.feed.ensures.ok [] [] c.new-reader.ensures) (c.feed.ensures.err [] [] c.new-reader.ensures) (c.into_kept.ensures.stands c.args.bytes.now) (c.into_kept.ensures.failed c.args.bytes.now)

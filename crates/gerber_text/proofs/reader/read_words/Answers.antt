@@ -8,7 +8,7 @@ use Rattle.gerber_text.proofs.reader.read_words.Goals as goal
 pub returns-in_err-feed : goal.returns-in_err-feed
 returns-in_err-feed c =
     let p = err_from_is_err_and c.from_residual.result c.from_residual.ensures.1 in
-    let fails = c.in_err-feed.ensures.err [] c.new-reader.ensures in
+    let fails = c.in_err-feed.ensures.err [] [] c.new-reader.ensures in
     let e = c.in_err-feed.field-0.0 in
     let exact = answers_err c.args.bytes.now c.feed.new.self.progress.commands.items e fails.fails in
     record {
@@ -20,7 +20,7 @@ returns-in_err-feed c =
 
 pub returns : goal.returns
 returns c =
-    let h = c.finish.ensures.exact c.args.bytes.now (c.in_ok-feed.ensures.ok [] c.new-reader.ensures) in
+    let h = c.finish.ensures.exact [] c.args.bytes.now (c.in_ok-feed.ensures.ok [] [] c.new-reader.ensures) in
     record {
       exact = always_exact c.args.bytes.now c.finish.result h;
       found = always_found c.args.bytes.now c.finish.result h;

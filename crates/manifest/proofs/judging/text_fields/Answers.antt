@@ -1,28 +1,30 @@
-use Rattle.std.proofs.Common.{◌≡◌, length, arith}
+use Rattle.std.proofs.Common.{◌∙◌, sym}
 use Rattle.csv.specs.Records.{fields_of}
-use Rattle.manifest.proofs.Fields.{three_fields, well_formed, wrong_first, wrong_second, wrong_third}
+use Rattle.manifest.proofs.Fields.{ill_formed, well_formed}
 use Rattle.manifest.proofs.judging.text_fields.Goals as goal
-
-pub returns-in_default : goal.returns-in_default
-returns-in_default c =
-    let (field, at, wrong) = c.in_default.ensures in
-    wrong_first (fields_of c.args.row.now) field (omega arith) at wrong
-
-pub returns-in_default-text_field : goal.returns-in_default-text_field
-returns-in_default-text_field c =
-    let (field, at, wrong) = c.in_default-text_field.ensures in
-    wrong_second (fields_of c.args.row.now) field (omega arith) at wrong
-
-pub returns-in_default-text_field-2 : goal.returns-in_default-text_field-2
-returns-in_default-text_field-2 c =
-    let (field, at, wrong) = c.in_default-text_field-2.ensures in
-    wrong_third (fields_of c.args.row.now) field (omega arith) at wrong
 
 pub returns : goal.returns
 returns c =
-    let n : length (fields_of c.args.row.now) ≡ 3 = omega arith in
+    let n = sym c.len.ensures ∙ c.if-len-width.false in
     let row = fields_of c.args.row.now in
-    let (p, x) = c.in-Some.ensures in
-    let (q, y) = c.in-Some-text_field.ensures in
-    let (r, z) = c.in-Some-text_field-2.ensures in
-    (well_formed row _ _ _ n p q r x y z, three_fields row _ _ _ n p q r)
+    let a = c.in_ok-text_field.ensures in
+    let b = c.in_ok-text_field-2.ensures in
+    let d = c.in_ok-text_field-3.ensures in
+    let e = c.in_ok-text_field-4.ensures in
+    let f = c.in_ok-text_field-5.ensures in
+    (well_formed row c.args.width n c.requires a.0 b.0 d.0 e.0 f.0, a.1, b.1, d.1, e.1, f.1)
+
+pub returns-in_err-text_field : goal.returns-in_err-text_field
+returns-in_err-text_field c = rw c.from_residual.ensures (ill_formed (fields_of c.args.row.now) c.args.width 0 c.in_err-text_field.ensures)
+
+pub returns-in_err-text_field-2 : goal.returns-in_err-text_field-2
+returns-in_err-text_field-2 c = rw c.from_residual-in_err-text_field-2.ensures (ill_formed (fields_of c.args.row.now) c.args.width 1 c.in_err-text_field-2.ensures)
+
+pub returns-in_err-text_field-3 : goal.returns-in_err-text_field-3
+returns-in_err-text_field-3 c = rw c.from_residual-in_err-text_field-3.ensures (ill_formed (fields_of c.args.row.now) c.args.width 2 c.in_err-text_field-3.ensures)
+
+pub returns-in_err-text_field-4 : goal.returns-in_err-text_field-4
+returns-in_err-text_field-4 c = rw c.from_residual-in_err-text_field-4.ensures (ill_formed (fields_of c.args.row.now) c.args.width 3 c.in_err-text_field-4.ensures)
+
+pub returns-in_err-text_field-5 : goal.returns-in_err-text_field-5
+returns-in_err-text_field-5 c = rw c.from_residual-in_err-text_field-5.ensures (ill_formed (fields_of c.args.row.now) c.args.width 4 c.in_err-text_field-5.ensures)

@@ -28,10 +28,10 @@ loop-place-preserved g c =
     let now : filter (ends_after g.S.PadShape.right e.1.hole.from.x) c.loop-place.near.items ≡ filter (ends_after g.S.PadShape.right e.1.hole.from.x) (take c.loop-place.added c.args.by_left.now) =
     subst (λ (q : ℕ × Drilled). filter (ends_after g.S.PadShape.right q.1.hole.from.x) c.loop-place.near.items ≡ filter (ends_after g.S.PadShape.right q.1.hole.from.x) (take c.loop-place.added c.args.by_left.now)) (sym c.loop-place-item.is) (c.loop-place.invariant.near m e (omega arith) c.loop-place-test.true) in
     let at_hand = near_at_end e.1.hole.from.x (at_least_itself e.1.hole.from.x) now in
-    let told : c.is_wanting.result ≡ is_wanting (λ (pad : Bor g.row.S.Denot). g.S.PadShape.covers pad.now) c.args.rules.ring c.args.by_left.now e.1 =
+    let told : c.is_wanting.result ≡ is_wanting (λ (pad : Bor g.row.S.Denot). g.S.PadShape.covers pad.now) c.args.rules.ring c.args.layer c.args.by_left.now e.1 =
     c.is_wanting.ensures
-    ∙ (ap (λ near. is_wanting (λ (pad : Bor g.row.S.Denot). g.S.PadShape.covers pad.now) c.args.rules.ring near e.1) c.deref.ensures.value
-    ∙ wanting_near g.S.PadShape.covers g.S.PadShape.left g.S.PadShape.right between c.add_reached.new.near.items c.args.by_left.now c.in_ok-added.added c.args.rules.ring e.1 at_hand c.requires.pads_sorted
+    ∙ (ap (λ near. is_wanting (λ (pad : Bor g.row.S.Denot). g.S.PadShape.covers pad.now) c.args.rules.ring c.args.layer near e.1) c.deref.ensures.value
+    ∙ wanting_near g.S.PadShape.covers g.S.PadShape.left g.S.PadShape.right between c.args.layer c.add_reached.new.near.items c.args.by_left.now c.in_ok-added.added c.args.rules.ring e.1 at_hand c.requires.pads_sorted
     (subst (λ (p : GridPoint). c.in_ok-added.added < length c.args.by_left.now → (d : Bor g.row.S.Denot) → p.x <ℤ g.S.PadShape.left (get_or c.args.by_left.now c.in_ok-added.added d).now) from_is c.in_ok-added.ensures.next)) in
     record {
       long = length-set c.loop-place.wanting.items e.0 c.is_wanting.result ∙ c.loop-place.invariant.long;
@@ -41,10 +41,10 @@ loop-place-preserved g c =
           subst (λ (q : ℕ × Drilled). q.1.hole.from.x ≤ℤ (get_or es k d).1.hole.from.x) (get_or_default es m d e c.loop-place-test.true ∙ sym c.loop-place-item.is)
           (sorted_keys (λ (hole : ℕ × Drilled). hole.1.hole.from.x) es c.requires.sorted m k d (omega (arith, h)) l) in
           near_at_end (get_or es k d).1.hole.from.x ahead (c.loop-place.invariant.near k d (omega (arith, h)) l);
-      done = done_more (is_wanting (λ (pad : Bor g.row.S.Denot). g.S.PadShape.covers pad.now) c.args.rules.ring c.args.by_left.now) c.args.holes.now es c.loop-place.wanting.items m e c.is_wanting.result c.requires.same c.loop-place.invariant.long c.loop-place-test.true c.loop-place-item.is told c.loop-place.invariant.done;
+      done = done_more (is_wanting (λ (pad : Bor g.row.S.Denot). g.S.PadShape.covers pad.now) c.args.rules.ring c.args.layer c.args.by_left.now) c.args.holes.now es c.loop-place.wanting.items m e c.is_wanting.result c.requires.same c.loop-place.invariant.long c.loop-place-test.true c.loop-place-item.is told c.loop-place.invariant.done;
     }
 
 pub returns : goal.returns
 returns g c =
-    all_results (is_wanting (λ (pad : Bor g.row.S.Denot). g.S.PadShape.covers pad.now) c.args.rules.ring c.args.by_left.now) c.args.holes.now c.args.by_x.now c.loop-place.wanting.items false c.requires.same c.loop-place.invariant.long
+    all_results (is_wanting (λ (pad : Bor g.row.S.Denot). g.S.PadShape.covers pad.now) c.args.rules.ring c.args.layer c.args.by_left.now) c.args.holes.now c.args.by_x.now c.loop-place.wanting.items false c.requires.same c.loop-place.invariant.long
     (λ k d h. c.loop-place.invariant.done k d (omega (arith, h, c.loop-place-test.false)))

@@ -11,5 +11,5 @@ invariant-loop-place g l = record {
   long : length l.wanting.items ≡ length l.holes;
   bound : l.added ≤ length l.by_left;
   near : (k : ℕ) (d : ℕ × Drilled) → l.place-index ≤ k → k < length l.by_x → filter (ends_after g.S.PadShape.right (get_or l.by_x k d).1.hole.from.x) l.near.items ≡ filter (ends_after g.S.PadShape.right (get_or l.by_x k d).1.hole.from.x) (take l.added l.by_left);
-  done : (k : ℕ) (d : ℕ × Drilled) → k < l.place-index → get_or l.wanting.items (get_or l.by_x k d).0 false ≡ is_wanting (λ (pad : Bor g.row.S.Denot). g.S.PadShape.covers pad.now) l.rules.ring l.by_left (get_or l.by_x k d).1;
+  done : (k : ℕ) (d : ℕ × Drilled) → k < l.place-index → get_or l.wanting.items (get_or l.by_x k d).0 false ≡ is_wanting (λ (pad : Bor g.row.S.Denot). g.S.PadShape.covers pad.now) l.rules.ring l.layer l.by_left (get_or l.by_x k d).1;
 }

@@ -10,7 +10,7 @@ use Rattle.gerber_text.proofs.Steps.{marks-push, length-bytes_of}
 use Rattle.gerber_text.proofs.reader.Progress.begin.Goals as goal
 
 pub returns-clause-ok : goal.returns-clause-ok
-returns-clause-ok c text h =
+returns-clause-ok c gone text h =
     let b = c.args.byte in
     let m : Mark = (length text, b) in
     let none = sym h.ended ∙ c.requires.running in
@@ -25,6 +25,7 @@ returns-clause-ok c text h =
       rest = m ∷ [];
       splits = subst (λ (r : List Mark). Splits (marks (text ++ b ∷ [])) h.items r) one (subst (λ (ms : List Mark). Splits ms h.items (h.rest ++ m ∷ [])) (sym (marks-push text b c.requires.inside.1)) grown);
       commands = show_ok h.items (m ∷ []) _ none before.0 (omega arith);
+      plotting = h.plotting;
       count = h.count;
       pending = λ _. c.in_ok-push.ensures.items ∙ ap (λ (x : List ℕ). x ++ b ∷ []) item_empty;
       start = λ _ _. h.offset;

@@ -14,49 +14,51 @@ use Rattle.gerber_text.proofs.Steps.{Closed, closes, first_is, length-bytes_of, 
 use Rattle.gerber_text.proofs.reader.Progress.close.Goals as goal
 
 -- the item that a last byte ends, for a reader that holds this text
-closed : (old : Progress) (last byte : ℕ) (text : List ℕ) (h : Holds old text) → old.ended ≡ false → last ≡ ender old.item.items → (length old.item.items ≡ 0 → byte ≡ old.offset) → (0 < length old.item.items → byte ≡ old.start)
-    → Closed text h.items (h.rest ++ (length text, last) ∷ []) (old.item.items ++ last ∷ []) last (old.items + 1) byte old.commands.items
-closed old last byte text h running last-is fresh begun =
+closed : (old : Progress) (last byte : ℕ) (gone : Entries) (text : List ℕ) (h : Holds old gone text) → old.ended ≡ false → last ≡ ender old.item.items → (length old.item.items ≡ 0 → byte ≡ old.offset) → (0 < length old.item.items → byte ≡ old.start)
+    → Closed text h.items (h.rest ++ (length text, last) ∷ []) (old.item.items ++ last ∷ []) last (old.items + 1) byte (gone ++ old.commands.items)
+closed old last byte gone text h running last-is fresh begun =
     let none = sym h.ended ∙ running in
     let is = h.pending none in
     let size : length h.rest ≡ length old.item.items = sym (length-bytes_of h.rest) ∙ ap length (sym is) in
     let start : byte ≡ first_offset (h.rest ++ (length text, last) ∷ []) = first_is h.rest (length text, last) byte (λ e. fresh (sym size ∙ e) ∙ h.offset) (λ lt. begun (omega (arith, size, lt)) ∙ h.start none lt) in
-    closes text h.items h.rest (old.item.items ++ last ∷ []) last (old.items + 1) byte old.commands.items h.splits none h.commands (last-is ∙ ap ender is) (omega (arith, h.count)) start (ap (λ (x : List ℕ). x ++ last ∷ []) is)
+    closes text h.items h.rest (old.item.items ++ last ∷ []) last (old.items + 1) byte (gone ++ old.commands.items) h.splits none h.commands (last-is ∙ ap ender is) (omega (arith, h.count)) start (ap (λ (x : List ℕ). x ++ last ∷ []) is)
 
 -- a fault of the item that a last byte ends
 refused : (old : Progress) (last byte : ℕ) → old.ended ≡ false → last ≡ ender old.item.items → (length old.item.items ≡ 0 → byte ≡ old.offset) → (0 < length old.item.items → byte ≡ old.start)
-    → (left : Entries) → left ≡ old.commands.items → (f : Fault) → spelled (old.items + 1) byte (old.item.items ++ last ∷ []) old.commands.items ≡ Err f → Refuses old left (last ∷ []) (Refused f)
-refused old last byte running last-is fresh begun left same f e = λ text h.
-    let k = closed old last byte text h running last-is fresh begun in
+    → (left : Entries) → left ≡ old.commands.items → (f : Fault) → ((gone : Entries) (text : List ℕ) → Holds old gone text → spelled (old.items + 1) byte (old.item.items ++ last ∷ []) (gone ++ old.commands.items) ≡ Err f) → Refuses old left (last ∷ []) (Refused f)
+refused old last byte running last-is fresh begun left same f err = λ gone text h.
+    let k = closed old last byte gone text h running last-is fresh begun in
     let item : List Mark = h.rest ++ (length text, last) ∷ [] in
+    let e = err gone text h in
     record {
       items = h.items ++ item ∷ [];
       rest = [];
       splits = k.splits;
       kept = length h.items;
       within = (front_of_push h.items item (length h.items) (omega arith)).0;
-      spelled = kept_pushed old text h item ∙ ap (λ (x : Entries). Ok x) (sym same);
-      told = (k.shows ∙ e, spelled_place (old.items + 1) byte (old.item.items ++ last ∷ []) old.commands.items f e ∙ omega (arith, h.count));
+      spelled = kept_pushed old gone text h item ∙ ap (λ (x : Entries). Ok (gone ++ x)) (sym same);
+      told = (k.shows ∙ e, spelled_place (old.items + 1) byte (old.item.items ++ last ∷ []) (gone ++ old.commands.items) f e ∙ omega (arith, h.count));
     }
 
 refused_or_memory : (old : Progress) (last byte : ℕ) → old.ended ≡ false → last ≡ ender old.item.items → (length old.item.items ≡ 0 → byte ≡ old.offset) → (0 < length old.item.items → byte ≡ old.start)
-    → (left : Entries) → left ≡ old.commands.items → (e : Fail) → Leaves {X = Unit {0}} (Err e) left (spelled (old.items + 1) byte (old.item.items ++ last ∷ []) old.commands.items) → Refuses old left (last ∷ []) e
+    → (left : Entries) → left ≡ old.commands.items → (e : Fail) → ((gone : Entries) (text : List ℕ) → Holds old gone text → Leaves {X = Unit {0}} (Err e) (gone ++ left) (spelled (old.items + 1) byte (old.item.items ++ last ∷ []) (gone ++ old.commands.items))) → Refuses old left (last ∷ []) e
 refused_or_memory old last byte running last-is fresh begun left same Memory h = out_of_memory old left (last ∷ []) same
 refused_or_memory old last byte running last-is fresh begun left same (Refused f) h = refused old last byte running last-is fresh begun left same f h
 
 pub returns-clause-ok : goal.returns-clause-ok
-returns-clause-ok c text h =
+returns-clause-ok c gone text h =
     let old = c.args.self.now in
     let last = c.args.last in
     let len = old.item.ok.0 in
-    let k = closed old last c.item_start-byte.result text h c.requires.running c.requires.last (λ e. c.item_start-byte.ensures.fresh (omega (arith, len, e))) (λ lt. c.item_start-byte.ensures.begun (omega (arith, len, lt))) in
+    let k = closed old last c.item_start-byte.result gone text h c.requires.running c.requires.last (λ e. c.item_start-byte.ensures.fresh (omega (arith, len, e))) (λ lt. c.item_start-byte.ensures.begun (omega (arith, len, lt))) in
     let item : c.deref.result.now ≡ old.item.items ++ last ∷ [] = c.deref.ensures.value ∙ c.in_ok-push.ensures.items in
     let item-2 : c.deref-2.result.now ≡ old.item.items ++ last ∷ [] = c.deref-2.ensures.value ∙ c.in_ok-push.ensures.items in
     record {
       items = h.items ++ (h.rest ++ (length text, last) ∷ []) ∷ [];
       rest = [];
       splits = k.splits;
-      commands = k.shows ∙ (ap (λ (b : List ℕ). spelled (old.items + 1) c.item_start-byte.result b old.commands.items) (sym item) ∙ c.in_ok-self.ensures.spelled);
+      commands = k.shows ∙ (ap (λ (b : List ℕ). spelled (old.items + 1) c.item_start-byte.result b (gone ++ old.commands.items)) (sym item) ∙ c.in_ok-self.ensures.spelled gone h.plotting);
+      plotting = c.in_ok-self.ensures.plotting gone h.plotting;
       count = ap (λ n. n + 1) h.count ∙ sym k.count;
       pending = λ _. c.clear.ensures.items;
       start = λ _ lt. absurd (omega arith);
@@ -69,7 +71,7 @@ returns-then-len-eq-ITEM_LIMIT-clause-err c =
     let old = c.args.self.now in
     let last = c.args.last in
     let len = old.item.ok.0 in
-    subst (Refuses old old.commands.items (last ∷ [])) (sym c.refuse.ensures) (refused old last c.item_start-byte.result c.requires.running c.requires.last (λ e. c.item_start-byte.ensures.fresh (omega (arith, len, e))) (λ lt. c.item_start-byte.ensures.begun (omega (arith, len, lt))) old.commands.items refl _ (too_long (old.items + 1) c.item_start-byte.result (old.item.items ++ last ∷ []) old.commands.items (omega (arith, len, c.if-len-eq-ITEM_LIMIT.true, length-append old.item.items (last ∷ [])))))
+    subst (Refuses old old.commands.items (last ∷ [])) (sym c.refuse.ensures) (refused old last c.item_start-byte.result c.requires.running c.requires.last (λ e. c.item_start-byte.ensures.fresh (omega (arith, len, e))) (λ lt. c.item_start-byte.ensures.begun (omega (arith, len, lt))) old.commands.items refl _ (λ gone text h. too_long (old.items + 1) c.item_start-byte.result (old.item.items ++ last ∷ []) (gone ++ old.commands.items) (omega (arith, len, c.if-len-eq-ITEM_LIMIT.true, length-append old.item.items (last ∷ [])))))
 
 pub returns-in_err-self-clause-err : goal.returns-in_err-self-clause-err
 returns-in_err-self-clause-err c =
@@ -79,7 +81,7 @@ returns-in_err-self-clause-err c =
     let item : c.deref.result.now ≡ old.item.items ++ last ∷ [] = c.deref.ensures.value ∙ c.in_ok-push.ensures.items in
     let e = c.in_err-self.field-0.0 in
     let p = err_from_is_err_and c.from_residual-in_err-self.result c.from_residual-in_err-self.ensures.1 in
-    rw (p.1, p.2) (refused_or_memory old last c.item_start-byte.result c.requires.running c.requires.last (λ z. c.item_start-byte.ensures.fresh (omega (arith, len, z))) (λ lt. c.item_start-byte.ensures.begun (omega (arith, len, lt))) c.spell.new.commands.items c.in_err-self.ensures.err e (subst (λ (b : List ℕ). Leaves {X = Unit {0}} (Err e) c.spell.new.commands.items (spelled (old.items + 1) c.item_start-byte.result b old.commands.items)) item c.in_err-self.ensures.spelled))
+    rw (p.1, p.2) (refused_or_memory old last c.item_start-byte.result c.requires.running c.requires.last (λ z. c.item_start-byte.ensures.fresh (omega (arith, len, z))) (λ lt. c.item_start-byte.ensures.begun (omega (arith, len, lt))) c.spell.new.commands.items c.in_err-self.ensures.err e (λ gone text h. subst (λ (b : List ℕ). Leaves {X = Unit {0}} (Err e) (gone ++ c.spell.new.commands.items) (spelled (old.items + 1) c.item_start-byte.result b (gone ++ old.commands.items))) item (c.in_err-self.ensures.spelled gone h.plotting)))
 
 pub returns-in_err-push-clause-err : goal.returns-in_err-push-clause-err
 returns-in_err-push-clause-err c =

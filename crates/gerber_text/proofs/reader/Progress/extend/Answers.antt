@@ -20,7 +20,7 @@ longer item run text items rest s none is long inside =
     lengthens text items rest run s (subst (λ (x : List ℕ). IsUnfinished (x ++ run)) is (run_inside item run long (subst IsUnfinished (sym is) (s.partial none)) inside)) (run_kept (ender item) run inside)
 
 pub returns-clause-ok : goal.returns-clause-ok
-returns-clause-ok c text h =
+returns-clause-ok c gone text h =
     let run = c.args.run.now in
     let item = c.args.self.now.item.items in
     let none = sym h.ended ∙ c.requires.running in
@@ -35,6 +35,7 @@ returns-clause-ok c text h =
       rest = h.rest ++ long.more;
       splits = long.splits;
       commands = show_ok h.items (h.rest ++ long.more) _ none before.0 (omega (arith, long.long, size, c.args.self.now.item.ok.0, c.if-run-len.false));
+      plotting = h.plotting;
       count = h.count;
       pending = λ _. c.in_ok-extend_from_slice.ensures.items ∙ (ap (λ (x : List ℕ). x ++ run) is ∙ sym long.bytes);
       start = λ _ _. h.start none some ∙ sym (first_offset-append h.rest long.more some);
@@ -43,7 +44,7 @@ returns-clause-ok c text h =
     }
 
 pub returns-then-run-len-clause-err : goal.returns-then-run-len-clause-err
-returns-then-run-len-clause-err c = subst (Refuses c.args.self.now c.args.self.now.commands.items c.args.run.now) (sym c.refuse.ensures) (λ text h.
+returns-then-run-len-clause-err c = subst (Refuses c.args.self.now c.args.self.now.commands.items c.args.run.now) (sym c.refuse.ensures) (λ gone text h.
     let run = c.args.run.now in
     let item = c.args.self.now.item.items in
     let none = sym h.ended ∙ c.requires.running in
@@ -60,7 +61,7 @@ returns-then-run-len-clause-err c = subst (Refuses c.args.self.now c.args.self.n
       splits = long.splits;
       kept = length h.items;
       within = omega arith;
-      spelled = kept_all c.args.self.now text h;
+      spelled = kept_all c.args.self.now gone text h;
       told = (show_long h.items (h.rest ++ long.more) _ none before.0 (omega (arith, long.long, size, c.args.self.now.item.ok.0, c.if-run-len.true)) ∙ (ap (λ b. Err (fault (suc (length h.items)) b TooLong)) (first_offset-append h.rest long.more some ∙ sym (h.start none some)) ∙ ap (λ p. Err (fault p c.args.self.now.start TooLong)) place), sym place);
     })
 

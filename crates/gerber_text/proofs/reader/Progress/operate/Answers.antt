@@ -1,4 +1,4 @@
-use Rattle.std.proofs.Common.{◌≡◌, ◌+◌, ◌≤◌, None, Ok, ℕ, List, [], ◌∷◌, ◌++◌, length, take, sym, ap, ◌∙◌, arith}
+use Rattle.std.proofs.Common.{◌≡◌, ◌+◌, ◌≤◌, None, Ok, ℕ, List, [], ◌∷◌, ◌++◌, length, take, sym, ap, ◌∙◌, arith, append_assoc}
 use Rattle.std.proofs.lemmas.List.{length-append, length-take, nil_from_length}
 use Rattle.std.proofs.lemmas.Result.{err_from_is_err_and}
 use Rattle.gerber_rows.specs.declared.command.Command.{Command}
@@ -10,11 +10,11 @@ use Rattle.gerber_text.proofs.Items.{takes, spelled_ok}
 use Rattle.gerber_text.proofs.reader.Progress.operate.Goals as goal
 
 pub returns-clause-ok : goal.returns-clause-ok
-returns-clause-ok c text h =
+returns-clause-ok c gone text h =
     let self = c.args.self.now in
     let operation = c.args.operation in
     let begins = c.requires.begins in
-    let before = self.commands.items in
+    let before = gone ++ self.commands.items in
     let item : List ℕ = take operation.len c.args.bytes.now in
     let what : Command = Operate operation.action operation.x operation.y None None in
     let none = sym h.ended ∙ c.requires.running in
@@ -23,14 +23,15 @@ returns-clause-ok c text h =
     let size : length item ≡ operation.len = omega (arith, length-take operation.len c.args.bytes.now, begins.within) in
     let short : length item ≤ item_limit = omega (arith, size, begins.short) in
     let k = takes text item h.items h.rest (self.items + 1) before h.splits no_rest none h.commands begins.one begins.kept short (omega (arith, h.count)) in
-    let after = c.add_one.new.commands.items in
-    let added : before ++ placed (self.items + 1) (length text) (what ∷ []) ≡ after = ap (λ b. before ++ placed (self.items + 1) b (what ∷ [])) (sym h.offset) ∙ sym c.in_ok-self.ensures.added in
+    let after = gone ++ c.add_one.new.commands.items in
+    let added : before ++ placed (self.items + 1) (length text) (what ∷ []) ≡ after = ap (λ b. before ++ placed (self.items + 1) b (what ∷ [])) (sym h.offset) ∙ sym (ap (λ (x : Entries). gone ++ x) c.in_ok-self.ensures.added ∙ sym (append_assoc gone self.commands.items (placed (self.items + 1) self.offset (what ∷ [])))) in
     let said : spelled (self.items + 1) (length text) item before ≡ Ok after = spelled_ok (self.items + 1) (length text) item before (what ∷ []) short (begins.says (is_plotting before)) ∙ ap (λ (x : Entries). Ok x) added in
     record {
       items = h.items ++ k.last ∷ [];
       rest = [];
       splits = k.splits;
       commands = k.shows ∙ said;
+      plotting = c.in_ok-self.ensures.plotting before h.plotting ∙ ap is_plotting (ap (λ b. before ++ placed (self.items + 1) b (what ∷ [])) h.offset ∙ added);
       count = ap (λ n. n + 1) h.count ∙ sym k.count;
       pending = λ _. no_item;
       start = λ _ lt. absurd (omega arith);

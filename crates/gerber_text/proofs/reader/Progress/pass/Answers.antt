@@ -13,7 +13,7 @@ use Rattle.gerber_text.proofs.Shown.{ended_more, all_follow, stray, kept_all}
 use Rattle.gerber_text.proofs.reader.Progress.pass.Goals as goal
 
 pub returns-in-None-clause-ok : goal.returns-in-None-clause-ok
-returns-in-None-clause-ok c text h =
+returns-in-None-clause-ok c gone text h =
     let bytes = c.args.bytes.now in
     let more = marks_from (length text) bytes in
     let some = sym h.ended ∙ c.requires.ended in
@@ -22,6 +22,7 @@ returns-in-None-clause-ok c text h =
       rest = h.rest ++ more;
       splits = subst (λ (ms : List Mark). Splits ms h.items (h.rest ++ more)) (sym (marks-append text bytes)) (Splits-grow (marks text) h.items h.rest more h.splits (λ none. absurd (false≢true (sym none ∙ some))));
       commands = ended_more h.items h.rest more _ some h.commands ∙ all_follow (length text) (suc (length h.items)) _ bytes (recursion_from_All (λ b. follows_or_drops b ≡ true) bytes c.in-None.ensures.none);
+      plotting = h.plotting;
       count = h.count;
       pending = λ none. absurd (false≢true (sym none ∙ some));
       start = λ none _. absurd (false≢true (sym none ∙ some));
@@ -30,7 +31,7 @@ returns-in-None-clause-ok c text h =
     }
 
 pub returns-in-Some-clause-err : goal.returns-in-Some-clause-err
-returns-in-Some-clause-err c = subst (Refuses c.args.self.now c.args.self.now.commands.items c.args.bytes.now) (sym c.refuse.ensures) (λ text h.
+returns-in-Some-clause-err c = subst (Refuses c.args.self.now c.args.self.now.commands.items c.args.bytes.now) (sym c.refuse.ensures) (λ gone text h.
     let bytes = c.args.bytes.now in
     let more = marks_from (length text) bytes in
     let some = sym h.ended ∙ c.requires.ended in
@@ -43,6 +44,6 @@ returns-in-Some-clause-err c = subst (Refuses c.args.self.now c.args.self.now.co
       splits = subst (λ (ms : List Mark). Splits ms h.items (h.rest ++ more)) (sym (marks-append text bytes)) (Splits-grow (marks text) h.items h.rest more h.splits (λ none. absurd (false≢true (sym none ∙ some))));
       kept = length h.items;
       within = omega arith;
-      spelled = kept_all c.args.self.now text h;
+      spelled = kept_all c.args.self.now gone text h;
       told = (ended_more h.items h.rest more _ some h.commands ∙ (stray (length text) (suc (length h.items)) _ bytes c.in-Some.at found.0 (recursion_from_All (λ b. follows_or_drops b ≡ true) _ found.1) found.2 ∙ (ap (λ b. Err (fault (suc (length h.items)) b AfterEnd)) at ∙ ap (λ p. Err (fault p (c.args.self.now.offset + c.in-Some.at) AfterEnd)) place)), sym place);
     })

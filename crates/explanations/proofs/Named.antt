@@ -1,0 +1,100 @@
+-- Each reason and each topic stands in its list, and a search of a list finds what has a name.
+use Rattle.std.proofs.Common.{arith, inl, inr, map, ◌≡◌, ◌≢◌, ◌<◌, ◌≤◌, ◌+◌, ◌∙◌, ℕ, false, List, length, take, get_or, All, sym, refl, ap, subst}
+use Rattle.std.specs.List.{Contains}
+use Rattle.std.specs.Str.{bytes_eq}
+use Rattle.std.proofs.lemmas.List.{length-map, take_all, get_or-map}
+use Rattle.std.proofs.lemmas.List.Elements.{All-more, Contains-append_left, Contains-append_right}
+use Rattle.std.proofs.lemmas.Slice.Eq.{bytes_eq-Decides}
+use Rattle.grid_units.specs.Reasons.{name_of}
+use Rattle.grid_units.specs.declared.fault.Reason.{Reason}
+use Rattle.grid_units.specs.declared.fault.Reason.TheVariants as reasons
+use Rattle.explanations.specs.declared.topic.Topic.{Topic}
+use Rattle.explanations.specs.declared.topic.Topic.TheVariants as topics
+use Rattle.explanations.specs.Words.{EachWordIsListed, all_reasons, all_topics, all_words, topic_word}
+
+-- each reason is listed
+pub listed_reason : (reason : Reason) → Contains all_reasons reason
+listed_reason reasons.TooLong = (0, omega arith, refl)
+listed_reason reasons.AfterEnd = (1, omega arith, refl)
+listed_reason reasons.Truncated = (2, omega arith, refl)
+listed_reason reasons.SeveralInOne = (3, omega arith, refl)
+listed_reason reasons.ClearPolarity = (4, omega arith, refl)
+listed_reason reasons.BlockAperture = (5, omega arith, refl)
+listed_reason reasons.NegativeImage = (6, omega arith, refl)
+listed_reason reasons.TrailingZeros = (7, omega arith, refl)
+listed_reason reasons.Incremental = (8, omega arith, refl)
+listed_reason reasons.OldParameter = (9, omega arith, refl)
+listed_reason reasons.OldFormat = (10, omega arith, refl)
+listed_reason reasons.Routed = (11, omega arith, refl)
+listed_reason reasons.Repeat = (12, omega arith, refl)
+listed_reason reasons.BadWord = (13, omega arith, refl)
+listed_reason reasons.BadLine = (14, omega arith, refl)
+listed_reason reasons.BadNumber = (15, omega arith, refl)
+listed_reason reasons.NoZeros = (16, omega arith, refl)
+listed_reason reasons.TooManyDigits = (17, omega arith, refl)
+listed_reason reasons.TooFine = (18, omega arith, refl)
+listed_reason reasons.TooFar = (19, omega arith, refl)
+listed_reason reasons.BareCoordinate = (20, omega arith, refl)
+listed_reason reasons.InRegion = (21, omega arith, refl)
+listed_reason reasons.NotInRegion = (22, omega arith, refl)
+listed_reason reasons.NoFormat = (23, omega arith, refl)
+listed_reason reasons.NoUnit = (24, omega arith, refl)
+listed_reason reasons.UnitConflict = (25, omega arith, refl)
+listed_reason reasons.FormatConflict = (26, omega arith, refl)
+listed_reason reasons.Redefined = (27, omega arith, refl)
+listed_reason reasons.UnknownMacro = (28, omega arith, refl)
+listed_reason reasons.UnknownAperture = (29, omega arith, refl)
+listed_reason reasons.UnknownTool = (30, omega arith, refl)
+listed_reason reasons.NoAperture = (31, omega arith, refl)
+listed_reason reasons.NoTool = (32, omega arith, refl)
+listed_reason reasons.BadSize = (33, omega arith, refl)
+listed_reason reasons.BadRepeat = (34, omega arith, refl)
+listed_reason reasons.TooManyPads = (35, omega arith, refl)
+listed_reason reasons.TooManyHoles = (36, omega arith, refl)
+listed_reason reasons.BadRule = (37, omega arith, refl)
+listed_reason reasons.BadManifest = (38, omega arith, refl)
+listed_reason reasons.BadRole = (39, omega arith, refl)
+listed_reason reasons.EmptyName = (40, omega arith, refl)
+listed_reason reasons.RepeatedName = (41, omega arith, refl)
+listed_reason reasons.NoCopper = (42, omega arith, refl)
+listed_reason reasons.NoDrill = (43, omega arith, refl)
+listed_reason reasons.NotCopper = (44, omega arith, refl)
+listed_reason reasons.BadSpan = (45, omega arith, refl)
+
+-- each topic is listed
+pub listed_topic : (topic : Topic) → Contains all_topics topic
+listed_topic topics.Ring = (0, omega arith, refl)
+listed_topic topics.Small = (1, omega arith, refl)
+listed_topic topics.Off = (2, omega arith, refl)
+listed_topic topics.Bare = (3, omega arith, refl)
+listed_topic topics.Macro = (4, omega arith, refl)
+listed_topic topics.Polygon = (5, omega arith, refl)
+listed_topic topics.Holed = (6, omega arith, refl)
+listed_topic topics.Scaled = (7, omega arith, refl)
+listed_topic topics.Turned = (8, omega arith, refl)
+listed_topic topics.Plane = (9, omega arith, refl)
+
+-- the words of what is listed
+pub contains_map : {A B : Type 0} (f : A → B) (xs : List A) (x : A) → Contains xs x → Contains (map f xs) (f x)
+contains_map f xs x h = (h.0, omega (arith, h.1, length-map xs f), get_or-map f xs h.0 x (f x) h.1 ∙ ap f h.2)
+
+-- each word is listed
+pub listed_word : EachWordIsListed
+listed_word word (inl named) = subst (Contains all_words) named.1 (Contains-append_left (map name_of all_reasons) (map topic_word all_topics) (name_of named.0) (contains_map name_of all_reasons named.0 (listed_reason named.0)))
+listed_word word (inr named) = subst (Contains all_words) named.1 (Contains-append_right (map name_of all_reasons) (map topic_word all_topics) (topic_word named.0) (contains_map topic_word all_topics named.0 (listed_topic named.0)))
+
+-- texts that were compared and differ
+pub different : (a b : List ℕ) → bytes_eq a b ≡ false → a ≢ b
+different a b e same = cc (sym e ∙ (bytes_eq-Decides a b).1 same)
+
+module _ {A : Type 0} (word_of : A → List ℕ) where
+  -- one more element has another name
+  pub others_more : (xs : List A) (i : ℕ) (d : A) (name word : List ℕ) → i < length xs → All (λ x. word_of x ≢ word) (take i xs) → name ≡ word_of (get_or xs i d)
+      → false ≡ bytes_eq name word → All (λ x. word_of x ≢ word) (take (i + 1) xs)
+  others_more xs i d name word lt others is differs = All-more (λ x. word_of x ≢ word) xs i d lt others (λ e. different name word (sym differs) (is ∙ e))
+
+  -- all have other names, and so has one of them
+  pub none_named : (xs : List A) (i : ℕ) (word : List ℕ) → length xs ≤ i → All (λ x. word_of x ≢ word) (take i xs) → (x : A) → Contains xs x → word_of x ≢ word
+  none_named xs i word le others x at e =
+      let all = subst (λ ys. All (λ x. word_of x ≢ word) ys) (take_all i xs le) others in
+      all at.0 x at.1 (ap word_of at.2 ∙ e)

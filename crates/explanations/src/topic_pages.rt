@@ -1,0 +1,94 @@
+//! The pages of the topics.
+
+ghost use Rattle.explanations.specs.Words.{FitsScreen, Heads, topic_word};
+
+use crate::topic::Topic;
+
+const RING: &str = "\
+ring: the copper round a hole is narrower than the rule in some direction.
+Drill files round positions and diameters, so a rule that is equal to the
+designed ring fails: of 1,731 holes that were designed with 0.150 mm 736 fail
+at 0.150, and none at 0.149. Give the rule
+  less 0.001 mm  (KiCad, drill files in mm),
+  less 0.003 mm  (KiCad, drill files in inches),
+  less 0.017 mm  (Fritzing).
+";
+
+const SMALL: &str = "\
+small: the pad is too small for the hole and its ring, wherever in it the
+hole stood. Choose a greater pad or a smaller drill.
+";
+
+const OFF: &str = "\
+off: the pad is large enough for a hole at its centre, but the hole is off
+centre. Drill files round positions and diameters, so a rule that is equal to
+the designed ring fails: of 1,731 holes that were designed with 0.150 mm 736
+fail at 0.150, and none at 0.149. Give the rule
+  less 0.001 mm  (KiCad, drill files in mm),
+  less 0.003 mm  (KiCad, drill files in inches),
+  less 0.017 mm  (Fritzing).
+";
+
+const BARE: &str = "\
+none: no pad reaches the centre of the hole. What may be the cause:
+- an unused pad that was removed (KiCad: keep pads on all layers);
+- a pad painted as a region (gEDA pcb and pcb-rnd: square and octagon pins;
+  use round ones);
+- a plane in which the hole stands without a pad;
+- an unplated hole in a plated drill file;
+- a drill file with another origin or another format of numbers than the
+  layers, which makes nearly every hole a finding.
+";
+
+const MACRO: &str = "\
+macro: only a flash by an aperture macro stands here, and such a flash is not
+judged.
+KiCad: rounded rectangle and custom pads are macros; choose circle, oval or
+rectangle.
+EAGLE and Altium (known, not tried): octagons and rounded rectangles too.
+";
+
+const POLYGON: &str = "\
+polygon: a flash by a regular polygon is not judged. Choose a circle, an oval
+or a rectangle for the pad.
+";
+
+const HOLED: &str = "\
+holed: a flash by an aperture with a hole of its own is not judged. Choose an
+aperture without a hole: the drill file makes the hole.
+";
+
+const SCALED: &str = "\
+scaled: a flash that is scaled (%LS) is not judged. Export the layer with the
+pad in its own size.
+";
+
+const TURNED: &str = "\
+turned: a flash that is turned (%LR) by no multiple of 90 degrees is not
+judged, whatever its shape. Turn the pad by a multiple of 90 degrees.
+";
+
+const PLANE: &str = "\
+plane: a negative plane without a mark (such as Protel's .GP1) is accepted as
+it stands, and its clearance discs count as pads: a ring may pass that is not
+there. Do not name such a file as copper.
+";
+
+/// The page of a topic.
+pub(crate) fn topic_page(topic: Topic) -> &'static str
+    ensures headed { Heads (topic_word topic) result.now }
+    ensures fits { FitsScreen result.now }
+{
+    match topic {
+        Topic::Ring => RING,
+        Topic::Small => SMALL,
+        Topic::Off => OFF,
+        Topic::Bare => BARE,
+        Topic::Macro => MACRO,
+        Topic::Polygon => POLYGON,
+        Topic::Holed => HOLED,
+        Topic::Scaled => SCALED,
+        Topic::Turned => TURNED,
+        Topic::Plane => PLANE,
+    }
+}

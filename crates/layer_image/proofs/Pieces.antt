@@ -1,0 +1,87 @@
+-- What a reader of a layer in pieces shows of the text so far.
+use Rattle.std.proofs.Common.{◌≡◌, inl, inr, ℕ, List, [], ◌++◌, length, Bool, true, false, cond, Result, Ok, Err, OnOk, IfErr, sym, ap, ◌∙◌, nat_lt, arith}
+use Rattle.std.proofs.Math.Seq.{take-length}
+use Rattle.grid_units.specs.Results.{AnswersAlways, Answers, Tells}
+use Rattle.grid_units.specs.declared.fault.Fault.{Fault}
+use Rattle.grid_units.specs.declared.fault.Fail.{Fail}
+use Rattle.grid_units.specs.declared.fault.Fail.TheVariants as fails
+use Rattle.grid_units.proofs.Binds.{bind_ok}
+use Rattle.gerber_text.specs.declared.reader.WordReader.{WordReader}
+use Rattle.gerber_text.specs.Cut.{Mark}
+use Rattle.gerber_text.specs.Reading.{Entries, text_limit, commands_from, shown, Shows, Reads, KeptOf, KeptBefore, entries_behind}
+use Rattle.gerber_text.specs.Standing.{StandsBehind, FailedBehind, FailsWith}
+use Rattle.gerber_text.proofs.Shown.{shown_spelled}
+use Rattle.gerber_text.proofs.Whole.{shows_reads}
+use Rattle.gerber_text.proofs.Longer.{fails_longer}
+use Rattle.layer_image.specs.Faults.{without_places, IsFirstFault}
+use Rattle.layer_image.specs.Layers.{LayerImage, ReadsLayer}
+use Rattle.layer_image.specs.Rules.{IsLegal}
+use Rattle.layer_image.specs.Standing.{ShowsLayerFault, CoreEnds, SumImage, ReadsSum}
+
+short_ok : (t : Bool) (x cs : Entries) (e : Fault) → cond t (Err e) (Ok x) ≡ Ok cs → x ≡ cs
+short_ok true x cs e h = absurd cc
+short_ok false x cs e h = cc
+
+-- all items of a text that shows no fault are kept
+shows_kept : (text : List ℕ) (cs : Entries) → Shows text (Ok cs) → (kept : ℕ) × KeptOf text kept cs
+shows_kept text cs s =
+    let first = bind_ok (shown s.items s.rest) _ cs (sym s.answer_is) in
+    let same : first.0 ≡ cs = short_ok (nat_lt text_limit (length text)) first.0 cs _ first.2 in (
+      length s.items,
+      record {
+        items = s.items;
+        rest = s.rest;
+        splits = s.splits;
+        within = omega arith;
+        spelled = ap (λ (x : List (List Mark)). commands_from 1 x []) (take-length s.items) ∙ shown_spelled s.items s.rest first.0 first.1 ∙ ap (λ (x : Entries). Ok x) same;
+      },
+    )
+
+-- a rule's fault among the commands of the items so far is shown, whatever the word reader answered
+pub rule_shown : (text : List ℕ) (words : WordReader) (gone cs : Entries) (r : Result (Unit {0}) Fail) (e : Fail) → OnOk r (StandsBehind words gone text) → IfErr r (FailedBehind words gone text)
+    → (StandsBehind words gone text → Shows text (Ok (gone ++ cs))) → ((d : Fail) → FailedBehind words gone text d → KeptBefore text d (gone ++ cs)) → Tells (IsFirstFault (gone ++ cs)) e → Tells (ShowsLayerFault text) e
+rule_shown text words gone cs r fails.Memory stands failed shows keeps h = tt
+rule_shown text words gone cs (Ok x) (fails.Refused f) stands failed shows keeps h = let k = shows_kept text (gone ++ cs) (shows stands) in inl (k.0, gone ++ cs, k.1, h)
+rule_shown text words gone cs (Err fails.Memory) (fails.Refused f) stands failed shows keeps h = let k = keeps fails.Memory failed in inl (k.0, gone ++ cs, k.1, h)
+rule_shown text words gone cs (Err (fails.Refused g)) (fails.Refused f) stands failed shows keeps h = let k = keeps (fails.Refused g) failed in inl (k.0, gone ++ cs, k.2, h)
+
+-- a fault of reading is shown where the commands before it are legal
+pub words_shown : (text : List ℕ) (words : WordReader) (gone cs : Entries) (e : Fail) → FailedBehind words gone text e → KeptBefore text e (gone ++ cs) → IsLegal (without_places (gone ++ cs)) → Tells (ShowsLayerFault text) e
+words_shown text words gone cs fails.Memory failed kept legal = tt
+words_shown text words gone cs (fails.Refused f) failed kept legal = inr (gone ++ cs, failed.fails.told, kept, legal)
+
+-- a fault that a text shows is the one that it has
+pub shown_read : (text : List ℕ) (f : Fault) → ShowsLayerFault text f → ReadsLayer text (Err f)
+shown_read text f (inl h) = inl h
+shown_read text f (inr h) = inr (h.0, shows_reads text f h.1, h.2, h.3)
+
+-- each longer text shows it too
+pub shown_longer : (text more : List ℕ) (f : Fault) → ShowsLayerFault text f → ShowsLayerFault (text ++ more) f
+shown_longer text more f (inl h) =
+    let here : FailsWith text h.1 fails.Memory = record { told = tt; kept = (h.0, h.2) } in
+    let on = fails_longer text more h.1 fails.Memory here in
+    inl (on.kept.0, h.1, on.kept.1, h.3)
+shown_longer text more f (inr h) =
+    let here : FailsWith text h.0 (fails.Refused f) = record { told = h.1; kept = h.2 } in
+    let on = fails_longer text more h.0 (fails.Refused f) here in
+    inr (h.0, on.told, on.kept, h.3)
+
+pub shown_joined : (text more : List ℕ) (f : Fault) → ShowsLayerFault text f → ReadsLayer (text ++ more) (Err f)
+shown_joined text more f h = shown_read (text ++ more) f (shown_longer text more f h)
+
+pub layer_shows_reads : (text : List ℕ) (e : Fail) → Tells (ShowsLayerFault text) e → Answers {T = LayerImage} (λ layer. layer) (λ answer. ReadsLayer text answer) (Err e)
+layer_shows_reads text fails.Memory h = tt
+layer_shows_reads text (fails.Refused f) h = shown_read text f h
+
+pub end_err : (text : List ℕ) (gone : Entries) (whole : Bool) (e : Fail) → AnswersAlways (entries_behind gone) (λ answer. Reads text answer) (Err e) → KeptBefore text e gone → IsLegal (without_places gone) → CoreEnds text whole (Err e)
+end_err text gone whole fails.Memory h kept legal = h
+end_err text gone whole (fails.Refused f) h kept legal = inr (gone, h, kept, legal)
+
+-- the end that was refused is a layer's fault
+pub ends_answers : (text : List ℕ) (whole : Bool) (e : Fail) → CoreEnds text whole (Err e) → Answers {T = LayerImage} (λ layer. layer) (λ answer. ReadsLayer text answer) (Err e)
+ends_answers text whole fails.Memory h = tt
+ends_answers text whole (fails.Refused f) h = h
+
+pub ends_sum : (text : List ℕ) (T : Type 0) (view : T → SumImage) (whole : Bool) (e : Fail) → CoreEnds text whole (Err e) → Answers view (ReadsSum text) (Err e)
+ends_sum text T view whole fails.Memory h = tt
+ends_sum text T view whole (fails.Refused f) h = h

@@ -1,0 +1,238 @@
+//! A layer that is read in pieces.
+
+ghost use Rattle.std.specs.Prelude.{◌≡◌, ◌++◌, [], ℕ, List, Ok, Err, Some, None, true, IsOk, OnOk, IfErr, IfOk, IfSome};
+ghost use Rattle.grid_units.specs.Results.{Answers, Tells};
+
+use crate::layer::{Layer, layer_of};
+use crate::scan::Scan;
+use gerber_rows::Command;
+use gerber_text::{Placed, WordReader};
+use grid_units::{Fail, Text};
+use pad_shapes::Pad;
+use std::alloc::{AllocError, Global};
+
+/// The one body of the readers of a layer: it judges the commands piece by piece and lets go of them, or keeps
+/// them where all is to be kept.
+#[derive(Drop)]
+pub(crate) struct Core {
+    alloc: Global,
+    words: WordReader,
+    pub(crate) scan: Scan,
+    kept: Vec<Placed<Command>>,
+    whole: bool,
+    failed: Option<Fail>,
+}
+
+impl Core {
+    ghost use Rattle.layer_image.specs.Layers.{ReadsLayer};
+    ghost use Rattle.gerber_text.specs.Reading.{Entries};
+    ghost use Rattle.gerber_text.specs.Standing.{StandsBehind, held};
+    ghost use Rattle.layer_image.specs.Standing.{CoreStands, CoreAdvances, CoreEnds, ShowsLayerFault, Scanned};
+
+    pub(crate) fn new(alloc: Global, whole: bool) -> Core
+        ensures stands { CoreStands result [] }
+        ensures whole { result.whole ≡ whole }
+    {
+        Core {
+            alloc,
+            words: WordReader::new(alloc),
+            scan: Scan::new(alloc, whole),
+            kept: Vec::new(alloc),
+            whole,
+            failed: None,
+        }
+    }
+
+    /// Takes the next piece of the text. A reader that has failed gives its failure again.
+    pub(crate) fn feed(&mut self, piece: &[u8]) -> Result<(), Fail>
+        ensures ok { OnOk result (CoreAdvances self.old self.new piece.now) }
+        ensures err { (text : List ℕ) → CoreStands self.old text → IfErr result (Tells (ShowsLayerFault (text ++ piece.now))) }
+        ensures failed { IfSome self.old.failed (λ e. result ≡ Err e) }
+        ensures fails { IfErr result (λ e. self.new.failed ≡ Some e) }
+        ensures whole { self.new.whole ≡ self.old.whole }
+    {
+        if let Some(fail) = self.failed {
+            return Err(fail);
+        }
+        let outcome = self.advance(piece);
+        if let Err(fail) = outcome {
+            self.failed = Some(fail);
+        }
+        outcome
+    }
+
+    /// Takes the next piece of the text: judges the commands of the items that it ends, and keeps them or lets
+    /// go of them.
+    fn advance(&mut self, piece: &[u8]) -> Result<(), Fail>
+        ensures ok { OnOk result (CoreAdvances self.old self.new piece.now) }
+        ensures err { (text : List ℕ) → CoreStands self.old text → IfErr result (Tells (ShowsLayerFault (text ++ piece.now))) }
+        ensures whole { self.new.whole ≡ self.old.whole }
+    {
+        let outcome = self.words.feed(piece);
+        self.scan.scan(self.alloc, self.words.commands())?;
+        outcome?;
+        self.keep()?;
+        Ok(())
+    }
+
+    /// Takes the commands that the word reader holds, or lets go of them.
+    fn keep(&mut self) -> Result<(), AllocError>
+        ensures words { (gone : Entries) (text : List ℕ) → StandsBehind self.old.words gone text → StandsBehind self.new.words (gone ++ held self.old.words) text }
+        ensures none { held self.new.words ≡ [] }
+        ensures scan { self.new.scan ≡ self.old.scan }
+        ensures kept { self.old.whole ≡ true → OnOk result (self.new.kept.items ≡ self.old.kept.items ++ held self.old.words) }
+        ensures failed { self.new.failed ≡ self.old.failed }
+        ensures whole { self.new.whole ≡ self.old.whole }
+    {
+        if !self.whole {
+            self.words.let_go();
+            return Ok(());
+        }
+        let commands = self.words.take_commands();
+        push_all(&mut self.kept, commands)
+    }
+
+    /// What the reader has failed with, if it has.
+    fn outcome(&self) -> Result<(), Fail>
+        ensures sound { self.now.failed ≡ None → IsOk result }
+        ensures failed { IfSome self.now.failed (λ e. result ≡ Err e) }
+    {
+        match self.failed {
+            Some(fail) => Err(fail),
+            None => Ok(()),
+        }
+    }
+
+    /// What was met and what was kept, if the text has ended. A reader that has failed gives its failure again.
+    fn end(self) -> Result<(Scan, Vec<Placed<Command>>), Fail>
+        ensures exact { (text : List ℕ) → CoreStands self text → CoreEnds text self.whole result }
+        ensures failed { IfSome self.failed (λ e. result ≡ Err e) }
+    {
+        self.outcome()?;
+        self.words.finish()?;
+        Ok((self.scan, self.kept))
+    }
+}
+
+/// Adds commands to those that are kept.
+fn push_all(
+    kept: &mut Vec<Placed<Command>>,
+    commands: Vec<Placed<Command>>,
+) -> Result<(), AllocError>
+    ensures { OnOk result (kept.new.items ≡ kept.old.items ++ commands.items) }
+{
+    for entry in commands {
+        kept.push(entry)?;
+    }
+    Ok(())
+}
+
+/// A reader of a layer that comes in pieces. It keeps what the layer will hold, one forward state and the
+/// unfinished item, and not the text.
+#[derive(Drop)]
+pub struct LayerReader {
+    core: Core,
+    ghost whole: { core.whole ≡ true },
+}
+
+impl LayerReader {
+    ghost use Rattle.layer_image.specs.Layers.{ReadsLayer};
+    ghost use Rattle.layer_image.specs.Standing.{LayerStandsAfter, ShowsLayerFault, layer_failure};
+
+    /// A reader that has read nothing.
+    pub fn new(alloc: Global) -> LayerReader
+        ensures { LayerStandsAfter result [] }
+    {
+        LayerReader {
+            core: Core::new(alloc, true),
+        }
+    }
+
+    /// Takes the next piece of the text.
+    ///
+    /// # Errors
+    ///
+    /// The first fault that the text shows so far, whatever follows; `Memory` where a growth was refused. A
+    /// reader that has failed gives its failure again.
+    pub fn feed(&mut self, piece: &[u8]) -> Result<(), Fail>
+        ensures ok { (text : List ℕ) → LayerStandsAfter self.old text → OnOk result (LayerStandsAfter self.new (text ++ piece.now)) }
+        ensures err { (text : List ℕ) → LayerStandsAfter self.old text → IfErr result (Tells (ShowsLayerFault (text ++ piece.now))) }
+        ensures failed { IfSome (layer_failure self.old) (λ e. result ≡ Err e) }
+        ensures fails { IfErr result (λ e. layer_failure self.new ≡ Some e) }
+    {
+        self.core.feed(piece)
+    }
+
+    /// The layer of the text.
+    ///
+    /// # Errors
+    ///
+    /// The first fault of the text; `Memory` where a growth was refused. A reader that has failed gives its
+    /// failure again.
+    pub fn finish(self) -> Result<Layer, Fail>
+        ensures exact { (text : List ℕ) → LayerStandsAfter self text → Answers (λ layer. layer) (λ answer. ReadsLayer text answer) result }
+        ensures failed { IfSome (layer_failure self) (λ e. result ≡ Err e) }
+    {
+        let (scan, commands) = self.core.end()?;
+        let Scan {
+            judge,
+            file_function,
+        } = scan;
+        Ok(layer_of(commands, judge.into_flashes(), file_function))
+    }
+}
+
+/// What a package needs of a layer: its pads, how many flashes are no pads, and its file function.
+#[derive(Drop)]
+pub struct LayerSum {
+    pub pads: Vec<Pad>,
+    pub other: usize,
+    pub file_function: Option<Text>,
+}
+
+/// A reader of a layer that comes in pieces, for a package. It keeps no commands.
+#[derive(Drop)]
+pub struct SumReader {
+    core: Core,
+}
+
+impl SumReader {
+    ghost use Rattle.layer_image.specs.Standing.{SumStandsAfter, ReadsSum, sum_view, ShowsLayerFault, sum_failure};
+
+    /// A reader that has read nothing.
+    pub fn new(alloc: Global) -> SumReader
+        ensures { SumStandsAfter result [] }
+    {
+        SumReader {
+            core: Core::new(alloc, false),
+        }
+    }
+
+    /// Takes the next piece of the text. A reader that has failed gives its failure again.
+    pub fn feed(&mut self, piece: &[u8]) -> Result<(), Fail>
+        ensures ok { (text : List ℕ) → SumStandsAfter self.old text → OnOk result (SumStandsAfter self.new (text ++ piece.now)) }
+        ensures err { (text : List ℕ) → SumStandsAfter self.old text → IfErr result (Tells (ShowsLayerFault (text ++ piece.now))) }
+        ensures failed { IfSome (sum_failure self.old) (λ e. result ≡ Err e) }
+        ensures fails { IfErr result (λ e. sum_failure self.new ≡ Some e) }
+    {
+        self.core.feed(piece)
+    }
+
+    /// What a package needs of the layer of the text.
+    pub fn finish(self) -> Result<LayerSum, Fail>
+        ensures exact { (text : List ℕ) → SumStandsAfter self text → Answers sum_view (ReadsSum text) result }
+        ensures failed { IfSome (sum_failure self) (λ e. result ≡ Err e) }
+    {
+        let (scan, _) = self.core.end()?;
+        let Scan {
+            judge,
+            file_function,
+        } = scan;
+        let flashes = judge.into_flashes();
+        Ok(LayerSum {
+            pads: flashes.pads,
+            other: flashes.others as usize,
+            file_function,
+        })
+    }
+}

@@ -1,0 +1,88 @@
+//! A scan over commands: each is judged and then let go, and what a layer says is kept.
+
+ghost use Rattle.std.specs.Prelude.{◌≡◌, ◌++◌, ◌∷◌, [], Bool, List, OnOk, IfErr};
+ghost use Rattle.grid_units.specs.Results.{Tells};
+ghost use Rattle.gerber_rows.specs.declared.command.Command.{Command};
+ghost use Rattle.gerber_text.specs.Reading.{Entries};
+ghost use Rattle.layer_image.specs.Functions.{file_function_of};
+ghost use Rattle.layer_image.specs.Faults.{fail_at, IsFirstFault};
+
+use crate::function::function_named;
+use crate::judge::{Judge, Stop};
+use gerber_rows::Command;
+use gerber_text::Placed;
+use grid_units::{Fail, Fault, Text};
+use std::alloc::{AllocError, Global};
+
+/// What the commands so far say of the layer.
+#[derive(Drop)]
+pub(crate) struct Scan {
+    pub(crate) judge: Judge,
+    pub(crate) file_function: Option<Text>,
+}
+
+impl Scan {
+    ghost use Rattle.layer_image.specs.Standing.{Met, Meets, Scanned};
+
+    /// A scan that has met no command.
+    pub(crate) fn new(alloc: Global, whole: bool) -> Self
+        ensures { Scanned result whole [] }
+    {
+        Scan {
+            judge: Judge::new(alloc, whole),
+            file_function: None,
+        }
+    }
+
+    /// Meets commands, in order.
+    ///
+    /// # Errors
+    ///
+    /// The fault of the first command that breaks a rule; `Memory` where a growth was refused.
+    pub(crate) fn scan(&mut self, alloc: Global, entries: &[Placed<Command>]) -> Result<(), Fail>
+        ensures ok { (whole : Bool) (before : Entries) → Scanned self.old whole before → OnOk result (Scanned self.new whole (before ++ entries.now)) }
+        ensures refused { (whole : Bool) (before : Entries) → Scanned self.old whole before → IfErr result (Tells (IsFirstFault (before ++ entries.now))) }
+    {
+        for entry in entries {
+            match self.meet(alloc, &entry.what) {
+                Ok(()) => {}
+                Err(stop) => return Err(fail_at(entry.place, entry.byte, stop)),
+            }
+        }
+        Ok(())
+    }
+
+    /// Meets one more command.
+    fn meet(&mut self, alloc: Global, command: &Command) -> Result<(), Stop>
+        ensures { (whole : Bool) (before : List Command) → Met self.old whole before → Meets whole before command.now self.new result }
+    {
+        self.judge.step(command)?;
+        self.name(alloc, command)?;
+        Ok(())
+    }
+
+    /// Takes in the file function, where the command names one.
+    fn name(&mut self, alloc: Global, command: &Command) -> Result<(), AllocError>
+        ensures same { self.new.judge ≡ self.old.judge }
+        ensures named { (before : List Command) → self.old.file_function ≡ file_function_of before → OnOk result (self.new.file_function ≡ file_function_of (before ++ command.now ∷ [])) }
+    {
+        if let Some(bytes) = function_named(command) {
+            self.file_function = Some(Text::from_slice(alloc, bytes)?);
+        }
+        Ok(())
+    }
+}
+
+/// A stop at a place and a byte.
+fn fail_at(place: u64, byte: u64, stop: Stop) -> Fail
+    ensures { result ≡ fail_at place byte stop }
+{
+    match stop {
+        Stop::Memory => Fail::Memory,
+        Stop::Refused(reason) => Fail::Refused(Fault {
+            place,
+            byte,
+            reason,
+        }),
+    }
+}

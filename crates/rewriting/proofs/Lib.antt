@@ -1,0 +1,4 @@
+pub mod Ranges
+pub mod Typed
+pub mod Again
+pub mod Once
