@@ -1,5 +1,11 @@
-ghost use Rattle.std.specs.Prelude.{◌≡◌, ◌≢◌, ◌≤◌, ◌<◌, List, ℕ, IfSome, IfOk, IfErr, map, length};
+ghost use Rattle.std.specs.Prelude.{◌≡◌, ◌≢◌, ◌≤◌, ◌<◌, List, ℕ, IfSome, IfOk, IfErr, IsTrue, Ok, codes, map, length, ◌∷◌, []};
 ghost use Rattle.std.specs.List.{Contains};
+ghost use Rattle.grid_units.specs.Holes.{GridRules};
+ghost use Rattle.manifest.specs.Manifest.{manifest};
+ghost use Rattle.manifest.specs.declared.Entry.{Entry as TheEntry};
+ghost use Rattle.package_check.specs.Soundness.{IsSound};
+ghost use Rattle.ringcheck.specs.Naming.{rules_named};
+ghost use Rattle.ringcheck.specs.Running.{HasFiles, sources};
 
 use super::*;
 use std::alloc::{AllocError, Global};
@@ -1280,4 +1286,22 @@ fn plated_slots_have_rings(rt: HostRuntime) -> Result<(), Failure> {
     };
     assert!(rt; unplated.is_told_unplated(rt.alloc())?);
     Ok(())
+}
+
+/// Whether a package of three files at hand passes: then the files that its manifest names are sound as they lie there.
+fn is_passed<'x>(alloc: Global, records: &'x str, layer: &'x str, drill: &'x str) -> bool
+    ensures { IsTrue result → (rules : GridRules) × (rules_named (codes "0.125") (codes "0.25") ≡ Ok rules) × (entries : List TheEntry) × (manifest records.now ≡ Ok entries)
+        × (files : List (List ℕ)) × HasFiles (λ n b. Contains {X = List ℕ × List ℕ} ((codes "m.csv", records.now) ∷ (codes "top.gbr", layer.now) ∷ (codes "pth.drl", drill.now) ∷ []) (n, b)) entries files
+        × IsSound (sources entries files) rules }
+{
+    let files = [("m.csv", records), ("top.gbr", layer), ("pth.drl", drill)];
+    let mut out: Vec<u8> = Vec::new(alloc);
+    run(alloc, &WORDS, &mut Shelf::new(&files), &mut out) == Status::Pass
+}
+
+#[test]
+fn what_passes_is_sound_as_it_lies_there(rt: HostRuntime) {
+    let moved = "%FSLAX46Y46*%\n%MOMM*%\n%ADD10C,0.65*%\nD10*\nX1Y0D03*\nM02*\n";
+    assert!(rt; is_passed(rt.alloc(), MANIFEST, LAYER, DRILL));
+    assert!(rt; !is_passed(rt.alloc(), MANIFEST, moved, DRILL));
 }

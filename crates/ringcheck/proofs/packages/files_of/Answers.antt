@@ -1,6 +1,6 @@
-use Rattle.std.proofs.Common.{◌≡◌, ◌∙◌, sym, ap, is_ok, true, rules, map, ◌∷◌, [], ◌++◌, List, arith}
+use Rattle.std.proofs.Common.{◌≡◌, ◌∙◌, sym, ap, is_ok, true, rules, map, arith}
 use Rattle.std.proofs.lemmas.List.{map-append}
-use Rattle.package_check.specs.Package.{Source, source_of}
+use Rattle.package_check.specs.Package.{source_of}
 use Rattle.ringcheck.proofs.Loaded.{all_sources, next_source, same_sources}
 use Rattle.ringcheck.proofs.packages.files_of.Goals as goal
 
