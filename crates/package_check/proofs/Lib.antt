@@ -8,3 +8,4 @@ pub mod Answering
 pub mod Lining
 pub mod Rewritten
 pub mod Joining
+pub mod Straight

@@ -1,5 +1,5 @@
 -- The answer to a package: its report, or the first file that is refused.
-use Rattle.std.specs.Prelude.{◌≡◌, ◌⊎◌, ◌<◌, ◌++◌, ℕ, Bool, true, false, not, ◌||◌, nat_lt, List, [], ◌∷◌, length, map, take, get_or, count_by, Result, Ok, Err, ⊤, Option, None, Some}
+use Rattle.std.specs.Prelude.{◌≡◌, ◌⊎◌, ◌<◌, ◌++◌, ℕ, Bool, true, false, not, ◌||◌, ◌&&◌, nat_le, List, [], ◌∷◌, length, map, take, get_or, count_by, Result, Ok, Err, ⊤, Option, None, Some}
 use Rattle.std.specs.List.{All, flat_map, enumerate_from}
 use Rattle.grid_units.specs.Holes.{GridHole, GridRules}
 use Rattle.pad_shapes.specs.declared.pad.Pad.{Pad}
@@ -56,10 +56,10 @@ layer_count files = count_by (λ file. is_copper file.role) files
 abbrev pub sources_of : List File → List Source
 sources_of files = map (source_of (layer_count files)) files
 
--- a copper file has no span, and no span ends above the number of copper files (docs/FORMATS.md, The check)
+-- a copper file has no span, and a span is a run of the copper files, numbered from 1 (docs/FORMATS.md, The check)
 abbrev pub is_bad_span : Role → Option LayerSpan → ℕ → Bool
 is_bad_span role None layers = false
-is_bad_span role (Some span) layers = is_copper role || nat_lt layers span.last
+is_bad_span role (Some span) layers = is_copper role || not (nat_le 1 span.first && (nat_le span.first span.last && nat_le span.last layers))
 
 -- the fault of a file with such a span (docs/FORMATS.md, The check)
 abbrev pub bad_span : Fault

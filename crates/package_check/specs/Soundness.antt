@@ -17,6 +17,17 @@ abbrev pub drilled_in : Content → List Drilled
 drilled_in (content.Layer image) = []
 drilled_in (content.Drill plated span holes) = map (λ hole. record { hole = hole; plated = plated; span = span }) holes
 
+-- a hole of a plated file (docs/DEFINITIONS.md, Packages)
+pub record IsPlated (contents : List Content) (hole : GridHole) : Type 0 where
+  pub span : Option LayerSpan
+  pub holes : List GridHole
+  pub file : Contains contents (content.Drill true span holes)
+  pub drilled : Contains holes hole
+
+-- each plated slot of these files lies along an axis (docs/DEFINITIONS.md, Packages)
+abbrev pub AreStraight : List Source → Type 0
+AreStraight sources = (contents : List Content) (hole : GridHole) → AreRead sources contents → IsPlated contents hole → IsAlongAxis hole.from hole.to
+
 -- a hole of a plated file, in whose span the layer lies (docs/DEFINITIONS.md, Packages)
 pub record IsPlatedThrough (contents : List Content) (layer : ℕ) (hole : GridHole) : Type 0 where
   pub span : Option LayerSpan

@@ -1,12 +1,12 @@
 // The check of a package.
-ghost use Rattle.std.specs.Prelude.{◌≡◌, ℕ, [], Result, IfOk};
+ghost use Rattle.std.specs.Prelude.{◌≡◌, ◌<◌, ℕ, [], Result, IfOk};
 ghost use Rattle.grid_units.specs.declared.fault.Fault.{Fault as TheFault};
-ghost use Rattle.package_check.specs.Package.{AnswersJust, AnswersPackage, IsAnswer, NamesItsPlaces, sources_of};
+ghost use Rattle.package_check.specs.Package.{AnswersJust, AnswersPackage, IsAnswer, NamesItsPlaces, layer_count, sources_of};
 ghost use Rattle.package_check.specs.Reports.{Account};
-ghost use Rattle.package_check.specs.Soundness.{IsSound};
+ghost use Rattle.package_check.specs.Soundness.{AreStraight, IsSound};
 
 use crate::contents::read_files;
-use crate::laws::{findings_name_their_places, one_answer, passing_is_sound};
+use crate::laws::{findings_name_their_places, one_answer, one_reading, passing_is_sound};
 use crate::report::report_on;
 use crate::{File, PackageFault, Report};
 use grid_units::Rules;
@@ -33,9 +33,11 @@ pub fn check_bytes(alloc: Global, files: &[File], rules: Rules) -> Result<Report
     ensures exact { AnswersPackage (sources_of files.now) rules result }
     ensures only { (answer : Result Account (ℕ × TheFault)) → IsAnswer (sources_of files.now) rules answer → AnswersJust answer result }
     ensures places { IfOk result NamesItsPlaces }
+    ensures straight { IfOk result (λ report. report.findings ≡ [] → 0 < layer_count files.now → AreStraight (sources_of files.now)) }
     ensures sound { IfOk result (λ report. report.findings ≡ [] → IsSound (sources_of files.now) rules) }
 {
     one_answer();
+    one_reading();
     findings_name_their_places();
     passing_is_sound();
     report_of(alloc, files, rules)

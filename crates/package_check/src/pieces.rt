@@ -1,15 +1,15 @@
 //! The check of a package whose files come in pieces.
 
-ghost use Rattle.std.specs.Prelude.{◌≡◌, ◌++◌, ℕ, [], Result, IfErr, IfOk, OnOk, map};
+ghost use Rattle.std.specs.Prelude.{◌≡◌, ◌<◌, ◌++◌, ℕ, [], Result, IfErr, IfOk, OnOk, map};
 ghost use Rattle.grid_units.specs.Results.{Answers};
 ghost use Rattle.grid_units.specs.declared.fault.Fault.{Fault as TheFault};
 ghost use Rattle.package_check.specs.Package.{AnswersJust, AnswersPackage, AreRead, IsAnswer, IsRefused, NamesItsPlaces, Reads};
 ghost use Rattle.package_check.specs.Pieces.{layers_in, source_in, sources_in};
 ghost use Rattle.package_check.specs.Reports.{Account};
-ghost use Rattle.package_check.specs.Soundness.{IsSound};
+ghost use Rattle.package_check.specs.Soundness.{AreStraight, IsSound};
 
 use crate::contents::{Content, is_copper, read_file};
-use crate::laws::{findings_name_their_places, one_answer, passing_is_sound};
+use crate::laws::{findings_name_their_places, one_answer, one_reading, passing_is_sound};
 use crate::report::report_on;
 use crate::{PackageFault, PiecedFile, Report};
 use grid_units::{Fail, Rules};
@@ -82,9 +82,11 @@ pub fn check_pieces(
     ensures exact { AnswersPackage (sources_in files.now) rules result }
     ensures only { (answer : Result Account (ℕ × TheFault)) → IsAnswer (sources_in files.now) rules answer → AnswersJust answer result }
     ensures places { IfOk result NamesItsPlaces }
+    ensures straight { IfOk result (λ report. report.findings ≡ [] → 0 < layers_in files.now → AreStraight (sources_in files.now)) }
     ensures sound { IfOk result (λ report. report.findings ≡ [] → IsSound (sources_in files.now) rules) }
 {
     one_answer();
+    one_reading();
     findings_name_their_places();
     passing_is_sound();
     report_of(alloc, files, rules)

@@ -56,7 +56,8 @@ pub trait PadShape {
     fn right(&self) -> i64
         ensures { result ≡ right self.now };
 
-    /// A zone of the centres that it covers with this reach or a greater one, if it tells any.
+    /// A zone of the centres that it covers with this reach or a greater one, if it tells any. The reach is in pm, up to
+    /// [`MAX_REACH`].
     fn zone(&self, reach: u64) -> Option<Zone>
         requires { reach ≤ 20000000000000 }
         ensures { IfSome result (BoundsCentres covers self.now reach) }

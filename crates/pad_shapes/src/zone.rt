@@ -9,9 +9,13 @@ use grid_units::{Point, square, square_length};
 /// A box along the axes, by the least and the greatest coordinates of its points, in pm.
 #[derive(Clone, Copy, Debug, PartialEq, Eq)]
 pub struct Zone {
+    /// The least x.
     pub left: i64,
+    /// The greatest x.
     pub right: i64,
+    /// The least y.
     pub bottom: i64,
+    /// The greatest y.
     pub top: i64,
 }
 

@@ -1,4 +1,4 @@
-//! The findings of small boards, and how often a sweep asks a pad.
+//! The findings of small boards, and how often pads are asked.
 
 ghost use Rattle.std.specs.Prelude.{◌≡◌, pos, ◌+ℤ◌, ◌-ℤ◌};
 ghost use Rattle.pad_shapes.specs.Shapes.{IsInDisc, disc_covers};
@@ -325,7 +325,7 @@ fn centres(alloc: Global) -> Result<Vec<Point>, Fail> {
 }
 
 #[test]
-fn a_sweep_asks_few_pads(rt: HostRuntime) -> Result<(), Fail> {
+fn few_pads_are_asked(rt: HostRuntime) -> Result<(), Fail> {
     let calls = Rc::new(rt.alloc(), Cell::new(0))?;
     let pads = counted_discs(rt.alloc(), &calls)?;
     let holes = plated_at(rt.alloc(), &centres(rt.alloc())?)?;

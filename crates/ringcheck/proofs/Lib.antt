@@ -1,3 +1,4 @@
 pub mod Loaded
 pub mod Checking
 pub mod Refusals
+pub mod Held

@@ -1,5 +1,5 @@
 -- The refusal of one file, and the line that tells it.
-use Rattle.std.proofs.Common.{◌≡◌, ◌≢◌, ◌<◌, ℕ, List, Option, Result, Ok, Err, IfOk, MatchResult, length, inl, inr, refl, subst}
+use Rattle.std.proofs.Common.{◌≡◌, ◌≢◌, ◌<◌, ℕ, List, Option, Result, Ok, Err, IfOk, MatchResult, length, inl, refl, subst}
 use Rattle.std.specs.Io.KnownBytes.{Appends}
 use Rattle.grid_units.specs.declared.fault.Fault.{Fault}
 use Rattle.rewriting.specs.declared.Kind.{Kind}

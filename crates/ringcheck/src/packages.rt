@@ -3,7 +3,7 @@
 ghost use Rattle.std.specs.Prelude.{◌≡◌, ℕ, List, IfOk, map, length, Ok};
 ghost use Rattle.ringcheck.specs.Endings.{HasCause, status_after};
 ghost use Rattle.ringcheck.specs.Naming as named;
-ghost use Rattle.package_check.specs.Package.{source_of};
+ghost use Rattle.package_check.specs.Package.{source_of, sources_of};
 ghost use Rattle.ringcheck.specs.Running.{SaysOf, sources};
 ghost use Rattle.ringcheck.specs.Stopping.{Answered, TellsOf};
 ghost use Rattle.ringcheck.specs.Stopping as stopping;
@@ -52,21 +52,33 @@ fn tell<W: Write>(alloc: Global, out: &mut W, entries: &[Entry], stop: Stop) -> 
     }
 }
 
+/// The file of an entry whose bytes are loaded.
+fn file_of<'a>(entry: &'a Entry, bytes: &'a [u8]) -> File<'a>
+    ensures { (layers : ℕ) → source_of layers result
+        ≡ record { role = entry.now.role; name = entry.now.name; span = entry.now.span; bytes = bytes.now; layers = layers } }
+{
+    File {
+        role: entry.role,
+        name: entry.name.as_str(),
+        span: entry.span,
+        bytes,
+    }
+}
+
 fn files_of<'a>(
     alloc: Global,
     entries: &'a [Entry],
     loaded: &'a [Vec<u8>],
 ) -> Result<Vec<File<'a>>, AllocError>
     requires { length entries.now ≡ length loaded.now }
-    ensures { IfOk result (λ v. map source_of v.items ≡ sources entries.now (map (λ f. f.items) loaded.now)) }
+    ensures { IfOk result (λ v. sources_of v.items ≡ sources entries.now (map (λ f. f.items) loaded.now)) }
 {
     let mut files = Vec::new(alloc);
     for (index, entry) in entries.iter().enumerate() {
-        files.push(File {
-            role: entry.role,
-            name: entry.name.as_str(),
-            bytes: loaded[index].as_slice(),
-        })?;
+        let file = file_of(entry, loaded[index].as_slice());
+        if files.push(file).is_err() {
+            return Err(AllocError);
+        }
     }
     Ok(files)
 }
@@ -90,7 +102,7 @@ fn status_of(report: &Report) -> Status
 
 /// Checks files that are at hand, and prints the report.
 fn answer<W: Write>(alloc: Global, files: &[File], rules: Rules, out: &mut W) -> Ended
-    ensures { Answered (map source_of files.now) rules (W.contents out.old) (W.contents out.new) result }
+    ensures { Answered (sources_of files.now) rules (W.contents out.old) (W.contents out.new) result }
 {
     let report = match check_bytes(alloc, files, rules) {
         Ok(report) => report,

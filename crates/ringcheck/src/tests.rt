@@ -1,5 +1,11 @@
-ghost use Rattle.std.specs.Prelude.{◌≡◌, ◌≢◌, ◌≤◌, ◌<◌, List, ℕ, IfSome, IfOk, IfErr, IsTrue, Ok, codes, map, length};
+ghost use Rattle.std.specs.Prelude.{◌≡◌, ◌≢◌, ◌≤◌, ◌<◌, List, ℕ, IfSome, IfOk, IfErr, IsTrue, Ok, codes, map, length, ◌∷◌, []};
 ghost use Rattle.std.specs.List.{Contains};
+ghost use Rattle.grid_units.specs.Holes.{GridRules};
+ghost use Rattle.manifest.specs.Manifest.{manifest};
+ghost use Rattle.manifest.specs.declared.Entry.{Entry as TheEntry};
+ghost use Rattle.package_check.specs.Soundness.{IsSound};
+ghost use Rattle.ringcheck.specs.Naming.{rules_named};
+ghost use Rattle.ringcheck.specs.Running.{HasFiles, sources};
 
 use super::*;
 use std::alloc::{AllocError, Global};
@@ -1140,4 +1146,162 @@ fn a_file_that_is_not_loaded_is_told(rt: HostRuntime) {
             assert!(rt; prints(rt.alloc(), &mut long, &words, Status::Device, "device\n"));
         }
     }
+}
+
+/// Whether the check of two layers, the second with its flash a nanometre aside, and a drill file ends so and prints just this.
+fn checks_two<'x>(alloc: Global, manifest: &'x str, status: Status, text: &str) -> bool {
+    let moved = "%FSLAX46Y46*%\n%MOMM*%\n%ADD10C,0.65*%\nD10*\nX1Y0D03*\nM02*\n";
+    let files = [
+        ("m.csv", manifest),
+        ("top.gbr", LAYER),
+        ("bot.gbr", moved),
+        ("pth.drl", DRILL),
+    ];
+    prints(alloc, &mut Shelf::new(&files), &WORDS, status, text)
+}
+
+/// Whether the check of two layers and a drill file of this span prints just what is told of it.
+fn spans(
+    alloc: Global,
+    span: &str,
+    status: Status,
+    drill: &str,
+    last: &str,
+) -> Result<bool, AllocError> {
+    let manifest = format!(in alloc;
+        "role,name,file,first,last\ncopper,top,top.gbr,,\ncopper,bot,bot.gbr,,\nplated,pth,pth.drl,{span}\n"
+    )?;
+    let text = format!(in alloc;
+        "rules ring=0.125000000 gap=0.250000000\nfile 1 layer pads=1 other=0 name=top\nfile 2 layer pads=1 other=0 name=bot\nfile 3 drill plated=yes round=1 slots=0{drill} name=pth\n{last}"
+    )?;
+    Ok(checks_two(alloc, manifest.as_str(), status, text.as_str()))
+}
+
+#[test]
+fn rings_are_asked_for_on_the_layers_of_a_span(rt: HostRuntime) -> Result<(), Failure> {
+    let ring =
+        "RING layer=2 drill=3 hole=1 x=0.000000000 y=0.000000000 diameter=0.400000000\nFINDINGS 1\n";
+    for (span, status, drill, last) in [
+        ("1,1", Status::Pass, " span=1-1", "PASS\n"),
+        ("01,001", Status::Pass, " span=1-1", "PASS\n"),
+        ("1,2", Status::Findings, " span=1-2", ring),
+        (",", Status::Findings, "", ring),
+    ] {
+        assert!(rt; spans(rt.alloc(), span, status, drill, last)?, "{span}");
+    }
+    Ok(())
+}
+
+#[test]
+fn refused_spans_are_told(rt: HostRuntime) {
+    for (records, text) in [
+        (
+            "role,name,file,first,last\ncopper,top,top.gbr,,\ncopper,bot,bot.gbr,,\nplated,pth,pth.drl,2,1\n",
+            "refused manifest place=4 reason=BadSpan\n",
+        ),
+        (
+            "role,name,file,first,last\ncopper,top,top.gbr,,\ncopper,bot,bot.gbr,,\nplated,pth,pth.drl,1,\n",
+            "refused manifest place=4 reason=BadSpan\n",
+        ),
+        (
+            "role,name,file,first,last\ncopper,top,top.gbr,,\ncopper,bot,bot.gbr,,\nplated,pth,pth.drl,0,1\n",
+            "refused manifest place=4 reason=BadSpan\n",
+        ),
+        (
+            "role,name,file,first,last\ncopper,top,top.gbr,,\ncopper,bot,bot.gbr,,\nplated,pth,pth.drl,1,3\n",
+            "refused manifest place=4 reason=BadSpan\n",
+        ),
+        (
+            "role,name,file,first,last\ncopper,top,top.gbr,1,1\ncopper,bot,bot.gbr,,\nplated,pth,pth.drl,,\n",
+            "refused manifest place=2 reason=BadSpan\n",
+        ),
+        (
+            "role,name,file,first,last\nplated,pth,pth.drl,1,1\n",
+            "refused manifest place=3 reason=NoCopper\n",
+        ),
+    ] {
+        let files = [("m.csv", records)];
+        assert!(rt;
+            prints(
+                rt.alloc(),
+                &mut Shelf::new(&files),
+                &WORDS,
+                Status::Refused,
+                text
+            ),
+            "{records}"
+        );
+    }
+}
+
+const SLOT_RING: &str =
+    "RING layer=1 drill=2 hole=1 x1=0.000000000 y1=0.000000000 x2=2.000000000 y2=0.000000000 diameter=0.500000000\nFINDINGS 1\n";
+
+const OBLIQUE: &str =
+    "OBLIQUE layer=1 drill=2 hole=1 x1=0.000000000 y1=5.000000000 x2=2.000000000 y2=6.000000000 diameter=0.500000000\nFINDINGS 1\n";
+
+#[test]
+fn plated_slots_have_rings(rt: HostRuntime) -> Result<(), Failure> {
+    let slot = Package {
+        define: "%ADD10O,2.75X0.75*%",
+        flashes: "X1000000Y0D03*",
+        tool: "T1C0.5",
+        hits: "X0.0Y0.0G85X2.0Y0.0",
+        drill: "plated=yes round=0 slots=1",
+        ..BASE
+    };
+    let oblique = Package {
+        hits: "X0.0Y5.0G85X2.0Y6.0",
+        ..slot
+    };
+    for package in [
+        slot,
+        Package {
+            define: "%ADD10O,2.74X0.75*%",
+            last: SLOT_RING,
+            ..slot
+        },
+        Package {
+            define: "%ADD10C,0.75*%",
+            flashes: "X0Y0D03*\nX2000000Y0D03*",
+            layer: "pads=2 other=0",
+            last: SLOT_RING,
+            ..slot
+        },
+        Package {
+            last: OBLIQUE,
+            ..oblique
+        },
+    ] {
+        assert!(rt;
+            package.is_told(rt.alloc())?,
+            "{}{}",
+            package.define,
+            package.hits
+        );
+    }
+    let unplated = Package {
+        drill: "plated=no round=0 slots=1",
+        ..oblique
+    };
+    assert!(rt; unplated.is_told_unplated(rt.alloc())?);
+    Ok(())
+}
+
+/// Whether a package of three files at hand passes: then the files that its manifest names are sound as they lie there.
+fn is_passed<'x>(alloc: Global, records: &'x str, layer: &'x str, drill: &'x str) -> bool
+    ensures { IsTrue result → (rules : GridRules) × (rules_named (codes "0.125") (codes "0.25") ≡ Ok rules) × (entries : List TheEntry) × (manifest records.now ≡ Ok entries)
+        × (files : List (List ℕ)) × HasFiles (λ n b. Contains {X = List ℕ × List ℕ} ((codes "m.csv", records.now) ∷ (codes "top.gbr", layer.now) ∷ (codes "pth.drl", drill.now) ∷ []) (n, b)) entries files
+        × IsSound (sources entries files) rules }
+{
+    let files = [("m.csv", records), ("top.gbr", layer), ("pth.drl", drill)];
+    let mut out: Vec<u8> = Vec::new(alloc);
+    run(alloc, &WORDS, &mut Shelf::new(&files), &mut out) == Status::Pass
+}
+
+#[test]
+fn what_passes_is_sound_as_it_lies_there(rt: HostRuntime) {
+    let moved = "%FSLAX46Y46*%\n%MOMM*%\n%ADD10C,0.65*%\nD10*\nX1Y0D03*\nM02*\n";
+    assert!(rt; is_passed(rt.alloc(), MANIFEST, LAYER, DRILL));
+    assert!(rt; !is_passed(rt.alloc(), MANIFEST, moved, DRILL));
 }

@@ -1,0 +1,51 @@
+-- What a check that passes says of three files at hand.
+use Rattle.std.proofs.Common.{◌≡◌, ◌⊎◌, inl, inr, ℕ, zero, suc, List, [], ◌∷◌, Option, Result, Ok, Err, length, codes, ap, sym, subst, refl, arith}
+use Rattle.std.specs.List.{Contains}
+use Rattle.grid_units.specs.Holes.{GridRules}
+use Rattle.grid_units.specs.declared.fault.Reason.{Reason}
+use Rattle.manifest.specs.declared.Entry.{Entry}
+use Rattle.manifest.specs.Manifest.{manifest}
+use Rattle.package_check.specs.Soundness.{IsSound}
+use Rattle.ringcheck.specs.declared.Status.{Status}
+use Rattle.ringcheck.specs.declared.Status.TheVariants as status
+use Rattle.ringcheck.specs.Running.{HasFiles, SaysOf, file_limit, sources, within}
+use Rattle.ringcheck.proofs.Loaded.{along}
+
+-- a manifest, a layer and a drill file under their names
+abbrev pub three : List ℕ → List ℕ → List ℕ → List (List ℕ × List ℕ)
+three m l d = (codes "m.csv", m) ∷ (codes "top.gbr", l) ∷ (codes "pth.drl", d) ∷ []
+
+abbrev pub lies : List ℕ → List ℕ → List ℕ → List ℕ → List ℕ → Type 0
+lies m l d name bytes = Contains {X = List ℕ × List ℕ} (three m l d) (name, bytes)
+
+other_length : (a b : List ℕ) → length a ≡ 7 → length b ≡ 5 → a ≡ b → ⊥
+other_length a b s f e = absurd (omega (arith, s, f, ap (λ (x : List ℕ). length x) e))
+
+first_held : (m l d text : List ℕ) → lies m l d (codes "m.csv") text → text ≡ m
+first_held m l d text (zero, lt, is) = sym (ap (λ (p : List ℕ × List ℕ). p.1) is)
+first_held m l d text (suc zero, lt, is) = absurd (other_length (codes "top.gbr") (codes "m.csv") refl refl (ap (λ (p : List ℕ × List ℕ). p.0) is))
+first_held m l d text (suc (suc zero), lt, is) = absurd (other_length (codes "pth.drl") (codes "m.csv") refl refl (ap (λ (p : List ℕ × List ℕ). p.0) is))
+first_held m l d text (suc (suc (suc k)), lt, is) = absurd (omega (arith, lt))
+
+never : (s : Status) → (s ≡ status.Usage) ⊎ (s ≡ status.Device) → s ≡ status.Pass → ⊥
+never s (inl u) p = cc
+never s (inr d) p = cc
+
+-- the files that the manifest names are sound
+pub sound_as_held : (m l d : List ℕ) (r : Result GridRules Reason) (before after : Option (List ℕ)) (s : Status) → SaysOf (lies m l d) (codes "m.csv") r before after s → s ≡ status.Pass
+    → (rules : GridRules) × (r ≡ Ok rules) × (entries : List Entry) × (manifest m ≡ Ok entries) × (files : List (List ℕ)) × HasFiles (lies m l d) entries files × IsSound (sources entries files) rules
+sound_as_held m l d (Err why) before after s says is = absurd (never s says is)
+sound_as_held m l d (Ok rules) before after status.Pass says is =
+    let held = says.reported.held in (
+      rules,
+      refl,
+      says.reported.entries,
+      subst (λ t. manifest t ≡ Ok says.reported.entries) (first_held m l d held.text held.held) held.names,
+      says.reported.files,
+      along (within file_limit (lies m l d)) (lies m l d) (λ n b h. h.0) says.reported.entries says.reported.files held.loaded,
+      says.sound,
+    )
+sound_as_held m l d (Ok rules) before after status.Findings says is = cc
+sound_as_held m l d (Ok rules) before after status.Refused says is = cc
+sound_as_held m l d (Ok rules) before after status.Usage says is = cc
+sound_as_held m l d (Ok rules) before after status.Device says is = cc
