@@ -1,0 +1,4 @@
+pub mod Contents
+pub mod Names
+pub mod Deciding
+pub mod Proposing

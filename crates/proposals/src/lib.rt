@@ -1,0 +1,14 @@
+//! Proposals for a manifest: which of a folder's files are copper layers and drill files, and why.
+//!
+//! The text of a file decides what kind it is, its file function what it is for, and its name last. A proposal may be wrong: the
+//! user reads it. A file that may be copper or holes is never left out silently, but stands with the role `?`.
+#![tactic(auto)]
+
+mod contents;
+mod deciding;
+mod names;
+mod outcome;
+mod proposing;
+
+pub use outcome::{Because, Content, Layers, Named, Place, Proposal, Proposed};
+pub use proposing::propose;
