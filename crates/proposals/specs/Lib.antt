@@ -2,3 +2,4 @@ pub mod Contents
 pub mod Names
 pub mod Deciding
 pub mod Proposing
+pub mod Manifests

@@ -6,9 +6,15 @@
 
 mod contents;
 mod deciding;
+mod manifests;
 mod names;
+mod order;
 mod outcome;
 mod proposing;
+mod reasons;
+mod table;
 
+pub use manifests::write_proposal;
 pub use outcome::{Because, Content, Layers, Named, Place, Proposal, Proposed};
 pub use proposing::propose;
+pub use reasons::write_reasons;
