@@ -18,3 +18,6 @@ pub use manifests::write_proposal;
 pub use outcome::{Because, Content, Layers, Named, Place, Proposal, Proposed};
 pub use proposing::propose;
 pub use reasons::write_reasons;
+
+#[cfg(test)]
+mod tests;
