@@ -4,3 +4,4 @@ pub mod Words
 pub mod Once
 pub mod Rows
 pub mod Orders
+pub mod Kept

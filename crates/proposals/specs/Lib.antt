@@ -3,3 +3,4 @@ pub mod Names
 pub mod Deciding
 pub mod Proposing
 pub mod Manifests
+pub mod Keeping

@@ -6,6 +6,7 @@
 
 mod contents;
 mod deciding;
+pub mod laws;
 mod manifests;
 mod names;
 mod order;
