@@ -1,3 +1,6 @@
 pub mod Answered
 pub mod FirstText
 pub mod Words
+pub mod Files
+pub mod RewriteWords
+pub mod ShowWords

@@ -78,3 +78,28 @@ AnswersCheck r g m (Ok asked) = IsCheck r g m asked
 AnswersCheck r g m (Err Memory) = Unit {0}
 AnswersCheck r g m (Err (Help text)) = ⊥
 AnswersCheck r g m (Err (Usage text)) = ⊥
+
+-- ---- what the words of a command on one file ask for
+
+-- the words of `show` and `rewrite` in their usual order (docs/FORMATS.md, The program)
+abbrev pub file_words : Text → Text → Text → List Text
+file_words name kind file = name ∷ codes "--kind" ∷ kind ∷ file ∷ []
+
+-- the request is to show a file of this kind (docs/FORMATS.md, The program)
+abbrev pub IsShow : Text → Text → Request → Type 0
+IsShow k f (Check ring gap manifest) = ⊥
+IsShow k f (Show kind file) = (kind.now ≡ k) × (file.now ≡ f)
+IsShow k f (Rewrite kind file) = ⊥
+
+-- the request is to rewrite a file of this kind (docs/FORMATS.md, The program)
+abbrev pub IsRewrite : Text → Text → Request → Type 0
+IsRewrite k f (Check ring gap manifest) = ⊥
+IsRewrite k f (Show kind file) = ⊥
+IsRewrite k f (Rewrite kind file) = (kind.now ≡ k) × (file.now ≡ f)
+
+-- the answer is such a request, want of memory aside (docs/FORMATS.md, The program)
+abbrev pub AnswersAs : (Request → Type 0) → Result Request Refusal → Type 0
+AnswersAs IsAsked (Ok asked) = IsAsked asked
+AnswersAs IsAsked (Err Memory) = Unit {0}
+AnswersAs IsAsked (Err (Help text)) = ⊥
+AnswersAs IsAsked (Err (Usage text)) = ⊥

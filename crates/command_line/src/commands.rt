@@ -19,12 +19,12 @@ pub(crate) fn ringcheck<'a>(alloc: Global) -> Result<Command<'a>, AllocError>
     let show = of_file(
         alloc,
         "show",
-        "Print the table of a layer's flashes or of a drill file's holes, as CSV (not yet: ends with status 3)",
+        "Print the table of a layer's flashes or of a drill file's holes, as CSV",
     )?;
     let rewrite = of_file(
         alloc,
         "rewrite",
-        "Print the canonical text of a layer or a drill file (not yet: ends with status 3)",
+        "Print the canonical text of a layer or a drill file",
     )?;
     let bare = described(
         alloc,
@@ -46,7 +46,7 @@ fn check<'a>(alloc: Global) -> Result<Command<'a>, AllocError>
     described(
         alloc,
         "check",
-        "Check that each plated round hole lies with its ring in one flashed pad of every copper layer, and that any two holes keep the gap",
+        "Check that each plated round hole, and each plated slot along an axis, lies with its ring in one flashed pad of every copper layer that it goes through, and that any two holes keep the gap",
     )
     .arg(option_of(
         alloc,
@@ -64,7 +64,7 @@ fn check<'a>(alloc: Global) -> Result<Command<'a>, AllocError>
         alloc,
         "manifest",
         "MANIFEST",
-        "CSV file with the first record role,name,file and then one for each file; a role is copper, plated or unplated",
+        "CSV file with the first record role,name,file and then one for each file; a role is copper, plated or unplated. With role,name,file,first,last a drill file may name the first and the last layer that it goes through",
     ))
 }
 

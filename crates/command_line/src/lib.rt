@@ -9,7 +9,7 @@
 
 ghost use Rattle.std.specs.Prelude.{◌≡◌, IfSome, Some, List, true, codes, map, option_map};
 ghost use Rattle.clap.specs.Words.{Row, Text, first_of, found_of, kind_of, rows_of, subcommand_rows_of};
-ghost use Rattle.command_line.specs.Line.{AnswersCheck, AnswersLine, AsksFor, check_words, is_plain_word};
+ghost use Rattle.command_line.specs.Line.{AnswersAs, AnswersCheck, AnswersLine, AsksFor, IsRewrite, IsShow, check_words, file_words, is_plain_word};
 ghost use Rattle.command_line.specs.Steps.{HasCheckRows, IsCheckIfSome, IsRefusalFor};
 
 mod commands;
@@ -63,6 +63,10 @@ pub fn parse<'a>(alloc: Global, words: &'a [&'a str]) -> Result<Request<'a>, Ref
     ensures exact { AnswersLine (map (λ w. w.now) words.entry.now) result }
     ensures check { (r g m : Text) → map (λ w. w.now) words.entry.now ≡ check_words r g m → is_plain_word r ≡ true
         → is_plain_word g ≡ true → is_plain_word m ≡ true → AnswersCheck r g m result }
+    ensures show { (k f : Text) → map (λ w. w.now) words.entry.now ≡ file_words (codes "show") k f → is_plain_word k ≡ true
+        → is_plain_word f ≡ true → AnswersAs (IsShow k f) result }
+    ensures rewrite { (k f : Text) → map (λ w. w.now) words.entry.now ≡ file_words (codes "rewrite") k f → is_plain_word k ≡ true
+        → is_plain_word f ≡ true → AnswersAs (IsRewrite k f) result }
 {
     let Ok(command) = commands::ringcheck(alloc) else {
         return Err(Refusal::Memory);

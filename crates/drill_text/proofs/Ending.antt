@@ -13,8 +13,12 @@ use Rattle.drill_text.specs.declared.reader.Progress.{Progress}
 use Rattle.drill_text.specs.Lines.{bytes_of, Splits}
 use Rattle.grid_units.specs.Results.{◌>>=◌, fault, Answers, Tells}
 use Rattle.drill_text.specs.Reading.{text_limit, shown, spelled, ended, is_finish, place_behind_count, Reads, Shows}
-use Rattle.drill_text.specs.Knowing.{Knows, Leaves}
+use Rattle.drill_text.specs.declared.kept.Kept.{Kept}
+use Rattle.drill_text.specs.Knowing.{Knows}
+use Rattle.drill_text.specs.Keeping.{Met, Leaves, Ends}
 use Rattle.drill_text.specs.Outcome.{DrillFile, commands_in, file_of}
+use Rattle.grid_units.specs.Holes.{GridHole}
+use Rattle.drill_text.specs.Texts.{ReadsHoles}
 use Rattle.drill_text.specs.Standing.{Holds}
 use Rattle.grid_units.proofs.Binds.{bind_err, guard_err}
 
@@ -23,35 +27,35 @@ ends_with len lines rest commands = cond (ltb text_limit len) (Err (fault (suc (
 
 -- a whole text reads as its last line leaves it
 pub reads_is : (r : Progress) (text : List ℕ) (h : Holds r text) (answer : Result (List DrillCommand) Fault) → r.offset ≤ text_limit
-    → (spelled (r.lines + 1) r.start r.line.items r.commands.items >>= ended (length text) h.lines r.line.items) ≡ answer → Reads text answer
+    → (spelled (r.lines + 1) r.start r.line.items h.commands >>= ended (length text) h.lines r.line.items) ≡ answer → Reads text answer
 unfolding ends_with
 reads_is r text h answer le e =
     let short : length text ≤ text_limit = omega (arith, h.offset, le) in
     let rest = r.line.items in
-    let cs = r.commands.items in
+    let cs = h.commands in
     let place : suc (length h.lines) ≡ r.lines + 1 = omega (arith, h.count) in
     record {
       lines = h.lines;
       rest = rest;
       splits = subst (λ (t : List ℕ). Splits t h.lines rest) (sym (take_all text_limit text short)) h.splits;
-      answer_is = sym (ap (λ s. s >>= ends_with (length text) h.lines rest) h.commands
+      answer_is = sym (ap (λ s. s >>= ends_with (length text) h.lines rest) h.spelled
           ∙ (ap (λ t. cond t (Err (fault (suc (length h.lines)) text_limit TooLong)) (spelled (suc (length h.lines)) (length (bytes_of h.lines)) rest cs >>= ended (length text) h.lines rest)) (le-ltb text_limit (length text) short)
           ∙ (ap (λ p. spelled p (length (bytes_of h.lines)) rest cs >>= ended (length text) h.lines rest) place
           ∙ (ap (λ b. spelled (r.lines + 1) b rest cs >>= ended (length text) h.lines rest) (sym h.start) ∙ e))));
     }
 
 -- the last line has a fault
-pub reads_fault : (r : Progress) (text : List ℕ) (e : Fail) (judge : Judge) (new : List DrillCommand) → r.offset ≤ text_limit
-    → (Knows r.judge r.commands.items → Leaves {X = Unit {0}} (Err e) judge new (spelled (r.lines + 1) r.start r.line.items r.commands.items)) → Holds r text → Answers commands_in (Reads text) (Err e)
+pub reads_fault : (r : Progress) (text : List ℕ) (e : Fail) (judge : Judge) (new : Kept) → r.offset ≤ text_limit
+    → ((before : List DrillCommand) → Met r.judge r.kept before → Leaves {X = Unit {0}} (Err e) judge new (spelled (r.lines + 1) r.start r.line.items before)) → Holds r text → Ends text (Err e)
 reads_fault r text fails.Memory judge new le k h = tt
-reads_fault r text (fails.Refused f) judge new le k h = reads_is r text h (Err f) le (ap (λ s. s >>= ended (length text) h.lines r.line.items) (k h.knows))
+reads_fault r text (fails.Refused f) judge new le k h = reads_is r text h (Err f) le (ap (λ s. s >>= ended (length text) h.lines r.line.items) (k h.commands h.met))
 
 -- the last line leaves the end of the file among the commands, or not
-pub reads_ended : (r : Progress) (text : List ℕ) (h : Holds r text) (new : List DrillCommand) → r.offset ≤ text_limit → spelled (r.lines + 1) r.start r.line.items r.commands.items ≡ Ok new → list_any is_finish new ≡ true → Reads text (Ok new)
+pub reads_ended : (r : Progress) (text : List ℕ) (h : Holds r text) (new : List DrillCommand) → r.offset ≤ text_limit → spelled (r.lines + 1) r.start r.line.items h.commands ≡ Ok new → list_any is_finish new ≡ true → Reads text (Ok new)
 reads_ended r text h new le e some =
     reads_is r text h (Ok new) le (ap (λ s. s >>= ended (length text) h.lines r.line.items) e ∙ ap (λ t. cond t (Ok new) (Err (fault (place_behind_count (length h.lines) r.line.items) (length text) Truncated))) some)
 
-pub reads_truncated : (r : Progress) (text : List ℕ) (h : Holds r text) (new : List DrillCommand) → r.offset ≤ text_limit → spelled (r.lines + 1) r.start r.line.items r.commands.items ≡ Ok new → list_any is_finish new ≡ false
+pub reads_truncated : (r : Progress) (text : List ℕ) (h : Holds r text) (new : List DrillCommand) → r.offset ≤ text_limit → spelled (r.lines + 1) r.start r.line.items h.commands ≡ Ok new → list_any is_finish new ≡ false
     → Reads text (Err (fault (place_behind_count r.lines r.line.items) r.offset Truncated))
 reads_truncated r text h new le e none =
     reads_is r text h (Err (fault (place_behind_count r.lines r.line.items) r.offset Truncated)) le (ap (λ s. s >>= ended (length text) h.lines r.line.items) e
@@ -78,6 +82,15 @@ shows_reads text f s = record {
 pub answers_err : (text : List ℕ) (e : Fail) → Tells (λ f. Shows text (Err f)) e → Answers commands_in (Reads text) (Err e)
 answers_err text fails.Memory h = tt
 answers_err text (fails.Refused f) h = shows_reads text f h
+
+-- a text that has ended with a failure
+pub ends_answers : (text : List ℕ) (e : Fail) → Ends text (Err e) → Answers commands_in (Reads text) (Err e)
+ends_answers text fails.Memory h = tt
+ends_answers text (fails.Refused f) h = h
+
+pub ends_holes : {T : Type 0} (view : T → List GridHole) (text : List ℕ) (e : Fail) → Ends text (Err e) → Answers view (ReadsHoles text) (Err e)
+ends_holes view text fails.Memory h = tt
+ends_holes view text (fails.Refused f) h = h
 
 -- what a judge holds is the file of its commands
 pub file_is : (judge : Judge) (cs : List DrillCommand) → Knows judge cs → (let d : DrillFile = record { commands = cs; holes = judge.holes.items; tools = judge.tools.entries } in d ≡ file_of cs)

@@ -104,11 +104,11 @@ fault_stays text (b ∷ more) f h =
 -- ---- readers
 
 -- what is shown with one more line, by a reader that holds this text
-pub closed : (old : Progress) (text line : List ℕ) (h : Holds old text) → shown (h.lines ++ line ∷ []) [] ≡ spelled (old.lines + 1) old.start line old.commands.items
+pub closed : (old : Progress) (text line : List ℕ) (h : Holds old text) → shown (h.lines ++ line ∷ []) [] ≡ spelled (old.lines + 1) old.start line h.commands
 closed old text line h =
-    let cs = old.commands.items in
+    let cs = h.commands in
     let place : suc (length h.lines) ≡ old.lines + 1 = omega (arith, h.count) in
-    show_push h.lines line cs (shown_ok h.lines old.line.items cs h.commands).0
+    show_push h.lines line cs (shown_ok h.lines old.line.items cs h.spelled).0
     ∙ (ap (λ p. spelled p (length (bytes_of h.lines)) line cs) place ∙ ap (λ b. spelled (old.lines + 1) b line cs) (sym h.start))
 
 pub Refuses-longer : (old : Progress) (xs ys : List ℕ) (e : Fail) → Refuses old xs e → Refuses old (xs ++ ys) e

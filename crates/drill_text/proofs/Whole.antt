@@ -45,7 +45,7 @@ too_long_text r front more e some h =
       lines = h.lines;
       rest = r.line.items;
       splits = subst (λ (t : List ℕ). Splits t h.lines r.line.items) (sym (take_at front more text_limit e)) h.splits;
-      answer_is = sym (ap (λ s. s >>= checks_len (length (front ++ more)) h.lines) h.commands ∙ (ap (λ t. cond t (Err (fault (suc (length h.lines)) text_limit TooLong)) (Ok r.commands.items)) (lt-ltb text_limit (length (front ++ more)) long) ∙ ap (λ p. Err (fault p text_limit TooLong)) place));
+      answer_is = sym (ap (λ s. s >>= checks_len (length (front ++ more)) h.lines) h.spelled ∙ (ap (λ t. cond t (Err (fault (suc (length h.lines)) text_limit TooLong)) (Ok h.commands)) (lt-ltb text_limit (length (front ++ more)) long) ∙ ap (λ p. Err (fault p text_limit TooLong)) place));
     }
 
 pub refuses_within : (old : Progress) (piece : List ℕ) (e : Fail) → old.offset + length piece ≤ text_limit → Refuses old piece e → RefusesText old piece e

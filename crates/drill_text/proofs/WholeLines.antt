@@ -11,7 +11,8 @@ use Rattle.drill_text.specs.declared.judge.Judge.{Judge}
 use Rattle.drill_text.specs.declared.reader.Progress.{Progress}
 use Rattle.drill_text.specs.Lines.{HasNoBreak, Splits, bytes_of}
 use Rattle.drill_text.specs.Reading.{shown, spelled}
-use Rattle.drill_text.specs.Knowing.{Knows, Leaves}
+use Rattle.drill_text.specs.declared.kept.Kept.{Kept}
+use Rattle.drill_text.specs.Keeping.{Met, Leaves}
 use Rattle.drill_text.specs.Standing.{Holds, Refuses}
 use Rattle.drill_text.proofs.Splitting.{Splits-grow, Splits-close, bytes_of-push}
 use Rattle.drill_text.proofs.Shown.{closed}
@@ -32,29 +33,30 @@ whole_splits old text line h none inside =
     (Splits-close (text ++ line) h.lines line (Splits-grow text h.lines [] line alone inside))
 
 -- the reader that took the line in
-pub whole_holds : (old new : Progress) (text line : List ℕ) (h : Holds old text) → old.line.items ≡ [] → HasNoBreak line → new.line.items ≡ old.line.items → spelled (old.lines + 1) old.start line old.commands.items ≡ Ok new.commands.items → Knows new.judge new.commands.items
+pub whole_holds : (old new : Progress) (text line : List ℕ) (after : List DrillCommand) (h : Holds old text) → old.line.items ≡ [] → HasNoBreak line → new.line.items ≡ old.line.items → spelled (old.lines + 1) old.start line h.commands ≡ Ok after → Met new.judge new.kept after
     → new.lines ≡ old.lines + 1 → new.start ≡ new.offset → new.offset ≡ old.offset + (length line + 1) → Holds new (text ++ (line ++ 10 ∷ []))
-whole_holds old new text line h none inside kept spells knows count start offset =
+whole_holds old new text line after h none inside kept spells met count start offset =
     let lines : List (List ℕ) = h.lines ++ line ∷ [] in
     let empty : new.line.items ≡ [] = kept ∙ none in
     record {
       lines = lines;
       splits = subst (λ (x : List ℕ). Splits (text ++ (line ++ 10 ∷ [])) lines x) (sym empty) (whole_splits old text line h none inside);
-      commands = ap (shown lines) empty ∙ (closed old text line h ∙ spells);
-      knows = knows;
+      commands = after;
+      spelled = ap (shown lines) empty ∙ (closed old text line h ∙ spells);
+      met = met;
       count = omega (arith, count, h.count, length-append h.lines (line ∷ []));
       start = omega (arith, start, offset, h.start, h.offset, ap length h.splits.whole, length-append (bytes_of h.lines) old.line.items, ap length none, ap length (bytes_of-push h.lines line), length-append (bytes_of h.lines) (line ++ 10 ∷ []), length-append line (10 ∷ []));
       offset = omega (arith, offset, h.offset, length-append text (line ++ 10 ∷ []), length-append line (10 ∷ []));
     }
 
 -- the same of the bytes that the line and its LF are
-pub whole_taken : (old new : Progress) (text line taken : List ℕ) (h : Holds old text) → line ++ 10 ∷ [] ≡ taken → old.line.items ≡ [] → HasNoBreak line → new.line.items ≡ old.line.items → spelled (old.lines + 1) old.start line old.commands.items ≡ Ok new.commands.items
-    → Knows new.judge new.commands.items → new.lines ≡ old.lines + 1 → new.start ≡ new.offset → new.offset ≡ old.offset + (length line + 1) → Holds new (text ++ taken)
-whole_taken old new text line taken h is none inside kept spells knows count start offset =
-    subst (λ (x : List ℕ). Holds new (text ++ x)) is (whole_holds old new text line h none inside kept spells knows count start offset)
+pub whole_taken : (old new : Progress) (text line taken : List ℕ) (after : List DrillCommand) (h : Holds old text) → line ++ 10 ∷ [] ≡ taken → old.line.items ≡ [] → HasNoBreak line → new.line.items ≡ old.line.items → spelled (old.lines + 1) old.start line h.commands ≡ Ok after
+    → Met new.judge new.kept after → new.lines ≡ old.lines + 1 → new.start ≡ new.offset → new.offset ≡ old.offset + (length line + 1) → Holds new (text ++ taken)
+whole_taken old new text line taken after h is none inside kept spells met count start offset =
+    subst (λ (x : List ℕ). Holds new (text ++ x)) is (whole_holds old new text line after h none inside kept spells met count start offset)
 
 -- the fault that the line shows
-pub whole_refused : (old : Progress) (line : List ℕ) (e : Fail) (judge : Judge) (new : List DrillCommand) → old.line.items ≡ [] → HasNoBreak line
-    → (Knows old.judge old.commands.items → Leaves {X = Unit {0}} (Err e) judge new (spelled (old.lines + 1) old.start line old.commands.items)) → Refuses old (line ++ 10 ∷ []) e
+pub whole_refused : (old : Progress) (line : List ℕ) (e : Fail) (judge : Judge) (new : Kept) → old.line.items ≡ [] → HasNoBreak line
+    → ((before : List DrillCommand) → Met old.judge old.kept before → Leaves {X = Unit {0}} (Err e) judge new (spelled (old.lines + 1) old.start line before)) → Refuses old (line ++ 10 ∷ []) e
 whole_refused old line Memory judge new none inside k = tt
-whole_refused old line (Refused f) judge new none inside k = λ text h. record { lines = h.lines ++ line ∷ []; rest = []; splits = whole_splits old text line h none inside; fault = closed old text line h ∙ k h.knows }
+whole_refused old line (Refused f) judge new none inside k = λ text h. record { lines = h.lines ++ line ∷ []; rest = []; splits = whole_splits old text line h none inside; fault = closed old text line h ∙ k h.commands h.met }

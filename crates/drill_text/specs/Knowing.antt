@@ -4,9 +4,6 @@ use Rattle.std.specs.Option.{option_or, option_and_then, option_map, option_to_l
 use Rattle.indexmap.specs.IndexMap.{get}
 use Rattle.grid_units.specs.declared.fault.Reason.{Reason}
 use Rattle.grid_units.specs.declared.fault.Reason.TheVariants.{NoTool, BadSize, TooFar, TooManyHoles}
-use Rattle.grid_units.specs.declared.fault.Fault.{Fault}
-use Rattle.grid_units.specs.declared.fault.Fail.{Fail}
-use Rattle.grid_units.specs.declared.fault.Fail.TheVariants as fails
 use Rattle.grid_units.specs.Results.{◌>>=◌}
 use Rattle.grid_units.specs.Lists.{last_named}
 use Rattle.grid_units.specs.Points.{GridPoint, max_coordinate}
@@ -167,9 +164,3 @@ abbrev pub Judges : List DrillCommand → DrillCommand → Judge → Result (Uni
 Judges before c new (Ok _) = (broken_rule before c ≡ None) × Knows new (before ++ c ∷ [])
 Judges before c new (Err (stops.Refused broken)) = broken_rule before c ≡ Some broken
 Judges before c new (Err stops.Memory) = Unit {0}
-
--- The line was read and judged: the commands and the judge are those after it, or this is its fault, or memory ran out (docs/DEFINITIONS.md, The judge of a drill file).
-abbrev pub Leaves : {X : Type 0} → Result X Fail → Judge → List DrillCommand → Result (List DrillCommand) Fault → Type 0
-Leaves (Ok x) judge new read = (read ≡ Ok new) × Knows judge new
-Leaves (Err fails.Memory) judge new read = Unit {0}
-Leaves (Err (fails.Refused f)) judge new read = read ≡ Err f

@@ -6,6 +6,7 @@ pub mod Reading
 pub mod Texts
 pub mod Writing
 pub mod Knowing
+pub mod Keeping
 pub mod Standing
 pub mod Outcome
 pub mod Hits

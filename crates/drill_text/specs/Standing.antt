@@ -1,21 +1,24 @@
 -- What a reader holds of the bytes so far.
-use Rattle.std.specs.Prelude.{◌≡◌, ℕ, List, ◌++◌, length, Ok, Err, Option, None}
+use Rattle.std.specs.Prelude.{◌≡◌, ℕ, true, false, List, ◌++◌, length, Ok, Err, Option, None}
 use Rattle.grid_units.specs.declared.fault.Fault.{Fault}
 use Rattle.grid_units.specs.declared.fault.Fail.{Fail}
 use Rattle.grid_units.specs.declared.fault.Fail.TheVariants as fails
+use Rattle.drill_lines.specs.declared.command.DrillCommand.{DrillCommand}
 use Rattle.drill_text.specs.declared.reader.Progress.{Progress}
 use Rattle.drill_text.specs.declared.reader.DrillReader.{DrillReader}
+use Rattle.drill_text.specs.declared.holes_reader.HolesReader.{HolesReader}
 use Rattle.grid_units.specs.Results.{Tells}
 use Rattle.drill_text.specs.Lines.{bytes_of, Splits}
 use Rattle.drill_text.specs.Reading.{shown, Shows}
-use Rattle.drill_text.specs.Knowing.{Knows}
+use Rattle.drill_text.specs.Keeping.{Met}
 
--- The text is cut into lines, which spell the commands, and into a rest, the line that has not ended (docs/DEFINITIONS.md, A drill reader in pieces).
+-- The text is cut into lines, which spell the commands that the reader has met, and into a rest, the line that has not ended (docs/DEFINITIONS.md, A drill reader in pieces).
 pub record Holds (reader : Progress) (text : List ℕ) : Type 0 where
   pub lines : List (List ℕ)
+  pub commands : List DrillCommand
   pub splits : Splits text lines reader.line.items
-  pub commands : shown lines reader.line.items ≡ Ok reader.commands.items
-  pub knows : Knows reader.judge reader.commands.items
+  pub spelled : shown lines reader.line.items ≡ Ok commands
+  pub met : Met reader.judge reader.kept commands
   pub count : reader.lines ≡ length lines
   pub start : reader.start ≡ length (bytes_of lines)
   pub offset : reader.offset ≡ length text
@@ -44,7 +47,18 @@ RefusesText old piece e = (text : List ℕ) → Holds old text → Tells (λ f. 
 abbrev pub failure : DrillReader → Option Fail
 failure reader = reader.failed
 
--- The reader has read this text, which shows no fault (docs/DEFINITIONS.md, A drill reader in pieces).
+-- The reader has read this text, which shows no fault, and keeps its commands (docs/DEFINITIONS.md, A drill reader in pieces).
 pub record StandsAfter (reader : DrillReader) (text : List ℕ) : Type 0 where
   pub sound : failure reader ≡ None
   pub holds : Holds reader.progress text
+  pub whole : reader.progress.kept.is_whole ≡ true
+
+-- what a reader of the holes has failed with (docs/DEFINITIONS.md, A drill reader in pieces)
+abbrev pub holes_failure : HolesReader → Option Fail
+holes_failure reader = reader.failed
+
+-- The reader of the holes has read this text, which shows no fault, and keeps none of its commands (docs/DEFINITIONS.md, A drill reader in pieces).
+pub record HolesStandAfter (reader : HolesReader) (text : List ℕ) : Type 0 where
+  pub sound : holes_failure reader ≡ None
+  pub holds : Holds reader.progress text
+  pub light : reader.progress.kept.is_whole ≡ false

@@ -1,8 +1,10 @@
 -- The texts of a list of commands.
-use Rattle.std.specs.Prelude.{◌≡◌, ℕ, ◌≤◌, true, List, [], ◌∷◌, ◌++◌, length, Result, Ok}
+use Rattle.std.specs.Prelude.{◌≡◌, ℕ, ◌≤◌, true, List, [], ◌∷◌, ◌++◌, length, Result, Ok, Err}
 use Rattle.std.specs.List.{list_any, AllByRecursion}
 use Rattle.std.specs.Option.{option_to_list}
 use Rattle.grid_units.specs.declared.fault.Reason.{Reason}
+use Rattle.grid_units.specs.declared.fault.Fault.{Fault}
+use Rattle.grid_units.specs.Holes.{GridHole}
 use Rattle.grid_units.specs.Results.{◌>>=◌}
 use Rattle.grid_units.specs.Lists.{breaks}
 use Rattle.drill_lines.specs.declared.command.DrillCommand.{DrillCommand}
@@ -11,7 +13,8 @@ use Rattle.drill_lines.specs.Meaning.{meaning}
 use Rattle.drill_text.specs.Lines.{Splits}
 use Rattle.drill_text.specs.Lookback.{settings_after}
 use Rattle.drill_text.specs.Rules.{broken_rule}
-use Rattle.drill_text.specs.Reading.{line_limit, text_limit, is_finish}
+use Rattle.drill_text.specs.Holes.{holes_of}
+use Rattle.drill_text.specs.Reading.{line_limit, text_limit, is_finish, Reads}
 
 -- these commands and those that the lines spell behind them, each line by the settings of the commands before it (docs/DEFINITIONS.md, Drill files)
 abbrev pub spelled_behind : List DrillCommand → List (List ℕ) → Result (List DrillCommand) Reason
@@ -41,3 +44,8 @@ IsLegal commands = breaks broken_rule commands ≡ []
 pub record IsDrillText (text : List ℕ) (commands : List DrillCommand) : Type 0 where
   pub spells : SpellsText text commands
   pub legal : IsLegal commands
+
+-- A whole text is a drill text whose commands drill these holes, or has this fault (docs/DEFINITIONS.md, Drill files).
+abbrev pub ReadsHoles : List ℕ → Result (List GridHole) Fault → Type 0
+ReadsHoles text (Ok holes) = (commands : List DrillCommand) × IsDrillText text commands × (holes ≡ holes_of commands)
+ReadsHoles text (Err fault) = Reads text (Err fault)

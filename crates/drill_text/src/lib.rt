@@ -3,13 +3,16 @@
 
 mod drill;
 mod hits;
+mod holes_reader;
 mod judge;
+mod kept;
 pub mod laws;
 mod reader;
 mod writer;
 
 pub use drill::Drill;
 pub use drill_lines::{Coordinates, DrillCommand, Format};
+pub use holes_reader::HolesReader;
 pub use reader::{DrillReader, read_drill};
 pub use writer::{drill_sayable, write_drill};
 

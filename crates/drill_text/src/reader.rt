@@ -1,24 +1,24 @@
 //! A reader of a drill file, in pieces.
 
-ghost use Rattle.std.specs.Prelude.{◌≡◌, ◌≢◌, ◌≤◌, ◌<◌, ◌+◌, true, ℕ, List, All, length, vec_len, take, slice_index, Some, None, Ok, Err, OnOk, OnErr, IfOk, IfErr, IfSome};
+ghost use Rattle.std.specs.Prelude.{◌≡◌, ◌≢◌, ◌≤◌, ◌<◌, ◌+◌, true, ℕ, List, All, length, vec_len, take, slice_index, Some, None, Ok, Err, OnOk, IfOk, IfErr, IfSome};
 ghost use Rattle.drill_lines.specs.declared.command.DrillCommand.{DrillCommand as TheCommand};
 ghost use Rattle.grid_units.specs.declared.fault.Fault.{Fault};
 ghost use Rattle.grid_units.specs.declared.fault.Fail.TheVariants.{Refused};
 ghost use Rattle.grid_units.specs.Results.{fault, Answers};
-ghost use Rattle.drill_text.specs.Reading.{spelled, Reads, is_finish, place_behind_count};
-ghost use Rattle.std.specs.List.{list_any};
-ghost use Rattle.drill_text.specs.Knowing.{Knows, Leaves};
+ghost use Rattle.drill_text.specs.Reading.{spelled, Reads, place_behind_count};
+ghost use Rattle.drill_text.specs.Keeping.{Met, Leaves, Ends};
 ghost use Rattle.drill_lines.specs.Lines.{trimmed};
 ghost use Rattle.drill_lines.specs.Meaning.{meaning};
 ghost use Rattle.drill_text.specs.Outcome.{commands_in, file_of};
-ghost use Rattle.drill_text.specs.Texts.{IsDrillText};
+ghost use Rattle.drill_text.specs.Texts.{IsDrillText, ReadsHoles};
 ghost use Rattle.drill_text.specs.Writing.{drill_sayable};
 
 use crate::drill::Drill;
 use crate::hits::leading_hit;
 use crate::judge::Judge;
+use crate::kept::Kept;
 use drill_lines::{Coordinates, DrillCommand, LineFail, read_line};
-use grid_units::{Fail, Fault, Reason};
+use grid_units::{Fail, Fault, Hole, Reason};
 use std::alloc::Global;
 
 const LINE_LIMIT: usize = 1_048_576;
@@ -30,7 +30,7 @@ const TEXT_LIMIT: u64 = 268_435_456;
 pub(crate) struct Progress {
     alloc: Global,
     judge: Judge,
-    commands: Vec<DrillCommand>,
+    kept: Kept,
     line: Vec<u8>,
     start: u64,
     offset: u64,
@@ -70,13 +70,14 @@ fn keep(
     byte: u64,
     command: DrillCommand,
     judge: &mut Judge,
-    commands: &mut Vec<DrillCommand>,
+    kept: &mut Kept,
 ) -> Result<(), Fail>
-    ensures { (line : List ℕ) → length line ≤ 1048576 → meaning judge.old.settings (trimmed line) ≡ Ok (Some command) → Knows judge.old commands.old.items → Leaves result judge.new commands.new.items (spelled place byte line commands.old.items) }
+    ensures leaves { (line : List ℕ) (before : List TheCommand) → length line ≤ 1048576 → meaning judge.old.settings (trimmed line) ≡ Ok (Some command) → Met judge.old kept.old before → Leaves result judge.new kept.new (spelled place byte line before) }
+    ensures whole { kept.new.is_whole ≡ kept.old.is_whole }
 {
     match judge.step(&command) {
         Ok(()) => {
-            commands.push(command)?;
+            kept.add(command)?;
             Ok(())
         }
         Err(LineFail::Memory) => Err(Fail::Memory),
@@ -91,14 +92,15 @@ fn spell(
     byte: u64,
     line: &[u8],
     judge: &mut Judge,
-    commands: &mut Vec<DrillCommand>,
+    kept: &mut Kept,
 ) -> Result<(), Fail>
     requires short { length line.now ≤ 1048576 }
-    ensures { Knows judge.old commands.old.items → Leaves result judge.new commands.new.items (spelled place byte line.now commands.old.items) }
+    ensures leaves { (before : List TheCommand) → Met judge.old kept.old before → Leaves result judge.new kept.new (spelled place byte line.now before) }
+    ensures whole { kept.new.is_whole ≡ kept.old.is_whole }
 {
     match read_line(alloc, judge.settings(), line) {
         Ok(None) => Ok(()),
-        Ok(Some(command)) => keep(place, byte, command, judge, commands),
+        Ok(Some(command)) => keep(place, byte, command, judge, kept),
         Err(LineFail::Memory) => Err(Fail::Memory),
         Err(LineFail::Refused(reason)) => Err(refusal(place, byte, reason)),
     }
@@ -110,12 +112,29 @@ impl Progress {
     ghost use Rattle.drill_text.specs.Hits.{LeadsHit};
     ghost use Rattle.drill_text.specs.Standing.{Advances, Refuses, RefusesText, Holds};
 
+    /// Nothing is read. The commands will be kept, or let go of.
+    pub(crate) fn new(alloc: Global, is_whole: bool) -> Progress
+        ensures holds { Holds result [] }
+        ensures whole { result.kept.is_whole ≡ is_whole }
+    {
+        Progress {
+            alloc,
+            judge: Judge::new(alloc),
+            kept: Kept::new(alloc, is_whole),
+            line: Vec::new(alloc),
+            start: 0,
+            offset: 0,
+            lines: 0,
+        }
+    }
+
     /// Adds bytes to the line.
     fn extend(&mut self, run: &[u8]) -> Result<(), Fail>
         requires inside { All (λ b. b ≢ 10) run.now }
         requires room { self.old.offset + length run.now ≤ 268435456 }
         ensures offset { OnOk result (self.new.offset ≡ self.old.offset + length run.now) }
         ensures ok { OnOk result (Advances self.old self.new run.now) }
+        ensures whole { self.new.kept.is_whole ≡ self.old.kept.is_whole }
         ensures err { IfErr result (Refuses self.old run.now) }
     {
         if run.len() > LINE_LIMIT - self.line.len() {
@@ -131,6 +150,7 @@ impl Progress {
         requires room { self.old.offset < 268435456 }
         ensures offset { OnOk result (self.new.offset ≡ self.old.offset + 1) }
         ensures ok { OnOk result (Advances self.old self.new (10 ∷ [])) }
+        ensures whole { self.new.kept.is_whole ≡ self.old.kept.is_whole }
         ensures err { IfErr result (Refuses self.old (10 ∷ [])) }
     {
         spell(
@@ -139,7 +159,7 @@ impl Progress {
             self.start,
             &self.line,
             &mut self.judge,
-            &mut self.commands,
+            &mut self.kept,
         )?;
         self.line.clear();
         self.lines += 1;
@@ -156,6 +176,7 @@ impl Progress {
         requires room { self.old.offset + length line.now < 268435456 }
         ensures offset { OnOk result (self.new.offset ≡ self.old.offset + (length line.now + 1)) }
         ensures ok { OnOk result (Advances self.old self.new (line.now ++ 10 ∷ [])) }
+        ensures whole { self.new.kept.is_whole ≡ self.old.kept.is_whole }
         ensures err { IfErr result (Refuses self.old (line.now ++ 10 ∷ [])) }
     {
         spell(
@@ -164,7 +185,7 @@ impl Progress {
             self.start,
             line,
             &mut self.judge,
-            &mut self.commands,
+            &mut self.kept,
         )?;
         self.lines += 1;
         self.offset += line.len() as u64 + 1;
@@ -180,6 +201,7 @@ impl Progress {
         requires room { self.old.offset + length bytes.now ≤ 268435456 }
         ensures offset { OnOk result (self.new.offset ≡ self.old.offset + (len + 1)) }
         ensures ok { OnOk result (Advances self.old self.new (take (len + 1) bytes.now)) }
+        ensures whole { self.new.kept.is_whole ≡ self.old.kept.is_whole }
         ensures err { IfErr result (Refuses self.old bytes.now) }
     {
         keep(
@@ -187,7 +209,7 @@ impl Progress {
             self.start,
             DrillCommand::Hit(point),
             &mut self.judge,
-            &mut self.commands,
+            &mut self.kept,
         )?;
         self.lines += 1;
         self.offset += len as u64 + 1;
@@ -201,6 +223,7 @@ impl Progress {
         requires room { self.old.offset + length run.now < 268435456 }
         ensures offset { OnOk result (self.new.offset ≡ self.old.offset + (length run.now + 1)) }
         ensures ok { OnOk result (Advances self.old self.new (run.now ++ 10 ∷ [])) }
+        ensures whole { self.new.kept.is_whole ≡ self.old.kept.is_whole }
         ensures err { IfErr result (Refuses self.old (run.now ++ 10 ∷ [])) }
     {
         if self.line.is_empty() && run.len() <= LINE_LIMIT {
@@ -216,6 +239,7 @@ impl Progress {
         requires room { self.old.offset + length bytes.now ≤ 268435456 }
         ensures taken { IfOk result (λ n. (0 < n) × (n ≤ length bytes.now) × (self.new.offset ≡ self.old.offset + n)) }
         ensures ok { IfOk result (λ n. Advances self.old self.new (take n bytes.now)) }
+        ensures whole { self.new.kept.is_whole ≡ self.old.kept.is_whole }
         ensures err { IfErr result (Refuses self.old bytes.now) }
     {
         if self.line.is_empty() && self.judge.is_in_body() {
@@ -238,6 +262,7 @@ impl Progress {
         requires room { self.old.offset + length bytes.now ≤ 268435456 }
         ensures offset { OnOk result (self.new.offset ≡ self.old.offset + length bytes.now) }
         ensures ok { OnOk result (Advances self.old self.new bytes.now) }
+        ensures whole { self.new.kept.is_whole ≡ self.old.kept.is_whole }
         ensures err { IfErr result (Refuses self.old bytes.now) }
     {
         let mut taken = 0;
@@ -248,8 +273,9 @@ impl Progress {
     }
 
     /// Takes the next piece of the text.
-    fn take(&mut self, piece: &[u8]) -> Result<(), Fail>
+    pub(crate) fn take(&mut self, piece: &[u8]) -> Result<(), Fail>
         ensures ok { OnOk result (Advances self.old self.new piece.now) }
+        ensures whole { self.new.kept.is_whole ≡ self.old.kept.is_whole }
         ensures err { IfErr result (RefusesText self.old piece.now) }
     {
         let room = (TEXT_LIMIT - self.offset) as usize;
@@ -273,7 +299,8 @@ impl Progress {
 
     /// Reads the line that no LF has ended.
     fn end(&mut self) -> Result<(), Fail>
-        ensures spelled { Knows self.old.judge self.old.commands.items → Leaves result self.new.judge self.new.commands.items (spelled (self.old.lines + 1) self.old.start self.old.line.items self.old.commands.items) }
+        ensures leaves { (before : List TheCommand) → Met self.old.judge self.old.kept before → Leaves result self.new.judge self.new.kept (spelled (self.old.lines + 1) self.old.start self.old.line.items before) }
+        ensures whole { self.new.kept.is_whole ≡ self.old.kept.is_whole }
         ensures same { OnOk result ((self.new.lines ≡ self.old.lines) × (self.new.line.items ≡ self.old.line.items) × (self.new.offset ≡ self.old.offset)) }
     {
         spell(
@@ -282,30 +309,41 @@ impl Progress {
             self.start,
             &self.line,
             &mut self.judge,
-            &mut self.commands,
+            &mut self.kept,
         )
     }
 
-    /// The file, if its text has ended.
-    fn finish(self) -> Result<Drill, Fail>
-        ensures exact { (text : List ℕ) → Holds self text → Answers commands_in (Reads text) result }
-        ensures file { (text : List ℕ) → Holds self text → IfOk result (λ drill. drill ≡ file_of drill.commands) }
+    /// The judge and what is kept of the commands, if the text has ended.
+    fn finish(self) -> Result<(Judge, Kept), Fail>
+        ensures ends { (text : List ℕ) → Holds self text → Ends text result }
+        ensures whole { IfOk result (λ p. p.1.is_whole ≡ self.kept.is_whole) }
     {
         let mut last = self;
         last.end()?;
-        if has_finish(&last.commands) {
-            let (holes, tools) = last.judge.into_parts();
-            return Ok(Drill::new(last.commands, holes, tools));
+        if last.kept.is_finished() {
+            return Ok((last.judge, last.kept));
         }
         Err(refusal(last.place_behind(), last.offset, Reason::Truncated))
     }
-}
 
-/// Whether the end of the file is among the commands.
-fn has_finish(commands: &[DrillCommand]) -> bool
-    ensures { result ≡ list_any is_finish commands.now }
-{
-    commands.iter().any(|c| matches!(c, DrillCommand::Finish))
+    /// The file, if its text has ended.
+    fn finish_drill(self) -> Result<Drill, Fail>
+        ensures exact { self.kept.is_whole ≡ true → (text : List ℕ) → Holds self text → Answers commands_in (Reads text) result }
+        ensures file { self.kept.is_whole ≡ true → (text : List ℕ) → Holds self text → IfOk result (λ drill. drill ≡ file_of drill.commands) }
+    {
+        let (judge, kept) = self.finish()?;
+        let (holes, tools) = judge.into_parts();
+        Ok(Drill::new(kept.into_commands(), holes, tools))
+    }
+
+    /// The holes, if the text has ended.
+    pub(crate) fn finish_holes(self) -> Result<Vec<Hole>, Fail>
+        ensures { (text : List ℕ) → Holds self text → Answers (λ holes. holes.items) (ReadsHoles text) result }
+    {
+        let (judge, _) = self.finish()?;
+        let (holes, _) = judge.into_parts();
+        Ok(holes)
+    }
 }
 
 /// A reader of a drill file that comes in pieces.
@@ -325,17 +363,8 @@ impl DrillReader {
     pub fn new(alloc: Global) -> DrillReader
         ensures { StandsAfter result [] }
     {
-        let progress = Progress {
-            alloc,
-            judge: Judge::new(alloc),
-            commands: Vec::new(alloc),
-            line: Vec::new(alloc),
-            start: 0,
-            offset: 0,
-            lines: 0,
-        };
         DrillReader {
-            progress,
+            progress: Progress::new(alloc, true),
             failed: None,
         }
     }
@@ -366,7 +395,7 @@ impl DrillReader {
     {
         match self.failed {
             Some(fail) => Err(fail),
-            None => self.progress.finish(),
+            None => self.progress.finish_drill(),
         }
     }
 }

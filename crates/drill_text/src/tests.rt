@@ -1,4 +1,4 @@
-use crate::{Coordinates, Drill, DrillReader, drill_sayable, read_drill, write_drill};
+use crate::{Coordinates, Drill, DrillReader, HolesReader, drill_sayable, read_drill, write_drill};
 use drill_lines::DrillCommand;
 use grid_units::{Fail, Fault, Hole, Reason, Text};
 use std::alloc::Global;
@@ -76,6 +76,25 @@ fn byte_by_byte(alloc: Global, text: &[u8]) -> Result<Drill, Fail> {
     reader.finish()
 }
 
+/// The same, of the holes alone.
+fn holes_byte_by_byte(alloc: Global, text: &[u8]) -> Result<Vec<Hole>, Fail> {
+    let mut reader = HolesReader::new(alloc);
+    for i in 0..text.len() {
+        reader.feed(&text[i..i + 1])?;
+        reader.feed(&[])?;
+    }
+    reader.finish()
+}
+
+/// Whether the holes, or the failure, are those of a drill file.
+fn same_holes(a: &Result<Vec<Hole>, Fail>, b: &Result<Drill, Fail>) -> bool {
+    match (a, b) {
+        (Ok(a), Ok(b)) => a.as_slice() == b.holes(),
+        (Err(a), Err(b)) => a == b,
+        _ => false,
+    }
+}
+
 fn same_drill(a: &Drill, b: &Drill) -> bool {
     a.commands() == b.commands() && a.holes() == b.holes() && a.tools().len() == b.tools().len()
 }
@@ -98,7 +117,10 @@ fn splits_alike(alloc: Global, text: &[u8]) -> bool {
 fn cuts_alike(alloc: Global, text: &[u8]) -> bool {
     for n in 0..text.len() + 1 {
         let front = &text[..n];
-        if !same(&byte_by_byte(alloc, front), &read_drill(alloc, front)) {
+        let whole = read_drill(alloc, front);
+        if !same(&byte_by_byte(alloc, front), &whole)
+            || !same_holes(&holes_byte_by_byte(alloc, front), &whole)
+        {
             return false;
         }
     }
@@ -567,6 +589,36 @@ fn a_fault_stays(rt: HostRuntime) -> Result<(), TestFail> {
     Ok(())
 }
 
+/// The same, of a reader of the holes alone.
+#[test]
+fn a_fault_of_holes_stays(rt: HostRuntime) -> Result<(), TestFail> {
+    let mut reader = HolesReader::new(rt.alloc());
+    let fault = refused(Reason::OldFormat, 1, 0);
+    assert!(rt; reader.feed(b"INCH").is_ok());
+    assert!(rt; is_fault(&reader.feed(b"\nM48\n"), fault));
+    assert!(rt; is_fault(&reader.feed(b"METRIC\n%\nM30\n"), fault));
+    match reader.finish() {
+        Ok(_) => assert!(rt; false),
+        Err(fail) => assert_eq!(rt; Some(fail), fault),
+    }
+    Ok(())
+}
+
+/// The holes are read alone, or moved out of a file.
+#[test]
+fn holes_alone(rt: HostRuntime) -> Result<(), TestFail> {
+    let holes = holes_byte_by_byte(rt.alloc(), PLATED).map_err(|_| "refused")?;
+    assert_eq!(rt; holes.len(), 1);
+    assert!(rt;
+        holes
+            .iter()
+            .all(|hole| ends(hole) == (0, 0, 0, 0, 200_000_000))
+    );
+    let drill = read_drill(rt.alloc(), PLATED).map_err(|_| "refused")?;
+    assert!(rt; drill.into_holes().as_slice() == holes.as_slice());
+    Ok(())
+}
+
 #[test]
 fn two_pieces(rt: HostRuntime) -> Result<(), TestFail> {
     assert!(rt;
@@ -596,6 +648,8 @@ fn a_long_comment(rt: HostRuntime) -> Result<(), TestFail> {
     let drill = byte_by_byte(rt.alloc(), &text).map_err(|_| "refused")?;
     assert_eq!(rt; drill.holes().len(), 1);
     assert_eq!(rt; drill.commands().len(), 8);
+    let holes = holes_byte_by_byte(rt.alloc(), &text).map_err(|_| "refused")?;
+    assert!(rt; holes.as_slice() == drill.holes());
     Ok(())
 }
 

@@ -1,21 +1,19 @@
 -- Each reason and each topic stands in its list, and a search of a list finds what has a name.
-use Rattle.std.proofs.Common.{arith, ◌≡◌, ◌≢◌, ◌<◌, ◌≤◌, ◌+◌, ◌∙◌, ℕ, false, List, length, take, get_or, All, sym, refl, ap, subst}
+use Rattle.std.proofs.Common.{arith, inl, inr, map, ◌≡◌, ◌≢◌, ◌<◌, ◌≤◌, ◌+◌, ◌∙◌, ℕ, false, List, length, take, get_or, All, sym, refl, ap, subst}
+use Rattle.std.specs.List.{Contains}
 use Rattle.std.specs.Str.{bytes_eq}
-use Rattle.std.proofs.lemmas.List.{take_all}
-use Rattle.std.proofs.lemmas.List.Elements.{All-more}
+use Rattle.std.proofs.lemmas.List.{length-map, take_all, get_or-map}
+use Rattle.std.proofs.lemmas.List.Elements.{All-more, Contains-append_left, Contains-append_right}
 use Rattle.std.proofs.lemmas.Slice.Eq.{bytes_eq-Decides}
+use Rattle.grid_units.specs.Reasons.{name_of}
 use Rattle.grid_units.specs.declared.fault.Reason.{Reason}
 use Rattle.grid_units.specs.declared.fault.Reason.TheVariants as reasons
 use Rattle.explanations.specs.declared.topic.Topic.{Topic}
 use Rattle.explanations.specs.declared.topic.Topic.TheVariants as topics
-use Rattle.explanations.specs.Words.{all_reasons, all_topics}
-
--- an element stands at a place of a list
-abbrev pub StandsIn : {A : Type 0} → List A → A → Type 0
-StandsIn xs x = (place : ℕ) × (place < length xs) × (get_or xs place x ≡ x)
+use Rattle.explanations.specs.Words.{EachWordIsListed, all_reasons, all_topics, all_words, topic_word}
 
 -- each reason is listed
-pub listed_reason : (reason : Reason) → StandsIn all_reasons reason
+pub listed_reason : (reason : Reason) → Contains all_reasons reason
 listed_reason reasons.TooLong = (0, omega arith, refl)
 listed_reason reasons.AfterEnd = (1, omega arith, refl)
 listed_reason reasons.Truncated = (2, omega arith, refl)
@@ -64,7 +62,7 @@ listed_reason reasons.NotCopper = (44, omega arith, refl)
 listed_reason reasons.BadSpan = (45, omega arith, refl)
 
 -- each topic is listed
-pub listed_topic : (topic : Topic) → StandsIn all_topics topic
+pub listed_topic : (topic : Topic) → Contains all_topics topic
 listed_topic topics.Ring = (0, omega arith, refl)
 listed_topic topics.Small = (1, omega arith, refl)
 listed_topic topics.Off = (2, omega arith, refl)
@@ -76,18 +74,27 @@ listed_topic topics.Scaled = (7, omega arith, refl)
 listed_topic topics.Turned = (8, omega arith, refl)
 listed_topic topics.Plane = (9, omega arith, refl)
 
+-- the words of what is listed
+pub contains_map : {A B : Type 0} (f : A → B) (xs : List A) (x : A) → Contains xs x → Contains (map f xs) (f x)
+contains_map f xs x h = (h.0, omega (arith, h.1, length-map xs f), get_or-map f xs h.0 x (f x) h.1 ∙ ap f h.2)
+
+-- each word is listed
+pub listed_word : EachWordIsListed
+listed_word word (inl named) = subst (Contains all_words) named.1 (Contains-append_left (map name_of all_reasons) (map topic_word all_topics) (name_of named.0) (contains_map name_of all_reasons named.0 (listed_reason named.0)))
+listed_word word (inr named) = subst (Contains all_words) named.1 (Contains-append_right (map name_of all_reasons) (map topic_word all_topics) (topic_word named.0) (contains_map topic_word all_topics named.0 (listed_topic named.0)))
+
 -- texts that were compared and differ
 pub different : (a b : List ℕ) → bytes_eq a b ≡ false → a ≢ b
 different a b e same = cc (sym e ∙ (bytes_eq-Decides a b).1 same)
 
-module _ {A : Type 0} (name_of : A → List ℕ) where
+module _ {A : Type 0} (word_of : A → List ℕ) where
   -- one more element has another name
-  pub others_more : (xs : List A) (i : ℕ) (d : A) (name word : List ℕ) → i < length xs → All (λ x. name_of x ≢ word) (take i xs) → name ≡ name_of (get_or xs i d)
-      → false ≡ bytes_eq name word → All (λ x. name_of x ≢ word) (take (i + 1) xs)
-  others_more xs i d name word lt others is differs = All-more (λ x. name_of x ≢ word) xs i d lt others (λ e. different name word (sym differs) (is ∙ e))
+  pub others_more : (xs : List A) (i : ℕ) (d : A) (name word : List ℕ) → i < length xs → All (λ x. word_of x ≢ word) (take i xs) → name ≡ word_of (get_or xs i d)
+      → false ≡ bytes_eq name word → All (λ x. word_of x ≢ word) (take (i + 1) xs)
+  others_more xs i d name word lt others is differs = All-more (λ x. word_of x ≢ word) xs i d lt others (λ e. different name word (sym differs) (is ∙ e))
 
   -- all have other names, and so has one of them
-  pub none_named : (xs : List A) (i : ℕ) (word : List ℕ) → length xs ≤ i → All (λ x. name_of x ≢ word) (take i xs) → (x : A) → StandsIn xs x → name_of x ≢ word
+  pub none_named : (xs : List A) (i : ℕ) (word : List ℕ) → length xs ≤ i → All (λ x. word_of x ≢ word) (take i xs) → (x : A) → Contains xs x → word_of x ≢ word
   none_named xs i word le others x at e =
-      let all = subst (λ ys. All (λ x. name_of x ≢ word) ys) (take_all i xs le) others in
-      all at.0 x at.1 (ap name_of at.2 ∙ e)
+      let all = subst (λ ys. All (λ x. word_of x ≢ word) ys) (take_all i xs le) others in
+      all at.0 x at.1 (ap word_of at.2 ∙ e)

@@ -1,6 +1,7 @@
 -- The words that have a page.
-use Rattle.std.specs.Prelude.{◌≡◌, ◌⊎◌, ◌+◌, ◌++◌, ℕ, List, [], ◌∷◌, codes, length, map, take}
-use Rattle.std.specs.List.{flat_map}
+use Rattle.std.specs.Prelude.{◌≡◌, ◌≤◌, ◌⊎◌, ◌+◌, ◌++◌, ℕ, List, [], ◌∷◌, codes, length, map, take}
+use Rattle.std.specs.List.{flat_map, AllByRecursion, Contains}
+use Rattle.std.specs.Str.Lines.{lines}
 use Rattle.grid_units.specs.declared.fault.Reason.{Reason}
 use Rattle.grid_units.specs.declared.fault.Reason.TheVariants as reasons
 use Rattle.grid_units.specs.Reasons.{name_of}
@@ -28,6 +29,10 @@ IsWord word = ((reason : Reason) × (name_of reason ≡ word)) ⊎ ((topic : Top
 abbrev pub Heads : List ℕ → List ℕ → Type 0
 Heads word page = take (length word + 2) page ≡ word ++ codes ": "
 
+-- a page has at most 12 lines of at most 78 columns (docs/FORMATS.md, Explanations)
+abbrev pub FitsScreen : List ℕ → Type 0
+FitsScreen page = (length (lines page) ≤ 12) × AllByRecursion (λ line. length line ≤ 78) (lines page)
+
 -- the reasons, in order of their numbers (docs/FORMATS.md, Explanations)
 abbrev pub all_reasons : List Reason
 all_reasons = reasons.TooLong ∷ reasons.AfterEnd ∷ reasons.Truncated ∷ reasons.SeveralInOne ∷ reasons.ClearPolarity ∷ reasons.BlockAperture ∷ reasons.NegativeImage ∷ reasons.TrailingZeros ∷ reasons.Incremental ∷ reasons.OldParameter ∷ reasons.OldFormat ∷ reasons.Routed ∷ reasons.Repeat ∷ reasons.BadWord ∷ reasons.BadLine ∷ reasons.BadNumber ∷ reasons.NoZeros ∷ reasons.TooManyDigits ∷ reasons.TooFine ∷ reasons.TooFar ∷ reasons.BareCoordinate ∷ reasons.InRegion ∷ reasons.NotInRegion ∷ reasons.NoFormat ∷ reasons.NoUnit ∷ reasons.UnitConflict ∷ reasons.FormatConflict ∷ reasons.Redefined ∷ reasons.UnknownMacro ∷ reasons.UnknownAperture ∷ reasons.UnknownTool ∷ reasons.NoAperture ∷ reasons.NoTool ∷ reasons.BadSize ∷ reasons.BadRepeat ∷ reasons.TooManyPads ∷ reasons.TooManyHoles ∷ reasons.BadRule ∷ reasons.BadManifest ∷ reasons.BadRole ∷ reasons.EmptyName ∷ reasons.RepeatedName ∷ reasons.NoCopper ∷ reasons.NoDrill ∷ reasons.NotCopper ∷ reasons.BadSpan ∷ []
@@ -36,6 +41,14 @@ all_reasons = reasons.TooLong ∷ reasons.AfterEnd ∷ reasons.Truncated ∷ rea
 abbrev pub all_topics : List Topic
 all_topics = topics.Ring ∷ topics.Small ∷ topics.Off ∷ topics.Bare ∷ topics.Macro ∷ topics.Polygon ∷ topics.Holed ∷ topics.Scaled ∷ topics.Turned ∷ topics.Plane ∷ []
 
+-- the words that are listed: the names of the reasons, then the words of the topics (docs/FORMATS.md, Explanations)
+abbrev pub all_words : List (List ℕ)
+all_words = map name_of all_reasons ++ map topic_word all_topics
+
 -- the words, one to a line (docs/FORMATS.md, Explanations)
 abbrev pub word_list : List ℕ
-word_list = flat_map (λ word. word ++ 10 ∷ []) (map name_of all_reasons ++ map topic_word all_topics)
+word_list = flat_map (λ word. word ++ 10 ∷ []) all_words
+
+-- each word that has a page is listed (docs/FORMATS.md, Explanations)
+abbrev pub EachWordIsListed : Type 0
+EachWordIsListed = (word : List ℕ) → IsWord word → Contains all_words word

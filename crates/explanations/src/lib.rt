@@ -7,7 +7,7 @@ mod topic;
 mod topic_pages;
 
 ghost use Rattle.std.specs.Prelude.{◌↔◌, IsSome, IfSome};
-ghost use Rattle.explanations.specs.Words.{Heads, IsWord};
+ghost use Rattle.explanations.specs.Words.{FitsScreen, Heads, IsWord};
 
 pub use naming::words;
 use naming::{reason_named, topic_named};
@@ -20,6 +20,7 @@ use topic_pages::topic_page;
 pub fn explanation(word: &str) -> Option<&'static str>
     ensures known { IsSome result ↔ IsWord word.now }
     ensures headed { IfSome result (λ page. Heads word.now page.now) }
+    ensures fits { IfSome result (λ page. FitsScreen page.now) }
 {
     if let Some(reason) = reason_named(word) {
         return Some(reason_page(reason));

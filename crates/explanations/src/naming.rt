@@ -4,7 +4,7 @@ ghost use Rattle.std.specs.Prelude.{◌≡◌, ◌≢◌, MatchOption};
 ghost use Rattle.grid_units.specs.Reasons.{name_of};
 ghost use Rattle.grid_units.specs.declared.fault.Reason.{Reason as Reasons};
 ghost use Rattle.explanations.specs.declared.topic.Topic.{Topic as Topics};
-ghost use Rattle.explanations.specs.Words.{topic_word, word_list};
+ghost use Rattle.explanations.specs.Words.{EachWordIsListed, topic_word, word_list};
 
 use crate::topic::Topic;
 use grid_units::Reason;
@@ -134,7 +134,8 @@ const TOPICS: [Topic; 10] = [
 /// The words that have a page, one to a line: the names of the reasons, then the other words.
 #[tactic(auto, unfolding(grid_units::specs::Reasons::name_of))]
 pub fn words() -> &'static str
-    ensures { result.now ≡ word_list }
+    ensures text { result.now ≡ word_list }
+    ensures each { EachWordIsListed }
 {
     WORDS
 }

@@ -1,7 +1,7 @@
 //! The pages of the reasons.
 
 ghost use Rattle.grid_units.specs.Reasons.{name_of};
-ghost use Rattle.explanations.specs.Words.{Heads};
+ghost use Rattle.explanations.specs.Words.{FitsScreen, Heads};
 
 use grid_units::Reason;
 
@@ -281,7 +281,8 @@ above the last; copper layers have none. Mend the record of the manifest.
 /// The page of a reason.
 #[tactic(auto, unfolding(grid_units::specs::Reasons::name_of))]
 pub(crate) fn reason_page(reason: Reason) -> &'static str
-    ensures { Heads (name_of reason) result.now }
+    ensures headed { Heads (name_of reason) result.now }
+    ensures fits { FitsScreen result.now }
 {
     match reason {
         Reason::TooLong => TOO_LONG,

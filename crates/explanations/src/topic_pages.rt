@@ -1,6 +1,6 @@
 //! The pages of the topics.
 
-ghost use Rattle.explanations.specs.Words.{Heads, topic_word};
+ghost use Rattle.explanations.specs.Words.{FitsScreen, Heads, topic_word};
 
 use crate::topic::Topic;
 
@@ -76,7 +76,8 @@ there. Do not name such a file as copper.
 
 /// The page of a topic.
 pub(crate) fn topic_page(topic: Topic) -> &'static str
-    ensures { Heads (topic_word topic) result.now }
+    ensures headed { Heads (topic_word topic) result.now }
+    ensures fits { FitsScreen result.now }
 {
     match topic {
         Topic::Ring => RING,

@@ -358,6 +358,25 @@ fn a_layer_in_pieces(rt: HostRuntime) -> Result<(), TestFail> {
 }
 
 #[test]
+fn commands_that_a_reader_lets_go_of(rt: HostRuntime) -> Result<(), TestFail> {
+    let layer = LAYER.as_slice();
+    let mut reader = WordReader::new(rt.alloc());
+    reader.feed(&layer[..42])?;
+    assert_eq!(rt; reader.commands().len(), 4);
+    reader.let_go();
+    assert_eq!(rt; reader.commands().len(), 0);
+    reader.feed(&layer[42..51])?;
+    let taken = reader.take_commands();
+    assert_eq!(rt;
+        taken.iter().map(|entry| (entry.place, entry.byte)).next(),
+        Some((5, 42))
+    );
+    reader.feed(&layer[51..])?;
+    assert_eq!(rt; reader.finish()?.len(), 1);
+    Ok(())
+}
+
+#[test]
 fn a_layer_cut_short(rt: HostRuntime) -> Result<(), TestFail> {
     let alloc = rt.alloc();
     assert_eq!(rt;

@@ -1,13 +1,13 @@
 -- What it says of a command that it breaks no rule.
-use Rattle.std.proofs.Common.{◌≡◌, ℕ, ℤ, List, [], ◌∷◌, ◌++◌, Option, None, Some, Bool, true, false, cond, ◌||◌, ◌&&◌, refl, sym, ap, ◌∙◌}
+use Rattle.std.proofs.Common.{◌≡◌, ℕ, ◌+◌, length, nat_lt, ℤ, List, [], ◌∷◌, ◌++◌, Option, None, Some, Bool, true, false, cond, ◌||◌, ◌&&◌, refl, sym, ap, ◌∙◌}
 use Rattle.std.specs.List.{find}
 use Rattle.gerber_rows.specs.declared.command.Command.{Command}
 use Rattle.gerber_rows.specs.declared.command.Command.TheVariants as command
 use Rattle.gerber_rows.specs.declared.command.Action.{Action}
 use Rattle.grid_units.specs.declared.fault.Reason.TheVariants as reason
 use Rattle.layer_image.specs.Lookback.{Standing}
-use Rattle.layer_image.specs.Flashes.{is_flash}
-use Rattle.layer_image.specs.Rules.{first_broken, applies, reaches_too_far, flashes_too_far, sizes_badly, is_far_in}
+use Rattle.layer_image.specs.Flashes.{is_flash, copies_at}
+use Rattle.layer_image.specs.Rules.{first_broken, applies, reaches_too_far, flashes_too_far, sizes_badly, is_far_in, flashes_too_many}
 
 -- where a search finds nothing, no element passes
 none_found : {A : Type 0} (p : A → Bool) (xs ys : List A) (x : A) → find p (xs ++ x ∷ ys) ≡ None → p x ≡ false
@@ -31,6 +31,15 @@ not_too_far s count c h =
     ∷ reason.UnknownMacro ∷ reason.UnknownAperture ∷ reason.NoAperture ∷ reason.BadSize ∷ reason.BadRepeat ∷ reason.TooManyDigits ∷ [])
     (reason.TooManyPads ∷ []) reason.TooFar h
 
+-- nor do its flashes make too many
+pub not_too_many : (s : Standing) (count : ℕ) (c : Command) → first_broken s count c ≡ None → flashes_too_many s count c ≡ false
+unfolding first_broken
+not_too_many s count c h =
+    none_found (applies s count c)
+    (reason.InRegion ∷ reason.NotInRegion ∷ reason.NoFormat ∷ reason.NoUnit ∷ reason.UnitConflict ∷ reason.FormatConflict ∷ reason.Redefined
+    ∷ reason.UnknownMacro ∷ reason.UnknownAperture ∷ reason.NoAperture ∷ reason.BadSize ∷ reason.BadRepeat ∷ reason.TooManyDigits ∷ reason.TooFar ∷ [])
+    [] reason.TooManyPads h
+
 -- nor does it have a size out of its range
 pub well_sized : (s : Standing) (count : ℕ) (c : Command) → first_broken s count c ≡ None → sizes_badly c ≡ false
 unfolding first_broken
@@ -51,3 +60,6 @@ second false b h t = cc
 -- so neither does a flash
 pub near_flash : (s : Standing) (action : Action) (x y i j : Option ℤ) → reaches_too_far s (command.Operate action x y i j) ≡ false → is_flash action ≡ true → flashes_too_far s x y ≡ false
 near_flash s action x y i j h flash = second (is_flash action) (flashes_too_far s x y) (neither (is_far_in s x || is_far_in s y) _ h).1 flash
+
+pub few_flashes : (s : Standing) (count : ℕ) (action : Action) (x y i j : Option ℤ) → flashes_too_many s count (command.Operate action x y i j) ≡ false → is_flash action ≡ true → nat_lt 4194304 (count + length (copies_at s x y)) ≡ false
+few_flashes s count action x y i j h flash = second (is_flash action) (nat_lt 4194304 (count + length (copies_at s x y))) h flash

@@ -11,7 +11,6 @@ use Rattle.layer_image.specs.Flashes.{numbers_below, copies, copy_at}
 use Rattle.layer_image.specs.Rules.{is_far_point}
 use Rattle.layer_image.specs.declared.grid.Grid.{Grid}
 use Rattle.grid_units.specs.Points.{GridPoint, max_coordinate}
-use Rattle.layer_image.specs.declared.flash.Flash.{Flash}
 use mir.Syntax.{w128, w64}
 
 pub fits_sum : (a b : ℤ) → unsigned_abs a ≤ 2 ^ 98 → unsigned_abs b ≤ 2 ^ 103 → FitsSigned w128 (a +ℤ b)
@@ -154,7 +153,7 @@ no_rows grid e =
     ∙ any_below_none (λ u. list_any is_far_point (map (copy_at grid u) (numbers_below grid.rows))) grid.columns (λ u l. λ i. list_any is_far_point (map (copy_at grid u) (numbers_below (e i))))
 
 -- one row more
-pub next_row : (f : GridPoint → Flash) (g : ℕ → GridPoint) (old items new : List Flash) (first : List GridPoint) (v : ℕ) (x : Flash)
+pub next_row : {A : Type 0} (f : GridPoint → A) (g : ℕ → GridPoint) (old items new : List A) (first : List GridPoint) (v : ℕ) (x : A)
     → items ≡ old ++ map f (first ++ map g (numbers_below v)) → new ≡ items ++ x ∷ [] → x ≡ f (g v) → new ≡ old ++ map f (first ++ map g (numbers_below (v + 1)))
 next_row f g old items new first v x known pushed here =
     let row : map g (numbers_below (v + 1)) ≡ map g (numbers_below v) ++ g v ∷ [] = ap (λ n. map g (numbers_below n)) (add-one v) ∙ map-append g (numbers_below v) (v ∷ []) in
@@ -163,7 +162,7 @@ next_row f g old items new first v x known pushed here =
     pushed ∙ (λ i. known i ++ here i ∷ []) ∙ append_assoc old (map f (first ++ map g (numbers_below v))) (f (g v) ∷ []) ∙ ap (λ l. old ++ l) (sym all)
 
 -- one column more
-pub next_column : (f : GridPoint → Flash) (grid : Grid) (old items : List Flash) (u v : ℕ) → v ≡ grid.rows
+pub next_column : {A : Type 0} (f : GridPoint → A) (grid : Grid) (old items : List A) (u v : ℕ) → v ≡ grid.rows
     → items ≡ old ++ map f (flat_map (λ a. map (copy_at grid a) (numbers_below grid.rows)) (numbers_below u) ++ map (copy_at grid u) (numbers_below v))
     → items ≡ old ++ map f (flat_map (λ a. map (copy_at grid a) (numbers_below grid.rows)) (numbers_below (u + 1)))
 next_column f grid old items u v e known =

@@ -1,7 +1,9 @@
 pub mod Grids
+pub mod Adding
 pub mod Knowing
 pub mod Broken
 pub mod Moves
+pub mod Naming
 pub mod Places
 pub mod Faulty
 pub mod Listing

@@ -1,5 +1,5 @@
 -- What a reader of a layer in pieces shows of the text so far.
-use Rattle.std.proofs.Common.{◌≡◌, inl, inr, ℕ, List, [], ◌++◌, length, Bool, true, false, cond, Result, Ok, Err, OnOk, IfErr, refl, sym, ap, subst, ◌∙◌, nat_lt, arith}
+use Rattle.std.proofs.Common.{◌≡◌, inl, inr, ℕ, List, [], ◌++◌, length, Bool, true, false, cond, Result, Ok, Err, OnOk, IfErr, sym, ap, ◌∙◌, nat_lt, arith}
 use Rattle.std.proofs.Math.Seq.{take-length}
 use Rattle.grid_units.specs.Results.{AnswersAlways, Answers, Tells}
 use Rattle.grid_units.specs.declared.fault.Fault.{Fault}

@@ -1,12 +1,9 @@
--- Numbers with many digits, and places behind the eighth.
+-- Numbers with many digits, and places behind the last.
 use Rattle.std.proofs.Common.{◌≡◌, ℕ, ◌+◌, ◌-◌, ◌*◌, ◌/◌, ◌^◌, ◌≤◌, ◌<◌, true, false, nat_le, arith, ◌∙◌, ap, sym, subst, inl, inr, lit<}
 use Rattle.std.proofs.Math.Nat.{pow-le-pow_right, le-div_iff_mul-le}
 use Rattle.std.proofs.lemmas.Nat.{pow-add, div_below}
 use Rattle.std.proofs.lemmas.Bool.{cases_lt}
 use Rattle.std.proofs.lemmas.Bool.Decides.{nat_tests}
-use Rattle.grid_units.specs.declared.lengths.Unit.{Unit as Units}
-use Rattle.grid_units.specs.declared.lengths.Unit.TheVariants.{Inch, Millimetre}
-use Rattle.grid_units.specs.Numbers.{unit_length}
 
 test_yes : (a b : ℕ) → a ≤ b → nat_le a b ≡ true
 test_yes a b h = grind (arith, nat_tests)
@@ -33,13 +30,9 @@ no_more_digits n d h k =
     let large : 10 ^ 20 ≤ 10 ^ d = pow-le-pow_right {n = 10} (lit< tt) k in
     test_no _ _ (omega (arith, large))
 
-short_unit : (unit : Units) → unit_length unit < 10 ^ 11
-short_unit Inch = lit< tt
-short_unit Millimetre = lit< tt
-
--- no unit has whole picometres behind its tenth place
-pub no_place : (unit : Units) (d : ℕ) → 11 ≤ d → unit_length unit / 10 ^ d ≡ 0
-no_place unit d k =
-    let large : 10 ^ 11 ≤ 10 ^ d = pow-le-pow_right {n = 10} (lit< tt) k in
-    let below : unit_length unit / 10 ^ d < 1 = div_below (unit_length unit) (10 ^ d) 1 (omega (arith, large)) (omega (arith, large, short_unit unit)) in
+-- a length has no whole picometres behind its last digit
+pub no_finer : (n e d : ℕ) → n < 10 ^ e → e ≤ d → n / 10 ^ d ≡ 0
+no_finer n e d short k =
+    let large : 10 ^ e ≤ 10 ^ d = pow-le-pow_right {n = 10} (lit< tt) k in
+    let below : n / 10 ^ d < 1 = div_below n (10 ^ d) 1 (omega (arith, large, short)) (omega (arith, large, short)) in
     omega (arith, below)

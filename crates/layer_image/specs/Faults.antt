@@ -13,7 +13,7 @@ use Rattle.layer_image.specs.declared.judge.Stop.{Stop}
 use Rattle.layer_image.specs.declared.judge.Stop.TheVariants as stop
 use Rattle.layer_image.specs.Rules.{broken_rule}
 
--- commands without their places (docs/FORMATS.md, Cutting a Gerber text)
+-- commands without their places (docs/DEFINITIONS.md, Faults)
 abbrev pub without_places : Entries → List Command
 without_places entries = map (λ entry. entry.what) entries
 

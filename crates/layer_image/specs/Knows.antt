@@ -1,9 +1,6 @@
 -- What a judge says of the commands that it has met.
-use Rattle.std.specs.Prelude.{◌≡◌, ◌||◌, List, [], ◌∷◌, ◌++◌, Some, None, unwrap_or, nat_eq, Result, Ok, Err}
+use Rattle.std.specs.Prelude.{◌≡◌, ◌||◌, Bool, List, [], ◌∷◌, ◌++◌, Some, None, unwrap_or, Result, Ok, Err}
 use Rattle.std.specs.Option.{option_or}
-use Rattle.std.specs.Cmp.Lexicographic.{pointwise}
-use Rattle.indexmap.specs.IndexMap.{get}
-use Rattle.indexmap.specs.IndexSet.{contains}
 use Rattle.gerber_rows.specs.declared.command.Command.{Command}
 use Rattle.layer_image.specs.declared.judge.Judge.{Judge}
 use Rattle.layer_image.specs.declared.judge.Stop.{Stop}
@@ -11,6 +8,8 @@ use Rattle.layer_image.specs.declared.judge.Stop.TheVariants.{Memory, Refused}
 use Rattle.layer_image.specs.Lookback.{Standing, standing, unit_named, format_named, region_named, definition_named, defines_macro, number_named, x_named, y_named, turn_named, scale_named, block_named}
 use Rattle.layer_image.specs.Rules.{broken_rule}
 use Rattle.layer_image.specs.Flashes.{flashes_of, flashes_at}
+use Rattle.layer_image.specs.Keeping.{KeepsFlashes, Adds}
+use Rattle.layer_image.specs.Tables.{aperture_at, has_name}
 
 -- what the judge says to the next command (docs/DEFINITIONS.md, Legal lists)
 abbrev pub told : Judge → Standing
@@ -18,8 +17,8 @@ told judge = record {
   unit = judge.unit;
   format = judge.format;
   in_region = judge.in_region;
-  definition = λ number. get nat_eq judge.apertures number;
-  has_macro = λ name. contains (pointwise nat_eq) judge.macros name;
+  definition = aperture_at judge.apertures;
+  has_macro = has_name judge.macros;
   selected = judge.selected;
   x = judge.x;
   y = judge.y;
@@ -29,9 +28,9 @@ told judge = record {
 }
 
 -- the judge has met just these commands (docs/DEFINITIONS.md, Legal lists)
-pub record Knows (judge : Judge) (before : List Command) : Type 0 where
+pub record Knows (judge : Judge) (whole : Bool) (before : List Command) : Type 0 where
   pub standing : told judge ≡ standing before
-  pub flashes : judge.flashes.items ≡ flashes_of before
+  pub flashes : KeepsFlashes judge.flashes whole (flashes_of before)
 
 -- what stands after one more command (docs/DEFINITIONS.md, Legal lists)
 abbrev pub after : Command → Standing → Standing
@@ -52,11 +51,11 @@ after c s = record {
 -- the new judge is the old one after one more command (docs/DEFINITIONS.md, Legal lists)
 pub record Takes (old : Judge) (c : Command) (new : Judge) : Type 0 where
   pub standing : told new ≡ after c (told old)
-  pub flashes : new.flashes.items ≡ old.flashes.items ++ flashes_at (told old) c
+  pub flashes : Adds old.flashes (flashes_at (told old) c) new.flashes
 
 -- The command breaks no rule and was taken in, or this is the first rule that it breaks, or memory ran out
 -- (docs/DEFINITIONS.md, Legal lists).
-abbrev pub Judges : List Command → Command → Judge → Result (Unit {0}) Stop → Type 0
-Judges before c new (Ok _) = (broken_rule before c ≡ None) × Knows new (before ++ c ∷ [])
-Judges before c new (Err (Refused reason)) = broken_rule before c ≡ Some reason
-Judges before c new (Err Memory) = Unit {0}
+abbrev pub Judges : Bool → List Command → Command → Judge → Result (Unit {0}) Stop → Type 0
+Judges whole before c new (Ok _) = (broken_rule before c ≡ None) × Knows new whole (before ++ c ∷ [])
+Judges whole before c new (Err (Refused reason)) = broken_rule before c ≡ Some reason
+Judges whole before c new (Err Memory) = Unit {0}

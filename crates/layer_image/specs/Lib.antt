@@ -4,6 +4,8 @@ pub mod Numbers
 pub mod Moved
 pub mod Flashes
 pub mod Rules
+pub mod Tables
+pub mod Keeping
 pub mod Knows
 pub mod Faults
 pub mod Functions

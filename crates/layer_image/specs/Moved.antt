@@ -22,6 +22,14 @@ moved p (what.Other why) = what.Other why
 abbrev pub flash_moved : What → GridPoint → Flash
 flash_moved what p = record { at = p; what = moved p what }
 
+-- the same flash at another point (docs/DEFINITIONS.md, Flashes and pads)
+abbrev pub flash_laid : Flash → GridPoint → Flash
+flash_laid flash p = flash_moved flash.what p
+
+-- the same pad at another point (docs/DEFINITIONS.md, Flashes and pads)
+abbrev pub pad_laid : Pad → GridPoint → Pad
+pad_laid pad p = moved_pad p pad
+
 -- the point where the axes meet (docs/DEFINITIONS.md, Points and holes)
 abbrev pub origin : GridPoint
 origin = record { x = pos 0; y = pos 0 }

@@ -33,20 +33,20 @@ ShowsLayerFault text f =
     ⊎ ((entries : Entries) × Shows text (Err f) × KeptBefore text (fails.Refused f) entries × IsLegal (without_places entries))
 
 -- the scan has met just these commands (docs/DEFINITIONS.md, Legal lists)
-pub record Met (scan : Scan) (before : List Command) : Type 0 where
-  pub knows : Knows scan.judge before
+pub record Met (scan : Scan) (whole : Bool) (before : List Command) : Type 0 where
+  pub knows : Knows scan.judge whole before
   pub named : scan.file_function ≡ file_function_of before
 
 -- The command breaks no rule and was taken in, or this is the first rule that it breaks, or memory ran out
 -- (docs/DEFINITIONS.md, Legal lists).
-abbrev pub Meets : List Command → Command → Scan → Result (Unit {0}) Stop → Type 0
-Meets before c new (Ok _) = (broken_rule before c ≡ None) × Met new (before ++ c ∷ [])
-Meets before c new (Err (Refused reason)) = broken_rule before c ≡ Some reason
-Meets before c new (Err Memory) = Unit {0}
+abbrev pub Meets : Bool → List Command → Command → Scan → Result (Unit {0}) Stop → Type 0
+Meets whole before c new (Ok _) = (broken_rule before c ≡ None) × Met new whole (before ++ c ∷ [])
+Meets whole before c new (Err (Refused reason)) = broken_rule before c ≡ Some reason
+Meets whole before c new (Err Memory) = Unit {0}
 
 -- the scan has met just these commands, and none of them breaks a rule (docs/DEFINITIONS.md, Legal lists)
-pub record Scanned (scan : Scan) (entries : Entries) : Type 0 where
-  pub met : Met scan (without_places entries)
+pub record Scanned (scan : Scan) (whole : Bool) (entries : Entries) : Type 0 where
+  pub met : Met scan whole (without_places entries)
   pub legal : IsLegal (without_places entries)
   pub sound : breaks fault_of entries ≡ []
 
@@ -57,7 +57,7 @@ pub record CoreStands (core : Core) (text : List ℕ) : Type 0 where
   pub gone : Entries
   pub words : StandsBehind core.words gone text
   pub none : held core.words ≡ []
-  pub scanned : Scanned core.scan gone
+  pub scanned : Scanned core.scan core.whole gone
   pub kept : core.whole ≡ true → core.kept.items ≡ gone
 
 -- a reader goes from all it may have read to that and these bytes (docs/DEFINITIONS.md, Reading in pieces)
@@ -75,7 +75,7 @@ LayerStandsAfter reader text = CoreStands reader.core text
 -- The text ends here: it spells commands that the scan has met, and they are kept where all is to be kept; or it has this
 -- fault (docs/DEFINITIONS.md, Reading in pieces).
 abbrev pub CoreEnds : List ℕ → Bool → Result (Scan × Vec (Placed Command)) Fail → Type 0
-CoreEnds text whole (Ok p) = (gone : Entries) × Reads text (Ok gone) × Scanned p.0 gone × (whole ≡ true → p.1.items ≡ gone)
+CoreEnds text whole (Ok p) = (gone : Entries) × Reads text (Ok gone) × Scanned p.0 whole gone × (whole ≡ true → p.1.items ≡ gone)
 CoreEnds text whole (Err fails.Memory) = ⊥
 CoreEnds text whole (Err (fails.Refused f)) = ReadsLayer text (Err f)
 

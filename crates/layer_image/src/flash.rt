@@ -1,7 +1,8 @@
 //! Flashes, and the pads among them.
 
 ghost use Rattle.std.specs.Prelude.{◌≡◌};
-ghost use Rattle.layer_image.specs.Moved.{moved, moved_pad};
+ghost use Rattle.grid_units.specs.Points.{GridPoint};
+ghost use Rattle.layer_image.specs.Moved.{moved, moved_pad, flash_laid, pad_laid};
 
 use grid_units::Point;
 use pad_shapes::{Disc, Obround, Pad, Rect};
@@ -46,6 +47,35 @@ impl What {
             What::Pad(pad) => What::Pad(pad_at(pad, centre)),
             What::Other(why) => What::Other(*why),
         }
+    }
+}
+
+/// What can be laid at another point.
+pub(crate) trait Lay: Copy {
+    /// The same at another point.
+    ghost laid: { Self → GridPoint → Self };
+
+    /// The same at another point.
+    fn laid(&self, at: Point) -> Self
+        ensures { result ≡ laid self.now at };
+}
+
+impl Lay for Flash {
+    ghost laid = { flash_laid };
+
+    fn laid(&self, at: Point) -> Self {
+        Flash {
+            at,
+            what: self.what.at(at),
+        }
+    }
+}
+
+impl Lay for Pad {
+    ghost laid = { pad_laid };
+
+    fn laid(&self, at: Point) -> Self {
+        pad_at(self, at)
     }
 }
 

@@ -62,7 +62,7 @@ impl Judge {
         ensures { result ≡ aperture_in (told self.now) }
     {
         match self.selected {
-            Some(number) => self.apertures.get(&number).copied(),
+            Some(number) => self.apertures.get(number),
             None => None,
         }
     }
@@ -165,7 +165,7 @@ fn is_far_side(side: Side, unit: Unit) -> bool
     is_far(fine_length(side.size(), unit))
 }
 
-fn origin() -> Point
+pub(crate) fn origin() -> Point
     ensures { result ≡ origin }
 {
     Point::new(0, 0).unwrap()

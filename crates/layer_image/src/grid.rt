@@ -1,17 +1,15 @@
 //! The copies of a flashed point in a step and repeat block.
 
-ghost use Rattle.std.specs.Prelude.{◌≡◌, ◌++◌, ◌∷◌, [], ◌<◌, ◌≤◌, ◌^◌, ◌+ℤ◌, ◌*ℤ◌, ◌||◌, pos, unsigned_abs, false, length, map, OnOk};
+ghost use Rattle.std.specs.Prelude.{◌≡◌, ◌++◌, ◌<◌, ◌≤◌, ◌^◌, ◌+ℤ◌, ◌*ℤ◌, ◌||◌, pos, unsigned_abs, false, length, map, OnOk};
 ghost use Rattle.std.specs.List.{list_any};
 ghost use Rattle.grid_units.specs.Numbers.{is_far};
 ghost use Rattle.grid_units.specs.Points.{max_coordinate};
 ghost use Rattle.layer_image.specs.Flashes.{copies, copy_at};
-ghost use Rattle.layer_image.specs.Moved.{flash_moved};
 ghost use Rattle.layer_image.specs.Rules.{is_far_point};
 ghost use Rattle.layer_image.specs.Grids.{IsBounded};
 
-use crate::flash::{Flash, What};
+use crate::flash::Lay;
 use grid_units::{Point, is_far};
-use pad_shapes::Pad;
 use std::alloc::AllocError;
 
 /// A point and the counts and steps of its copies, in pm.
@@ -60,35 +58,24 @@ impl Grid {
         )
     }
 
-    /// Flashes each copy, in order.
+    /// Lays this at each copy, in order.
     ///
     /// # Errors
     ///
-    /// An `AllocError` where there is no memory for a flash.
-    pub fn flash(&self, flashes: &mut Vec<Flash>, what: &What) -> Result<(), AllocError>
+    /// An `AllocError` where there is no memory for one.
+    pub(crate) fn lay<T: Lay>(&self, laid: &mut Vec<T>, one: &T) -> Result<(), AllocError>
         requires bounded { IsBounded self.now }
         requires near { list_any is_far_point (copies self.now) ≡ false }
-        ensures { OnOk result (flashes.new.items ≡ flashes.old.items ++ map (flash_moved what.now) (copies self.now)) }
+        ensures { OnOk result (laid.new.items ≡ laid.old.items ++ map (T.laid one.now) (copies self.now)) }
     {
         for u in 0..self.columns {
             for v in 0..self.rows {
                 let at = self.copy(u, v);
-                push_flash(flashes, what, at)?;
+                laid.push(one.laid(at))?;
             }
         }
         Ok(())
     }
-}
-
-/// Flashes one copy.
-fn push_flash(flashes: &mut Vec<Flash>, what: &What, at: Point) -> Result<(), AllocError>
-    ensures { OnOk result (flashes.new.items ≡ flashes.old.items ++ flash_moved what.now at ∷ []) }
-{
-    flashes.push(Flash {
-        at,
-        what: what.at(at),
-    })?;
-    Ok(())
 }
 
 /// The point of two coordinates that are near.

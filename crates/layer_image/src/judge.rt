@@ -1,6 +1,6 @@
 //! The judge: meets the commands of a list one by one, and says at the first that breaks a rule which rule it breaks.
 
-ghost use Rattle.std.specs.Prelude.{◌≡◌, ◌∷◌, ◌++◌, ◌*◌, [], List, Option, ℤ, OnOk, None, pos, length, true, false};
+ghost use Rattle.std.specs.Prelude.{◌≡◌, ◌+◌, ◌≤◌, ◌*◌, [], Bool, List, nat_lt, Option, ℤ, OnOk, None, pos, length, true, false};
 ghost use Rattle.std.specs.Option.{option_map_or};
 ghost use Rattle.std.specs.List.{list_any};
 ghost use Rattle.gerber_rows.specs.declared.command.Action.{Action as TheAction};
@@ -10,31 +10,35 @@ ghost use Rattle.layer_image.specs.declared.judge.Stop.TheVariants.{Memory};
 ghost use Rattle.layer_image.specs.Lookback.{aperture_in, single};
 ghost use Rattle.layer_image.specs.Flashes.{copies_at, flashed, is_flash};
 ghost use Rattle.layer_image.specs.Rules.{first_broken, flashes_too_far, is_badly_sized, is_far_pad, is_far_point};
+ghost use Rattle.layer_image.specs.Keeping.{Adds, flash_count};
 ghost use Rattle.layer_image.specs.Knows.{Knows, Takes, Judges, told, after};
 
 use crate::aperture::{Aperture, aperture_of};
 use crate::flash::Flash;
+use crate::flashes::Flashes;
+use crate::force::origin;
 use crate::rules::is_flash;
+use crate::tables::{Apertures, Names};
 use gerber_rows::{Action, Block, Command, Format, Template};
-use grid_units::{Dec, Reason, Text, Unit};
-use indexmap::{IndexMap, IndexSet};
+use grid_units::{Dec, Reason, Unit};
 use std::alloc::{AllocError, Global};
 
 /// What the commands so far say to the next one, and the flashes that they made.
 #[derive(Drop)]
 pub(crate) struct Judge {
+    alloc: Global,
     pub(crate) unit: Option<Unit>,
     pub(crate) format: Option<Format>,
     pub(crate) in_region: bool,
-    pub(crate) apertures: IndexMap<u32, Aperture>,
-    pub(crate) macros: IndexSet<Text>,
+    pub(crate) apertures: Apertures,
+    pub(crate) macros: Names,
     pub(crate) selected: Option<u32>,
     pub(crate) x: i64,
     pub(crate) y: i64,
     pub(crate) turn: Dec,
     pub(crate) scale: Dec,
     pub(crate) block: Block,
-    pub(crate) flashes: Vec<Flash>,
+    pub(crate) flashes: Flashes,
 }
 
 /// Why a step stops.
@@ -54,28 +58,29 @@ impl From<AllocError> for Stop {
 
 impl Judge {
     /// A judge that has met no command.
-    pub(crate) fn new(alloc: Global) -> Self
-        ensures { Knows result [] }
+    pub(crate) fn new(alloc: Global, whole: bool) -> Self
+        ensures { Knows result whole [] }
     {
         Judge {
+            alloc,
             unit: None,
             format: None,
             in_region: false,
-            apertures: IndexMap::new(alloc),
-            macros: IndexSet::new(alloc),
+            apertures: Apertures::new(alloc),
+            macros: Names::new(alloc),
             selected: None,
             x: 0,
             y: 0,
             turn: decimal(0),
             scale: decimal(1),
             block: single(),
-            flashes: Vec::new(alloc),
+            flashes: Flashes::new(alloc, whole),
         }
     }
 
     /// Judges one more command, and takes it in where it breaks no rule. A refusal changes nothing.
     pub(crate) fn step(&mut self, command: &Command) -> Result<(), Stop>
-        ensures { (before : List Command) → Knows self.old before → Judges before command.now self.new result }
+        ensures { (whole : Bool) (before : List Command) → Knows self.old whole before → Judges whole before command.now self.new result }
     {
         if let Some(reason) = self.broken_rule(command) {
             return Err(Stop::Refused(reason));
@@ -84,8 +89,8 @@ impl Judge {
         Ok(())
     }
 
-    /// The flashes of the commands that the judge has taken in.
-    pub(crate) fn into_flashes(self) -> Vec<Flash>
+    /// What is kept of the flashes of the commands that the judge has taken in.
+    pub(crate) fn into_flashes(self) -> Flashes
         ensures { result ≡ self.flashes }
     {
         self.flashes
@@ -93,7 +98,7 @@ impl Judge {
 
     /// Takes in a command that breaks no rule.
     fn take(&mut self, command: &Command) -> Result<(), AllocError>
-        requires { first_broken (told self.old) (length self.old.flashes.items) command.now ≡ None }
+        requires { first_broken (told self.old) (flash_count self.old.flashes) command.now ≡ None }
         ensures { OnOk result (Takes self.old command.now self.new) }
     {
         match command {
@@ -102,9 +107,7 @@ impl Judge {
             Command::UnitIs(unit) => self.unit = Some(*unit),
             Command::FormatIs(format) => self.format = Some(*format),
             Command::Define { number, template } => self.define(*number, template)?,
-            Command::Macro(name, _) => {
-                self.macros.insert(name.copy()?)?;
-            }
+            Command::Macro(name, _) => self.macros.insert(self.alloc, name)?,
             Command::Select(number) => self.selected = Some(*number),
             Command::Operate { action, x, y, .. } => self.operate(*action, *x, *y)?,
             Command::Turn(turn) => self.turn = *turn,
@@ -141,19 +144,22 @@ impl Judge {
     ) -> Result<(), AllocError>
         requires points { list_any is_far_point (copies_at (told self.old) x y) ≡ false }
         requires pad { is_far_pad (told self.old) aperture.now ≡ false }
+        requires few { flash_count self.old.flashes + length (copies_at (told self.old) x y) ≤ 4194304 }
         ensures told { told self.new ≡ told self.old }
-        ensures flashes { OnOk result (self.new.flashes.items ≡ self.old.flashes.items ++ flashed (told self.old) x y aperture.now) }
+        ensures flashes { OnOk result (Adds self.old.flashes (flashed (told self.old) x y aperture.now) self.new.flashes) }
     {
         let what = self.what(aperture);
-        self.grid(x, y).flash(&mut self.flashes, &what)
+        let grid = self.grid(x, y);
+        self.flashes.lay(&grid, &Flash { at: origin(), what })
     }
 
     /// Flashes the aperture that was selected last, if there is one.
     fn flash_selected(&mut self, x: Option<i64>, y: Option<i64>) -> Result<(), AllocError>
         requires points { list_any is_far_point (copies_at (told self.old) x y) ≡ false }
         requires pad { option_map_or (is_far_pad (told self.old)) (aperture_in (told self.old)) false ≡ false }
+        requires few { flash_count self.old.flashes + length (copies_at (told self.old) x y) ≤ 4194304 }
         ensures told { told self.new ≡ told self.old }
-        ensures flashes { OnOk result (self.new.flashes.items ≡ self.old.flashes.items ++ option_map_or (flashed (told self.old) x y) (aperture_in (told self.old)) []) }
+        ensures flashes { OnOk result (Adds self.old.flashes (option_map_or (flashed (told self.old) x y) (aperture_in (told self.old)) []) self.new.flashes) }
     {
         match self.aperture() {
             Some(aperture) => self.flash(x, y, &aperture),
@@ -163,7 +169,8 @@ impl Judge {
 
     /// Takes in an operation.
     fn operate(&mut self, action: Action, x: Option<i64>, y: Option<i64>) -> Result<(), AllocError>
-        requires { is_flash action ≡ true → flashes_too_far (told self.old) x y ≡ false }
+        requires near { is_flash action ≡ true → flashes_too_far (told self.old) x y ≡ false }
+        requires few { is_flash action ≡ true → nat_lt 4194304 (flash_count self.old.flashes + length (copies_at (told self.old) x y)) ≡ false }
         ensures { OnOk result ((i j : Option ℤ) → Takes self.old (command.Operate action x y i j) self.new) }
     {
         if is_flash(action) {

@@ -1,20 +1,20 @@
 //! Layers: the commands of a legal text, and the flashes, pads and file function that follow from them.
 
-ghost use Rattle.std.specs.Prelude.{◌≡◌, IfOk};
+ghost use Rattle.std.specs.Prelude.{◌≡◌};
 ghost use Rattle.std.specs.Option.{option_copied};
 ghost use Rattle.grid_units.specs.Results.{Answers};
-ghost use Rattle.layer_image.specs.Flashes.{flashes_of, pads_of};
 ghost use Rattle.layer_image.specs.Faults.{without_places};
 ghost use Rattle.layer_image.specs.Functions.{file_function_of};
 ghost use Rattle.layer_image.specs.Layers.{ReadsLayer, EqualCommands, OneReading, image_of};
 
-use crate::flash::{Flash, What};
+use crate::flash::Flash;
+use crate::flashes::Flashes;
 use crate::reader::LayerReader;
 use gerber_rows::Command;
 use gerber_text::Placed;
 use grid_units::{Fail, Text};
 use pad_shapes::Pad;
-use std::alloc::{AllocError, Global};
+use std::alloc::Global;
 use std::marker::Model;
 
 /// A layer. Contracts see its commands, flashes, pads and file function as lists.
@@ -88,36 +88,20 @@ pub fn read_layer(alloc: Global, bytes: &[u8]) -> Result<Layer, Fail>
     reader.finish()
 }
 
-/// The layer of legal commands and their flashes.
+/// The layer of legal commands, what is kept of their flashes, and their file function.
 pub(crate) fn layer_of(
-    alloc: Global,
     commands: Vec<Placed<Command>>,
-    flashes: Vec<Flash>,
+    flashes: Flashes,
     file_function: Option<Text>,
-) -> Result<Layer, AllocError>
-    ensures { IfOk result (λ layer. layer ≡ record { commands = commands.items; flashes = flashes.items; pads = pads_of flashes.items; file_function = file_function }) }
+) -> Layer
+    ensures { result ≡ record { commands = commands.items; flashes = flashes.all.items; pads = flashes.pads.items; file_function = file_function } }
 {
-    let pads = pads_of(alloc, &flashes)?;
-    Ok(Layer {
+    Layer {
         commands,
-        flashes,
-        pads,
+        flashes: flashes.all,
+        pads: flashes.pads,
         file_function,
-    })
-}
-
-/// The pads among the flashes.
-pub(crate) fn pads_of(alloc: Global, flashes: &[Flash]) -> Result<Vec<Pad>, AllocError>
-    ensures { IfOk result (λ pads. pads.items ≡ pads_of flashes.now) }
-{
-    let mut pads = Vec::new(alloc);
-    for flash in flashes {
-        match flash.what {
-            What::Pad(pad) => pads.push(pad)?,
-            What::Other(_) => {}
-        }
     }
-    Ok(pads)
 }
 
 /// A text reads as one layer, or has one fault.

@@ -1,37 +1,67 @@
 //! Lengths and numbers of a layer.
 
-ghost use Rattle.std.specs.Prelude.{◌≡◌, ◌≤◌, ◌^◌, ◌/◌, pos, unsigned_abs, ◌<◌, nat_le};
+ghost use Rattle.std.specs.Prelude.{◌≡◌, ◌≤◌, ◌^◌, ◌/◌, pos, unsigned_abs, nat_le};
 ghost use Rattle.grid_units.specs.Numbers.{picometres, unit_length};
 ghost use Rattle.layer_image.specs.Numbers.{fine_length, is_long};
 
 use gerber_rows::Format;
-use grid_units::{Dec, Unit, picometres, power_of_ten};
+use grid_units::{Dec, Unit, power_of_ten};
 
 /// A coordinate with so many decimals of a unit, in pm.
 pub(crate) fn coordinate(n: i64, decimals: u8, unit: Unit) -> i128
     ensures value { result ≡ picometres unit decimals n }
     ensures bound { unsigned_abs result ≤ 2 ^ 98 }
 {
-    if decimals <= 8 {
-        picometres(n, decimals, unit)
-    } else {
-        i128::from(n) * i128::from(far_place(decimals, unit))
+    i128::from(n) * i128::from(place_length(decimals, unit))
+}
+
+/// The whole pm of a decimal place. It is looked up, since a division would be most of the time of a coordinate.
+fn place_length(decimals: u8, unit: Unit) -> u64
+    ensures value { result ≡ unit_length unit / 10 ^ decimals }
+    ensures small { result ≤ 25400000000 }
+{
+    match unit {
+        Unit::Inch => inch_place(decimals),
+        Unit::Millimetre => millimetre_place(decimals),
     }
 }
 
-/// The whole pm of a place behind the eighth. No format of a text has one.
-fn far_place(decimals: u8, unit: Unit) -> u8
-    requires { 8 < decimals }
-    ensures { result ≡ unit_length unit / 10 ^ decimals }
+fn inch_place(decimals: u8) -> u64
+    ensures value { result ≡ 25400000000 / 10 ^ decimals }
+    ensures small { result ≤ 25400000000 }
 {
-    if decimals > 10 {
-        return 0;
+    match decimals {
+        0 => 25_400_000_000,
+        1 => 2_540_000_000,
+        2 => 254_000_000,
+        3 => 25_400_000,
+        4 => 2_540_000,
+        5 => 254_000,
+        6 => 25_400,
+        7 => 2_540,
+        8 => 254,
+        9 => 25,
+        10 => 2,
+        _ => 0,
     }
-    match unit {
-        Unit::Inch if decimals == 9 => 25,
-        Unit::Inch => 2,
-        Unit::Millimetre if decimals == 9 => 1,
-        Unit::Millimetre => 0,
+}
+
+fn millimetre_place(decimals: u8) -> u64
+    ensures value { result ≡ 1000000000 / 10 ^ decimals }
+    ensures small { result ≤ 25400000000 }
+{
+    match decimals {
+        0 => 1_000_000_000,
+        1 => 100_000_000,
+        2 => 10_000_000,
+        3 => 1_000_000,
+        4 => 100_000,
+        5 => 10_000,
+        6 => 1_000,
+        7 => 100,
+        8 => 10,
+        9 => 1,
+        _ => 0,
     }
 }
 

@@ -3,6 +3,7 @@
 
 mod aperture;
 mod flash;
+mod flashes;
 mod force;
 mod function;
 mod grid;
@@ -14,6 +15,7 @@ mod reader;
 mod rules;
 mod scan;
 mod size;
+mod tables;
 
 pub use flash::{Flash, What, Why};
 pub use laws::shown_faults;

@@ -1,11 +1,9 @@
 //! A layer that is read in pieces.
 
-ghost use Rattle.std.specs.Prelude.{◌≡◌, ◌++◌, [], ℕ, List, Ok, Err, Some, true, OnOk, IfErr, IfOk, IfSome};
+ghost use Rattle.std.specs.Prelude.{◌≡◌, ◌++◌, [], ℕ, List, Ok, Err, Some, None, true, IsOk, OnOk, IfErr, IfOk, IfSome};
 ghost use Rattle.grid_units.specs.Results.{Answers, Tells};
-ghost use Rattle.layer_image.specs.Flashes.{is_other, others_in};
 
-use crate::flash::{Flash, What};
-use crate::layer::{Layer, layer_of, pads_of};
+use crate::layer::{Layer, layer_of};
 use crate::scan::Scan;
 use gerber_rows::Command;
 use gerber_text::{Placed, WordReader};
@@ -38,7 +36,7 @@ impl Core {
         Core {
             alloc,
             words: WordReader::new(alloc),
-            scan: Scan::new(alloc),
+            scan: Scan::new(alloc, whole),
             kept: Vec::new(alloc),
             whole,
             failed: None,
@@ -94,10 +92,23 @@ impl Core {
         push_all(&mut self.kept, commands)
     }
 
-    /// What was met and what was kept, if the text has ended.
-    fn end(self) -> Result<(Scan, Vec<Placed<Command>>), Fail>
-        ensures { (text : List ℕ) → CoreStands self text → CoreEnds text self.whole result }
+    /// What the reader has failed with, if it has.
+    fn outcome(&self) -> Result<(), Fail>
+        ensures sound { self.now.failed ≡ None → IsOk result }
+        ensures failed { IfSome self.now.failed (λ e. result ≡ Err e) }
     {
+        match self.failed {
+            Some(fail) => Err(fail),
+            None => Ok(()),
+        }
+    }
+
+    /// What was met and what was kept, if the text has ended. A reader that has failed gives its failure again.
+    fn end(self) -> Result<(Scan, Vec<Placed<Command>>), Fail>
+        ensures exact { (text : List ℕ) → CoreStands self text → CoreEnds text self.whole result }
+        ensures failed { IfSome self.failed (λ e. result ≡ Err e) }
+    {
+        self.outcome()?;
         self.words.finish()?;
         Ok((self.scan, self.kept))
     }
@@ -162,32 +173,12 @@ impl LayerReader {
         ensures exact { (text : List ℕ) → LayerStandsAfter self text → Answers (λ layer. layer) (λ answer. ReadsLayer text answer) result }
         ensures failed { IfSome (layer_failure self) (λ e. result ≡ Err e) }
     {
-        if let Some(fail) = self.core.failed {
-            return Err(fail);
-        }
-        let alloc = self.core.alloc;
         let (scan, commands) = self.core.end()?;
         let Scan {
             judge,
             file_function,
         } = scan;
-        Ok(layer_of(alloc, commands, judge.into_flashes(), file_function)?)
-    }
-}
-
-/// How many of the flashes are no pads.
-fn others_in(flashes: &[Flash]) -> usize
-    ensures { result ≡ others_in flashes.now }
-{
-    flashes.iter().filter(|flash| is_other(&flash.what)).count()
-}
-
-fn is_other(what: &What) -> bool
-    ensures { result ≡ is_other what.now }
-{
-    match what {
-        What::Pad(_) => false,
-        What::Other(_) => true,
+        Ok(layer_of(commands, judge.into_flashes(), file_function))
     }
 }
 
@@ -232,21 +223,15 @@ impl SumReader {
         ensures exact { (text : List ℕ) → SumStandsAfter self text → Answers sum_view (ReadsSum text) result }
         ensures failed { IfSome (sum_failure self) (λ e. result ≡ Err e) }
     {
-        if let Some(fail) = self.core.failed {
-            return Err(fail);
-        }
-        let alloc = self.core.alloc;
         let (scan, _) = self.core.end()?;
         let Scan {
             judge,
             file_function,
         } = scan;
         let flashes = judge.into_flashes();
-        let pads = pads_of(alloc, &flashes)?;
-        let other = others_in(&flashes);
         Ok(LayerSum {
-            pads,
-            other,
+            pads: flashes.pads,
+            other: flashes.others as usize,
             file_function,
         })
     }

@@ -7,6 +7,7 @@ ghost use Rattle.gerber_rows.specs.declared.command.Command.TheVariants as comma
 ghost use Rattle.layer_image.specs.Lookback.{aperture_in};
 ghost use Rattle.layer_image.specs.Flashes.{is_flash, copies_at};
 ghost use Rattle.layer_image.specs.Rules.{applies, later_rules, first_broken, differs_in_unit, differs_in_format, lacks_macro, needs_aperture, flashes_too_far, is_far_in, is_far_pad, is_long_by, repeats_badly, is_bad_count, is_not_positive, may_stand_in_region};
+ghost use Rattle.layer_image.specs.Keeping.{flash_count};
 ghost use Rattle.layer_image.specs.Knows.{told};
 
 use crate::aperture::is_badly_sized;
@@ -22,7 +23,7 @@ impl Judge {
     /// The first rule that a command breaks.
     #[tactic(auto, unfolding(crate::specs::Rules::first_broken))]
     pub(crate) fn broken_rule(&self, command: &Command) -> Option<Reason>
-        ensures { result ≡ first_broken (told self.now) (length self.now.flashes.items) command.now }
+        ensures { result ≡ first_broken (told self.now) (flash_count self.now.flashes) command.now }
     {
         if self.in_region && !may_stand_in_region(command) {
             return Some(Reason::InRegion);
@@ -34,8 +35,8 @@ impl Judge {
                 .differs_in_format(*format)
                 .then_some(Reason::FormatConflict),
             Command::Define { number, template } => self.definition_rule(*number, template),
-            Command::Macro(name, _) => self.macros.contains(name).then_some(Reason::Redefined),
-            Command::Select(number) => (!self.apertures.contains_key(number)).then_some(
+            Command::Macro(name, _) => self.macros.has(name).then_some(Reason::Redefined),
+            Command::Select(number) => (!self.apertures.has(*number)).then_some(
                 Reason::UnknownAperture,
             ),
             Command::Operate { action, x, y, i, j } => self.operation_rule(*action, *x, *y, *i, *j),
@@ -74,7 +75,7 @@ impl Judge {
     }
 
     fn finish_rule(&self) -> Option<Reason>
-        ensures { result ≡ find (applies (told self.now) (length self.now.flashes.items) command.Finish) later_rules }
+        ensures { result ≡ find (applies (told self.now) (flash_count self.now.flashes) command.Finish) later_rules }
     {
         if self.format.is_none() {
             Some(Reason::NoFormat)
@@ -86,9 +87,9 @@ impl Judge {
     }
 
     fn definition_rule(&self, number: u32, template: &Template) -> Option<Reason>
-        ensures { result ≡ find (applies (told self.now) (length self.now.flashes.items) (command.Define number template.now)) later_rules }
+        ensures { result ≡ find (applies (told self.now) (flash_count self.now.flashes) (command.Define number template.now)) later_rules }
     {
-        if self.apertures.contains_key(&number) {
+        if self.apertures.has(number) {
             Some(Reason::Redefined)
         } else if self.lacks_macro(template) {
             Some(Reason::UnknownMacro)
@@ -103,7 +104,7 @@ impl Judge {
         ensures { result ≡ lacks_macro (told self.now) template.now }
     {
         match template {
-            Template::Named(name, _) => !self.macros.contains(name),
+            Template::Named(name, _) => !self.macros.has(name),
             Template::Standard(_, _) => false,
         }
     }
@@ -116,7 +117,7 @@ impl Judge {
         i: Option<i64>,
         j: Option<i64>,
     ) -> Option<Reason>
-        ensures { result ≡ find (applies (told self.now) (length self.now.flashes.items) (command.Operate action x y i j)) later_rules }
+        ensures { result ≡ find (applies (told self.now) (flash_count self.now.flashes) (command.Operate action x y i j)) later_rules }
     {
         let Some(format) = self.format else {
             return Some(Reason::NoFormat);
@@ -178,10 +179,9 @@ impl Judge {
     }
 
     fn flashes_too_many(&self, action: Action, x: Option<i64>, y: Option<i64>) -> bool
-        ensures { result ≡ (is_flash action && nat_lt 4194304 (length self.now.flashes.items + length (copies_at (told self.now) x y))) }
+        ensures { result ≡ (is_flash action && nat_lt 4194304 (flash_count self.now.flashes + length (copies_at (told self.now) x y))) }
     {
-        is_flash(action)
-            && self.flashes.len() as u128 + u128::from(self.grid(x, y).count()) > MAX_FLASHES
+        is_flash(action) && self.flashes.count() + u128::from(self.grid(x, y).count()) > MAX_FLASHES
     }
 }
 

@@ -1,6 +1,6 @@
 //! A scan over commands: each is judged and then let go, and what a layer says is kept.
 
-ghost use Rattle.std.specs.Prelude.{◌≡◌, ◌++◌, ◌∷◌, [], List, OnOk, IfErr};
+ghost use Rattle.std.specs.Prelude.{◌≡◌, ◌++◌, ◌∷◌, [], Bool, List, OnOk, IfErr};
 ghost use Rattle.grid_units.specs.Results.{Tells};
 ghost use Rattle.gerber_rows.specs.declared.command.Command.{Command};
 ghost use Rattle.gerber_text.specs.Reading.{Entries};
@@ -25,11 +25,11 @@ impl Scan {
     ghost use Rattle.layer_image.specs.Standing.{Met, Meets, Scanned};
 
     /// A scan that has met no command.
-    pub(crate) fn new(alloc: Global) -> Self
-        ensures { Scanned result [] }
+    pub(crate) fn new(alloc: Global, whole: bool) -> Self
+        ensures { Scanned result whole [] }
     {
         Scan {
-            judge: Judge::new(alloc),
+            judge: Judge::new(alloc, whole),
             file_function: None,
         }
     }
@@ -40,8 +40,8 @@ impl Scan {
     ///
     /// The fault of the first command that breaks a rule; `Memory` where a growth was refused.
     pub(crate) fn scan(&mut self, alloc: Global, entries: &[Placed<Command>]) -> Result<(), Fail>
-        ensures ok { (before : Entries) → Scanned self.old before → OnOk result (Scanned self.new (before ++ entries.now)) }
-        ensures refused { (before : Entries) → Scanned self.old before → IfErr result (Tells (IsFirstFault (before ++ entries.now))) }
+        ensures ok { (whole : Bool) (before : Entries) → Scanned self.old whole before → OnOk result (Scanned self.new whole (before ++ entries.now)) }
+        ensures refused { (whole : Bool) (before : Entries) → Scanned self.old whole before → IfErr result (Tells (IsFirstFault (before ++ entries.now))) }
     {
         for entry in entries {
             match self.meet(alloc, &entry.what) {
@@ -54,7 +54,7 @@ impl Scan {
 
     /// Meets one more command.
     fn meet(&mut self, alloc: Global, command: &Command) -> Result<(), Stop>
-        ensures { (before : List Command) → Met self.old before → Meets before command.now self.new result }
+        ensures { (whole : Bool) (before : List Command) → Met self.old whole before → Meets whole before command.now self.new result }
     {
         self.judge.step(command)?;
         self.name(alloc, command)?;

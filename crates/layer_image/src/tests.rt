@@ -1,6 +1,6 @@
 //! Layers that are read, and why others are refused.
 
-use crate::{Flash, What, Why, read_layer};
+use crate::{Flash, Layer, LayerReader, LayerSum, SumReader, What, Why, read_layer};
 use grid_units::{Fail, Fault, Point, Reason};
 use pad_shapes::{Disc, Obround, Pad, Rect};
 use std::alloc::{AllocError, Global};
@@ -511,5 +511,171 @@ fn file_functions(rt: HostRuntime) -> Result<(), TestFail> {
         )?;
         assert_eq!(rt; layer.file_function(), expected);
     }
+    Ok(())
+}
+
+/// The first layer with the selection of an aperture that is not defined, and a later item of a kind that is refused.
+fn two_faults(alloc: Global) -> Result<Vec<u8>, AllocError> {
+    joined(
+        alloc,
+        &[
+            LAYER[0],
+            LAYER[1],
+            LAYER[2],
+            b"D11*\n",
+            b"%LPC*%\n",
+            LAYER[4],
+            LAYER[5],
+        ],
+    )
+}
+
+/// The first layer with a comment of a million bytes before its third line.
+fn commented(alloc: Global) -> Result<Vec<u8>, AllocError> {
+    let mut line = Vec::from_slice(alloc, b"G04")?;
+    for _ in 0..1_000_000 {
+        line.push(b'a')?;
+    }
+    line.extend_from_slice(b"*\n")?;
+    line.extend_from_slice(LAYER[2])?;
+    with(alloc, 3, &line)
+}
+
+/// Feeds a text in pieces of one byte.
+fn feed_bytes(reader: &mut LayerReader, text: &[u8]) -> Result<(), Fail> {
+    for i in 0..text.len() {
+        reader.feed(&text[i..i + 1])?;
+    }
+    Ok(())
+}
+
+/// Feeds a text in pieces of one byte, and gives the number of the piece that was refused first.
+fn refused_at(reader: &mut LayerReader, text: &[u8]) -> Option<usize> {
+    for i in 0..text.len() {
+        if reader.feed(&text[i..i + 1]).is_err() {
+            return Some(i);
+        }
+    }
+    None
+}
+
+/// Whether a reader refuses each byte of a text with this failure.
+fn refuses_each(reader: &mut LayerReader, text: &[u8], fail: Option<Fail>) -> bool {
+    for i in 0..text.len() {
+        if reader.feed(&text[i..i + 1]).err() != fail {
+            return false;
+        }
+    }
+    true
+}
+
+/// Whether a layer has so many commands, the one flash of the first layer, its pad and no file function.
+fn is_first_layer(layer: &Layer, commands: usize) -> Result<bool, TestFail> {
+    Ok(
+        layer.commands().len() == commands
+            && layer.flashes() == [disc(0, 0, 325_000_000)?].as_slice()
+            && layer.pads().len() == 1
+            && layer.file_function().is_none(),
+    )
+}
+
+#[test]
+fn a_layer_in_two_pieces(rt: HostRuntime) -> Result<(), TestFail> {
+    let alloc = rt.alloc();
+    let text = joined(alloc, &LAYER)?;
+    assert_eq!(rt; text.len(), 56);
+    let mut reader = LayerReader::new(alloc);
+    reader.feed(front(&text, 30)).map_err(|_| "refused")?;
+    reader
+        .feed(&text[text.len().min(30)..])
+        .map_err(|_| "refused")?;
+    let layer = reader.finish().map_err(|_| "refused")?;
+    assert!(rt; is_first_layer(&layer, 6)?);
+    Ok(())
+}
+
+#[test]
+fn a_layer_byte_by_byte(rt: HostRuntime) -> Result<(), TestFail> {
+    let alloc = rt.alloc();
+    let mut reader = LayerReader::new(alloc);
+    feed_bytes(&mut reader, &joined(alloc, &LAYER)?).map_err(|_| "refused")?;
+    let layer = reader.finish().map_err(|_| "refused")?;
+    assert!(rt; is_first_layer(&layer, 6)?);
+    assert_eq!(rt; layer.into_pads().len(), 1);
+    Ok(())
+}
+
+#[test]
+fn a_long_comment_byte_by_byte(rt: HostRuntime) -> Result<(), TestFail> {
+    let alloc = rt.alloc();
+    let mut reader = LayerReader::new(alloc);
+    feed_bytes(&mut reader, &commented(alloc)?).map_err(|_| "refused")?;
+    let layer = reader.finish().map_err(|_| "refused")?;
+    assert!(rt; is_first_layer(&layer, 7)?);
+    Ok(())
+}
+
+#[test]
+fn an_unknown_aperture_and_what_follows_it(rt: HostRuntime) -> Result<(), TestFail> {
+    let alloc = rt.alloc();
+    let text = with(alloc, 4, b"D11*\n")?;
+    let unknown = refused(4, 37, Reason::UnknownAperture);
+    let mut reader = LayerReader::new(alloc);
+    assert_eq!(rt; reader.feed(front(&text, 42)).err(), unknown);
+    assert!(rt; refuses_each(&mut reader, &text, unknown));
+    assert_eq!(rt; reader.finish().map(|_| ()).err(), unknown);
+    Ok(())
+}
+
+#[test]
+fn a_fault_at_the_piece_that_ends_its_item(rt: HostRuntime) -> Result<(), TestFail> {
+    let alloc = rt.alloc();
+    let text = two_faults(alloc)?;
+    let unknown = refused(4, 37, Reason::UnknownAperture);
+    let mut reader = LayerReader::new(alloc);
+    assert_eq!(rt; refused_at(&mut reader, &text), Some(40));
+    assert_eq!(rt; reader.feed(b"").err(), unknown);
+    assert!(rt; refuses_each(&mut reader, &text, unknown));
+    assert_eq!(rt; reader.finish().map(|_| ()).err(), unknown);
+    Ok(())
+}
+
+#[test]
+fn an_early_rule_before_a_late_item_in_one_piece(rt: HostRuntime) -> Result<(), TestFail> {
+    let alloc = rt.alloc();
+    let text = two_faults(alloc)?;
+    let unknown = refused(4, 37, Reason::UnknownAperture);
+    let mut reader = LayerReader::new(alloc);
+    assert_eq!(rt; reader.feed(&text).err(), unknown);
+    assert_eq!(rt; reader.feed(b"M02*").err(), unknown);
+    let mut sums = SumReader::new(alloc);
+    assert_eq!(rt; sums.feed(&text).err(), unknown);
+    assert_eq!(rt; sums.feed(b"M02*").err(), unknown);
+    assert_eq!(rt; sums.finish().map(|_| ()).err(), unknown);
+    Ok(())
+}
+
+/// The sum of a text that comes in pieces of one byte.
+fn sum_of(alloc: Global, text: &[u8]) -> Result<LayerSum, Fail> {
+    let mut reader = SumReader::new(alloc);
+    for i in 0..text.len() {
+        reader.feed(&text[i..i + 1])?;
+    }
+    reader.finish()
+}
+
+#[test]
+fn the_sum_of_a_layer_in_pieces(rt: HostRuntime) -> Result<(), TestFail> {
+    let alloc = rt.alloc();
+    let sum = sum_of(alloc, &joined(alloc, &LAYER)?).map_err(|_| "refused")?;
+    assert_eq!(rt; sum.pads.len(), 1);
+    assert_eq!(rt; sum.other, 0);
+    assert!(rt; sum.file_function.is_none());
+    let turned =
+        b"%TF.FileFunction,Copper,L1,Top*%\n%ADD11R,1X2*%\nX9Y9D03*\nD11*\n%SRX2Y3I5J1*%\n%LR45*%\nX0Y0D03*\n";
+    let sum = sum_of(alloc, &with(alloc, 5, turned)?).map_err(|_| "refused")?;
+    assert_eq!(rt; sum.pads.len(), 1);
+    assert_eq!(rt; sum.other, 6);
+    assert!(rt; sum.file_function.is_some());
     Ok(())
 }

@@ -1,15 +1,21 @@
 -- Lists that grow by one file or one hole at a time.
-use Rattle.std.proofs.Common.{◌≡◌, ◌<◌, ◌≤◌, ◌+◌, ◌++◌, ℕ, zero, suc, List, [], ◌∷◌, Ok, length, map, take, get_or, arith, refl, sym, ap, ◌∙◌, Bool}
+use Rattle.std.proofs.Common.{◌≡◌, ◌<◌, ◌≤◌, ◌+◌, ◌++◌, ℕ, zero, suc, List, [], ◌∷◌, Ok, Err, Result, length, map, take, get_or, arith, refl, sym, ap, subst, ◌∙◌, Bool, true, false, Option}
 use Rattle.std.specs.List.{flat_map, enumerate_from}
 use Rattle.std.proofs.lemmas.List.{append-nil, take_more, map-append, length-map}
 use Rattle.grid_units.specs.Holes.{GridHole, GridRules}
+use Rattle.grid_units.specs.Results.{Answers}
+use Rattle.grid_units.specs.declared.fault.Fault.{Fault}
+use Rattle.grid_units.specs.declared.fault.Fail.{Fail}
+use Rattle.grid_units.specs.declared.fault.Fail.TheVariants as fails
 use Rattle.ring_rules.proofs.Listing.{flat_listed_more}
 use Rattle.package_check.specs.declared.File.{File}
 use Rattle.package_check.specs.declared.Numbered.{Numbered}
-use Rattle.manifest.specs.declared.Role.TheVariants as role
+use Rattle.std.specs.Prelude.{Option}
+use Rattle.grid_units.specs.Spans.{LayerSpan}
+use Rattle.manifest.specs.declared.Role.{Role}
 use Rattle.package_check.specs.declared.contents.Content.{Content}
 use Rattle.package_check.specs.Reports.{Account}
-use Rattle.package_check.specs.Package.{Source, Reads, AreRead, IsReport, source_of, file_holes, sum_of}
+use Rattle.package_check.specs.Package.{Source, Reads, ReadsUnless, is_bad_span, nameless, AreRead, IsReport, layer_count, source_of, sources_of, file_holes, sum_of}
 
 -- what one more element gives
 pub placed_more : {X Y : Type 0} (f : ℕ × X → List Y) (out ys : List Y) (xs : List X) (i : ℕ) (x : X) → i < length xs → x ≡ get_or xs i x → f (i, x) ≡ ys
@@ -34,16 +40,16 @@ length_take zero xs h = refl
 length_take (suc i) [] h = absurd (omega arith)
 length_take (suc i) (x ∷ xs) h = ap suc (length_take i xs (omega arith))
 
-pub holes_more : (file : ℕ) (plated : Bool) (xs : List GridHole) (i : ℕ) (x : GridHole) → i < length xs → x ≡ get_or xs i x
-    → file_holes file plated (take (i + 1) xs) ≡ file_holes file plated (take i xs) ++ record { file = file; number = i + 1; drilled = record { hole = x; plated = plated } } ∷ []
-holes_more file plated xs i x lt is =
-    let f = λ (hole : ℕ × GridHole). let n : Numbered = record { file = file; number = hole.0; drilled = record { hole = hole.1; plated = plated } } in n in
+pub holes_more : (file : ℕ) (plated : Bool) (span : Option LayerSpan) (xs : List GridHole) (i : ℕ) (x : GridHole) → i < length xs → x ≡ get_or xs i x
+    → file_holes file plated span (take (i + 1) xs) ≡ file_holes file plated span (take i xs) ++ record { file = file; number = i + 1; drilled = record { hole = x; plated = plated; span = span } } ∷ []
+holes_more file plated span xs i x lt is =
+    let f = λ (hole : ℕ × GridHole). let n : Numbered = record { file = file; number = hole.0; drilled = record { hole = hole.1; plated = plated; span = span } } in n in
     let e : 1 + length (take i xs) ≡ i + 1 = omega (arith, length_take i xs (omega (arith, lt))) in
-    ap (file_holes file plated) (take_more xs i x lt)
-    ∙ (ap (λ h. file_holes file plated (take i xs ++ h ∷ [])) (sym is)
+    ap (file_holes file plated span) (take_more xs i x lt)
+    ∙ (ap (λ h. file_holes file plated span (take i xs ++ h ∷ [])) (sym is)
     ∙ (ap (map f) (numbered_push 1 (take i xs) x)
     ∙ (map-append f (enumerate_from 1 (take i xs)) ((1 + length (take i xs), x) ∷ [])
-    ∙ ap (λ k. file_holes file plated (take i xs) ++ f (k, x) ∷ []) e)))
+    ∙ ap (λ k. file_holes file plated span (take i xs) ++ f (k, x) ∷ []) e)))
 
 pub read_more : (sources : List Source) (contents : List Content) (source : Source) (one : Content) → AreRead sources contents → Reads source (Ok one)
     → AreRead (sources ++ source ∷ []) (contents ++ one ∷ [])
@@ -53,26 +59,24 @@ read_more (s ∷ ss) [] source one h r = absurd h
 read_more (s ∷ ss) (c ∷ cs) source one h r = (h.0, read_more ss cs source one h.1 r)
 
 -- the files at hand, by their places
-pub source_at : (xs : List File) (i : ℕ) (d : File) (e : Source) → i < length xs → source_of (get_or xs i d) ≡ get_or (map source_of xs) i e
-source_at [] i d e lt = absurd (omega arith)
-source_at (x ∷ xs) zero d e lt = refl
-source_at (x ∷ xs) (suc i) d e lt = source_at xs i d e (omega arith)
+module _ {X : Type 0} (seen : X → Source) where
+  source_at : (xs : List X) (i : ℕ) (d : X) (e : Source) → i < length xs → seen (get_or xs i d) ≡ get_or (map seen xs) i e
+  source_at [] i d e lt = absurd (omega arith)
+  source_at (x ∷ xs) zero d e lt = refl
+  source_at (x ∷ xs) (suc i) d e lt = source_at xs i d e (omega arith)
 
-pub same_length : (xs : List File) → length (map source_of xs) ≡ length xs
-same_length [] = refl
-same_length (x ∷ xs) = ap suc (same_length xs)
+  pub same_length : (xs : List X) → length (map seen xs) ≡ length xs
+  same_length [] = refl
+  same_length (x ∷ xs) = ap suc (same_length xs)
 
--- what a read past the end of a list of files would give, as the check writes it
-abbrev pub nothing : File
-nothing = record { role = role.Copper; name = record { ref_ptr = (0, 0); now = [] }; bytes = record { ref_ptr = (0, 0); now = [] } }
-
-pub one_more_read : (xs : List File) (i : ℕ) (contents after : List Content) (one : Content) → i < length xs → AreRead (take i (map source_of xs)) contents
-    → Reads (source_of (get_or xs i nothing)) (Ok one) → after ≡ contents ++ one ∷ [] → AreRead (take (i + 1) (map source_of xs)) after
-one_more_read xs i contents after one lt was reads is =
-    let inside : i < length (map source_of xs) = omega (arith, same_length xs) in
-    let more = take_more (map source_of xs) i (source_of nothing) inside in
-    let here = source_at xs i nothing (source_of nothing) lt in
-    rw (is, more, ← here) (read_more (take i (map source_of xs)) contents (source_of (get_or xs i nothing)) one was reads)
+  pub one_more_read : (xs : List X) (i : ℕ) (contents after : List Content) (one : Content) (x : X) → x ≡ get_or xs i x → i < length xs → AreRead (take i (map seen xs)) contents
+      → Reads (seen x) (Ok one) → after ≡ contents ++ one ∷ [] → AreRead (take (i + 1) (map seen xs)) after
+  one_more_read xs i contents after one x at lt was reads is =
+      let inside : i < length (map seen xs) = omega (arith, same_length xs) in
+      let more = take_more (map seen xs) i (seen x) inside in
+      let here = source_at xs i x (seen x) lt in
+      let there : Reads (seen (get_or xs i x)) (Ok one) = subst (λ (f : X). Reads (seen f) (Ok one)) at reads in
+      rw (is, more, ← here) (read_more (take i (map seen xs)) contents (seen (get_or xs i x)) one was there)
 
 read_length : (sources : List Source) (contents : List Content) → AreRead sources contents → length sources ≡ length contents
 read_length [] [] h = refl
@@ -81,6 +85,21 @@ read_length (s ∷ ss) [] h = absurd h
 read_length (s ∷ ss) (c ∷ cs) h = ap suc (read_length ss cs h.1)
 
 -- a report has a sum for each file
-pub sums_length : (files : List File) (rules : GridRules) (report : Account) → IsReport (map source_of files) rules report → length files ≡ length report.files
+pub sums_length : (files : List File) (rules : GridRules) (report : Account) → IsReport (sources_of files) rules report → length files ≡ length report.files
 sums_length files rules report h =
-    sym (same_length files) ∙ read_length (map source_of files) h.contents h.read ∙ sym (length-map h.contents sum_of) ∙ ap (λ (r : Account). length r.files) (sym h.is)
+    sym (same_length (source_of (layer_count files)) files) ∙ read_length (sources_of files) h.contents h.read ∙ sym (length-map h.contents sum_of) ∙ ap (λ (r : Account). length r.files) (sym h.is)
+
+-- what one file says, the other says
+pub answers_alike : (s t : Source) (r : Result Content Fail) → ((answer : Result Content Fault) → Reads s answer → Reads t answer) → Answers {T = Content} (λ x. x) (Reads s) r → Answers {T = Content} (λ x. x) (Reads t) r
+answers_alike s t (Ok x) f h = f (Ok x) h
+answers_alike s t (Err fails.Memory) f h = tt
+answers_alike s t (Err (fails.Refused e)) f h = f (Err e) h
+
+-- what a file says does not depend on its name
+pub any_name : (q : Role) (name : List ℕ) (span : Option LayerSpan) (bytes : List ℕ) (n : ℕ) (answer : Result Content Fault) → Reads (nameless q span n bytes) answer
+    → Reads (record { role = q; name = name; span = span; bytes = bytes; layers = n }) answer
+any_name q name span bytes n answer h = by (is_bad_span q span n) h
+  where
+    by : (t : Bool) → ReadsUnless t (nameless q span n bytes) answer → ReadsUnless t (record { role = q; name = name; span = span; bytes = bytes; layers = n }) answer
+    by true k = k
+    by false k = k

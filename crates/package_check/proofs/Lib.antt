@@ -7,3 +7,5 @@ pub mod Once
 pub mod Answering
 pub mod Lining
 pub mod Rewritten
+pub mod Joining
+pub mod Straight

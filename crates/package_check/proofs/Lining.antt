@@ -43,6 +43,6 @@ pub lines_end : (files : List File) (sums : List FileSum) (i n : ℕ) (told befo
 lines_end files sums i n told before lt was = sym (was ∙ ap (λ t. before ++ t) (no_line files sums i n lt) ∙ append-nil before)
 
 -- the names of the files, as the sources have them
-pub same_names : (files : List File) → map (λ source. source.name) (map source_of files) ≡ names_of files
-same_names [] = refl
-same_names (f ∷ files) = ap (λ (t : List (List ℕ)). f.name.now ∷ t) (same_names files)
+pub same_names : (n : ℕ) (files : List File) → map (λ source. source.name) (map (source_of n) files) ≡ names_of files
+same_names n [] = refl
+same_names n (f ∷ files) = ap (λ (t : List (List ℕ)). f.name.now ∷ t) (same_names n files)

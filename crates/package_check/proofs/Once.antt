@@ -8,13 +8,15 @@ use Rattle.drill_text.specs.Reading as drills
 use Rattle.drill_text.specs.Texts.{IsDrillText}
 use Rattle.layer_image.specs.Layers as layers
 use Rattle.layer_image.specs.Layers.{LayerImage}
+use Rattle.std.specs.Prelude.{Option}
+use Rattle.grid_units.specs.Spans.{LayerSpan}
 use Rattle.manifest.specs.declared.Role.{Role}
 use Rattle.manifest.specs.declared.Role.TheVariants as role
 use Rattle.package_check.specs.declared.contents.Content.{Content}
 use Rattle.package_check.specs.declared.contents.Content.TheVariants as content
 use Rattle.package_check.specs.Images.{Image}
 use Rattle.package_check.specs.Readers.{ReadsLayer, ReadsDrill, seen_in}
-use Rattle.package_check.specs.Package.{Reads, ReadsCopper, ReadsHoles}
+use Rattle.package_check.specs.Package.{ReadsBytes, ReadsUnless, ReadsCopper, ReadsHoles, is_bad_span}
 use Rattle.package_check.specs.Alike.{OneReading}
 
 abbrev answered : {A : Type 0} → A → Result A Fault
@@ -57,11 +59,11 @@ module _ (layer_once : layers.OneReading)
 
   one_copper : (bytes : List ℕ) (a b : Result Content Fault) → ReadsCopper bytes a → ReadsCopper bytes b → a ≡ b
   one_copper bytes (Ok (content.Layer a)) (Ok (content.Layer b)) h k = ap (λ (i : Image). answered (content.Layer i)) (one_image bytes a b h.0 k.0)
-  one_copper bytes (Ok (content.Drill p d)) b h k = absurd h
-  one_copper bytes (Ok (content.Layer a)) (Ok (content.Drill p d)) h k = absurd k
+  one_copper bytes (Ok (content.Drill p v d)) b h k = absurd h
+  one_copper bytes (Ok (content.Layer a)) (Ok (content.Drill p v d)) h k = absurd k
   one_copper bytes (Ok (content.Layer a)) (Err g) h k = absurd (copper_or_not bytes a g h k)
   one_copper bytes (Err f) (Ok (content.Layer b)) h k = absurd (copper_or_not bytes b f k h)
-  one_copper bytes (Err f) (Ok (content.Drill p d)) h k = absurd k
+  one_copper bytes (Err f) (Ok (content.Drill p v d)) h k = absurd k
   one_copper bytes (Err f) (Err g) h k = ap refused (one_copper_fault bytes f g h k)
 
   one_drill : (bytes : List ℕ) (a b : List GridHole) → ReadsDrill bytes (Ok a) → ReadsDrill bytes (Ok b) → a ≡ b
@@ -70,20 +72,25 @@ module _ (layer_once : layers.OneReading)
   no_drill : (bytes : List ℕ) (a : List GridHole) (f : Fault) → ReadsDrill bytes (Ok a) → ReadsDrill bytes (Err f) → ⊥
   no_drill bytes a f h k = not_both (drill_once bytes (Ok h.0) (Err f) ((texts bytes h.0).1 h.1) k)
 
-  one_holes : (plated : Bool) (bytes : List ℕ) (a b : Result Content Fault) → ReadsHoles plated bytes a → ReadsHoles plated bytes b → a ≡ b
-  one_holes plated bytes (Ok (content.Drill p d)) (Ok (content.Drill q e)) h k =
-      ap (λ (t : Bool). answered (content.Drill t d)) (h.1 ∙ sym k.1) ∙ ap (λ (l : List GridHole). answered (content.Drill q l)) (one_drill bytes d e h.0 k.0)
-  one_holes plated bytes (Ok (content.Layer a)) b h k = absurd h
-  one_holes plated bytes (Ok (content.Drill p d)) (Ok (content.Layer b)) h k = absurd k
-  one_holes plated bytes (Ok (content.Drill p d)) (Err g) h k = absurd (no_drill bytes d g h.0 k)
-  one_holes plated bytes (Err f) (Ok (content.Drill q e)) h k = absurd (no_drill bytes e f k.0 h)
-  one_holes plated bytes (Err f) (Ok (content.Layer b)) h k = absurd k
-  one_holes plated bytes (Err f) (Err g) h k = ap refused (err_same (drill_once bytes (Err f) (Err g) h k))
+  one_holes : (plated : Bool) (span : Option LayerSpan) (bytes : List ℕ) (a b : Result Content Fault) → ReadsHoles plated span bytes a → ReadsHoles plated span bytes b → a ≡ b
+  one_holes plated span bytes (Ok (content.Drill p v d)) (Ok (content.Drill q w e)) h k =
+      ap (λ (t : Bool). answered (content.Drill t v d)) (h.1 ∙ sym k.1)
+      ∙ (ap (λ (s : Option LayerSpan). answered (content.Drill q s d)) (h.2 ∙ sym k.2) ∙ ap (λ (l : List GridHole). answered (content.Drill q w l)) (one_drill bytes d e h.0 k.0))
+  one_holes plated span bytes (Ok (content.Layer a)) b h k = absurd h
+  one_holes plated span bytes (Ok (content.Drill p v d)) (Ok (content.Layer b)) h k = absurd k
+  one_holes plated span bytes (Ok (content.Drill p v d)) (Err g) h k = absurd (no_drill bytes d g h.0 k)
+  one_holes plated span bytes (Err f) (Ok (content.Drill q w e)) h k = absurd (no_drill bytes e f k.0 h)
+  one_holes plated span bytes (Err f) (Ok (content.Layer b)) h k = absurd k
+  one_holes plated span bytes (Err f) (Err g) h k = ap refused (err_same (drill_once bytes (Err f) (Err g) h k))
 
-  by_role : (r : Role) (name bytes : List ℕ) (a b : Result Content Fault) → Reads (record { role = r; name = name; bytes = bytes }) a → Reads (record { role = r; name = name; bytes = bytes }) b → a ≡ b
-  by_role role.Copper name bytes a b h k = one_copper bytes a b h k
-  by_role role.Plated name bytes a b h k = one_holes true bytes a b h k
-  by_role role.Unplated name bytes a b h k = one_holes false bytes a b h k
+  by_role : (r : Role) (name : List ℕ) (span : Option LayerSpan) (bytes : List ℕ) (n : ℕ) (a b : Result Content Fault) → ReadsBytes (record { role = r; name = name; span = span; bytes = bytes; layers = n }) a → ReadsBytes (record { role = r; name = name; span = span; bytes = bytes; layers = n }) b → a ≡ b
+  by_role role.Copper name span bytes n a b h k = one_copper bytes a b h k
+  by_role role.Plated name span bytes n a b h k = one_holes true span bytes a b h k
+  by_role role.Unplated name span bytes n a b h k = one_holes false span bytes a b h k
 
   pub one_reading : OneReading
-  one_reading source a b h k = by_role source.role source.name source.bytes a b h k
+  one_reading source a b h k = by (is_bad_span source.role source.span source.layers) h k
+    where
+      by : (t : Bool) → ReadsUnless t source a → ReadsUnless t source b → a ≡ b
+      by true h k = h ∙ sym k
+      by false h k = by_role source.role source.name source.span source.bytes source.layers a b h k

@@ -1,6 +1,7 @@
 -- Files that are written anew say the same.
-use Rattle.std.proofs.Common.{◌≡◌, ◌↔◌, ℕ, Bool, true, false, List, [], ◌∷◌, Result, Ok, Err, sym, ap, subst, ◌∙◌, inl, inr}
+use Rattle.std.proofs.Common.{◌≡◌, ◌↔◌, ℕ, Bool, true, false, List, [], ◌∷◌, Option, Result, Ok, Err, sym, ap, subst, ◌∙◌, inl, inr}
 use Rattle.grid_units.specs.Holes.{GridHole}
+use Rattle.grid_units.specs.Spans.{LayerSpan}
 use Rattle.grid_units.specs.declared.fault.Fault.{Fault}
 use Rattle.drill_lines.specs.declared.command.DrillCommand.{DrillCommand}
 use Rattle.drill_text.specs.Holes.{holes_of}
@@ -16,9 +17,9 @@ use Rattle.package_check.specs.declared.contents.Content.{Content}
 use Rattle.package_check.specs.declared.contents.Content.TheVariants as content
 use Rattle.package_check.specs.Images.{Image}
 use Rattle.package_check.specs.Readers.{ReadsLayer, ReadsDrill, seen_in}
-use Rattle.package_check.specs.Package.{Source, ReadsCopper, ReadsHoles}
+use Rattle.package_check.specs.Package.{Source, ReadsBytes, ReadsUnless, ReadsCopper, ReadsHoles, is_bad_span}
 use Rattle.package_check.specs.Alike.{SayTheSame, AllSayTheSame, AnswersTheSame}
-use Rattle.package_check.specs.Rewriting.{kind_of, IsRewritten, AreRewritten, RewritingChangesNothing}
+use Rattle.package_check.specs.Rewriting.{kind_of, with_bytes, IsRewritten, AreRewritten, RewritingChangesNothing}
 
 module _ (layer_once : layers.OneReading) (equal : EqualCommands)
     (drill_once : (text : List ℕ) (a b : Result (List DrillCommand) Fault) → drills.Reads text a → drills.Reads text b → a ≡ b)
@@ -43,7 +44,7 @@ module _ (layer_once : layers.OneReading) (equal : EqualCommands)
 
   copper_same : (s t : List ℕ) → SpellAlike kind.Layer s t → (answer : Result Content Fault) → ReadsCopper s answer → ReadsCopper t answer
   copper_same s t h (Ok (content.Layer image)) k = (layer_same s t h image k.0, k.1)
-  copper_same s t h (Ok (content.Drill plated holes)) k = absurd k
+  copper_same s t h (Ok (content.Drill plated span holes)) k = absurd k
   copper_same s t h (Err f) (inl k) = absurd (no_fault s h.0 f h.2 k)
   copper_same s t h (Err f) (inr k) = inr (k.0, layer_same s t h k.0 k.1, k.2, k.3)
 
@@ -59,19 +60,29 @@ module _ (layer_once : layers.OneReading) (equal : EqualCommands)
   drill_same : (s t : List ℕ) → SpellAlike kind.Drill s t → (holes : List GridHole) → ReadsDrill s (Ok holes) → ReadsDrill t (Ok holes)
   drill_same s t h holes k = (h.0, h.2, k.2 ∙ ap holes_of (same_commands s k.0 h.0 k.1 h.1))
 
-  holes_same : (plated : Bool) (s t : List ℕ) → SpellAlike kind.Drill s t → (answer : Result Content Fault) → ReadsHoles plated s answer → ReadsHoles plated t answer
-  holes_same plated s t h (Ok (content.Layer image)) k = absurd k
-  holes_same plated s t h (Ok (content.Drill has holes)) k = (drill_same s t h holes k.0, k.1)
-  holes_same plated s t h (Err f) k = absurd (no_drill_fault s h.0 f h.1 k)
+  holes_same : (plated : Bool) (span : Option LayerSpan) (s t : List ℕ) → SpellAlike kind.Drill s t → (answer : Result Content Fault) → ReadsHoles plated span s answer → ReadsHoles plated span t answer
+  holes_same plated span s t h (Ok (content.Layer image)) k = absurd k
+  holes_same plated span s t h (Ok (content.Drill has through holes)) k = (drill_same s t h holes k.0, k.1, k.2)
+  holes_same plated span s t h (Err f) k = absurd (no_drill_fault s h.0 f h.1 k)
 
-  by_role : (r : Role) (name s t : List ℕ) → SpellAlike (kind_of r) s t → SayTheSame (record { role = r; name = name; bytes = s }) (record { role = r; name = name; bytes = t })
-  by_role role.Copper name s t h answer = (copper_same s t h answer, copper_same t s (other_kind s t h) answer)
-  by_role role.Plated name s t h answer = (holes_same true s t h answer, holes_same true t s (other_drill s t h) answer)
-  by_role role.Unplated name s t h answer = (holes_same false s t h answer, holes_same false t s (other_drill s t h) answer)
+  same_bytes : (r : Role) (name : List ℕ) (span : Option LayerSpan) (n : ℕ) (s t : List ℕ) → SpellAlike (kind_of r) s t → (answer : Result Content Fault)
+      → ReadsBytes (record { role = r; name = name; span = span; bytes = s; layers = n }) answer ↔ ReadsBytes (record { role = r; name = name; span = span; bytes = t; layers = n }) answer
+  same_bytes role.Copper name span n s t h answer = (copper_same s t h answer, copper_same t s (other_kind s t h) answer)
+  same_bytes role.Plated name span n s t h answer = (holes_same true span s t h answer, holes_same true span t s (other_drill s t h) answer)
+  same_bytes role.Unplated name span n s t h answer = (holes_same false span s t h answer, holes_same false span t s (other_drill s t h) answer)
+
+  -- a span that is refused is refused on both sides
+  same_text : (x : Source) (text : List ℕ) → SpellAlike (kind_of x.role) x.bytes text → SayTheSame x (with_bytes x text)
+  same_text x text h answer = by (is_bad_span x.role x.span x.layers) (same_bytes x.role x.name x.span x.layers x.bytes text h answer)
+    where
+      by : (t : Bool) → (ReadsBytes x answer ↔ ReadsBytes (with_bytes x text) answer)
+          → ReadsUnless t x answer ↔ ReadsUnless t (with_bytes x text) answer
+      by true same = (λ h. h, λ h. h)
+      by false same = same
 
   one_file : (x y : Source) → IsRewritten x y → SayTheSame x y
   one_file x y (inl e) = subst (λ (z : Source). SayTheSame x z) (sym e) (λ answer. (λ h. h, λ h. h))
-  one_file x y (inr h) = subst (λ (z : Source). SayTheSame x z) (sym h.2) (by_role x.role x.name x.bytes h.0 (keeps (kind_of x.role) x.bytes h.0 h.1))
+  one_file x y (inr h) = subst (λ (z : Source). SayTheSame x z) (sym h.2) (same_text x h.0 (keeps (kind_of x.role) x.bytes h.0 h.1))
 
   all_files : (xs ys : List Source) → AreRewritten xs ys → AllSayTheSame xs ys
   all_files [] [] h = tt

@@ -15,7 +15,7 @@ fault_of d (Ok c) = d
 fault_of d (Err f) = f
 
 module _ (one : OneReading) where
-  same_contents : (sources : List Source) (cs ds : List Content) → AreRead sources cs → AreRead sources ds → cs ≡ ds
+  pub same_contents : (sources : List Source) (cs ds : List Content) → AreRead sources cs → AreRead sources ds → cs ≡ ds
   same_contents [] [] [] h k = refl
   same_contents [] [] (d ∷ ds) h k = absurd k
   same_contents [] (c ∷ cs) ds h k = absurd h

@@ -6,3 +6,4 @@ pub mod Reports
 pub mod Soundness
 pub mod Texts
 pub mod Rewriting
+pub mod Pieces

@@ -1,11 +1,12 @@
 -- The answer to a package: its report, or the first file that is refused.
-use Rattle.std.specs.Prelude.{◌≡◌, ◌⊎◌, ◌<◌, ◌++◌, ℕ, Bool, true, false, not, List, [], ◌∷◌, length, map, take, get_or, count_by, Result, Ok, Err, ⊤}
+use Rattle.std.specs.Prelude.{◌≡◌, ◌⊎◌, ◌<◌, ◌++◌, ℕ, Bool, true, false, not, ◌||◌, ◌&&◌, nat_le, List, [], ◌∷◌, length, map, take, get_or, count_by, Result, Ok, Err, ⊤, Option, None, Some}
 use Rattle.std.specs.List.{All, flat_map, enumerate_from}
 use Rattle.grid_units.specs.Holes.{GridHole, GridRules}
 use Rattle.pad_shapes.specs.declared.pad.Pad.{Pad}
 use Rattle.pad_shapes.specs.Pads.{pad_covers}
 use Rattle.grid_units.specs.Holes.{is_round}
 use Rattle.ring_rules.specs.Findings.{ring_findings, gap_findings}
+use Rattle.grid_units.specs.Spans.{LayerSpan}
 use Rattle.ring_rules.specs.Passing.{NamesPlaces}
 use Rattle.ring_rules.specs.declared.finding.Drilled.{Drilled}
 use Rattle.ring_rules.specs.declared.finding.Finding.{Finding}
@@ -25,15 +26,44 @@ use Rattle.manifest.specs.declared.Role.TheVariants as role
 use Rattle.package_check.specs.declared.contents.Content.{Content}
 use Rattle.package_check.specs.declared.contents.Content.TheVariants as content
 
--- a file, as its role, its name and its bytes (docs/DEFINITIONS.md, Packages)
+-- a file, as its role, its name, the span that is named for it, its bytes, and how many copper files its package has (docs/DEFINITIONS.md, Packages)
 pub record Source : Type 0 where
   pub role : Role
   pub name : List ℕ
+  pub span : Option LayerSpan
   pub bytes : List ℕ
+  pub layers : ℕ
 
--- a file as the code has it (docs/DEFINITIONS.md, Packages)
-abbrev pub source_of : File → Source
-source_of file = record { role = file.role; name = file.name.now; bytes = file.bytes.now }
+-- a file of copper (docs/DEFINITIONS.md, Packages)
+abbrev pub is_copper : Role → Bool
+is_copper role.Copper = true
+is_copper role.Plated = false
+is_copper role.Unplated = false
+
+-- a file of a package of so many copper files, as the code has it (docs/DEFINITIONS.md, Packages)
+abbrev pub source_of : ℕ → File → Source
+source_of layers file = record { role = file.role; name = file.name.now; span = file.span; bytes = file.bytes.now; layers = layers }
+
+-- a file of this role, span and bytes in a package of so many copper files, whatever its name (docs/DEFINITIONS.md, Packages)
+abbrev pub nameless : Role → Option LayerSpan → ℕ → List ℕ → Source
+nameless role span layers bytes = record { role = role; name = []; span = span; bytes = bytes; layers = layers }
+
+-- how many of the files are copper (docs/DEFINITIONS.md, Packages)
+abbrev pub layer_count : List File → ℕ
+layer_count files = count_by (λ file. is_copper file.role) files
+
+-- the files of a package (docs/DEFINITIONS.md, Packages)
+abbrev pub sources_of : List File → List Source
+sources_of files = map (source_of (layer_count files)) files
+
+-- a copper file has no span, and a span is a run of the copper files, numbered from 1 (docs/FORMATS.md, The check)
+abbrev pub is_bad_span : Role → Option LayerSpan → ℕ → Bool
+is_bad_span role None layers = false
+is_bad_span role (Some span) layers = is_copper role || not (nat_le 1 span.first && (nat_le span.first span.last && nat_le span.last layers))
+
+-- the fault of a file with such a span (docs/FORMATS.md, The check)
+abbrev pub bad_span : Fault
+bad_span = record { place = 0; byte = 0; reason = reason.BadSpan }
 
 -- the fault of a copper file that is no copper (docs/FORMATS.md, The check)
 abbrev pub not_copper : Fault
@@ -42,22 +72,31 @@ not_copper = record { place = 0; byte = 0; reason = reason.NotCopper }
 -- a copper file says a layer of copper; its text is refused, or what it says is no copper (docs/DEFINITIONS.md, Packages)
 abbrev pub ReadsCopper : List ℕ → Result Content Fault → Type 0
 ReadsCopper bytes (Ok (content.Layer image)) = ReadsLayer bytes (Ok image) × (image.is_copper ≡ true)
-ReadsCopper bytes (Ok (content.Drill plated holes)) = ⊥
+ReadsCopper bytes (Ok (content.Drill plated span holes)) = ⊥
 ReadsCopper bytes (Err fault) = ReadsLayer bytes (Err fault) ⊎ ((image : Image) × ReadsLayer bytes (Ok image) × (image.is_copper ≡ false) × (fault ≡ not_copper))
 
 -- a drill file says holes, or its text is refused (docs/DEFINITIONS.md, Packages)
-abbrev pub ReadsHoles : Bool → List ℕ → Result Content Fault → Type 0
-ReadsHoles plated bytes (Ok (content.Layer image)) = ⊥
-ReadsHoles plated bytes (Ok (content.Drill has holes)) = ReadsDrill bytes (Ok holes) × (has ≡ plated)
-ReadsHoles plated bytes (Err fault) = ReadsDrill bytes (Err fault)
+abbrev pub ReadsHoles : Bool → Option LayerSpan → List ℕ → Result Content Fault → Type 0
+ReadsHoles plated span bytes (Ok (content.Layer image)) = ⊥
+ReadsHoles plated span bytes (Ok (content.Drill has through holes)) = ReadsDrill bytes (Ok holes) × (has ≡ plated) × (through ≡ span)
+ReadsHoles plated span bytes (Err fault) = ReadsDrill bytes (Err fault)
+
+-- the bytes of a file say this, or have this fault (docs/DEFINITIONS.md, Packages)
+abbrev pub ReadsBytes : Source → Result Content Fault → Type 0
+ReadsBytes source answer = elim source.role [
+  | role.Copper ↦ ReadsCopper source.bytes answer
+  | role.Plated ↦ ReadsHoles true source.span source.bytes answer
+  | role.Unplated ↦ ReadsHoles false source.span source.bytes answer
+]
+
+-- where its span is bad a file has that fault, whatever its bytes are (docs/DEFINITIONS.md, Packages)
+abbrev pub ReadsUnless : Bool → Source → Result Content Fault → Type 0
+ReadsUnless true source answer = answer ≡ Err bad_span
+ReadsUnless false source answer = ReadsBytes source answer
 
 -- a file says this, or has this fault (docs/DEFINITIONS.md, Packages)
 abbrev pub Reads : Source → Result Content Fault → Type 0
-Reads source answer = elim source.role [
-  | role.Copper ↦ ReadsCopper source.bytes answer
-  | role.Plated ↦ ReadsHoles true source.bytes answer
-  | role.Unplated ↦ ReadsHoles false source.bytes answer
-]
+Reads source answer = ReadsUnless (is_bad_span source.role source.span source.layers) source answer
 
 -- the files say these contents, one by one (docs/DEFINITIONS.md, Packages)
 abbrev pub AreRead : List Source → List Content → Type 0
@@ -69,12 +108,12 @@ AreRead (source ∷ sources) (content ∷ contents) = Reads source (Ok content) 
 -- how much a file holds (docs/DEFINITIONS.md, Packages)
 abbrev pub sum_of : Content → FileSum
 sum_of (content.Layer image) = sum.Layer (length image.pads) image.other
-sum_of (content.Drill plated holes) = sum.Drill plated (count_by is_round holes) (count_by (λ hole. not (is_round hole)) holes)
+sum_of (content.Drill plated span holes) = sum.Drill plated span (count_by is_round holes) (count_by (λ hole. not (is_round hole)) holes)
 
 -- the pads of a copper file (docs/DEFINITIONS.md, Packages)
 abbrev pub pads_of : Content → List (List Pad)
 pads_of (content.Layer image) = image.pads ∷ []
-pads_of (content.Drill plated holes) = []
+pads_of (content.Drill plated span holes) = []
 
 -- the pads of each layer (docs/DEFINITIONS.md, Packages)
 abbrev pub layers : List Content → List (List Pad)
@@ -83,21 +122,21 @@ layers contents = flat_map pads_of contents
 -- the index of a file, where it is copper (docs/DEFINITIONS.md, Packages)
 abbrev pub index_of : ℕ × Content → List ℕ
 index_of (file, content.Layer image) = file ∷ []
-index_of (file, content.Drill plated holes) = []
+index_of (file, content.Drill plated span holes) = []
 
 -- the index of each copper file (docs/DEFINITIONS.md, Packages)
 abbrev pub layer_indexes : List Content → List ℕ
 layer_indexes contents = flat_map index_of (enumerate_from 0 contents)
 
 -- the holes of one file, numbered from 1 (docs/DEFINITIONS.md, Packages)
-abbrev pub file_holes : ℕ → Bool → List GridHole → List Numbered
-file_holes file plated holes =
-    map (λ hole. record { file = file; number = hole.0; drilled = record { hole = hole.1; plated = plated } }) (enumerate_from 1 holes)
+abbrev pub file_holes : ℕ → Bool → Option LayerSpan → List GridHole → List Numbered
+file_holes file plated span holes =
+    map (λ hole. record { file = file; number = hole.0; drilled = record { hole = hole.1; plated = plated; span = span } }) (enumerate_from 1 holes)
 
 -- the holes of a file with their places (docs/DEFINITIONS.md, Packages)
 abbrev pub holes_of : ℕ × Content → List Numbered
 holes_of (file, content.Layer image) = []
-holes_of (file, content.Drill plated holes) = file_holes file plated holes
+holes_of (file, content.Drill plated span holes) = file_holes file plated span holes
 
 -- the holes of all drill files (docs/DEFINITIONS.md, Packages)
 abbrev pub numbered_holes : List Content → List Numbered

@@ -1,24 +1,14 @@
 -- What the bytes of a file say.
-use Rattle.std.specs.Prelude.{◌≡◌, ◌==◌, ℕ, Bool, true, false, not, List, count_by, codes, Option, Some, None, Result, Ok, Err}
+use Rattle.std.specs.Prelude.{◌≡◌, ◌==◌, ℕ, Bool, true, not, List, codes, Option, Some, None, Result, Ok, Err}
 use Rattle.std.specs.List.{take_while}
 use Rattle.std.specs.Str.{bytes_eq}
 use Rattle.grid_units.specs.Holes.{GridHole}
 use Rattle.grid_units.specs.declared.fault.Fault.{Fault}
-use Rattle.drill_lines.specs.declared.command.DrillCommand.{DrillCommand}
-use Rattle.drill_text.specs.Holes.{holes_of}
-use Rattle.drill_text.specs.Reading as drills
-use Rattle.drill_text.specs.Texts.{IsDrillText}
-use Rattle.layer_image.specs.declared.flash.Flash.{Flash}
-use Rattle.layer_image.specs.declared.flash.What.{What}
-use Rattle.layer_image.specs.declared.flash.What.TheVariants as whats
+use Rattle.drill_text.specs.Texts as drills
+use Rattle.layer_image.specs.Flashes.{others_in}
 use Rattle.layer_image.specs.Layers as layers
 use Rattle.layer_image.specs.Layers.{LayerImage}
 use Rattle.package_check.specs.Images.{Image}
-
--- a flash that is no pad (docs/FORMATS.md, Report)
-abbrev pub is_other : What → Bool
-is_other (whats.Pad pad) = false
-is_other (whats.Other why) = true
 
 -- the first field of a file function is `Copper`; a layer without one is taken for copper (docs/FORMATS.md, File function)
 abbrev pub is_copper_function : Option (List ℕ) → Bool
@@ -29,7 +19,7 @@ is_copper_function (Some text) = bytes_eq (take_while (λ b. not (b == 44)) text
 abbrev pub seen_in : LayerImage → Image
 seen_in layer = record {
   pads = layer.pads;
-  other = count_by (λ (flash : Flash). is_other flash.what) layer.flashes;
+  other = others_in layer.flashes;
   is_copper = is_copper_function layer.file_function;
 }
 
@@ -40,5 +30,4 @@ ReadsLayer bytes (Err fault) = layers.ReadsLayer bytes (Err fault)
 
 -- the bytes are a drill text of commands that drill these holes, or they have this fault (docs/DEFINITIONS.md, Packages)
 abbrev pub ReadsDrill : List ℕ → Result (List GridHole) Fault → Type 0
-ReadsDrill bytes (Ok holes) = (commands : List DrillCommand) × IsDrillText bytes commands × (holes ≡ holes_of commands)
-ReadsDrill bytes (Err fault) = drills.Reads bytes (Err fault)
+ReadsDrill bytes answer = drills.ReadsHoles bytes answer

@@ -18,7 +18,7 @@ kind_of role.Unplated = kind.Drill
 
 -- the same file with other bytes (docs/DEFINITIONS.md, Packages)
 abbrev pub with_bytes : Source → List ℕ → Source
-with_bytes source bytes = record { role = source.role; name = source.name; bytes = bytes }
+with_bytes source bytes = record { role = source.role; name = source.name; span = source.span; bytes = bytes; layers = source.layers }
 
 -- a file as it was, or with its text written anew (docs/DEFINITIONS.md, Packages)
 abbrev pub IsRewritten : Source → Source → Type 0

@@ -1,28 +1,52 @@
 -- What a package that passes is.
-use Rattle.std.specs.Prelude.{◌≡◌, List, [], true, map}
+use Rattle.std.specs.Prelude.{◌≡◌, ◌<◌, ℕ, List, [], true, map, length, get_or, Option}
 use Rattle.std.specs.List.{Contains, flat_map}
 use Rattle.grid_units.specs.Holes.{GridHole, GridRules}
 use Rattle.pad_shapes.specs.Pads.{IsInPad}
-use Rattle.ring_rules.specs.Passing.{IsHeld, AreAllApart}
+use Rattle.ring_rules.specs.Passing.{IsHeld, IsSlotHeld, AreAllApart}
+use Rattle.grid_units.specs.Spans.{LayerSpan, is_in_span}
+use Rattle.pad_shapes.specs.Shapes.{IsAlongAxis}
 use Rattle.ring_rules.specs.declared.finding.Drilled.{Drilled}
-use Rattle.package_check.specs.Images.{Image}
 use Rattle.package_check.specs.Reports.{Account}
 use Rattle.package_check.specs.declared.contents.Content.{Content}
 use Rattle.package_check.specs.declared.contents.Content.TheVariants as content
-use Rattle.package_check.specs.Package.{Source, AreRead, IsReport}
+use Rattle.package_check.specs.Package.{Source, AreRead, IsReport, layers}
 
 -- the holes of a file (docs/DEFINITIONS.md, Packages)
 abbrev pub drilled_in : Content → List Drilled
 drilled_in (content.Layer image) = []
-drilled_in (content.Drill plated holes) = map (λ hole. record { hole = hole; plated = plated }) holes
+drilled_in (content.Drill plated span holes) = map (λ hole. record { hole = hole; plated = plated; span = span }) holes
 
--- Every file is a text of its grammar; on every copper file each round hole of every plated file lies in one pad, with
--- the ring round it; no points of two holes, of whatever files, are nearer than the gap (docs/DEFINITIONS.md, Packages).
+-- a hole of a plated file (docs/DEFINITIONS.md, Packages)
+pub record IsPlated (contents : List Content) (hole : GridHole) : Type 0 where
+  pub span : Option LayerSpan
+  pub holes : List GridHole
+  pub file : Contains contents (content.Drill true span holes)
+  pub drilled : Contains holes hole
+
+-- each plated slot of these files lies along an axis (docs/DEFINITIONS.md, Packages)
+abbrev pub AreStraight : List Source → Type 0
+AreStraight sources = (contents : List Content) (hole : GridHole) → AreRead sources contents → IsPlated contents hole → IsAlongAxis hole.from hole.to
+
+-- a hole of a plated file, in whose span the layer lies (docs/DEFINITIONS.md, Packages)
+pub record IsPlatedThrough (contents : List Content) (layer : ℕ) (hole : GridHole) : Type 0 where
+  pub span : Option LayerSpan
+  pub holes : List GridHole
+  pub file : Contains contents (content.Drill true span holes)
+  pub drilled : Contains holes hole
+  pub through : is_in_span layer span ≡ true
+
+-- Every file is a text of its grammar; on every copper layer of its drill file's span each plated round hole, and each
+-- plated slot along an axis, lies in one pad with the ring round it; no plated slot with a layer in its span is oblique;
+-- no points of two holes, of whatever files, are nearer than the gap (docs/DEFINITIONS.md, Packages).
 pub record IsSound (sources : List Source) (rules : GridRules) : Type 0 where
   pub contents : List Content
   pub read : AreRead sources contents
-  pub rings : (image : Image) (holes : List GridHole) (hole : GridHole) → Contains contents (content.Layer image) → Contains contents (content.Drill true holes)
-      → Contains holes hole → hole.from ≡ hole.to → IsHeld IsInPad rules.ring image.pads hole
+  pub rings : (layer : ℕ) (hole : GridHole) → layer < length (layers contents) → IsPlatedThrough contents layer hole → hole.from ≡ hole.to
+      → IsHeld IsInPad rules.ring (get_or (layers contents) layer []) hole
+  pub slots : (layer : ℕ) (hole : GridHole) → layer < length (layers contents) → IsPlatedThrough contents layer hole → IsAlongAxis hole.from hole.to
+      → IsSlotHeld IsInPad rules.ring (get_or (layers contents) layer []) hole
+  pub straight : (layer : ℕ) (hole : GridHole) → layer < length (layers contents) → IsPlatedThrough contents layer hole → IsAlongAxis hole.from hole.to
   pub gaps : AreAllApart rules.gap (flat_map drilled_in contents)
 
 -- where the report on a package has no finding, the package is sound (docs/DEFINITIONS.md, Packages)

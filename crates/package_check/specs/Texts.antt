@@ -1,10 +1,11 @@
 -- The text of a report.
 use Rattle.std.specs.Prelude.{ℕ, pos, ◌+◌, ◌*◌, ◌==◌, ◌++◌, Bool, List, [], ◌∷◌, length, map, codes, decimal, Option, Some, None, slice_get, if◌then◌else◌}
 use Rattle.std.specs.List.{flat_map}
-use Rattle.grid_units.specs.Holes.{GridHole, GridRules}
+use Rattle.grid_units.specs.Holes.{GridHole, GridRules, is_round}
 use Rattle.grid_units.specs.Spellings.{millimetres}
 use Rattle.ring_rules.specs.declared.finding.Finding.{Finding}
-use Rattle.ring_rules.specs.declared.finding.Finding.TheVariants.{Ring, Gap}
+use Rattle.ring_rules.specs.declared.finding.Finding.TheVariants.{Ring, Oblique, Gap}
+use Rattle.grid_units.specs.Spans.{LayerSpan}
 use Rattle.package_check.specs.declared.FileSum.{FileSum}
 use Rattle.package_check.specs.declared.FileSum.TheVariants as sum
 use Rattle.package_check.specs.declared.Numbered.{Numbered}
@@ -23,16 +24,25 @@ rules_line rules = rules_words (millimetres (pos rules.ring)) (millimetres (pos 
 abbrev pub answer_word : Bool → List ℕ
 answer_word plated = if plated then codes "yes" else codes "no"
 
--- the line of a drill file, with its word for plated (docs/FORMATS.md, Report)
-abbrev pub drill_words : ℕ → List ℕ → ℕ → ℕ → List ℕ → List ℕ
-drill_words n plated round slots name =
-    codes "file " ++ (decimal n ++ (codes " drill plated=" ++ (plated ++ (codes " round=" ++ (decimal round ++ (codes " slots=" ++ (decimal slots ++ (codes " name=" ++ (name ++ 10 ∷ [])))))))))
+-- how much a drill file holds, with its word for plated (docs/FORMATS.md, Report)
+unfoldable pub drill_words : ℕ → List ℕ → ℕ → ℕ → List ℕ
+drill_words n plated round slots =
+    codes "file " ++ (decimal n ++ (codes " drill plated=" ++ (plated ++ (codes " round=" ++ (decimal round ++ (codes " slots=" ++ decimal slots))))))
+
+-- the span of a drill file, if it has one (docs/FORMATS.md, Report)
+abbrev pub span_words : Option LayerSpan → List ℕ
+span_words None = []
+span_words (Some span) = codes " span=" ++ (decimal span.first ++ (codes "-" ++ decimal span.last))
+
+-- the name of a file, at the end of its line (docs/FORMATS.md, Report)
+abbrev pub name_words : List ℕ → List ℕ
+name_words name = codes " name=" ++ (name ++ 10 ∷ [])
 
 -- the line of a file, by its number from 1, its name and its sum (docs/FORMATS.md, Report)
 abbrev pub file_line : ℕ → List ℕ → FileSum → List ℕ
 file_line n name (sum.Layer pads other) =
     codes "file " ++ (decimal n ++ (codes " layer pads=" ++ (decimal pads ++ (codes " other=" ++ (decimal other ++ (codes " name=" ++ (name ++ 10 ∷ [])))))))
-file_line n name (sum.Drill plated round slots) = drill_words n (answer_word plated) round slots name
+file_line n name (sum.Drill plated span round slots) = (drill_words n (answer_word plated) round slots ++ span_words span) ++ name_words name
 
 -- the lines of the files, numbered from n on (docs/FORMATS.md, Report)
 unfoldable pub file_lines : ℕ → List (List ℕ) → List FileSum → List ℕ
@@ -41,21 +51,28 @@ file_lines n (name ∷ names) [] = []
 file_lines n (name ∷ names) (one ∷ sums) = file_line n name one ++ file_lines (n + 1) names sums
 
 -- the place of a ring that is lacking (docs/FORMATS.md, Report)
-unfoldable pub place_words : ℕ → ℕ → ℕ → List ℕ
-place_words layer drill number = codes "RING layer=" ++ (decimal layer ++ (codes " drill=" ++ (decimal drill ++ (codes " hole=" ++ decimal number))))
+unfoldable pub place_words : List ℕ → ℕ → ℕ → ℕ → List ℕ
+place_words kind layer drill number = kind ++ (codes " layer=" ++ (decimal layer ++ (codes " drill=" ++ (decimal drill ++ (codes " hole=" ++ decimal number)))))
 
 -- the lengths of a ring that is lacking (docs/FORMATS.md, Report)
 unfoldable pub length_words : List ℕ → List ℕ → List ℕ → List ℕ
 length_words x y diameter = codes " x=" ++ (x ++ (codes " y=" ++ (y ++ (codes " diameter=" ++ (diameter ++ 10 ∷ [])))))
 
--- the centre and the diameter of a hole (docs/FORMATS.md, Report)
-abbrev pub lengths_of : GridHole → List ℕ
-lengths_of hole = length_words (millimetres hole.from.x) (millimetres hole.from.y) (millimetres (pos (2 * hole.radius)))
+-- the lengths of a slot
+unfoldable pub slot_words : List ℕ → List ℕ → List ℕ → List ℕ → List ℕ → List ℕ
+slot_words x1 y1 x2 y2 diameter =
+    codes " x1=" ++ (x1 ++ (codes " y1=" ++ (y1 ++ (codes " x2=" ++ (x2 ++ (codes " y2=" ++ (y2 ++ (codes " diameter=" ++ (diameter ++ 10 ∷ [])))))))))
 
--- a ring that is lacking: the number of the layer's file, the hole's file and number, its centre and its diameter (docs/FORMATS.md, Report)
-abbrev pub ring_line : ℕ → Numbered → List ℕ
-ring_line layer hole =
-    place_words (layer + 1) (hole.file + 1) hole.number ++ lengths_of hole.drilled.hole
+-- the centre of a round hole or the ends of a slot, and the diameter (docs/FORMATS.md, Report)
+abbrev pub lengths_of : GridHole → List ℕ
+lengths_of hole =
+    if is_round hole then length_words (millimetres hole.from.x) (millimetres hole.from.y) (millimetres (pos (2 * hole.radius)))
+    else slot_words (millimetres hole.from.x) (millimetres hole.from.y) (millimetres hole.to.x) (millimetres hole.to.y) (millimetres (pos (2 * hole.radius)))
+
+-- a hole at which something is found on a layer, behind the word for it: the number of the layer's file, the hole's file and number, its centre and its diameter (docs/FORMATS.md, Report)
+abbrev pub hole_line : List ℕ → ℕ → Numbered → List ℕ
+hole_line kind layer hole =
+    place_words kind (layer + 1) (hole.file + 1) hole.number ++ lengths_of hole.drilled.hole
 
 -- two holes that are not clear: the file and number of each (docs/FORMATS.md, Report)
 abbrev pub gap_line : Numbered → Numbered → List ℕ
@@ -71,7 +88,8 @@ line_of line None b = []
 
 -- the line of a finding, of the layers and the holes that it names (docs/FORMATS.md, Report)
 unfoldable pub finding_line : List ℕ → List Numbered → Finding → List ℕ
-finding_line layers holes (Ring layer hole) = line_of ring_line (slice_get layers layer) (slice_get holes hole)
+finding_line layers holes (Ring layer hole) = line_of (hole_line (codes "RING")) (slice_get layers layer) (slice_get holes hole)
+finding_line layers holes (Oblique layer hole) = line_of (hole_line (codes "OBLIQUE")) (slice_get layers layer) (slice_get holes hole)
 finding_line layers holes (Gap first second) = line_of gap_line (slice_get holes first) (slice_get holes second)
 
 -- the last line (docs/FORMATS.md, Report)

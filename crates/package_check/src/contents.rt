@@ -1,24 +1,30 @@
 // What the files of a package say, in order.
-ghost use Rattle.std.specs.Prelude.{◌≡◌, ◌++◌, IfOk, IfErr, OnOk, map};
+ghost use Rattle.std.specs.Prelude.{◌≡◌, ◌++◌, ◌∷◌, [], IfOk, IfErr, OnOk, map};
+ghost use Rattle.std.specs.List.{concat};
 ghost use Rattle.grid_units.specs.Results.{Answers};
-ghost use Rattle.package_check.specs.Package.{Reads, ReadsCopper, ReadsHoles, AreRead, IsRefused, source_of};
+ghost use Rattle.package_check.specs.Package.{Reads, ReadsCopper, ReadsHoles, AreRead, IsRefused, is_bad_span, is_copper, layer_count, nameless, source_of, sources_of};
 
 use crate::readers::{Drill, Layer, read_holes, read_image};
 use crate::{File, PackageFault, Role};
 use grid_units::{Fail, Fault, Reason};
+use ring_rules::Span;
 use std::alloc::Global;
 
 /// What a file says.
 #[derive(Drop)]
 pub(crate) enum Content {
     Layer(Layer),
-    Drill { plated: bool, drill: Drill },
+    Drill {
+        plated: bool,
+        span: Option<Span>,
+        drill: Drill,
+    },
 }
 
-fn read_copper(alloc: Global, bytes: &[u8]) -> Result<Content, Fail>
-    ensures { Answers (λ x. x) (ReadsCopper bytes.now) result }
+fn read_copper(alloc: Global, pieces: &[&[u8]]) -> Result<Content, Fail>
+    ensures { Answers (λ x. x) (ReadsCopper (concat (map (λ piece. piece.now) pieces.now))) result }
 {
-    let layer = read_image(alloc, bytes)?;
+    let layer = read_image(alloc, pieces)?;
     if layer.is_copper() {
         Ok(Content::Layer(layer))
     } else {
@@ -30,31 +36,90 @@ fn read_copper(alloc: Global, bytes: &[u8]) -> Result<Content, Fail>
     }
 }
 
-fn read_drilled(alloc: Global, plated: bool, bytes: &[u8]) -> Result<Content, Fail>
-    ensures { Answers (λ x. x) (ReadsHoles plated bytes.now) result }
+fn read_drilled(
+    alloc: Global,
+    plated: bool,
+    span: Option<Span>,
+    pieces: &[&[u8]],
+) -> Result<Content, Fail>
+    ensures { Answers (λ x. x) (ReadsHoles plated span (concat (map (λ piece. piece.now) pieces.now))) result }
 {
-    let drill = read_holes(alloc, bytes)?;
-    Ok(Content::Drill { plated, drill })
+    let drill = read_holes(alloc, pieces)?;
+    Ok(Content::Drill {
+        plated,
+        span,
+        drill,
+    })
 }
 
-fn read_file(alloc: Global, file: &File) -> Result<Content, Fail>
-    ensures { Answers (λ x. x) (Reads (source_of file.now)) result }
+pub(crate) fn is_copper(role: Role) -> bool
+    ensures { result ≡ is_copper role }
 {
-    match file.role {
-        Role::Copper => read_copper(alloc, file.bytes),
-        Role::Plated => read_drilled(alloc, true, file.bytes),
-        Role::Unplated => read_drilled(alloc, false, file.bytes),
+    matches!(role, Role::Copper)
+}
+
+/// Whether a file of this role may not have this span, among so many copper files.
+fn is_bad_span(role: Role, span: Option<Span>, layers: usize) -> bool
+    ensures { result ≡ is_bad_span role span layers }
+{
+    match span {
+        Some(span) => is_copper(role) || layers < span.last(),
+        None => false,
     }
+}
+
+/// What a file of this role and with this span says, among so many copper files. Its bytes come in pieces.
+pub(crate) fn read_file(
+    alloc: Global,
+    role: Role,
+    span: &Option<Span>,
+    layers: usize,
+    pieces: &[&[u8]],
+) -> Result<Content, Fail>
+    ensures { Answers (λ x. x) (Reads (nameless role span.now layers (concat (map (λ piece. piece.now) pieces.now)))) result }
+{
+    if is_bad_span(role, *span, layers) {
+        return Err(Fail::Refused(Fault {
+            place: 0,
+            byte: 0,
+            reason: Reason::BadSpan,
+        }));
+    }
+    match role {
+        Role::Copper => read_copper(alloc, pieces),
+        Role::Plated => read_drilled(alloc, true, *span, pieces),
+        Role::Unplated => read_drilled(alloc, false, *span, pieces),
+    }
+}
+
+fn read_whole(alloc: Global, file: &File, layers: usize) -> Result<Content, Fail>
+    ensures { Answers (λ x. x) (Reads (source_of layers file.now)) result }
+{
+    read_file(alloc, file.role, &file.span, layers, &[file.bytes])
+}
+
+fn layer_count(files: &[File]) -> usize
+    ensures { result ≡ layer_count files.now }
+{
+    files.iter().filter(|file| is_copper(file.role)).count()
 }
 
 /// What the files say, or the first that is refused.
 pub(crate) fn read_files(alloc: Global, files: &[File]) -> Result<Vec<Content>, PackageFault>
-    ensures ok { IfOk result (λ v. AreRead (map source_of files.now) v.items) }
-    ensures err { IfErr result (IsRefused (map source_of files.now)) }
+    ensures ok { IfOk result (λ v. AreRead (sources_of files.now) v.items) }
+    ensures err { IfErr result (IsRefused (sources_of files.now)) }
+{
+    read_all(alloc, files, layer_count(files))
+}
+
+/// The same, among so many copper files.
+fn read_all(alloc: Global, files: &[File], layers: usize) -> Result<Vec<Content>, PackageFault>
+    ensures ok { IfOk result (λ v. AreRead (map (source_of layers) files.now) v.items) }
+    ensures err { IfErr result (IsRefused (map (source_of layers) files.now)) }
 {
     let mut contents = Vec::new(alloc);
     for (index, file) in files.iter().enumerate() {
-        match read_file(alloc, file) {
+        match read_whole(alloc, file, layers) {
             Ok(content) => {
                 if contents.push(content).is_err() {
                     return Err(PackageFault::Memory);

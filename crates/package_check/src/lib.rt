@@ -4,6 +4,7 @@
 mod contents;
 pub mod laws;
 mod package;
+mod pieces;
 mod printing;
 mod readers;
 mod report;
@@ -11,16 +12,30 @@ mod report;
 use grid_units::Fault;
 pub use manifest::Role;
 pub use package::check_bytes;
+pub use pieces::check_pieces;
 pub use printing::write_report;
 pub use report::Report;
 use ring_rules::Drilled;
+pub use ring_rules::Span;
 
 /// A file of a package.
 #[derive(Clone, Copy)]
 pub struct File<'a> {
     pub role: Role,
     pub name: &'a str,
+    /// The layers that a drill file's holes go through: all where there is no span.
+    pub span: Option<Span>,
     pub bytes: &'a [u8],
+}
+
+/// A file of a package whose bytes come in pieces.
+#[derive(Clone, Copy)]
+pub struct PiecedFile<'a> {
+    pub role: Role,
+    pub name: &'a str,
+    /// The layers that a drill file's holes go through: all where there is no span.
+    pub span: Option<Span>,
+    pub pieces: &'a [&'a [u8]],
 }
 
 /// Why there is no report: want of memory, or a file that is refused.
@@ -39,6 +54,7 @@ pub enum FileSum {
     },
     Drill {
         plated: bool,
+        span: Option<Span>,
         round: usize,
         slots: usize,
     },
@@ -51,3 +67,6 @@ pub struct Numbered {
     pub number: usize,
     pub drilled: Drilled,
 }
+
+#[cfg(test)]
+mod tests;

@@ -1,19 +1,19 @@
 // The check of a package.
-ghost use Rattle.std.specs.Prelude.{◌≡◌, ℕ, [], Result, IfOk, map};
+ghost use Rattle.std.specs.Prelude.{◌≡◌, ◌<◌, ℕ, [], Result, IfOk};
 ghost use Rattle.grid_units.specs.declared.fault.Fault.{Fault as TheFault};
-ghost use Rattle.package_check.specs.Package.{AnswersJust, AnswersPackage, IsAnswer, NamesItsPlaces, source_of};
+ghost use Rattle.package_check.specs.Package.{AnswersJust, AnswersPackage, IsAnswer, NamesItsPlaces, layer_count, sources_of};
 ghost use Rattle.package_check.specs.Reports.{Account};
-ghost use Rattle.package_check.specs.Soundness.{IsSound};
+ghost use Rattle.package_check.specs.Soundness.{AreStraight, IsSound};
 
 use crate::contents::read_files;
-use crate::laws::{findings_name_their_places, one_answer, passing_is_sound};
+use crate::laws::{findings_name_their_places, one_answer, one_reading, passing_is_sound};
 use crate::report::report_on;
 use crate::{File, PackageFault, Report};
 use grid_units::Rules;
 use std::alloc::Global;
 
 fn report_of(alloc: Global, files: &[File], rules: Rules) -> Result<Report, PackageFault>
-    ensures { AnswersPackage (map source_of files.now) rules result }
+    ensures { AnswersPackage (sources_of files.now) rules result }
 {
     let contents = read_files(alloc, files)?;
     match report_on(alloc, &contents, rules) {
@@ -22,19 +22,22 @@ fn report_of(alloc: Global, files: &[File], rules: Rules) -> Result<Report, Pack
     }
 }
 
-/// The report on the files. Where it has no finding, each plated round hole lies with its ring in one flashed pad of each
-/// copper layer, and no points of two holes are nearer than the gap.
+/// The report on the files. Where it has no finding, each plated round hole, and each plated slot along an axis, lies with
+/// its ring in one flashed pad of each copper layer of its file's span; no plated slot through a copper layer is oblique;
+/// and no points of two holes are nearer than the gap.
 ///
 /// # Errors
 ///
 /// The first file that is refused, by its index, with its fault; `Memory` where there is no memory.
 pub fn check_bytes(alloc: Global, files: &[File], rules: Rules) -> Result<Report, PackageFault>
-    ensures exact { AnswersPackage (map source_of files.now) rules result }
-    ensures only { (answer : Result Account (ℕ × TheFault)) → IsAnswer (map source_of files.now) rules answer → AnswersJust answer result }
+    ensures exact { AnswersPackage (sources_of files.now) rules result }
+    ensures only { (answer : Result Account (ℕ × TheFault)) → IsAnswer (sources_of files.now) rules answer → AnswersJust answer result }
     ensures places { IfOk result NamesItsPlaces }
-    ensures sound { IfOk result (λ report. report.findings ≡ [] → IsSound (map source_of files.now) rules) }
+    ensures straight { IfOk result (λ report. report.findings ≡ [] → 0 < layer_count files.now → AreStraight (sources_of files.now)) }
+    ensures sound { IfOk result (λ report. report.findings ≡ [] → IsSound (sources_of files.now) rules) }
 {
     one_answer();
+    one_reading();
     findings_name_their_places();
     passing_is_sound();
     report_of(alloc, files, rules)

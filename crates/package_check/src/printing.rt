@@ -1,13 +1,13 @@
 //! The text of a report.
 
-ghost use Rattle.std.specs.Prelude.{◌≡◌, ◌++◌, IfOk, OnOk, map, length, slice_get, string_bytes};
+ghost use Rattle.std.specs.Prelude.{◌≡◌, ◌++◌, Some, IfOk, OnOk, map, length, slice_get, string_bytes};
 ghost use Rattle.std.specs.List.{flat_map};
-ghost use Rattle.package_check.specs.Package.{source_of};
-ghost use Rattle.package_check.specs.Texts.{answer_word, drill_words, file_line, file_lines, finding_line, gap_line, last_line, length_words, lengths_of, line_of, place_words, report_text, ring_line, rules_line, rules_words};
+ghost use Rattle.package_check.specs.Package.{sources_of};
+ghost use Rattle.package_check.specs.Texts.{answer_word, drill_words, span_words, name_words, slot_words, file_line, file_lines, finding_line, gap_line, last_line, length_words, lengths_of, line_of, place_words, report_text, hole_line, rules_line, rules_words};
 
 use crate::{File, FileSum, Numbered, Report};
 use grid_units::{Hole, Rules, write_mm};
-use ring_rules::Finding;
+use ring_rules::{Finding, Span};
 use std::alloc::{AllocError, Global};
 use std::fmt::Write;
 
@@ -41,9 +41,14 @@ fn push_file(text: &mut String, number: u64, name: &str, sum: &FileSum) -> Resul
         FileSum::Layer { pads, other } => push_layer(text, number, name, *pads, *other),
         FileSum::Drill {
             plated,
+            span,
             round,
             slots,
-        } => { push_drill(text, number, name, answer_word(*plated), *round, *slots) }
+        } => {
+            push_drill(text, number, answer_word(*plated), *round, *slots)?;
+            push_span(text, *span)?;
+            push_name(text, name)
+        }
     }
 }
 
@@ -65,46 +70,96 @@ fn push_layer(
     }
 }
 
+#[tactic(auto, unfolding(crate::specs::Texts::drill_words))]
 fn push_drill(
     text: &mut String,
     number: u64,
-    name: &str,
     plated: &str,
     round: usize,
     slots: usize,
 ) -> Result<(), AllocError>
-    ensures { OnOk result (string_bytes text.new ≡ string_bytes text.old ++ drill_words number plated.now round slots name.now) }
+    ensures { OnOk result (string_bytes text.new ≡ string_bytes text.old ++ drill_words number plated.now round slots) }
 {
     match write!(
         text,
-        "file {number} drill plated={plated} round={round} slots={slots} name={name}\n"
+        "file {number} drill plated={plated} round={round} slots={slots}"
     ) {
         Ok(()) => Ok(()),
         Err(e) => Err(e),
     }
 }
 
-fn push_ring(text: &mut String, layer: usize, hole: &Numbered) -> Result<(), AllocError>
-    ensures { OnOk result (string_bytes text.new ≡ string_bytes text.old ++ ring_line layer hole.now) }
+fn push_span(text: &mut String, span: Option<Span>) -> Result<(), AllocError>
+    ensures { OnOk result (string_bytes text.new ≡ string_bytes text.old ++ span_words span) }
 {
-    push_place(text, layer as u128 + 1, hole.file as u128 + 1, hole.number)?;
+    match span {
+        Some(span) => push_numbers(text, span.first(), span.last()),
+        None => Ok(()),
+    }
+}
+
+fn push_numbers(text: &mut String, first: usize, last: usize) -> Result<(), AllocError>
+    ensures { OnOk result (string_bytes text.new ≡ string_bytes text.old ++ span_words (Some (record { first = first; last = last }))) }
+{
+    match write!(text, " span={first}-{last}") {
+        Ok(()) => Ok(()),
+        Err(e) => Err(e),
+    }
+}
+
+fn push_name(text: &mut String, name: &str) -> Result<(), AllocError>
+    ensures { OnOk result (string_bytes text.new ≡ string_bytes text.old ++ name_words name.now) }
+{
+    match write!(text, " name={name}\n") {
+        Ok(()) => Ok(()),
+        Err(e) => Err(e),
+    }
+}
+
+fn push_hole(text: &mut String, kind: &str, layer: usize, hole: &Numbered) -> Result<(), AllocError>
+    ensures { OnOk result (string_bytes text.new ≡ string_bytes text.old ++ hole_line kind.now layer hole.now) }
+{
+    push_place(
+        text,
+        kind,
+        layer as u128 + 1,
+        hole.file as u128 + 1,
+        hole.number,
+    )?;
     push_lengths_of(text, &hole.drilled.hole)
 }
 
 fn push_lengths_of(text: &mut String, hole: &Hole) -> Result<(), AllocError>
     ensures { OnOk result (string_bytes text.new ≡ string_bytes text.old ++ lengths_of hole.now) }
 {
-    let centre = hole.from();
-    let (x, y) = (write_mm(centre.x()), write_mm(centre.y()));
+    let (from, to) = (hole.from(), hole.to());
+    let (x, y) = (write_mm(from.x()), write_mm(from.y()));
     let diameter = write_mm(2 * hole.radius());
-    push_lengths(text, x.as_str(), y.as_str(), diameter.as_str())
+    if hole.is_round() {
+        return push_lengths(text, x.as_str(), y.as_str(), diameter.as_str());
+    }
+    let (x2, y2) = (write_mm(to.x()), write_mm(to.y()));
+    push_ends(
+        text,
+        x.as_str(),
+        y.as_str(),
+        x2.as_str(),
+        y2.as_str(),
+        diameter.as_str(),
+    )
 }
 
 #[tactic(auto, unfolding(crate::specs::Texts::place_words))]
-fn push_place(text: &mut String, layer: u128, drill: u128, number: usize) -> Result<(), AllocError>
-    ensures { OnOk result (string_bytes text.new ≡ string_bytes text.old ++ place_words layer drill number) }
+fn push_place(
+    text: &mut String,
+    kind: &str,
+    layer: u128,
+    drill: u128,
+    number: usize,
+) -> Result<(), AllocError>
+    ensures { OnOk result (string_bytes text.new ≡ string_bytes text.old ++ place_words kind.now layer drill number) }
 {
-    match write!(text, "RING layer={layer} drill={drill} hole={number}") {
+    match write!(text, "{kind} layer={layer} drill={drill} hole={number}") {
         Ok(()) => Ok(()),
         Err(e) => Err(e),
     }
@@ -115,6 +170,26 @@ fn push_lengths(text: &mut String, x: &str, y: &str, diameter: &str) -> Result<(
     ensures { OnOk result (string_bytes text.new ≡ string_bytes text.old ++ length_words x.now y.now diameter.now) }
 {
     match write!(text, " x={x} y={y} diameter={diameter}\n") {
+        Ok(()) => Ok(()),
+        Err(e) => Err(e),
+    }
+}
+
+#[tactic(auto, unfolding(crate::specs::Texts::slot_words))]
+fn push_ends(
+    text: &mut String,
+    x1: &str,
+    y1: &str,
+    x2: &str,
+    y2: &str,
+    diameter: &str,
+) -> Result<(), AllocError>
+    ensures { OnOk result (string_bytes text.new ≡ string_bytes text.old ++ slot_words x1.now y1.now x2.now y2.now diameter.now) }
+{
+    match write!(
+        text,
+        " x1={x1} y1={y1} x2={x2} y2={y2} diameter={diameter}\n"
+    ) {
         Ok(()) => Ok(()),
         Err(e) => Err(e),
     }
@@ -146,13 +221,14 @@ fn push_last(text: &mut String, findings: usize) -> Result<(), AllocError>
     }
 }
 
-fn push_ring_at(
+fn push_hole_at(
     text: &mut String,
+    kind: &str,
     report: &Report,
     layer: usize,
     hole: usize,
 ) -> Result<(), AllocError>
-    ensures { OnOk result (string_bytes text.new ≡ string_bytes text.old ++ line_of ring_line (slice_get report.now.layers layer) (slice_get report.now.holes hole)) }
+    ensures { OnOk result (string_bytes text.new ≡ string_bytes text.old ++ line_of (hole_line kind.now) (slice_get report.now.layers layer) (slice_get report.now.holes hole)) }
 {
     let Some(layer) = report.layers().get(layer) else {
         return Ok(());
@@ -160,7 +236,7 @@ fn push_ring_at(
     let Some(hole) = report.holes().get(hole) else {
         return Ok(());
     };
-    push_ring(text, *layer, hole)
+    push_hole(text, kind, *layer, hole)
 }
 
 fn push_gap_at(
@@ -186,7 +262,8 @@ fn push_finding(text: &mut String, report: &Report, finding: Finding) -> Result<
     ensures { OnOk result (string_bytes text.new ≡ string_bytes text.old ++ finding_line report.now.layers report.now.holes finding) }
 {
     match finding {
-        Finding::Ring { layer, hole } => push_ring_at(text, report, layer, hole),
+        Finding::Ring { layer, hole } => push_hole_at(text, "RING", report, layer, hole),
+        Finding::Oblique { layer, hole } => push_hole_at(text, "OBLIQUE", report, layer, hole),
         Finding::Gap { first, second } => push_gap_at(text, report, first, second),
     }
 }
@@ -221,7 +298,7 @@ fn push_findings(text: &mut String, report: &Report) -> Result<(), AllocError>
 /// An `AllocError` where there is no memory for it.
 pub fn write_report(alloc: Global, files: &[File], report: &Report) -> Result<Vec<u8>, AllocError>
     requires { length files.now ≡ length report.now.files }
-    ensures { IfOk result (λ text. text.items ≡ report_text (map source_of files.now) report.now) }
+    ensures { IfOk result (λ text. text.items ≡ report_text (sources_of files.now) report.now) }
 {
     let mut text = String::new(alloc);
     push_rules(&mut text, report.rules())?;

@@ -1,18 +1,21 @@
 //! What the files of a package say, of which the check keeps pads and holes alone.
 
-ghost use Rattle.std.specs.Prelude.{◌≡◌, ◌≤◌, ◌==◌, not, length, count_by};
-ghost use Rattle.std.specs.List.{prefix_len, take_while};
-ghost use Rattle.std.specs.Option.{option_copied};
-ghost use Rattle.grid_units.specs.Results.{Answers};
-ghost use Rattle.package_check.specs.Readers.{ReadsLayer, ReadsDrill, is_copper_function, is_other};
+ghost use Rattle.std.specs.Prelude.{◌≡◌, ◌≤◌, ◌++◌, ◌==◌, not, ℕ, List, Err, IfErr, IfOk, OnOk, length, map};
+ghost use Rattle.std.specs.List.{concat, prefix_len, take_while};
+ghost use Rattle.grid_units.specs.Results.{Answers, Tells};
+ghost use Rattle.layer_image.specs.Standing.{ReadsSum, ShowsLayerFault, SumStandsAfter, sum_view};
+ghost use Rattle.package_check.specs.Readers.{ReadsLayer, ReadsDrill, is_copper_function};
 
-use drill_text::laws::drill_texts;
-use drill_text::read_drill;
-use grid_units::{Fail, Hole};
-use layer_image::{Flash, What, read_layer};
+use drill_text::HolesReader;
+use drill_text::laws::faults_stay;
+use grid_units::{Fail, Hole, Text};
+use layer_image::{LayerSum, SumReader, shown_faults};
 use pad_shapes::Pad;
 use std::alloc::Global;
 use std::marker::Model;
+
+/// How many bytes of a layer are read at once: the reader holds the commands of so many, and then lets go of them.
+const PIECE: usize = 65_536;
 
 /// What a copper file says.
 #[derive(Drop)]
@@ -73,28 +76,12 @@ impl Drill {
     }
 }
 
-/// How many of the flashes are no pads.
-fn others(flashes: &[Flash]) -> usize
-    ensures { result ≡ count_by (λ flash. is_other flash.what) flashes.now }
-{
-    flashes.iter().filter(|flash| is_other(&flash.what)).count()
-}
-
-fn is_other(what: &What) -> bool
-    ensures { result ≡ is_other what.now }
-{
-    match what {
-        What::Pad(_) => false,
-        What::Other(_) => true,
-    }
-}
-
 /// Whether the first field of a file function is `Copper`. A layer without one is taken for copper.
-fn is_copper_function(function: Option<&[u8]>) -> bool
-    ensures { result ≡ is_copper_function (option_copied function.entry) }
+fn is_copper_function(function: &Option<Text>) -> bool
+    ensures { result ≡ is_copper_function function.now }
 {
     match function {
-        Some(text) => first_field(text) == b"Copper".as_slice(),
+        Some(text) => first_field(text.bytes()) == b"Copper".as_slice(),
         None => true,
     }
 }
@@ -125,33 +112,59 @@ fn comma_at(text: &[u8]) -> usize
     text.len()
 }
 
-/// What a copper file says, or its fault.
-pub(crate) fn read_image(alloc: Global, bytes: &[u8]) -> Result<Layer, Fail>
-    ensures { Answers (λ x. x) (ReadsLayer bytes.now) result }
+/// Takes a piece of a layer, some bytes at a time.
+fn feed_layer(reader: &mut SumReader, piece: &[u8]) -> Result<(), Fail>
+    ensures ok { (text : List ℕ) → SumStandsAfter reader.old text → OnOk result (SumStandsAfter reader.new (text ++ piece.now)) }
+    ensures err { (text : List ℕ) → SumStandsAfter reader.old text → IfErr result (Tells (ShowsLayerFault (text ++ piece.now))) }
 {
-    match read_layer(alloc, bytes) {
-        Ok(layer) => match Vec::from_slice(alloc, layer.pads()) {
-            Ok(pads) => Ok(Layer {
-                pads,
-                other: others(layer.flashes()),
-                is_copper: is_copper_function(layer.file_function()),
-            }),
-            Err(_) => Err(Fail::Memory),
-        },
-        Err(fail) => Err(fail),
+    shown_faults();
+    for chunk in piece.chunks(PIECE) {
+        reader.feed(chunk)?;
     }
+    Ok(())
 }
 
-/// What a drill file says, or its fault.
-pub(crate) fn read_holes(alloc: Global, bytes: &[u8]) -> Result<Drill, Fail>
-    ensures { Answers (λ x. x) (ReadsDrill bytes.now) result }
+/// What a package needs of the layer whose text comes in these pieces.
+fn read_sum(alloc: Global, pieces: &[&[u8]]) -> Result<LayerSum, Fail>
+    ensures { Answers sum_view (ReadsSum (concat (map (λ piece. piece.now) pieces.now))) result }
 {
-    drill_texts();
-    match read_drill(alloc, bytes) {
-        Ok(drill) => match Vec::from_slice(alloc, drill.holes()) {
-            Ok(holes) => Ok(Drill { holes }),
-            Err(_) => Err(Fail::Memory),
-        },
-        Err(fail) => Err(fail),
+    shown_faults();
+    let mut reader = SumReader::new(alloc);
+    for piece in pieces {
+        feed_layer(&mut reader, piece)?;
     }
+    reader.finish()
+}
+
+/// What a copper file says, whose text comes in these pieces, or its fault.
+pub(crate) fn read_image(alloc: Global, pieces: &[&[u8]]) -> Result<Layer, Fail>
+    ensures { Answers (λ x. x) (ReadsLayer (concat (map (λ piece. piece.now) pieces.now))) result }
+{
+    let sum = read_sum(alloc, pieces)?;
+    let is_copper = is_copper_function(&sum.file_function);
+    Ok(Layer {
+        pads: sum.pads,
+        other: sum.other,
+        is_copper,
+    })
+}
+
+/// The holes of the drill file whose text comes in these pieces.
+fn read_drill(alloc: Global, pieces: &[&[u8]]) -> Result<Vec<Hole>, Fail>
+    ensures { Answers (λ holes. holes.items) (ReadsDrill (concat (map (λ piece. piece.now) pieces.now))) result }
+{
+    faults_stay();
+    let mut reader = HolesReader::new(alloc);
+    for piece in pieces {
+        reader.feed(piece)?;
+    }
+    reader.finish()
+}
+
+/// What a drill file says, whose text comes in these pieces, or its fault.
+pub(crate) fn read_holes(alloc: Global, pieces: &[&[u8]]) -> Result<Drill, Fail>
+    ensures { Answers (λ x. x) (ReadsDrill (concat (map (λ piece. piece.now) pieces.now))) result }
+{
+    let holes = read_drill(alloc, pieces)?;
+    Ok(Drill { holes })
 }

@@ -9,7 +9,7 @@ use crate::readers::Layer;
 use crate::{FileSum, Numbered};
 use grid_units::{Hole, Rules};
 use pad_shapes::Pad;
-use ring_rules::{Drilled, Finding, gap_findings, ring_findings};
+use ring_rules::{Drilled, Finding, Span, gap_findings, ring_findings};
 use std::alloc::{AllocError, Global};
 use std::marker::Model;
 
@@ -88,8 +88,13 @@ fn sum_of(content: &Content) -> FileSum
             pads: layer.pads().len(),
             other: layer.other(),
         },
-        Content::Drill { plated, drill } => FileSum::Drill {
+        Content::Drill {
+            plated,
+            span,
+            drill,
+        } => FileSum::Drill {
             plated: *plated,
+            span: *span,
             round: round_holes(drill.holes()),
             slots: slots(drill.holes()),
         },
@@ -135,9 +140,10 @@ fn push_holes(
     numbered: &mut Vec<Numbered>,
     file: usize,
     plated: bool,
+    span: &Option<Span>,
     holes: &[Hole],
 ) -> Result<(), AllocError>
-    ensures { OnOk result (numbered.new.items ≡ numbered.old.items ++ file_holes file plated holes.now) }
+    ensures { OnOk result (numbered.new.items ≡ numbered.old.items ++ file_holes file plated span.now holes.now) }
 {
     for (place, hole) in holes.iter().enumerate() {
         numbered.push(Numbered {
@@ -146,6 +152,7 @@ fn push_holes(
             drilled: Drilled {
                 hole: *hole,
                 plated,
+                span: *span,
             },
         })?;
     }
@@ -157,8 +164,13 @@ fn numbered_holes(alloc: Global, contents: &[Content]) -> Result<Vec<Numbered>, 
 {
     let mut numbered = Vec::new(alloc);
     for (file, content) in contents.iter().enumerate() {
-        if let Content::Drill { plated, drill } = content {
-            push_holes(&mut numbered, file, *plated, drill.holes())?;
+        if let Content::Drill {
+            plated,
+            span,
+            drill,
+        } = content
+        {
+            push_holes(&mut numbered, file, *plated, span, drill.holes())?;
         }
     }
     Ok(numbered)

@@ -1,12 +1,13 @@
 -- Proofs of the laws that the trait asks of each shape. What they prove is stated in Shapes.antt.
-use Rattle.std.proofs.Common.{◌≡◌, ℕ, ℤ, pos, ◌+◌, ◌-◌, ◌*◌, ◌≤◌, ◌<◌, ◌+ℤ◌, ◌-ℤ◌, ◌≤ℤ◌, ◌⊎◌, true, false, inl, inr, ap, subst, arith}
+use Rattle.std.proofs.Common.{◌≡◌, ℕ, ℤ, pos, ◌+◌, ◌-◌, ◌*◌, ◌≤◌, ◌<◌, ◌+ℤ◌, ◌-ℤ◌, ◌≤ℤ◌, ◌⊎◌, Bool, true, false, inl, inr, refl, ap, subst, arith}
 use Rattle.std.specs.Prelude.{◌&&◌, nat_le}
-use Rattle.std.proofs.lemmas.Int.{ints, by_lt_z}
+use Rattle.std.proofs.lemmas.Int.{ints, clamps, by_lt_z}
 use Rattle.std.proofs.lemmas.Bool.{cases_lt}
 use Rattle.std.proofs.lemmas.Bool.Decides.{nat_tests}
+use Rattle.grid_units.specs.Holes.{IsBetween}
 use Rattle.grid_units.specs.Points.{GridPoint, apart, square, square_distance}
-use Rattle.grid_units.proofs.Steps.{apart_triangle, le_from_squares, two_steps-le, square_distance-le}
-use Rattle.pad_shapes.specs.Shapes.{GridObround, IsInDisc, IsInRect, IsInObround, end_radius, upper_end, lower_end, square_from_axis, disc_covers, rect_covers, obround_covers, HoldsWhatItCovers, CoversBetween, HasExtent, RectMissesOne}
+use Rattle.grid_units.proofs.Steps.{apart_triangle, square-le, le_from_squares, two_steps-le, square_distance-le}
+use Rattle.pad_shapes.specs.Shapes.{GridObround, IsInDisc, IsInRect, IsInObround, end_radius, upper_end, lower_end, square_from_axis, disc_covers, rect_covers, obround_covers, IsAlongAxis, IsInBox, HoldsWhatItCovers, HoldsSlots, CoversBetween, HasExtent, RectMissesOne}
 use Rattle.pad_shapes.specs.declared.pad.Pad.TheVariants.{Disc, Rect, Obround}
 use Rattle.pad_shapes.specs.Pads.{IsInPad, pad_covers, pad_left, pad_right}
 
@@ -180,6 +181,81 @@ pub pad_extent : HasExtent IsInPad pad_left pad_right
 pad_extent (Disc d) = disc_extent d
 pad_extent (Rect r) = rect_extent r
 pad_extent (Obround o) = obround_extent o
+
+-- A point is no further from another one along both axes than an end is.
+abbrev IsNearer : GridPoint → GridPoint → GridPoint → Type 0
+IsNearer o c end = (apart c.x o.x ≤ apart end.x o.x) × (apart c.y o.y ≤ apart end.y o.y)
+
+-- what covers a centre covers each centre that is nearer to the middle
+abbrev CoversNearer : {S : Type 0} → (S → GridPoint) → (S → GridPoint → ℕ → Bool) → Type 0
+CoversNearer {S} middle covers = (s : S) (c end : GridPoint) (reach : ℕ) → IsNearer (middle s) c end → covers s end reach ≡ true → covers s c reach ≡ true
+
+-- a number between two others is no further from a third than one of the two
+nearer_side : (a b o z : ℤ) → IsBetween a b z → (apart z o ≤ apart a o) ⊎ (apart z o ≤ apart b o)
+nearer_side a b o z h = by_order a b
+    (λ up. by_order z o (λ low. inl (omega (arith, ints, clamps))) (λ high. inr (omega (arith, ints, clamps))))
+    (λ down. by_order z o (λ low. inr (omega (arith, ints, clamps))) (λ high. inl (omega (arith, ints, clamps))))
+
+-- between two equal numbers
+same_side : (a b o z : ℤ) → a ≡ b → IsBetween a b z → (apart z o ≤ apart a o) × (apart z o ≤ apart b o)
+same_side a b o z e h = (omega (arith, ints, clamps), omega (arith, ints, clamps))
+
+-- a point between the ends of a slot along an axis is nearer than one of the ends
+nearer_end : (o from to c : GridPoint) → IsAlongAxis from to → IsInBox from to c → IsNearer o c from ⊎ IsNearer o c to
+nearer_end o from to c along h = elim along [
+  | inl upright ↦ let x = same_side from.x to.x o.x c.x upright h.0 in
+      elim (nearer_side from.y to.y o.y c.y h.1) [ inl first ↦ inl (x.0, first) | inr second ↦ inr (x.1, second) ]
+  | inr lying ↦ let y = same_side from.y to.y o.y c.y lying h.1 in
+      elim (nearer_side from.x to.x o.x c.x h.0) [ inl first ↦ inl (first, y.0) | inr second ↦ inr (second, y.1) ]
+]
+
+both_true : (a b : Bool) → (a && b) ≡ true → (a ≡ true) × (b ≡ true)
+both_true true true e = (refl, refl)
+both_true true false e = absurd cc
+both_true false b e = absurd cc
+
+-- a shape that covers what is nearer holds slots
+holds_slots : {S : Type 0} (middle : S → GridPoint) (points : S → GridPoint → Type 0) (covers : S → GridPoint → ℕ → Bool) → HoldsWhatItCovers points covers → CoversNearer middle covers → HoldsSlots points covers
+holds_slots middle points covers holds nearer s from to reach along ends c p inside h =
+    let both = both_true (covers s from reach) (covers s to reach) ends in
+    elim (nearer_end (middle s) from to c along inside) [
+      | inl first ↦ holds s c reach (nearer s c from reach first both.0) p h
+      | inr second ↦ holds s c reach (nearer s c to reach second both.1) p h
+    ]
+
+le_both : (a b c d : ℕ) → a ≤ b → c ≤ d → (nat_le a b && nat_le c d) ≡ true
+le_both a b c d h k = grind (arith, nat_tests)
+
+disc_nearer : CoversNearer (λ d. d.centre) disc_covers
+disc_nearer d c end reach near e =
+    let t = both_le reach d.radius (square_distance end d.centre) (square (d.radius - reach)) e in
+    le_both reach d.radius (square_distance c d.centre) (square (d.radius - reach)) t.0 (omega (arith, t.1, square-le _ _ near.0, square-le _ _ near.1))
+
+rect_nearer : CoversNearer (λ r. r.centre) rect_covers
+rect_nearer r c end reach near e =
+    let t = both_le (apart end.x r.centre.x + reach) r.half_x (apart end.y r.centre.y + reach) r.half_y e in
+    le_both (apart c.x r.centre.x + reach) r.half_x (apart c.y r.centre.y + reach) r.half_y (omega (arith, t.0, near.0)) (omega (arith, t.1, near.1))
+
+obround_nearer : CoversNearer (λ o. o.centre) obround_covers
+obround_nearer o c end reach near e =
+    let t = both_le reach (end_radius o) (square_from_axis o end) (square (end_radius o - reach)) e in
+    let x : apart c.x o.centre.x - (o.half_x - end_radius o) ≤ apart end.x o.centre.x - (o.half_x - end_radius o) = omega (arith, near.0) in
+    let y : apart c.y o.centre.y - (o.half_y - end_radius o) ≤ apart end.y o.centre.y - (o.half_y - end_radius o) = omega (arith, near.1) in
+    le_both reach (end_radius o) (square_from_axis o c) (square (end_radius o - reach)) t.0 (omega (arith, t.1, square-le _ _ x, square-le _ _ y))
+
+pub disc_holds_slots : HoldsSlots IsInDisc disc_covers
+disc_holds_slots = holds_slots (λ d. d.centre) IsInDisc disc_covers disc_holds disc_nearer
+
+pub rect_holds_slots : HoldsSlots IsInRect rect_covers
+rect_holds_slots = holds_slots (λ r. r.centre) IsInRect rect_covers rect_holds rect_nearer
+
+pub obround_holds_slots : HoldsSlots IsInObround obround_covers
+obround_holds_slots = holds_slots (λ o. o.centre) IsInObround obround_covers obround_holds obround_nearer
+
+pub pad_holds_slots : HoldsSlots IsInPad pad_covers
+pad_holds_slots (Disc d) = disc_holds_slots d
+pad_holds_slots (Rect r) = rect_holds_slots r
+pad_holds_slots (Obround o) = obround_holds_slots o
 
 -- a point as far from c along one axis as the reach, on the side away from z
 beyond : (c z : ℤ) (reach : ℕ) → (p : ℤ) × (apart p c ≡ reach) × (apart p z ≡ apart c z + reach)

@@ -1,6 +1,7 @@
 -- Shapes of flashed pads: their points, and the holes that each of them covers. Lengths are whole picometres.
 use Rattle.std.specs.Prelude.{◌≡◌, ℕ, ℤ, pos, ◌+◌, ◌-◌, ◌≤◌, min, ◌+ℤ◌, ◌-ℤ◌, ◌≤ℤ◌, ◌⊎◌, Bool, true, false, ◌&&◌, nat_le, if◌then◌else◌}
 use Rattle.grid_units.specs.Points.{GridPoint, apart, square, square_distance}
+use Rattle.grid_units.specs.Holes.{IsBetween}
 
 -- a round pad, by its centre and its radius (docs/DEFINITIONS.md, Shapes)
 pub record GridDisc : Type 0 where
@@ -97,6 +98,23 @@ obround_covers o c reach =
 abbrev pub HoldsWhatItCovers : {S : Type 0} → (S → GridPoint → Type 0) → (S → GridPoint → ℕ → Bool) → Type 0
 HoldsWhatItCovers {S} points covers =
     (s : S) (c : GridPoint) (reach : ℕ) → covers s c reach ≡ true → (p : GridPoint) → square_distance p c ≤ square reach → points s p
+
+-- two points share their x or their y (docs/DEFINITIONS.md, What a shape covers)
+abbrev pub IsAlongAxis : GridPoint → GridPoint → Type 0
+IsAlongAxis from to = (from.x ≡ to.x) ⊎ (from.y ≡ to.y)
+
+-- in the least box that contains two points (docs/DEFINITIONS.md, What a shape covers)
+abbrev pub IsInBox : GridPoint → GridPoint → GridPoint → Type 0
+IsInBox from to p = IsBetween from.x to.x p.x × IsBetween from.y to.y p.y
+
+-- both ends of a slot are covered (docs/DEFINITIONS.md, What a shape covers)
+abbrev pub covers_ends : {S : Type 0} → (S → GridPoint → ℕ → Bool) → S → GridPoint → GridPoint → ℕ → Bool
+covers_ends covers s from to reach = covers s from reach && covers s to reach
+
+-- where the ends of a slot along an axis are covered, each point within the reach of some point of their box is a point of the shape (docs/DEFINITIONS.md, What a shape covers)
+abbrev pub HoldsSlots : {S : Type 0} → (S → GridPoint → Type 0) → (S → GridPoint → ℕ → Bool) → Type 0
+HoldsSlots {S} points covers =
+    (s : S) (from to : GridPoint) (reach : ℕ) → IsAlongAxis from to → covers_ends covers s from to reach ≡ true → (c p : GridPoint) → IsInBox from to c → square_distance p c ≤ square reach → points s p
 
 -- a covered centre lies between the least and the greatest x (docs/DEFINITIONS.md, What a shape covers)
 abbrev pub CoversBetween : {S : Type 0} → (S → GridPoint → ℕ → Bool) → (S → ℤ) → (S → ℤ) → Type 0

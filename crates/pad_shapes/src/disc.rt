@@ -2,9 +2,10 @@
 
 ghost use Rattle.std.specs.Prelude.{◌≡◌, pos, ◌+ℤ◌, ◌-ℤ◌, ◌↔◌, IsSome, IfSome, unsigned_abs};
 ghost use Rattle.pad_shapes.specs.Shapes.{IsPadRadius, IsInDisc, disc_covers};
-ghost use Rattle.pad_shapes.specs.ShapeLaws.{disc_holds, disc_between, disc_extent};
+ghost use Rattle.pad_shapes.specs.ShapeLaws.{disc_holds, disc_holds_slots, disc_between, disc_extent};
 
 use crate::shape::{MAX_HALF_SIDE, PadShape};
+use crate::zone::{Zone, beyond_x, beyond_y, deep_within, is_within};
 use grid_units::{Point, square, square_distance};
 use std::marker::Model;
 
@@ -71,6 +72,8 @@ impl PadShape for Disc {
 
     ghost holds = { disc_holds };
 
+    ghost holds_slots = { disc_holds_slots };
+
     ghost between = { disc_between };
 
     ghost extent = { disc_extent };
@@ -86,5 +89,18 @@ impl PadShape for Disc {
 
     fn right(&self) -> i64 {
         self.centre.x() + self.radius as i64
+    }
+
+    fn zone(&self, reach: u64) -> Option<Zone> {
+        Some(deep_within(self.centre, self.radius, self.radius, reach))
+    }
+
+    fn may_cover(&self, zone: &Zone, reach: u64) -> bool {
+        if self.radius < reach {
+            return false;
+        }
+        let dx = beyond_x(zone, self.centre);
+        let dy = beyond_y(zone, self.centre);
+        is_within(dx, dy, self.radius - reach)
     }
 }

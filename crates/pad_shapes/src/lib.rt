@@ -10,12 +10,14 @@ mod obround;
 mod pad;
 mod rect;
 mod shape;
+mod zone;
 
 pub use disc::Disc;
 pub use obround::Obround;
 pub use pad::Pad;
 pub use rect::Rect;
 pub use shape::{MAX_HALF_SIDE, MAX_REACH, PadShape};
+pub use zone::Zone;
 
 #[cfg(test)]
 mod tests;

@@ -2,9 +2,10 @@
 
 ghost use Rattle.std.specs.Prelude.{◌≡◌, pos, ◌≤◌, ◌+ℤ◌, ◌-ℤ◌, ◌↔◌, IsSome, IfSome, unsigned_abs};
 ghost use Rattle.pad_shapes.specs.Shapes.{IsHalfSide, IsInObround, end_radius, square_from_axis, obround_covers, max_half_side};
-ghost use Rattle.pad_shapes.specs.ShapeLaws.{obround_holds, obround_between, obround_extent};
+ghost use Rattle.pad_shapes.specs.ShapeLaws.{obround_holds, obround_holds_slots, obround_between, obround_extent};
 
 use crate::shape::{PadShape, is_half_side};
+use crate::zone::{Zone, beyond_x, beyond_y, deep_within, is_within};
 use grid_units::{Point, square, square_length};
 use std::marker::Model;
 
@@ -102,6 +103,8 @@ impl PadShape for Obround {
 
     ghost holds = { obround_holds };
 
+    ghost holds_slots = { obround_holds_slots };
+
     ghost between = { obround_between };
 
     ghost extent = { obround_extent };
@@ -118,5 +121,21 @@ impl PadShape for Obround {
 
     fn right(&self) -> i64 {
         self.centre.x() + self.half_x as i64
+    }
+
+    fn zone(&self, reach: u64) -> Option<Zone> {
+        Some(deep_within(self.centre, self.half_x, self.half_y, reach))
+    }
+
+    fn may_cover(&self, zone: &Zone, reach: u64) -> bool {
+        let radius = self.end_radius();
+        if radius < reach {
+            return false;
+        }
+        let dx = beyond_x(zone, self.centre);
+        let dy = beyond_y(zone, self.centre);
+        let past_x = dx.saturating_sub(self.half_x - radius);
+        let past_y = dy.saturating_sub(self.half_y - radius);
+        is_within(past_x, past_y, radius - reach)
     }
 }

@@ -2,12 +2,13 @@
 
 ghost use Rattle.std.specs.Prelude.{◌≡◌};
 ghost use Rattle.pad_shapes.specs.Pads.{IsInPad, pad_covers, pad_left, pad_right};
-ghost use Rattle.pad_shapes.specs.ShapeLaws.{pad_holds, pad_between, pad_extent};
+ghost use Rattle.pad_shapes.specs.ShapeLaws.{pad_holds, pad_holds_slots, pad_between, pad_extent};
 
 use crate::disc::Disc;
 use crate::obround::Obround;
 use crate::rect::Rect;
 use crate::shape::PadShape;
+use crate::zone::Zone;
 use grid_units::Point;
 
 /// A flashed pad.
@@ -31,6 +32,8 @@ impl PadShape for Pad {
     ghost right = { pad_right };
 
     ghost holds = { pad_holds };
+
+    ghost holds_slots = { pad_holds_slots };
 
     ghost between = { pad_between };
 
@@ -57,6 +60,22 @@ impl PadShape for Pad {
             Pad::Disc(disc) => disc.right(),
             Pad::Rect(rect) => rect.right(),
             Pad::Obround(obround) => obround.right(),
+        }
+    }
+
+    fn zone(&self, reach: u64) -> Option<Zone> {
+        match self {
+            Pad::Disc(disc) => disc.zone(reach),
+            Pad::Rect(rect) => rect.zone(reach),
+            Pad::Obround(obround) => obround.zone(reach),
+        }
+    }
+
+    fn may_cover(&self, zone: &Zone, reach: u64) -> bool {
+        match self {
+            Pad::Disc(disc) => disc.may_cover(zone, reach),
+            Pad::Rect(rect) => rect.may_cover(zone, reach),
+            Pad::Obround(obround) => obround.may_cover(zone, reach),
         }
     }
 }

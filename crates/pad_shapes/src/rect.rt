@@ -2,9 +2,10 @@
 
 ghost use Rattle.std.specs.Prelude.{◌≡◌, pos, ◌+ℤ◌, ◌-ℤ◌, ◌↔◌, IsSome, IfSome, unsigned_abs};
 ghost use Rattle.pad_shapes.specs.Shapes.{IsHalfSide, IsInRect, rect_covers};
-ghost use Rattle.pad_shapes.specs.ShapeLaws.{rect_holds, rect_between, rect_extent};
+ghost use Rattle.pad_shapes.specs.ShapeLaws.{rect_holds, rect_holds_slots, rect_between, rect_extent};
 
 use crate::shape::{PadShape, is_half_side};
+use crate::zone::{Zone, beyond_x, beyond_y, deep_within};
 use grid_units::Point;
 use std::marker::Model;
 
@@ -81,6 +82,8 @@ impl PadShape for Rect {
 
     ghost holds = { rect_holds };
 
+    ghost holds_slots = { rect_holds_slots };
+
     ghost between = { rect_between };
 
     ghost extent = { rect_extent };
@@ -98,5 +101,18 @@ impl PadShape for Rect {
 
     fn right(&self) -> i64 {
         self.centre.x() + self.half_x as i64
+    }
+
+    fn zone(&self, reach: u64) -> Option<Zone> {
+        Some(deep_within(self.centre, self.half_x, self.half_y, reach))
+    }
+
+    fn may_cover(&self, zone: &Zone, reach: u64) -> bool {
+        if self.half_x < reach || self.half_y < reach {
+            return false;
+        }
+        let dx = beyond_x(zone, self.centre);
+        let dy = beyond_y(zone, self.centre);
+        dx <= self.half_x - reach && dy <= self.half_y - reach
     }
 }

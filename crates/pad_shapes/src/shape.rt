@@ -1,9 +1,11 @@
 //! What every shape of a pad tells.
 
-ghost use Rattle.std.specs.Prelude.{◌≡◌, ℕ, ℤ, Bool, ◌↔◌, IsTrue, unsigned_abs};
+ghost use Rattle.std.specs.Prelude.{◌≡◌, ◌≤◌, ℕ, ℤ, Bool, false, ◌↔◌, IsTrue, IfSome, unsigned_abs};
 ghost use Rattle.grid_units.specs.Points.{GridPoint};
-ghost use Rattle.pad_shapes.specs.Shapes.{IsHalfSide, IsReach, HoldsWhatItCovers, CoversBetween, HasExtent};
+ghost use Rattle.pad_shapes.specs.Shapes.{IsHalfSide, IsReach, IsAlongAxis, covers_ends, HoldsWhatItCovers, HoldsSlots, CoversBetween, HasExtent};
+ghost use Rattle.pad_shapes.specs.Zones.{BoundsCentres, CoversNone};
 
+use crate::zone::Zone;
 use grid_units::Point;
 
 /// The largest radius of a pad and the largest half of a side, in pm: five metres.
@@ -15,7 +17,8 @@ pub const MAX_REACH: i64 = 20_000_000_000_000;
 /// A shape of copper.
 ///
 /// Its meaning is its points, the centres that it covers with a reach round them, and the least and the
-/// greatest x of its points. It holds each point within the reach of a centre that it covers.
+/// greatest x of its points. It holds each point within the reach of a centre that it covers, and of a slot along an
+/// axis whose two ends it covers.
 pub trait PadShape {
     /// Its points.
     ghost points: { Self → GridPoint → Type 0 };
@@ -35,6 +38,16 @@ pub trait PadShape {
         requires { IsReach reach }
         ensures { result ≡ covers self.now hole (unsigned_abs reach) };
 
+    /// Whether it covers both ends of a slot along an axis with this reach round them, in pm. The reach is from 0
+    /// to [`MAX_REACH`].
+    fn covers_slot(&self, from: Point, to: Point, reach: i64) -> bool
+        requires along { IsAlongAxis from to }
+        requires reach { IsReach reach }
+        ensures { result ≡ covers_ends covers self.now from to (unsigned_abs reach) }
+    {
+        self.covers(from, reach) && self.covers(to, reach)
+    }
+
     /// The least x of its points, in pm.
     fn left(&self) -> i64
         ensures { result ≡ left self.now };
@@ -43,8 +56,27 @@ pub trait PadShape {
     fn right(&self) -> i64
         ensures { result ≡ right self.now };
 
+    /// A zone of the centres that it covers with this reach or a greater one, if it tells any. The reach is in pm, up to
+    /// [`MAX_REACH`].
+    fn zone(&self, reach: u64) -> Option<Zone>
+        requires { reach ≤ 20000000000000 }
+        ensures { IfSome result (BoundsCentres covers self.now reach) }
+    {
+        None
+    }
+
+    /// Whether it may cover a centre of the zone with this reach or a greater one. `true` says nothing.
+    fn may_cover(&self, zone: &Zone, reach: u64) -> bool
+        ensures { result ≡ false → CoversNone covers self.now reach zone.now }
+    {
+        true
+    }
+
     /// Each point within the reach of a covered centre is a point of it.
     ghost holds: { HoldsWhatItCovers points covers };
+
+    /// Each point within the reach of a slot along an axis whose ends are covered is a point of it.
+    ghost holds_slots: { HoldsSlots points covers };
 
     /// A covered centre lies between the least and the greatest x.
     ghost between: { CoversBetween covers left right };

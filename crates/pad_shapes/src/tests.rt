@@ -78,3 +78,53 @@ fn lengths_out_of_range_are_refused(rt: HostRuntime) -> Result<(), Fail> {
     assert!(rt; Obround::new(centre, 1, 0).is_none());
     Ok(())
 }
+
+/// Whether a shape covers both ends of a slot along x with 0.375 mm round them.
+fn covers_lying<S: PadShape>(shape: &S, from: Point, to: Point) -> bool {
+    from.y() == to.y() && shape.covers_slot(from, to, 375_000_000)
+}
+
+#[test]
+fn a_slot_is_covered_by_its_two_ends(rt: HostRuntime) -> Result<(), Fail> {
+    let from = at(0, 0)?;
+    let to = at(2_000_000_000, 0)?;
+    let middle = at(1_000_000_000, 0)?;
+    let reach = 375_000_000;
+    let exact = Pad::Obround(Obround::new(middle, 1_375_000_000, reach).ok_or("exact")?);
+    assert!(rt; covers_lying(&exact, from, to));
+    assert!(rt; covers_lying(&exact, to, from));
+    assert!(rt; covers_lying(&exact, from, from));
+    let short = Pad::Obround(Obround::new(middle, 1_370_000_000, reach).ok_or("short")?);
+    assert!(rt; !covers_lying(&short, from, to));
+    let end = Disc::new(from, reach).ok_or("end")?;
+    assert!(rt; !covers_lying(&end, from, to));
+    assert!(rt; !covers_lying(&end, to, from));
+    let rect = Rect::new(middle, 1_375_000_000, reach).ok_or("rect")?;
+    assert!(rt; covers_lying(&rect, from, to));
+    Ok(())
+}
+
+#[test]
+fn a_zone_holds_what_may_be_covered(rt: HostRuntime) -> Result<(), Fail> {
+    let disc = Disc::new(at(0, 0)?, 825_000_000).ok_or("disc")?;
+    let zone = disc.zone(325_000_000).ok_or("zone")?;
+    assert_eq!(rt; (zone.left, zone.right), (-500_000_000, 500_000_000));
+    assert_eq!(rt; (zone.bottom, zone.top), (-500_000_000, 500_000_000));
+    assert!(rt; disc.may_cover(&zone, 325_000_000));
+    let rim = Zone {
+        left: 300_000_000,
+        bottom: 400_000_000,
+        ..zone
+    };
+    assert!(rt; disc.may_cover(&rim, 325_000_000));
+    assert!(rt;
+        !disc.may_cover(
+            &Zone {
+                left: 300_001_000,
+                ..rim
+            },
+            325_000_000
+        )
+    );
+    Ok(())
+}

@@ -2,18 +2,17 @@
 use Rattle.std.proofs.Common.{◌≡◌, ℕ, ◌+◌, ◌<◌, ◌⊎◌, inl, inr, zero, suc, List, [], ◌∷◌, ◌++◌, map, length, get_or, refl, sym, ap, ◌∙◌, subst, arith, Bool, true, false}
 use Rattle.std.specs.Prelude.{nat_eq, ◌&&◌}
 use Rattle.std.specs.List.{All, AllPairs, Contains, IsDistinct}
-use Rattle.std.specs.List.Sorted.{IsSorted, IsPermutation}
+use Rattle.std.specs.List.Sorted.{IsSorted, IsPermutation, IsStrictlySortedBy}
 use Rattle.std.specs.declared.cmp.Ordering.{Ordering}
-use Rattle.std.specs.Ordering.{nat_cmp, ordering_then, is_lt}
+use Rattle.std.specs.declared.cmp.Ordering.TheVariants.{Less}
+use Rattle.std.specs.Ordering.{nat_cmp, ordering_then, is_lt, eq_by_cmp}
+use Rattle.std.specs.Cmp.{IsTotalOrder, nat_cmp_total, on_total, then_total, both_tied, unsigned_ties, IsEquivalence, nat_eq_equiv, on_equiv, and_equiv}
 use Rattle.std.proofs.lemmas.Bool.{cases_lt, cases_eq}
 use Rattle.std.proofs.lemmas.Bool.Decides.{nat_tests}
-use Rattle.std.proofs.lemmas.List.Elements.{All-nil, All-cons, All-head, All-tail, All-append, All-map, All-weaker, All-contains}
+use Rattle.std.proofs.lemmas.List.Elements.{All-nil, All-cons, All-head, All-tail, All-append, All-map, All-weaker, All-contains, All-from_recursion}
 use Rattle.std.proofs.lemmas.List.Kept.{AllPairs-cons}
+use Rattle.ring_rules.specs.Meeting.{Before}
 use Rattle.std.proofs.lemmas.Map.Keys.{IsDistinct-from_apart, IsDistinct-IsPermutation, apart_from_distinct}
-
--- by the first place, and then by the second
-abbrev pub Before : ℕ × ℕ → ℕ × ℕ → Type 0
-Before p q = (p.0 < q.0) ⊎ ((p.0 ≡ q.0) × (p.1 < q.1))
 
 before_trans : (p q r : ℕ × ℕ) → Before p q → Before q r → Before p r
 before_trans p q r h k = elim h [
@@ -184,3 +183,41 @@ differ_permutation ps qs same differ =
     let distinct : IsDistinct same_pair ps = IsDistinct-from_apart same_pair ps (λ i j d h k. differ_test (get_or ps i d) (get_or ps j d) (differ i j d h k)) in
     let distinct' : IsDistinct same_pair qs = IsDistinct-IsPermutation same_pair same_flips ps qs same distinct in
     λ i j d h k. test_differs (get_or qs i d) (get_or qs j d) (apart_from_distinct same_pair qs i j d distinct' h k)
+
+less_before : (p q : ℕ × ℕ) → pair_cmp p q ≡ Less → Before p q
+less_before p q e = elim (cases_lt p.0 q.0) [
+  | inl less ↦ inl less
+  | inr no_less ↦ elim (cases_lt q.0 p.0) [
+    | inl more ↦ absurd (grind (arith, nat_tests))
+    | inr same ↦
+        let first : p.0 ≡ q.0 = omega (arith, no_less, same) in
+        elim (cases_lt p.1 q.1) [
+          | inl less' ↦ inr (first, less')
+          | inr no_less' ↦ absurd (grind (arith, nat_tests))
+        ]
+  ]
+]
+
+-- a list of pairs in which none is equal to the next
+pub rising_from_strict : (ps : List (ℕ × ℕ)) → IsStrictlySortedBy pair_cmp ps → AllPairs Before ps
+unfolding IsStrictlySortedBy
+rising_from_strict [] up = pairs_none Before
+rising_from_strict (p ∷ ps) up = AllPairs-cons Before p ps (All-weaker (λ q. pair_cmp p q ≡ Less) (Before p) (λ q. less_before p q) ps (All-from_recursion (λ q. pair_cmp p q ≡ Less) ps up.0)) (rising_from_strict ps up.1)
+
+pub pairs_total : IsTotalOrder pair_cmp
+pairs_total = then_total (on_total (λ (p : ℕ × ℕ). p.0) nat_cmp_total) (on_total (λ (p : ℕ × ℕ). p.1) nat_cmp_total)
+
+abbrev pub pair_eq : ℕ × ℕ → ℕ × ℕ → Bool
+pair_eq p q = nat_eq p.0 q.0 && nat_eq p.1 q.1
+
+pub pairs_tie : (p q : ℕ × ℕ) → pair_eq p q ≡ eq_by_cmp pair_cmp p q
+pairs_tie p q = both_tied (nat_eq p.0 q.0) (nat_eq p.1 q.1) (nat_cmp p.0 q.0) (nat_cmp p.1 q.1) (unsigned_ties p.0 q.0) (unsigned_ties p.1 q.1)
+
+pub pairs_equal : IsEquivalence pair_eq
+pairs_equal = and_equiv (on_equiv (λ (p : ℕ × ℕ). p.0) nat_eq_equiv) (on_equiv (λ (p : ℕ × ℕ). p.1) nat_eq_equiv)
+
+pub pairs_same : (p q : ℕ × ℕ) → pair_eq p q ≡ true → p ≡ q
+pairs_same p q e =
+    let first : p.0 ≡ q.0 = grind (arith, nat_tests) in
+    let second : p.1 ≡ q.1 = grind (arith, nat_tests) in
+    λ i. (first i, second i)

@@ -1,29 +1,40 @@
 -- What the rules find at the holes of a board, in order.
-use Rattle.std.specs.Prelude.{ℕ, ◌+◌, Bool, not, ◌&&◌, nat_lt, List, map}
+use Rattle.std.specs.Prelude.{ℕ, ◌+◌, Bool, not, ◌&&◌, ◌||◌, nat_lt, List, map, if◌then◌else◌}
+use Rattle.std.specs.Ordering.{int_eq}
 use Rattle.std.specs.List.{filter, flat_map, enumerate_from, list_any}
 use Rattle.grid_units.specs.Points.{GridPoint}
-use Rattle.grid_units.specs.Holes.{GridHole, is_round}
+use Rattle.grid_units.specs.Holes.{GridHole}
+use Rattle.pad_shapes.specs.Shapes.{covers_ends}
 use Rattle.ring_rules.specs.Cores.{are_clear}
+use Rattle.grid_units.specs.Spans.{is_in_span}
 use Rattle.ring_rules.specs.declared.finding.Drilled.{Drilled}
 use Rattle.ring_rules.specs.declared.finding.Finding.{Finding}
-use Rattle.ring_rules.specs.declared.finding.Finding.TheVariants.{Ring, Gap}
+use Rattle.ring_rules.specs.declared.finding.Finding.TheVariants.{Ring, Oblique, Gap}
 
--- a shape covers a hole with the ring round it (docs/DEFINITIONS.md, Findings)
+-- the ends of a hole differ in x and in y (docs/DEFINITIONS.md, Findings)
+abbrev pub is_oblique : GridHole → Bool
+is_oblique h = not (int_eq h.from.x h.to.x) && not (int_eq h.from.y h.to.y)
+
+-- a shape covers a hole with the ring round it: it covers both ends, which are one point where the hole is round (docs/DEFINITIONS.md, Findings)
 abbrev pub covers_hole : {S : Type 0} → (S → GridPoint → ℕ → Bool) → ℕ → GridHole → S → Bool
-covers_hole covers ring h pad = covers pad h.from (h.radius + ring)
+covers_hole covers ring h pad = covers_ends covers pad h.from h.to (h.radius + ring)
 
--- a plated round hole that no single pad covers with the ring round it (docs/DEFINITIONS.md, Findings)
-abbrev pub is_wanting : {S : Type 0} → (S → GridPoint → ℕ → Bool) → ℕ → List S → Drilled → Bool
-is_wanting covers ring pads d = (d.plated && is_round d.hole) && not (list_any (covers_hole covers ring d.hole) pads)
+-- an oblique slot, or a hole that no single pad covers with the ring round it (docs/DEFINITIONS.md, Findings)
+abbrev pub lacks_ring : {S : Type 0} → (S → GridPoint → ℕ → Bool) → ℕ → List S → GridHole → Bool
+lacks_ring covers ring pads h = is_oblique h || not (list_any (covers_hole covers ring h) pads)
+
+-- a plated hole that goes through the layer and lacks its ring among the pads (docs/DEFINITIONS.md, Findings)
+abbrev pub is_wanting : {S : Type 0} → (S → GridPoint → ℕ → Bool) → ℕ → ℕ → List S → Drilled → Bool
+is_wanting covers ring layer pads d = (d.plated && is_in_span layer d.span) && lacks_ring covers ring pads d.hole
 
 -- what is found on a layer at a hole that lacks its ring there (docs/DEFINITIONS.md, Findings)
 abbrev pub finding_of : ℕ → ℕ × Drilled → Finding
-finding_of layer hole = Ring layer hole.0
+finding_of layer hole = if is_oblique hole.1.hole then Oblique layer hole.0 else Ring layer hole.0
 
 -- the findings on one layer, by hole (docs/DEFINITIONS.md, Findings)
 abbrev pub layer_findings : {S : Type 0} → (S → GridPoint → ℕ → Bool) → ℕ → List Drilled → ℕ → List S → List Finding
 layer_findings covers ring holes layer pads =
-    map (finding_of layer) (filter (λ hole. is_wanting covers ring pads hole.1) (enumerate_from 0 holes))
+    map (finding_of layer) (filter (λ hole. is_wanting covers ring layer pads hole.1) (enumerate_from 0 holes))
 
 -- the findings on all layers, by layer and then by hole (docs/DEFINITIONS.md, Findings)
 abbrev pub ring_findings : {S : Type 0} → (S → GridPoint → ℕ → Bool) → ℕ → List (List S) → List Drilled → List Finding

@@ -1,29 +1,43 @@
--- What a sweep along x over the holes meets: the pairs that are not clear, in the order of the sweep.
-use Rattle.std.specs.Prelude.{ℕ, ℤ, pos, ◌+ℤ◌, ◌-ℤ◌, min, max, not, List, map}
-use Rattle.std.specs.Int.{int_min, int_max}
-use Rattle.std.specs.List.{filter, flat_map}
+-- Pairs of holes that are not clear, as each hole looks for those that are no larger.
+use Rattle.std.specs.Prelude.{◌≡◌, ℕ, ◌<◌, ◌⊎◌, min, max, false, List, length, get_or}
+use Rattle.std.specs.List.{Contains}
+use Rattle.grid_units.specs.Points.{apart}
 use Rattle.grid_units.specs.Holes.{GridHole}
-use Rattle.grid_units.specs.Lists.{positions}
 use Rattle.ring_rules.specs.Cores.{are_clear}
+use Rattle.ring_rules.specs.Places.{nowhere}
 use Rattle.ring_rules.specs.declared.finding.Drilled.{Drilled}
 
--- the least x of a hole's points (docs/DEFINITIONS.md, The sweeps)
-abbrev pub hole_left : GridHole → ℤ
-hole_left h = int_min h.from.x h.to.x -ℤ pos h.radius
-
--- the greatest x of a hole's points (docs/DEFINITIONS.md, The sweeps)
-abbrev pub hole_right : GridHole → ℤ
-hole_right h = int_max h.from.x h.to.x +ℤ pos h.radius
-
--- the lesser of two places, and the greater (docs/DEFINITIONS.md, The sweeps)
+-- the lesser of two places, and the greater (docs/DEFINITIONS.md, The pairs)
 abbrev pub in_order : ℕ → ℕ → ℕ × ℕ
 in_order a b = (min a b, max a b)
 
--- the places of a hole with those of others that are not clear of it (docs/DEFINITIONS.md, The sweeps)
-abbrev pub clashes_with : ℕ → List (ℕ × Drilled) → ℕ → GridHole → List (ℕ × ℕ)
-clashes_with gap others place hole =
-    map (λ other. in_order other.0 place) (filter (λ other. not (are_clear gap other.1.hole hole)) others)
+-- the hole at a place of the list
+abbrev pub hole_at : List Drilled → ℕ → GridHole
+hole_at holes k = (get_or holes k nowhere).hole
 
--- the places of each hole with those before it that are not clear of it (docs/DEFINITIONS.md, The sweeps)
-abbrev pub clashes_met : ℕ → List (ℕ × Drilled) → List (ℕ × ℕ)
-clashes_met gap holes = flat_map (λ p. clashes_with gap p.0 p.1.0 p.1.1.hole) (positions holes)
+-- the longer side of a hole's core (docs/DEFINITIONS.md, The pairs)
+abbrev pub length_of : GridHole → ℕ
+length_of h = max (apart h.from.x h.to.x) (apart h.from.y h.to.y)
+
+-- the radius of a hole, or the longer side of its core where that is more (docs/DEFINITIONS.md, The pairs)
+abbrev pub size_of : GridHole → ℕ
+size_of h = max h.radius (length_of h)
+
+-- two places of the list in their order, with holes that are not clear (docs/DEFINITIONS.md, The pairs)
+pub record IsClash (gap : ℕ) (holes : List Drilled) (p : ℕ × ℕ) : Type 0 where
+  pub ordered : p.0 < p.1
+  pub inside : p.1 < length holes
+  pub near : (d : Drilled) → are_clear gap (get_or holes p.0 d).hole (get_or holes p.1 d).hole ≡ false
+
+-- pairs were added that are clashes, and none was lost (docs/DEFINITIONS.md, The pairs)
+pub record AddsClashes (gap : ℕ) (holes : List Drilled) (before after : List (ℕ × ℕ)) : Type 0 where
+  pub kept : (p : ℕ × ℕ) → Contains before p → Contains after p
+  pub sound : (p : ℕ × ℕ) → Contains after p → Contains before p ⊎ IsClash gap holes p
+
+-- the pair of a hole and another one is there, where these are not clear (docs/DEFINITIONS.md, The pairs)
+pub record IsFound (gap : ℕ) (holes : List Drilled) (place other : ℕ) (pairs : List (ℕ × ℕ)) : Type 0 where
+  pub there : ¬ (other ≡ place) → are_clear gap (hole_at holes other) (hole_at holes place) ≡ false → Contains pairs (in_order other place)
+
+-- by the first place, and then by the second (docs/DEFINITIONS.md, The pairs)
+abbrev pub Before : ℕ × ℕ → ℕ × ℕ → Type 0
+Before p q = (p.0 < q.0) ⊎ ((p.0 ≡ q.0) × (p.1 < q.1))

@@ -2,11 +2,13 @@
 use Rattle.std.specs.Prelude.{◌≡◌, ◌+◌, ◌<◌, ◌≤◌, ℕ, Bool, true, List, [], length, get_or}
 use Rattle.std.specs.List.{Contains, All}
 use Rattle.grid_units.specs.Points.{GridPoint, square, square_distance}
-use Rattle.grid_units.specs.Holes.{GridHole, AreClear, AreApart}
-use Rattle.ring_rules.specs.Findings.{ring_findings, gap_findings}
+use Rattle.grid_units.specs.Holes.{GridHole, IsInCore, AreClear, AreApart}
+use Rattle.pad_shapes.specs.Shapes.{IsAlongAxis}
+use Rattle.ring_rules.specs.Findings.{is_oblique, ring_findings, gap_findings}
+use Rattle.grid_units.specs.Spans.{is_in_span}
 use Rattle.ring_rules.specs.declared.finding.Drilled.{Drilled}
 use Rattle.ring_rules.specs.declared.finding.Finding.{Finding}
-use Rattle.ring_rules.specs.declared.finding.Finding.TheVariants.{Ring, Gap}
+use Rattle.ring_rules.specs.declared.finding.Finding.TheVariants.{Ring, Oblique, Gap}
 
 -- a round hole is held: one of the shapes has each point within the radius and the ring of its centre (docs/DEFINITIONS.md, Held and apart)
 pub record IsHeld {S : Type 0} (points : S → GridPoint → Type 0) (ring : ℕ) (pads : List S) (hole : GridHole) : Type 0 where
@@ -14,10 +16,26 @@ pub record IsHeld {S : Type 0} (points : S → GridPoint → Type 0) (ring : ℕ
   pub flashed : Contains pads pad
   pub holds : (p : GridPoint) → square_distance p hole.from ≤ square (hole.radius + ring) → points pad p
 
--- each plated round hole is held on each layer (docs/DEFINITIONS.md, Held and apart)
+-- a slot is held: one of the shapes has each point within the radius and the ring of some point of its core (docs/DEFINITIONS.md, Held and apart)
+pub record IsSlotHeld {S : Type 0} (points : S → GridPoint → Type 0) (ring : ℕ) (pads : List S) (hole : GridHole) : Type 0 where
+  pub pad : S
+  pub flashed : Contains pads pad
+  pub holds : (c p : GridPoint) → IsInCore hole c → square_distance p c ≤ square (hole.radius + ring) → points pad p
+
+-- each plated round hole is held on each layer of its span (docs/DEFINITIONS.md, Held and apart)
 abbrev pub AreHeld : {S : Type 0} → (S → GridPoint → Type 0) → ℕ → List (List S) → List Drilled → Type 0
 AreHeld {S} points ring layers holes =
-    (l : ℕ) (d : Drilled) → l < length layers → Contains holes d → d.plated ≡ true → d.hole.from ≡ d.hole.to → IsHeld points ring (get_or layers l []) d.hole
+    (l : ℕ) (d : Drilled) → l < length layers → Contains holes d → d.plated ≡ true → is_in_span l d.span ≡ true → d.hole.from ≡ d.hole.to → IsHeld points ring (get_or layers l []) d.hole
+
+-- each plated slot along an axis is held on each layer of its span (docs/DEFINITIONS.md, Held and apart)
+abbrev pub AreSlotsHeld : {S : Type 0} → (S → GridPoint → Type 0) → ℕ → List (List S) → List Drilled → Type 0
+AreSlotsHeld {S} points ring layers holes =
+    (l : ℕ) (d : Drilled) → l < length layers → Contains holes d → d.plated ≡ true → is_in_span l d.span ≡ true → IsAlongAxis d.hole.from d.hole.to → IsSlotHeld points ring (get_or layers l []) d.hole
+
+-- each plated hole with a layer in its span is round or a slot along an axis (docs/DEFINITIONS.md, Held and apart)
+abbrev pub AreAlongAxes : {S : Type 0} → List (List S) → List Drilled → Type 0
+AreAlongAxes layers holes =
+    (l : ℕ) (d : Drilled) → l < length layers → Contains holes d → d.plated ≡ true → is_in_span l d.span ≡ true → IsAlongAxis d.hole.from d.hole.to
 
 -- the holes at each two places of the list are clear, and apart (docs/DEFINITIONS.md, Held and apart)
 abbrev pub AreAllApart : ℕ → List Drilled → Type 0
@@ -29,6 +47,23 @@ abbrev pub HoldsWhenNoneWant : {S : Type 0} → (S → GridPoint → Type 0) →
 HoldsWhenNoneWant {S} points covers =
     (ring : ℕ) (layers : List (List S)) (holes : List Drilled) → ring_findings covers ring layers holes ≡ [] → AreHeld points ring layers holes
 
+-- where no ring is found wanting, each plated slot along an axis is held (docs/DEFINITIONS.md, Held and apart)
+abbrev pub HoldsSlotsWhenNoneWant : {S : Type 0} → (S → GridPoint → Type 0) → (S → GridPoint → ℕ → Bool) → Type 0
+HoldsSlotsWhenNoneWant {S} points covers =
+    (ring : ℕ) (layers : List (List S)) (holes : List Drilled) → ring_findings covers ring layers holes ≡ [] → AreSlotsHeld points ring layers holes
+
+-- where no ring is found wanting, no plated slot is oblique (docs/DEFINITIONS.md, Held and apart)
+abbrev pub StraightWhenNoneWant : {S : Type 0} → (S → GridPoint → ℕ → Bool) → Type 0
+StraightWhenNoneWant {S} covers =
+    (ring : ℕ) (layers : List (List S)) (holes : List Drilled) → ring_findings covers ring layers holes ≡ [] → AreAlongAxes layers holes
+
+-- an oblique plated slot is a finding of its own kind on each layer of its span (docs/DEFINITIONS.md, Findings)
+abbrev pub FindsOblique : {S : Type 0} → (S → GridPoint → ℕ → Bool) → Type 0
+FindsOblique {S} covers =
+    (ring : ℕ) (layers : List (List S)) (holes : List Drilled) (l h : ℕ) (d : Drilled) → l < length layers → h < length holes
+    → (get_or holes h d).plated ≡ true → is_in_span l (get_or holes h d).span ≡ true → is_oblique (get_or holes h d).hole ≡ true
+    → Contains (ring_findings covers ring layers holes) (Oblique l h)
+
 -- where no gap is found wanting, the holes at each two places are clear, and apart (docs/DEFINITIONS.md, Held and apart)
 abbrev pub ApartWhenNoneClash : Type 0
 ApartWhenNoneClash = (gap : ℕ) (holes : List Drilled) → gap_findings gap holes ≡ [] → AreAllApart gap holes
@@ -36,6 +71,7 @@ ApartWhenNoneClash = (gap : ℕ) (holes : List Drilled) → gap_findings gap hol
 -- a finding names a layer and a hole, or two holes in their order, of so many layers and holes (docs/DEFINITIONS.md, Findings)
 abbrev pub NamesPlaces : ℕ → ℕ → Finding → Type 0
 NamesPlaces layers holes (Ring layer hole) = (layer < layers) × (hole < holes)
+NamesPlaces layers holes (Oblique layer hole) = (layer < layers) × (hole < holes)
 NamesPlaces layers holes (Gap first second) = (first < second) × (second < holes)
 
 -- each finding of a ring names a layer and a hole of the lists (docs/DEFINITIONS.md, Findings)

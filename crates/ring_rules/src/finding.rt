@@ -1,21 +1,34 @@
 //! The holes of a board, and what is found at them.
 
-use grid_units::Hole;
+ghost use Rattle.std.specs.Prelude.{◌≡◌, false};
+ghost use Rattle.pad_shapes.specs.Shapes.{IsAlongAxis};
+ghost use Rattle.ring_rules.specs.Findings.{is_oblique};
 
-/// A hole of a board, and whether its wall is plated.
+use grid_units::{Hole, Span};
+
+/// A hole of a board, whether its wall is plated, and the layers that it goes through.
 #[derive(Clone, Copy, Debug, PartialEq, Eq)]
 pub struct Drilled {
     /// The hole.
     pub hole: Hole,
     /// Whether its wall is plated.
     pub plated: bool,
+    /// The layers that it goes through: all where there is no span.
+    pub span: Option<Span>,
 }
 
 /// Where a rule is broken. Layers and holes are named by their places in the lists that were judged, from 0.
 #[derive(Clone, Copy, Debug, PartialEq, Eq)]
 pub enum Finding {
-    /// A plated round hole that no single pad of a layer covers with the ring round it.
+    /// A plated hole, round or a slot along an axis, that no single pad of a layer covers with the ring round it.
     Ring {
+        /// The layer.
+        layer: usize,
+        /// The hole.
+        hole: usize,
+    },
+    /// A plated slot whose ends differ in x and in y.
+    Oblique {
         /// The layer.
         layer: usize,
         /// The hole.
@@ -28,4 +41,12 @@ pub enum Finding {
         /// The hole that comes later.
         second: usize,
     },
+}
+
+/// Whether the ends of a hole differ in x and in y.
+pub(crate) fn is_oblique(hole: &Hole) -> bool
+    ensures test { result ≡ is_oblique hole.now }
+    ensures along { result ≡ false → IsAlongAxis hole.now.from hole.now.to }
+{
+    hole.from().x() != hole.to().x() && hole.from().y() != hole.to().y()
 }

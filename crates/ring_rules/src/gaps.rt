@@ -1,12 +1,14 @@
 //! The gaps between holes.
 
-ghost use Rattle.std.specs.Prelude.{◌≡◌, map, IfOk};
+ghost use Rattle.std.specs.Prelude.{◌≡◌, ℕ, map, IfOk};
+ghost use Rattle.std.specs.List.{AllPairs, Contains};
 ghost use Rattle.std.specs.List.Sorted.{IsPermutation, IsSorted};
 ghost use Rattle.std.specs.Ordering.{nat_cmp, ordering_then};
 ghost use Rattle.ring_rules.specs.Findings.{gap_findings};
+ghost use Rattle.ring_rules.specs.Meeting.{Before};
 
 use crate::finding::{Drilled, Finding};
-use crate::gap_sweep::{clashes, holes_by_left};
+use crate::near::clashes;
 use grid_units::Rules;
 use std::alloc::{AllocError, Global};
 
@@ -16,6 +18,16 @@ fn sort_pairs(pairs: &mut Vec<(usize, usize)>)
     ensures sorted { IsSorted (λ p q. ordering_then (nat_cmp p.0 q.0) (nat_cmp p.1 q.1)) pairs.new.items }
 {
     pairs.sort_unstable();
+}
+
+/// Keeps one of each of the pairs that are equal.
+fn keep_one_of_each(pairs: &mut Vec<(usize, usize)>)
+    requires { IsSorted (λ p q. ordering_then (nat_cmp p.0 q.0) (nat_cmp p.1 q.1)) pairs.old.items }
+    ensures rising { AllPairs Before pairs.new.items }
+    ensures kept { (p : ℕ × ℕ) → Contains pairs.old.items p → Contains pairs.new.items p }
+    ensures none { (p : ℕ × ℕ) → Contains pairs.new.items p → Contains pairs.old.items p }
+{
+    pairs.dedup();
 }
 
 /// The findings at pairs of places.
@@ -41,8 +53,8 @@ pub fn gap_findings(
 ) -> Result<Vec<Finding>, AllocError>
     ensures { IfOk result (λ findings. findings.items ≡ gap_findings rules.gap holes.now) }
 {
-    let by_left = holes_by_left(alloc, holes)?;
-    let mut pairs = clashes(alloc, &by_left, rules)?;
+    let mut pairs = clashes(alloc, holes, rules)?;
     sort_pairs(&mut pairs);
+    keep_one_of_each(&mut pairs);
     gaps_at(alloc, &pairs)
 }

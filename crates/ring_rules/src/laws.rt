@@ -1,7 +1,7 @@
 //! Laws of what the rules find. A call of one does nothing, and gives its clause.
 
 ghost use Rattle.ring_rules.specs.Cores.{ClearHolesAreApart};
-ghost use Rattle.ring_rules.specs.Passing.{HoldsWhenNoneWant, ApartWhenNoneClash, RingsNamePlaces, GapsNamePlaces};
+ghost use Rattle.ring_rules.specs.Passing.{HoldsWhenNoneWant, HoldsSlotsWhenNoneWant, StraightWhenNoneWant, FindsOblique, ApartWhenNoneClash, RingsNamePlaces, GapsNamePlaces};
 
 use pad_shapes::PadShape;
 
@@ -10,9 +10,17 @@ pub fn clear_holes_are_apart()
     ensures { ClearHolesAreApart }
 {}
 
-/// Where no ring is found wanting, one pad of each layer holds each plated round hole with the ring round it.
+/// Where no ring is found wanting, on each layer of its span one pad holds each plated round hole and each plated
+/// slot along an axis with the ring round it, and no plated slot is oblique.
 pub fn rings_hold<S: PadShape>()
-    ensures { HoldsWhenNoneWant S.points S.covers }
+    ensures rounds { HoldsWhenNoneWant S.points S.covers }
+    ensures slots { HoldsSlotsWhenNoneWant S.points S.covers }
+    ensures straight { StraightWhenNoneWant S.covers }
+{}
+
+/// An oblique plated slot is a finding of a kind of its own on each layer of its span.
+pub fn oblique_slots_are_found<S: PadShape>()
+    ensures { FindsOblique S.covers }
 {}
 
 /// Where no gap is found wanting, each two places in the list of holes have holes that are clear, hence apart.

@@ -3,17 +3,29 @@
 //! All lengths are whole picometres (pm).
 #![tactic(auto)]
 
+mod blocks;
+mod board;
+mod cells;
+mod clashes;
 mod cores;
+mod crowds;
+mod dividing;
 mod finding;
-mod gap_sweep;
 mod gaps;
 pub mod laws;
-mod ring_sweep;
+mod marks;
+mod near;
+mod pads;
+mod places;
+mod regions;
 mod rings;
+mod scale;
+mod shape;
 
 pub use cores::clear_of;
 pub use finding::{Drilled, Finding};
 pub use gaps::gap_findings;
+pub use grid_units::Span;
 pub use rings::ring_findings;
 
 #[cfg(test)]

@@ -1,51 +1,68 @@
 //! The rings of copper round plated holes.
 
-ghost use Rattle.std.specs.Prelude.{◌≡◌, ◌++◌, map, unsigned_abs, IfOk, OnOk};
-ghost use Rattle.std.specs.List.{list_any, filter, enumerate_from};
-ghost use Rattle.pad_shapes.specs.Shapes.{IsReach};
-ghost use Rattle.ring_rules.specs.Findings.{is_wanting, ring_findings};
+ghost use Rattle.std.specs.Prelude.{◌≡◌, ◌++◌, Bool, length, map, IfOk, OnOk};
+ghost use Rattle.std.specs.List.{filter, enumerate_from};
+ghost use Rattle.ring_rules.specs.Findings.{finding_of, ring_findings};
+ghost use Rattle.ring_rules.specs.declared.finding.Drilled.{Drilled};
 
-use crate::finding::{Drilled, Finding};
-use crate::ring_sweep::{holes_by_x, wanting};
-use grid_units::{Point, Rules};
+use crate::board::lay_out;
+use crate::finding::{Drilled, Finding, is_oblique};
+use crate::pads::wanting;
+use crate::shape::drawn;
+use grid_units::Rules;
 use pad_shapes::PadShape;
 use std::alloc::{AllocError, Global};
 
-/// Whether some pad covers the centre with the reach round it.
-fn is_covered<S: PadShape>(pads: &[&S], centre: Point, reach: i64) -> bool
-    requires { IsReach reach }
-    ensures { result ≡ list_any (λ pad. S.covers pad.now centre (unsigned_abs reach)) pads.now }
+/// What is found at a hole that lacks its ring.
+fn finding_of(layer: usize, hole: usize, drilled: &Drilled) -> Finding
+    ensures { result ≡ finding_of layer (hole, drilled.now) }
 {
-    pads.iter().any(|pad| pad.covers(centre, reach))
-}
-
-/// Whether a hole is plated and round and no single one of the pads covers it with the ring round it.
-pub fn is_wanting<S: PadShape>(pads: &[&S], drilled: &Drilled, rules: Rules) -> bool
-    ensures { result ≡ is_wanting (λ pad. S.covers pad.now) rules.ring pads.now drilled.now }
-{
-    let hole = &drilled.hole;
-    let reach = hole.radius() + rules.ring();
-    drilled.plated && hole.is_round() && !is_covered(pads, hole.from(), reach)
+    if is_oblique(&drilled.hole) {
+        Finding::Oblique { layer, hole }
+    } else {
+        Finding::Ring { layer, hole }
+    }
 }
 
 /// Appends the findings of one layer, by the mark of each hole that lacks its ring there.
 fn layer_findings(
     findings: &mut Vec<Finding>,
     layer: usize,
+    holes: &[Drilled],
     wanting: &[bool],
 ) -> Result<(), AllocError>
-    ensures { OnOk result (findings.new.items ≡ findings.old.items ++ map (λ hole. Finding.Ring layer hole.0) (filter (λ hole. hole.1) (enumerate_from 0 wanting.now))) }
+    requires { length wanting.now ≡ length holes.now }
+    ensures { OnOk result ((test : Drilled → Bool) → wanting.now ≡ map test holes.now → findings.new.items ≡ findings.old.items ++ map (finding_of layer) (filter (λ hole. test hole.1) (enumerate_from 0 holes.now))) }
 {
-    for (hole, lacks) in wanting.iter().enumerate() {
-        if *lacks {
-            findings.push(Finding::Ring { layer, hole })?;
+    for (hole, drilled) in holes.iter().enumerate() {
+        if wanting[hole] {
+            findings.push(finding_of(layer, hole, drilled))?;
         }
     }
     Ok(())
 }
 
-/// Lists, layer by layer and hole by hole, each plated round hole that no single pad of that layer covers with
-/// the ring round it.
+/// How wide and how high the zones of the pads are in the middle, of a sample. Any answer is right.
+fn asked<S: PadShape>(layers: &[&[S]]) -> (u64, u64) {
+    let mut width: u64 = 0;
+    let mut height: u64 = 0;
+    let mut count: u64 = 0;
+    for pads in layers {
+        for draw in 0..(pads.len() as u64).min(256) {
+            if let Some(pad) = pads.get(drawn(draw, pads.len())) {
+                if let Some(zone) = pad.zone(0) {
+                    width = width.saturating_add(zone.left.abs_diff(zone.right));
+                    height = height.saturating_add(zone.bottom.abs_diff(zone.top));
+                    count = count.saturating_add(1);
+                }
+            }
+        }
+    }
+    (width / count.max(1), height / count.max(1))
+}
+
+/// Lists, layer by layer and hole by hole, each plated hole that goes through the layer and is an oblique slot, or
+/// that no single pad of the layer covers with the ring round it.
 ///
 /// # Errors
 ///
@@ -58,11 +75,12 @@ pub fn ring_findings<S: PadShape>(
 ) -> Result<Vec<Finding>, AllocError>
     ensures { IfOk result (λ findings. findings.items ≡ ring_findings S.covers rules.ring (map (λ pads. pads.now) layers.now) holes.now) }
 {
-    let by_x = holes_by_x(alloc, holes)?;
+    let (width, height) = asked(layers);
+    let board = lay_out(alloc, holes, rules, width, height)?;
     let mut findings = Vec::new(alloc);
     for (layer, pads) in layers.iter().enumerate() {
-        let wanting = wanting(alloc, pads, holes, &by_x, rules)?;
-        layer_findings(&mut findings, layer, &wanting)?;
+        let wanting = wanting(alloc, layer, pads, holes, &board, rules)?;
+        layer_findings(&mut findings, layer, holes, &wanting)?;
     }
     Ok(findings)
 }

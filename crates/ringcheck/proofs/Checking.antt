@@ -1,5 +1,5 @@
 -- What the parts of a check say together.
-use Rattle.std.proofs.Common.{◌≡◌, ◌≢◌, ◌<◌, ℕ, List, [], ◌∷◌, Option, Ok, Err, length, inl, inr, arith, refl}
+use Rattle.std.proofs.Common.{◌≡◌, ◌≢◌, ◌<◌, ◌≤◌, ℕ, List, [], ◌∷◌, Option, Ok, Err, length, ◌⊎◌, inl, inr, arith, refl}
 use Rattle.std.specs.Io.KnownBytes.{Appends}
 use Rattle.grid_units.specs.Holes.{GridRules}
 use Rattle.grid_units.specs.declared.fault.Fault.{Fault}
@@ -8,48 +8,85 @@ use Rattle.manifest.specs.Manifest.{manifest}
 use Rattle.ring_rules.specs.declared.finding.Finding.{Finding}
 use Rattle.ringcheck.specs.declared.Status.{Status}
 use Rattle.ringcheck.specs.declared.Status.TheVariants as status
+use Rattle.ringcheck.specs.declared.ending.Ended.{Ended}
+use Rattle.ringcheck.specs.declared.ending.Ended.TheVariants as ended
+use Rattle.ringcheck.specs.Endings.{HasCause, HasRisen, status_after}
 use Rattle.ringcheck.specs.declared.loading_files.Stop.{Stop}
 use Rattle.ringcheck.specs.declared.loading_files.Stop.TheVariants as stop
 use Rattle.package_check.specs.Reports.{Account}
 use Rattle.package_check.specs.Package.{Source, IsAnswer}
 use Rattle.package_check.specs.Soundness.{IsSound}
 use Rattle.package_check.specs.Texts.{report_text}
-use Rattle.ringcheck.specs.Running.{HasFiles, RefusedIn, Says, long_manifest, bad_manifest, long_file, bad_file, sources}
-use Rattle.ringcheck.specs.Stopping.{Answered, IsRefusal, RefusedManifest, StopsFiles, StopsManifest, TellsOf, status_of}
+use Rattle.ringcheck.specs.Running.{HasFiles, file_limit, manifest_limit, within, RefusedIn, Says, long_manifest, bad_manifest, long_file, bad_file, sources}
+use Rattle.ringcheck.specs.Stopping.{Answered, IsRefusal, IsUnread, RefusedManifest, StopsFiles, StopsManifest, TellsOf, status_of}
 
-passed : (fs : List Finding) → status.Pass ≡ status_of fs → fs ≡ []
+passed : (fs : List Finding) → ended.Said status.Pass ≡ ended.Said (status_of fs) → fs ≡ []
 passed [] e = refl
 passed (f ∷ fs) e = absurd (cc e)
 
-found : (fs : List Finding) → status.Findings ≡ status_of fs → 0 < length fs
+found : (fs : List Finding) → ended.Said status.Findings ≡ ended.Said (status_of fs) → 0 < length fs
 found [] e = absurd (cc e)
 found (f ∷ fs) e = omega arith
 
-no_refusal : (fs : List Finding) → status.Refused ≡ status_of fs → ⊥
-no_refusal [] e = cc
-no_refusal (f ∷ fs) e = cc
+-- a report gives no other status
+gives : (fs : List Finding) (s : Status) → ended.Said s ≡ ended.Said (status_of fs) → (s ≡ status.Pass) ⊎ (s ≡ status.Findings)
+gives [] s e = inl (cc e)
+gives (f ∷ fs) s e = inr (cc e)
 
-no_usage : (fs : List Finding) → status.Usage ≡ status_of fs → ⊥
-no_usage [] e = cc
-no_usage (f ∷ fs) e = cc
+no_other : (s : Status) → s ≢ status.Pass → s ≢ status.Findings → (s ≡ status.Pass) ⊎ (s ≡ status.Findings) → ⊥
+no_other s p f (inl e) = p e
+no_other s p f (inr e) = f e
 
 -- a report was printed
-pub reported : (all : List Source) (rules : GridRules) (before after : Option (List ℕ)) (report : Account) (s : Status) → IsAnswer all rules (Ok report) → (report.findings ≡ [] → IsSound all rules)
-    → (s ≢ status.Device → (s ≡ status_of report.findings) × Appends before after (report_text all report)) → Answered all rules before after s
-reported all rules before after report status.Pass e sound h = let (a, b) = h (λ x. cc x) in let none = passed report.findings a in (report, e, b, none, sound none)
-reported all rules before after report status.Findings e sound h = let (a, b) = h (λ x. cc x) in (report, e, b, found report.findings a)
-reported all rules before after report status.Refused e sound h = absurd (no_refusal report.findings (h (λ x. cc x)).0)
-reported all rules before after report status.Usage e sound h = absurd (no_usage report.findings (h (λ x. cc x)).0)
-reported all rules before after report status.Device e sound h = tt
+pub reported : (all : List Source) (rules : GridRules) (before after : Option (List ℕ)) (report : Account) (e : Ended) → IsAnswer all rules (Ok report) → (report.findings ≡ [] → IsSound all rules)
+    → (e ≢ ended.WriterFailed → (e ≡ ended.Said (status_of report.findings)) × Appends before after (report_text all report)) → Answered all rules before after e
+reported all rules before after report (ended.Said status.Pass) answer sound h = let (a, b) = h (λ x. cc x) in let none = passed report.findings a in (report, answer, b, none, sound none)
+reported all rules before after report (ended.Said status.Findings) answer sound h = let (a, b) = h (λ x. cc x) in (report, answer, b, found report.findings a)
+reported all rules before after report (ended.Said status.Refused) answer sound h = absurd (no_other status.Refused (λ x. cc x) (λ x. cc x) (gives report.findings status.Refused (h (λ x. cc x)).0))
+reported all rules before after report (ended.Said status.Usage) answer sound h = absurd (no_other status.Usage (λ x. cc x) (λ x. cc x) (gives report.findings status.Usage (h (λ x. cc x)).0))
+reported all rules before after report (ended.Said status.Device) answer sound h = absurd (no_other status.Device (λ x. cc x) (λ x. cc x) (gives report.findings status.Device (h (λ x. cc x)).0))
+reported all rules before after report ended.LoaderFailed answer sound h = cc (h (λ x. cc x)).0
+reported all rules before after report ended.OutOfMemory answer sound h = tt
+reported all rules before after report ended.WriterFailed answer sound h = tt
 
 -- a file is refused
-pub refused_file : (all : List Source) (rules : GridRules) (before after : Option (List ℕ)) (fault : ℕ × Fault) (s : Status) → IsAnswer all rules (Err fault)
-    → (s ≢ status.Device → s ≡ status.Refused) → Answered all rules before after s
-refused_file all rules before after fault status.Pass e h = cc (h (λ x. cc x))
-refused_file all rules before after fault status.Findings e h = cc (h (λ x. cc x))
-refused_file all rules before after fault status.Refused e h = (fault, e)
-refused_file all rules before after fault status.Usage e h = cc (h (λ x. cc x))
-refused_file all rules before after fault status.Device e h = tt
+pub refused_file : (all : List Source) (rules : GridRules) (before after : Option (List ℕ)) (fault : ℕ × Fault) (e : Ended) → IsAnswer all rules (Err fault)
+    → (e ≢ ended.WriterFailed → e ≢ ended.OutOfMemory → e ≡ ended.Said status.Refused) → Answered all rules before after e
+refused_file all rules before after fault (ended.Said status.Pass) a h = cc (h (λ x. cc x) (λ x. cc x))
+refused_file all rules before after fault (ended.Said status.Findings) a h = cc (h (λ x. cc x) (λ x. cc x))
+refused_file all rules before after fault (ended.Said status.Refused) a h = (fault, a)
+refused_file all rules before after fault (ended.Said status.Usage) a h = cc (h (λ x. cc x) (λ x. cc x))
+refused_file all rules before after fault (ended.Said status.Device) a h = cc (h (λ x. cc x) (λ x. cc x))
+refused_file all rules before after fault ended.LoaderFailed a h = cc (h (λ x. cc x) (λ x. cc x))
+refused_file all rules before after fault ended.OutOfMemory a h = tt
+refused_file all rules before after fault ended.WriterFailed a h = tt
+
+-- what is said of files at hand does not end by the loader
+pub answered_cause : (all : List Source) (rules : GridRules) (before after : Option (List ℕ)) (e : Ended) (old new : ℕ) → Answered all rules before after e → HasCause old new e
+answered_cause all rules before after (ended.Said status.Pass) old new a = tt
+answered_cause all rules before after (ended.Said status.Findings) old new a = tt
+answered_cause all rules before after (ended.Said status.Refused) old new a = tt
+answered_cause all rules before after (ended.Said status.Usage) old new a = tt
+answered_cause all rules before after (ended.Said status.Device) old new a = absurd a
+answered_cause all rules before after ended.LoaderFailed old new a = absurd a
+answered_cause all rules before after ended.OutOfMemory old new a = tt
+answered_cause all rules before after ended.WriterFailed old new a = tt
+
+-- a stop whose file can't be read has its cause
+pub stopped_cause : (s : Stop) (e : Ended) (old new : ℕ) → TellsOf s e → (IsUnread s → HasRisen old new) → HasCause old new e
+stopped_cause s (ended.Said status.Pass) old new t h = tt
+stopped_cause s (ended.Said status.Findings) old new t h = tt
+stopped_cause s (ended.Said status.Refused) old new t h = tt
+stopped_cause s (ended.Said status.Usage) old new t h = tt
+stopped_cause s (ended.Said status.Device) old new t h = absurd t
+stopped_cause s ended.LoaderFailed old new t h = h t
+stopped_cause s ended.OutOfMemory old new t h = tt
+stopped_cause s ended.WriterFailed old new t h = tt
+
+-- a count that rose since a later time rose since an earlier one
+pub risen_since : (old middle new : ℕ) → old ≤ middle → HasRisen middle new → HasRisen old new
+risen_since old middle new le (inl more) = inl (omega arith)
+risen_since old middle new le (inr last) = inr last
 
 module _ (has : List ℕ → List ℕ → Type 0) (name : List ℕ) (rules : GridRules) (before after : Option (List ℕ)) where
   of_manifest : RefusedManifest has name → RefusedIn has name rules
@@ -65,12 +102,15 @@ module _ (has : List ℕ → List ℕ → Type 0) (name : List ℕ) (rules : Gri
   manifest_refusal stop.Device h i = absurd i
   manifest_refusal (stop.DeviceFile index) h i = absurd i
 
-  pub stopped_manifest : (s : Stop) (t : Status) → StopsManifest has name s → TellsOf s t → Says has name rules before after t
-  stopped_manifest s status.Pass h i = absurd i
-  stopped_manifest s status.Findings h i = absurd i
-  stopped_manifest s status.Refused h i = manifest_refusal s h i
-  stopped_manifest s status.Usage h i = absurd i
-  stopped_manifest s status.Device h i = tt
+  pub stopped_manifest : (s : Stop) (e : Ended) → StopsManifest has name s → TellsOf s e → Says has name rules before after (status_after e)
+  stopped_manifest s (ended.Said status.Pass) h i = absurd i
+  stopped_manifest s (ended.Said status.Findings) h i = absurd i
+  stopped_manifest s (ended.Said status.Refused) h i = manifest_refusal s h i
+  stopped_manifest s (ended.Said status.Usage) h i = absurd i
+  stopped_manifest s (ended.Said status.Device) h i = absurd i
+  stopped_manifest s ended.LoaderFailed h i = tt
+  stopped_manifest s ended.OutOfMemory h i = tt
+  stopped_manifest s ended.WriterFailed h i = tt
 
   module _ (text : List ℕ) (entries : List Entry) (held : has name text) (names : manifest text ≡ Ok entries) where
     file_refusal : (later : List ℕ → List ℕ → Type 0) → ((n b : List ℕ) → later n b → has n b) → (s : Stop) → StopsFiles later entries s → IsRefusal s → RefusedIn has name rules
@@ -80,17 +120,23 @@ module _ (has : List ℕ → List ℕ → Type 0) (name : List ℕ) (rules : Gri
     file_refusal later to stop.Device h i = absurd i
     file_refusal later to (stop.DeviceFile index) h i = absurd i
 
-    pub stopped_files : (later : List ℕ → List ℕ → Type 0) → ((n b : List ℕ) → later n b → has n b) → (s : Stop) (t : Status)
-        → StopsFiles later entries s → TellsOf s t → Says has name rules before after t
-    stopped_files later to s status.Pass h i = absurd i
-    stopped_files later to s status.Findings h i = absurd i
-    stopped_files later to s status.Refused h i = file_refusal later to s h i
-    stopped_files later to s status.Usage h i = absurd i
-    stopped_files later to s status.Device h i = tt
+    pub stopped_files : (later : List ℕ → List ℕ → Type 0) → ((n b : List ℕ) → later n b → has n b) → (s : Stop) (e : Ended)
+        → StopsFiles later entries s → TellsOf s e → Says has name rules before after (status_after e)
+    stopped_files later to s (ended.Said status.Pass) h i = absurd i
+    stopped_files later to s (ended.Said status.Findings) h i = absurd i
+    stopped_files later to s (ended.Said status.Refused) h i = file_refusal later to s h i
+    stopped_files later to s (ended.Said status.Usage) h i = absurd i
+    stopped_files later to s (ended.Said status.Device) h i = absurd i
+    stopped_files later to s ended.LoaderFailed h i = tt
+    stopped_files later to s ended.OutOfMemory h i = tt
+    stopped_files later to s ended.WriterFailed h i = tt
 
-    pub said : (files : List (List ℕ)) (t : Status) → HasFiles has entries files → Answered (sources entries files) rules before after t → Says has name rules before after t
-    said files status.Pass h a = record { report = a.0; reported = record { entries = entries; files = files; held = record { text = text; held = held; names = names; loaded = h }; answer = a.1; written = a.2 }; passes = a.3; sound = a.4 }
-    said files status.Findings h a = (a.0, record { entries = entries; files = files; held = record { text = text; held = held; names = names; loaded = h }; answer = a.1; written = a.2 }, a.3)
-    said files status.Refused h a = bad_file entries files a.0 (record { text = text; held = held; names = names; loaded = h }) a.1
-    said files status.Usage h a = absurd a
-    said files status.Device h a = tt
+    pub said : length text ≤ manifest_limit → (files : List (List ℕ)) (e : Ended) → HasFiles (within file_limit has) entries files → Answered (sources entries files) rules before after e → Says has name rules before after (status_after e)
+    said short files (ended.Said status.Pass) h a = record { report = a.0; reported = record { entries = entries; files = files; held = record { text = text; held = held; names = names; short = short; loaded = h }; answer = a.1; written = a.2 }; passes = a.3; sound = a.4 }
+    said short files (ended.Said status.Findings) h a = (a.0, record { entries = entries; files = files; held = record { text = text; held = held; names = names; short = short; loaded = h }; answer = a.1; written = a.2 }, a.3)
+    said short files (ended.Said status.Refused) h a = bad_file entries files a.0 (record { text = text; held = held; names = names; short = short; loaded = h }) a.1
+    said short files (ended.Said status.Usage) h a = absurd a
+    said short files (ended.Said status.Device) h a = absurd a
+    said short files ended.LoaderFailed h a = absurd a
+    said short files ended.OutOfMemory h a = tt
+    said short files ended.WriterFailed h a = tt

@@ -1,3 +1,5 @@
+pub mod Endings
 pub mod Naming
+pub mod Printing
 pub mod Running
 pub mod Stopping

@@ -1,6 +1,6 @@
 -- What a loader has under names, and what a run says over it.
-use Rattle.std.specs.Prelude.{◌≡◌, ◌<◌, ◌⊎◌, ℕ, List, [], ◌∷◌, length, Result, Ok, Err, ⊤, Option}
-use Rattle.std.specs.List.{Contains}
+use Rattle.std.specs.Prelude.{◌≡◌, ◌<◌, ◌≤◌, ◌⊎◌, ℕ, List, [], ◌∷◌, length, Result, Ok, Err, ⊤, Option}
+use Rattle.std.specs.List.{Contains, count_by}
 use Rattle.std.specs.Io.KnownBytes.{Appends}
 use Rattle.grid_units.specs.Holes.{GridRules}
 use Rattle.grid_units.specs.declared.fault.Fault.{Fault}
@@ -10,7 +10,7 @@ use Rattle.manifest.specs.Manifest.{manifest}
 use Rattle.ringcheck.specs.declared.Status.{Status}
 use Rattle.ringcheck.specs.declared.Status.TheVariants as status
 use Rattle.package_check.specs.Reports.{Account}
-use Rattle.package_check.specs.Package.{Source, IsAnswer}
+use Rattle.package_check.specs.Package.{Source, IsAnswer, is_copper}
 use Rattle.package_check.specs.Soundness.{IsSound}
 use Rattle.package_check.specs.Texts.{report_text}
 
@@ -18,11 +18,16 @@ use Rattle.package_check.specs.Texts.{report_text}
 abbrev pub Relation : Type 1
 Relation = List ℕ → List ℕ → Type 0
 
+-- the files that entries and their bytes make, in a package of so many copper files (docs/DEFINITIONS.md, Runs)
+abbrev pub sources_among : ℕ → List Entry → List (List ℕ) → List Source
+sources_among layers [] bytes = []
+sources_among layers (entry ∷ entries) [] = []
+sources_among layers (entry ∷ entries) (bytes ∷ rest) =
+    record { role = entry.role; name = entry.name; span = entry.span; bytes = bytes; layers = layers } ∷ sources_among layers entries rest
+
 -- the files that a manifest's entries and their bytes make (docs/DEFINITIONS.md, Runs)
 abbrev pub sources : List Entry → List (List ℕ) → List Source
-sources [] bytes = []
-sources (entry ∷ entries) [] = []
-sources (entry ∷ entries) (bytes ∷ rest) = record { role = entry.role; name = entry.name; bytes = bytes } ∷ sources entries rest
+sources entries files = sources_among (count_by (λ entry. is_copper entry.role) entries) entries files
 
 -- the loader has these bytes for the files of these entries, one by one (docs/DEFINITIONS.md, Runs)
 abbrev pub HasFiles : Relation → List Entry → List (List ℕ) → Type 0
@@ -39,12 +44,17 @@ file_limit = 268435456
 abbrev pub manifest_limit : ℕ
 manifest_limit = 1048576
 
--- the manifest and the files of a package, as the loader has them (docs/DEFINITIONS.md, Runs)
+-- the bytes that a loader may have under a name, as far as they are within a limit (docs/DEFINITIONS.md, Runs)
+abbrev pub within : ℕ → Relation → Relation
+within limit has name bytes = has name bytes × (length bytes ≤ limit)
+
+-- the manifest and the files of a package, as the loader has them, none above its limit (docs/DEFINITIONS.md, Runs)
 pub record HasPackage (has : Relation) (name : List ℕ) (entries : List Entry) (files : List (List ℕ)) : Type 0 where
   pub text : List ℕ
   pub held : has name text
   pub names : manifest text ≡ Ok entries
-  pub loaded : HasFiles has entries files
+  pub short : length text ≤ manifest_limit
+  pub loaded : HasFiles (within file_limit has) entries files
 
 -- a package that the loader has, whose report the writer got (docs/DEFINITIONS.md, Runs)
 pub record Reported (has : Relation) (name : List ℕ) (rules : GridRules) (before after : Option (List ℕ)) (report : Account) : Type 0 where

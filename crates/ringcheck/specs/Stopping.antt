@@ -1,4 +1,4 @@
--- Why a package was not loaded or not checked, and the status that tells of it.
+-- Why a package was not loaded or not checked, and the end that tells of it.
 use Rattle.std.specs.Prelude.{◌≡◌, ◌<◌, ◌⊎◌, ℕ, List, [], ◌∷◌, length, Ok, Err, ⊤, Option}
 use Rattle.std.specs.List.{Contains}
 use Rattle.std.specs.Io.KnownBytes.{Appends}
@@ -9,6 +9,8 @@ use Rattle.manifest.specs.Manifest.{manifest}
 use Rattle.ring_rules.specs.declared.finding.Finding.{Finding}
 use Rattle.ringcheck.specs.declared.Status.{Status}
 use Rattle.ringcheck.specs.declared.Status.TheVariants as status
+use Rattle.ringcheck.specs.declared.ending.Ended.{Ended}
+use Rattle.ringcheck.specs.declared.ending.Ended.TheVariants as ended
 use Rattle.ringcheck.specs.declared.loading_files.Stop.{Stop}
 use Rattle.ringcheck.specs.declared.loading_files.Stop.TheVariants as stop
 use Rattle.package_check.specs.Reports.{Account}
@@ -49,25 +51,39 @@ IsRefusal stop.Memory = ⊥
 IsRefusal stop.Device = ⊥
 IsRefusal (stop.DeviceFile index) = ⊥
 
--- the status that tells of a stop (docs/DEFINITIONS.md, Runs)
-abbrev pub TellsOf : Stop → Status → Type 0
-TellsOf s status.Pass = ⊥
-TellsOf s status.Findings = ⊥
-TellsOf s status.Refused = IsRefusal s
-TellsOf s status.Usage = ⊥
-TellsOf s status.Device = ⊤
+-- a stop at a manifest or a file that can't be read (docs/DEFINITIONS.md, Runs)
+abbrev pub IsUnread : Stop → Type 0
+IsUnread (stop.Manifest place reason) = ⊥
+IsUnread (stop.LongFile index) = ⊥
+IsUnread stop.Memory = ⊥
+IsUnread stop.Device = ⊤
+IsUnread (stop.DeviceFile index) = ⊤
+
+-- the end that tells of a stop (docs/DEFINITIONS.md, Runs)
+abbrev pub TellsOf : Stop → Ended → Type 0
+TellsOf s (ended.Said status.Pass) = ⊥
+TellsOf s (ended.Said status.Findings) = ⊥
+TellsOf s (ended.Said status.Refused) = IsRefusal s
+TellsOf s (ended.Said status.Usage) = ⊥
+TellsOf s (ended.Said status.Device) = ⊥
+TellsOf s ended.LoaderFailed = IsUnread s
+TellsOf s ended.OutOfMemory = ⊤
+TellsOf s ended.WriterFailed = ⊤
 
 -- the status of a report (docs/DEFINITIONS.md, Runs)
 abbrev pub status_of : List Finding → Status
 status_of [] = status.Pass
 status_of (finding ∷ findings) = status.Findings
 
--- what a status says of the check of files that are at hand (docs/DEFINITIONS.md, Runs)
-abbrev pub Answered : List Source → GridRules → Option (List ℕ) → Option (List ℕ) → Status → Type 0
-Answered all rules before after status.Pass =
+-- what an end says of the check of files that are at hand (docs/DEFINITIONS.md, Runs)
+abbrev pub Answered : List Source → GridRules → Option (List ℕ) → Option (List ℕ) → Ended → Type 0
+Answered all rules before after (ended.Said status.Pass) =
     (report : Account) × IsAnswer all rules (Ok report) × Appends before after (report_text all report) × (report.findings ≡ []) × IsSound all rules
-Answered all rules before after status.Findings =
+Answered all rules before after (ended.Said status.Findings) =
     (report : Account) × IsAnswer all rules (Ok report) × Appends before after (report_text all report) × (0 < length report.findings)
-Answered all rules before after status.Refused = (fault : ℕ × Fault) × IsAnswer all rules (Err fault)
-Answered all rules before after status.Usage = ⊥
-Answered all rules before after status.Device = ⊤
+Answered all rules before after (ended.Said status.Refused) = (fault : ℕ × Fault) × IsAnswer all rules (Err fault)
+Answered all rules before after (ended.Said status.Usage) = ⊥
+Answered all rules before after (ended.Said status.Device) = ⊥
+Answered all rules before after ended.LoaderFailed = ⊥
+Answered all rules before after ended.OutOfMemory = ⊤
+Answered all rules before after ended.WriterFailed = ⊤

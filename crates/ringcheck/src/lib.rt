@@ -1,9 +1,13 @@
 //! The program: packages, layers and drill files from a loader, and what is printed of them to a writer.
 #![tactic(auto)]
 
+mod ending;
+mod lines;
 mod loading_files;
 mod naming;
+mod packages;
 mod program;
+mod single_files;
 
 pub use loading::{LoadFault, Loader, ReadFail, read_all};
 pub use manifest::{Entry, Role, read_manifest};
@@ -11,6 +15,8 @@ pub use package_check::{
     File, FileSum, Numbered, PackageFault, Report, check_bytes, laws, write_report,
 };
 pub use program::run;
+pub use rewriting::{Kind, rewrite_bytes};
+pub use tables::{show_drill, show_layer};
 
 /// How a run ended: the exit statuses are 0, 1, 2, 3 and 4.
 #[derive(Clone, Copy, Debug, PartialEq, Eq)]

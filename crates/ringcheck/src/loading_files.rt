@@ -1,9 +1,10 @@
 //! The files of a package, from a loader.
 
-ghost use Rattle.std.specs.Prelude.{◌≡◌, ◌↔◌, ℕ, List, Ok, IfOk, IfErr, map};
+ghost use Rattle.std.specs.Prelude.{◌≡◌, ◌≤◌, length, ◌↔◌, ℕ, List, Ok, IfOk, IfErr, map};
 ghost use Rattle.manifest.specs.Manifest.{manifest};
-ghost use Rattle.ringcheck.specs.Running.{HasFiles};
-ghost use Rattle.ringcheck.specs.Stopping.{StopsManifest, StopsFiles};
+ghost use Rattle.ringcheck.specs.Endings.{HasRisen};
+ghost use Rattle.ringcheck.specs.Running.{HasFiles, file_limit, manifest_limit, within};
+ghost use Rattle.ringcheck.specs.Stopping.{IsUnread, StopsManifest, StopsFiles};
 
 use crate::{Entry, LoadFault, Loader, read_manifest};
 use grid_units::{Fail, Reason};
@@ -36,8 +37,10 @@ pub(crate) fn load_manifest<L: Loader>(
     name: &str,
 ) -> Result<Vec<Entry>, Stop>
     ensures keeps { (n b : List ℕ) → L.has loader.new n b ↔ L.has loader.old n b }
-    ensures ok { IfOk result (λ v. (text : List ℕ) × L.has loader.old name.now text × (manifest text ≡ Ok v.items)) }
+    ensures ok { IfOk result (λ v. (text : List ℕ) × L.has loader.old name.now text × (manifest text ≡ Ok v.items) × (length text ≤ manifest_limit)) }
     ensures err { IfErr result (StopsManifest (L.has loader.old) name.now) }
+    ensures counts { L.failed loader.old ≤ L.failed loader.new }
+    ensures unread { IfErr result (λ stop. IsUnread stop → HasRisen (L.failed loader.old) (L.failed loader.new)) }
 {
     match loader.load(alloc, name, MANIFEST_LIMIT) {
         Ok(bytes) => match read_manifest(alloc, bytes.as_slice()) {
@@ -64,8 +67,10 @@ pub(crate) fn load_files<L: Loader>(
     entries: &[Entry],
 ) -> Result<Vec<Vec<u8>>, Stop>
     ensures keeps { (n b : List ℕ) → L.has loader.new n b ↔ L.has loader.old n b }
-    ensures ok { IfOk result (λ v. HasFiles (L.has loader.old) entries.now (map (λ f. f.items) v.items)) }
+    ensures ok { IfOk result (λ v. HasFiles (within file_limit (L.has loader.old)) entries.now (map (λ f. f.items) v.items)) }
     ensures err { IfErr result (StopsFiles (L.has loader.old) entries.now) }
+    ensures counts { L.failed loader.old ≤ L.failed loader.new }
+    ensures unread { IfErr result (λ stop. IsUnread stop → HasRisen (L.failed loader.old) (L.failed loader.new)) }
 {
     let mut files = Vec::new(alloc);
     for (index, entry) in entries.iter().enumerate() {

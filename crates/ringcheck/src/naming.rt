@@ -10,10 +10,7 @@ use grid_units::{Dec, Reason, Rules, Unit};
 fn length_named(word: &str) -> Result<i64, Reason>
     ensures { result ≡ words.length_named word.now }
 {
-    match Dec::read(word.as_bytes()) {
-        Ok(length) => length.picometres(Unit::Millimetre),
-        Err(reason) => Err(reason),
-    }
+    Dec::read(word.as_bytes())?.picometres(Unit::Millimetre)
 }
 
 #[tactic(auto, unfolding(crate::specs::Naming::rules_of))]
@@ -28,11 +25,7 @@ fn rules_of(ring: i64, gap: i64) -> Result<Rules, Reason>
 pub(crate) fn rules_named(ring: &str, gap: &str) -> Result<Rules, Reason>
     ensures { result ≡ words.rules_named ring.now gap.now }
 {
-    match length_named(ring) {
-        Ok(ring) => match length_named(gap) {
-            Ok(gap) => rules_of(ring, gap),
-            Err(reason) => Err(reason),
-        },
-        Err(reason) => Err(reason),
-    }
+    let ring = length_named(ring)?;
+    let gap = length_named(gap)?;
+    rules_of(ring, gap)
 }

@@ -3,20 +3,20 @@ use Rattle.std.specs.Prelude.{◌≡◌, ◌+◌, ℕ, false, List, [], ◌∷�
 use Rattle.std.specs.List.{flat_map, AllByRecursion}
 use Rattle.csv.specs.Writing.{default_writer, needs_quotes}
 
--- the fields of a row with a comma between each two, and LF (docs/FORMATS.md, The tables)
+-- the fields of a row with a comma between each two, and LF (docs/FORMATS.md, The report and the tables)
 abbrev pub row : List (List ℕ) → List ℕ
 row [] = 10 ∷ []
 row (field ∷ fields) = field ++ (flat_map (λ next. 44 ∷ next) fields ++ 10 ∷ [])
 
--- the rows of these elements, numbered from n on (docs/FORMATS.md, The tables)
+-- the rows of these elements, numbered from n on (docs/FORMATS.md, The report and the tables)
 unfoldable pub rows_from : {A : Type 0} → (ℕ → A → List (List ℕ)) → ℕ → List A → List ℕ
 rows_from fields n [] = []
 rows_from fields n (element ∷ elements) = row (fields n element) ++ rows_from fields (n + 1) elements
 
--- a field that stands in a row as it is: no comma, quote or end of a line is in it (docs/FORMATS.md, The tables)
+-- a field that stands in a row as it is: no comma, quote or end of a line is in it (docs/FORMATS.md, The report and the tables)
 abbrev pub IsPlain : List ℕ → Type 0
 IsPlain field = needs_quotes default_writer field ≡ false
 
--- such fields (docs/FORMATS.md, The tables)
+-- such fields (docs/FORMATS.md, The report and the tables)
 abbrev pub ArePlain : List (List ℕ) → Type 0
 ArePlain fields = AllByRecursion IsPlain fields

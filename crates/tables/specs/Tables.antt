@@ -17,13 +17,13 @@ use Rattle.layer_image.specs.declared.flash.Why.TheVariants as whys
 use Rattle.layer_image.specs.Layers.{LayerImage, ReadsLayer}
 use Rattle.tables.specs.Rows.{rows_from}
 
--- the name of a pad's shape (docs/FORMATS.md, The tables)
+-- the name of a pad's shape (docs/FORMATS.md, The table of a layer)
 abbrev pub shape_word : Pad → List ℕ
 shape_word (pads.Disc disc) = codes "disc"
 shape_word (pads.Rect rect) = codes "rect"
 shape_word (pads.Obround obround) = codes "obround"
 
--- why a flash is no pad (docs/FORMATS.md, The tables)
+-- why a flash is no pad (docs/FORMATS.md, The table of a layer)
 abbrev pub why_word : Why → List ℕ
 why_word whys.Macro = codes "macro"
 why_word whys.Polygon = codes "polygon"
@@ -31,54 +31,54 @@ why_word whys.Holed = codes "holed"
 why_word whys.Scaled = codes "scaled"
 why_word whys.Turned = codes "turned"
 
--- what a flash leaves: a shape, or why it is no pad (docs/FORMATS.md, The tables)
+-- what a flash leaves: a shape, or why it is no pad (docs/FORMATS.md, The table of a layer)
 abbrev pub what_word : What → List ℕ
 what_word (whats.Pad pad) = shape_word pad
 what_word (whats.Other why) = why_word why
 
--- the width of a pad in pm, its side along x after turns (docs/FORMATS.md, The tables)
+-- the width of a pad in pm, its side along x after turns (docs/FORMATS.md, The table of a layer)
 abbrev pub pad_width : Pad → ℕ
 pad_width (pads.Disc disc) = 2 * disc.radius
 pad_width (pads.Rect rect) = 2 * rect.half_x
 pad_width (pads.Obround obround) = 2 * obround.half_x
 
--- the height of a pad in pm, its side along y after turns (docs/FORMATS.md, The tables)
+-- the height of a pad in pm, its side along y after turns (docs/FORMATS.md, The table of a layer)
 abbrev pub pad_height : Pad → ℕ
 pad_height (pads.Disc disc) = 2 * disc.radius
 pad_height (pads.Rect rect) = 2 * rect.half_y
 pad_height (pads.Obround obround) = 2 * obround.half_y
 
--- the width of a flash in millimetres, empty where it is no pad (docs/FORMATS.md, The tables)
+-- the width of a flash in millimetres, empty where it is no pad (docs/FORMATS.md, The table of a layer)
 abbrev pub width_of : What → List ℕ
 width_of (whats.Pad pad) = millimetres (pos (pad_width pad))
 width_of (whats.Other why) = []
 
--- the height of a flash in millimetres, empty where it is no pad (docs/FORMATS.md, The tables)
+-- the height of a flash in millimetres, empty where it is no pad (docs/FORMATS.md, The table of a layer)
 abbrev pub height_of : What → List ℕ
 height_of (whats.Pad pad) = millimetres (pos (pad_height pad))
 height_of (whats.Other why) = []
 
--- the row of a flash: its number, what it leaves, its point, its width and its height (docs/FORMATS.md, The tables)
+-- the row of a flash: its number, what it leaves, its point, its width and its height (docs/FORMATS.md, The table of a layer)
 abbrev pub flash_fields : ℕ → Flash → List (List ℕ)
 flash_fields n flash = decimal n ∷ what_word flash.what ∷ millimetres flash.at.x ∷ millimetres flash.at.y ∷ width_of flash.what ∷ height_of flash.what ∷ []
 
--- the row of a hole: its number, its two ends and its diameter (docs/FORMATS.md, The tables)
+-- the row of a hole: its number, its two ends and its diameter (docs/FORMATS.md, The table of a drill file)
 abbrev pub hole_fields : ℕ → GridHole → List (List ℕ)
 hole_fields n hole = decimal n ∷ millimetres hole.from.x ∷ millimetres hole.from.y ∷ millimetres hole.to.x ∷ millimetres hole.to.y ∷ millimetres (pos (2 * hole.radius)) ∷ []
 
--- the names of a flash's fields (docs/FORMATS.md, The tables)
+-- the names of a flash's fields (docs/FORMATS.md, The table of a layer)
 abbrev pub layer_header : List ℕ
 layer_header = codes "flash,what,x,y,width,height\n"
 
--- the names of a hole's fields (docs/FORMATS.md, The tables)
+-- the names of a hole's fields (docs/FORMATS.md, The table of a drill file)
 abbrev pub drill_header : List ℕ
 drill_header = codes "hole,x1,y1,x2,y2,diameter\n"
 
--- the table of flashes: a header, and a row for each, numbered from 1 (docs/FORMATS.md, The tables)
+-- the table of flashes: a header, and a row for each, numbered from 1 (docs/FORMATS.md, The table of a layer)
 abbrev pub layer_table : List Flash → List ℕ
 layer_table flashes = layer_header ++ rows_from flash_fields 1 flashes
 
--- the table of holes: a header, and a row for each, numbered from 1 (docs/FORMATS.md, The tables)
+-- the table of holes: a header, and a row for each, numbered from 1 (docs/FORMATS.md, The table of a drill file)
 abbrev pub drill_table : List GridHole → List ℕ
 drill_table holes = drill_header ++ rows_from hole_fields 1 holes
 

@@ -1,5 +1,9 @@
-use Rattle.std.proofs.Common.{◌≡◌, ◌∙◌, ap, ap₂}
+use Rattle.std.proofs.Common.{◌≡◌, ◌∙◌, ap, ap₂, subst}
 use Rattle.clap.specs.Words.{is_simple, is_simple_and_free, subcommand_of, takes}
+use Rattle.command_line.specs.Line.{AsksFor}
+use Rattle.command_line.proofs.Files.{is_rewrite, is_show}
+use Rattle.command_line.proofs.RewriteWords.{rewrite_found, rewrite_taken}
+use Rattle.command_line.proofs.ShowWords.{show_found, show_taken}
 use Rattle.command_line.proofs.Answered.{asked, refused}
 use Rattle.command_line.proofs.Words.{check_found, check_taken, is_free_command, is_plain_command}
 use Rattle.command_line.proofs.parse.Goals as goal
@@ -13,6 +17,14 @@ returns-in-Some c =
       check = λ r g m e p q s.
           let (rows, found, has) = check_found r g m p q s in
           c.in-Some.ensures.check r g m rows (parsed.1 ∙ ap₂ subcommand_of c.in-Ok.ensures e ∙ found) has;
+      show = λ k f e p q.
+          let (rows, found, kind, file) = show_found k f p q in
+          is_show k f rows kind file c.in-Some.request
+          (subst (λ o. AsksFor o c.in-Some.request) (parsed.1 ∙ ap₂ subcommand_of c.in-Ok.ensures e ∙ found) c.in-Some.ensures.asked);
+      rewrite = λ k f e p q.
+          let (rows, found, kind, file) = rewrite_found k f p q in
+          is_rewrite k f rows kind file c.in-Some.request
+          (subst (λ o. AsksFor o c.in-Some.request) (parsed.1 ∙ ap₂ subcommand_of c.in-Ok.ensures e ∙ found) c.in-Some.ensures.asked);
     }
 
 pub returns : goal.returns
@@ -22,5 +34,11 @@ returns c =
       exact = refused _ _ _ c.refusal_for.result c.in-Ok.ensures fault c.refusal_for.ensures.kind c.refusal_for.ensures.memory;
       check = λ r g m e p q s.
           let memory = c.in-Err.ensures.passes (ap₂ takes c.in-Ok.ensures e ∙ check_taken r g m p q s) in
+          rw (c.refusal_for.ensures.memory memory) tt;
+      show = λ k f e p q.
+          let memory = c.in-Err.ensures.passes (ap₂ takes c.in-Ok.ensures e ∙ show_taken k f p q) in
+          rw (c.refusal_for.ensures.memory memory) tt;
+      rewrite = λ k f e p q.
+          let memory = c.in-Err.ensures.passes (ap₂ takes c.in-Ok.ensures e ∙ rewrite_taken k f p q) in
           rw (c.refusal_for.ensures.memory memory) tt;
     }

@@ -1,4 +1,4 @@
-use Rattle.std.proofs.Common.{[], ◌++◌}
+use Rattle.std.proofs.Common.{[]}
 use Rattle.std.proofs.lemmas.Result.{err_from_is_err_and}
 use Rattle.layer_image.proofs.Pieces.{layer_shows_reads}
 use Rattle.layer_image.proofs.layer.read_layer.Goals as goal

@@ -1,18 +1,28 @@
-use Rattle.std.proofs.Common.{ℕ, Bool, true, false, ◌++◌, ap, ◌∙◌}
-use Rattle.ring_rules.specs.declared.finding.Finding.TheVariants.{Ring}
+use Rattle.std.proofs.Common.{◌≡◌, ℕ, Bool, true, false, List, map, get_or, ◌++◌, ◌∷◌, [], ap, sym, ◌∙◌}
+use Rattle.std.proofs.lemmas.List.{get_or-map}
+use Rattle.ring_rules.specs.Findings.{finding_of}
+use Rattle.ring_rules.specs.declared.finding.Drilled.{Drilled}
+use Rattle.ring_rules.specs.declared.finding.Finding.{Finding}
 use Rattle.ring_rules.proofs.Listing.{listed, listed_more, listed_more_none, enumerated_all}
 use Rattle.ring_rules.proofs.rings.layer_findings.Goals as goal
-use Rattle.ring_rules.proofs.rings.layer_findings.Goals.{then-lacks+in_ok-push, else-lacks}
+use Rattle.ring_rules.proofs.rings.layer_findings.Goals.{then-wanting-hole+in_ok-push, else-wanting-hole}
 
 pub loop-hole-preserved : goal.loop-hole-preserved
 loop-hole-preserved c =
-    elim c.if-lacks.branch [
-      | then-lacks+in_ok-push w ↦
-          ap (λ v. v.items) w.findings-is ∙ (w.in_ok-push.ensures.items ∙ listed_more (λ hole. Ring c.args.layer hole.0) (λ (hole : ℕ × Bool). hole.1) true _ _ c.args.wanting.now c.loop-hole.hole false c.loop-hole-test.true w.if-lacks.true c.loop-hole.invariant)
-      | else-lacks w ↦
-          ap (λ v. v.items) w.findings-is ∙ listed_more_none (λ hole. Ring c.args.layer hole.0) (λ (hole : ℕ × Bool). hole.1) _ _ c.args.wanting.now c.loop-hole.hole false c.loop-hole-test.true w.if-lacks.false c.loop-hole.invariant
+    let k = c.loop-hole.hole in
+    let d = c.index-holes-hole.result in
+    let at : get_or c.args.holes.now k d ≡ d = sym c.index-holes-hole.is in
+    let mark : (test : Drilled → Bool) → c.args.wanting.now ≡ map test c.args.holes.now → (b : Bool) → get_or c.args.wanting.now k false ≡ b → test (get_or c.args.holes.now k d) ≡ b =
+    λ test e b is. sym (get_or-map test c.args.holes.now k d false c.loop-hole-test.true) ∙ (ap (λ (bs : List Bool). get_or bs k false) (sym e) ∙ is) in
+    elim c.if-wanting-hole.branch [
+      | then-wanting-hole+in_ok-push w ↦ λ test e.
+          ap (λ v. v.items) w.findings-is
+          ∙ (w.in_ok-push.ensures.items
+          ∙ (ap (λ (f : Finding). c.loop-hole.findings.items ++ f ∷ []) (w.finding_of.ensures ∙ ap (λ (x : Drilled). finding_of c.args.layer (k, x)) (sym at))
+          ∙ listed_more (finding_of c.args.layer) (λ (hole : ℕ × Drilled). test hole.1) true _ _ c.args.holes.now k d c.loop-hole-test.true (mark test e true w.if-wanting-hole.true) (c.loop-hole.invariant test e)))
+      | else-wanting-hole w ↦ λ test e. ap (λ v. v.items) w.findings-is ∙ listed_more_none (finding_of c.args.layer) (λ (hole : ℕ × Drilled). test hole.1) _ _ c.args.holes.now k d c.loop-hole-test.true (mark test e false w.if-wanting-hole.false) (c.loop-hole.invariant test e)
     ]
 
 pub returns : goal.returns
-returns c =
-    c.loop-hole.invariant ∙ ap (λ xs. c.args.findings.now.items ++ listed (λ hole. Ring c.args.layer hole.0) (λ (hole : ℕ × Bool). hole.1) xs) (enumerated_all c.args.wanting.now c.loop-hole.hole c.loop-hole-test.false)
+returns c = λ test e.
+    c.loop-hole.invariant test e ∙ ap (λ xs. c.args.findings.now.items ++ listed (finding_of c.args.layer) (λ (hole : ℕ × Drilled). test hole.1) xs) (enumerated_all c.args.holes.now c.loop-hole.hole c.loop-hole-test.false)

@@ -8,27 +8,29 @@ use Rattle.drill_text.specs.declared.judge.Judge.{Judge}
 use Rattle.drill_text.specs.declared.reader.Progress.{Progress}
 use Rattle.drill_text.specs.Lines.{Splits, bytes_of}
 use Rattle.drill_text.specs.Reading.{spelled, shown}
-use Rattle.drill_text.specs.Knowing.{Knows, Leaves}
+use Rattle.drill_text.specs.declared.kept.Kept.{Kept}
+use Rattle.drill_text.specs.Keeping.{Met, Leaves}
 use Rattle.drill_text.specs.Standing.{Refuses}
 use Rattle.drill_text.proofs.Splitting.{Splits-close, bytes_of-push}
 use Rattle.drill_text.proofs.Shown.{closed}
 use Rattle.drill_text.proofs.reader.Progress.close.Goals as goal
 
-refused : (old : Progress) (e : Fail) (judge : Judge) (new : List DrillCommand) → (Knows old.judge old.commands.items → Leaves {X = Unit {0}} (Err e) judge new (spelled (old.lines + 1) old.start old.line.items old.commands.items)) → Refuses old (10 ∷ []) e
+refused : (old : Progress) (e : Fail) (judge : Judge) (new : Kept) → ((before : List DrillCommand) → Met old.judge old.kept before → Leaves {X = Unit {0}} (Err e) judge new (spelled (old.lines + 1) old.start old.line.items before)) → Refuses old (10 ∷ []) e
 refused old Memory judge new k = tt
-refused old (Refused f) judge new k = λ text h. record { lines = h.lines ++ old.line.items ∷ []; rest = []; splits = Splits-close text h.lines old.line.items h.splits; fault = closed old text old.line.items h ∙ k h.knows }
+refused old (Refused f) judge new k = λ text h. record { lines = h.lines ++ old.line.items ∷ []; rest = []; splits = Splits-close text h.lines old.line.items h.splits; fault = closed old text old.line.items h ∙ k h.commands h.met }
 
 pub returns-clause-ok : goal.returns-clause-ok
 returns-clause-ok c text h =
     let old = c.args.self.now in
-    let k = c.in_ok-spell.ensures h.knows in
+    let k = c.in_ok-spell.ensures.leaves h.commands h.met in
     let line : old.line.items ≡ c.deref.result.now = sym c.deref.ensures.value in
     let lines : List (List ℕ) = h.lines ++ old.line.items ∷ [] in
     record {
       lines = lines;
       splits = subst (λ (x : List ℕ). Splits (text ++ 10 ∷ []) lines x) (sym c.clear.ensures.items) (Splits-close text h.lines old.line.items h.splits);
-      commands = ap (shown lines) c.clear.ensures.items ∙ (closed old text old.line.items h ∙ (ap (λ (x : List ℕ). spelled (old.lines + 1) old.start x old.commands.items) line ∙ k.0));
-      knows = k.1;
+      commands = k.0;
+      spelled = ap (shown lines) c.clear.ensures.items ∙ (closed old text old.line.items h ∙ (ap (λ (x : List ℕ). spelled (old.lines + 1) old.start x h.commands) line ∙ k.1));
+      met = k.2;
       count = omega (arith, h.count, length-append h.lines (old.line.items ∷ []));
       start = omega (arith, h.offset, ap length h.splits.whole, length-append (bytes_of h.lines) old.line.items, ap length (bytes_of-push h.lines old.line.items), length-append (bytes_of h.lines) (old.line.items ++ 10 ∷ []), length-append old.line.items (10 ∷ []));
       offset = omega (arith, h.offset, length-append text (10 ∷ []));
@@ -39,4 +41,4 @@ returns-in_err-spell-clause-err c =
     let old = c.args.self.now in
     let e = c.in_err-spell.field-0.0 in
     let p = err_from_is_err_and c.from_residual.result c.from_residual.ensures.1 in
-    rw (p.1, p.2) (refused old e c.spell.new.judge c.spell.new.commands.items (λ knows. subst (λ (b : List ℕ). Leaves {X = Unit {0}} (Err e) c.spell.new.judge c.spell.new.commands.items (spelled (old.lines + 1) old.start b old.commands.items)) c.deref.ensures.value (c.in_err-spell.ensures knows)))
+    rw (p.1, p.2) (refused old e c.spell.new.judge c.spell.new.kept (λ before met. subst (λ (b : List ℕ). Leaves {X = Unit {0}} (Err e) c.spell.new.judge c.spell.new.kept (spelled (old.lines + 1) old.start b before)) c.deref.ensures.value (c.in_err-spell.ensures.leaves before met)))

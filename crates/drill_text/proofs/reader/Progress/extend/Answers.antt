@@ -15,12 +15,13 @@ returns-clause-ok c text h =
     let old = c.args.self.now in
     let run = c.args.run.now in
     let items = c.in_ok-extend_from_slice.ensures.items in
-    let before = shown_ok h.lines old.line.items old.commands.items h.commands in
+    let before = shown_ok h.lines old.line.items h.commands h.spelled in
     record {
       lines = h.lines;
       splits = subst (λ (x : List ℕ). Splits (text ++ run) h.lines x) (sym items) (Splits-grow text h.lines old.line.items run h.splits (recursion_from_All (λ b. b ≢ 10) run c.requires.inside));
-      commands = ap (shown h.lines) items ∙ show_ok h.lines (old.line.items ++ run) old.commands.items before.0 (omega (arith, length-append old.line.items run, old.line.ok.0, c.if-run-len.false));
-      knows = h.knows;
+      commands = h.commands;
+      spelled = ap (shown h.lines) items ∙ show_ok h.lines (old.line.items ++ run) h.commands before.0 (omega (arith, length-append old.line.items run, old.line.ok.0, c.if-run-len.false));
+      met = h.met;
       count = h.count;
       start = h.start;
       offset = omega (arith, h.offset, length-append text run);
@@ -30,11 +31,11 @@ pub returns-then-run-len-clause-err : goal.returns-then-run-len-clause-err
 returns-then-run-len-clause-err c = subst (Refuses c.args.self.now c.args.run.now) (sym c.refusal.ensures) (λ text h.
     let old = c.args.self.now in
     let run = c.args.run.now in
-    let before = shown_ok h.lines old.line.items old.commands.items h.commands in
+    let before = shown_ok h.lines old.line.items h.commands h.spelled in
     let place : suc (length h.lines) ≡ old.lines + 1 = omega (arith, h.count) in
     record {
       lines = h.lines;
       rest = old.line.items ++ run;
       splits = Splits-grow text h.lines old.line.items run h.splits (recursion_from_All (λ b. b ≢ 10) run c.requires.inside);
-      fault = show_long h.lines (old.line.items ++ run) old.commands.items before.0 (omega (arith, length-append old.line.items run, old.line.ok.0, c.if-run-len.true)) ∙ (ap (λ b. Err (fault (suc (length h.lines)) b TooLong)) (sym h.start) ∙ ap (λ p. Err (fault p old.start TooLong)) place);
+      fault = show_long h.lines (old.line.items ++ run) h.commands before.0 (omega (arith, length-append old.line.items run, old.line.ok.0, c.if-run-len.true)) ∙ (ap (λ b. Err (fault (suc (length h.lines)) b TooLong)) (sym h.start) ∙ ap (λ p. Err (fault p old.start TooLong)) place);
     })

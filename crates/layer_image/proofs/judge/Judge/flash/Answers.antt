@@ -1,8 +1,9 @@
 -- The flash at the origin, moved to each copy.
-use Rattle.std.proofs.Common.{◌≡◌, ◌∙◌, ◌++◌, List, map, subst, OnOk}
+use Rattle.std.proofs.Common.{◌≡◌, ◌∙◌, List, map, subst, OnOk}
 use Rattle.layer_image.specs.declared.flash.Flash.{Flash}
 use Rattle.layer_image.specs.Flashes.{copies, copies_at, flashed}
 use Rattle.layer_image.specs.Moved.{flash_moved}
+use Rattle.layer_image.specs.Keeping.{Adds}
 use Rattle.layer_image.specs.Knows.{told}
 use Rattle.layer_image.proofs.Moves.{flashes_moved}
 use Rattle.layer_image.proofs.judge.Judge.flash.Goals as goal
@@ -11,6 +12,6 @@ pub returns-clause-flashes : goal.returns-clause-flashes
 returns-clause-flashes c =
     let s = told c.args.self.now in
     let shape = c.args.aperture.now in
-    let all : map (flash_moved c.what-what.result) (copies c.grid.result) ≡ flashed s c.args.x c.args.y shape =
-    (λ i. map (flash_moved (c.what-what.ensures i)) (copies (c.grid.ensures.value i))) ∙ flashes_moved s shape (copies_at s c.args.x c.args.y) in
-    subst (λ (l : List Flash). OnOk c.flash.result (c.flash.new.flashes.items ≡ c.args.self.now.flashes.items ++ l)) all c.flash.ensures
+    let all : map (flash_moved c.what-what.result) (copies c.grid-grid.result) ≡ flashed s c.args.x c.args.y shape =
+    (λ i. map (flash_moved (c.what-what.ensures i)) (copies (c.grid-grid.ensures.value i))) ∙ flashes_moved s shape (copies_at s c.args.x c.args.y) in
+    subst (λ (l : List Flash). OnOk c.lay.result (Adds c.args.self.now.flashes l c.lay.new.self)) all c.lay.ensures

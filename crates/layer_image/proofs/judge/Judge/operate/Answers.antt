@@ -1,5 +1,6 @@
 -- The flashes come first, and then the point is the current one.
-use Rattle.std.proofs.Common.{◌≡◌, ◌∙◌, ◌++◌, [], ap, sym, append-nil, if◌then◌else◌}
+use Rattle.std.proofs.Common.{◌≡◌, ◌∙◌, [], ap, sym, subst, if◌then◌else◌}
+use Rattle.std.proofs.lemmas.Bool.{ltb-false}
 use Rattle.std.specs.List.{list_any}
 use Rattle.std.specs.Option.{option_map_or}
 use Rattle.gerber_rows.specs.declared.command.Command.TheVariants as command
@@ -7,28 +8,35 @@ use Rattle.layer_image.specs.Lookback.{aperture_in}
 use Rattle.layer_image.specs.Flashes.{flashed, flashes_at, copies_at}
 use Rattle.layer_image.specs.Rules.{is_far_point}
 use Rattle.layer_image.specs.Knows.{told, after}
+use Rattle.layer_image.specs.Keeping.{Adds}
+use Rattle.layer_image.specs.declared.judge.Judge.{Judge}
+use Rattle.layer_image.specs.declared.flashes.Flashes.{Flashes}
 use Rattle.layer_image.proofs.Broken.{neither}
+use Rattle.layer_image.proofs.Adding.{adds_none}
 use Rattle.layer_image.proofs.judge.Judge.operate.Goals as goal
 use Rattle.layer_image.proofs.judge.Judge.operate.Goals.{then-is_flash+in_ok-flash_selected, else-is_flash}
 
 pub flash_selected-requires-clause-points : goal.flash_selected-requires-clause-points
-flash_selected-requires-clause-points c = (neither (list_any is_far_point (copies_at (told c.args.self.now) c.args.x c.args.y)) _ (c.requires (sym c.is_flash.ensures ∙ c.if-is_flash.true))).0
+flash_selected-requires-clause-points c = (neither (list_any is_far_point (copies_at (told c.args.self.now) c.args.x c.args.y)) _ (c.requires.near (sym c.is_flash.ensures ∙ c.if-is_flash.true))).0
 
 pub flash_selected-requires-clause-pad : goal.flash_selected-requires-clause-pad
-flash_selected-requires-clause-pad c = (neither (list_any is_far_point (copies_at (told c.args.self.now) c.args.x c.args.y)) _ (c.requires (sym c.is_flash.ensures ∙ c.if-is_flash.true))).1
+flash_selected-requires-clause-pad c = (neither (list_any is_far_point (copies_at (told c.args.self.now) c.args.x c.args.y)) _ (c.requires.near (sym c.is_flash.ensures ∙ c.if-is_flash.true))).1
+
+pub flash_selected-requires-clause-few : goal.flash_selected-requires-clause-few
+flash_selected-requires-clause-few c = ltb-false _ _ (c.requires.few (sym c.is_flash.ensures ∙ c.if-is_flash.true))
 
 pub returns : goal.returns
 returns c = λ i j.
     let s = told c.args.self.now in
-    let old = c.args.self.now.flashes.items in
+    let old = c.args.self.now.flashes in
     let new = option_map_or (flashed s c.args.x c.args.y) (aperture_in s) [] in
     let same : told c.if-is_flash.self ≡ s = elim c.if-is_flash.branch [ then-is_flash+in_ok-flash_selected w ↦ ap told w.self-is ∙ w.flash_selected.ensures.told | else-is_flash w ↦ ap told w.self-is ] in
-    let flashes : c.if-is_flash.self.flashes.items ≡ old ++ flashes_at s (command.Operate c.args.action c.args.x c.args.y i j) =
+    let flashes : Adds old (flashes_at s (command.Operate c.args.action c.args.x c.args.y i j)) c.if-is_flash.self.flashes =
     elim c.if-is_flash.branch [
-      | then-is_flash+in_ok-flash_selected w ↦ ap (λ k. k.flashes.items) w.self-is ∙ w.in_ok-flash_selected.ensures.flashes ∙ ap (λ b. old ++ (if b then new else [])) (sym w.if-is_flash.true ∙ c.is_flash.ensures)
-      | else-is_flash w ↦ ap (λ k. k.flashes.items) w.self-is ∙ sym (append-nil old) ∙ ap (λ b. old ++ (if b then new else [])) (sym w.if-is_flash.false ∙ c.is_flash.ensures)
+      | then-is_flash+in_ok-flash_selected w ↦ subst (λ (k : Judge). Adds old (flashes_at s (command.Operate c.args.action c.args.x c.args.y i j)) k.flashes) (sym w.self-is) (subst (λ b. Adds old (if b then new else []) w.flash_selected.new.self.flashes) (sym w.if-is_flash.true ∙ c.is_flash.ensures) w.in_ok-flash_selected.ensures.flashes)
+      | else-is_flash w ↦ subst (λ (k : Judge). Adds old (flashes_at s (command.Operate c.args.action c.args.x c.args.y i j)) k.flashes) (sym w.self-is) (subst (λ b. Adds old (if b then new else []) old) (sym w.if-is_flash.false ∙ c.is_flash.ensures) (adds_none old))
     ] in
     record {
       standing = c.go_to.ensures.told c.args.action i j ∙ ap (after (command.Operate c.args.action c.args.x c.args.y i j)) same;
-      flashes = ap (λ v. v.items) c.go_to.ensures.flashes ∙ flashes;
+      flashes = subst (λ (k : Flashes). Adds old (flashes_at s (command.Operate c.args.action c.args.x c.args.y i j)) k) (sym c.go_to.ensures.flashes) flashes;
     }

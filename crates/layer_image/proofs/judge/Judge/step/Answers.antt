@@ -1,11 +1,17 @@
 -- The command breaks no rule, so the judge that took it in knows one command more.
-use Rattle.std.proofs.Common.{◌≡◌, length, sym, ◌∙◌, None}
+use Rattle.std.proofs.Common.{◌≡◌, sym, ◌∙◌, None, Some}
 use Rattle.layer_image.specs.Rules.{first_broken}
+use Rattle.layer_image.specs.Keeping.{flash_count}
 use Rattle.layer_image.specs.Knows.{told}
 use Rattle.layer_image.proofs.Knowing.{knows_more, same_rule}
 use Rattle.layer_image.proofs.judge.Judge.step.Goals as goal
 
+pub returns-in-Some : goal.returns-in-Some
+returns-in-Some c =
+    let broken : first_broken (told c.args.self.now) (flash_count c.args.self.now.flashes) c.args.command.now ≡ Some c.in-Some.reason = cc (c.broken_rule.ensures, c.in-Some.is) in
+    λ whole before knows. sym (same_rule _ whole before _ knows) ∙ broken
+
 pub returns : goal.returns
 returns c =
-    let legal : first_broken (told c.args.self.now) (length c.args.self.now.flashes.items) c.args.command.now ≡ None = cc (c.broken_rule.ensures, c.in_default.is) in
-    λ before knows. (sym (same_rule _ before _ knows) ∙ legal, knows_more _ _ before _ knows c.in_ok-take.ensures)
+    let legal : first_broken (told c.args.self.now) (flash_count c.args.self.now.flashes) c.args.command.now ≡ None = cc (c.broken_rule.ensures, c.in_default.is) in
+    λ whole before knows. (sym (same_rule _ whole before _ knows) ∙ legal, knows_more _ _ whole before _ knows c.in_ok-take.ensures)

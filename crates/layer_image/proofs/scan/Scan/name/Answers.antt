@@ -1,5 +1,5 @@
 -- The command names the last file function, or those before it do.
-use Rattle.std.proofs.Common.{ℕ, ◌≡◌, ◌++◌, [], ◌∷◌, List, Option, Some, None, sym, ap, ◌∙◌}
+use Rattle.std.proofs.Common.{ℕ, ◌≡◌, List, Some, sym, ap, ◌∙◌}
 use Rattle.std.specs.Option.{option_or, option_copied}
 use Rattle.grid_units.proofs.Lookbacks.{last_named-more}
 use Rattle.layer_image.specs.Functions.{function_named, file_function_of}

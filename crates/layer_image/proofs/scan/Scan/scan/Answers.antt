@@ -1,5 +1,5 @@
 -- One command more, and the fault of the first that breaks a rule.
-use Rattle.std.proofs.Common.{arith, ◌≡◌, ◌+◌, [], ◌∷◌, ◌++◌, take, drop, ap, sym, subst, ◌∙◌, append_assoc, append-nil}
+use Rattle.std.proofs.Common.{arith, ◌≡◌, ◌+◌, [], ◌∷◌, ◌++◌, take, drop, ap, sym, subst, ◌∙◌, append_assoc}
 use Rattle.std.proofs.lemmas.List.{map-append, take_all}
 use Rattle.grid_units.specs.Lists.{breaks}
 use Rattle.grid_units.specs.Results.{fault, Tells}
@@ -16,28 +16,34 @@ use Rattle.layer_image.proofs.Listing.{with_next, parted}
 use Rattle.layer_image.proofs.scan.Scan.scan.Goals as goal
 
 pub loop-entry-preserved : goal.loop-entry-preserved
-loop-entry-preserved c before h =
+loop-entry-preserved c whole before h =
     let cs = c.args.entries.now in
     let i = c.loop-entry.entry-index in
     let e = c.entry-item.result in
-    let old = c.loop-entry.invariant before h in
+    let old = c.loop-entry.invariant whole before h in
     let so_far = before ++ take i cs in
     let more : before ++ take (i + 1) cs ≡ so_far ++ e ∷ [] = ap (λ (x : Entries). before ++ x) (with_next cs i e (omega arith) c.entry-item.is) ∙ sym (append_assoc before (take i cs) (e ∷ [])) in
     let whats : without_places (before ++ take (i + 1) cs) ≡ without_places so_far ++ e.what ∷ [] = ap without_places more ∙ map-append (λ (d : Placed Command). d.what) so_far (e ∷ []) in
-    let answer = c.in-Ok.ensures (without_places so_far) old.met in
+    let answer = c.in-Ok.ensures whole (without_places so_far) old.met in
     record {
-      met = subst (Met c.meet.new.self) (sym whats) answer.1;
+      met = subst (Met c.meet.new.self whole) (sym whats) answer.1;
       legal = ap (breaks broken_rule) whats ∙ breaks-more broken_rule (without_places so_far) e.what old.legal answer.0;
       sound = ap (breaks fault_of) more ∙ breaks-more fault_of so_far e old.sound (ap (option_map (fault e.place e.byte)) answer.0);
     }
 
 pub returns-in-Err-clause-refused : goal.returns-in-Err-clause-refused
-returns-in-Err-clause-refused c before h =
+returns-in-Err-clause-refused c all before h =
     let cs = c.args.entries.now in
     let i = c.loop-entry.entry-index in
     let e = c.entry-item.result in
-    let old = c.loop-entry.invariant before h in
+    let old = c.loop-entry.invariant all before h in
     let so_far = before ++ take i cs in
     let whole : so_far ++ e ∷ drop (i + 1) cs ≡ before ++ cs = append_assoc before (take i cs) (e ∷ drop (i + 1) cs) ∙ ap (λ (x : Entries). before ++ x) (parted cs i e (omega arith) c.entry-item.is) in
-    let first = stopped so_far (drop (i + 1) cs) e c.meet.new.self c.in-Err.stop old.sound (c.in-Err.ensures (without_places so_far) old.met) in
+    let first = stopped all so_far (drop (i + 1) cs) e c.meet.new.self c.in-Err.stop old.sound (c.in-Err.ensures all (without_places so_far) old.met) in
     subst (Tells (IsFirstFault (before ++ cs))) (sym c.fail_at.ensures) (subst (λ (l : Entries). Tells (IsFirstFault l) (fail_at e.place e.byte c.in-Err.stop)) whole first)
+
+pub returns-clause-ok : goal.returns-clause-ok
+returns-clause-ok c whole before h =
+    let cs = c.args.entries.now in
+    let i = c.loop-entry.entry-index in
+    subst (λ (x : Entries). Scanned c.loop-entry.self whole (before ++ x)) (take_all i cs (omega arith)) (c.loop-entry.invariant whole before h)

@@ -1,0 +1,34 @@
+-- What a reader has met and keeps of the commands of a text.
+use Rattle.std.specs.Prelude.{◌≡◌, ℕ, true, false, List, [], Result, Ok, Err}
+use Rattle.std.specs.List.{list_any}
+use Rattle.grid_units.specs.declared.fault.Fault.{Fault}
+use Rattle.grid_units.specs.declared.fault.Fail.{Fail}
+use Rattle.grid_units.specs.declared.fault.Fail.TheVariants as fails
+use Rattle.drill_lines.specs.declared.command.DrillCommand.{DrillCommand}
+use Rattle.drill_text.specs.declared.judge.Judge.{Judge}
+use Rattle.drill_text.specs.declared.kept.Kept.{Kept}
+use Rattle.drill_text.specs.Reading.{is_finish, Reads}
+use Rattle.drill_text.specs.Knowing.{Knows}
+
+-- All of the commands are kept, or nothing of them but whether the end of the file is among them (docs/DEFINITIONS.md, The judge of a drill file).
+pub record Keeps (kept : Kept) (commands : List DrillCommand) : Type 0 where
+  pub whole : kept.is_whole ≡ true → kept.commands.items ≡ commands
+  pub none : kept.is_whole ≡ false → kept.commands.items ≡ []
+  pub finished : kept.is_finished ≡ list_any is_finish commands
+
+-- the judge has met just these commands, and they are kept (docs/DEFINITIONS.md, The judge of a drill file)
+pub record Met (judge : Judge) (kept : Kept) (commands : List DrillCommand) : Type 0 where
+  pub knows : Knows judge commands
+  pub keeps : Keeps kept commands
+
+-- The line was read and judged: the commands that the judge has met are those after it, or this is its fault, or memory ran out (docs/DEFINITIONS.md, The judge of a drill file).
+abbrev pub Leaves : {X : Type 0} → Result X Fail → Judge → Kept → Result (List DrillCommand) Fault → Type 0
+Leaves (Ok x) judge kept read = (commands : List DrillCommand) × (read ≡ Ok commands) × Met judge kept commands
+Leaves (Err fails.Memory) judge kept read = Unit {0}
+Leaves (Err (fails.Refused f)) judge kept read = read ≡ Err f
+
+-- A text has ended: the judge has met its commands, which are kept, or it has this fault, or memory ran out (docs/DEFINITIONS.md, A drill reader in pieces).
+abbrev pub Ends : List ℕ → Result (Judge × Kept) Fail → Type 0
+Ends text (Ok p) = (commands : List DrillCommand) × Reads text (Ok commands) × Met p.0 p.1 commands
+Ends text (Err fails.Memory) = Unit {0}
+Ends text (Err (fails.Refused f)) = Reads text (Err f)

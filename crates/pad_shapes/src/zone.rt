@@ -1,0 +1,73 @@
+//! Zones: boxes along the axes that say where a shape may cover a centre.
+
+ghost use Rattle.std.specs.Prelude.{◌≡◌, ◌+◌, ◌≤◌, ◌&&◌, nat_le};
+ghost use Rattle.grid_units.specs.Points.{GridPoint, apart, square};
+ghost use Rattle.pad_shapes.specs.Zones.{IsInZone, IsDeep};
+
+use grid_units::{Point, square, square_length};
+
+/// A box along the axes, by the least and the greatest coordinates of its points, in pm.
+#[derive(Clone, Copy, Debug, PartialEq, Eq)]
+pub struct Zone {
+    /// The least x.
+    pub left: i64,
+    /// The greatest x.
+    pub right: i64,
+    /// The least y.
+    pub bottom: i64,
+    /// The greatest y.
+    pub top: i64,
+}
+
+/// Where the centres lie that are as deep as a reach in a box round a centre, by half of each of its sides.
+pub(crate) fn deep_within(centre: Point, half_x: u64, half_y: u64, reach: u64) -> Zone
+    requires x { half_x ≤ 5000000000000 }
+    requires y { half_y ≤ 5000000000000 }
+    requires reach { reach ≤ 20000000000000 }
+    ensures { (p : GridPoint) → IsDeep (apart p.x centre.x) (apart p.y centre.y) reach half_x half_y → IsInZone result p }
+{
+    let deep_x = half_x as i64 - reach as i64;
+    let deep_y = half_y as i64 - reach as i64;
+    Zone {
+        left: centre.x() - deep_x,
+        right: centre.x() + deep_x,
+        bottom: centre.y() - deep_y,
+        top: centre.y() + deep_y,
+    }
+}
+
+/// How far each point of a zone lies at least from a centre, along x.
+pub(crate) fn beyond_x(zone: &Zone, centre: Point) -> u64
+    ensures { (p : GridPoint) → IsInZone zone.now p → result ≤ apart p.x centre.x }
+{
+    let x = centre.x();
+    if x < zone.left {
+        zone.left.abs_diff(x)
+    } else if zone.right < x {
+        x.abs_diff(zone.right)
+    } else {
+        0
+    }
+}
+
+/// How far each point of a zone lies at least from a centre, along y.
+pub(crate) fn beyond_y(zone: &Zone, centre: Point) -> u64
+    ensures { (p : GridPoint) → IsInZone zone.now p → result ≤ apart p.y centre.y }
+{
+    let y = centre.y();
+    if y < zone.bottom {
+        zone.bottom.abs_diff(y)
+    } else if zone.top < y {
+        y.abs_diff(zone.top)
+    } else {
+        0
+    }
+}
+
+/// Whether a step of `dx` along one axis and `dy` along the other is no longer than a length.
+pub(crate) fn is_within(dx: u64, dy: u64, length: u64) -> bool
+    requires { length ≤ 5000000000000 }
+    ensures { result ≡ (nat_le dx length && (nat_le dy length && nat_le (square dx + square dy) (square length))) }
+{
+    dx <= length && dy <= length && square_length(dx, dy) <= square(length)
+}

@@ -1,0 +1,12 @@
+use Rattle.std.proofs.Common.{ℕ, ◌+◌, ◌<◌, length}
+use Rattle.ring_rules.specs.Places.{point_at}
+use Rattle.ring_rules.specs.Regions.{IsInRegion}
+use Rattle.ring_rules.specs.Meeting.{AddsClashes, IsFound}
+use Rattle.ring_rules.proofs.clashes.add_row.Given as goal
+
+-- the pairs with the columns so far are there
+abbrev pub invariant-loop-column : goal.invariant-loop-column
+invariant-loop-column l = record {
+  adds : AddsClashes l.rules.gap l.holes l.initial.pairs.items l.pairs.items;
+  found : (o : ℕ) → o < length l.holes → IsInRegion l.cells.x l.cells.y l.row (l.row + 1) l.left l.column (point_at l.holes o) → IsFound l.rules.gap l.holes l.place o l.pairs.items;
+}

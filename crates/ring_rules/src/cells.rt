@@ -1,0 +1,79 @@
+//! Holes in the cells of a grid, by chains: each cell tells the last of its holes in the list, and each hole the one before it
+//! in its cell. Nothing is sorted or moved.
+
+ghost use Rattle.std.specs.Prelude.{◌≡◌, ◌+◌, ◌*◌, ◌^◌, ◌<◌, ◌≤◌, IfOk, length};
+ghost use Rattle.ring_rules.specs.Places.{IsChained};
+ghost use Rattle.ring_rules.specs.Cells.{column_of, row_of, cell_of, cell_at};
+
+use crate::finding::Drilled;
+use crate::places::place;
+use crate::scale::Scale;
+use grid_units::Point;
+use std::alloc::{AllocError, Global};
+
+/// The chains of the holes of a board: 0 ends a chain, and else a link is one more than a hole's place.
+#[derive(Drop)]
+pub(crate) struct Cells {
+    pub x: Scale,
+    pub y: Scale,
+    pub head: Vec<usize>,
+    pub next: Vec<usize>,
+}
+
+/// The column of a point.
+pub(crate) fn column(scale: &Scale, at: Point) -> usize
+    ensures value { result ≡ column_of scale.now at }
+    ensures within { result ≤ scale.now.last }
+{
+    place(scale, at.x())
+}
+
+/// The row of a point.
+pub(crate) fn row(scale: &Scale, at: Point) -> usize
+    ensures value { result ≡ row_of scale.now at }
+    ensures within { result ≤ scale.now.last }
+{
+    place(scale, at.y())
+}
+
+/// The cell in a row and a column.
+pub(crate) fn cell_in(x: &Scale, y: &Scale, row: usize, column: usize) -> usize
+    requires row { row ≤ y.now.last }
+    requires column { column ≤ x.now.last }
+    requires fits { (y.now.last + 1) * (x.now.last + 1) ≤ 2 ^ 62 }
+    ensures value { result ≡ row * (x.now.last + 1) + column }
+    ensures within { result < (y.now.last + 1) * (x.now.last + 1) }
+{
+    row * (x.last + 1) + column
+}
+
+/// The cell of a point.
+pub(crate) fn cell_of(x: &Scale, y: &Scale, at: Point) -> usize
+    requires { (y.now.last + 1) * (x.now.last + 1) ≤ 2 ^ 62 }
+    ensures value { result ≡ cell_of x.now y.now at }
+    ensures within { result < (y.now.last + 1) * (x.now.last + 1) }
+{
+    cell_in(x, y, row(y, at), column(x, at))
+}
+
+/// The chains of holes in a grid.
+pub(crate) fn chained(
+    alloc: Global,
+    x: Scale,
+    y: Scale,
+    holes: &[Drilled],
+) -> Result<Cells, AllocError>
+    requires { (y.last + 1) * (x.last + 1) ≤ 2 ^ 62 }
+    ensures x { IfOk result (λ cells. cells.x ≡ x) }
+    ensures y { IfOk result (λ cells. cells.y ≡ y) }
+    ensures chained { IfOk result (λ cells. IsChained (cell_at x y holes.now) (length holes.now) cells.head.items cells.next.items) }
+{
+    let mut head = vec![in alloc; 0; (y.last + 1) * (x.last + 1)]?;
+    let mut next = Vec::with_capacity(alloc, holes.len())?;
+    for (place, drilled) in holes.iter().enumerate() {
+        let cell = cell_of(&x, &y, drilled.hole.from());
+        next.push(head[cell])?;
+        head[cell] = place + 1;
+    }
+    Ok(Cells { x, y, head, next })
+}

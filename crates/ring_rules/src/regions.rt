@@ -1,0 +1,134 @@
+//! Pads and the regions of a grid.
+
+ghost use Rattle.std.specs.Prelude.{◌≡◌, ◌+◌, ◌≤◌, ◌<◌, false, length};
+ghost use Rattle.grid_units.specs.Points.{GridPoint};
+ghost use Rattle.pad_shapes.specs.Zones.{IsInZone};
+ghost use Rattle.ring_rules.specs.Marks.{gives_ring_at, TakesBack};
+ghost use Rattle.ring_rules.specs.Regions.{IsInRegion, IsOnBoard, IsReady, IsTriedIn, HasNoMarkIn};
+
+use crate::cells::{Cells, cell_in};
+use crate::finding::Drilled;
+use crate::marks::{link_at, try_cell};
+use crate::places::{place_end, place_start};
+use crate::scale::Scale;
+use grid_units::Rules;
+use pad_shapes::{PadShape, Zone};
+
+/// A zone that holds each point of a region of a board.
+pub(crate) fn zone_of(
+    x: &Scale,
+    y: &Scale,
+    top: usize,
+    bottom: usize,
+    left: usize,
+    right: usize,
+) -> Zone
+    requires top { top ≤ y.now.last }
+    requires left { left ≤ x.now.last }
+    requires bottom { 0 < bottom }
+    requires right { 0 < right }
+    ensures { (p : GridPoint) → IsOnBoard x.now y.now p → IsInRegion x.now y.now top bottom left right p → IsInZone result p }
+{
+    Zone {
+        left: place_start(x, left),
+        right: place_end(x, right - 1),
+        bottom: place_start(y, top),
+        top: place_end(y, bottom - 1),
+    }
+}
+
+/// Tries a pad at the holes of the cell in a row and a column. Where asked to look, cells that the pad can't cover are left.
+fn try_at<S: PadShape>(
+    cells: &Cells,
+    holes: &[Drilled],
+    rules: Rules,
+    least: u64,
+    pad: &S,
+    looks: bool,
+    row: usize,
+    column: usize,
+    marks: &mut [bool],
+) -> bool
+    requires ready { IsReady cells.now.x cells.now.y cells.now.head.items cells.now.next.items holes.now rules.ring least }
+    requires size { length marks.old ≡ length holes.now }
+    requires row { row ≤ cells.now.y.last }
+    requires column { column ≤ cells.now.x.last }
+    ensures takes { TakesBack (gives_ring_at S.covers rules.ring holes.now pad.now) marks.old marks.new }
+    ensures tried { IsTriedIn (gives_ring_at S.covers rules.ring holes.now pad.now) cells.now.x cells.now.y holes.now row (row + 1) column (column + 1) marks.new }
+    ensures none { result ≡ false → HasNoMarkIn cells.now.x cells.now.y holes.now row (row + 1) column (column + 1) marks.new }
+{
+    let cell = cell_in(&cells.x, &cells.y, row, column);
+    if link_at(&cells.head, cell) == 0 {
+        return false;
+    }
+    if looks
+        && !pad.may_cover(
+            &zone_of(&cells.x, &cells.y, row, row + 1, column, column + 1),
+            least,
+        )
+    {
+        return true;
+    }
+    try_cell(cells, holes, rules, pad, cell, marks)
+}
+
+/// Tries a pad at the holes of a row, from a column to below another.
+fn try_row<S: PadShape>(
+    cells: &Cells,
+    holes: &[Drilled],
+    rules: Rules,
+    least: u64,
+    pad: &S,
+    looks: bool,
+    row: usize,
+    left: usize,
+    right: usize,
+    marks: &mut [bool],
+) -> bool
+    requires ready { IsReady cells.now.x cells.now.y cells.now.head.items cells.now.next.items holes.now rules.ring least }
+    requires size { length marks.old ≡ length holes.now }
+    requires row { row ≤ cells.now.y.last }
+    requires right { right ≤ cells.now.x.last + 1 }
+    ensures takes { TakesBack (gives_ring_at S.covers rules.ring holes.now pad.now) marks.old marks.new }
+    ensures tried { IsTriedIn (gives_ring_at S.covers rules.ring holes.now pad.now) cells.now.x cells.now.y holes.now row (row + 1) left right marks.new }
+    ensures none { result ≡ false → HasNoMarkIn cells.now.x cells.now.y holes.now row (row + 1) left right marks.new }
+{
+    let mut is_left = false;
+    for column in left..right {
+        let rest = try_at(cells, holes, rules, least, pad, looks, row, column, marks);
+        is_left = is_left | rest;
+    }
+    is_left
+}
+
+/// Tries a pad at the holes of the rows from one to below another, and of such columns. Says whether a mark may be left there.
+pub(crate) fn try_rows<S: PadShape>(
+    cells: &Cells,
+    holes: &[Drilled],
+    rules: Rules,
+    least: u64,
+    pad: &S,
+    looks: bool,
+    top: usize,
+    bottom: usize,
+    left: usize,
+    right: usize,
+    marks: &mut [bool],
+) -> bool
+    requires ready { IsReady cells.now.x cells.now.y cells.now.head.items cells.now.next.items holes.now rules.ring least }
+    requires size { length marks.old ≡ length holes.now }
+    requires bottom { bottom ≤ cells.now.y.last + 1 }
+    requires right { right ≤ cells.now.x.last + 1 }
+    ensures takes { TakesBack (gives_ring_at S.covers rules.ring holes.now pad.now) marks.old marks.new }
+    ensures tried { IsTriedIn (gives_ring_at S.covers rules.ring holes.now pad.now) cells.now.x cells.now.y holes.now top bottom left right marks.new }
+    ensures none { result ≡ false → HasNoMarkIn cells.now.x cells.now.y holes.now top bottom left right marks.new }
+{
+    let mut is_left = false;
+    for row in top..bottom {
+        let rest = try_row(
+            cells, holes, rules, least, pad, looks, row, left, right, marks,
+        );
+        is_left = is_left | rest;
+    }
+    is_left
+}

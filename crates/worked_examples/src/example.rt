@@ -1,0 +1,243 @@
+//! An example: what is asked of files, and what has to be the answer.
+
+use crate::draft::{Change, Draft};
+use crate::shelf::Shelf;
+use gerber_text::read_words;
+use grid_units::Fail;
+use ringcheck::{Status, run};
+use std::alloc::{AllocError, Global};
+
+/// What an example asks.
+#[derive(Drop)]
+enum Question {
+    Nothing,
+    /// What the program answers to these words.
+    Run(String),
+    /// What the words of this Gerber file read as, without the rules of a layer.
+    Words(String),
+}
+
+/// An example, as far as its lines have come.
+#[derive(Drop)]
+pub(crate) struct Example {
+    title: String,
+    question: Question,
+    status: u8,
+    wanted: String,
+    parts: Vec<String>,
+    is_clear: bool,
+}
+
+/// An answer: the exit status, and what is printed.
+#[derive(Drop)]
+struct Answer {
+    status: u8,
+    text: Vec<u8>,
+}
+
+impl Example {
+    pub(crate) fn new(alloc: Global) -> Example {
+        Example {
+            title: String::new(alloc),
+            question: Question::Nothing,
+            status: 0,
+            wanted: String::new(alloc),
+            parts: Vec::new(alloc),
+            is_clear: true,
+        }
+    }
+
+    pub(crate) fn title(&self) -> &str {
+        self.title.as_str()
+    }
+
+    /// Takes one line of the file of examples.
+    pub(crate) fn take(
+        &mut self,
+        alloc: Global,
+        shelf: &mut Shelf,
+        line: &str,
+    ) -> Result<(), AllocError> {
+        let (word, rest) = line.split_once(' ').unwrap_or((line, ""));
+        match word {
+            "#" => {}
+            "example" => self.title.push_str(rest)?,
+            "run" => self.question = Question::Run(String::from_str(alloc, rest)?),
+            "words" => self.question = Question::Words(String::from_str(alloc, rest)?),
+            "status" => self.status = rest.parse().unwrap_or(u8::MAX),
+            ">" => {
+                self.wanted.push_str(rest)?;
+                self.wanted.push_str("\n")?;
+            }
+            "has" => self.parts.push(String::from_str(alloc, rest)?)?,
+            "base" => {
+                shelf.begin(alloc, rest, Draft::new(alloc))?;
+                shelf.keep_as_bases();
+            }
+            "file" => self.is_clear &= begin_file(alloc, shelf, rest)?,
+            _ => self.is_clear &= write_file(alloc, shelf, word, rest)?,
+        }
+        Ok(())
+    }
+
+    /// Whether the answer is another than the one that stands here, and that of no example. The files are taken away.
+    pub(crate) fn judge(
+        &self,
+        alloc: Global,
+        shelf: &mut Shelf,
+    ) -> Result<Option<bool>, AllocError> {
+        let answer = match &self.question {
+            Question::Nothing => return Ok(None),
+            Question::Run(words) => answer_of_run(alloc, shelf, words.as_str())?,
+            Question::Words(name) => answer_of_words(alloc, shelf, name.as_str())?,
+        };
+        shelf.clear();
+        Ok(Some(!self.is_clear || !self.agrees(&answer)))
+    }
+
+    fn agrees(&self, answer: &Answer) -> bool {
+        let is_whole = self.wanted.is_empty()
+            || self.wanted.as_str().as_bytes() == answer.text.as_slice();
+        answer.status == self.status
+            && is_whole
+            && self
+                .parts
+                .iter()
+                .all(|part| has_line(&answer.text, part.as_str()))
+    }
+}
+
+/// Whether a text has this line.
+fn has_line(text: &[u8], line: &str) -> bool {
+    text.split(|byte| *byte == b'\n')
+        .any(|one| one == line.as_bytes())
+}
+
+fn status_number(status: Status) -> u8 {
+    match status {
+        Status::Pass => 0,
+        Status::Findings => 1,
+        Status::Refused => 2,
+        Status::Usage => 3,
+        Status::Device => 4,
+    }
+}
+
+fn answer_of_run(alloc: Global, shelf: &mut Shelf, words: &str) -> Result<Answer, AllocError> {
+    let words: Vec<&str> = words.split_whitespace().collect(alloc)?;
+    let mut text = Vec::new(alloc);
+    let status = run(alloc, words.as_slice(), shelf, &mut text);
+    Ok(Answer {
+        status: status_number(status),
+        text,
+    })
+}
+
+fn answer_of_words(alloc: Global, shelf: &mut Shelf, name: &str) -> Result<Answer, AllocError> {
+    let text = shelf.text_of(alloc, name)?.unwrap_or(Vec::new(alloc));
+    let line = match read_words(alloc, text.as_slice()) {
+        Ok(_) => String::from_str(alloc, "accepted\n")?,
+        Err(Fail::Memory) => String::from_str(alloc, "memory\n")?,
+        Err(Fail::Refused(fault)) => {
+            let (reason, place, byte) = (fault.reason.name(), fault.place, fault.byte);
+            format!(in alloc; "{reason} at {place}, {byte}\n")?
+        }
+    };
+    Ok(Answer {
+        status: 0,
+        text: line.into_bytes(),
+    })
+}
+
+/// Begins a file: `NAME`, or `NAME from BASE`. False where there is no such base text.
+fn begin_file(alloc: Global, shelf: &mut Shelf, rest: &str) -> Result<bool, AllocError> {
+    let Some((name, base)) = rest.split_once(" from ") else {
+        shelf.begin(alloc, rest, Draft::new(alloc))?;
+        return Ok(true);
+    };
+    let Some(text) = shelf.text_of(alloc, base)? else {
+        return Ok(false);
+    };
+    let draft = Draft::from_text(alloc, text.as_slice())?;
+    shelf.begin(alloc, name, draft)?;
+    Ok(true)
+}
+
+/// Goes on with the file that was begun last. False where the line means nothing.
+fn write_file(
+    alloc: Global,
+    shelf: &mut Shelf,
+    word: &str,
+    rest: &str,
+) -> Result<bool, AllocError> {
+    let Some(draft) = shelf.last() else {
+        return Ok(false);
+    };
+    match word {
+        "|" => {
+            draft.append(rest.as_bytes(), 1)?;
+            draft.append(b"\n", 1)?;
+            Ok(true)
+        }
+        "~" => {
+            draft.append(unescaped(alloc, rest)?.as_slice(), 1)?;
+            Ok(true)
+        }
+        "cut" => {
+            draft.cut(rest.parse().unwrap_or(0));
+            Ok(true)
+        }
+        "*" => repeat(alloc, draft, rest),
+        _ => change_line(draft, word, rest),
+    }
+}
+
+/// Appends a text many times: `COUNT TEXT`.
+fn repeat(alloc: Global, draft: &mut Draft, rest: &str) -> Result<bool, AllocError> {
+    let Some((count, text)) = rest.split_once(' ') else {
+        return Ok(false);
+    };
+    let text = unescaped(alloc, text)?;
+    draft.append(text.as_slice(), count.parse().unwrap_or(0))?;
+    Ok(true)
+}
+
+/// Changes a line of the base text: `<N`, `=N` and `>N` put a line before it, in its place, and after it; `-N` takes it out.
+fn change_line(draft: &mut Draft, word: &str, rest: &str) -> Result<bool, AllocError> {
+    let sign = word.chars().next();
+    let Some(number) = word
+        .get(1..)
+        .and_then(|digits| digits.parse::<usize>().ok())
+    else {
+        return Ok(false);
+    };
+    match sign {
+        Some('<') => draft.change(number, Change::Before, rest),
+        Some('=') => draft.change(number, Change::Instead, rest),
+        Some('>') => draft.change(number, Change::After, rest),
+        Some('-') => Ok(draft.drop_line(number)),
+        _ => Ok(false),
+    }
+}
+
+/// The bytes of a text in which `\n`, `\t` and `\s` stand for a line feed, a tab and a space.
+fn unescaped(alloc: Global, text: &str) -> Result<Vec<u8>, AllocError> {
+    let mut bytes = Vec::new(alloc);
+    let mut is_escape = false;
+    for byte in text.bytes() {
+        if is_escape {
+            bytes.push(match byte {
+                b'n' => b'\n',
+                b't' => b'\t',
+                b's' => b' ',
+                other => other,
+            })?;
+            is_escape = false;
+        } else if byte == b'\\' {
+            is_escape = true;
+        } else {
+            bytes.push(byte)?;
+        }
+    }
+    Ok(bytes)
+}

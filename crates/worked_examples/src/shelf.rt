@@ -1,0 +1,98 @@
+//! The files of an example, as a loader.
+
+ghost use Rattle.std.specs.Prelude.{ℕ, List};
+
+use crate::draft::Draft;
+use ringcheck::{LoadFault, Loader};
+use std::alloc::{AllocError, Global};
+
+/// A file and its text.
+#[derive(Drop)]
+struct Held {
+    name: String,
+    draft: Draft,
+}
+
+/// The files of an example, the last one being written, behind the base texts that all examples share.
+#[derive(Drop)]
+pub(crate) struct Shelf {
+    files: Vec<Held>,
+    bases: usize,
+    failures: u64,
+}
+
+impl Shelf {
+    pub(crate) fn new(alloc: Global) -> Shelf {
+        Shelf {
+            files: Vec::new(alloc),
+            bases: 0,
+            failures: 0,
+        }
+    }
+
+    /// Begins a file with a text.
+    pub(crate) fn begin(
+        &mut self,
+        alloc: Global,
+        name: &str,
+        draft: Draft,
+    ) -> Result<(), AllocError> {
+        let name = String::from_str(alloc, name)?;
+        self.files.push(Held { name, draft })?;
+        Ok(())
+    }
+
+    /// All files so far are base texts.
+    pub(crate) fn keep_as_bases(&mut self) {
+        self.bases = self.files.len();
+    }
+
+    /// Takes all files away but the base texts.
+    pub(crate) fn clear(&mut self) {
+        self.files.truncate(self.bases);
+    }
+
+    /// The file that is being written.
+    pub(crate) fn last(&mut self) -> Option<&mut Draft> {
+        match self.files.last_mut() {
+            Some(held) => Some(&mut held.draft),
+            None => None,
+        }
+    }
+
+    /// The text of the file that was begun last under this name.
+    pub(crate) fn text_of(&self, alloc: Global, name: &str) -> Result<Option<Vec<u8>>, AllocError> {
+        for held in self.files.iter().rev() {
+            if held.name.as_str() == name {
+                return Ok(Some(held.draft.text(alloc)?));
+            }
+        }
+        Ok(None)
+    }
+}
+
+impl Loader for Shelf {
+    ghost has = { λ s n b. Unit {0} };
+
+    ghost failed = { λ s. s.failures };
+
+    fn load(&mut self, alloc: Global, name: &str, limit: u64) -> Result<Vec<u8>, LoadFault> {
+        match self.text_of(alloc, name) {
+            Ok(Some(text)) => {
+                if text.len() as u64 > limit {
+                    return Err(LoadFault::TooLong);
+                }
+                Ok(text)
+            }
+            Ok(None) => {
+                self.failures = self.failures.saturating_add(1);
+                Err(LoadFault::Device)
+            }
+            Err(_) => Err(LoadFault::Memory),
+        }
+    }
+
+    fn failures(&self) -> u64 {
+        self.failures
+    }
+}
