@@ -1,0 +1,142 @@
+-- What is proposed for a file, and why.
+use Rattle.std.specs.Prelude.{ℕ, Bool, true, false, ◌||◌, ◌&&◌, not, List, Option, Some, None, is_some, unwrap_or, take, drop, codes, if◌then◌else◌}
+use Rattle.std.specs.Option.{option_or, option_map}
+use Rattle.std.specs.Str.{bytes_eq}
+use Rattle.proposals.specs.Contents.{field, function_of, has_line, kind_of, plated_line, unplated_line}
+use Rattle.proposals.specs.Names.{bottom_ends, bottom_words, end_of, ends_in_copper, has_point, inner_ends, inner_words, is_among, last_word, names_unplated, number_of, numbered, numbered_other_ends, other_ends, other_words, plane_ends, stem_of, top_ends, top_words, words_of}
+use Rattle.proposals.specs.declared.contents.Kind.{Kind}
+use Rattle.proposals.specs.declared.contents.Kind.TheVariants.{Gerber, Drill, Empty, Neither}
+use Rattle.proposals.specs.declared.outcome.Place.{Place}
+use Rattle.proposals.specs.declared.outcome.Place.TheVariants.{Numbered, Unknown, Bottom}
+use Rattle.proposals.specs.declared.outcome.Layers.{Layers}
+use Rattle.proposals.specs.declared.outcome.Proposed.{Proposed}
+use Rattle.proposals.specs.declared.outcome.Proposed.TheVariants.{Copper, Plated, Unplated, Undecided, LeftOut}
+use Rattle.proposals.specs.declared.outcome.Because.{Because}
+use Rattle.proposals.specs.declared.outcome.Because.TheVariants as because
+
+-- what is proposed, and why
+abbrev pub Decision : Type 0
+Decision = Proposed × Because
+
+-- ---- drill files
+
+-- the layers that two fields name, where both are one to nine digits
+abbrev pub layers_named : Option ℕ → Option ℕ → Option Layers
+layers_named None last = None
+layers_named (Some first) None = None
+layers_named (Some first) (Some last) = Some (record { first = first; last = last })
+
+-- the layers that a file function's second and third field name
+abbrev pub span_of : List ℕ → Option Layers
+span_of function = layers_named (number_of 9 (field 1 function)) (number_of 9 (field 2 function))
+
+-- what a drill file's function says
+abbrev pub drill_by_function : List ℕ → Option Decision
+drill_by_function function =
+    if bytes_eq (field 0 function) (codes "Plated") then Some (Plated (span_of function), because.FileFunction (field 0 function))
+    else (if bytes_eq (field 0 function) (codes "NonPlated") then Some (Unplated (span_of function), because.FileFunction (field 0 function))
+    else (if bytes_eq (field 0 function) (codes "MixedPlating") then Some (Undecided, because.MixedHoles) else None))
+
+-- what a drill file's lines say, where they say that holes are plated or that they are not
+abbrev pub drill_by_lines : Bool → Bool → Option Decision
+drill_by_lines true true = Some (Undecided, because.MixedHoles)
+drill_by_lines true false = Some (Plated None, because.PlatedType)
+drill_by_lines false true = Some (Unplated None, because.UnplatedType)
+drill_by_lines false false = None
+
+-- what a drill file's name says
+abbrev pub drill_by_name : List ℕ → Decision
+drill_by_name name = if names_unplated (words_of name) then (Unplated None, because.ByName) else (Plated None, because.DrillByDefault)
+
+-- what the function of a text says, if it has one that says something
+abbrev pub said : {A : Type 0} → (List ℕ → Option A) → Option (List ℕ) → Option A
+said says None = None
+said says (Some function) = says function
+
+-- what a drill file is: by its function, else by its lines, else by its name
+abbrev pub drill_decision : List ℕ → List ℕ → Decision
+drill_decision name text =
+    unwrap_or (option_or (said drill_by_function (function_of text)) (drill_by_lines (has_line plated_line text) (has_line unplated_line text))) (drill_by_name name)
+
+-- ---- Gerber files
+
+-- the place in the stack that a field names: `L` and one to nine digits
+abbrev pub stack_place : List ℕ → Place
+stack_place place = unwrap_or (option_map (λ n. Numbered n) (if bytes_eq (take 1 place) (codes "L") then number_of 9 (drop 1 place) else None)) Unknown
+
+-- a function of drill files
+abbrev pub is_drill_function : List ℕ → Bool
+is_drill_function first = bytes_eq first (codes "Plated") || (bytes_eq first (codes "NonPlated") || bytes_eq first (codes "MixedPlating"))
+
+-- what a Gerber file's function says
+abbrev pub gerber_by_function : List ℕ → Decision
+gerber_by_function function =
+    if bytes_eq (field 0 function) (codes "Copper") then (Copper (stack_place (field 1 function)), because.FileFunction (field 0 function))
+    else (if is_drill_function (field 0 function) then (Undecided, because.DrillInGerber) else (LeftOut, because.FileFunction (field 0 function)))
+
+-- copper at a place, by the name
+abbrev pub copper_at : Place → Option Decision
+copper_at place = Some (Copper place, because.ByName)
+
+-- no copper, by the name
+abbrev pub no_copper : Option Decision
+no_copper = Some (LeftOut, because.ByName)
+
+-- copper at the place of a number, by the name, if there is a number
+abbrev pub inner_copper : Option ℕ → Option Decision
+inner_copper number = option_map (λ n. (Copper (Numbered n), because.ByName)) number
+
+-- the end of a name of a layer without copper
+abbrev pub is_other_end : List ℕ → Bool
+is_other_end end = is_among end other_ends || is_some (numbered numbered_other_ends end)
+
+-- what the end of a Gerber file's name says
+abbrev pub gerber_by_end : List ℕ → Option Decision
+gerber_by_end end =
+    if is_some (numbered plane_ends end) then Some (Undecided, because.Plane)
+    else (if is_other_end end then no_copper
+    else (if is_among end top_ends then copper_at (Numbered 0)
+    else (if is_among end bottom_ends then copper_at Bottom else inner_copper (numbered inner_ends end))))
+
+-- a word of a top layer, where a word for copper was dropped behind it or none was
+abbrev pub is_top_word : Bool → List ℕ → Bool
+is_top_word dropped word = is_among word top_words || (dropped && bytes_eq word (codes "f"))
+
+-- a word of a bottom layer
+abbrev pub is_bottom_word : Bool → List ℕ → Bool
+is_bottom_word dropped word = is_among word bottom_words || (dropped && bytes_eq word (codes "b"))
+
+-- What the last word of a stem says, where a word for copper was dropped behind it or none was. Without such a word a layer
+-- may be one of those without copper.
+abbrev pub gerber_by_word : Bool → List ℕ → Option Decision
+gerber_by_word dropped word =
+    if not dropped && is_among word other_words then no_copper
+    else (if is_top_word dropped word then copper_at (Numbered 0)
+    else (if is_bottom_word dropped word then copper_at Bottom
+    else option_or (inner_copper (numbered inner_words word)) (if dropped then copper_at Unknown else None)))
+
+-- what the stem of a Gerber file's name says: its last word
+abbrev pub gerber_by_stem : List (List ℕ) → Option Decision
+gerber_by_stem stem = gerber_by_word (ends_in_copper stem) (last_word stem)
+
+-- what the name of a Gerber file says: its end, else the last word of its stem
+abbrev pub gerber_by_words : Bool → List (List ℕ) → Decision
+gerber_by_words point words =
+    unwrap_or (option_or (gerber_by_end (end_of point words)) (gerber_by_stem (stem_of point words))) (Undecided, because.NothingSays)
+
+-- what a Gerber file is: by its function, else by its name
+abbrev pub gerber_decision : List ℕ → List ℕ → Decision
+gerber_decision name text = unwrap_or (option_map gerber_by_function (function_of text)) (gerber_by_words (has_point name) (words_of name))
+
+-- ---- each file
+
+-- what a file of a kind is
+abbrev pub by_kind : Kind → List ℕ → List ℕ → Decision
+by_kind Gerber name text = gerber_decision name text
+by_kind Drill name text = drill_decision name text
+by_kind Empty name text = (LeftOut, because.NoHoles)
+by_kind Neither name text = (LeftOut, because.NoKind)
+
+-- what a file with this name and text is
+abbrev pub decision : List ℕ → List ℕ → Decision
+decision name text = by_kind (kind_of text) name text

@@ -1,0 +1,6 @@
+pub mod Contents
+pub mod Names
+pub mod Deciding
+pub mod Proposing
+pub mod Manifests
+pub mod Keeping

@@ -1,0 +1,143 @@
+-- What the name of a file says: its words, and the words that exporters use.
+use Rattle.std.specs.Prelude.{ℕ, ◌-◌, Bool, false, ◌||◌, ◌&&◌, ◌==◌, not, nat_le, List, [], ◌∷◌, Option, Some, None, length, take, drop, map, reverse, unwrap_or, slice_get, codes, if◌then◌else◌}
+use Rattle.std.specs.List.{list_any, slice_split, filter, find, before_first, after_last, position_or_len}
+use Rattle.std.specs.Char.{to_ascii_lowercase}
+use Rattle.std.specs.Str.{bytes_eq}
+use Rattle.grid_units.specs.Numbers.{is_digit, is_digits, value}
+
+-- ---- words
+
+-- the name behind its last slash
+abbrev pub short_name : List ℕ → List ℕ
+short_name name = after_last (λ b. b == 47) name
+
+-- a small letter or a digit
+abbrev pub is_word_byte : ℕ → Bool
+is_word_byte b = is_digit b || (nat_le 97 b && nat_le b 122)
+
+-- the runs of small letters and digits
+abbrev pub runs : List ℕ → List (List ℕ)
+runs name = filter (λ run. not (length run == 0)) (slice_split (λ b. not (is_word_byte b)) name)
+
+-- the words of a name: the runs of letters and digits behind its last slash, in lower case
+abbrev pub words_of : List ℕ → List (List ℕ)
+words_of name = runs (map to_ascii_lowercase (short_name name))
+
+-- a name behind whose last slash a point stands
+abbrev pub has_point : List ℕ → Bool
+has_point name = list_any (λ b. b == 46) (short_name name)
+
+-- the last of these words, empty where there is none
+abbrev pub last_of : List (List ℕ) → List ℕ
+last_of words = unwrap_or (slice_get words (length words - 1)) []
+
+-- the end of a name with a point: the last of its words
+abbrev pub end_of : Bool → List (List ℕ) → List ℕ
+end_of point words = if point then last_of words else []
+
+-- the words of a name but its end
+abbrev pub stem_of : Bool → List (List ℕ) → List (List ℕ)
+stem_of point words = if point then take (length words - 1) words else words
+
+-- the word is one of these
+abbrev pub is_among : List ℕ → List (List ℕ) → Bool
+is_among word these = list_any (λ one. bytes_eq one word) these
+
+-- ---- words with a number
+
+-- one to so many digits
+abbrev pub is_number_of : ℕ → List ℕ → Bool
+is_number_of most text = is_digits text && nat_le (length text) most
+
+-- the number that one to so many digits spell
+abbrev pub number_of : ℕ → List ℕ → Option ℕ
+number_of most text = if is_number_of most text then Some (value text) else None
+
+-- what stands before the first digit of a word
+abbrev pub letters_of : List ℕ → List ℕ
+letters_of word = before_first is_digit word
+
+-- the word from its first digit on
+abbrev pub digits_of : List ℕ → List ℕ
+digits_of word = drop (position_or_len is_digit word) word
+
+-- the number of a word that is one of these and one or two digits
+abbrev pub numbered : List (List ℕ) → List ℕ → Option ℕ
+numbered these word = if is_among (letters_of word) these then number_of 2 (digits_of word) else None
+
+-- ---- the words of exporters
+
+-- the ends of planes, with a number behind them
+abbrev pub plane_ends : List (List ℕ)
+plane_ends = codes "gp" ∷ []
+
+-- the ends of layers without copper
+abbrev pub other_ends : List (List ℕ)
+other_ends = codes "gts" ∷ codes "gtp" ∷ codes "gto" ∷ codes "gbs" ∷ codes "gbp" ∷ codes "gbo" ∷ codes "gko" ∷ codes "gpt" ∷ codes "gpb" ∷ codes "gm" ∷ codes "gml"
+    ∷ codes "stc" ∷ codes "sts" ∷ codes "plc" ∷ codes "pls" ∷ codes "crc" ∷ codes "crs" ∷ []
+
+-- the ends of layers without copper that have a number behind them
+abbrev pub numbered_other_ends : List (List ℕ)
+numbered_other_ends = codes "gm" ∷ codes "gd" ∷ []
+
+-- the ends of top layers
+abbrev pub top_ends : List (List ℕ)
+top_ends = codes "gtl" ∷ codes "cmp" ∷ codes "top" ∷ []
+
+-- the ends of bottom layers
+abbrev pub bottom_ends : List (List ℕ)
+bottom_ends = codes "gbl" ∷ codes "sol" ∷ codes "bot" ∷ []
+
+-- the ends of inner layers, with a number behind them
+abbrev pub inner_ends : List (List ℕ)
+inner_ends = codes "g" ∷ codes "gl" ∷ codes "ly" ∷ []
+
+-- the words that say that a layer is of copper
+abbrev pub copper_words : List (List ℕ)
+copper_words = codes "cu" ∷ codes "copper" ∷ codes "layer" ∷ []
+
+-- the words of layers without copper
+abbrev pub other_words : List (List ℕ)
+other_words = codes "mask" ∷ codes "topmask" ∷ codes "bottommask" ∷ codes "paste" ∷ codes "toppaste" ∷ codes "bottompaste" ∷ codes "silk" ∷ codes "silks" ∷ codes "silkscreen"
+    ∷ codes "topsilk" ∷ codes "bottomsilk" ∷ codes "soldermask" ∷ codes "solderpaste" ∷ codes "adhes" ∷ codes "adhesive" ∷ codes "cuts" ∷ codes "outline" ∷ codes "profile"
+    ∷ codes "edge" ∷ codes "fab" ∷ codes "crtyd" ∷ codes "courtyard" ∷ codes "margin" ∷ codes "user" ∷ codes "drawings" ∷ codes "comments" ∷ codes "assembly" ∷ codes "legend" ∷ []
+
+-- the words of top layers
+abbrev pub top_words : List (List ℕ)
+top_words = codes "top" ∷ codes "front" ∷ codes "toplayer" ∷ codes "coppertop" ∷ codes "topcopper" ∷ []
+
+-- the words of bottom layers
+abbrev pub bottom_words : List (List ℕ)
+bottom_words = codes "bottom" ∷ codes "bot" ∷ codes "back" ∷ codes "bottomlayer" ∷ codes "copperbottom" ∷ codes "bottomcopper" ∷ []
+
+-- the words of inner layers, with a number behind them
+abbrev pub inner_words : List (List ℕ)
+inner_words = codes "in" ∷ codes "inner" ∷ codes "innerlayer" ∷ codes "l" ∷ codes "layer" ∷ codes "group" ∷ codes "signal" ∷ []
+
+-- the words that say that holes are not plated
+abbrev pub unplated_words : List (List ℕ)
+unplated_words = codes "npth" ∷ codes "unplated" ∷ codes "nonplated" ∷ codes "nplt" ∷ []
+
+-- `non` stands right before `plated`
+abbrev pub has_non_plated : List (List ℕ) → Bool
+has_non_plated [] = false
+has_non_plated (word ∷ []) = false
+has_non_plated (word ∷ next ∷ rest) = (bytes_eq word (codes "non") && bytes_eq next (codes "plated")) || has_non_plated (next ∷ rest)
+
+-- words that say that holes are not plated
+abbrev pub names_unplated : List (List ℕ) → Bool
+names_unplated words = list_any (λ word. is_among word unplated_words) words || has_non_plated words
+
+-- ---- the last word of a stem
+
+-- a word that says that a layer is of copper
+abbrev pub is_copper_word : List ℕ → Bool
+is_copper_word word = is_among word copper_words
+
+-- a stem that ends in a word for copper
+abbrev pub ends_in_copper : List (List ℕ) → Bool
+ends_in_copper stem = is_copper_word (last_of stem)
+
+-- the last word of a stem once the words for copper at its end are dropped, empty where there is none
+abbrev pub last_word : List (List ℕ) → List ℕ
+last_word stem = unwrap_or (find (λ word. not (is_copper_word word)) (reverse stem)) []

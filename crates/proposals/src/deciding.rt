@@ -1,0 +1,332 @@
+//! What a file is, and why.
+
+ghost use Rattle.std.specs.Prelude.{◌≡◌, IfOk, map};
+ghost use Rattle.proposals.specs.Contents as contents_say;
+ghost use Rattle.proposals.specs.Deciding as says;
+ghost use Rattle.proposals.specs.Names as naming;
+
+use crate::contents::{Kind, fields_of, function_of, has_line, kind_of};
+use crate::names::{
+    end_of, ends_in_copper, has_point, is_among, last_word, lower_name, names_unplated, number_of,
+    numbered, runs, stem_of,
+};
+use crate::outcome::{Because, Layers, Place, Proposed};
+use grid_units::Text;
+use std::alloc::{AllocError, Global};
+
+/// What is proposed, and why.
+type Decision = (Proposed, Because);
+
+/// The layers that two fields name, where both are one to nine digits.
+fn layers_named(first: &[u8], last: &[u8]) -> Option<Layers>
+    ensures { result ≡ says.layers_named (naming.number_of 9 first.now) (naming.number_of 9 last.now) }
+{
+    Some(Layers {
+        first: number_of(9, first)?,
+        last: number_of(9, last)?,
+    })
+}
+
+/// The reason that the first field of a file function is.
+fn by_function(alloc: Global, first: &[u8]) -> Result<Because, AllocError>
+    ensures { IfOk result (λ because. because ≡ Because.FileFunction first.now) }
+{
+    Ok(Because::FileFunction(Text::from_slice(alloc, first)?))
+}
+
+/// What a drill file's function says.
+fn drill_by_function(alloc: Global, function: &[u8]) -> Result<Option<Decision>, AllocError>
+    ensures { IfOk result (λ decision. decision ≡ says.drill_by_function function.now) }
+{
+    let fields = fields_of(function);
+    if fields.first == b"Plated".as_slice() {
+        let span = layers_named(fields.second, fields.third);
+        return Ok(Some((Proposed::Plated(span), by_function(alloc, fields.first)?)));
+    }
+    if fields.first == b"NonPlated".as_slice() {
+        let span = layers_named(fields.second, fields.third);
+        return Ok(Some((Proposed::Unplated(span), by_function(alloc, fields.first)?)));
+    }
+    if fields.first == b"MixedPlating".as_slice() {
+        return Ok(Some((Proposed::Undecided, Because::MixedHoles)));
+    }
+    Ok(None)
+}
+
+/// What a drill file's lines say, where they say that holes are plated or that they are not.
+fn drill_by_lines(plated: bool, unplated: bool) -> Option<Decision>
+    ensures { result ≡ says.drill_by_lines plated unplated }
+{
+    match (plated, unplated) {
+        (true, true) => Some((Proposed::Undecided, Because::MixedHoles)),
+        (true, false) => Some((Proposed::Plated(None), Because::PlatedType)),
+        (false, true) => Some((Proposed::Unplated(None), Because::UnplatedType)),
+        (false, false) => None,
+    }
+}
+
+/// What a drill file's name says.
+fn drill_by_name(alloc: Global, name: &[u8]) -> Result<Decision, AllocError>
+    ensures { IfOk result (λ decision. decision ≡ says.drill_by_name name.now) }
+{
+    let lower = lower_name(alloc, name)?;
+    let words = runs(alloc, lower.as_slice())?;
+    if names_unplated(words.as_slice()) {
+        Ok((Proposed::Unplated(None), Because::ByName))
+    } else {
+        Ok((Proposed::Plated(None), Because::DrillByDefault))
+    }
+}
+
+/// What a drill file's function says, if it has one that says something.
+fn drill_function(alloc: Global, text: &[u8]) -> Result<Option<Decision>, AllocError>
+    ensures { IfOk result (λ decision. decision ≡ says.said says.drill_by_function (contents_say.function_of text.now)) }
+{
+    match function_of(text) {
+        Some(function) => drill_by_function(alloc, function),
+        None => Ok(None),
+    }
+}
+
+/// What a drill file is: by its function, else by its lines, else by its name.
+fn drill_decision(alloc: Global, name: &[u8], text: &[u8]) -> Result<Decision, AllocError>
+    ensures { IfOk result (λ decision. decision ≡ says.drill_decision name.now text.now) }
+{
+    if let Some(decision) = drill_function(alloc, text)? {
+        return Ok(decision);
+    }
+    let plated = has_line(b";TYPE=PLATED", text);
+    let unplated = has_line(b";TYPE=NON_PLATED", text);
+    if let Some(decision) = drill_by_lines(plated, unplated) {
+        return Ok(decision);
+    }
+    drill_by_name(alloc, name)
+}
+
+/// The place in the stack that a field names: `L` and one to nine digits.
+fn stack_place(place: &[u8]) -> Place
+    ensures { result ≡ says.stack_place place.now }
+{
+    let Some(digits) = place.strip_prefix(b"L") else {
+        return Place::Unknown;
+    };
+    match number_of(9, digits) {
+        Some(n) => Place::Numbered(n),
+        None => Place::Unknown,
+    }
+}
+
+fn is_drill_function(first: &[u8]) -> bool
+    ensures { result ≡ says.is_drill_function first.now }
+{
+    first == b"Plated".as_slice()
+        || first == b"NonPlated".as_slice()
+        || first == b"MixedPlating".as_slice()
+}
+
+/// What a Gerber file's function says.
+fn gerber_by_function(alloc: Global, function: &[u8]) -> Result<Decision, AllocError>
+    ensures { IfOk result (λ decision. decision ≡ says.gerber_by_function function.now) }
+{
+    let fields = fields_of(function);
+    if fields.first == b"Copper".as_slice() {
+        let place = stack_place(fields.second);
+        return Ok((Proposed::Copper(place), by_function(alloc, fields.first)?));
+    }
+    if is_drill_function(fields.first) {
+        return Ok((Proposed::Undecided, Because::DrillInGerber));
+    }
+    Ok((Proposed::LeftOut, by_function(alloc, fields.first)?))
+}
+
+/// Copper at the place of a number, by the name, if there is a number.
+fn inner_copper(number: Option<u32>) -> Option<Decision>
+    ensures { result ≡ says.inner_copper number }
+{
+    match number {
+        Some(n) => Some((Proposed::Copper(Place::Numbered(n)), Because::ByName)),
+        None => None,
+    }
+}
+
+/// Copper at a place, by the name.
+fn copper_at(place: Place) -> Option<Decision>
+    ensures { result ≡ says.copper_at place }
+{
+    Some((Proposed::Copper(place), Because::ByName))
+}
+
+/// Whether the end of a name is one of a layer without copper.
+fn is_other_end(end: &[u8]) -> bool
+    ensures { result ≡ says.is_other_end end.now }
+{
+    is_among(
+        end,
+        &[
+            "gts", "gtp", "gto", "gbs", "gbp", "gbo", "gko", "gpt", "gpb", "gm", "gml", "stc",
+            "sts", "plc", "pls", "crc", "crs",
+        ],
+    ) || numbered(&["gm", "gd"], end).is_some()
+}
+
+/// What the end of a Gerber file's name says.
+fn gerber_by_end(end: &[u8]) -> Option<Decision>
+    ensures { result ≡ says.gerber_by_end end.now }
+{
+    if numbered(&["gp"], end).is_some() {
+        return Some((Proposed::Undecided, Because::Plane));
+    }
+    if is_other_end(end) {
+        return Some((Proposed::LeftOut, Because::ByName));
+    }
+    if is_among(end, &["gtl", "cmp", "top"]) {
+        return copper_at(Place::Numbered(0));
+    }
+    if is_among(end, &["gbl", "sol", "bot"]) {
+        return copper_at(Place::Bottom);
+    }
+    inner_copper(numbered(&["g", "gl", "ly"], end))
+}
+
+/// Whether a word is one of a layer without copper.
+fn is_other_word(word: &[u8]) -> bool
+    ensures { result ≡ naming.is_among word.now naming.other_words }
+{
+    is_among(
+        word,
+        &[
+            "mask",
+            "topmask",
+            "bottommask",
+            "paste",
+            "toppaste",
+            "bottompaste",
+            "silk",
+            "silks",
+            "silkscreen",
+            "topsilk",
+            "bottomsilk",
+            "soldermask",
+            "solderpaste",
+            "adhes",
+            "adhesive",
+            "cuts",
+            "outline",
+            "profile",
+            "edge",
+            "fab",
+            "crtyd",
+            "courtyard",
+            "margin",
+            "user",
+            "drawings",
+            "comments",
+            "assembly",
+            "legend",
+        ],
+    )
+}
+
+/// Whether a word is one of a top layer, where a word for copper was dropped behind it or not.
+fn is_top_word(dropped: bool, word: &[u8]) -> bool
+    ensures { result ≡ says.is_top_word dropped word.now }
+{
+    is_among(
+        word,
+        &["top", "front", "toplayer", "coppertop", "topcopper"],
+    ) || (dropped && word == b"f".as_slice())
+}
+
+/// Whether a word is one of a bottom layer, where a word for copper was dropped behind it or not.
+fn is_bottom_word(dropped: bool, word: &[u8]) -> bool
+    ensures { result ≡ says.is_bottom_word dropped word.now }
+{
+    is_among(
+        word,
+        &[
+            "bottom",
+            "bot",
+            "back",
+            "bottomlayer",
+            "copperbottom",
+            "bottomcopper",
+        ],
+    ) || (dropped && word == b"b".as_slice())
+}
+
+/// What the last word of a stem says, where a word for copper was dropped behind it or none was.
+fn gerber_by_word(dropped: bool, word: &[u8]) -> Option<Decision>
+    ensures { result ≡ says.gerber_by_word dropped word.now }
+{
+    if !dropped && is_other_word(word) {
+        return Some((Proposed::LeftOut, Because::ByName));
+    }
+    if is_top_word(dropped, word) {
+        return copper_at(Place::Numbered(0));
+    }
+    if is_bottom_word(dropped, word) {
+        return copper_at(Place::Bottom);
+    }
+    let number = numbered(
+        &["in", "inner", "innerlayer", "l", "layer", "group", "signal"],
+        word,
+    );
+    if let Some(decision) = inner_copper(number) {
+        return Some(decision);
+    }
+    if dropped {
+        copper_at(Place::Unknown)
+    } else {
+        None
+    }
+}
+
+/// What the stem of a Gerber file's name says.
+fn gerber_by_stem(stem: &[&[u8]]) -> Option<Decision>
+    ensures { result ≡ says.gerber_by_stem (map (λ word. word.now) stem.now) }
+{
+    gerber_by_word(ends_in_copper(stem), last_word(stem))
+}
+
+/// What the name of a Gerber file says: its end, else the last word of its stem.
+fn gerber_by_words(point: bool, words: &[&[u8]]) -> Decision
+    ensures { result ≡ says.gerber_by_words point (map (λ word. word.now) words.now) }
+{
+    let by_end = gerber_by_end(end_of(point, words));
+    let by_stem = gerber_by_stem(stem_of(point, words));
+    match by_end.or(by_stem) {
+        Some(decision) => decision,
+        None => (Proposed::Undecided, Because::NothingSays),
+    }
+}
+
+/// What the name of a Gerber file says.
+fn gerber_by_name(alloc: Global, name: &[u8]) -> Result<Decision, AllocError>
+    ensures { IfOk result (λ decision. decision ≡ says.gerber_by_words (naming.has_point name.now) (naming.words_of name.now)) }
+{
+    let lower = lower_name(alloc, name)?;
+    let words = runs(alloc, lower.as_slice())?;
+    Ok(gerber_by_words(has_point(name), words.as_slice()))
+}
+
+/// What a Gerber file is: by its function, else by its name.
+fn gerber_decision(alloc: Global, name: &[u8], text: &[u8]) -> Result<Decision, AllocError>
+    ensures { IfOk result (λ decision. decision ≡ says.gerber_decision name.now text.now) }
+{
+    match function_of(text) {
+        Some(function) => gerber_by_function(alloc, function),
+        None => gerber_by_name(alloc, name),
+    }
+}
+
+/// What a file with this name and text is, and why.
+pub(crate) fn decision(alloc: Global, name: &[u8], text: &[u8]) -> Result<Decision, AllocError>
+    ensures { IfOk result (λ decision. decision ≡ says.decision name.now text.now) }
+{
+    match kind_of(text) {
+        Kind::Gerber => gerber_decision(alloc, name, text),
+        Kind::Drill => drill_decision(alloc, name, text),
+        Kind::Empty => Ok((Proposed::LeftOut, Because::NoHoles)),
+        Kind::Neither => Ok((Proposed::LeftOut, Because::NoKind)),
+    }
+}

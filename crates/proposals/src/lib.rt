@@ -1,0 +1,24 @@
+//! Proposals for a manifest: which of a folder's files are copper layers and drill files, and why.
+//!
+//! The text of a file decides what kind it is, its file function what it is for, and its name last. A proposal may be wrong: the
+//! user reads it. A file that may be copper or holes is never left out silently, but stands with the role `?`.
+#![tactic(auto)]
+
+mod contents;
+mod deciding;
+pub mod laws;
+mod manifests;
+mod names;
+mod order;
+mod outcome;
+mod proposing;
+mod reasons;
+mod table;
+
+pub use manifests::write_proposal;
+pub use outcome::{Because, Content, Layers, Named, Place, Proposal, Proposed};
+pub use proposing::propose;
+pub use reasons::write_reasons;
+
+#[cfg(test)]
+mod tests;

@@ -1,0 +1,190 @@
+//! The text of a manifest.
+
+ghost use Rattle.std.specs.Prelude.{◌≡◌, ◌++◌, ◌∷◌, [], ◌==◌, nat_lt, decimal, true, false, length, IfOk, map};
+ghost use Rattle.std.specs.List.{count_by, list_any};
+ghost use Rattle.std.specs.Str.{bytes_eq};
+ghost use Rattle.csv.specs.Writing.{default_writer, row_text};
+ghost use Rattle.proposals.specs.Names as naming;
+ghost use Rattle.proposals.specs.Manifests as says;
+ghost use Rattle.proposals.specs.Manifests.{IsManifestOf};
+
+use crate::names::short_name;
+use crate::order::in_order;
+use crate::outcome::{Layers, Proposal, Proposed};
+use crate::reasons::role_word;
+use crate::table::Table;
+use itoa::Buffer;
+use std::alloc::{AllocError, Global};
+
+fn is_copper(file: &Proposal) -> bool
+    ensures { result ≡ says.is_copper file.now }
+{
+    matches!(file.role, Proposed::Copper(_))
+}
+
+/// How many copper layers there are.
+fn layers(entries: &[&Proposal]) -> usize
+    ensures { result ≡ count_by says.is_copper (map (λ entry. entry.now) entries.now) }
+{
+    entries.iter().filter(|entry| is_copper(entry)).count()
+}
+
+/// The layers that a file names, if it names any.
+fn span_in(role: Proposed) -> Option<Layers>
+    ensures { result ≡ says.span_in role }
+{
+    match role {
+        Proposed::Plated(span) | Proposed::Unplated(span) => span,
+        Proposed::Copper(_) | Proposed::Undecided | Proposed::LeftOut => None,
+    }
+}
+
+/// Whether layers are not all of so many.
+fn is_partial(layers: usize, span: Option<Layers>) -> bool
+    ensures { result ≡ says.is_partial layers span }
+{
+    match span {
+        Some(span) => !(span.first == 1 && span.last as usize == layers),
+        None => false,
+    }
+}
+
+/// Whether some file's holes go through other layers than all.
+fn has_spans(entries: &[&Proposal]) -> bool
+    ensures { result ≡ says.has_spans (map (λ entry. entry.now) entries.now) }
+{
+    let layers = layers(entries);
+    entries
+        .iter()
+        .any(|entry| is_partial(layers, span_in(entry.role)))
+}
+
+/// The name of a file behind its last slash.
+fn short(file: &Proposal) -> &[u8]
+    ensures { result.now ≡ naming.short_name file.now.file }
+{
+    short_name(file.file.as_str().as_bytes())
+}
+
+/// How many files have this name behind their last slash.
+fn named_so(entries: &[&Proposal], name: &[u8]) -> usize
+    ensures { result ≡ count_by (λ entry. bytes_eq (naming.short_name entry.file) name.now) (map (λ entry. entry.now) entries.now) }
+{
+    entries.iter().filter(|entry| short(entry) == name).count()
+}
+
+/// The name that reports print.
+fn label<'e>(entries: &[&Proposal], file: &'e Proposal) -> &'e [u8]
+    ensures { result.now ≡ says.label (map (λ entry. entry.now) entries.now) file.now }
+{
+    let name = short(file);
+    if named_so(entries, name) > 1 {
+        file.file.as_str().as_bytes()
+    } else {
+        name
+    }
+}
+
+/// The table with a row of three fields.
+fn with_three<'f>(
+    table: Table,
+    role: &'f [u8],
+    name: &'f [u8],
+    file: &'f [u8],
+) -> Result<Table, AllocError>
+    ensures { IfOk result (λ more. more ≡ table ++ row_text default_writer (role.now ∷ name.now ∷ file.now ∷ [])) }
+{
+    table.with_row(&[role, name, file])
+}
+
+/// The table with a row of five fields.
+fn with_five<'f>(
+    table: Table,
+    role: &'f [u8],
+    name: &'f [u8],
+    file: &'f [u8],
+    first: &'f [u8],
+    last: &'f [u8],
+) -> Result<Table, AllocError>
+    ensures { IfOk result (λ more. more ≡ table ++ row_text default_writer (role.now ∷ name.now ∷ file.now ∷ first.now ∷ last.now ∷ [])) }
+{
+    table.with_row(&[role, name, file, first, last])
+}
+
+/// The table with a row of three fields and the two of these layers.
+fn with_span<'f>(
+    table: Table,
+    role: &'f [u8],
+    name: &'f [u8],
+    file: &'f [u8],
+    span: Option<Layers>,
+) -> Result<Table, AllocError>
+    ensures { IfOk result (λ more. more ≡ table ++ row_text default_writer (role.now ∷ name.now ∷ file.now ∷ says.span_fields span)) }
+{
+    match span {
+        Some(span) => {
+            let (mut first, mut last) = (Buffer::new(), Buffer::new());
+            let first_field = first.format(span.first).as_bytes();
+            let last_field = last.format(span.last).as_bytes();
+            with_five(table, role, name, file, first_field, last_field)
+        }
+        None => with_five(table, role, name, file, b"", b""),
+    }
+}
+
+/// The table with the row of a file.
+fn with_entry(
+    table: Table,
+    spans: bool,
+    entries: &[&Proposal],
+    file: &Proposal,
+) -> Result<Table, AllocError>
+    ensures { IfOk result (λ more. more ≡ table ++ says.entry_row spans (map (λ entry. entry.now) entries.now) file.now) }
+{
+    let role = role_word(file.role).as_bytes();
+    let name = label(entries, file);
+    let path = file.file.as_str().as_bytes();
+    if spans {
+        with_span(table, role, name, path, span_in(file.role))
+    } else {
+        with_three(table, role, name, path)
+    }
+}
+
+/// The first row.
+fn heading(alloc: Global, spans: bool) -> Result<Table, AllocError>
+    ensures { IfOk result (λ table. table ≡ says.heading spans) }
+{
+    let table = Table::new(alloc);
+    if spans {
+        with_five(table, b"role", b"name", b"file", b"first", b"last")
+    } else {
+        with_three(table, b"role", b"name", b"file")
+    }
+}
+
+/// The text of a manifest with these files.
+fn manifest_text(alloc: Global, entries: &[&Proposal]) -> Result<Vec<u8>, AllocError>
+    ensures { IfOk result (λ text. text.items ≡ says.manifest_text (map (λ entry. entry.now) entries.now)) }
+{
+    let spans = has_spans(entries);
+    let mut table = heading(alloc, spans)?;
+    for entry in entries {
+        table = with_entry(table, spans, entries, entry)?;
+    }
+    table.into_bytes()
+}
+
+/// The manifest of the files that are not left out: copper layers by their place, then plated, unplated and undecided drill
+/// files, those of one kind in the order of the proposals. An undecided file has the role `?`, which no manifest may have. The
+/// manifest has version 1, unless some file's holes go through other layers than all.
+///
+/// # Errors
+///
+/// An `AllocError` where there is no memory.
+pub fn write_proposal(alloc: Global, proposals: &[Proposal]) -> Result<Vec<u8>, AllocError>
+    ensures exact { IfOk result (λ text. IsManifestOf proposals.now text.items) }
+{
+    let entries = in_order(alloc, proposals)?;
+    manifest_text(alloc, entries.as_slice())
+}

@@ -1,0 +1,95 @@
+//! Files as they are given, and what is proposed for them.
+
+use grid_units::Text;
+use manifest::Name;
+
+/// What is known of a file's bytes.
+#[derive(Clone, Copy, Debug)]
+pub enum Content<'a> {
+    /// All bytes of the file.
+    Bytes(&'a [u8]),
+    /// The file cannot be read.
+    NotRead,
+    /// The file has more bytes than are read of a file.
+    TooLong,
+}
+
+/// A file by the name that it was asked for, and what is known of its bytes.
+#[derive(Clone, Copy, Debug)]
+pub struct Named<'a> {
+    pub name: &'a str,
+    pub content: Content<'a>,
+}
+
+/// Where a copper layer stands in the stack.
+#[derive(Clone, Copy, Debug, PartialEq, Eq)]
+pub enum Place {
+    /// By its number, at most 999,999,999. The top layer has the number 0, or 1 where its file function says so.
+    Numbered(u32),
+    /// Behind the layers with a number and before the bottom layer.
+    Unknown,
+    Bottom,
+}
+
+/// The layers that a drill file's holes go through, as its file function names them: two numbers, each at most 999,999,999.
+/// They need not be the numbers of layers.
+#[derive(Clone, Copy, Debug, PartialEq, Eq)]
+pub struct Layers {
+    pub first: u32,
+    pub last: u32,
+}
+
+/// What is proposed for a file.
+#[derive(Clone, Copy, Debug, PartialEq, Eq)]
+pub enum Proposed {
+    /// A copper layer.
+    Copper(Place),
+    /// A drill file whose holes are plated. `None` means that no layers are named.
+    Plated(Option<Layers>),
+    /// A drill file whose holes are not plated.
+    Unplated(Option<Layers>),
+    /// The user has to decide.
+    Undecided,
+    /// No file of the package.
+    LeftOut,
+}
+
+/// Why it is proposed.
+#[derive(Debug, Drop)]
+pub enum Because {
+    /// The text is neither a Gerber file nor a drill file.
+    NoKind,
+    /// A drill file without a hole.
+    NoHoles,
+    /// The first field of the file function.
+    FileFunction(Text),
+    /// Plated and unplated holes stand in one file.
+    MixedHoles,
+    /// A line `;TYPE=PLATED`.
+    PlatedType,
+    /// A line `;TYPE=NON_PLATED`.
+    UnplatedType,
+    /// The name of the file.
+    ByName,
+    /// A drill file of which nothing says whether its holes are plated.
+    DrillByDefault,
+    /// A drill file in Gerber, which is not read.
+    DrillInGerber,
+    /// A plane, which may be a negative without a mark.
+    Plane,
+    /// A Gerber file of which nothing says what it is.
+    NothingSays,
+    /// The file cannot be read.
+    NotRead,
+    /// The file is too long.
+    TooLong,
+}
+
+/// What is proposed for a file, and why.
+#[derive(Debug, Drop)]
+pub struct Proposal {
+    /// The name of the file, as it was asked for.
+    pub file: Name,
+    pub role: Proposed,
+    pub because: Because,
+}

@@ -1,0 +1,54 @@
+//! The proposals for a list of files.
+
+ghost use Rattle.std.specs.Prelude.{◌≡◌, IfOk};
+ghost use Rattle.proposals.specs.Proposing as says;
+ghost use Rattle.proposals.specs.Proposing.{name_of, proposals};
+
+use crate::deciding::decision;
+use crate::outcome::{Because, Content, Named, Proposal, Proposed};
+use manifest::Name;
+use std::alloc::{AllocError, Global};
+use std::collections::BTreeSet;
+
+/// What a file is, and why.
+fn decided(alloc: Global, file: &Named<'_>) -> Result<(Proposed, Because), AllocError>
+    ensures { IfOk result (λ decision. decision ≡ says.decided (name_of file.now) file.now.content) }
+{
+    match file.content {
+        Content::Bytes(bytes) => decision(alloc, file.name.as_bytes(), bytes),
+        Content::NotRead => Ok((Proposed::Undecided, Because::NotRead)),
+        Content::TooLong => Ok((Proposed::Undecided, Because::TooLong)),
+    }
+}
+
+/// The proposal for a file.
+fn proposal(alloc: Global, file: &Named<'_>) -> Result<Proposal, AllocError>
+    ensures { IfOk result (λ proposal. proposal ≡ says.proposal file.now) }
+{
+    let (role, because) = decided(alloc, file)?;
+    Ok(Proposal {
+        file: Name::new(alloc, file.name)?,
+        role,
+        because,
+    })
+}
+
+/// The proposals for these files, in their order. A file whose name stood before is passed over.
+///
+/// # Errors
+///
+/// An `AllocError` where there is no memory.
+pub fn propose(alloc: Global, files: &[Named<'_>]) -> Result<Vec<Proposal>, AllocError>
+    ensures exact { IfOk result (λ list. list.items ≡ proposals files.now) }
+{
+    let mut names = BTreeSet::new(alloc);
+    let mut list = Vec::new(alloc);
+    for file in files {
+        let is_new = names.insert(file.name.as_bytes())?;
+        if !is_new {
+            continue;
+        }
+        list.push(proposal(alloc, file)?)?;
+    }
+    Ok(list)
+}
