@@ -17,6 +17,7 @@ pub use printing::write_report;
 pub use report::Report;
 use ring_rules::Drilled;
 pub use ring_rules::Span;
+use thiserror::Error;
 
 /// A file of a package.
 #[derive(Clone, Copy)]
@@ -38,10 +39,14 @@ pub struct PiecedFile<'a> {
     pub pieces: &'a [&'a [u8]],
 }
 
-/// Why there is no report: want of memory, or a file that is refused.
-#[derive(Clone, Copy, Debug, PartialEq, Eq)]
+/// Why there is no report.
+#[derive(Clone, Copy, Debug, PartialEq, Eq, Error)]
 pub enum PackageFault {
+    /// There is no memory.
+    #[error("out of memory")]
     Memory,
+    /// The file at this index of the list, from 0, is refused.
+    #[error("the file at index {index} is refused")]
     File { index: usize, fault: Fault },
 }
 

@@ -9,10 +9,11 @@ mod packages;
 mod program;
 mod single_files;
 
-pub use loading::{LoadFault, Loader, ReadFail, read_all};
-pub use manifest::{Entry, Role, read_manifest};
+pub use loading::{LoadFault, Loader, MAX_LIMIT, ReadFail, read_all};
+pub use manifest::{Entry, Name, Role, read_manifest};
 pub use package_check::{
-    File, FileSum, Numbered, PackageFault, Report, check_bytes, laws, write_report,
+    File, FileSum, Numbered, PackageFault, PiecedFile, Report, Span, check_bytes, check_pieces,
+    laws, write_report,
 };
 pub use program::run;
 pub use rewriting::{Kind, rewrite_bytes};

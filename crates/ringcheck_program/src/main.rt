@@ -3,7 +3,7 @@
 
 ghost use Rattle.std.specs.Prelude.{◌≡◌, ℕ, List};
 
-use ringcheck::{LoadFault, Loader, ReadFail, Status, read_all, run};
+use ringcheck::{LoadFault, Loader, MAX_LIMIT, ReadFail, Status, read_all, run};
 use std::alloc::{AllocError, Global};
 use std::io::Write;
 use std::process::ExitCode;
@@ -18,9 +18,6 @@ struct Disk<'a, R> {
     failures: u64,
 }
 
-/// The most bytes that `read_all` reads.
-const GREATEST_LIMIT: u64 = 268_435_456;
-
 impl<R: Files> Loader for Disk<'_, R> {
     ghost has = { λ s n b. Unit {0} };
 
@@ -31,7 +28,7 @@ impl<R: Files> Loader for Disk<'_, R> {
             self.failures = self.failures.saturating_add(1);
             return Err(LoadFault::Device);
         };
-        match read_all(alloc, &mut file, limit.min(GREATEST_LIMIT)) {
+        match read_all(alloc, &mut file, limit.min(MAX_LIMIT)) {
             Ok(bytes) => Ok(bytes),
             Err(ReadFail::TooLong) => Err(LoadFault::TooLong),
             Err(ReadFail::Memory) => Err(LoadFault::Memory),
