@@ -50,6 +50,19 @@ solves z m y r e h = subst (λ (x : Result ℤ Reason). IfOk x (λ p. p *ℤ pos
     by true = tt
     by false = h
 
+-- a decimal's length is twice a whole number of pm
+halved : (unit : Units) (n : ℤ) → (half : ℤ) × (picometres unit 8 n ≡ half *ℤ pos 2)
+halved Inch n = (n *ℤ pos 127, omega (arith, ints))
+halved Millimetre n = (n *ℤ pos 5, omega (arith, ints))
+
+pub even : (unit : Units) (n : ℤ) (r : Result ℤ Reason) → r ≡ within_limit (picometres unit 8 n) → IfOk r (λ p. (half : ℤ) × (p ≡ half *ℤ pos 2))
+unfolding within_limit
+even unit n r e = subst (λ (x : Result ℤ Reason). IfOk x (λ p. (half : ℤ) × (p ≡ half *ℤ pos 2))) (sym e) (by (is_far (picometres unit 8 n)))
+  where
+    by : (t : Bool) → IfOk (cond t (Err TooFar) (Ok (picometres unit 8 n))) (λ p. (half : ℤ) × (p ≡ half *ℤ pos 2))
+    by true = tt
+    by false = halved unit n
+
 pub product_fits : (n : ℤ) (q : ℕ) → FitsSigned w64 n → q ≤ 25400000000 → FitsSigned w128 (n *ℤ pos q)
 product_fits n q h l = fits_signed_mul w128 n (pos q) (2 ^ 63) 25400000000 (omega (arith, ints)) l (lit< tt)
 

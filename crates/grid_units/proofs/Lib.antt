@@ -7,3 +7,4 @@ pub mod Places
 pub mod Spelled
 pub mod Filling
 pub mod Fronts
+mod Refusing

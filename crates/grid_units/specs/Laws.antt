@@ -1,10 +1,13 @@
 -- Laws of steps in the plane, of looking back, and of steps that may be refused.
-use Rattle.std.specs.Prelude.{◌≡◌, ℕ, ℤ, ◌+◌, ◌≤◌, ◌<◌, ◌⊎◌, ◌+ℤ◌, unsigned_abs, List, [], ◌∷◌, ◌++◌, length, Option, Some, None, slice_get, Result, Ok, Err}
+use Rattle.std.specs.Prelude.{◌≡◌, ℕ, ℤ, ◌+◌, ◌≤◌, ◌<◌, ◌⊎◌, ◌+ℤ◌, unsigned_abs, List, [], ◌∷◌, ◌++◌, length, Option, Some, None, slice_get, Result, Ok, Err, IfErr}
 use Rattle.std.specs.Option.{option_or}
-use Rattle.std.specs.List.{flat_map}
+use Rattle.std.specs.List.{flat_map, Contains}
 use Rattle.grid_units.specs.Points.{square}
 use Rattle.grid_units.specs.Lists.{last_named, positions, breaks}
+use Rattle.grid_units.specs.Numbers.{dec_of, zeros_of, within_limit}
 use Rattle.grid_units.specs.Results.{◌>>=◌}
+use Rattle.grid_units.specs.declared.fault.Reason.TheVariants.{BadNumber, NoZeros, TooManyDigits, TooFine, TooFar}
+use Rattle.grid_units.specs.declared.zero_filling.Zeros.{Zeros}
 
 -- the square of the length of a step of a along one axis and b along the other (docs/DEFINITIONS.md, Laws)
 abbrev pub square_length : ℤ → ℤ → ℕ
@@ -41,3 +44,15 @@ ChainsOk A = (r : Result A ℤ) (f : A → Result A ℤ) (y : A) → (r >>= f) �
 -- a chain of steps is refused by its first step, or by the second (docs/DEFINITIONS.md, Answers)
 abbrev pub ChainsErr : (A : Type 0) → Type 0
 ChainsErr A = (r : Result A ℤ) (f : A → Result A ℤ) (d : ℤ) → (r >>= f) ≡ Err d → (r ≡ Err d) ⊎ ((x : A) × (r ≡ Ok x) × (f x ≡ Err d))
+
+-- a decimal is refused for no other reason than these (docs/FORMATS.md, Numbers)
+abbrev pub RefusesDecimals : Type 0
+RefusesDecimals = (text : List ℕ) → IfErr (dec_of text) (Contains (BadNumber ∷ TooFine ∷ TooFar ∷ []))
+
+-- nor a coordinate without a point than these (docs/FORMATS.md, Coordinates of a drill file)
+abbrev pub RefusesCoordinates : Type 0
+RefusesCoordinates = (text : List ℕ) (i d : ℕ) (zeros : Zeros) → IfErr (zeros_of text i d zeros) (Contains (BadNumber ∷ NoZeros ∷ TooManyDigits ∷ []))
+
+-- nor a length than this (docs/FORMATS.md, Limits)
+abbrev pub RefusesLengths : Type 0
+RefusesLengths = (length : ℤ) → IfErr (within_limit length) (Contains (TooFar ∷ []))

@@ -1,6 +1,6 @@
 //! Decimals of eight places.
 
-ghost use Rattle.std.specs.Prelude.{◌≡◌, ◌≤◌, ◌+◌, ◌-◌, ◌*◌, ◌^◌, ◌*ℤ◌, ◌↔◌, ◌&&◌, ◌==◌, not, pos, neg_ℤ, length, take, drop, All, true, IsSome, IfSome, IfOk, unsigned_abs, if◌then◌else◌};
+ghost use Rattle.std.specs.Prelude.{◌≡◌, ◌≤◌, ◌+◌, ◌-◌, ◌*◌, ◌^◌, ◌*ℤ◌, ◌↔◌, ◌&&◌, ◌==◌, not, pos, neg_ℤ, length, take, drop, All, true, IsSome, IfSome, IfOk, unsigned_abs, if◌then◌else◌, ℤ};
 ghost use Rattle.std.specs.List.{list_all, position_or_len};
 ghost use Rattle.grid_units.specs.Numbers.{is_digit, value, whole, fraction, signed, is_coarse, all_digits, dec_of, max_units, unit_length, picometres, within_limit};
 ghost use Rattle.grid_units.specs.Spellings.{canonical, pointed};
@@ -112,6 +112,7 @@ impl Dec {
     pub fn picometres(self, unit: Unit) -> Result<i64, Reason>
         ensures exact { result ≡ within_limit (picometres unit 8 self) }
         ensures equation { IfOk result (λ p. p *ℤ pos (10 ^ 8) ≡ self *ℤ pos (unit_length unit)) }
+        ensures even { IfOk result (λ p. (half : ℤ) × (p ≡ half *ℤ pos 2)) }
     {
         within_ten_metres(fine_picometres(self.units(), unit))
     }

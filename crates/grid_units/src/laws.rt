@@ -1,8 +1,8 @@
-//! Laws of the shared definitions: of steps in the plane, of looking back over a list, and of steps that
-//! may be refused. A call of one does nothing, and gives its clause.
+//! Laws of the shared definitions: of steps in the plane, of looking back over a list, of steps that
+//! may be refused, and of the reasons for which a number is. A call of one does nothing, and gives its clause.
 
 ghost use Rattle.std.specs.Prelude.{List, Option, ℤ};
-ghost use Rattle.grid_units.specs.Laws.{TwoStepsAddUp, TwoStepsFallShort, NamesLastOfBoth, GivesOneMore, BreaksFirst, BreaksNoMore, ChainsOk, ChainsErr};
+ghost use Rattle.grid_units.specs.Laws.{TwoStepsAddUp, TwoStepsFallShort, NamesLastOfBoth, GivesOneMore, BreaksFirst, BreaksNoMore, ChainsOk, ChainsErr, RefusesDecimals, RefusesCoordinates, RefusesLengths};
 
 /// A step of at most `m` and a step of at most `n` sum to a step of at most `m + n`.
 pub fn two_steps_add_up()
@@ -30,4 +30,11 @@ pub fn first_break<C>()
 pub fn chained_steps<A>()
     ensures ok { ChainsOk A }
     ensures err { ChainsErr A }
+{}
+
+/// The reasons for which a decimal, a coordinate without a point and a length are refused: there is no other.
+pub fn number_reasons()
+    ensures decimals { RefusesDecimals }
+    ensures coordinates { RefusesCoordinates }
+    ensures lengths { RefusesLengths }
 {}

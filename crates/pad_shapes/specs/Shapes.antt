@@ -32,9 +32,13 @@ IsPadRadius z = (pos 0 ≤ℤ z) × (z ≤ℤ pos max_half_side)
 abbrev pub IsHalfSide : ℤ → Type 0
 IsHalfSide z = (pos 1 ≤ℤ z) × (z ≤ℤ pos max_half_side)
 
--- a reach that a shape is asked for, of at most twenty metres (docs/FORMATS.md, Limits)
+-- twenty metres in pm, the largest reach (docs/FORMATS.md, Limits)
+abbrev pub max_reach : ℕ
+max_reach = 20000000000000
+
+-- a reach that a shape is asked for (docs/FORMATS.md, Limits)
 abbrev pub IsReach : ℤ → Type 0
-IsReach z = (pos 0 ≤ℤ z) × (z ≤ℤ pos 20000000000000)
+IsReach z = (pos 0 ≤ℤ z) × (z ≤ℤ pos max_reach)
 
 -- no further than the radius from the centre (docs/DEFINITIONS.md, Shapes)
 abbrev pub IsInDisc : GridDisc → GridPoint → Type 0

@@ -16,7 +16,7 @@ pub use disc::Disc;
 pub use obround::Obround;
 pub use pad::Pad;
 pub use rect::Rect;
-pub use shape::{MAX_HALF_SIDE, MAX_REACH, PadShape};
+pub use shape::{MAX_HALF_SIDE, PadShape};
 pub use zone::Zone;
 
 #[cfg(test)]

@@ -2,7 +2,7 @@
 
 ghost use Rattle.std.specs.Prelude.{◌≡◌, ◌≤◌, ℕ, ℤ, Bool, false, ◌↔◌, IsTrue, IfSome, unsigned_abs};
 ghost use Rattle.grid_units.specs.Points.{GridPoint};
-ghost use Rattle.pad_shapes.specs.Shapes.{IsHalfSide, IsReach, IsAlongAxis, covers_ends, HoldsWhatItCovers, HoldsSlots, CoversBetween, HasExtent};
+ghost use Rattle.pad_shapes.specs.Shapes.{IsHalfSide, IsReach, max_reach, IsAlongAxis, covers_ends, HoldsWhatItCovers, HoldsSlots, CoversBetween, HasExtent};
 ghost use Rattle.pad_shapes.specs.Zones.{BoundsCentres, CoversNone};
 
 use crate::zone::Zone;
@@ -10,9 +10,6 @@ use grid_units::Point;
 
 /// The largest radius of a pad and the largest half of a side, in pm: five metres.
 pub const MAX_HALF_SIDE: i64 = 5_000_000_000_000;
-
-/// The largest reach that a pad is asked for, in pm: twenty metres.
-pub const MAX_REACH: i64 = 20_000_000_000_000;
 
 /// A shape of copper.
 ///
@@ -33,13 +30,13 @@ pub trait PadShape {
     ghost right: { Self → ℤ };
 
     /// Whether it covers the hole's centre with this reach round it, in pm. The reach is from 0 to
-    /// [`MAX_REACH`].
+    /// 20,000,000,000,000 pm, twenty metres.
     fn covers(&self, hole: Point, reach: i64) -> bool
         requires { IsReach reach }
         ensures { result ≡ covers self.now hole (unsigned_abs reach) };
 
     /// Whether it covers both ends of a slot along an axis with this reach round them, in pm. The reach is from 0
-    /// to [`MAX_REACH`].
+    /// to 20,000,000,000,000 pm, twenty metres.
     fn covers_slot(&self, from: Point, to: Point, reach: i64) -> bool
         requires along { IsAlongAxis from to }
         requires reach { IsReach reach }
@@ -56,10 +53,10 @@ pub trait PadShape {
     fn right(&self) -> i64
         ensures { result ≡ right self.now };
 
-    /// A zone of the centres that it covers with this reach or a greater one, if it tells any. The reach is in pm, up to
-    /// [`MAX_REACH`].
+    /// A zone of the centres that it covers with this reach or a greater one, if it tells any. The reach is in pm, at
+    /// most 20,000,000,000,000.
     fn zone(&self, reach: u64) -> Option<Zone>
-        requires { reach ≤ 20000000000000 }
+        requires { reach ≤ max_reach }
         ensures { IfSome result (BoundsCentres covers self.now reach) }
     {
         None
