@@ -1,0 +1,59 @@
+-- Depths from roots that are rounded up.
+use Rattle.std.proofs.Common.{◌≡◌, ◌↔◌, ℕ, ℤ, pos, ◌+◌, ◌-◌, ◌≤◌, ◌-ℤ◌, ◌≤ℤ◌, Bool, true, false, refl, sym, subst, arith}
+use Rattle.std.specs.Prelude.{◌&&◌, nat_le}
+use Rattle.std.specs.Int.{int_min}
+use Rattle.std.proofs.lemmas.Int.{ints, clamps}
+use Rattle.grid_units.specs.Points.{GridPoint, apart, square, square_distance}
+use Rattle.pad_shapes.specs.Shapes.{GridDisc, GridObround, end_radius, square_from_axis, disc_covers, obround_covers}
+use Rattle.margins.specs.Depths.{IsDepth}
+use Rattle.margins.specs.DepthLaws.{both_le, le_both}
+
+-- within a circle of a radius: the far point's distance, rounded up, is the root
+pub round_depth : (radius far root n : ℕ) → ((t : ℕ) → (far ≤ square t) ↔ (root ≤ t)) → ((nat_le n radius && nat_le far (square (radius - n))) ≡ true) ↔ (pos n ≤ℤ (pos radius -ℤ pos root))
+round_depth radius far root n exact = (
+  λ e.
+      let t = both_le n radius far (square (radius - n)) e in
+      let u : root ≤ radius - n = (exact (radius - n)).0 t.1 in
+      omega (arith, ints, t.0, u),
+  λ h.
+      let u : root ≤ radius - n = omega (arith, ints) in
+      let s : n ≤ radius = omega (arith, ints) in
+      le_both n radius far (square (radius - n)) s ((exact (radius - n)).1 u),
+)
+
+-- within a rectangle
+pub straight_depth : (dx dy half_x half_y n : ℕ) → ((nat_le (dx + n) half_x && nat_le (dy + n) half_y) ≡ true) ↔ (pos n ≤ℤ int_min (pos half_x -ℤ pos dx) (pos half_y -ℤ pos dy))
+straight_depth dx dy half_x half_y n = (
+  λ e. let t = both_le (dx + n) half_x (dy + n) half_y e in omega (arith, ints, clamps, t.0, t.1),
+  λ h. le_both (dx + n) half_x (dy + n) half_y (omega (arith, ints, clamps)) (omega (arith, ints, clamps)),
+)
+
+both_true : (a b : Bool) → (a && b) ≡ true → (a ≡ true) × (b ≡ true)
+both_true true true e = (refl, refl)
+both_true true false e = absurd cc
+both_true false b e = absurd cc
+
+-- the lesser of two depths
+pub lesser_depth : (a b : Bool) (x y : ℤ) (n : ℕ) → (a ≡ true) ↔ (pos n ≤ℤ x) → (b ≡ true) ↔ (pos n ≤ℤ y) → ((a && b) ≡ true) ↔ (pos n ≤ℤ int_min x y)
+lesser_depth a b x y n p q = (
+  λ e. let t = both_true a b e in let u : pos n ≤ℤ x = p.0 t.0 in let v : pos n ≤ℤ y = q.0 t.1 in omega (arith, ints, clamps),
+  λ h. let u : a ≡ true = p.1 (omega (arith, ints, clamps)) in let v : b ≡ true = q.1 (omega (arith, ints, clamps)) in rw (u, v) refl,
+)
+
+-- a root that is rounded up, by equal numbers
+root_of : (dx dy a b root : ℕ) → dx ≡ a → dy ≡ b → ((t : ℕ) → (square dx + square dy ≤ square t) ↔ (root ≤ t)) → (t : ℕ) → (square a + square b ≤ square t) ↔ (root ≤ t)
+root_of dx dy a b root x y exact =
+    subst (λ (k : ℕ). (t : ℕ) → (square a + square k ≤ square t) ↔ (root ≤ t)) y
+    (subst (λ (k : ℕ). (t : ℕ) → (square k + square dy ≤ square t) ↔ (root ≤ t)) x exact)
+
+pub disc_depth : (d : GridDisc) (p : GridPoint) (radius dx dy root : ℕ) → radius ≡ d.radius → dx ≡ apart p.x d.centre.x → dy ≡ apart p.y d.centre.y
+    → ((t : ℕ) → (square dx + square dy ≤ square t) ↔ (root ≤ t)) → IsDepth disc_covers d p (pos radius -ℤ pos root)
+disc_depth d p radius dx dy root r x y exact n =
+    subst (λ (k : ℕ). (disc_covers d p n ≡ true) ↔ (pos n ≤ℤ (pos k -ℤ pos root))) (sym r)
+    (round_depth d.radius (square_distance p d.centre) root n (root_of dx dy (apart p.x d.centre.x) (apart p.y d.centre.y) root x y exact))
+
+pub obround_depth : (o : GridObround) (p : GridPoint) (radius dx dy root : ℕ) → radius ≡ end_radius o → dx ≡ apart p.x o.centre.x - (o.half_x - end_radius o) → dy ≡ apart p.y o.centre.y - (o.half_y - end_radius o)
+    → ((t : ℕ) → (square dx + square dy ≤ square t) ↔ (root ≤ t)) → IsDepth obround_covers o p (pos radius -ℤ pos root)
+obround_depth o p radius dx dy root r x y exact n =
+    subst (λ (k : ℕ). (obround_covers o p n ≡ true) ↔ (pos n ≤ℤ (pos k -ℤ pos root))) (sym r)
+    (round_depth (end_radius o) (square_from_axis o p) root n (root_of dx dy (apart p.x o.centre.x - (o.half_x - end_radius o)) (apart p.y o.centre.y - (o.half_y - end_radius o)) root x y exact))

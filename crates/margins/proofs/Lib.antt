@@ -1,0 +1,3 @@
+pub mod Deepness
+pub mod Gapping
+pub mod Wrapping

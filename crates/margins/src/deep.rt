@@ -1,0 +1,48 @@
+//! How deep a point and a hole lie in a shape.
+
+ghost use Rattle.std.specs.Prelude.{◌≡◌, ◌≤ℤ◌, pos};
+ghost use Rattle.grid_units.specs.Points.{GridPoint};
+ghost use Rattle.pad_shapes.specs.Shapes.{max_half_side};
+ghost use Rattle.margins.specs.Depths.{IsDepth, IsDepthOfHole, CoversLess};
+
+use grid_units::{Hole, Point};
+use pad_shapes::PadShape;
+
+/// A shape that tells how deep a point lies in it.
+///
+/// The depth of a point is the greatest reach with which the shape covers it, in whole pm. What is covered with a reach is
+/// covered with each lesser one. Below 0 the point is covered with no reach at all.
+pub trait Deep: PadShape {
+    /// Its middle.
+    ghost middle: { Self → GridPoint };
+
+    /// How deep the point lies in it, in pm: at most five metres. Below 0 the number says no more than that the point is not
+    /// covered.
+    fn depth(&self, at: Point) -> i64
+        ensures exact { IsDepth Self.covers self.now at result }
+        ensures in_range { result ≤ℤ pos max_half_side };
+
+    /// Its middle.
+    fn middle(&self) -> Point
+        ensures { result ≡ middle self.now };
+
+    /// How deep its own middle lies in it, in pm.
+    fn room(&self) -> i64
+        ensures { IsDepth Self.covers self.now (middle self.now) result }
+    {
+        self.depth(self.middle())
+    }
+
+    /// What it covers with a reach it covers with each lesser one.
+    ghost shrinks: { CoversLess Self.covers };
+}
+
+/// How deep a hole lies in a shape, in pm: the lesser of the depths of its two ends, which are one point where it is round.
+pub fn depth_of_hole<S: Deep>(pad: &S, hole: &Hole) -> i64
+    ensures exact { IsDepthOfHole S.covers pad.now hole.now result }
+    ensures in_range { result ≤ℤ pos max_half_side }
+{
+    let from = pad.depth(hole.from());
+    let to = pad.depth(hole.to());
+    from.min(to)
+}

@@ -1,0 +1,16 @@
+//! By how much a board meets its rules: how deep each hole lies in the pads of a layer, the gap between two holes, and the
+//! greatest ring and gap that the whole board meets.
+//!
+//! All lengths are whole picometres (pm).
+#![tactic(auto)]
+
+mod deep;
+mod gap;
+mod roots;
+mod shapes;
+
+pub use deep::{Deep, depth_of_hole};
+pub use gap::gap_between;
+
+#[cfg(test)]
+mod tests;

@@ -1,0 +1,99 @@
+//! The depths of points in discs, rectangles, obrounds and pads.
+
+ghost use Rattle.std.specs.Prelude.{◌≡◌, ◌≤◌};
+ghost use Rattle.grid_units.specs.Points.{apart};
+ghost use Rattle.margins.specs.Depths.{pad_middle};
+ghost use Rattle.margins.specs.DepthLaws.{disc_covers_less, rect_covers_less, obround_covers_less, pad_covers_less};
+
+use crate::deep::Deep;
+use crate::roots::{length_above, less};
+use grid_units::Point;
+use pad_shapes::{Disc, Obround, Pad, Rect};
+
+/// How far two points are apart along x.
+fn apart_x(p: Point, q: Point) -> u64
+    ensures value { result ≡ apart p.x q.x }
+    ensures in_range { result ≤ 20000000000000 }
+{
+    p.x().abs_diff(q.x())
+}
+
+/// How far two points are apart along y.
+fn apart_y(p: Point, q: Point) -> u64
+    ensures value { result ≡ apart p.y q.y }
+    ensures in_range { result ≤ 20000000000000 }
+{
+    p.y().abs_diff(q.y())
+}
+
+impl Deep for Disc {
+    ghost middle = { λ d. d.centre };
+
+    ghost shrinks = { disc_covers_less };
+
+    fn depth(&self, at: Point) -> i64 {
+        let far = length_above(apart_x(at, self.centre()), apart_y(at, self.centre()));
+        less(self.radius().unsigned_abs(), far)
+    }
+
+    fn middle(&self) -> Point {
+        self.centre()
+    }
+}
+
+impl Deep for Rect {
+    ghost middle = { λ r. r.centre };
+
+    ghost shrinks = { rect_covers_less };
+
+    fn depth(&self, at: Point) -> i64 {
+        let deep_x = less(self.half_x().unsigned_abs(), apart_x(at, self.centre()));
+        let deep_y = less(self.half_y().unsigned_abs(), apart_y(at, self.centre()));
+        deep_x.min(deep_y)
+    }
+
+    fn middle(&self) -> Point {
+        self.centre()
+    }
+}
+
+impl Deep for Obround {
+    ghost middle = { λ o. o.centre };
+
+    ghost shrinks = { obround_covers_less };
+
+    fn depth(&self, at: Point) -> i64 {
+        let half_x = self.half_x().unsigned_abs();
+        let half_y = self.half_y().unsigned_abs();
+        let radius = half_x.min(half_y);
+        let past_x = apart_x(at, self.centre()).saturating_sub(half_x - radius);
+        let past_y = apart_y(at, self.centre()).saturating_sub(half_y - radius);
+        less(radius, length_above(past_x, past_y))
+    }
+
+    fn middle(&self) -> Point {
+        self.centre()
+    }
+}
+
+impl Deep for Pad {
+    ghost middle = { pad_middle };
+
+    ghost shrinks = { pad_covers_less };
+
+    fn depth(&self, at: Point) -> i64 {
+        match self {
+            Pad::Disc(disc) => disc.depth(at),
+            Pad::Rect(rect) => rect.depth(at),
+            Pad::Obround(obround) => obround.depth(at),
+        }
+    }
+
+    fn middle(&self) -> Point {
+        match self {
+            Pad::Disc(disc) => disc.centre(),
+            Pad::Rect(rect) => rect.centre(),
+            Pad::Obround(obround) => obround.centre(),
+        }
+    }
+}
