@@ -1,7 +1,8 @@
 #!/usr/bin/env python3
 """Writes the board of this folder, and what the commands say of it.
 
-    examples/board/make.py
+    examples/board/make.py [FOLDER]     into this folder, or into another one
+    examples/board/make.py --rows       prints the runs of examples/runs.txt on it as rows of crates/worked_examples/data/examples.txt
 
 Made are gerbers/ (two copper layers, a drill file of plated and one of unplated holes, an outline), board.csv, and expected/.
 What is expected is written down from how the board is made, not from what a program answers. scripts/check_examples runs the
@@ -16,6 +17,7 @@ gap 0.25 mm, but for four faults, each of which is a finding of one kind:
 4. vias 60 and 61 are 0.5 mm from each other: their holes leave 0.2 mm.
 """
 import os
+import sys
 
 TOP = os.path.dirname(os.path.realpath(__file__))
 MM = 1_000_000
@@ -268,27 +270,53 @@ def report(files, ring, off_centre):
     ]
 
 
-def write(path, lines):
-    os.makedirs(os.path.dirname(f"{TOP}/{path}"), exist_ok=True)
-    with open(f"{TOP}/{path}", "w", encoding="ascii", newline="\n") as it:
-        it.write("".join(f"{line}\n" for line in lines))
-
-
-def main():
+def made():
+    """Each file of this folder but this one, by its path, as its lines."""
     top, bottom, pth, npth = files = (copper("Copper,L1,Top", True), copper("Copper,L2,Bot", False), plated(), unplated())
+    found = {}
     for name, it in zip(("F_Cu.gbr", "B_Cu.gbr", "PTH.drl", "NPTH.drl", "Edge_Cuts.gbr"), (*files, outline())):
-        write(f"gerbers/board-{name}", it.lines)
+        found[f"gerbers/board-{name}"] = "\n".join(it.lines).split("\n")
     manifest = ["role,name,file"]
     for role, name in (("copper", "F_Cu.gbr"), ("copper", "B_Cu.gbr"), ("plated", "PTH.drl"), ("unplated", "NPTH.drl")):
         manifest.append(f"{role},board-{name},gerbers/board-{name}")
-    write("board.csv", manifest)
-    write("expected/check-0.15.txt", report(files, RING, True))
-    write("expected/check-0.149.txt", report(files, RING - 1_000, False))
-    write("expected/show-top.csv", top.table())
-    write("expected/show-pth.csv", pth.table())
-    write("expected/rewrite-top.gbr", top.canonical)
-    write("expected/rewrite-pth.drl", pth.canonical)
+    found["board.csv"] = manifest
+    found["expected/check-0.15.txt"] = report(files, RING, True)
+    found["expected/check-0.149.txt"] = report(files, RING - 1_000, False)
+    found["expected/show-top.csv"] = top.table()
+    found["expected/show-pth.csv"] = pth.table()
+    found["expected/rewrite-top.gbr"] = "\n".join(top.canonical).split("\n")
+    found["expected/rewrite-pth.drl"] = pth.canonical
+    return found
+
+
+def rows(files):
+    """The runs of examples/runs.txt in this folder, as rows of the worked examples."""
+    printed = []
+    for path in files:
+        if not path.startswith("expected/"):
+            printed += [f"base {os.path.basename(path)}", *(f"| {line}" for line in files[path])]
+    with open(f"{TOP}/../runs.txt", encoding="utf-8") as it:
+        runs = [[part.strip() for part in line.split("|")] for line in it if line.startswith("board |")]
+    for _, status, expected, words in runs:
+        if expected not in files:
+            continue
+        printed += ["", f"example board: {words}"]
+        printed += [f"file {path} from {os.path.basename(path)}" for path in files if not path.startswith("expected/")]
+        printed += [f"run {words}", f"status {status}", *(f"> {line}" for line in files[expected])]
+    return printed
+
+
+def main(words):
+    files = made()
+    if words == ["--rows"]:
+        print("\n".join(rows(files)))
+        return
+    for path, lines in files.items():
+        path = f"{words[0] if words else TOP}/{path}"
+        os.makedirs(os.path.dirname(path), exist_ok=True)
+        with open(path, "w", encoding="ascii", newline="\n") as it:
+            it.write("".join(f"{line}\n" for line in lines))
 
 
 if __name__ == "__main__":
-    main()
+    main(sys.argv[1:])
