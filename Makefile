@@ -1,14 +1,35 @@
-# make install PREFIX=/usr/local: puts the program under the name `ringcheck`, where it is proved from the sources as they stand.
-# The launcher ends with status 5 where it is not, and then nothing is installed.
+# make install PREFIX=/usr/local [DESTDIR=..]: puts the program under the name `ringcheck`, where it is proved from the sources as they
+# stand, with its manual, its completions and the scripts for many boards. The launcher ends with status 5 where it is not
+# proved, and then nothing is installed. make uninstall takes all of it away; make deb makes a Debian package of it.
 PREFIX ?= /usr/local
+VERSION := $(shell cat VERSION)
+root = $(DESTDIR)$(PREFIX)
+installed = bin/ringcheck bin/ringcheck-each share/man/man1/ringcheck.1 share/man/man1/ringcheck-each.1 \
+  share/ringcheck/check-boards.mk share/bash-completion/completions/ringcheck share/zsh/site-functions/_ringcheck \
+  share/fish/vendor_completions.d/ringcheck.fish
 
-.PHONY: build install test
+.PHONY: build install uninstall deb test
 build:
 	./ringcheck --help > /dev/null
 
 install: build
-	install -d "$(DESTDIR)$(PREFIX)/bin"
-	install -m 755 crates/ringcheck_program/out/ringcheck_program "$(DESTDIR)$(PREFIX)/bin/ringcheck"
+	install -d $(foreach it,$(dir $(installed)),"$(root)/$(it)")
+	install -m 755 crates/ringcheck_program/out/ringcheck_program "$(root)/bin/ringcheck"
+	install -m 755 packaging/ringcheck-each "$(root)/bin/ringcheck-each"
+	sed 's/@VERSION@/$(VERSION)/' packaging/ringcheck.1 > "$(root)/share/man/man1/ringcheck.1"
+	sed 's/@VERSION@/$(VERSION)/' packaging/ringcheck-each.1 > "$(root)/share/man/man1/ringcheck-each.1"
+	chmod 644 "$(root)/share/man/man1/ringcheck.1" "$(root)/share/man/man1/ringcheck-each.1"
+	install -m 644 packaging/check-boards.mk "$(root)/share/ringcheck/check-boards.mk"
+	install -m 644 packaging/completions/ringcheck.bash "$(root)/share/bash-completion/completions/ringcheck"
+	install -m 644 packaging/completions/_ringcheck "$(root)/share/zsh/site-functions/_ringcheck"
+	install -m 644 packaging/completions/ringcheck.fish "$(root)/share/fish/vendor_completions.d/ringcheck.fish"
+
+uninstall:
+	rm -f $(foreach it,$(installed),"$(root)/$(it)")
+	-rmdir "$(root)/share/ringcheck"
+
+deb: build
+	packaging/make_deb out
 
 test:
 	./test

@@ -1,0 +1,38 @@
+# Completion of ringcheck for bash.
+_ringcheck() {
+  local word=${COMP_WORDS[COMP_CWORD]} before=${COMP_WORDS[COMP_CWORD - 1]} command=${COMP_WORDS[1]} options=
+  COMPREPLY=()
+  if [ "$COMP_CWORD" -eq 1 ]; then
+    mapfile -t COMPREPLY < <(compgen -W 'check show rewrite help --help' -- "$word")
+    return
+  fi
+  # The shell cuts `--kind=layer` at its sign.
+  if [ "$word" = = ]; then
+    word='' before=${COMP_WORDS[COMP_CWORD - 1]}
+  elif [ "$before" = = ]; then
+    before=${COMP_WORDS[COMP_CWORD - 2]}
+  fi
+  case $before in
+    --kind)
+      mapfile -t COMPREPLY < <(compgen -W 'layer drill' -- "$word")
+      return
+      ;;
+    --ring | --gap) return ;;
+  esac
+  case $command in
+    check) options='--ring --gap --help' ;;
+    show | rewrite) options='--kind --help' ;;
+    help)
+      mapfile -t COMPREPLY < <(compgen -W 'check show rewrite' -- "$word")
+      return
+      ;;
+    *) return ;;
+  esac
+  if [[ $word == -* ]]; then
+    mapfile -t COMPREPLY < <(compgen -W "$options" -- "$word")
+  else
+    compopt -o filenames
+    mapfile -t COMPREPLY < <(compgen -f -- "$word")
+  fi
+}
+complete -F _ringcheck ringcheck
