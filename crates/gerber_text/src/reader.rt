@@ -12,7 +12,7 @@ ghost use Rattle.gerber_text.specs.Writing.{without_places, sayable};
 
 use crate::placed::Placed;
 use gerber_rows::{
-    Action, Command, Interpolation, ItemFail, PlainOperation, Spelled, is_text_end,
+    Action, Command, Coordinate, Interpolation, ItemFail, PlainOperation, Spelled, is_text_end,
     plain_operation, read_item,
 };
 use grid_units::{Fail, Fault, Reason};
@@ -262,8 +262,8 @@ impl Progress {
             action,
             x,
             y,
-            i: None,
-            j: None,
+            i: Coordinate::none(),
+            j: Coordinate::none(),
         };
         let place = self.items + 1;
         self.plotting = add_one(self.plotting, place, self.offset, what, &mut self.commands)?;
@@ -286,8 +286,9 @@ impl Progress {
     {
         match plain_operation(bytes) {
             Some(operation) => {
+                let len = operation.len;
                 self.operate(bytes, operation)?;
-                Ok(operation.len)
+                Ok(len)
             }
             None => {
                 self.begin(bytes[0])?;
