@@ -362,16 +362,10 @@ fn is_operation(f: &Runs<'_>) -> bool
 }
 
 /// The values of the fields: x and y, i and j, and what is done.
-type Operands = (
-    ((Coordinate, Coordinate), (Coordinate, Coordinate)),
-    Action,
-);
+type Operands = (((Coordinate, Coordinate), (Coordinate, Coordinate)), Action);
 
 /// Two coordinates.
-fn pair_of(
-    first: Option<&[u8]>,
-    second: Option<&[u8]>,
-) -> Result<(Coordinate, Coordinate), Reason>
+fn pair_of(first: Option<&[u8]>, second: Option<&[u8]>) -> Result<(Coordinate, Coordinate), Reason>
     ensures { result ≡ both (coordinate (option_copied first.entry)) (coordinate (option_copied second.entry)) }
 {
     both(coordinate_of(first), coordinate_of(second))

@@ -33,7 +33,13 @@ fn has_fields(command: &Command) -> bool
             is_macro_name(name.bytes()) && are_texts(pieces.get().texts())
         }
         Command::Select(number) => is_aperture_number(*number),
-        Command::Operate { action, x, y, i, j } => is_operation(*action, x.get(), y.get(), i.get(), j.get()),
+        Command::Operate { action, x, y, i, j } => is_operation(
+            *action,
+            x.get(),
+            y.get(),
+            i.get(),
+            j.get(),
+        ),
         Command::Turn(dec) | Command::Scale(dec) => is_dec(*dec),
         Command::Repeat(block) => is_block(*block),
         Command::Attribute(kind, text) => is_attribute(*kind, text.bytes()),

@@ -1,6 +1,7 @@
 use crate::{canonical_items, is_sayable, spelled_commands};
 use gerber_rows::{
-    Action, AttributeKind, Block, Boxed, Command, Coordinate, Format, Pieces, Sizes, Standard, Template,
+    Action, AttributeKind, Block, Boxed, Command, Coordinate, Format, Pieces, Sizes, Standard,
+    Template,
 };
 use grid_units::{Dec, Text};
 use std::alloc::{AllocError, Global};

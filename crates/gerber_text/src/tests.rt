@@ -1,7 +1,8 @@
 ghost use Rattle.std.specs.Prelude.{◌≤◌, length};
 
 use crate::{
-    Action, Command, Coordinate, Placed, WordReader, read_kept, read_words, write_commands, write_placed,
+    Action, Command, Coordinate, Placed, WordReader, read_kept, read_words, write_commands,
+    write_placed,
 };
 use gerber_rows::{PlainOperation, plain_operation};
 use grid_units::{Fail, Fault, Reason};
