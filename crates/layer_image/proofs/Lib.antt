@@ -10,3 +10,4 @@ pub mod Listing
 pub mod Reading
 pub mod Unique
 pub mod Pieces
+pub mod InForce

@@ -2,11 +2,13 @@
 #![tactic(auto)]
 
 mod aperture;
+mod fast;
 mod flash;
 mod flashes;
 mod force;
 mod function;
 mod grid;
+mod in_force;
 mod judge;
 mod laws;
 mod layer;
