@@ -1,5 +1,5 @@
 -- The files of a package, loaded one by one.
-use Rattle.std.proofs.Common.{◌≡◌, ◌++◌, ℕ, List, [], ◌∷◌, length, map, arith, refl, ap}
+use Rattle.std.proofs.Common.{◌≡◌, ◌++◌, ℕ, suc, List, [], ◌∷◌, length, map, arith, refl, ap}
 use Rattle.manifest.specs.declared.Entry.{Entry}
 use Rattle.package_check.specs.Package.{Source}
 use Rattle.ringcheck.specs.Running.{HasFiles, sources_among}

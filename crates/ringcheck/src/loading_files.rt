@@ -72,10 +72,7 @@ fn is_copper(role: Role) -> bool
 fn layer_count(entries: &[Entry]) -> usize
     ensures { result ≡ count_by (λ entry. is_copper entry.role) entries.now }
 {
-    entries
-        .iter()
-        .filter(|entry| is_copper(entry.role))
-        .count()
+    entries.iter().filter(|entry| is_copper(entry.role)).count()
 }
 
 /// Takes the file of an entry, whose bytes are loaded.
