@@ -60,7 +60,7 @@ read_more (s ∷ ss) (c ∷ cs) source one h r = (h.0, read_more ss cs source on
 
 -- the files at hand, by their places
 module _ {X : Type 0} (seen : X → Source) where
-  source_at : (xs : List X) (i : ℕ) (d : X) (e : Source) → i < length xs → seen (get_or xs i d) ≡ get_or (map seen xs) i e
+  pub source_at : (xs : List X) (i : ℕ) (d : X) (e : Source) → i < length xs → seen (get_or xs i d) ≡ get_or (map seen xs) i e
   source_at [] i d e lt = absurd (omega arith)
   source_at (x ∷ xs) zero d e lt = refl
   source_at (x ∷ xs) (suc i) d e lt = source_at xs i d e (omega arith)
@@ -78,7 +78,7 @@ module _ {X : Type 0} (seen : X → Source) where
       let there : Reads (seen (get_or xs i x)) (Ok one) = subst (λ (f : X). Reads (seen f) (Ok one)) at reads in
       rw (is, more, ← here) (read_more (take i (map seen xs)) contents (seen (get_or xs i x)) one was there)
 
-read_length : (sources : List Source) (contents : List Content) → AreRead sources contents → length sources ≡ length contents
+pub read_length : (sources : List Source) (contents : List Content) → AreRead sources contents → length sources ≡ length contents
 read_length [] [] h = refl
 read_length [] (c ∷ cs) h = absurd h
 read_length (s ∷ ss) [] h = absurd h

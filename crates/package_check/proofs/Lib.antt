@@ -9,3 +9,5 @@ pub mod Lining
 pub mod Rewritten
 pub mod Joining
 pub mod Straight
+pub mod Taking
+pub mod Printed

@@ -7,3 +7,5 @@ pub mod Soundness
 pub mod Texts
 pub mod Rewriting
 pub mod Pieces
+pub mod Standing
+pub mod Streaming

@@ -1,11 +1,11 @@
-// What the files of a package say, in order.
-ghost use Rattle.std.specs.Prelude.{◌≡◌, ◌++◌, ◌∷◌, [], IfOk, IfErr, OnOk, map};
+// What a file of a package says.
+ghost use Rattle.std.specs.Prelude.{◌≡◌, map};
 ghost use Rattle.std.specs.List.{concat};
 ghost use Rattle.grid_units.specs.Results.{Answers};
-ghost use Rattle.package_check.specs.Package.{Reads, ReadsCopper, ReadsHoles, AreRead, IsRefused, is_bad_span, is_copper, layer_count, nameless, source_of, sources_of};
+ghost use Rattle.package_check.specs.Package.{Reads, ReadsCopper, ReadsHoles, is_bad_span, is_copper, nameless};
 
+use crate::Role;
 use crate::readers::{Drill, Layer, read_holes, read_image};
-use crate::{File, PackageFault, Role};
 use grid_units::{Fail, Fault, Reason};
 use ring_rules::Span;
 use std::alloc::Global;
@@ -90,44 +90,4 @@ pub(crate) fn read_file(
         Role::Plated => read_drilled(alloc, true, *span, pieces),
         Role::Unplated => read_drilled(alloc, false, *span, pieces),
     }
-}
-
-fn read_whole(alloc: Global, file: &File, layers: usize) -> Result<Content, Fail>
-    ensures { Answers (λ x. x) (Reads (source_of layers file.now)) result }
-{
-    read_file(alloc, file.role, &file.span, layers, &[file.bytes])
-}
-
-fn layer_count(files: &[File]) -> usize
-    ensures { result ≡ layer_count files.now }
-{
-    files.iter().filter(|file| is_copper(file.role)).count()
-}
-
-/// What the files say, or the first that is refused.
-pub(crate) fn read_files(alloc: Global, files: &[File]) -> Result<Vec<Content>, PackageFault>
-    ensures ok { IfOk result (λ v. AreRead (sources_of files.now) v.items) }
-    ensures err { IfErr result (IsRefused (sources_of files.now)) }
-{
-    read_all(alloc, files, layer_count(files))
-}
-
-/// The same, among so many copper files.
-fn read_all(alloc: Global, files: &[File], layers: usize) -> Result<Vec<Content>, PackageFault>
-    ensures ok { IfOk result (λ v. AreRead (map (source_of layers) files.now) v.items) }
-    ensures err { IfErr result (IsRefused (map (source_of layers) files.now)) }
-{
-    let mut contents = Vec::new(alloc);
-    for (index, file) in files.iter().enumerate() {
-        match read_whole(alloc, file, layers) {
-            Ok(content) => {
-                if contents.push(content).is_err() {
-                    return Err(PackageFault::Memory);
-                }
-            }
-            Err(Fail::Memory) => return Err(PackageFault::Memory),
-            Err(Fail::Refused(fault)) => return Err(PackageFault::File { index, fault }),
-        }
-    }
-    Ok(contents)
 }

@@ -4,19 +4,22 @@
 mod contents;
 pub mod laws;
 mod package;
+mod package_reader;
 mod pieces;
 mod printing;
 mod readers;
 mod report;
+mod streaming;
 
 use grid_units::Fault;
 pub use manifest::Role;
 pub use package::check_bytes;
+pub use package_reader::PackageReader;
 pub use pieces::check_pieces;
-pub use printing::write_report;
 pub use report::Report;
 use ring_rules::Drilled;
 pub use ring_rules::Span;
+pub use streaming::{PrintFault, print_report, write_report};
 use thiserror::Error;
 
 /// A file of a package.

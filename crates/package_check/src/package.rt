@@ -4,20 +4,36 @@ ghost use Rattle.grid_units.specs.declared.fault.Fault.{Fault as TheFault};
 ghost use Rattle.package_check.specs.Package.{AnswersJust, AnswersPackage, IsAnswer, NamesItsPlaces, layer_count, sources_of};
 ghost use Rattle.package_check.specs.Reports.{Account};
 ghost use Rattle.package_check.specs.Soundness.{AreStraight, IsSound};
+ghost use Rattle.package_check.specs.Standing.{PackageStandsAfter};
 
-use crate::contents::read_files;
+use crate::contents::is_copper;
 use crate::laws::{findings_name_their_places, one_answer, one_reading, passing_is_sound};
-use crate::report::report_on;
-use crate::{File, PackageFault, Report};
+use crate::{File, PackageFault, PackageReader, Report};
 use grid_units::Rules;
-use std::alloc::Global;
+use std::alloc::{AllocError, Global};
+
+fn layer_count(files: &[File]) -> usize
+    ensures { result ≡ layer_count files.now }
+{
+    files.iter().filter(|file| is_copper(file.role)).count()
+}
+
+/// A reader that has taken the files.
+fn reader_of(alloc: Global, files: &[File]) -> Result<PackageReader, AllocError>
+    ensures { IfOk result (λ reader. PackageStandsAfter reader (sources_of files.now)) }
+{
+    let mut reader = PackageReader::new(alloc, layer_count(files));
+    for file in files {
+        reader.take(file.role, &file.span, &[file.bytes])?;
+    }
+    Ok(reader)
+}
 
 fn report_of(alloc: Global, files: &[File], rules: Rules) -> Result<Report, PackageFault>
     ensures { AnswersPackage (sources_of files.now) rules result }
 {
-    let contents = read_files(alloc, files)?;
-    match report_on(alloc, &contents, rules) {
-        Ok(report) => Ok(report),
+    match reader_of(alloc, files) {
+        Ok(reader) => reader.finish(rules),
         Err(_) => Err(PackageFault::Memory),
     }
 }

@@ -1,17 +1,15 @@
-//! The text of a report.
+//! The lines of a report.
 
-ghost use Rattle.std.specs.Prelude.{◌≡◌, ◌++◌, Some, IfOk, OnOk, map, length, slice_get, string_bytes};
-ghost use Rattle.std.specs.List.{flat_map};
-ghost use Rattle.package_check.specs.Package.{sources_of};
-ghost use Rattle.package_check.specs.Texts.{answer_word, drill_words, span_words, name_words, slot_words, file_line, file_lines, finding_line, gap_line, last_line, length_words, lengths_of, line_of, place_words, report_text, hole_line, rules_line, rules_words};
+ghost use Rattle.std.specs.Prelude.{◌≡◌, ◌++◌, Some, OnOk, map, slice_get, string_bytes};
+ghost use Rattle.package_check.specs.Texts.{answer_word, drill_words, span_words, name_words, slot_words, file_line, file_lines, finding_line, gap_line, last_line, length_words, lengths_of, line_of, place_words, hole_line, rules_line, rules_words};
 
-use crate::{File, FileSum, Numbered, Report};
+use crate::{FileSum, Numbered, Report};
 use grid_units::{Hole, Rules, write_mm};
 use ring_rules::{Finding, Span};
-use std::alloc::{AllocError, Global};
+use std::alloc::AllocError;
 use std::fmt::Write;
 
-fn push_rules(text: &mut String, rules: Rules) -> Result<(), AllocError>
+pub(crate) fn push_rules(text: &mut String, rules: Rules) -> Result<(), AllocError>
     ensures { OnOk result (string_bytes text.new ≡ string_bytes text.old ++ rules_line rules) }
 {
     let ring = write_mm(rules.ring());
@@ -209,7 +207,7 @@ fn push_gap(text: &mut String, first: &Numbered, second: &Numbered) -> Result<()
     }
 }
 
-fn push_last(text: &mut String, findings: usize) -> Result<(), AllocError>
+pub(crate) fn push_last(text: &mut String, findings: usize) -> Result<(), AllocError>
     ensures { OnOk result (string_bytes text.new ≡ string_bytes text.old ++ last_line findings) }
 {
     if findings == 0 {
@@ -258,7 +256,11 @@ fn push_gap_at(
 
 /// Appends the line of a finding: nothing where it names no layer or hole of the report.
 #[tactic(auto, unfolding(crate::specs::Texts::finding_line))]
-fn push_finding(text: &mut String, report: &Report, finding: Finding) -> Result<(), AllocError>
+pub(crate) fn push_finding(
+    text: &mut String,
+    report: &Report,
+    finding: Finding,
+) -> Result<(), AllocError>
     ensures { OnOk result (string_bytes text.new ≡ string_bytes text.old ++ finding_line report.now.layers report.now.holes finding) }
 {
     match finding {
@@ -268,42 +270,21 @@ fn push_finding(text: &mut String, report: &Report, finding: Finding) -> Result<
     }
 }
 
-/// Appends the lines of the files, numbered from 1.
-fn push_files(text: &mut String, files: &[File], sums: &[FileSum]) -> Result<(), AllocError>
-    requires { length files.now ≡ length sums.now }
-    ensures { OnOk result (string_bytes text.new ≡ string_bytes text.old ++ file_lines 1 (map (λ file. file.name.now) files.now) sums.now) }
+/// Appends the lines of the files, numbered from 1, as far as there are a name and a sum.
+pub(crate) fn push_files(
+    text: &mut String,
+    names: &[&str],
+    sums: &[FileSum],
+) -> Result<(), AllocError>
+    ensures { OnOk result (string_bytes text.new ≡ string_bytes text.old ++ file_lines 1 (map (λ name. name.now) names.now) sums.now) }
 {
     let mut number: u64 = 1;
-    for (index, file) in files.iter().enumerate() {
-        push_file(text, number, file.name, &sums[index])?;
+    for (index, name) in names.iter().enumerate() {
+        if index >= sums.len() {
+            return Ok(());
+        }
+        push_file(text, number, name, &sums[index])?;
         number += 1;
     }
     Ok(())
-}
-
-/// Appends the lines of the findings.
-fn push_findings(text: &mut String, report: &Report) -> Result<(), AllocError>
-    ensures { OnOk result (string_bytes text.new ≡ string_bytes text.old ++ flat_map (finding_line report.now.layers report.now.holes) report.now.findings) }
-{
-    for finding in report.findings() {
-        push_finding(text, report, *finding)?;
-    }
-    Ok(())
-}
-
-/// The text of a report on these files.
-///
-/// # Errors
-///
-/// An `AllocError` where there is no memory for it.
-pub fn write_report(alloc: Global, files: &[File], report: &Report) -> Result<Vec<u8>, AllocError>
-    requires { length files.now ≡ length report.now.files }
-    ensures { IfOk result (λ text. text.items ≡ report_text (sources_of files.now) report.now) }
-{
-    let mut text = String::new(alloc);
-    push_rules(&mut text, report.rules())?;
-    push_files(&mut text, files, report.files())?;
-    push_findings(&mut text, report)?;
-    push_last(&mut text, report.findings().len())?;
-    Ok(text.into_bytes())
 }

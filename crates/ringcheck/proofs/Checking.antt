@@ -39,13 +39,13 @@ no_other s p f (inr e) = f e
 
 -- a report was printed
 pub reported : (all : List Source) (rules : GridRules) (before after : Option (List ℕ)) (report : Account) (e : Ended) → IsAnswer all rules (Ok report) → (report.findings ≡ [] → IsSound all rules)
-    → (e ≢ ended.WriterFailed → (e ≡ ended.Said (status_of report.findings)) × Appends before after (report_text all report)) → Answered all rules before after e
-reported all rules before after report (ended.Said status.Pass) answer sound h = let (a, b) = h (λ x. cc x) in let none = passed report.findings a in (report, answer, b, none, sound none)
-reported all rules before after report (ended.Said status.Findings) answer sound h = let (a, b) = h (λ x. cc x) in (report, answer, b, found report.findings a)
-reported all rules before after report (ended.Said status.Refused) answer sound h = absurd (no_other status.Refused (λ x. cc x) (λ x. cc x) (gives report.findings status.Refused (h (λ x. cc x)).0))
-reported all rules before after report (ended.Said status.Usage) answer sound h = absurd (no_other status.Usage (λ x. cc x) (λ x. cc x) (gives report.findings status.Usage (h (λ x. cc x)).0))
-reported all rules before after report (ended.Said status.Device) answer sound h = absurd (no_other status.Device (λ x. cc x) (λ x. cc x) (gives report.findings status.Device (h (λ x. cc x)).0))
-reported all rules before after report ended.LoaderFailed answer sound h = cc (h (λ x. cc x)).0
+    → (e ≢ ended.WriterFailed → e ≢ ended.OutOfMemory → (e ≡ ended.Said (status_of report.findings)) × Appends before after (report_text all report)) → Answered all rules before after e
+reported all rules before after report (ended.Said status.Pass) answer sound h = let (a, b) = h (λ x. cc x) (λ x. cc x) in let none = passed report.findings a in (report, answer, b, none, sound none)
+reported all rules before after report (ended.Said status.Findings) answer sound h = let (a, b) = h (λ x. cc x) (λ x. cc x) in (report, answer, b, found report.findings a)
+reported all rules before after report (ended.Said status.Refused) answer sound h = absurd (no_other status.Refused (λ x. cc x) (λ x. cc x) (gives report.findings status.Refused (h (λ x. cc x) (λ x. cc x)).0))
+reported all rules before after report (ended.Said status.Usage) answer sound h = absurd (no_other status.Usage (λ x. cc x) (λ x. cc x) (gives report.findings status.Usage (h (λ x. cc x) (λ x. cc x)).0))
+reported all rules before after report (ended.Said status.Device) answer sound h = absurd (no_other status.Device (λ x. cc x) (λ x. cc x) (gives report.findings status.Device (h (λ x. cc x) (λ x. cc x)).0))
+reported all rules before after report ended.LoaderFailed answer sound h = cc (h (λ x. cc x) (λ x. cc x)).0
 reported all rules before after report ended.OutOfMemory answer sound h = tt
 reported all rules before after report ended.WriterFailed answer sound h = tt
 

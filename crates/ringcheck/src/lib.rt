@@ -12,8 +12,8 @@ mod single_files;
 pub use loading::{LoadFault, Loader, MAX_LIMIT, ReadFail, read_all};
 pub use manifest::{Entry, Name, Role, read_manifest};
 pub use package_check::{
-    File, FileSum, Numbered, PackageFault, PiecedFile, Report, Span, check_bytes, check_pieces,
-    laws, write_report,
+    File, FileSum, Numbered, PackageFault, PackageReader, PiecedFile, PrintFault, Report, Span,
+    check_bytes, check_pieces, laws, print_report, write_report,
 };
 pub use program::run;
 pub use rewriting::{Kind, rewrite_bytes};

@@ -1,12 +1,15 @@
 //! The files of a package, from a loader.
 
-ghost use Rattle.std.specs.Prelude.{◌≡◌, ◌≤◌, length, ◌↔◌, ℕ, List, Ok, IfOk, IfErr, map};
+ghost use Rattle.std.specs.Prelude.{◌≡◌, ◌≤◌, ◌++◌, ◌∷◌, [], length, ◌↔◌, ℕ, List, Ok, IfOk, IfErr, OnOk};
+ghost use Rattle.std.specs.List.{count_by};
 ghost use Rattle.manifest.specs.Manifest.{manifest};
+ghost use Rattle.package_check.specs.Package.{Source, is_copper};
+ghost use Rattle.package_check.specs.Standing.{PackageStandsAfter, copper_files};
 ghost use Rattle.ringcheck.specs.Endings.{HasRisen};
-ghost use Rattle.ringcheck.specs.Running.{HasFiles, file_limit, manifest_limit, within};
+ghost use Rattle.ringcheck.specs.Running.{HasFiles, file_limit, manifest_limit, sources, within};
 ghost use Rattle.ringcheck.specs.Stopping.{IsUnread, StopsManifest, StopsFiles};
 
-use crate::{Entry, LoadFault, Loader, read_manifest};
+use crate::{Entry, LoadFault, Loader, PackageReader, Role, read_manifest};
 use grid_units::{Fail, Reason};
 use std::alloc::Global;
 
@@ -60,30 +63,52 @@ pub(crate) fn load_manifest<L: Loader>(
     }
 }
 
-/// The bytes of the files that the entries name, in order.
-pub(crate) fn load_files<L: Loader>(
+fn is_copper(role: Role) -> bool
+    ensures { result ≡ is_copper role }
+{
+    matches!(role, Role::Copper)
+}
+
+fn layer_count(entries: &[Entry]) -> usize
+    ensures { result ≡ count_by (λ entry. is_copper entry.role) entries.now }
+{
+    entries.iter().filter(|entry| is_copper(entry.role)).count()
+}
+
+/// Takes the file of an entry, whose bytes are loaded.
+fn take_file(reader: &mut PackageReader, entry: &Entry, bytes: &[u8]) -> Result<(), Stop>
+    ensures stands { (sources : List Source) → PackageStandsAfter reader.old sources → OnOk result (PackageStandsAfter reader.new (sources
+        ++ record { role = entry.now.role; name = entry.now.name; span = entry.now.span; bytes = bytes.now; layers = copper_files reader.old } ∷ [])) }
+    ensures layers { copper_files reader.new ≡ copper_files reader.old }
+    ensures err { IfErr result (λ stop. stop ≡ Stop.Memory) }
+{
+    match reader.take(entry.role, &entry.span, &[bytes]) {
+        Ok(()) => Ok(()),
+        Err(_) => Err(Stop::Memory),
+    }
+}
+
+/// A reader that has taken the files of the entries, in order. They are loaded one after the other, and the bytes of each are let
+/// go of before the next is loaded.
+pub(crate) fn take_files<L: Loader>(
     alloc: Global,
     loader: &mut L,
     entries: &[Entry],
-) -> Result<Vec<Vec<u8>>, Stop>
+) -> Result<PackageReader, Stop>
     ensures keeps { (n b : List ℕ) → L.has loader.new n b ↔ L.has loader.old n b }
-    ensures ok { IfOk result (λ v. HasFiles (within file_limit (L.has loader.old)) entries.now (map (λ f. f.items) v.items)) }
+    ensures ok { IfOk result (λ reader. (files : List (List ℕ)) × HasFiles (within file_limit (L.has loader.old)) entries.now files × PackageStandsAfter reader (sources entries.now files)) }
     ensures err { IfErr result (StopsFiles (L.has loader.old) entries.now) }
     ensures counts { L.failed loader.old ≤ L.failed loader.new }
     ensures unread { IfErr result (λ stop. IsUnread stop → HasRisen (L.failed loader.old) (L.failed loader.new)) }
 {
-    let mut files = Vec::new(alloc);
+    let mut reader = PackageReader::new(alloc, layer_count(entries));
     for (index, entry) in entries.iter().enumerate() {
         match loader.load(alloc, entry.file.as_str(), FILE_LIMIT) {
-            Ok(bytes) => {
-                if files.push(bytes).is_err() {
-                    return Err(Stop::Memory);
-                }
-            }
+            Ok(bytes) => take_file(&mut reader, entry, bytes.as_slice())?,
             Err(LoadFault::Device) => return Err(Stop::DeviceFile(index)),
             Err(LoadFault::Memory) => return Err(Stop::Memory),
             Err(LoadFault::TooLong) => return Err(Stop::LongFile(index)),
         }
     }
-    Ok(files)
+    Ok(reader)
 }

@@ -1,17 +1,21 @@
 //! Checks the package of a manifest, and says what was found.
 
-ghost use Rattle.std.specs.Prelude.{◌≡◌, ℕ, List, IfOk, map, length, Ok};
+ghost use Rattle.std.specs.Prelude.{◌≡◌, ◌≢◌, ℕ, List, IfOk, map, length, Ok};
+ghost use Rattle.std.specs.Io.KnownBytes.{Appends};
 ghost use Rattle.ringcheck.specs.Endings.{HasCause, status_after};
 ghost use Rattle.ringcheck.specs.Naming as named;
-ghost use Rattle.package_check.specs.Package.{source_of, sources_of};
+ghost use Rattle.package_check.specs.Standing.{PackageStandsAfter};
+ghost use Rattle.package_check.specs.Texts.{text_of};
 ghost use Rattle.ringcheck.specs.Running.{SaysOf, sources};
 ghost use Rattle.ringcheck.specs.Stopping.{Answered, TellsOf};
 ghost use Rattle.ringcheck.specs.Stopping as stopping;
 
 use crate::ending::{Ended, say, say_line, say_out_of_memory};
-use crate::loading_files::{Stop, load_files, load_manifest};
+use crate::loading_files::{Stop, load_manifest, take_files};
 use crate::naming::rules_named;
-use crate::{Entry, File, Loader, PackageFault, Report, Status, check_bytes, lines, write_report};
+use crate::{
+    Entry, Loader, PackageFault, PackageReader, PrintFault, Report, Status, lines, print_report,
+};
 use grid_units::{Fault, Reason, Rules};
 use std::alloc::{AllocError, Global};
 use std::io::Write;
@@ -52,44 +56,6 @@ fn tell<W: Write>(alloc: Global, out: &mut W, entries: &[Entry], stop: Stop) -> 
     }
 }
 
-/// The file of an entry whose bytes are loaded.
-fn file_of<'a>(entry: &'a Entry, bytes: &'a [u8]) -> File<'a>
-    ensures { (layers : ℕ) → source_of layers result
-        ≡ record { role = entry.now.role; name = entry.now.name; span = entry.now.span; bytes = bytes.now; layers = layers } }
-{
-    File {
-        role: entry.role,
-        name: entry.name.as_str(),
-        span: entry.span,
-        bytes,
-    }
-}
-
-fn files_of<'a>(
-    alloc: Global,
-    entries: &'a [Entry],
-    loaded: &'a [Vec<u8>],
-) -> Result<Vec<File<'a>>, AllocError>
-    requires { length entries.now ≡ length loaded.now }
-    ensures { IfOk result (λ v. sources_of v.items ≡ sources entries.now (map (λ f. f.items) loaded.now)) }
-{
-    let mut files = Vec::new(alloc);
-    for (index, entry) in entries.iter().enumerate() {
-        let file = file_of(entry, loaded[index].as_slice());
-        if files.push(file).is_err() {
-            return Err(AllocError);
-        }
-    }
-    Ok(files)
-}
-
-fn name_of<'a>(files: &[File<'a>], index: usize) -> &'a str {
-    match files.get(index) {
-        Some(file) => file.name,
-        None => "",
-    }
-}
-
 fn status_of(report: &Report) -> Status
     ensures { result ≡ stopping.status_of report.now.findings }
 {
@@ -100,23 +66,50 @@ fn status_of(report: &Report) -> Status
     }
 }
 
-/// Checks files that are at hand, and prints the report.
-fn answer<W: Write>(alloc: Global, files: &[File], rules: Rules, out: &mut W) -> Ended
-    ensures { Answered (sources_of files.now) rules (W.contents out.old) (W.contents out.new) result }
+fn names_of(alloc: Global, entries: &[Entry]) -> Result<Vec<&str>, AllocError>
+    ensures { IfOk result (λ names. map (λ name. name.now) names.items ≡ map (λ entry. entry.name) entries.now) }
 {
-    let report = match check_bytes(alloc, files, rules) {
-        Ok(report) => report,
-        Err(PackageFault::Memory) => return say_out_of_memory(out),
-        Err(PackageFault::File { index, fault }) => {
-            let line = lines::refused(alloc, index, fault, name_of(files, index));
-            return say_line(out, line, Ended::Said(Status::Refused));
-        }
-    };
-    let Ok(text) = write_report(alloc, files, &report) else {
+    let mut names = Vec::new(alloc);
+    for entry in entries {
+        names.push(entry.name.as_str())?;
+    }
+    Ok(names)
+}
+
+/// Prints the report on files of these entries.
+fn print<W: Write>(alloc: Global, entries: &[Entry], report: &Report, out: &mut W) -> Ended
+    ensures written { result ≢ Ended.WriterFailed → result ≢ Ended.OutOfMemory → Appends (W.contents out.old) (W.contents out.new) (text_of (map (λ entry. entry.name) entries.now) report.now) }
+    ensures ends { result ≢ Ended.WriterFailed → result ≢ Ended.OutOfMemory → result ≡ Ended.Said (stopping.status_of report.now.findings) }
+{
+    let Ok(names) = names_of(alloc, entries) else {
         return say_out_of_memory(out);
     };
-    let status = status_of(&report);
-    say(out, text.as_slice(), Ended::Said(status))
+    match print_report(alloc, names.as_slice(), report, out) {
+        Ok(()) => Ended::Said(status_of(report)),
+        Err(PrintFault::Memory) => say_out_of_memory(out),
+        Err(PrintFault::Cut) => Ended::WriterFailed,
+    }
+}
+
+/// Checks the files of these entries, which a reader has taken, and prints the report.
+fn answer<W: Write>(
+    alloc: Global,
+    reader: PackageReader,
+    entries: &[Entry],
+    rules: Rules,
+    out: &mut W,
+) -> Ended
+    ensures { (files : List (List ℕ)) → length entries.now ≡ length files → PackageStandsAfter reader (sources entries.now files)
+        → Answered (sources entries.now files) rules (W.contents out.old) (W.contents out.new) result }
+{
+    match reader.finish(rules) {
+        Ok(report) => print(alloc, entries, &report, out),
+        Err(PackageFault::Memory) => say_out_of_memory(out),
+        Err(PackageFault::File { index, fault }) => {
+            let line = lines::refused(alloc, index, fault, name_at(entries, index));
+            say_line(out, line, Ended::Said(Status::Refused))
+        }
+    }
 }
 
 /// Checks the package of a manifest under rules.
@@ -134,13 +127,9 @@ fn check_package<L: Loader, W: Write>(
         Ok(entries) => entries,
         Err(stop) => return tell(alloc, out, &[], stop),
     };
-    let loaded = match load_files(alloc, loader, entries.as_slice()) {
-        Ok(loaded) => loaded,
-        Err(stop) => return tell(alloc, out, entries.as_slice(), stop),
-    };
-    match files_of(alloc, entries.as_slice(), loaded.as_slice()) {
-        Ok(files) => answer(alloc, files.as_slice(), rules, out),
-        Err(_) => say_out_of_memory(out),
+    match take_files(alloc, loader, entries.as_slice()) {
+        Ok(reader) => answer(alloc, reader, entries.as_slice(), rules, out),
+        Err(stop) => tell(alloc, out, entries.as_slice(), stop),
     }
 }
 

@@ -836,6 +836,185 @@ fn a_loader_that_fails_is_told_at_each_call(rt: HostRuntime) {
     }
 }
 
+/// A layer without a format, which is refused.
+const BARE: &str = "M02*\n";
+
+#[test]
+fn a_file_that_is_not_loaded_is_told_before_a_refusal(rt: HostRuntime) {
+    let files = [
+        ("m.csv", THREE),
+        ("top.gbr", BARE),
+        ("bot.gbr", LAYER),
+        ("pth.drl", DRILL),
+    ];
+    let mut shelf = Shelf::new(&files);
+    shelf.fails_at = 4;
+    let text = "device file=3 name=pth\n";
+    assert!(rt; prints(rt.alloc(), &mut shelf, &WORDS, Status::Device, text));
+    assert_eq!(rt; shelf.calls, 4);
+    let mut shelf = LongShelf {
+        shelf: Shelf::new(&files),
+        name: "pth.drl",
+        length: 268_435_457,
+    };
+    let text = "refused file=3 place=0 byte=0 reason=TooLong name=pth\n";
+    assert!(rt; prints(rt.alloc(), &mut shelf, &WORDS, Status::Refused, text));
+    let mut shelf = Shelf::new(&files);
+    let text = "refused file=1 place=1 byte=0 reason=NoFormat name=top\n";
+    assert!(rt; prints(rt.alloc(), &mut shelf, &WORDS, Status::Refused, text));
+    assert_eq!(rt; shelf.calls, 4);
+}
+
+#[test]
+fn the_first_of_two_refusals_is_told(rt: HostRuntime) {
+    for (top, bottom, drill, text) in [
+        (
+            BARE,
+            BARE,
+            "",
+            "refused file=1 place=1 byte=0 reason=NoFormat name=top\n",
+        ),
+        (
+            LAYER,
+            BARE,
+            "",
+            "refused file=2 place=1 byte=0 reason=NoFormat name=bot\n",
+        ),
+        (
+            BARE,
+            LAYER,
+            "",
+            "refused file=1 place=1 byte=0 reason=NoFormat name=top\n",
+        ),
+    ] {
+        let files = [
+            ("m.csv", THREE),
+            ("top.gbr", top),
+            ("bot.gbr", bottom),
+            ("pth.drl", drill),
+        ];
+        assert!(rt;
+            prints(
+                rt.alloc(),
+                &mut Shelf::new(&files),
+                &WORDS,
+                Status::Refused,
+                text
+            ),
+            "{text}"
+        );
+    }
+}
+
+#[test]
+fn a_file_is_read_for_each_mention(rt: HostRuntime) {
+    for (manifest, layer, status, text) in [
+        (
+            "role,name,file\ncopper,top,top.gbr\nplated,pth,pth.drl\nunplated,npth,pth.drl\n",
+            LAYER,
+            Status::Findings,
+            "rules ring=0.125000000 gap=0.250000000
+file 1 layer pads=1 other=0 name=top
+file 2 drill plated=yes round=1 slots=0 name=pth
+file 3 drill plated=no round=1 slots=0 name=npth
+GAP drill=2 hole=1 drill=3 hole=1
+FINDINGS 1
+",
+        ),
+        (
+            "role,name,file\ncopper,top,top.gbr\nunplated,npth,pth.drl\n",
+            "%FSLAX46Y46*%\n%MOMM*%\n%ADD10C,0.65*%\nD10*\nX1Y0D03*\nM02*\n",
+            Status::Pass,
+            "rules ring=0.125000000 gap=0.250000000
+file 1 layer pads=1 other=0 name=top
+file 2 drill plated=no round=1 slots=0 name=npth
+PASS
+",
+        ),
+        (
+            "role,name,file\nunplated,npth,pth.drl\ncopper,top,top.gbr\nplated,pth,pth.drl\n",
+            "%FSLAX46Y46*%\n%MOMM*%\n%ADD10C,0.65*%\nD10*\nX1Y0D03*\nM02*\n",
+            Status::Findings,
+            "rules ring=0.125000000 gap=0.250000000
+file 1 drill plated=no round=1 slots=0 name=npth
+file 2 layer pads=1 other=0 name=top
+file 3 drill plated=yes round=1 slots=0 name=pth
+RING layer=2 drill=3 hole=1 x=0.000000000 y=0.000000000 diameter=0.400000000
+GAP drill=1 hole=1 drill=3 hole=1
+FINDINGS 2
+",
+        ),
+        (
+            "role,name,file\ncopper,top,top.gbr\ncopper,bot,top.gbr\nplated,pth,top.gbr\n",
+            LAYER,
+            Status::Refused,
+            "refused file=3 place=1 byte=0 reason=OldFormat name=pth\n",
+        ),
+    ] {
+        let files = [("m.csv", manifest), ("top.gbr", layer), ("pth.drl", DRILL)];
+        assert!(rt;
+            prints(rt.alloc(), &mut Shelf::new(&files), &WORDS, status, text),
+            "{text}"
+        );
+    }
+}
+
+/// A drill file of so many holes, a millimetre apart.
+fn drill_of(alloc: Global, count: u64) -> Result<String, AllocError> {
+    let mut text = format!(in alloc; "M48\nMETRIC\nT1C0.4\n%\nT1\n")?;
+    for i in 0..count {
+        let line = format!(in alloc; "X{i}.0Y0.0\n")?;
+        text.push_str(line.as_str())?;
+    }
+    text.push_str("M30\n")?;
+    Ok(text)
+}
+
+/// The report on these holes and a layer whose pad holds the first of them alone.
+fn report_of(alloc: Global, count: u64) -> Result<String, AllocError> {
+    let mut text = format!(in alloc;
+        "rules ring=0.125000000 gap=0.250000000\nfile 1 layer pads=1 other=0 name=top\nfile 2 drill plated=yes round={count} slots=0 name=pth\n"
+    )?;
+    for i in 1..count {
+        let hole = i.saturating_add(1);
+        let line = format!(in alloc;
+            "RING layer=1 drill=2 hole={hole} x={i}.000000000 y=0.000000000 diameter=0.400000000\n"
+        )?;
+        text.push_str(line.as_str())?;
+    }
+    let findings = count.saturating_sub(1);
+    let line = format!(in alloc; "FINDINGS {findings}\n")?;
+    text.push_str(line.as_str())?;
+    Ok(text)
+}
+
+#[test]
+fn a_long_report_is_written_in_parts(rt: HostRuntime) -> Result<(), Failure> {
+    let alloc = rt.alloc();
+    let (drill, text) = (drill_of(alloc, 2_000)?, report_of(alloc, 2_000)?);
+    let files = [
+        ("m.csv", MANIFEST),
+        ("top.gbr", LAYER),
+        ("pth.drl", drill.as_str()),
+    ];
+    assert!(rt;
+        prints(
+            alloc,
+            &mut Shelf::new(&files),
+            &WORDS,
+            Status::Findings,
+            text.as_str()
+        )
+    );
+    let calls = text.len().div_ceil(40) as u64;
+    for fails_at in [1, 1_700, calls] {
+        let mut out = Narrow { calls: 0, fails_at };
+        let status = run(alloc, &WORDS, &mut Shelf::new(&files), &mut out);
+        assert_eq!(rt; (status, out.calls), (Status::Device, fails_at));
+    }
+    Ok(())
+}
+
 #[test]
 fn files_above_their_limit_are_told(rt: HostRuntime) {
     let files = [("m.csv", MANIFEST), ("top.gbr", LAYER), ("pth.drl", DRILL)];

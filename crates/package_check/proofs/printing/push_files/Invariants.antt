@@ -6,5 +6,5 @@ use Rattle.package_check.proofs.printing.push_files.Given as goal
 abbrev pub invariant-loop-index : goal.invariant-loop-index
 invariant-loop-index l = record {
   number : l.number ≡ l.index + 1;
-  lines : string_bytes l.initial.text ++ file_lines 1 (map (λ file. file.name.now) l.files) l.sums ≡ string_bytes l.text ++ file_lines l.number (drop l.index (map (λ file. file.name.now) l.files)) (drop l.index l.sums);
+  lines : string_bytes l.initial.text ++ file_lines 1 (map (λ name. name.now) l.names) l.sums ≡ string_bytes l.text ++ file_lines l.number (drop l.index (map (λ name. name.now) l.names)) (drop l.index l.sums);
 }

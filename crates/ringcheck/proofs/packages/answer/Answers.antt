@@ -1,16 +1,25 @@
-use Rattle.package_check.specs.Package.{sources_of}
-use Rattle.package_check.proofs.Gathering.{sums_length}
+use Rattle.std.proofs.Common.{List, ℕ, subst, sym}
+use Rattle.std.specs.Io.KnownBytes.{Appends}
+use Rattle.std.specs.List.{count_by}
+use Rattle.manifest.specs.declared.Entry.{Entry}
+use Rattle.package_check.specs.Package.{is_copper}
+use Rattle.package_check.specs.Texts.{text_of}
+use Rattle.ringcheck.specs.Running.{sources}
 use Rattle.ringcheck.proofs.Checking.{refused_file, reported}
+use Rattle.ringcheck.proofs.Loaded.{names_among}
 use Rattle.ringcheck.proofs.packages.answer.Goals as goal
 
 pub returns-in-Err-File : goal.returns-in-Err-File
-returns-in-Err-File g c =
-    refused_file (sources_of c.args.files.now) c.args.rules _ _ (c.in-Err-File.index, c.in-Err-File.fault) c.say_line.result (rw c.in-Err-File.field-0-is at c.in-Err-File.ensures.exact) c.say_line.ensures.ends
+returns-in-Err-File g c files same stands =
+    let all = sources c.args.entries.now files in
+    refused_file all c.args.rules _ _ (c.in-Err-File.index, c.in-Err-File.fault) c.say_line.result (rw c.in-Err-File.field-0-is at (c.in-Err-File.ensures.exact all stands)) c.say_line.ensures.ends
 
-pub returns : goal.returns
-returns g c =
-    reported (sources_of c.args.files.now) c.args.rules _ _ c.in-Ok.report c.say.result c.in-Ok.ensures.exact c.in-Ok.ensures.sound
-    (rw (c.as_slice.ensures.value, c.in-Ok-write_report.ensures, c.status_of-status.ensures) at c.say.ensures)
-
-pub write_report-requires : goal.write_report-requires
-write_report-requires g c = sums_length c.args.files.now c.args.rules c.in-Ok.report c.in-Ok.ensures.exact
+pub returns-in-Ok : goal.returns-in-Ok
+returns-in-Ok g c files same stands =
+    let entries = c.args.entries.now in
+    let all = sources entries files in
+    let report = c.in-Ok.report in
+    let told = g.W.Write.contents in
+    let names = names_among (count_by (λ (e : Entry). is_copper e.role) entries) entries files same in
+    reported all c.args.rules (told c.args.out.now) (told c.print.new.out) report c.print.result (c.in-Ok.ensures.exact all stands) (c.in-Ok.ensures.sound all stands)
+    (λ w m. (c.print.ensures.ends w m, subst (λ (ns : List (List ℕ)). Appends (told c.args.out.now) (told c.print.new.out) (text_of ns report)) (sym names) (c.print.ensures.written w m)))

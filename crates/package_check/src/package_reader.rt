@@ -1,0 +1,146 @@
+//! A package whose files are taken one after the other.
+
+ghost use Rattle.std.specs.Prelude.{◌≡◌, ◌++◌, ◌∷◌, ℕ, List, [], Err, Result, IfOk, OnOk, OnErr, alloc_error, map};
+ghost use Rattle.std.specs.List.{concat};
+ghost use Rattle.grid_units.specs.declared.fault.Fault.{Fault as TheFault};
+ghost use Rattle.package_check.specs.Package.{AnswersJust, AnswersPackage, IsAnswer, NamesItsPlaces, Source, nameless};
+ghost use Rattle.package_check.specs.Reports.{Account};
+ghost use Rattle.package_check.specs.Soundness.{IsSound};
+ghost use Rattle.package_check.specs.Standing.{ReadsNext};
+
+use crate::contents::{Content, read_file};
+use crate::laws::{findings_name_their_places, one_answer, one_reading, passing_is_sound};
+use crate::report::report_on;
+use crate::{PackageFault, Report, Role};
+use grid_units::{Fail, Rules};
+use ring_rules::Span;
+use std::alloc::{AllocError, Global};
+
+/// A reader of a package, which takes its files one after the other. It keeps of a layer the pads and of a drill file the
+/// holes, and no text. Behind the first file that is refused it reads no other.
+#[derive(Drop)]
+pub struct PackageReader {
+    alloc: Global,
+    layers: usize,
+    contents: Vec<Content>,
+    stopped: Option<Fail>,
+}
+
+impl PackageReader {
+    ghost use Rattle.package_check.specs.Standing.{HasNoMemory, PackageStandsAfter, copper_files};
+
+    /// A reader that has taken no file, of a package with so many copper files.
+    pub fn new(alloc: Global, layers: usize) -> PackageReader
+        ensures stands { PackageStandsAfter result [] }
+        ensures layers { copper_files result ≡ layers }
+    {
+        PackageReader {
+            alloc,
+            layers,
+            contents: Vec::new(alloc),
+            stopped: None,
+        }
+    }
+
+    /// Takes the next file of the package, whose text comes in these pieces. A file that is refused is no error here:
+    /// [`PackageReader::finish`] tells of the first of them.
+    ///
+    /// # Errors
+    ///
+    /// An `AllocError` where there is no memory. A reader that has failed so fails again.
+    pub fn take(
+        &mut self,
+        role: Role,
+        span: &Option<Span>,
+        pieces: &[&[u8]],
+    ) -> Result<(), AllocError>
+        ensures stands { (sources : List Source) (name : List ℕ) → PackageStandsAfter self.old sources → OnOk result (PackageStandsAfter self.new (sources
+            ++ record { role = role; name = name; span = span.now; bytes = concat (map (λ piece. piece.now) pieces.now); layers = copper_files self.old } ∷ [])) }
+        ensures layers { copper_files self.new ≡ copper_files self.old }
+        ensures failed { HasNoMemory self.old → result ≡ Err alloc_error }
+        ensures fails { OnErr result (HasNoMemory self.new) }
+    {
+        if self.stopped.is_some() {
+            return self.outcome();
+        }
+        let read = read_next(
+            self.alloc,
+            &mut self.contents,
+            role,
+            span,
+            self.layers,
+            pieces,
+        );
+        self.stopped = read.err();
+        self.outcome()
+    }
+
+    /// Whether memory ran out.
+    fn outcome(&self) -> Result<(), AllocError>
+        ensures failed { HasNoMemory self.now → result ≡ Err alloc_error }
+        ensures fails { OnErr result (HasNoMemory self.now) }
+    {
+        match self.stopped {
+            Some(Fail::Memory) => Err(AllocError),
+            Some(Fail::Refused(_)) | None => Ok(()),
+        }
+    }
+
+    /// The report on the files that were taken, as that of [`crate::check_bytes`].
+    ///
+    /// # Errors
+    ///
+    /// The first file that is refused, by its index, with its fault; `Memory` where there is no memory.
+    pub fn finish(self, rules: Rules) -> Result<Report, PackageFault>
+        ensures exact { (sources : List Source) → PackageStandsAfter self sources → AnswersPackage sources rules result }
+        ensures only { (sources : List Source) (answer : Result Account (ℕ × TheFault)) → PackageStandsAfter self sources → IsAnswer sources rules answer → AnswersJust answer result }
+        ensures places { (sources : List Source) → PackageStandsAfter self sources → IfOk result NamesItsPlaces }
+        ensures sound { (sources : List Source) → PackageStandsAfter self sources → IfOk result (λ report. report.findings ≡ [] → IsSound sources rules) }
+    {
+        one_answer();
+        findings_name_their_places();
+        passing_is_sound();
+        self.answer(rules)
+    }
+
+    fn answer(self, rules: Rules) -> Result<Report, PackageFault>
+        ensures { (sources : List Source) → PackageStandsAfter self sources → AnswersPackage sources rules result }
+    {
+        match self.stopped {
+            Some(Fail::Memory) => Err(PackageFault::Memory),
+            Some(Fail::Refused(fault)) => Err(PackageFault::File {
+                index: self.contents.len(),
+                fault,
+            }),
+            None => match report_on(self.alloc, &self.contents, rules) {
+                Ok(report) => Ok(report),
+                Err(_) => Err(PackageFault::Memory),
+            },
+        }
+    }
+}
+
+/// Reads the next file, and keeps what it says behind what the files before it say.
+fn read_next(
+    alloc: Global,
+    contents: &mut Vec<Content>,
+    role: Role,
+    span: &Option<Span>,
+    layers: usize,
+    pieces: &[&[u8]],
+) -> Result<(), Fail>
+    ensures { ReadsNext (nameless role span.now layers (concat (map (λ piece. piece.now) pieces.now))) contents.old.items contents.new.items result }
+{
+    let content = read_file(alloc, role, span, layers, pieces)?;
+    keep(contents, content)?;
+    Ok(())
+}
+
+fn keep(contents: &mut Vec<Content>, content: Content) -> Result<(), AllocError>
+    ensures { OnOk result (contents.new.items ≡ contents.old.items ++ content ∷ []) }
+{
+    if contents.push(content).is_err() {
+        return Err(AllocError);
+    }
+    Ok(())
+}

@@ -1,0 +1,146 @@
+//! The text of a report, printed part by part.
+
+ghost use Rattle.std.specs.Prelude.{◌≡◌, ◌++◌, [], IfOk, IfErr, OnOk, length, map, string_bytes};
+ghost use Rattle.std.specs.List.{flat_map};
+ghost use Rattle.std.specs.Io.KnownBytes.{Appends};
+ghost use Rattle.package_check.specs.Package.{sources_of};
+ghost use Rattle.package_check.specs.Streaming.{PassesOn};
+ghost use Rattle.package_check.specs.Texts.{file_lines, finding_line, last_line, report_text, rules_line, text_of};
+
+use crate::printing::{push_files, push_finding, push_last, push_rules};
+use crate::{File, Report};
+use ring_rules::Finding;
+use std::alloc::{AllocError, Global};
+use std::io::Write;
+use thiserror::Error;
+
+/// Why a report was not printed, or not to its end.
+#[derive(Clone, Copy, Debug, PartialEq, Eq, Error)]
+pub enum PrintFault {
+    /// There is no memory, and nothing was written.
+    #[error("out of memory")]
+    Memory,
+    /// The writer failed, and it is not known what it took.
+    #[error("the report was not written to its end")]
+    Cut,
+}
+
+/// How many bytes are gathered before they are written.
+const FULL: usize = 65_536;
+
+/// More bytes than a line of a finding has.
+const LINE: usize = 1_024;
+
+/// The lines of the rules and of the files, with room for what is gathered behind them.
+fn first_lines(alloc: Global, names: &[&str], report: &Report) -> Result<String, AllocError>
+    ensures { IfOk result (λ text. string_bytes text ≡ rules_line report.now.rules ++ file_lines 1 (map (λ name. name.now) names.now) report.now.files) }
+{
+    let mut text = String::with_capacity(alloc, FULL + LINE)?;
+    push_rules(&mut text, report.rules())?;
+    push_files(&mut text, names, report.files())?;
+    Ok(text)
+}
+
+/// Writes what was gathered, and lets go of it.
+fn pass_on<W: Write>(text: &mut String, out: &mut W) -> Result<(), PrintFault>
+    ensures ok { OnOk result (Appends (W.contents out.old) (W.contents out.new) (string_bytes text.old) × (string_bytes text.new ≡ [])) }
+    ensures fault { IfErr result (λ e. e ≡ PrintFault.Cut) }
+{
+    let written = out.write_all(text.as_bytes());
+    text.clear();
+    match written {
+        Ok(()) => Ok(()),
+        Err(_) => Err(PrintFault::Cut),
+    }
+}
+
+/// Gathers the line of a finding, behind what is gathered, or where that is enough, behind what is written of it.
+fn gather<W: Write>(
+    text: &mut String,
+    report: &Report,
+    finding: Finding,
+    out: &mut W,
+) -> Result<(), PrintFault>
+    ensures ok { OnOk result (PassesOn (W.contents out.old) (string_bytes text.old) (W.contents out.new) (string_bytes text.new) (finding_line report.now.layers report.now.holes finding)) }
+    ensures fault { IfErr result (λ e. e ≡ PrintFault.Cut) }
+{
+    if text.len() > FULL {
+        pass_on(text, out)?;
+    }
+    match push_finding(text, report, finding) {
+        Ok(()) => Ok(()),
+        Err(_) => Err(PrintFault::Cut),
+    }
+}
+
+/// Gathers the lines of the findings, and writes those for which there is no room.
+fn gather_all<W: Write>(text: &mut String, report: &Report, out: &mut W) -> Result<(), PrintFault>
+    ensures ok { OnOk result (PassesOn (W.contents out.old) (string_bytes text.old) (W.contents out.new) (string_bytes text.new) (flat_map (finding_line report.now.layers report.now.holes) report.now.findings)) }
+    ensures fault { IfErr result (λ e. e ≡ PrintFault.Cut) }
+{
+    for finding in report.findings() {
+        gather(text, report, *finding, out)?;
+    }
+    Ok(())
+}
+
+/// Gathers the last line, and writes what is left.
+fn end<W: Write>(text: &mut String, report: &Report, out: &mut W) -> Result<(), PrintFault>
+    ensures ok { OnOk result (Appends (W.contents out.old) (W.contents out.new) (string_bytes text.old ++ last_line (length report.now.findings))) }
+    ensures fault { IfErr result (λ e. e ≡ PrintFault.Cut) }
+{
+    match push_last(text, report.findings().len()) {
+        Ok(()) => pass_on(text, out),
+        Err(_) => Err(PrintFault::Cut),
+    }
+}
+
+/// Prints the text of a report on files of these names. It is written in parts: what they are gathered in is taken before the
+/// first of them is written, so no more memory is taken for a long report than for a short one.
+///
+/// # Errors
+///
+/// [`PrintFault::Memory`] where there is no memory, and then nothing was written; [`PrintFault::Cut`] where the writer fails.
+pub fn print_report<W: Write>(
+    alloc: Global,
+    names: &[&str],
+    report: &Report,
+    out: &mut W,
+) -> Result<(), PrintFault>
+    ensures ok { OnOk result (Appends (W.contents out.old) (W.contents out.new) (text_of (map (λ name. name.now) names.now) report.now)) }
+    ensures memory { IfErr result (λ e. e ≡ PrintFault.Memory → W.contents out.new ≡ W.contents out.old) }
+{
+    let Ok(mut text) = first_lines(alloc, names, report) else {
+        return Err(PrintFault::Memory);
+    };
+    gather_all(&mut text, report, out)?;
+    end(&mut text, report, out)
+}
+
+/// The names of files.
+fn names_of<'a>(alloc: Global, files: &'a [File]) -> Result<Vec<&'a str>, AllocError>
+    ensures { IfOk result (λ names. map (λ name. name.now) names.items ≡ map (λ file. file.name.now) files.now) }
+{
+    let mut names = Vec::new(alloc);
+    for file in files {
+        names.push(file.name)?;
+    }
+    Ok(names)
+}
+
+/// The text of a report on these files.
+///
+/// # Errors
+///
+/// An `AllocError` where there is no memory for it.
+pub fn write_report(alloc: Global, files: &[File], report: &Report) -> Result<Vec<u8>, AllocError>
+    requires { length files.now ≡ length report.now.files }
+    ensures { IfOk result (λ text. text.items ≡ report_text (sources_of files.now) report.now) }
+{
+    let names = names_of(alloc, files)?;
+    let mut text = Vec::new(alloc);
+    match print_report(alloc, names.as_slice(), report, &mut text) {
+        Ok(()) => Ok(text),
+        Err(_) => Err(AllocError),
+    }
+}

@@ -1,0 +1,11 @@
+use Rattle.std.proofs.Common.{◌++◌, ◌∷◌, [], List, ℕ, subst}
+use Rattle.std.proofs.lemmas.List.{append-nil}
+use Rattle.package_check.specs.Package.{Source}
+use Rattle.package_check.specs.Standing.{PackageStandsAfter, copper_files}
+use Rattle.ringcheck.proofs.loading_files.take_file.Goals as goal
+
+pub returns-in-Ok-clause-stands : goal.returns-in-Ok-clause-stands
+returns-in-Ok-clause-stands c sources stands =
+    let entry = c.args.entry.now in
+    let source = λ (bytes : List ℕ). let s : Source = record { role = entry.role; name = entry.name; span = entry.span; bytes = bytes; layers = copper_files c.args.reader.now } in s in
+    subst (λ (bytes : List ℕ). PackageStandsAfter c.take.new.self (sources ++ source bytes ∷ [])) (append-nil c.args.bytes.now) (c.in-Ok.ensures.stands sources entry.name stands)
