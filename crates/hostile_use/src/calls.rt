@@ -2,6 +2,7 @@
 
 use crate::answer::Answer;
 use crate::readers::Reader;
+use crate::small;
 use drill_text::{drill_sayable, read_drill, write_drill};
 use gerber_text::{Command, Kept, Placed, read_kept, read_words, write_commands, write_placed};
 use grid_units::Fail;
@@ -18,16 +19,20 @@ pub(crate) enum Call {
     InTwo(Reader),
     InBytes(Reader),
     Kept,
+    Items,
     WriteCommands,
     WritePlaced,
+    Lines,
     WriteDrill,
     Show(Kind),
     Rewrite(Kind),
     Manifest,
     ReadAll,
+    Copy,
+    Name,
 }
 
-pub(crate) const ON_LAYERS: [Call; 13] = [
+pub(crate) const ON_LAYERS: [Call; 14] = [
     Call::Whole(Reader::Words),
     Call::InTwo(Reader::Words),
     Call::InBytes(Reader::Words),
@@ -37,24 +42,26 @@ pub(crate) const ON_LAYERS: [Call; 13] = [
     Call::InTwo(Reader::Sum),
     Call::InBytes(Reader::Sum),
     Call::Kept,
+    Call::Items,
     Call::WriteCommands,
     Call::WritePlaced,
     Call::Show(Kind::Layer),
     Call::Rewrite(Kind::Layer),
 ];
 
-pub(crate) const ON_DRILLS: [Call; 8] = [
+pub(crate) const ON_DRILLS: [Call; 9] = [
     Call::Whole(Reader::Drill),
     Call::InTwo(Reader::Drill),
     Call::InBytes(Reader::Drill),
     Call::InTwo(Reader::Holes),
     Call::InBytes(Reader::Holes),
+    Call::Lines,
     Call::WriteDrill,
     Call::Show(Kind::Drill),
     Call::Rewrite(Kind::Drill),
 ];
 
-pub(crate) const ON_MANIFESTS: [Call; 2] = [Call::Manifest, Call::ReadAll];
+pub(crate) const ON_MANIFESTS: [Call; 4] = [Call::Manifest, Call::ReadAll, Call::Copy, Call::Name];
 
 /// What the call answers. A reader's text is cut behind 30 bytes where it comes in two pieces.
 pub(crate) fn ask(call: Call, alloc: Global, text: &[u8]) -> Answer {
@@ -63,6 +70,10 @@ pub(crate) fn ask(call: Call, alloc: Global, text: &[u8]) -> Answer {
         Call::InTwo(reader) => reader.in_two(alloc, text, 30),
         Call::InBytes(reader) => reader.in_bytes(alloc, text),
         Call::Kept => kept(alloc, text),
+        Call::Items => Answer::of_bytes(small::items(alloc, text).map_err(|_| Fail::Memory)),
+        Call::Lines => Answer::of_bytes(small::lines(alloc, text)),
+        Call::Copy => or_memory(small::copied(alloc, text)),
+        Call::Name => or_memory(small::named(alloc, text)),
         Call::WriteCommands => Answer::of_bytes(commands_written(alloc, text)),
         Call::WritePlaced => Answer::of_bytes(placed_written(alloc, text)),
         Call::WriteDrill => Answer::of_bytes(drill_written(alloc, text)),
@@ -72,6 +83,10 @@ pub(crate) fn ask(call: Call, alloc: Global, text: &[u8]) -> Answer {
         Call::Manifest => Answer::of_manifest(read_manifest(alloc, text)),
         Call::ReadAll => all_read(alloc, text),
     }
+}
+
+fn or_memory(outcome: Result<Answer, AllocError>) -> Answer {
+    outcome.unwrap_or(Answer::Failed(Fail::Memory))
 }
 
 /// The commands before a fault; or that memory ran out, whatever is kept then.

@@ -2,7 +2,8 @@
 
 use crate::boards::{self, ON_BOARDS};
 use crate::calls::{self, Call, ON_DRILLS, ON_LAYERS, ON_MANIFESTS};
-use crate::inputs::{BOARDS, Board, DRILLS, LAYERS, MANIFESTS};
+use crate::inputs::{BOARDS, Board, DRILLS, FOLDERS, Held, LAYERS, LINES, MANIFESTS};
+use crate::small::{self, ON_FOLDERS};
 use std::io;
 
 /// Makes the calls over the input of this number. Past the last one nothing is made, and nothing printed.
@@ -18,8 +19,16 @@ pub(crate) fn run(rt: &HostRuntime, number: usize) -> io::Result<()> {
     if let Some(text) = MANIFESTS.get(number) {
         return on_text(rt, text, &ON_MANIFESTS);
     }
-    match BOARDS.get(number.saturating_sub(MANIFESTS.len())) {
-        Some(board) => on_board(rt, board),
+    let number = number.saturating_sub(MANIFESTS.len());
+    if let Some(board) = BOARDS.get(number) {
+        return on_board(rt, board);
+    }
+    let number = number.saturating_sub(BOARDS.len());
+    if let Some(files) = FOLDERS.get(number) {
+        return on_folder(rt, files);
+    }
+    match LINES.get(number.saturating_sub(FOLDERS.len())) {
+        Some(words) => on_words(rt, words),
         None => Ok(()),
     }
 }
@@ -40,4 +49,19 @@ fn on_board(rt: &HostRuntime, board: &Board) -> io::Result<()> {
         println!(rt; "{call:?}: {first}; again {again}")?;
     }
     Ok(())
+}
+
+fn on_folder(rt: &HostRuntime, files: &[Held]) -> io::Result<()> {
+    for call in ON_FOLDERS {
+        let first = small::proposed(call, rt.alloc(), files);
+        let again = small::proposed(call, rt.alloc(), files);
+        println!(rt; "{call:?}: {first}; again {again}")?;
+    }
+    Ok(())
+}
+
+fn on_words(rt: &HostRuntime, words: &[&str]) -> io::Result<()> {
+    let first = small::asked(rt.alloc(), words);
+    let again = small::asked(rt.alloc(), words);
+    println!(rt; "Words: {first}; again {again}")
 }

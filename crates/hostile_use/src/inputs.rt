@@ -239,3 +239,35 @@ pub(crate) const BOARDS: [Board; 17] = [
         ..SLOTTED
     },
 ];
+
+/// A file's name, and its text where it could be read.
+pub(crate) type Held = (&'static str, Option<&'static str>);
+
+/// The files of folders.
+pub(crate) const FOLDERS: [&[Held]; 2] = [
+    &[
+        ("top.gbr", Some(LAYER)),
+        ("bottom.gbr", Some(MACRO)),
+        ("mask.gbr", Some(SOLDERMASK)),
+        ("pth.drl", Some(DRILL)),
+        ("a-NPTH.drl", Some(SLOTS)),
+        ("pth.drl", Some(DRILL)),
+        ("notes.txt", Some("1, 2\n")),
+    ],
+    &[
+        ("In1.Cu.gbr", Some(ONE_LINE)),
+        ("a \"name\", with a comma.drl", Some(INCHES)),
+        ("b", None),
+    ],
+];
+
+/// The words of command lines.
+pub(crate) const LINES: [&[&str]; 7] = [
+    &["check", "--ring", "0.125", "--gap", "0.25", "m.csv"],
+    &["show", "--kind=layer", "f"],
+    &["rewrite", "f", "--kind", "drill"],
+    &["check", "--ring", "0.125", "m.csv"],
+    &["cut"],
+    &["--help"],
+    &[],
+];

@@ -9,6 +9,7 @@ mod digest;
 mod groups;
 mod inputs;
 mod readers;
+mod small;
 mod texts;
 
 use cuts::Tally;

@@ -1,6 +1,6 @@
 //! All bytes of a reader, within a limit.
 
-ghost use Rattle.std.specs.Prelude.{◌≡◌, ◌<◌, ◌≤◌, ◌+◌, ◌++◌, length, OnOk, IfErr, vec_len, vec_capacity, max, ◌/◌};
+ghost use Rattle.std.specs.Prelude.{◌≡◌, ◌<◌, ◌≤◌, ◌+◌, ◌++◌, length, OnOk, IfOk, IfErr, vec_len, vec_capacity, max, ◌/◌};
 ghost use Rattle.std.specs.Io.KnownBytes.{IsAtEnd};
 ghost use Rattle.loading.specs.Reading.{ReadsAll, max_limit};
 ghost use Rattle.loading.specs.declared.reading.ReadFail.TheVariants as fails;
@@ -37,7 +37,7 @@ pub const MAX_LIMIT: u64 = 268_435_456;
 /// How many calls of read may come on top of one for each byte.
 const SPARE_CALLS: u64 = 65_536;
 
-/// How many bytes are asked for at once.
+/// How many bytes are asked for at once. The block for them is no local, as a stack may be as small as that.
 const BLOCK: usize = 65_536;
 
 /// All that a reader has left, if that is not more than `limit` bytes; a limit is at most [`MAX_LIMIT`]. A read that was
@@ -52,10 +52,32 @@ pub fn read_all<R: Read>(alloc: Global, reader: &mut R, limit: u64) -> Result<Ve
     ensures exact { ReadsAll (R.remaining reader.old) limit result }
     ensures end { OnOk result (IsAtEnd (R.remaining reader.new)) }
 {
+    let mut block = zeros(alloc, BLOCK)?;
+    read_by(alloc, reader, block.as_mut_slice(), limit)
+}
+
+/// So many zeros.
+fn zeros(alloc: Global, count: usize) -> Result<Vec<u8>, AllocError>
+    ensures { IfOk result (λ v. vec_len v ≡ count) }
+{
+    vec![in alloc; 0u8; count]
+}
+
+/// All that a reader has left, as `read_all` says, where each read is into a block.
+fn read_by<R: Read>(
+    alloc: Global,
+    reader: &mut R,
+    block: &mut [u8],
+    limit: u64,
+) -> Result<Vec<u8>, ReadFail>
+    requires limit { limit ≤ max_limit }
+    requires block { 0 < length block.old }
+    ensures exact { ReadsAll (R.remaining reader.old) limit result }
+    ensures end { OnOk result (IsAtEnd (R.remaining reader.new)) }
+{
     let mut bytes = Vec::new(alloc);
-    let mut block = [0u8; BLOCK];
     for _ in 0..limit + SPARE_CALLS {
-        match reader.read(&mut block) {
+        match reader.read(block) {
             Ok(0) => return Ok(bytes),
             Ok(count) => append(&mut bytes, &block[..count], limit)?,
             Err(error) if error.kind() == ErrorKind::Interrupted => {}
