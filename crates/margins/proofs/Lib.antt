@@ -1,3 +1,4 @@
 pub mod Deepness
 pub mod Gapping
 pub mod Wrapping
+pub mod Nearing

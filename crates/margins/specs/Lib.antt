@@ -1,3 +1,5 @@
 pub mod Depths
 pub mod DepthLaws
 pub mod Gaps
+pub mod Bests
+pub mod Nearness

@@ -4,13 +4,17 @@
 //! All lengths are whole picometres (pm).
 #![tactic(auto)]
 
+mod best;
 mod deep;
 mod gap;
+mod nearest;
 mod roots;
 mod shapes;
 
+pub use best::{Best, best_pad, best_pads};
 pub use deep::{Deep, depth_of_hole};
 pub use gap::gap_between;
+pub use nearest::{Nearest, nearest_holes};
 
 #[cfg(test)]
 mod tests;

@@ -3,6 +3,7 @@
 use super::*;
 use grid_units::{Hole, Point};
 use pad_shapes::{Disc, Obround, Pad, Rect};
+use ring_rules::Drilled;
 use std::test::Fail;
 
 fn point(x: i64, y: i64) -> Result<Point, Fail> {
@@ -19,6 +20,15 @@ fn slot(from: (i64, i64), to: (i64, i64), radius: i64) -> Result<Hole, Fail> {
 /// A round hole.
 fn round(x: i64, y: i64, radius: i64) -> Result<Hole, Fail> {
     slot((x, y), (x, y), radius)
+}
+
+/// A plated hole.
+fn drilled(hole: Hole) -> Drilled {
+    Drilled {
+        hole,
+        plated: true,
+        span: None,
+    }
 }
 
 fn disc(x: i64, y: i64, radius: i64) -> Result<Pad, Fail> {
@@ -104,5 +114,60 @@ fn gaps(rt: HostRuntime) -> Result<(), Fail> {
     let along = slot((0, 0), (2_000_000_000, 0), 250_000_000)?;
     let beside = round(1_000_000_000, 750_000_000, 250_000_000)?;
     assert_eq!(rt; gap_between(&along, &beside), 250_000_000);
+    Ok(())
+}
+
+/// Of two pads in which a hole lies equally deep the first is the best; a deeper one is better wherever it stands.
+#[test]
+fn best_pads_of_holes(rt: HostRuntime) -> Result<(), Fail> {
+    let right = disc(100_000_000, 0, 300_000_000)?;
+    let left = disc(-100_000_000, 0, 300_000_000)?;
+    let far = disc(5_000_000_000, 0, 500_000_000)?;
+    let hole = round(0, 0, 200_000_000)?;
+    let depth = 200_000_000;
+    assert_eq!(rt;
+        best_pad(&[right, left], &hole),
+        Some(Best { pad: 0, depth })
+    );
+    assert_eq!(rt;
+        best_pad(&[far, left, right], &hole),
+        Some(Best { pad: 1, depth })
+    );
+    let wide = rect(0, 0, 325_000_000, 325_000_000)?;
+    let deeper = Some(Best {
+        pad: 1,
+        depth: 325_000_000,
+    });
+    assert_eq!(rt; best_pad(&[left, wide, right], &hole), deeper);
+    assert_eq!(rt; best_pad(&[far], &hole), None);
+    let none: [Pad; 0] = [];
+    assert_eq!(rt; best_pad(&none, &hole), None);
+    let oblique = slot((0, 0), (1_000, 1_000), 100_000_000)?;
+    assert_eq!(rt; best_pad(&[wide], &oblique), None);
+    let holes = [drilled(hole), drilled(oblique)];
+    let bests = best_pads(rt.alloc(), &[left, wide, right], &holes)?;
+    assert_eq!(rt; bests.as_slice() == [deeper, None].as_slice(), true);
+    Ok(())
+}
+
+/// Of pairs with the same gap the first is told, by the first of its holes and then by the second.
+#[test]
+fn nearest_pairs(rt: HostRuntime) -> Result<(), Fail> {
+    let first = drilled(round(0, 0, 200_000_000)?);
+    let second = drilled(round(300_000_000, 400_000_000, 200_000_000)?);
+    let third = drilled(round(1_000_000_000, 1_000_000_000, 200_000_000)?);
+    let pair = |first: usize, second: usize, gap: i64| Some(Nearest { first, second, gap });
+    assert_eq!(rt; nearest_holes(&[first]), None);
+    assert_eq!(rt; nearest_holes(&[first, first]), pair(0, 1, -400_000_000));
+    assert_eq!(rt;
+        nearest_holes(&[third, first, second]),
+        pair(1, 2, 100_000_000)
+    );
+    assert_eq!(rt;
+        nearest_holes(&[third, second, first, second]),
+        pair(1, 3, -400_000_000)
+    );
+    let line = [third, first, second, first, second];
+    assert_eq!(rt; nearest_holes(&line), pair(1, 3, -400_000_000));
     Ok(())
 }
