@@ -3,3 +3,4 @@ pub mod DepthLaws
 pub mod Gaps
 pub mod Bests
 pub mod Nearness
+pub mod Meets

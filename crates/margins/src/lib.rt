@@ -7,6 +7,8 @@
 mod best;
 mod deep;
 mod gap;
+pub mod laws;
+mod met;
 mod nearest;
 mod roots;
 mod shapes;
@@ -14,6 +16,7 @@ mod shapes;
 pub use best::{Best, best_pad, best_pads};
 pub use deep::{Deep, depth_of_hole};
 pub use gap::gap_between;
+pub use met::{Met, gap_met, ring_met};
 pub use nearest::{Nearest, nearest_holes};
 
 #[cfg(test)]

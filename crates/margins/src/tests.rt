@@ -117,36 +117,44 @@ fn gaps(rt: HostRuntime) -> Result<(), Fail> {
     Ok(())
 }
 
-/// Of two pads in which a hole lies equally deep the first is the best; a deeper one is better wherever it stands.
+/// Of two pads in which a hole lies equally deep the first is the best.
 #[test]
-fn best_pads_of_holes(rt: HostRuntime) -> Result<(), Fail> {
+fn first_of_equal_pads(rt: HostRuntime) -> Result<(), Fail> {
     let right = disc(100_000_000, 0, 300_000_000)?;
     let left = disc(-100_000_000, 0, 300_000_000)?;
-    let far = disc(5_000_000_000, 0, 500_000_000)?;
     let hole = round(0, 0, 200_000_000)?;
-    let depth = 200_000_000;
-    assert_eq!(rt;
-        best_pad(&[right, left], &hole),
-        Some(Best { pad: 0, depth })
-    );
-    assert_eq!(rt;
-        best_pad(&[far, left, right], &hole),
-        Some(Best { pad: 1, depth })
-    );
+    let best = best_pad(&[right, left], &hole).ok_or("bare")?;
+    assert_eq!(rt; best.pad, 0);
+    assert_eq!(rt; best.depth, 200_000_000);
+    Ok(())
+}
+
+/// A deeper pad is better wherever it stands.
+#[test]
+fn deepest_pad(rt: HostRuntime) -> Result<(), Fail> {
+    let far = disc(5_000_000_000, 0, 500_000_000)?;
+    let left = disc(-100_000_000, 0, 300_000_000)?;
     let wide = rect(0, 0, 325_000_000, 325_000_000)?;
-    let deeper = Some(Best {
-        pad: 1,
-        depth: 325_000_000,
-    });
-    assert_eq!(rt; best_pad(&[left, wide, right], &hole), deeper);
-    assert_eq!(rt; best_pad(&[far], &hole), None);
+    let hole = drilled(round(0, 0, 200_000_000)?);
+    let outside = drilled(round(9_000_000_000, 0, 200_000_000)?);
+    let bests = best_pads(rt.alloc(), &[far, left, wide], &[hole, outside])?;
+    assert_eq!(rt; bests.len(), 2);
+    let best = bests[0].ok_or("bare")?;
+    assert_eq!(rt; best.pad, 2);
+    assert_eq!(rt; best.depth, 325_000_000);
+    assert_eq!(rt; bests[1].is_none(), true);
+    Ok(())
+}
+
+/// A hole is bare without a pad, outside of all, and where it is an oblique slot.
+#[test]
+fn bare_holes(rt: HostRuntime) -> Result<(), Fail> {
+    let wide = rect(0, 0, 325_000_000, 325_000_000)?;
+    let hole = round(0, 0, 200_000_000)?;
     let none: [Pad; 0] = [];
-    assert_eq!(rt; best_pad(&none, &hole), None);
+    assert_eq!(rt; best_pad(&none, &hole).is_none(), true);
     let oblique = slot((0, 0), (1_000, 1_000), 100_000_000)?;
-    assert_eq!(rt; best_pad(&[wide], &oblique), None);
-    let holes = [drilled(hole), drilled(oblique)];
-    let bests = best_pads(rt.alloc(), &[left, wide, right], &holes)?;
-    assert_eq!(rt; bests.as_slice() == [deeper, None].as_slice(), true);
+    assert_eq!(rt; best_pad(&[wide], &oblique).is_none(), true);
     Ok(())
 }
 
@@ -156,18 +164,78 @@ fn nearest_pairs(rt: HostRuntime) -> Result<(), Fail> {
     let first = drilled(round(0, 0, 200_000_000)?);
     let second = drilled(round(300_000_000, 400_000_000, 200_000_000)?);
     let third = drilled(round(1_000_000_000, 1_000_000_000, 200_000_000)?);
-    let pair = |first: usize, second: usize, gap: i64| Some(Nearest { first, second, gap });
-    assert_eq!(rt; nearest_holes(&[first]), None);
-    assert_eq!(rt; nearest_holes(&[first, first]), pair(0, 1, -400_000_000));
+    assert_eq!(rt; nearest_holes(&[first]).is_none(), true);
+    let near = nearest_holes(&[third, first, second]).ok_or("none")?;
+    assert_eq!(rt; near.first, 1);
+    assert_eq!(rt; near.second, 2);
+    assert_eq!(rt; near.gap, 100_000_000);
+    Ok(())
+}
+
+/// A hole that is drilled twice overlaps itself.
+#[test]
+fn hole_drilled_twice(rt: HostRuntime) -> Result<(), Fail> {
+    let first = drilled(round(0, 0, 200_000_000)?);
+    let third = drilled(round(1_000_000_000, 1_000_000_000, 200_000_000)?);
+    let twice = nearest_holes(&[third, first, first, first]).ok_or("none")?;
+    assert_eq!(rt; twice.first, 1);
+    assert_eq!(rt; twice.second, 2);
+    assert_eq!(rt; twice.gap, -400_000_000);
+    Ok(())
+}
+
+/// The least length that is met.
+fn most(met: Met) -> Result<i64, Fail> {
+    match met {
+        Met::Most(length) => Ok(length),
+        _ => Err("no length")?,
+    }
+}
+
+/// The least ring of a board with one layer counts, and the greatest rule with no finding is just that.
+#[test]
+fn board_with_two_holes(rt: HostRuntime) -> Result<(), Fail> {
+    let pads = [disc(0, 0, 1_000_000_000)?];
+    let first = drilled(round(0, 0, 200_000_000)?);
+    let second = drilled(round(300_000_000, 400_000_000, 200_000_000)?);
+    let holes = [first, second];
+    let layers = [pads.as_slice()];
+    assert_eq!(rt; most(ring_met(rt.alloc(), &layers, &holes)?)?, 300_000_000);
+    assert_eq!(rt; most(gap_met(&holes))?, 100_000_000);
+    Ok(())
+}
+
+/// A board with a hole wider than its pad meets no ring, and says by how much.
+#[test]
+fn board_with_a_wide_hole(rt: HostRuntime) -> Result<(), Fail> {
+    let pads = [disc(0, 0, 150_000_000)?];
+    let layers = [pads.as_slice()];
+    let holes = [drilled(round(0, 0, 200_000_000)?)];
+    assert_eq!(rt; most(ring_met(rt.alloc(), &layers, &holes)?)?, -50_000_000);
+    assert_eq!(rt; matches!(gap_met(&holes), Met::Any), true);
+    Ok(())
+}
+
+/// A bare hole meets no ring; where nothing is drilled, or nothing is plated, any ring is met.
+#[test]
+fn boards_without_rings(rt: HostRuntime) -> Result<(), Fail> {
+    let pads = [disc(5_000_000_000, 0, 500_000_000)?];
+    let layers = [pads.as_slice()];
+    let bare = drilled(round(0, 0, 200_000_000)?);
+    let met = ring_met(rt.alloc(), &layers, &[bare])?;
+    assert_eq!(rt; matches!(met, Met::None), true);
+    let unplated = Drilled {
+        hole: bare.hole,
+        plated: false,
+        span: None,
+    };
+    let met = ring_met(rt.alloc(), &layers, &[unplated])?;
+    assert_eq!(rt; matches!(met, Met::Any), true);
+    let none: [Drilled; 0] = [];
     assert_eq!(rt;
-        nearest_holes(&[third, first, second]),
-        pair(1, 2, 100_000_000)
+        matches!(ring_met(rt.alloc(), &layers, &none)?, Met::Any),
+        true
     );
-    assert_eq!(rt;
-        nearest_holes(&[third, second, first, second]),
-        pair(1, 3, -400_000_000)
-    );
-    let line = [third, first, second, first, second];
-    assert_eq!(rt; nearest_holes(&line), pair(1, 3, -400_000_000));
+    assert_eq!(rt; matches!(gap_met(&none), Met::Any), true);
     Ok(())
 }
