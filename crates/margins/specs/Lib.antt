@@ -1,3 +1,6 @@
 pub mod Depths
 pub mod DepthLaws
 pub mod Gaps
+pub mod Bests
+pub mod Nearness
+pub mod Meets

@@ -4,13 +4,20 @@
 //! All lengths are whole picometres (pm).
 #![tactic(auto)]
 
+mod best;
 mod deep;
 mod gap;
+pub mod laws;
+mod met;
+mod nearest;
 mod roots;
 mod shapes;
 
+pub use best::{Best, best_pad, best_pads};
 pub use deep::{Deep, depth_of_hole};
 pub use gap::gap_between;
+pub use met::{Met, gap_met, ring_met};
+pub use nearest::{Nearest, nearest_holes};
 
 #[cfg(test)]
 mod tests;

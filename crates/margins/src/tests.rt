@@ -3,6 +3,7 @@
 use super::*;
 use grid_units::{Hole, Point};
 use pad_shapes::{Disc, Obround, Pad, Rect};
+use ring_rules::Drilled;
 use std::test::Fail;
 
 fn point(x: i64, y: i64) -> Result<Point, Fail> {
@@ -19,6 +20,15 @@ fn slot(from: (i64, i64), to: (i64, i64), radius: i64) -> Result<Hole, Fail> {
 /// A round hole.
 fn round(x: i64, y: i64, radius: i64) -> Result<Hole, Fail> {
     slot((x, y), (x, y), radius)
+}
+
+/// A plated hole.
+fn drilled(hole: Hole) -> Drilled {
+    Drilled {
+        hole,
+        plated: true,
+        span: None,
+    }
 }
 
 fn disc(x: i64, y: i64, radius: i64) -> Result<Pad, Fail> {
@@ -104,5 +114,128 @@ fn gaps(rt: HostRuntime) -> Result<(), Fail> {
     let along = slot((0, 0), (2_000_000_000, 0), 250_000_000)?;
     let beside = round(1_000_000_000, 750_000_000, 250_000_000)?;
     assert_eq!(rt; gap_between(&along, &beside), 250_000_000);
+    Ok(())
+}
+
+/// Of two pads in which a hole lies equally deep the first is the best.
+#[test]
+fn first_of_equal_pads(rt: HostRuntime) -> Result<(), Fail> {
+    let right = disc(100_000_000, 0, 300_000_000)?;
+    let left = disc(-100_000_000, 0, 300_000_000)?;
+    let hole = round(0, 0, 200_000_000)?;
+    let best = best_pad(&[right, left], &hole).ok_or("bare")?;
+    assert_eq!(rt; best.pad, 0);
+    assert_eq!(rt; best.depth, 200_000_000);
+    Ok(())
+}
+
+/// A deeper pad is better wherever it stands.
+#[test]
+fn deepest_pad(rt: HostRuntime) -> Result<(), Fail> {
+    let far = disc(5_000_000_000, 0, 500_000_000)?;
+    let left = disc(-100_000_000, 0, 300_000_000)?;
+    let wide = rect(0, 0, 325_000_000, 325_000_000)?;
+    let hole = drilled(round(0, 0, 200_000_000)?);
+    let outside = drilled(round(9_000_000_000, 0, 200_000_000)?);
+    let bests = best_pads(rt.alloc(), &[far, left, wide], &[hole, outside])?;
+    assert_eq!(rt; bests.len(), 2);
+    let best = bests[0].ok_or("bare")?;
+    assert_eq!(rt; best.pad, 2);
+    assert_eq!(rt; best.depth, 325_000_000);
+    assert_eq!(rt; bests[1].is_none(), true);
+    Ok(())
+}
+
+/// A hole is bare without a pad, outside of all, and where it is an oblique slot.
+#[test]
+fn bare_holes(rt: HostRuntime) -> Result<(), Fail> {
+    let wide = rect(0, 0, 325_000_000, 325_000_000)?;
+    let hole = round(0, 0, 200_000_000)?;
+    let none: [Pad; 0] = [];
+    assert_eq!(rt; best_pad(&none, &hole).is_none(), true);
+    let oblique = slot((0, 0), (1_000, 1_000), 100_000_000)?;
+    assert_eq!(rt; best_pad(&[wide], &oblique).is_none(), true);
+    Ok(())
+}
+
+/// Of pairs with the same gap the first is told, by the first of its holes and then by the second.
+#[test]
+fn nearest_pairs(rt: HostRuntime) -> Result<(), Fail> {
+    let first = drilled(round(0, 0, 200_000_000)?);
+    let second = drilled(round(300_000_000, 400_000_000, 200_000_000)?);
+    let third = drilled(round(1_000_000_000, 1_000_000_000, 200_000_000)?);
+    assert_eq!(rt; nearest_holes(&[first]).is_none(), true);
+    let near = nearest_holes(&[third, first, second]).ok_or("none")?;
+    assert_eq!(rt; near.first, 1);
+    assert_eq!(rt; near.second, 2);
+    assert_eq!(rt; near.gap, 100_000_000);
+    Ok(())
+}
+
+/// A hole that is drilled twice overlaps itself.
+#[test]
+fn hole_drilled_twice(rt: HostRuntime) -> Result<(), Fail> {
+    let first = drilled(round(0, 0, 200_000_000)?);
+    let third = drilled(round(1_000_000_000, 1_000_000_000, 200_000_000)?);
+    let twice = nearest_holes(&[third, first, first, first]).ok_or("none")?;
+    assert_eq!(rt; twice.first, 1);
+    assert_eq!(rt; twice.second, 2);
+    assert_eq!(rt; twice.gap, -400_000_000);
+    Ok(())
+}
+
+/// The least length that is met.
+fn most(met: Met) -> Result<i64, Fail> {
+    match met {
+        Met::Most(length) => Ok(length),
+        _ => Err("no length")?,
+    }
+}
+
+/// The least ring of a board with one layer counts, and the greatest rule with no finding is just that.
+#[test]
+fn board_with_two_holes(rt: HostRuntime) -> Result<(), Fail> {
+    let pads = [disc(0, 0, 1_000_000_000)?];
+    let first = drilled(round(0, 0, 200_000_000)?);
+    let second = drilled(round(300_000_000, 400_000_000, 200_000_000)?);
+    let holes = [first, second];
+    let layers = [pads.as_slice()];
+    assert_eq!(rt; most(ring_met(rt.alloc(), &layers, &holes)?)?, 300_000_000);
+    assert_eq!(rt; most(gap_met(&holes))?, 100_000_000);
+    Ok(())
+}
+
+/// A board with a hole wider than its pad meets no ring, and says by how much.
+#[test]
+fn board_with_a_wide_hole(rt: HostRuntime) -> Result<(), Fail> {
+    let pads = [disc(0, 0, 150_000_000)?];
+    let layers = [pads.as_slice()];
+    let holes = [drilled(round(0, 0, 200_000_000)?)];
+    assert_eq!(rt; most(ring_met(rt.alloc(), &layers, &holes)?)?, -50_000_000);
+    assert_eq!(rt; matches!(gap_met(&holes), Met::Any), true);
+    Ok(())
+}
+
+/// A bare hole meets no ring; where nothing is drilled, or nothing is plated, any ring is met.
+#[test]
+fn boards_without_rings(rt: HostRuntime) -> Result<(), Fail> {
+    let pads = [disc(5_000_000_000, 0, 500_000_000)?];
+    let layers = [pads.as_slice()];
+    let bare = drilled(round(0, 0, 200_000_000)?);
+    let met = ring_met(rt.alloc(), &layers, &[bare])?;
+    assert_eq!(rt; matches!(met, Met::None), true);
+    let unplated = Drilled {
+        hole: bare.hole,
+        plated: false,
+        span: None,
+    };
+    let met = ring_met(rt.alloc(), &layers, &[unplated])?;
+    assert_eq!(rt; matches!(met, Met::Any), true);
+    let none: [Drilled; 0] = [];
+    assert_eq!(rt;
+        matches!(ring_met(rt.alloc(), &layers, &none)?, Met::Any),
+        true
+    );
+    assert_eq!(rt; matches!(gap_met(&none), Met::Any), true);
     Ok(())
 }

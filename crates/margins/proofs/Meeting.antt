@@ -1,0 +1,167 @@
+-- What is met, pair by pair.
+use Rattle.std.proofs.Common.{◌≡◌, ℕ, ℤ, ◌+◌, ◌<◌, ◌≤◌, ◌≤ℤ◌, ◌⊎◌, inl, inr, Bool, true, false, Option, Some, None, List, [], length, get_or, refl, sym, subst, ap, ◌∙◌, arith}
+use Rattle.std.specs.Int.{int_min}
+use Rattle.std.proofs.lemmas.Int.{ints, clamps, by_lt_z}
+use Rattle.std.proofs.lemmas.Bool.{cases_lt}
+use Rattle.std.proofs.lemmas.List.{get_or_default}
+use Rattle.grid_units.specs.Points.{GridPoint}
+use Rattle.grid_units.specs.Holes.{GridHole}
+use Rattle.ring_rules.specs.Places.{nowhere}
+use Rattle.ring_rules.specs.Meeting.{hole_at}
+use Rattle.ring_rules.specs.declared.finding.Drilled.{Drilled}
+use Rattle.margins.specs.Meets.{LacksOne, HasLeast, IsLeast, AsksRing, AsksOn, AsksBefore, HasRing, IsRingOf, asks_ring, least_of, ring_by}
+use Rattle.margins.specs.Bests.{IsBestPad, AreBest}
+use Rattle.margins.specs.declared.best.Best.{Best}
+use Rattle.margins.specs.declared.met.Met.{Met}
+use Rattle.margins.specs.declared.met.Met.TheVariants as mets
+
+by_order : {P : Type 0} (a b : ℤ) → (a ≤ℤ b → P) → (b ≤ℤ a → P) → P
+by_order a b f g = by_lt_z a b (λ h. f (omega (arith, ints))) g
+
+-- one pair more
+abbrev pub Or : (ℕ → ℕ → Type 0) → ℕ → ℕ → ℕ → ℕ → Type 0
+Or asked a b i j = asked i j ⊎ ((i ≡ a) × (j ≡ b))
+
+module _ (asked : ℕ → ℕ → Type 0) (has : ℕ → ℕ → Option ℤ → Type 0) (a b : ℕ) where
+  -- what the new pair has
+  at_pair : (i j : ℕ) (r : Option ℤ) → i ≡ a → j ≡ b → has a b r → has i j r
+  at_pair i j r x y h = subst (λ (n : ℕ). has n j r) (sym x) (subst (λ (n : ℕ). has a n r) (sym y) h)
+
+  old_least : (m r : ℤ) → HasLeast asked has m → has a b (Some r) → m ≤ℤ r → HasLeast (Or asked a b) has m
+  old_least m r so h le = record {
+    i = so.i;
+    j = so.j;
+    there = inl so.there;
+    reached = so.reached;
+    least = λ k l choice. elim choice [
+      | inl before ↦ so.least k l before
+      | inr new ↦ (r, at_pair k l (Some r) new.0 new.1 h, le)
+    ];
+  }
+
+  new_least : (r : ℤ) → ((k l : ℕ) → asked k l → (other : ℤ) × has k l (Some other) × (r ≤ℤ other)) → has a b (Some r) → HasLeast (Or asked a b) has r
+  new_least r so h = record {
+    i = a;
+    j = b;
+    there = inr (refl, refl);
+    reached = h;
+    least = λ k l choice. elim choice [
+      | inl before ↦ so k l before
+      | inr new ↦ (r, at_pair k l (Some r) new.0 new.1 h, omega (arith, ints))
+    ];
+  }
+
+  lesser_least : (m r : ℤ) → HasLeast asked has m → has a b (Some r) → HasLeast (Or asked a b) has (int_min m r)
+  lesser_least m r so h = by_order m r
+      (λ le. subst (HasLeast (Or asked a b) has) (let e : m ≡ int_min m r = omega (arith, ints, clamps, le) in e) (old_least m r so h le))
+      (λ ge. subst (HasLeast (Or asked a b) has) (let e : r ≡ int_min m r = omega (arith, ints, clamps, ge) in e)
+      (new_least r (λ k l before. let w = so.least k l before in (w.0, w.1, (let q : m ≤ℤ w.0 = w.2 in omega (arith, ints, ge, q)))) h))
+
+  pub one_more : (met : Met) (r : Option ℤ) → IsLeast asked has met → has a b r → IsLeast (Or asked a b) has (least_of met r)
+  one_more met None so h = record { i = a; j = b; there = inr (refl, refl); nothing = h }
+  one_more mets.Any (Some r) so h = new_least r (λ k l before. absurd (so k l before)) h
+  one_more (mets.Most m) (Some r) so h = lesser_least m r so h
+  one_more mets.None (Some r) so h = record { i = so.i; j = so.j; there = inl so.there; nothing = so.nothing }
+
+-- the same pairs, said in another way
+pub same_asked : (p q : ℕ → ℕ → Type 0) (has : ℕ → ℕ → Option ℤ → Type 0) → ((i j : ℕ) → p i j → q i j) → ((i j : ℕ) → q i j → p i j) → (met : Met) → IsLeast p has met → IsLeast q has met
+same_asked p q has to from mets.Any so = λ i j h. so i j (from i j h)
+same_asked p q has to from (mets.Most m) so = record { i = so.i; j = so.j; there = to so.i so.j so.there; reached = so.reached; least = λ k l h. so.least k l (from k l h) }
+same_asked p q has to from mets.None so = record { i = so.i; j = so.j; there = to so.i so.j so.there; nothing = so.nothing }
+
+-- one hole more that asks a ring on a layer
+pub hole_asks : (asked : ℕ → ℕ → Type 0) (has : ℕ → ℕ → Option ℤ → Type 0) (at count : ℕ) (holes : List Drilled) (met : Met) (r : Option ℤ) → count < length holes → asks_ring at (get_or holes count nowhere) ≡ true
+    → has at count r → IsLeast (λ i j. asked i j ⊎ AsksOn at count holes i j) has met → IsLeast (λ i j. asked i j ⊎ AsksOn at (count + 1) holes i j) has (least_of met r)
+hole_asks asked has at count holes met r inside asks h so =
+    same_asked (Or (λ i j. asked i j ⊎ AsksOn at count holes i j) at count) (λ i j. asked i j ⊎ AsksOn at (count + 1) holes i j) has
+    (λ i j choice. elim choice [
+      | inl before ↦ elim before [
+        | inl earlier ↦ inl earlier
+        | inr here ↦ inr (record { here = here.here; below = (let l : j < count = here.below in omega (arith, l)); in_holes = here.in_holes; asks = here.asks })
+      ]
+      | inr new ↦ inr (record {
+        here = new.0;
+        below = (let y : j ≡ count = new.1 in omega (arith, y));
+        in_holes = (let y : j ≡ count = new.1 in omega (arith, y, inside));
+        asks = ap (λ (n : ℕ). asks_ring at (get_or holes n nowhere)) new.1 ∙ asks;
+      })
+    ])
+    (λ i j choice. elim choice [
+      | inl earlier ↦ inl (inl earlier)
+      | inr here ↦ elim (cases_lt j count) [
+        | inl less ↦ inl (inr (record { here = here.here; below = less; in_holes = here.in_holes; asks = here.asks }))
+        | inr more ↦ inr (here.here, (let l : j < count + 1 = here.below in omega (arith, l, more)))
+      ]
+    ])
+    (least_of met r) (one_more (λ i j. asked i j ⊎ AsksOn at count holes i j) has at count met r so h)
+
+-- one hole more that asks none
+pub hole_asks_none : (asked : ℕ → ℕ → Type 0) (has : ℕ → ℕ → Option ℤ → Type 0) (at count : ℕ) (holes : List Drilled) (met : Met) → asks_ring at (get_or holes count nowhere) ≡ false
+    → IsLeast (λ i j. asked i j ⊎ AsksOn at count holes i j) has met → IsLeast (λ i j. asked i j ⊎ AsksOn at (count + 1) holes i j) has met
+hole_asks_none asked has at count holes met none so =
+    same_asked (λ i j. asked i j ⊎ AsksOn at count holes i j) (λ i j. asked i j ⊎ AsksOn at (count + 1) holes i j) has
+    (λ i j choice. elim choice [
+      | inl earlier ↦ inl earlier
+      | inr here ↦ inr (record { here = here.here; below = (let l : j < count = here.below in omega (arith, l)); in_holes = here.in_holes; asks = here.asks })
+    ])
+    (λ i j choice. elim choice [
+      | inl earlier ↦ inl earlier
+      | inr here ↦ elim (cases_lt j count) [
+        | inl less ↦ inr (record { here = here.here; below = less; in_holes = here.in_holes; asks = here.asks })
+        | inr more ↦ absurd (
+            let is : j ≡ count = (let l : j < count + 1 = here.below in omega (arith, l, more)) in
+            let f : true ≡ false = sym here.asks ∙ (ap (λ (n : ℕ). asks_ring at (get_or holes n nowhere)) is ∙ none) in cc)
+      ]
+    ])
+    met so
+
+-- no hole was asked yet
+pub no_hole : (asked : ℕ → ℕ → Type 0) (has : ℕ → ℕ → Option ℤ → Type 0) (at : ℕ) (holes : List Drilled) (met : Met) → IsLeast asked has met → IsLeast (λ i j. asked i j ⊎ AsksOn at 0 holes i j) has met
+no_hole asked has at holes met so =
+    same_asked asked (λ i j. asked i j ⊎ AsksOn at 0 holes i j) has
+    (λ i j h. inl h)
+    (λ i j choice. elim choice [ inl earlier ↦ earlier | inr here ↦ absurd (let l : j < 0 = here.below in omega (arith, l)) ])
+    met so
+
+-- one layer more
+pub layer_asks : (has : ℕ → ℕ → Option ℤ → Type 0) (count : ℕ) (holes : List Drilled) (met : Met) → IsLeast (λ i j. AsksRing count holes i j ⊎ AsksOn count (length holes) holes i j) has met → IsLeast (AsksRing (count + 1) holes) has met
+layer_asks has count holes met so =
+    same_asked (λ i j. AsksRing count holes i j ⊎ AsksOn count (length holes) holes i j) (AsksRing (count + 1) holes) has
+    (λ i j choice. elim choice [
+      | inl earlier ↦ record { in_layers = (let l : i < count = earlier.in_layers in omega (arith, l)); in_holes = earlier.in_holes; asks = earlier.asks }
+      | inr here ↦ record {
+        in_layers = (let x : i ≡ count = here.here in omega (arith, x));
+        in_holes = here.in_holes;
+        asks = ap (λ (n : ℕ). asks_ring n (get_or holes j nowhere)) here.here ∙ here.asks;
+      }
+    ])
+    (λ i j h. elim (cases_lt i count) [
+      | inl less ↦ inl (record { in_layers = less; in_holes = h.in_holes; asks = h.asks })
+      | inr more ↦
+          let is : i ≡ count = (let l : i < count + 1 = h.in_layers in omega (arith, l, more)) in
+          inr (record { here = is; below = h.in_holes; in_holes = h.in_holes; asks = ap (λ (n : ℕ). asks_ring n (get_or holes j nowhere)) (sym is) ∙ h.asks })
+    ])
+    met so
+
+-- no layer was asked yet
+pub no_layer : (has : ℕ → ℕ → Option ℤ → Type 0) (holes : List Drilled) → IsLeast (AsksRing 0 holes) has mets.Any
+no_layer has holes i j h = let l : i < 0 = h.in_layers in absurd (omega (arith, l))
+
+-- the ring of a hole by its best pad
+pub ring_of_best : {S : Type 0} (covers : S → GridPoint → ℕ → Bool) (pads : List S) (hole : GridHole) (best : Option Best) → IsBestPad covers pads hole best → IsRingOf covers pads hole (ring_by best hole)
+ring_of_best covers pads hole None is = is
+ring_of_best covers pads hole (Some best) is = record { best = best; straight = is.0; deepest = is.1; less = refl }
+
+-- one hole more that asks a ring, by its best pad
+pub hole_by_best : {S : Type 0} (covers : S → GridPoint → ℕ → Bool) (layers : List (List S)) (pads : List S) (holes : List Drilled) (bests : List (Option Best)) (at count : ℕ) (d : Drilled) (best : Option Best) (met : Met)
+    → get_or layers at [] ≡ pads → AreBest covers pads holes bests → count < length holes → d ≡ get_or holes count d → best ≡ get_or bests count best → asks_ring at d ≡ true
+    → IsLeast (AsksBefore at count holes) (HasRing covers layers holes) met → IsLeast (AsksBefore at (count + 1) holes) (HasRing covers layers holes) (least_of met (ring_by best d.hole))
+hole_by_best {S} covers layers pads holes bests at count d best met at_layer are inside here is asks so =
+    let d_is : d ≡ get_or holes count nowhere = here ∙ get_or_default holes count d nowhere inside in
+    let best_is : best ≡ get_or bests count None = is ∙ get_or_default bests count best None (let s : length bests ≡ length holes = are.size in omega (arith, s, inside)) in
+    let ring : IsRingOf covers pads (hole_at holes count) (ring_by best (hole_at holes count)) =
+    ring_of_best covers pads (hole_at holes count) best (subst (IsBestPad covers pads (hole_at holes count)) (sym best_is) (are.each count inside)) in
+    let has : HasRing covers layers holes at count (ring_by best d.hole) =
+    subst (λ (ps : List S). IsRingOf covers ps (hole_at holes count) (ring_by best d.hole)) (sym at_layer)
+    (subst (λ (x : Drilled). IsRingOf covers pads (hole_at holes count) (ring_by best x.hole)) (sym d_is) ring) in
+    hole_asks (AsksRing at holes) (HasRing covers layers holes) at count holes met (ring_by best d.hole) inside (ap (asks_ring at) (sym d_is) ∙ asks) has so

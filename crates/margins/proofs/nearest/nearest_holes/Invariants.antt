@@ -1,0 +1,6 @@
+use Rattle.margins.specs.Nearness.{IsNearestOf, IsPairBefore}
+use Rattle.margins.proofs.nearest.nearest_holes.Given as goal
+
+-- the nearest of the pairs so far
+abbrev pub invariant-loop-second : goal.invariant-loop-second
+invariant-loop-second l = IsNearestOf l.holes (IsPairBefore l.second 0) l.best

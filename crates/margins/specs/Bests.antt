@@ -1,0 +1,63 @@
+-- The shape of a list in which a hole lies deepest. Lengths are whole picometres.
+use Rattle.std.specs.Prelude.{◌≡◌, ℕ, ◌+◌, ◌<◌, ◌≤◌, ◌⊎◌, Bool, true, false, Option, Some, None, List, length, get_or}
+use Rattle.grid_units.specs.Points.{GridPoint}
+use Rattle.grid_units.specs.Holes.{GridHole}
+use Rattle.pad_shapes.specs.Shapes.{max_half_side, covers_ends}
+use Rattle.ring_rules.specs.Findings.{is_oblique}
+use Rattle.ring_rules.specs.Meeting.{hole_at}
+use Rattle.ring_rules.specs.declared.finding.Drilled.{Drilled}
+use Rattle.margins.specs.declared.best.Best.{Best}
+
+-- the best of the first so many shapes: the first of those in which the hole lies deepest, and how deep, at most five metres (docs/DEFINITIONS.md, Best pads)
+pub record IsBest {S : Type 0} (covers : S → GridPoint → ℕ → Bool) (pads : List S) (count : ℕ) (h : GridHole) (best : Best) : Type 0 where
+  pub inside : best.pad < count
+  pub in_range : best.depth ≤ max_half_side
+  pub covered : (p : S) → covers_ends covers (get_or pads best.pad p) h.from h.to best.depth ≡ true
+  pub deepest : (p : S) (k reach : ℕ) → k < count → covers_ends covers (get_or pads k p) h.from h.to reach ≡ true → reach ≤ best.depth
+  pub first : (p : S) (k : ℕ) → k < best.pad → covers_ends covers (get_or pads k p) h.from h.to best.depth ≡ false
+
+-- none of the first so many shapes covers both ends of a hole, with whatever reach (docs/DEFINITIONS.md, Best pads)
+abbrev pub AreShallow : {S : Type 0} → (S → GridPoint → ℕ → Bool) → List S → ℕ → GridHole → Type 0
+AreShallow {S} covers pads count h = (p : S) (k reach : ℕ) → k < count → covers_ends covers (get_or pads k p) h.from h.to reach ≡ false
+
+-- the best of the first so many shapes, or none where all of them are shallow (docs/DEFINITIONS.md, Best pads)
+abbrev pub IsBestOf : {S : Type 0} → (S → GridPoint → ℕ → Bool) → List S → ℕ → GridHole → Option Best → Type 0
+IsBestOf covers pads count h None = AreShallow covers pads count h
+IsBestOf covers pads count h (Some best) = IsBest covers pads count h best
+
+-- a hole is bare: it is an oblique slot, or no shape of the list covers both its ends (docs/DEFINITIONS.md, Best pads)
+abbrev pub IsBare : {S : Type 0} → (S → GridPoint → ℕ → Bool) → List S → GridHole → Type 0
+IsBare covers pads h = (is_oblique h ≡ true) ⊎ AreShallow covers pads (length pads) h
+
+-- the best shape of a list for a hole, or none where the hole is bare (docs/DEFINITIONS.md, Best pads)
+abbrev pub IsBestPad : {S : Type 0} → (S → GridPoint → ℕ → Bool) → List S → GridHole → Option Best → Type 0
+IsBestPad covers pads h None = IsBare covers pads h
+IsBestPad covers pads h (Some best) = (is_oblique h ≡ false) × IsBest covers pads (length pads) h best
+
+-- the best shape of a list for each of some holes, in their order (docs/DEFINITIONS.md, Best pads)
+pub record AreBest {S : Type 0} (covers : S → GridPoint → ℕ → Bool) (pads : List S) (holes : List Drilled) (bests : List (Option Best)) : Type 0 where
+  pub size : length bests ≡ length holes
+  pub each : (k : ℕ) → k < length holes → IsBestPad covers pads (hole_at holes k) (get_or bests k None)
+
+-- how deep a hole must lie for a shape to be better than the best so far (docs/DEFINITIONS.md, Best pads)
+abbrev pub asked : Option Best → ℕ
+asked None = 0
+asked (Some best) = best.depth + 1
+
+-- the next shape, which covers with the reaches that a test tells, was not better than the best so far (docs/DEFINITIONS.md, Best pads)
+pub record IsKept (test : ℕ → Bool) (best result : Option Best) : Type 0 where
+  pub same : result ≡ best
+  pub below : (reach : ℕ) → test reach ≡ true → reach < asked best
+
+-- or it was, and is the best now (docs/DEFINITIONS.md, Best pads)
+pub record IsTaken (test : ℕ → Bool) (best : Option Best) (place : ℕ) (result : Option Best) : Type 0 where
+  pub depth : ℕ
+  pub is : result ≡ Some (record { pad = place; depth = depth })
+  pub in_range : depth ≤ max_half_side
+  pub deeper : asked best ≤ depth
+  pub covered : test depth ≡ true
+  pub deepest : (reach : ℕ) → test reach ≡ true → reach ≤ depth
+
+-- the better of the two (docs/DEFINITIONS.md, Best pads)
+abbrev pub IsBetter : (ℕ → Bool) → Option Best → ℕ → Option Best → Type 0
+IsBetter test best place result = IsKept test best result ⊎ IsTaken test best place result

@@ -1,0 +1,121 @@
+-- The greatest ring and the greatest gap that a board meets. Lengths are whole picometres.
+use Rattle.std.specs.Prelude.{◌≡◌, ◌↔◌, ℕ, ℤ, pos, ◌+◌, ◌<◌, ◌-ℤ◌, ◌≤ℤ◌, ◌⊎◌, Bool, true, false, ◌&&◌, Option, Some, None, List, [], length, get_or}
+use Rattle.std.specs.Int.{int_min}
+use Rattle.grid_units.specs.Points.{GridPoint}
+use Rattle.grid_units.specs.Holes.{GridHole}
+use Rattle.grid_units.specs.Spans.{is_in_span}
+use Rattle.ring_rules.specs.Places.{nowhere}
+use Rattle.ring_rules.specs.Findings.{is_oblique, ring_findings, gap_findings}
+use Rattle.ring_rules.specs.Meeting.{hole_at}
+use Rattle.ring_rules.specs.declared.finding.Drilled.{Drilled}
+use Rattle.margins.specs.Gaps.{IsGap}
+use Rattle.margins.specs.Bests.{IsBest, IsBare}
+use Rattle.margins.specs.Nearness.{IsPair}
+use Rattle.margins.specs.declared.best.Best.{Best}
+use Rattle.margins.specs.declared.met.Met.{Met}
+use Rattle.margins.specs.declared.met.Met.TheVariants as mets
+
+-- a rule is allowed by what is met: any, those up to a length, or none (docs/DEFINITIONS.md, What a board meets)
+abbrev pub allows : Met → ℕ → Type 0
+allows mets.Any rule = Unit {0}
+allows (mets.Most length) rule = pos rule ≤ℤ length
+allows mets.None rule = ⊥
+
+-- some asked pair has nothing (docs/DEFINITIONS.md, What a board meets)
+pub record LacksOne (asked : ℕ → ℕ → Type 0) (has : ℕ → ℕ → Option ℤ → Type 0) : Type 0 where
+  pub i : ℕ
+  pub j : ℕ
+  pub there : asked i j
+  pub nothing : has i j None
+
+-- an asked pair has this length, and each has one that is no less (docs/DEFINITIONS.md, What a board meets)
+pub record HasLeast (asked : ℕ → ℕ → Type 0) (has : ℕ → ℕ → Option ℤ → Type 0) (length : ℤ) : Type 0 where
+  pub i : ℕ
+  pub j : ℕ
+  pub there : asked i j
+  pub reached : has i j (Some length)
+  pub least : (k l : ℕ) → asked k l → (other : ℤ) × has k l (Some other) × (length ≤ℤ other)
+
+-- what is met where some pairs are asked: any rule if none is asked, none if one has nothing, else up to the least length that one has (docs/DEFINITIONS.md, What a board meets)
+abbrev pub IsLeast : (ℕ → ℕ → Type 0) → (ℕ → ℕ → Option ℤ → Type 0) → Met → Type 0
+IsLeast asked has mets.Any = (i j : ℕ) → asked i j → ⊥
+IsLeast asked has (mets.Most length) = HasLeast asked has length
+IsLeast asked has mets.None = LacksOne asked has
+
+-- a hole asks a ring on a layer: it is plated and goes through it (docs/DEFINITIONS.md, What a board meets)
+abbrev pub asks_ring : ℕ → Drilled → Bool
+asks_ring layer d = d.plated && is_in_span layer d.span
+
+-- a layer of the first so many, and a hole that asks a ring there (docs/DEFINITIONS.md, What a board meets)
+pub record AsksRing (count : ℕ) (holes : List Drilled) (layer hole : ℕ) : Type 0 where
+  pub in_layers : layer < count
+  pub in_holes : hole < length holes
+  pub asks : asks_ring layer (get_or holes hole nowhere) ≡ true
+
+-- a hole has a ring among the pads of a layer: how deep it lies in the best of them, less its radius (docs/DEFINITIONS.md, What a board meets)
+pub record IsRing {S : Type 0} (covers : S → GridPoint → ℕ → Bool) (pads : List S) (hole : GridHole) (ring : ℤ) : Type 0 where
+  pub best : Best
+  pub straight : is_oblique hole ≡ false
+  pub deepest : IsBest covers pads (length pads) hole best
+  pub less : ring ≡ pos best.depth -ℤ pos hole.radius
+
+-- the ring of a hole among the pads of a layer, or none where the hole is bare (docs/DEFINITIONS.md, What a board meets)
+abbrev pub IsRingOf : {S : Type 0} → (S → GridPoint → ℕ → Bool) → List S → GridHole → Option ℤ → Type 0
+IsRingOf covers pads hole None = IsBare covers pads hole
+IsRingOf covers pads hole (Some ring) = IsRing covers pads hole ring
+
+-- the ring of the hole at a place, on the layer at a place (docs/DEFINITIONS.md, What a board meets)
+abbrev pub HasRing : {S : Type 0} → (S → GridPoint → ℕ → Bool) → List (List S) → List Drilled → ℕ → ℕ → Option ℤ → Type 0
+HasRing covers layers holes layer hole ring = IsRingOf covers (get_or layers layer []) (hole_at holes hole) ring
+
+-- the gap of the holes at two places, which always have one (docs/DEFINITIONS.md, What a board meets)
+abbrev pub HasGap : List Drilled → ℕ → ℕ → Option ℤ → Type 0
+HasGap holes i j None = ⊥
+HasGap holes i j (Some gap) = IsGap (hole_at holes i) (hole_at holes j) gap
+
+-- what a board meets of rings (docs/DEFINITIONS.md, What a board meets)
+abbrev pub MeetsRings : {S : Type 0} → (S → GridPoint → ℕ → Bool) → List (List S) → List Drilled → Met → Type 0
+MeetsRings covers layers holes met = IsLeast (AsksRing (length layers) holes) (HasRing covers layers holes) met
+
+-- what a board meets of gaps (docs/DEFINITIONS.md, What a board meets)
+abbrev pub MeetsGaps : List Drilled → Met → Type 0
+MeetsGaps holes met = IsLeast (IsPair holes) (HasGap holes) met
+
+-- nothing is found of rings under just the rings that are allowed (docs/DEFINITIONS.md, What a board meets)
+abbrev pub RingsPass : {S : Type 0} → (S → GridPoint → ℕ → Bool) → List (List S) → List Drilled → Met → Type 0
+RingsPass covers layers holes met = (ring : ℕ) → (ring_findings covers ring layers holes ≡ []) ↔ allows met ring
+
+-- nothing is found of gaps under just the gaps that are allowed (docs/DEFINITIONS.md, What a board meets)
+abbrev pub GapsPass : List Drilled → Met → Type 0
+GapsPass holes met = (gap : ℕ) → (gap_findings gap holes ≡ []) ↔ allows met gap
+
+-- what a board meets says of all rings whether it passes (docs/DEFINITIONS.md, What a board meets)
+abbrev pub RingsPassExactly : {S : Type 0} → (S → GridPoint → ℕ → Bool) → Type 0
+RingsPassExactly {S} covers = (layers : List (List S)) (holes : List Drilled) (met : Met) → MeetsRings covers layers holes met → RingsPass covers layers holes met
+
+-- and of all gaps (docs/DEFINITIONS.md, What a board meets)
+abbrev pub GapsPassExactly : Type 0
+GapsPassExactly = (holes : List Drilled) (met : Met) → MeetsGaps holes met → GapsPass holes met
+
+-- one more length, or nothing, beside what is met so far (docs/DEFINITIONS.md, What a board meets)
+abbrev pub least_of : Met → Option ℤ → Met
+least_of met None = mets.None
+least_of mets.Any (Some length) = mets.Most length
+least_of (mets.Most held) (Some length) = mets.Most (int_min held length)
+least_of mets.None (Some length) = mets.None
+
+-- the ring of a hole by its best pad (docs/DEFINITIONS.md, What a board meets)
+abbrev pub ring_by : Option Best → GridHole → Option ℤ
+ring_by None hole = None
+ring_by (Some best) hole = Some (pos best.depth -ℤ pos hole.radius)
+
+-- the first so many holes that ask a ring on one layer (docs/DEFINITIONS.md, What a board meets)
+pub record AsksOn (at count : ℕ) (holes : List Drilled) (layer hole : ℕ) : Type 0 where
+  pub here : layer ≡ at
+  pub below : hole < count
+  pub in_holes : hole < length holes
+  pub asks : asks_ring at (get_or holes hole nowhere) ≡ true
+
+-- the holes that ask a ring on the layers before one, and the first so many on that one (docs/DEFINITIONS.md, What a board meets)
+abbrev pub AsksBefore : ℕ → ℕ → List Drilled → ℕ → ℕ → Type 0
+AsksBefore layers count holes i j = AsksRing layers holes i j ⊎ AsksOn layers count holes i j

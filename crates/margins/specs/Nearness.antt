@@ -1,0 +1,48 @@
+-- The two holes of a list that are nearest to each other. Lengths are whole picometres.
+use Rattle.std.specs.Prelude.{◌≡◌, ℕ, ℤ, ◌<◌, ◌≤◌, ◌≤ℤ◌, ◌⊎◌, Option, Some, None, List, length}
+use Rattle.ring_rules.specs.Meeting.{hole_at}
+use Rattle.ring_rules.specs.declared.finding.Drilled.{Drilled}
+use Rattle.margins.specs.Gaps.{IsGap}
+use Rattle.margins.specs.declared.nearest.Nearest.{Nearest}
+
+-- two places of a list in their order (docs/DEFINITIONS.md, Nearest holes)
+pub record IsPair (holes : List Drilled) (i j : ℕ) : Type 0 where
+  pub ordered : i < j
+  pub inside : j < length holes
+
+-- a pair is no further than another one with a gap: by the gap, then by the first place, then by the second (docs/DEFINITIONS.md, Nearest holes)
+pub record IsNoFurther (pair : Nearest) (i j : ℕ) (gap : ℤ) : Type 0 where
+  pub by_gap : pair.gap ≤ℤ gap
+  pub by_first : pair.gap ≡ gap → pair.first ≤ i
+  pub by_second : pair.gap ≡ gap → pair.first ≡ i → pair.second ≤ j
+
+-- a pair of some, with its gap, that is no further than each of them (docs/DEFINITIONS.md, Nearest holes)
+pub record IsNearest (holes : List Drilled) (among : ℕ → ℕ → Type 0) (pair : Nearest) : Type 0 where
+  pub there : among pair.first pair.second
+  pub gap : IsGap (hole_at holes pair.first) (hole_at holes pair.second) pair.gap
+  pub least : (i j : ℕ) (gap : ℤ) → among i j → IsGap (hole_at holes i) (hole_at holes j) gap → IsNoFurther pair i j gap
+
+-- the nearest of some pairs, or none where there are none (docs/DEFINITIONS.md, Nearest holes)
+abbrev pub IsNearestOf : List Drilled → (ℕ → ℕ → Type 0) → Option Nearest → Type 0
+IsNearestOf holes among None = (i j : ℕ) → among i j → ⊥
+IsNearestOf holes among (Some pair) = IsNearest holes among pair
+
+-- the pairs whose second place is before one, and those of that one with the first places (docs/DEFINITIONS.md, Nearest holes)
+abbrev pub IsPairBefore : ℕ → ℕ → ℕ → ℕ → Type 0
+IsPairBefore second first i j = (i < j) × ((j < second) ⊎ ((j ≡ second) × (i < first)))
+
+-- the nearest pair so far stays (docs/DEFINITIONS.md, Nearest holes)
+pub record IsStill (best : Option Nearest) (next : Nearest) (result : Option Nearest) : Type 0 where
+  pub held : Nearest
+  pub was : best ≡ Some held
+  pub same : result ≡ Some held
+  pub nearer : IsNoFurther held next.first next.second next.gap
+
+-- the next pair is the nearest now (docs/DEFINITIONS.md, Nearest holes)
+pub record IsNew (best : Option Nearest) (next : Nearest) (result : Option Nearest) : Type 0 where
+  pub is : result ≡ Some next
+  pub nearer : (held : Nearest) → best ≡ Some held → IsNoFurther next held.first held.second held.gap
+
+-- the nearer of the two (docs/DEFINITIONS.md, Nearest holes)
+abbrev pub IsNearer : Option Nearest → Nearest → Option Nearest → Type 0
+IsNearer best next result = IsStill best next result ⊎ IsNew best next result
