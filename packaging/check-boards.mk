@@ -12,6 +12,6 @@ boards := $(wildcard */board.csv)
 all: $(boards:.csv=.passed)
 
 .SECONDEXPANSION:
-%/board.passed: $$(filter-out %/board.passed %/board.report,$$(wildcard %/* %/*/*))
+%/board.passed: $$(filter-out $$*/board.passed $$*/board.report,$$(wildcard $$*/* $$*/*/*))
 	@cd "$(@D)" && $(RINGCHECK) check --ring $(RING) --gap $(GAP) board.csv > board.report; status=$$?; \
 	if [ $$status -eq 0 ]; then mv board.report board.passed; else rm -f board.passed; echo "$$status $(@D)/board.csv"; exit $$status; fi
