@@ -9,6 +9,7 @@ ghost use Rattle.rewriting.specs.Rewriting.{Rewrites, RewritesDrill, RewritesLay
 use crate::Kind;
 use crate::layer_writer::LayerWriter;
 use drill_text::RewriteReader;
+use drill_text::laws::faults_stay;
 use grid_units::Fail;
 use layer_image::{SumReader, shown_faults};
 use std::alloc::Global;
@@ -54,6 +55,7 @@ fn rewrite_layer(alloc: Global, bytes: &[u8]) -> Result<Vec<u8>, Fail>
 fn rewrite_drill(alloc: Global, bytes: &[u8]) -> Result<Vec<u8>, Fail>
     ensures { Answers (λ text. text.items) (RewritesDrill bytes.now) result }
 {
+    faults_stay();
     let mut reader = RewriteReader::new(alloc);
     reader.feed(bytes)?;
     reader.finish()
