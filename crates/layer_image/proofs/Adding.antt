@@ -12,7 +12,7 @@ use Rattle.layer_image.specs.Moved.{flash_moved, pad_laid}
 use Rattle.layer_image.specs.Keeping.{Adds}
 
 pub adds_none : (kept : Flashes) → Adds kept [] kept
-adds_none kept = record { same = refl; pads = sym (append-nil kept.pads.items); others = omega arith; all = λ _. sym (append-nil kept.all.items) }
+adds_none kept = record { same = refl; count = omega arith; others = omega arith; pads = λ _. sym (append-nil kept.pads.items); all = λ _. sym (append-nil kept.all.items) }
 
 -- the flashes of a pad are pads, and none other
 pub pads_laid : (pad : Pad) (ps : List GridPoint) → pads_of (map (flash_moved (what.Pad pad)) ps) ≡ map (pad_laid pad) ps

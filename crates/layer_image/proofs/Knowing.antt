@@ -1,13 +1,11 @@
 -- A judge that has taken in one more command knows it.
-use Rattle.std.proofs.Common.{◌≡◌, ℕ, ◌+◌, suc, Bool, cond, List, [], ◌∷◌, ◌++◌, length, pos, false, refl, sym, ap, subst, ◌∙◌, arith}
+use Rattle.std.proofs.Common.{◌≡◌, ◌+◌, cond, List, [], ◌∷◌, ◌++◌, length, length-append, pos, false, sym, ap, subst, ◌∙◌}
 use Rattle.std.proofs.lemmas.List.Elements.{filter_map-append}
 use Rattle.std.proofs.lemmas.List.Sums.{sum_by-append}
-use Rattle.std.specs.List.{cons_option}
 use Rattle.layer_image.specs.declared.flash.Flash.{Flash}
-use Rattle.layer_image.specs.declared.flash.What.{What}
-use Rattle.layer_image.specs.declared.flash.What.TheVariants as what
 use Rattle.layer_image.specs.declared.flashes.Flashes.{Flashes}
-use Rattle.layer_image.specs.Keeping.{flash_count, KeepsFlashes, Adds}
+use Rattle.layer_image.specs.declared.flashes.Keep.{Keep}
+use Rattle.layer_image.specs.Keeping.{flash_count, keeps_flashes, keeps_pads, KeepsFlashes, Adds}
 use Rattle.gerber_rows.specs.declared.command.Command.{Command}
 use Rattle.layer_image.specs.declared.judge.Judge.{Judge}
 use Rattle.layer_image.specs.Lookback.{standing, single, one, unit_named, format_named, region_named, definition_named, defines_macro, number_named, x_named, y_named, turn_named, scale_named, block_named}
@@ -32,44 +30,25 @@ standing-more before c = λ i. record {
   block = last_or-more block_named single before c i;
 }
 
-pad_more : (p o n : ℕ) → p + o ≡ n → suc p + (0 + o) ≡ suc n
-pad_more p o n h = omega arith
-
-other_more : (p o n : ℕ) → p + o ≡ n → p + (1 + o) ≡ suc n
-other_more p o n h = omega arith
-
--- each flash is a pad, or none
-pub count_parts : (fs : List Flash) → length (pads_of fs) + others_in fs ≡ length fs
-count_parts [] = refl
-count_parts (f ∷ fs) =
-    ap (λ n. length (pads_of (f ∷ fs)) + n) (sum_by-append (λ (g : Flash). cond (is_other g.what) 1 0) (f ∷ []) fs) ∙ by f.what (count_parts fs)
-  where
-    by : (w : What) → length (pads_of fs) + others_in fs ≡ length fs → length (cons_option (pad_in w) (pads_of fs)) + ((0 + cond (is_other w) 1 0) + others_in fs) ≡ suc (length fs)
-    by (what.Pad pad) h = pad_more (length (pads_of fs)) (others_in fs) (length fs) h
-    by (what.Other why) h = other_more (length (pads_of fs)) (others_in fs) (length fs) h
-
--- as many flashes were made as there are
-pub same_count : (kept : Flashes) (whole : Bool) (fs : List Flash) → KeepsFlashes kept whole fs → flash_count kept ≡ length fs
-same_count kept whole fs keeps = (λ i. length (keeps.pads i) + keeps.others i) ∙ count_parts fs
-
 -- the rule that a command breaks after these is the one that the judge finds
-pub same_rule : (judge : Judge) (whole : Bool) (before : List Command) (c : Command) → Knows judge whole before → first_broken (told judge) (flash_count judge.flashes) c ≡ broken_rule before c
-same_rule judge whole before c knows = λ i. first_broken (knows.standing i) (same_count judge.flashes whole (flashes_of before) knows.flashes i) c
+pub same_rule : (judge : Judge) (keep : Keep) (before : List Command) (c : Command) → Knows judge keep before → first_broken (told judge) (flash_count judge.flashes) c ≡ broken_rule before c
+same_rule judge keep before c knows = λ i. first_broken (knows.standing i) (knows.flashes.count i) c
 
 -- what is kept of some flashes, and of those that are added
-pub keeps_more : (old new : Flashes) (whole : Bool) (first more : List Flash) → KeepsFlashes old whole first → Adds old more new → KeepsFlashes new whole (first ++ more)
-keeps_more old new whole first more keeps adds = record {
+pub keeps_more : (old new : Flashes) (keep : Keep) (first more : List Flash) → KeepsFlashes old keep first → Adds old more new → KeepsFlashes new keep (first ++ more)
+keeps_more old new keep first more keeps adds = record {
   same = adds.same ∙ keeps.same;
-  pads = adds.pads ∙ (λ i. keeps.pads i ++ pads_of more) ∙ sym (filter_map-append (λ (f : Flash). pad_in f.what) first more);
+  count = adds.count ∙ (λ i. keeps.count i + length more) ∙ sym (length-append first more);
+  pads = λ h. adds.pads (ap keeps_pads keeps.same ∙ h) ∙ (λ i. keeps.pads h i ++ pads_of more) ∙ sym (filter_map-append (λ (f : Flash). pad_in f.what) first more);
   others = adds.others ∙ (λ i. keeps.others i + others_in more) ∙ sym (sum_by-append (λ (f : Flash). cond (is_other f.what) 1 0) first more);
-  all = λ h. adds.all (keeps.same ∙ h) ∙ ap (λ (l : List Flash). l ++ more) (keeps.all h);
+  all = λ h. adds.all (ap keeps_flashes keeps.same ∙ h) ∙ ap (λ (l : List Flash). l ++ more) (keeps.all h);
 }
 
-pub knows_more : (old new : Judge) (whole : Bool) (before : List Command) (c : Command) → Knows old whole before → Takes old c new → Knows new whole (before ++ c ∷ [])
-knows_more old new whole before c knows takes =
+pub knows_more : (old new : Judge) (keep : Keep) (before : List Command) (c : Command) → Knows old keep before → Takes old c new → Knows new keep (before ++ c ∷ [])
+knows_more old new keep before c knows takes =
     let fs : flashes_of before ++ flashes_at (told old) c ≡ flashes_of (before ++ c ∷ []) =
     (λ i. flashes_of before ++ flashes_at (knows.standing i) c) ∙ sym (flat_positions-more (λ first d. flashes_at (standing first) d) before c) in
     record {
       standing = takes.standing ∙ ap (after c) knows.standing ∙ sym (standing-more before c);
-      flashes = subst (KeepsFlashes new.flashes whole) fs (keeps_more old.flashes new.flashes whole (flashes_of before) (flashes_at (told old) c) knows.flashes takes.flashes);
+      flashes = subst (KeepsFlashes new.flashes keep) fs (keeps_more old.flashes new.flashes keep (flashes_of before) (flashes_at (told old) c) knows.flashes takes.flashes);
     }

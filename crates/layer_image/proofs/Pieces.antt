@@ -13,10 +13,12 @@ use Rattle.gerber_text.specs.Standing.{StandsBehind, FailedBehind, FailsWith}
 use Rattle.gerber_text.proofs.Shown.{shown_spelled}
 use Rattle.gerber_text.proofs.Whole.{shows_reads}
 use Rattle.gerber_text.proofs.Longer.{fails_longer}
+use Rattle.layer_image.specs.declared.flash.Flash.{Flash}
+use Rattle.layer_image.specs.declared.flashes.Keep.{Keep}
 use Rattle.layer_image.specs.Faults.{without_places, IsFirstFault}
 use Rattle.layer_image.specs.Layers.{LayerImage, ReadsLayer}
 use Rattle.layer_image.specs.Rules.{IsLegal}
-use Rattle.layer_image.specs.Standing.{ShowsLayerFault, CoreEnds, SumImage, ReadsSum}
+use Rattle.layer_image.specs.Standing.{ShowsLayerFault, CoreEnds, ReadsFlashes, SumImage, ReadsSum}
 
 short_ok : (t : Bool) (x cs : Entries) (e : Fault) → cond t (Err e) (Ok x) ≡ Ok cs → x ≡ cs
 short_ok true x cs e h = absurd cc
@@ -73,15 +75,19 @@ pub layer_shows_reads : (text : List ℕ) (e : Fail) → Tells (ShowsLayerFault 
 layer_shows_reads text fails.Memory h = tt
 layer_shows_reads text (fails.Refused f) h = shown_read text f h
 
-pub end_err : (text : List ℕ) (gone : Entries) (whole : Bool) (e : Fail) → AnswersAlways (entries_behind gone) (λ answer. Reads text answer) (Err e) → KeptBefore text e gone → IsLegal (without_places gone) → CoreEnds text whole (Err e)
-end_err text gone whole fails.Memory h kept legal = h
-end_err text gone whole (fails.Refused f) h kept legal = inr (gone, h, kept, legal)
+pub end_err : (text : List ℕ) (gone : Entries) (keep : Keep) (e : Fail) → AnswersAlways (entries_behind gone) (λ answer. Reads text answer) (Err e) → KeptBefore text e gone → IsLegal (without_places gone) → CoreEnds text keep (Err e)
+end_err text gone keep fails.Memory h kept legal = h
+end_err text gone keep (fails.Refused f) h kept legal = inr (gone, h, kept, legal)
 
 -- the end that was refused is a layer's fault
-pub ends_answers : (text : List ℕ) (whole : Bool) (e : Fail) → CoreEnds text whole (Err e) → Answers {T = LayerImage} (λ layer. layer) (λ answer. ReadsLayer text answer) (Err e)
-ends_answers text whole fails.Memory h = tt
-ends_answers text whole (fails.Refused f) h = h
+pub ends_answers : (text : List ℕ) (keep : Keep) (e : Fail) → CoreEnds text keep (Err e) → Answers {T = LayerImage} (λ layer. layer) (λ answer. ReadsLayer text answer) (Err e)
+ends_answers text keep fails.Memory h = tt
+ends_answers text keep (fails.Refused f) h = h
 
-pub ends_sum : (text : List ℕ) (T : Type 0) (view : T → SumImage) (whole : Bool) (e : Fail) → CoreEnds text whole (Err e) → Answers view (ReadsSum text) (Err e)
-ends_sum text T view whole fails.Memory h = tt
-ends_sum text T view whole (fails.Refused f) h = h
+pub ends_sum : (text : List ℕ) (T : Type 0) (view : T → SumImage) (keep : Keep) (e : Fail) → CoreEnds text keep (Err e) → Answers view (ReadsSum text) (Err e)
+ends_sum text T view keep fails.Memory h = tt
+ends_sum text T view keep (fails.Refused f) h = h
+
+pub ends_flashes : (text : List ℕ) (T : Type 0) (view : T → List Flash) (keep : Keep) (e : Fail) → CoreEnds text keep (Err e) → Answers view (ReadsFlashes text) (Err e)
+ends_flashes text T view keep fails.Memory h = tt
+ends_flashes text T view keep (fails.Refused f) h = h

@@ -1,24 +1,46 @@
 -- What is kept of the flashes so far.
-use Rattle.std.specs.Prelude.{◌≡◌, ℕ, ◌+◌, Bool, true, List, ◌++◌, length}
+use Rattle.std.specs.Prelude.{◌≡◌, ℕ, ◌+◌, Bool, true, false, List, ◌++◌, length}
 use Rattle.layer_image.specs.declared.flash.Flash.{Flash}
 use Rattle.layer_image.specs.declared.flashes.Flashes.{Flashes}
+use Rattle.layer_image.specs.declared.flashes.Keep.{Keep}
+use Rattle.layer_image.specs.declared.flashes.Keep.TheVariants as keep
 use Rattle.layer_image.specs.Flashes.{pads_of, others_in}
+
+-- commands are kept (docs/DEFINITIONS.md, Legal lists)
+abbrev pub keeps_commands : Keep → Bool
+keeps_commands keep.All = true
+keeps_commands keep.Flashes = false
+keeps_commands keep.Pads = false
+
+-- each flash is kept (docs/DEFINITIONS.md, Legal lists)
+abbrev pub keeps_flashes : Keep → Bool
+keeps_flashes keep.All = true
+keeps_flashes keep.Flashes = true
+keeps_flashes keep.Pads = false
+
+-- the pads are kept in a list of their own (docs/DEFINITIONS.md, Legal lists)
+abbrev pub keeps_pads : Keep → Bool
+keeps_pads keep.All = true
+keeps_pads keep.Flashes = false
+keeps_pads keep.Pads = true
 
 -- how many flashes there were (docs/DEFINITIONS.md, Legal lists)
 abbrev pub flash_count : Flashes → ℕ
-flash_count kept = length kept.pads.items + kept.others
+flash_count kept = kept.count
 
--- just these flashes were made: their pads are kept, how many are none, and each of them where all is to be kept
--- (docs/DEFINITIONS.md, Legal lists)
-pub record KeepsFlashes (kept : Flashes) (whole : Bool) (flashes : List Flash) : Type 0 where
-  pub same : kept.whole ≡ whole
-  pub pads : kept.pads.items ≡ pads_of flashes
+-- just these flashes were made: it is known how many they are and how many are no pads; and each, and its pads, are
+-- kept where they are to be (docs/DEFINITIONS.md, Legal lists)
+pub record KeepsFlashes (kept : Flashes) (keep : Keep) (flashes : List Flash) : Type 0 where
+  pub same : kept.keep ≡ keep
+  pub count : kept.count ≡ length flashes
   pub others : kept.others ≡ others_in flashes
-  pub all : whole ≡ true → kept.all.items ≡ flashes
+  pub pads : keeps_pads keep ≡ true → kept.pads.items ≡ pads_of flashes
+  pub all : keeps_flashes keep ≡ true → kept.all.items ≡ flashes
 
 -- what is kept after these flashes too (docs/DEFINITIONS.md, Legal lists)
 pub record Adds (old : Flashes) (flashes : List Flash) (new : Flashes) : Type 0 where
-  pub same : new.whole ≡ old.whole
-  pub pads : new.pads.items ≡ old.pads.items ++ pads_of flashes
+  pub same : new.keep ≡ old.keep
+  pub count : new.count ≡ old.count + length flashes
   pub others : new.others ≡ old.others + others_in flashes
-  pub all : old.whole ≡ true → new.all.items ≡ old.all.items ++ flashes
+  pub pads : keeps_pads old.keep ≡ true → new.pads.items ≡ old.pads.items ++ pads_of flashes
+  pub all : keeps_flashes old.keep ≡ true → new.all.items ≡ old.all.items ++ flashes

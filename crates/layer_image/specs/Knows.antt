@@ -1,7 +1,8 @@
 -- What a judge says of the commands that it has met.
-use Rattle.std.specs.Prelude.{◌≡◌, ◌||◌, Bool, List, [], ◌∷◌, ◌++◌, Some, None, unwrap_or, Result, Ok, Err}
+use Rattle.std.specs.Prelude.{◌≡◌, ◌||◌, List, [], ◌∷◌, ◌++◌, Some, None, unwrap_or, Result, Ok, Err}
 use Rattle.std.specs.Option.{option_or}
 use Rattle.gerber_rows.specs.declared.command.Command.{Command}
+use Rattle.layer_image.specs.declared.flashes.Keep.{Keep}
 use Rattle.layer_image.specs.declared.judge.Judge.{Judge}
 use Rattle.layer_image.specs.declared.judge.Stop.{Stop}
 use Rattle.layer_image.specs.declared.judge.Stop.TheVariants.{Memory, Refused}
@@ -28,9 +29,9 @@ told judge = record {
 }
 
 -- the judge has met just these commands (docs/DEFINITIONS.md, Legal lists)
-pub record Knows (judge : Judge) (whole : Bool) (before : List Command) : Type 0 where
+pub record Knows (judge : Judge) (keep : Keep) (before : List Command) : Type 0 where
   pub standing : told judge ≡ standing before
-  pub flashes : KeepsFlashes judge.flashes whole (flashes_of before)
+  pub flashes : KeepsFlashes judge.flashes keep (flashes_of before)
 
 -- what stands after one more command (docs/DEFINITIONS.md, Legal lists)
 abbrev pub after : Command → Standing → Standing
@@ -55,7 +56,7 @@ pub record Takes (old : Judge) (c : Command) (new : Judge) : Type 0 where
 
 -- The command breaks no rule and was taken in, or this is the first rule that it breaks, or memory ran out
 -- (docs/DEFINITIONS.md, Legal lists).
-abbrev pub Judges : Bool → List Command → Command → Judge → Result (Unit {0}) Stop → Type 0
-Judges whole before c new (Ok _) = (broken_rule before c ≡ None) × Knows new whole (before ++ c ∷ [])
-Judges whole before c new (Err (Refused reason)) = broken_rule before c ≡ Some reason
-Judges whole before c new (Err Memory) = Unit {0}
+abbrev pub Judges : Keep → List Command → Command → Judge → Result (Unit {0}) Stop → Type 0
+Judges keep before c new (Ok _) = (broken_rule before c ≡ None) × Knows new keep (before ++ c ∷ [])
+Judges keep before c new (Err (Refused reason)) = broken_rule before c ≡ Some reason
+Judges keep before c new (Err Memory) = Unit {0}

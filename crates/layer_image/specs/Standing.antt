@@ -1,5 +1,5 @@
 -- What a reader of a layer in pieces holds of the bytes so far.
-use Rattle.std.specs.Prelude.{◌≡◌, ◌⊎◌, ℕ, Bool, true, List, [], ◌∷◌, ◌++◌, Option, None, Some, Result, Ok, Err}
+use Rattle.std.specs.Prelude.{◌≡◌, ◌⊎◌, ℕ, true, List, [], ◌∷◌, ◌++◌, Option, None, Some, Result, Ok, Err}
 use Rattle.grid_units.specs.Lists.{breaks}
 use Rattle.grid_units.specs.declared.fault.Fault.{Fault}
 use Rattle.grid_units.specs.declared.fault.Fail.{Fail}
@@ -9,10 +9,13 @@ use Rattle.gerber_text.specs.declared.placed.Placed.{Placed}
 use Rattle.gerber_text.specs.Reading.{Entries, Reads, Shows, KeptOf, KeptBefore}
 use Rattle.std.specs.Global.{Vec}
 use Rattle.gerber_text.specs.Standing.{StandsBehind, held}
+use Rattle.layer_image.specs.declared.flash.Flash.{Flash}
+use Rattle.layer_image.specs.declared.flashes.Keep.{Keep}
 use Rattle.layer_image.specs.declared.judge.Stop.{Stop}
 use Rattle.layer_image.specs.declared.judge.Stop.TheVariants.{Memory, Refused}
 use Rattle.layer_image.specs.declared.scan.Scan.{Scan}
 use Rattle.layer_image.specs.declared.reader.Core.{Core}
+use Rattle.layer_image.specs.declared.reader.FlashReader.{FlashReader}
 use Rattle.layer_image.specs.declared.reader.LayerReader.{LayerReader}
 use Rattle.layer_image.specs.declared.reader.SumReader.{SumReader}
 use Rattle.layer_image.specs.declared.reader.LayerSum.{LayerSum}
@@ -20,6 +23,7 @@ use Rattle.pad_shapes.specs.declared.pad.Pad.{Pad}
 use Rattle.layer_image.specs.Faults.{without_places, fault_of, IsFirstFault}
 use Rattle.layer_image.specs.Flashes.{others_in}
 use Rattle.layer_image.specs.Functions.{file_function_of}
+use Rattle.layer_image.specs.Keeping.{keeps_commands}
 use Rattle.layer_image.specs.Knows.{Knows}
 use Rattle.layer_image.specs.Layers.{LayerImage, ReadsLayer}
 use Rattle.layer_image.specs.Rules.{broken_rule, IsLegal}
@@ -33,32 +37,32 @@ ShowsLayerFault text f =
     ⊎ ((entries : Entries) × Shows text (Err f) × KeptBefore text (fails.Refused f) entries × IsLegal (without_places entries))
 
 -- the scan has met just these commands (docs/DEFINITIONS.md, Legal lists)
-pub record Met (scan : Scan) (whole : Bool) (before : List Command) : Type 0 where
-  pub knows : Knows scan.judge whole before
+pub record Met (scan : Scan) (keep : Keep) (before : List Command) : Type 0 where
+  pub knows : Knows scan.judge keep before
   pub named : scan.file_function ≡ file_function_of before
 
 -- The command breaks no rule and was taken in, or this is the first rule that it breaks, or memory ran out
 -- (docs/DEFINITIONS.md, Legal lists).
-abbrev pub Meets : Bool → List Command → Command → Scan → Result (Unit {0}) Stop → Type 0
-Meets whole before c new (Ok _) = (broken_rule before c ≡ None) × Met new whole (before ++ c ∷ [])
-Meets whole before c new (Err (Refused reason)) = broken_rule before c ≡ Some reason
-Meets whole before c new (Err Memory) = Unit {0}
+abbrev pub Meets : Keep → List Command → Command → Scan → Result (Unit {0}) Stop → Type 0
+Meets keep before c new (Ok _) = (broken_rule before c ≡ None) × Met new keep (before ++ c ∷ [])
+Meets keep before c new (Err (Refused reason)) = broken_rule before c ≡ Some reason
+Meets keep before c new (Err Memory) = Unit {0}
 
 -- the scan has met just these commands, and none of them breaks a rule (docs/DEFINITIONS.md, Legal lists)
-pub record Scanned (scan : Scan) (whole : Bool) (entries : Entries) : Type 0 where
-  pub met : Met scan whole (without_places entries)
+pub record Scanned (scan : Scan) (keep : Keep) (entries : Entries) : Type 0 where
+  pub met : Met scan keep (without_places entries)
   pub legal : IsLegal (without_places entries)
   pub sound : breaks fault_of entries ≡ []
 
 -- The reader has read this text, which shows no fault: the word reader has let go of its commands, the scan has met them,
--- and where all is to be kept they are kept (docs/DEFINITIONS.md, Reading in pieces).
+-- and where commands are to be kept they are kept (docs/DEFINITIONS.md, Reading in pieces).
 pub record CoreStands (core : Core) (text : List ℕ) : Type 0 where
   pub sound : core.failed ≡ None
   pub gone : Entries
   pub words : StandsBehind core.words gone text
   pub none : held core.words ≡ []
-  pub scanned : Scanned core.scan core.whole gone
-  pub kept : core.whole ≡ true → core.kept.items ≡ gone
+  pub scanned : Scanned core.scan core.keep gone
+  pub kept : keeps_commands core.keep ≡ true → core.kept.items ≡ gone
 
 -- a reader goes from all it may have read to that and these bytes (docs/DEFINITIONS.md, Reading in pieces)
 abbrev pub CoreAdvances : Core → Core → List ℕ → Type 0
@@ -72,12 +76,27 @@ layer_failure reader = reader.core.failed
 abbrev pub LayerStandsAfter : LayerReader → List ℕ → Type 0
 LayerStandsAfter reader text = CoreStands reader.core text
 
--- The text ends here: it spells commands that the scan has met, and they are kept where all is to be kept; or it has this
+-- The text ends here: it spells commands that the scan has met, and they are kept where commands are to be kept; or it has this
 -- fault (docs/DEFINITIONS.md, Reading in pieces).
-abbrev pub CoreEnds : List ℕ → Bool → Result (Scan × Vec (Placed Command)) Fail → Type 0
-CoreEnds text whole (Ok p) = (gone : Entries) × Reads text (Ok gone) × Scanned p.0 whole gone × (whole ≡ true → p.1.items ≡ gone)
-CoreEnds text whole (Err fails.Memory) = ⊥
-CoreEnds text whole (Err (fails.Refused f)) = ReadsLayer text (Err f)
+abbrev pub CoreEnds : List ℕ → Keep → Result (Scan × Vec (Placed Command)) Fail → Type 0
+CoreEnds text keep (Ok p) = (gone : Entries) × Reads text (Ok gone) × Scanned p.0 keep gone × (keeps_commands keep ≡ true → p.1.items ≡ gone)
+CoreEnds text keep (Err fails.Memory) = ⊥
+CoreEnds text keep (Err (fails.Refused f)) = ReadsLayer text (Err f)
+
+-- ---- the reader for flashes
+
+-- a text has the flashes of the layer that it reads as, or its fault (docs/DEFINITIONS.md, Reading in pieces)
+abbrev pub ReadsFlashes : List ℕ → Result (List Flash) Fault → Type 0
+ReadsFlashes text (Ok flashes) = (image : LayerImage) × ReadsLayer text (Ok image) × (flashes ≡ image.flashes)
+ReadsFlashes text (Err f) = ReadsLayer text (Err f)
+
+-- what the reader has failed with (docs/DEFINITIONS.md, Reading in pieces)
+abbrev pub flash_failure : FlashReader → Option Fail
+flash_failure reader = reader.core.failed
+
+-- the reader has read this text, which shows no fault of a layer (docs/DEFINITIONS.md, Reading in pieces)
+abbrev pub FlashesStandAfter : FlashReader → List ℕ → Type 0
+FlashesStandAfter reader text = CoreStands reader.core text
 
 -- ---- the reader for a package
 

@@ -1,6 +1,6 @@
 //! What is kept of the flashes so far.
 
-ghost use Rattle.std.specs.Prelude.{◌≡◌, ◌+◌, ◌<◌, ◌≤◌, ◌^◌, ◌++◌, [], length, map, true, false, OnOk};
+ghost use Rattle.std.specs.Prelude.{◌≡◌, ◌+◌, ◌≤◌, ◌++◌, [], length, map, true, false, OnOk};
 ghost use Rattle.std.specs.List.{list_any};
 ghost use Rattle.layer_image.specs.Flashes.{copies, pads_of, others_in};
 ghost use Rattle.layer_image.specs.Moved.{flash_moved, flash_laid};
@@ -12,27 +12,72 @@ use crate::grid::Grid;
 use pad_shapes::Pad;
 use std::alloc::{AllocError, Global};
 
-/// The pads so far and how many flashes are no pads; and each flash, where all is to be kept.
+/// What is kept of a layer: all of it, its flashes alone, or its pads alone.
+#[derive(Clone, Copy)]
+pub(crate) enum Keep {
+    All,
+    Flashes,
+    Pads,
+}
+
+impl Keep {
+    ghost use Rattle.layer_image.specs.Keeping.{keeps_commands, keeps_flashes, keeps_pads};
+
+    /// Whether commands are kept.
+    pub(crate) fn commands(self) -> bool
+        ensures { result ≡ keeps_commands self }
+    {
+        match self {
+            Keep::All => true,
+            Keep::Flashes | Keep::Pads => false,
+        }
+    }
+
+    /// Whether each flash is kept.
+    fn flashes(self) -> bool
+        ensures { result ≡ keeps_flashes self }
+    {
+        match self {
+            Keep::All | Keep::Flashes => true,
+            Keep::Pads => false,
+        }
+    }
+
+    /// Whether the pads are kept in a list of their own.
+    fn pads(self) -> bool
+        ensures { result ≡ keeps_pads self }
+    {
+        match self {
+            Keep::All | Keep::Pads => true,
+            Keep::Flashes => false,
+        }
+    }
+}
+
+/// How many flashes there were and how many of them are no pads; and each flash, and each pad, where they are kept.
 #[derive(Drop)]
 pub(crate) struct Flashes {
-    pub(crate) whole: bool,
+    pub(crate) keep: Keep,
     pub(crate) all: Vec<Flash>,
     pub(crate) pads: Vec<Pad>,
+    pub(crate) count: u64,
     pub(crate) others: u64,
-    ghost few: { others ≤ 4194304 },
+    ghost few: { count ≤ 4194304 },
+    ghost fewer: { others ≤ count },
 }
 
 impl Flashes {
-    ghost use Rattle.layer_image.specs.Keeping.{Adds, KeepsFlashes, flash_count};
+    ghost use Rattle.layer_image.specs.Keeping.{Adds, KeepsFlashes, flash_count, keeps_flashes, keeps_pads};
 
     /// Of no flashes.
-    pub(crate) fn new(alloc: Global, whole: bool) -> Self
-        ensures { KeepsFlashes result whole [] }
+    pub(crate) fn new(alloc: Global, keep: Keep) -> Self
+        ensures { KeepsFlashes result keep [] }
     {
         Flashes {
-            whole,
+            keep,
             all: Vec::new(alloc),
             pads: Vec::new(alloc),
+            count: 0,
             others: 0,
         }
     }
@@ -40,9 +85,9 @@ impl Flashes {
     /// How many flashes there were.
     pub(crate) fn count(&self) -> u128
         ensures value { result ≡ flash_count self.now }
-        ensures small { result < 2 ^ 65 }
+        ensures small { result ≤ 4194304 }
     {
-        self.pads.len() as u128 + u128::from(self.others)
+        u128::from(self.count)
     }
 
     /// Lays a flash at each copy of a grid, in order.
@@ -53,42 +98,64 @@ impl Flashes {
     pub(crate) fn lay(&mut self, grid: &Grid, flash: &Flash) -> Result<(), AllocError>
         requires bounded { IsBounded grid.now }
         requires near { list_any is_far_point (copies grid.now) ≡ false }
-        requires few { self.old.others + length (copies grid.now) ≤ 4194304 }
+        requires few { flash_count self.old + length (copies grid.now) ≤ 4194304 }
         ensures { OnOk result (Adds self.old (map (flash_laid flash.now) (copies grid.now)) self.new) }
     {
         self.lay_all(grid, flash)?;
-        self.lay_pads(grid, &flash.what)
+        self.lay_pads(grid, &flash.what)?;
+        self.tally(grid, &flash.what);
+        Ok(())
     }
 
-    /// Keeps each flash, where all is to be kept.
+    /// Keeps each flash, where all are to be kept.
     fn lay_all(&mut self, grid: &Grid, flash: &Flash) -> Result<(), AllocError>
         requires bounded { IsBounded grid.now }
         requires near { list_any is_far_point (copies grid.now) ≡ false }
-        ensures same { self.new.whole ≡ self.old.whole }
+        ensures same { self.new.keep ≡ self.old.keep }
         ensures pads { self.new.pads ≡ self.old.pads }
+        ensures count { self.new.count ≡ self.old.count }
         ensures others { self.new.others ≡ self.old.others }
-        ensures all { self.old.whole ≡ true → OnOk result (self.new.all.items ≡ self.old.all.items ++ map (flash_laid flash.now) (copies grid.now)) }
+        ensures all { keeps_flashes self.old.keep ≡ true → OnOk result (self.new.all.items ≡ self.old.all.items ++ map (flash_laid flash.now) (copies grid.now)) }
     {
-        if !self.whole {
+        if !self.keep.flashes() {
             return Ok(());
         }
         grid.lay(&mut self.all, flash)
     }
 
-    /// Keeps the pads, or counts the flashes that are none.
+    /// Keeps the pads, where they are to be kept.
     fn lay_pads(&mut self, grid: &Grid, what: &What) -> Result<(), AllocError>
         requires bounded { IsBounded grid.now }
         requires near { list_any is_far_point (copies grid.now) ≡ false }
-        requires few { self.old.others + length (copies grid.now) ≤ 4194304 }
-        ensures same { self.new.whole ≡ self.old.whole }
+        ensures same { self.new.keep ≡ self.old.keep }
         ensures all { self.new.all ≡ self.old.all }
-        ensures pads { OnOk result (self.new.pads.items ≡ self.old.pads.items ++ pads_of (map (flash_moved what.now) (copies grid.now))) }
-        ensures others { OnOk result (self.new.others ≡ self.old.others + others_in (map (flash_moved what.now) (copies grid.now))) }
+        ensures count { self.new.count ≡ self.old.count }
+        ensures others { self.new.others ≡ self.old.others }
+        ensures pads { keeps_pads self.old.keep ≡ true → OnOk result (self.new.pads.items ≡ self.old.pads.items ++ pads_of (map (flash_moved what.now) (copies grid.now))) }
     {
-        match what {
-            What::Pad(pad) => grid.lay(&mut self.pads, pad)?,
-            What::Other(_) => self.others += grid.count(),
+        if !self.keep.pads() {
+            return Ok(());
         }
-        Ok(())
+        match what {
+            What::Pad(pad) => grid.lay(&mut self.pads, pad),
+            What::Other(_) => Ok(()),
+        }
+    }
+
+    /// Counts the flashes, and those that are no pads.
+    fn tally(&mut self, grid: &Grid, what: &What)
+        requires few { flash_count self.old + length (copies grid.now) ≤ 4194304 }
+        ensures same { self.new.keep ≡ self.old.keep }
+        ensures all { self.new.all ≡ self.old.all }
+        ensures pads { self.new.pads ≡ self.old.pads }
+        ensures count { self.new.count ≡ self.old.count + length (copies grid.now) }
+        ensures others { self.new.others ≡ self.old.others + others_in (map (flash_moved what.now) (copies grid.now)) }
+    {
+        let copies = grid.count();
+        self.count += copies;
+        match what {
+            What::Pad(_) => {}
+            What::Other(_) => self.others += copies,
+        }
     }
 }

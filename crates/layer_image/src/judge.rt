@@ -1,11 +1,12 @@
 //! The judge: meets the commands of a list one by one, and says at the first that breaks a rule which rule it breaks.
 
-ghost use Rattle.std.specs.Prelude.{◌≡◌, ◌+◌, ◌≤◌, ◌*◌, [], Bool, List, nat_lt, Option, ℤ, OnOk, None, pos, length, true, false};
+ghost use Rattle.std.specs.Prelude.{◌≡◌, ◌+◌, ◌≤◌, ◌*◌, [], List, nat_lt, Option, ℤ, OnOk, None, pos, length, true, false};
 ghost use Rattle.std.specs.Option.{option_map_or};
 ghost use Rattle.std.specs.List.{list_any};
 ghost use Rattle.gerber_rows.specs.declared.command.Action.{Action as TheAction};
 ghost use Rattle.gerber_rows.specs.declared.command.Command.{Command};
 ghost use Rattle.gerber_rows.specs.declared.command.Command.TheVariants as command;
+ghost use Rattle.layer_image.specs.declared.flashes.Keep.{Keep as TheKeep};
 ghost use Rattle.layer_image.specs.declared.judge.Stop.TheVariants.{Memory};
 ghost use Rattle.layer_image.specs.Lookback.{aperture_in, single};
 ghost use Rattle.layer_image.specs.Flashes.{copies_at, flashed, is_flash};
@@ -15,7 +16,7 @@ ghost use Rattle.layer_image.specs.Knows.{Knows, Takes, Judges, told, after};
 
 use crate::aperture::{Aperture, aperture_of};
 use crate::flash::Flash;
-use crate::flashes::Flashes;
+use crate::flashes::{Flashes, Keep};
 use crate::force::origin;
 use crate::rules::is_flash;
 use crate::tables::{Apertures, Names};
@@ -58,8 +59,8 @@ impl From<AllocError> for Stop {
 
 impl Judge {
     /// A judge that has met no command.
-    pub(crate) fn new(alloc: Global, whole: bool) -> Self
-        ensures { Knows result whole [] }
+    pub(crate) fn new(alloc: Global, keep: Keep) -> Self
+        ensures { Knows result keep [] }
     {
         Judge {
             alloc,
@@ -74,13 +75,13 @@ impl Judge {
             turn: decimal(0),
             scale: decimal(1),
             block: single(),
-            flashes: Flashes::new(alloc, whole),
+            flashes: Flashes::new(alloc, keep),
         }
     }
 
     /// Judges one more command, and takes it in where it breaks no rule. A refusal changes nothing.
     pub(crate) fn step(&mut self, command: &Command) -> Result<(), Stop>
-        ensures { (whole : Bool) (before : List Command) → Knows self.old whole before → Judges whole before command.now self.new result }
+        ensures { (keep : TheKeep) (before : List Command) → Knows self.old keep before → Judges keep before command.now self.new result }
     {
         if let Some(reason) = self.broken_rule(command) {
             return Err(Stop::Refused(reason));

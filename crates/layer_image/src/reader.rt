@@ -2,7 +2,10 @@
 
 ghost use Rattle.std.specs.Prelude.{◌≡◌, ◌++◌, [], ℕ, List, Ok, Err, Some, None, true, IsOk, OnOk, IfErr, IfOk, IfSome};
 ghost use Rattle.grid_units.specs.Results.{Answers, Tells};
+ghost use Rattle.layer_image.specs.declared.flashes.Keep.TheVariants as keeps;
 
+use crate::flash::Flash;
+use crate::flashes::Keep;
 use crate::layer::{Layer, layer_of};
 use crate::scan::Scan;
 use gerber_rows::Command;
@@ -12,14 +15,14 @@ use pad_shapes::Pad;
 use std::alloc::{AllocError, Global};
 
 /// The one body of the readers of a layer: it judges the commands piece by piece and lets go of them, or keeps
-/// them where all is to be kept.
+/// them where they are to be kept.
 #[derive(Drop)]
 pub(crate) struct Core {
     alloc: Global,
     words: WordReader,
     pub(crate) scan: Scan,
     kept: Vec<Placed<Command>>,
-    whole: bool,
+    pub(crate) keep: Keep,
     failed: Option<Fail>,
 }
 
@@ -27,18 +30,19 @@ impl Core {
     ghost use Rattle.layer_image.specs.Layers.{ReadsLayer};
     ghost use Rattle.gerber_text.specs.Reading.{Entries};
     ghost use Rattle.gerber_text.specs.Standing.{StandsBehind, held};
+    ghost use Rattle.layer_image.specs.Keeping.{keeps_commands};
     ghost use Rattle.layer_image.specs.Standing.{CoreStands, CoreAdvances, CoreEnds, ShowsLayerFault, Scanned};
 
-    pub(crate) fn new(alloc: Global, whole: bool) -> Core
+    pub(crate) fn new(alloc: Global, keep: Keep) -> Core
         ensures stands { CoreStands result [] }
-        ensures whole { result.whole ≡ whole }
+        ensures keep { result.keep ≡ keep }
     {
         Core {
             alloc,
             words: WordReader::new(alloc),
-            scan: Scan::new(alloc, whole),
+            scan: Scan::new(alloc, keep),
             kept: Vec::new(alloc),
-            whole,
+            keep,
             failed: None,
         }
     }
@@ -49,7 +53,7 @@ impl Core {
         ensures err { (text : List ℕ) → CoreStands self.old text → IfErr result (Tells (ShowsLayerFault (text ++ piece.now))) }
         ensures failed { IfSome self.old.failed (λ e. result ≡ Err e) }
         ensures fails { IfErr result (λ e. self.new.failed ≡ Some e) }
-        ensures whole { self.new.whole ≡ self.old.whole }
+        ensures keep { self.new.keep ≡ self.old.keep }
     {
         if let Some(fail) = self.failed {
             return Err(fail);
@@ -66,25 +70,25 @@ impl Core {
     fn advance(&mut self, piece: &[u8]) -> Result<(), Fail>
         ensures ok { OnOk result (CoreAdvances self.old self.new piece.now) }
         ensures err { (text : List ℕ) → CoreStands self.old text → IfErr result (Tells (ShowsLayerFault (text ++ piece.now))) }
-        ensures whole { self.new.whole ≡ self.old.whole }
+        ensures keep { self.new.keep ≡ self.old.keep }
     {
         let outcome = self.words.feed(piece);
         self.scan.scan(self.alloc, self.words.commands())?;
         outcome?;
-        self.keep()?;
+        self.keep_commands()?;
         Ok(())
     }
 
     /// Takes the commands that the word reader holds, or lets go of them.
-    fn keep(&mut self) -> Result<(), AllocError>
+    fn keep_commands(&mut self) -> Result<(), AllocError>
         ensures words { (gone : Entries) (text : List ℕ) → StandsBehind self.old.words gone text → StandsBehind self.new.words (gone ++ held self.old.words) text }
         ensures none { held self.new.words ≡ [] }
         ensures scan { self.new.scan ≡ self.old.scan }
-        ensures kept { self.old.whole ≡ true → OnOk result (self.new.kept.items ≡ self.old.kept.items ++ held self.old.words) }
+        ensures kept { keeps_commands self.old.keep ≡ true → OnOk result (self.new.kept.items ≡ self.old.kept.items ++ held self.old.words) }
         ensures failed { self.new.failed ≡ self.old.failed }
-        ensures whole { self.new.whole ≡ self.old.whole }
+        ensures keep { self.new.keep ≡ self.old.keep }
     {
-        if !self.whole {
+        if !self.keep.commands() {
             self.words.let_go();
             return Ok(());
         }
@@ -105,7 +109,7 @@ impl Core {
 
     /// What was met and what was kept, if the text has ended. A reader that has failed gives its failure again.
     fn end(self) -> Result<(Scan, Vec<Placed<Command>>), Fail>
-        ensures exact { (text : List ℕ) → CoreStands self text → CoreEnds text self.whole result }
+        ensures exact { (text : List ℕ) → CoreStands self text → CoreEnds text self.keep result }
         ensures failed { IfSome self.failed (λ e. result ≡ Err e) }
     {
         self.outcome()?;
@@ -114,13 +118,17 @@ impl Core {
     }
 }
 
-/// Adds commands to those that are kept.
+/// Adds commands to those that are kept, which takes no memory where there are none.
 fn push_all(
     kept: &mut Vec<Placed<Command>>,
     commands: Vec<Placed<Command>>,
 ) -> Result<(), AllocError>
     ensures { OnOk result (kept.new.items ≡ kept.old.items ++ commands.items) }
 {
+    if kept.is_empty() {
+        *kept = commands;
+        return Ok(());
+    }
     for entry in commands {
         kept.push(entry)?;
     }
@@ -132,7 +140,7 @@ fn push_all(
 #[derive(Drop)]
 pub struct LayerReader {
     core: Core,
-    ghost whole: { core.whole ≡ true },
+    ghost whole: { core.keep ≡ keeps.All },
 }
 
 impl LayerReader {
@@ -144,7 +152,7 @@ impl LayerReader {
         ensures { LayerStandsAfter result [] }
     {
         LayerReader {
-            core: Core::new(alloc, true),
+            core: Core::new(alloc, Keep::All),
         }
     }
 
@@ -182,6 +190,56 @@ impl LayerReader {
     }
 }
 
+/// A reader of a layer that comes in pieces, for its flashes. It keeps no commands.
+#[derive(Drop)]
+pub struct FlashReader {
+    core: Core,
+    ghost flashes: { core.keep ≡ keeps.Flashes },
+}
+
+impl FlashReader {
+    ghost use Rattle.layer_image.specs.Standing.{FlashesStandAfter, ReadsFlashes, ShowsLayerFault, flash_failure};
+
+    /// A reader that has read nothing.
+    pub fn new(alloc: Global) -> FlashReader
+        ensures { FlashesStandAfter result [] }
+    {
+        FlashReader {
+            core: Core::new(alloc, Keep::Flashes),
+        }
+    }
+
+    /// Takes the next piece of the text.
+    ///
+    /// # Errors
+    ///
+    /// The first fault that the text shows so far, whatever follows; `Memory` where an allocation failed. A
+    /// reader that has failed gives its failure again.
+    pub fn feed(&mut self, piece: &[u8]) -> Result<(), Fail>
+        ensures ok { (text : List ℕ) → FlashesStandAfter self.old text → OnOk result (FlashesStandAfter self.new (text ++ piece.now)) }
+        ensures err { (text : List ℕ) → FlashesStandAfter self.old text → IfErr result (Tells (ShowsLayerFault (text ++ piece.now))) }
+        ensures failed { IfSome (flash_failure self.old) (λ e. result ≡ Err e) }
+        ensures fails { IfErr result (λ e. flash_failure self.new ≡ Some e) }
+    {
+        self.core.feed(piece)
+    }
+
+    /// The flashes of the layer of the text, in order, one for each copy in a step and repeat block.
+    ///
+    /// # Errors
+    ///
+    /// The first fault of the text; `Memory` where an allocation failed. A reader that has failed gives its
+    /// failure again.
+    pub fn finish(self) -> Result<Vec<Flash>, Fail>
+        ensures exact { (text : List ℕ) → FlashesStandAfter self text → Answers (λ flashes. flashes.items) (ReadsFlashes text) result }
+        ensures failed { IfSome (flash_failure self) (λ e. result ≡ Err e) }
+    {
+        let (scan, _) = self.core.end()?;
+        let Scan { judge, .. } = scan;
+        Ok(judge.into_flashes().all)
+    }
+}
+
 /// What a package needs of a layer: its pads, how many flashes are no pads, and its file function.
 #[derive(Drop)]
 pub struct LayerSum {
@@ -194,6 +252,7 @@ pub struct LayerSum {
 #[derive(Drop)]
 pub struct SumReader {
     core: Core,
+    ghost pads: { core.keep ≡ keeps.Pads },
 }
 
 impl SumReader {
@@ -204,7 +263,7 @@ impl SumReader {
         ensures { SumStandsAfter result [] }
     {
         SumReader {
-            core: Core::new(alloc, false),
+            core: Core::new(alloc, Keep::Pads),
         }
     }
 

@@ -1,12 +1,14 @@
 //! A scan over commands: each is judged and then let go, and what a layer says is kept.
 
-ghost use Rattle.std.specs.Prelude.{◌≡◌, ◌++◌, ◌∷◌, [], Bool, List, OnOk, IfErr};
+ghost use Rattle.std.specs.Prelude.{◌≡◌, ◌++◌, ◌∷◌, [], List, OnOk, IfErr};
 ghost use Rattle.grid_units.specs.Results.{Tells};
 ghost use Rattle.gerber_rows.specs.declared.command.Command.{Command};
 ghost use Rattle.gerber_text.specs.Reading.{Entries};
+ghost use Rattle.layer_image.specs.declared.flashes.Keep.{Keep as TheKeep};
 ghost use Rattle.layer_image.specs.Functions.{file_function_of};
 ghost use Rattle.layer_image.specs.Faults.{fail_at, IsFirstFault};
 
+use crate::flashes::Keep;
 use crate::function::function_named;
 use crate::judge::{Judge, Stop};
 use gerber_rows::Command;
@@ -25,11 +27,11 @@ impl Scan {
     ghost use Rattle.layer_image.specs.Standing.{Met, Meets, Scanned};
 
     /// A scan that has met no command.
-    pub(crate) fn new(alloc: Global, whole: bool) -> Self
-        ensures { Scanned result whole [] }
+    pub(crate) fn new(alloc: Global, keep: Keep) -> Self
+        ensures { Scanned result keep [] }
     {
         Scan {
-            judge: Judge::new(alloc, whole),
+            judge: Judge::new(alloc, keep),
             file_function: None,
         }
     }
@@ -40,8 +42,8 @@ impl Scan {
     ///
     /// The fault of the first command that breaks a rule; `Memory` where a growth was refused.
     pub(crate) fn scan(&mut self, alloc: Global, entries: &[Placed<Command>]) -> Result<(), Fail>
-        ensures ok { (whole : Bool) (before : Entries) → Scanned self.old whole before → OnOk result (Scanned self.new whole (before ++ entries.now)) }
-        ensures refused { (whole : Bool) (before : Entries) → Scanned self.old whole before → IfErr result (Tells (IsFirstFault (before ++ entries.now))) }
+        ensures ok { (keep : TheKeep) (before : Entries) → Scanned self.old keep before → OnOk result (Scanned self.new keep (before ++ entries.now)) }
+        ensures refused { (keep : TheKeep) (before : Entries) → Scanned self.old keep before → IfErr result (Tells (IsFirstFault (before ++ entries.now))) }
     {
         for entry in entries {
             match self.meet(alloc, &entry.what) {
@@ -54,7 +56,7 @@ impl Scan {
 
     /// Meets one more command.
     fn meet(&mut self, alloc: Global, command: &Command) -> Result<(), Stop>
-        ensures { (whole : Bool) (before : List Command) → Met self.old whole before → Meets whole before command.now self.new result }
+        ensures { (keep : TheKeep) (before : List Command) → Met self.old keep before → Meets keep before command.now self.new result }
     {
         self.judge.step(command)?;
         self.name(alloc, command)?;

@@ -1,6 +1,6 @@
 //! Layers that are read, and why others are refused.
 
-use crate::{Flash, Layer, LayerReader, LayerSum, SumReader, What, Why, read_layer};
+use crate::{Flash, FlashReader, Layer, LayerReader, LayerSum, SumReader, What, Why, read_layer};
 use grid_units::{Fail, Fault, Point, Reason};
 use pad_shapes::{Disc, Obround, Pad, Rect};
 use std::alloc::{AllocError, Global};
@@ -648,6 +648,10 @@ fn an_early_rule_before_a_late_item_in_one_piece(rt: HostRuntime) -> Result<(), 
     let mut reader = LayerReader::new(alloc);
     assert_eq!(rt; reader.feed(&text).err(), unknown);
     assert_eq!(rt; reader.feed(b"M02*").err(), unknown);
+    let mut flashes = FlashReader::new(alloc);
+    assert_eq!(rt; flashes.feed(&text).err(), unknown);
+    assert_eq!(rt; flashes.feed(b"M02*").err(), unknown);
+    assert_eq!(rt; flashes.finish().map(|_| ()).err(), unknown);
     let mut sums = SumReader::new(alloc);
     assert_eq!(rt; sums.feed(&text).err(), unknown);
     assert_eq!(rt; sums.feed(b"M02*").err(), unknown);
@@ -677,5 +681,25 @@ fn the_sum_of_a_layer_in_pieces(rt: HostRuntime) -> Result<(), TestFail> {
     assert_eq!(rt; sum.pads.len(), 1);
     assert_eq!(rt; sum.other, 6);
     assert!(rt; sum.file_function.is_some());
+    Ok(())
+}
+
+/// The flashes of a text that comes in pieces of one byte.
+fn flashes_of(alloc: Global, text: &[u8]) -> Result<Vec<Flash>, Fail> {
+    let mut reader = FlashReader::new(alloc);
+    for i in 0..text.len() {
+        reader.feed(&text[i..i + 1])?;
+    }
+    reader.finish()
+}
+
+#[test]
+fn the_flashes_of_a_layer_in_pieces(rt: HostRuntime) -> Result<(), TestFail> {
+    let alloc = rt.alloc();
+    let text = with(alloc, 5, b"%SRX2Y3I5J1*%\n%LR45*%\nX0Y0D03*\n")?;
+    let flashes = flashes_of(alloc, &text).map_err(|_| "refused")?;
+    assert_eq!(rt; flashes.len(), 6);
+    let layer = read_layer(alloc, &text).map_err(|_| "refused")?;
+    assert!(rt; flashes.as_slice() == layer.flashes());
     Ok(())
 }

@@ -9,9 +9,9 @@ use Rattle.layer_image.proofs.judge.Judge.step.Goals as goal
 pub returns-in-Some : goal.returns-in-Some
 returns-in-Some c =
     let broken : first_broken (told c.args.self.now) (flash_count c.args.self.now.flashes) c.args.command.now ≡ Some c.in-Some.reason = cc (c.broken_rule.ensures, c.in-Some.is) in
-    λ whole before knows. sym (same_rule _ whole before _ knows) ∙ broken
+    λ keep before knows. sym (same_rule _ keep before _ knows) ∙ broken
 
 pub returns : goal.returns
 returns c =
     let legal : first_broken (told c.args.self.now) (flash_count c.args.self.now.flashes) c.args.command.now ≡ None = cc (c.broken_rule.ensures, c.in_default.is) in
-    λ whole before knows. (sym (same_rule _ whole before _ knows) ∙ legal, knows_more _ _ whole before _ knows c.in_ok-take.ensures)
+    λ keep before knows. (sym (same_rule _ keep before _ knows) ∙ legal, knows_more _ _ keep before _ knows c.in_ok-take.ensures)

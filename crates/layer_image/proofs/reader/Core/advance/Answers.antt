@@ -3,6 +3,7 @@ use Rattle.std.proofs.Common.{◌++◌, sym, ap, subst, ◌∙◌}
 use Rattle.std.proofs.lemmas.Result.{err_from_is_err_and}
 use Rattle.gerber_text.specs.Reading.{Entries}
 use Rattle.gerber_text.specs.Standing.{held}
+use Rattle.layer_image.specs.Keeping.{keeps_commands}
 use Rattle.layer_image.specs.Standing.{Scanned}
 use Rattle.layer_image.proofs.Pieces.{rule_shown, words_shown}
 use Rattle.layer_image.proofs.reader.Core.advance.Goals as goal
@@ -12,7 +13,7 @@ returns-in_err-scan-clause-err c text h =
     let p = err_from_is_err_and c.from_residual.result c.from_residual.ensures.1 in
     let all = text ++ c.args.piece.now in
     rw (p.1, p.2) (rule_shown all c.feed-outcome.new.self h.gone c.commands.result.now c.feed-outcome.result c.in_err-scan.field-0.0 (c.feed-outcome.ensures.ok h.gone text h.words) (c.feed-outcome.ensures.err h.gone text h.words)
-    (c.commands.ensures.shown h.gone all) (c.commands.ensures.kept h.gone all) (c.in_err-scan.ensures.refused c.args.self.now.whole h.gone h.scanned))
+    (c.commands.ensures.shown h.gone all) (c.commands.ensures.kept h.gone all) (c.in_err-scan.ensures.refused c.args.self.now.keep h.gone h.scanned))
 
 pub returns-in_err-outcome-clause-err : goal.returns-in_err-outcome-clause-err
 returns-in_err-outcome-clause-err c text h =
@@ -20,7 +21,7 @@ returns-in_err-outcome-clause-err c text h =
     let all = text ++ c.args.piece.now in
     let e = c.in_err-outcome.field-0.0 in
     let failed = c.in_err-outcome.ensures.err h.gone text h.words in
-    let scanned = c.in_ok-scan.ensures.ok c.args.self.now.whole h.gone h.scanned in
+    let scanned = c.in_ok-scan.ensures.ok c.args.self.now.keep h.gone h.scanned in
     rw (p.1, p.2) (words_shown all c.feed-outcome.new.self h.gone c.commands.result.now e failed (c.commands.ensures.kept h.gone all e failed) scanned.legal)
 
 pub returns-clause-ok : goal.returns-clause-ok
@@ -28,12 +29,12 @@ returns-clause-ok c text h =
     let all = text ++ c.args.piece.now in
     let stands = c.in_ok-outcome.ensures.ok h.gone text h.words in
     let now = held c.feed-outcome.new.self in
-    let scanned = subst (λ (x : Entries). Scanned c.scan.new.self c.args.self.now.whole (h.gone ++ x)) c.commands.ensures.held (c.in_ok-scan.ensures.ok c.args.self.now.whole h.gone h.scanned) in
+    let scanned = subst (λ (x : Entries). Scanned c.scan.new.self c.args.self.now.keep (h.gone ++ x)) c.commands.ensures.held (c.in_ok-scan.ensures.ok c.args.self.now.keep h.gone h.scanned) in
     record {
-      sound = c.in_ok-keep.ensures.failed ∙ h.sound;
+      sound = c.in_ok-keep_commands.ensures.failed ∙ h.sound;
       gone = h.gone ++ now;
-      words = c.in_ok-keep.ensures.words h.gone all stands;
-      none = c.in_ok-keep.ensures.none;
-      scanned = subst (λ w. Scanned c.keep.new.self.scan w (h.gone ++ now)) (sym c.in_ok-keep.ensures.whole) (subst (λ s. Scanned s c.args.self.now.whole (h.gone ++ now)) (sym c.in_ok-keep.ensures.scan) scanned);
-      kept = λ whole. (let w = sym c.in_ok-keep.ensures.whole ∙ whole in c.in_ok-keep.ensures.kept w ∙ ap (λ (x : Entries). x ++ now) (h.kept w));
+      words = c.in_ok-keep_commands.ensures.words h.gone all stands;
+      none = c.in_ok-keep_commands.ensures.none;
+      scanned = subst (λ w. Scanned c.keep_commands.new.self.scan w (h.gone ++ now)) (sym c.in_ok-keep_commands.ensures.keep) (subst (λ s. Scanned s c.args.self.now.keep (h.gone ++ now)) (sym c.in_ok-keep_commands.ensures.scan) scanned);
+      kept = λ keeps. (let w = sym (ap keeps_commands c.in_ok-keep_commands.ensures.keep) ∙ keeps in c.in_ok-keep_commands.ensures.kept w ∙ ap (λ (x : Entries). x ++ now) (h.kept w));
     }

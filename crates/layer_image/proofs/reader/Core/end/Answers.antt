@@ -11,7 +11,7 @@ returns-in_err-finish-clause-exact c text h =
     let p = err_from_is_err_and c.from_residual-in_err-finish.result c.from_residual-in_err-finish.ensures.1 in
     let e = c.in_err-finish.field-0.0 in
     let none : h.gone ++ held c.args.self.words ≡ h.gone = ap (λ (x : Entries). h.gone ++ x) h.none ∙ append-nil h.gone in
-    rw (p.1, p.2) (end_err text h.gone c.args.self.whole e (c.in_err-finish.ensures.exact h.gone text h.words) (subst (KeptBefore text e) none (c.in_err-finish.ensures.kept h.gone text h.words)) h.scanned.legal)
+    rw (p.1, p.2) (end_err text h.gone c.args.self.keep e (c.in_err-finish.ensures.exact h.gone text h.words) (subst (KeptBefore text e) none (c.in_err-finish.ensures.kept h.gone text h.words)) h.scanned.legal)
 
 pub returns-clause-exact : goal.returns-clause-exact
 returns-clause-exact c text h =
