@@ -14,3 +14,4 @@ pub mod RoundTrip
 pub mod Sayable
 pub mod LeadingHits
 pub mod WholeLines
+pub mod Rewritten

@@ -1,5 +1,5 @@
 -- What a reader has met and keeps of the commands of a text.
-use Rattle.std.specs.Prelude.{◌≡◌, ℕ, true, false, List, [], Result, Ok, Err}
+use Rattle.std.specs.Prelude.{◌≡◌, ℕ, ◌<◌, ◌≤◌, true, false, List, [], length, Result, Ok, Err}
 use Rattle.std.specs.List.{list_any}
 use Rattle.grid_units.specs.declared.fault.Fault.{Fault}
 use Rattle.grid_units.specs.declared.fault.Fail.{Fail}
@@ -7,13 +7,23 @@ use Rattle.grid_units.specs.declared.fault.Fail.TheVariants as fails
 use Rattle.drill_lines.specs.declared.command.DrillCommand.{DrillCommand}
 use Rattle.drill_text.specs.declared.judge.Judge.{Judge}
 use Rattle.drill_text.specs.declared.kept.Kept.{Kept}
-use Rattle.drill_text.specs.Reading.{is_finish, Reads}
+use Rattle.drill_text.specs.declared.kept.Keeping.TheVariants as keep
+use Rattle.drill_text.specs.declared.lines.Lines.{Lines}
+use Rattle.drill_text.specs.Reading.{is_finish, text_limit, Reads}
+use Rattle.drill_text.specs.Writing.{canonical_text}
 use Rattle.drill_text.specs.Knowing.{Knows}
 
--- All of the commands are kept, or nothing of them but whether the end of the file is among them (docs/DEFINITIONS.md, The judge of a drill file).
+-- The lines are those of the commands; or these are too long, and none is held (docs/DEFINITIONS.md, The judge of a drill file).
+pub record HoldsLines (lines : Lines) (commands : List DrillCommand) : Type 0 where
+  pub text : lines.is_long ≡ false → lines.text.items ≡ canonical_text commands
+  pub within : lines.is_long ≡ false → length lines.text.items ≤ text_limit
+  pub long : lines.is_long ≡ true → text_limit < length (canonical_text commands)
+
+-- All of the commands are kept, or their lines, or nothing of them but whether the end of the file is among them (docs/DEFINITIONS.md, The judge of a drill file).
 pub record Keeps (kept : Kept) (commands : List DrillCommand) : Type 0 where
-  pub whole : kept.is_whole ≡ true → kept.commands.items ≡ commands
-  pub none : kept.is_whole ≡ false → kept.commands.items ≡ []
+  pub whole : kept.keeping ≡ keep.Commands → kept.commands.items ≡ commands
+  pub lines : kept.keeping ≡ keep.Lines → HoldsLines kept.lines commands
+  pub none : (kept.keeping ≡ keep.Commands → ⊥) → kept.commands.items ≡ []
   pub finished : kept.is_finished ≡ list_any is_finish commands
 
 -- the judge has met just these commands, and they are kept (docs/DEFINITIONS.md, The judge of a drill file)

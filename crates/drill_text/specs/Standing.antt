@@ -1,5 +1,5 @@
 -- What a reader holds of the bytes so far.
-use Rattle.std.specs.Prelude.{◌≡◌, ℕ, true, false, List, ◌++◌, length, Ok, Err, Option, None}
+use Rattle.std.specs.Prelude.{◌≡◌, ℕ, List, ◌++◌, length, Ok, Err, Option, None}
 use Rattle.grid_units.specs.declared.fault.Fault.{Fault}
 use Rattle.grid_units.specs.declared.fault.Fail.{Fail}
 use Rattle.grid_units.specs.declared.fault.Fail.TheVariants as fails
@@ -7,6 +7,8 @@ use Rattle.drill_lines.specs.declared.command.DrillCommand.{DrillCommand}
 use Rattle.drill_text.specs.declared.reader.Progress.{Progress}
 use Rattle.drill_text.specs.declared.reader.DrillReader.{DrillReader}
 use Rattle.drill_text.specs.declared.holes_reader.HolesReader.{HolesReader}
+use Rattle.drill_text.specs.declared.rewrite_reader.RewriteReader.{RewriteReader}
+use Rattle.drill_text.specs.declared.kept.Keeping.TheVariants as keep
 use Rattle.grid_units.specs.Results.{Tells}
 use Rattle.drill_text.specs.Lines.{bytes_of, Splits}
 use Rattle.drill_text.specs.Reading.{shown, Shows}
@@ -51,7 +53,7 @@ failure reader = reader.failed
 pub record StandsAfter (reader : DrillReader) (text : List ℕ) : Type 0 where
   pub sound : failure reader ≡ None
   pub holds : Holds reader.progress text
-  pub whole : reader.progress.kept.is_whole ≡ true
+  pub whole : reader.progress.kept.keeping ≡ keep.Commands
 
 -- what a reader of the holes has failed with (docs/DEFINITIONS.md, A drill reader in pieces)
 abbrev pub holes_failure : HolesReader → Option Fail
@@ -61,4 +63,14 @@ holes_failure reader = reader.failed
 pub record HolesStandAfter (reader : HolesReader) (text : List ℕ) : Type 0 where
   pub sound : holes_failure reader ≡ None
   pub holds : Holds reader.progress text
-  pub light : reader.progress.kept.is_whole ≡ false
+  pub light : reader.progress.kept.keeping ≡ keep.Nothing
+
+-- what a reader that writes the file anew has failed with (docs/DEFINITIONS.md, A drill reader in pieces)
+abbrev pub rewrite_failure : RewriteReader → Option Fail
+rewrite_failure reader = reader.failed
+
+-- The reader has read this text, which shows no fault, and keeps the canonical lines of its commands (docs/DEFINITIONS.md, A drill reader in pieces).
+pub record LinesStandAfter (reader : RewriteReader) (text : List ℕ) : Type 0 where
+  pub sound : rewrite_failure reader ≡ None
+  pub holds : Holds reader.progress text
+  pub written : reader.progress.kept.keeping ≡ keep.Lines

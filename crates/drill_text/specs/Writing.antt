@@ -1,5 +1,5 @@
 -- The canonical text of a list of commands.
-use Rattle.std.specs.Prelude.{ℕ, Bool, true, false, ◌&&◌, nat_lt, List, [], ◌∷◌, length, map, unwrap_or, if◌then◌else◌, Result, Ok, Err}
+use Rattle.std.specs.Prelude.{◌≡◌, ◌⊎◌, ℕ, Bool, true, false, ◌&&◌, nat_lt, List, [], ◌∷◌, length, map, unwrap_or, if◌then◌else◌, Result, Ok, Err}
 use Rattle.std.specs.Global.{Vec}
 use Rattle.grid_units.specs.declared.fault.Fault.{Fault}
 use Rattle.grid_units.specs.declared.fault.Reason.TheVariants.{TooLong}
@@ -10,7 +10,8 @@ use Rattle.drill_lines.specs.declared.command.DrillCommand.{DrillCommand}
 use Rattle.drill_lines.specs.Writing.{canonical, is_sayable}
 use Rattle.drill_text.specs.Lines.{bytes_of}
 use Rattle.drill_text.specs.Lookback.{part_named}
-use Rattle.drill_text.specs.Reading.{text_limit}
+use Rattle.drill_text.specs.Reading.{text_limit, Reads}
+use Rattle.drill_text.specs.Texts.{IsDrillText}
 
 -- the part of a file behind one more command (docs/FORMATS.md, Drill lines)
 abbrev pub part_behind : Part → DrillCommand → Part
@@ -47,3 +48,8 @@ written commands = if nat_lt text_limit (length (canonical_text commands)) then 
 -- the bytes of a vector (docs/DEFINITIONS.md, Answers)
 abbrev pub bytes_in : Vec ℕ → List ℕ
 bytes_in bytes = bytes.items
+
+-- A whole text is a drill text of commands that have this canonical text; or it has this fault, or that text is too long (docs/DEFINITIONS.md, Drill files).
+abbrev pub ReadsWritten : List ℕ → Result (List ℕ) Fault → Type 0
+ReadsWritten text (Ok new) = (commands : List DrillCommand) × IsDrillText text commands × (written commands ≡ Ok new)
+ReadsWritten text (Err fault) = Reads text (Err fault) ⊎ ((commands : List DrillCommand) × IsDrillText text commands × (written commands ≡ Err fault))

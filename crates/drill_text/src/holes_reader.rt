@@ -5,6 +5,7 @@ ghost use Rattle.grid_units.specs.Results.{Answers, Tells};
 ghost use Rattle.drill_text.specs.Reading.{Shows};
 ghost use Rattle.drill_text.specs.Texts.{ReadsHoles};
 
+use crate::kept::Keeping;
 use crate::reader::Progress;
 use grid_units::{Fail, Hole};
 use std::alloc::Global;
@@ -27,7 +28,7 @@ impl HolesReader {
         ensures { HolesStandAfter result [] }
     {
         HolesReader {
-            progress: Progress::new(alloc, false),
+            progress: Progress::new(alloc, Keeping::Nothing),
             failed: None,
         }
     }

@@ -1,30 +1,47 @@
 //! What is kept of the commands of a drill file.
 
 ghost use Rattle.std.specs.Prelude.{◌≡◌, [], ◌∷◌, ◌++◌, List, OnOk};
+ghost use Rattle.grid_units.specs.Results.{AnswersAlways};
 ghost use Rattle.drill_lines.specs.declared.command.DrillCommand.{DrillCommand as TheCommand};
+ghost use Rattle.drill_text.specs.Writing.{written, bytes_in};
 
+use crate::lines::Lines;
 use drill_lines::DrillCommand;
+use grid_units::Fail;
 use std::alloc::{AllocError, Global};
 
-/// The commands that were read, or nothing of them but whether the end of the file is among them.
+/// What is to be kept of the commands.
+#[derive(Clone, Copy, Debug, PartialEq, Eq)]
+pub(crate) enum Keeping {
+    /// Nothing but whether the end of the file is among them.
+    Nothing,
+    /// All of them.
+    Commands,
+    /// Their canonical lines.
+    Lines,
+}
+
+/// The commands that were read, or their canonical lines, or nothing of them but whether the end of the file is among them.
 #[derive(Drop)]
 pub(crate) struct Kept {
+    keeping: Keeping,
     commands: Vec<DrillCommand>,
-    is_whole: bool,
+    lines: Lines,
     is_finished: bool,
 }
 
 impl Kept {
-    ghost use Rattle.drill_text.specs.Keeping.{Keeps};
+    ghost use Rattle.drill_text.specs.Keeping.{Keeps, HoldsLines};
 
-    /// Nothing yet. All commands are kept, or none.
-    pub(crate) fn new(alloc: Global, is_whole: bool) -> Kept
+    /// Nothing yet.
+    pub(crate) fn new(alloc: Global, keeping: Keeping) -> Kept
         ensures keeps { Keeps result [] }
-        ensures whole { result.is_whole ≡ is_whole }
+        ensures same { result.keeping ≡ keeping }
     {
         Kept {
+            keeping,
             commands: Vec::new(alloc),
-            is_whole,
+            lines: Lines::new(alloc),
             is_finished: false,
         }
     }
@@ -32,15 +49,19 @@ impl Kept {
     /// Adds a command.
     pub(crate) fn add(&mut self, command: DrillCommand) -> Result<(), AllocError>
         ensures keeps { (before : List TheCommand) → Keeps self.old before → OnOk result (Keeps self.new (before ++ command ∷ [])) }
-        ensures whole { self.new.is_whole ≡ self.old.is_whole }
+        ensures same { self.new.keeping ≡ self.old.keeping }
     {
         if matches!(command, DrillCommand::Finish) {
             self.is_finished = true;
         }
-        if self.is_whole {
-            self.commands.push(command)?;
+        match self.keeping {
+            Keeping::Nothing => Ok(()),
+            Keeping::Commands => {
+                self.commands.push(command)?;
+                Ok(())
+            }
+            Keeping::Lines => self.lines.add(&command),
         }
-        Ok(())
     }
 
     /// Whether the end of the file is among the commands.
@@ -56,5 +77,13 @@ impl Kept {
     {
         let Kept { commands, .. } = self;
         commands
+    }
+
+    /// The canonical text of the commands, if their lines are kept.
+    pub(crate) fn into_text(self) -> Result<Vec<u8>, Fail>
+        ensures { (commands : List TheCommand) → HoldsLines self.lines commands → AnswersAlways bytes_in (λ answer. answer ≡ written commands) result }
+    {
+        let Kept { lines, .. } = self;
+        lines.finish()
     }
 }

@@ -7,13 +7,16 @@ mod holes_reader;
 mod judge;
 mod kept;
 pub mod laws;
+mod lines;
 mod reader;
+mod rewrite_reader;
 mod writer;
 
 pub use drill::Drill;
 pub use drill_lines::{Coordinates, DrillCommand, Format};
 pub use holes_reader::HolesReader;
 pub use reader::{DrillReader, read_drill};
+pub use rewrite_reader::RewriteReader;
 pub use writer::{drill_sayable, write_drill};
 
 #[cfg(test)]

@@ -11,12 +11,12 @@ ghost use Rattle.drill_lines.specs.Lines.{trimmed};
 ghost use Rattle.drill_lines.specs.Meaning.{meaning};
 ghost use Rattle.drill_text.specs.Outcome.{commands_in, file_of};
 ghost use Rattle.drill_text.specs.Texts.{IsDrillText, ReadsHoles};
-ghost use Rattle.drill_text.specs.Writing.{drill_sayable};
+ghost use Rattle.drill_text.specs.Writing.{drill_sayable, ReadsWritten, bytes_in};
 
 use crate::drill::Drill;
 use crate::hits::leading_hit;
 use crate::judge::Judge;
-use crate::kept::Kept;
+use crate::kept::{Keeping, Kept};
 use drill_lines::{Coordinates, DrillCommand, LineFail, read_line};
 use grid_units::{Fail, Fault, Hole, Reason};
 use std::alloc::Global;
@@ -73,7 +73,7 @@ fn keep(
     kept: &mut Kept,
 ) -> Result<(), Fail>
     ensures leaves { (line : List ℕ) (before : List TheCommand) → length line ≤ 1048576 → meaning judge.old.settings (trimmed line) ≡ Ok (Some command) → Met judge.old kept.old before → Leaves result judge.new kept.new (spelled place byte line before) }
-    ensures whole { kept.new.is_whole ≡ kept.old.is_whole }
+    ensures same { kept.new.keeping ≡ kept.old.keeping }
 {
     match judge.step(&command) {
         Ok(()) => {
@@ -96,7 +96,7 @@ fn spell(
 ) -> Result<(), Fail>
     requires short { length line.now ≤ 1048576 }
     ensures leaves { (before : List TheCommand) → Met judge.old kept.old before → Leaves result judge.new kept.new (spelled place byte line.now before) }
-    ensures whole { kept.new.is_whole ≡ kept.old.is_whole }
+    ensures same { kept.new.keeping ≡ kept.old.keeping }
 {
     match read_line(alloc, judge.settings(), line) {
         Ok(None) => Ok(()),
@@ -112,15 +112,15 @@ impl Progress {
     ghost use Rattle.drill_text.specs.Hits.{LeadsHit};
     ghost use Rattle.drill_text.specs.Standing.{Advances, Refuses, RefusesText, Holds};
 
-    /// Nothing is read. The commands will be kept, or let go of.
-    pub(crate) fn new(alloc: Global, is_whole: bool) -> Progress
+    /// Nothing is read.
+    pub(crate) fn new(alloc: Global, keeping: Keeping) -> Progress
         ensures holds { Holds result [] }
-        ensures whole { result.kept.is_whole ≡ is_whole }
+        ensures keeping { result.kept.keeping ≡ keeping }
     {
         Progress {
             alloc,
             judge: Judge::new(alloc),
-            kept: Kept::new(alloc, is_whole),
+            kept: Kept::new(alloc, keeping),
             line: Vec::new(alloc),
             start: 0,
             offset: 0,
@@ -134,7 +134,7 @@ impl Progress {
         requires room { self.old.offset + length run.now ≤ 268435456 }
         ensures offset { OnOk result (self.new.offset ≡ self.old.offset + length run.now) }
         ensures ok { OnOk result (Advances self.old self.new run.now) }
-        ensures whole { self.new.kept.is_whole ≡ self.old.kept.is_whole }
+        ensures keeping { self.new.kept.keeping ≡ self.old.kept.keeping }
         ensures err { IfErr result (Refuses self.old run.now) }
     {
         if run.len() > LINE_LIMIT - self.line.len() {
@@ -150,7 +150,7 @@ impl Progress {
         requires room { self.old.offset < 268435456 }
         ensures offset { OnOk result (self.new.offset ≡ self.old.offset + 1) }
         ensures ok { OnOk result (Advances self.old self.new (10 ∷ [])) }
-        ensures whole { self.new.kept.is_whole ≡ self.old.kept.is_whole }
+        ensures keeping { self.new.kept.keeping ≡ self.old.kept.keeping }
         ensures err { IfErr result (Refuses self.old (10 ∷ [])) }
     {
         spell(
@@ -176,7 +176,7 @@ impl Progress {
         requires room { self.old.offset + length line.now < 268435456 }
         ensures offset { OnOk result (self.new.offset ≡ self.old.offset + (length line.now + 1)) }
         ensures ok { OnOk result (Advances self.old self.new (line.now ++ 10 ∷ [])) }
-        ensures whole { self.new.kept.is_whole ≡ self.old.kept.is_whole }
+        ensures keeping { self.new.kept.keeping ≡ self.old.kept.keeping }
         ensures err { IfErr result (Refuses self.old (line.now ++ 10 ∷ [])) }
     {
         spell(
@@ -201,7 +201,7 @@ impl Progress {
         requires room { self.old.offset + length bytes.now ≤ 268435456 }
         ensures offset { OnOk result (self.new.offset ≡ self.old.offset + (len + 1)) }
         ensures ok { OnOk result (Advances self.old self.new (take (len + 1) bytes.now)) }
-        ensures whole { self.new.kept.is_whole ≡ self.old.kept.is_whole }
+        ensures keeping { self.new.kept.keeping ≡ self.old.kept.keeping }
         ensures err { IfErr result (Refuses self.old bytes.now) }
     {
         keep(
@@ -223,7 +223,7 @@ impl Progress {
         requires room { self.old.offset + length run.now < 268435456 }
         ensures offset { OnOk result (self.new.offset ≡ self.old.offset + (length run.now + 1)) }
         ensures ok { OnOk result (Advances self.old self.new (run.now ++ 10 ∷ [])) }
-        ensures whole { self.new.kept.is_whole ≡ self.old.kept.is_whole }
+        ensures keeping { self.new.kept.keeping ≡ self.old.kept.keeping }
         ensures err { IfErr result (Refuses self.old (run.now ++ 10 ∷ [])) }
     {
         if self.line.is_empty() && run.len() <= LINE_LIMIT {
@@ -239,7 +239,7 @@ impl Progress {
         requires room { self.old.offset + length bytes.now ≤ 268435456 }
         ensures taken { IfOk result (λ n. (0 < n) × (n ≤ length bytes.now) × (self.new.offset ≡ self.old.offset + n)) }
         ensures ok { IfOk result (λ n. Advances self.old self.new (take n bytes.now)) }
-        ensures whole { self.new.kept.is_whole ≡ self.old.kept.is_whole }
+        ensures keeping { self.new.kept.keeping ≡ self.old.kept.keeping }
         ensures err { IfErr result (Refuses self.old bytes.now) }
     {
         if self.line.is_empty() && self.judge.is_in_body() {
@@ -262,7 +262,7 @@ impl Progress {
         requires room { self.old.offset + length bytes.now ≤ 268435456 }
         ensures offset { OnOk result (self.new.offset ≡ self.old.offset + length bytes.now) }
         ensures ok { OnOk result (Advances self.old self.new bytes.now) }
-        ensures whole { self.new.kept.is_whole ≡ self.old.kept.is_whole }
+        ensures keeping { self.new.kept.keeping ≡ self.old.kept.keeping }
         ensures err { IfErr result (Refuses self.old bytes.now) }
     {
         let mut taken = 0;
@@ -275,7 +275,7 @@ impl Progress {
     /// Takes the next piece of the text.
     pub(crate) fn take(&mut self, piece: &[u8]) -> Result<(), Fail>
         ensures ok { OnOk result (Advances self.old self.new piece.now) }
-        ensures whole { self.new.kept.is_whole ≡ self.old.kept.is_whole }
+        ensures keeping { self.new.kept.keeping ≡ self.old.kept.keeping }
         ensures err { IfErr result (RefusesText self.old piece.now) }
     {
         let room = (TEXT_LIMIT - self.offset) as usize;
@@ -300,7 +300,7 @@ impl Progress {
     /// Reads the line that no LF has ended.
     fn end(&mut self) -> Result<(), Fail>
         ensures leaves { (before : List TheCommand) → Met self.old.judge self.old.kept before → Leaves result self.new.judge self.new.kept (spelled (self.old.lines + 1) self.old.start self.old.line.items before) }
-        ensures whole { self.new.kept.is_whole ≡ self.old.kept.is_whole }
+        ensures keeping { self.new.kept.keeping ≡ self.old.kept.keeping }
         ensures same { OnOk result ((self.new.lines ≡ self.old.lines) × (self.new.line.items ≡ self.old.line.items) × (self.new.offset ≡ self.old.offset)) }
     {
         spell(
@@ -316,7 +316,7 @@ impl Progress {
     /// The judge and what is kept of the commands, if the text has ended.
     fn finish(self) -> Result<(Judge, Kept), Fail>
         ensures ends { (text : List ℕ) → Holds self text → Ends text result }
-        ensures whole { IfOk result (λ p. p.1.is_whole ≡ self.kept.is_whole) }
+        ensures keeping { IfOk result (λ p. p.1.keeping ≡ self.kept.keeping) }
     {
         let mut last = self;
         last.end()?;
@@ -328,12 +328,20 @@ impl Progress {
 
     /// The file, if its text has ended.
     fn finish_drill(self) -> Result<Drill, Fail>
-        ensures exact { self.kept.is_whole ≡ true → (text : List ℕ) → Holds self text → Answers commands_in (Reads text) result }
-        ensures file { self.kept.is_whole ≡ true → (text : List ℕ) → Holds self text → IfOk result (λ drill. drill ≡ file_of drill.commands) }
+        ensures exact { self.kept.keeping ≡ Keeping.Commands → (text : List ℕ) → Holds self text → Answers commands_in (Reads text) result }
+        ensures file { self.kept.keeping ≡ Keeping.Commands → (text : List ℕ) → Holds self text → IfOk result (λ drill. drill ≡ file_of drill.commands) }
     {
         let (judge, kept) = self.finish()?;
         let (holes, tools) = judge.into_parts();
         Ok(Drill::new(kept.into_commands(), holes, tools))
+    }
+
+    /// The canonical text, if the text has ended.
+    pub(crate) fn finish_lines(self) -> Result<Vec<u8>, Fail>
+        ensures { self.kept.keeping ≡ Keeping.Lines → (text : List ℕ) → Holds self text → Answers bytes_in (ReadsWritten text) result }
+    {
+        let (_, kept) = self.finish()?;
+        kept.into_text()
     }
 
     /// The holes, if the text has ended.
@@ -364,7 +372,7 @@ impl DrillReader {
         ensures { StandsAfter result [] }
     {
         DrillReader {
-            progress: Progress::new(alloc, true),
+            progress: Progress::new(alloc, Keeping::Commands),
             failed: None,
         }
     }

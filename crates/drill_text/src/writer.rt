@@ -1,7 +1,9 @@
 //! The canonical text of a list of commands.
 
 ghost use Rattle.std.specs.Prelude.{◌≡◌, ◌≤◌, ◌++◌, ◌∷◌, [], true, length, vec_len, IfOk, IfErr, OnOk, Ok, Err};
-ghost use Rattle.grid_units.specs.Results.{Answers};
+ghost use Rattle.grid_units.specs.Results.{Answers, fault};
+ghost use Rattle.grid_units.specs.declared.fault.Fail.TheVariants.{Refused};
+ghost use Rattle.grid_units.specs.declared.fault.Reason.TheVariants.{TooLong};
 ghost use Rattle.drill_lines.specs.Writing.{canonical, IsTyped};
 ghost use Rattle.drill_text.specs.Texts.{SpellsText};
 ghost use Rattle.drill_text.specs.Writing.{part_behind, is_over, drill_sayable, written, bytes_in};
@@ -11,7 +13,7 @@ use grid_units::{Fail, Fault, Reason};
 use std::alloc::{AllocError, Global};
 
 /// The longest text.
-const TEXT_LIMIT: usize = 268_435_456;
+pub(crate) const TEXT_LIMIT: usize = 268_435_456;
 
 /// The part of a file behind one more command.
 fn part_behind(part: Part, command: &DrillCommand) -> Part
@@ -47,13 +49,24 @@ pub fn drill_sayable(commands: &[DrillCommand]) -> bool
 }
 
 /// Appends the line of a command and its LF.
-fn push_line(text: &mut Vec<u8>, command: &DrillCommand) -> Result<(), AllocError>
+pub(crate) fn push_line(text: &mut Vec<u8>, command: &DrillCommand) -> Result<(), AllocError>
     ensures items { OnOk result (text.new.items ≡ text.old.items ++ (canonical command.now ++ 10 ∷ [])) }
     ensures typed { OnOk result (IsTyped command.now) }
 {
     push_canonical(text, command)?;
     text.push(b'\n')?;
     Ok(())
+}
+
+/// The refusal of a text that would be too long.
+pub(crate) fn too_long() -> Fail
+    ensures { result ≡ Refused (fault 0 0 TooLong) }
+{
+    Fail::Refused(Fault {
+        place: 0,
+        byte: 0,
+        reason: Reason::TooLong,
+    })
 }
 
 /// The canonical text of a list, which spells just the list.
@@ -70,11 +83,7 @@ pub fn write_drill(alloc: Global, commands: &[DrillCommand]) -> Result<Vec<u8>, 
     for command in commands {
         push_line(&mut text, command)?;
         if text.len() > TEXT_LIMIT {
-            return Err(Fail::Refused(Fault {
-                place: 0,
-                byte: 0,
-                reason: Reason::TooLong,
-            }));
+            return Err(too_long());
         }
     }
     Ok(text)

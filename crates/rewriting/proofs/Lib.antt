@@ -2,3 +2,4 @@ pub mod Ranges
 pub mod Typed
 pub mod Again
 pub mod Once
+pub mod Written

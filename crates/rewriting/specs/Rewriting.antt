@@ -4,9 +4,8 @@ use Rattle.grid_units.specs.declared.fault.Fault.{Fault}
 use Rattle.gerber_text.specs.Writing.{canonical_text, without_places}
 use Rattle.layer_image.specs.Layers.{LayerImage, ReadsLayer}
 use Rattle.drill_lines.specs.declared.command.DrillCommand.{DrillCommand}
-use Rattle.drill_text.specs.Reading as drills
 use Rattle.drill_text.specs.Texts.{IsDrillText}
-use Rattle.drill_text.specs.Writing.{written}
+use Rattle.drill_text.specs.Writing.{ReadsWritten}
 use Rattle.rewriting.specs.declared.Kind.{Kind}
 use Rattle.rewriting.specs.declared.Kind.TheVariants as kind
 
@@ -17,8 +16,7 @@ RewritesLayer bytes (Err fault) = ReadsLayer bytes (Err fault) ⊎ ((layer : Lay
 
 -- the bytes are a drill text of commands that have this canonical text; or they have this fault, or that text is too long (docs/DEFINITIONS.md, Rewriting)
 abbrev pub RewritesDrill : List ℕ → Result (List ℕ) Fault → Type 0
-RewritesDrill bytes (Ok text) = (commands : List DrillCommand) × IsDrillText bytes commands × (written commands ≡ Ok text)
-RewritesDrill bytes (Err fault) = drills.Reads bytes (Err fault) ⊎ ((commands : List DrillCommand) × IsDrillText bytes commands × (written commands ≡ Err fault))
+RewritesDrill bytes answer = ReadsWritten bytes answer
 
 -- the bytes, read as a file of this kind, are written anew as this text, or there is this fault (docs/DEFINITIONS.md, Rewriting)
 abbrev pub Rewrites : Kind → List ℕ → Result (List ℕ) Fault → Type 0

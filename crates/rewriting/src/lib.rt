@@ -2,6 +2,8 @@
 #![tactic(auto)]
 
 pub mod laws;
+mod layer_writer;
+mod lines;
 mod rewrite;
 
 pub use rewrite::rewrite_bytes;

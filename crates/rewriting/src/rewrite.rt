@@ -1,36 +1,74 @@
 //! A text, read and written anew.
 
-ghost use Rattle.std.specs.Prelude.{◌≡◌, ◌++◌};
-ghost use Rattle.grid_units.specs.Results.{Answers};
+ghost use Rattle.std.specs.Prelude.{◌≡◌, ◌++◌, ℕ, List, Ok, Err, OnOk, IfErr};
+ghost use Rattle.grid_units.specs.Results.{Answers, Tells};
+ghost use Rattle.gerber_text.specs.Writing.{canonical_text, without_places};
+ghost use Rattle.layer_image.specs.Layers.{LayerImage, ReadsLayer};
 ghost use Rattle.rewriting.specs.Rewriting.{Rewrites, RewritesDrill, RewritesLayer};
 
 use crate::Kind;
-use drill_text::{read_drill, write_drill};
-use gerber_text::write_placed;
+use crate::layer_writer::LayerWriter;
+use drill_text::RewriteReader;
+use drill_text::laws::faults_stay;
 use grid_units::Fail;
-use layer_image::read_layer;
+use layer_image::{SumReader, shown_faults};
 use std::alloc::Global;
 
+/// How many bytes of a layer are read at a time, so that no more of its commands are held.
+const PIECE: usize = 65_536;
+
+/// Whether the bytes are a legal layer.
+fn check_layer(alloc: Global, bytes: &[u8]) -> Result<(), Fail>
+    ensures ok { OnOk result ((image : LayerImage) × ReadsLayer bytes.now (Ok image)) }
+    ensures err { IfErr result (Tells (λ f. ReadsLayer bytes.now (Err f))) }
+{
+    shown_faults();
+    let mut reader = SumReader::new(alloc);
+    for piece in bytes.chunks(PIECE) {
+        reader.feed(piece)?;
+    }
+    let _sum = reader.finish()?;
+    Ok(())
+}
+
+/// The canonical text of a legal layer.
+fn write_layer(alloc: Global, bytes: &[u8]) -> Result<Vec<u8>, Fail>
+    ensures { (image : LayerImage) → ReadsLayer bytes.now (Ok image) → Answers (λ text. text.items) (λ answer. answer ≡ canonical_text (without_places image.commands)) result }
+{
+    let mut writer = LayerWriter::new(alloc);
+    for piece in bytes.chunks(PIECE) {
+        writer.take(piece)?;
+    }
+    writer.finish()
+}
+
+/// The canonical text of a layer. The bytes are read twice, and nothing is kept of the first reading, so that the commands of
+/// a piece of them alone are held at a time.
 fn rewrite_layer(alloc: Global, bytes: &[u8]) -> Result<Vec<u8>, Fail>
     ensures { Answers (λ text. text.items) (RewritesLayer bytes.now) result }
 {
-    let layer = read_layer(alloc, bytes)?;
-    write_placed(alloc, layer.commands())
+    check_layer(alloc, bytes)?;
+    write_layer(alloc, bytes)
 }
 
+/// The canonical text of a drill file, of which no command is kept.
 fn rewrite_drill(alloc: Global, bytes: &[u8]) -> Result<Vec<u8>, Fail>
     ensures { Answers (λ text. text.items) (RewritesDrill bytes.now) result }
 {
-    let drill = read_drill(alloc, bytes)?;
-    write_drill(alloc, drill.commands())
+    faults_stay();
+    let mut reader = RewriteReader::new(alloc);
+    reader.feed(bytes)?;
+    reader.finish()
 }
 
-/// The canonical text of what the bytes spell, as a layer or as a drill file.
+/// The canonical text of what the bytes spell, as a layer or as a drill file. It takes memory for that text, for what the
+/// layer's flashes or the drill file's holes take, and for the commands of 65,536 bytes, but not for all commands.
 ///
 /// # Errors
 ///
-/// The first fault of the bytes, as [`read_layer`] or [`read_drill`] gives it; [`grid_units::Reason::TooLong`] at place 0
-/// and byte 0 where the text would be above 268,435,456 bytes; `Memory` where a growth was refused.
+/// The first fault of the bytes, as [`layer_image::read_layer`] or [`drill_text::read_drill`] gives it;
+/// [`grid_units::Reason::TooLong`] at place 0 and byte 0 where the text would be above 268,435,456 bytes; `Memory` where a
+/// growth was refused.
 pub fn rewrite_bytes(alloc: Global, kind: Kind, bytes: &[u8]) -> Result<Vec<u8>, Fail>
     ensures exact { Answers (λ text. text.items) (Rewrites kind bytes.now) result }
 {

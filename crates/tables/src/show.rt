@@ -2,16 +2,21 @@
 
 ghost use Rattle.std.specs.Prelude.{◌≡◌, IfOk};
 ghost use Rattle.grid_units.specs.Results.{Answers};
+ghost use Rattle.drill_text.specs.Texts.{ReadsHoles};
+ghost use Rattle.layer_image.specs.Standing.{ReadsFlashes};
 ghost use Rattle.tables.specs.Tables.{ShowsDrill, ShowsLayer, drill_header, drill_table, layer_header, layer_table};
 
 use crate::fields::{with_flash, with_hole};
 use crate::table::Table;
 use csv::Error;
-use drill_text::laws::drill_texts;
-use drill_text::read_drill;
+use drill_text::HolesReader;
+use drill_text::laws::faults_stay;
 use grid_units::{Fail, Hole};
-use layer_image::{Flash, read_layer};
+use layer_image::{Flash, FlashReader, shown_faults};
 use std::alloc::Global;
+
+/// How many bytes of a layer are read at a time, so that no more of its commands are held.
+const PIECE: usize = 65_536;
 
 /// The header of a table of flashes.
 fn layer_header(alloc: Global) -> Result<Table, Error>
@@ -67,6 +72,28 @@ fn drill_table(alloc: Global, holes: &[Hole]) -> Result<Vec<u8>, Error>
     table.into_bytes()
 }
 
+/// The flashes of a layer, of which no command is kept.
+fn read_flashes(alloc: Global, bytes: &[u8]) -> Result<Vec<Flash>, Fail>
+    ensures { Answers (λ flashes. flashes.items) (ReadsFlashes bytes.now) result }
+{
+    shown_faults();
+    let mut reader = FlashReader::new(alloc);
+    for piece in bytes.chunks(PIECE) {
+        reader.feed(piece)?;
+    }
+    reader.finish()
+}
+
+/// The holes of a drill file, of which no command is kept.
+fn read_holes(alloc: Global, bytes: &[u8]) -> Result<Vec<Hole>, Fail>
+    ensures { Answers (λ holes. holes.items) (ReadsHoles bytes.now) result }
+{
+    faults_stay();
+    let mut reader = HolesReader::new(alloc);
+    reader.feed(bytes)?;
+    reader.finish()
+}
+
 /// The table of a layer's flashes: a row for each, numbered from 1, with what it leaves, its point, and the width
 /// and height of a pad, in millimetres with nine decimals.
 ///
@@ -76,8 +103,8 @@ fn drill_table(alloc: Global, holes: &[Hole]) -> Result<Vec<u8>, Error>
 pub fn show_layer(alloc: Global, bytes: &[u8]) -> Result<Vec<u8>, Fail>
     ensures exact { Answers (λ text. text.items) (ShowsLayer bytes.now) result }
 {
-    let layer = read_layer(alloc, bytes)?;
-    match layer_table(alloc, layer.flashes()) {
+    let flashes = read_flashes(alloc, bytes)?;
+    match layer_table(alloc, &flashes) {
         Ok(text) => Ok(text),
         Err(_) => Err(Fail::Memory),
     }
@@ -92,9 +119,8 @@ pub fn show_layer(alloc: Global, bytes: &[u8]) -> Result<Vec<u8>, Fail>
 pub fn show_drill(alloc: Global, bytes: &[u8]) -> Result<Vec<u8>, Fail>
     ensures exact { Answers (λ text. text.items) (ShowsDrill bytes.now) result }
 {
-    drill_texts();
-    let drill = read_drill(alloc, bytes)?;
-    match drill_table(alloc, drill.holes()) {
+    let holes = read_holes(alloc, bytes)?;
+    match drill_table(alloc, &holes) {
         Ok(text) => Ok(text),
         Err(_) => Err(Fail::Memory),
     }

@@ -1,10 +1,12 @@
-use Rattle.std.proofs.Common.{◌≡◌, ℕ, ◌+◌, ◌<◌, ◌≤◌, List, [], ◌∷◌, ◌++◌, length, take, get_or, sym, ap, subst, ◌∙◌, arith}
+use Rattle.std.proofs.Common.{◌≡◌, ℕ, ◌+◌, ◌<◌, ◌≤◌, List, [], ◌∷◌, ◌++◌, Err, length, take, get_or, sym, ap, subst, ◌∙◌, arith}
 use Rattle.std.proofs.lemmas.List.{take_more, take_all}
 use Rattle.drill_lines.specs.declared.command.DrillCommand.{DrillCommand}
 use Rattle.drill_lines.specs.Writing.{canonical}
 use Rattle.drill_text.specs.Reading.{text_limit}
 use Rattle.drill_text.specs.Texts.{SpellsText}
-use Rattle.drill_text.specs.Writing.{canonical_text}
+use Rattle.drill_text.specs.Writing.{canonical_text, written, bytes_in}
+use Rattle.grid_units.specs.declared.fault.Fail.{Fail}
+use Rattle.grid_units.specs.Results.{Answers}
 use Rattle.drill_text.proofs.RoundTrip.{AreTyped, typed_none, typed_more, text_more, text_front, written_long, written_short, round_trip}
 use Rattle.drill_text.proofs.writer.write_drill.Goals as goal
 
@@ -30,14 +32,14 @@ loop-command-preserved c =
       within = omega arith;
     }
 
-pub returns-then-len-gt-TEXT_LIMIT : goal.returns-then-len-gt-TEXT_LIMIT
-returns-then-len-gt-TEXT_LIMIT c =
+pub returns-then-len-gt-TEXT_LIMIT-clause-exact : goal.returns-then-len-gt-TEXT_LIMIT-clause-exact
+returns-then-len-gt-TEXT_LIMIT-clause-exact c =
     let cs = c.args.commands.now in
     let n = c.loop-command.command-index in
     let new = c.push_line.new.text in
     let text = text_so_far cs n c.command-item.result c.loop-command.text.items new.items c.loop-command-test.true c.command-item.is c.loop-command.invariant.text c.in_ok-push_line.ensures.items in
     let long : text_limit < length (canonical_text cs) = omega (arith, new.ok.0, ap length text, text_front cs (n + 1)) in
-    record { exact = written_long cs long; reads_back = tt }
+    subst (λ (e : Fail). Answers bytes_in (λ answer. answer ≡ written cs) (Err e)) (sym c.too_long.ensures) (written_long cs long)
 
 pub returns : goal.returns
 returns c =

@@ -19,13 +19,13 @@ returns-in_err-judge-clause-file c whole text h =
 pub returns-clause-exact : goal.returns-clause-exact
 returns-clause-exact c whole text h =
     let k = c.in_ok-judge.ensures.ends text h in
-    let kept = c.into_commands.ensures ∙ k.2.keeps.whole (c.in_ok-judge.ensures.whole ∙ whole) in
+    let kept = c.into_commands.ensures ∙ k.2.keeps.whole (c.in_ok-judge.ensures.keeping ∙ whole) in
     subst (λ (x : List DrillCommand). Reads text (Ok x)) (sym (ap (λ (d : DrillFile). d.commands) c.new.ensures ∙ kept)) k.1
 
 pub returns-clause-file : goal.returns-clause-file
 returns-clause-file c whole text h =
     let k = c.in_ok-judge.ensures.ends text h in
-    let kept = c.into_commands.ensures ∙ k.2.keeps.whole (c.in_ok-judge.ensures.whole ∙ whole) in
+    let kept = c.into_commands.ensures ∙ k.2.keeps.whole (c.in_ok-judge.ensures.keeping ∙ whole) in
     let parts = c.into_parts-holes.ensures in
     let is : c.new.result ≡ file_of k.0 = c.new.ensures ∙ ((λ i. record { commands = kept i; holes = (parts i).0.items; tools = (parts i).1.entries }) ∙ file_is c.in_ok-judge.judge k.0 k.2.knows) in
     is ∙ ap (λ (d : DrillFile). file_of d.commands) (sym is)

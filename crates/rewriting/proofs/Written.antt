@@ -1,0 +1,78 @@
+-- A legal layer that is read again, and written as it is read.
+use Rattle.std.proofs.Common.{◌≡◌, ℕ, List, ◌++◌, Result, Ok, Err, sym, ap, subst, append-nil, [], ◌∷◌, length, arith, ◌∙◌, inl, inr}
+use Rattle.std.specs.Global.{Vec}
+use Rattle.grid_units.specs.declared.fault.Fault.{Fault}
+use Rattle.grid_units.specs.declared.fault.Fail.{Fail}
+use Rattle.grid_units.specs.declared.fault.Fail.TheVariants as fails
+use Rattle.grid_units.specs.Results.{Answers, AnswersAlways, Tells}
+use Rattle.drill_text.specs.Reading as drills
+use Rattle.drill_text.specs.Writing.{ReadsWritten}
+use Rattle.gerber_text.specs.Reading.{Entries, Shows, Reads, entries_behind}
+use Rattle.gerber_text.specs.Standing.{FailsWith}
+use Rattle.gerber_text.specs.Writing.{canonical_text, without_places}
+use Rattle.gerber_text.proofs.Unique.{one_read}
+use Rattle.gerber_text.proofs.Whole.{shows_reads}
+use Rattle.gerber_text.proofs.Longer.{fails_longer}
+use Rattle.layer_image.specs.Layers.{LayerImage, ReadsLayer}
+use Rattle.layer_image.specs.Standing.{ShowsLayerFault, ReadsSum, sum_view}
+use Rattle.rewriting.specs.Rewriting.{RewritesLayer}
+use Rattle.rewriting.specs.Writing.{StopsIn}
+
+pub stops : (text : List ℕ) (cs : Entries) (e : Fail) → FailsWith text cs e → Tells (StopsIn text) e
+stops text cs fails.Memory h = tt
+stops text cs (fails.Refused f) h = (cs, h)
+
+-- a text that spells commands has no fault
+no_fault : (text : List ℕ) (cs : Entries) (f : Fault) → Reads text (Ok cs) → Reads text (Err f) → ⊥
+no_fault text cs f h k = let e : (let x : Result Entries Fault = Ok cs in let y : Result Entries Fault = Err f in x ≡ y) = one_read text (Ok cs) (Err f) h k in cc
+
+pub same_commands : (text : List ℕ) (cs ds : Entries) → Reads text (Ok cs) → Reads text (Ok ds) → cs ≡ ds
+same_commands text cs ds h k = let e : (let x : Result Entries Fault = Ok cs in let y : Result Entries Fault = Ok ds in x ≡ y) = one_read text (Ok cs) (Ok ds) h k in cc
+
+pub legal_ends : {T V : Type 0} (view : T → V) (P : Result V Fault → Type 0) (text : List ℕ) (gone : Entries) (image : LayerImage) (e : Fail) → ReadsLayer text (Ok image)
+    → AnswersAlways (entries_behind gone) (λ answer. Reads text answer) (Err e) → Answers view P (Err e)
+legal_ends view P text gone image fails.Memory h k = tt
+legal_ends view P text gone image (fails.Refused f) h k = absurd (no_fault text image.commands f h.0 k)
+
+pub legal_goes_on : {T V : Type 0} (view : T → V) (P : Result V Fault → Type 0) (text more whole : List ℕ) (image : LayerImage) (e : Fail) → text ++ more ≡ whole → ReadsLayer whole (Ok image)
+    → Tells (StopsIn text) e → Answers view P (Err e)
+legal_goes_on view P text more whole image fails.Memory is h k = tt
+legal_goes_on view P text more whole image (fails.Refused f) is h k =
+    let on = fails_longer text more k.0 (fails.Refused f) k.1 in
+    absurd (no_fault whole image.commands f h.0 (subst (λ (t : List ℕ). Reads t (Err f)) is (shows_reads (text ++ more) f on.told)))
+
+pub from_always : {T V : Type 0} (view : T → V) (P : Result V Fault → Type 0) (r : Result T Fail) → AnswersAlways view P r → Answers view P r
+from_always view P (Ok x) h = h
+from_always view P (Err fails.Memory) h = tt
+from_always view P (Err (fails.Refused f)) h = h
+
+-- the fault that a layer shows so far is that of the whole text
+pub joined : ((text more : List ℕ) (f : Fault) → ShowsLayerFault text f → ReadsLayer (text ++ more) (Err f)) → (text more whole : List ℕ) (e : Fail) → text ++ more ≡ whole → Tells (ShowsLayerFault text) e
+    → Tells (λ f. ReadsLayer whole (Err f)) e
+joined law text more whole fails.Memory is h = tt
+joined law text more whole (fails.Refused f) is h = subst (λ (t : List ℕ). ReadsLayer t (Err f)) is (law text more f h)
+
+-- the canonical text of a layer is what it is written anew as
+pub layer_written : (bytes : List ℕ) (image : LayerImage) (r : Result (Vec ℕ) Fail) → ReadsLayer bytes (Ok image) → Answers (λ (v : Vec ℕ). v.items) (λ answer. answer ≡ canonical_text (without_places image.commands)) r
+    → Answers (λ (v : Vec ℕ). v.items) (RewritesLayer bytes) r
+layer_written bytes image (Ok v) h is = (image, h, sym is)
+layer_written bytes image (Err fails.Memory) h is = tt
+layer_written bytes image (Err (fails.Refused f)) h is = inr (image, h, sym is)
+
+pub layer_refused : (bytes : List ℕ) (e : Fail) → Tells (λ f. ReadsLayer bytes (Err f)) e → Answers (λ (v : Vec ℕ). v.items) (RewritesLayer bytes) (Err e)
+layer_refused bytes fails.Memory h = tt
+layer_refused bytes (fails.Refused f) h = inl h
+
+pub drill_refused : ((text more : List ℕ) (f : Fault) → drills.Shows text (Err f) → drills.Reads (text ++ more) (Err f)) → (text whole : List ℕ) (e : Fail) → text ≡ whole → Tells (λ f. drills.Shows text (Err f)) e
+    → Answers (λ (v : Vec ℕ). v.items) (ReadsWritten whole) (Err e)
+drill_refused law text whole fails.Memory is h = tt
+drill_refused law text whole (fails.Refused f) is h = inl (subst (λ (t : List ℕ). drills.Reads t (Err f)) (append-nil text ∙ is) (law text [] f h))
+
+-- all pieces were taken
+pub done_all : (done rest bytes : List ℕ) → length rest ≡ 0 → done ++ rest ≡ bytes → done ≡ bytes
+done_all done [] bytes e h = sym (append-nil done) ∙ h
+done_all done (b ∷ bs) bytes e h = absurd (omega arith)
+
+pub sum_refused : (bytes : List ℕ) (e : Fail) → Answers sum_view (ReadsSum bytes) (Err e) → Tells (λ f. ReadsLayer bytes (Err f)) e
+sum_refused bytes fails.Memory h = tt
+sum_refused bytes (fails.Refused f) h = h

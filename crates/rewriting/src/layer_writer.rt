@@ -1,0 +1,59 @@
+//! A legal layer that is written anew as it is read, a piece at a time.
+
+ghost use Rattle.std.specs.Prelude.{◌≡◌, ◌++◌, [], ℕ, List, Ok, OnOk, IfErr};
+ghost use Rattle.grid_units.specs.Results.{Answers, Tells};
+ghost use Rattle.gerber_text.specs.Writing.{canonical_text, without_places};
+
+use crate::lines::Lines;
+use gerber_text::WordReader;
+use grid_units::Fail;
+use std::alloc::Global;
+
+/// The lines of the items that have ended so far. Their commands are let go of.
+#[derive(Drop)]
+pub(crate) struct LayerWriter {
+    alloc: Global,
+    words: WordReader,
+    lines: Lines,
+}
+
+impl LayerWriter {
+    ghost use Rattle.layer_image.specs.Layers.{LayerImage, ReadsLayer};
+    ghost use Rattle.rewriting.specs.Writing.{WritesAfter, StopsIn};
+
+    /// Nothing is read.
+    pub(crate) fn new(alloc: Global) -> LayerWriter
+        ensures { WritesAfter result [] }
+    {
+        LayerWriter {
+            alloc,
+            words: WordReader::new(alloc),
+            lines: Lines::new(alloc),
+        }
+    }
+
+    /// Takes the next piece of the text.
+    pub(crate) fn take(&mut self, piece: &[u8]) -> Result<(), Fail>
+        ensures ok { (text : List ℕ) → WritesAfter self.old text → OnOk result (WritesAfter self.new (text ++ piece.now)) }
+        ensures err { (text : List ℕ) → WritesAfter self.old text → IfErr result (Tells (StopsIn (text ++ piece.now))) }
+    {
+        self.words.feed(piece)?;
+        self.lines.add(self.alloc, self.words.commands())?;
+        self.words.let_go();
+        Ok(())
+    }
+
+    /// The canonical text of the layer.
+    pub(crate) fn finish(self) -> Result<Vec<u8>, Fail>
+        ensures { (text : List ℕ) (image : LayerImage) → WritesAfter self text → ReadsLayer text (Ok image) → Answers (λ v. v.items) (λ answer. answer ≡ canonical_text (without_places image.commands)) result }
+    {
+        let LayerWriter {
+            alloc,
+            words,
+            mut lines,
+        } = self;
+        let commands = words.finish()?;
+        lines.add(alloc, &commands)?;
+        lines.finish()
+    }
+}
