@@ -10,6 +10,7 @@ pub mod Some
 pub mod Spelling
 pub mod Splitting
 pub mod Steps
+pub mod Told
 pub mod Unique
 pub mod Whole
 pub mod Written

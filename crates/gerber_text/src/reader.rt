@@ -9,6 +9,7 @@ ghost use Rattle.gerber_rows.specs.Items.{ender};
 ghost use Rattle.gerber_rows.specs.declared.command.Command.TheVariants.{Mode};
 ghost use Rattle.gerber_text.specs.Reading.{Entries, Shows, spelled, placed, Leaves, plot_of, is_plotting, Reads, SpellsText, Keeps, KeptBefore, entries_of, entries_behind, is_blank};
 ghost use Rattle.gerber_text.specs.Bytes.{IsInside, IsFront, follows_or_drops};
+ghost use Rattle.gerber_text.specs.Reasons.{IsReasonOfReading};
 ghost use Rattle.gerber_text.specs.Writing.{without_places, sayable};
 
 use crate::placed::Placed;
@@ -695,10 +696,12 @@ pub fn read_kept(alloc: Global, bytes: &[u8]) -> Kept
     reader.into_kept()
 }
 
-/// A text shows one thing, and has one reading, which is some commands just where the text spells them.
+/// A text shows one thing, and has one reading, which is some commands just where the text spells them, or a fault for one
+/// of the reasons of reading.
 pub fn one_reading()
     ensures shown { (text : List ℕ) (a b : Result Entries Fault) → Shows text a → Shows text b → a ≡ b }
     ensures read { (text : List ℕ) (a b : Result Entries Fault) → Reads text a → Reads text b → a ≡ b }
     ensures some { (text : List ℕ) → (answer : Result Entries Fault) × Reads text answer }
     ensures spelled { (text : List ℕ) (commands : Entries) → SpellsText text commands ↔ Reads text (Ok commands) }
+    ensures reasons { (text : List ℕ) (f : Fault) → Reads text (Err f) → IsReasonOfReading f.reason }
 {}
