@@ -1,5 +1,5 @@
 -- Each two holes have a gap, so the nearest two tell the greatest gap that a board meets.
-use Rattle.std.proofs.Common.{◌≡◌, ◌↔◌, ℕ, ℤ, pos, zero, suc, ◌+◌, ◌*◌, ◌<◌, ◌≤◌, ◌-ℤ◌, ◌≤ℤ◌, inl, inr, Option, Some, None, List, arith}
+use Rattle.std.proofs.Common.{◌↔◌, ℕ, ℤ, pos, zero, suc, ◌+◌, ◌*◌, ◌<◌, ◌≤◌, ◌-ℤ◌, inl, inr, List, arith}
 use Rattle.std.proofs.lemmas.Bool.{cases_lt}
 use Rattle.grid_units.specs.Points.{square}
 use Rattle.grid_units.specs.Holes.{GridHole}

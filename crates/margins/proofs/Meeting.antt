@@ -1,5 +1,5 @@
 -- What is met, pair by pair.
-use Rattle.std.proofs.Common.{◌≡◌, ℕ, ℤ, ◌+◌, ◌<◌, ◌≤◌, ◌≤ℤ◌, ◌⊎◌, inl, inr, Bool, true, false, Option, Some, None, List, [], length, get_or, refl, sym, subst, ap, ◌∙◌, arith}
+use Rattle.std.proofs.Common.{◌≡◌, ℕ, ℤ, ◌+◌, ◌<◌, ◌≤ℤ◌, ◌⊎◌, inl, inr, Bool, true, false, Option, Some, None, List, [], length, get_or, refl, sym, subst, ap, ◌∙◌, arith}
 use Rattle.std.specs.Int.{int_min}
 use Rattle.std.proofs.lemmas.Int.{ints, clamps, by_lt_z}
 use Rattle.std.proofs.lemmas.Bool.{cases_lt}
@@ -9,7 +9,7 @@ use Rattle.grid_units.specs.Holes.{GridHole}
 use Rattle.ring_rules.specs.Places.{nowhere}
 use Rattle.ring_rules.specs.Meeting.{hole_at}
 use Rattle.ring_rules.specs.declared.finding.Drilled.{Drilled}
-use Rattle.margins.specs.Meets.{LacksOne, HasLeast, IsLeast, AsksRing, AsksOn, AsksBefore, HasRing, IsRingOf, asks_ring, least_of, ring_by}
+use Rattle.margins.specs.Meets.{HasLeast, IsLeast, AsksRing, AsksOn, AsksBefore, HasRing, IsRingOf, asks_ring, least_of, ring_by}
 use Rattle.margins.specs.Bests.{IsBestPad, AreBest}
 use Rattle.margins.specs.declared.best.Best.{Best}
 use Rattle.margins.specs.declared.met.Met.{Met}

@@ -1,10 +1,9 @@
 -- The nearest of some pairs of holes, pair by pair.
-use Rattle.std.proofs.Common.{◌≡◌, ℕ, ℤ, pos, ◌+◌, ◌<◌, ◌≤◌, ◌+ℤ◌, ◌≤ℤ◌, ◌⊎◌, inl, inr, Option, Some, None, List, length, get_or, refl, sym, subst, ap, ◌∙◌, arith}
+use Rattle.std.proofs.Common.{◌≡◌, ℕ, ℤ, pos, ◌+◌, ◌<◌, ◌+ℤ◌, ◌≤ℤ◌, ◌⊎◌, inl, inr, Option, Some, None, List, length, get_or, refl, sym, subst, ◌∙◌, arith}
 use Rattle.std.specs.Prelude.{unsigned_abs}
 use Rattle.std.proofs.lemmas.Int.{ints}
 use Rattle.std.proofs.lemmas.Bool.{cases_lt}
 use Rattle.std.proofs.lemmas.List.{get_or_default}
-use Rattle.grid_units.specs.Points.{square}
 use Rattle.grid_units.specs.Holes.{GridHole}
 use Rattle.ring_rules.specs.Places.{nowhere}
 use Rattle.ring_rules.specs.Meeting.{hole_at}

@@ -1,6 +1,6 @@
 -- What a board meets says under which rules nothing is found.
-use Rattle.std.proofs.Common.{◌≡◌, ◌↔◌, ℕ, ℤ, pos, zero, suc, ◌+◌, ◌<◌, ◌≤◌, ◌+ℤ◌, ◌-ℤ◌, ◌≤ℤ◌, inl, inr, Bool, true, false, cond, Option, Some, None, List, [], ◌∷◌, ◌++◌, map, length, get_or, refl, sym, subst, ap, ◌∙◌, arith}
-use Rattle.std.specs.Prelude.{not, ◌&&◌, ◌||◌, nat_lt, nat_le}
+use Rattle.std.proofs.Common.{◌≡◌, ℕ, ℤ, pos, zero, suc, ◌+◌, ◌<◌, ◌≤◌, ◌+ℤ◌, ◌-ℤ◌, ◌≤ℤ◌, inl, inr, Bool, true, false, cond, List, [], ◌∷◌, ◌++◌, map, length, get_or, refl, sym, ap, ◌∙◌, arith}
+use Rattle.std.specs.Prelude.{not, ◌&&◌, ◌||◌, nat_lt}
 use Rattle.std.specs.List.{filter, flat_map, enumerate_from, list_any, Contains}
 use Rattle.std.proofs.lemmas.Int.{ints}
 use Rattle.std.proofs.lemmas.Bool.Decides.{nat_tests}
@@ -10,7 +10,6 @@ use Rattle.std.proofs.lemmas.List.FromFn.{get_or-enumerate_from, length-enumerat
 use Rattle.std.proofs.lemmas.List.Folds.{list_any_at}
 use Rattle.grid_units.specs.Points.{GridPoint, square}
 use Rattle.grid_units.specs.Holes.{GridHole}
-use Rattle.pad_shapes.specs.Shapes.{covers_ends}
 use Rattle.ring_rules.specs.Cores.{square_of_cores, are_clear}
 use Rattle.ring_rules.specs.Places.{nowhere}
 use Rattle.ring_rules.specs.Meeting.{hole_at}
@@ -20,7 +19,6 @@ use Rattle.ring_rules.specs.declared.finding.Finding.TheVariants.{Gap}
 use Rattle.margins.specs.Depths.{CoversLess}
 use Rattle.margins.specs.Gaps.{IsGap}
 use Rattle.margins.specs.Bests.{IsBare}
-use Rattle.margins.specs.Nearness.{IsPair}
 use Rattle.margins.specs.Meets.{asks_ring, IsRing, RingsPassExactly, GapsPassExactly}
 use Rattle.margins.specs.declared.met.Met.TheVariants as mets
 

@@ -1,5 +1,5 @@
 use Rattle.std.proofs.Common.{subst, sym}
-use Rattle.margins.specs.Meets.{MeetsGaps, GapsPass}
+use Rattle.margins.specs.Meets.{MeetsGaps}
 use Rattle.margins.specs.declared.met.Met.TheVariants as mets
 use Rattle.margins.proofs.Existing.{nearest_least}
 use Rattle.margins.proofs.Passing.{gaps_pass}

@@ -1,8 +1,7 @@
-use Rattle.std.proofs.Common.{◌≡◌, ◌+◌, Bor, List, [], true, false, map, get_or, subst, sym, ap, ◌∙◌}
+use Rattle.std.proofs.Common.{◌≡◌, ◌+◌, [], map, get_or, subst, sym, ap, ◌∙◌}
 use Rattle.std.proofs.lemmas.List.{get_or-map, get_or_default}
 use Rattle.ring_rules.specs.Places.{nowhere}
 use Rattle.margins.specs.Meets.{IsLeast, AsksRing, AsksBefore, HasRing, asks_ring}
-use Rattle.margins.specs.declared.met.Met.{Met}
 use Rattle.margins.proofs.Meeting.{hole_by_best, hole_asks_none}
 use Rattle.margins.proofs.met.with_layer.Goals as goal
 use Rattle.margins.proofs.met.with_layer.Goals.{then-asks_ring, else-asks_ring}
