@@ -11,3 +11,4 @@ pub mod Reading
 pub mod Unique
 pub mod Pieces
 pub mod InForce
+pub mod Listed
