@@ -10,3 +10,5 @@ pub mod Listing
 pub mod Reading
 pub mod Unique
 pub mod Pieces
+pub mod InForce
+pub mod Listed

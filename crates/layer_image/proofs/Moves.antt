@@ -32,7 +32,7 @@ or_moved : (o : Option Why) (p : GridPoint) (unit : Units) (turn : ℤ) (shape :
 or_moved None p unit turn shape = shape_moved p unit turn shape
 or_moved (Some why) p unit turn shape = refl
 
-what_moved : (p : GridPoint) (unit : Units) (scale turn : ℤ) (shape : Aperture) → moved p (what_at origin unit scale turn shape) ≡ what_at p unit scale turn shape
+pub what_moved : (p : GridPoint) (unit : Units) (scale turn : ℤ) (shape : Aperture) → moved p (what_at origin unit scale turn shape) ≡ what_at p unit scale turn shape
 what_moved p unit scale turn shape = or_moved (find (keeps_from_pad shape scale turn) why_order) p unit turn shape
 
 -- the flashes at points are one flash, moved to each

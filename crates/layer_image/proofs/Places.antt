@@ -5,10 +5,10 @@ use Rattle.std.proofs.lemmas.Nat.{pow-add, div_below}
 use Rattle.std.proofs.lemmas.Bool.{cases_lt}
 use Rattle.std.proofs.lemmas.Bool.Decides.{nat_tests}
 
-test_yes : (a b : ℕ) → a ≤ b → nat_le a b ≡ true
+pub test_yes : (a b : ℕ) → a ≤ b → nat_le a b ≡ true
 test_yes a b h = grind (arith, nat_tests)
 
-test_no : (a b : ℕ) → b < a → nat_le a b ≡ false
+pub test_no : (a b : ℕ) → b < a → nat_le a b ≡ false
 test_no a b h = grind (arith, nat_tests)
 
 -- more digits than twelve and some more

@@ -54,6 +54,11 @@ pub record Takes (old : Judge) (c : Command) (new : Judge) : Type 0 where
   pub standing : told new ≡ after c (told old)
   pub flashes : Adds old.flashes (flashes_at (told old) c) new.flashes
 
+-- this holds where a rule was broken (docs/DEFINITIONS.md, Legal lists)
+abbrev pub IfRefused : Type 0 → Stop → Type 0
+IfRefused P (Refused reason) = P
+IfRefused P Memory = Unit {0}
+
 -- The command breaks no rule and was taken in, or this is the first rule that it breaks, or memory ran out
 -- (docs/DEFINITIONS.md, Legal lists).
 abbrev pub Judges : Keep → List Command → Command → Judge → Result (Unit {0}) Stop → Type 0

@@ -1,14 +1,15 @@
 -- Layers: what a whole text says, or its first fault.
-use Rattle.std.specs.Prelude.{◌≡◌, ◌⊎◌, ℕ, List, Option, Result, Ok, Err}
+use Rattle.std.specs.Prelude.{◌≡◌, ◌⊎◌, ◌↔◌, ℕ, List, Option, Result, Ok, Err}
+use Rattle.std.specs.List.{Contains}
 use Rattle.grid_units.specs.declared.fault.Fault.{Fault}
 use Rattle.grid_units.specs.declared.fault.Fail.TheVariants as fails
 use Rattle.pad_shapes.specs.declared.pad.Pad.{Pad}
-use Rattle.gerber_text.specs.Reading.{Entries, Reads, KeptOf, KeptBefore}
+use Rattle.gerber_text.specs.Reading.{Entries, Reads, SpellsText, KeptOf, KeptBefore}
 use Rattle.layer_image.specs.declared.flash.Flash.{Flash}
 use Rattle.layer_image.specs.Flashes.{flashes_of, pads_of}
 use Rattle.layer_image.specs.Faults.{without_places, IsFirstFault}
 use Rattle.layer_image.specs.Functions.{file_function_of}
-use Rattle.layer_image.specs.Rules.{IsLegal}
+use Rattle.layer_image.specs.Rules.{IsLegal, all_rules}
 
 -- what is read of a layer (docs/DEFINITIONS.md, Layers)
 pub record LayerImage : Type 0 where
@@ -43,3 +44,20 @@ EqualCommands = (s t : List ℕ) (a b : LayerImage) → ReadsLayer s (Ok a) → 
 -- a text reads as one layer, or has one fault (docs/DEFINITIONS.md, Layers)
 abbrev pub OneReading : Type 0
 OneReading = (text : List ℕ) (a b : Result LayerImage Fault) → ReadsLayer text a → ReadsLayer text b → a ≡ b
+
+-- a text spells these commands, and they are legal (docs/DEFINITIONS.md, Layers)
+pub record IsLayerText (text : List ℕ) (commands : Entries) : Type 0 where
+  pub spells : SpellsText text commands
+  pub legal : IsLegal (without_places commands)
+
+-- a text reads as the layer of commands just where it spells them and they are legal (docs/DEFINITIONS.md, Layers)
+abbrev pub LayerTexts : Type 0
+LayerTexts = (text : List ℕ) (commands : Entries) → IsLayerText text commands ↔ ReadsLayer text (Ok (image_of commands))
+
+-- what a text reads as is the layer of its commands (docs/DEFINITIONS.md, Layers)
+abbrev pub LayersOfTexts : Type 0
+LayersOfTexts = (text : List ℕ) (image : LayerImage) → ReadsLayer text (Ok image) → IsLayerText text image.commands × (image ≡ image_of image.commands)
+
+-- A fault of a layer has the reason of one of the fifteen rules, or it is the fault of its text (docs/DEFINITIONS.md, Layers).
+abbrev pub LayerReasons : Type 0
+LayerReasons = (text : List ℕ) (f : Fault) → ReadsLayer text (Err f) → Contains all_rules f.reason ⊎ Reads text (Err f)

@@ -7,6 +7,7 @@ pub mod Rules
 pub mod Tables
 pub mod Keeping
 pub mod Knows
+pub mod InForce
 pub mod Faults
 pub mod Functions
 pub mod Layers

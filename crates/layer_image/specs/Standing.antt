@@ -38,7 +38,7 @@ ShowsLayerFault text f =
 
 -- the scan has met just these commands (docs/DEFINITIONS.md, Legal lists)
 pub record Met (scan : Scan) (keep : Keep) (before : List Command) : Type 0 where
-  pub knows : Knows scan.judge keep before
+  pub knows : Knows scan.judge.judge keep before
   pub named : scan.file_function ≡ file_function_of before
 
 -- The command breaks no rule and was taken in, or this is the first rule that it breaks, or memory ran out

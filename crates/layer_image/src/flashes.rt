@@ -1,6 +1,6 @@
 //! What is kept of the flashes so far.
 
-ghost use Rattle.std.specs.Prelude.{◌≡◌, ◌+◌, ◌≤◌, ◌++◌, [], length, map, true, false, OnOk};
+ghost use Rattle.std.specs.Prelude.{◌≡◌, ◌+◌, ◌<◌, ◌≤◌, ◌++◌, [], ◌∷◌, nat_le, length, map, true, false, OnOk};
 ghost use Rattle.std.specs.List.{list_any};
 ghost use Rattle.layer_image.specs.Flashes.{copies, pads_of, others_in};
 ghost use Rattle.layer_image.specs.Moved.{flash_moved, flash_laid};
@@ -88,6 +88,49 @@ impl Flashes {
         ensures small { result ≤ 4194304 }
     {
         u128::from(self.count)
+    }
+
+    /// Whether there is no room for one more.
+    pub(crate) fn is_full(&self) -> bool
+        ensures { result ≡ nat_le 4194304 (flash_count self.now) }
+    {
+        self.count >= 4_194_304
+    }
+
+    /// Adds one flash.
+    ///
+    /// # Errors
+    ///
+    /// An `AllocError` where there is no memory for it or its pad.
+    pub(crate) fn add(&mut self, flash: &Flash) -> Result<(), AllocError>
+        requires { flash_count self.old < 4194304 }
+        ensures { OnOk result (Adds self.old (flash.now ∷ []) self.new) }
+    {
+        if self.keep.flashes() {
+            self.all.push(*flash)?;
+        }
+        self.count += 1;
+        match flash.what {
+            What::Pad(pad) => self.add_pad(pad),
+            What::Other(_) => {
+                self.others += 1;
+                Ok(())
+            }
+        }
+    }
+
+    /// Adds a pad, where pads are to be kept.
+    fn add_pad(&mut self, pad: Pad) -> Result<(), AllocError>
+        ensures same { self.new.keep ≡ self.old.keep }
+        ensures all { self.new.all ≡ self.old.all }
+        ensures count { self.new.count ≡ self.old.count }
+        ensures others { self.new.others ≡ self.old.others }
+        ensures pads { keeps_pads self.old.keep ≡ true → OnOk result (self.new.pads.items ≡ self.old.pads.items ++ pad ∷ []) }
+    {
+        if self.keep.pads() {
+            self.pads.push(pad)?;
+        }
+        Ok(())
     }
 
     /// Lays a flash at each copy of a grid, in order.

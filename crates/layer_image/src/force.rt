@@ -1,6 +1,6 @@
 //! What is in force when a command comes: its unit and decimals, its points, its aperture, and what it would flash.
 
-ghost use Rattle.std.specs.Prelude.{◌≡◌, ◌≤◌, false};
+ghost use Rattle.std.specs.Prelude.{◌≡◌, ◌≤◌, IfSome, false};
 ghost use Rattle.std.specs.List.{find, list_any};
 ghost use Rattle.layer_image.specs.Lookback.{aperture_in};
 ghost use Rattle.layer_image.specs.Flashes.{unit_in_force, decimals_in_force, grid_at, keeps_from_pad, why_order, what_at, shape_at, exchanges_sides, disc_at, rect_at, obround_at};
@@ -8,6 +8,7 @@ ghost use Rattle.layer_image.specs.Moved.{origin};
 ghost use Rattle.layer_image.specs.Rules.{is_far_pad, is_far_side, sides};
 ghost use Rattle.layer_image.specs.Grids.{IsBounded};
 ghost use Rattle.layer_image.specs.Knows.{told};
+ghost use Rattle.layer_image.specs.InForce.{IsLoneWhat};
 
 use crate::aperture::Aperture;
 use crate::flash::{What, Why};
@@ -107,6 +108,20 @@ impl Judge {
         } else {
             None
         }
+    }
+
+    /// What a flash leaves at the origin where one is near and no block repeats it.
+    pub(crate) fn lone_what(&self) -> Option<What>
+        ensures { IfSome result (λ w. IsLoneWhat w (unit_in_force (told self.now)) (aperture_in (told self.now)) self.now.scale self.now.turn self.now.block) }
+    {
+        if self.block.columns != 1 || self.block.rows != 1 {
+            return None;
+        }
+        let aperture = self.aperture()?;
+        if self.is_far_pad(&aperture) {
+            return None;
+        }
+        Some(self.what(&aperture))
     }
 
     /// What the aperture leaves, as at the origin.

@@ -68,6 +68,7 @@ impl Grid {
         requires near { list_any is_far_point (copies self.now) ≡ false }
         ensures { OnOk result (laid.new.items ≡ laid.old.items ++ map (T.laid one.now) (copies self.now)) }
     {
+        laid.reserve(self.count() as usize)?;
         for u in 0..self.columns {
             for v in 0..self.rows {
                 let at = self.copy(u, v);

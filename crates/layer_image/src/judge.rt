@@ -1,6 +1,6 @@
 //! The judge: meets the commands of a list one by one, and says at the first that breaks a rule which rule it breaks.
 
-ghost use Rattle.std.specs.Prelude.{◌≡◌, ◌+◌, ◌≤◌, ◌*◌, [], List, nat_lt, Option, ℤ, OnOk, None, pos, length, true, false};
+ghost use Rattle.std.specs.Prelude.{◌≡◌, ◌+◌, ◌<◌, ◌≤◌, ◌*◌, [], ◌∷◌, List, nat_lt, Option, ℤ, IfErr, OnOk, None, pos, length, true, false};
 ghost use Rattle.std.specs.Option.{option_map_or};
 ghost use Rattle.std.specs.List.{list_any};
 ghost use Rattle.gerber_rows.specs.declared.command.Action.{Action as TheAction};
@@ -12,7 +12,7 @@ ghost use Rattle.layer_image.specs.Lookback.{aperture_in, single};
 ghost use Rattle.layer_image.specs.Flashes.{copies_at, flashed, is_flash};
 ghost use Rattle.layer_image.specs.Rules.{first_broken, flashes_too_far, is_badly_sized, is_far_pad, is_far_point};
 ghost use Rattle.layer_image.specs.Keeping.{Adds, flash_count};
-ghost use Rattle.layer_image.specs.Knows.{Knows, Takes, Judges, told, after};
+ghost use Rattle.layer_image.specs.Knows.{Knows, Takes, Judges, IfRefused, told, after};
 
 use crate::aperture::{Aperture, aperture_of};
 use crate::flash::Flash;
@@ -81,7 +81,9 @@ impl Judge {
 
     /// Judges one more command, and takes it in where it breaks no rule. A refusal changes nothing.
     pub(crate) fn step(&mut self, command: &Command) -> Result<(), Stop>
-        ensures { (keep : TheKeep) (before : List Command) → Knows self.old keep before → Judges keep before command.now self.new result }
+        ensures judges { (keep : TheKeep) (before : List Command) → Knows self.old keep before → Judges keep before command.now self.new result }
+        ensures takes { OnOk result (Takes self.old command.now self.new) }
+        ensures same { IfErr result (IfRefused (self.new ≡ self.old)) }
     {
         if let Some(reason) = self.broken_rule(command) {
             return Err(Stop::Refused(reason));
@@ -181,8 +183,23 @@ impl Judge {
         Ok(())
     }
 
+    /// Adds one flash, and makes the point of its operation the current one.
+    pub(crate) fn add(
+        &mut self,
+        flash: &Flash,
+        x: Option<i64>,
+        y: Option<i64>,
+    ) -> Result<(), AllocError>
+        requires { flash_count self.old.flashes < 4194304 }
+        ensures told { (action : TheAction) (i j : Option ℤ) → told self.new ≡ after (command.Operate action x y i j) (told self.old) }
+        ensures flashes { OnOk result (Adds self.old.flashes (flash.now ∷ []) self.new.flashes) }
+    {
+        self.go_to(x, y);
+        self.flashes.add(flash)
+    }
+
     /// Makes the point of an operation the current one.
-    fn go_to(&mut self, x: Option<i64>, y: Option<i64>)
+    pub(crate) fn go_to(&mut self, x: Option<i64>, y: Option<i64>)
         ensures told { (action : TheAction) (i j : Option ℤ) → told self.new ≡ after (command.Operate action x y i j) (told self.old) }
         ensures flashes { self.new.flashes ≡ self.old.flashes }
     {

@@ -16,7 +16,7 @@ pub(crate) fn coordinate(n: i64, decimals: u8, unit: Unit) -> i128
 }
 
 /// The whole pm of a decimal place. It is looked up, since a division would be most of the time of a coordinate.
-fn place_length(decimals: u8, unit: Unit) -> u64
+pub(crate) fn place_length(decimals: u8, unit: Unit) -> u64
     ensures value { result ≡ unit_length unit / 10 ^ decimals }
     ensures small { result ≤ 25400000000 }
 {

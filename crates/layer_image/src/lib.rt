@@ -2,11 +2,13 @@
 #![tactic(auto)]
 
 mod aperture;
+mod fast;
 mod flash;
 mod flashes;
 mod force;
 mod function;
 mod grid;
+mod in_force;
 mod judge;
 mod laws;
 mod layer;
@@ -18,7 +20,7 @@ mod size;
 mod tables;
 
 pub use flash::{Flash, What, Why};
-pub use laws::shown_faults;
+pub use laws::{layer_reasons, layer_texts, shown_faults};
 pub use layer::{Layer, equal_commands, one_reading, read_layer};
 pub use reader::{FlashReader, LayerReader, LayerSum, SumReader};
 

@@ -142,7 +142,7 @@ impl Judge {
         }
     }
 
-    fn lacks_aperture(&self, action: Action) -> bool
+    pub(crate) fn lacks_aperture(&self, action: Action) -> bool
         ensures { result ≡ (needs_aperture action self.now.in_region && is_none self.now.selected) }
     {
         let needed = match action {

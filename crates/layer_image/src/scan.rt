@@ -8,9 +8,10 @@ ghost use Rattle.layer_image.specs.declared.flashes.Keep.{Keep as TheKeep};
 ghost use Rattle.layer_image.specs.Functions.{file_function_of};
 ghost use Rattle.layer_image.specs.Faults.{fail_at, IsFirstFault};
 
+use crate::fast::FastJudge;
 use crate::flashes::Keep;
 use crate::function::function_named;
-use crate::judge::{Judge, Stop};
+use crate::judge::Stop;
 use gerber_rows::Command;
 use gerber_text::Placed;
 use grid_units::{Fail, Fault, Text};
@@ -19,7 +20,7 @@ use std::alloc::{AllocError, Global};
 /// What the commands so far say of the layer.
 #[derive(Drop)]
 pub(crate) struct Scan {
-    pub(crate) judge: Judge,
+    pub(crate) judge: FastJudge,
     pub(crate) file_function: Option<Text>,
 }
 
@@ -31,7 +32,7 @@ impl Scan {
         ensures { Scanned result keep [] }
     {
         Scan {
-            judge: Judge::new(alloc, keep),
+            judge: FastJudge::new(alloc, keep),
             file_function: None,
         }
     }

@@ -6,12 +6,12 @@ use Rattle.layer_image.specs.Knows.{told}
 use Rattle.layer_image.proofs.Knowing.{knows_more, same_rule}
 use Rattle.layer_image.proofs.judge.Judge.step.Goals as goal
 
-pub returns-in-Some : goal.returns-in-Some
-returns-in-Some c =
+pub returns-in-Some-clause-judges : goal.returns-in-Some-clause-judges
+returns-in-Some-clause-judges c =
     let broken : first_broken (told c.args.self.now) (flash_count c.args.self.now.flashes) c.args.command.now ≡ Some c.in-Some.reason = cc (c.broken_rule.ensures, c.in-Some.is) in
     λ keep before knows. sym (same_rule _ keep before _ knows) ∙ broken
 
-pub returns : goal.returns
-returns c =
+pub returns-clause-judges : goal.returns-clause-judges
+returns-clause-judges c =
     let legal : first_broken (told c.args.self.now) (flash_count c.args.self.now.flashes) c.args.command.now ≡ None = cc (c.broken_rule.ensures, c.in_default.is) in
     λ keep before knows. (sym (same_rule _ keep before _ knows) ∙ legal, knows_more _ _ keep before _ knows c.in_ok-take.ensures)

@@ -1,0 +1,150 @@
+//! The fast path of the judge: what most operations need is computed when it changes, and not at each of them.
+
+ghost use Rattle.std.specs.Prelude.{◌≡◌, [], List, IfSome, None, true, false};
+ghost use Rattle.gerber_rows.specs.declared.command.Command.{Command};
+ghost use Rattle.gerber_rows.specs.declared.command.Command.TheVariants as command;
+ghost use Rattle.layer_image.specs.declared.flashes.Keep.{Keep as TheKeep};
+ghost use Rattle.layer_image.specs.InForce.{IsFastPath, changes_force};
+ghost use Rattle.layer_image.specs.Flashes.{is_flash};
+ghost use Rattle.layer_image.specs.Rules.{first_broken};
+ghost use Rattle.layer_image.specs.Keeping.{flash_count};
+ghost use Rattle.layer_image.specs.Knows.{Knows, Judges, told};
+
+use crate::flash::Flash;
+use crate::flashes::{Flashes, Keep};
+use crate::in_force::FastPath;
+use crate::judge::{Judge, Stop};
+use crate::rules::is_flash;
+use gerber_rows::{Action, Command};
+use std::alloc::Global;
+
+/// A judge, and what is in force for most operations.
+#[derive(Drop)]
+pub(crate) struct FastJudge {
+    pub(crate) judge: Judge,
+    fast: FastPath,
+    ghost in_force: { IsFastPath fast (told judge) },
+}
+
+impl FastJudge {
+    ghost use Rattle.layer_image.specs.InForce.{IsFlashOf};
+
+    /// A judge that has met no command.
+    pub(crate) fn new(alloc: Global, keep: Keep) -> FastJudge
+        ensures { Knows result.judge keep [] }
+    {
+        let judge = Judge::new(alloc, keep);
+        let fast = FastPath::of(&judge);
+        FastJudge { judge, fast }
+    }
+
+    /// Judges one more command, and takes it in where it breaks no rule.
+    pub(crate) fn step(&mut self, command: &Command) -> Result<(), Stop>
+        ensures { (keep : TheKeep) (before : List Command) → Knows self.old.judge keep before → Judges keep before command.now self.new.judge result }
+    {
+        if let Command::Operate { action, x, y, i, j } = command {
+            if self.moves(*action, *x, *y, *i, *j) {
+                self.judge.go_to(*x, *y);
+                return Ok(());
+            }
+            if let Some(flash) = self.flash(*action, *x, *y, *i, *j) {
+                self.judge.add(&flash, *x, *y)?;
+                return Ok(());
+            }
+        }
+        self.step_slowly(command)
+    }
+
+    /// The same for any command.
+    fn step_slowly(&mut self, command: &Command) -> Result<(), Stop>
+        ensures { (keep : TheKeep) (before : List Command) → Knows self.old.judge keep before → Judges keep before command.now self.new.judge result }
+    {
+        let outcome = self.judge.step(command);
+        if outcome.is_err() || changes_force(command) {
+            self.fast = FastPath::of(&self.judge);
+        }
+        outcome
+    }
+
+    /// Whether an operation is no flash and breaks no rule, as most do.
+    fn moves(
+        &self,
+        action: Action,
+        x: Option<i64>,
+        y: Option<i64>,
+        i: Option<i64>,
+        j: Option<i64>,
+    ) -> bool
+        ensures no_flash { result ≡ true → is_flash action ≡ false }
+        ensures legal { result ≡ true → first_broken (told self.now.judge) (flash_count self.now.judge.flashes) (command.Operate action x y i j) ≡ None }
+    {
+        if !self.fast.ready || is_flash(action) || self.judge.lacks_aperture(action) {
+            return false;
+        }
+        let lengths = &self.fast.lengths;
+        if !lengths.has_named(x) || !lengths.has_named(y) {
+            return false;
+        }
+        if !lengths.has_named(i) || !lengths.has_named(j) {
+            return false;
+        }
+        true
+    }
+
+    /// The flash of an operation that breaks no rule and makes just one, as most flashes do.
+    fn flash(
+        &self,
+        action: Action,
+        x: Option<i64>,
+        y: Option<i64>,
+        i: Option<i64>,
+        j: Option<i64>,
+    ) -> Option<Flash>
+        ensures { IfSome result (λ flash. IsFlashOf (told self.now.judge) (flash_count self.now.judge.flashes) (command.Operate action x y i j) flash) }
+    {
+        if !is_flash(action) || self.judge.in_region || self.judge.flashes.is_full() {
+            return None;
+        }
+        if !self.fast.ready || !self.fast.lone {
+            return None;
+        }
+        let lengths = &self.fast.lengths;
+        let across = x.unwrap_or(self.judge.x);
+        let up = y.unwrap_or(self.judge.y);
+        if !lengths.has(across) || !lengths.has(up) {
+            return None;
+        }
+        if !lengths.has_named(i) || !lengths.has_named(j) {
+            return None;
+        }
+        let at = lengths.point(across, up);
+        Some(Flash {
+            at,
+            what: self.fast.what.at(at),
+        })
+    }
+
+    /// What is kept of the flashes of the commands that were taken in.
+    pub(crate) fn into_flashes(self) -> Flashes
+        ensures { result ≡ self.judge.flashes }
+    {
+        self.judge.into_flashes()
+    }
+}
+
+/// Whether a command changes what is in force for most operations.
+fn changes_force(command: &Command) -> bool
+    ensures { result ≡ changes_force command.now }
+{
+    match command {
+        Command::UnitIs(_)
+        | Command::FormatIs(_)
+        | Command::Define { .. }
+        | Command::Select(_)
+        | Command::Turn(_)
+        | Command::Scale(_)
+        | Command::Repeat(_)
+        | Command::RepeatEnd => true,
+        _ => false,
+    }
+}

@@ -1,0 +1,116 @@
+//! What is in force for most operations: lengths of coordinates, and what a flash leaves.
+
+ghost use Rattle.std.specs.Prelude.{◌≡◌, ◌≤◌, ◌<◌, ◌*◌, ◌^◌, ◌*ℤ◌, IfSome, pos, nat_le, unsigned_abs};
+
+use crate::flash::{What, Why};
+use crate::judge::Judge;
+use crate::length::place_length;
+use gerber_rows::Format;
+use grid_units::{Point, Unit, power_of_ten};
+
+/// 10 m in pm.
+const MAX_LENGTH: u64 = 10_000_000_000_000;
+
+/// Lengths of coordinates: the pm of a step, and the greatest number that is neither too long nor too far.
+#[derive(Clone, Copy)]
+pub(crate) struct Lengths {
+    pub(crate) place: u64,
+    pub(crate) most: u64,
+    ghost near: { most * place ≤ 10000000000000 },
+    ghost small: { place ≤ 25400000000 },
+}
+
+impl Lengths {
+    ghost use Rattle.layer_image.specs.InForce.{AreLengths, is_within, point_of};
+
+    /// The lengths in a unit and a format of at most twelve digits.
+    fn of(unit: Option<Unit>, format: Option<Format>) -> Option<Lengths>
+        ensures { IfSome result (λ lengths. AreLengths lengths unit format) }
+    {
+        let unit = unit?;
+        let format = format?;
+        let place = place_length(format.decimals, unit);
+        let digits = u16::from(format.whole) + u16::from(format.decimals);
+        if place == 0 || digits > 12 {
+            return None;
+        }
+        Some(Lengths {
+            place,
+            most: greatest(place, digits),
+        })
+    }
+
+    /// Whether a number is neither too long nor too far.
+    pub(crate) fn has(&self, n: i64) -> bool
+        ensures { result ≡ nat_le (unsigned_abs n) self.now.most }
+    {
+        n.unsigned_abs() <= self.most
+    }
+
+    /// The same of a number where one is named.
+    pub(crate) fn has_named(&self, named: Option<i64>) -> bool
+        ensures { result ≡ is_within self.now.most named }
+    {
+        match named {
+            Some(n) => self.has(n),
+            None => true,
+        }
+    }
+
+    /// The point of two such numbers.
+    pub(crate) fn point(&self, x: i64, y: i64) -> Point
+        requires x { unsigned_abs x ≤ self.now.most }
+        requires y { unsigned_abs y ≤ self.now.most }
+        ensures { result ≡ point_of self.now x y }
+    {
+        Point::new(self.length(x), self.length(y)).unwrap()
+    }
+
+    /// The length of such a number, in pm.
+    fn length(&self, n: i64) -> i64
+        requires { unsigned_abs n ≤ self.now.most }
+        ensures value { result ≡ n *ℤ pos self.now.place }
+        ensures near { unsigned_abs result ≤ 10000000000000 }
+    {
+        n * self.place as i64
+    }
+}
+
+/// The greatest number of so many digits and of at most 10 m.
+fn greatest(place: u64, digits: u16) -> u64
+    requires some { 0 < place }
+    requires few { digits ≤ 12 }
+    ensures short { result < 10 ^ digits }
+    ensures near { result * place ≤ 10000000000000 }
+{
+    (MAX_LENGTH / place).min(power_of_ten(digits as u8) - 1)
+}
+
+/// What is in force for most operations: the lengths of coordinates where they are known, and what a flash leaves at
+/// the origin where it stands alone and is near.
+#[derive(Clone, Copy)]
+pub(crate) struct FastPath {
+    pub(crate) ready: bool,
+    pub(crate) lengths: Lengths,
+    pub(crate) lone: bool,
+    pub(crate) what: What,
+}
+
+impl FastPath {
+    ghost use Rattle.layer_image.specs.Knows.{told};
+    ghost use Rattle.layer_image.specs.InForce.{IsFastPath};
+
+    /// What is in force after the commands that a judge has taken in.
+    pub(crate) fn of(judge: &Judge) -> FastPath
+        ensures { IsFastPath result (told judge.now) }
+    {
+        let lengths = Lengths::of(judge.unit, judge.format);
+        let what = judge.lone_what();
+        FastPath {
+            ready: lengths.is_some(),
+            lengths: lengths.unwrap_or(Lengths { place: 0, most: 0 }),
+            lone: what.is_some(),
+            what: what.unwrap_or(What::Other(Why::Macro)),
+        }
+    }
+}
