@@ -1,5 +1,6 @@
 pub mod Beginnings
 pub mod Canonical
+pub mod Coordinates
 pub mod Items
 pub mod Meaning
 pub mod Numbers

@@ -7,7 +7,7 @@ ghost use Rattle.grid_units.specs.Numbers.{is_number};
 ghost use Rattle.gerber_rows.specs.Meaning.{Gives};
 ghost use Rattle.gerber_rows.specs.Pieces.{divided, divided_if, begins_name, goes_on_name, is_name, standard, least_sizes, most_sizes, add_size, are_sizes, sizes_of, aperture_number, define_standard, define_named, define_as, before_comma, after_comma, define, definition, macro_text};
 
-use crate::command::{Command, Pieces, Sizes, Spelled, Standard, Template};
+use crate::command::{Boxed, Command, Pieces, Sizes, Spelled, Standard, Template};
 use crate::item::ItemFail;
 use crate::number::read_nat;
 use crate::word::plain_len;
@@ -186,17 +186,16 @@ fn aperture_number(digits: &[u8]) -> Result<u32, Reason>
 /// An aperture of a standard template.
 #[tactic(auto, unfolding(crate::specs::Pieces::define_standard))]
 fn define_standard(
+    alloc: Global,
     digits: &[u8],
     aperture: Standard,
     parameters: Option<&[u8]>,
-) -> Result<Spelled, Reason>
-    ensures { result ≡ define_standard digits.now aperture (option_copied parameters.entry) }
+) -> Result<Spelled, ItemFail>
+    ensures { Gives result (define_standard digits.now aperture (option_copied parameters.entry)) }
 {
     let (number, sizes) = both(aperture_number(digits), sizes_of(aperture, parameters))?;
-    Ok(Spelled::one(Command::Define {
-        number,
-        template: Template::Standard(aperture, sizes),
-    }))
+    let template = Boxed::new(alloc, Template::Standard(aperture, sizes))?;
+    Ok(Spelled::one(Command::Define { number, template }))
 }
 
 /// A copy of a text that may be there.
@@ -222,10 +221,8 @@ fn define_named(
     let number = aperture_number(digits)?;
     let name = Text::from_slice(alloc, name)?;
     let parameters = copy_of(alloc, parameters)?;
-    Ok(Spelled::one(Command::Define {
-        number,
-        template: Template::Named(name, parameters),
-    }))
+    let template = Boxed::new(alloc, Template::Named(name, parameters))?;
+    Ok(Spelled::one(Command::Define { number, template }))
 }
 
 /// An aperture of this template.
@@ -238,7 +235,7 @@ fn define_as(
     ensures { Gives result (define_as digits.now name.now (standard name.now) (option_copied parameters.entry)) }
 {
     match standard(name) {
-        Some(aperture) => Ok(define_standard(digits, aperture, parameters)?),
+        Some(aperture) => define_standard(alloc, digits, aperture, parameters),
         None => define_named(alloc, digits, name, parameters),
     }
 }
@@ -308,6 +305,6 @@ pub(crate) fn read_macro(alloc: Global, text: &[u8]) -> Result<Spelled, ItemFail
         return Err(ItemFail::Refused(Reason::BadWord));
     }
     let name = Text::from_slice(alloc, name)?;
-    let pieces = copy_pieces(alloc, pieces)?;
+    let pieces = Boxed::new(alloc, copy_pieces(alloc, pieces)?)?;
     Ok(Spelled::one(Command::Macro(name, pieces)))
 }

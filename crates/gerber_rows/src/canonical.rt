@@ -318,15 +318,15 @@ pub fn write_item(out: &mut Vec<u8>, command: &Command) -> Result<(), AllocError
         Command::RegionEnd => put(out, b"G37*"),
         Command::UnitIs(unit) => put(out, unit_item(*unit)),
         Command::FormatIs(format) => put_format(out, *format),
-        Command::Define { number, template } => put_define(out, *number, template),
-        Command::Macro(name, pieces) => put_macro(out, name.bytes(), pieces.texts()),
+        Command::Define { number, template } => put_define(out, *number, template.get()),
+        Command::Macro(name, pieces) => put_macro(out, name.bytes(), pieces.get().texts()),
         Command::Select(number) => put_number_between(out, b"D", u64::from(*number), b"*"),
         Command::Operate { action, x, y, i, j } => {
             let at = Coordinates {
-                x: *x,
-                y: *y,
-                i: *i,
-                j: *j,
+                x: x.get(),
+                y: y.get(),
+                i: i.get(),
+                j: j.get(),
             };
             put_operation(out, *action, at)
         }

@@ -1,6 +1,10 @@
 //! The commands of a Gerber text.
 
+ghost use Rattle.std.specs.Prelude.{◌≡◌, ◌≢◌, Some, None, IfSome, IfNone, IfOk};
+ghost use Rattle.gerber_rows.specs.Coordinates.{left_out};
+
 use grid_units::{Dec, Text, Unit};
+use std::alloc::{AllocError, Global};
 use std::marker::Model;
 
 /// The digits of a coordinate before and after its decimal point.
@@ -132,6 +136,106 @@ pub enum Standard {
     Polygon,
 }
 
+/// A value in memory of its own, so that a command that holds it stays short. Contracts see the value.
+#[derive(Debug, Drop)]
+pub struct Boxed<T> {
+    inner: Box<T>,
+}
+
+impl<T> Model for Boxed<T> {
+    ghost Value = { T };
+
+    ghost view = { λ b. b.inner.value };
+}
+
+impl<T: Drop> Boxed<T> {
+    /// A value, which moves to memory of its own.
+    ///
+    /// # Errors
+    ///
+    /// An `AllocError` where there is no memory for it.
+    pub fn new(alloc: Global, value: T) -> Result<Boxed<T>, AllocError>
+        ensures { IfOk result (λ boxed. boxed ≡ value) }
+    {
+        Ok(Boxed {
+            inner: Box::new(alloc, value)?,
+        })
+    }
+
+    /// The value.
+    pub fn get(&self) -> &T
+        ensures { result.now ≡ self.now }
+    {
+        &self.inner
+    }
+}
+
+/// What no coordinate is: the value that stands for one that is left out.
+const LEFT_OUT: i64 = i64::MIN;
+
+/// A coordinate of an operation as an integer, or that it is left out. It takes eight bytes, since a text has many;
+/// contracts see the optional integer.
+#[derive(Clone, Copy, Debug, PartialEq, Eq)]
+pub struct Coordinate {
+    value: i64,
+}
+
+impl Model for Coordinate {
+    ghost use Rattle.std.specs.Prelude.{ℤ, Option, unwrap_or};
+    ghost use Rattle.gerber_rows.specs.Coordinates.{named, left_out, IsStored};
+
+    ghost Value = { Option ℤ };
+
+    ghost view = { λ c. named c.value };
+
+    ghost invariant = { λ c. IsStored c.value };
+
+    ghost inverse = { λ v. record { value = unwrap_or v left_out } };
+}
+
+impl Coordinate {
+    /// This coordinate, or that it is left out; `None` at the least `i64`, which no coordinate is.
+    pub fn new(value: Option<i64>) -> Option<Coordinate>
+        ensures some { IfSome result (λ c. c ≡ value) }
+        ensures none { IfNone result (value ≡ Some left_out) }
+    {
+        if value == Some(LEFT_OUT) {
+            None
+        } else {
+            Some(Coordinate::of(value))
+        }
+    }
+
+    /// This coordinate, or that it is left out.
+    pub(crate) fn of(value: Option<i64>) -> Coordinate
+        requires { value ≢ Some left_out }
+        ensures { result ≡ value }
+    {
+        match value {
+            Some(value) => Coordinate { value },
+            None => Coordinate::none(),
+        }
+    }
+
+    /// A coordinate that is left out.
+    pub fn none() -> Coordinate
+        ensures { result ≡ None }
+    {
+        Coordinate { value: LEFT_OUT }
+    }
+
+    /// The coordinate, where it is not left out.
+    pub fn get(self) -> Option<i64>
+        ensures { result ≡ self }
+    {
+        if self.value == LEFT_OUT {
+            None
+        } else {
+            Some(self.value)
+        }
+    }
+}
+
 /// What an aperture is made of (Gerber format, Aperture definition AD).
 #[derive(Debug, Drop)]
 pub enum Template {
@@ -170,19 +274,19 @@ pub enum Command {
     /// `AD`: an aperture by its number, from 10 on.
     Define {
         number: u32,
-        template: Template,
+        template: Boxed<Template>,
     },
     /// `AM`: a macro's name and its further pieces.
-    Macro(Text, Pieces),
+    Macro(Text, Boxed<Pieces>),
     /// `D10` and above: the aperture that is flashed and drawn with from here on.
     Select(u32),
     /// `D01`, `D02`, `D03`: a plot, a move or a flash, with the coordinates that stand there, as integers.
     Operate {
         action: Action,
-        x: Option<i64>,
-        y: Option<i64>,
-        i: Option<i64>,
-        j: Option<i64>,
+        x: Coordinate,
+        y: Coordinate,
+        i: Coordinate,
+        j: Coordinate,
     },
     /// `LPD`: dark polarity.
     Dark,

@@ -14,8 +14,8 @@ mod word;
 pub use aperture::{is_name, least_sizes, most_sizes, standard};
 pub use canonical::write_item;
 pub use command::{
-    Action, AttributeKind, Block, Command, Format, Interpolation, Pieces, QuadrantMode, Sizes,
-    Spelled, Standard, Template,
+    Action, AttributeKind, Block, Boxed, Command, Coordinate, Format, Interpolation, Pieces,
+    QuadrantMode, Sizes, Spelled, Standard, Template,
 };
 pub use item::{ItemFail, is_text_end, read_item};
 pub use plain::{PlainOperation, plain_operation};

@@ -1,8 +1,9 @@
 //! The numbers of a Gerber text that are not decimals.
 
-ghost use Rattle.std.specs.Prelude.{◌≡◌, ◌<◌, ◌^◌, ◌≤◌, ◌==◌, length, take, All, true, neg_ℤ, pos, if◌then◌else◌};
+ghost use Rattle.std.specs.Prelude.{◌≡◌, ◌≢◌, IfOk, ◌<◌, ◌^◌, ◌≤◌, ◌==◌, length, take, All, true, neg_ℤ, pos, if◌then◌else◌};
 ghost use Rattle.std.specs.List.{prefix_len};
 ghost use Rattle.grid_units.specs.Numbers.{is_digit, value};
+ghost use Rattle.gerber_rows.specs.Coordinates.{left_out};
 ghost use Rattle.gerber_rows.specs.Numbers.{int_of, nat_of};
 
 use grid_units::Reason;
@@ -61,7 +62,8 @@ fn zeros_len(bytes: &[u8]) -> usize
 /// An optional sign and digits.
 #[tactic(auto, unfolding(crate::specs::Numbers::int_of))]
 pub(crate) fn read_int(run: &[u8]) -> Result<i64, Reason>
-    ensures { result ≡ int_of run.now }
+    ensures value { result ≡ int_of run.now }
+    ensures kept { IfOk result (λ n. n ≢ left_out) }
 {
     let digits = behind_sign(run);
     let (magnitude, len) = first_digits(digits);
@@ -81,7 +83,8 @@ pub(crate) fn read_int(run: &[u8]) -> Result<i64, Reason>
 /// A number with its sign.
 pub(crate) fn signed(negative: bool, magnitude: u64) -> i64
     requires { magnitude < 10 ^ 12 }
-    ensures { result ≡ (if negative then neg_ℤ (pos magnitude) else pos magnitude) }
+    ensures value { result ≡ (if negative then neg_ℤ (pos magnitude) else pos magnitude) }
+    ensures kept { result ≢ left_out }
 {
     if negative {
         -(magnitude as i64)

@@ -1,11 +1,12 @@
 //! Operations that are spelled as most are, read in one pass over their bytes.
 
-ghost use Rattle.std.specs.Prelude.{◌≡◌, ◌++◌, List, ℕ, None, IfSome};
+ghost use Rattle.std.specs.Prelude.{◌≡◌, ◌≢◌, ◌++◌, List, ℕ, None, Some, IfSome};
 ghost use Rattle.gerber_rows.specs.declared.command.Command.TheVariants.{Operate};
 ghost use Rattle.gerber_rows.specs.Canonical.{action_code};
+ghost use Rattle.gerber_rows.specs.Coordinates.{left_out};
 ghost use Rattle.gerber_rows.specs.Plain.{BeginsWith, BeginsWithInt, BeginsWithCoordinate};
 
-use crate::command::Action;
+use crate::command::{Action, Coordinate};
 use crate::number::{first_digits, signed};
 use grid_units::numbers::{behind_sign, is_negative};
 
@@ -13,14 +14,15 @@ use grid_units::numbers::{behind_sign, is_negative};
 #[derive(Clone, Copy, Debug, PartialEq, Eq)]
 pub struct PlainOperation {
     pub action: Action,
-    pub x: Option<i64>,
-    pub y: Option<i64>,
+    pub x: Coordinate,
+    pub y: Coordinate,
     pub len: usize,
 }
 
 /// The integer at the start of these bytes, with a sign and at most 12 digits, and what stands behind it.
 fn first_int(bytes: &[u8]) -> Option<(i64, &[u8])>
-    ensures { IfSome result (λ found. BeginsWithInt bytes.now found.0 found.1.now) }
+    ensures value { IfSome result (λ found. BeginsWithInt bytes.now found.0 found.1.now) }
+    ensures kept { IfSome result (λ found. found.0 ≢ left_out) }
 {
     let digits = behind_sign(bytes);
     let (magnitude, len) = first_digits(digits);
@@ -32,7 +34,8 @@ fn first_int(bytes: &[u8]) -> Option<(i64, &[u8])>
 
 /// The coordinate at the start of these bytes, where its letter stands there, and what stands behind it.
 fn first_coordinate(letter: u8, bytes: &[u8]) -> Option<(Option<i64>, &[u8])>
-    ensures { IfSome result (λ found. BeginsWithCoordinate letter bytes.now found.0 found.1.now) }
+    ensures value { IfSome result (λ found. BeginsWithCoordinate letter bytes.now found.0 found.1.now) }
+    ensures kept { IfSome result (λ found. found.0 ≢ Some left_out) }
 {
     match bytes {
         [first, rest @ ..] if *first == letter => {
@@ -67,5 +70,10 @@ pub fn plain_operation(bytes: &[u8]) -> Option<PlainOperation>
         return None;
     }
     let len = bytes.len() - code.len() + 4;
-    Some(PlainOperation { action, x, y, len })
+    Some(PlainOperation {
+        action,
+        x: Coordinate::of(x),
+        y: Coordinate::of(y),
+        len,
+    })
 }

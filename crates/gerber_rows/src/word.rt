@@ -11,7 +11,7 @@ ghost use Rattle.gerber_rows.specs.Beginnings.{begins_with_coordinate};
 ghost use Rattle.gerber_rows.specs.Rows.{first_fit};
 ghost use Rattle.gerber_rows.specs.Runs.{fields_of};
 
-use crate::command::{Action, Command, Interpolation, QuadrantMode, Spelled};
+use crate::command::{Action, Command, Coordinate, Interpolation, QuadrantMode, Spelled};
 use crate::fields::{behind, digits_field, number_field};
 use crate::item::ItemFail;
 use crate::number::{read_int, read_nat};
@@ -239,10 +239,10 @@ fn read_alone(digits: &[u8]) -> Result<Spelled, Reason>
     let action = action_of(number)?;
     Ok(Spelled::one(Command::Operate {
         action,
-        x: None,
-        y: None,
-        i: None,
-        j: None,
+        x: Coordinate::none(),
+        y: Coordinate::none(),
+        i: Coordinate::none(),
+        j: Coordinate::none(),
     }))
 }
 
@@ -275,12 +275,12 @@ fn read_select(text: &[u8]) -> Row
 
 /// A coordinate, which may be left out.
 #[tactic(auto, unfolding(crate::specs::Words::coordinate))]
-fn coordinate_of(run: Option<&[u8]>) -> Result<Option<i64>, Reason>
+fn coordinate_of(run: Option<&[u8]>) -> Result<Coordinate, Reason>
     ensures { result ≡ coordinate (option_copied run.entry) }
 {
     match run {
-        None => Ok(None),
-        Some(run) => Ok(Some(read_int(run)?)),
+        None => Ok(Coordinate::none()),
+        Some(run) => Ok(Coordinate::of(Some(read_int(run)?))),
     }
 }
 
@@ -362,16 +362,10 @@ fn is_operation(f: &Runs<'_>) -> bool
 }
 
 /// The values of the fields: x and y, i and j, and what is done.
-type Operands = (
-    ((Option<i64>, Option<i64>), (Option<i64>, Option<i64>)),
-    Action,
-);
+type Operands = (((Coordinate, Coordinate), (Coordinate, Coordinate)), Action);
 
 /// Two coordinates.
-fn pair_of(
-    first: Option<&[u8]>,
-    second: Option<&[u8]>,
-) -> Result<(Option<i64>, Option<i64>), Reason>
+fn pair_of(first: Option<&[u8]>, second: Option<&[u8]>) -> Result<(Coordinate, Coordinate), Reason>
     ensures { result ≡ both (coordinate (option_copied first.entry)) (coordinate (option_copied second.entry)) }
 {
     both(coordinate_of(first), coordinate_of(second))

@@ -27,11 +27,19 @@ fn has_fields(command: &Command) -> bool
         Command::Comment(text) => is_text(text.bytes()) && !comments_negative(text.bytes()),
         Command::FormatIs(format) => is_format(*format),
         Command::Define { number, template } => {
-            is_aperture_number(*number) && is_template(template)
+            is_aperture_number(*number) && is_template(template.get())
         }
-        Command::Macro(name, pieces) => { is_macro_name(name.bytes()) && are_texts(pieces.texts()) }
+        Command::Macro(name, pieces) => {
+            is_macro_name(name.bytes()) && are_texts(pieces.get().texts())
+        }
         Command::Select(number) => is_aperture_number(*number),
-        Command::Operate { action, x, y, i, j } => is_operation(*action, *x, *y, *i, *j),
+        Command::Operate { action, x, y, i, j } => is_operation(
+            *action,
+            x.get(),
+            y.get(),
+            i.get(),
+            j.get(),
+        ),
         Command::Turn(dec) | Command::Scale(dec) => is_dec(*dec),
         Command::Repeat(block) => is_block(*block),
         Command::Attribute(kind, text) => is_attribute(*kind, text.bytes()),
@@ -111,8 +119,8 @@ fn is_short(command: &Command) -> bool
         Command::Attribute(_, text) | Command::Remove(text) => {
             text.bytes().len() <= ITEM_LIMIT - 5
         }
-        Command::Define { number, template } => is_define_short(*number, template),
-        Command::Macro(name, pieces) => is_macro_short(name.bytes(), pieces.texts()),
+        Command::Define { number, template } => is_define_short(*number, template.get()),
+        Command::Macro(name, pieces) => is_macro_short(name.bytes(), pieces.get().texts()),
         _ => true,
     }
 }

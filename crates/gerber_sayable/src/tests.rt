@@ -1,6 +1,7 @@
 use crate::{canonical_items, is_sayable, spelled_commands};
 use gerber_rows::{
-    Action, AttributeKind, Block, Command, Format, Pieces, Sizes, Standard, Template,
+    Action, AttributeKind, Block, Boxed, Command, Coordinate, Format, Pieces, Sizes, Standard,
+    Template,
 };
 use grid_units::{Dec, Text};
 use std::alloc::{AllocError, Global};
@@ -19,29 +20,29 @@ fn named(alloc: Global, name: &[u8]) -> Result<Command, AllocError> {
     let name = text(alloc, name)?;
     Ok(Command::Define {
         number: 10,
-        template: Template::Named(name, None),
+        template: Boxed::new(alloc, Template::Named(name, None))?,
     })
 }
 
 /// An aperture of one parameter.
-fn of_one(number: u32, aperture: Standard) -> Option<Command> {
+fn of_one(alloc: Global, number: u32, aperture: Standard) -> Result<Command, TestFail> {
     let mut sizes = Sizes::new();
-    sizes.push(Dec::from_units(65_000_000)?);
-    Some(Command::Define {
+    sizes.push(Dec::from_units(65_000_000).ok_or("0.65")?);
+    Ok(Command::Define {
         number,
-        template: Template::Standard(aperture, sizes),
+        template: Boxed::new(alloc, Template::Standard(aperture, sizes))?,
     })
 }
 
 /// An operation with an offset along x.
-fn with_offset(action: Action, i: i64) -> Command {
-    Command::Operate {
+fn with_offset(action: Action, i: i64) -> Option<Command> {
+    Some(Command::Operate {
         action,
-        x: None,
-        y: None,
-        i: Some(i),
-        j: None,
-    }
+        x: Coordinate::none(),
+        y: Coordinate::none(),
+        i: Coordinate::new(Some(i))?,
+        j: Coordinate::none(),
+    })
 }
 
 /// A step and repeat block with these counts.
@@ -69,7 +70,7 @@ fn commands_that_no_item_spells(rt: HostRuntime) -> Result<(), TestFail> {
     let alloc = rt.alloc();
     assert!(rt; !is_sayable(&Command::Select(9)));
     assert!(rt; !is_sayable(&named(alloc, b"C")?));
-    assert!(rt; !is_sayable(&with_offset(Action::Move, 5)));
+    assert!(rt; !is_sayable(&with_offset(Action::Move, 5).ok_or("5")?));
     assert!(rt; !is_sayable(&comment(alloc, b"#@! TF.FilePolarity,Negative")?));
     assert!(rt; !is_sayable(&comment(alloc, b"  #@! TF.FilePolarity,Negative,x")?));
     assert!(rt;
@@ -86,7 +87,7 @@ fn commands_that_items_spell(rt: HostRuntime) -> Result<(), TestFail> {
     let alloc = rt.alloc();
     assert!(rt; is_sayable(&Command::Select(10)));
     assert!(rt; is_sayable(&named(alloc, b"C0.5")?));
-    assert!(rt; is_sayable(&with_offset(Action::Plot, 5)));
+    assert!(rt; is_sayable(&with_offset(Action::Plot, 5).ok_or("5")?));
     assert!(rt; is_sayable(&comment(alloc, b"#@! TF.FilePolarity,Positive")?));
     assert!(rt; is_sayable(&comment(alloc, b"")?));
     assert!(rt;
@@ -103,8 +104,8 @@ fn commands_that_items_spell(rt: HostRuntime) -> Result<(), TestFail> {
 fn numbers_at_their_bounds(rt: HostRuntime) -> Result<(), TestFail> {
     assert!(rt; is_sayable(&Command::Select(2_147_483_647)));
     assert!(rt; !is_sayable(&Command::Select(2_147_483_648)));
-    assert!(rt; is_sayable(&with_offset(Action::Plot, -999_999_999_999)));
-    assert!(rt; !is_sayable(&with_offset(Action::Plot, -1_000_000_000_000)));
+    assert!(rt; is_sayable(&with_offset(Action::Plot, -999_999_999_999).ok_or("-")?));
+    assert!(rt; !is_sayable(&with_offset(Action::Plot, -1_000_000_000_000).ok_or("-")?));
     assert!(rt;
         is_sayable(&Command::FormatIs(Format {
             whole: 6,
@@ -125,9 +126,10 @@ fn numbers_at_their_bounds(rt: HostRuntime) -> Result<(), TestFail> {
 
 #[test]
 fn apertures(rt: HostRuntime) -> Result<(), TestFail> {
-    assert!(rt; is_sayable(&of_one(10, Standard::Circle).ok_or("C")?));
-    assert!(rt; !is_sayable(&of_one(9, Standard::Circle).ok_or("C")?));
-    assert!(rt; !is_sayable(&of_one(10, Standard::Rectangle).ok_or("R")?));
+    let alloc = rt.alloc();
+    assert!(rt; is_sayable(&of_one(alloc, 10, Standard::Circle)?));
+    assert!(rt; !is_sayable(&of_one(alloc, 9, Standard::Circle)?));
+    assert!(rt; !is_sayable(&of_one(alloc, 10, Standard::Rectangle)?));
     Ok(())
 }
 
@@ -165,7 +167,8 @@ fn items_at_their_longest(rt: HostRuntime) -> Result<(), TestFail> {
 fn of_piece(alloc: Global, piece: &[u8]) -> Result<Command, AllocError> {
     let mut pieces = Vec::new(alloc);
     pieces.push(text(alloc, piece)?)?;
-    Ok(Command::Macro(text(alloc, b"a")?, Pieces::new(pieces)))
+    let pieces = Boxed::new(alloc, Pieces::new(pieces))?;
+    Ok(Command::Macro(text(alloc, b"a")?, pieces))
 }
 
 #[test]

@@ -1,13 +1,16 @@
 pub mod Adding
+pub mod Fronts
 pub mod Items
 pub mod AllSaid
 pub mod Longer
 pub mod Marks
 pub mod RoundTrip
 pub mod Shown
+pub mod Some
 pub mod Spelling
 pub mod Splitting
 pub mod Steps
+pub mod Told
 pub mod Unique
 pub mod Whole
 pub mod Written

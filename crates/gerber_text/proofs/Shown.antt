@@ -175,7 +175,7 @@ pushed_last ms m items rest none last s = record {
   ];
 }
 
-by_end : (t u : Bool) (ms : List Mark) (m : Mark) (items : List (List Mark)) (rest : List Mark) → has_end items ≡ t → eqb m.1 (ender (bytes_of rest)) ≡ u → Splits ms items rest → Pushed ms m items rest
+pub by_end : (t u : Bool) (ms : List Mark) (m : Mark) (items : List (List Mark)) (rest : List Mark) → has_end items ≡ t → eqb m.1 (ender (bytes_of rest)) ≡ u → Splits ms items rest → Pushed ms m items rest
 by_end true u ms m items rest h k s = pushed_ended ms m items rest h s
 by_end false true ms m items rest h k s = pushed_last ms m items rest h (eqb-true _ _ k) s
 by_end false false ms m items rest h k s = pushed_inside ms m items rest h (eqb-false _ _ k) s

@@ -8,8 +8,8 @@ mod sayable_lists;
 mod writer;
 
 pub use gerber_rows::{
-    Action, AttributeKind, Block, Command, Format, Interpolation, Pieces, QuadrantMode, Sizes,
-    Standard, Template,
+    Action, AttributeKind, Block, Boxed, Command, Coordinate, Format, Interpolation, Pieces,
+    QuadrantMode, Sizes, Standard, Template,
 };
 pub use placed::Placed;
 pub use reader::{Kept, WordReader, one_reading, read_kept, read_words};

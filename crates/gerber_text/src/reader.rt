@@ -1,21 +1,24 @@
 //! A Gerber text, read whole or in pieces.
 
-ghost use Rattle.std.specs.Prelude.{◌≡◌, List, Result, ℕ, ◌+◌, ◌≤◌, ◌<◌, ◌||◌, ◌==◌, true, false, Bool, if◌then◌else◌, Ok, OnOk, OnErr, IfOk, IfErr, IfNone, IfSome, take, length, vec_len, slice_index, All, IsTrue, map, ◌++◌, [], ◌∷◌, unwrap_or};
+ghost use Rattle.std.specs.Prelude.{◌≡◌, ◌↔◌, List, Result, ℕ, ◌+◌, ◌≤◌, ◌<◌, ◌||◌, ◌==◌, true, false, Bool, if◌then◌else◌, Ok, OnOk, OnErr, IfOk, IfErr, IfNone, IfSome, take, length, vec_len, slice_index, All, IsTrue, map, ◌++◌, [], ◌∷◌, unwrap_or};
 ghost use Rattle.std.specs.List.{list_all};
 ghost use Rattle.grid_units.specs.declared.fault.Fault.{Fault};
 ghost use Rattle.grid_units.specs.declared.fault.Fail.TheVariants.{Refused};
 ghost use Rattle.grid_units.specs.Results.{fault, Answers};
+ghost use Rattle.gerber_rows.specs.Items.{ender};
 ghost use Rattle.gerber_rows.specs.declared.command.Command.TheVariants.{Mode};
 ghost use Rattle.gerber_text.specs.Reading.{Entries, Shows, spelled, placed, Leaves, plot_of, is_plotting, Reads, SpellsText, Keeps, KeptBefore, entries_of, entries_behind, is_blank};
-ghost use Rattle.gerber_text.specs.Bytes.{IsInside, follows_or_drops};
+ghost use Rattle.gerber_text.specs.Bytes.{IsInside, IsFront, follows_or_drops};
+ghost use Rattle.gerber_text.specs.Reasons.{IsReasonOfReading};
 ghost use Rattle.gerber_text.specs.Writing.{without_places, sayable};
 
 use crate::placed::Placed;
 use gerber_rows::{
-    Action, Command, Interpolation, ItemFail, PlainOperation, Spelled, is_text_end,
+    Action, Command, Coordinate, Interpolation, ItemFail, PlainOperation, Spelled, is_text_end,
     plain_operation, read_item,
 };
 use grid_units::{Fail, Fault, Reason};
+use memchr::memchr3;
 use std::alloc::{AllocError, Global};
 use std::mem::replace;
 
@@ -45,13 +48,6 @@ fn is_break(byte: u8) -> bool
     byte == b'\n' || byte == b'\r'
 }
 
-fn is_inside(byte: u8, end: u8) -> bool
-    ensures yes { IsTrue result → IsInside end byte }
-    ensures no { result ≡ false → IsInside end byte → ⊥ }
-{
-    byte != end && !is_break(byte)
-}
-
 /// Whether the byte shows no fault behind the end of the text.
 fn may_stand(byte: u8) -> bool
     ensures { result ≡ follows_or_drops byte }
@@ -65,12 +61,37 @@ fn inside_len(bytes: &[u8], end: u8) -> usize
     ensures inside { All (IsInside end) (take result bytes.now) }
     ensures stops { 0 < length bytes.now → result ≡ 0 → IsInside end (slice_index bytes.now 0) → ⊥ }
 {
-    for (i, byte) in bytes.iter().enumerate() {
-        if !is_inside(*byte, end) {
-            return i;
-        }
+    match memchr3(end, b'\n', b'\r', bytes) {
+        Some(at) => at,
+        None => bytes.len(),
     }
-    bytes.len()
+}
+
+/// The byte that ends an item which begins so.
+fn end_of(bytes: &[u8]) -> u8
+    ensures { result ≡ ender bytes.now }
+{
+    match bytes {
+        [b'%', ..] => b'%',
+        _ => b'*',
+    }
+}
+
+/// How many bytes the item takes with which these bytes begin, where it ends among them, has no line break in it and is
+/// within the limit.
+fn item_len(bytes: &[u8]) -> Option<usize>
+    requires some { 0 < length bytes.now }
+    requires inside { IsInside 42 (slice_index bytes.now 0) }
+    ensures { IfSome result (λ n. IsFront bytes.now n) }
+{
+    let end = end_of(bytes);
+    let rest = &bytes[1..];
+    let len = inside_len(rest, end);
+    if len < rest.len() && rest[len] == end && len + 2 <= ITEM_LIMIT {
+        Some(len + 2)
+    } else {
+        None
+    }
 }
 
 /// Where the first byte lies that may not stand behind the end of the text.
@@ -262,8 +283,8 @@ impl Progress {
             action,
             x,
             y,
-            i: None,
-            j: None,
+            i: Coordinate::none(),
+            j: Coordinate::none(),
         };
         let place = self.items + 1;
         self.plotting = add_one(self.plotting, place, self.offset, what, &mut self.commands)?;
@@ -286,14 +307,63 @@ impl Progress {
     {
         match plain_operation(bytes) {
             Some(operation) => {
+                let len = operation.len;
                 self.operate(bytes, operation)?;
-                Ok(operation.len)
+                Ok(len)
+            }
+            None => self.start_item(bytes),
+        }
+    }
+
+    /// Takes the item at the start of these bytes, where it stands there whole, else its first byte, and says how
+    /// many bytes these are.
+    fn start_item(&mut self, bytes: &[u8]) -> Result<usize, Fail>
+        requires running { self.old.ended ≡ false }
+        requires fresh { vec_len self.old.item ≡ 0 }
+        requires some { 0 < length bytes.now }
+        requires inside { IsInside 42 (slice_index bytes.now 0) }
+        requires room { self.old.offset + length bytes.now ≤ 268435456 }
+        ensures taken { IfOk result (λ n. (0 < n) × (n ≤ length bytes.now) × (self.new.offset ≡ self.old.offset + n)) }
+        ensures ok { IfOk result (λ n. Advances self.old self.new (take n bytes.now)) }
+        ensures err { IfErr result (Refuses self.old self.new.commands.items bytes.now) }
+    {
+        match item_len(bytes) {
+            Some(len) => {
+                self.take_item(bytes, len)?;
+                Ok(len)
             }
             None => {
                 self.begin(bytes[0])?;
                 Ok(1)
             }
         }
+    }
+
+    /// Takes an item of so many bytes.
+    fn take_item(&mut self, bytes: &[u8], len: usize) -> Result<(), Fail>
+        requires running { self.old.ended ≡ false }
+        requires fresh { vec_len self.old.item ≡ 0 }
+        requires front { IsFront bytes.now len }
+        requires room { self.old.offset + length bytes.now ≤ 268435456 }
+        ensures offset { OnOk result (self.new.offset ≡ self.old.offset + len) }
+        ensures ok { OnOk result (Advances self.old self.new (take len bytes.now)) }
+        ensures err { IfErr result (Refuses self.old self.new.commands.items (take len bytes.now)) }
+    {
+        let item = &bytes[..len];
+        let place = self.items + 1;
+        let byte = self.offset;
+        self.plotting = spell(
+            self.alloc,
+            self.plotting,
+            place,
+            byte,
+            item,
+            &mut self.commands,
+        )?;
+        self.ended = is_text_end(item);
+        self.items += 1;
+        self.offset += len as u64;
+        Ok(())
     }
 
     /// Adds the first byte of an item.
@@ -509,6 +579,7 @@ impl WordReader {
         ensures ok { (gone : Entries) (text : List ℕ) → StandsBehind self.old gone text → OnOk result (StandsBehind self.new gone (text ++ piece.now)) }
         ensures err { (gone : Entries) (text : List ℕ) → StandsBehind self.old gone text → IfErr result (FailedBehind self.new gone (text ++ piece.now)) }
         ensures failed { IfSome (failure self.old) (λ e. (result ≡ Err e) × (self.new ≡ self.old)) }
+        ensures fails { IfErr result (λ e. failure self.new ≡ Some e) }
     {
         if let Some(fail) = self.failed {
             return Err(fail);
@@ -625,8 +696,12 @@ pub fn read_kept(alloc: Global, bytes: &[u8]) -> Kept
     reader.into_kept()
 }
 
-/// A text shows one thing, and has one reading.
+/// A text shows one thing, and has one reading, which is some commands just where the text spells them, or a fault for one
+/// of the reasons of reading.
 pub fn one_reading()
     ensures shown { (text : List ℕ) (a b : Result Entries Fault) → Shows text a → Shows text b → a ≡ b }
     ensures read { (text : List ℕ) (a b : Result Entries Fault) → Reads text a → Reads text b → a ≡ b }
+    ensures some { (text : List ℕ) → (answer : Result Entries Fault) × Reads text answer }
+    ensures spelled { (text : List ℕ) (commands : Entries) → SpellsText text commands ↔ Reads text (Ok commands) }
+    ensures reasons { (text : List ℕ) (f : Fault) → Reads text (Err f) → IsReasonOfReading f.reason }
 {}

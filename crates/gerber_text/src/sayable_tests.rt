@@ -1,6 +1,6 @@
 use crate::tests::is_same_in_pieces;
 use crate::{Command, Placed, read_words, sayable, sayable_texts, write_commands, write_placed};
-use gerber_rows::{Action, Block, Format, Pieces, Template};
+use gerber_rows::{Action, Block, Boxed, Coordinate, Format, Pieces, Template};
 use grid_units::{Dec, Fail, Text};
 use std::alloc::{AllocError, Global};
 use std::test::Fail as TestFail;
@@ -40,25 +40,25 @@ fn long_comment(alloc: Global, length: usize) -> Result<Command, AllocError> {
 fn named(alloc: Global, name: &[u8]) -> Result<Command, AllocError> {
     Ok(Command::Define {
         number: 10,
-        template: Template::Named(Text::from_slice(alloc, name)?, None),
+        template: Boxed::new(alloc, Template::Named(Text::from_slice(alloc, name)?, None))?,
     })
 }
 
 /// A macro without pieces.
 fn bare_macro(alloc: Global, name: &[u8]) -> Result<Command, AllocError> {
-    let pieces = Pieces::new(Vec::new(alloc));
+    let pieces = Boxed::new(alloc, Pieces::new(Vec::new(alloc)))?;
     Ok(Command::Macro(Text::from_slice(alloc, name)?, pieces))
 }
 
 /// An operation with X 1 and I 2.
-fn with_offset(action: Action) -> Command {
-    Command::Operate {
+fn with_offset(action: Action) -> Option<Command> {
+    Some(Command::Operate {
         action,
-        x: Some(1),
-        y: None,
-        i: Some(2),
-        j: None,
-    }
+        x: Coordinate::new(Some(1))?,
+        y: Coordinate::none(),
+        i: Coordinate::new(Some(2))?,
+        j: Coordinate::none(),
+    })
 }
 
 fn format(whole: u8, decimals: u8) -> Command {
@@ -86,7 +86,7 @@ fn commands_that_no_item_spells(rt: HostRuntime) -> Result<(), TestFail> {
     let negative = b" #@! TF.FilePolarity,Negative";
     assert!(rt; !is_said(alloc, Command::Select(9))?);
     assert!(rt; !is_said(alloc, named(alloc, b"C")?)?);
-    assert!(rt; !is_said(alloc, with_offset(Action::Move))?);
+    assert!(rt; !is_said(alloc, with_offset(Action::Move).ok_or("1")?)?);
     assert!(rt; !is_said(alloc, comment(alloc, negative)?)?);
     assert!(rt; !is_said(alloc, format(0, 0))?);
     assert!(rt; !is_said(alloc, bare_macro(alloc, b"R")?)?);
@@ -107,7 +107,7 @@ fn commands_that_items_spell(rt: HostRuntime) -> Result<(), TestFail> {
         step_y: zero,
     };
     assert!(rt; is_said(alloc, Command::Select(10))?);
-    assert!(rt; is_said(alloc, with_offset(Action::Plot))?);
+    assert!(rt; is_said(alloc, with_offset(Action::Plot).ok_or("1")?)?);
     assert!(rt; is_said(alloc, format(6, 0))?);
     assert!(rt; is_said(alloc, Command::Turn(least))?);
     assert!(rt; is_said(alloc, Command::Scale(zero))?);

@@ -1,7 +1,8 @@
 ghost use Rattle.std.specs.Prelude.{◌≤◌, length};
 
 use crate::{
-    Action, Command, Placed, WordReader, read_kept, read_words, write_commands, write_placed,
+    Action, Command, Coordinate, Placed, WordReader, read_kept, read_words, write_commands,
+    write_placed,
 };
 use gerber_rows::{PlainOperation, plain_operation};
 use grid_units::{Fail, Fault, Reason};
@@ -282,15 +283,15 @@ fn a_refused_command_in_a_layer(rt: HostRuntime) -> Result<(), TestFail> {
 fn operations_read_in_one_pass(rt: HostRuntime) -> Result<(), TestFail> {
     let flash = PlainOperation {
         action: Action::Flash,
-        x: Some(1),
-        y: Some(-2),
+        x: Coordinate::new(Some(1)).ok_or("1")?,
+        y: Coordinate::new(Some(-2)).ok_or("-2")?,
         len: 9,
     };
     assert_eq!(rt; plain_operation(b"X1Y-2D03*\nD10*"), Some(flash));
     let plot = PlainOperation {
         action: Action::Plot,
-        x: None,
-        y: Some(5),
+        x: Coordinate::none(),
+        y: Coordinate::new(Some(5)).ok_or("5")?,
         len: 7,
     };
     assert_eq!(rt; plain_operation(b"Y+5D01*"), Some(plot));
@@ -568,6 +569,7 @@ fn too_many_blanks(rt: HostRuntime) -> Result<(), TestFail> {
 
 #[test]
 fn size_of_a_command(rt: HostRuntime) -> Result<(), TestFail> {
-    assert!(rt; size_of::<Command>() <= 72);
+    assert!(rt; size_of::<Command>() <= 40);
+    assert!(rt; size_of::<Placed<Command>>() <= 56);
     Ok(())
 }

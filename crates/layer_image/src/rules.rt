@@ -34,12 +34,18 @@ impl Judge {
             Command::FormatIs(format) => self
                 .differs_in_format(*format)
                 .then_some(Reason::FormatConflict),
-            Command::Define { number, template } => self.definition_rule(*number, template),
+            Command::Define { number, template } => self.definition_rule(*number, template.get()),
             Command::Macro(name, _) => self.macros.has(name).then_some(Reason::Redefined),
             Command::Select(number) => (!self.apertures.has(*number)).then_some(
                 Reason::UnknownAperture,
             ),
-            Command::Operate { action, x, y, i, j } => self.operation_rule(*action, *x, *y, *i, *j),
+            Command::Operate { action, x, y, i, j } => self.operation_rule(
+                *action,
+                x.get(),
+                y.get(),
+                i.get(),
+                j.get(),
+            ),
             Command::Scale(scale) => is_not_positive(*scale).then_some(Reason::BadSize),
             Command::Repeat(block) => repeats_badly(*block).then_some(Reason::BadRepeat),
             Command::Finish => self.finish_rule(),

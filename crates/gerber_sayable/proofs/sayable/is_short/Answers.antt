@@ -24,5 +24,5 @@ is_macro_short-requires c = subst (λ (l : List ℕ). length l ≤ 127) (sym c.b
 pub returns-in-Macro : goal.returns-in-Macro
 returns-in-Macro c =
     c.is_macro_short.ensures
-    ∙ ((λ i. leb (5 + (length (c.bytes-in-Macro.ensures i) + length (starred (c.texts.ensures i)))) 1048576)
+    ∙ ((λ i. leb (5 + (length (c.bytes-in-Macro.ensures i) + length (starred ((c.texts.ensures ∙ c.get-in-Macro.ensures) i)))) 1048576)
     ∙ macro_test c.args.command.now c.in-Macro.name c.in-Macro.pieces c.in-Macro.is c.requires)

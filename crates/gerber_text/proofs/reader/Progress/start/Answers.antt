@@ -1,13 +1,8 @@
 use Rattle.std.proofs.lemmas.Result.{err_from_is_err_and}
-use Rattle.gerber_text.proofs.Shown.{Refuses-first, Refuses-front}
+use Rattle.gerber_text.proofs.Shown.{Refuses-front}
 use Rattle.gerber_text.proofs.reader.Progress.start.Goals as goal
 
 pub returns-in_err-operate-in-Some-clause-err : goal.returns-in_err-operate-in-Some-clause-err
 returns-in_err-operate-in-Some-clause-err c =
     let p = err_from_is_err_and c.from_residual.result c.from_residual.ensures.1 in
     rw (p.1, p.2) (Refuses-front c.args.self.now c.operate.new.self.commands.items c.args.bytes.now c.in-Some.operation.len c.in_err-operate-in-Some.field-0.0 c.in_err-operate-in-Some.ensures.err)
-
-pub returns-in_err-begin-in-None-clause-err : goal.returns-in_err-begin-in-None-clause-err
-returns-in_err-begin-in-None-clause-err c =
-    let p = err_from_is_err_and c.from_residual-in_err-begin-in-None.result c.from_residual-in_err-begin-in-None.ensures.1 in
-    rw (p.1, p.2) (Refuses-first c.args.self.now c.begin.new.self.commands.items c.args.bytes.now c.in_err-begin-in-None.field-0.0 c.requires.some c.in_err-begin-in-None.ensures.err)
