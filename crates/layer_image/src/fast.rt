@@ -43,12 +43,13 @@ impl FastJudge {
         ensures { (keep : TheKeep) (before : List Command) → Knows self.old.judge keep before → Judges keep before command.now self.new.judge result }
     {
         if let Command::Operate { action, x, y, i, j } = command {
-            if self.moves(*action, *x, *y, *i, *j) {
-                self.judge.go_to(*x, *y);
+            let (x, y, i, j) = (x.get(), y.get(), i.get(), j.get());
+            if self.moves(*action, x, y, i, j) {
+                self.judge.go_to(x, y);
                 return Ok(());
             }
-            if let Some(flash) = self.flash(*action, *x, *y, *i, *j) {
-                self.judge.add(&flash, *x, *y)?;
+            if let Some(flash) = self.flash(*action, x, y, i, j) {
+                self.judge.add(&flash, x, y)?;
                 return Ok(());
             }
         }

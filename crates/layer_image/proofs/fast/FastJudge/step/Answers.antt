@@ -1,5 +1,5 @@
 -- An operation on the fast path breaks no rule, and leaves what is in force.
-use Rattle.std.proofs.Common.{◌≡◌, ◌∷◌, [], sym, subst, ◌∙◌}
+use Rattle.std.proofs.Common.{◌≡◌, Ok, sym, subst, ◌∙◌}
 use Rattle.gerber_rows.specs.declared.command.Command.{Command}
 use Rattle.gerber_rows.specs.declared.command.Command.TheVariants as command
 use Rattle.layer_image.specs.InForce.{IsFastPath, IsFlashOf}
@@ -21,14 +21,18 @@ invariant_of-self-in-Some c =
 pub returns-then-moves : goal.returns-then-moves
 returns-then-moves c keep before knows =
     let old = c.args.self.now.judge in
-    let o = command.Operate c.in-Operate.action c.in-Operate.x c.in-Operate.y c.in-Operate.i c.in-Operate.j in
-    let takes = moved_takes old c.go_to.new.self c.in-Operate.action c.in-Operate.x c.in-Operate.y c.in-Operate.i c.in-Operate.j (c.moves.ensures.no_flash c.if-moves.true) (c.go_to.ensures.told c.in-Operate.action c.in-Operate.i c.in-Operate.j) c.go_to.ensures.flashes in
-    rw c.in-Operate.is (judged old c.go_to.new.self o (c.moves.ensures.legal c.if-moves.true) takes keep before knows)
+    let p = c.in-Operate in
+    let o = command.Operate p.action c.get-x.result c.get-y.result c.get-i.result c.get-j.result in
+    let named : o ≡ c.args.command.now = (λ k. command.Operate p.action (c.get-x.ensures k) (c.get-y.ensures k) (c.get-i.ensures k) (c.get-j.ensures k)) ∙ sym p.is in
+    let takes = moved_takes old c.go_to.new.self p.action c.get-x.result c.get-y.result c.get-i.result c.get-j.result (c.moves.ensures.no_flash c.if-moves.true) (c.go_to.ensures.told p.action c.get-i.result c.get-j.result) c.go_to.ensures.flashes in
+    subst (λ (d : Command). Judges keep before d c.go_to.new.self (Ok tt)) named (judged old c.go_to.new.self o (c.moves.ensures.legal c.if-moves.true) takes keep before knows)
 
 pub returns-in-Some : goal.returns-in-Some
 returns-in-Some c keep before knows =
     let old = c.args.self.now.judge in
-    let o = command.Operate c.in-Operate.action c.in-Operate.x c.in-Operate.y c.in-Operate.i c.in-Operate.j in
+    let p = c.in-Operate in
+    let o = command.Operate p.action c.get-x.result c.get-y.result c.get-i.result c.get-j.result in
+    let named : o ≡ c.args.command.now = (λ k. command.Operate p.action (c.get-x.ensures k) (c.get-y.ensures k) (c.get-i.ensures k) (c.get-j.ensures k)) ∙ sym p.is in
     let is : IsFlashOf (told old) (flash_count old.flashes) o c.in-Some.flash = c.in-Some.ensures in
-    let takes = flash_takes old c.add.new.self o c.in-Some.flash is.flashes (c.add.ensures.told c.in-Operate.action c.in-Operate.i c.in-Operate.j) c.in_ok-add.ensures.flashes in
-    rw c.in-Operate.is (judged old c.add.new.self o is.legal takes keep before knows)
+    let takes = flash_takes old c.add.new.self o c.in-Some.flash is.flashes (c.add.ensures.told p.action c.get-i.result c.get-j.result) c.in_ok-add.ensures.flashes in
+    subst (λ (d : Command). Judges keep before d c.add.new.self (Ok tt)) named (judged old c.add.new.self o is.legal takes keep before knows)
