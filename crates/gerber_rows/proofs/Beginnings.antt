@@ -1,7 +1,12 @@
 -- A word that begins with a coordinate fits no row but that of operations.
-use Rattle.std.proofs.Common.{◌≡◌, ℕ, suc, Bool, true, false, cond, eqb, ◌||◌, ◌⊎◌, inl, inr, List, [], ◌∷◌, None, Some, Ok, Err, refl, sym, ap, subst, ◌∙◌, length, arith}
+use Rattle.std.proofs.Common.{◌≡◌, ℕ, suc, Bool, true, false, cond, eqb, ◌||◌, ◌⊎◌, inl, inr, List, [], ◌∷◌, ◌++◌, ◌<◌, Option, None, Some, Ok, Err, refl, sym, ap, subst, ◌∙◌, length, arith}
 use Rattle.std.proofs.lemmas.Bool.{eqb-true, false≢true}
+use Rattle.std.specs.Prelude.{is_some}
 use Rattle.grid_units.specs.declared.fault.Reason.TheVariants.{BadWord}
+use Rattle.gerber_rows.specs.declared.command.Command.TheVariants.{Mode}
+use Rattle.gerber_rows.specs.declared.command.Interpolation.{Interpolation}
+use Rattle.gerber_rows.specs.declared.command.Interpolation.TheVariants.{Linear, Clockwise, Counterclockwise}
+use Rattle.gerber_rows.specs.Plain.{front_word}
 use Rattle.gerber_rows.specs.Beginnings.{begins_with_coordinate}
 use Rattle.gerber_rows.specs.Rows.{first_fit}
 use Rattle.gerber_rows.specs.Words.{nothing_row, comment_row, mode_front, mode_row, quadrant_row, region_row, unit_row, incremental_row, select_row, operation_row, finish_row, old_row, words, fields, is_operation, operate}
@@ -61,3 +66,70 @@ fits_operation plotting (b ∷ bs) h = elim (either (eqb b 88) (eqb b 89) h) [
   | inl x ↦ subst (λ c. first_fit (words plotting (c ∷ bs)) ≡ cond (is_operation (fields (c ∷ bs))) (operate plotting None (fields (c ∷ bs))) (Err BadWord)) (sym (eqb-true b 88 x)) (fits_x plotting bs)
   | inr y ↦ subst (λ c. first_fit (words plotting (c ∷ bs)) ≡ cond (is_operation (fields (c ∷ bs))) (operate plotting None (fields (c ∷ bs))) (Err BadWord)) (sym (eqb-true b 89 y)) (fits_y plotting bs)
 ]
+
+-- ---- behind an interpolation
+
+nothing_linear : (b : ℕ) (bs : List ℕ) → nothing_row (71 ∷ 48 ∷ 49 ∷ b ∷ bs) ≡ None
+unfolding nothing_row
+nothing_linear b bs = ap (λ t. cond (t || false) (Some (Ok [])) None) (not_empty (length (48 ∷ 49 ∷ b ∷ bs)))
+
+mode_linear : (b : ℕ) (bs : List ℕ) → mode_row (71 ∷ 48 ∷ 49 ∷ b ∷ bs) ≡ None
+unfolding mode_row mode_front
+mode_linear b bs = ap (λ t. cond t (Some (Ok (Mode Linear ∷ []))) None) (not_empty (length bs))
+
+fits_linear : (plotting : Bool) (b : ℕ) (bs : List ℕ) → first_fit (words plotting (71 ∷ 48 ∷ 49 ∷ b ∷ bs)) ≡ cond (is_operation (fields (b ∷ bs))) (operate plotting (Some Linear) (fields (b ∷ bs))) (Err BadWord)
+unfolding mode_front quadrant_row region_row unit_row incremental_row select_row operation_row finish_row old_row
+fits_linear plotting b bs =
+    let text : List ℕ = 71 ∷ 48 ∷ 49 ∷ b ∷ bs in
+    (λ i. first_fit (nothing_linear b bs i ∷ comment_row text ∷ mode_linear b bs i ∷ quadrant_row text ∷ region_row text ∷ unit_row text ∷ incremental_row text ∷ select_row text ∷ operation_row plotting text ∷ finish_row text ∷ old_row text ∷ []))
+    ∙ by (is_operation (fields (b ∷ bs)))
+  where
+    by : (t : Bool) → first_fit (cond t (Some (operate plotting (Some Linear) (fields (b ∷ bs)))) None ∷ None ∷ None ∷ []) ≡ cond t (operate plotting (Some Linear) (fields (b ∷ bs))) (Err BadWord)
+    by true = refl
+    by false = refl
+
+nothing_clockwise : (b : ℕ) (bs : List ℕ) → nothing_row (71 ∷ 48 ∷ 50 ∷ b ∷ bs) ≡ None
+unfolding nothing_row
+nothing_clockwise b bs = ap (λ t. cond (t || false) (Some (Ok [])) None) (not_empty (length (48 ∷ 50 ∷ b ∷ bs)))
+
+mode_clockwise : (b : ℕ) (bs : List ℕ) → mode_row (71 ∷ 48 ∷ 50 ∷ b ∷ bs) ≡ None
+unfolding mode_row mode_front
+mode_clockwise b bs = ap (λ t. cond t (Some (Ok (Mode Clockwise ∷ []))) None) (not_empty (length bs))
+
+fits_clockwise : (plotting : Bool) (b : ℕ) (bs : List ℕ) → first_fit (words plotting (71 ∷ 48 ∷ 50 ∷ b ∷ bs)) ≡ cond (is_operation (fields (b ∷ bs))) (operate plotting (Some Clockwise) (fields (b ∷ bs))) (Err BadWord)
+unfolding mode_front quadrant_row region_row unit_row incremental_row select_row operation_row finish_row old_row
+fits_clockwise plotting b bs =
+    let text : List ℕ = 71 ∷ 48 ∷ 50 ∷ b ∷ bs in
+    (λ i. first_fit (nothing_clockwise b bs i ∷ comment_row text ∷ mode_clockwise b bs i ∷ quadrant_row text ∷ region_row text ∷ unit_row text ∷ incremental_row text ∷ select_row text ∷ operation_row plotting text ∷ finish_row text ∷ old_row text ∷ []))
+    ∙ by (is_operation (fields (b ∷ bs)))
+  where
+    by : (t : Bool) → first_fit (cond t (Some (operate plotting (Some Clockwise) (fields (b ∷ bs)))) None ∷ None ∷ None ∷ []) ≡ cond t (operate plotting (Some Clockwise) (fields (b ∷ bs))) (Err BadWord)
+    by true = refl
+    by false = refl
+
+nothing_counterclockwise : (b : ℕ) (bs : List ℕ) → nothing_row (71 ∷ 48 ∷ 51 ∷ b ∷ bs) ≡ None
+unfolding nothing_row
+nothing_counterclockwise b bs = ap (λ t. cond (t || false) (Some (Ok [])) None) (not_empty (length (48 ∷ 51 ∷ b ∷ bs)))
+
+mode_counterclockwise : (b : ℕ) (bs : List ℕ) → mode_row (71 ∷ 48 ∷ 51 ∷ b ∷ bs) ≡ None
+unfolding mode_row mode_front
+mode_counterclockwise b bs = ap (λ t. cond t (Some (Ok (Mode Counterclockwise ∷ []))) None) (not_empty (length bs))
+
+fits_counterclockwise : (plotting : Bool) (b : ℕ) (bs : List ℕ) → first_fit (words plotting (71 ∷ 48 ∷ 51 ∷ b ∷ bs)) ≡ cond (is_operation (fields (b ∷ bs))) (operate plotting (Some Counterclockwise) (fields (b ∷ bs))) (Err BadWord)
+unfolding mode_front quadrant_row region_row unit_row incremental_row select_row operation_row finish_row old_row
+fits_counterclockwise plotting b bs =
+    let text : List ℕ = 71 ∷ 48 ∷ 51 ∷ b ∷ bs in
+    (λ i. first_fit (nothing_counterclockwise b bs i ∷ comment_row text ∷ mode_counterclockwise b bs i ∷ quadrant_row text ∷ region_row text ∷ unit_row text ∷ incremental_row text ∷ select_row text ∷ operation_row plotting text ∷ finish_row text ∷ old_row text ∷ []))
+    ∙ by (is_operation (fields (b ∷ bs)))
+  where
+    by : (t : Bool) → first_fit (cond t (Some (operate plotting (Some Counterclockwise) (fields (b ∷ bs)))) None ∷ None ∷ None ∷ []) ≡ cond t (operate plotting (Some Counterclockwise) (fields (b ∷ bs))) (Err BadWord)
+    by true = refl
+    by false = refl
+
+-- an interpolation that may stand in front leaves no row but that of operations
+pub fits_front : (plotting : Bool) (m : Option Interpolation) (tail : List ℕ) → 0 < length tail → (is_some m || begins_with_coordinate tail) ≡ true → first_fit (words plotting (front_word m ++ tail)) ≡ cond (is_operation (fields tail)) (operate plotting m (fields tail)) (Err BadWord)
+fits_front plotting None tail some h = fits_operation plotting tail h
+fits_front plotting (Some m) [] some h = absurd (omega (arith, some))
+fits_front plotting (Some Linear) (b ∷ bs) some h = fits_linear plotting b bs
+fits_front plotting (Some Clockwise) (b ∷ bs) some h = fits_clockwise plotting b bs
+fits_front plotting (Some Counterclockwise) (b ∷ bs) some h = fits_counterclockwise plotting b bs

@@ -1,6 +1,6 @@
 -- Operations that are spelled as most are.
 use Rattle.std.proofs.Common.{◌≡◌, ◌≢◌, ℕ, zero, suc, ◌+◌, ◌-◌, ◌<◌, ◌≤◌, Bool, true, false, cond, eqb, ◌||◌, List, [], ◌∷◌, ◌++◌, length, take, drop, get_or, Option, None, Some, Result, Ok, Err, refl, sym, ap, subst, ◌∙◌, arith, append_assoc}
-use Rattle.std.specs.Prelude.{ℤ, pos, neg_ℤ, is_some, IfSome}
+use Rattle.std.specs.Prelude.{ℤ, pos, neg_ℤ, is_some, not, IfSome}
 use Rattle.std.specs.List.{list_any, take_while, prefix_len, AllByRecursion}
 use Rattle.std.proofs.lemmas.Bool.{eqb-true, eqb-false, eq-eqb, false≢true}
 use Rattle.std.proofs.lemmas.List.{length-append, length-take, take-append-drop, take_all}
@@ -10,20 +10,23 @@ use Rattle.grid_units.specs.Results.{◌>>=◌, both}
 use Rattle.grid_units.specs.Numbers.{is_digit, is_number, value, unsigned, is_negative}
 use Rattle.grid_units.specs.declared.fault.Reason.{Reason}
 use Rattle.grid_units.specs.declared.fault.Reason.TheVariants.{BadWord}
+use Rattle.gerber_rows.specs.declared.command.Command.{Command}
 use Rattle.gerber_rows.specs.declared.command.Command.TheVariants.{Operate}
+use Rattle.gerber_rows.specs.declared.command.Interpolation.{Interpolation}
+use Rattle.gerber_rows.specs.declared.command.Interpolation.TheVariants.{Linear, Clockwise, Counterclockwise}
 use Rattle.gerber_rows.specs.declared.command.Action.{Action}
 use Rattle.gerber_rows.specs.declared.command.Action.TheVariants.{Plot, Move, Flash}
 use Rattle.gerber_rows.specs.Items.{is_line_break, ender, IsItem, is_end}
 use Rattle.gerber_rows.specs.Numbers.{int_of, nat_of}
 use Rattle.gerber_rows.specs.Rows.{first_fit, field, modes_of}
-use Rattle.gerber_rows.specs.Words.{coordinate, kind, Fields, fields, is_operation, operands, operate, words, word}
+use Rattle.gerber_rows.specs.Words.{coordinate, kind, Fields, fields, names_action, is_operation, operands, operate, words, word}
 use Rattle.gerber_rows.specs.Pieces.{extended}
 use Rattle.gerber_rows.specs.Meaning.{meaning, front_of}
 use Rattle.gerber_rows.specs.Beginnings.{begins_with_coordinate}
 use Rattle.gerber_rows.specs.Canonical.{action_code}
-use Rattle.gerber_rows.specs.Plain.{BeginsWith, BeginsWithInt, BeginsWithCoordinate, coordinate_word}
+use Rattle.gerber_rows.specs.Plain.{BeginsWith, BeginsWithInt, BeginsWithCoordinate, coordinate_word, front_word, is_plain_plot}
 use Rattle.grid_units.proofs.Binds.{bind_ok}
-use Rattle.gerber_rows.proofs.Beginnings.{fits_operation}
+use Rattle.gerber_rows.proofs.Beginnings.{fits_front}
 use Rattle.gerber_rows.proofs.Numerals.{spells}
 
 -- ---- an integer
@@ -99,8 +102,8 @@ code_ends Move = refl
 code_ends Flash = refl
 
 -- the fields of an operation by these coordinates
-abbrev pub found : Option (List ℕ) → Option (List ℕ) → Action → Fields
-found x y action = record { x = x; y = y; i = None; j = None; d = Some (48 ∷ digit_of action ∷ []); rest = [] }
+abbrev pub found : Option (List ℕ) → Option (List ℕ) → Option (List ℕ) → Option (List ℕ) → Action → Fields
+found x y i j action = record { x = x; y = y; i = i; j = j; d = Some (48 ∷ digit_of action ∷ []); rest = [] }
 
 abbrev pub from_x : Option (List ℕ) × List ℕ → Fields
 from_x p =
@@ -117,40 +120,100 @@ from_y x p =
     let d = field is_digit 68 j.1 in
     record { x = x; y = p.0; i = i.0; j = j.0; d = d.0; rest = d.1 }
 
-at_code : (x y : Option (List ℕ)) (action : Action) → from_y x (y, code action) ≡ found x y action
-at_code x y Plot = refl
-at_code x y Move = refl
-at_code x y Flash = refl
+abbrev pub from_i : Option (List ℕ) → Option (List ℕ) → Option (List ℕ) × List ℕ → Fields
+from_i x y p =
+    let j = field is_number 74 p.1 in
+    let d = field is_digit 68 j.1 in
+    record { x = x; y = y; i = p.0; j = j.0; d = d.0; rest = d.1 }
 
-at_x : (x y : Option (List ℕ)) (action : Action) → IfSome x (AllByRecursion (λ b. is_number b ≡ true)) → field is_number 88 (coordinate_word 88 x ++ (coordinate_word 89 y ++ code action)) ≡ (x, coordinate_word 89 y ++ code action)
-at_x x None action h = field_there 88 x 68 (48 ∷ digit_of action ∷ []) h refl refl
-at_x x (Some run) action h = field_there 88 x 89 (run ++ code action) h refl refl
+abbrev pub from_j : Option (List ℕ) → Option (List ℕ) → Option (List ℕ) → Option (List ℕ) × List ℕ → Fields
+from_j x y i p =
+    let d = field is_digit 68 p.1 in
+    record { x = x; y = y; i = i; j = p.0; d = d.0; rest = d.1 }
 
-fields_found : (x y : Option (List ℕ)) (action : Action) → IfSome x (AllByRecursion (λ b. is_number b ≡ true)) → IfSome y (AllByRecursion (λ b. is_number b ≡ true)) → fields (coordinate_word 88 x ++ (coordinate_word 89 y ++ code action)) ≡ found x y action
+at_code : (x y i j : Option (List ℕ)) (action : Action) → from_j x y i (j, code action) ≡ found x y i j action
+at_code x y i j Plot = refl
+at_code x y i j Move = refl
+at_code x y i j Flash = refl
+
+-- a run of this letter ends where such bytes begin
+record Heads (letter : ℕ) (tail : List ℕ) : Type 0 where
+  pub first : ℕ
+  pub others : List ℕ
+  pub is : tail ≡ first ∷ others
+  pub away : is_number first ≡ false
+  pub differs : eqb first letter ≡ false
+
+heads_code : (letter : ℕ) (action : Action) → eqb 68 letter ≡ false → Heads letter (code action)
+heads_code letter action h = record { first = 68; others = 48 ∷ digit_of action ∷ []; is = refl; away = refl; differs = h }
+
+heads_word : (letter l : ℕ) (run : Option (List ℕ)) (tail : List ℕ) → is_number l ≡ false → eqb l letter ≡ false → Heads letter tail → Heads letter (coordinate_word l run ++ tail)
+heads_word letter l None tail a d h = h
+heads_word letter l (Some run) tail a d h = record { first = l; others = run ++ tail; is = refl; away = a; differs = d }
+
+field_at : (letter : ℕ) (run : Option (List ℕ)) (tail : List ℕ) → IfSome run (AllByRecursion (λ x. is_number x ≡ true)) → Heads letter tail → field is_number letter (coordinate_word letter run ++ tail) ≡ (run, tail)
+field_at letter run tail h k = subst (λ (t : List ℕ). field is_number letter (coordinate_word letter run ++ t) ≡ (run, t)) (sym k.is) (field_there letter run k.first k.others h k.away k.differs)
+
+-- what stands from each letter on
+abbrev pub tail_j : Option (List ℕ) → Action → List ℕ
+tail_j j action = coordinate_word 74 j ++ code action
+
+abbrev pub tail_i : Option (List ℕ) → Option (List ℕ) → Action → List ℕ
+tail_i i j action = coordinate_word 73 i ++ tail_j j action
+
+abbrev pub tail_y : Option (List ℕ) → Option (List ℕ) → Option (List ℕ) → Action → List ℕ
+tail_y y i j action = coordinate_word 89 y ++ tail_i i j action
+
+abbrev pub tail_x : Option (List ℕ) → Option (List ℕ) → Option (List ℕ) → Option (List ℕ) → Action → List ℕ
+tail_x x y i j action = coordinate_word 88 x ++ tail_y y i j action
+
+-- each run that stands there is of number characters
+abbrev pub AreNumbers : Option (List ℕ) → Type 0
+AreNumbers run = IfSome run (AllByRecursion (λ b. is_number b ≡ true))
+
+fields_found : (x y i j : Option (List ℕ)) (action : Action) → AreNumbers x → AreNumbers y → AreNumbers i → AreNumbers j → fields (tail_x x y i j action) ≡ found x y i j action
 unfolding fields
-fields_found x y action h k = ap from_x (at_x x y action h) ∙ (ap (from_y x) (field_there 89 y 68 (48 ∷ digit_of action ∷ []) k refl refl) ∙ at_code x y action)
+fields_found x y i j action hx hy hi hj =
+    let at_j : (letter : ℕ) → eqb 74 letter ≡ false → eqb 68 letter ≡ false → Heads letter (tail_j j action) = λ letter d e. heads_word letter 74 j (code action) refl d (heads_code letter action e) in
+    let at_i : (letter : ℕ) → eqb 73 letter ≡ false → eqb 74 letter ≡ false → eqb 68 letter ≡ false → Heads letter (tail_i i j action) = λ letter c d e. heads_word letter 73 i (tail_j j action) refl c (at_j letter d e) in
+    ap from_x (field_at 88 x (tail_y y i j action) hx (heads_word 88 89 y (tail_i i j action) refl refl (at_i 88 refl refl refl)))
+    ∙ (ap (from_y x) (field_at 89 y (tail_i i j action) hy (at_i 89 refl refl refl))
+    ∙ (ap (from_i x y) (field_at 73 i (tail_j j action) hi (at_j 73 refl refl))
+    ∙ (ap (from_j x y i) (field_at 74 j (code action) hj (heads_code 74 action refl)) ∙ at_code x y i j action)))
 
 -- ---- what it spells
 
-kind_found : (plotting : Bool) (action : Action) → kind plotting false (Some (48 ∷ digit_of action ∷ [])) ≡ Ok action
+kind_found : (plotting offsets : Bool) (action : Action) → (is_plain_plot action || not offsets) ≡ true → kind plotting offsets (Some (48 ∷ digit_of action ∷ [])) ≡ Ok action
 unfolding kind nat_of
-kind_found plotting Plot = refl
-kind_found plotting Move = refl
-kind_found plotting Flash = refl
+kind_found plotting false Plot h = refl
+kind_found plotting true Plot h = refl
+kind_found plotting false Move h = refl
+kind_found plotting true Move h = absurd (false≢true h)
+kind_found plotting false Flash h = refl
+kind_found plotting true Flash h = absurd (false≢true h)
 
 left_out : coordinate None ≡ Ok None
 unfolding coordinate
 left_out = refl
 
-operates : (plotting : Bool) (x y : Option (List ℕ)) (action : Action) (v w : Option ℤ) → coordinate x ≡ Ok v → coordinate y ≡ Ok w → operate plotting None (found x y action) ≡ Ok (Operate action v w None None ∷ [])
+operates : (plotting : Bool) (m : Option Interpolation) (x y i j : Option (List ℕ)) (action : Action) (v w s t : Option ℤ) → coordinate x ≡ Ok v → coordinate y ≡ Ok w → coordinate i ≡ Ok s → coordinate j ≡ Ok t → (is_plain_plot action || not (is_some i || is_some j)) ≡ true
+    → operate plotting m (found x y i j action) ≡ Ok (modes_of m ++ Operate action v w s t ∷ [])
 unfolding operate operands
-operates plotting x y action v w h k =
-    λ i. both (both (both (h i) (k i)) (both (left_out i) (left_out i))) (kind_found plotting action i) >>= λ r. Ok (modes_of None ++ Operate r.1 r.0.0.0 r.0.0.1 r.0.1.0 r.0.1.1 ∷ [])
+operates plotting m x y i j action v w s t hv hw hs ht may =
+    λ k. both (both (both (hv k) (hw k)) (both (hs k) (ht k))) (kind_found plotting (is_some i || is_some j) action may k) >>= λ r. Ok (modes_of m ++ Operate r.1 r.0.0.0 r.0.0.1 r.0.1.0 r.0.1.1 ∷ [])
 
-fits : (x y : Option (List ℕ)) (action : Action) → (is_some x || is_some y) ≡ true → is_operation (found x y action) ≡ true
-fits (Some x) y action h = refl
-fits None (Some y) action h = refl
-fits None None action h = absurd (false≢true h)
+names_found : (action : Action) → names_action (Some (48 ∷ digit_of action ∷ [])) ≡ true
+unfolding names_action nat_of
+names_found Plot = refl
+names_found Move = refl
+names_found Flash = refl
+
+fits : (x y i j : Option (List ℕ)) (action : Action) → is_operation (found x y i j action) ≡ true
+fits (Some x) y i j action = refl
+fits None (Some y) i j action = refl
+fits None None (Some i) j action = refl
+fits None None None (Some j) action = refl
+fits None None None None action = names_found action
 
 -- ---- its bytes
 
@@ -195,26 +258,44 @@ none_any (x ∷ xs) h = ap (λ t. t || list_any (λ b. eqb b 37) xs) h.0.0 ∙ n
 
 -- ---- the item
 
-abbrev pub body : Option (List ℕ) → Option (List ℕ) → Action → List ℕ
-body x y action = coordinate_word 88 x ++ (coordinate_word 89 y ++ code action)
+abbrev pub body : Option Interpolation → Option (List ℕ) → Option (List ℕ) → Option (List ℕ) → Option (List ℕ) → Action → List ℕ
+body m x y i j action = front_word m ++ tail_x x y i j action
 
-body_stays : (x y : Option (List ℕ)) (action : Action) → IfSome x (AllByRecursion (λ b. is_number b ≡ true)) → IfSome y (AllByRecursion (λ b. is_number b ≡ true)) → AllByRecursion Stays (body x y action)
-body_stays x y action h k = all-append Stays (coordinate_word 88 x) (coordinate_word 89 y ++ code action) (word_stays 88 x (refl, refl, refl) h) (all-append Stays (coordinate_word 89 y) (code action) (word_stays 89 y (refl, refl, refl) k) (code_stays action))
+front_stays : (m : Option Interpolation) → AllByRecursion Stays (front_word m)
+front_stays None = tt
+front_stays (Some Linear) = ((refl, refl, refl), ((refl, refl, refl), ((refl, refl, refl), tt)))
+front_stays (Some Clockwise) = ((refl, refl, refl), ((refl, refl, refl), ((refl, refl, refl), tt)))
+front_stays (Some Counterclockwise) = ((refl, refl, refl), ((refl, refl, refl), ((refl, refl, refl), tt)))
 
-begins_so : (x y : Option (List ℕ)) (action : Action) → (is_some x || is_some y) ≡ true → begins_with_coordinate (body x y action) ≡ true
-begins_so (Some x) y action h = refl
-begins_so None (Some y) action h = refl
-begins_so None None action h = absurd (false≢true h)
+body_stays : (m : Option Interpolation) (x y i j : Option (List ℕ)) (action : Action) → AreNumbers x → AreNumbers y → AreNumbers i → AreNumbers j → AllByRecursion Stays (body m x y i j action)
+body_stays m x y i j action hx hy hi hj =
+    all-append Stays (front_word m) (tail_x x y i j action) (front_stays m)
+    (all-append Stays (coordinate_word 88 x) (tail_y y i j action) (word_stays 88 x (refl, refl, refl) hx)
+    (all-append Stays (coordinate_word 89 y) (tail_i i j action) (word_stays 89 y (refl, refl, refl) hy)
+    (all-append Stays (coordinate_word 73 i) (tail_j j action) (word_stays 73 i (refl, refl, refl) hi)
+    (all-append Stays (coordinate_word 74 j) (code action) (word_stays 74 j (refl, refl, refl) hj) (code_stays action)))))
 
-word_means : (plotting : Bool) (x y : Option (List ℕ)) (action : Action) (v w : Option ℤ) → IfSome x (AllByRecursion (λ b. is_number b ≡ true)) → IfSome y (AllByRecursion (λ b. is_number b ≡ true)) → (is_some x || is_some y) ≡ true → coordinate x ≡ Ok v → coordinate y ≡ Ok w
-    → word plotting (body x y action) ≡ Ok (Operate action v w None None ∷ [])
+begins_so : (m : Option Interpolation) (x y : Option (List ℕ)) (tail : List ℕ) → (is_some m || (is_some x || is_some y)) ≡ true → (is_some m || begins_with_coordinate (coordinate_word 88 x ++ (coordinate_word 89 y ++ tail))) ≡ true
+begins_so (Some m) x y tail h = refl
+begins_so None (Some x) y tail h = refl
+begins_so None None (Some y) tail h = refl
+begins_so None None None tail h = absurd (false≢true h)
+
+long : (x y i j : Option (List ℕ)) (action : Action) → 0 < length (tail_x x y i j action)
+long x y i j action = omega (arith, length-append (coordinate_word 88 x) (tail_y y i j action), length-append (coordinate_word 89 y) (tail_i i j action), length-append (coordinate_word 73 i) (tail_j j action), length-append (coordinate_word 74 j) (code action))
+
+word_means : (plotting : Bool) (m : Option Interpolation) (x y i j : Option (List ℕ)) (action : Action) (v w s t : Option ℤ) → AreNumbers x → AreNumbers y → AreNumbers i → AreNumbers j → (is_some m || (is_some x || is_some y)) ≡ true → (is_plain_plot action || not (is_some i || is_some j)) ≡ true
+    → coordinate x ≡ Ok v → coordinate y ≡ Ok w → coordinate i ≡ Ok s → coordinate j ≡ Ok t
+    → word plotting (body m x y i j action) ≡ Ok (modes_of m ++ Operate action v w s t ∷ [])
 unfolding word
-word_means plotting x y action v w h k some hv hw =
-    ap (λ t. cond t (Err BadWord) (first_fit (words plotting (body x y action)))) (none_any (body x y action) (body_stays x y action h k))
-    ∙ fits_operation plotting (body x y action) (begins_so x y action some)
-    ∙ ap (λ (f : Fields). cond (is_operation f) (operate plotting None f) (Err BadWord)) (fields_found x y action h k)
-    ∙ ap (λ t. cond t (operate plotting None (found x y action)) (Err BadWord)) (fits x y action some)
-    ∙ operates plotting x y action v w hv hw
+word_means plotting m x y i j action v w s t nx ny ni nj some may hv hw hs ht =
+    let tail = tail_x x y i j action in
+    let filled : 0 < length tail = long x y i j action in
+    ap (λ b. cond b (Err BadWord) (first_fit (words plotting (body m x y i j action)))) (none_any (body m x y i j action) (body_stays m x y i j action nx ny ni nj))
+    ∙ fits_front plotting m tail filled (begins_so m x y (tail_i i j action) some)
+    ∙ ap (λ (f : Fields). cond (is_operation f) (operate plotting m f) (Err BadWord)) (fields_found x y i j action nx ny ni nj)
+    ∙ ap (λ b. cond b (operate plotting m (found x y i j action)) (Err BadWord)) (fits x y i j action)
+    ∙ operates plotting m x y i j action v w s t hv hw hs ht may
 
 front_of_push : (w : List ℕ) (b : ℕ) → front_of (w ++ b ∷ []) ≡ w
 front_of_push w b =
@@ -237,26 +318,29 @@ is_item b bs h =
       whole = ap (λ e. (b ∷ bs) ++ e ∷ []) (sym ends);
     }
 
-record Stands (item : List ℕ) (action : Action) (v w : Option ℤ) : Type 0 where
+record Stands (item : List ℕ) (commands : List Command) : Type 0 where
   pub one : IsItem item
   pub kept : AllByRecursion (λ b. is_line_break b ≡ false) item
-  pub says : (plotting : Bool) → meaning plotting item ≡ Ok (Operate action v w None None ∷ [])
+  pub says : (plotting : Bool) → meaning plotting item ≡ Ok commands
 
-stands_by : (all : List ℕ) (action : Action) (v w : Option ℤ) → 0 < length all → AllByRecursion Stays all → ((plotting : Bool) → word plotting all ≡ Ok (Operate action v w None None ∷ [])) → Stands (all ++ 42 ∷ []) action v w
-stands_by [] action v w some h k = absurd (omega arith)
-stands_by (b ∷ bs) action v w some h k = record {
+stands_by : (all : List ℕ) (commands : List Command) → 0 < length all → AllByRecursion Stays all → ((plotting : Bool) → word plotting all ≡ Ok commands) → Stands (all ++ 42 ∷ []) commands
+stands_by [] commands some h k = absurd (omega arith)
+stands_by (b ∷ bs) commands some h k = record {
   one = is_item b bs h;
   kept = all-append (λ c. is_line_break c ≡ false) (b ∷ bs) (42 ∷ []) (all-weaker Stays (λ c. is_line_break c ≡ false) (λ c s. s.2) (b ∷ bs) h) (refl, tt);
   says = λ plotting. item_means plotting b bs h.0.0 ∙ k plotting;
 }
 
-long : (x y : Option (List ℕ)) (action : Action) → 0 < length (body x y action)
-long x y action = omega (arith, length-append (coordinate_word 88 x) (coordinate_word 89 y ++ code action), length-append (coordinate_word 89 y) (code action))
+-- the bytes of such an item
+abbrev pub item_of : Option Interpolation → Option (List ℕ) → Option (List ℕ) → Option (List ℕ) → Option (List ℕ) → Action → List ℕ
+item_of m x y i j action = front_word m ++ (coordinate_word 88 x ++ (coordinate_word 89 y ++ (coordinate_word 73 i ++ (coordinate_word 74 j ++ action_code action))))
 
-item_is : (x y : Option (List ℕ)) (action : Action) → body x y action ++ 42 ∷ [] ≡ coordinate_word 88 x ++ (coordinate_word 89 y ++ action_code action)
-item_is x y action =
-    append_assoc (coordinate_word 88 x) (coordinate_word 89 y ++ code action) (42 ∷ [])
-    ∙ ap (λ (t : List ℕ). coordinate_word 88 x ++ t) (append_assoc (coordinate_word 89 y) (code action) (42 ∷ []) ∙ ap (λ (t : List ℕ). coordinate_word 89 y ++ t) (sym (code_ends action)))
+with_star : (a t u : List ℕ) → t ++ 42 ∷ [] ≡ u → (a ++ t) ++ 42 ∷ [] ≡ a ++ u
+with_star a t u e = append_assoc a t (42 ∷ []) ∙ ap (λ (z : List ℕ). a ++ z) e
+
+item_is : (m : Option Interpolation) (x y i j : Option (List ℕ)) (action : Action) → body m x y i j action ++ 42 ∷ [] ≡ item_of m x y i j action
+item_is m x y i j action =
+    with_star (front_word m) (tail_x x y i j action) _ (with_star (coordinate_word 88 x) (tail_y y i j action) _ (with_star (coordinate_word 89 y) (tail_i i j action) _ (with_star (coordinate_word 73 i) (tail_j j action) _ (with_star (coordinate_word 74 j) (code action) _ (sym (code_ends action))))))
 
 abbrev pub ok : Option ℤ → Result (Option ℤ) Reason
 ok v = Ok v
@@ -286,45 +370,61 @@ coordinate_there letter (b ∷ bs) rest n z some is same h =
 pub coordinate_away : (letter : ℕ) (bytes : List ℕ) → BeginsWithCoordinate letter bytes None bytes
 coordinate_away letter bytes = record { run = None; whole = refl; numbers = tt; short = omega arith; value_is = left_out }
 
-pub some_x : (a b : Bool) → a ≡ true → (a || b) ≡ true
-some_x a b h = ap (λ t. t || b) h
-
-pub some_y : (a b : Bool) → b ≡ true → (a || b) ≡ true
-some_y true b h = refl
-some_y false b h = h
-
-no_end : (x y : Option (List ℕ)) (action : Action) → (is_some x || is_some y) ≡ true → is_end (coordinate_word 88 x ++ (coordinate_word 89 y ++ action_code action)) ≡ false
-no_end (Some x) y action h = refl
-no_end None (Some y) action h = refl
-no_end None None action h = absurd (false≢true h)
+no_end : (m : Option Interpolation) (x y : Option (List ℕ)) (tail : List ℕ) → (is_some m || (is_some x || is_some y)) ≡ true → is_end (front_word m ++ (coordinate_word 88 x ++ (coordinate_word 89 y ++ tail))) ≡ false
+no_end (Some Linear) x y tail h = refl
+no_end (Some Clockwise) x y tail h = refl
+no_end (Some Counterclockwise) x y tail h = refl
+no_end None (Some x) y tail h = refl
+no_end None None (Some y) tail h = refl
+no_end None None None tail h = absurd (false≢true h)
 
 code_long : (action : Action) → length (action_code action) ≡ 4
 code_long Plot = refl
 code_long Move = refl
 code_long Flash = refl
 
--- coordinates and a code make an item
-pub plain_item : (bytes behind_x rest more : List ℕ) (v w : Option ℤ) (action : Action) → BeginsWithCoordinate 88 bytes v behind_x → BeginsWithCoordinate 89 behind_x w rest → rest ≡ action_code action ++ more → (is_some v || is_some w) ≡ true
-    → BeginsWith bytes (length bytes - length rest + 4) (Operate action v w None None)
-plain_item bytes behind_x rest more v w action hx hy e some =
+with_more : (a t u more : List ℕ) → t ≡ u ++ more → a ++ t ≡ (a ++ u) ++ more
+with_more a t u more e = ap (λ (z : List ℕ). a ++ z) e ∙ sym (append_assoc a u more)
+
+front_long : (m : Option Interpolation) → length (front_word m) ≤ 3
+front_long None = omega arith
+front_long (Some Linear) = omega arith
+front_long (Some Clockwise) = omega arith
+front_long (Some Counterclockwise) = omega arith
+
+-- an interpolation that may stand in front, coordinates and a code make an item
+pub plain_item : (bytes behind_m behind_x behind_y behind_i rest more : List ℕ) (m : Option Interpolation) (v w s t : Option ℤ) (action : Action) → bytes ≡ front_word m ++ behind_m → BeginsWithCoordinate 88 behind_m v behind_x → BeginsWithCoordinate 89 behind_x w behind_y → BeginsWithCoordinate 73 behind_y s behind_i → BeginsWithCoordinate 74 behind_i t rest
+    → rest ≡ action_code action ++ more → (is_some m || (is_some v || is_some w)) ≡ true → (is_plain_plot action || not (is_some s || is_some t)) ≡ true
+    → BeginsWith bytes (length bytes - length rest + 4) (modes_of m ++ Operate action v w s t ∷ [])
+plain_item bytes behind_m behind_x behind_y behind_i rest more m v w s t action front_is hx hy hi hj e some may =
     let x = hx.run in
     let y = hy.run in
-    let a = coordinate_word 88 x in
-    let b = coordinate_word 89 y in
+    let i = hi.run in
+    let j = hj.run in
+    let f = front_word m in
+    let cx = coordinate_word 88 x in
+    let cy = coordinate_word 89 y in
+    let ci = coordinate_word 73 i in
+    let cj = coordinate_word 74 j in
     let c = action_code action in
-    let item : List ℕ = a ++ (b ++ c) in
-    let whole : bytes ≡ item ++ more = hx.whole ∙ (ap (λ (t : List ℕ). a ++ t) (hy.whole ∙ (ap (λ (t : List ℕ). b ++ t) e ∙ sym (append_assoc b c more))) ∙ sym (append_assoc a (b ++ c) more)) in
-    let size : length item ≡ length a + (length b + 4) = omega (arith, length-append a (b ++ c), length-append b c, code_long action) in
+    let item : List ℕ = item_of m x y i j action in
+    let whole : bytes ≡ item ++ more =
+    front_is ∙ with_more f behind_m _ more (hx.whole ∙ with_more cx behind_x _ more (hy.whole ∙ with_more cy behind_y _ more (hi.whole ∙ with_more ci behind_i _ more (hj.whole ∙ with_more cj rest c more e)))) in
+    let size : length item ≡ length f + (length cx + (length cy + (length ci + (length cj + 4)))) =
+    omega (arith, length-append f (cx ++ (cy ++ (ci ++ (cj ++ c)))), length-append cx (cy ++ (ci ++ (cj ++ c))), length-append cy (ci ++ (cj ++ c)), length-append ci (cj ++ c), length-append cj c, code_long action) in
     let len : length bytes - length rest + 4 ≡ length item = omega (arith, ap length whole, length-append item more, ap length e, length-append c more, code_long action, size) in
-    let front : take (length bytes - length rest + 4) bytes ≡ item = (λ i. take (len i) (whole i)) ∙ take-append_seam item more in
-    let there : (is_some x || is_some y) ≡ true = (λ i. same_coordinate x v hx.value_is i || same_coordinate y w hy.value_is i) ∙ some in
-    let stands : Stands item action v w = subst (λ (t : List ℕ). Stands t action v w) (item_is x y action) (stands_by (body x y action) action v w (long x y action) (body_stays x y action hx.numbers hy.numbers) (λ plotting. word_means plotting x y action v w hx.numbers hy.numbers there hx.value_is hy.value_is)) in
+    let front : take (length bytes - length rest + 4) bytes ≡ item = (λ k. take (len k) (whole k)) ∙ take-append_seam item more in
+    let there : (is_some m || (is_some x || is_some y)) ≡ true = (λ k. is_some m || (same_coordinate x v hx.value_is k || same_coordinate y w hy.value_is k)) ∙ some in
+    let plots : (is_plain_plot action || not (is_some i || is_some j)) ≡ true = (λ k. is_plain_plot action || not (same_coordinate i s hi.value_is k || same_coordinate j t hj.value_is k)) ∙ may in
+    let what : List Command = modes_of m ++ Operate action v w s t ∷ [] in
+    let filled : 0 < length (body m x y i j action) = omega (arith, length-append f (tail_x x y i j action), long x y i j action) in
+    let stands : Stands item what = subst (λ (z : List ℕ). Stands z what) (item_is m x y i j action) (stands_by (body m x y i j action) what filled (body_stays m x y i j action hx.numbers hy.numbers hi.numbers hj.numbers) (λ plotting. word_means plotting m x y i j action v w s t hx.numbers hy.numbers hi.numbers hj.numbers there plots hx.value_is hy.value_is hi.value_is hj.value_is)) in
     record {
       some = omega (arith, len, size);
       within = omega (arith, len, ap length whole, length-append item more);
-      short = omega (arith, len, size, hx.short, hy.short);
+      short = omega (arith, len, size, front_long m, hx.short, hy.short, hi.short, hj.short);
       one = subst IsItem (sym front) stands.one;
       kept = subst (AllByRecursion (λ b. is_line_break b ≡ false)) (sym front) stands.kept;
-      goes_on = ap is_end front ∙ no_end x y action there;
+      goes_on = ap is_end front ∙ no_end m x y (ci ++ (cj ++ c)) there;
       says = λ plotting. ap (meaning plotting) front ∙ stands.says plotting;
     }

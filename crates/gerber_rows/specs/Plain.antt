@@ -1,23 +1,27 @@
 -- Items at the start of a text, and the words that most items are.
-use Rattle.std.specs.Prelude.{◌≡◌, ℕ, ◌<◌, ◌≤◌, Bool, true, false, List, [], ◌∷◌, ◌++◌, length, take, Option, None, Some, IfSome, Ok, ℤ}
+use Rattle.std.specs.Prelude.{◌≡◌, ℕ, ◌<◌, ◌≤◌, Bool, true, false, List, [], ◌∷◌, ◌++◌, length, take, Option, None, Some, IfSome, Ok, codes, ℤ}
 use Rattle.std.specs.List.{AllByRecursion}
 use Rattle.grid_units.specs.Numbers.{is_number}
+use Rattle.gerber_rows.specs.declared.command.Action.{Action}
+use Rattle.gerber_rows.specs.declared.command.Action.TheVariants.{Plot, Move, Flash}
 use Rattle.gerber_rows.specs.declared.command.Command.{Command}
+use Rattle.gerber_rows.specs.declared.command.Interpolation.{Interpolation}
+use Rattle.gerber_rows.specs.declared.command.Interpolation.TheVariants.{Linear, Clockwise, Counterclockwise}
 use Rattle.gerber_rows.specs.Items.{is_line_break, IsItem, is_end}
 use Rattle.gerber_rows.specs.Meaning.{meaning}
 use Rattle.gerber_rows.specs.Numbers.{int_of}
 use Rattle.gerber_rows.specs.Words.{coordinate}
 
--- The bytes begin with an item of this length and without line breaks, which spells this command alone, whatever stands
+-- The bytes begin with an item of this length and without line breaks, which spells just these commands, whatever stands
 -- before it, and is not the end of the text (docs/FORMATS.md, Cutting).
-pub record BeginsWith (bytes : List ℕ) (len : ℕ) (command : Command) : Type 0 where
+pub record BeginsWith (bytes : List ℕ) (len : ℕ) (commands : List Command) : Type 0 where
   pub some : 0 < len
   pub within : len ≤ length bytes
   pub short : len ≤ 64
   pub one : IsItem (take len bytes)
   pub kept : AllByRecursion (λ b. is_line_break b ≡ false) (take len bytes)
   pub goes_on : is_end (take len bytes) ≡ false
-  pub says : (plotting : Bool) → meaning plotting (take len bytes) ≡ Ok (command ∷ [])
+  pub says : (plotting : Bool) → meaning plotting (take len bytes) ≡ Ok commands
 
 -- The bytes are number characters that spell this integer, and this rest (docs/FORMATS.md, Runs).
 pub record BeginsWithInt (bytes : List ℕ) (n : ℤ) (rest : List ℕ) : Type 0 where
@@ -26,6 +30,19 @@ pub record BeginsWithInt (bytes : List ℕ) (n : ℤ) (rest : List ℕ) : Type 0
   pub numbers : AllByRecursion (λ b. is_number b ≡ true) run
   pub short : length run ≤ 13
   pub value : int_of run ≡ Ok n
+
+-- the word of an interpolation in front of an operation, or nothing (Gerber format, Plot state G01, G02, G03)
+abbrev pub front_word : Option Interpolation → List ℕ
+front_word None = []
+front_word (Some Linear) = codes "G01"
+front_word (Some Clockwise) = codes "G02"
+front_word (Some Counterclockwise) = codes "G03"
+
+-- the operation is a plot, beside which offsets may stand (Gerber format, Operations D01, D02, D03)
+abbrev pub is_plain_plot : Action → Bool
+is_plain_plot Plot = true
+is_plain_plot Move = false
+is_plain_plot Flash = false
 
 -- a coordinate's letter and its run, or nothing where it is left out (Gerber format, Coordinate data)
 abbrev pub coordinate_word : ℕ → Option (List ℕ) → List ℕ

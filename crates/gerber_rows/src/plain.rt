@@ -1,21 +1,25 @@
 //! Operations that are spelled as most are, read in one pass over their bytes.
 
-ghost use Rattle.std.specs.Prelude.{◌≡◌, ◌≢◌, ◌++◌, List, ℕ, None, Some, IfSome};
+ghost use Rattle.std.specs.Prelude.{◌≡◌, ◌≢◌, ◌++◌, [], ◌∷◌, ◌||◌, not, List, ℕ, Some, is_some, IfSome};
 ghost use Rattle.gerber_rows.specs.declared.command.Command.TheVariants.{Operate};
 ghost use Rattle.gerber_rows.specs.Canonical.{action_code};
 ghost use Rattle.gerber_rows.specs.Coordinates.{left_out};
-ghost use Rattle.gerber_rows.specs.Plain.{BeginsWith, BeginsWithInt, BeginsWithCoordinate};
+ghost use Rattle.gerber_rows.specs.Plain.{BeginsWith, BeginsWithInt, BeginsWithCoordinate, front_word, is_plain_plot};
+ghost use Rattle.gerber_rows.specs.Rows.{modes_of};
 
-use crate::command::{Action, Coordinate};
+use crate::command::{Action, Coordinate, Interpolation};
 use crate::number::{first_digits, signed};
 use grid_units::numbers::{behind_sign, is_negative};
 
-/// An operation by `X` and `Y` alone, and how many bytes its item takes.
+/// An operation, the interpolation that may stand in front of it, and how many bytes its item takes.
 #[derive(Clone, Copy, Debug, PartialEq, Eq)]
 pub struct PlainOperation {
+    pub mode: Option<Interpolation>,
     pub action: Action,
     pub x: Coordinate,
     pub y: Coordinate,
+    pub i: Coordinate,
+    pub j: Coordinate,
     pub len: usize,
 }
 
@@ -58,22 +62,63 @@ fn first_action(bytes: &[u8]) -> Option<Action>
     }
 }
 
-/// The operation with which these bytes begin, where it is spelled as most are: at least one of `X` and `Y` with at most
-/// 12 digits, `D01`, `D02` or `D03`, and `*`. Where it is spelled otherwise, [`read_item`](crate::read_item) reads it.
-pub fn plain_operation(bytes: &[u8]) -> Option<PlainOperation>
-    ensures { IfSome result (λ found. BeginsWith bytes.now found.len (Operate found.action found.x found.y None None)) }
+/// The interpolation at the start of these bytes, where its three letters stand there, and what stands behind it.
+fn first_mode(bytes: &[u8]) -> (Option<Interpolation>, &[u8])
+    ensures { bytes.now ≡ front_word result.0 ++ result.1.now }
 {
-    let (x, behind_x) = first_coordinate(b'X', bytes)?;
-    let (y, code) = first_coordinate(b'Y', behind_x)?;
+    match bytes {
+        [b'G', b'0', b'1', rest @ ..] => (Some(Interpolation::Linear), rest),
+        [b'G', b'0', b'2', rest @ ..] => (Some(Interpolation::Clockwise), rest),
+        [b'G', b'0', b'3', rest @ ..] => (Some(Interpolation::Counterclockwise), rest),
+        _ => (None, bytes),
+    }
+}
+
+/// Whether an interpolation stands in front, or an `X` or a `Y`.
+fn begins_plainly(mode: Option<Interpolation>, x: Option<i64>, y: Option<i64>) -> bool
+    ensures { result ≡ (is_some mode || (is_some x || is_some y)) }
+{
+    mode.is_some() || (x.is_some() || y.is_some())
+}
+
+fn is_plot(action: Action) -> bool
+    ensures { result ≡ is_plain_plot action }
+{
+    matches!(action, Action::Plot)
+}
+
+/// Whether the offsets that stand there may stand beside this operation.
+fn may_stand(action: Action, i: Option<i64>, j: Option<i64>) -> bool
+    ensures { result ≡ (is_plain_plot action || not (is_some i || is_some j)) }
+{
+    is_plot(action) || !(i.is_some() || j.is_some())
+}
+
+/// The operation with which these bytes begin, where it is spelled as most are: `G01`, `G02`, `G03` or at least one of `X` and
+/// `Y`, each coordinate with at most 12 digits, `D01`, `D02` or `D03`, and `*`. Where it is spelled otherwise,
+/// [`read_item`](crate::read_item) reads it.
+pub fn plain_operation(bytes: &[u8]) -> Option<PlainOperation>
+    ensures { IfSome result (λ found. BeginsWith bytes.now found.len (modes_of found.mode ++ Operate found.action found.x found.y found.i found.j ∷ [])) }
+{
+    let (mode, behind_mode) = first_mode(bytes);
+    let (x, behind_x) = first_coordinate(b'X', behind_mode)?;
+    let (y, behind_y) = first_coordinate(b'Y', behind_x)?;
+    let (i, behind_i) = first_coordinate(b'I', behind_y)?;
+    let (j, code) = first_coordinate(b'J', behind_i)?;
     let action = first_action(code)?;
-    if x.is_none() && y.is_none() {
+    let begins = begins_plainly(mode, x, y);
+    let stands = may_stand(action, i, j);
+    if !begins || !stands {
         return None;
     }
     let len = bytes.len() - code.len() + 4;
     Some(PlainOperation {
+        mode,
         action,
         x: Coordinate::of(x),
         y: Coordinate::of(y),
+        i: Coordinate::of(i),
+        j: Coordinate::of(j),
         len,
     })
 }

@@ -6,6 +6,7 @@ ghost use Rattle.grid_units.specs.declared.fault.Fault.{Fault};
 ghost use Rattle.grid_units.specs.declared.fault.Fail.TheVariants.{Refused};
 ghost use Rattle.grid_units.specs.Results.{fault, Answers};
 ghost use Rattle.gerber_rows.specs.Items.{ender};
+ghost use Rattle.gerber_rows.specs.Rows.{modes_of};
 ghost use Rattle.gerber_rows.specs.declared.command.Command.TheVariants.{Mode};
 ghost use Rattle.gerber_text.specs.Reading.{Entries, Shows, spelled, placed, Leaves, plot_of, is_plotting, Reads, SpellsText, Keeps, KeptBefore, entries_of, entries_behind, is_blank};
 ghost use Rattle.gerber_text.specs.Bytes.{IsInside, IsFront, follows_or_drops};
@@ -14,7 +15,7 @@ ghost use Rattle.gerber_text.specs.Writing.{without_places, sayable};
 
 use crate::placed::Placed;
 use gerber_rows::{
-    Action, Command, Coordinate, Interpolation, ItemFail, PlainOperation, Spelled, is_text_end,
+    Action, Command, Interpolation, ItemFail, PlainOperation, Spelled, is_text_end,
     plain_operation, read_item,
 };
 use grid_units::{Fail, Fault, Reason};
@@ -140,8 +141,27 @@ fn add(
     match (mode, command) {
         (None, None) => Ok(plotting),
         (Some(mode), None) => add_one(plotting, place, byte, Command::Mode(mode), commands),
-        (None, Some(what)) => add_one(plotting, place, byte, what, commands),
-        (Some(mode), Some(what)) => {
+        (mode, Some(what)) => add_behind(plotting, place, byte, mode, what, commands),
+    }
+}
+
+/// Adds a command behind an interpolation that may stand in front, both or none, and says whether the last operation is a
+/// plot.
+fn add_behind(
+    plotting: bool,
+    place: u64,
+    byte: u64,
+    mode: Option<Interpolation>,
+    what: Command,
+    commands: &mut Vec<Placed<Command>>,
+) -> Result<bool, AllocError>
+    ensures added { OnOk result (commands.new.items ≡ commands.old.items ++ placed place byte (modes_of mode ++ what ∷ [])) }
+    ensures plotting { (before : Entries) → plotting ≡ is_plotting before → IfOk result (λ new. new ≡ is_plotting (before ++ placed place byte (modes_of mode ++ what ∷ []))) }
+    ensures err { OnErr result (commands.new.items ≡ commands.old.items) }
+{
+    match mode {
+        None => add_one(plotting, place, byte, what, commands),
+        Some(mode) => {
             let plotting = plots_after(plotting, &what);
             add_both(place, byte, mode, what, commands)?;
             Ok(plotting)
@@ -272,22 +292,31 @@ impl Progress {
     fn operate(&mut self, bytes: &[u8], operation: PlainOperation) -> Result<(), Fail>
         requires running { self.old.ended ≡ false }
         requires fresh { vec_len self.old.item ≡ 0 }
-        requires begins { BeginsWith bytes.now operation.len (Operate operation.action operation.x operation.y None None) }
+        requires begins { BeginsWith bytes.now operation.len (modes_of operation.mode ++ Operate operation.action operation.x operation.y operation.i operation.j ∷ []) }
         requires room { self.old.offset + length bytes.now ≤ 268435456 }
         ensures offset { OnOk result (self.new.offset ≡ self.old.offset + operation.len) }
         ensures ok { OnOk result (Advances self.old self.new (take operation.len bytes.now)) }
         ensures err { IfErr result (Refuses self.old self.new.commands.items (take operation.len bytes.now)) }
     {
-        let PlainOperation { action, x, y, len } = operation;
-        let what = Command::Operate {
+        let PlainOperation {
+            mode,
             action,
             x,
             y,
-            i: Coordinate::none(),
-            j: Coordinate::none(),
-        };
+            i,
+            j,
+            len,
+        } = operation;
+        let what = Command::Operate { action, x, y, i, j };
         let place = self.items + 1;
-        self.plotting = add_one(self.plotting, place, self.offset, what, &mut self.commands)?;
+        self.plotting = add_behind(
+            self.plotting,
+            place,
+            self.offset,
+            mode,
+            what,
+            &mut self.commands,
+        )?;
         self.items += 1;
         self.offset += len as u64;
         Ok(())

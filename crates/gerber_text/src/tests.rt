@@ -1,8 +1,8 @@
 ghost use Rattle.std.specs.Prelude.{◌≤◌, length};
 
 use crate::{
-    Action, Command, Coordinate, Placed, WordReader, read_kept, read_words, write_commands,
-    write_placed,
+    Action, Command, Coordinate, Interpolation, Placed, WordReader, read_kept, read_words,
+    write_commands, write_placed,
 };
 use gerber_rows::{PlainOperation, plain_operation};
 use grid_units::{Fail, Fault, Reason};
@@ -282,20 +282,38 @@ fn a_refused_command_in_a_layer(rt: HostRuntime) -> Result<(), TestFail> {
 #[test]
 fn operations_read_in_one_pass(rt: HostRuntime) -> Result<(), TestFail> {
     let flash = PlainOperation {
+        mode: None,
         action: Action::Flash,
         x: Coordinate::new(Some(1)).ok_or("1")?,
         y: Coordinate::new(Some(-2)).ok_or("-2")?,
+        i: Coordinate::none(),
+        j: Coordinate::none(),
         len: 9,
     };
     assert_eq!(rt; plain_operation(b"X1Y-2D03*\nD10*"), Some(flash));
     let plot = PlainOperation {
+        mode: None,
         action: Action::Plot,
         x: Coordinate::none(),
         y: Coordinate::new(Some(5)).ok_or("5")?,
+        i: Coordinate::none(),
+        j: Coordinate::none(),
         len: 7,
     };
     assert_eq!(rt; plain_operation(b"Y+5D01*"), Some(plot));
+    let arc = PlainOperation {
+        mode: Some(Interpolation::Clockwise),
+        action: Action::Plot,
+        x: Coordinate::new(Some(1)).ok_or("1")?,
+        y: Coordinate::none(),
+        i: Coordinate::none(),
+        j: Coordinate::new(Some(-3)).ok_or("-3")?,
+        len: 12,
+    };
+    assert_eq!(rt; plain_operation(b"G02X1J-3D01*X2*"), Some(arc));
     assert_eq!(rt; plain_operation(b"X1Y2D0"), None);
+    assert_eq!(rt; plain_operation(b"X1I2D03*"), None);
+    assert_eq!(rt; plain_operation(b"I1D01*"), None);
     Ok(())
 }
 

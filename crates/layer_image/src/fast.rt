@@ -43,17 +43,33 @@ impl FastJudge {
         ensures { (keep : TheKeep) (before : List Command) → Knows self.old.judge keep before → Judges keep before command.now self.new.judge result }
     {
         if let Command::Operate { action, x, y, i, j } = command {
-            let (x, y, i, j) = (x.get(), y.get(), i.get(), j.get());
-            if self.moves(*action, x, y, i, j) {
-                self.judge.go_to(x, y);
-                return Ok(());
-            }
-            if let Some(flash) = self.flash(*action, x, y, i, j) {
-                self.judge.add(&flash, x, y)?;
-                return Ok(());
-            }
+            return self.operate(command, *action, x.get(), y.get(), i.get(), j.get());
         }
         self.step_slowly(command)
+    }
+
+    /// The same for an operation.
+    fn operate(
+        &mut self,
+        what: &Command,
+        action: Action,
+        x: Option<i64>,
+        y: Option<i64>,
+        i: Option<i64>,
+        j: Option<i64>,
+    ) -> Result<(), Stop>
+        requires { what.now ≡ command.Operate action x y i j }
+        ensures { (keep : TheKeep) (before : List Command) → Knows self.old.judge keep before → Judges keep before what.now self.new.judge result }
+    {
+        if self.moves(action, x, y, i, j) {
+            self.judge.go_to(x, y);
+            return Ok(());
+        }
+        if let Some(flash) = self.flash(action, x, y, i, j) {
+            self.judge.add(&flash, x, y)?;
+            return Ok(());
+        }
+        self.step_slowly(what)
     }
 
     /// The same for any command.

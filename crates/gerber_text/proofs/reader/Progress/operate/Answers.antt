@@ -3,6 +3,7 @@ use Rattle.std.proofs.lemmas.List.{length-append, length-take, nil_from_length}
 use Rattle.std.proofs.lemmas.Result.{err_from_is_err_and}
 use Rattle.gerber_rows.specs.declared.command.Command.{Command}
 use Rattle.gerber_rows.specs.declared.command.Command.TheVariants.{Operate}
+use Rattle.gerber_rows.specs.Rows.{modes_of}
 use Rattle.gerber_text.specs.Reading.{Entries, item_limit, is_plotting, placed, spelled}
 use Rattle.gerber_text.proofs.Shown.{out_of_memory}
 use Rattle.gerber_text.proofs.Steps.{length-bytes_of}
@@ -16,24 +17,22 @@ returns-clause-ok c gone text h =
     let begins = c.requires.begins in
     let before = gone ++ self.commands.items in
     let item : List ℕ = take operation.len c.args.bytes.now in
-    let what : Command = Operate operation.action operation.x operation.y None None in
-    let put : Command = Operate operation.action operation.x operation.y c.none.result c.none-2.result in
-    let same : put ≡ what = λ i. Operate operation.action operation.x operation.y (c.none.ensures i) (c.none-2.ensures i) in
+    let whats : List Command = modes_of operation.mode ++ Operate operation.action operation.x operation.y operation.i operation.j ∷ [] in
     let none = sym h.ended ∙ c.requires.running in
     let no_item : self.item.items ≡ [] = nil_from_length _ (omega (arith, self.item.ok.0, c.requires.fresh)) in
     let no_rest : h.rest ≡ [] = nil_from_length h.rest (sym (length-bytes_of h.rest) ∙ (ap length (sym (h.pending none)) ∙ ap length no_item)) in
     let size : length item ≡ operation.len = omega (arith, length-take operation.len c.args.bytes.now, begins.within) in
     let short : length item ≤ item_limit = omega (arith, size, begins.short) in
     let k = takes text item h.items h.rest (self.items + 1) before h.splits no_rest none h.commands begins.one begins.kept short (omega (arith, h.count)) in
-    let after = gone ++ c.add_one.new.commands.items in
-    let added : before ++ placed (self.items + 1) (length text) (what ∷ []) ≡ after = ap (λ b. before ++ placed (self.items + 1) b (what ∷ [])) (sym h.offset) ∙ sym (ap (λ (x : Entries). gone ++ x) (c.in_ok-self.ensures.added ∙ ap (λ w. self.commands.items ++ placed (self.items + 1) self.offset (w ∷ [])) same) ∙ sym (append_assoc gone self.commands.items (placed (self.items + 1) self.offset (what ∷ [])))) in
-    let said : spelled (self.items + 1) (length text) item before ≡ Ok after = spelled_ok (self.items + 1) (length text) item before (what ∷ []) short (begins.says (is_plotting before)) ∙ ap (λ (x : Entries). Ok x) added in
+    let after = gone ++ c.add_behind.new.commands.items in
+    let added : before ++ placed (self.items + 1) (length text) whats ≡ after = ap (λ b. before ++ placed (self.items + 1) b whats) (sym h.offset) ∙ sym (ap (λ (x : Entries). gone ++ x) c.in_ok-self.ensures.added ∙ sym (append_assoc gone self.commands.items (placed (self.items + 1) self.offset whats))) in
+    let said : spelled (self.items + 1) (length text) item before ≡ Ok after = spelled_ok (self.items + 1) (length text) item before whats short (begins.says (is_plotting before)) ∙ ap (λ (x : Entries). Ok x) added in
     record {
       items = h.items ++ k.last ∷ [];
       rest = [];
       splits = k.splits;
       commands = k.shows ∙ said;
-      plotting = c.in_ok-self.ensures.plotting before h.plotting ∙ ap is_plotting (ap (λ w. before ++ placed (self.items + 1) self.offset (w ∷ [])) same ∙ ap (λ b. before ++ placed (self.items + 1) b (what ∷ [])) h.offset ∙ added);
+      plotting = c.in_ok-self.ensures.plotting before h.plotting ∙ ap is_plotting (ap (λ b. before ++ placed (self.items + 1) b whats) h.offset ∙ added);
       count = ap (λ n. n + 1) h.count ∙ sym k.count;
       pending = λ _. no_item;
       start = λ _ lt. absurd (omega arith);
@@ -44,4 +43,4 @@ returns-clause-ok c gone text h =
 pub returns-in_err-self-clause-err : goal.returns-in_err-self-clause-err
 returns-in_err-self-clause-err c =
     let p = err_from_is_err_and c.from_residual.result c.from_residual.ensures.1 in
-    rw (p.1, p.2) (out_of_memory c.args.self.now c.add_one.new.commands.items (take c.args.operation.len c.args.bytes.now) c.in_err-self.ensures.err)
+    rw (p.1, p.2) (out_of_memory c.args.self.now c.add_behind.new.commands.items (take c.args.operation.len c.args.bytes.now) c.in_err-self.ensures.err)

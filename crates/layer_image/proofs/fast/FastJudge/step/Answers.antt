@@ -1,38 +1,5 @@
--- An operation on the fast path breaks no rule, and leaves what is in force.
-use Rattle.std.proofs.Common.{◌≡◌, Ok, sym, subst, ◌∙◌}
-use Rattle.gerber_rows.specs.declared.command.Command.{Command}
-use Rattle.gerber_rows.specs.declared.command.Command.TheVariants as command
-use Rattle.layer_image.specs.InForce.{IsFastPath, IsFlashOf}
-use Rattle.layer_image.specs.Keeping.{flash_count}
-use Rattle.layer_image.specs.Knows.{Knows, Judges, told}
-use Rattle.layer_image.proofs.InForce.{judged, moved_takes, flash_takes}
+-- An operation is judged by the coordinates that stand there.
 use Rattle.layer_image.proofs.fast.FastJudge.step.Goals as goal
 
-pub invariant_of-self : goal.invariant_of-self
-invariant_of-self c =
-    let fast = c.args.self.now in
-    record { in_force = subst (IsFastPath fast.fast) (sym (c.go_to.ensures.told c.in-Operate.action c.in-Operate.i c.in-Operate.j)) fast.in_force }
-
-pub invariant_of-self-in-Some : goal.invariant_of-self-in-Some
-invariant_of-self-in-Some c =
-    let fast = c.args.self.now in
-    record { in_force = subst (IsFastPath fast.fast) (sym (c.add.ensures.told c.in-Operate.action c.in-Operate.i c.in-Operate.j)) fast.in_force }
-
-pub returns-then-moves : goal.returns-then-moves
-returns-then-moves c keep before knows =
-    let old = c.args.self.now.judge in
-    let p = c.in-Operate in
-    let o = command.Operate p.action c.get-x.result c.get-y.result c.get-i.result c.get-j.result in
-    let named : o ≡ c.args.command.now = (λ k. command.Operate p.action (c.get-x.ensures k) (c.get-y.ensures k) (c.get-i.ensures k) (c.get-j.ensures k)) ∙ sym p.is in
-    let takes = moved_takes old c.go_to.new.self p.action c.get-x.result c.get-y.result c.get-i.result c.get-j.result (c.moves.ensures.no_flash c.if-moves.true) (c.go_to.ensures.told p.action c.get-i.result c.get-j.result) c.go_to.ensures.flashes in
-    subst (λ (d : Command). Judges keep before d c.go_to.new.self (Ok tt)) named (judged old c.go_to.new.self o (c.moves.ensures.legal c.if-moves.true) takes keep before knows)
-
-pub returns-in-Some : goal.returns-in-Some
-returns-in-Some c keep before knows =
-    let old = c.args.self.now.judge in
-    let p = c.in-Operate in
-    let o = command.Operate p.action c.get-x.result c.get-y.result c.get-i.result c.get-j.result in
-    let named : o ≡ c.args.command.now = (λ k. command.Operate p.action (c.get-x.ensures k) (c.get-y.ensures k) (c.get-i.ensures k) (c.get-j.ensures k)) ∙ sym p.is in
-    let is : IsFlashOf (told old) (flash_count old.flashes) o c.in-Some.flash = c.in-Some.ensures in
-    let takes = flash_takes old c.add.new.self o c.in-Some.flash is.flashes (c.add.ensures.told p.action c.get-i.result c.get-j.result) c.in_ok-add.ensures.flashes in
-    subst (λ (d : Command). Judges keep before d c.add.new.self (Ok tt)) named (judged old c.add.new.self o is.legal takes keep before knows)
+pub operate-requires : goal.operate-requires
+operate-requires c = rw (c.get.ensures, c.get-in-Operate.ensures, c.get-in-Operate-2.ensures, c.get-in-Operate-3.ensures) c.in-Operate.is
