@@ -12,3 +12,4 @@ pub mod Unique
 pub mod Pieces
 pub mod InForce
 pub mod Listed
+pub mod Answering

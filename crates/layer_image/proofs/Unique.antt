@@ -99,7 +99,7 @@ spelled_ok : (place byte : ℕ) (bytes : List ℕ) (before cs : Entries) → spe
 unfolding spelled
 spelled_ok place byte bytes before cs h = within_ok (nat_lt item_limit (length bytes)) (meaning (is_plotting before) bytes) TooLong place byte before cs (at_ok place byte _ cs h)
 
-spelled_place : (place byte : ℕ) (bytes : List ℕ) (before : Entries) (f : Fault) → spelled place byte bytes before ≡ Err f → f.place ≡ place
+pub spelled_place : (place byte : ℕ) (bytes : List ℕ) (before : Entries) (f : Fault) → spelled place byte bytes before ≡ Err f → f.place ≡ place
 unfolding spelled
 spelled_place place byte bytes before f h = at_err place byte _ f h
 
@@ -156,12 +156,12 @@ behind_end_place : (place : ℕ) (cs : Entries) (rest : List Mark) (f : Fault) �
 behind_end_place place cs [] f e = absurd cc
 behind_end_place place cs (m ∷ ms) f e = stray_place (may_follow m.1) place m.0 (behind_end place cs ms) f (behind_end_place place cs ms f) e
 
-rest_place : (t u : Bool) (place byte : ℕ) (cs : Entries) (rest : List Mark) (f : Fault) → cond t (behind_end place cs rest) (cond u (Err (fault place byte TooLong)) (Ok cs)) ≡ Err f → f.place ≡ place
+pub rest_place : (t u : Bool) (place byte : ℕ) (cs : Entries) (rest : List Mark) (f : Fault) → cond t (behind_end place cs rest) (cond u (Err (fault place byte TooLong)) (Ok cs)) ≡ Err f → f.place ≡ place
 rest_place true u place byte cs rest f e = behind_end_place place cs rest f e
 rest_place false true place byte cs rest f e = let same : fault place byte TooLong ≡ f = cc in sym (ap (λ (g : Fault). g.place) same)
 rest_place false false place byte cs rest f e = absurd cc
 
-ended_place : (t u : Bool) (place byte other : ℕ) (cs : Entries) (f : Fault) → cond t (Err (fault place byte TooLong)) (cond u (Ok cs) (Err (fault place other Truncated))) ≡ Err f → f.place ≡ place
+pub ended_place : (t u : Bool) (place byte other : ℕ) (cs : Entries) (f : Fault) → cond t (Err (fault place byte TooLong)) (cond u (Ok cs) (Err (fault place other Truncated))) ≡ Err f → f.place ≡ place
 ended_place true u place byte other cs f e = let same : fault place byte TooLong ≡ f = cc in sym (ap (λ (g : Fault). g.place) same)
 ended_place false true place byte other cs f e = absurd cc
 ended_place false false place byte other cs f e = let same : fault place other Truncated ≡ f = cc in sym (ap (λ (g : Fault). g.place) same)

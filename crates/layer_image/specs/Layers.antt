@@ -61,3 +61,7 @@ LayersOfTexts = (text : List ℕ) (image : LayerImage) → ReadsLayer text (Ok i
 -- A fault of a layer has the reason of one of the fifteen rules, or it is the fault of its text (docs/DEFINITIONS.md, Layers).
 abbrev pub LayerReasons : Type 0
 LayerReasons = (text : List ℕ) (f : Fault) → ReadsLayer text (Err f) → Contains all_rules f.reason ⊎ Reads text (Err f)
+
+-- each text reads as a layer, or has a fault (docs/DEFINITIONS.md, Layers)
+abbrev pub EachTextAnswers : Type 0
+EachTextAnswers = (text : List ℕ) → (answer : Result LayerImage Fault) × ReadsLayer text answer
