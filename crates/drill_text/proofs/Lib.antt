@@ -15,3 +15,5 @@ pub mod Sayable
 pub mod LeadingHits
 pub mod WholeLines
 pub mod Rewritten
+pub mod FirstFaults
+pub mod Reasons

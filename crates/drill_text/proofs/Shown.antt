@@ -37,7 +37,7 @@ show_long lines rest cs e lt = rw (e, lt-ltb _ _ lt) refl
 pub show_err : (lines : List (List ℕ)) (rest : List ℕ) (f : Fault) → commands_from 1 0 lines [] ≡ Err f → shown lines rest ≡ Err f
 show_err lines rest f e = rw e refl
 
-shown_err : (lines : List (List ℕ)) (rest : List ℕ) (f : Fault) → shown lines rest ≡ Err f
+pub shown_err : (lines : List (List ℕ)) (rest : List ℕ) (f : Fault) → shown lines rest ≡ Err f
     → (commands_from 1 0 lines [] ≡ Err f) ⊎ ((cs : List DrillCommand) × (commands_from 1 0 lines [] ≡ Ok cs) × (line_limit < length rest) × (fault (suc (length lines)) (length (bytes_of lines)) TooLong ≡ f))
 unfolding checks_rest
 shown_err lines rest f e =

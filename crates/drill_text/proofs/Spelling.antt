@@ -22,7 +22,7 @@ use Rattle.drill_text.specs.Texts.{spelled_behind, AreShort, IsLegal, IsDrillTex
 use Rattle.drill_text.proofs.Splitting.{commands_from-push}
 use Rattle.drill_text.proofs.Shown.{shown_ok, show_ok, show_push}
 
-at_ok : {A : Type 0} (place byte : ℕ) (r : Result A Reason) (x : A) → at place byte r ≡ Ok x → r ≡ Ok x
+pub at_ok : {A : Type 0} (place byte : ℕ) (r : Result A Reason) (x : A) → at place byte r ≡ Ok x → r ≡ Ok x
 at_ok place byte (Ok y) x e = let same : y ≡ x = cc in ap (λ z. Ok z) same
 at_ok place byte (Err r) x e = absurd cc
 

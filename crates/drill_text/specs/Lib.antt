@@ -10,3 +10,4 @@ pub mod Keeping
 pub mod Standing
 pub mod Outcome
 pub mod Hits
+pub mod Faults

@@ -6,6 +6,7 @@ ghost use Rattle.drill_lines.specs.declared.command.DrillCommand.{DrillCommand};
 ghost use Rattle.drill_text.specs.Lookback.{tools_of};
 ghost use Rattle.drill_text.specs.Holes.{holes_of};
 ghost use Rattle.drill_text.specs.Reading.{Shows, Reads};
+ghost use Rattle.drill_text.specs.Faults.{HasAnswer, IsFirstFault, is_drill_reason};
 ghost use Rattle.drill_text.specs.Texts.{SpellsText, IsDrillText};
 ghost use Rattle.drill_text.specs.Writing.{drill_sayable};
 
@@ -35,4 +36,12 @@ pub fn equal_commands()
 /// The commands that a text spells are sayable.
 pub fn sayable_texts()
     ensures { (text : List ℕ) (commands : List DrillCommand) → SpellsText text commands → drill_sayable commands ≡ true }
+{}
+
+/// A text has a fault exactly where this is its first one, and each text is a drill text of some commands or has a fault. Its reason
+/// is one of those that a drill text is refused for.
+pub fn first_faults()
+    ensures first { (text : List ℕ) (f : Fault) → (Reads text (Err f)) ↔ (IsFirstFault text f) }
+    ensures answer { (text : List ℕ) → HasAnswer text }
+    ensures reasons { (text : List ℕ) (f : Fault) → Reads text (Err f) → is_drill_reason f.reason ≡ true }
 {}

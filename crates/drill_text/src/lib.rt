@@ -21,3 +21,5 @@ pub use writer::{drill_sayable, write_drill};
 
 #[cfg(test)]
 mod tests;
+#[cfg(test)]
+mod writing_tests;

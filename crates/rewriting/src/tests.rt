@@ -1,6 +1,6 @@
 use crate::{Kind, rewrite_bytes};
 use grid_units::{Fail, Fault, Reason};
-use std::alloc::{AllocError, Global};
+use std::alloc::Global;
 use std::test::Fail as TestFail;
 
 const OLD_LAYER: &[u8] =
@@ -59,43 +59,6 @@ fn refused_texts_are_not_written(rt: HostRuntime) {
     assert!(rt; refuses(alloc, Kind::Layer, b"M02*", Reason::NoFormat, 1, 0));
     assert!(rt; refuses(alloc, Kind::Layer, b"", Reason::Truncated, 1, 0));
     assert!(rt; refuses(alloc, Kind::Drill, b"M4", Reason::OldFormat, 1, 0));
-}
-
-fn comment(alloc: Global, len: usize) -> Result<Vec<u8>, AllocError> {
-    let mut item = Vec::from_slice(alloc, b"G04")?;
-    for _i in 0..len {
-        item.push(b'a')?;
-    }
-    item.push(b'*')?;
-    Ok(item)
-}
-
-/// A layer of 256 comments of 1,048,500 bytes and one of this many. Its canonical text has 268,417,312 bytes beside these last.
-fn comments(alloc: Global, len: usize) -> Result<Vec<u8>, AllocError> {
-    let mut text = Vec::from_slice(alloc, b"%FSLAX24Y24*%%MOMM*%")?;
-    let long = comment(alloc, 1_048_500)?;
-    for _i in 0..256 {
-        text.extend_from_slice(&long)?;
-    }
-    text.extend_from_slice(&comment(alloc, len)?)?;
-    text.extend_from_slice(b"M02*")?;
-    Ok(text)
-}
-
-/// A layer whose canonical text has 268,435,456 bytes is written, and one of a byte more is too long.
-#[test]
-fn a_layer_too_long_to_write(rt: HostRuntime) -> Result<(), TestFail> {
-    let alloc = rt.alloc();
-    let text = comments(alloc, 18_144)?;
-    assert!(rt;
-        match rewrite_bytes(alloc, Kind::Layer, &text) {
-            Ok(new) => new.len() == 268_435_456,
-            Err(_) => false,
-        }
-    );
-    let text = comments(alloc, 18_145)?;
-    assert!(rt; refuses(alloc, Kind::Layer, &text, Reason::TooLong, 0, 0));
-    Ok(())
 }
 
 /// A layer of more than one piece, in which items lie across the borders of pieces, and one that is refused in its last piece.
