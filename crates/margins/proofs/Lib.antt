@@ -5,3 +5,5 @@ pub mod Nearing
 pub mod Meeting
 pub mod Passing
 pub mod Existing
+pub mod Listed
+pub mod Trying

@@ -26,7 +26,7 @@ one_gap a b g h first other =
     let down : h ≤ℤ g = least_gap a b h g other first in
     omega (arith, ints, up, down)
 
-no_further_trans : (a b : Nearest) (i j : ℕ) (g : ℤ) → IsNoFurther a b.first b.second b.gap → IsNoFurther b i j g → IsNoFurther a i j g
+pub no_further_trans : (a b : Nearest) (i j : ℕ) (g : ℤ) → IsNoFurther a b.first b.second b.gap → IsNoFurther b i j g → IsNoFurther a i j g
 no_further_trans a b i j g p q =
     let up : a.gap ≤ℤ b.gap = p.by_gap in
     let more : b.gap ≤ℤ g = q.by_gap in
@@ -44,11 +44,11 @@ no_further_trans a b i j g p q =
           omega (arith, p.by_second x s, q.by_second y t);
     }
 
-no_further_self : (a : Nearest) → IsNoFurther a a.first a.second a.gap
+pub no_further_self : (a : Nearest) → IsNoFurther a a.first a.second a.gap
 no_further_self a = record { by_gap = omega (arith, ints); by_first = λ e. omega arith; by_second = λ e f. omega arith }
 
 -- the same pair with the same gap
-no_further_same : (a : Nearest) (i j k l : ℕ) (g h : ℤ) → k ≡ i → l ≡ j → h ≡ g → IsNoFurther a i j g → IsNoFurther a k l h
+pub no_further_same : (a : Nearest) (i j k l : ℕ) (g h : ℤ) → k ≡ i → l ≡ j → h ≡ g → IsNoFurther a i j g → IsNoFurther a k l h
 no_further_same a i j k l g h x y z p =
     subst (λ (n : ℕ). IsNoFurther a n l h) (sym x) (subst (λ (n : ℕ). IsNoFurther a i n h) (sym y) (subst (λ (n : ℤ). IsNoFurther a i j n) (sym z) p))
 

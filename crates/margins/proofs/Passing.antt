@@ -61,7 +61,7 @@ all_fail p (x ∷ xs) h =
     let g : cond (p x) (x ∷ filter p xs) (filter p xs) ≡ [] = ap (λ b. cond b (x ∷ filter p xs) (filter p xs)) first ∙ all_fail p xs (λ k d l. h (suc k) d (omega (arith, l))) in g
 
 -- an element with its place
-placed : {X : Type 0} (xs : List X) (k : ℕ) (d : ℕ × X) → k < length xs → get_or (enumerate_from 0 xs) k d ≡ (k, get_or xs k d.1)
+pub placed : {X : Type 0} (xs : List X) (k : ℕ) (d : ℕ × X) → k < length xs → get_or (enumerate_from 0 xs) k d ≡ (k, get_or xs k d.1)
 placed xs k d h = let z : 0 + k ≡ k = omega arith in get_or-enumerate_from 0 xs k d h ∙ ap (λ n. (n, get_or xs k d.1)) z
 
 fails_placed : {X : Type 0} (p : ℕ × X → Bool) (xs : List X) → filter p (enumerate_from 0 xs) ≡ [] → (k : ℕ) (d : X) → k < length xs → p (k, get_or xs k d) ≡ false
@@ -221,7 +221,7 @@ module _ (q : ℕ) (holes : List Drilled) where
       ∙ unless (nat_lt i j) (not (are_clear q (hole_at holes i) (hole_at holes j))) (λ order.
       true_not (are_clear q (hole_at holes i) (hole_at holes j)) (clear i j (let o : nat_lt i j ≡ true = order in grind (arith, nat_tests)) in_second)))))
 
-clear_gap : (a b : GridHole) (gap : ℤ) (q : ℕ) → IsGap a b gap → are_clear q a b ≡ true → pos q ≤ℤ gap
+pub clear_gap : (a b : GridHole) (gap : ℤ) (q : ℕ) → IsGap a b gap → are_clear q a b ≡ true → pos q ≤ℤ gap
 clear_gap a b gap q is e =
     let far : square (a.radius + b.radius + q) ≤ square_of_cores a b = grind (arith, nat_tests) in
     let t : pos (a.radius + b.radius + q) ≤ℤ (gap +ℤ pos (a.radius + b.radius)) = (is (a.radius + b.radius + q)).0 far in

@@ -2,6 +2,7 @@
 
 ghost use Rattle.std.specs.Prelude.{◌≡◌, ◌+◌, ◌<◌, ◌≤◌, ◌-ℤ◌, pos, Some, length, map, IfOk, IfSome};
 ghost use Rattle.pad_shapes.specs.Shapes.{max_half_side};
+ghost use Rattle.margins.specs.Nearness.{IsNearestOf, IsPair};
 ghost use Rattle.margins.specs.Meets.{asks_ring, least_of, ring_by, IsLeast, AsksRing, HasRing, MeetsRings, MeetsGaps, RingsPass, GapsPass};
 
 use crate::best::{Best, best_pads};
@@ -110,14 +111,28 @@ fn most(nearest: Nearest) -> Met
     Met::Most(nearest.gap)
 }
 
-/// The greatest gap that a board meets: any where there are fewer than two holes, else the least gap of two. Under just these gaps
-/// nothing is found.
-pub fn gap_met(holes: &[Drilled]) -> Met
+/// What the nearest holes meet, or no holes.
+fn by_nearest(holes: &[Drilled], nearest: Option<Nearest>) -> Met
+    requires { IsNearestOf holes.now (IsPair holes.now) nearest }
     ensures exact { MeetsGaps holes.now result }
     ensures passes { GapsPass holes.now result }
 {
-    match nearest_holes(holes) {
+    match nearest {
         Some(nearest) => most(nearest),
         None => Met::Any,
     }
+}
+
+/// The greatest gap that a board meets: any where there are fewer than two holes, else the least gap of two. Under just these gaps
+/// nothing is found.
+///
+/// # Errors
+///
+/// Where there is no memory.
+pub fn gap_met(alloc: Global, holes: &[Drilled]) -> Result<Met, AllocError>
+    ensures exact { IfOk result (MeetsGaps holes.now) }
+    ensures passes { IfOk result (GapsPass holes.now) }
+{
+    let nearest = nearest_holes(alloc, holes)?;
+    Ok(by_nearest(holes, nearest))
 }

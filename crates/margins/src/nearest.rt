@@ -1,10 +1,16 @@
 //! The two holes of a board that are nearest to each other.
+//!
+//! Some pairs are tried first, drawn evenly from all of them; of the pairs that are nearer than the nearest of these there are
+//! on average fewer than holes. They are looked up as the findings of a gap.
 
-ghost use Rattle.std.specs.Prelude.{◌≡◌, ◌+◌, ◌<◌, length, true, false};
-ghost use Rattle.margins.specs.Nearness.{IsNoFurther, IsNearer, IsNearestOf, IsPair, IsPairBefore};
+ghost use Rattle.std.specs.Prelude.{◌≡◌, ◌+◌, ◌<◌, ◌<ℤ◌, pos, length, true, false, IfOk, IfSome};
+ghost use Rattle.ring_rules.specs.Findings.{gap_findings};
+ghost use Rattle.margins.specs.Nearness.{IsNoFurther, IsNearer, IsNearestOf, IsPair, IsPairBefore, IsPairAt, IsHeld, IsTried, IsTriedAt, AreTried, IsStart};
 
 use crate::gap::gap_between;
-use ring_rules::Drilled;
+use grid_units::Rules;
+use ring_rules::{Drilled, Finding, gap_findings};
+use std::alloc::{AllocError, Global};
 
 /// Two holes that are nearest to each other, by their places in the list, from 0.
 #[derive(Clone, Copy, Debug, PartialEq, Eq)]
@@ -28,6 +34,91 @@ fn is_no_further(a: &Nearest, b: &Nearest) -> bool
         a.first < b.first
     } else {
         a.second <= b.second
+    }
+}
+
+/// The pair of the holes at two places.
+fn pair_at(holes: &[Drilled], first: usize, second: usize) -> Nearest
+    requires ordered { first < second }
+    requires inside { second < length holes.now }
+    ensures { IsPairAt holes.now first second result }
+{
+    let gap = gap_between(&holes[first].hole, &holes[second].hole);
+    Nearest { first, second, gap }
+}
+
+/// The nearer of the nearest pair so far and the holes at two places, where these are two of the list in their order.
+fn tried(holes: &[Drilled], first: usize, second: usize, best: Nearest) -> Nearest
+    requires { IsHeld holes.now best }
+    ensures { IsTried holes.now first second best result }
+{
+    if second <= first || holes.len() <= second {
+        return best;
+    }
+    let next = pair_at(holes, first, second);
+    if is_no_further(&best, &next) {
+        best
+    } else {
+        next
+    }
+}
+
+/// A place in a list of so many that a draw takes: the draws are spread evenly, and follow no period. Any answer is right.
+fn drawn(draw: usize, count: usize) -> usize {
+    let part = (draw as u64).wrapping_mul(0x9E37_79B9_7F4A_7C15);
+    ((u128::from(part) * count as u128) >> 64) as usize
+}
+
+/// A near pair: the nearest of as many as there are holes, some beside each other in the list and some drawn from all. There is none
+/// where there are fewer than two holes.
+fn start_of(holes: &[Drilled]) -> Option<Nearest>
+    ensures { IsStart holes.now result }
+{
+    if holes.len() < 2 {
+        return None;
+    }
+    let mut best = pair_at(holes, 0, 1);
+    for draw in 1..holes.len() {
+        let other = drawn(draw, holes.len());
+        best = tried(holes, draw - 1, draw, best);
+        best = tried(holes, draw.min(other), draw.max(other), best);
+    }
+    Some(best)
+}
+
+/// The nearer of the nearest pair so far and the holes of a finding of a gap.
+fn tried_at(holes: &[Drilled], finding: &Finding, best: Nearest) -> Nearest
+    requires { IsHeld holes.now best }
+    ensures { IsTriedAt holes.now finding.now best result }
+{
+    match finding {
+        Finding::Gap { first, second } => tried(holes, *first, *second, best),
+        _ => best,
+    }
+}
+
+/// The nearest of a first pair and of the holes that some findings name.
+fn nearest_found(holes: &[Drilled], findings: &[Finding], start: Nearest) -> Nearest
+    requires { IsHeld holes.now start }
+    ensures { AreTried holes.now findings.now (length findings.now) start result }
+{
+    let mut best = start;
+    for finding in findings {
+        best = tried_at(holes, finding, best);
+    }
+    best
+}
+
+/// Rules with a gap that a pair falls short of, if there are any.
+fn rules_above(pair: &Nearest) -> Option<Rules>
+    ensures { IfSome result (λ rules. pair.now.gap <ℤ pos rules.gap) }
+{
+    if pair.gap < 1 {
+        Rules::new(0, 1).ok()
+    } else if pair.gap < 10_000_000_000_000 {
+        Rules::new(0, pair.gap + 1).ok()
+    } else {
+        None
     }
 }
 
@@ -55,9 +146,8 @@ fn nearest_before(holes: &[Drilled], second: usize, best: Option<Nearest>) -> Op
     best
 }
 
-/// The two holes with the least gap, by the first and then by the second of them among equals. There are none where there are
-/// fewer than two holes.
-pub fn nearest_holes(holes: &[Drilled]) -> Option<Nearest>
+/// The nearest of all pairs, by trying each of them.
+fn nearest_of_all(holes: &[Drilled]) -> Option<Nearest>
     ensures { IsNearestOf holes.now (IsPair holes.now) result }
 {
     let mut best = None;
@@ -65,4 +155,25 @@ pub fn nearest_holes(holes: &[Drilled]) -> Option<Nearest>
         best = nearest_before(holes, second, best);
     }
     best
+}
+
+/// The two holes with the least gap, by the first and then by the second of them among equals. There are none where there are
+/// fewer than two holes.
+///
+/// # Errors
+///
+/// Where there is no memory.
+pub fn nearest_holes(alloc: Global, holes: &[Drilled]) -> Result<Option<Nearest>, AllocError>
+    ensures { IfOk result (IsNearestOf holes.now (IsPair holes.now)) }
+{
+    let Some(start) = start_of(holes) else {
+        return Ok(None);
+    };
+    match rules_above(&start) {
+        Some(rules) => {
+            let findings = gap_findings(alloc, holes, rules)?;
+            Ok(Some(nearest_found(holes, &findings, start)))
+        }
+        None => Ok(nearest_of_all(holes)),
+    }
 }

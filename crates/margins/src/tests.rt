@@ -164,8 +164,8 @@ fn nearest_pairs(rt: HostRuntime) -> Result<(), Fail> {
     let first = drilled(round(0, 0, 200_000_000)?);
     let second = drilled(round(300_000_000, 400_000_000, 200_000_000)?);
     let third = drilled(round(1_000_000_000, 1_000_000_000, 200_000_000)?);
-    assert_eq!(rt; nearest_holes(&[first]).is_none(), true);
-    let near = nearest_holes(&[third, first, second]).ok_or("none")?;
+    assert_eq!(rt; nearest_holes(rt.alloc(), &[first])?.is_none(), true);
+    let near = nearest_holes(rt.alloc(), &[third, first, second])?.ok_or("none")?;
     assert_eq!(rt; near.first, 1);
     assert_eq!(rt; near.second, 2);
     assert_eq!(rt; near.gap, 100_000_000);
@@ -177,7 +177,7 @@ fn nearest_pairs(rt: HostRuntime) -> Result<(), Fail> {
 fn hole_drilled_twice(rt: HostRuntime) -> Result<(), Fail> {
     let first = drilled(round(0, 0, 200_000_000)?);
     let third = drilled(round(1_000_000_000, 1_000_000_000, 200_000_000)?);
-    let twice = nearest_holes(&[third, first, first, first]).ok_or("none")?;
+    let twice = nearest_holes(rt.alloc(), &[third, first, first, first])?.ok_or("none")?;
     assert_eq!(rt; twice.first, 1);
     assert_eq!(rt; twice.second, 2);
     assert_eq!(rt; twice.gap, -400_000_000);
@@ -201,7 +201,7 @@ fn board_with_two_holes(rt: HostRuntime) -> Result<(), Fail> {
     let holes = [first, second];
     let layers = [pads.as_slice()];
     assert_eq!(rt; most(ring_met(rt.alloc(), &layers, &holes)?)?, 300_000_000);
-    assert_eq!(rt; most(gap_met(&holes))?, 100_000_000);
+    assert_eq!(rt; most(gap_met(rt.alloc(), &holes)?)?, 100_000_000);
     Ok(())
 }
 
@@ -212,7 +212,7 @@ fn board_with_a_wide_hole(rt: HostRuntime) -> Result<(), Fail> {
     let layers = [pads.as_slice()];
     let holes = [drilled(round(0, 0, 200_000_000)?)];
     assert_eq!(rt; most(ring_met(rt.alloc(), &layers, &holes)?)?, -50_000_000);
-    assert_eq!(rt; matches!(gap_met(&holes), Met::Any), true);
+    assert_eq!(rt; matches!(gap_met(rt.alloc(), &holes)?, Met::Any), true);
     Ok(())
 }
 
@@ -236,6 +236,26 @@ fn boards_without_rings(rt: HostRuntime) -> Result<(), Fail> {
         matches!(ring_met(rt.alloc(), &layers, &none)?, Met::Any),
         true
     );
-    assert_eq!(rt; matches!(gap_met(&none), Met::Any), true);
+    assert_eq!(rt; matches!(gap_met(rt.alloc(), &none)?, Met::Any), true);
+    Ok(())
+}
+
+/// Holes further apart than any rule are tried each with each, and a pair far from the others is found among many.
+#[test]
+fn nearest_of_many(rt: HostRuntime) -> Result<(), Fail> {
+    let left = drilled(round(-9_000_000_000_000, 0, 1)?);
+    let right = drilled(round(9_000_000_000_000, 0, 1)?);
+    let far = nearest_holes(rt.alloc(), &[left, right])?.ok_or("none")?;
+    assert_eq!(rt; far.gap, 17_999_999_999_998);
+    let mut holes = Vec::new(rt.alloc());
+    for place in 0..200 {
+        let x = i64::from(place) * 1_000_000_000;
+        holes.push(drilled(round(x, x, 200_000_000)?))?;
+    }
+    holes.push(drilled(round(5_000_000_000, 4_500_000_000, 1_000)?))?;
+    let near = nearest_holes(rt.alloc(), &holes)?.ok_or("none")?;
+    assert_eq!(rt; near.first, 5);
+    assert_eq!(rt; near.second, 200);
+    assert_eq!(rt; near.gap, 299_999_000);
     Ok(())
 }

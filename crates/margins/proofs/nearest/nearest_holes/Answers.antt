@@ -1,9 +1,8 @@
-use Rattle.std.proofs.Common.{◌≡◌, ℕ, length, subst, arith}
-use Rattle.margins.specs.Nearness.{IsNearestOf, IsPairBefore}
-use Rattle.margins.proofs.Nearing.{all_pairs}
+use Rattle.std.proofs.Common.{◌∙◌}
+use Rattle.margins.proofs.Listed.{nearest_found}
 use Rattle.margins.proofs.nearest.nearest_holes.Goals as goal
 
-pub returns : goal.returns
-returns c =
-    let ended : c.loop-second.second ≡ length c.args.holes.now = omega arith in
-    all_pairs c.args.holes.now c.loop-second.best (subst (λ (n : ℕ). IsNearestOf c.args.holes.now (IsPairBefore n 0) c.loop-second.best) ended c.loop-second.invariant)
+pub returns-in_ok-findings-in-Some-rules_above : goal.returns-in_ok-findings-in-Some-rules_above
+returns-in_ok-findings-in-Some-rules_above c =
+    nearest_found c.in-Some-rules_above.rules.gap c.args.holes.now c.deref.result.now c.in-Some.start c.nearest_found.result
+    (c.deref.ensures.value ∙ c.in_ok-findings-in-Some-rules_above.ensures) c.in-Some-rules_above.ensures c.nearest_found.ensures

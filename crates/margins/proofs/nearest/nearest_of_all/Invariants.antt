@@ -1,5 +1,5 @@
 use Rattle.margins.specs.Nearness.{IsNearestOf, IsPairBefore}
-use Rattle.margins.proofs.nearest.nearest_holes.Given as goal
+use Rattle.margins.proofs.nearest.nearest_of_all.Given as goal
 
 -- the nearest of the pairs so far
 abbrev pub invariant-loop-second : goal.invariant-loop-second

@@ -1,0 +1,46 @@
+-- Pairs of holes that are tried one by one.
+use Rattle.std.proofs.Common.{◌≡◌, ℕ, ℤ, ◌<◌, List, length, refl, sym, subst, ◌∙◌, arith}
+use Rattle.ring_rules.specs.Meeting.{hole_at}
+use Rattle.ring_rules.specs.declared.finding.Drilled.{Drilled}
+use Rattle.ring_rules.specs.declared.finding.Finding.{Finding}
+use Rattle.ring_rules.specs.declared.finding.Finding.TheVariants.{Gap}
+use Rattle.margins.specs.Gaps.{IsGap}
+use Rattle.margins.specs.Nearness.{IsPair, IsNoFurther, IsPairAt, IsHeld, IsTried, IsTriedAt}
+use Rattle.margins.specs.declared.nearest.Nearest.{Nearest}
+use Rattle.margins.proofs.Nearing.{no_further_self, no_further_same, one_gap}
+
+-- the pair so far stays
+pub tried_old : (holes : List Drilled) (first second : ℕ) (best next : Nearest) → IsHeld holes best → IsPairAt holes first second next → IsNoFurther best next.first next.second next.gap → IsTried holes first second best best
+tried_old holes first second best next held at nearer = record {
+  held = held;
+  back = no_further_self best;
+  new = λ g pair gap. no_further_same best next.first next.second first second next.gap g (sym at.at_first) (sym at.at_second) (one_gap (hole_at holes first) (hole_at holes second) g next.gap gap at.gap) nearer;
+}
+
+-- the next pair is nearer
+pub tried_new : (holes : List Drilled) (first second : ℕ) (best next : Nearest) → first < second → second < length holes → IsPairAt holes first second next → IsNoFurther next best.first best.second best.gap → IsTried holes first second best next
+tried_new holes first second best next less inside at nearer =
+    let x : next.first ≡ first = at.at_first in
+    let y : next.second ≡ second = at.at_second in
+    record {
+      held = record {
+        listed = record { ordered = omega (arith, x, y, less); inside = omega (arith, y, inside) };
+        gap = subst (λ (n : ℕ). IsGap (hole_at holes n) (hole_at holes next.second) next.gap) (sym x) (subst (λ (n : ℕ). IsGap (hole_at holes first) (hole_at holes n) next.gap) (sym y) at.gap);
+      };
+      back = nearer;
+      new = λ g pair gap. no_further_same next next.first next.second first second next.gap g (sym x) (sym y) (one_gap (hole_at holes first) (hole_at holes second) g next.gap gap at.gap) (no_further_self next);
+    }
+
+-- the pair that a finding names
+pub tried_gap : (holes : List Drilled) (finding : Finding) (first second : ℕ) (best result : Nearest) → finding ≡ Gap first second → IsTried holes first second best result → IsTriedAt holes finding best result
+tried_gap holes finding first second best result is so = record {
+  held = so.held;
+  back = so.back;
+  new = λ i j g named pair gap.
+      let same : Gap first second ≡ Gap i j = sym is ∙ named in
+      let x : i ≡ first = cc in
+      let y : j ≡ second = cc in
+      no_further_same result first second i j g g x y refl
+      (so.new g (subst (λ (n : ℕ). IsPair holes n second) x (subst (λ (n : ℕ). IsPair holes i n) y pair))
+      (subst (λ (n : ℕ). IsGap (hole_at holes n) (hole_at holes second) g) x (subst (λ (n : ℕ). IsGap (hole_at holes i) (hole_at holes n) g) y gap)));
+}
