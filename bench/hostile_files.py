@@ -3,8 +3,8 @@
 
     bench/hostile_files.py PROGRAM [--limit GIGABYTES] [--seconds SECONDS] [NAME..]
 
-Peaks below that of this script, some 12 MB, are not seen. Each set is written to a folder of its own, which is deleted when its runs have ended. A run that meets the limit of memory has the
-answer `memory`; one that meets the limit of time is stopped.
+Peaks below that of this script, some 12 MB, are not seen. Each set is written to a folder of its own, which is deleted when its
+runs have ended. A run that meets the limit of memory has the answer `memory`; one that meets the limit of time is stopped.
 """
 import argparse
 import os
@@ -55,6 +55,10 @@ def sets():
     long = b"G04" + b"a" * 1048572 + b"*"
     both, all_of_layer, all_of_drill = (CHECK, SHOW), (CHECK, SHOW, REWRITE), (CHECK, SHOW_DRILL, REWRITE_DRILL)
     yield "long_items", "61 comments of the greatest length", lambda: package(layer(long * 61)), all_of_layer
+    yield "longest", "255 comments of the greatest length", lambda: package(layer(long * 255)), all_of_layer
+    yield "longest_drill", "255 lines of the greatest length", lambda: package(pth=drill((b";" + b"a" * 1048575 + b"\n") * 255)), all_of_drill
+    yield "too_long_written", "a layer whose canonical text is above the limit", lambda: package(layer(long * 252 + b"G04*" * 1000000)), (REWRITE,)
+    yield "too_long_written_drill", "a drill file whose canonical text is above the limit", lambda: package(pth=drill((b";" + b"a" * 1048575 + b"\n") * 251 + b"X1.\n" * 1048575).replace(b"\nT1\n", b"\nT1\nX1.Y1.\n", 1)), (REWRITE_DRILL,)
     yield "long_unfinished", "64 MB without the end of an item", lambda: package(HEAD + b"G04" + b"a" * 64000000), (CHECK,)
     yield "macro", "a macro of 1,048,000 empty pieces", lambda: package(layer(macro(1048000))), all_of_layer
     yield "macros", "16 macros of 1,048,000 empty pieces", lambda: package(layer(b"".join(macro(1048000).replace(b"m", b"m%d" % it) for it in range(16)))), all_of_layer
@@ -65,6 +69,7 @@ def sets():
     yield "holes_at_one_place", "1,048,576 holes at one place", lambda: package(pth=drill(b"X0.0Y0.0\n" * 1048576)), all_of_drill
     yield "column_5000", "5,000 holes and pads in one column", lambda: column(5000), (CHECK,)
     yield "column_20000", "20,000 holes and pads in one column", lambda: column(20000), (CHECK,)
+    yield "records_20000", "20,000 layers of one file", lambda: package(m=manifest([f"copper,{it},L" for it in names(20000)] + ["plated,drill,pth.drl"]), L=LAYER), (CHECK,)
     yield "records", "80,000 layers of one file", lambda: package(m=manifest([f"copper,{it},L" for it in names(80000)] + ["plated,drill,pth.drl"]), L=LAYER), (CHECK,)
     yield "one_file_1MB", "60,000 records of one file of 1 MB", lambda: package(m=manifest([f"copper,{it},L" for it in names(60000)] + ["plated,drill,pth.drl"]), L=layer(b"*" * 1000000)), (CHECK,)
     yield "ring_findings", "1,000 layers without pads, 1,000 holes: 1,000,000 findings", lambda: package(pth=drill(b"".join(b"X%d.0Y0.0\n" % it for it in range(1000))), m=manifest([f"copper,{it},L" for it in names(1000)] + ["plated,drill,pth.drl"]), L=b"%FSLAX46Y46*%%MOMM*%M02*"), (CHECK,)
@@ -121,7 +126,7 @@ def main():
     words.add_argument("names", nargs="*")
     words.add_argument("--limit", type=int, default=4)
     words.add_argument("--seconds", type=int, default=60)
-    words = words.parse_args()
+    words = words.parse_intermixed_args()
     program = os.path.realpath(words.program)
     print("| Set | Input, MB | Run | Seconds | Peak, MB | Status | Answer, MB | Its last line |\n|---|---|---|---|---|---|---|---|")
     for name, what, files, runs in sets():

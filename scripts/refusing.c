@@ -1,9 +1,9 @@
 /* A library for LD_PRELOAD (Linux, glibc) under which the devices of a program fail, one call after the other.
 
-   HOSTILE=KIND HOW SPAN
+   HOSTILE=KIND HOW COUNT
      KIND   memory, read, write or open: the calls that are counted, from 1, beginning at the program's main
      HOW    an errno number that the call fails with; or short: a read or a write of one byte; or zero: a write of none
-     SPAN   one: the call of the number fails; rest: it and all calls behind it
+     COUNT  how many calls fail, from the call of the number on; or rest: it and all calls behind it
 
    The program is loaded once and runs in a child for each number, until a run has not come to the call of its number. Of each run,
    the number, the exit status (256 and the signal's number where one killed it), whether the number was met, whether something was
@@ -12,6 +12,7 @@
 #define _GNU_SOURCE
 #include <errno.h>
 #include <fcntl.h>
+#include <limits.h>
 #include <stdarg.h>
 #include <stdio.h>
 #include <stdlib.h>
@@ -29,15 +30,15 @@ void *__libc_memalign(size_t, size_t);
 enum { SHORT = -1, ZERO = -2, MOST_RUNS = 1000000, SECONDS = 60 };
 
 static char kind[16];
-static int how, is_rest;
-static long number, calls;
+static int how;
+static long number, calls, count;
 static struct { int met, failed_write, wrote_later; } *shared;
 
 /* Whether this call is one that fails. */
 static int fails(const char *name) {
     if (!number || strcmp(kind, name)) return 0;
     calls++;
-    if (calls != number && !(is_rest && calls > number)) return 0;
+    if (calls < number || calls - number >= count) return 0;
     shared->met = 1;
     return 1;
 }
@@ -105,10 +106,10 @@ static void tell(long run, int from, pid_t child) {
 
 __attribute__((constructor)) static void begin(void) {
     const char *asked = getenv("HOSTILE");
-    char mode[16], span[16];
-    if (!asked || sscanf(asked, "%15s %15s %15s", kind, mode, span) != 3) return;
+    char mode[16], many[16];
+    if (!asked || sscanf(asked, "%15s %15s %15s", kind, mode, many) != 3) return;
     how = !strcmp(mode, "short") ? SHORT : !strcmp(mode, "zero") ? ZERO : atoi(mode);
-    is_rest = !strcmp(span, "rest");
+    count = !strcmp(many, "rest") ? LONG_MAX : atol(many);
     shared = mmap(NULL, sizeof *shared, PROT_READ | PROT_WRITE, MAP_SHARED | MAP_ANONYMOUS, -1, 0);
     for (long next = 1; next <= MOST_RUNS; next++) {
         int ends[2];

@@ -8,6 +8,7 @@ mod cuts;
 mod digest;
 mod groups;
 mod inputs;
+mod long;
 mod readers;
 mod small;
 mod texts;
@@ -113,7 +114,9 @@ fn run_words(rt: &HostRuntime) -> io::Result<()> {
         return read_file(rt, reader, word(&words, 3));
     }
     run_file(rt, Task::Rows, "rows.txt")?;
-    run_file(rt, Task::Cuts, "texts.txt")
+    run_file(rt, Task::Cuts, "texts.txt")?;
+    let Tally { all, different } = long::run(rt.alloc())?;
+    println!(rt; "long texts: {all}, different: {different}")
 }
 
 fn main(rt: HostRuntime) -> ExitCode {

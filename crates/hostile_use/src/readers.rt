@@ -123,6 +123,17 @@ fn fed_in_bytes<R: Pieces>(reader: R, text: &[u8]) -> Answer {
     fed.finish()
 }
 
+/// What a reader answers of a piece that comes so many times, and two line ends behind it.
+fn fed_again<R: Pieces>(reader: R, piece: &[u8], count: u64) -> Answer {
+    let mut fed = Fed::new(reader);
+    for _ in 0..count {
+        fed.feed(piece);
+    }
+    fed.feed(b"\n");
+    fed.feed(b"\n");
+    fed.finish()
+}
+
 /// The readers: of words, of a layer, of a layer's pads, of a drill file, of a drill file's holes.
 #[derive(Clone, Copy, Debug, PartialEq, Eq)]
 pub(crate) enum Reader {
@@ -187,6 +198,16 @@ impl Reader {
             Reader::Sum => fed_in_bytes(SumReader::new(alloc), text),
             Reader::Drill => fed_in_bytes(DrillReader::new(alloc), text),
             Reader::Holes => fed_in_bytes(HolesReader::new(alloc), text),
+        }
+    }
+    /// What it answers of a piece that comes so many times, and two line ends behind it.
+    pub(crate) fn repeated(self, alloc: Global, piece: &[u8], count: u64) -> Answer {
+        match self {
+            Reader::Words => fed_again(WordReader::new(alloc), piece, count),
+            Reader::Layer => fed_again(LayerReader::new(alloc), piece, count),
+            Reader::Sum => fed_again(SumReader::new(alloc), piece, count),
+            Reader::Drill => fed_again(DrillReader::new(alloc), piece, count),
+            Reader::Holes => fed_again(HolesReader::new(alloc), piece, count),
         }
     }
 }
