@@ -1,5 +1,5 @@
 -- The nearest holes among the findings of a gap that some pair falls short of.
-use Rattle.std.proofs.Common.{◌≡◌, ℕ, ℤ, pos, zero, suc, ◌+◌, ◌<◌, ◌≤◌, ◌≤ℤ◌, ◌<ℤ◌, ◌⊎◌, inl, inr, Bool, true, false, cond, Option, Some, None, List, [], ◌∷◌, ◌++◌, map, length, get_or, refl, sym, subst, ap, ◌∙◌, arith}
+use Rattle.std.proofs.Common.{◌≡◌, ℕ, pos, zero, suc, ◌+◌, ◌<◌, ◌≤ℤ◌, ◌<ℤ◌, ◌⊎◌, inl, inr, Bool, true, false, cond, List, [], ◌∷◌, map, length, get_or, refl, sym, subst, ap, ◌∙◌, arith}
 use Rattle.std.specs.Prelude.{not, ◌&&◌, nat_lt}
 use Rattle.std.specs.List.{filter, flat_map, enumerate_from, Contains}
 use Rattle.std.proofs.lemmas.Int.{ints}
@@ -16,8 +16,7 @@ use Rattle.ring_rules.specs.Findings.{hole_findings, gap_findings}
 use Rattle.ring_rules.specs.declared.finding.Drilled.{Drilled}
 use Rattle.ring_rules.specs.declared.finding.Finding.{Finding}
 use Rattle.ring_rules.specs.declared.finding.Finding.TheVariants.{Gap}
-use Rattle.margins.specs.Gaps.{IsGap}
-use Rattle.margins.specs.Nearness.{IsPair, IsNoFurther, IsNearest, IsHeld, IsTried, IsTriedAt, AreTried}
+use Rattle.margins.specs.Nearness.{IsPair, IsNearest, IsHeld, IsTriedAt, AreTried}
 use Rattle.margins.specs.declared.nearest.Nearest.{Nearest}
 use Rattle.margins.proofs.Nearing.{no_further_trans, no_further_self}
 use Rattle.margins.proofs.Passing.{placed, clear_gap}

@@ -1,10 +1,9 @@
 //! The two holes of a board that are nearest to each other.
 //!
-//! Some pairs are tried first, drawn evenly from all of them; of the pairs that are nearer than the nearest of these there are
-//! on average fewer than holes. They are looked up as the findings of a gap.
+//! Some pairs are tried first, two for each hole. If these are as good as chance, the pairs that are nearer than the nearest of
+//! them are fewer than the holes. They are looked up as the findings of a gap.
 
 ghost use Rattle.std.specs.Prelude.{◌≡◌, ◌+◌, ◌<◌, ◌<ℤ◌, pos, length, true, false, IfOk, IfSome};
-ghost use Rattle.ring_rules.specs.Findings.{gap_findings};
 ghost use Rattle.margins.specs.Nearness.{IsNoFurther, IsNearer, IsNearestOf, IsPair, IsPairBefore, IsPairAt, IsHeld, IsTried, IsTriedAt, AreTried, IsStart};
 
 use crate::gap::gap_between;
