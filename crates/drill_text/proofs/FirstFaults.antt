@@ -1,8 +1,8 @@
 -- A text has a fault exactly where it is its first one.
-use Rattle.std.proofs.Common.{◌≡◌, ◌⊎◌, inl, inr, ◌↔◌, ℕ, suc, ◌+◌, ◌<◌, ◌≤◌, Bool, true, false, cond, eqb, ltb, List, [], ◌∷◌, ◌++◌, length, take, Option, None, Some, Result, Ok, Err, refl, sym, ap, subst, ◌∙◌, arith, append_assoc, append-nil}
-use Rattle.std.specs.List.{list_any, AllByRecursion}
+use Rattle.std.proofs.Common.{◌≡◌, ◌⊎◌, inl, inr, ℕ, suc, ◌+◌, ◌<◌, ◌≤◌, Bool, true, false, cond, eqb, ltb, List, [], ◌∷◌, ◌++◌, length, take, Option, None, Some, Result, Ok, Err, refl, sym, ap, ◌∙◌, arith}
+use Rattle.std.specs.List.{list_any}
 use Rattle.std.specs.Option.{option_to_list}
-use Rattle.std.proofs.lemmas.List.{length-append, take_all}
+use Rattle.std.proofs.lemmas.List.{length-append}
 use Rattle.std.proofs.lemmas.Bool.{le-ltb, lt-ltb, ltb-true, ltb-false, eqb-true, eqb-false}
 use Rattle.grid_units.specs.declared.fault.Fault.{Fault}
 use Rattle.grid_units.specs.declared.fault.Reason.{Reason}
@@ -12,15 +12,15 @@ use Rattle.grid_units.proofs.Binds.{bind_ok, bind_err}
 use Rattle.drill_lines.specs.declared.command.DrillCommand.{DrillCommand}
 use Rattle.drill_lines.specs.Lines.{trimmed}
 use Rattle.drill_lines.specs.Meaning.{meaning}
-use Rattle.drill_text.specs.Lines.{bytes_of, ended_line, HasNoBreak, Splits}
+use Rattle.drill_text.specs.Lines.{bytes_of, Splits}
 use Rattle.drill_text.specs.Lookback.{settings_after}
 use Rattle.drill_text.specs.Rules.{broken_rule}
 use Rattle.drill_text.specs.Reading.{line_limit, text_limit, is_finish, kept_unless, judged, step, spelled, commands_from, shown, ended, place_behind, read_in, Reads}
-use Rattle.drill_text.specs.Texts.{spelled_behind, AreShort, IsLegal, IsDrillText}
+use Rattle.drill_text.specs.Texts.{spelled_behind, AreShort, IsLegal}
 use Rattle.drill_text.specs.Faults.{SpellLegally, IsRefused, HasRefusedLine, HasFaultWithin, HasFaultBeyond, IsFirstFault, HasAnswer}
 use Rattle.drill_text.proofs.Splitting.{commands_from-push}
 use Rattle.drill_text.proofs.Shown.{shown_ok, show_ok, show_long, show_err, shown_err}
-use Rattle.drill_text.proofs.Spelling.{at_ok, all_kept, all_spelled, reads_drill_text}
+use Rattle.drill_text.proofs.Spelling.{all_kept, all_spelled, reads_drill_text}
 
 at_err : {A : Type 0} (place byte : ℕ) (r : Result A Reason) (f : Fault) → at place byte r ≡ Err f → (r ≡ Err f.reason) × (f.place ≡ place) × (f.byte ≡ byte)
 at_err place byte (Ok y) f e = absurd cc

@@ -1,5 +1,5 @@
 -- A drill text has a fault of one of its own reasons.
-use Rattle.std.proofs.Common.{◌≡◌, ◌⊎◌, inl, inr, ℕ, ℤ, Bool, true, false, cond, not, ◌&&◌, eqb, leb, ltb, List, [], ◌∷◌, ◌++◌, length, take, drop, Option, None, Some, Result, Ok, Err, refl, sym, ap, subst, ◌∙◌}
+use Rattle.std.proofs.Common.{◌≡◌, ◌⊎◌, inl, inr, ℕ, ℤ, Bool, true, false, cond, ◌&&◌, eqb, leb, ltb, List, [], ◌∷◌, ◌++◌, length, take, drop, Option, None, Some, Result, Ok, Err, refl, ap, subst, ◌∙◌}
 use Rattle.std.specs.Prelude.{codes}
 use Rattle.std.specs.Str.{bytes_eq}
 use Rattle.std.specs.List.{list_all, list_any, find, prefix_len}
@@ -11,22 +11,20 @@ use Rattle.grid_units.specs.declared.lengths.Unit.TheVariants.{Inch, Millimetre}
 use Rattle.grid_units.specs.declared.zero_filling.Zeros.{Zeros}
 use Rattle.grid_units.specs.declared.zero_filling.Zeros.TheVariants.{Leading, Trailing, Full}
 use Rattle.grid_units.specs.Reasons.{number_of}
-use Rattle.grid_units.specs.Results.{◌>>=◌, both, first_reason}
+use Rattle.grid_units.specs.Results.{◌>>=◌, both}
 use Rattle.grid_units.specs.Numbers.{is_digits, is_number, unsigned, is_decimal, is_coarse, fraction, whole, value, all_digits, signed, fine, dec_of, missing, filled, zeros_of}
 use Rattle.drill_lines.specs.declared.command.Part.{Part}
 use Rattle.drill_lines.specs.declared.command.Part.TheVariants as part
-use Rattle.drill_lines.specs.declared.command.Coordinates.{Coordinates}
 use Rattle.drill_lines.specs.declared.command.Settings.{Settings}
 use Rattle.drill_lines.specs.declared.command.DrillCommand.{DrillCommand}
 use Rattle.drill_lines.specs.declared.command.DrillCommand.TheVariants.{Comment, Start, HeaderEnd, UnitCode, UnitLine, Finish, Tool, Pick, Hit, Slot}
-use Rattle.drill_lines.specs.Formats.{Digits}
 use Rattle.drill_lines.specs.Lines.{begins, trimmed}
 use Rattle.drill_lines.specs.Header.{is_zero, is_size, sizes, pattern_from, pattern, unit_format, unit_line}
-use Rattle.drill_lines.specs.Tools.{is_point, is_diameter, is_letter, is_skipped, are_fields, number_from, diameter_of, diameter_run, tool_fields, tool_line, pick_fields, pick_line}
-use Rattle.drill_lines.specs.Drilling.{format_in, zeros_in, coordinate_of, coordinate, Runs, runs_of, names_one, coordinates, slot_line, drill_from, drill_line}
+use Rattle.drill_lines.specs.Tools.{is_point, number_from, diameter_of, tool_fields, tool_line, pick_fields, pick_line}
+use Rattle.drill_lines.specs.Drilling.{format_in, zeros_in, coordinate_of, coordinate, Runs, runs_of, coordinates, slot_line, drill_from, drill_line}
 use Rattle.drill_lines.specs.Meaning.{one, line_before, spells_nothing, is_old, is_incremental, common_line, ends_header, header_line, is_routed, repeats, body_word, begins_point, body_line, line_in, begins_comment, meaning}
-use Rattle.drill_text.specs.Lookback.{Standing, settings_after, standing}
-use Rattle.drill_text.specs.Holes.{Drilled, drilled_at, holes_of}
+use Rattle.drill_text.specs.Lookback.{settings_after, standing}
+use Rattle.drill_text.specs.Holes.{drilled_at, holes_of}
 use Rattle.drill_text.specs.Rules.{applies, rules, first_broken, broken_rule}
 use Rattle.drill_text.specs.Reading.{Reads}
 use Rattle.drill_text.specs.Faults.{is_drill_reason, IsRefused, HasRefusedLine, IsFirstFault}

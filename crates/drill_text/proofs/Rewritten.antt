@@ -1,17 +1,14 @@
 -- A text that is written anew as it is read.
-use Rattle.std.proofs.Common.{◌≡◌, ℕ, ◌<◌, ◌≤◌, true, false, List, [], ◌∷◌, ◌++◌, length, Result, Ok, Err, refl, sym, ap, subst, ◌∙◌, arith, inl, inr}
+use Rattle.std.proofs.Common.{◌≡◌, ℕ, ◌≤◌, List, [], ◌∷◌, ◌++◌, length, Result, Ok, Err, sym, ap, arith, inl, inr}
 use Rattle.std.specs.Global.{Vec}
 use Rattle.std.proofs.lemmas.List.{length-append}
-use Rattle.grid_units.specs.declared.fault.Fault.{Fault}
 use Rattle.grid_units.specs.declared.fault.Fail.{Fail}
 use Rattle.grid_units.specs.declared.fault.Fail.TheVariants as fails
 use Rattle.grid_units.specs.Results.{Answers, AnswersAlways}
 use Rattle.drill_lines.specs.declared.command.DrillCommand.{DrillCommand}
 use Rattle.drill_lines.specs.Writing.{canonical}
-use Rattle.drill_text.specs.declared.lines.Lines.{Lines}
-use Rattle.drill_text.specs.Reading.{text_limit}
 use Rattle.drill_text.specs.Texts.{IsDrillText}
-use Rattle.drill_text.specs.Keeping.{Ends, HoldsLines}
+use Rattle.drill_text.specs.Keeping.{Ends}
 use Rattle.drill_text.specs.Writing.{canonical_text, written, bytes_in, ReadsWritten}
 use Rattle.drill_text.proofs.RoundTrip.{text_more}
 
