@@ -49,8 +49,8 @@ fn run_to_end<L: Loader, W: Write>(
     }
 }
 
-/// The whole program: what the words, without the program's name, ask for. Everything is printed to `out`,
-/// once; where that fails the status is Device and nothing is said of what it took.
+/// The whole program: what the words, without the program's name, ask for. Everything is printed to `out`, a long report
+/// in parts; where that fails the status is Device and nothing is said of what it took.
 pub fn run<L: Loader, W: Write>(
     alloc: Global,
     words: &[&str],
