@@ -1,17 +1,15 @@
 -- Most operations break no rule, and a flash among them makes one flash.
-use Rattle.std.proofs.Common.{◌≡◌, ℕ, ◌+◌, ◌*◌, ◌/◌, ◌^◌, ◌<◌, ◌≤◌, ℤ, pos, ◌+ℤ◌, ◌*ℤ◌, unsigned_abs, Bool, true, false, cond, not, ◌||◌, ◌&&◌, nat_le, nat_lt, List, [], ◌∷◌, ◌++◌, map, length, Option, None, Some, Ok, unwrap_or, is_none, FitsSigned, refl, sym, ap, subst, ◌∙◌, arith, mul-le-mul_right, IfSome}
-use Rattle.std.proofs.lemmas.Int.{ints, unsigned_abs-mul}
+use Rattle.std.proofs.Common.{◌≡◌, ℕ, ◌+◌, ◌*◌, ◌/◌, ◌^◌, ◌<◌, ◌≤◌, ℤ, pos, ◌*ℤ◌, unsigned_abs, Bool, true, false, cond, not, ◌||◌, ◌&&◌, nat_le, nat_lt, List, [], ◌∷◌, map, length, Option, None, Some, Ok, unwrap_or, is_none, refl, sym, ap, subst, ◌∙◌, arith, mul-le-mul_right}
+use Rattle.std.proofs.lemmas.Int.{unsigned_abs-mul}
 use Rattle.std.proofs.lemmas.Bool.Decides.{nat_tests}
 use Rattle.std.specs.Option.{option_map_or, option_and_then}
-use Rattle.std.specs.List.{find, flat_map, list_any}
+use Rattle.std.specs.List.{flat_map, list_any}
 use Rattle.grid_units.specs.Points.{GridPoint, max_coordinate}
 use Rattle.grid_units.specs.Numbers.{is_far, picometres, unit_length}
-use Rattle.grid_units.specs.declared.fault.Reason.{Reason}
 use Rattle.grid_units.specs.declared.fault.Reason.TheVariants as reason
 use Rattle.grid_units.specs.declared.lengths.Unit.{Unit as Units}
 use Rattle.grid_units.specs.declared.lengths.Unit.TheVariants.{Millimetre}
 use Rattle.gerber_rows.specs.declared.command.Action.{Action}
-use Rattle.gerber_rows.specs.declared.command.Action.TheVariants as action
 use Rattle.gerber_rows.specs.declared.command.Command.{Command}
 use Rattle.gerber_rows.specs.declared.command.Command.TheVariants as command
 use Rattle.gerber_rows.specs.declared.command.Format.{Format}
@@ -27,7 +25,6 @@ use Rattle.layer_image.specs.declared.judge.Judge.{Judge}
 use Rattle.layer_image.specs.declared.flash.What.{What}
 use Rattle.layer_image.specs.declared.grid.Grid.{Grid}
 use Rattle.layer_image.specs.Lookback.{Standing, aperture_in}
-use Rattle.layer_image.specs.Numbers.{is_long}
 use Rattle.layer_image.specs.Flashes.{numbers_below, copies, copies_at, copy_at, grid_at, is_flash, flashed, flash_at, flashes_at, unit_in_force, decimals_in_force, what_at}
 use Rattle.layer_image.specs.Moved.{moved, origin}
 use Rattle.layer_image.specs.Rules.{first_broken, needs_aperture, names_too_many_digits, reaches_too_far, flashes_too_many, flashes_too_far, is_long_by, is_far_in, is_far_pad, is_far_point}

@@ -1,17 +1,16 @@
 -- The reason of a fault is that of a rule, or of the text.
-use Rattle.std.proofs.Common.{◌≡◌, inl, inr, ◌⊎◌, ℕ, suc, ◌<◌, Bool, true, false, cond, List, [], ◌∷◌, ◌++◌, length, Option, Some, None, unwrap_or, slice_get, slice_index_or, Result, Err, refl, sym, ap, subst, ◌∙◌, arith}
+use Rattle.std.proofs.Common.{◌≡◌, inl, inr, ℕ, suc, Bool, true, false, cond, List, [], ◌∷◌, ◌++◌, length, Option, Some, None, unwrap_or, slice_get, refl, sym, ap, subst, ◌∙◌, arith}
 use Rattle.std.specs.List.{filter_map, cons_option, find, Contains}
 use Rattle.std.specs.Option.{option_map}
-use Rattle.grid_units.specs.Lists.{breaks, break_at, positions_after}
+use Rattle.grid_units.specs.Lists.{break_at, positions_after}
 use Rattle.grid_units.specs.Results.{fault}
 use Rattle.grid_units.specs.declared.fault.Fault.{Fault}
 use Rattle.grid_units.specs.declared.fault.Reason.{Reason}
 use Rattle.gerber_rows.specs.declared.command.Command.{Command}
-use Rattle.gerber_text.specs.declared.placed.Placed.{Placed}
-use Rattle.gerber_text.specs.Reading.{Entries, Reads}
-use Rattle.layer_image.specs.Faults.{without_places, fault_of, IsFirstFault}
+use Rattle.gerber_text.specs.Reading.{Entries}
+use Rattle.layer_image.specs.Faults.{without_places, fault_of}
 use Rattle.layer_image.specs.Flashes.{flashes_of}
-use Rattle.layer_image.specs.Layers.{LayerReasons, ReadsLayer}
+use Rattle.layer_image.specs.Layers.{LayerReasons}
 use Rattle.layer_image.specs.Lookback.{standing}
 use Rattle.layer_image.specs.Rules.{all_rules, applies, broken_rule, first_broken}
 

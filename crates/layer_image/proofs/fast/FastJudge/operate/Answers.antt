@@ -1,10 +1,9 @@
 -- An operation on the fast path breaks no rule, and leaves what is in force.
-use Rattle.std.proofs.Common.{◌≡◌, ◌∷◌, [], sym, subst, ◌∙◌}
-use Rattle.gerber_rows.specs.declared.command.Command.{Command}
+use Rattle.std.proofs.Common.{sym, subst}
 use Rattle.gerber_rows.specs.declared.command.Command.TheVariants as command
 use Rattle.layer_image.specs.InForce.{IsFastPath, IsFlashOf}
 use Rattle.layer_image.specs.Keeping.{flash_count}
-use Rattle.layer_image.specs.Knows.{Knows, Judges, told}
+use Rattle.layer_image.specs.Knows.{told}
 use Rattle.layer_image.proofs.InForce.{judged, moved_takes, flash_takes}
 use Rattle.layer_image.proofs.fast.FastJudge.operate.Goals as goal
 
