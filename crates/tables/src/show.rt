@@ -14,6 +14,8 @@ use layer_image::{Flash, read_layer};
 use std::alloc::Global;
 
 /// The header of a table of flashes.
+// As for a row.
+#[inline(never)]
 fn layer_header(alloc: Global) -> Result<Table, Error>
     ensures { IfOk result (λ table. table ≡ layer_header) }
 {
@@ -41,6 +43,8 @@ fn layer_table(alloc: Global, flashes: &[Flash]) -> Result<Vec<u8>, Error>
 }
 
 /// The header of a table of holes.
+// As for a row.
+#[inline(never)]
 fn drill_header(alloc: Global) -> Result<Table, Error>
     ensures { IfOk result (λ table. table ≡ drill_header) }
 {
@@ -73,6 +77,8 @@ fn drill_table(alloc: Global, holes: &[Hole]) -> Result<Vec<u8>, Error>
 /// # Errors
 ///
 /// The first fault of the text; `Memory` where a growth was refused.
+// Its table is kilobytes of stack, which a caller's frame would have even where no table is made.
+#[inline(never)]
 pub fn show_layer(alloc: Global, bytes: &[u8]) -> Result<Vec<u8>, Fail>
     ensures exact { Answers (λ text. text.items) (ShowsLayer bytes.now) result }
 {
@@ -89,6 +95,8 @@ pub fn show_layer(alloc: Global, bytes: &[u8]) -> Result<Vec<u8>, Fail>
 /// # Errors
 ///
 /// The first fault of the text; `Memory` where a growth was refused.
+// As for layers.
+#[inline(never)]
 pub fn show_drill(alloc: Global, bytes: &[u8]) -> Result<Vec<u8>, Fail>
     ensures exact { Answers (λ text. text.items) (ShowsDrill bytes.now) result }
 {
