@@ -1,5 +1,5 @@
 #!/usr/bin/env python3
-"""Runs the program over hostile files and prints a table of times and peak memory.
+"""Runs the program over hostile files and prints a table of the processor's time and peak memory.
 
     bench/hostile_files.py PROGRAM [--limit GIGABYTES] [--seconds SECONDS] [NAME..]
 
@@ -13,7 +13,6 @@ import shutil
 import signal
 import subprocess
 import tempfile
-import time
 
 HEAD = b"%FSLAX46Y46*%\n%MOMM*%\n%ADD10C,0.65*%\nD10*\n"
 LAYER = HEAD + b"X0Y0D03*\nM02*\n"
@@ -104,20 +103,18 @@ def limited(gigabytes):
 
 
 def measured(program, words, folder, gigabytes, seconds):
-    """Seconds, peak memory in MB, the status, and the number of bytes that were printed and the end of them."""
+    """Seconds of a processor, peak memory in MB, the status, and the number of bytes that were printed and the end of them."""
     with open(f"{folder}/printed", "wb") as out:
-        start = time.monotonic()
         ran = subprocess.Popen([program, *words.split()], cwd=folder, stdout=out, stderr=subprocess.DEVNULL, preexec_fn=lambda: limited(gigabytes))
         signal.signal(signal.SIGALRM, lambda *_: ran.kill())
         signal.alarm(seconds)
         _, status, used = os.wait4(ran.pid, 0)
         signal.alarm(0)
-        taken = time.monotonic() - start
     size = os.path.getsize(f"{folder}/printed")
     with open(f"{folder}/printed", "rb") as it:
         it.seek(max(0, size - 60))
         end = it.read().decode(errors="replace").rstrip("\n").split("\n")[-1]
-    return taken, used.ru_maxrss / 1024, os.waitstatus_to_exitcode(status), size, end
+    return used.ru_utime + used.ru_stime, used.ru_maxrss / 1024, os.waitstatus_to_exitcode(status), size, end
 
 
 def main():

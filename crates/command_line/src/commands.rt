@@ -12,6 +12,8 @@ const STATUSES: &str =
 4 a file cannot be read, or memory ran out.";
 
 /// The program, whose words come without its name and begin with a command.
+// The values that it builds in turn would lie in the frame of what parses by them.
+#[inline(never)]
 pub(crate) fn ringcheck<'a>(alloc: Global) -> Result<Command<'a>, AllocError>
     ensures { IfOk result (λ c. app_of c ≡ ringcheck_app) }
 {

@@ -59,6 +59,8 @@ pub enum Refusal {
 ///
 /// [`Refusal::Help`] where help is asked for, [`Refusal::Usage`] where the words are no command of the program (no words at
 /// all are none), and [`Refusal::Memory`].
+// The frame of a caller would hold clap's values for as long as the caller runs.
+#[inline(never)]
 pub fn parse<'a>(alloc: Global, words: &'a [&'a str]) -> Result<Request<'a>, Refusal>
     ensures exact { AnswersLine (map (λ w. w.now) words.entry.now) result }
     ensures check { (r g m : Text) → map (λ w. w.now) words.entry.now ≡ check_words r g m → is_plain_word r ≡ true

@@ -9,6 +9,8 @@ use std::alloc::{AllocError, Global};
 
 /// Every record of a text, the first as the others, of any lengths. A slice can always be read, so
 /// what `csv` refuses here is for want of memory.
+// The reader's buffers would lie in the frame of what runs long after it.
+#[inline(never)]
 pub(crate) fn all_rows(alloc: Global, text: &[u8]) -> Result<Vec<ByteRecord>, AllocError>
     ensures { IfOk result (λ v. map fields_of v.items ≡ rows_of text.now) }
 {

@@ -113,6 +113,8 @@ fn height_of(what: &What) -> ArrayString<16>
 }
 
 /// The table with the row of a flash.
+// The table is kilobytes, and each of its copies would lie in the frame of the loop.
+#[inline(never)]
 pub(crate) fn with_flash(table: Table, number: u64, flash: &Flash) -> Result<Table, Error>
     ensures { IfOk result (λ more. more ≡ table ++ row (flash_fields number flash.now)) }
 {
@@ -130,6 +132,8 @@ pub(crate) fn with_flash(table: Table, number: u64, flash: &Flash) -> Result<Tab
 }
 
 /// The table with the row of a hole.
+// As for a flash.
+#[inline(never)]
 pub(crate) fn with_hole(table: Table, number: u64, hole: &Hole) -> Result<Table, Error>
     ensures { IfOk result (λ more. more ≡ table ++ row (hole_fields number hole.now)) }
 {

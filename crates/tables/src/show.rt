@@ -19,6 +19,8 @@ use std::alloc::Global;
 const PIECE: usize = 65_536;
 
 /// The header of a table of flashes.
+// As for a row.
+#[inline(never)]
 fn layer_header(alloc: Global) -> Result<Table, Error>
     ensures { IfOk result (λ table. table ≡ layer_header) }
 {
@@ -46,6 +48,8 @@ fn layer_table(alloc: Global, flashes: &[Flash]) -> Result<Vec<u8>, Error>
 }
 
 /// The header of a table of holes.
+// As for a row.
+#[inline(never)]
 fn drill_header(alloc: Global) -> Result<Table, Error>
     ensures { IfOk result (λ table. table ≡ drill_header) }
 {
@@ -100,6 +104,8 @@ fn read_holes(alloc: Global, bytes: &[u8]) -> Result<Vec<Hole>, Fail>
 /// # Errors
 ///
 /// The first fault of the text; `Memory` where a growth was refused.
+// Its table is kilobytes of stack, which a caller's frame would have even where no table is made.
+#[inline(never)]
 pub fn show_layer(alloc: Global, bytes: &[u8]) -> Result<Vec<u8>, Fail>
     ensures exact { Answers (λ text. text.items) (ShowsLayer bytes.now) result }
 {
@@ -116,6 +122,8 @@ pub fn show_layer(alloc: Global, bytes: &[u8]) -> Result<Vec<u8>, Fail>
 /// # Errors
 ///
 /// The first fault of the text; `Memory` where a growth was refused.
+// As for layers.
+#[inline(never)]
 pub fn show_drill(alloc: Global, bytes: &[u8]) -> Result<Vec<u8>, Fail>
     ensures exact { Answers (λ text. text.items) (ShowsDrill bytes.now) result }
 {
