@@ -2,6 +2,7 @@
 use Rattle.std.proofs.Common.{◌≡◌, ◌<◌, ◌≤◌, ◌+◌, ◌++◌, ℕ, zero, suc, List, [], ◌∷◌, Ok, Err, Result, length, map, take, get_or, arith, refl, sym, ap, subst, ◌∙◌, Bool, true, false, Option}
 use Rattle.std.specs.List.{flat_map, enumerate_from}
 use Rattle.std.proofs.lemmas.List.{append-nil, take_more, map-append, length-map}
+use Rattle.std.proofs.lemmas.List.Concat.{flat_map-append}
 use Rattle.grid_units.specs.Holes.{GridHole, GridRules}
 use Rattle.grid_units.specs.Results.{Answers}
 use Rattle.grid_units.specs.declared.fault.Fault.{Fault}
@@ -27,6 +28,16 @@ placed_more f out ys xs i x lt is value was =
 pub placed_none : {X Y : Type 0} (f : ℕ × X → List Y) (out : List Y) (xs : List X) (i : ℕ) (x : X) → i < length xs → x ≡ get_or xs i x → f (i, x) ≡ []
     → out ≡ flat_map f (take i (enumerate_from 0 xs)) → out ≡ flat_map f (take (i + 1) (enumerate_from 0 xs))
 placed_none f out xs i x lt is value was = sym (append-nil out) ∙ placed_more f out [] xs i x lt is value was
+
+-- what one more element gives, without its place
+pub flat_more : {X Y : Type 0} (f : X → List Y) (out ys : List Y) (xs : List X) (i : ℕ) (x : X) → i < length xs → x ≡ get_or xs i x → f x ≡ ys
+    → out ≡ flat_map f (take i xs) → out ++ ys ≡ flat_map f (take (i + 1) xs)
+flat_more f out ys xs i x lt is value was =
+    let here : f (get_or xs i x) ≡ ys = ap f (sym is) ∙ value in
+    ap (λ zs. out ++ zs) (sym here)
+    ∙ (ap (λ zs. zs ++ f (get_or xs i x)) was
+    ∙ (ap (λ zs. flat_map f (take i xs) ++ zs) (sym (append-nil (f (get_or xs i x))))
+    ∙ (sym (flat_map-append f (take i xs) (get_or xs i x ∷ [])) ∙ ap (flat_map f) (sym (take_more xs i x lt)))))
 
 -- the list with its places, by one more element
 numbered_push : {X : Type 0} (n : ℕ) (xs : List X) (x : X) → enumerate_from n (xs ++ x ∷ []) ≡ enumerate_from n xs ++ (n + length xs, x) ∷ []

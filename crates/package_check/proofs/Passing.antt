@@ -58,7 +58,7 @@ drilled_from n (c ∷ cs) =
     ∙ (ap (λ (t : List Drilled). t ++ map (λ (h : Numbered). h.drilled) (flat_map holes_of (enumerate_from (n + 1) cs))) (one_file n c)
     ∙ (ap (λ (t : List Drilled). drilled_in c ++ t) (drilled_from (n + 1) cs) ∙ sym (flat_map-cons drilled_in c cs))))
 
-all_drilled : (contents : List Content) → drilled contents ≡ flat_map drilled_in contents
+pub all_drilled : (contents : List Content) → drilled contents ≡ flat_map drilled_in contents
 all_drilled contents = drilled_from 0 contents
 
 -- a hole of a plated file is among all holes, plated and with the span of its file

@@ -176,30 +176,57 @@ fn numbered_holes(alloc: Global, contents: &[Content]) -> Result<Vec<Numbered>, 
     Ok(numbered)
 }
 
-fn drilled(alloc: Global, holes: &[Numbered]) -> Result<Vec<Drilled>, AllocError>
-    ensures { IfOk result (λ v. v.items ≡ map (λ hole. hole.drilled) holes.now) }
+/// Appends the holes of one file.
+fn push_drilled(
+    drilled: &mut Vec<Drilled>,
+    plated: bool,
+    span: &Option<Span>,
+    holes: &[Hole],
+) -> Result<(), AllocError>
+    ensures { OnOk result (drilled.new.items ≡ drilled.old.items ++ map (λ hole. record { hole = hole; plated = plated; span = span.now }) holes.now) }
 {
-    holes.iter().map(|hole| hole.drilled).collect(alloc)
+    for hole in holes {
+        drilled.push(Drilled {
+            hole: *hole,
+            plated,
+            span: *span,
+        })?;
+    }
+    Ok(())
+}
+
+/// The holes of all files, without their places.
+fn drilled(alloc: Global, contents: &[Content]) -> Result<Vec<Drilled>, AllocError>
+    ensures { IfOk result (λ v. v.items ≡ drilled contents.now) }
+{
+    let mut all = Vec::new(alloc);
+    for content in contents {
+        if let Content::Drill {
+            plated,
+            span,
+            drill,
+        } = content
+        {
+            push_drilled(&mut all, *plated, span, drill.holes())?;
+        }
+    }
+    Ok(all)
 }
 
 /// What the rules find on the layers and at the holes.
-fn findings(
-    alloc: Global,
-    contents: &[Content],
-    holes: &[Numbered],
-    rules: Rules,
-) -> Result<Vec<Finding>, AllocError>
-    ensures { IfOk result (λ v. v.items ≡ said.findings rules (layers contents.now) (map (λ hole. hole.drilled) holes.now)) }
+fn findings(alloc: Global, contents: &[Content], rules: Rules) -> Result<Vec<Finding>, AllocError>
+    ensures { IfOk result (λ v. v.items ≡ said.findings rules (layers contents.now) (drilled contents.now)) }
 {
     let layers = layers(alloc, contents)?;
-    let drilled = drilled(alloc, holes)?;
+    let drilled = drilled(alloc, contents)?;
     let mut findings = ring_findings(alloc, &layers, &drilled, rules)?;
     let gaps = gap_findings(alloc, &drilled, rules)?;
     findings.extend_from_slice(&gaps)?;
     Ok(findings)
 }
 
-/// The report on what the files say.
+/// The report on what the files say. The holes are listed with their places only when the list that the rules are asked
+/// about is gone.
 pub(crate) fn report_on(
     alloc: Global,
     contents: &[Content],
@@ -207,13 +234,12 @@ pub(crate) fn report_on(
 ) -> Result<Report, AllocError>
     ensures { IfOk result (λ report. report ≡ said.report_on rules contents.now) }
 {
-    let holes = numbered_holes(alloc, contents)?;
-    let findings = findings(alloc, contents, &holes, rules)?;
+    let findings = findings(alloc, contents, rules)?;
     Ok(Report {
         rules,
         files: sums(alloc, contents)?,
         layers: layer_indexes(alloc, contents)?,
-        holes,
+        holes: numbered_holes(alloc, contents)?,
         findings,
     })
 }

@@ -1,6 +1,5 @@
-use Rattle.std.proofs.Common.{◌≡◌, ℕ, List, ◌∷◌, [], ap, subst, ◌∙◌, ◌++◌, map, take}
+use Rattle.std.proofs.Common.{◌≡◌, ℕ, List, [], ◌∙◌, ◌++◌, map, take}
 use Rattle.package_check.specs.Package.{Source, layer_count, source_of}
-use Rattle.package_check.specs.Standing.{Said}
 use Rattle.package_check.proofs.Joining.{joined_one}
 use Rattle.package_check.proofs.Taking.{one_more_taken}
 use Rattle.package_check.proofs.package.reader_of.Goals as goal

@@ -1,4 +1,4 @@
-use Rattle.std.proofs.Common.{◌≡◌, ℕ, List, ◌∷◌, [], ap, subst, ◌∙◌, map, take}
+use Rattle.std.proofs.Common.{ℕ, ap, ◌∙◌, map, take}
 use Rattle.package_check.specs.Package.{Source}
 use Rattle.package_check.specs.Pieces.{layers_in, source_in}
 use Rattle.package_check.proofs.Joining.{joined}

@@ -1,4 +1,4 @@
-use Rattle.std.proofs.Common.{arith, ap, sym, ◌∙◌, ◌++◌, ℕ, List, Bor, get_or}
+use Rattle.std.proofs.Common.{arith, ap, ◌∙◌, ◌++◌, get_or}
 use Rattle.std.specs.Prelude.{string_bytes}
 use Rattle.package_check.specs.declared.FileSum.{FileSum}
 use Rattle.package_check.specs.Texts.{file_line}

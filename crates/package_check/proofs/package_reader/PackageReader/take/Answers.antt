@@ -1,4 +1,4 @@
-use Rattle.std.proofs.Common.{◌≡◌, ◌++◌, ◌∷◌, [], List, Option, OnOk, sym, subst, ◌∙◌}
+use Rattle.std.proofs.Common.{◌++◌, ◌∷◌, [], Option, OnOk, sym, subst, ◌∙◌}
 use Rattle.grid_units.specs.declared.fault.Fail.{Fail}
 use Rattle.package_check.specs.Package.{Source}
 use Rattle.package_check.specs.Standing.{Said}
