@@ -72,7 +72,8 @@ listed_topic topics.Polygon = (5, omega arith, refl)
 listed_topic topics.Holed = (6, omega arith, refl)
 listed_topic topics.Scaled = (7, omega arith, refl)
 listed_topic topics.Turned = (8, omega arith, refl)
-listed_topic topics.Plane = (9, omega arith, refl)
+listed_topic topics.Oblique = (9, omega arith, refl)
+listed_topic topics.Plane = (10, omega arith, refl)
 
 -- the words of what is listed
 pub contains_map : {A B : Type 0} (f : A → B) (xs : List A) (x : A) → Contains xs x → Contains (map f xs) (f x)

@@ -19,6 +19,7 @@ topic_word topics.Polygon = codes "polygon"
 topic_word topics.Holed = codes "holed"
 topic_word topics.Scaled = codes "scaled"
 topic_word topics.Turned = codes "turned"
+topic_word topics.Oblique = codes "oblique"
 topic_word topics.Plane = codes "plane"
 
 -- the words that have a page: the names of the reasons and the words of the topics (docs/FORMATS.md, Explanations)
@@ -39,7 +40,7 @@ all_reasons = reasons.TooLong ∷ reasons.AfterEnd ∷ reasons.Truncated ∷ rea
 
 -- the topics, in order (docs/FORMATS.md, Explanations)
 abbrev pub all_topics : List Topic
-all_topics = topics.Ring ∷ topics.Small ∷ topics.Off ∷ topics.Bare ∷ topics.Macro ∷ topics.Polygon ∷ topics.Holed ∷ topics.Scaled ∷ topics.Turned ∷ topics.Plane ∷ []
+all_topics = topics.Ring ∷ topics.Small ∷ topics.Off ∷ topics.Bare ∷ topics.Macro ∷ topics.Polygon ∷ topics.Holed ∷ topics.Scaled ∷ topics.Turned ∷ topics.Oblique ∷ topics.Plane ∷ []
 
 -- the words that are listed: the names of the reasons, then the words of the topics (docs/FORMATS.md, Explanations)
 abbrev pub all_words : List (List ℕ)

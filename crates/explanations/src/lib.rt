@@ -16,7 +16,7 @@ use topic_pages::topic_page;
 
 /// The page of a word: at most 12 lines of at most 78 columns, each ended by a line feed. It begins with the word and a
 /// colon. `None` where the word is neither the name of a reason nor one of `ring`, `small`, `off`, `none`, `macro`,
-/// `polygon`, `holed`, `scaled`, `turned` and `plane`.
+/// `polygon`, `holed`, `scaled`, `turned`, `oblique` and `plane`.
 pub fn explanation(word: &str) -> Option<&'static str>
     ensures known { IsSome result ↔ IsWord word.now }
     ensures headed { IfSome result (λ page. Heads word.now page.now) }

@@ -66,6 +66,7 @@ polygon
 holed
 scaled
 turned
+oblique
 plane
 ";
 
@@ -118,7 +119,7 @@ const REASONS: [Reason; 46] = [
     Reason::BadSpan,
 ];
 
-const TOPICS: [Topic; 10] = [
+const TOPICS: [Topic; 11] = [
     Topic::Ring,
     Topic::Small,
     Topic::Off,
@@ -128,6 +129,7 @@ const TOPICS: [Topic; 10] = [
     Topic::Holed,
     Topic::Scaled,
     Topic::Turned,
+    Topic::Oblique,
     Topic::Plane,
 ];
 

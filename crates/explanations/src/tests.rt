@@ -32,7 +32,7 @@ fn has_page(word: &str) -> bool {
 #[test]
 fn each_word_has_a_page(rt: HostRuntime) -> Result<(), TestFail> {
     assert!(rt; words().lines().all(|word| has_page(word)));
-    assert_eq!(rt; words().lines().count(), 46 + 10);
+    assert_eq!(rt; words().lines().count(), 46 + 11);
     Ok(())
 }
 
@@ -44,6 +44,8 @@ fn pages_name_settings(rt: HostRuntime) -> Result<(), TestFail> {
     assert!(rt; ring.contains("less 0.001 mm"));
     let bare = explanation("none").ok_or("no page")?;
     assert!(rt; bare.contains("keep pads on all layers"));
+    let oblique = explanation("oblique").ok_or("no page")?;
+    assert!(rt; oblique.contains("OBLIQUE"));
     Ok(())
 }
 

@@ -24,6 +24,8 @@ pub(crate) enum Topic {
     Scaled,
     /// A flash that is turned by no multiple of 90 degrees.
     Turned,
+    /// A plated slot along neither axis.
+    Oblique,
     /// A negative plane without a mark.
     Plane,
 }
@@ -43,6 +45,7 @@ impl Topic {
             Topic::Holed => "holed",
             Topic::Scaled => "scaled",
             Topic::Turned => "turned",
+            Topic::Oblique => "oblique",
             Topic::Plane => "plane",
         }
     }

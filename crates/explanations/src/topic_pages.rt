@@ -68,6 +68,13 @@ turned: a flash that is turned (%LR) by no multiple of 90 degrees is not
 judged, whatever its shape. Turn the pad by a multiple of 90 degrees.
 ";
 
+const OBLIQUE: &str = "\
+oblique: the ends of a plated slot differ in both directions (a line OBLIQUE
+of the report). Rings are judged of slots along an axis only, so that such a
+slot is a finding on each copper layer that it goes through. Turn it to an
+axis, or drill round holes in its place.
+";
+
 const PLANE: &str = "\
 plane: a negative plane without a mark (such as Protel's .GP1) is accepted as
 it stands, and its clearance discs count as pads: a ring may pass that is not
@@ -89,6 +96,7 @@ pub(crate) fn topic_page(topic: Topic) -> &'static str
         Topic::Holed => HOLED,
         Topic::Scaled => SCALED,
         Topic::Turned => TURNED,
+        Topic::Oblique => OBLIQUE,
         Topic::Plane => PLANE,
     }
 }

@@ -2,15 +2,15 @@
 use Rattle.std.proofs.Common.{◌≡◌, ◌∙◌, ◌||◌, ◌&&◌, ℕ, Bool, true, false, not, List, Option, Some, None, unwrap_or, refl, ap}
 use Rattle.std.specs.Prelude.{if◌then◌else◌}
 use Rattle.std.specs.Option.{option_or, option_map}
-use Rattle.proposals.specs.declared.contents.Kind.{Kind}
-use Rattle.proposals.specs.declared.contents.Kind.TheVariants.{Gerber, Drill}
+use Rattle.file_hints.specs.declared.contents.Kind.{Kind}
+use Rattle.file_hints.specs.declared.contents.Kind.TheVariants.{Gerber, Drill}
 use Rattle.proposals.specs.declared.outcome.Place.{Place}
 use Rattle.proposals.specs.declared.outcome.Place.TheVariants.{Numbered, Unknown, Bottom}
 use Rattle.proposals.specs.declared.outcome.Layers.{Layers}
 use Rattle.proposals.specs.declared.outcome.Proposed.TheVariants.{Copper, Plated, Unplated, Undecided, LeftOut}
 use Rattle.proposals.specs.declared.outcome.Because.TheVariants as because
-use Rattle.proposals.specs.Contents.{field, function_of, kind_of, has_line, plated_line, unplated_line}
-use Rattle.proposals.specs.Names.{end_of, has_point, stem_of, words_of, numbered, inner_ends, inner_words, last_word, ends_in_copper, names_unplated}
+use Rattle.file_hints.specs.Contents.{field, function_of, kind_of, has_line, plated_line, unplated_line}
+use Rattle.file_hints.specs.Names.{end_of, has_point, stem_of, words_of, numbered, inner_ends, inner_words, last_word, ends_in_copper, names_unplated}
 use Rattle.proposals.specs.Deciding.{Decision, by_kind, copper_at, decision, drill_by_function, drill_by_lines, drill_by_name, gerber_by_function, gerber_by_words, inner_copper, no_copper, said, span_of, stack_place}
 use Rattle.proposals.specs.Keeping.{are_other_words, is_other_function, names_no_copper}
 use Rattle.proposals.specs.Manifests.{stands}

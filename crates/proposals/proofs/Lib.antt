@@ -1,7 +1,11 @@
-pub mod Short
-pub mod Firsts
-pub mod Words
 pub mod Once
 pub mod Rows
 pub mod Orders
 pub mod Kept
+pub mod Counts
+pub mod Rereading
+pub mod Labels
+pub mod Lawful
+pub mod ReadsBack
+pub mod Shorts
+pub mod EachOnce

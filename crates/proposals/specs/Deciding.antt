@@ -2,10 +2,10 @@
 use Rattle.std.specs.Prelude.{ℕ, Bool, true, false, ◌||◌, ◌&&◌, not, List, Option, Some, None, is_some, unwrap_or, take, drop, codes, if◌then◌else◌}
 use Rattle.std.specs.Option.{option_or, option_map}
 use Rattle.std.specs.Str.{bytes_eq}
-use Rattle.proposals.specs.Contents.{field, function_of, has_line, kind_of, plated_line, unplated_line}
-use Rattle.proposals.specs.Names.{bottom_ends, bottom_words, end_of, ends_in_copper, has_point, inner_ends, inner_words, is_among, last_word, names_unplated, number_of, numbered, numbered_other_ends, other_ends, other_words, plane_ends, stem_of, top_ends, top_words, words_of}
-use Rattle.proposals.specs.declared.contents.Kind.{Kind}
-use Rattle.proposals.specs.declared.contents.Kind.TheVariants.{Gerber, Drill, Empty, Neither}
+use Rattle.file_hints.specs.Contents.{field, function_of, has_line, kind_of, plated_line, unplated_line}
+use Rattle.file_hints.specs.Names.{bottom_ends, bottom_words, end_of, ends_in_copper, has_point, inner_ends, inner_words, is_among, last_word, names_unplated, number_of, numbered, numbered_other_ends, other_ends, other_words, plane_ends, stem_of, top_ends, top_words, words_of}
+use Rattle.file_hints.specs.declared.contents.Kind.{Kind}
+use Rattle.file_hints.specs.declared.contents.Kind.TheVariants.{Gerber, Drill, Empty, Neither}
 use Rattle.proposals.specs.declared.outcome.Place.{Place}
 use Rattle.proposals.specs.declared.outcome.Place.TheVariants.{Numbered, Unknown, Bottom}
 use Rattle.proposals.specs.declared.outcome.Layers.{Layers}

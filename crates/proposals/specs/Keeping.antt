@@ -2,8 +2,8 @@
 use Rattle.std.specs.Prelude.{ℕ, Bool, ◌||◌, ◌&&◌, not, List, unwrap_or, codes}
 use Rattle.std.specs.Option.{option_map}
 use Rattle.std.specs.Str.{bytes_eq}
-use Rattle.proposals.specs.Contents.{field, function_of}
-use Rattle.proposals.specs.Names.{end_of, ends_in_copper, has_point, is_among, last_word, other_words, stem_of, words_of}
+use Rattle.file_hints.specs.Contents.{field, function_of}
+use Rattle.file_hints.specs.Names.{end_of, ends_in_copper, has_point, is_among, last_word, other_words, stem_of, words_of}
 use Rattle.proposals.specs.Deciding.{is_drill_function, is_other_end}
 
 -- a file function of neither copper nor holes

@@ -1,6 +1,5 @@
-pub mod Contents
-pub mod Names
 pub mod Deciding
 pub mod Proposing
 pub mod Manifests
 pub mod Keeping
+pub mod ReadingBack

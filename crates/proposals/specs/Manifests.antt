@@ -1,11 +1,11 @@
 -- The manifest of proposals, and the table of why.
-use Rattle.std.specs.Prelude.{◌≡◌, ℕ, Bool, true, false, not, ◌&&◌, ◌==◌, nat_lt, decimal, List, [], ◌∷◌, ◌++◌, codes, Option, Some, None, if◌then◌else◌}
+use Rattle.std.specs.Prelude.{◌≡◌, ℕ, Bool, true, false, not, ◌&&◌, ◌||◌, ◌==◌, nat_lt, decimal, List, [], ◌∷◌, ◌++◌, length, codes, Option, Some, None, if◌then◌else◌}
 use Rattle.std.specs.List.{flat_map, filter, list_any, count_by}
 use Rattle.std.specs.List.Sorted.{IsPermutation, IsNonDecreasingBy, IsStableByKey}
 use Rattle.std.specs.Ordering.{nat_cmp}
 use Rattle.std.specs.Str.{bytes_eq}
 use Rattle.csv.specs.Writing.{default_writer, row_text}
-use Rattle.proposals.specs.Names.{short_name}
+use Rattle.file_hints.specs.Names.{short_name}
 use Rattle.proposals.specs.declared.outcome.Place.{Place}
 use Rattle.proposals.specs.declared.outcome.Place.TheVariants.{Numbered, Unknown, Bottom}
 use Rattle.proposals.specs.declared.outcome.Layers.{Layers}
@@ -111,9 +111,17 @@ pub record IsInOrder (files entries : List Proposal) : Type 0 where
 
 -- ---- the manifest
 
--- the name that reports print: behind the last slash, or all of it where another file shares that
+-- how many files have this name behind their last slash
+abbrev pub named_so : List Proposal → List ℕ → ℕ
+named_so entries name = count_by (λ q. bytes_eq (short_name q.file) name) entries
+
+-- nothing stands behind the last slash, or another file has the same there
+abbrev pub is_ambiguous : List Proposal → List ℕ → Bool
+is_ambiguous entries name = (length name == 0) || nat_lt 1 (named_so entries name)
+
+-- the name that reports print: what stands behind the last slash, or all of it where that is ambiguous
 abbrev pub label : List Proposal → Proposal → List ℕ
-label entries p = if nat_lt 1 (count_by (λ q. bytes_eq (short_name q.file) (short_name p.file)) entries) then p.file else short_name p.file
+label entries p = if is_ambiguous entries (short_name p.file) then p.file else short_name p.file
 
 -- the layers that a file names, if it names any
 abbrev pub span_in : Proposed → Option Layers

@@ -1,16 +1,15 @@
 //! What a file is, and why.
 
 ghost use Rattle.std.specs.Prelude.{◌≡◌, IfOk, map};
-ghost use Rattle.proposals.specs.Contents as contents_say;
+ghost use Rattle.file_hints.specs.Contents as contents_say;
 ghost use Rattle.proposals.specs.Deciding as says;
-ghost use Rattle.proposals.specs.Names as naming;
+ghost use Rattle.file_hints.specs.Names as naming;
 
-use crate::contents::{Kind, fields_of, function_of, has_line, kind_of};
-use crate::names::{
-    end_of, ends_in_copper, has_point, is_among, last_word, lower_name, names_unplated, number_of,
-    numbered, runs, stem_of,
-};
 use crate::outcome::{Because, Layers, Place, Proposed};
+use file_hints::{
+    Kind, end_of, ends_in_copper, fields_of, function_of, has_line, has_point, is_among, kind_of,
+    last_word, layer_number, lower_name, names_unplated, numbered, runs, stem_of,
+};
 use grid_units::Text;
 use std::alloc::{AllocError, Global};
 
@@ -22,8 +21,8 @@ fn layers_named(first: &[u8], last: &[u8]) -> Option<Layers>
     ensures { result ≡ says.layers_named (naming.number_of 9 first.now) (naming.number_of 9 last.now) }
 {
     Some(Layers {
-        first: number_of(9, first)?,
-        last: number_of(9, last)?,
+        first: layer_number(first)?,
+        last: layer_number(last)?,
     })
 }
 
@@ -110,7 +109,7 @@ fn stack_place(place: &[u8]) -> Place
     let Some(digits) = place.strip_prefix(b"L") else {
         return Place::Unknown;
     };
-    match number_of(9, digits) {
+    match layer_number(digits) {
         Some(n) => Place::Numbered(n),
         None => Place::Unknown,
     }

@@ -4,11 +4,9 @@
 //! user reads it. A file that may be copper or holes is never left out silently, but stands with the role `?`.
 #![tactic(auto)]
 
-mod contents;
 mod deciding;
 pub mod laws;
 mod manifests;
-mod names;
 mod order;
 mod outcome;
 mod proposing;

@@ -2,17 +2,16 @@
 
 ghost use Rattle.std.specs.Prelude.{◌≡◌, ◌++◌, ◌∷◌, [], ◌==◌, nat_lt, decimal, true, false, length, IfOk, map};
 ghost use Rattle.std.specs.List.{count_by, list_any};
-ghost use Rattle.std.specs.Str.{bytes_eq};
 ghost use Rattle.csv.specs.Writing.{default_writer, row_text};
-ghost use Rattle.proposals.specs.Names as naming;
+ghost use Rattle.file_hints.specs.Names as naming;
 ghost use Rattle.proposals.specs.Manifests as says;
 ghost use Rattle.proposals.specs.Manifests.{IsManifestOf};
 
-use crate::names::short_name;
 use crate::order::in_order;
 use crate::outcome::{Layers, Proposal, Proposed};
 use crate::reasons::role_word;
 use crate::table::Table;
+use file_hints::short_name;
 use itoa::Buffer;
 use std::alloc::{AllocError, Global};
 
@@ -68,7 +67,7 @@ fn short(file: &Proposal) -> &[u8]
 
 /// How many files have this name behind their last slash.
 fn named_so(entries: &[&Proposal], name: &[u8]) -> usize
-    ensures { result ≡ count_by (λ entry. bytes_eq (naming.short_name entry.file) name.now) (map (λ entry. entry.now) entries.now) }
+    ensures { result ≡ says.named_so (map (λ entry. entry.now) entries.now) name.now }
 {
     entries.iter().filter(|entry| short(entry) == name).count()
 }
@@ -78,7 +77,7 @@ fn label<'e>(entries: &[&Proposal], file: &'e Proposal) -> &'e [u8]
     ensures { result.now ≡ says.label (map (λ entry. entry.now) entries.now) file.now }
 {
     let name = short(file);
-    if named_so(entries, name) > 1 {
+    if name.is_empty() || named_so(entries, name) > 1 {
         file.file.as_str().as_bytes()
     } else {
         name

@@ -78,6 +78,12 @@ fn a_name_that_two_files_share_is_written_whole(rt: HostRuntime) {
 }
 
 #[test]
+fn a_name_with_nothing_behind_its_slash_is_written_whole(rt: HostRuntime) {
+    let text = "role,name,file\ncopper,a.gtl,b/a.gtl\n?,gerbers/,gerbers/\n";
+    assert!(rt; gives(rt, &[("gerbers/", LAYER), ("b/a.gtl", LAYER)], text));
+}
+
+#[test]
 fn names_are_read_word_by_word(rt: HostRuntime) {
     let files = [
         ("rtt_mask.group0.gbr", LAYER),

@@ -1,6 +1,6 @@
 use Rattle.std.proofs.Common.{◌≡◌, ◌∙◌, ap, map, List, ℕ, Bor}
 use Rattle.proposals.specs.Deciding.{gerber_by_words}
-use Rattle.proposals.specs.Names.{runs, words_of}
+use Rattle.file_hints.specs.Names.{runs, words_of}
 use Rattle.proposals.proofs.deciding.gerber_by_name.Goals as goal
 
 pub returns : goal.returns

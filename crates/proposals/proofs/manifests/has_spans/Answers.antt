@@ -4,7 +4,7 @@ use Rattle.std.proofs.lemmas.Iterator.{YieldsList-from_slice}
 use Rattle.std.proofs.lemmas.Iterator.Search.{any_from_yields_List}
 use Rattle.proposals.specs.declared.outcome.Proposal.{Proposal}
 use Rattle.proposals.specs.Manifests.{is_partial, span_in}
-use Rattle.proposals.proofs.Words.{any_map}
+use Rattle.file_hints.proofs.Words.{any_map}
 use Rattle.proposals.proofs.manifests.has_spans.Goals as goal
 
 pub returns : goal.returns

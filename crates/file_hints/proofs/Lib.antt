@@ -1,0 +1,4 @@
+pub mod Short
+pub mod Firsts
+pub mod Words
+pub mod Plain

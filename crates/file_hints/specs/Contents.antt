@@ -1,0 +1,81 @@
+-- What the text of a file says of itself: its kind, its file function and the plating that its lines name.
+use Rattle.std.specs.Prelude.{ℕ, zero, suc, ◌+◌, Bool, ◌||◌, ◌&&◌, ◌==◌, List, [], Option, is_some, length, take, drop, codes, if◌then◌else◌}
+use Rattle.std.specs.List.{list_all, list_any, slice_split, before_first, after_first}
+use Rattle.std.specs.Option.{option_map}
+use Rattle.std.specs.Str.{bytes_eq}
+use Rattle.memchr.specs.Find.{matches, rmatches, first_of}
+use Rattle.file_hints.specs.declared.contents.Kind.{Kind}
+use Rattle.file_hints.specs.declared.contents.Kind.TheVariants.{Gerber, Drill, Empty, Neither}
+
+-- ---- lines
+
+-- a space, a tab or CR
+abbrev pub is_blank : ℕ → Bool
+is_blank b = (b == 32) || ((b == 9) || (b == 13))
+
+-- the line is this word, with nothing but spaces, tabs and CR behind it
+abbrev pub is_line : List ℕ → List ℕ → Bool
+is_line word line = bytes_eq (take (length word) line) word && list_all is_blank (drop (length word) line)
+
+-- what stands before, between and behind the line feeds
+abbrev pub lines : List ℕ → List (List ℕ)
+lines text = slice_split (λ b. b == 10) text
+
+-- some line is this word
+abbrev pub has_line : List ℕ → List ℕ → Bool
+has_line word text = list_any (is_line word) (lines text)
+
+-- the line has no hole: it is empty, `M30` or `%`
+abbrev pub is_holeless : List ℕ → Bool
+is_holeless line = is_line [] line || (is_line (codes "M30") line || is_line (codes "%") line)
+
+-- ---- the kind of a file
+
+-- the bytes stand somewhere in the text
+abbrev pub contains : List ℕ → List ℕ → Bool
+contains text part = is_some (first_of (matches text part 0))
+
+-- one of the texts that stand in each Gerber file and in no drill file
+abbrev pub is_gerber : List ℕ → Bool
+is_gerber text = contains text (codes "%FS") || (contains text (codes "D02*") || (contains text (codes "D03*") || contains text (codes "M02*")))
+
+-- the kind of a file that ends a program and does not begin one
+abbrev pub kind_by_end : List ℕ → Kind
+kind_by_end text = if has_line (codes "M30") text then (if list_all is_holeless (lines text) then Empty else Drill) else Neither
+
+-- what kind of file a text is
+abbrev pub kind_of : List ℕ → Kind
+kind_of text = if is_gerber text then Gerber else (if has_line (codes "M48") text then Drill else kind_by_end text)
+
+-- ---- the file function
+
+-- what the fields of a file function stand behind
+abbrev pub function_mark : List ℕ
+function_mark = codes ".FileFunction,"
+
+-- an asterisk, a percent sign, CR or LF, which end a file function
+abbrev pub ends_function : ℕ → Bool
+ends_function b = (b == 42) || ((b == 37) || ((b == 13) || (b == 10)))
+
+-- the fields of a text's last file function, if it has one
+abbrev pub function_of : List ℕ → Option (List ℕ)
+function_of text = option_map (λ at. before_first ends_function (drop (at + 14) text)) (first_of (rmatches text function_mark (length text)))
+
+-- a comma
+abbrev pub is_comma : ℕ → Bool
+is_comma b = b == 44
+
+-- the field at a place, counted from 0, empty where there is none
+abbrev pub field : ℕ → List ℕ → List ℕ
+field zero function = before_first is_comma function
+field (suc k) function = field k (after_first is_comma function)
+
+-- ---- plating by a line
+
+-- the line that says that the holes are plated
+abbrev pub plated_line : List ℕ
+plated_line = codes ";TYPE=PLATED"
+
+-- the line that says that they are not
+abbrev pub unplated_line : List ℕ
+unplated_line = codes ";TYPE=NON_PLATED"

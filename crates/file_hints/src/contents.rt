@@ -1,0 +1,163 @@
+//! What the text of a file says of itself.
+
+ghost use Rattle.std.specs.Prelude.{◌≡◌, option_map};
+ghost use Rattle.std.specs.List.{after_first, before_first, list_all, list_any};
+ghost use Rattle.file_hints.specs.Contents as says;
+ghost use Rattle.file_hints.specs.Contents.{ends_function, is_comma, lines};
+
+use memchr::memmem;
+
+/// What kind of file a text is.
+#[derive(Clone, Copy, Debug, PartialEq, Eq)]
+pub enum Kind {
+    /// A Gerber file.
+    Gerber,
+    /// A drill file.
+    Drill,
+    /// A drill file without a hole.
+    Empty,
+    /// Neither.
+    Neither,
+}
+
+/// Whether a byte is a space, a tab or CR.
+fn is_blank(byte: u8) -> bool
+    ensures { result ≡ says.is_blank byte }
+{
+    byte == b' ' || byte == b'\t' || byte == b'\r'
+}
+
+/// Whether a line is this word, with nothing but spaces, tabs and CR behind it.
+fn is_line(word: &[u8], line: &[u8]) -> bool
+    ensures { result ≡ says.is_line word.now line.now }
+{
+    match line.strip_prefix(word) {
+        Some(behind) => behind.iter().all(|byte| is_blank(*byte)),
+        None => false,
+    }
+}
+
+/// Whether some line of a text is this word, with nothing but spaces, tabs and CR behind it.
+pub fn has_line(word: &[u8], text: &[u8]) -> bool
+    ensures { result ≡ says.has_line word.now text.now }
+{
+    text.split(|byte| *byte == b'\n')
+        .any(|line| is_line(word, line))
+}
+
+/// Whether a line of a drill file has no hole.
+fn is_holeless(line: &[u8]) -> bool
+    ensures { result ≡ says.is_holeless line.now }
+{
+    is_line(b"", line) || is_line(b"M30", line) || is_line(b"%", line)
+}
+
+fn has_no_holes(text: &[u8]) -> bool
+    ensures { result ≡ list_all says.is_holeless (lines text.now) }
+{
+    text.split(|byte| *byte == b'\n')
+        .all(|line| is_holeless(line))
+}
+
+/// Whether these bytes stand somewhere in a text.
+fn contains(text: &[u8], part: &[u8]) -> bool
+    ensures { result ≡ says.contains text.now part.now }
+{
+    memmem::find(text, part).is_some()
+}
+
+fn is_gerber(text: &[u8]) -> bool
+    ensures { result ≡ says.is_gerber text.now }
+{
+    contains(text, b"%FS")
+        || contains(text, b"D02*")
+        || contains(text, b"D03*")
+        || contains(text, b"M02*")
+}
+
+/// The kind of a text: Gerber where it has one of the texts `%FS`, `D02*`, `D03*` and `M02*`, drill where a line is `M48` or `M30`.
+pub fn kind_of(text: &[u8]) -> Kind
+    ensures { result ≡ says.kind_of text.now }
+{
+    if is_gerber(text) {
+        return Kind::Gerber;
+    }
+    if has_line(b"M48", text) {
+        return Kind::Drill;
+    }
+    if !has_line(b"M30", text) {
+        return Kind::Neither;
+    }
+    if has_no_holes(text) {
+        Kind::Empty
+    } else {
+        Kind::Drill
+    }
+}
+
+/// Whether a byte ends a file function.
+fn ends_function(byte: u8) -> bool
+    ensures { result ≡ says.ends_function byte }
+{
+    byte == b'*' || byte == b'%' || byte == b'\r' || byte == b'\n'
+}
+
+/// What stands before the first byte that ends a file function.
+fn before_end(text: &[u8]) -> &[u8]
+    ensures { result.now ≡ before_first ends_function text.now }
+{
+    for (i, byte) in text.iter().enumerate() {
+        if ends_function(*byte) {
+            return &text[..i];
+        }
+    }
+    text
+}
+
+/// The fields of a text's last file function: what stands behind the last `.FileFunction,` up to an asterisk, a percent sign, CR, LF
+/// or the end (Gerber Layer Format Specification 2024.05, section 5.6.3).
+pub fn function_of(text: &[u8]) -> Option<&[u8]>
+    ensures { option_map (λ fields. fields.now) result ≡ says.function_of text.now }
+{
+    match memmem::rfind(text, b".FileFunction,") {
+        Some(at) => Some(before_end(&text[at + 14..])),
+        None => None,
+    }
+}
+
+/// What stands before the first comma, and what stands behind it.
+fn at_comma(text: &[u8]) -> (&[u8], &[u8])
+    ensures before { result.0.now ≡ before_first is_comma text.now }
+    ensures behind { result.1.now ≡ after_first is_comma text.now }
+{
+    for (i, byte) in text.iter().enumerate() {
+        if *byte == b',' {
+            return (&text[..i], &text[i + 1..]);
+        }
+    }
+    (text, &[])
+}
+
+/// The first three fields of a file function, empty where there are fewer.
+#[derive(Clone, Copy, Debug)]
+pub struct Fields<'a> {
+    pub first: &'a [u8],
+    pub second: &'a [u8],
+    pub third: &'a [u8],
+}
+
+/// The fields of a file function.
+pub fn fields_of(function: &[u8]) -> Fields<'_>
+    ensures first { result.first.now ≡ says.field 0 function.now }
+    ensures second { result.second.now ≡ says.field 1 function.now }
+    ensures third { result.third.now ≡ says.field 2 function.now }
+{
+    let (first, behind) = at_comma(function);
+    let (second, behind) = at_comma(behind);
+    let (third, _) = at_comma(behind);
+    Fields {
+        first,
+        second,
+        third,
+    }
+}

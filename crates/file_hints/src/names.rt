@@ -1,0 +1,181 @@
+//! What the name of a file says.
+
+ghost use Rattle.std.specs.Prelude.{◌≡◌, ◌≤◌, IfOk, IfSome, map, option_map};
+ghost use Rattle.std.specs.List.{list_any};
+ghost use Rattle.grid_units.specs.Numbers as numbers;
+ghost use Rattle.file_hints.specs.Names as says;
+
+use grid_units::numbers::{capped_value, is_digit, is_digits};
+use memchr::memrchr;
+use std::alloc::{AllocError, Global};
+
+/// A name behind its last slash.
+pub fn short_name(name: &[u8]) -> &[u8]
+    ensures { result.now ≡ says.short_name name.now }
+{
+    match memrchr(b'/', name) {
+        Some(at) => &name[at + 1..],
+        None => name,
+    }
+}
+
+fn is_word_byte(byte: u8) -> bool
+    ensures { result ≡ says.is_word_byte byte }
+{
+    is_digit(byte) || (b'a' <= byte && byte <= b'z')
+}
+
+/// The runs of small letters and digits.
+///
+/// # Errors
+///
+/// An `AllocError` where there is no memory.
+pub fn runs(alloc: Global, name: &[u8]) -> Result<Vec<&[u8]>, AllocError>
+    ensures { IfOk result (λ words. map (λ word. word.now) words.items ≡ says.runs name.now) }
+{
+    name.split(|byte| !is_word_byte(*byte))
+        .filter(|run| !run.is_empty())
+        .collect(alloc)
+}
+
+/// Whether a point stands behind the last slash of a name.
+pub fn has_point(name: &[u8]) -> bool
+    ensures { result ≡ says.has_point name.now }
+{
+    short_name(name).iter().any(|byte| *byte == b'.')
+}
+
+/// The last of these words, empty where there is none.
+fn last<'a>(words: &[&'a [u8]]) -> &'a [u8]
+    ensures { result.now ≡ says.last_of (map (λ word. word.now) words.now) }
+{
+    match words.last() {
+        Some(word) => *word,
+        None => &[],
+    }
+}
+
+/// The end of a name: the last of its words where it has a point, else empty.
+pub fn end_of<'a>(point: bool, words: &[&'a [u8]]) -> &'a [u8]
+    ensures { result.now ≡ says.end_of point (map (λ word. word.now) words.now) }
+{
+    if point { last(words) } else { &[] }
+}
+
+/// The words of a name but its end.
+pub fn stem_of<'w, 'a>(point: bool, words: &'w [&'a [u8]]) -> &'w [&'a [u8]]
+    ensures { map (λ word. word.now) result.now ≡ says.stem_of point (map (λ word. word.now) words.now) }
+{
+    let ends = if point { 1 } else { 0 };
+    &words[..words.len().saturating_sub(ends)]
+}
+
+/// Whether a word is one of these.
+pub fn is_among(word: &[u8], these: &[&str]) -> bool
+    ensures { result ≡ says.is_among word.now (map (λ one. one.now) these.now) }
+{
+    these.iter().any(|one| one.as_bytes() == word)
+}
+
+/// The number that one to so many digits spell, at most nine.
+fn number_of(most: usize, text: &[u8]) -> Option<u32>
+    requires { most ≤ 9 }
+    ensures { result ≡ says.number_of most text.now }
+{
+    if !is_digits(text) || text.len() > most {
+        return None;
+    }
+    Some(capped_value(text, 999_999_999) as u32)
+}
+
+/// The number that one to nine digits spell.
+pub fn layer_number(text: &[u8]) -> Option<u32>
+    ensures { result ≡ says.number_of 9 text.now }
+{
+    number_of(9, text)
+}
+
+/// A word before its first digit, and from it on.
+fn at_digit(word: &[u8]) -> (&[u8], &[u8])
+    ensures letters { result.0.now ≡ says.letters_of word.now }
+    ensures digits { result.1.now ≡ says.digits_of word.now }
+{
+    for (i, byte) in word.iter().enumerate() {
+        if is_digit(*byte) {
+            return word.split_at(i);
+        }
+    }
+    (word, &[])
+}
+
+/// The number of a word that is one of these and one or two digits.
+pub fn numbered(these: &[&str], word: &[u8]) -> Option<u32>
+    ensures { result ≡ says.numbered (map (λ one. one.now) these.now) word.now }
+{
+    let (letters, digits) = at_digit(word);
+    if is_among(letters, these) {
+        number_of(2, digits)
+    } else {
+        None
+    }
+}
+
+/// Whether a word says that a layer is of copper.
+fn is_copper_word(word: &[u8]) -> bool
+    ensures { result ≡ says.is_copper_word word.now }
+{
+    is_among(word, &["cu", "copper", "layer"])
+}
+
+/// Whether a stem ends in a word for copper.
+pub fn ends_in_copper(stem: &[&[u8]]) -> bool
+    ensures { result ≡ says.ends_in_copper (map (λ word. word.now) stem.now) }
+{
+    is_copper_word(last(stem))
+}
+
+/// The last word of a stem that is no word for copper, empty where there is none.
+pub fn last_word<'a>(stem: &[&'a [u8]]) -> &'a [u8]
+    ensures { result.now ≡ says.last_word (map (λ word. word.now) stem.now) }
+{
+    match stem.iter().rev().find(|word| !is_copper_word(word)) {
+        Some(word) => *word,
+        None => &[],
+    }
+}
+
+/// Whether `non` stands right before `plated`.
+fn has_non_plated(words: &[&[u8]]) -> bool
+    ensures { result ≡ says.has_non_plated (map (λ word. word.now) words.now) }
+{
+    match words {
+        [word, next, ..] => (*word == b"non".as_slice() && *next == b"plated".as_slice())
+            || has_non_plated(&words[1..]),
+        _ => false,
+    }
+}
+
+/// Whether one of these words says that holes are not plated.
+fn has_unplated_word(words: &[&[u8]]) -> bool
+    ensures { result ≡ list_any (λ word. says.is_among word says.unplated_words) (map (λ word. word.now) words.now) }
+{
+    words.iter().any(|word| is_among(word, &["npth", "unplated", "nonplated", "nplt"]))
+}
+
+/// Whether words say that holes are not plated.
+pub fn names_unplated(words: &[&[u8]]) -> bool
+    ensures { result ≡ says.names_unplated (map (λ word. word.now) words.now) }
+{
+    has_unplated_word(words) || has_non_plated(words)
+}
+
+/// What stands behind the last slash of a name, in lower case, so that its runs are the words of the name.
+///
+/// # Errors
+///
+/// An `AllocError` where there is no memory.
+pub fn lower_name(alloc: Global, name: &[u8]) -> Result<Vec<u8>, AllocError>
+    ensures { IfOk result (λ lower. says.runs lower.items ≡ says.words_of name.now) }
+{
+    short_name(name).to_ascii_lowercase(alloc)
+}

@@ -1,0 +1,98 @@
+-- The names of a manifest differ where those of the files do, and may stand in it where those may.
+use Rattle.std.proofs.Common.{◌≡◌, ◌∙◌, ◌<◌, ◌≤◌, ◌&&◌, ◌||◌, ◌==◌, ℕ, Bool, true, false, not, List, ◌∷◌, ◌++◌, length, arith, refl, sym, ap, subst}
+use Rattle.std.specs.Prelude.{nat_lt, if◌then◌else◌}
+use Rattle.std.specs.List.{list_any, count_by}
+use Rattle.std.specs.Str.{bytes_eq, is_utf8}
+use Rattle.std.proofs.lemmas.Bool.{false≢true, lt-ltb}
+use Rattle.std.proofs.lemmas.Slice.Eq.{bytes_eq-Decides}
+use Rattle.file_hints.specs.Names.{short_name}
+use Rattle.file_hints.proofs.Plain.{short_is_text, short_none_passes, short_of_short}
+use Rattle.manifest.specs.Manifest.{is_control, is_plain_text}
+use Rattle.proposals.specs.declared.outcome.Proposal.{Proposal}
+use Rattle.proposals.specs.Manifests.{is_ambiguous, label, named_so}
+use Rattle.proposals.specs.ReadingBack.{may_stand}
+use Rattle.proposals.proofs.Counts.{both, count_two, found}
+
+-- the file has this name
+abbrev pub has_name : List ℕ → Proposal → Bool
+has_name name p = bytes_eq p.file name
+
+-- each name stands at most once
+abbrev pub IsOnce : List Proposal → Type 0
+IsOnce entries = (name : List ℕ) → count_by (has_name name) entries ≤ 1
+
+same : (a b : List ℕ) → bytes_eq a b ≡ true → a ≡ b
+same a b e = (bytes_eq-Decides a b).0 e
+
+equal : (a b : List ℕ) → a ≡ b → bytes_eq a b ≡ true
+equal a b e = (bytes_eq-Decides a b).1 e
+
+second : (a b : Bool) → b ≡ true → (a || b) ≡ true
+second true b e = refl
+second false b e = e
+
+module _ (entries before : List Proposal) (p : Proposal) (after : List Proposal) (split : entries ≡ before ++ p ∷ after) (once : IsOnce entries) where
+  two : (t : Proposal → Bool) → list_any t before ≡ true → t p ≡ true → 1 < count_by t entries
+  two t h k = subst (λ (es : List Proposal). 1 < count_by t es) (sym split) (count_two t before p after h k)
+
+  -- what two files have behind the last slash is ambiguous
+  twice : (name : List ℕ) → list_any (λ q. bytes_eq (short_name q.file) name) before ≡ true → bytes_eq (short_name p.file) name ≡ true → is_ambiguous entries name ≡ true
+  twice name h k = second (length name == 0) (nat_lt 1 (named_so entries name)) (lt-ltb 1 (named_so entries name) (two (λ q. bytes_eq (short_name q.file) name) h k))
+
+  clash : (q : Proposal) → ((t : Proposal → Bool) → t q ≡ true → list_any t before ≡ true) → (a b : Bool) → is_ambiguous entries (short_name q.file) ≡ a → is_ambiguous entries (short_name p.file) ≡ b
+      → (if a then q.file else short_name q.file) ≡ (if b then p.file else short_name p.file) → ⊥
+  clash q meets true true ea eb e =
+      let many : 1 < count_by (has_name p.file) entries = two (has_name p.file) (meets (has_name p.file) (equal q.file p.file e)) (equal p.file p.file refl) in
+      let few = once p.file in
+      omega (arith, few, many)
+  clash q meets false false ea eb e =
+      let t = λ (r : Proposal). bytes_eq (short_name r.file) (short_name p.file) in
+      false≢true (sym eb ∙ twice (short_name p.file) (meets t (equal (short_name q.file) (short_name p.file) e)) (equal (short_name p.file) (short_name p.file) refl))
+  clash q meets true false ea eb e =
+      let t = λ (r : Proposal). bytes_eq (short_name r.file) (short_name p.file) in
+      let is : short_name q.file ≡ short_name p.file = ap short_name e ∙ short_of_short p.file in
+      false≢true (sym eb ∙ twice (short_name p.file) (meets t (equal (short_name q.file) (short_name p.file) is)) (equal (short_name p.file) (short_name p.file) refl))
+  clash q meets false true ea eb e =
+      let t = λ (r : Proposal). bytes_eq (short_name r.file) (short_name q.file) in
+      let is : short_name p.file ≡ short_name q.file = ap short_name (sym e) ∙ short_of_short q.file in
+      false≢true (sym ea ∙ twice (short_name q.file) (meets t (equal (short_name q.file) (short_name q.file) refl)) (equal (short_name p.file) (short_name q.file) is))
+
+  -- no file before has the name
+  pub not_repeated : list_any (λ q. bytes_eq (label entries q) (label entries p)) before ≡ false
+  not_repeated = by (list_any (λ q. bytes_eq (label entries q) (label entries p)) before) refl
+    where
+      by : (b : Bool) → list_any (λ q. bytes_eq (label entries q) (label entries p)) before ≡ b → b ≡ false
+      by false e = refl
+      by true e =
+          let r = found (λ (q : Proposal). bytes_eq (label entries q) (label entries p)) before e in
+          absurd (clash r.0 r.2 (is_ambiguous entries (short_name r.0.file)) (is_ambiguous entries (short_name p.file)) refl refl (same (label entries r.0) (label entries p) r.1))
+
+-- ---- names that may stand
+
+not_both : (a b : Bool) → (a || b) ≡ false → a ≡ false
+not_both true b e = absurd (false≢true (sym e))
+not_both false b e = refl
+
+and_true : (a b : Bool) → a ≡ true → b ≡ true → (a && b) ≡ true
+and_true a b h k = λ i. (h i && k i)
+
+none : (b : Bool) → not b ≡ true → b ≡ false
+none true e = absurd (false≢true e)
+none false e = refl
+
+plain_short : (name : List ℕ) → is_plain_text name ≡ true → is_plain_text (short_name name) ≡ true
+plain_short name h =
+    let k = both (is_utf8 name) (not (list_any is_control name)) h in
+    and_true (is_utf8 (short_name name)) (not (list_any is_control (short_name name))) (short_is_text name k.0)
+    (ap not (short_none_passes is_control name (none (list_any is_control name) k.1)))
+
+-- the name of a file that may stand may stand too
+pub label_stands : (entries : List Proposal) (p : Proposal) → may_stand p.file ≡ true → may_stand (label entries p) ≡ true
+label_stands entries p h = by (is_ambiguous entries (short_name p.file)) refl
+  where
+    by : (b : Bool) → is_ambiguous entries (short_name p.file) ≡ b → may_stand (if b then p.file else short_name p.file) ≡ true
+    by true e = h
+    by false e =
+        let k = both (is_plain_text p.file) (not (length p.file == 0)) h in
+        and_true (is_plain_text (short_name p.file)) (not (length (short_name p.file) == 0)) (plain_short p.file k.0)
+        (ap not (not_both (length (short_name p.file) == 0) (nat_lt 1 (named_so entries (short_name p.file))) e))

@@ -1,0 +1,56 @@
+-- What the manifest of proposals that are all decided reads back as.
+use Rattle.std.specs.Prelude.{◌≡◌, ℕ, Bool, true, false, not, ◌&&◌, ◌==◌, nat_le, List, length, Option, Some, None, if◌then◌else◌}
+use Rattle.std.specs.List.{list_all, list_any, count_by}
+use Rattle.grid_units.specs.Spans.{LayerSpan}
+use Rattle.manifest.specs.Manifest.{is_plain_text}
+use Rattle.manifest.specs.declared.Entry.{Entry}
+use Rattle.manifest.specs.declared.Role.{Role}
+use Rattle.manifest.specs.declared.Role.TheVariants as roles
+use Rattle.proposals.specs.declared.outcome.Layers.{Layers}
+use Rattle.proposals.specs.declared.outcome.Proposed.{Proposed}
+use Rattle.proposals.specs.declared.outcome.Proposed.TheVariants.{Copper, Plated, Unplated, Undecided, LeftOut}
+use Rattle.proposals.specs.declared.outcome.Proposal.{Proposal}
+use Rattle.proposals.specs.Manifests.{has_spans, is_copper, label, span_in}
+
+-- the role of a manifest that is proposed; of what is undecided or left out it is not asked for
+abbrev pub role_of : Proposed → Role
+role_of (Copper place) = roles.Copper
+role_of (Plated span) = roles.Plated
+role_of (Unplated span) = roles.Unplated
+role_of Undecided = roles.Unplated
+role_of LeftOut = roles.Unplated
+
+-- the layers as a span
+abbrev pub as_span : Option Layers → Option LayerSpan
+as_span None = None
+as_span (Some layers) = Some (record { first = layers.first; last = layers.last })
+
+-- the file of a manifest that a proposal stands for among others: it names its layers where the manifest has version 2
+abbrev pub entry_in : List Proposal → Proposal → Entry
+entry_in entries p = record { role = role_of p.role; name = label entries p; file = p.file; span = if has_spans entries then as_span (span_in p.role) else None }
+
+-- a copper layer, or a drill file of which the plating is known
+abbrev pub is_decided : Proposed → Bool
+is_decided (Copper place) = true
+is_decided (Plated span) = true
+is_decided (Unplated span) = true
+is_decided Undecided = false
+is_decided LeftOut = false
+
+-- a name that may stand in a manifest: some text without control bytes
+abbrev pub may_stand : List ℕ → Bool
+may_stand name = is_plain_text name && not (length name == 0)
+
+-- the layers are a first one, from 1, and a last one, among so many
+abbrev pub are_among : ℕ → Option Layers → Bool
+are_among count None = true
+are_among count (Some layers) = nat_le 1 layers.first && (nat_le layers.first layers.last && nat_le layers.last count)
+
+-- nothing is left to decide: no role is, some file is copper and some is not, each name may stand, and each file goes through
+-- layers that the package has
+pub record AreDecided (entries : List Proposal) : Type 0 where
+  pub roles : list_all (λ p. is_decided p.role) entries ≡ true
+  pub copper : list_any is_copper entries ≡ true
+  pub drill : list_any (λ p. not (is_copper p)) entries ≡ true
+  pub names : list_all (λ p. may_stand p.file) entries ≡ true
+  pub layers : list_all (λ p. are_among (count_by is_copper entries) (span_in p.role)) entries ≡ true
