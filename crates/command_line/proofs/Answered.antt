@@ -3,10 +3,10 @@ use Rattle.std.proofs.Common.{◌≡◌, ◌∙◌, ◌⊎◌, inl, inr, ap, sym
 use Rattle.clap.specs.Words.{App, Row, Text, fault_of, subcommand_of}
 use Rattle.clap.specs.Kinds.{IsAmong}
 use Rattle.clap.specs.declared.error.kind.ErrorKind.{ErrorKind}
-use Rattle.clap.specs.declared.error.kind.ErrorKind.TheVariants.{DisplayHelp, OutOfMemory}
+use Rattle.clap.specs.declared.error.kind.ErrorKind.TheVariants.{DisplayHelp, DisplayVersion, OutOfMemory}
 use Rattle.command_line.specs.declared.Request.{Request}
 use Rattle.command_line.specs.declared.Refusal.{Refusal}
-use Rattle.command_line.specs.declared.Refusal.TheVariants.{Help, Usage, Memory}
+use Rattle.command_line.specs.declared.Refusal.TheVariants.{Help, Version, Usage, Memory}
 use Rattle.command_line.specs.Line.{AnswersLine, AsksFor, ringcheck_app}
 use Rattle.command_line.specs.Steps.{IsRefusalFor}
 
@@ -20,5 +20,7 @@ pub refused : (a : App) (words : List Text) (kind : ErrorKind) (r : Refusal) →
 refused a words kind Memory e has is memory = tt
 refused a words kind (Help text) e (inl none) is memory = let h = memory none in cc
 refused a words kind (Help text) e (inr among) is memory = subst (λ b. IsAmong DisplayHelp (fault_of b words)) e (subst (λ k. IsAmong k (fault_of a words)) is among)
+refused a words kind Version e (inl none) is memory = let h = memory none in cc
+refused a words kind Version e (inr among) is memory = subst (λ b. IsAmong DisplayVersion (fault_of b words)) e (subst (λ k. IsAmong k (fault_of a words)) is among)
 refused a words kind (Usage text) e (inl none) is memory = let h = memory none in cc
-refused a words kind (Usage text) e (inr among) is memory = (kind, subst (λ b. IsAmong kind (fault_of b words)) e among, is)
+refused a words kind (Usage text) e (inr among) is memory = (kind, subst (λ b. IsAmong kind (fault_of b words)) e among, is.0, is.1)

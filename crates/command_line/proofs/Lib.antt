@@ -4,3 +4,5 @@ pub mod Words
 pub mod Files
 pub mod RewriteWords
 pub mod ShowWords
+pub mod ManifestWords
+pub mod OtherWords

@@ -1,14 +1,16 @@
 -- The program's command line, in the words of `clap`.
-use Rattle.std.specs.Prelude.{◌≡◌, ◌≢◌, ◌==◌, Bool, true, false, not, List, [], ◌∷◌, codes, Some, None, Option, Result, Ok, Err}
-use Rattle.clap.specs.Words.{App, Row, Rule, Text, fault_of, first_of, new_app, new_rule, subcommand_of, with_rule, with_subcommand}
+use Rattle.std.specs.Prelude.{◌≡◌, ◌≢◌, ◌==◌, ◌&&◌, Bool, true, false, not, List, [], ◌∷◌, length, map, codes, Some, None, Option, option_map, Result, Ok, Err, if◌then◌else◌}
+use Rattle.std.specs.List.{list_all}
+use Rattle.clap.specs.Lexer.{usize_max}
+use Rattle.clap.specs.Words.{App, Row, Rule, Text, all_of, fault_of, first_of, new_app, new_rule, one_of, subcommand_of, with_rule, with_subcommand}
 use Rattle.clap.specs.Kinds.{IsAmong}
-use Rattle.clap.specs.declared.builder.action.ArgAction.TheVariants.{Set}
+use Rattle.clap.specs.declared.builder.action.ArgAction.TheVariants.{Append, Set, SetTrue}
 use Rattle.clap.specs.declared.error.kind.ErrorKind.{ErrorKind}
-use Rattle.clap.specs.declared.error.kind.ErrorKind.TheVariants.{DisplayHelp}
+use Rattle.clap.specs.declared.error.kind.ErrorKind.TheVariants.{DisplayHelp, DisplayVersion}
 use Rattle.command_line.specs.declared.Request.{Request}
-use Rattle.command_line.specs.declared.Request.TheVariants.{Check, Show, Rewrite}
+use Rattle.command_line.specs.declared.Request.TheVariants.{Check, Show, Rewrite, Manifest, Explain}
 use Rattle.command_line.specs.declared.Refusal.{Refusal}
-use Rattle.command_line.specs.declared.Refusal.TheVariants.{Help, Usage, Memory}
+use Rattle.command_line.specs.declared.Refusal.TheVariants.{Help, Version, Usage, Memory}
 
 -- ---- the commands
 
@@ -20,6 +22,18 @@ positional id = record (new_rule id) { required = true; action = Some Set; value
 abbrev pub option : Text → Rule
 option id = record (positional id) { long = Some id }
 
+-- a word with a place that need not be there (docs/FORMATS.md, The program)
+abbrev pub maybe : Text → Rule
+maybe id = record (new_rule id) { action = Some Set; value_names = 1 }
+
+-- one required word or more with a place (docs/FORMATS.md, The program)
+abbrev pub several : Text → Rule
+several id = record (new_rule id) { required = true; action = Some Append; range = Some (record { start_inclusive = 1; end_inclusive = usize_max }); value_names = 1 }
+
+-- an option without a value (docs/FORMATS.md, The program)
+abbrev pub switch : Text → Rule
+switch id = record (new_rule id) { long = Some id; action = Some SetTrue }
+
 -- `check --ring MM --gap MM MANIFEST` (docs/FORMATS.md, The program)
 abbrev pub check_app : App
 check_app = with_rule (with_rule (with_rule (new_app (codes "check")) (option (codes "ring"))) (option (codes "gap"))) (positional (codes "manifest"))
@@ -28,15 +42,31 @@ check_app = with_rule (with_rule (with_rule (new_app (codes "check")) (option (c
 abbrev pub file_app : Text → App
 file_app name = with_rule (with_rule (new_app name) (option (codes "kind"))) (positional (codes "file"))
 
--- a program whose words come without its name, and begin with a command (docs/FORMATS.md, The program)
-abbrev pub program_app : App
-program_app = let bare = new_app (codes "ringcheck") in record bare { top = record bare.top { no_binary_name = true; subcommand_required = true } }
+-- `manifest [--why] FILE..` (docs/FORMATS.md, The program)
+abbrev pub manifest_app : App
+manifest_app = with_rule (with_rule (new_app (codes "manifest")) (switch (codes "why"))) (several (codes "file"))
 
--- the program with its three commands (docs/FORMATS.md, The program)
+-- `explain [WORD]` (docs/FORMATS.md, The program)
+abbrev pub explain_app : App
+explain_app = with_rule (new_app (codes "explain")) (maybe (codes "word"))
+
+-- a program with a version, whose words come without its name, and begin with a command (docs/FORMATS.md, The program)
+abbrev pub program_app : App
+program_app = let bare = new_app (codes "ringcheck") in record bare { top = record bare.top { no_binary_name = true; subcommand_required = true; has_version = true } }
+
+-- the program with its commands (docs/FORMATS.md, The program)
 abbrev pub ringcheck_app : App
-ringcheck_app = with_subcommand (with_subcommand (with_subcommand program_app check_app.top) (file_app (codes "show")).top) (file_app (codes "rewrite")).top
+ringcheck_app =
+    with_subcommand (with_subcommand (with_subcommand (with_subcommand (with_subcommand program_app check_app.top) manifest_app.top) explain_app.top) (file_app (codes "show")).top)
+    (file_app (codes "rewrite")).top
 
 -- ---- what any words ask for
+
+-- what an option without a value says, as far as `clap` reads it so (docs/FORMATS.md, The program)
+pub record Switched (text : Option Text) (on : Bool) : Type 0 where
+  pub yes : text ≡ Some (codes "true") → on ≡ true
+  pub no : text ≡ Some (codes "false") → on ≡ false
+  pub none : text ≡ None → on ≡ false
 
 -- the request is that of a command, with the values that `clap` gives its options and its file (docs/FORMATS.md, The program)
 abbrev pub AsksFor : Option (Text × List Row) → Request → Type 0
@@ -46,13 +76,17 @@ AsksFor (Some (name, rows)) (Check ring gap manifest) =
 AsksFor (Some (name, rows)) (Show kind file) = (name ≡ codes "show") × (first_of (codes "kind") rows ≡ Some kind.now) × (first_of (codes "file") rows ≡ Some file.now)
 AsksFor (Some (name, rows)) (Rewrite kind file) =
     (name ≡ codes "rewrite") × (first_of (codes "kind") rows ≡ Some kind.now) × (first_of (codes "file") rows ≡ Some file.now)
+AsksFor (Some (name, rows)) (Manifest why files) =
+    (name ≡ codes "manifest") × Switched (one_of (codes "why") rows) why × (all_of (codes "file") rows ≡ Some (map (λ file. file.now) files.items))
+AsksFor (Some (name, rows)) (Explain word) = (name ≡ codes "explain") × (first_of (codes "word") rows ≡ option_map (λ w. w.now) word)
 
 -- The answer to the words of a line, want of memory aside: a request just where `clap` finds no fault in them, and else help
--- where that is what it finds asked for (docs/FORMATS.md, The program).
+-- or the version where that is what it finds asked for (docs/FORMATS.md, The program).
 abbrev pub AnswersLine : List Text → Result Request Refusal → Type 0
 AnswersLine words (Ok asked) = (fault_of ringcheck_app words ≡ []) × AsksFor (subcommand_of ringcheck_app words) asked
 AnswersLine words (Err (Help text)) = IsAmong DisplayHelp (fault_of ringcheck_app words)
-AnswersLine words (Err (Usage text)) = (kind : ErrorKind) × IsAmong kind (fault_of ringcheck_app words) × (kind ≢ DisplayHelp)
+AnswersLine words (Err Version) = IsAmong DisplayVersion (fault_of ringcheck_app words)
+AnswersLine words (Err (Usage text)) = (kind : ErrorKind) × IsAmong kind (fault_of ringcheck_app words) × (kind ≢ DisplayHelp) × (kind ≢ DisplayVersion)
 AnswersLine words (Err Memory) = Unit {0}
 
 -- ---- what the words of a check ask for
@@ -71,12 +105,15 @@ abbrev pub IsCheck : Text → Text → Text → Request → Type 0
 IsCheck r g m (Check ring gap manifest) = (ring.now ≡ r) × (gap.now ≡ g) × (manifest.now ≡ m)
 IsCheck r g m (Show kind file) = ⊥
 IsCheck r g m (Rewrite kind file) = ⊥
+IsCheck r g m (Manifest why files) = ⊥
+IsCheck r g m (Explain word) = ⊥
 
 -- the answer is a check with these words, want of memory aside (docs/FORMATS.md, The program)
 abbrev pub AnswersCheck : Text → Text → Text → Result Request Refusal → Type 0
 AnswersCheck r g m (Ok asked) = IsCheck r g m asked
 AnswersCheck r g m (Err Memory) = Unit {0}
 AnswersCheck r g m (Err (Help text)) = ⊥
+AnswersCheck r g m (Err Version) = ⊥
 AnswersCheck r g m (Err (Usage text)) = ⊥
 
 -- ---- what the words of a command on one file ask for
@@ -90,16 +127,60 @@ abbrev pub IsShow : Text → Text → Request → Type 0
 IsShow k f (Check ring gap manifest) = ⊥
 IsShow k f (Show kind file) = (kind.now ≡ k) × (file.now ≡ f)
 IsShow k f (Rewrite kind file) = ⊥
+IsShow k f (Manifest why files) = ⊥
+IsShow k f (Explain word) = ⊥
 
 -- the request is to rewrite a file of this kind (docs/FORMATS.md, The program)
 abbrev pub IsRewrite : Text → Text → Request → Type 0
 IsRewrite k f (Check ring gap manifest) = ⊥
 IsRewrite k f (Show kind file) = ⊥
 IsRewrite k f (Rewrite kind file) = (kind.now ≡ k) × (file.now ≡ f)
+IsRewrite k f (Manifest why files) = ⊥
+IsRewrite k f (Explain word) = ⊥
 
 -- the answer is such a request, want of memory aside (docs/FORMATS.md, The program)
 abbrev pub AnswersAs : (Request → Type 0) → Result Request Refusal → Type 0
 AnswersAs IsAsked (Ok asked) = IsAsked asked
 AnswersAs IsAsked (Err Memory) = Unit {0}
 AnswersAs IsAsked (Err (Help text)) = ⊥
+AnswersAs IsAsked (Err Version) = ⊥
 AnswersAs IsAsked (Err (Usage text)) = ⊥
+
+-- ---- what the words of the other commands ask for
+
+-- one plain word or more (docs/FORMATS.md, The program)
+abbrev pub are_plain_words : List Text → Bool
+are_plain_words words = not (length words == 0) && list_all is_plain_word words
+
+-- the words of `manifest`, with the table of why or without (docs/FORMATS.md, The program)
+abbrev pub manifest_words : Bool → List Text → List Text
+manifest_words why files = codes "manifest" ∷ (if why then codes "--why" ∷ files else files)
+
+-- the request is for a manifest of these files, or for the table of why (docs/FORMATS.md, The program)
+abbrev pub IsManifest : Bool → List Text → Request → Type 0
+IsManifest w fs (Check ring gap manifest) = ⊥
+IsManifest w fs (Show kind file) = ⊥
+IsManifest w fs (Rewrite kind file) = ⊥
+IsManifest w fs (Manifest why files) = (why ≡ w) × (map (λ file. file.now) files.items ≡ fs)
+IsManifest w fs (Explain word) = ⊥
+
+-- the words of `explain`, with a word to explain or without (docs/FORMATS.md, The program)
+abbrev pub explain_words : Option Text → List Text
+explain_words None = codes "explain" ∷ []
+explain_words (Some word) = codes "explain" ∷ word ∷ []
+
+-- the request is to explain this word, or to list all (docs/FORMATS.md, The program)
+abbrev pub IsExplain : Option Text → Request → Type 0
+IsExplain o (Check ring gap manifest) = ⊥
+IsExplain o (Show kind file) = ⊥
+IsExplain o (Rewrite kind file) = ⊥
+IsExplain o (Manifest why files) = ⊥
+IsExplain o (Explain word) = option_map (λ w. w.now) word ≡ o
+
+-- the answer is the version, want of memory aside (docs/FORMATS.md, The program)
+abbrev pub AnswersVersion : Result Request Refusal → Type 0
+AnswersVersion (Ok asked) = ⊥
+AnswersVersion (Err Memory) = Unit {0}
+AnswersVersion (Err (Help text)) = ⊥
+AnswersVersion (Err Version) = Unit {0}
+AnswersVersion (Err (Usage text)) = ⊥

@@ -2,10 +2,10 @@
 use Rattle.std.specs.Prelude.{◌≡◌, ◌≢◌, List, codes, Some, None, Option}
 use Rattle.clap.specs.Words.{Row, Text, first_of}
 use Rattle.clap.specs.declared.error.kind.ErrorKind.{ErrorKind}
-use Rattle.clap.specs.declared.error.kind.ErrorKind.TheVariants.{DisplayHelp}
+use Rattle.clap.specs.declared.error.kind.ErrorKind.TheVariants.{DisplayHelp, DisplayVersion}
 use Rattle.command_line.specs.declared.Request.{Request}
 use Rattle.command_line.specs.declared.Refusal.{Refusal}
-use Rattle.command_line.specs.declared.Refusal.TheVariants.{Help, Usage, Memory}
+use Rattle.command_line.specs.declared.Refusal.TheVariants.{Help, Version, Usage, Memory}
 use Rattle.command_line.specs.Line.{IsCheck}
 
 -- the values of a check (docs/FORMATS.md, The program)
@@ -20,5 +20,6 @@ IsCheckIfSome r g m (Some asked) = IsCheck r g m asked
 -- the refusal for a kind of error, want of memory aside (docs/FORMATS.md, The program)
 abbrev pub IsRefusalFor : ErrorKind → Refusal → Type 0
 IsRefusalFor kind (Help text) = kind ≡ DisplayHelp
-IsRefusalFor kind (Usage text) = kind ≢ DisplayHelp
+IsRefusalFor kind Version = kind ≡ DisplayVersion
+IsRefusalFor kind (Usage text) = (kind ≢ DisplayHelp) × (kind ≢ DisplayVersion)
 IsRefusalFor kind Memory = Unit {0}

@@ -1,40 +1,63 @@
 //! The commands of the program, with their help.
 
-ghost use Rattle.std.specs.Prelude.{◌≡◌, IfOk, false};
+ghost use Rattle.std.specs.Prelude.{◌≡◌, IfOk, codes, false};
 ghost use Rattle.clap.specs.Words.{app_of, new_app, rule_of};
-ghost use Rattle.command_line.specs.Line.{check_app, file_app, option, positional, ringcheck_app};
+ghost use Rattle.command_line.specs.Line.{check_app, explain_app, file_app, manifest_app, maybe, option, positional, ringcheck_app, several, switch};
 
 use clap::{Arg, ArgAction, Command};
 use std::alloc::{AllocError, Global};
 
+/// The version of the program, as the file `VERSION` has it.
+pub const VERSION: &str = "0.1.0";
+
+/// What is printed of the version.
+pub const VERSION_LINE: &str = "ringcheck 0.1.0\n";
+
 const STATUSES: &str =
-    "Status: 0 no finding, or done; 1 findings; 2 a file or the manifest is refused; 3 wrong words; \
-4 a file cannot be read, or memory ran out.";
+    "Status: 0 no finding, or done; 1 findings; 2 a file is refused; 3 wrong words;
+4 a file cannot be read, or memory ran out.
+Begin:  ringcheck manifest gerbers/* > board.csv
+        ringcheck check --ring 0.125 --gap 0.25 board.csv";
+
+const CHECK: &str = "A manifest is a CSV file with the first record role,name,file and one for each
+file; a role is copper, plated or unplated. With role,name,file,first,last a
+drill file may name the first and the last layer that it goes through. File
+names are taken from the working directory.
+Example:  ringcheck check --ring 0.125 --gap 0.25 board.csv";
+
+const MANIFEST: &str = "What a file is, is taken from its text, its file function and its name: read
+the manifest before you use it. A file that may be copper or holes, and of
+which nothing says which, has the role ?, which a check refuses.
+Example:  ringcheck manifest gerbers/* > board.csv";
+
+const EXPLAIN: &str = "Example:  ringcheck explain Routed";
+
+const SHOW: &str = "Example:  ringcheck show --kind drill pth.drl";
+
+const REWRITE: &str = "Example:  ringcheck rewrite --kind layer top.gbr";
 
 /// The program, whose words come without its name and begin with a command.
 pub(crate) fn ringcheck<'a>(alloc: Global) -> Result<Command<'a>, AllocError>
     ensures { IfOk result (λ c. app_of c ≡ ringcheck_app) }
 {
     let check = check(alloc)?;
-    let show = of_file(
-        alloc,
-        "show",
-        "Print the table of a layer's flashes or of a drill file's holes, as CSV",
-    )?;
-    let rewrite = of_file(
-        alloc,
-        "rewrite",
-        "Print the canonical text of a layer or a drill file",
-    )?;
+    let manifest = manifest(alloc)?;
+    let explain = explain(alloc)?;
+    let show = show(alloc)?;
+    let rewrite = rewrite(alloc)?;
     let bare = described(
         alloc,
         "ringcheck",
-        "Check the copper rings and the gaps of drilled holes, exactly",
+        "Check copper rings and drill gaps of a board's Gerber and drill files, exactly",
+        "ringcheck <COMMAND>",
+        STATUSES,
     )
-    .after_help(STATUSES)
+    .version(VERSION)
     .no_binary_name(true)
     .subcommand_required(true);
     bare.subcommand(check)?
+        .subcommand(manifest)?
+        .subcommand(explain)?
         .subcommand(show)?
         .subcommand(rewrite)
 }
@@ -46,59 +69,143 @@ fn check<'a>(alloc: Global) -> Result<Command<'a>, AllocError>
     described(
         alloc,
         "check",
-        "Check that each plated round hole, and each plated slot along an axis, lies with its ring in one flashed pad of every copper layer that it goes through, and that any two holes keep the gap",
+        "Check a package against a ring and a gap",
+        "ringcheck check --ring <MM> --gap <MM> <MANIFEST>",
+        CHECK,
     )
     .arg(option_of(
         alloc,
         "ring",
         "MM",
-        "Copper that must stand round a plated hole, in mm; 0 or more, as 0.125",
+        "Copper that must stand round a plated hole, in mm: 0.125",
     ))?
     .arg(option_of(
         alloc,
         "gap",
         "MM",
-        "Gap that any two holes must keep, in mm; above 0, as 0.2",
+        "Gap that any two holes must keep, in mm: 0.25",
     ))?
     .arg(value_of(
         alloc,
         "manifest",
         "MANIFEST",
-        "CSV file with the first record role,name,file and then one for each file; a role is copper, plated or unplated. With role,name,file,first,last a drill file may name the first and the last layer that it goes through",
+        "Manifest of the package, a CSV file",
     ))
 }
 
+/// `manifest [--why] FILE..`
+fn manifest<'a>(alloc: Global) -> Result<Command<'a>, AllocError>
+    ensures { IfOk result (λ c. app_of c ≡ manifest_app) }
+{
+    described(
+        alloc,
+        "manifest",
+        "Make a manifest of some files",
+        "ringcheck manifest [--why] <FILE>...",
+        MANIFEST,
+    )
+    .arg(switch_of(alloc, "why", "Tell of each file what it is, and why"))?
+    .arg(several_of(alloc, "file", "FILE", "Files to look at"))
+}
+
+/// `explain [WORD]`
+fn explain<'a>(alloc: Global) -> Result<Command<'a>, AllocError>
+    ensures { IfOk result (λ c. app_of c ≡ explain_app) }
+{
+    described(
+        alloc,
+        "explain",
+        "Tell what a reason or a cause means, and what to set",
+        "ringcheck explain [WORD]",
+        EXPLAIN,
+    )
+    .arg(maybe_of(
+        alloc,
+        "word",
+        "WORD",
+        "Name of a reason or a cause; without it all are listed",
+    ))
+}
+
+/// `show --kind layer|drill FILE`
+fn show<'a>(alloc: Global) -> Result<Command<'a>, AllocError>
+    ensures { IfOk result (λ c. app_of c ≡ file_app (codes "show")) }
+{
+    of_file(
+        alloc,
+        "show",
+        "Print the table of a layer's flashes or of a drill file's holes",
+        "ringcheck show --kind <layer|drill> <FILE>",
+        SHOW,
+    )
+}
+
+/// `rewrite --kind layer|drill FILE`
+fn rewrite<'a>(alloc: Global) -> Result<Command<'a>, AllocError>
+    ensures { IfOk result (λ c. app_of c ≡ file_app (codes "rewrite")) }
+{
+    of_file(
+        alloc,
+        "rewrite",
+        "Print the canonical text of a layer or a drill file",
+        "ringcheck rewrite --kind <layer|drill> <FILE>",
+        REWRITE,
+    )
+}
+
 /// `NAME --kind layer|drill FILE`
-fn of_file<'a>(alloc: Global, name: &'a str, about: &'a str) -> Result<Command<'a>, AllocError>
+fn of_file<'a>(
+    alloc: Global,
+    name: &'a str,
+    about: &'a str,
+    usage: &'a str,
+    below: &'a str,
+) -> Result<Command<'a>, AllocError>
     ensures { IfOk result (λ c. app_of c ≡ file_app name.entry.now) }
 {
-    described(alloc, name, about)
+    described(alloc, name, about, usage, below)
         .arg(option_of(
             alloc,
             "kind",
             "layer|drill",
-            "What the file is: a Gerber layer, or an Excellon drill file",
+            "A Gerber layer, or an Excellon drill file",
         ))?
         .arg(value_of(alloc, "file", "FILE", "File to read"))
 }
 
-/// A command with its text for help.
-fn described<'a>(alloc: Global, name: &'a str, about: &'a str) -> Command<'a>
+/// A command with its texts for help: what it does, how it is called, and what stands below.
+fn described<'a>(
+    alloc: Global,
+    name: &'a str,
+    about: &'a str,
+    usage: &'a str,
+    below: &'a str,
+) -> Command<'a>
     ensures { app_of result ≡ new_app name.entry.now }
 {
-    Command::new(alloc, name).about(about)
+    Command::new(alloc, name)
+        .about(about)
+        .override_usage(usage)
+        .after_help(below)
 }
 
-/// A required word. Help shows it by `shown`.
+/// A word that need not be there. Help shows it by `shown`.
+fn maybe_of<'a>(alloc: Global, id: &'a str, shown: &'a str, help: &'a str) -> Arg<'a>
+    ensures rule { rule_of result ≡ maybe id.entry.now }
+    ensures global { result.global ≡ false }
+{
+    Arg::new(alloc, id)
+        .action(ArgAction::Set)
+        .value_name(shown)
+        .help(help)
+}
+
+/// A required word.
 fn value_of<'a>(alloc: Global, id: &'a str, shown: &'a str, help: &'a str) -> Arg<'a>
     ensures rule { rule_of result ≡ positional id.entry.now }
     ensures global { result.global ≡ false }
 {
-    Arg::new(alloc, id)
-        .required(true)
-        .action(ArgAction::Set)
-        .value_name(shown)
-        .help(help)
+    maybe_of(alloc, id, shown, help).required(true)
 }
 
 /// A required option with one value.
@@ -107,4 +214,25 @@ fn option_of<'a>(alloc: Global, id: &'a str, shown: &'a str, help: &'a str) -> A
     ensures global { result.global ≡ false }
 {
     value_of(alloc, id, shown, help).long(id)
+}
+
+/// One word or more.
+fn several_of<'a>(alloc: Global, id: &'a str, shown: &'a str, help: &'a str) -> Arg<'a>
+    ensures rule { rule_of result ≡ several id.entry.now }
+    ensures global { result.global ≡ false }
+{
+    value_of(alloc, id, shown, help)
+        .action(ArgAction::Append)
+        .num_args(1..)
+}
+
+/// An option without a value.
+fn switch_of<'a>(alloc: Global, id: &'a str, help: &'a str) -> Arg<'a>
+    ensures rule { rule_of result ≡ switch id.entry.now }
+    ensures global { result.global ≡ false }
+{
+    Arg::new(alloc, id)
+        .long(id)
+        .action(ArgAction::SetTrue)
+        .help(help)
 }

@@ -2,14 +2,16 @@
 //!
 //! ```text
 //! ringcheck check --ring MM --gap MM MANIFEST
+//! ringcheck manifest [--why] FILE..
+//! ringcheck explain [WORD]
 //! ringcheck show --kind layer|drill FILE
 //! ringcheck rewrite --kind layer|drill FILE
 //! ```
 #![tactic(auto)]
 
-ghost use Rattle.std.specs.Prelude.{◌≡◌, IfSome, Some, List, true, codes, map, option_map};
-ghost use Rattle.clap.specs.Words.{Row, Text, first_of, found_of, kind_of, rows_of, subcommand_rows_of};
-ghost use Rattle.command_line.specs.Line.{AnswersAs, AnswersCheck, AnswersLine, AsksFor, IsRewrite, IsShow, check_words, file_words, is_plain_word};
+ghost use Rattle.std.specs.Prelude.{◌≡◌, ◌∷◌, [], Bool, IfSome, Some, None, List, true, codes, length, map, option_map};
+ghost use Rattle.clap.specs.Words.{Row, Text, first_of, found_of, kind_of, one_of, rows_of, subcommand_rows_of};
+ghost use Rattle.command_line.specs.Line.{AnswersAs, AnswersCheck, AnswersLine, AnswersVersion, AsksFor, IsExplain, IsManifest, IsRewrite, IsShow, Switched, are_plain_words, check_words, explain_words, file_words, is_plain_word, manifest_words};
 ghost use Rattle.command_line.specs.Steps.{HasCheckRows, IsCheckIfSome, IsRefusalFor};
 
 mod commands;
@@ -18,10 +20,11 @@ mod tests;
 
 use clap::error::ErrorKind;
 use clap::{ArgMatches, Error};
+pub use commands::{VERSION, VERSION_LINE};
 use std::alloc::Global;
 
 /// What the words ask for. The texts are those of the words; no number among them has been read.
-#[derive(Clone, Copy, Debug, PartialEq, Eq)]
+#[derive(Debug, Drop)]
 pub enum Request<'a> {
     /// Check the package of a manifest. The ring and the gap are texts in mm.
     Check {
@@ -39,6 +42,15 @@ pub enum Request<'a> {
         kind: &'a str,
         file: &'a str,
     },
+    /// Print a manifest of files, or the table of what each of them is, and why.
+    Manifest {
+        why: bool,
+        files: Vec<&'a str>,
+    },
+    /// Print the page of a word, or the list of the words that have one.
+    Explain {
+        word: Option<&'a str>,
+    },
 }
 
 /// Why the words ask for nothing that can be done, with the text for the user.
@@ -46,6 +58,8 @@ pub enum Request<'a> {
 pub enum Refusal {
     /// Help was asked for.
     Help(String),
+    /// The version was asked for.
+    Version,
     /// The words are no command of the program.
     Usage(String),
     /// There is no memory.
@@ -57,7 +71,7 @@ pub enum Refusal {
 ///
 /// # Errors
 ///
-/// [`Refusal::Help`] where help is asked for, [`Refusal::Usage`] where the words are no command of the program (no words at
+/// [`Refusal::Help`] where help is asked for, [`Refusal::Version`] where the version is, [`Refusal::Usage`] where the words are no command of the program (no words at
 /// all are none), and [`Refusal::Memory`].
 pub fn parse<'a>(alloc: Global, words: &'a [&'a str]) -> Result<Request<'a>, Refusal>
     ensures exact { AnswersLine (map (λ w. w.now) words.entry.now) result }
@@ -67,22 +81,37 @@ pub fn parse<'a>(alloc: Global, words: &'a [&'a str]) -> Result<Request<'a>, Ref
         → is_plain_word f ≡ true → AnswersAs (IsShow k f) result }
     ensures rewrite { (k f : Text) → map (λ w. w.now) words.entry.now ≡ file_words (codes "rewrite") k f → is_plain_word k ≡ true
         → is_plain_word f ≡ true → AnswersAs (IsRewrite k f) result }
+    ensures manifest { (why : Bool) (fs : List Text) → map (λ w. w.now) words.entry.now ≡ manifest_words why fs → are_plain_words fs ≡ true
+        → AnswersAs (IsManifest why fs) result }
+    ensures list { map (λ w. w.now) words.entry.now ≡ explain_words None → AnswersAs (IsExplain None) result }
+    ensures explain { (w : Text) → map (λ w. w.now) words.entry.now ≡ explain_words (Some w) → is_plain_word w ≡ true
+        → AnswersAs (IsExplain (Some w)) result }
+    ensures version { map (λ w. w.now) words.entry.now ≡ codes "--version" ∷ [] → AnswersVersion result }
 {
+    let count = count_of(words);
+    prove!(count <= usize::MAX);
     let Ok(command) = commands::ringcheck(alloc) else {
         return Err(Refusal::Memory);
     };
     match command.try_get_matches_from(words) {
-        Ok(matches) => match request_of(&matches) {
+        Ok(matches) => match request_of(alloc, &matches) {
             Some(request) => Ok(request),
-            // Each value is required, so that this arm is never taken.
+            // Each value is required, so that only want of memory takes this arm.
             None => Err(Refusal::Memory),
         },
         Err(error) => Err(refusal_for(alloc, &error)),
     }
 }
 
+/// How many words there are.
+fn count_of(words: &[&str]) -> usize
+    ensures { result ≡ length words.now }
+{
+    words.len()
+}
+
 /// What a parsed line asks for.
-fn request_of<'a>(matches: &ArgMatches<'a>) -> Option<Request<'a>>
+fn request_of<'a>(alloc: Global, matches: &ArgMatches<'a>) -> Option<Request<'a>>
     ensures asked { IfSome result (λ asked. AsksFor (subcommand_rows_of matches.now) asked) }
     ensures check { (r g m : Text) (rows : List Row) → subcommand_rows_of matches.now ≡ Some (codes "check", rows)
         → HasCheckRows r g m rows → IsCheckIfSome r g m result }
@@ -90,6 +119,8 @@ fn request_of<'a>(matches: &ArgMatches<'a>) -> Option<Request<'a>>
     let (name, values) = matches.subcommand()?;
     match name {
         "check" => check_request(values),
+        "manifest" => manifest_request(alloc, values),
+        "explain" => Some(explain_request(values)),
         "show" => show_request(values),
         "rewrite" => rewrite_request(values),
         _ => None,
@@ -125,6 +156,34 @@ fn rewrite_request<'a>(values: &ArgMatches<'a>) -> Option<Request<'a>>
     })
 }
 
+fn manifest_request<'a>(alloc: Global, values: &ArgMatches<'a>) -> Option<Request<'a>>
+    ensures { IfSome result (λ asked. AsksFor (Some (codes "manifest", rows_of (found_of values.now))) asked) }
+{
+    let given = values.get_strs("file")?;
+    let Ok(files) = Vec::from_slice(alloc, given) else {
+        return None;
+    };
+    Some(Request::Manifest {
+        why: is_switched(values, "why"),
+        files,
+    })
+}
+
+fn explain_request<'a>(values: &ArgMatches<'a>) -> Request<'a>
+    ensures { AsksFor (Some (codes "explain", rows_of (found_of values.now))) result }
+{
+    Request::Explain {
+        word: value(values, "word"),
+    }
+}
+
+/// Whether an option without a value is given.
+fn is_switched(values: &ArgMatches<'_>, id: &str) -> bool
+    ensures { Switched (one_of id.now (rows_of (found_of values.now))) result }
+{
+    values.get_flag(id)
+}
+
 /// The first value of an argument.
 fn value<'a>(values: &ArgMatches<'a>, id: &str) -> Option<&'a str>
     ensures { option_map (λ s. s.now) result ≡ first_of id.now (rows_of (found_of values.now)) }
@@ -140,6 +199,9 @@ fn refusal_for(alloc: Global, error: &Error) -> Refusal
     let kind = error.kind();
     if kind == ErrorKind::OutOfMemory {
         return Refusal::Memory;
+    }
+    if kind == ErrorKind::DisplayVersion {
+        return Refusal::Version;
     }
     match error.to_string(alloc) {
         Ok(text) if kind == ErrorKind::DisplayHelp => Refusal::Help(text),

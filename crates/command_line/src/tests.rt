@@ -123,12 +123,25 @@ fn other_words_are_refused(rt: HostRuntime) {
     assert!(rt; is_usage(rt, &["show", "top.gbr"]));
     assert!(rt; is_usage(rt, &["rewrite", "--kind", "layer"]));
     assert!(rt; is_usage(rt, &["plot", "top.gbr"]));
-    assert!(rt; is_usage(rt, &["--version"]));
+    assert!(rt; is_usage(rt, &["manifest"]));
+    assert!(rt; is_usage(rt, &["manifest", "--why"]));
+    assert!(rt; is_usage(rt, &["manifest", "--why", "--why", "top.gbr"]));
+    assert!(rt; is_usage(rt, &["manifest", "--fast", "top.gbr"]));
+    assert!(rt; is_usage(rt, &["explain", "Routed", "ring"]));
+    assert!(rt; is_usage(rt, &["check", "--version"]));
 }
 
 #[test]
 fn help_is_given_where_it_is_asked_for(rt: HostRuntime) {
-    let commands = ["check", "show", "rewrite", "help"];
+    let commands = [
+        "check",
+        "manifest",
+        "explain",
+        "show",
+        "rewrite",
+        "help",
+        "--version",
+    ];
     assert!(rt; helps(rt, &["--help"], &commands));
     assert!(rt; helps(rt, &["-h"], &commands));
     assert!(rt; helps(rt, &["help"], &commands));
@@ -143,4 +156,66 @@ fn help_is_given_where_it_is_asked_for(rt: HostRuntime) {
     assert!(rt; helps(rt, &["help", "check"], &values));
     assert!(rt; helps(rt, &["show", "--help"], &["--kind <layer|drill>", "<FILE>"]));
     assert!(rt; helps(rt, &["rewrite", "-h"], &["--kind <layer|drill>", "<FILE>"]));
+}
+
+/// Whether the words ask for a manifest of `top.gbr` and `pth.drl`, or for the table of why.
+fn asks_for_manifest(rt: HostRuntime, words: &[&str], with_why: bool) -> bool {
+    match parse(rt.alloc(), words) {
+        Ok(Request::Manifest { why, files }) => {
+            why == with_why && files.as_slice() == ["top.gbr", "pth.drl"].as_slice()
+        }
+        _ => false,
+    }
+}
+
+#[test]
+fn a_manifest_is_asked_for(rt: HostRuntime) {
+    assert!(rt; asks_for_manifest(rt, &["manifest", "top.gbr", "pth.drl"], false));
+    assert!(rt; asks_for_manifest(rt, &["manifest", "--why", "top.gbr", "pth.drl"], true));
+    assert!(rt; asks_for_manifest(rt, &["manifest", "top.gbr", "--why", "pth.drl"], true));
+    assert!(rt; asks_for_manifest(rt, &["manifest", "top.gbr", "pth.drl", "--why"], true));
+}
+
+#[test]
+fn an_explanation_is_asked_for(rt: HostRuntime) {
+    let one = matches!(
+        parse(rt.alloc(), &["explain", "Routed"]),
+        Ok(Request::Explain {
+            word: Some("Routed")
+        })
+    );
+    assert!(rt; one);
+    let all = matches!(
+        parse(rt.alloc(), &["explain"]),
+        Ok(Request::Explain { word: None })
+    );
+    assert!(rt; all);
+}
+
+#[test]
+fn the_version_is_asked_for(rt: HostRuntime) {
+    assert!(rt; matches!(parse(rt.alloc(), &["--version"]), Err(Refusal::Version)));
+    assert!(rt; matches!(parse(rt.alloc(), &["-V"]), Err(Refusal::Version)));
+    assert!(rt; VERSION_LINE.starts_with("ringcheck ") && VERSION_LINE.contains(VERSION));
+}
+
+/// Whether help fits 24 lines of 80 columns, and its usage begins with the program's name.
+fn fits_a_screen(rt: HostRuntime, words: &[&str]) -> bool {
+    match parse(rt.alloc(), words) {
+        Err(Refusal::Help(text)) => {
+            let text = text.as_str();
+            text.lines().count() <= 24
+                && text.lines().all(|line| line.len() <= 80)
+                && text.contains("Usage: ringcheck ")
+        }
+        _ => false,
+    }
+}
+
+#[test]
+fn help_fits_a_screen(rt: HostRuntime) {
+    assert!(rt; fits_a_screen(rt, &["--help"]));
+    for command in ["check", "manifest", "explain", "show", "rewrite"] {
+        assert!(rt; fits_a_screen(rt, &[command, "--help"]), "of {command}");
+    }
 }

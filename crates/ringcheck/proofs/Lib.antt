@@ -2,3 +2,4 @@ pub mod Loaded
 pub mod Checking
 pub mod Refusals
 pub mod Held
+pub mod Folders

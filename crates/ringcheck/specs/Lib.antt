@@ -3,3 +3,4 @@ pub mod Naming
 pub mod Printing
 pub mod Running
 pub mod Stopping
+pub mod Folders

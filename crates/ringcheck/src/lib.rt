@@ -2,11 +2,13 @@
 #![tactic(auto)]
 
 mod ending;
+mod explaining;
 mod lines;
 mod loading_files;
 mod naming;
 mod packages;
 mod program;
+mod proposing;
 mod single_files;
 
 pub use loading::{LoadFault, Loader, MAX_LIMIT, ReadFail, read_all};

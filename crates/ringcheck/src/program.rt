@@ -1,17 +1,20 @@
 //! The whole program, over a loader and a writer.
 
-ghost use Rattle.std.specs.Prelude.{◌≡◌, map, true, ℕ, List, codes};
-ghost use Rattle.command_line.specs.Line.{check_words, file_words, is_plain_word};
+ghost use Rattle.std.specs.Prelude.{◌≡◌, ◌∷◌, [], map, true, ℕ, Bool, List, Some, None, codes};
+ghost use Rattle.command_line.specs.Line.{are_plain_words, check_words, explain_words, file_words, is_plain_word, manifest_words};
 ghost use Rattle.ringcheck.specs.Endings.{HasCause, status_after};
+ghost use Rattle.ringcheck.specs.Folders.{SaysManifest, SaysPage, SaysVersion};
 ghost use Rattle.ringcheck.specs.Naming as named;
 ghost use Rattle.ringcheck.specs.Printing.{SaysFileOf, kind_named};
 ghost use Rattle.ringcheck.specs.Running.{SaysOf};
 
 use crate::ending::{Ended, say, say_line, say_out_of_memory};
+use crate::explaining::explain;
 use crate::packages::check;
+use crate::proposing::print_manifest;
 use crate::single_files::{Task, print};
 use crate::{Loader, Status, lines};
-use command_line::{Refusal, Request, parse};
+use command_line::{Refusal, Request, VERSION_LINE, parse};
 use std::alloc::Global;
 use std::io::Write;
 
@@ -28,6 +31,12 @@ fn run_to_end<L: Loader, W: Write>(
         → SaysFileOf Task.Show (kind_named k) (L.has loader.old) f (W.contents out.old) (W.contents out.new) (status_after result) }
     ensures rewrite { (k f : List ℕ) → map (λ w. w.now) words.now ≡ file_words (codes "rewrite") k f → is_plain_word k ≡ true → is_plain_word f ≡ true
         → SaysFileOf Task.Rewrite (kind_named k) (L.has loader.old) f (W.contents out.old) (W.contents out.new) (status_after result) }
+    ensures manifest { (why : Bool) (fs : List (List ℕ)) → map (λ w. w.now) words.now ≡ manifest_words why fs → are_plain_words fs ≡ true
+        → SaysManifest why (L.has loader.old) fs (W.contents out.old) (W.contents out.new) (status_after result) }
+    ensures list { map (λ w. w.now) words.now ≡ explain_words None → SaysPage None (W.contents out.old) (W.contents out.new) (status_after result) }
+    ensures explain { (w : List ℕ) → map (λ w. w.now) words.now ≡ explain_words (Some w) → is_plain_word w ≡ true
+        → SaysPage (Some w) (W.contents out.old) (W.contents out.new) (status_after result) }
+    ensures version { map (λ w. w.now) words.now ≡ codes "--version" ∷ [] → SaysVersion (W.contents out.old) (W.contents out.new) (status_after result) }
     ensures cause { HasCause (L.failed loader.old) (L.failed loader.new) result }
 {
     match parse(alloc, words) {
@@ -40,7 +49,12 @@ fn run_to_end<L: Loader, W: Write>(
         ) => check(alloc, ring, gap, manifest, loader, out),
         Ok(Request::Show { kind, file }) => print(alloc, Task::Show, kind, file, loader, out),
         Ok(Request::Rewrite { kind, file }) => print(alloc, Task::Rewrite, kind, file, loader, out),
+        Ok(Request::Manifest { why, files }) => {
+            print_manifest(alloc, why, files.as_slice(), loader, out)
+        }
+        Ok(Request::Explain { word }) => explain(alloc, word, out),
         Err(Refusal::Memory) => say_out_of_memory(out),
+        Err(Refusal::Version) => say(out, VERSION_LINE.as_bytes(), Ended::Said(Status::Pass)),
         Err(Refusal::Help(text)) => say(out, text.as_str().as_bytes(), Ended::Said(Status::Pass)),
         Err(Refusal::Usage(text)) => {
             let line = lines::usage_with(alloc, text.as_str());
@@ -63,6 +77,12 @@ pub fn run<L: Loader, W: Write>(
         → SaysFileOf Task.Show (kind_named k) (L.has loader.old) f (W.contents out.old) (W.contents out.new) result }
     ensures rewrite { (k f : List ℕ) → map (λ w. w.now) words.now ≡ file_words (codes "rewrite") k f → is_plain_word k ≡ true → is_plain_word f ≡ true
         → SaysFileOf Task.Rewrite (kind_named k) (L.has loader.old) f (W.contents out.old) (W.contents out.new) result }
+    ensures manifest { (why : Bool) (fs : List (List ℕ)) → map (λ w. w.now) words.now ≡ manifest_words why fs → are_plain_words fs ≡ true
+        → SaysManifest why (L.has loader.old) fs (W.contents out.old) (W.contents out.new) result }
+    ensures list { map (λ w. w.now) words.now ≡ explain_words None → SaysPage None (W.contents out.old) (W.contents out.new) result }
+    ensures explain { (w : List ℕ) → map (λ w. w.now) words.now ≡ explain_words (Some w) → is_plain_word w ≡ true
+        → SaysPage (Some w) (W.contents out.old) (W.contents out.new) result }
+    ensures version { map (λ w. w.now) words.now ≡ codes "--version" ∷ [] → SaysVersion (W.contents out.old) (W.contents out.new) result }
 {
     run_to_end(alloc, words, loader, out).status()
 }

@@ -1305,3 +1305,5 @@ fn what_passes_is_sound_as_it_lies_there(rt: HostRuntime) {
     assert!(rt; is_passed(rt.alloc(), MANIFEST, LAYER, DRILL));
     assert!(rt; !is_passed(rt.alloc(), MANIFEST, moved, DRILL));
 }
+
+mod commands;

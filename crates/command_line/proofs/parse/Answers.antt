@@ -1,7 +1,12 @@
-use Rattle.std.proofs.Common.{◌≡◌, ◌∙◌, ap, ap₂, subst}
-use Rattle.clap.specs.Words.{is_simple, is_simple_and_free, subcommand_of, takes}
-use Rattle.command_line.specs.Line.{AsksFor}
-use Rattle.command_line.proofs.Files.{is_rewrite, is_show}
+use Rattle.std.proofs.Common.{◌≡◌, ◌∙◌, ap, ap₂, ◌≤◌, List, length, map, Bor, refl, subst, sym, [], ◌∷◌, Some, None, arith}
+use Rattle.std.proofs.lemmas.List.{length-map}
+use Rattle.clap.specs.Lexer.{usize_max}
+use Rattle.clap.specs.Kinds.{HasKind, Kinds}
+use Rattle.clap.specs.Words.{Text, fault_of, is_simple, is_simple_and_free, subcommand_of, takes}
+use Rattle.command_line.specs.Line.{AsksFor, manifest_words}
+use Rattle.command_line.proofs.Files.{is_explain, is_manifest, is_rewrite, is_show}
+use Rattle.command_line.proofs.ManifestWords.{manifest_found, manifest_taken, no_more_files}
+use Rattle.command_line.proofs.OtherWords.{given, list_found, list_taken, told, version_fault, word_first, word_found, word_taken}
 use Rattle.command_line.proofs.RewriteWords.{rewrite_found, rewrite_taken}
 use Rattle.command_line.proofs.ShowWords.{show_found, show_taken}
 use Rattle.command_line.proofs.Answered.{asked, refused}
@@ -25,6 +30,17 @@ returns-in-Some c =
           let (rows, found, kind, file) = rewrite_found k f p q in
           is_rewrite k f rows kind file c.in-Some.request
           (subst (λ o. AsksFor o c.in-Some.request) (parsed.1 ∙ ap₂ subcommand_of c.in-Ok.ensures e ∙ found) c.in-Some.ensures.asked);
+      manifest = λ why fs e p.
+          let (rows, found, switch, files) = manifest_found why fs p in
+          is_manifest why fs rows switch files c.in-Some.request
+          (subst (λ o. AsksFor o c.in-Some.request) (parsed.1 ∙ ap₂ subcommand_of c.in-Ok.ensures e ∙ found) c.in-Some.ensures.asked);
+      list = λ e.
+          is_explain None [] refl c.in-Some.request
+          (subst (λ o. AsksFor o c.in-Some.request) (parsed.1 ∙ ap₂ subcommand_of c.in-Ok.ensures e ∙ list_found) c.in-Some.ensures.asked);
+      explain = λ w e p.
+          is_explain (Some w) (given w ∷ []) (word_first w) c.in-Some.request
+          (subst (λ o. AsksFor o c.in-Some.request) (parsed.1 ∙ ap₂ subcommand_of c.in-Ok.ensures e ∙ word_found w p) c.in-Some.ensures.asked);
+      version = λ e. let no = sym faultless ∙ ap₂ fault_of c.in-Ok.ensures e ∙ version_fault in cc no;
     }
 
 pub returns : goal.returns
@@ -41,4 +57,18 @@ returns c =
       rewrite = λ k f e p q.
           let memory = c.in-Err.ensures.passes (ap₂ takes c.in-Ok.ensures e ∙ rewrite_taken k f p q) in
           rw (c.refusal_for.ensures.memory memory) tt;
+      manifest = λ why fs e p.
+          let all : length (map (λ (w : Bor Text). w.now) c.args.words.now) ≡ length (manifest_words why fs) = ap length e in
+          let few : length fs ≤ usize_max = omega (arith, all, no_more_files why fs, length-map c.args.words.now (λ (w : Bor Text). w.now), c.count_of-count.ensures) in
+          let memory = c.in-Err.ensures.passes (ap₂ takes c.in-Ok.ensures e ∙ manifest_taken why fs p few) in
+          rw (c.refusal_for.ensures.memory memory) tt;
+      list = λ e.
+          let memory = c.in-Err.ensures.passes (ap₂ takes c.in-Ok.ensures e ∙ list_taken) in
+          rw (c.refusal_for.ensures.memory memory) tt;
+      explain = λ w e p.
+          let memory = c.in-Err.ensures.passes (ap₂ takes c.in-Ok.ensures e ∙ word_taken w p) in
+          rw (c.refusal_for.ensures.memory memory) tt;
+      version = λ e.
+          let among = subst (λ (kinds : Kinds). HasKind kinds c.in-Err.error) (ap₂ fault_of c.in-Ok.ensures e ∙ version_fault) fault in
+          told _ c.refusal_for.result among c.refusal_for.ensures.kind c.refusal_for.ensures.memory;
     }

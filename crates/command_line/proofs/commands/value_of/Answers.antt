@@ -1,10 +1,6 @@
-use Rattle.std.proofs.Common.{◌≡◌, ◌∙◌, ap, true, Some}
+use Rattle.std.proofs.Common.{◌≡◌, ◌∙◌, ap, true}
 use Rattle.clap.specs.Words.{Rule, rule_of}
-use Rattle.clap.specs.declared.builder.action.ArgAction.TheVariants.{Set}
 use Rattle.command_line.proofs.commands.value_of.Goals as goal
 
 pub returns-clause-rule : goal.returns-clause-rule
-returns-clause-rule c =
-    ap rule_of c.help.ensures
-    ∙ ap rule_of c.value_name.ensures
-    ∙ ap (λ (r : Rule). record r { value_names = 1 }) (ap rule_of c.action.ensures ∙ ap (λ (r : Rule). record r { action = Some Set }) (ap rule_of c.required.ensures ∙ ap (λ (r : Rule). record r { required = true }) c.new.ensures.rule))
+returns-clause-rule c = ap rule_of c.required.ensures ∙ ap (λ (r : Rule). record r { required = true }) c.maybe_of.ensures.rule

@@ -1,0 +1,7 @@
+use Rattle.std.proofs.Common.{◌≡◌, ◌∙◌, ap, ap₂}
+use Rattle.std.proofs.lemmas.Result.{IfOk-weaker}
+use Rattle.clap.specs.Words.{app_of, with_rule}
+use Rattle.command_line.proofs.commands.explain.Goals as goal
+
+pub returns : goal.returns
+returns c = IfOk-weaker c.arg.result _ _ (λ x h. h.shape c.maybe_of.ensures.global ∙ ap₂ with_rule c.described.ensures c.maybe_of.ensures.rule) c.arg.ensures

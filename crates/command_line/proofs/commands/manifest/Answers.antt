@@ -1,0 +1,9 @@
+use Rattle.std.proofs.Common.{◌≡◌, ◌∙◌, ap, ap₂}
+use Rattle.std.proofs.lemmas.Result.{IfOk-weaker}
+use Rattle.clap.specs.Words.{app_of, with_rule}
+use Rattle.command_line.proofs.commands.manifest.Goals as goal
+
+pub returns : goal.returns
+returns c =
+    let why = c.in_ok-arg.ensures.shape c.switch_of.ensures.global ∙ ap₂ with_rule c.described.ensures c.switch_of.ensures.rule in
+    IfOk-weaker c.arg-2.result _ _ (λ x h. h.shape c.several_of.ensures.global ∙ ap₂ with_rule why c.several_of.ensures.rule) c.arg-2.ensures

@@ -1,0 +1,10 @@
+use Rattle.std.proofs.Common.{◌≡◌, ◌∙◌, ap, sym, refl, Some, map, codes, Bor, List, ℕ}
+use Rattle.clap.specs.Words.{found_of}
+use Rattle.clap.proofs.WalkLemmas.{raw_values-rows}
+use Rattle.command_line.proofs.manifest_request.Goals as goal
+
+pub returns : goal.returns
+returns c =
+    let rows = raw_values-rows (found_of c.args.values.now) (codes "file") in
+    let given = ap (λ (xs : List (Bor (List ℕ))). Some (map (λ (file : Bor (List ℕ)). file.now) xs)) (sym c.in-Ok.ensures.items) in
+    (refl, c.is_switched.ensures, sym (c.in_ok-given.ensures ∙ rows) ∙ given)

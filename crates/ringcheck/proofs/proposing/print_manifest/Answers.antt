@@ -1,0 +1,18 @@
+use Rattle.std.proofs.Common.{◌≡◌, ◌∙◌, sym, ap, subst, List, length, arith}
+use Rattle.ringcheck.specs.Folders.{HasPairs, pairs}
+use Rattle.ringcheck.specs.declared.proposing.Held.{Held}
+use Rattle.ringcheck.proofs.Folders.{refused, told}
+use Rattle.ringcheck.proofs.proposing.print_manifest.Goals as goal
+
+pub returns-then-not-can_all_stand-clause-says : goal.returns-then-not-can_all_stand-clause-says
+returns-then-not-can_all_stand-clause-says g c =
+    refused c.args.why (g.L.Loader.has c.args.loader.now) c.args.names.now _ _ c.say_line.result (sym c.if-not-can_all_stand.ensures) c.say_line.ensures.ends
+
+pub returns-in-Ok-clause-says : goal.returns-in-Ok-clause-says
+returns-in-Ok-clause-says g c =
+    let names = c.args.names.now in
+    let all = c.as_slice.result.now in
+    let same = sym c.as_slice.ensures.value in
+    let many = c.in-Ok.ensures.1 ∙ ap (λ (hs : List Held). length hs) same in
+    told c.args.why (g.L.Loader.has c.args.loader.now) names all _ _ c.print_held.result many (sym c.if-not-can_all_stand.ensures)
+    (subst (λ (hs : List Held). HasPairs (g.L.Loader.has c.args.loader.now) (pairs names hs)) same c.in-Ok.ensures.0) c.print_held.ensures.tells
