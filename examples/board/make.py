@@ -280,6 +280,14 @@ def made():
     for role, name in (("copper", "F_Cu.gbr"), ("copper", "B_Cu.gbr"), ("plated", "PTH.drl"), ("unplated", "NPTH.drl")):
         manifest.append(f"{role},board-{name},gerbers/board-{name}")
     found["board.csv"] = manifest
+    found["expected/manifest-why.csv"] = [
+        "file,role,because",
+        "gerbers/board-B_Cu.gbr,copper,file function Copper",
+        "gerbers/board-Edge_Cuts.gbr,-,file function Profile",
+        "gerbers/board-F_Cu.gbr,copper,file function Copper",
+        "gerbers/board-NPTH.drl,unplated,file function NonPlated",
+        "gerbers/board-PTH.drl,plated,file function Plated",
+    ]
     found["expected/check-0.15.txt"] = report(files, RING, True)
     found["expected/check-0.149.txt"] = report(files, RING - 1_000, False)
     found["expected/show-top.csv"] = top.table()
@@ -298,8 +306,8 @@ def rows(files):
     with open(f"{TOP}/../runs.txt", encoding="utf-8") as it:
         runs = [[part.strip() for part in line.split("|")] for line in it if line.startswith("board |")]
     for _, status, expected, words in runs:
-        if expected not in files:
-            continue
+        names = sorted(it for it in files if it.startswith("gerbers/"))
+        words = words.replace("gerbers/*", " ".join(names))
         printed += ["", f"example board: {words}"]
         printed += [f"file {path} from {os.path.basename(path)}" for path in files if not path.startswith("expected/")]
         printed += [f"run {words}", f"status {status}", *(f"> {line}" for line in files[expected])]

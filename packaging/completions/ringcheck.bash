@@ -3,7 +3,7 @@ _ringcheck() {
   local word=${COMP_WORDS[COMP_CWORD]} before=${COMP_WORDS[COMP_CWORD - 1]} command=${COMP_WORDS[1]} options=
   COMPREPLY=()
   if [ "$COMP_CWORD" -eq 1 ]; then
-    mapfile -t COMPREPLY < <(compgen -W 'check show rewrite help --help' -- "$word")
+    mapfile -t COMPREPLY < <(compgen -W 'check manifest explain show rewrite help --help --version' -- "$word")
     return
   fi
   # The shell cuts `--kind=layer` at its sign.
@@ -21,9 +21,14 @@ _ringcheck() {
   esac
   case $command in
     check) options='--ring --gap --help' ;;
+    manifest) options='--why --help' ;;
     show | rewrite) options='--kind --help' ;;
+    explain)
+      mapfile -t COMPREPLY < <(compgen -W "$(ringcheck explain 2>/dev/null)" -- "$word")
+      return
+      ;;
     help)
-      mapfile -t COMPREPLY < <(compgen -W 'check show rewrite' -- "$word")
+      mapfile -t COMPREPLY < <(compgen -W 'check manifest explain show rewrite' -- "$word")
       return
       ;;
     *) return ;;
