@@ -67,6 +67,7 @@ pub(crate) fn asked(alloc: Global, words: &[&str]) -> Answer {
         Err(Refusal::Help(text)) | Err(Refusal::Usage(text)) => {
             Answer::of_text(text.as_str().as_bytes())
         }
+        Err(Refusal::Version) => Answer::of_text(b"version"),
         Err(Refusal::Memory) => Answer::Failed(Fail::Memory),
     }
 }
