@@ -24,7 +24,7 @@ _ringcheck() {
     manifest) options='--why --help' ;;
     show | rewrite) options='--kind --help' ;;
     explain)
-      mapfile -t COMPREPLY < <(compgen -W "$(ringcheck explain 2>/dev/null)" -- "$word")
+      mapfile -t COMPREPLY < <(compgen -W "$(ringcheck explain 2>/dev/null | cut -d: -f1)" -- "$word")
       return
       ;;
     help)

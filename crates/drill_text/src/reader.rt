@@ -19,6 +19,7 @@ use crate::judge::Judge;
 use crate::kept::{Keeping, Kept};
 use drill_lines::{Coordinates, DrillCommand, LineFail, read_line};
 use grid_units::{Fail, Fault, Hole, Reason};
+use memchr::memchr;
 use std::alloc::Global;
 
 const LINE_LIMIT: usize = 1_048_576;
@@ -46,12 +47,10 @@ fn line_len(bytes: &[u8]) -> usize
     ensures inside { All (λ b. b ≢ 10) (take result bytes.now) }
     ensures stops { result < length bytes.now → slice_index bytes.now result ≡ 10 }
 {
-    for (i, byte) in bytes.iter().enumerate() {
-        if *byte == b'\n' {
-            return i;
-        }
+    match memchr(b'\n', bytes) {
+        Some(at) => at,
+        None => bytes.len(),
     }
-    bytes.len()
 }
 
 fn refusal(place: u64, byte: u64, reason: Reason) -> Fail

@@ -1,6 +1,6 @@
 -- The words that have a page.
-use Rattle.std.specs.Prelude.{◌≡◌, ◌≤◌, ◌⊎◌, ◌+◌, ◌++◌, ℕ, List, [], ◌∷◌, codes, length, map, take}
-use Rattle.std.specs.List.{flat_map, AllByRecursion, Contains}
+use Rattle.std.specs.Prelude.{◌≡◌, ◌≤◌, ◌⊎◌, ◌+◌, ◌++◌, ◌==◌, ℕ, Bool, List, [], ◌∷◌, codes, length, map, take}
+use Rattle.std.specs.List.{before_first, AllByRecursion, Contains}
 use Rattle.std.specs.Str.Lines.{lines}
 use Rattle.grid_units.specs.declared.fault.Reason.{Reason}
 use Rattle.grid_units.specs.declared.fault.Reason.TheVariants as reasons
@@ -10,6 +10,9 @@ use Rattle.explanations.specs.declared.topic.Topic.TheVariants as topics
 
 -- the word of a topic (docs/FORMATS.md, Explanations)
 abbrev pub topic_word : Topic → List ℕ
+topic_word topics.RingLine = codes "RING"
+topic_word topics.GapLine = codes "GAP"
+topic_word topics.ObliqueLine = codes "OBLIQUE"
 topic_word topics.Ring = codes "ring"
 topic_word topics.Small = codes "small"
 topic_word topics.Off = codes "off"
@@ -40,15 +43,19 @@ all_reasons = reasons.TooLong ∷ reasons.AfterEnd ∷ reasons.Truncated ∷ rea
 
 -- the topics, in order (docs/FORMATS.md, Explanations)
 abbrev pub all_topics : List Topic
-all_topics = topics.Ring ∷ topics.Small ∷ topics.Off ∷ topics.Bare ∷ topics.Macro ∷ topics.Polygon ∷ topics.Holed ∷ topics.Scaled ∷ topics.Turned ∷ topics.Oblique ∷ topics.Plane ∷ []
+all_topics = topics.RingLine ∷ topics.GapLine ∷ topics.ObliqueLine ∷ topics.Ring ∷ topics.Small ∷ topics.Off ∷ topics.Bare ∷ topics.Macro ∷ topics.Polygon ∷ topics.Holed ∷ topics.Scaled ∷ topics.Turned ∷ topics.Oblique ∷ topics.Plane ∷ []
 
 -- the words that are listed: the names of the reasons, then the words of the topics (docs/FORMATS.md, Explanations)
 abbrev pub all_words : List (List ℕ)
 all_words = map name_of all_reasons ++ map topic_word all_topics
 
--- the words, one to a line (docs/FORMATS.md, Explanations)
-abbrev pub word_list : List ℕ
-word_list = flat_map (λ word. word ++ 10 ∷ []) all_words
+-- a colon
+abbrev pub is_colon : ℕ → Bool
+is_colon b = b == 58
+
+-- a text lists the words: they stand before the colons of its lines, in order, and no line is above 78 columns (docs/FORMATS.md, Explanations)
+abbrev pub ListsWords : List ℕ → Type 0
+ListsWords text = (map (before_first is_colon) (lines text) ≡ all_words) × AllByRecursion (λ line. length line ≤ 78) (lines text)
 
 -- each word that has a page is listed (docs/FORMATS.md, Explanations)
 abbrev pub EachWordIsListed : Type 0

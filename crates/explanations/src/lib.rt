@@ -1,4 +1,4 @@
-//! What the reasons of refusals and the causes of findings mean, and what to set in which tool: a page for each word.
+//! What the reasons of refusals, the findings and their causes mean, and what to set in which tool: a page for each word.
 #![tactic(auto)]
 
 mod naming;
@@ -15,8 +15,8 @@ use reason_pages::reason_page;
 use topic_pages::topic_page;
 
 /// The page of a word: at most 12 lines of at most 78 columns, each ended by a line feed. It begins with the word and a
-/// colon. `None` where the word is neither the name of a reason nor one of `ring`, `small`, `off`, `none`, `macro`,
-/// `polygon`, `holed`, `scaled`, `turned`, `oblique` and `plane`.
+/// colon. `None` where the word is neither the name of a reason nor one of `RING`, `GAP`, `OBLIQUE`, `ring`, `small`,
+/// `off`, `none`, `macro`, `polygon`, `holed`, `scaled`, `turned`, `oblique` and `plane`.
 pub fn explanation(word: &str) -> Option<&'static str>
     ensures known { IsSome result ↔ IsWord word.now }
     ensures headed { IfSome result (λ page. Heads word.now page.now) }

@@ -56,7 +56,10 @@ Sizes are then rounded to 0.1 mil, and attributes are lost.
 
 const INCREMENTAL: &str = "\
 Incremental: the coordinates are steps from the point before (G91, ICI,ON,
-%FSLI) and no places. Export the file again with absolute coordinates.
+%FSLI) and no places. Export the file again with absolute coordinates. If the
+tool has no setting for that, of a drill file:
+  gerbv -x drill -o OUT IN
+Diameters are then rounded to 1 mil, and routed slots are dropped.
 ";
 
 const OLD_PARAMETER: &str = "\
@@ -245,6 +248,7 @@ const BAD_ROLE: &str = "\
 BadRole: in the manifest: the role of a record is none of copper, plated and
 unplated. A ? stands for what is not decided: decide, and write the role in.
 With show and rewrite: the kind is neither layer nor drill.
+With explain: the word has no page; ringcheck explain lists those that have.
 ";
 
 const EMPTY_NAME: &str = "\

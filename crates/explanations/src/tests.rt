@@ -31,8 +31,11 @@ fn has_page(word: &str) -> bool {
 
 #[test]
 fn each_word_has_a_page(rt: HostRuntime) -> Result<(), TestFail> {
-    assert!(rt; words().lines().all(|word| has_page(word)));
-    assert_eq!(rt; words().lines().count(), 46 + 11);
+    for line in words().lines() {
+        let (word, _) = line.split_once(": ").ok_or("no colon")?;
+        assert!(rt; has_page(word), "{word}");
+    }
+    assert_eq!(rt; words().lines().count(), 46 + 14);
     Ok(())
 }
 
@@ -46,12 +49,16 @@ fn pages_name_settings(rt: HostRuntime) -> Result<(), TestFail> {
     assert!(rt; bare.contains("keep pads on all layers"));
     let oblique = explanation("oblique").ok_or("no page")?;
     assert!(rt; oblique.contains("OBLIQUE"));
+    for word in ["RING", "GAP", "OBLIQUE"] {
+        let line = explanation(word).ok_or("no page")?;
+        assert!(rt; line.contains("What to do"), "{word}");
+    }
     Ok(())
 }
 
 #[test]
 fn other_words_have_none(rt: HostRuntime) -> Result<(), TestFail> {
-    for word in ["", "routed", "Routed ", "Routed:", "Ring", "pass"].iter() {
+    for word in ["", "routed", "Routed ", "Routed:", "Ring", "gap", "pass"].iter() {
         assert!(rt; explanation(word).is_none());
     }
     Ok(())

@@ -6,6 +6,12 @@ ghost use Rattle.explanations.specs.Words.{topic_word};
 /// What is explained beside the reasons.
 #[derive(Clone, Copy, Debug, PartialEq, Eq)]
 pub(crate) enum Topic {
+    /// A line `RING` of the report.
+    RingLine,
+    /// A line `GAP` of the report.
+    GapLine,
+    /// A line `OBLIQUE` of the report.
+    ObliqueLine,
     /// The copper round a hole is narrower than the ring that is asked for.
     Ring,
     /// The pad is too small.
@@ -36,6 +42,9 @@ impl Topic {
         ensures { result.now ≡ topic_word self }
     {
         match self {
+            Topic::RingLine => "RING",
+            Topic::GapLine => "GAP",
+            Topic::ObliqueLine => "OBLIQUE",
             Topic::Ring => "ring",
             Topic::Small => "small",
             Topic::Off => "off",

@@ -4,11 +4,39 @@ ghost use Rattle.explanations.specs.Words.{FitsScreen, Heads, topic_word};
 
 use crate::topic::Topic;
 
+const RING_LINE: &str = "\
+RING: on this copper layer no pad holds this plated hole with the ring round
+it, or each point of this plated slot. The line names the layer and the drill
+file by their numbers in the manifest, the hole by its number in the drill
+file, its centre or its ends, and its diameter, in millimetres.
+What to do: compare with the pads there (ringcheck show --kind layer FILE),
+and find the cause among small, off, none, macro, polygon, holed, scaled and
+turned: ringcheck explain small, and so on.
+";
+
+const GAP_LINE: &str = "\
+GAP: these two holes are nearer to each other, rim to rim, than the gap, or
+they meet. The line names the drill file of each by its number in the
+manifest, and each hole by its number in that file; ringcheck show --kind
+drill FILE tells where it is. Plated and unplated holes and slots count, also
+a hole that is drilled twice.
+What to do: move the holes apart, drill them smaller, or take the second of
+two equal holes out; see that no drill file is named twice.
+";
+
+const OBLIQUE_LINE: &str = "\
+OBLIQUE: this plated slot runs along neither axis, so that its ring on this
+copper layer is not judged. The line names the layer, the drill file and the
+slot by their numbers, and the slot's ends and diameter in millimetres.
+What to do: turn the slot to an axis, or drill round holes in its place.
+";
+
 const RING: &str = "\
 ring: the copper round a hole is narrower than the rule in some direction.
-Drill files round positions and diameters, so a rule that is equal to the
-designed ring fails: of 1,731 holes that were designed with 0.150 mm 736 fail
-at 0.150, and none at 0.149. Give the rule
+Choose a greater pad or a smaller drill, or move the hole to the centre of
+its pad. Where the ring was designed to be just the rule, make the rule less:
+drill files round positions and diameters, and of 1,731 holes that were
+designed with 0.150 mm 736 fail at 0.150, and none at 0.149. Give the rule
   less 0.001 mm  (KiCad, drill files in mm),
   less 0.003 mm  (KiCad, drill files in inches),
   less 0.017 mm  (Fritzing).
@@ -87,6 +115,9 @@ pub(crate) fn topic_page(topic: Topic) -> &'static str
     ensures fits { FitsScreen result.now }
 {
     match topic {
+        Topic::RingLine => RING_LINE,
+        Topic::GapLine => GAP_LINE,
+        Topic::ObliqueLine => OBLIQUE_LINE,
         Topic::Ring => RING,
         Topic::Small => SMALL,
         Topic::Off => OFF,

@@ -19,9 +19,13 @@ is_word_byte b = is_digit b || (nat_le 97 b && nat_le b 122)
 abbrev pub runs : List ℕ → List (List ℕ)
 runs name = filter (λ run. not (length run == 0)) (slice_split (λ b. not (is_word_byte b)) name)
 
+-- the name behind its last slash, its capitals made small
+abbrev pub lower_name : List ℕ → List ℕ
+lower_name name = map to_ascii_lowercase (short_name name)
+
 -- the words of a name: the runs of letters and digits behind its last slash, in lower case
 abbrev pub words_of : List ℕ → List (List ℕ)
-words_of name = runs (map to_ascii_lowercase (short_name name))
+words_of name = runs (lower_name name)
 
 -- a name behind whose last slash a point stands
 abbrev pub has_point : List ℕ → Bool

@@ -169,13 +169,13 @@ pub fn names_unplated(words: &[&[u8]]) -> bool
     has_unplated_word(words) || has_non_plated(words)
 }
 
-/// What stands behind the last slash of a name, in lower case, so that its runs are the words of the name.
+/// What stands behind the last slash of a name, its capitals `A` to `Z` made small: its runs are the words of the name.
 ///
 /// # Errors
 ///
 /// An `AllocError` where there is no memory.
 pub fn lower_name(alloc: Global, name: &[u8]) -> Result<Vec<u8>, AllocError>
-    ensures { IfOk result (λ lower. says.runs lower.items ≡ says.words_of name.now) }
+    ensures { IfOk result (λ lower. lower.items ≡ says.lower_name name.now) }
 {
     short_name(name).to_ascii_lowercase(alloc)
 }

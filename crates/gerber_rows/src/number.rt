@@ -1,7 +1,7 @@
 //! The numbers of a Gerber text that are not decimals.
 
-ghost use Rattle.std.specs.Prelude.{◌≡◌, ◌≢◌, IfOk, ◌<◌, ◌^◌, ◌≤◌, ◌==◌, length, take, All, true, neg_ℤ, pos, if◌then◌else◌};
-ghost use Rattle.std.specs.List.{prefix_len};
+ghost use Rattle.std.specs.Prelude.{◌≡◌, ◌≢◌, IfOk, IfSome, ◌<◌, ◌^◌, ◌≤◌, ◌==◌, length, take, All, true, neg_ℤ, pos, if◌then◌else◌};
+ghost use Rattle.std.specs.List.{list_all, prefix_len};
 ghost use Rattle.grid_units.specs.Numbers.{is_digit, value};
 ghost use Rattle.gerber_rows.specs.Coordinates.{left_out};
 ghost use Rattle.gerber_rows.specs.Numbers.{int_of, nat_of};
@@ -14,6 +14,7 @@ fn value_of(digits: &[u8]) -> u64
     requires short { length digits.now ≤ 12 }
     requires digits { All (λ b. is_digit b ≡ true) digits.now }
     ensures value { result ≡ value digits.now }
+    ensures small { result < 10 ^ length digits.now }
     ensures bound { result < 10 ^ 12 }
 {
     let mut n = 0;
@@ -23,7 +24,60 @@ fn value_of(digits: &[u8]) -> u64
     n
 }
 
+/// Whether these are all digits. No byte ends the loop, so that many can be compared at once.
+fn are_digits(bytes: &[u8]) -> bool
+    ensures { result ≡ list_all is_digit bytes.now }
+{
+    let mut all = true;
+    for byte in bytes {
+        all &= is_digit(*byte);
+    }
+    all
+}
+
+/// The number that the first eight bytes spell, where these are digits.
+fn eight_digits(bytes: &[u8]) -> Option<u64>
+    ensures within { IfSome result (λ n. 8 ≤ length bytes.now) }
+    ensures digits { IfSome result (λ n. All (λ b. is_digit b ≡ true) (take 8 bytes.now)) }
+    ensures value { IfSome result (λ n. n ≡ value (take 8 bytes.now)) }
+    ensures bound { IfSome result (λ n. n < 10 ^ 8) }
+{
+    if bytes.len() < 8 {
+        return None;
+    }
+    let front = &bytes[..8];
+    if !are_digits(front) {
+        return None;
+    }
+    Some(value_of(front))
+}
+
+/// The number that the first digits spell, at most 12 of them, and how many these are, where it is known of some of them.
+fn more_digits(bytes: &[u8], known: usize, number: u64) -> (u64, usize)
+    requires within { known ≤ length bytes.now }
+    requires short { known ≤ 12 }
+    requires digits { All (λ b. is_digit b ≡ true) (take known bytes.now) }
+    requires value { number ≡ value (take known bytes.now) }
+    requires bound { number < 10 ^ known }
+    ensures within { result.1 ≤ length bytes.now }
+    ensures short { result.1 ≤ 12 }
+    ensures digits { All (λ b. is_digit b ≡ true) (take result.1 bytes.now) }
+    ensures value { result.0 ≡ value (take result.1 bytes.now) }
+    ensures bound { result.0 < 10 ^ 12 }
+{
+    let end = bytes.len().min(12);
+    let mut n = number;
+    for i in known..end {
+        if !is_digit(bytes[i]) {
+            return (n, i);
+        }
+        n = n * 10 + u64::from(bytes[i] - b'0');
+    }
+    (n, end)
+}
+
 /// The number that the first digits spell, at most 12 of them, and how many these are.
+#[inline(always)]
 pub(crate) fn first_digits(bytes: &[u8]) -> (u64, usize)
     ensures within { result.1 ≤ length bytes.now }
     ensures short { result.1 ≤ 12 }
@@ -31,14 +85,10 @@ pub(crate) fn first_digits(bytes: &[u8]) -> (u64, usize)
     ensures value { result.0 ≡ value (take result.1 bytes.now) }
     ensures bound { result.0 < 10 ^ 12 }
 {
-    let mut n = 0;
-    for (i, byte) in bytes.iter().enumerate() {
-        if i == 12 || !is_digit(*byte) {
-            return (n, i);
-        }
-        n = n * 10 + u64::from(*byte - b'0');
+    match eight_digits(bytes) {
+        Some(number) => more_digits(bytes, 8, number),
+        None => more_digits(bytes, 0, 0),
     }
-    (n, bytes.len())
 }
 
 fn is_zero(byte: u8) -> bool

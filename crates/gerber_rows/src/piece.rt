@@ -1,7 +1,7 @@
 //! Extended items: the rows of the table of pieces, in its order.
 
 ghost use Rattle.std.specs.Prelude.{◌≡◌, ◌==◌, ◌||◌, ◌&&◌, ℤ, not, is_some, unwrap_or, [], ◌++◌, IfSome, IfNone, codes, true, false};
-ghost use Rattle.std.specs.List.{list_any, list_all};
+ghost use Rattle.std.specs.List.{list_all};
 ghost use Rattle.std.specs.Option.{option_copied, option_map};
 ghost use Rattle.grid_units.specs.Results.{both};
 ghost use Rattle.grid_units.specs.Numbers.{is_number, is_digit, dec_of};
@@ -16,7 +16,7 @@ use crate::command::{AttributeKind, Block, Command, Format, Spelled};
 use crate::fields::{behind, digits_field, number_field};
 use crate::item::ItemFail;
 use crate::number::read_nat;
-use crate::word::is_negative_image;
+use crate::word::{contains, is_negative_image};
 use grid_units::numbers::{is_digit, is_number};
 use grid_units::{Dec, Reason, Text, Unit, both};
 use std::alloc::Global;
@@ -464,18 +464,12 @@ fn read_pieces(alloc: Global, text: &[u8]) -> Result<Spelled, ItemFail>
     read_from_polarity(alloc, text)
 }
 
-fn has_star(text: &[u8]) -> bool
-    ensures { result ≡ list_any (λ b. b == 42) text.now }
-{
-    text.iter().any(|byte| *byte == b'*')
-}
-
 /// Pieces without their last `*`.
 #[tactic(auto, unfolding(crate::specs::Pieces::piece))]
 fn read_piece(alloc: Global, text: &[u8]) -> Result<Spelled, ItemFail>
     ensures { Gives result (piece text.now) }
 {
-    if has_star(text) && !begins(b"AM", text) {
+    if contains(text, b'*') && !begins(b"AM", text) {
         return Err(ItemFail::Refused(Reason::SeveralInOne));
     }
     read_pieces(alloc, text)

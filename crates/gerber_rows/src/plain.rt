@@ -37,6 +37,8 @@ fn first_int(bytes: &[u8]) -> Option<(i64, &[u8])>
 }
 
 /// The coordinate at the start of these bytes, where its letter stands there, and what stands behind it.
+// Most operations have no I and no J: without a call these cost a comparison each.
+#[inline(always)]
 fn first_coordinate(letter: u8, bytes: &[u8]) -> Option<(Option<i64>, &[u8])>
     ensures value { IfSome result (λ found. BeginsWithCoordinate letter bytes.now found.0 found.1.now) }
     ensures kept { IfSome result (λ found. found.0 ≢ Some left_out) }

@@ -439,10 +439,15 @@ fn read_old(text: &[u8]) -> Row
     }
 }
 
-fn has_percent(text: &[u8]) -> bool
-    ensures { result ≡ list_any (λ b. b == 37) text.now }
+/// Whether a byte stands in a text. No byte ends the loop, so that many can be compared at once.
+pub(crate) fn contains(text: &[u8], sought: u8) -> bool
+    ensures { result ≡ list_any (λ b. b == sought) text.now }
 {
-    text.iter().any(|b| *b == b'%')
+    let mut found = false;
+    for byte in text {
+        found |= *byte == sought;
+    }
+    found
 }
 
 /// The rows behind those of comments, in their order.
@@ -500,7 +505,7 @@ fn read_coordinates(plotting: bool, text: &[u8]) -> Result<Spelled, Reason>
 pub(crate) fn read_word(alloc: Global, plotting: bool, text: &[u8]) -> Result<Spelled, ItemFail>
     ensures { Gives result (word plotting text.now) }
 {
-    if has_percent(text) {
+    if contains(text, b'%') {
         return Err(ItemFail::Refused(Reason::BadWord));
     }
     if begins_with_coordinate(text) {

@@ -147,6 +147,8 @@ fn add(
 
 /// Adds a command behind an interpolation that may stand in front, both or none, and says whether the last operation is a
 /// plot.
+// Most items are operations: inlined, their command is written just once, where it is kept.
+#[inline(always)]
 fn add_behind(
     plotting: bool,
     place: u64,
@@ -187,6 +189,7 @@ fn add_one(
 }
 
 /// Adds two commands, or none.
+#[inline(never)]
 fn add_both(
     place: u64,
     byte: u64,

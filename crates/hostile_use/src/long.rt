@@ -1,8 +1,10 @@
-//! Texts above the limit of 268,435,456 bytes, which come in pieces and of which nothing is kept.
+//! Texts above the limit of 268,435,456 bytes, which come in pieces and of which nothing is kept, and one below it whose
+//! canonical text is above.
 
 use crate::answer::Answer;
 use crate::cuts::Tally;
 use crate::readers::Reader;
+use drill_text::{Drill, DrillReader, drill_sayable, write_drill};
 use grid_units::{Fail, Fault, Reason};
 use std::alloc::{AllocError, Global};
 
@@ -33,10 +35,55 @@ fn is_refused(alloc: Global, reader: Reader, front: &str, back: &str) -> Result<
     Ok(reader.repeated(alloc, &piece, PIECES) == Answer::Failed(Fail::Refused(wanted)))
 }
 
-/// Asks the readers that keep no comment.
+/// How many comments stand in the drill file below the limit: 260,046,848 bytes.
+const COMMENTS: u64 = 248;
+
+/// How many times 4,096 hits stand behind them: 7,311,360 bytes, and 9,400,320 where they are written anew.
+const HITS: u64 = 255;
+
+/// Feeds a piece so many times.
+fn feed_again(reader: &mut DrillReader, piece: &[u8], count: u64) -> Result<(), Fail> {
+    for _ in 0..count {
+        reader.feed(piece)?;
+    }
+    Ok(())
+}
+
+/// A drill file below the limit whose canonical text is above it.
+fn long_drill(alloc: Global) -> Result<Drill, Fail> {
+    let comment = piece(alloc, ";", "\n")?;
+    let hits = "X1.Y1.\n".repeat(alloc, 4_096)?;
+    let mut reader = DrillReader::new(alloc);
+    reader.feed(b"M48\nMETRIC\nT1C0.4\n%\nT1\n")?;
+    feed_again(&mut reader, &comment, COMMENTS)?;
+    feed_again(&mut reader, hits.as_bytes(), HITS)?;
+    reader.feed(b"M30\n")?;
+    reader.finish()
+}
+
+/// Whether a drill file that is read is refused where it is written.
+fn is_refused_written(alloc: Global) -> Result<bool, Fail> {
+    let wanted = Fault {
+        place: 0,
+        byte: 0,
+        reason: Reason::TooLong,
+    };
+    let drill = long_drill(alloc)?;
+    let commands = drill.commands();
+    if !drill_sayable(commands) {
+        return Ok(false);
+    }
+    match write_drill(alloc, commands) {
+        Ok(_) => Ok(false),
+        Err(fail) => Ok(fail == Fail::Refused(wanted)),
+    }
+}
+
+/// Asks the readers that keep no comment, and the writer of drill files.
 pub(crate) fn run(alloc: Global) -> Result<Tally, AllocError> {
     let mut tally = Tally::new();
     tally.count(is_refused(alloc, Reader::Sum, "G04", "*\n")?);
     tally.count(is_refused(alloc, Reader::Holes, ";", "\n")?);
+    tally.count(matches!(is_refused_written(alloc), Ok(true)));
     Ok(tally)
 }

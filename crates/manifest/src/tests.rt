@@ -126,6 +126,10 @@ fn spans_that_are_none_are_refused(rt: HostRuntime) {
             "of {fields}"
         );
     }
+}
+
+#[test]
+fn the_first_refusal_is_told_of_spans(rt: HostRuntime) {
     for (records, place, reason) in [
         ("copper,top,top.gbr,1,1\n", 2, Reason::BadSpan),
         ("copper,top,top.gbr,,1\n", 2, Reason::BadSpan),

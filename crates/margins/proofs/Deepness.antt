@@ -4,8 +4,9 @@ use Rattle.std.specs.Prelude.{◌&&◌, nat_le}
 use Rattle.std.specs.Int.{int_min}
 use Rattle.std.proofs.lemmas.Int.{ints, clamps}
 use Rattle.grid_units.specs.Points.{GridPoint, apart, square, square_distance}
+use Rattle.grid_units.specs.Holes.{GridHole}
 use Rattle.pad_shapes.specs.Shapes.{GridDisc, GridObround, end_radius, square_from_axis, disc_covers, obround_covers}
-use Rattle.margins.specs.Depths.{IsDepth}
+use Rattle.margins.specs.Depths.{IsDepth, IsDepthOfHole}
 use Rattle.margins.specs.DepthLaws.{both_le, le_both}
 
 -- within a circle of a radius: the far point's distance, rounded up, is the root
@@ -28,7 +29,7 @@ straight_depth dx dy half_x half_y n = (
   λ h. le_both (dx + n) half_x (dy + n) half_y (omega (arith, ints, clamps)) (omega (arith, ints, clamps)),
 )
 
-both_true : (a b : Bool) → (a && b) ≡ true → (a ≡ true) × (b ≡ true)
+pub both_true : (a b : Bool) → (a && b) ≡ true → (a ≡ true) × (b ≡ true)
 both_true true true e = (refl, refl)
 both_true true false e = absurd cc
 both_true false b e = absurd cc
@@ -57,3 +58,13 @@ pub obround_depth : (o : GridObround) (p : GridPoint) (radius dx dy root : ℕ) 
 obround_depth o p radius dx dy root r x y exact n =
     subst (λ (k : ℕ). (obround_covers o p n ≡ true) ↔ (pos n ≤ℤ (pos k -ℤ pos root))) (sym r)
     (round_depth (end_radius o) (square_from_axis o p) root n (root_of dx dy (apart p.x o.centre.x - (o.half_x - end_radius o)) (apart p.y o.centre.y - (o.half_y - end_radius o)) root x y exact))
+
+-- a round hole lies as deep as its centre
+pub round_hole : {S : Type 0} (covers : S → GridPoint → ℕ → Bool) (pad : S) (h : GridHole) (depth : ℤ) → h.from ≡ h.to → IsDepth covers pad h.from depth → IsDepthOfHole covers pad h depth
+round_hole covers pad h depth same is reach = (
+  λ e. (is reach).0 (both_true (covers pad h.from reach) (covers pad h.to reach) e).0,
+  λ l.
+      let first : covers pad h.from reach ≡ true = (is reach).1 l in
+      let second : covers pad h.to reach ≡ true = subst (λ (p : GridPoint). covers pad p reach ≡ true) same first in
+      rw (first, second) refl,
+)

@@ -7,3 +7,5 @@ pub mod Passing
 pub mod Existing
 pub mod Listed
 pub mod Trying
+pub mod Bettering
+pub mod Rowing

@@ -16,7 +16,8 @@ use Rattle.ring_rules.specs.Findings.{hole_findings, gap_findings}
 use Rattle.ring_rules.specs.declared.finding.Drilled.{Drilled}
 use Rattle.ring_rules.specs.declared.finding.Finding.{Finding}
 use Rattle.ring_rules.specs.declared.finding.Finding.TheVariants.{Gap}
-use Rattle.margins.specs.Nearness.{IsPair, IsNearest, IsHeld, IsTriedAt, AreTried}
+use Rattle.margins.specs.Nearness.{IsPair, IsNearest}
+use Rattle.margins.specs.Inner.Nearness.{IsHeld, IsTriedAt, AreTried}
 use Rattle.margins.specs.declared.nearest.Nearest.{Nearest}
 use Rattle.margins.proofs.Nearing.{no_further_trans, no_further_self}
 use Rattle.margins.proofs.Passing.{placed, clear_gap}

@@ -9,10 +9,13 @@ use Rattle.grid_units.specs.Holes.{GridHole}
 use Rattle.ring_rules.specs.Places.{nowhere}
 use Rattle.ring_rules.specs.Meeting.{hole_at}
 use Rattle.ring_rules.specs.declared.finding.Drilled.{Drilled}
-use Rattle.margins.specs.Meets.{HasLeast, IsLeast, AsksRing, AsksOn, AsksBefore, HasRing, IsRingOf, asks_ring, least_of, ring_by}
+use Rattle.margins.specs.Meets.{HasLeast, IsLeast, LacksAll, HasLeastHeld, IsLeastHeld, AreLeast, AsksRing, HasRing, IsRingOf, asks_ring}
+use Rattle.margins.specs.Rows.{ring_by}
+use Rattle.margins.specs.Inner.Meets.{held_of, AsksOn, AsksBefore, least_of}
 use Rattle.margins.specs.Bests.{IsBestPad, AreBest}
 use Rattle.margins.specs.declared.best.Best.{Best}
 use Rattle.margins.specs.declared.met.Met.{Met}
+use Rattle.margins.specs.declared.met.RingsMet.{RingsMet}
 use Rattle.margins.specs.declared.met.Met.TheVariants as mets
 
 by_order : {P : Type 0} (a b : ℤ) → (a ≤ℤ b → P) → (b ≤ℤ a → P) → P
@@ -57,23 +60,95 @@ module _ (asked : ℕ → ℕ → Type 0) (has : ℕ → ℕ → Option ℤ → 
       (λ ge. subst (HasLeast (Or asked a b) has) (let e : r ≡ int_min m r = omega (arith, ints, clamps, ge) in e)
       (new_least r (λ k l before. let w = so.least k l before in (w.0, w.1, (let q : m ≤ℤ w.0 = w.2 in omega (arith, ints, ge, q)))) h))
 
-  pub one_more : (met : Met) (r : Option ℤ) → IsLeast asked has met → has a b r → IsLeast (Or asked a b) has (least_of met r)
+  held_still : (m : ℤ) → HasLeastHeld asked has m → has a b None → HasLeastHeld (Or asked a b) has m
+  held_still m so h = record {
+    i = so.i;
+    j = so.j;
+    there = inl so.there;
+    reached = so.reached;
+    least = λ k l choice. elim choice [
+      | inl before ↦ so.least k l before
+      | inr new ↦ inl (at_pair k l None new.0 new.1 h)
+    ];
+  }
+
+  held_old : (m r : ℤ) → HasLeastHeld asked has m → has a b (Some r) → m ≤ℤ r → HasLeastHeld (Or asked a b) has m
+  held_old m r so h le = record {
+    i = so.i;
+    j = so.j;
+    there = inl so.there;
+    reached = so.reached;
+    least = λ k l choice. elim choice [
+      | inl before ↦ so.least k l before
+      | inr new ↦ inr (r, at_pair k l (Some r) new.0 new.1 h, le)
+    ];
+  }
+
+  held_new : (r : ℤ) → ((k l : ℕ) → asked k l → has k l None ⊎ ((other : ℤ) × has k l (Some other) × (r ≤ℤ other))) → has a b (Some r) → HasLeastHeld (Or asked a b) has r
+  held_new r so h = record {
+    i = a;
+    j = b;
+    there = inr (refl, refl);
+    reached = h;
+    least = λ k l choice. elim choice [
+      | inl before ↦ so k l before
+      | inr new ↦ inr (r, at_pair k l (Some r) new.0 new.1 h, omega (arith, ints))
+    ];
+  }
+
+  held_lesser : (m r : ℤ) → HasLeastHeld asked has m → has a b (Some r) → HasLeastHeld (Or asked a b) has (int_min m r)
+  held_lesser m r so h = by_order m r
+      (λ le. subst (HasLeastHeld (Or asked a b) has) (let e : m ≡ int_min m r = omega (arith, ints, clamps, le) in e) (held_old m r so h le))
+      (λ ge. subst (HasLeastHeld (Or asked a b) has) (let e : r ≡ int_min m r = omega (arith, ints, clamps, ge) in e)
+      (held_new r (λ k l before. elim (so.least k l before) [
+        | inl none ↦ inl none
+        | inr w ↦ inr (w.0, w.1, (let q : m ≤ℤ w.0 = w.2 in omega (arith, ints, ge, q)))
+      ]) h))
+
+  all_lack : ((k l : ℕ) → asked k l → has k l None) → has a b None → LacksAll (Or asked a b) has
+  all_lack so h = record {
+    i = a;
+    j = b;
+    there = inr (refl, refl);
+    nothing = λ k l choice. elim choice [
+      | inl before ↦ so k l before
+      | inr new ↦ at_pair k l None new.0 new.1 h
+    ];
+  }
+
+  one_more_held : (met : Met) (r : Option ℤ) → IsLeastHeld asked has met → has a b r → IsLeastHeld (Or asked a b) has (held_of met r)
+  one_more_held mets.Any None so h = all_lack (λ k l before. absurd (so k l before)) h
+  one_more_held (mets.Most m) None so h = held_still m so h
+  one_more_held mets.None None so h = all_lack so.nothing h
+  one_more_held mets.Any (Some r) so h = held_new r (λ k l before. absurd (so k l before)) h
+  one_more_held (mets.Most m) (Some r) so h = held_lesser m r so h
+  one_more_held mets.None (Some r) so h = held_new r (λ k l before. inl (so.nothing k l before)) h
+
+  one_more : (met : Met) (r : Option ℤ) → IsLeast asked has met → has a b r → IsLeast (Or asked a b) has (least_of met r)
   one_more met None so h = record { i = a; j = b; there = inr (refl, refl); nothing = h }
   one_more mets.Any (Some r) so h = new_least r (λ k l before. absurd (so k l before)) h
   one_more (mets.Most m) (Some r) so h = lesser_least m r so h
   one_more mets.None (Some r) so h = record { i = so.i; j = so.j; there = inl so.there; nothing = so.nothing }
 
 -- the same pairs, said in another way
-pub same_asked : (p q : ℕ → ℕ → Type 0) (has : ℕ → ℕ → Option ℤ → Type 0) → ((i j : ℕ) → p i j → q i j) → ((i j : ℕ) → q i j → p i j) → (met : Met) → IsLeast p has met → IsLeast q has met
+same_asked : (p q : ℕ → ℕ → Type 0) (has : ℕ → ℕ → Option ℤ → Type 0) → ((i j : ℕ) → p i j → q i j) → ((i j : ℕ) → q i j → p i j) → (met : Met) → IsLeast p has met → IsLeast q has met
 same_asked p q has to from mets.Any so = λ i j h. so i j (from i j h)
 same_asked p q has to from (mets.Most m) so = record { i = so.i; j = so.j; there = to so.i so.j so.there; reached = so.reached; least = λ k l h. so.least k l (from k l h) }
 same_asked p q has to from mets.None so = record { i = so.i; j = so.j; there = to so.i so.j so.there; nothing = so.nothing }
 
+same_held : (p q : ℕ → ℕ → Type 0) (has : ℕ → ℕ → Option ℤ → Type 0) → ((i j : ℕ) → p i j → q i j) → ((i j : ℕ) → q i j → p i j) → (met : Met) → IsLeastHeld p has met → IsLeastHeld q has met
+same_held p q has to from mets.Any so = λ i j h. so i j (from i j h)
+same_held p q has to from (mets.Most m) so = record { i = so.i; j = so.j; there = to so.i so.j so.there; reached = so.reached; least = λ k l h. so.least k l (from k l h) }
+same_held p q has to from mets.None so = record { i = so.i; j = so.j; there = to so.i so.j so.there; nothing = λ k l h. so.nothing k l (from k l h) }
+
+same_both : (p q : ℕ → ℕ → Type 0) (has : ℕ → ℕ → Option ℤ → Type 0) → ((i j : ℕ) → p i j → q i j) → ((i j : ℕ) → q i j → p i j) → (met : RingsMet) → AreLeast p has met → AreLeast q has met
+same_both p q has to from met so = record { ring = same_asked p q has to from met.ring so.ring; held = same_held p q has to from met.held so.held }
+
 -- one hole more that asks a ring on a layer
-pub hole_asks : (asked : ℕ → ℕ → Type 0) (has : ℕ → ℕ → Option ℤ → Type 0) (at count : ℕ) (holes : List Drilled) (met : Met) (r : Option ℤ) → count < length holes → asks_ring at (get_or holes count nowhere) ≡ true
-    → has at count r → IsLeast (λ i j. asked i j ⊎ AsksOn at count holes i j) has met → IsLeast (λ i j. asked i j ⊎ AsksOn at (count + 1) holes i j) has (least_of met r)
-hole_asks asked has at count holes met r inside asks h so =
-    same_asked (Or (λ i j. asked i j ⊎ AsksOn at count holes i j) at count) (λ i j. asked i j ⊎ AsksOn at (count + 1) holes i j) has
+pub hole_asks : (asked : ℕ → ℕ → Type 0) (has : ℕ → ℕ → Option ℤ → Type 0) (at count : ℕ) (holes : List Drilled) (met next : RingsMet) (r : Option ℤ) → count < length holes → asks_ring at (get_or holes count nowhere) ≡ true
+    → has at count r → next.ring ≡ least_of met.ring r → next.held ≡ held_of met.held r → AreLeast (λ i j. asked i j ⊎ AsksOn at count holes i j) has met → AreLeast (λ i j. asked i j ⊎ AsksOn at (count + 1) holes i j) has next
+hole_asks asked has at count holes met next r inside asks h ring held so =
+    same_both (Or (λ i j. asked i j ⊎ AsksOn at count holes i j) at count) (λ i j. asked i j ⊎ AsksOn at (count + 1) holes i j) has
     (λ i j choice. elim choice [
       | inl before ↦ elim before [
         | inl earlier ↦ inl earlier
@@ -93,13 +168,17 @@ hole_asks asked has at count holes met r inside asks h so =
         | inr more ↦ inr (here.here, (let l : j < count + 1 = here.below in omega (arith, l, more)))
       ]
     ])
-    (least_of met r) (one_more (λ i j. asked i j ⊎ AsksOn at count holes i j) has at count met r so h)
+    next
+    (record {
+      ring = subst (IsLeast (Or (λ i j. asked i j ⊎ AsksOn at count holes i j) at count) has) (sym ring) (one_more (λ i j. asked i j ⊎ AsksOn at count holes i j) has at count met.ring r so.ring h);
+      held = subst (IsLeastHeld (Or (λ i j. asked i j ⊎ AsksOn at count holes i j) at count) has) (sym held) (one_more_held (λ i j. asked i j ⊎ AsksOn at count holes i j) has at count met.held r so.held h);
+    })
 
 -- one hole more that asks none
-pub hole_asks_none : (asked : ℕ → ℕ → Type 0) (has : ℕ → ℕ → Option ℤ → Type 0) (at count : ℕ) (holes : List Drilled) (met : Met) → asks_ring at (get_or holes count nowhere) ≡ false
-    → IsLeast (λ i j. asked i j ⊎ AsksOn at count holes i j) has met → IsLeast (λ i j. asked i j ⊎ AsksOn at (count + 1) holes i j) has met
+pub hole_asks_none : (asked : ℕ → ℕ → Type 0) (has : ℕ → ℕ → Option ℤ → Type 0) (at count : ℕ) (holes : List Drilled) (met : RingsMet) → asks_ring at (get_or holes count nowhere) ≡ false
+    → AreLeast (λ i j. asked i j ⊎ AsksOn at count holes i j) has met → AreLeast (λ i j. asked i j ⊎ AsksOn at (count + 1) holes i j) has met
 hole_asks_none asked has at count holes met none so =
-    same_asked (λ i j. asked i j ⊎ AsksOn at count holes i j) (λ i j. asked i j ⊎ AsksOn at (count + 1) holes i j) has
+    same_both (λ i j. asked i j ⊎ AsksOn at count holes i j) (λ i j. asked i j ⊎ AsksOn at (count + 1) holes i j) has
     (λ i j choice. elim choice [
       | inl earlier ↦ inl earlier
       | inr here ↦ inr (record { here = here.here; below = (let l : j < count = here.below in omega (arith, l)); in_holes = here.in_holes; asks = here.asks })
@@ -116,17 +195,17 @@ hole_asks_none asked has at count holes met none so =
     met so
 
 -- no hole was asked yet
-pub no_hole : (asked : ℕ → ℕ → Type 0) (has : ℕ → ℕ → Option ℤ → Type 0) (at : ℕ) (holes : List Drilled) (met : Met) → IsLeast asked has met → IsLeast (λ i j. asked i j ⊎ AsksOn at 0 holes i j) has met
+pub no_hole : (asked : ℕ → ℕ → Type 0) (has : ℕ → ℕ → Option ℤ → Type 0) (at : ℕ) (holes : List Drilled) (met : RingsMet) → AreLeast asked has met → AreLeast (λ i j. asked i j ⊎ AsksOn at 0 holes i j) has met
 no_hole asked has at holes met so =
-    same_asked asked (λ i j. asked i j ⊎ AsksOn at 0 holes i j) has
+    same_both asked (λ i j. asked i j ⊎ AsksOn at 0 holes i j) has
     (λ i j h. inl h)
     (λ i j choice. elim choice [ inl earlier ↦ earlier | inr here ↦ absurd (let l : j < 0 = here.below in omega (arith, l)) ])
     met so
 
 -- one layer more
-pub layer_asks : (has : ℕ → ℕ → Option ℤ → Type 0) (count : ℕ) (holes : List Drilled) (met : Met) → IsLeast (λ i j. AsksRing count holes i j ⊎ AsksOn count (length holes) holes i j) has met → IsLeast (AsksRing (count + 1) holes) has met
+pub layer_asks : (has : ℕ → ℕ → Option ℤ → Type 0) (count : ℕ) (holes : List Drilled) (met : RingsMet) → AreLeast (λ i j. AsksRing count holes i j ⊎ AsksOn count (length holes) holes i j) has met → AreLeast (AsksRing (count + 1) holes) has met
 layer_asks has count holes met so =
-    same_asked (λ i j. AsksRing count holes i j ⊎ AsksOn count (length holes) holes i j) (AsksRing (count + 1) holes) has
+    same_both (λ i j. AsksRing count holes i j ⊎ AsksOn count (length holes) holes i j) (AsksRing (count + 1) holes) has
     (λ i j choice. elim choice [
       | inl earlier ↦ record { in_layers = (let l : i < count = earlier.in_layers in omega (arith, l)); in_holes = earlier.in_holes; asks = earlier.asks }
       | inr here ↦ record {
@@ -144,8 +223,10 @@ layer_asks has count holes met so =
     met so
 
 -- no layer was asked yet
-pub no_layer : (has : ℕ → ℕ → Option ℤ → Type 0) (holes : List Drilled) → IsLeast (AsksRing 0 holes) has mets.Any
-no_layer has holes i j h = let l : i < 0 = h.in_layers in absurd (omega (arith, l))
+pub no_layer : (has : ℕ → ℕ → Option ℤ → Type 0) (holes : List Drilled) (met : RingsMet) → met.ring ≡ mets.Any → met.held ≡ mets.Any → AreLeast (AsksRing 0 holes) has met
+no_layer has holes met ring held = record { ring = subst (IsLeast (AsksRing 0 holes) has) (sym ring) none; held = subst (IsLeastHeld (AsksRing 0 holes) has) (sym held) none } where
+  none : (i j : ℕ) → AsksRing 0 holes i j → ⊥
+  none i j h = let l : i < 0 = h.in_layers in absurd (omega (arith, l))
 
 -- the ring of a hole by its best pad
 pub ring_of_best : {S : Type 0} (covers : S → GridPoint → ℕ → Bool) (pads : List S) (hole : GridHole) (best : Option Best) → IsBestPad covers pads hole best → IsRingOf covers pads hole (ring_by best hole)
@@ -153,10 +234,11 @@ ring_of_best covers pads hole None is = is
 ring_of_best covers pads hole (Some best) is = record { best = best; straight = is.0; deepest = is.1; less = refl }
 
 -- one hole more that asks a ring, by its best pad
-pub hole_by_best : {S : Type 0} (covers : S → GridPoint → ℕ → Bool) (layers : List (List S)) (pads : List S) (holes : List Drilled) (bests : List (Option Best)) (at count : ℕ) (d : Drilled) (best : Option Best) (met : Met)
+pub hole_by_best : {S : Type 0} (covers : S → GridPoint → ℕ → Bool) (layers : List (List S)) (pads : List S) (holes : List Drilled) (bests : List (Option Best)) (at count : ℕ) (d : Drilled) (best : Option Best) (met next : RingsMet)
     → get_or layers at [] ≡ pads → AreBest covers pads holes bests → count < length holes → d ≡ get_or holes count d → best ≡ get_or bests count best → asks_ring at d ≡ true
-    → IsLeast (AsksBefore at count holes) (HasRing covers layers holes) met → IsLeast (AsksBefore at (count + 1) holes) (HasRing covers layers holes) (least_of met (ring_by best d.hole))
-hole_by_best {S} covers layers pads holes bests at count d best met at_layer are inside here is asks so =
+    → next.ring ≡ least_of met.ring (ring_by best d.hole) → next.held ≡ held_of met.held (ring_by best d.hole)
+    → AreLeast (AsksBefore at count holes) (HasRing covers layers holes) met → AreLeast (AsksBefore at (count + 1) holes) (HasRing covers layers holes) next
+hole_by_best {S} covers layers pads holes bests at count d best met next at_layer are inside here is asks ring_is held_is so =
     let d_is : d ≡ get_or holes count nowhere = here ∙ get_or_default holes count d nowhere inside in
     let best_is : best ≡ get_or bests count None = is ∙ get_or_default bests count best None (let s : length bests ≡ length holes = are.size in omega (arith, s, inside)) in
     let ring : IsRingOf covers pads (hole_at holes count) (ring_by best (hole_at holes count)) =
@@ -164,4 +246,4 @@ hole_by_best {S} covers layers pads holes bests at count d best met at_layer are
     let has : HasRing covers layers holes at count (ring_by best d.hole) =
     subst (λ (ps : List S). IsRingOf covers ps (hole_at holes count) (ring_by best d.hole)) (sym at_layer)
     (subst (λ (x : Drilled). IsRingOf covers pads (hole_at holes count) (ring_by best x.hole)) (sym d_is) ring) in
-    hole_asks (AsksRing at holes) (HasRing covers layers holes) at count holes met (ring_by best d.hole) inside (ap (asks_ring at) (sym d_is) ∙ asks) has so
+    hole_asks (AsksRing at holes) (HasRing covers layers holes) at count holes met next (ring_by best d.hole) inside (ap (asks_ring at) (sym d_is) ∙ asks) has ring_is held_is so

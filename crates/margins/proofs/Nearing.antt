@@ -9,7 +9,8 @@ use Rattle.ring_rules.specs.Places.{nowhere}
 use Rattle.ring_rules.specs.Meeting.{hole_at}
 use Rattle.ring_rules.specs.declared.finding.Drilled.{Drilled}
 use Rattle.margins.specs.Gaps.{IsGap}
-use Rattle.margins.specs.Nearness.{IsPair, IsNoFurther, IsNearest, IsNearestOf, IsPairBefore, IsNearer}
+use Rattle.margins.specs.Nearness.{IsPair, IsNoFurther, IsNearest, IsNearestOf}
+use Rattle.margins.specs.Inner.Nearness.{IsPairBefore, IsNearer}
 use Rattle.margins.specs.declared.nearest.Nearest.{Nearest}
 
 -- two holes have one gap

@@ -5,7 +5,8 @@ use Rattle.ring_rules.specs.declared.finding.Drilled.{Drilled}
 use Rattle.ring_rules.specs.declared.finding.Finding.{Finding}
 use Rattle.ring_rules.specs.declared.finding.Finding.TheVariants.{Gap}
 use Rattle.margins.specs.Gaps.{IsGap}
-use Rattle.margins.specs.Nearness.{IsPair, IsNoFurther, IsPairAt, IsHeld, IsTried, IsTriedAt}
+use Rattle.margins.specs.Nearness.{IsPair, IsNoFurther}
+use Rattle.margins.specs.Inner.Nearness.{IsPairAt, IsHeld, IsTried, IsTriedAt}
 use Rattle.margins.specs.declared.nearest.Nearest.{Nearest}
 use Rattle.margins.proofs.Nearing.{no_further_self, no_further_same, one_gap}
 

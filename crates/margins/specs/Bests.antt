@@ -1,5 +1,5 @@
 -- The shape of a list in which a hole lies deepest. Lengths are whole picometres.
-use Rattle.std.specs.Prelude.{◌≡◌, ℕ, ◌+◌, ◌<◌, ◌≤◌, ◌⊎◌, Bool, true, false, Option, Some, None, List, length, get_or}
+use Rattle.std.specs.Prelude.{◌≡◌, ℕ, ◌<◌, ◌≤◌, ◌⊎◌, Bool, true, false, Option, Some, None, List, length, get_or}
 use Rattle.grid_units.specs.Points.{GridPoint}
 use Rattle.grid_units.specs.Holes.{GridHole}
 use Rattle.pad_shapes.specs.Shapes.{max_half_side, covers_ends}
@@ -38,26 +38,3 @@ IsBestPad covers pads h (Some best) = (is_oblique h ≡ false) × IsBest covers 
 pub record AreBest {S : Type 0} (covers : S → GridPoint → ℕ → Bool) (pads : List S) (holes : List Drilled) (bests : List (Option Best)) : Type 0 where
   pub size : length bests ≡ length holes
   pub each : (k : ℕ) → k < length holes → IsBestPad covers pads (hole_at holes k) (get_or bests k None)
-
--- how deep a hole must lie for a shape to be better than the best so far (docs/DEFINITIONS.md, Best pads)
-abbrev pub asked : Option Best → ℕ
-asked None = 0
-asked (Some best) = best.depth + 1
-
--- the next shape, which covers with the reaches that a test tells, was not better than the best so far (docs/DEFINITIONS.md, Best pads)
-pub record IsKept (test : ℕ → Bool) (best result : Option Best) : Type 0 where
-  pub same : result ≡ best
-  pub below : (reach : ℕ) → test reach ≡ true → reach < asked best
-
--- or it was, and is the best now (docs/DEFINITIONS.md, Best pads)
-pub record IsTaken (test : ℕ → Bool) (best : Option Best) (place : ℕ) (result : Option Best) : Type 0 where
-  pub depth : ℕ
-  pub is : result ≡ Some (record { pad = place; depth = depth })
-  pub in_range : depth ≤ max_half_side
-  pub deeper : asked best ≤ depth
-  pub covered : test depth ≡ true
-  pub deepest : (reach : ℕ) → test reach ≡ true → reach ≤ depth
-
--- the better of the two (docs/DEFINITIONS.md, Best pads)
-abbrev pub IsBetter : (ℕ → Bool) → Option Best → ℕ → Option Best → Type 0
-IsBetter test best place result = IsKept test best result ⊎ IsTaken test best place result

@@ -4,3 +4,5 @@ pub mod Gaps
 pub mod Bests
 pub mod Nearness
 pub mod Meets
+pub mod Rows
+pub mod Inner

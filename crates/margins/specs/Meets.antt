@@ -1,6 +1,5 @@
 -- The greatest ring and the greatest gap that a board meets. Lengths are whole picometres.
 use Rattle.std.specs.Prelude.{◌≡◌, ◌↔◌, ℕ, ℤ, pos, ◌<◌, ◌-ℤ◌, ◌≤ℤ◌, ◌⊎◌, Bool, true, false, ◌&&◌, Option, Some, None, List, [], length, get_or}
-use Rattle.std.specs.Int.{int_min}
 use Rattle.grid_units.specs.Points.{GridPoint}
 use Rattle.grid_units.specs.Holes.{GridHole}
 use Rattle.grid_units.specs.Spans.{is_in_span}
@@ -13,6 +12,7 @@ use Rattle.margins.specs.Bests.{IsBest, IsBare}
 use Rattle.margins.specs.Nearness.{IsPair}
 use Rattle.margins.specs.declared.best.Best.{Best}
 use Rattle.margins.specs.declared.met.Met.{Met}
+use Rattle.margins.specs.declared.met.RingsMet.{RingsMet}
 use Rattle.margins.specs.declared.met.Met.TheVariants as mets
 
 -- a rule is allowed by what is met: any, those up to a length, or none (docs/DEFINITIONS.md, What a board meets)
@@ -41,6 +41,27 @@ abbrev pub IsLeast : (ℕ → ℕ → Type 0) → (ℕ → ℕ → Option ℤ �
 IsLeast asked has mets.Any = (i j : ℕ) → asked i j → ⊥
 IsLeast asked has (mets.Most length) = HasLeast asked has length
 IsLeast asked has mets.None = LacksOne asked has
+
+-- some pair is asked, and each that is has nothing (docs/DEFINITIONS.md, What a board meets)
+pub record LacksAll (asked : ℕ → ℕ → Type 0) (has : ℕ → ℕ → Option ℤ → Type 0) : Type 0 where
+  pub i : ℕ
+  pub j : ℕ
+  pub there : asked i j
+  pub nothing : (k l : ℕ) → asked k l → has k l None
+
+-- an asked pair has this length, and each has nothing or one that is no less (docs/DEFINITIONS.md, What a board meets)
+pub record HasLeastHeld (asked : ℕ → ℕ → Type 0) (has : ℕ → ℕ → Option ℤ → Type 0) (length : ℤ) : Type 0 where
+  pub i : ℕ
+  pub j : ℕ
+  pub there : asked i j
+  pub reached : has i j (Some length)
+  pub least : (k l : ℕ) → asked k l → has k l None ⊎ ((other : ℤ) × has k l (Some other) × (length ≤ℤ other))
+
+-- what is met where pairs that have nothing are passed over: any rule if none is asked, none if all have nothing, else up to the least length that one has (docs/DEFINITIONS.md, What a board meets)
+abbrev pub IsLeastHeld : (ℕ → ℕ → Type 0) → (ℕ → ℕ → Option ℤ → Type 0) → Met → Type 0
+IsLeastHeld asked has mets.Any = (i j : ℕ) → asked i j → ⊥
+IsLeastHeld asked has (mets.Most length) = HasLeastHeld asked has length
+IsLeastHeld asked has mets.None = LacksAll asked has
 
 -- a hole asks a ring on a layer: it is plated and goes through it (docs/DEFINITIONS.md, What a board meets)
 abbrev pub asks_ring : ℕ → Drilled → Bool
@@ -77,6 +98,19 @@ HasGap holes i j (Some gap) = IsGap (hole_at holes i) (hole_at holes j) gap
 abbrev pub MeetsRings : {S : Type 0} → (S → GridPoint → ℕ → Bool) → List (List S) → List Drilled → Met → Type 0
 MeetsRings covers layers holes met = IsLeast (AsksRing (length layers) holes) (HasRing covers layers holes) met
 
+-- what a board meets of rings at those holes that are not bare (docs/DEFINITIONS.md, What a board meets)
+abbrev pub MeetsHeld : {S : Type 0} → (S → GridPoint → ℕ → Bool) → List (List S) → List Drilled → Met → Type 0
+MeetsHeld covers layers holes met = IsLeastHeld (AsksRing (length layers) holes) (HasRing covers layers holes) met
+
+-- what is met where some pairs are asked, with those that have nothing and without (docs/DEFINITIONS.md, What a board meets)
+pub record AreLeast (asked : ℕ → ℕ → Type 0) (has : ℕ → ℕ → Option ℤ → Type 0) (met : RingsMet) : Type 0 where
+  pub ring : IsLeast asked has met.ring
+  pub held : IsLeastHeld asked has met.held
+
+-- what the first so many layers of a board meet of rings (docs/DEFINITIONS.md, What a board meets)
+abbrev pub MeetsOn : {S : Type 0} → (S → GridPoint → ℕ → Bool) → List (List S) → List Drilled → ℕ → RingsMet → Type 0
+MeetsOn covers layers holes count met = AreLeast (AsksRing count holes) (HasRing covers layers holes) met
+
 -- what a board meets of gaps (docs/DEFINITIONS.md, What a board meets)
 abbrev pub MeetsGaps : List Drilled → Met → Type 0
 MeetsGaps holes met = IsLeast (IsPair holes) (HasGap holes) met
@@ -96,26 +130,3 @@ RingsPassExactly {S} covers = (layers : List (List S)) (holes : List Drilled) (m
 -- and of all gaps (docs/DEFINITIONS.md, What a board meets)
 abbrev pub GapsPassExactly : Type 0
 GapsPassExactly = (holes : List Drilled) (met : Met) → MeetsGaps holes met → GapsPass holes met
-
--- one more length, or nothing, beside what is met so far (docs/DEFINITIONS.md, What a board meets)
-abbrev pub least_of : Met → Option ℤ → Met
-least_of met None = mets.None
-least_of mets.Any (Some length) = mets.Most length
-least_of (mets.Most held) (Some length) = mets.Most (int_min held length)
-least_of mets.None (Some length) = mets.None
-
--- the ring of a hole by its best pad (docs/DEFINITIONS.md, What a board meets)
-abbrev pub ring_by : Option Best → GridHole → Option ℤ
-ring_by None hole = None
-ring_by (Some best) hole = Some (pos best.depth -ℤ pos hole.radius)
-
--- the first so many holes that ask a ring on one layer (docs/DEFINITIONS.md, What a board meets)
-pub record AsksOn (at count : ℕ) (holes : List Drilled) (layer hole : ℕ) : Type 0 where
-  pub here : layer ≡ at
-  pub below : hole < count
-  pub in_holes : hole < length holes
-  pub asks : asks_ring at (get_or holes hole nowhere) ≡ true
-
--- the holes that ask a ring on the layers before one, and the first so many on that one (docs/DEFINITIONS.md, What a board meets)
-abbrev pub AsksBefore : ℕ → ℕ → List Drilled → ℕ → ℕ → Type 0
-AsksBefore layers count holes i j = AsksRing layers holes i j ⊎ AsksOn layers count holes i j

@@ -43,6 +43,9 @@ pub fn depth_of_hole<S: Deep>(pad: &S, hole: &Hole) -> i64
     ensures in_range { result ≤ℤ pos max_half_side }
 {
     let from = pad.depth(hole.from());
+    if hole.is_round() {
+        return from;
+    }
     let to = pad.depth(hole.to());
     from.min(to)
 }

@@ -5,19 +5,25 @@
 #![tactic(auto)]
 
 mod best;
+mod bests;
 mod deep;
 mod gap;
 pub mod laws;
 mod met;
 mod nearest;
 mod roots;
+mod row;
 mod shapes;
 
-pub use best::{Best, best_pad, best_pads};
+pub use best::Best;
+pub use bests::{best_pad, best_pads};
 pub use deep::{Deep, depth_of_hole};
 pub use gap::gap_between;
-pub use met::{Met, gap_met, ring_met};
+pub use met::{
+    Met, RingsMet, asks_ring, gap_met, held_met, met_by_none, met_with, ring_met, rings_met,
+};
 pub use nearest::{Nearest, nearest_holes};
+pub use row::{LeastRing, RingRow, ring_row};
 
 #[cfg(test)]
 mod tests;

@@ -4,7 +4,8 @@
 //! them are fewer than the holes. They are looked up as the findings of a gap.
 
 ghost use Rattle.std.specs.Prelude.{◌≡◌, ◌+◌, ◌<◌, ◌<ℤ◌, pos, length, true, false, IfOk, IfSome};
-ghost use Rattle.margins.specs.Nearness.{IsNoFurther, IsNearer, IsNearestOf, IsPair, IsPairBefore, IsPairAt, IsHeld, IsTried, IsTriedAt, AreTried, IsStart};
+ghost use Rattle.margins.specs.Nearness.{IsNoFurther, IsNearestOf, IsPair};
+ghost use Rattle.margins.specs.Inner.Nearness.{IsNearer, IsPairBefore, IsPairAt, IsHeld, IsTried, IsTriedAt, AreTried, IsStart};
 
 use crate::gap::gap_between;
 use grid_units::Rules;

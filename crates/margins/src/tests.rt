@@ -259,3 +259,88 @@ fn nearest_of_many(rt: HostRuntime) -> Result<(), Fail> {
     assert_eq!(rt; near.gap, 299_999_000);
     Ok(())
 }
+
+/// A bare hole meets no ring, and is passed over where only those count that are held.
+#[test]
+fn held_rings(rt: HostRuntime) -> Result<(), Fail> {
+    let pads = [disc(0, 0, 1_000_000_000)?];
+    let layers = [pads.as_slice()];
+    let held = drilled(round(0, 0, 200_000_000)?);
+    let bare = drilled(round(5_000_000_000, 0, 200_000_000)?);
+    let met = rings_met(rt.alloc(), &layers, &[bare, held, bare])?;
+    assert_eq!(rt; matches!(met.ring, Met::None), true);
+    assert_eq!(rt; most(met.held)?, 800_000_000);
+    let met = held_met(rt.alloc(), &layers, &[bare])?;
+    assert_eq!(rt; matches!(met, Met::None), true);
+    let none: [Drilled; 0] = [];
+    let met = held_met(rt.alloc(), &layers, &none)?;
+    assert_eq!(rt; matches!(met, Met::Any), true);
+    Ok(())
+}
+
+/// The row of some holes names the first hole with the least ring, by its place among all.
+#[test]
+fn rows_of_rings(rt: HostRuntime) -> Result<(), Fail> {
+    let pads = [disc(0, 0, 2_000_000_000)?];
+    let middle = drilled(round(0, 0, 200_000_000)?);
+    let beside = drilled(round(1_000_000_000, 1_000_000_000, 200_000_000)?);
+    let holes = [middle, beside, beside];
+    let bests = best_pads(rt.alloc(), &pads, &holes)?;
+    let row = ring_row(&bests, &holes, &[0, 1, 2]);
+    assert_eq!(rt; row.holes, 3);
+    assert_eq!(rt; row.bare, 0);
+    let least = row.least.ok_or("least")?;
+    assert_eq!(rt; least.ring, 385_786_437);
+    assert_eq!(rt; least.hole, 1);
+    let row = ring_row(&bests, &holes, &[0]);
+    assert_eq!(rt; row.least.ok_or("least")?.ring, 1_800_000_000);
+    Ok(())
+}
+
+/// Holes whose coordinates are ten times too small are all bare.
+#[test]
+fn row_of_bare_holes(rt: HostRuntime) -> Result<(), Fail> {
+    let pads = [
+        disc(10_000_000_000, 0, 300_000_000)?,
+        disc(20_000_000_000, 0, 300_000_000)?,
+        disc(30_000_000_000, 10_000_000_000, 300_000_000)?,
+    ];
+    let holes = [
+        drilled(round(1_000_000_000, 0, 200_000_000)?),
+        drilled(round(2_000_000_000, 0, 200_000_000)?),
+        drilled(round(3_000_000_000, 1_000_000_000, 200_000_000)?),
+    ];
+    let bests = best_pads(rt.alloc(), &pads, &holes)?;
+    let row = ring_row(&bests, &holes, &[0, 1, 2]);
+    assert_eq!(rt; row.bare, 3);
+    assert_eq!(rt; row.least.is_none(), true);
+    Ok(())
+}
+
+/// The best pad of the hole at a place.
+fn best_at(bests: &[Option<Best>], hole: usize) -> Result<Best, Fail> {
+    match bests.get(hole) {
+        Some(Some(best)) => Ok(*best),
+        _ => Err("bare")?,
+    }
+}
+
+/// On a board of many pads each hole has its own pad, and the pad over all of them where that is the deeper one.
+#[test]
+fn best_of_many_pads(rt: HostRuntime) -> Result<(), Fail> {
+    let mut pads = Vec::new(rt.alloc());
+    let mut holes = Vec::new(rt.alloc());
+    for place in 0..100 {
+        let x = i64::from(place) * 1_000_000_000;
+        pads.push(disc(x, 0, 300_000_000)?)?;
+        holes.push(drilled(round(x, 0, 200_000_000)?))?;
+    }
+    pads.push(rect(50_000_000_000, 0, 60_000_000_000, 250_000_000)?)?;
+    holes.push(drilled(round(500_000_000, 0, 200_000_000)?))?;
+    let bests = best_pads(rt.alloc(), &pads, &holes)?;
+    assert_eq!(rt; best_at(&bests, 37)?.pad, 37);
+    let between = best_at(&bests, 100)?;
+    assert_eq!(rt; between.pad, 100);
+    assert_eq!(rt; between.depth, 250_000_000);
+    Ok(())
+}

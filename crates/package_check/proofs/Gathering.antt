@@ -39,29 +39,6 @@ flat_more f out ys xs i x lt is value was =
     ∙ (ap (λ zs. flat_map f (take i xs) ++ zs) (sym (append-nil (f (get_or xs i x))))
     ∙ (sym (flat_map-append f (take i xs) (get_or xs i x ∷ [])) ∙ ap (flat_map f) (sym (take_more xs i x lt)))))
 
--- the list with its places, by one more element
-numbered_push : {X : Type 0} (n : ℕ) (xs : List X) (x : X) → enumerate_from n (xs ++ x ∷ []) ≡ enumerate_from n xs ++ (n + length xs, x) ∷ []
-numbered_push n [] x = let e : n + 0 ≡ n = omega arith in rw e refl
-numbered_push n (y ∷ ys) x =
-    let e : n + suc (length ys) ≡ n + 1 + length ys = omega arith in
-    ap (λ zs. (n, y) ∷ zs) (numbered_push (n + 1) ys x) ∙ ap (λ k. (n, y) ∷ (enumerate_from (n + 1) ys ++ (k, x) ∷ [])) (sym e)
-
-length_take : {X : Type 0} (i : ℕ) (xs : List X) → i ≤ length xs → length (take i xs) ≡ i
-length_take zero xs h = refl
-length_take (suc i) [] h = absurd (omega arith)
-length_take (suc i) (x ∷ xs) h = ap suc (length_take i xs (omega arith))
-
-pub holes_more : (file : ℕ) (plated : Bool) (span : Option LayerSpan) (xs : List GridHole) (i : ℕ) (x : GridHole) → i < length xs → x ≡ get_or xs i x
-    → file_holes file plated span (take (i + 1) xs) ≡ file_holes file plated span (take i xs) ++ record { file = file; number = i + 1; drilled = record { hole = x; plated = plated; span = span } } ∷ []
-holes_more file plated span xs i x lt is =
-    let f = λ (hole : ℕ × GridHole). let n : Numbered = record { file = file; number = hole.0; drilled = record { hole = hole.1; plated = plated; span = span } } in n in
-    let e : 1 + length (take i xs) ≡ i + 1 = omega (arith, length_take i xs (omega (arith, lt))) in
-    ap (file_holes file plated span) (take_more xs i x lt)
-    ∙ (ap (λ h. file_holes file plated span (take i xs ++ h ∷ [])) (sym is)
-    ∙ (ap (map f) (numbered_push 1 (take i xs) x)
-    ∙ (map-append f (enumerate_from 1 (take i xs)) ((1 + length (take i xs), x) ∷ [])
-    ∙ ap (λ k. file_holes file plated span (take i xs) ++ f (k, x) ∷ []) e)))
-
 pub read_more : (sources : List Source) (contents : List Content) (source : Source) (one : Content) → AreRead sources contents → Reads source (Ok one)
     → AreRead (sources ++ source ∷ []) (contents ++ one ∷ [])
 read_more [] [] source one h r = (r, tt)

@@ -1,4 +1,5 @@
 pub mod Gathering
+pub mod Boarding
 pub mod Passing
 pub mod Places
 pub mod Same

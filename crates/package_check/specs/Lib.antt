@@ -1,4 +1,5 @@
 pub mod Alike
+pub mod Boards
 pub mod Images
 pub mod Package
 pub mod Readers

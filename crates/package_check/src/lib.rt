@@ -1,6 +1,7 @@
 //! The check of a package: each file is read, and the rules are applied to what the files say.
 #![tactic(auto)]
 
+mod board;
 mod contents;
 pub mod laws;
 mod package;
@@ -11,15 +12,16 @@ mod readers;
 mod report;
 mod streaming;
 
+pub use board::Board;
 use grid_units::Fault;
 pub use manifest::Role;
-pub use package::check_bytes;
+pub use package::{check_bytes, read_package};
 pub use package_reader::PackageReader;
 pub use pieces::check_pieces;
 pub use report::Report;
 use ring_rules::Drilled;
 pub use ring_rules::Span;
-pub use streaming::{PrintFault, print_report, write_report};
+pub use streaming::{PrintFault, print_files, print_report, write_report};
 use thiserror::Error;
 
 /// A file of a package.

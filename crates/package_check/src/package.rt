@@ -1,6 +1,7 @@
 // The check of a package.
 ghost use Rattle.std.specs.Prelude.{◌≡◌, ◌<◌, ℕ, [], Result, IfOk};
 ghost use Rattle.grid_units.specs.declared.fault.Fault.{Fault as TheFault};
+ghost use Rattle.package_check.specs.Boards.{AnswersBoard};
 ghost use Rattle.package_check.specs.Package.{AnswersJust, AnswersPackage, IsAnswer, NamesItsPlaces, layer_count, sources_of};
 ghost use Rattle.package_check.specs.Reports.{Account};
 ghost use Rattle.package_check.specs.Soundness.{AreStraight, IsSound};
@@ -8,7 +9,7 @@ ghost use Rattle.package_check.specs.Standing.{PackageStandsAfter};
 
 use crate::contents::is_copper;
 use crate::laws::{findings_name_their_places, one_answer, one_reading, passing_is_sound};
-use crate::{File, PackageFault, PackageReader, Report};
+use crate::{Board, File, PackageFault, PackageReader, Report};
 use grid_units::Rules;
 use std::alloc::{AllocError, Global};
 
@@ -57,4 +58,18 @@ pub fn check_bytes(alloc: Global, files: &[File], rules: Rules) -> Result<Report
     findings_name_their_places();
     passing_is_sound();
     report_of(alloc, files, rules)
+}
+
+/// What the files say, all of them together.
+///
+/// # Errors
+///
+/// As those of [`check_bytes`].
+pub fn read_package(alloc: Global, files: &[File]) -> Result<Board, PackageFault>
+    ensures { AnswersBoard (sources_of files.now) result }
+{
+    match reader_of(alloc, files) {
+        Ok(reader) => reader.board(),
+        Err(_) => Err(PackageFault::Memory),
+    }
 }

@@ -3,15 +3,17 @@
 ghost use Rattle.std.specs.Prelude.{◌≡◌, ◌++◌, ◌∷◌, ℕ, List, [], Err, Result, IfOk, OnOk, OnErr, alloc_error, map};
 ghost use Rattle.std.specs.List.{concat};
 ghost use Rattle.grid_units.specs.declared.fault.Fault.{Fault as TheFault};
+ghost use Rattle.package_check.specs.Boards.{AnswersBoard};
 ghost use Rattle.package_check.specs.Package.{AnswersJust, AnswersPackage, IsAnswer, NamesItsPlaces, Source, nameless};
 ghost use Rattle.package_check.specs.Reports.{Account};
 ghost use Rattle.package_check.specs.Soundness.{IsSound};
 ghost use Rattle.package_check.specs.Standing.{ReadsNext};
 
+use crate::board::board_on;
 use crate::contents::{Content, read_file};
 use crate::laws::{findings_name_their_places, one_answer, one_reading, passing_is_sound};
 use crate::report::report_on;
-use crate::{PackageFault, Report, Role};
+use crate::{Board, PackageFault, Report, Role};
 use grid_units::{Fail, Rules};
 use ring_rules::Span;
 use std::alloc::{AllocError, Global};
@@ -103,8 +105,28 @@ impl PackageReader {
         self.answer(rules)
     }
 
+    #[tactic(auto, using(crate::proofs::Boarding::reported_on))]
     fn answer(self, rules: Rules) -> Result<Report, PackageFault>
         ensures { (sources : List Source) → PackageStandsAfter self sources → AnswersPackage sources rules result }
+    {
+        let alloc = self.alloc;
+        match self.board() {
+            Ok(board) => match report_on(alloc, board, rules) {
+                Ok(report) => Ok(report),
+                Err(_) => Err(PackageFault::Memory),
+            },
+            Err(fault) => Err(fault),
+        }
+    }
+
+    /// What the files that were taken say, all of them together. What a drill file says of its holes is let go of as they are
+    /// listed.
+    ///
+    /// # Errors
+    ///
+    /// As those of [`PackageReader::finish`].
+    pub fn board(self) -> Result<Board, PackageFault>
+        ensures { (sources : List Source) → PackageStandsAfter self sources → AnswersBoard sources result }
     {
         match self.stopped {
             Some(Fail::Memory) => Err(PackageFault::Memory),
@@ -112,8 +134,8 @@ impl PackageReader {
                 index: self.contents.len(),
                 fault,
             }),
-            None => match report_on(self.alloc, &self.contents, rules) {
-                Ok(report) => Ok(report),
+            None => match board_on(self.alloc, self.contents) {
+                Ok(board) => Ok(board),
                 Err(_) => Err(PackageFault::Memory),
             },
         }

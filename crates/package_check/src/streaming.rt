@@ -8,7 +8,7 @@ ghost use Rattle.package_check.specs.Streaming.{PassesOn};
 ghost use Rattle.package_check.specs.Texts.{file_lines, finding_line, last_line, report_text, rules_line, text_of};
 
 use crate::printing::{push_files, push_finding, push_last, push_rules};
-use crate::{File, Report};
+use crate::{File, FileSum, Report};
 use ring_rules::Finding;
 use std::alloc::{AllocError, Global};
 use std::io::Write;
@@ -115,6 +115,35 @@ pub fn print_report<W: Write>(
     };
     gather_all(&mut text, report, out)?;
     end(&mut text, report, out)
+}
+
+/// The lines of the files.
+fn files_lines(alloc: Global, names: &[&str], files: &[FileSum]) -> Result<String, AllocError>
+    ensures { IfOk result (λ text. string_bytes text ≡ file_lines 1 (map (λ name. name.now) names.now) files.now) }
+{
+    let mut text = String::new(alloc);
+    push_files(&mut text, names, files)?;
+    Ok(text)
+}
+
+/// Prints the lines on the files alone, by their names and how much each holds: as many as there are of both.
+///
+/// # Errors
+///
+/// As those of [`print_report`].
+pub fn print_files<W: Write>(
+    alloc: Global,
+    names: &[&str],
+    files: &[FileSum],
+    out: &mut W,
+) -> Result<(), PrintFault>
+    ensures ok { OnOk result (Appends (W.contents out.old) (W.contents out.new) (file_lines 1 (map (λ name. name.now) names.now) files.now)) }
+    ensures memory { IfErr result (λ e. e ≡ PrintFault.Memory → W.contents out.new ≡ W.contents out.old) }
+{
+    let Ok(mut text) = files_lines(alloc, names, files) else {
+        return Err(PrintFault::Memory);
+    };
+    pass_on(&mut text, out)
 }
 
 /// The names of files.

@@ -1,4 +1,7 @@
-use crate::{File, PackageFault, PiecedFile, Role, Span, check_bytes, check_pieces, write_report};
+use crate::{
+    File, FileSum, PackageFault, PiecedFile, Role, Span, check_bytes, check_pieces, print_files,
+    read_package, write_report,
+};
 use grid_units::{Fault, Reason, Rules};
 use std::alloc::Global;
 use std::test::Fail as Failure;
@@ -233,6 +236,75 @@ fn a_span_beyond_the_layers_is_refused(rt: HostRuntime) {
         Some(PackageFault::File {
             index: 0,
             fault: truncated,
+        })
+    );
+}
+
+/// The lines on files of these names and sums.
+fn lines(alloc: Global, names: &[&str], files: &[FileSum]) -> Option<Vec<u8>> {
+    let mut text = Vec::new(alloc);
+    print_files(alloc, names, files, &mut text).ok()?;
+    Some(text)
+}
+
+#[test]
+fn a_board_has_what_its_files_say(rt: HostRuntime) -> Result<(), Failure> {
+    let alloc = rt.alloc();
+    let files = [
+        drill(Role::Unplated, None, DRILL),
+        layer("top", LAYER),
+        drill(Role::Plated, Span::new(1, 2), SLOT),
+        layer("bot", MOVED),
+    ];
+    let board = read_package(alloc, &files).ok().ok_or("no board")?;
+    assert_eq!(rt; board.layer_indexes(), [1, 3].as_slice());
+    let layers = board.layers(alloc)?;
+    let counts: Vec<usize> = layers.iter().map(|pads| pads.len()).collect(alloc)?;
+    assert_eq!(rt; counts.as_slice(), [1, 1].as_slice());
+    assert_eq!(rt; board.holes().len(), 2);
+    let (first, second) = (&board.holes()[0], &board.holes()[1]);
+    assert_eq!(rt;
+        (first.plated, first.hole.is_round(), first.span),
+        (false, true, None)
+    );
+    assert_eq!(rt;
+        (second.plated, second.hole.is_round(), second.span),
+        (true, false, Span::new(1, 2))
+    );
+    let text = lines(alloc, &["npth", "top", "pth", "bot"], board.files()).ok_or("no lines")?;
+    let wanted =
+        "file 1 drill plated=no round=1 slots=0 name=npth\nfile 2 layer pads=1 other=0 name=top\nfile 3 drill plated=yes round=0 slots=1 span=1-2 name=pth\nfile 4 layer pads=1 other=0 name=bot\n";
+    assert_eq!(rt; text.as_slice(), wanted.as_bytes());
+    Ok(())
+}
+
+#[test]
+fn a_board_has_the_findings_of_its_report(rt: HostRuntime) -> Result<(), Failure> {
+    let alloc = rt.alloc();
+    let rules = Rules::new(125_000_000, 250_000_000).ok().ok_or("no rules")?;
+    let files = [
+        layer("top", MOVED),
+        drill(Role::Plated, None, DRILL),
+        drill(Role::Unplated, None, DRILL),
+    ];
+    let board = read_package(alloc, &files).ok().ok_or("no board")?;
+    let report = check_bytes(alloc, &files, rules).ok().ok_or("no report")?;
+    assert_eq!(rt; board.findings(alloc, rules)?.as_slice(), report.findings());
+    assert_eq!(rt; report.findings().len(), 2);
+    let last = report.holes().get(1).ok_or("no hole")?;
+    assert_eq!(rt; (last.file, last.number), (2, 1));
+    Ok(())
+}
+
+#[test]
+fn a_refused_file_has_no_board(rt: HostRuntime) {
+    let files = [drill(Role::Plated, Span::new(1, 1), DRILL)];
+    let refused = read_package(rt.alloc(), &files).err();
+    assert_eq!(rt;
+        refused,
+        Some(PackageFault::File {
+            index: 0,
+            fault: FAULT
         })
     );
 }

@@ -154,7 +154,7 @@ fn with_entry(
 fn heading(alloc: Global, spans: bool) -> Result<Table, AllocError>
     ensures { IfOk result (λ table. table ≡ says.heading spans) }
 {
-    let table = Table::new(alloc);
+    let table = Table::new(alloc)?;
     if spans {
         with_five(table, b"role", b"name", b"file", b"first", b"last")
     } else {

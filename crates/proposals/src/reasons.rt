@@ -91,7 +91,7 @@ fn with_reason(alloc: Global, table: Table, file: &Proposal) -> Result<Table, Al
 fn heading(alloc: Global) -> Result<Table, AllocError>
     ensures { IfOk result (λ table. table ≡ says.reasons_heading) }
 {
-    with_fields(Table::new(alloc), b"file", b"role", b"because")
+    with_fields(Table::new(alloc)?, b"file", b"role", b"because")
 }
 
 /// The table of why: a first row `file,role,because`, and a row for each file in the order of the proposals, as `csv` writes

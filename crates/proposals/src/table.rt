@@ -8,9 +8,10 @@ use std::alloc::{AllocError, Global};
 use std::marker::Model;
 
 /// The rows so far. Contracts see their bytes.
+// A writer has kilobytes of buffers, which each move of a table would copy on the stack.
 #[derive(Drop)]
 pub(crate) struct Table {
-    writer: Writer<Vec<u8>>,
+    writer: Box<Writer<Vec<u8>>>,
 }
 
 impl Model for Table {
@@ -19,19 +20,22 @@ impl Model for Table {
 
     ghost Value = { List ℕ };
 
-    ghost view = { λ table. (writer_under table.writer).items ++ writer_pending table.writer };
+    ghost view = { λ table. (writer_under table.writer.value).items ++ writer_pending table.writer.value };
 
-    ghost invariant = { λ table. (writer_setup table.writer ≡ default_writer) × (fields_written table.writer ≡ 0) × (has_written table.writer ≡ false) };
+    ghost invariant = { λ table. (writer_setup table.writer.value ≡ default_writer) × (fields_written table.writer.value ≡ 0) × (has_written table.writer.value ≡ false) };
 }
 
 impl Table {
     /// No rows.
-    pub(crate) fn new(alloc: Global) -> Table
-        ensures { result ≡ [] }
+    // The writer lies on the stack until it is boxed.
+    #[inline(never)]
+    pub(crate) fn new(alloc: Global) -> Result<Table, AllocError>
+        ensures { IfOk result (λ table. table ≡ []) }
     {
-        Table {
-            writer: WriterBuilder::new().from_writer(Vec::new(alloc)),
-        }
+        let writer = WriterBuilder::new().from_writer(Vec::new(alloc));
+        Ok(Table {
+            writer: Box::new(alloc, writer)?,
+        })
     }
 
     /// These rows and one more.
@@ -46,10 +50,12 @@ impl Table {
     }
 
     /// The bytes of the rows.
+    // As for a table without rows.
+    #[inline(never)]
     pub(crate) fn into_bytes(self) -> Result<Vec<u8>, AllocError>
         ensures { IfOk result (λ bytes. bytes.items ≡ self) }
     {
-        match self.writer.into_inner() {
+        match Box::into_inner(self.writer).into_inner() {
             Ok(bytes) => Ok(bytes),
             Err(_) => Err(AllocError),
         }

@@ -3,14 +3,11 @@ use Rattle.std.proofs.Common.{◌≡◌, ℕ, ◌+◌, ◌<◌, ◌≤◌, ◌�
 use Rattle.std.specs.List.{Contains}
 use Rattle.std.proofs.lemmas.List.{get_or_default}
 use Rattle.std.proofs.lemmas.List.Elements.{Contains-append_left}
-use Rattle.std.proofs.lemmas.Bool.{cases_lt, cases_eq}
+use Rattle.std.proofs.lemmas.Bool.{cases_lt}
 use Rattle.ring_rules.specs.Cores.{are_clear}
-use Rattle.ring_rules.specs.Places.{IsChained, nowhere}
-use Rattle.ring_rules.specs.Cells.{column_of, row_of}
-use Rattle.ring_rules.specs.Regions.{IsInRegion}
+use Rattle.ring_rules.specs.Places.{nowhere}
 use Rattle.ring_rules.specs.Meeting.{in_order, hole_at, size_of, IsClash, AddsClashes, IsFound}
 use Rattle.ring_rules.specs.declared.finding.Drilled.{Drilled}
-use Rattle.ring_rules.specs.declared.scale.Scale.{Scale}
 use Rattle.ring_rules.proofs.Clashing.{clash_of, clear_flips}
 
 -- what is in a list with one more is in the list, or is that one
@@ -50,32 +47,14 @@ pub clash_at : (gap : ℕ) (holes : List Drilled) (other place : ℕ) (d e : Dri
 clash_at gap holes other place d e h k differ near =
     clash_of gap holes (other, get_or holes other d) (place, get_or holes place e) (h, λ x. get_or_default holes other d x h) (k, λ x. get_or_default holes place e x k) differ near
 
-module _ (gap : ℕ) (holes : List Drilled) (place : ℕ) (a b : List (ℕ × ℕ)) (adds : AddsClashes gap holes a b) where
-  module _ (x y : Scale) (top bottom left column : ℕ) (before : (o : ℕ) → o < length holes → IsInRegion x y top bottom left column (get_or holes o nowhere).hole.from → IsFound gap holes place o a) where
-    pub found_column : ((o : ℕ) → o < length holes → column_of x (get_or holes o nowhere).hole.from ≡ column → top ≤ row_of y (get_or holes o nowhere).hole.from → row_of y (get_or holes o nowhere).hole.from < bottom → IsFound gap holes place o b)
-        → (o : ℕ) → o < length holes → IsInRegion x y top bottom left (column + 1) (get_or holes o nowhere).hole.from → IsFound gap holes place o b
-    found_column here o h inside = elim (cases_lt (column_of x (get_or holes o nowhere).hole.from) column) [
-      | inl less ↦ found_still gap holes place o a b adds (before o h (record { row_from = inside.row_from; row_below = inside.row_below; column_from = inside.column_from; column_below = less }))
-      | inr more ↦ here o h (omega (arith, more, inside.column_below)) inside.row_from inside.row_below
-    ]
-
-  module _ (x y : Scale) (top row left right : ℕ) (before : (o : ℕ) → o < length holes → IsInRegion x y top row left right (get_or holes o nowhere).hole.from → IsFound gap holes place o a) where
-    pub found_row : ((o : ℕ) → o < length holes → IsInRegion x y row (row + 1) left right (get_or holes o nowhere).hole.from → IsFound gap holes place o b)
-        → (o : ℕ) → o < length holes → IsInRegion x y top (row + 1) left right (get_or holes o nowhere).hole.from → IsFound gap holes place o b
-    found_row here o h inside = elim (cases_lt (row_of y (get_or holes o nowhere).hole.from) row) [
-      | inl less ↦ found_still gap holes place o a b adds (before o h (record { row_from = inside.row_from; row_below = less; column_from = inside.column_from; column_below = inside.column_below }))
-      | inr more ↦ here o h (record { row_from = more; row_below = inside.row_below; column_from = inside.column_from; column_below = inside.column_below })
-    ]
-
-  module _ (cell : ℕ → ℕ) (n c p : ℕ) (head next : List ℕ) (chained : IsChained cell n head next) (below : p < n) (here : cell p ≡ c) (found : IsFound gap holes place p b) (before : (o : ℕ) → o < n → cell o ≡ c → p + 1 ≤ o → IsFound gap holes place o a) where
-    pub found_link : (o : ℕ) → o < n → cell o ≡ c → get_or next p 0 ≤ o → IsFound gap holes place o b
-    found_link o h e past = elim (cases_lt o p) [
-      | inl less ↦ absurd (let l : o < get_or next p 0 = chained.links p o below less (e ∙ sym here) in omega (arith, l, past))
-      | inr more ↦ elim (cases_eq o p) [
-        | inl is ↦ subst (λ (k : ℕ). IsFound gap holes place k b) (sym is) found
-        | inr differs ↦ found_still gap holes place o a b adds (before o h e (omega (arith, more, differs)))
-      ]
-    ]
+-- the pairs of a hole with one place more of a list
+pub found_more : (gap : ℕ) (holes : List Drilled) (place : ℕ) (others : List ℕ) (count : ℕ) (a b : List (ℕ × ℕ)) → AddsClashes gap holes a b
+    → ((i : ℕ) → i < count → IsFound gap holes place (get_or others i 0) a) → IsFound gap holes place (get_or others count 0) b
+    → (i : ℕ) → i < count + 1 → IsFound gap holes place (get_or others i 0) b
+found_more gap holes place others count a b adds before here i h = elim (cases_lt i count) [
+  | inl less ↦ found_still gap holes place (get_or others i 0) a b adds (before i less)
+  | inr more ↦ subst (λ (n : ℕ). IsFound gap holes place (get_or others n 0) b) (let is : count ≡ i = omega (arith, h, more) in is) here
+]
 
 -- one of the two holes is no larger than the other one
 pub clash_found : (gap : ℕ) (holes : List Drilled) (pairs : List (ℕ × ℕ)) (p : ℕ × ℕ) → IsClash gap holes p

@@ -21,6 +21,12 @@ pub record IsOnBoard (x y : Scale) (p : GridPoint) : Type 0 where
   pub bottom : y.least ≤ℤ p.y
   pub top : p.y ≤ℤ y.greatest
 
+-- what holds of the holes of a board in cells (docs/DEFINITIONS.md, Cells)
+pub record IsLaidOut (x y : Scale) (head next : List ℕ) (holes : List Drilled) : Type 0 where
+  pub chained : IsChained (cell_at x y holes) (length holes) head next
+  pub ends : (k : ℕ) → k < length holes → IsOnBoard x y (point_at holes k)
+  pub fits : (y.last + 1) * (x.last + 1) ≤ 2 ^ 62
+
 -- what holds of the cells of a board while pads are tried (docs/DEFINITIONS.md, Cells)
 pub record IsReady (x y : Scale) (head next : List ℕ) (holes : List Drilled) (ring least : ℕ) : Type 0 where
   pub chained : IsChained (cell_at x y holes) (length holes) head next

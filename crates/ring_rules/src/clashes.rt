@@ -1,15 +1,11 @@
-//! The pairs of holes that are not clear. Each hole looks in the cells where holes no larger than it may stand too near.
+//! The pairs of holes that are not clear.
 
-ghost use Rattle.std.specs.Prelude.{◌≡◌, ℕ, ◌+◌, ◌*◌, ◌^◌, ◌<◌, ◌≤◌, length, OnOk};
-ghost use Rattle.ring_rules.specs.Cells.{cell_at};
-ghost use Rattle.ring_rules.specs.Places.{IsChained, point_at};
-ghost use Rattle.ring_rules.specs.Regions.{IsInRegion};
+ghost use Rattle.std.specs.Prelude.{◌≡◌, ℕ, ◌<◌, length, OnOk};
+ghost use Rattle.std.specs.List.{All, Contains};
 ghost use Rattle.ring_rules.specs.Meeting.{in_order, AddsClashes, IsFound};
 
-use crate::cells::{Cells, cell_in};
 use crate::cores::are_clear;
 use crate::finding::Drilled;
-use crate::marks::link_at;
 use grid_units::Rules;
 use std::alloc::AllocError;
 
@@ -39,77 +35,21 @@ fn add_pair(
     Ok(())
 }
 
-/// Appends the pairs of a hole with those of a cell.
-fn add_cell(
-    cells: &Cells,
+/// Appends the pairs of a hole with those at some places.
+pub(crate) fn add_pairs(
     holes: &[Drilled],
     rules: Rules,
     place: usize,
-    cell: usize,
+    others: &[usize],
     pairs: &mut Vec<(usize, usize)>,
 ) -> Result<(), AllocError>
-    requires chained { IsChained (cell_at cells.now.x cells.now.y holes.now) (length holes.now) cells.now.head.items cells.now.next.items }
     requires place { place < length holes.now }
+    requires others { All (λ k. k < length holes.now) others.now }
     ensures adds { OnOk result (AddsClashes rules.gap holes.now pairs.old.items pairs.new.items) }
-    ensures found { OnOk result ((o : ℕ) → o < length holes.now → cell_at cells.now.x cells.now.y holes.now o ≡ cell → IsFound rules.gap holes.now place o pairs.new.items) }
+    ensures found { OnOk result ((o : ℕ) → Contains others.now o → IsFound rules.gap holes.now place o pairs.new.items) }
 {
-    let mut link = link_at(&cells.head, cell);
-    while link > 0 {
-        let other = link - 1;
-        add_pair(holes, rules, place, other, pairs)?;
-        link = link_at(&cells.next, other);
-    }
-    Ok(())
-}
-
-/// Appends the pairs of a hole with those of a row, from a column to below another.
-fn add_row(
-    cells: &Cells,
-    holes: &[Drilled],
-    rules: Rules,
-    place: usize,
-    row: usize,
-    left: usize,
-    right: usize,
-    pairs: &mut Vec<(usize, usize)>,
-) -> Result<(), AllocError>
-    requires chained { IsChained (cell_at cells.now.x cells.now.y holes.now) (length holes.now) cells.now.head.items cells.now.next.items }
-    requires fits { (cells.now.y.last + 1) * (cells.now.x.last + 1) ≤ 2 ^ 62 }
-    requires place { place < length holes.now }
-    requires row { row ≤ cells.now.y.last }
-    requires right { right ≤ cells.now.x.last + 1 }
-    ensures adds { OnOk result (AddsClashes rules.gap holes.now pairs.old.items pairs.new.items) }
-    ensures found { OnOk result ((o : ℕ) → o < length holes.now → IsInRegion cells.now.x cells.now.y row (row + 1) left right (point_at holes.now o) → IsFound rules.gap holes.now place o pairs.new.items) }
-{
-    for column in left..right {
-        let cell = cell_in(&cells.x, &cells.y, row, column);
-        add_cell(cells, holes, rules, place, cell, pairs)?;
-    }
-    Ok(())
-}
-
-/// Appends the pairs of a hole with those of the rows from one to below another, and of such columns.
-pub(crate) fn add_rows(
-    cells: &Cells,
-    holes: &[Drilled],
-    rules: Rules,
-    place: usize,
-    top: usize,
-    bottom: usize,
-    left: usize,
-    right: usize,
-    pairs: &mut Vec<(usize, usize)>,
-) -> Result<(), AllocError>
-    requires chained { IsChained (cell_at cells.now.x cells.now.y holes.now) (length holes.now) cells.now.head.items cells.now.next.items }
-    requires fits { (cells.now.y.last + 1) * (cells.now.x.last + 1) ≤ 2 ^ 62 }
-    requires place { place < length holes.now }
-    requires bottom { bottom ≤ cells.now.y.last + 1 }
-    requires right { right ≤ cells.now.x.last + 1 }
-    ensures adds { OnOk result (AddsClashes rules.gap holes.now pairs.old.items pairs.new.items) }
-    ensures found { OnOk result ((o : ℕ) → o < length holes.now → IsInRegion cells.now.x cells.now.y top bottom left right (point_at holes.now o) → IsFound rules.gap holes.now place o pairs.new.items) }
-{
-    for row in top..bottom {
-        add_row(cells, holes, rules, place, row, left, right, pairs)?;
+    for other in others {
+        add_pair(holes, rules, place, *other, pairs)?;
     }
     Ok(())
 }

@@ -12,7 +12,9 @@ mod crowds;
 mod dividing;
 mod finding;
 mod gaps;
+mod index;
 pub mod laws;
+mod layout;
 mod marks;
 mod near;
 mod pads;
@@ -26,7 +28,8 @@ pub use cores::clear_of;
 pub use finding::{Drilled, Finding};
 pub use gaps::gap_findings;
 pub use grid_units::Span;
-pub use rings::ring_findings;
+pub use index::HoleIndex;
+pub use rings::{ring_findings, usual_zone};
 
 #[cfg(test)]
 mod tests;

@@ -1,20 +1,17 @@
 //! Where holes may stand that are not clear of a hole.
 
-ghost use Rattle.std.specs.Prelude.{◌≡◌, ℕ, ◌+◌, ◌*◌, ◌^◌, ◌<◌, ◌≤◌, ◌+ℤ◌, ◌-ℤ◌, pos, false, length, IfOk, OnOk};
+ghost use Rattle.std.specs.Prelude.{◌≡◌, ℕ, ◌+◌, ◌<◌, ◌≤◌, ◌+ℤ◌, ◌-ℤ◌, pos, false, length, IfOk, OnOk};
 ghost use Rattle.std.specs.Int.{int_min, int_max};
 ghost use Rattle.std.specs.List.{Contains};
 ghost use Rattle.grid_units.specs.Holes.{GridHole};
 ghost use Rattle.pad_shapes.specs.Zones.{IsInZone};
-ghost use Rattle.ring_rules.specs.Cells.{cell_at};
 ghost use Rattle.ring_rules.specs.Cores.{are_clear};
-ghost use Rattle.ring_rules.specs.Places.{IsChained};
+ghost use Rattle.ring_rules.specs.Index.{IsIndexOf};
 ghost use Rattle.ring_rules.specs.Meeting.{hole_at, length_of, size_of, AddsClashes, IsClash, IsFound};
 
-use crate::board::lay_out;
-use crate::cells::Cells;
-use crate::clashes::add_rows;
+use crate::clashes::add_pairs;
 use crate::finding::Drilled;
-use crate::pads::{first_column, first_row, last_column, last_row};
+use crate::index::HoleIndex;
 use crate::shape::drawn;
 use grid_units::{Hole, Rules};
 use pad_shapes::Zone;
@@ -122,16 +119,16 @@ fn near_zone(hole: &Hole, rules: Rules, widest: u64, longest: u64) -> Zone
 
 /// Appends the pairs of a hole with those that are no larger.
 fn add_near(
-    cells: &Cells,
+    index: &HoleIndex,
     holes: &[Drilled],
     rules: Rules,
     widest: u64,
     longest: u64,
     place: usize,
+    near: &mut Vec<usize>,
     pairs: &mut Vec<(usize, usize)>,
 ) -> Result<(), AllocError>
-    requires chained { IsChained (cell_at cells.now.x cells.now.y holes.now) (length holes.now) cells.now.head.items cells.now.next.items }
-    requires fits { (cells.now.y.last + 1) * (cells.now.x.last + 1) ≤ 2 ^ 62 }
+    requires index { IsIndexOf holes.now index.now }
     requires place { place < length holes.now }
     requires widest { (k : ℕ) → k < length holes.now → (hole_at holes.now k).radius ≤ widest }
     requires longest { (k : ℕ) → k < length holes.now → length_of (hole_at holes.now k) ≤ longest }
@@ -141,17 +138,8 @@ fn add_near(
     ensures found { OnOk result ((o : ℕ) → o < length holes.now → size_of (hole_at holes.now o) ≤ size_of (hole_at holes.now place) → IsFound rules.gap holes.now place o pairs.new.items) }
 {
     let zone = near_zone(&holes[place].hole, rules, widest, longest);
-    add_rows(
-        cells,
-        holes,
-        rules,
-        place,
-        first_row(&cells.y, &zone),
-        last_row(&cells.y, &zone) + 1,
-        first_column(&cells.x, &zone),
-        last_column(&cells.x, &zone) + 1,
-        pairs,
-    )?;
+    index.find(holes, &zone, near)?;
+    add_pairs(holes, rules, place, near, pairs)?;
     Ok(())
 }
 
@@ -181,17 +169,12 @@ pub(crate) fn clashes(
 {
     let (widest, longest) = (widest(holes), longest(holes));
     let width = asked(holes, rules, widest, longest);
-    let board = lay_out(alloc, holes, rules, width, width)?;
+    let index = HoleIndex::new(alloc, holes, width, width)?;
+    let mut near = Vec::new(alloc);
     let mut pairs = Vec::new(alloc);
     for place in 0..holes.len() {
         add_near(
-            &board.cells,
-            holes,
-            rules,
-            widest,
-            longest,
-            place,
-            &mut pairs,
+            &index, holes, rules, widest, longest, place, &mut near, &mut pairs,
         )?;
     }
     Ok(pairs)

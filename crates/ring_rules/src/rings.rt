@@ -42,8 +42,9 @@ fn layer_findings(
     Ok(())
 }
 
-/// How wide and how high the zones of the pads are in the middle, of a sample. Any answer is right.
-fn asked<S: PadShape>(layers: &[&[S]]) -> (u64, u64) {
+/// How wide and how high the zones of the pads are in the middle, of a sample, in pm. Any answer is right: an index of holes is only
+/// quicker by it.
+pub fn usual_zone<S: PadShape>(layers: &[&[S]]) -> (u64, u64) {
     let mut width: u64 = 0;
     let mut height: u64 = 0;
     let mut count: u64 = 0;
@@ -75,7 +76,7 @@ pub fn ring_findings<S: PadShape>(
 ) -> Result<Vec<Finding>, AllocError>
     ensures { IfOk result (λ findings. findings.items ≡ ring_findings S.covers rules.ring (map (λ pads. pads.now) layers.now) holes.now) }
 {
-    let (width, height) = asked(layers);
+    let (width, height) = usual_zone(layers);
     let board = lay_out(alloc, holes, rules, width, height)?;
     let mut findings = Vec::new(alloc);
     for (layer, pads) in layers.iter().enumerate() {

@@ -6,7 +6,7 @@ ghost use Rattle.pad_shapes.specs.ShapeLaws.{disc_holds, disc_holds_slots, disc_
 
 use super::*;
 use grid_units::{Hole, Point, Rules};
-use pad_shapes::{Disc, Obround, Pad, PadShape, Rect};
+use pad_shapes::{Disc, Obround, Pad, PadShape, Rect, Zone};
 use std::alloc::{AllocError, Global};
 use std::cell::Cell;
 use std::rc::Rc;
@@ -527,5 +527,45 @@ fn a_hole_needs_its_ring_on_the_layers_of_its_span(rt: HostRuntime) -> Result<()
         Finding::Ring { layer: 2, hole: 0 },
     ];
     assert_eq!(rt; found.as_slice(), wanted.as_slice());
+    Ok(())
+}
+
+/// The places of the holes that an index finds within a zone, in their order.
+fn found(
+    alloc: Global,
+    holes: &[Drilled],
+    zone: &Zone,
+    size: u64,
+) -> Result<Vec<usize>, AllocError> {
+    let index = HoleIndex::new(alloc, holes, size, size)?;
+    let mut places = Vec::new(alloc);
+    index.find(holes, zone, &mut places)?;
+    places.sort_unstable();
+    Ok(places)
+}
+
+/// A zone has the holes that go in on its border, and a slot by its first end; the sizes that the index is made for change nothing.
+#[test]
+fn holes_of_a_zone(rt: HostRuntime) -> Result<(), Fail> {
+    let holes = [
+        round(0, 0, MM)?,
+        round(2 * MM, 0, MM)?,
+        slot((MM, MM), (9 * MM, MM), MM)?,
+        slot((9 * MM, MM), (MM, MM), MM)?,
+        round(0, 0, MM)?,
+        round(-1, 0, MM)?,
+    ];
+    let zone = Zone {
+        left: 0,
+        right: 2 * MM,
+        bottom: 0,
+        top: MM,
+    };
+    let near = found(rt.alloc(), &holes, &zone, 0)?;
+    assert_eq!(rt; near.as_slice() == [0, 1, 2, 4].as_slice(), true);
+    let same = found(rt.alloc(), &holes, &zone, 1_000_000_000_000)?;
+    assert_eq!(rt; same.as_slice() == near.as_slice(), true);
+    let none: [Drilled; 0] = [];
+    assert_eq!(rt; found(rt.alloc(), &none, &zone, 1)?.len(), 0);
     Ok(())
 }

@@ -4,7 +4,7 @@ use Rattle.std.specs.Borrow.{Bor}
 use Rattle.std.specs.List.{list_all, list_any}
 use Rattle.std.specs.Io.KnownBytes.{Appends}
 use Rattle.command_line.specs.declared.commands.TheConstants.{VERSION_LINE}
-use Rattle.explanations.specs.Words.{FitsScreen, Heads, IsWord, word_list}
+use Rattle.explanations.specs.Words.{FitsScreen, Heads, IsWord, ListsWords}
 use Rattle.proposals.specs.Manifests.{IsManifestOf, reasons_text}
 use Rattle.proposals.specs.Proposing.{name_of, proposals}
 use Rattle.proposals.specs.declared.outcome.Content.{Content}
@@ -115,7 +115,7 @@ pub record Explained (word : List ℕ) (before after : Option (List ℕ)) : Type
 -- what a status says of the page of a word, or of the list of the words that have one (docs/DEFINITIONS.md, Runs)
 abbrev pub SaysPage : Option (List ℕ) → Option (List ℕ) → Option (List ℕ) → Status → Type 0
 SaysPage (Some word) before after status.Pass = Explained word before after
-SaysPage None before after status.Pass = Appends before after word_list
+SaysPage None before after status.Pass = (list : List ℕ) × ListsWords list × Appends before after list
 SaysPage word before after status.Findings = ⊥
 SaysPage word before after status.Refused = ⊥
 SaysPage (Some word) before after status.Usage = ¬ IsWord word

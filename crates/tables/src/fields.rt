@@ -7,11 +7,11 @@ ghost use Rattle.tables.specs.Tables.{flash_fields, height_of, hole_fields, pad_
 
 use crate::table::Table;
 use arrayvec::ArrayString;
-use csv::Error;
 use grid_units::{Hole, write_mm};
 use itoa::Buffer;
 use layer_image::{Flash, What, Why};
 use pad_shapes::Pad;
+use std::alloc::AllocError;
 
 fn shape_word(pad: &Pad) -> &'static str
     ensures text { result.now ≡ shape_word pad.now }
@@ -113,9 +113,7 @@ fn height_of(what: &What) -> ArrayString<16>
 }
 
 /// The table with the row of a flash.
-// The table is kilobytes, and each of its copies would lie in the frame of the loop.
-#[inline(never)]
-pub(crate) fn with_flash(table: Table, number: u64, flash: &Flash) -> Result<Table, Error>
+pub(crate) fn with_flash(table: Table, number: u64, flash: &Flash) -> Result<Table, AllocError>
     ensures { IfOk result (λ more. more ≡ table ++ row (flash_fields number flash.now)) }
 {
     let mut digits = Buffer::new();
@@ -132,9 +130,7 @@ pub(crate) fn with_flash(table: Table, number: u64, flash: &Flash) -> Result<Tab
 }
 
 /// The table with the row of a hole.
-// As for a flash.
-#[inline(never)]
-pub(crate) fn with_hole(table: Table, number: u64, hole: &Hole) -> Result<Table, Error>
+pub(crate) fn with_hole(table: Table, number: u64, hole: &Hole) -> Result<Table, AllocError>
     ensures { IfOk result (λ more. more ≡ table ++ row (hole_fields number hole.now)) }
 {
     let mut digits = Buffer::new();

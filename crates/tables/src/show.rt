@@ -8,23 +8,20 @@ ghost use Rattle.tables.specs.Tables.{ShowsDrill, ShowsLayer, drill_header, dril
 
 use crate::fields::{with_flash, with_hole};
 use crate::table::Table;
-use csv::Error;
 use drill_text::HolesReader;
 use drill_text::laws::faults_stay;
 use grid_units::{Fail, Hole};
 use layer_image::{Flash, FlashReader, shown_faults};
-use std::alloc::Global;
+use std::alloc::{AllocError, Global};
 
 /// How many bytes of a layer are read at a time, so that no more of its commands are held.
 const PIECE: usize = 65_536;
 
 /// The header of a table of flashes.
-// As for a row.
-#[inline(never)]
-fn layer_header(alloc: Global) -> Result<Table, Error>
+fn layer_header(alloc: Global) -> Result<Table, AllocError>
     ensures { IfOk result (λ table. table ≡ layer_header) }
 {
-    Table::new(alloc).with_row(&[
+    Table::new(alloc)?.with_row(&[
         b"flash".as_slice(),
         b"what".as_slice(),
         b"x".as_slice(),
@@ -35,7 +32,7 @@ fn layer_header(alloc: Global) -> Result<Table, Error>
 }
 
 /// The table of flashes, numbered from 1.
-fn layer_table(alloc: Global, flashes: &[Flash]) -> Result<Vec<u8>, Error>
+fn layer_table(alloc: Global, flashes: &[Flash]) -> Result<Vec<u8>, AllocError>
     ensures { IfOk result (λ text. text.items ≡ layer_table flashes.now) }
 {
     let mut table = layer_header(alloc)?;
@@ -48,12 +45,10 @@ fn layer_table(alloc: Global, flashes: &[Flash]) -> Result<Vec<u8>, Error>
 }
 
 /// The header of a table of holes.
-// As for a row.
-#[inline(never)]
-fn drill_header(alloc: Global) -> Result<Table, Error>
+fn drill_header(alloc: Global) -> Result<Table, AllocError>
     ensures { IfOk result (λ table. table ≡ drill_header) }
 {
-    Table::new(alloc).with_row(&[
+    Table::new(alloc)?.with_row(&[
         b"hole".as_slice(),
         b"x1".as_slice(),
         b"y1".as_slice(),
@@ -64,7 +59,7 @@ fn drill_header(alloc: Global) -> Result<Table, Error>
 }
 
 /// The table of holes, numbered from 1.
-fn drill_table(alloc: Global, holes: &[Hole]) -> Result<Vec<u8>, Error>
+fn drill_table(alloc: Global, holes: &[Hole]) -> Result<Vec<u8>, AllocError>
     ensures { IfOk result (λ text. text.items ≡ drill_table holes.now) }
 {
     let mut table = drill_header(alloc)?;
@@ -104,8 +99,6 @@ fn read_holes(alloc: Global, bytes: &[u8]) -> Result<Vec<Hole>, Fail>
 /// # Errors
 ///
 /// The first fault of the text; `Memory` where a growth was refused.
-// Its table is kilobytes of stack, which a caller's frame would have even where no table is made.
-#[inline(never)]
 pub fn show_layer(alloc: Global, bytes: &[u8]) -> Result<Vec<u8>, Fail>
     ensures exact { Answers (λ text. text.items) (ShowsLayer bytes.now) result }
 {
@@ -122,8 +115,6 @@ pub fn show_layer(alloc: Global, bytes: &[u8]) -> Result<Vec<u8>, Fail>
 /// # Errors
 ///
 /// The first fault of the text; `Memory` where a growth was refused.
-// As for layers.
-#[inline(never)]
 pub fn show_drill(alloc: Global, bytes: &[u8]) -> Result<Vec<u8>, Fail>
     ensures exact { Answers (λ text. text.items) (ShowsDrill bytes.now) result }
 {

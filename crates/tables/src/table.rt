@@ -3,14 +3,15 @@
 ghost use Rattle.std.specs.Prelude.{◌≡◌, ◌≤◌, ◌++◌, [], IfOk, map, length};
 ghost use Rattle.tables.specs.Rows.{ArePlain, row};
 
-use csv::{Error, Writer, WriterBuilder};
-use std::alloc::Global;
+use csv::{Writer, WriterBuilder};
+use std::alloc::{AllocError, Global};
 use std::marker::Model;
 
 /// The rows of a table so far. Contracts see their bytes.
+// A writer has kilobytes of buffers, which each move of a table would copy on the stack.
 #[derive(Drop)]
 pub(crate) struct Table {
-    writer: Writer<Vec<u8>>,
+    writer: Box<Writer<Vec<u8>>>,
 }
 
 impl Model for Table {
@@ -19,39 +20,46 @@ impl Model for Table {
 
     ghost Value = { List ℕ };
 
-    ghost view = { λ table. (writer_under table.writer).items ++ writer_pending table.writer };
+    ghost view = { λ table. (writer_under table.writer.value).items ++ writer_pending table.writer.value };
 
-    ghost invariant = { λ table. (writer_setup table.writer ≡ default_writer) × (fields_written table.writer ≡ 0) × (has_written table.writer ≡ false) };
+    ghost invariant = { λ table. (writer_setup table.writer.value ≡ default_writer) × (fields_written table.writer.value ≡ 0) × (has_written table.writer.value ≡ false) };
 }
 
 impl Table {
     /// A table without rows.
-    pub(crate) fn new(alloc: Global) -> Table
-        ensures { result ≡ [] }
+    // The writer lies on the stack until it is boxed.
+    #[inline(never)]
+    pub(crate) fn new(alloc: Global) -> Result<Table, AllocError>
+        ensures { IfOk result (λ table. table ≡ []) }
     {
-        Table {
-            writer: WriterBuilder::new().from_writer(Vec::new(alloc)),
-        }
+        let writer = WriterBuilder::new().from_writer(Vec::new(alloc));
+        Ok(Table {
+            writer: Box::new(alloc, writer)?,
+        })
     }
 
     /// The table with one more row.
-    pub(crate) fn with_row(self, fields: &[&[u8]]) -> Result<Table, Error>
+    pub(crate) fn with_row(self, fields: &[&[u8]]) -> Result<Table, AllocError>
         requires plain { ArePlain (map (λ field. field.now) fields.now) }
         requires several { 2 ≤ length fields.now }
         ensures { IfOk result (λ table. table ≡ self ++ row (map (λ field. field.now) fields.now)) }
     {
         let mut writer = self.writer;
-        writer.write_fields(fields)?;
-        Ok(Table { writer })
+        match writer.write_fields(fields) {
+            Ok(()) => Ok(Table { writer }),
+            Err(_) => Err(AllocError),
+        }
     }
 
     /// The bytes of the rows.
-    pub(crate) fn into_bytes(self) -> Result<Vec<u8>, Error>
+    // As for a table without rows.
+    #[inline(never)]
+    pub(crate) fn into_bytes(self) -> Result<Vec<u8>, AllocError>
         ensures { IfOk result (λ bytes. bytes.items ≡ self) }
     {
-        match self.writer.into_inner() {
+        match Box::into_inner(self.writer).into_inner() {
             Ok(bytes) => Ok(bytes),
-            Err(e) => Err(e.into_error()),
+            Err(_) => Err(AllocError),
         }
     }
 }

@@ -52,7 +52,7 @@ PASS
 }
 
 #[test]
-fn names_and_layers_are_proposed(rt: HostRuntime) {
+fn names_are_proposed(rt: HostRuntime) {
     let empty = [("a.drl", "M30\n")];
     assert!(rt;
         answers(
@@ -74,12 +74,6 @@ fn names_and_layers_are_proposed(rt: HostRuntime) {
             text
         )
     );
-    let words = ["rtt_mask.group0.gbr", "board-F_Mask.gbr", "board-F_Cu.gbr"];
-    let named = [(words[0], LAYER), (words[1], LAYER), (words[2], LAYER)];
-    let text =
-        "role,name,file\ncopper,rtt_mask.group0.gbr,rtt_mask.group0.gbr\ncopper,board-F_Cu.gbr,board-F_Cu.gbr\n";
-    let line = ["manifest", words[0], words[1], words[2]];
-    assert!(rt; answers(rt.alloc(), &named, &line, Status::Pass, text));
     let quoted = [("a,b.gtl", LAYER)];
     let text = "role,name,file\ncopper,\"a,b.gtl\",\"a,b.gtl\"\n";
     assert!(rt;
@@ -91,6 +85,20 @@ fn names_and_layers_are_proposed(rt: HostRuntime) {
             text
         )
     );
+}
+
+#[test]
+fn layers_are_known_by_their_words(rt: HostRuntime) {
+    let words = ["rtt_mask.group0.gbr", "board-F_Mask.gbr", "board-F_Cu.gbr"];
+    let named = [(words[0], LAYER), (words[1], LAYER), (words[2], LAYER)];
+    let text =
+        "role,name,file\ncopper,rtt_mask.group0.gbr,rtt_mask.group0.gbr\ncopper,board-F_Cu.gbr,board-F_Cu.gbr\n";
+    let line = ["manifest", words[0], words[1], words[2]];
+    assert!(rt; answers(rt.alloc(), &named, &line, Status::Pass, text));
+}
+
+#[test]
+fn layers_of_a_drill_file_are_proposed(rt: HostRuntime) {
     let holes = "M48\n; #@! TF.FileFunction,Plated,1,2,PTH\nMETRIC\n%\nM30\n";
     let spans = [
         ("a.gtl", FOUR),
@@ -189,9 +197,10 @@ fn words_are_explained(rt: HostRuntime) {
             rt.alloc(),
             &["explain"],
             Status::Pass,
-            "TooLong\nAfterEnd\nTruncated\n"
+            "TooLong: an item, a line or a file has too many bytes\nAfterEnd: "
         )
     );
+    assert!(rt; begins(rt.alloc(), &["explain", "RING"], Status::Pass, "RING: "));
     let refusal = "usage reason=BadRole\n";
     for word in ["routed", "Routed:", "board"] {
         assert!(rt; answers(rt.alloc(), &[], &["explain", word], Status::Usage, refusal));

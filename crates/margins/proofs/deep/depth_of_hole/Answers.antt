@@ -1,8 +1,8 @@
-use Rattle.std.proofs.Common.{subst, ◌∙◌}
+use Rattle.std.proofs.Common.{◌≡◌, refl, subst, ◌∙◌}
 use Rattle.std.specs.Int.{int_min}
 use Rattle.grid_units.specs.Points.{GridPoint}
 use Rattle.margins.specs.Depths.{IsDepth, IsDepthOfHole}
-use Rattle.margins.proofs.Deepness.{lesser_depth}
+use Rattle.margins.proofs.Deepness.{lesser_depth, round_hole}
 use Rattle.margins.proofs.Wrapping.{on, lesser}
 use Rattle.margins.proofs.deep.depth_of_hole.Goals as goal
 
@@ -15,3 +15,10 @@ returns-clause-exact g c =
     on (IsDepthOfHole g.S.PadShape.covers c.args.pad.now c.args.hole.now) c.min.result (int_min c.depth-from.result c.depth-to.result) c.min.type_inv
     (c.min.ensures.value ∙ lesser c.depth-from.result c.depth-to.result c.depth-from.type_inv c.depth-to.type_inv)
     (λ n. lesser_depth (covers pad c.args.hole.now.from n) (covers pad c.args.hole.now.to n) c.depth-from.result c.depth-to.result n (from n) (to n))
+
+pub returns-then-is_round-clause-exact : goal.returns-then-is_round-clause-exact
+returns-then-is_round-clause-exact g c =
+    let same : c.args.hole.now.from ≡ c.args.hole.now.to = c.is_round.ensures.exact.0 c.if-is_round.true in
+    let from : IsDepth g.S.PadShape.covers c.args.pad.now c.args.hole.now.from c.depth-from.result = subst (λ (p : GridPoint). IsDepth g.S.PadShape.covers c.args.pad.now p c.depth-from.result) c.from.ensures c.depth-from.ensures.exact in
+    on (IsDepthOfHole g.S.PadShape.covers c.args.pad.now c.args.hole.now) c.depth-from.result c.depth-from.result c.depth-from.type_inv refl
+    (round_hole g.S.PadShape.covers c.args.pad.now c.args.hole.now c.depth-from.result same from)

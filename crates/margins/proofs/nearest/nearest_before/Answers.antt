@@ -1,7 +1,8 @@
 use Rattle.std.proofs.Common.{◌≡◌, ℕ, ◌<◌, length, refl, subst, arith, w64, to_z, of_z}
 use Rattle.ring_rules.specs.Meeting.{hole_at}
 use Rattle.margins.specs.Gaps.{IsGap}
-use Rattle.margins.specs.Nearness.{IsNearestOf, IsPairBefore}
+use Rattle.margins.specs.Nearness.{IsNearestOf}
+use Rattle.margins.specs.Inner.Nearness.{IsPairBefore}
 use Rattle.margins.proofs.Nearing.{next_pair, next_hole, gap_read}
 use Rattle.margins.proofs.Wrapping.{on}
 use Rattle.margins.proofs.nearest.nearest_before.Goals as goal

@@ -1,4 +1,4 @@
-use Rattle.margins.specs.Nearness.{AreTried}
+use Rattle.margins.specs.Inner.Nearness.{AreTried}
 use Rattle.margins.proofs.nearest.nearest_found.Given as goal
 
 -- the findings so far were tried

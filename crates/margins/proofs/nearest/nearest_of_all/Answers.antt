@@ -1,5 +1,6 @@
 use Rattle.std.proofs.Common.{◌≡◌, ℕ, length, subst, arith}
-use Rattle.margins.specs.Nearness.{IsNearestOf, IsPairBefore}
+use Rattle.margins.specs.Nearness.{IsNearestOf}
+use Rattle.margins.specs.Inner.Nearness.{IsPairBefore}
 use Rattle.margins.proofs.Nearing.{all_pairs}
 use Rattle.margins.proofs.nearest.nearest_of_all.Goals as goal
 

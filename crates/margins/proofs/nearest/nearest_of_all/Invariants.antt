@@ -1,4 +1,5 @@
-use Rattle.margins.specs.Nearness.{IsNearestOf, IsPairBefore}
+use Rattle.margins.specs.Nearness.{IsNearestOf}
+use Rattle.margins.specs.Inner.Nearness.{IsPairBefore}
 use Rattle.margins.proofs.nearest.nearest_of_all.Given as goal
 
 -- the nearest of the pairs so far

@@ -1,4 +1,4 @@
-use Rattle.margins.specs.Nearness.{IsHeld}
+use Rattle.margins.specs.Inner.Nearness.{IsHeld}
 use Rattle.margins.proofs.nearest.start_of.Given as goal
 
 -- the best pair so far is one of the list

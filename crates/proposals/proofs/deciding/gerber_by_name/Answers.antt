@@ -6,5 +6,5 @@ use Rattle.proposals.proofs.deciding.gerber_by_name.Goals as goal
 pub returns : goal.returns
 returns c =
     let words : map (λ (word : Bor (List ℕ)). word.now) c.as_slice-2.result.now ≡ words_of c.args.name.now =
-    ap (map (λ (word : Bor (List ℕ)). word.now)) c.as_slice-2.ensures.value ∙ c.in_ok-words.ensures ∙ ap runs c.as_slice.ensures.value ∙ c.in_ok-lower.ensures in
+    ap (map (λ (word : Bor (List ℕ)). word.now)) c.as_slice-2.ensures.value ∙ c.in_ok-words.ensures ∙ ap runs (c.as_slice.ensures.value ∙ c.in_ok-lower.ensures) in
     c.gerber_by_words.ensures ∙ (λ k. gerber_by_words (c.has_point.ensures k) (words k))

@@ -1,0 +1,10 @@
+use Rattle.std.proofs.Common.{take}
+use Rattle.std.specs.Prelude.{string_bytes}
+use Rattle.std.specs.List.{flat_map}
+use Rattle.margin_text.specs.Streaming.{PassesOn}
+use Rattle.margin_text.specs.Lines.{scale_line}
+use Rattle.margin_text.proofs.printing.gather_scales.Given as goal
+
+abbrev pub invariant-loop-line : goal.invariant-loop-line
+invariant-loop-line g l =
+    PassesOn (g.W.Write.contents l.fn.out) (string_bytes l.fn.text) (g.W.Write.contents l.out) (string_bytes l.text) (flat_map scale_line (take l.line-index l.lines))

@@ -1,0 +1,11 @@
+use Rattle.std.proofs.Common.{◌≡◌, ℕ, ◌<◌, None, length, get_or}
+use Rattle.ring_rules.specs.Meeting.{hole_at}
+use Rattle.margins.specs.Inner.Bests.{IsBestSoFar}
+use Rattle.margins.proofs.bests.try_pads.Given as goal
+
+-- the best of the pads so far, for each hole
+abbrev pub invariant-loop-place : goal.invariant-loop-place
+invariant-loop-place g l = record {
+  size : length l.bests ≡ length l.holes;
+  each : (k : ℕ) → k < length l.holes → IsBestSoFar g.S.PadShape.covers l.pads l.place (hole_at l.holes k) (get_or l.bests k None);
+}

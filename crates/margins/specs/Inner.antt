@@ -1,0 +1,4 @@
+pub mod Bests
+pub mod Nearness
+pub mod Meets
+pub mod Rows

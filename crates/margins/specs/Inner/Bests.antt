@@ -1,0 +1,56 @@
+-- The best pads of holes, pad by pad.
+use Rattle.std.specs.Prelude.{◌≡◌, ℕ, ◌+◌, ◌<◌, ◌≤◌, ◌⊎◌, Bool, true, false, Option, Some, None, List, length, get_or}
+use Rattle.grid_units.specs.Points.{GridPoint}
+use Rattle.grid_units.specs.Holes.{GridHole}
+use Rattle.pad_shapes.specs.Shapes.{max_half_side, covers_ends}
+use Rattle.ring_rules.specs.Findings.{is_oblique}
+use Rattle.ring_rules.specs.Meeting.{hole_at}
+use Rattle.ring_rules.specs.declared.finding.Drilled.{Drilled}
+use Rattle.margins.specs.Bests.{IsBestOf}
+use Rattle.margins.specs.declared.best.Best.{Best}
+
+-- how deep a hole must lie for a shape to be better than the best so far (docs/DEFINITIONS.md, Best pads)
+abbrev pub asked : Option Best → ℕ
+asked None = 0
+asked (Some best) = best.depth + 1
+
+-- the next shape, which covers with the reaches that a test tells, was not better than the best so far (docs/DEFINITIONS.md, Best pads)
+pub record IsKept (test : ℕ → Bool) (best result : Option Best) : Type 0 where
+  pub same : result ≡ best
+  pub below : (reach : ℕ) → test reach ≡ true → reach < asked best
+
+-- or it was, and is the best now (docs/DEFINITIONS.md, Best pads)
+pub record IsTaken (test : ℕ → Bool) (best : Option Best) (place : ℕ) (result : Option Best) : Type 0 where
+  pub now : Best
+  pub is : result ≡ Some now
+  pub at : now.pad ≡ place
+  pub in_range : now.depth ≤ max_half_side
+  pub deeper : asked best ≤ now.depth
+  pub covered : test now.depth ≡ true
+  pub deepest : (reach : ℕ) → test reach ≡ true → reach ≤ now.depth
+
+-- the better of the two (docs/DEFINITIONS.md, Best pads)
+abbrev pub IsBetter : (ℕ → Bool) → Option Best → ℕ → Option Best → Type 0
+IsBetter test best place result = IsKept test best result ⊎ IsTaken test best place result
+
+-- one more shape was tried at a hole: an oblique slot keeps what it has (docs/DEFINITIONS.md, Best pads)
+pub record IsStep {S : Type 0} (covers : S → GridPoint → ℕ → Bool) (pad : S) (place : ℕ) (h : GridHole) (before after : Option Best) : Type 0 where
+  pub oblique : is_oblique h ≡ true → after ≡ before
+  pub straight : is_oblique h ≡ false → IsBetter (λ reach. covers_ends covers pad h.from h.to reach) before place after
+
+-- the best of the first so many shapes, and none for an oblique slot (docs/DEFINITIONS.md, Best pads)
+pub record IsBestSoFar {S : Type 0} (covers : S → GridPoint → ℕ → Bool) (pads : List S) (count : ℕ) (h : GridHole) (best : Option Best) : Type 0 where
+  pub oblique : is_oblique h ≡ true → best ≡ None
+  pub straight : is_oblique h ≡ false → IsBestOf covers pads count h best
+
+-- a shape was tried at the first so many of some places, perhaps twice at one, and nothing else has changed (docs/DEFINITIONS.md, Best pads)
+pub record IsTriedNear {S : Type 0} (covers : S → GridPoint → ℕ → Bool) (pad : S) (place : ℕ) (holes : List Drilled) (near : List ℕ) (count : ℕ) (before after : List (Option Best)) : Type 0 where
+  pub size : length after ≡ length before
+  pub kept : (k : ℕ) → (get_or after k None ≡ get_or before k None) ⊎ IsStep covers pad place (hole_at holes k) (get_or before k None) (get_or after k None)
+  pub tried : (i : ℕ) → i < count → IsStep covers pad place (hole_at holes (get_or near i 0)) (get_or before (get_or near i 0) None) (get_or after (get_or near i 0) None)
+
+-- a shape was tried at the first so many holes, and nothing else has changed (docs/DEFINITIONS.md, Best pads)
+pub record IsTriedAll {S : Type 0} (covers : S → GridPoint → ℕ → Bool) (pad : S) (place : ℕ) (holes : List Drilled) (count : ℕ) (before after : List (Option Best)) : Type 0 where
+  pub size : length after ≡ length before
+  pub kept : (k : ℕ) → count ≤ k → get_or after k None ≡ get_or before k None
+  pub tried : (k : ℕ) → k < count → IsStep covers pad place (hole_at holes k) (get_or before k None) (get_or after k None)

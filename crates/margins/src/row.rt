@@ -1,0 +1,90 @@
+//! The rings that some of the holes of a board have on one layer.
+
+ghost use Rattle.std.specs.Prelude.{◌≡◌, ◌-ℤ◌, ◌<◌, pos, length};
+ghost use Rattle.std.specs.List.{All};
+ghost use Rattle.margins.specs.Rows.{ring_by, has_none, IsRow};
+ghost use Rattle.margins.specs.Inner.Rows.{IsLesser};
+
+use crate::best::Best;
+use crate::roots::less;
+use grid_units::Hole;
+use ring_rules::Drilled;
+
+/// The least ring of some holes on a layer.
+#[derive(Clone, Copy, Debug, PartialEq, Eq)]
+pub struct LeastRing {
+    /// The ring, in pm: below 0 where the hole is wider than the copper round its centre.
+    pub ring: i64,
+    /// The first of the holes that has it, by its place in the list of all holes, from 0.
+    pub hole: usize,
+}
+
+/// What some holes have of rings on a layer.
+#[derive(Clone, Copy, Debug, PartialEq, Eq)]
+pub struct RingRow {
+    /// How many holes these are.
+    pub holes: usize,
+    /// How many of them are bare: they have no ring at all.
+    pub bare: usize,
+    /// The least ring, if one of them has a ring.
+    pub least: Option<LeastRing>,
+}
+
+/// The ring of a hole in its best pad, in pm.
+pub(crate) fn ring_in(best: &Best, hole: &Hole) -> i64
+    ensures { result ≡ pos best.now.depth -ℤ pos hole.now.radius }
+{
+    less(best.depth, hole.radius().unsigned_abs())
+}
+
+/// The ring of a hole, if it is not bare.
+pub(crate) fn ring_of(best: Option<Best>, hole: &Hole) -> Option<i64>
+    ensures { result ≡ ring_by best hole.now }
+{
+    match best {
+        Some(best) => Some(ring_in(&best, hole)),
+        None => None,
+    }
+}
+
+/// Whether a hole with such a best pad is bare.
+fn is_bare(best: Option<Best>) -> bool
+    ensures { result ≡ has_none best }
+{
+    best.is_none()
+}
+
+/// The lesser of the least ring so far and that of one more hole. Of equal ones the first stays.
+fn lesser(least: Option<LeastRing>, hole: usize, ring: Option<i64>) -> Option<LeastRing>
+    ensures { IsLesser least hole ring result }
+{
+    match (least, ring) {
+        (_, None) => least,
+        (Some(held), Some(ring)) if held.ring <= ring => least,
+        (_, Some(ring)) => Some(LeastRing { ring, hole }),
+    }
+}
+
+/// What some holes have of rings on a layer: how many they are, how many of them are bare, and the least ring, with the first of them that
+/// has it. The best pads are those of all holes on this layer; the holes are chosen by their places, from 0. It takes as long as these
+/// are many.
+pub fn ring_row(bests: &[Option<Best>], holes: &[Drilled], chosen: &[usize]) -> RingRow
+    requires bests { length bests.now ≡ length holes.now }
+    requires chosen { All (λ k. k < length holes.now) chosen.now }
+    ensures { IsRow bests.now holes.now chosen.now result }
+{
+    let mut bare = 0;
+    let mut least = None;
+    for hole in chosen {
+        let best = bests[*hole];
+        if is_bare(best) {
+            bare += 1;
+        }
+        least = lesser(least, *hole, ring_of(best, &holes[*hole].hole));
+    }
+    RingRow {
+        holes: chosen.len(),
+        bare,
+        least,
+    }
+}

@@ -1,0 +1,86 @@
+-- A package passes under just the rules that it meets.
+use Rattle.std.proofs.Common.{◌≡◌, ◌++◌, ◌↔◌, ℕ, List, [], ◌∷◌, Result, Ok, Err, IfOk, refl, sym, ap, subst, ◌∙◌}
+use Rattle.grid_units.specs.Holes.{GridRules}
+use Rattle.grid_units.specs.declared.fault.Fault.{Fault}
+use Rattle.pad_shapes.specs.Pads.{pad_covers}
+use Rattle.pad_shapes.specs.declared.pad.Pad.{Pad}
+use Rattle.ring_rules.specs.declared.finding.Drilled.{Drilled}
+use Rattle.ring_rules.specs.Findings.{ring_findings, gap_findings}
+use Rattle.margins.specs.Meets.{GapsPass, GapsPassExactly, RingsPass, RingsPassExactly}
+use Rattle.margins.specs.declared.met.Met.{Met}
+use Rattle.package_check.specs.Alike.{OneAnswer}
+use Rattle.package_check.specs.Boards.{IsBoard, Survey, reported}
+use Rattle.package_check.specs.Package.{IsAnswer, IsReport, Source}
+use Rattle.package_check.specs.Reports.{Account}
+use Rattle.package_check.specs.declared.PackageFault.{PackageFault}
+use Rattle.package_check.specs.declared.PackageFault.TheVariants as stop
+use Rattle.package_check.proofs.Boarding.{reported_on}
+use Rattle.measuring.specs.declared.measure.Measure.{Measure}
+use Rattle.measuring.specs.Measures.{AnswersMeasure, BoardPasses, MeasuredPasses, PackagePasses, RefusesAlike}
+
+no_left : {X : Type 0} (xs ys : List X) → xs ++ ys ≡ [] → xs ≡ []
+no_left [] ys e = refl
+no_left (x ∷ xs) ys e = absurd cc
+
+no_right : {X : Type 0} (xs ys : List X) → xs ++ ys ≡ [] → ys ≡ []
+no_right [] ys e = e
+no_right (x ∷ xs) ys e = absurd cc
+
+neither : {X : Type 0} (xs ys : List X) → xs ≡ [] → ys ≡ [] → xs ++ ys ≡ []
+neither [] ys e k = k
+neither (x ∷ xs) ys e k = absurd cc
+
+-- a board passes where its rings and its gaps do
+pub board_passes : (board : Survey) (ring gap : Met) → RingsPass pad_covers board.layers board.holes ring → GapsPass board.holes gap → BoardPasses board ring gap
+board_passes board ring gap rings gaps rules =
+    let found = ring_findings pad_covers rules.ring board.layers board.holes in
+    let near = gap_findings rules.gap board.holes in (
+      λ none. ((rings rules.ring).0 (no_left found near none), (gaps rules.gap).0 (no_right found near none)),
+      λ allowed. neither found near ((rings rules.ring).1 allowed.0) ((gaps rules.gap).1 allowed.1),
+    )
+
+pub measured_board : (board : Survey) (layers : List (List Pad)) (holes others : List Drilled) (ring gap : Met) → layers ≡ board.layers → holes ≡ board.holes → others ≡ board.holes
+    → RingsPass pad_covers layers holes ring → GapsPass others gap → BoardPasses board ring gap
+measured_board board layers holes others ring gap its same all rings gaps =
+    board_passes board ring gap
+    (subst (λ (ps : List (List Pad)). RingsPass pad_covers ps board.holes ring) its (subst (λ (ds : List Drilled). RingsPass pad_covers layers ds ring) same rings))
+    (subst (λ (ds : List Drilled). GapsPass ds gap) all gaps)
+
+abbrev answered : Account → Result Account (ℕ × Fault)
+answered report = Ok report
+
+ok_same : {x y : Account} → answered x ≡ answered y → x ≡ y
+ok_same e = cc
+
+ok_or_err : {x : Account} {e : ℕ × Fault} → answered x ≡ Err e → ⊥
+ok_or_err e = cc
+
+err_same : {x y : ℕ × Fault} → (let a : Result Account (ℕ × Fault) = Err x in let b : Result Account (ℕ × Fault) = Err y in a ≡ b) → x ≡ y
+err_same e = cc
+
+pub measured_passes : RingsPassExactly pad_covers → GapsPassExactly → OneAnswer → MeasuredPasses
+measured_passes rings gaps one sources board ring gap is met_rings met_gaps =
+    let passes = board_passes board ring gap (rings board.layers board.holes ring met_rings) (gaps board.holes gap met_gaps) in
+    let its = λ (rules : GridRules). reported_on sources rules board (reported rules board) is refl in
+    let same = λ (rules : GridRules) (report : Account) (h : IsReport sources rules report). ok_same (one sources rules (Ok report) (Ok (reported rules board)) h (its rules)) in
+    record {
+      reported = λ rules. (reported rules board, its rules);
+      passes = λ rules report h. (
+        λ none. (passes rules).0 (sym (ap (λ (r : Account). r.findings) (same rules report h)) ∙ none),
+        λ allowed. ap (λ (r : Account). r.findings) (same rules report h) ∙ (passes rules).1 allowed,
+      );
+    }
+
+module _ (sources : List Source) where
+  pub measured : MeasuredPasses → (r : Result Measure PackageFault) → AnswersMeasure sources r → IfOk r (λ measure. PackagePasses sources measure.ring measure.gap)
+  measured law (Ok measure) h = law sources h.board measure.ring measure.gap h.read h.is.rings h.is.gaps
+  measured law (Err e) h = tt
+
+  pub refused_alike : OneAnswer → (r : Result Measure PackageFault) → AnswersMeasure sources r → (rules : GridRules) (answer : Result Account (ℕ × Fault)) → IsAnswer sources rules answer → RefusesAlike answer r
+  refused_alike one (Ok measure) h rules (Ok report) k = tt
+  refused_alike one (Ok measure) h rules (Err refusal) k =
+      ok_or_err (one sources rules (Ok (reported rules h.board)) (Err refusal) (reported_on sources rules h.board (reported rules h.board) h.read refl) k)
+  refused_alike one (Err stop.Memory) h rules (Ok report) k = tt
+  refused_alike one (Err stop.Memory) h rules (Err refusal) k = tt
+  refused_alike one (Err (stop.File index fault)) h rules (Ok report) k = ok_or_err (one sources rules (Ok report) (Err (index, fault)) k h)
+  refused_alike one (Err (stop.File index fault)) h rules (Err refusal) k = err_same (one sources rules (Err refusal) (Err (index, fault)) k h)

@@ -1,0 +1,56 @@
+-- By how much a package meets its rules. Lengths are whole picometres.
+use Rattle.std.specs.Prelude.{◌≡◌, ◌↔◌, ℕ, List, [], Result, Ok, Err, ⊤}
+use Rattle.grid_units.specs.Holes.{GridRules}
+use Rattle.grid_units.specs.declared.fault.Fault.{Fault}
+use Rattle.pad_shapes.specs.Pads.{pad_covers}
+use Rattle.margins.specs.Meets.{MeetsRings, MeetsGaps, allows}
+use Rattle.margins.specs.declared.met.Met.{Met}
+use Rattle.package_check.specs.Boards.{IsBoard, Survey, board_findings}
+use Rattle.package_check.specs.Package.{IsFirstRefused, IsReport, Source}
+use Rattle.package_check.specs.Reports.{Account}
+use Rattle.package_check.specs.declared.PackageFault.{PackageFault}
+use Rattle.package_check.specs.declared.PackageFault.TheVariants as stop
+use Rattle.measuring.specs.declared.measure.Measure.{Measure}
+
+-- both rules are allowed by what is met (docs/DEFINITIONS.md, Measures)
+abbrev pub AllowsRules : Met → Met → GridRules → Type 0
+AllowsRules ring gap rules = allows ring rules.ring × allows gap rules.gap
+
+-- nothing is found on a board under just the rules that are allowed (docs/DEFINITIONS.md, Measures)
+abbrev pub BoardPasses : Survey → Met → Met → Type 0
+BoardPasses board ring gap = (rules : GridRules) → (board_findings rules board ≡ []) ↔ AllowsRules ring gap rules
+
+-- the files of a package are all read, whatever the rules are, and its report has no finding under just the rules that are allowed (docs/DEFINITIONS.md, Measures)
+pub record PackagePasses (sources : List Source) (ring gap : Met) : Type 0 where
+  pub reported : (rules : GridRules) → (report : Account) × IsReport sources rules report
+  pub passes : (rules : GridRules) (report : Account) → IsReport sources rules report → (report.findings ≡ []) ↔ AllowsRules ring gap rules
+
+-- the measure of a board: the greatest ring and the greatest gap that it meets (docs/DEFINITIONS.md, Measures)
+pub record IsMeasure (board : Survey) (measure : Measure) : Type 0 where
+  pub rings : MeetsRings pad_covers board.layers board.holes measure.ring
+  pub gaps : MeetsGaps board.holes measure.gap
+
+-- the measure of a package: that of the board of its files (docs/DEFINITIONS.md, Measures)
+pub record IsMeasureOf (sources : List Source) (measure : Measure) : Type 0 where
+  pub board : Survey
+  pub read : IsBoard sources board
+  pub is : IsMeasure board measure
+
+-- what is returned is the measure of the package, or the first file that is refused, want of memory aside (docs/DEFINITIONS.md, Measures)
+abbrev pub AnswersMeasure : List Source → Result Measure PackageFault → Type 0
+AnswersMeasure sources (Ok measure) = IsMeasureOf sources measure
+AnswersMeasure sources (Err stop.Memory) = ⊤
+AnswersMeasure sources (Err (stop.File index fault)) = IsFirstRefused sources index fault
+
+-- a package is measured just where a check reports on it, and refused just as by a check, want of memory aside (docs/DEFINITIONS.md, Measures)
+abbrev pub RefusesAlike : Result Account (ℕ × Fault) → Result Measure PackageFault → Type 0
+RefusesAlike (Ok report) (Ok measure) = ⊤
+RefusesAlike (Err refusal) (Ok measure) = ⊥
+RefusesAlike (Ok report) (Err stop.Memory) = ⊤
+RefusesAlike (Err refusal) (Err stop.Memory) = ⊤
+RefusesAlike (Ok report) (Err (stop.File index fault)) = ⊥
+RefusesAlike (Err refusal) (Err (stop.File index fault)) = refusal ≡ (index, fault)
+
+-- a package whose files are all read passes under just the rules that its board meets (docs/DEFINITIONS.md, Measures)
+abbrev pub MeasuredPasses : Type 0
+MeasuredPasses = (sources : List Source) (board : Survey) (ring gap : Met) → IsBoard sources board → MeetsRings pad_covers board.layers board.holes ring → MeetsGaps board.holes gap → PackagePasses sources ring gap

@@ -1,0 +1,16 @@
+//! What follows from the definitions alone. A call of a law does nothing, and gives its clause.
+
+ghost use Rattle.measuring.specs.Measures.{MeasuredPasses};
+
+use margins::laws::{gaps_pass, rings_pass};
+use package_check::laws::one_answer;
+use pad_shapes::Pad;
+
+/// A package whose files are all read passes under just the rules that it meets.
+pub fn measured_passes()
+    ensures { MeasuredPasses }
+{
+    one_answer();
+    rings_pass::<Pad>();
+    gaps_pass();
+}

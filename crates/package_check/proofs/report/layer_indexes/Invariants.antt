@@ -1,7 +1,0 @@
-use Rattle.std.proofs.Common.{◌≡◌, take}
-use Rattle.std.specs.List.{flat_map, enumerate_from}
-use Rattle.package_check.specs.Package.{index_of}
-use Rattle.package_check.proofs.report.layer_indexes.Given as goal
-
-abbrev pub invariant-loop-file : goal.invariant-loop-file
-invariant-loop-file l = l.indexes.items ≡ flat_map index_of (take l.file (enumerate_from 0 l.contents))

@@ -1,0 +1,76 @@
+-- What the files of a package say, all of them together.
+use Rattle.std.specs.Prelude.{ℕ, ◌+◌, ◌≡◌, ◌++◌, List, [], ◌∷◌, length, map, take, drop, Result, Ok, Err, ⊤}
+use Rattle.std.specs.List.{flat_map, enumerate_from}
+use Rattle.grid_units.specs.Holes.{GridRules}
+use Rattle.pad_shapes.specs.declared.pad.Pad.{Pad}
+use Rattle.ring_rules.specs.declared.finding.Drilled.{Drilled}
+use Rattle.ring_rules.specs.declared.finding.Finding.{Finding}
+use Rattle.package_check.specs.declared.FileSum.{FileSum}
+use Rattle.package_check.specs.declared.FileSum.TheVariants as sum
+use Rattle.package_check.specs.declared.Numbered.{Numbered}
+use Rattle.package_check.specs.declared.PackageFault.{PackageFault}
+use Rattle.package_check.specs.declared.PackageFault.TheVariants as stop
+use Rattle.package_check.specs.declared.contents.Content.{Content}
+use Rattle.package_check.specs.Reports.{Account}
+use Rattle.package_check.specs.Soundness.{drilled_in}
+use Rattle.package_check.specs.Package.{Source, AreRead, IsFirstRefused, findings, layer_indexes, layers, sum_of}
+
+-- what the files of a package say: how much each holds, the pads of each copper file and its index, and the holes of all drill files in their order (docs/DEFINITIONS.md, Packages)
+pub record Survey : Type 0 where
+  pub files : List FileSum
+  pub layers : List (List Pad)
+  pub layer_indexes : List ℕ
+  pub holes : List Drilled
+
+-- the board of files that say this (docs/DEFINITIONS.md, Packages)
+abbrev pub board_on : List Content → Survey
+board_on contents = record {
+  files = map sum_of contents;
+  layers = layers contents;
+  layer_indexes = layer_indexes contents;
+  holes = flat_map drilled_in contents;
+}
+
+-- the board of files that are all read (docs/DEFINITIONS.md, Packages)
+pub record IsBoard (sources : List Source) (board : Survey) : Type 0 where
+  pub contents : List Content
+  pub read : AreRead sources contents
+  pub is : board ≡ board_on contents
+
+-- what is returned is the board of the package, or the first file that is refused, want of memory aside (docs/DEFINITIONS.md, Packages)
+abbrev pub AnswersBoard : List Source → Result Survey PackageFault → Type 0
+AnswersBoard sources (Ok board) = IsBoard sources board
+AnswersBoard sources (Err stop.Memory) = ⊤
+AnswersBoard sources (Err (stop.File index fault)) = IsFirstRefused sources index fault
+
+-- how many holes a file has (docs/DEFINITIONS.md, Packages)
+abbrev pub hole_count : FileSum → ℕ
+hole_count (sum.Layer pads other) = 0
+hole_count (sum.Drill plated span round slots) = round + slots
+
+-- holes with the index of their file, and their numbers in it from 1 (docs/DEFINITIONS.md, Packages)
+abbrev pub numbered_in : ℕ → List Drilled → List Numbered
+numbered_in file holes = map (λ hole. record { file = file; number = hole.0; drilled = hole.1 }) (enumerate_from 1 holes)
+
+-- holes that are listed file by file, as many of each as it has, with their places; the files are counted from one index on (docs/DEFINITIONS.md, Packages)
+unfoldable pub numbered_from : ℕ → List FileSum → List Drilled → List Numbered
+numbered_from file [] holes = []
+numbered_from file (one ∷ files) holes = numbered_in file (take (hole_count one) holes) ++ numbered_from (file + 1) files (drop (hole_count one) holes)
+
+-- the holes of a board with their places (docs/DEFINITIONS.md, Packages)
+abbrev pub numbered : Survey → List Numbered
+numbered board = numbered_from 0 board.files board.holes
+
+-- what the rules find on a board (docs/DEFINITIONS.md, Packages)
+abbrev pub board_findings : GridRules → Survey → List Finding
+board_findings rules board = findings rules board.layers board.holes
+
+-- the report on a board (docs/DEFINITIONS.md, Packages)
+abbrev pub reported : GridRules → Survey → Account
+reported rules board = record {
+  rules = rules;
+  files = board.files;
+  layers = board.layer_indexes;
+  holes = numbered board;
+  findings = board_findings rules board;
+}

@@ -1,0 +1,312 @@
+//! What the files of a package say, all of them together.
+
+ghost use Rattle.std.specs.Prelude.{◌≡◌, ◌++◌, ◌∷◌, [], IfOk, OnOk, map, min, not, count_by};
+ghost use Rattle.std.specs.List.{flat_map};
+ghost use Rattle.grid_units.specs.Holes.{is_round};
+ghost use Rattle.package_check.specs.Boards.{board_findings, board_on, hole_count, numbered_from, numbered_in};
+ghost use Rattle.package_check.specs.Package.{sum_of, layer_indexes, pads_of};
+ghost use Rattle.package_check.specs.Soundness.{drilled_in};
+
+use crate::contents::Content;
+use crate::readers::Layer;
+use crate::{FileSum, Numbered};
+use grid_units::{Hole, Rules};
+use pad_shapes::Pad;
+use ring_rules::{Drilled, Finding, Span, gap_findings, ring_findings};
+use std::alloc::{AllocError, Global};
+use std::marker::Model;
+
+/// What the files of a package say: how much each holds, the pads of each copper file, and the holes of all drill files.
+#[derive(Drop)]
+pub struct Board {
+    files: Vec<FileSum>,
+    layers: Vec<Layer>,
+    layer_indexes: Vec<usize>,
+    holes: Vec<Drilled>,
+}
+
+impl Model for Board {
+    ghost use Rattle.std.specs.Prelude.{map};
+    ghost use Rattle.package_check.specs.Boards.{Survey};
+
+    ghost Value = { Survey };
+
+    ghost view = { λ b. record { files = b.files.items; layers = map (λ l. l.pads) b.layers.items; layer_indexes = b.layer_indexes.items; holes = b.holes.items } };
+}
+
+/// The parts of a board that a report keeps: sums, indexes of the copper files, holes.
+#[derive(Drop)]
+pub(crate) struct Kept {
+    pub(crate) files: Vec<FileSum>,
+    pub(crate) layer_indexes: Vec<usize>,
+    pub(crate) holes: Vec<Drilled>,
+}
+
+impl Board {
+    /// How much each file holds.
+    pub fn files(&self) -> &[FileSum]
+        ensures { result.now ≡ self.now.files }
+    {
+        &self.files
+    }
+
+    /// The pads of each layer, in the order of the copper files.
+    ///
+    /// # Errors
+    ///
+    /// Where there is no memory for the list.
+    pub fn layers(&self, alloc: Global) -> Result<Vec<&[Pad]>, AllocError>
+        ensures { IfOk result (λ layers. map (λ pads. pads.now) layers.items ≡ self.now.layers) }
+    {
+        pads_of_each(alloc, &self.layers)
+    }
+
+    /// The index of the copper file of each layer.
+    pub fn layer_indexes(&self) -> &[usize]
+        ensures { result.now ≡ self.now.layer_indexes }
+    {
+        &self.layer_indexes
+    }
+
+    /// The holes of all drill files: those of the first such file in their order, then those of the next.
+    pub fn holes(&self) -> &[Drilled]
+        ensures { result.now ≡ self.now.holes }
+    {
+        &self.holes
+    }
+
+    /// What the rules find on the layers and at the holes.
+    ///
+    /// # Errors
+    ///
+    /// Where there is no memory.
+    pub fn findings(&self, alloc: Global, rules: Rules) -> Result<Vec<Finding>, AllocError>
+        ensures { IfOk result (λ found. found.items ≡ board_findings rules self.now) }
+    {
+        let layers = self.layers(alloc)?;
+        let mut findings = ring_findings(alloc, &layers, &self.holes, rules)?;
+        let gaps = gap_findings(alloc, &self.holes, rules)?;
+        findings.extend_from_slice(&gaps)?;
+        Ok(findings)
+    }
+
+    /// Lets go of the pads.
+    pub(crate) fn without_pads(self) -> Kept
+        ensures files { result.files.items ≡ self.files }
+        ensures layer_indexes { result.layer_indexes.items ≡ self.layer_indexes }
+        ensures holes { result.holes.items ≡ self.holes }
+    {
+        let Board {
+            files,
+            layers,
+            layer_indexes,
+            holes,
+        } = self;
+        drop(layers);
+        Kept {
+            files,
+            layer_indexes,
+            holes,
+        }
+    }
+}
+
+fn pads_of_each(alloc: Global, layers: &[Layer]) -> Result<Vec<&[Pad]>, AllocError>
+    ensures { IfOk result (λ all. map (λ pads. pads.now) all.items ≡ map (λ layer. layer.pads) layers.now) }
+{
+    let mut all = Vec::new(alloc);
+    for layer in layers {
+        all.push(layer.pads())?;
+    }
+    Ok(all)
+}
+
+fn round_holes(holes: &[Hole]) -> usize
+    ensures { result ≡ count_by is_round holes.now }
+{
+    holes.iter().filter(|hole| hole.is_round()).count()
+}
+
+fn slots(holes: &[Hole]) -> usize
+    ensures { result ≡ count_by (λ hole. not (is_round hole)) holes.now }
+{
+    holes.iter().filter(|hole| !hole.is_round()).count()
+}
+
+fn sum_of(content: &Content) -> FileSum
+    ensures { result ≡ sum_of content.now }
+{
+    match content {
+        Content::Layer(layer) => FileSum::Layer {
+            pads: layer.pads().len(),
+            other: layer.other(),
+        },
+        Content::Drill {
+            plated,
+            span,
+            drill,
+        } => FileSum::Drill {
+            plated: *plated,
+            span: *span,
+            round: round_holes(drill.holes()),
+            slots: slots(drill.holes()),
+        },
+    }
+}
+
+fn sums(alloc: Global, contents: &[Content]) -> Result<Vec<FileSum>, AllocError>
+    ensures { IfOk result (λ v. v.items ≡ map sum_of contents.now) }
+{
+    contents
+        .iter()
+        .map(|content| sum_of(content))
+        .collect(alloc)
+}
+
+fn layer_indexes(alloc: Global, contents: &[Content]) -> Result<Vec<usize>, AllocError>
+    ensures { IfOk result (λ v. v.items ≡ layer_indexes contents.now) }
+{
+    let mut indexes = Vec::new(alloc);
+    for (file, content) in contents.iter().enumerate() {
+        if let Content::Layer(_) = content {
+            indexes.push(file)?;
+        }
+    }
+    Ok(indexes)
+}
+
+/// Appends the holes of one file.
+fn push_drilled(
+    drilled: &mut Vec<Drilled>,
+    plated: bool,
+    span: &Option<Span>,
+    holes: &[Hole],
+) -> Result<(), AllocError>
+    ensures { OnOk result (drilled.new.items ≡ drilled.old.items ++ map (λ hole. record { hole = hole; plated = plated; span = span.now }) holes.now) }
+{
+    for hole in holes {
+        drilled.push(Drilled {
+            hole: *hole,
+            plated,
+            span: *span,
+        })?;
+    }
+    Ok(())
+}
+
+fn push_layer(layers: &mut Vec<Layer>, layer: Layer) -> Result<(), AllocError>
+    ensures { OnOk result (layers.new.items ≡ layers.old.items ++ layer ∷ []) }
+{
+    if layers.push(layer).is_err() {
+        return Err(AllocError);
+    }
+    Ok(())
+}
+
+/// Moves what a file says to the list of its kind. What it says of holes is let go of when they are listed.
+fn sort_in(
+    layers: &mut Vec<Layer>,
+    holes: &mut Vec<Drilled>,
+    content: Content,
+) -> Result<(), AllocError>
+    ensures layers { OnOk result (map (λ l. l.pads) layers.new.items ≡ map (λ l. l.pads) layers.old.items ++ pads_of content) }
+    ensures holes { OnOk result (holes.new.items ≡ holes.old.items ++ drilled_in content) }
+{
+    match content {
+        Content::Layer(layer) => push_layer(layers, layer),
+        Content::Drill {
+            plated,
+            span,
+            drill,
+        } => push_drilled(holes, plated, &span, drill.holes()),
+    }
+}
+
+/// Moves what the files say to the lists of their kinds, one file after the other.
+fn sort_all(
+    layers: &mut Vec<Layer>,
+    holes: &mut Vec<Drilled>,
+    contents: Vec<Content>,
+) -> Result<(), AllocError>
+    ensures layers { OnOk result (map (λ l. l.pads) layers.new.items ≡ map (λ l. l.pads) layers.old.items ++ flat_map pads_of contents.items) }
+    ensures holes { OnOk result (holes.new.items ≡ holes.old.items ++ flat_map drilled_in contents.items) }
+{
+    for content in contents {
+        sort_in(layers, holes, content)?;
+    }
+    Ok(())
+}
+
+/// How many holes the files have.
+fn total(contents: &[Content]) -> usize {
+    let mut total: usize = 0;
+    for content in contents {
+        if let Content::Drill { drill, .. } = content {
+            total = total.saturating_add(drill.holes().len());
+        }
+    }
+    total
+}
+
+/// The board of what the files say.
+pub(crate) fn board_on(alloc: Global, contents: Vec<Content>) -> Result<Board, AllocError>
+    ensures { IfOk result (λ board. board ≡ board_on contents.items) }
+{
+    let files = sums(alloc, &contents)?;
+    let layer_indexes = layer_indexes(alloc, &contents)?;
+    let mut layers = Vec::new(alloc);
+    let mut holes = Vec::with_capacity(alloc, total(&contents))?;
+    sort_all(&mut layers, &mut holes, contents)?;
+    Ok(Board {
+        files,
+        layers,
+        layer_indexes,
+        holes,
+    })
+}
+
+/// How many of the first so many holes a file has.
+fn hole_count(file: &FileSum, all: usize) -> usize
+    ensures { result ≡ min (hole_count file.now) all }
+{
+    match file {
+        FileSum::Layer { .. } => 0,
+        FileSum::Drill { round, slots, .. } => round.saturating_add(*slots).min(all),
+    }
+}
+
+/// Appends the holes of one file, numbered from 1.
+fn push_numbered(
+    numbered: &mut Vec<Numbered>,
+    file: usize,
+    holes: &[Drilled],
+) -> Result<(), AllocError>
+    ensures { OnOk result (numbered.new.items ≡ numbered.old.items ++ numbered_in file holes.now) }
+{
+    for (place, drilled) in holes.iter().enumerate() {
+        numbered.push(Numbered {
+            file,
+            number: place + 1,
+            drilled: *drilled,
+        })?;
+    }
+    Ok(())
+}
+
+/// The holes of files of these sums with their places.
+pub(crate) fn numbered(
+    alloc: Global,
+    files: &[FileSum],
+    holes: &[Drilled],
+) -> Result<Vec<Numbered>, AllocError>
+    ensures { IfOk result (λ v. v.items ≡ numbered_from 0 files.now holes.now) }
+{
+    let mut numbered = Vec::with_capacity(alloc, holes.len())?;
+    let mut rest = holes;
+    for (file, sum) in files.iter().enumerate() {
+        let (its, behind) = rest.split_at(hole_count(sum, rest.len()));
+        push_numbered(&mut numbered, file, its)?;
+        rest = behind;
+    }
+    Ok(numbered)
+}

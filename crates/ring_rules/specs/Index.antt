@@ -1,0 +1,18 @@
+-- An index of the holes of a list by where they go in.
+use Rattle.std.specs.Prelude.{ℕ, ◌+◌, ◌*◌, ◌^◌, ◌<◌, ◌≤◌, List, length}
+use Rattle.pad_shapes.specs.Zones.{IsInZone}
+use Rattle.pad_shapes.specs.declared.zone.Zone.{Zone}
+use Rattle.ring_rules.specs.Places.{point_at, IsChained}
+use Rattle.ring_rules.specs.Cells.{cell_at}
+use Rattle.ring_rules.specs.declared.finding.Drilled.{Drilled}
+use Rattle.ring_rules.specs.declared.index.HoleIndex.{HoleIndex}
+
+-- an index of just these holes: each of its cells tells the holes that go in there (docs/DEFINITIONS.md, Cells)
+pub record IsIndexOf (holes : List Drilled) (index : HoleIndex) : Type 0 where
+  pub chained : IsChained (cell_at index.cells.x index.cells.y holes) (length holes) index.cells.head.items index.cells.next.items
+  pub fits : (index.cells.y.last + 1) * (index.cells.x.last + 1) ≤ 2 ^ 62
+
+-- the place of a hole of the list that goes in within a zone (docs/DEFINITIONS.md, Cells)
+pub record GoesInAt (holes : List Drilled) (zone : Zone) (k : ℕ) : Type 0 where
+  pub listed : k < length holes
+  pub within : IsInZone zone (point_at holes k)

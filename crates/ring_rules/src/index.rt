@@ -1,0 +1,183 @@
+//! An index of holes by where they go in, for questions with a zone.
+
+ghost use Rattle.std.specs.Prelude.{◌≡◌, ℕ, ◌+◌, ◌<◌, ◌≤◌, ◌≤ℤ◌, true, length, IfOk, OnOk};
+ghost use Rattle.std.specs.List.{All, Contains};
+ghost use Rattle.pad_shapes.specs.Zones.{IsInZone};
+ghost use Rattle.ring_rules.specs.Places.{point_at};
+ghost use Rattle.ring_rules.specs.Cells.{cell_at};
+ghost use Rattle.ring_rules.specs.Regions.{IsInRegion};
+ghost use Rattle.ring_rules.specs.Index.{IsIndexOf, GoesInAt};
+ghost use Rattle.ring_rules.specs.Asking.{AddsPlaces, IsListed};
+
+use crate::cells::{Cells, cell_in};
+use crate::finding::Drilled;
+use crate::layout::laid_out;
+use crate::marks::link_at;
+use crate::pads::{first_column, first_row, last_column, last_row};
+use grid_units::Point;
+use pad_shapes::Zone;
+use std::alloc::{AllocError, Global};
+
+/// The holes of a list by where they go in: by the first end of a slot, by the centre of a round hole. A hole is named by its place in the
+/// list, from 0.
+#[derive(Drop)]
+pub struct HoleIndex {
+    cells: Cells,
+}
+
+/// Whether a point lies between the left and the right of a zone.
+fn is_across(zone: &Zone, at: Point) -> bool
+    ensures inside { result ≡ true → (zone.now.left ≤ℤ at.x) × (at.x ≤ℤ zone.now.right) }
+    ensures outside { IsInZone zone.now at → result ≡ true }
+{
+    zone.left <= at.x() && at.x() <= zone.right
+}
+
+/// Whether a point lies between the bottom and the top of a zone.
+fn is_along(zone: &Zone, at: Point) -> bool
+    ensures inside { result ≡ true → (zone.now.bottom ≤ℤ at.y) × (at.y ≤ℤ zone.now.top) }
+    ensures outside { IsInZone zone.now at → result ≡ true }
+{
+    zone.bottom <= at.y() && at.y() <= zone.top
+}
+
+/// Whether a point lies in a zone.
+fn is_in_zone(zone: &Zone, at: Point) -> bool
+    ensures inside { result ≡ true → IsInZone zone.now at }
+    ensures outside { IsInZone zone.now at → result ≡ true }
+{
+    is_across(zone, at) && is_along(zone, at)
+}
+
+/// Appends the place of a hole, where it goes in within the zone.
+fn add_place(
+    holes: &[Drilled],
+    zone: &Zone,
+    place: usize,
+    places: &mut Vec<usize>,
+) -> Result<(), AllocError>
+    requires { place < length holes.now }
+    ensures adds { OnOk result (AddsPlaces holes.now zone.now places.old.items places.new.items) }
+    ensures listed { OnOk result (IsListed holes.now zone.now place places.new.items) }
+{
+    if is_in_zone(zone, holes[place].hole.from()) {
+        places.push(place)?;
+    }
+    Ok(())
+}
+
+/// Appends the places of the holes of a cell that go in within the zone.
+fn add_cell(
+    index: &HoleIndex,
+    holes: &[Drilled],
+    zone: &Zone,
+    cell: usize,
+    places: &mut Vec<usize>,
+) -> Result<(), AllocError>
+    requires { IsIndexOf holes.now index.now }
+    ensures adds { OnOk result (AddsPlaces holes.now zone.now places.old.items places.new.items) }
+    ensures listed { OnOk result ((k : ℕ) → k < length holes.now → cell_at index.now.cells.x index.now.cells.y holes.now k ≡ cell → IsListed holes.now zone.now k places.new.items) }
+{
+    let mut link = link_at(&index.cells.head, cell);
+    while link > 0 {
+        let place = link - 1;
+        add_place(holes, zone, place, places)?;
+        link = link_at(&index.cells.next, place);
+    }
+    Ok(())
+}
+
+/// Appends such places of a row, from a column to below another.
+fn add_row(
+    index: &HoleIndex,
+    holes: &[Drilled],
+    zone: &Zone,
+    row: usize,
+    left: usize,
+    right: usize,
+    places: &mut Vec<usize>,
+) -> Result<(), AllocError>
+    requires index { IsIndexOf holes.now index.now }
+    requires row { row ≤ index.now.cells.y.last }
+    requires right { right ≤ index.now.cells.x.last + 1 }
+    ensures adds { OnOk result (AddsPlaces holes.now zone.now places.old.items places.new.items) }
+    ensures listed { OnOk result ((k : ℕ) → k < length holes.now → IsInRegion index.now.cells.x index.now.cells.y row (row + 1) left right (point_at holes.now k) → IsListed holes.now zone.now k places.new.items) }
+{
+    for column in left..right {
+        let cell = cell_in(&index.cells.x, &index.cells.y, row, column);
+        add_cell(index, holes, zone, cell, places)?;
+    }
+    Ok(())
+}
+
+/// Appends such places of the rows from one to below another, and of such columns.
+fn add_rows(
+    index: &HoleIndex,
+    holes: &[Drilled],
+    zone: &Zone,
+    top: usize,
+    bottom: usize,
+    left: usize,
+    right: usize,
+    places: &mut Vec<usize>,
+) -> Result<(), AllocError>
+    requires index { IsIndexOf holes.now index.now }
+    requires bottom { bottom ≤ index.now.cells.y.last + 1 }
+    requires right { right ≤ index.now.cells.x.last + 1 }
+    ensures adds { OnOk result (AddsPlaces holes.now zone.now places.old.items places.new.items) }
+    ensures listed { OnOk result ((k : ℕ) → k < length holes.now → IsInRegion index.now.cells.x index.now.cells.y top bottom left right (point_at holes.now k) → IsListed holes.now zone.now k places.new.items) }
+{
+    for row in top..bottom {
+        add_row(index, holes, zone, row, left, right, places)?;
+    }
+    Ok(())
+}
+
+impl HoleIndex {
+    /// The index of these holes. It is quick for zones that are about so wide and so high, in pm, and right for all.
+    ///
+    /// # Errors
+    ///
+    /// Where there is no memory.
+    pub fn new(
+        alloc: Global,
+        holes: &[Drilled],
+        width: u64,
+        height: u64,
+    ) -> Result<HoleIndex, AllocError>
+        ensures { IfOk result (IsIndexOf holes.now) }
+    {
+        let cells = laid_out(alloc, holes, width, height)?;
+        Ok(HoleIndex { cells })
+    }
+
+    /// Puts into `places`, in place of what was there, the places of those holes that go in within a zone. The holes are those that the
+    /// index was made of.
+    ///
+    /// # Errors
+    ///
+    /// Where there is no memory.
+    pub fn find(
+        &self,
+        holes: &[Drilled],
+        zone: &Zone,
+        places: &mut Vec<usize>,
+    ) -> Result<(), AllocError>
+        requires { IsIndexOf holes.now self.now }
+        ensures all { OnOk result ((k : ℕ) → k < length holes.now → IsInZone zone.now (point_at holes.now k) → Contains places.new.items k) }
+        ensures places { OnOk result (All (GoesInAt holes.now zone.now) places.new.items) }
+    {
+        places.clear();
+        add_rows(
+            self,
+            holes,
+            zone,
+            first_row(&self.cells.y, zone),
+            last_row(&self.cells.y, zone) + 1,
+            first_column(&self.cells.x, zone),
+            last_column(&self.cells.x, zone) + 1,
+            places,
+        )?;
+        Ok(())
+    }
+}

@@ -1,0 +1,147 @@
+//! Cells that suit the holes of a board, and what is looked for among them.
+
+ghost use Rattle.std.specs.Prelude.{◌≡◌, ℕ, ◌+◌, ◌*◌, ◌^◌, ◌<◌, ◌≤◌, true, IfOk, length};
+ghost use Rattle.grid_units.specs.Points.{GridPoint};
+ghost use Rattle.pad_shapes.specs.Zones.{IsInZone};
+ghost use Rattle.ring_rules.specs.Places.{point_at};
+ghost use Rattle.ring_rules.specs.Regions.{IsLaidOut};
+
+use crate::cells::{Cells, chained};
+use crate::crowds::{is_crowded, uneven_x, uneven_y};
+use crate::finding::Drilled;
+use crate::scale::Scale;
+use crate::shape::{Spread, shifts, spread_x, spread_y};
+use grid_units::Point;
+use pad_shapes::Zone;
+use std::alloc::{AllocError, Global};
+
+/// The zone and a point.
+fn joined(zone: Zone, at: Point) -> Zone
+    ensures old { (p : GridPoint) → IsInZone zone p → IsInZone result p }
+    ensures new { IsInZone result at }
+{
+    Zone {
+        left: zone.left.min(at.x()),
+        right: zone.right.max(at.x()),
+        bottom: zone.bottom.min(at.y()),
+        top: zone.top.max(at.y()),
+    }
+}
+
+/// A zone that holds where each hole goes in.
+fn bounds(holes: &[Drilled]) -> Zone
+    ensures { (k : ℕ) → k < length holes.now → IsInZone result (point_at holes.now k) }
+{
+    let mut zone = Zone {
+        left: i64::MAX,
+        right: i64::MIN,
+        bottom: i64::MAX,
+        top: i64::MIN,
+    };
+    for drilled in holes {
+        zone = joined(zone, drilled.hole.from());
+    }
+    zone
+}
+
+/// Places along x, of these bits, for the points of a zone.
+fn across(alloc: Global, zone: &Zone, spread: &Spread, shift: u32) -> Scale
+    ensures least { result.least ≡ zone.now.left }
+    ensures greatest { result.greatest ≡ zone.now.right }
+{
+    let shift = shift.min(63);
+    Scale {
+        low: spread.low,
+        shift,
+        last: (spread.span >> shift) as usize,
+        least: zone.left,
+        greatest: zone.right,
+        borders: Vec::new(alloc),
+    }
+}
+
+/// Places along y, of these bits, for the points of a zone.
+fn along(alloc: Global, zone: &Zone, spread: &Spread, shift: u32) -> Scale
+    ensures least { result.least ≡ zone.now.bottom }
+    ensures greatest { result.greatest ≡ zone.now.top }
+{
+    let shift = shift.min(63);
+    Scale {
+        low: spread.low,
+        shift,
+        last: (spread.span >> shift) as usize,
+        least: zone.bottom,
+        greatest: zone.top,
+        borders: Vec::new(alloc),
+    }
+}
+
+/// The same scale with one place.
+fn single(alloc: Global, scale: &Scale) -> Scale
+    ensures last { result.last ≡ 0 }
+    ensures least { result.least ≡ scale.now.least }
+    ensures greatest { result.greatest ≡ scale.now.greatest }
+{
+    Scale {
+        low: scale.low,
+        shift: 0,
+        last: 0,
+        least: scale.least,
+        greatest: scale.greatest,
+        borders: Vec::new(alloc),
+    }
+}
+
+/// Whether two scales make no more than 2^62 cells.
+fn fits(x: &Scale, y: &Scale) -> bool
+    ensures { result ≡ true → (y.now.last + 1) * (x.now.last + 1) ≤ 2 ^ 62 }
+{
+    (y.last as u128 + 1) * (x.last as u128 + 1) <= 1 << 62
+}
+
+/// The holes in cells of such scales, or in one cell where these would make too many.
+fn cells_on(
+    alloc: Global,
+    holes: &[Drilled],
+    zone: &Zone,
+    x: Scale,
+    y: Scale,
+) -> Result<Cells, AllocError>
+    requires least_x { x.least ≡ zone.now.left }
+    requires greatest_x { x.greatest ≡ zone.now.right }
+    requires least_y { y.least ≡ zone.now.bottom }
+    requires greatest_y { y.greatest ≡ zone.now.top }
+    requires holds { (k : ℕ) → k < length holes.now → IsInZone zone.now (point_at holes.now k) }
+    ensures { IfOk result (λ cells. IsLaidOut cells.x cells.y cells.head.items cells.next.items holes.now) }
+{
+    if fits(&x, &y) {
+        chained(alloc, x, y, holes)
+    } else {
+        let (x, y) = (single(alloc, &x), single(alloc, &y));
+        chained(alloc, x, y, holes)
+    }
+}
+
+/// The holes in cells that suit what is so wide and so high: even ones, or uneven ones where holes crowd into few of the even.
+pub(crate) fn laid_out(
+    alloc: Global,
+    holes: &[Drilled],
+    width: u64,
+    height: u64,
+) -> Result<Cells, AllocError>
+    ensures { IfOk result (λ cells. IsLaidOut cells.x cells.y cells.head.items cells.next.items holes.now) }
+{
+    let zone = bounds(holes);
+    let spread_x = spread_x(alloc, holes)?;
+    let spread_y = spread_y(alloc, holes)?;
+    let (shift_x, shift_y) = shifts(&spread_x, &spread_y, holes.len(), width, height);
+    let x = across(alloc, &zone, &spread_x, shift_x);
+    let y = along(alloc, &zone, &spread_y, shift_y);
+    let even = cells_on(alloc, holes, &zone, x, y)?;
+    if !is_crowded(&even, holes) {
+        return Ok(even);
+    }
+    let x = uneven_x(alloc, &zone, holes)?;
+    let y = uneven_y(alloc, &zone, holes)?;
+    cells_on(alloc, holes, &zone, x, y)
+}

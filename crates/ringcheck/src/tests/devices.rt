@@ -1,0 +1,160 @@
+//! Loaders and writers that fail, and want of memory.
+
+use super::*;
+use std::alloc::AllocError;
+use std::io::{self, Write};
+use std::test::Fail as Failure;
+
+#[test]
+fn a_loader_that_fails_is_told_at_each_call(rt: HostRuntime) {
+    let files = [
+        ("m.csv", THREE),
+        ("top.gbr", LAYER),
+        ("bot.gbr", LAYER),
+        ("pth.drl", DRILL),
+    ];
+    for (call, text) in [
+        (1, "device\n"),
+        (2, "device file=1 name=top\n"),
+        (3, "device file=2 name=bot\n"),
+        (4, "device file=3 name=pth\n"),
+    ] {
+        let mut shelf = Shelf::new(&files);
+        shelf.fails_at = call;
+        assert!(rt; prints(rt.alloc(), &mut shelf, &WORDS, Status::Device, text));
+        assert_eq!(rt; shelf.failures(), 1);
+    }
+}
+
+#[test]
+fn a_file_that_is_not_loaded_is_told_before_a_refusal(rt: HostRuntime) {
+    let files = [
+        ("m.csv", THREE),
+        ("top.gbr", BARE),
+        ("bot.gbr", LAYER),
+        ("pth.drl", DRILL),
+    ];
+    let mut shelf = Shelf::new(&files);
+    shelf.fails_at = 4;
+    let text = "device file=3 name=pth\n";
+    assert!(rt; prints(rt.alloc(), &mut shelf, &WORDS, Status::Device, text));
+    assert_eq!(rt; shelf.calls, 4);
+    let mut shelf = LongShelf {
+        shelf: Shelf::new(&files),
+        name: "pth.drl",
+        length: 268_435_457,
+    };
+    let text = "refused file=3 place=0 byte=0 reason=TooLong name=pth\n";
+    assert!(rt; prints(rt.alloc(), &mut shelf, &WORDS, Status::Refused, text));
+    let mut shelf = Shelf::new(&files);
+    let text = "refused file=1 place=1 byte=0 reason=NoFormat name=top\n";
+    assert!(rt; prints(rt.alloc(), &mut shelf, &WORDS, Status::Refused, text));
+    assert_eq!(rt; shelf.calls, 4);
+}
+
+/// A drill file of so many holes, a millimetre apart.
+fn drill_of(alloc: Global, count: u64) -> Result<String, AllocError> {
+    let mut text = format!(in alloc; "M48\nMETRIC\nT1C0.4\n%\nT1\n")?;
+    for i in 0..count {
+        let line = format!(in alloc; "X{i}.0Y0.0\n")?;
+        text.push_str(line.as_str())?;
+    }
+    text.push_str("M30\n")?;
+    Ok(text)
+}
+
+/// The report on these holes and a layer whose pad holds the first of them alone.
+fn report_of(alloc: Global, count: u64) -> Result<String, AllocError> {
+    let mut text = format!(in alloc;
+        "rules ring=0.125000000 gap=0.250000000\nfile 1 layer pads=1 other=0 name=top\nfile 2 drill plated=yes round={count} slots=0 name=pth\n"
+    )?;
+    for i in 1..count {
+        let hole = i.saturating_add(1);
+        let line = format!(in alloc;
+            "RING layer=1 drill=2 hole={hole} x={i}.000000000 y=0.000000000 diameter=0.400000000\n"
+        )?;
+        text.push_str(line.as_str())?;
+    }
+    let findings = count.saturating_sub(1);
+    let line = format!(in alloc; "FINDINGS {findings}\n")?;
+    text.push_str(line.as_str())?;
+    Ok(text)
+}
+
+/// A writer that takes at most forty bytes a call, and fails at the call by the number `fails_at`.
+#[derive(Drop)]
+struct Narrow {
+    calls: u64,
+    fails_at: u64,
+}
+
+impl Write for Narrow {
+    fn write(&mut self, bytes: &[u8]) -> io::Result<usize> {
+        self.calls = self.calls.saturating_add(1);
+        if self.calls == self.fails_at {
+            return Err(io::Error::from(io::ErrorKind::BrokenPipe));
+        }
+        Ok(bytes.len().min(40))
+    }
+
+    fn flush(&mut self) -> io::Result<()> {
+        Ok(())
+    }
+}
+
+#[test]
+fn a_long_report_is_written_in_parts(rt: HostRuntime) -> Result<(), Failure> {
+    let alloc = rt.alloc();
+    let (drill, text) = (drill_of(alloc, 2_000)?, report_of(alloc, 2_000)?);
+    let files = [
+        ("m.csv", MANIFEST),
+        ("top.gbr", LAYER),
+        ("pth.drl", drill.as_str()),
+    ];
+    assert!(rt;
+        prints(
+            alloc,
+            &mut Shelf::new(&files),
+            &WORDS,
+            Status::Findings,
+            text.as_str()
+        )
+    );
+    let calls = text.len().div_ceil(40) as u64;
+    for fails_at in [1, 1_700, calls] {
+        let mut out = Narrow { calls: 0, fails_at };
+        let status = run(alloc, &WORDS, &mut Shelf::new(&files), &mut out);
+        assert_eq!(rt; (status, out.calls), (Status::Device, fails_at));
+    }
+    Ok(())
+}
+
+/// How a run ends whose writer fails at this call, and how many calls it made.
+fn written(alloc: Global, fails_at: u64) -> (Status, u64) {
+    let files = [("m.csv", MANIFEST), ("top.gbr", LAYER), ("pth.drl", DRILL)];
+    let mut out = Narrow { calls: 0, fails_at };
+    let status = run(alloc, &WORDS, &mut Shelf::new(&files), &mut out);
+    (status, out.calls)
+}
+
+#[test]
+fn a_writer_that_fails_is_told_at_each_write(rt: HostRuntime) {
+    for call in 1..=4 {
+        assert_eq!(rt; written(rt.alloc(), call), (Status::Device, call));
+    }
+    assert_eq!(rt; written(rt.alloc(), 5), (Status::Pass, 4));
+}
+
+#[test]
+fn want_of_memory_changes_no_answer(rt: HostRuntime) {
+    let files = [("m.csv", MANIFEST), ("top.gbr", LAYER), ("pth.drl", DRILL)];
+    let mut out = [0; 256];
+    let mut rest = out.as_mut_slice();
+    let status = run(rt.alloc(), &WORDS, &mut Shelf::new(&files), &mut rest);
+    let len = 256_usize.saturating_sub(rest.len());
+    match status {
+        Status::Pass => assert_eq!(rt; &out[..len], REPORT.as_bytes()),
+        Status::Device => assert_eq!(rt; &out[..len], b"memory\n".as_slice()),
+        _ => panic!(rt; "another answer"),
+    }
+}
