@@ -251,9 +251,20 @@ def finding(layer, hole, holes):
     return f"RING layer={layer} drill=3 hole={hole + 1} x={millimetres(x)} y={millimetres(y)} diameter={millimetres(diameter)}"
 
 
+def file_lines(files):
+    """The lines of a report and of a measure on the files."""
+    top, bottom, pth, npth = files
+    return [
+        f"file 1 {top.counts()} name=board-F_Cu.gbr",
+        f"file 2 {bottom.counts()} name=board-B_Cu.gbr",
+        f"file 3 {pth.counts(True)} name=board-PTH.drl",
+        f"file 4 {npth.counts(False)} name=board-NPTH.drl",
+    ]
+
+
 def report(files, ring, off_centre):
     """The report at a ring, at which a hole 0.001 mm off its pads is a finding or not."""
-    top, bottom, pth, npth = files
+    pth = files[2]
     off = [OFF_CENTRE] * off_centre
     no_pad, rounded = len(VIAS) + NO_PAD, len(VIAS) + sum(map(len, SOCKETS))
     findings = [finding(1, it, pth.holes) for it in [*off, rounded]]
@@ -261,13 +272,33 @@ def report(files, ring, off_centre):
     findings += ["GAP drill=3 hole=60 drill=3 hole=61"]
     return [
         f"rules ring={millimetres(ring)} gap={millimetres(GAP)}",
-        f"file 1 {top.counts()} name=board-F_Cu.gbr",
-        f"file 2 {bottom.counts()} name=board-B_Cu.gbr",
-        f"file 3 {pth.counts(True)} name=board-PTH.drl",
-        f"file 4 {npth.counts(False)} name=board-NPTH.drl",
+        *file_lines(files),
         *findings,
         f"FINDINGS {len(findings)}",
     ]
+
+
+def measure(files):
+    """The measure: of each kind of hole half of its pad's lesser side less half of the hole, but for the faults."""
+    first_pin = len(VIAS) + 1
+    first_of_header = first_pin + sum(map(len, SOCKETS))
+    first_of_jack = first_of_header + len(HEADER)
+    # Diameter, holes, the least ring, and the first hole that has it. The header's first pin is bare.
+    kinds = [
+        (300_000, len(VIAS), RING - 1_000, OFF_CENTRE + 1),
+        (800_000, first_of_header - first_pin, 400_000, first_pin),
+        (1_000_000, len(HEADER), 350_000, first_of_header + 1),
+        (1_200_000, len(JACK), 600_000, first_of_jack),
+    ]
+    lines = file_lines(files)
+    for layer in (1, 2):
+        bare = {first_of_header: 1_000_000} if layer == 1 else {first_of_header: 1_000_000, first_pin + NO_PAD: 800_000}
+        for diameter, holes, ring, hole in kinds:
+            count = sum(it == diameter for it in bare.values())
+            counts = f"holes={holes} bare={count} least={millimetres(ring)} hole={hole}"
+            lines.append(f"ring layer={layer} drill=3 diameter={millimetres(diameter)} {counts}")
+    lines.append(f"gap least={millimetres(200_000)} drill=3 hole=60 drill=3 hole=61")
+    return [*lines, f"meets ring=none gap={millimetres(200_000)} held={millimetres(RING - 1_000)}"]
 
 
 def made():
@@ -290,6 +321,7 @@ def made():
     ]
     found["expected/check-0.15.txt"] = report(files, RING, True)
     found["expected/check-0.149.txt"] = report(files, RING - 1_000, False)
+    found["expected/measure.txt"] = measure(files)
     found["expected/show-top.csv"] = top.table()
     found["expected/show-pth.csv"] = pth.table()
     found["expected/rewrite-top.gbr"] = "\n".join(top.canonical).split("\n")

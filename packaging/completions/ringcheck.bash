@@ -3,7 +3,7 @@ _ringcheck() {
   local word=${COMP_WORDS[COMP_CWORD]} before=${COMP_WORDS[COMP_CWORD - 1]} command=${COMP_WORDS[1]} options=
   COMPREPLY=()
   if [ "$COMP_CWORD" -eq 1 ]; then
-    mapfile -t COMPREPLY < <(compgen -W 'check manifest explain show rewrite help --help --version' -- "$word")
+    mapfile -t COMPREPLY < <(compgen -W 'check measure manifest explain show rewrite help --help --version' -- "$word")
     return
   fi
   # The shell cuts `--kind=layer` at its sign.
@@ -21,6 +21,7 @@ _ringcheck() {
   esac
   case $command in
     check) options='--ring --gap --help' ;;
+    measure) options='--help' ;;
     manifest) options='--why --help' ;;
     show | rewrite) options='--kind --help' ;;
     explain)
@@ -28,7 +29,7 @@ _ringcheck() {
       return
       ;;
     help)
-      mapfile -t COMPREPLY < <(compgen -W 'check manifest explain show rewrite' -- "$word")
+      mapfile -t COMPREPLY < <(compgen -W 'check measure manifest explain show rewrite' -- "$word")
       return
       ;;
     *) return ;;

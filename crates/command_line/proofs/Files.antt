@@ -6,8 +6,8 @@ use Rattle.std.proofs.lemmas.Bool.{false≢true}
 use Rattle.std.proofs.lemmas.Slice.Eq.{bytes_eq-Decides}
 use Rattle.clap.specs.Words.{Row, Text, all_of, first_of, one_of}
 use Rattle.command_line.specs.declared.Request.{Request}
-use Rattle.command_line.specs.declared.Request.TheVariants.{Check, Show, Rewrite, Manifest, Explain}
-use Rattle.command_line.specs.Line.{AsksFor, IsExplain, IsManifest, IsRewrite, IsShow}
+use Rattle.command_line.specs.declared.Request.TheVariants.{Check, Measure, Show, Rewrite, Manifest, Explain}
+use Rattle.command_line.specs.Line.{AsksFor, IsExplain, IsManifest, IsMeasure, IsRewrite, IsShow}
 
 some_is : {A : Type 0} (x y : A) → Some x ≡ Some y → x ≡ y
 some_is x y e = cc
@@ -18,6 +18,7 @@ differ a b e same = false≢true (sym e ∙ (bytes_eq-Decides a b).1 same)
 module _ (k f : Text) (rows : List Row) (kind_is : first_of (codes "kind") rows ≡ Some k) (file_is : first_of (codes "file") rows ≡ Some f) where
   pub is_show : (asked : Request) → AsksFor (Some (codes "show", rows)) asked → IsShow k f asked
   is_show (Check ring gap manifest) a = cc a.0
+  is_show (Measure manifest) a = cc a.0
   is_show (Show kind file) a = (some_is _ _ (sym a.1 ∙ kind_is), some_is _ _ (sym a.2 ∙ file_is))
   is_show (Rewrite kind file) a = cc a.0
   is_show (Manifest why files) a = cc a.0
@@ -25,6 +26,7 @@ module _ (k f : Text) (rows : List Row) (kind_is : first_of (codes "kind") rows 
 
   pub is_rewrite : (asked : Request) → AsksFor (Some (codes "rewrite", rows)) asked → IsRewrite k f asked
   is_rewrite (Check ring gap manifest) a = cc a.0
+  is_rewrite (Measure manifest) a = absurd (differ (codes "rewrite") (codes "measure") refl a.0)
   is_rewrite (Show kind file) a = cc a.0
   is_rewrite (Rewrite kind file) a = (some_is _ _ (sym a.1 ∙ kind_is), some_is _ _ (sym a.2 ∙ file_is))
   is_rewrite (Manifest why files) a = cc a.0
@@ -34,15 +36,26 @@ module _ (k f : Text) (rows : List Row) (kind_is : first_of (codes "kind") rows 
 pub is_manifest : (why : Bool) (fs : List Text) (rows : List Row) → one_of (codes "why") rows ≡ Some (if why then codes "true" else codes "false") → all_of (codes "file") rows ≡ Some fs
     → (asked : Request) → AsksFor (Some (codes "manifest", rows)) asked → IsManifest why fs asked
 is_manifest why fs rows w f (Check ring gap manifest) a = cc a.0
+is_manifest why fs rows w f (Measure manifest) a = cc a.0
 is_manifest why fs rows w f (Show kind file) a = cc a.0
 is_manifest why fs rows w f (Rewrite kind file) a = cc a.0
 is_manifest true fs rows w f (Manifest why files) a = (a.1.yes w, some_is _ _ (sym a.2 ∙ f))
 is_manifest false fs rows w f (Manifest why files) a = (a.1.no w, some_is _ _ (sym a.2 ∙ f))
 is_manifest why fs rows w f (Explain word) a = cc a.0
 
+-- the request of a line that names a package
+pub is_measure : (m : Text) (rows : List Row) → first_of (codes "manifest") rows ≡ Some m → (asked : Request) → AsksFor (Some (codes "measure", rows)) asked → IsMeasure m asked
+is_measure m rows w (Check ring gap manifest) a = cc a.0
+is_measure m rows w (Measure manifest) a = some_is _ _ (sym a.1 ∙ w)
+is_measure m rows w (Show kind file) a = cc a.0
+is_measure m rows w (Rewrite kind file) a = absurd (differ (codes "measure") (codes "rewrite") refl a.0)
+is_measure m rows w (Manifest why files) a = absurd (differ (codes "measure") (codes "manifest") refl a.0)
+is_measure m rows w (Explain word) a = absurd (differ (codes "measure") (codes "explain") refl a.0)
+
 -- the request of a line that names a word, or none
 pub is_explain : (o : Option Text) (rows : List Row) → first_of (codes "word") rows ≡ o → (asked : Request) → AsksFor (Some (codes "explain", rows)) asked → IsExplain o asked
 is_explain o rows w (Check ring gap manifest) a = cc a.0
+is_explain o rows w (Measure manifest) a = absurd (differ (codes "explain") (codes "measure") refl a.0)
 is_explain o rows w (Show kind file) a = cc a.0
 is_explain o rows w (Rewrite kind file) a = absurd (differ (codes "explain") (codes "rewrite") refl a.0)
 is_explain o rows w (Manifest why files) a = cc a.0

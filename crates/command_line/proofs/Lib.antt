@@ -6,3 +6,4 @@ pub mod RewriteWords
 pub mod ShowWords
 pub mod ManifestWords
 pub mod OtherWords
+pub mod MeasureWords

@@ -1,18 +1,18 @@
 -- What the command makes of the words of `explain`, and of `--version`.
-use Rattle.std.proofs.Common.{◌≡◌, ◌∙◌, ◌==◌, ◌&&◌, ◌⊎◌, inl, inr, ℕ, true, false, refl, sym, ap, ap₂, List, [], ◌∷◌, Option, Some, None, codes, Bool, get_or, Err}
+use Rattle.std.proofs.Common.{◌≡◌, ◌∙◌, ◌==◌, ◌&&◌, ◌⊎◌, inl, inr, ℕ, true, false, refl, ap, ap₂, List, [], ◌∷◌, Option, Some, None, codes, Bool, get_or, Err}
 use Rattle.std.specs.List.{list_all}
 use Rattle.std.proofs.lemmas.Bool.{false≢true}
 use Rattle.clap.proofs.SimpleLemmas.{is_false}
 use Rattle.clap.specs.Kinds.{IsAmong}
 use Rattle.clap.specs.Words.{Row, Text, fault_of, first_of, subcommand_of, takes}
 use Rattle.clap.specs.Walk.{Held, Walk, walked, nothing_held, walk, finished}
-use Rattle.clap.specs.Walk.{Waiting, idle}
+use Rattle.clap.specs.Walk.{idle}
 use Rattle.clap.specs.Simple.{Shape, built}
 use Rattle.clap.specs.Takes.{default_passes, is_valid, level_passes, settle_passes, turn_passes, walk_passes}
 use Rattle.clap.specs.Values.{reading_of}
 use Rattle.clap.specs.declared.builder.value_parser.ValueParser.TheVariants as parser
 use Rattle.clap.specs.declared.error.kind.ErrorKind.{ErrorKind}
-use Rattle.clap.specs.declared.error.kind.ErrorKind.TheVariants.{DisplayHelp, DisplayVersion, OutOfMemory}
+use Rattle.clap.specs.declared.error.kind.ErrorKind.TheVariants.{DisplayVersion, OutOfMemory}
 use Rattle.clap.specs.declared.parser.matches.ValueSource.TheVariants as source
 use Rattle.clap.proofs.OnLiterals.{clap_on_literals}
 use Rattle.command_line.specs.declared.Refusal.{Refusal}
@@ -22,7 +22,7 @@ use Rattle.command_line.specs.Steps.{IsRefusalFor}
 
 -- the subcommand, as the program's command is built
 abbrev explaining : Shape
-explaining = get_or (built ringcheck_app).subs 2 check_app.top
+explaining = get_or (built ringcheck_app).subs 3 check_app.top
 
 -- ---- no word
 

@@ -1,9 +1,9 @@
 -- What the command makes of the words of a check, one word after another.
-use Rattle.std.proofs.Common.{◌≡◌, ◌∙◌, ◌==◌, ◌&&◌, ℕ, true, false, refl, ap, List, [], ◌∷◌, Option, Some, None, codes, option_map, not, Bool, get_or, sym, ap₂}
+use Rattle.std.proofs.Common.{◌≡◌, ◌∙◌, ◌==◌, ◌&&◌, ℕ, true, false, refl, ap, List, [], ◌∷◌, Option, Some, None, codes, not, Bool, get_or, ap₂}
 use Rattle.std.specs.List.{list_all}
 use Rattle.clap.proofs.SimpleLemmas.{is_false}
-use Rattle.clap.specs.Words.{App, Row, Rule, Text, first_of, is_simple, is_simple_and_free, subcommand_of, takes}
-use Rattle.clap.specs.Walk.{Held, Walk, walked, nothing_held, walk_from, walk, finished, rows_after}
+use Rattle.clap.specs.Words.{Row, Text, is_simple, is_simple_and_free, subcommand_of, takes}
+use Rattle.clap.specs.Walk.{Held, Walk, walked, nothing_held, walk, finished}
 use Rattle.clap.specs.Walk.{Waiting, idle, option as waits_for}
 use Rattle.clap.specs.Simple.{Shape, built}
 use Rattle.clap.specs.Takes.{default_passes, is_valid, level_passes, settle_passes, turn_passes, walk_passes}

@@ -8,7 +8,7 @@ use Rattle.clap.specs.declared.builder.action.ArgAction.TheVariants.{Append, Set
 use Rattle.clap.specs.declared.error.kind.ErrorKind.{ErrorKind}
 use Rattle.clap.specs.declared.error.kind.ErrorKind.TheVariants.{DisplayHelp, DisplayVersion}
 use Rattle.command_line.specs.declared.Request.{Request}
-use Rattle.command_line.specs.declared.Request.TheVariants.{Check, Show, Rewrite, Manifest, Explain}
+use Rattle.command_line.specs.declared.Request.TheVariants.{Check, Measure, Show, Rewrite, Manifest, Explain}
 use Rattle.command_line.specs.declared.Refusal.{Refusal}
 use Rattle.command_line.specs.declared.Refusal.TheVariants.{Help, Version, Usage, Memory}
 
@@ -38,6 +38,10 @@ switch id = record (new_rule id) { long = Some id; action = Some SetTrue }
 abbrev pub check_app : App
 check_app = with_rule (with_rule (with_rule (new_app (codes "check")) (option (codes "ring"))) (option (codes "gap"))) (positional (codes "manifest"))
 
+-- `measure MANIFEST` (docs/FORMATS.md, The program)
+abbrev pub measure_app : App
+measure_app = with_rule (new_app (codes "measure")) (positional (codes "manifest"))
+
 -- `show --kind layer|drill FILE` and `rewrite --kind layer|drill FILE` (docs/FORMATS.md, The program)
 abbrev pub file_app : Text → App
 file_app name = with_rule (with_rule (new_app name) (option (codes "kind"))) (positional (codes "file"))
@@ -57,8 +61,8 @@ program_app = let bare = new_app (codes "ringcheck") in record bare { top = reco
 -- the program with its commands (docs/FORMATS.md, The program)
 abbrev pub ringcheck_app : App
 ringcheck_app =
-    with_subcommand (with_subcommand (with_subcommand (with_subcommand (with_subcommand program_app check_app.top) manifest_app.top) explain_app.top) (file_app (codes "show")).top)
-    (file_app (codes "rewrite")).top
+    with_subcommand (with_subcommand (with_subcommand (with_subcommand (with_subcommand (with_subcommand program_app check_app.top) measure_app.top) manifest_app.top) explain_app.top)
+    (file_app (codes "show")).top) (file_app (codes "rewrite")).top
 
 -- ---- what any words ask for
 
@@ -73,6 +77,7 @@ abbrev pub AsksFor : Option (Text × List Row) → Request → Type 0
 AsksFor None asked = ⊥
 AsksFor (Some (name, rows)) (Check ring gap manifest) =
     (name ≡ codes "check") × (first_of (codes "ring") rows ≡ Some ring.now) × (first_of (codes "gap") rows ≡ Some gap.now) × (first_of (codes "manifest") rows ≡ Some manifest.now)
+AsksFor (Some (name, rows)) (Measure manifest) = (name ≡ codes "measure") × (first_of (codes "manifest") rows ≡ Some manifest.now)
 AsksFor (Some (name, rows)) (Show kind file) = (name ≡ codes "show") × (first_of (codes "kind") rows ≡ Some kind.now) × (first_of (codes "file") rows ≡ Some file.now)
 AsksFor (Some (name, rows)) (Rewrite kind file) =
     (name ≡ codes "rewrite") × (first_of (codes "kind") rows ≡ Some kind.now) × (first_of (codes "file") rows ≡ Some file.now)
@@ -103,6 +108,7 @@ check_words ring gap manifest = codes "check" ∷ codes "--ring" ∷ ring ∷ co
 -- the request is a check with these words (docs/FORMATS.md, The program)
 abbrev pub IsCheck : Text → Text → Text → Request → Type 0
 IsCheck r g m (Check ring gap manifest) = (ring.now ≡ r) × (gap.now ≡ g) × (manifest.now ≡ m)
+IsCheck r g m (Measure manifest) = ⊥
 IsCheck r g m (Show kind file) = ⊥
 IsCheck r g m (Rewrite kind file) = ⊥
 IsCheck r g m (Manifest why files) = ⊥
@@ -125,6 +131,7 @@ file_words name kind file = name ∷ codes "--kind" ∷ kind ∷ file ∷ []
 -- the request is to show a file of this kind (docs/FORMATS.md, The program)
 abbrev pub IsShow : Text → Text → Request → Type 0
 IsShow k f (Check ring gap manifest) = ⊥
+IsShow k f (Measure manifest) = ⊥
 IsShow k f (Show kind file) = (kind.now ≡ k) × (file.now ≡ f)
 IsShow k f (Rewrite kind file) = ⊥
 IsShow k f (Manifest why files) = ⊥
@@ -133,6 +140,7 @@ IsShow k f (Explain word) = ⊥
 -- the request is to rewrite a file of this kind (docs/FORMATS.md, The program)
 abbrev pub IsRewrite : Text → Text → Request → Type 0
 IsRewrite k f (Check ring gap manifest) = ⊥
+IsRewrite k f (Measure manifest) = ⊥
 IsRewrite k f (Show kind file) = ⊥
 IsRewrite k f (Rewrite kind file) = (kind.now ≡ k) × (file.now ≡ f)
 IsRewrite k f (Manifest why files) = ⊥
@@ -159,10 +167,24 @@ manifest_words why files = codes "manifest" ∷ (if why then codes "--why" ∷ f
 -- the request is for a manifest of these files, or for the table of why (docs/FORMATS.md, The program)
 abbrev pub IsManifest : Bool → List Text → Request → Type 0
 IsManifest w fs (Check ring gap manifest) = ⊥
+IsManifest w fs (Measure manifest) = ⊥
 IsManifest w fs (Show kind file) = ⊥
 IsManifest w fs (Rewrite kind file) = ⊥
 IsManifest w fs (Manifest why files) = (why ≡ w) × (map (λ file. file.now) files.items ≡ fs)
 IsManifest w fs (Explain word) = ⊥
+
+-- the words of `measure` (docs/FORMATS.md, The program)
+abbrev pub measure_words : Text → List Text
+measure_words manifest = codes "measure" ∷ manifest ∷ []
+
+-- the request is to measure the package of this manifest (docs/FORMATS.md, The program)
+abbrev pub IsMeasure : Text → Request → Type 0
+IsMeasure m (Check ring gap manifest) = ⊥
+IsMeasure m (Measure manifest) = manifest.now ≡ m
+IsMeasure m (Show kind file) = ⊥
+IsMeasure m (Rewrite kind file) = ⊥
+IsMeasure m (Manifest why files) = ⊥
+IsMeasure m (Explain word) = ⊥
 
 -- the words of `explain`, with a word to explain or without (docs/FORMATS.md, The program)
 abbrev pub explain_words : Option Text → List Text
@@ -172,6 +194,7 @@ explain_words (Some word) = codes "explain" ∷ word ∷ []
 -- the request is to explain this word, or to list all (docs/FORMATS.md, The program)
 abbrev pub IsExplain : Option Text → Request → Type 0
 IsExplain o (Check ring gap manifest) = ⊥
+IsExplain o (Measure manifest) = ⊥
 IsExplain o (Show kind file) = ⊥
 IsExplain o (Rewrite kind file) = ⊥
 IsExplain o (Manifest why files) = ⊥

@@ -2,7 +2,7 @@
 
 ghost use Rattle.std.specs.Prelude.{◌≡◌, IfOk, codes, false};
 ghost use Rattle.clap.specs.Words.{app_of, new_app, rule_of};
-ghost use Rattle.command_line.specs.Line.{check_app, explain_app, file_app, manifest_app, maybe, option, positional, ringcheck_app, several, switch};
+ghost use Rattle.command_line.specs.Line.{check_app, explain_app, file_app, manifest_app, maybe, measure_app, option, positional, ringcheck_app, several, switch};
 
 use clap::{Arg, ArgAction, Command};
 use std::alloc::{AllocError, Global};
@@ -25,6 +25,11 @@ drill file may name the first and the last layer that it goes through. File
 names are taken from the working directory.
 Example:  ringcheck check --ring 0.125 --gap 0.25 board.csv";
 
+const MEASURE: &str = "It is the greatest rule under which check finds nothing; held is the greatest
+ring where holes without a pad are left out. Lengths are in mm, or any, or
+none. A line ring tells the least ring of the holes of one diameter.
+Example:  ringcheck measure board.csv";
+
 const MANIFEST: &str = "What a file is, is taken from its text, its file function and its name: read
 the manifest before you use it. A file that may be copper or holes, and of
 which nothing says which, has the role ?, which a check refuses.
@@ -43,6 +48,7 @@ pub(crate) fn ringcheck<'a>(alloc: Global) -> Result<Command<'a>, AllocError>
     ensures { IfOk result (λ c. app_of c ≡ ringcheck_app) }
 {
     let check = check(alloc)?;
+    let measure = measure(alloc)?;
     let manifest = manifest(alloc)?;
     let explain = explain(alloc)?;
     let show = show(alloc)?;
@@ -58,6 +64,7 @@ pub(crate) fn ringcheck<'a>(alloc: Global) -> Result<Command<'a>, AllocError>
     .no_binary_name(true)
     .subcommand_required(true);
     bare.subcommand(check)?
+        .subcommand(measure)?
         .subcommand(manifest)?
         .subcommand(explain)?
         .subcommand(show)?
@@ -92,6 +99,25 @@ fn check<'a>(alloc: Global) -> Result<Command<'a>, AllocError>
         "manifest",
         "MANIFEST",
         "Manifest of the package, a CSV file",
+    ))
+}
+
+/// `measure MANIFEST`
+fn measure<'a>(alloc: Global) -> Result<Command<'a>, AllocError>
+    ensures { IfOk result (λ c. app_of c ≡ measure_app) }
+{
+    described(
+        alloc,
+        "measure",
+        "Tell the greatest ring and gap that a package meets",
+        "ringcheck measure <MANIFEST>",
+        MEASURE,
+    )
+    .arg(value_of(
+        alloc,
+        "manifest",
+        "MANIFEST",
+        "Manifest of the package, a CSV file as for check",
     ))
 }
 

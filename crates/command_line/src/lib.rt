@@ -2,6 +2,7 @@
 //!
 //! ```text
 //! ringcheck check --ring MM --gap MM MANIFEST
+//! ringcheck measure MANIFEST
 //! ringcheck manifest [--why] FILE..
 //! ringcheck explain [WORD]
 //! ringcheck show --kind layer|drill FILE
@@ -11,7 +12,7 @@
 
 ghost use Rattle.std.specs.Prelude.{◌≡◌, ◌∷◌, [], Bool, IfSome, Some, None, List, true, codes, length, map, option_map};
 ghost use Rattle.clap.specs.Words.{Row, Text, first_of, found_of, kind_of, one_of, rows_of, subcommand_rows_of};
-ghost use Rattle.command_line.specs.Line.{AnswersAs, AnswersCheck, AnswersLine, AnswersVersion, AsksFor, IsExplain, IsManifest, IsRewrite, IsShow, Switched, are_plain_words, check_words, explain_words, file_words, is_plain_word, manifest_words};
+ghost use Rattle.command_line.specs.Line.{AnswersAs, AnswersCheck, AnswersLine, AnswersVersion, AsksFor, IsExplain, IsManifest, IsMeasure, IsRewrite, IsShow, Switched, are_plain_words, check_words, explain_words, file_words, is_plain_word, manifest_words, measure_words};
 ghost use Rattle.command_line.specs.Steps.{HasCheckRows, IsCheckIfSome, IsRefusalFor};
 
 mod commands;
@@ -30,6 +31,10 @@ pub enum Request<'a> {
     Check {
         ring: &'a str,
         gap: &'a str,
+        manifest: &'a str,
+    },
+    /// Tell the greatest ring and gap that the package of a manifest meets.
+    Measure {
         manifest: &'a str,
     },
     /// Print the table of a file.
@@ -79,6 +84,7 @@ pub fn parse<'a>(alloc: Global, words: &'a [&'a str]) -> Result<Request<'a>, Ref
     ensures exact { AnswersLine (map (λ w. w.now) words.entry.now) result }
     ensures check { (r g m : Text) → map (λ w. w.now) words.entry.now ≡ check_words r g m → is_plain_word r ≡ true
         → is_plain_word g ≡ true → is_plain_word m ≡ true → AnswersCheck r g m result }
+    ensures measure { (m : Text) → map (λ w. w.now) words.entry.now ≡ measure_words m → is_plain_word m ≡ true → AnswersAs (IsMeasure m) result }
     ensures show { (k f : Text) → map (λ w. w.now) words.entry.now ≡ file_words (codes "show") k f → is_plain_word k ≡ true
         → is_plain_word f ≡ true → AnswersAs (IsShow k f) result }
     ensures rewrite { (k f : Text) → map (λ w. w.now) words.entry.now ≡ file_words (codes "rewrite") k f → is_plain_word k ≡ true
@@ -121,6 +127,7 @@ fn request_of<'a>(alloc: Global, matches: &ArgMatches<'a>) -> Option<Request<'a>
     let (name, values) = matches.subcommand()?;
     match name {
         "check" => check_request(values),
+        "measure" => measure_request(values),
         "manifest" => manifest_request(alloc, values),
         "explain" => Some(explain_request(values)),
         "show" => show_request(values),
@@ -138,6 +145,13 @@ fn check_request<'a>(values: &ArgMatches<'a>) -> Option<Request<'a>>
         gap: value(values, "gap")?,
         manifest: value(values, "manifest")?,
     })
+}
+
+fn measure_request<'a>(values: &ArgMatches<'a>) -> Option<Request<'a>>
+    ensures { IfSome result (λ asked. AsksFor (Some (codes "measure", rows_of (found_of values.now))) asked) }
+{
+    let manifest = value(values, "manifest")?;
+    Some(Request::Measure { manifest })
 }
 
 fn show_request<'a>(values: &ArgMatches<'a>) -> Option<Request<'a>>

@@ -129,12 +129,16 @@ fn other_words_are_refused(rt: HostRuntime) {
     assert!(rt; is_usage(rt, &["manifest", "--fast", "top.gbr"]));
     assert!(rt; is_usage(rt, &["explain", "Routed", "ring"]));
     assert!(rt; is_usage(rt, &["check", "--version"]));
+    assert!(rt; is_usage(rt, &["measure"]));
+    assert!(rt; is_usage(rt, &["measure", "m.csv", "n.csv"]));
+    assert!(rt; is_usage(rt, &["measure", "--ring", "0.125", "m.csv"]));
 }
 
 #[test]
 fn help_is_given_where_it_is_asked_for(rt: HostRuntime) {
     let commands = [
         "check",
+        "measure",
         "manifest",
         "explain",
         "show",
@@ -156,6 +160,13 @@ fn help_is_given_where_it_is_asked_for(rt: HostRuntime) {
     assert!(rt; helps(rt, &["help", "check"], &values));
     assert!(rt; helps(rt, &["show", "--help"], &["--kind <layer|drill>", "<FILE>"]));
     assert!(rt; helps(rt, &["rewrite", "-h"], &["--kind <layer|drill>", "<FILE>"]));
+    assert!(rt;
+        helps(
+            rt,
+            &["measure", "--help"],
+            &["<MANIFEST>", "Example:  ringcheck measure "]
+        )
+    );
 }
 
 /// Whether the words ask for a manifest of `top.gbr` and `pth.drl`, or for the table of why.
@@ -174,6 +185,15 @@ fn a_manifest_is_asked_for(rt: HostRuntime) {
     assert!(rt; asks_for_manifest(rt, &["manifest", "--why", "top.gbr", "pth.drl"], true));
     assert!(rt; asks_for_manifest(rt, &["manifest", "top.gbr", "--why", "pth.drl"], true));
     assert!(rt; asks_for_manifest(rt, &["manifest", "top.gbr", "pth.drl", "--why"], true));
+}
+
+#[test]
+fn a_measure_is_asked_for(rt: HostRuntime) {
+    let asked = matches!(
+        parse(rt.alloc(), &["measure", "m.csv"]),
+        Ok(Request::Measure { manifest: "m.csv" })
+    );
+    assert!(rt; asked);
 }
 
 #[test]
@@ -215,7 +235,7 @@ fn fits_a_screen(rt: HostRuntime, words: &[&str]) -> bool {
 #[test]
 fn help_fits_a_screen(rt: HostRuntime) {
     assert!(rt; fits_a_screen(rt, &["--help"]));
-    for command in ["check", "manifest", "explain", "show", "rewrite"] {
+    for command in ["check", "measure", "manifest", "explain", "show", "rewrite"] {
         assert!(rt; fits_a_screen(rt, &[command, "--help"]), "of {command}");
     }
 }

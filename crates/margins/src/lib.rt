@@ -20,7 +20,8 @@ pub use bests::{best_pad, best_pads};
 pub use deep::{Deep, depth_of_hole};
 pub use gap::gap_between;
 pub use met::{
-    Met, RingsMet, asks_ring, gap_met, held_met, met_by_none, met_with, ring_met, rings_met,
+    Met, RingsMet, asks_ring, gap_met, gap_met_by, held_met, met_by_none, met_with, ring_met,
+    rings_met,
 };
 pub use nearest::{Nearest, nearest_holes};
 pub use row::{LeastRing, RingRow, ring_row};

@@ -174,8 +174,9 @@ fn most(nearest: Nearest) -> Met
     Met::Most(nearest.gap)
 }
 
-/// What the nearest holes meet, or no holes.
-fn by_nearest(holes: &[Drilled], nearest: Option<Nearest>) -> Met
+/// The greatest gap that a board meets, by the nearest of its holes: any where there are none, else the gap of these two. Under just
+/// these gaps nothing is found.
+pub fn gap_met_by(holes: &[Drilled], nearest: Option<Nearest>) -> Met
     requires { IsNearestOf holes.now (IsPair holes.now) nearest }
     ensures exact { MeetsGaps holes.now result }
     ensures passes { GapsPass holes.now result }
@@ -197,5 +198,5 @@ pub fn gap_met(alloc: Global, holes: &[Drilled]) -> Result<Met, AllocError>
     ensures passes { IfOk result (GapsPass holes.now) }
 {
     let nearest = nearest_holes(alloc, holes)?;
-    Ok(by_nearest(holes, nearest))
+    Ok(gap_met_by(holes, nearest))
 }

@@ -1,1 +1,5 @@
 pub mod Measured
+pub mod Placing
+pub mod Joining
+pub mod Tabling
+pub mod Lining

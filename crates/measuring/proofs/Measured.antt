@@ -1,22 +1,20 @@
 -- A package passes under just the rules that it meets.
-use Rattle.std.proofs.Common.{◌≡◌, ◌++◌, ◌↔◌, ℕ, List, [], ◌∷◌, Result, Ok, Err, IfOk, refl, sym, ap, subst, ◌∙◌}
+use Rattle.std.proofs.Common.{◌≡◌, ◌++◌, ℕ, List, [], ◌∷◌, Result, Ok, Err, IfOk, refl, sym, ap, ◌∙◌}
 use Rattle.grid_units.specs.Holes.{GridRules}
 use Rattle.grid_units.specs.declared.fault.Fault.{Fault}
 use Rattle.pad_shapes.specs.Pads.{pad_covers}
-use Rattle.pad_shapes.specs.declared.pad.Pad.{Pad}
-use Rattle.ring_rules.specs.declared.finding.Drilled.{Drilled}
 use Rattle.ring_rules.specs.Findings.{ring_findings, gap_findings}
 use Rattle.margins.specs.Meets.{GapsPass, GapsPassExactly, RingsPass, RingsPassExactly}
 use Rattle.margins.specs.declared.met.Met.{Met}
 use Rattle.package_check.specs.Alike.{OneAnswer}
-use Rattle.package_check.specs.Boards.{IsBoard, Survey, reported}
+use Rattle.package_check.specs.Boards.{Survey, reported}
 use Rattle.package_check.specs.Package.{IsAnswer, IsReport, Source}
 use Rattle.package_check.specs.Reports.{Account}
 use Rattle.package_check.specs.declared.PackageFault.{PackageFault}
 use Rattle.package_check.specs.declared.PackageFault.TheVariants as stop
 use Rattle.package_check.proofs.Boarding.{reported_on}
 use Rattle.measuring.specs.declared.measure.Measure.{Measure}
-use Rattle.measuring.specs.Measures.{AnswersMeasure, BoardPasses, MeasuredPasses, PackagePasses, RefusesAlike}
+use Rattle.measuring.specs.Measures.{AnswersMeasure, BoardPasses, IsMeasure, MeasuredPasses, PackagePasses, RefusesAlike}
 
 no_left : {X : Type 0} (xs ys : List X) → xs ++ ys ≡ [] → xs ≡ []
 no_left [] ys e = refl
@@ -39,12 +37,10 @@ board_passes board ring gap rings gaps rules =
       λ allowed. neither found near ((rings rules.ring).1 allowed.0) ((gaps rules.gap).1 allowed.1),
     )
 
-pub measured_board : (board : Survey) (layers : List (List Pad)) (holes others : List Drilled) (ring gap : Met) → layers ≡ board.layers → holes ≡ board.holes → others ≡ board.holes
-    → RingsPass pad_covers layers holes ring → GapsPass others gap → BoardPasses board ring gap
-measured_board board layers holes others ring gap its same all rings gaps =
-    board_passes board ring gap
-    (subst (λ (ps : List (List Pad)). RingsPass pad_covers ps board.holes ring) its (subst (λ (ds : List Drilled). RingsPass pad_covers layers ds ring) same rings))
-    (subst (λ (ds : List Drilled). GapsPass ds gap) all gaps)
+pub board_measured : {E : Type 0} → RingsPassExactly pad_covers → GapsPassExactly → (board : Survey) (r : Result Measure E) → IfOk r (IsMeasure board) → IfOk r (λ measure. BoardPasses board measure.meets.ring measure.meets.gap)
+board_measured rings gaps board (Ok measure) h =
+    board_passes board measure.meets.ring measure.meets.gap (rings board.layers board.holes measure.meets.ring h.rings) (gaps board.holes measure.meets.gap h.gaps)
+board_measured rings gaps board (Err e) h = tt
 
 abbrev answered : Account → Result Account (ℕ × Fault)
 answered report = Ok report
@@ -72,8 +68,8 @@ measured_passes rings gaps one sources board ring gap is met_rings met_gaps =
     }
 
 module _ (sources : List Source) where
-  pub measured : MeasuredPasses → (r : Result Measure PackageFault) → AnswersMeasure sources r → IfOk r (λ measure. PackagePasses sources measure.ring measure.gap)
-  measured law (Ok measure) h = law sources h.board measure.ring measure.gap h.read h.is.rings h.is.gaps
+  pub measured : MeasuredPasses → (r : Result Measure PackageFault) → AnswersMeasure sources r → IfOk r (λ measure. PackagePasses sources measure.meets.ring measure.meets.gap)
+  measured law (Ok measure) h = law sources h.board measure.meets.ring measure.meets.gap h.read h.is.rings h.is.gaps
   measured law (Err e) h = tt
 
   pub refused_alike : OneAnswer → (r : Result Measure PackageFault) → AnswersMeasure sources r → (rules : GridRules) (answer : Result Account (ℕ × Fault)) → IsAnswer sources rules answer → RefusesAlike answer r

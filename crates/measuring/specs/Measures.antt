@@ -3,13 +3,14 @@ use Rattle.std.specs.Prelude.{◌≡◌, ◌↔◌, ℕ, List, [], Result, Ok, E
 use Rattle.grid_units.specs.Holes.{GridRules}
 use Rattle.grid_units.specs.declared.fault.Fault.{Fault}
 use Rattle.pad_shapes.specs.Pads.{pad_covers}
-use Rattle.margins.specs.Meets.{MeetsRings, MeetsGaps, allows}
+use Rattle.margins.specs.Meets.{MeetsRings, MeetsHeld, MeetsGaps, allows}
 use Rattle.margins.specs.declared.met.Met.{Met}
 use Rattle.package_check.specs.Boards.{IsBoard, Survey, board_findings}
 use Rattle.package_check.specs.Package.{IsFirstRefused, IsReport, Source}
 use Rattle.package_check.specs.Reports.{Account}
 use Rattle.package_check.specs.declared.PackageFault.{PackageFault}
 use Rattle.package_check.specs.declared.PackageFault.TheVariants as stop
+use Rattle.measuring.specs.Rows.{AreRingLines, IsGapLine}
 use Rattle.measuring.specs.declared.measure.Measure.{Measure}
 
 -- both rules are allowed by what is met (docs/DEFINITIONS.md, Measures)
@@ -25,10 +26,13 @@ pub record PackagePasses (sources : List Source) (ring gap : Met) : Type 0 where
   pub reported : (rules : GridRules) → (report : Account) × IsReport sources rules report
   pub passes : (rules : GridRules) (report : Account) → IsReport sources rules report → (report.findings ≡ []) ↔ AllowsRules ring gap rules
 
--- the measure of a board: the greatest ring and the greatest gap that it meets (docs/DEFINITIONS.md, Measures)
+-- the measure of a board: the line of its least gap, and the greatest ring and the greatest gap that it meets (docs/DEFINITIONS.md, Measures)
 pub record IsMeasure (board : Survey) (measure : Measure) : Type 0 where
-  pub rings : MeetsRings pad_covers board.layers board.holes measure.ring
-  pub gaps : MeetsGaps board.holes measure.gap
+  pub lines : AreRingLines board measure.rings.items
+  pub gap : IsGapLine board measure.gap
+  pub rings : MeetsRings pad_covers board.layers board.holes measure.meets.ring
+  pub held : MeetsHeld pad_covers board.layers board.holes measure.meets.held
+  pub gaps : MeetsGaps board.holes measure.meets.gap
 
 -- the measure of a package: that of the board of its files (docs/DEFINITIONS.md, Measures)
 pub record IsMeasureOf (sources : List Source) (measure : Measure) : Type 0 where

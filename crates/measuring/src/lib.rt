@@ -1,10 +1,13 @@
-//! By how much a package meets its rules: the greatest ring and the greatest gap under which its check finds nothing.
+//! By how much a package meets its rules: the least ring of each layer, drill file and diameter, the least gap, and the greatest ring and
+//! the greatest gap under which its check finds nothing.
 //!
 //! All lengths are whole picometres (pm).
 #![tactic(auto)]
 
 pub mod laws;
 mod measure;
+mod places;
+mod rows;
 
 pub use measure::{Measure, measure_board, measure_bytes};
 

@@ -1,25 +1,79 @@
 //! The measure of a package.
 
-ghost use Rattle.std.specs.Prelude.{ℕ, Result, IfOk};
+ghost use Rattle.std.specs.Prelude.{ℕ, Result, IfOk, length};
 ghost use Rattle.grid_units.specs.Holes.{GridRules};
 ghost use Rattle.grid_units.specs.declared.fault.Fault.{Fault as TheFault};
+ghost use Rattle.pad_shapes.specs.Pads.{pad_covers};
+ghost use Rattle.margins.specs.Meets.{MeetsOn};
 ghost use Rattle.package_check.specs.Package.{IsAnswer, sources_of};
 ghost use Rattle.package_check.specs.Reports.{Account};
 ghost use Rattle.measuring.specs.Measures.{AnswersMeasure, BoardPasses, IsMeasure, PackagePasses, RefusesAlike};
+ghost use Rattle.measuring.specs.Rows.{AreRingLines};
 
 use crate::laws::measured_passes;
-use margins::{Met, gap_met, ring_met};
+use crate::places::gap_line;
+use crate::rows::push_layer;
+use margin_text::{GapLine, Meets, RingLine, ScaleLine};
+use margins::laws::{gaps_pass, rings_pass};
+use margins::{RingsMet, best_pads, gap_met_by, met_by_none, met_with, nearest_holes};
 use package_check::laws::one_answer;
 use package_check::{Board, File, PackageFault, read_package};
+use pad_shapes::Pad;
 use std::alloc::{AllocError, Global};
 
-/// The rules that a package meets.
-#[derive(Clone, Copy, Debug, PartialEq, Eq)]
+/// By how much a package meets its rules: the lines of its measure.
+#[derive(Drop)]
 pub struct Measure {
-    /// The rings that all holes that ask one have.
-    pub ring: Met,
-    /// The gaps that all holes keep.
-    pub gap: Met,
+    /// The least ring of each copper file, drill file and diameter.
+    pub rings: Vec<RingLine>,
+    /// The drill files whose coordinates seem to be off by a factor.
+    pub scales: Vec<ScaleLine>,
+    /// The least gap, where there are two holes.
+    pub gap: Option<GapLine>,
+    /// The greatest rules that are met.
+    pub meets: Meets,
+}
+
+/// What a board meets of rings, and the lines of its rings.
+#[derive(Drop)]
+struct Rings {
+    met: RingsMet,
+    lines: Vec<RingLine>,
+}
+
+/// The rings of a board. The best pads of each layer are looked for once.
+fn rings_on(alloc: Global, board: &Board) -> Result<Rings, AllocError>
+    ensures met { IfOk result (λ rings. MeetsOn pad_covers board.now.layers board.now.holes (length board.now.layers) rings.met) }
+    ensures lines { IfOk result (λ rings. AreRingLines board.now rings.lines.items) }
+{
+    let layers = board.layers(alloc)?;
+    let holes = board.holes();
+    let mut met = met_by_none(&layers, holes);
+    let mut lines = Vec::new(alloc);
+    for layer in 0..layers.len() {
+        let bests = best_pads(alloc, layers[layer], holes)?;
+        met = met_with(&layers, layer, &bests, holes, met);
+        push_layer(alloc, board, &bests, layer, &mut lines)?;
+    }
+    Ok(Rings { met, lines })
+}
+
+fn measure_of(alloc: Global, board: &Board) -> Result<Measure, AllocError>
+    ensures { IfOk result (IsMeasure board.now) }
+{
+    let rings = rings_on(alloc, board)?;
+    let nearest = nearest_holes(alloc, board.holes())?;
+    let gap = gap_met_by(board.holes(), nearest);
+    Ok(Measure {
+        rings: rings.lines,
+        scales: Vec::new(alloc),
+        gap: gap_line(board, nearest),
+        meets: Meets {
+            ring: rings.met.ring,
+            gap,
+            held: rings.met.held,
+        },
+    })
 }
 
 /// The measure of a board.
@@ -29,13 +83,11 @@ pub struct Measure {
 /// Where there is no memory.
 pub fn measure_board(alloc: Global, board: &Board) -> Result<Measure, AllocError>
     ensures exact { IfOk result (IsMeasure board.now) }
-    ensures passes { IfOk result (λ measure. BoardPasses board.now measure.ring measure.gap) }
+    ensures passes { IfOk result (λ measure. BoardPasses board.now measure.meets.ring measure.meets.gap) }
 {
-    let layers = board.layers(alloc)?;
-    Ok(Measure {
-        ring: ring_met(alloc, &layers, board.holes())?,
-        gap: gap_met(alloc, board.holes())?,
-    })
+    rings_pass::<Pad>();
+    gaps_pass();
+    measure_of(alloc, board)
 }
 
 fn measure_files(alloc: Global, files: &[File]) -> Result<Measure, PackageFault>
@@ -60,7 +112,7 @@ fn measure_files(alloc: Global, files: &[File]) -> Result<Measure, PackageFault>
 pub fn measure_bytes(alloc: Global, files: &[File]) -> Result<Measure, PackageFault>
     ensures exact { AnswersMeasure (sources_of files.now) result }
     ensures same { (rules : GridRules) (answer : Result Account (ℕ × TheFault)) → IsAnswer (sources_of files.now) rules answer → RefusesAlike answer result }
-    ensures passes { IfOk result (λ measure. PackagePasses (sources_of files.now) measure.ring measure.gap) }
+    ensures passes { IfOk result (λ measure. PackagePasses (sources_of files.now) measure.meets.ring measure.meets.gap) }
 {
     one_answer();
     measured_passes();

@@ -1,7 +1,8 @@
 //! What small packages meet, in pm; and that their check agrees.
 
-use crate::{Measure, measure_bytes};
+use crate::measure_bytes;
 use grid_units::{Fault, Reason, Rules};
+use margin_text::{GapLine, HolePlace, LeastRing, RingLine};
 use margins::Met;
 use package_check::{File, PackageFault, Role, check_bytes};
 use std::alloc::Global;
@@ -32,22 +33,36 @@ const NEAR: &[u8] = b"M48\nMETRIC\nT1C0.4\n%\nT1\nX0.0Y0.0\nX0.3Y0.4\nM30\n";
 
 const FAR: &[u8] = b"M48\nMETRIC\nT1C0.4\n%\nT1\nX0.0Y0.0\nX1.0Y1.0\nM30\n";
 
+const WIDE: &[u8] = b"%FSLAX46Y46*%\n%MOMM*%\n%ADD10C,1.65*%\nD10*\nX0Y0D03*\nM02*\n";
+
+const BESIDE: &[u8] = b"M48\nMETRIC\nT1C0.4\n%\nT1\nX0.300001Y0.4\nM30\n";
+
+const PAIR: &[u8] =
+    b"%FSLAX46Y46*%\n%MOMM*%\n%ADD10C,0.6*%\nD10*\nX100000Y0D03*\nX-100000Y0D03*\nM02*\n";
+
+const TWO_TOOLS: &[u8] = b"M48\nMETRIC\nT1C0.4\nT2C0.3\n%\nT1\nX0.0Y0.0\nT2\nX0.1Y0.0\nM30\n";
+
+const DISCS: &[u8] =
+    b"%FSLAX46Y46*%\n%MOMM*%\n%ADD10C,0.6*%\nD10*\nX10000000Y0D03*\nX20000000Y0D03*\nX30000000Y10000000D03*\nM02*\n";
+
+const TENTHS: &[u8] = b"M48\nMETRIC\nT1C0.4\n%\nT1\nX1.0Y0.0\nX2.0Y0.0\nX3.0Y1.0\nM30\n";
+
+const ONE_BARE: &[u8] = b"M48\nMETRIC\nT1C0.4\n%\nT1\nX0.0Y0.0\nX9.0Y9.0\nM30\n";
+
+const SLOT: &[u8] = b"M48\nMETRIC\nT1C0.5\n%\nT1\nX0.0Y0.0G85X2.0Y0.0\nX1.0Y0.75\nM30\n";
+
+fn file<'a>(role: Role, name: &'a str, bytes: &'a [u8]) -> File<'a> {
+    File {
+        role,
+        name,
+        span: None,
+        bytes,
+    }
+}
+
 /// A layer, and a drill file of this role.
 fn files_as<'a>(role: Role, layer: &'a [u8], holes: &'a [u8]) -> [File<'a>; 2] {
-    [
-        File {
-            role: Role::Copper,
-            name: "top",
-            span: None,
-            bytes: layer,
-        },
-        File {
-            role,
-            name: "pth",
-            span: None,
-            bytes: holes,
-        },
-    ]
+    [file(Role::Copper, "top", layer), file(role, "pth", holes)]
 }
 
 fn files<'a>(layer: &'a [u8], holes: &'a [u8]) -> [File<'a>; 2] {
@@ -86,13 +101,7 @@ fn rings_of_one_hole(rt: HostRuntime) -> Result<(), Failure> {
     ] {
         let files = files(layer, drill);
         let measure = measure_bytes(alloc, &files).ok().ok_or("no measure")?;
-        assert_eq!(rt;
-            measure,
-            Measure {
-                ring,
-                gap: Met::Any
-            }
-        );
+        assert_eq!(rt; (measure.meets.ring, measure.meets.gap), (ring, Met::Any));
         assert_eq!(rt; agrees_on_rings(alloc, &files, ring), Some(true));
     }
     Ok(())
@@ -108,17 +117,164 @@ fn gaps_of_two_holes(rt: HostRuntime) -> Result<(), Failure> {
     ] {
         let files = files(layer, drill);
         let measure = measure_bytes(alloc, &files).ok().ok_or("no measure")?;
-        assert_eq!(rt;
-            measure,
-            Measure {
-                ring: Met::Most(ring),
-                gap: Met::Most(gap)
-            }
-        );
+        let meets = measure.meets;
+        assert_eq!(rt; (meets.ring, meets.gap), (Met::Most(ring), Met::Most(gap)));
         assert_eq!(rt; passes(alloc, &files, ring, gap.max(1)), Some(gap > 0));
-        assert_eq!(rt; passes(alloc, &files, ring, gap.max(0) + 1), Some(false));
-        assert_eq!(rt; passes(alloc, &files, ring + 1, gap.max(1)), Some(false));
+        assert_eq!(rt;
+            passes(alloc, &files, ring, gap.max(0).saturating_add(1)),
+            Some(false)
+        );
+        assert_eq!(rt;
+            passes(alloc, &files, ring.saturating_add(1), gap.max(1)),
+            Some(false)
+        );
     }
+    Ok(())
+}
+
+fn gap_line(gap: i64, first: (usize, usize), second: (usize, usize)) -> GapLine {
+    GapLine {
+        gap,
+        first: HolePlace {
+            drill: first.0,
+            hole: first.1,
+        },
+        second: HolePlace {
+            drill: second.0,
+            hole: second.1,
+        },
+    }
+}
+
+#[test]
+fn lines_of_gaps(rt: HostRuntime) -> Result<(), Failure> {
+    let alloc = rt.alloc();
+    for (layer, drill, gap) in [
+        (DISC, TWICE, -400_000_000),
+        (TWO, NEAR, 100_000_000),
+        (FOUR, FAR, 1_014_213_562),
+        (FOUR, SLOT, 250_000_000),
+        (DISCS, TENTHS, 600_000_000),
+    ] {
+        let measure = measure_bytes(alloc, &files(layer, drill))
+            .ok()
+            .ok_or("no measure")?;
+        assert_eq!(rt; measure.gap, Some(gap_line(gap, (1, 1), (1, 2))));
+    }
+    let measure = measure_bytes(alloc, &files(SQUARE, HIT))
+        .ok()
+        .ok_or("no measure")?;
+    assert_eq!(rt; measure.gap, None);
+    Ok(())
+}
+
+/// The nearest holes stand in two files, and neither is the first of its own.
+#[test]
+fn a_gap_between_files(rt: HostRuntime) -> Result<(), Failure> {
+    let two = b"M48\nMETRIC\nT1C0.2\n%\nT1\nX9.0Y9.0\nX1.0Y1.5\nM30\n";
+    let files = [
+        file(Role::Plated, "first", FAR),
+        file(Role::Copper, "top", FOUR),
+        file(Role::Unplated, "second", two),
+    ];
+    let measure = measure_bytes(rt.alloc(), &files).ok().ok_or("no measure")?;
+    assert_eq!(rt; measure.gap, Some(gap_line(200_000_000, (0, 2), (2, 2))));
+    Ok(())
+}
+
+/// What the holes meet that are not bare.
+#[test]
+fn rings_that_are_held(rt: HostRuntime) -> Result<(), Failure> {
+    let alloc = rt.alloc();
+    for (layer, drill, ring, held) in [
+        (FOUR, FAR, Met::Most(385_786_437), Met::Most(385_786_437)),
+        (FOUR, ONE_BARE, Met::None, Met::Most(1_800_000_000)),
+        (DISCS, TENTHS, Met::None, Met::None),
+        (SQUARE, NO_HIT, Met::Any, Met::Any),
+    ] {
+        let measure = measure_bytes(alloc, &files(layer, drill))
+            .ok()
+            .ok_or("no measure")?;
+        assert_eq!(rt; (measure.meets.ring, measure.meets.held), (ring, held));
+    }
+    Ok(())
+}
+
+fn ring_line(diameter: i64, holes: usize, bare: usize, least: Option<(i64, usize)>) -> RingLine {
+    let least = match least {
+        Some((ring, hole)) => Some(LeastRing { ring, hole }),
+        None => None,
+    };
+    RingLine {
+        layer: 0,
+        drill: 1,
+        diameter,
+        holes,
+        bare,
+        least,
+    }
+}
+
+#[test]
+fn lines_of_rings(rt: HostRuntime) -> Result<(), Failure> {
+    let alloc = rt.alloc();
+    for (layer, drill, holes, bare, least) in [
+        (SQUARE, HIT, 1, 0, Some((125_000_000, 1))),
+        (MOVED, HIT, 1, 0, Some((124_999_000, 1))),
+        (SMALL, HIT, 1, 0, Some((-50_000_000, 1))),
+        (WIDE, BESIDE, 1, 0, Some((124_999_399, 1))),
+        (PAIR, HIT, 1, 0, Some((0, 1))),
+        (NO_FLASH, HIT, 1, 1, None),
+        (DISC, TWICE, 2, 0, Some((125_000_000, 1))),
+        (TWO, NEAR, 2, 0, Some((300_000_000, 2))),
+        (FOUR, FAR, 2, 0, Some((385_786_437, 2))),
+        (FOUR, ONE_BARE, 2, 1, Some((1_800_000_000, 1))),
+        (DISCS, TENTHS, 3, 3, None),
+    ] {
+        let measure = measure_bytes(alloc, &files(layer, drill))
+            .ok()
+            .ok_or("no measure")?;
+        let line = ring_line(400_000_000, holes, bare, least);
+        assert_eq!(rt;
+            (measure.rings.len(), measure.rings.first().copied()),
+            (1, Some(line))
+        );
+    }
+    let measure = measure_bytes(alloc, &files(SQUARE, NO_HIT))
+        .ok()
+        .ok_or("no measure")?;
+    assert_eq!(rt; measure.rings.len(), 0);
+    Ok(())
+}
+
+/// The lines go by layer, then by drill file, then by diameter; unplated holes have none.
+#[test]
+fn lines_in_their_order(rt: HostRuntime) -> Result<(), Failure> {
+    let files = [
+        file(Role::Plated, "first", TWO_TOOLS),
+        file(Role::Copper, "top", TWO),
+        file(Role::Plated, "second", HIT),
+        file(Role::Copper, "bottom", FOUR),
+        file(Role::Unplated, "third", FAR),
+    ];
+    let measure = measure_bytes(rt.alloc(), &files).ok().ok_or("no measure")?;
+    let mut lines = measure.rings.iter();
+    for (layer, drill, diameter, ring, hole) in [
+        (1, 0, 300_000_000, 750_000_000, 2),
+        (1, 0, 400_000_000, 800_000_000, 1),
+        (1, 2, 400_000_000, 800_000_000, 1),
+        (3, 0, 300_000_000, 1_750_000_000, 2),
+        (3, 0, 400_000_000, 1_800_000_000, 1),
+        (3, 2, 400_000_000, 1_800_000_000, 1),
+    ] {
+        let line = lines.next().ok_or("a line is missing")?;
+        assert_eq!(rt;
+            (line.layer, line.drill, line.diameter),
+            (layer, drill, diameter)
+        );
+        assert_eq!(rt; line.least, Some(LeastRing { ring, hole }));
+    }
+    assert_eq!(rt; measure.rings.len(), 6);
     Ok(())
 }
 
@@ -127,12 +283,10 @@ fn gaps_of_two_holes(rt: HostRuntime) -> Result<(), Failure> {
 fn unplated_holes(rt: HostRuntime) -> Result<(), Failure> {
     let files = files_as(Role::Unplated, SMALL, FAR);
     let measure = measure_bytes(rt.alloc(), &files).ok().ok_or("no measure")?;
+    let meets = measure.meets;
     assert_eq!(rt;
-        measure,
-        Measure {
-            ring: Met::Any,
-            gap: Met::Most(1_014_213_562)
-        }
+        (meets.ring, meets.gap),
+        (Met::Any, Met::Most(1_014_213_562))
     );
     Ok(())
 }

@@ -1,13 +1,16 @@
--- What a check that passes says of three files at hand.
+-- What a check that passes, or a measure, says of three files at hand.
 use Rattle.std.proofs.Common.{◌≡◌, ◌⊎◌, inl, inr, ℕ, zero, suc, List, [], ◌∷◌, Option, Result, Ok, Err, length, codes, ap, sym, subst, refl, arith}
 use Rattle.std.specs.List.{Contains}
 use Rattle.grid_units.specs.Holes.{GridRules}
 use Rattle.grid_units.specs.declared.fault.Reason.{Reason}
 use Rattle.manifest.specs.declared.Entry.{Entry}
 use Rattle.manifest.specs.Manifest.{manifest}
+use Rattle.measuring.specs.Measures.{PackagePasses}
+use Rattle.measuring.specs.declared.measure.Measure.{Measure}
 use Rattle.package_check.specs.Soundness.{IsSound}
 use Rattle.ringcheck.specs.declared.Status.{Status}
 use Rattle.ringcheck.specs.declared.Status.TheVariants as status
+use Rattle.ringcheck.specs.Measuring.{SaysMeasure}
 use Rattle.ringcheck.specs.Running.{HasFiles, SaysOf, file_limit, sources, within}
 use Rattle.ringcheck.proofs.Loaded.{along}
 
@@ -49,3 +52,21 @@ sound_as_held m l d (Ok rules) before after status.Findings says is = cc
 sound_as_held m l d (Ok rules) before after status.Refused says is = cc
 sound_as_held m l d (Ok rules) before after status.Usage says is = cc
 sound_as_held m l d (Ok rules) before after status.Device says is = cc
+
+-- the files that the manifest names pass under just the rules that are met
+pub met_as_held : (m l d : List ℕ) (before after : Option (List ℕ)) (s : Status) → SaysMeasure (lies m l d) (codes "m.csv") before after s → s ≡ status.Pass
+    → (entries : List Entry) × (manifest m ≡ Ok entries) × (files : List (List ℕ)) × HasFiles (lies m l d) entries files
+    × (measure : Measure) × PackagePasses (sources entries files) measure.meets.ring measure.meets.gap
+met_as_held m l d before after status.Pass says is =
+    let held = says.held in (
+      says.entries,
+      subst (λ t. manifest t ≡ Ok says.entries) (first_held m l d held.text held.held) held.names,
+      says.files,
+      along (within file_limit (lies m l d)) (lies m l d) (λ n b h. h.0) says.entries says.files held.loaded,
+      says.measures.measure,
+      says.measures.passes,
+    )
+met_as_held m l d before after status.Findings says is = cc
+met_as_held m l d before after status.Refused says is = cc
+met_as_held m l d before after status.Usage says is = cc
+met_as_held m l d before after status.Device says is = cc

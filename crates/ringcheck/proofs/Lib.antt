@@ -3,3 +3,4 @@ pub mod Checking
 pub mod Refusals
 pub mod Held
 pub mod Folders
+pub mod Working

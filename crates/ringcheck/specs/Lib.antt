@@ -4,3 +4,5 @@ pub mod Printing
 pub mod Running
 pub mod Stopping
 pub mod Folders
+pub mod Measuring
+pub mod Working

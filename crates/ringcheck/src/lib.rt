@@ -5,6 +5,7 @@ mod ending;
 mod explaining;
 mod lines;
 mod loading_files;
+mod measures;
 mod naming;
 mod packages;
 mod program;

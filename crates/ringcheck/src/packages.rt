@@ -1,17 +1,20 @@
-//! Checks the package of a manifest, and says what was found.
+//! Checks or measures the package of a manifest, and says what was found.
 
-ghost use Rattle.std.specs.Prelude.{◌≡◌, ◌≢◌, ℕ, List, IfOk, map, length, Ok};
+ghost use Rattle.std.specs.Prelude.{◌≡◌, ◌≢◌, ℕ, List, IfOk, map, length};
 ghost use Rattle.std.specs.Io.KnownBytes.{Appends};
 ghost use Rattle.ringcheck.specs.Endings.{HasCause, status_after};
 ghost use Rattle.ringcheck.specs.Naming as named;
 ghost use Rattle.package_check.specs.Standing.{PackageStandsAfter};
 ghost use Rattle.package_check.specs.Texts.{text_of};
+ghost use Rattle.ringcheck.specs.Measuring.{SaysMeasure};
 ghost use Rattle.ringcheck.specs.Running.{SaysOf, sources};
 ghost use Rattle.ringcheck.specs.Stopping.{Answered, TellsOf};
+ghost use Rattle.ringcheck.specs.Working.{AnsweredBy, SaysBy};
 ghost use Rattle.ringcheck.specs.Stopping as stopping;
 
 use crate::ending::{Ended, say, say_line, say_out_of_memory};
 use crate::loading_files::{Stop, load_manifest, take_files};
+use crate::measures::answer_measure;
 use crate::naming::rules_named;
 use crate::{
     Entry, Loader, PackageFault, PackageReader, PrintFault, Report, Status, lines, print_report,
@@ -20,7 +23,16 @@ use grid_units::{Fault, Reason, Rules};
 use std::alloc::{AllocError, Global};
 use std::io::Write;
 
-fn name_at(entries: &[Entry], index: usize) -> &str {
+/// What is done with a package.
+#[derive(Clone, Copy, Debug, PartialEq, Eq)]
+pub(crate) enum Work {
+    /// It is checked under these rules.
+    Check(Rules),
+    /// It is measured.
+    Measure,
+}
+
+pub(crate) fn name_at(entries: &[Entry], index: usize) -> &str {
     match entries.get(index) {
         Some(entry) => entry.name.as_str(),
         None => "",
@@ -66,7 +78,7 @@ fn status_of(report: &Report) -> Status
     }
 }
 
-fn names_of(alloc: Global, entries: &[Entry]) -> Result<Vec<&str>, AllocError>
+pub(crate) fn names_of(alloc: Global, entries: &[Entry]) -> Result<Vec<&str>, AllocError>
     ensures { IfOk result (λ names. map (λ name. name.now) names.items ≡ map (λ entry. entry.name) entries.now) }
 {
     let mut names = Vec::new(alloc);
@@ -92,7 +104,7 @@ fn print<W: Write>(alloc: Global, entries: &[Entry], report: &Report, out: &mut 
 }
 
 /// Checks the files of these entries, which a reader has taken, and prints the report.
-fn answer<W: Write>(
+fn answer_check<W: Write>(
     alloc: Global,
     reader: PackageReader,
     entries: &[Entry],
@@ -112,15 +124,32 @@ fn answer<W: Write>(
     }
 }
 
-/// Checks the package of a manifest under rules.
-fn check_package<L: Loader, W: Write>(
+/// Does this work on the files of these entries, which a reader has taken.
+fn answer<W: Write>(
     alloc: Global,
-    rules: Rules,
+    work: Work,
+    reader: PackageReader,
+    entries: &[Entry],
+    out: &mut W,
+) -> Ended
+    ensures { (files : List (List ℕ)) → length entries.now ≡ length files → PackageStandsAfter reader (sources entries.now files)
+        → AnsweredBy work (sources entries.now files) (W.contents out.old) (W.contents out.new) result }
+{
+    match work {
+        Work::Check(rules) => answer_check(alloc, reader, entries, rules, out),
+        Work::Measure => answer_measure(alloc, reader, entries, out),
+    }
+}
+
+/// Does this work on the package of a manifest.
+fn work_on<L: Loader, W: Write>(
+    alloc: Global,
+    work: Work,
     name: &str,
     loader: &mut L,
     out: &mut W,
 ) -> Ended
-    ensures says { SaysOf (L.has loader.old) name.now (Ok rules) (W.contents out.old) (W.contents out.new) (status_after result) }
+    ensures says { SaysBy work (L.has loader.old) name.now (W.contents out.old) (W.contents out.new) (status_after result) }
     ensures cause { HasCause (L.failed loader.old) (L.failed loader.new) result }
 {
     let entries = match load_manifest(alloc, loader, name) {
@@ -128,7 +157,7 @@ fn check_package<L: Loader, W: Write>(
         Err(stop) => return tell(alloc, out, &[], stop),
     };
     match take_files(alloc, loader, entries.as_slice()) {
-        Ok(reader) => answer(alloc, reader, entries.as_slice(), rules, out),
+        Ok(reader) => answer(alloc, work, reader, entries.as_slice(), out),
         Err(stop) => tell(alloc, out, entries.as_slice(), stop),
     }
 }
@@ -146,7 +175,20 @@ pub(crate) fn check<L: Loader, W: Write>(
     ensures cause { HasCause (L.failed loader.old) (L.failed loader.new) result }
 {
     match rules_named(ring, gap) {
-        Ok(rules) => check_package(alloc, rules, name, loader, out),
+        Ok(rules) => work_on(alloc, Work::Check(rules), name, loader, out),
         Err(reason) => say_line(out, lines::usage(alloc, reason), Ended::Said(Status::Usage)),
     }
+}
+
+/// Measures the package of a manifest.
+pub(crate) fn measure<L: Loader, W: Write>(
+    alloc: Global,
+    name: &str,
+    loader: &mut L,
+    out: &mut W,
+) -> Ended
+    ensures says { SaysMeasure (L.has loader.old) name.now (W.contents out.old) (W.contents out.new) (status_after result) }
+    ensures cause { HasCause (L.failed loader.old) (L.failed loader.new) result }
+{
+    work_on(alloc, Work::Measure, name, loader, out)
 }

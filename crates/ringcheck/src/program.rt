@@ -1,16 +1,17 @@
 //! The whole program, over a loader and a writer.
 
 ghost use Rattle.std.specs.Prelude.{◌≡◌, ◌∷◌, [], map, true, ℕ, Bool, List, Some, None, codes};
-ghost use Rattle.command_line.specs.Line.{are_plain_words, check_words, explain_words, file_words, is_plain_word, manifest_words};
+ghost use Rattle.command_line.specs.Line.{are_plain_words, check_words, explain_words, file_words, is_plain_word, manifest_words, measure_words};
 ghost use Rattle.ringcheck.specs.Endings.{HasCause, status_after};
 ghost use Rattle.ringcheck.specs.Folders.{SaysManifest, SaysPage, SaysVersion};
+ghost use Rattle.ringcheck.specs.Measuring.{SaysMeasure};
 ghost use Rattle.ringcheck.specs.Naming as named;
 ghost use Rattle.ringcheck.specs.Printing.{SaysFileOf, kind_named};
 ghost use Rattle.ringcheck.specs.Running.{SaysOf};
 
 use crate::ending::{Ended, say, say_line, say_out_of_memory};
 use crate::explaining::explain;
-use crate::packages::check;
+use crate::packages::{check, measure};
 use crate::proposing::print_manifest;
 use crate::single_files::{Task, print};
 use crate::{Loader, Status, lines};
@@ -27,6 +28,8 @@ fn run_to_end<L: Loader, W: Write>(
 ) -> Ended
     ensures check { (r g m : List ℕ) → map (λ w. w.now) words.now ≡ check_words r g m → is_plain_word r ≡ true → is_plain_word g ≡ true
         → is_plain_word m ≡ true → SaysOf (L.has loader.old) m (named.rules_named r g) (W.contents out.old) (W.contents out.new) (status_after result) }
+    ensures measure { (m : List ℕ) → map (λ w. w.now) words.now ≡ measure_words m → is_plain_word m ≡ true
+        → SaysMeasure (L.has loader.old) m (W.contents out.old) (W.contents out.new) (status_after result) }
     ensures show { (k f : List ℕ) → map (λ w. w.now) words.now ≡ file_words (codes "show") k f → is_plain_word k ≡ true → is_plain_word f ≡ true
         → SaysFileOf Task.Show (kind_named k) (L.has loader.old) f (W.contents out.old) (W.contents out.new) (status_after result) }
     ensures rewrite { (k f : List ℕ) → map (λ w. w.now) words.now ≡ file_words (codes "rewrite") k f → is_plain_word k ≡ true → is_plain_word f ≡ true
@@ -47,6 +50,7 @@ fn run_to_end<L: Loader, W: Write>(
                 manifest,
             },
         ) => check(alloc, ring, gap, manifest, loader, out),
+        Ok(Request::Measure { manifest }) => measure(alloc, manifest, loader, out),
         Ok(Request::Show { kind, file }) => print(alloc, Task::Show, kind, file, loader, out),
         Ok(Request::Rewrite { kind, file }) => print(alloc, Task::Rewrite, kind, file, loader, out),
         Ok(Request::Manifest { why, files }) => {
@@ -73,6 +77,8 @@ pub fn run<L: Loader, W: Write>(
 ) -> Status
     ensures check { (r g m : List ℕ) → map (λ w. w.now) words.now ≡ check_words r g m → is_plain_word r ≡ true → is_plain_word g ≡ true
         → is_plain_word m ≡ true → SaysOf (L.has loader.old) m (named.rules_named r g) (W.contents out.old) (W.contents out.new) result }
+    ensures measure { (m : List ℕ) → map (λ w. w.now) words.now ≡ measure_words m → is_plain_word m ≡ true
+        → SaysMeasure (L.has loader.old) m (W.contents out.old) (W.contents out.new) result }
     ensures show { (k f : List ℕ) → map (λ w. w.now) words.now ≡ file_words (codes "show") k f → is_plain_word k ≡ true → is_plain_word f ≡ true
         → SaysFileOf Task.Show (kind_named k) (L.has loader.old) f (W.contents out.old) (W.contents out.new) result }
     ensures rewrite { (k f : List ℕ) → map (λ w. w.now) words.now ≡ file_words (codes "rewrite") k f → is_plain_word k ≡ true → is_plain_word f ≡ true

@@ -2,16 +2,19 @@ ghost use Rattle.std.specs.Prelude.{◌≡◌, ◌≢◌, ◌≤◌, ◌<◌, Li
 ghost use Rattle.std.specs.List.{Contains};
 
 use super::*;
-use std::alloc::Global;
+use std::alloc::{AllocError, Global};
 
 mod checking;
 mod commands;
 mod devices;
+mod met;
 mod one_file;
 mod refusals;
 mod words;
 
 const WORDS: [&str; 6] = ["check", "--ring", "0.125", "--gap", "0.25", "m.csv"];
+
+const MEASURE: [&str; 2] = ["measure", "m.csv"];
 
 const MANIFEST: &str = "role,name,file\ncopper,top,top.gbr\nplated,pth,pth.drl\n";
 
@@ -26,6 +29,12 @@ const REPORT: &str = "rules ring=0.125000000 gap=0.250000000
 file 1 layer pads=1 other=0 name=top
 file 2 drill plated=yes round=1 slots=0 name=pth
 PASS
+";
+
+const MEASURED: &str = "file 1 layer pads=1 other=0 name=top
+file 2 drill plated=yes round=1 slots=0 name=pth
+ring layer=1 drill=2 diameter=0.400000000 holes=1 bare=0 least=0.125000000 hole=1
+meets ring=0.125000000 gap=any held=0.125000000
 ";
 
 /// Files at hand by their names. The call by the number `fails_at` fails.
@@ -136,6 +145,16 @@ fn prints<L: Loader>(
 ) -> bool {
     let mut out: Vec<u8> = Vec::new(alloc);
     run(alloc, words, loader, &mut out) == status && out.as_slice() == text.as_bytes()
+}
+
+/// A layer of one aperture.
+fn layer_text(alloc: Global, define: &str, flashes: &str) -> Result<String, AllocError> {
+    format!(in alloc; "%FSLAX46Y46*%\n%MOMM*%\n{define}\nD10*\n{flashes}\nM02*\n")
+}
+
+/// A drill file of one tool.
+fn drill_text(alloc: Global, tool: &str, hits: &str) -> Result<String, AllocError> {
+    format!(in alloc; "M48\nMETRIC\n{tool}\n%\nT1\n{hits}\nM30\n")
 }
 
 /// Whether the check of a layer and a drill file ends so and prints just this.

@@ -1,4 +1,4 @@
-use Rattle.std.proofs.Common.{◌≡◌, ◌∙◌, ap, sym, refl, Some, map, codes, Bor, List, ℕ}
+use Rattle.std.proofs.Common.{◌∙◌, ap, sym, refl, Some, map, codes, Bor, List, ℕ}
 use Rattle.clap.specs.Words.{found_of}
 use Rattle.clap.proofs.WalkLemmas.{raw_values-rows}
 use Rattle.command_line.proofs.manifest_request.Goals as goal

@@ -1,11 +1,13 @@
-use Rattle.std.proofs.Common.{◌≡◌, ◌∙◌, ap, ap₂, ◌≤◌, List, length, map, Bor, refl, subst, sym, [], ◌∷◌, Some, None, arith}
+use Rattle.std.proofs.Common.{◌≡◌, ◌∙◌, ap, ap₂, ◌≤◌, length, map, Bor, refl, subst, sym, [], ◌∷◌, Some, None, arith}
 use Rattle.std.proofs.lemmas.List.{length-map}
 use Rattle.clap.specs.Lexer.{usize_max}
 use Rattle.clap.specs.Kinds.{HasKind, Kinds}
 use Rattle.clap.specs.Words.{Text, fault_of, is_simple, is_simple_and_free, subcommand_of, takes}
 use Rattle.command_line.specs.Line.{AsksFor, manifest_words}
-use Rattle.command_line.proofs.Files.{is_explain, is_manifest, is_rewrite, is_show}
+use Rattle.command_line.proofs.Files.{is_explain, is_manifest, is_measure, is_rewrite, is_show}
 use Rattle.command_line.proofs.ManifestWords.{manifest_found, manifest_taken, no_more_files}
+use Rattle.command_line.proofs.MeasureWords.{manifest_first, measure_found, measure_taken}
+use Rattle.command_line.proofs.MeasureWords as measured
 use Rattle.command_line.proofs.OtherWords.{given, list_found, list_taken, told, version_fault, word_first, word_found, word_taken}
 use Rattle.command_line.proofs.RewriteWords.{rewrite_found, rewrite_taken}
 use Rattle.command_line.proofs.ShowWords.{show_found, show_taken}
@@ -22,6 +24,9 @@ returns-in-Some c =
       check = λ r g m e p q s.
           let (rows, found, has) = check_found r g m p q s in
           c.in-Some.ensures.check r g m rows (parsed.1 ∙ ap₂ subcommand_of c.in-Ok.ensures e ∙ found) has;
+      measure = λ m e p.
+          is_measure m (measured.given m ∷ []) (manifest_first m) c.in-Some.request
+          (subst (λ o. AsksFor o c.in-Some.request) (parsed.1 ∙ ap₂ subcommand_of c.in-Ok.ensures e ∙ measure_found m p) c.in-Some.ensures.asked);
       show = λ k f e p q.
           let (rows, found, kind, file) = show_found k f p q in
           is_show k f rows kind file c.in-Some.request
@@ -50,6 +55,9 @@ returns c =
       exact = refused _ _ _ c.refusal_for.result c.in-Ok.ensures fault c.refusal_for.ensures.kind c.refusal_for.ensures.memory;
       check = λ r g m e p q s.
           let memory = c.in-Err.ensures.passes (ap₂ takes c.in-Ok.ensures e ∙ check_taken r g m p q s) in
+          rw (c.refusal_for.ensures.memory memory) tt;
+      measure = λ m e p.
+          let memory = c.in-Err.ensures.passes (ap₂ takes c.in-Ok.ensures e ∙ measure_taken m p) in
           rw (c.refusal_for.ensures.memory memory) tt;
       show = λ k f e p q.
           let memory = c.in-Err.ensures.passes (ap₂ takes c.in-Ok.ensures e ∙ show_taken k f p q) in

@@ -10,7 +10,6 @@ ghost use Rattle.ringcheck.specs.Naming.{rules_named};
 ghost use Rattle.ringcheck.specs.Running.{HasFiles, sources};
 
 use super::*;
-use std::alloc::AllocError;
 use std::test::Fail as Failure;
 
 const UNPLATED: &str = "role,name,file\ncopper,top,top.gbr\nunplated,npth,n.drl\n";
@@ -56,13 +55,11 @@ const BASE: Package = Package {
 
 impl Package {
     fn layer_text(&self, alloc: Global) -> Result<String, AllocError> {
-        let (define, flashes) = (self.define, self.flashes);
-        format!(in alloc; "%FSLAX46Y46*%\n%MOMM*%\n{define}\nD10*\n{flashes}\nM02*\n")
+        layer_text(alloc, self.define, self.flashes)
     }
 
     fn drill_text(&self, alloc: Global) -> Result<String, AllocError> {
-        let (tool, hits) = (self.tool, self.hits);
-        format!(in alloc; "M48\nMETRIC\n{tool}\n%\nT1\n{hits}\nM30\n")
+        drill_text(alloc, self.tool, self.hits)
     }
 
     fn report(&self, alloc: Global, name: &str) -> Result<String, AllocError> {

@@ -1,7 +1,6 @@
 //! The check of a package: what it refuses, and which refusal comes first.
 
 use super::*;
-use std::alloc::AllocError;
 use std::test::Fail as Failure;
 
 /// Whether a layer is refused with this fault.

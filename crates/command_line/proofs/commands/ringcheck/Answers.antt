@@ -1,10 +1,10 @@
-use Rattle.std.proofs.Common.{◌≡◌, ◌∙◌, ap, ap₂, rules, refl, sym, true, false}
+use Rattle.std.proofs.Common.{◌≡◌, ◌∙◌, ap, ap₂, true}
 use Rattle.std.proofs.lemmas.Result.{IfOk-weaker}
-use Rattle.clap.specs.Words.{App, app_of, with_subcommand, new_app}
+use Rattle.clap.specs.Words.{App, app_of, with_subcommand}
 use Rattle.clap.specs.Simple.{app_of_fields}
 use Rattle.clap.proofs.SimpleLemmas.{is_false}
 use Rattle.clap.proofs.WalkLemmas.{both}
-use Rattle.command_line.specs.Line.{check_app, file_app, program_app}
+use Rattle.command_line.specs.Line.{program_app}
 use Rattle.command_line.proofs.commands.ringcheck.Goals as goal
 
 pub returns : goal.returns
@@ -16,12 +16,14 @@ returns c =
     ∙ ap (λ (a : App). record a { top = record a.top { no_binary_name = true; subcommand_required = true; has_version = true } }) c.described.ensures in
     let top = λ (a : App). a.top in
     let check_local = is_false _ (both _ _ (both _ _ (both _ _ (ap (λ (a : App). a.top.is_plain) c.in_ok-check.ensures)).1).1).0 in
+    let measure_local = is_false _ (both _ _ (both _ _ (both _ _ (ap (λ (a : App). a.top.is_plain) c.in_ok-measure.ensures)).1).1).0 in
     let manifest_local = is_false _ (both _ _ (both _ _ (both _ _ (ap (λ (a : App). a.top.is_plain) c.in_ok-manifest.ensures)).1).1).0 in
     let explain_local = is_false _ (both _ _ (both _ _ (both _ _ (ap (λ (a : App). a.top.is_plain) c.in_ok-explain.ensures)).1).1).0 in
     let show_local = is_false _ (both _ _ (both _ _ (both _ _ (ap (λ (a : App). a.top.is_plain) c.in_ok-show.ensures)).1).1).0 in
     let rewrite_local = is_false _ (both _ _ (both _ _ (both _ _ (ap (λ (a : App). a.top.is_plain) c.in_ok-rewrite.ensures)).1).1).0 in
     let one = c.in_ok-subcommand.ensures.shape check_local ∙ ap₂ with_subcommand bare (ap top c.in_ok-check.ensures) in
-    let two = c.in_ok-subcommand-2.ensures.shape manifest_local ∙ ap₂ with_subcommand one (ap top c.in_ok-manifest.ensures) in
-    let three = c.in_ok-subcommand-3.ensures.shape explain_local ∙ ap₂ with_subcommand two (ap top c.in_ok-explain.ensures) in
-    let four = c.in_ok-subcommand-4.ensures.shape show_local ∙ ap₂ with_subcommand three (ap top c.in_ok-show.ensures) in
-    IfOk-weaker c.subcommand-5.result _ _ (λ x h. h.shape rewrite_local ∙ ap₂ with_subcommand four (ap top c.in_ok-rewrite.ensures)) c.subcommand-5.ensures
+    let two = c.in_ok-subcommand-2.ensures.shape measure_local ∙ ap₂ with_subcommand one (ap top c.in_ok-measure.ensures) in
+    let three = c.in_ok-subcommand-3.ensures.shape manifest_local ∙ ap₂ with_subcommand two (ap top c.in_ok-manifest.ensures) in
+    let four = c.in_ok-subcommand-4.ensures.shape explain_local ∙ ap₂ with_subcommand three (ap top c.in_ok-explain.ensures) in
+    let five = c.in_ok-subcommand-5.ensures.shape show_local ∙ ap₂ with_subcommand four (ap top c.in_ok-show.ensures) in
+    IfOk-weaker c.subcommand-6.result _ _ (λ x h. h.shape rewrite_local ∙ ap₂ with_subcommand five (ap top c.in_ok-rewrite.ensures)) c.subcommand-6.ensures

@@ -4,7 +4,7 @@ use Rattle.margins.specs.Meets.{MeetsGaps}
 use Rattle.margins.specs.declared.met.Met.TheVariants as mets
 use Rattle.margins.proofs.Existing.{nearest_least}
 use Rattle.margins.proofs.Passing.{gaps_pass}
-use Rattle.margins.proofs.met.by_nearest.Goals as goal
+use Rattle.margins.proofs.met.gap_met_by.Goals as goal
 
 pub returns-in-Some-clause-exact : goal.returns-in-Some-clause-exact
 returns-in-Some-clause-exact c =

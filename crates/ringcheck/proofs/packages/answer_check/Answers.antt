@@ -7,7 +7,7 @@ use Rattle.package_check.specs.Texts.{text_of}
 use Rattle.ringcheck.specs.Running.{sources}
 use Rattle.ringcheck.proofs.Checking.{refused_file, reported}
 use Rattle.ringcheck.proofs.Loaded.{names_among}
-use Rattle.ringcheck.proofs.packages.answer.Goals as goal
+use Rattle.ringcheck.proofs.packages.answer_check.Goals as goal
 
 pub returns-in-Err-File : goal.returns-in-Err-File
 returns-in-Err-File g c files same stands =

@@ -1,0 +1,140 @@
+-- Lines of rows that stand one after the other.
+use Rattle.std.proofs.Common.{◌≡◌, ℕ, ◌+◌, ◌-◌, ◌<◌, ◌≤◌, ◌⊎◌, inl, inr, List, [], ◌++◌, length, get_or, refl, sym, subst, ap, ap₂, ◌∙◌, arith}
+use Rattle.std.specs.List.{AllPairs}
+use Rattle.std.proofs.lemmas.List.{length-append, get_or_append_left, get_or-append_right}
+use Rattle.std.proofs.lemmas.List.Elements.{Contains-append_left, Contains-append_right}
+use Rattle.std.proofs.lemmas.Bool.{cases_lt}
+use Rattle.margin_text.specs.declared.RingLine.{RingLine}
+use Rattle.package_check.specs.Boards.{Survey}
+use Rattle.measuring.specs.Rows.{AreRowLines, IsBefore, IsRowLine, RowKey, places_of}
+use Rattle.measuring.specs.declared.rows.Stretch.{Stretch}
+use Rattle.measuring.specs.Inner.Tables.{IsIn}
+use Rattle.measuring.proofs.Tabling.{no_file}
+
+module _ {X : Type 0} (xs ys : List X) where
+  first_of : (i : ℕ) (d : X) → i < length xs → get_or (xs ++ ys) i d ≡ get_or xs i d
+  first_of i d l = get_or_append_left xs ys d i l
+
+  last_of : (i : ℕ) (d : X) → length xs ≤ i → get_or (xs ++ ys) i d ≡ get_or ys (i - length xs) d
+  last_of i d l = get_or-append_right xs ys (length xs) i d refl l
+
+  within : (i : ℕ) → i < length (xs ++ ys) → length xs ≤ i → i - length xs < length ys
+  within i l m = let e = length-append xs ys in omega (arith, e)
+
+  pub pairs_join : (R : X → X → Type 0) → AllPairs R xs → AllPairs R ys → ((i j : ℕ) (d : X) → i < length xs → j < length ys → R (get_or xs i d) (get_or ys j d)) → AllPairs R (xs ++ ys)
+  pairs_join R first last cross i j d less inside = elim (cases_lt j (length xs)) [
+    | inl early ↦ (
+        let low : i < length xs = omega (arith, less, early) in
+        subst (λ (x : X). R x (get_or (xs ++ ys) j d)) (sym (first_of i d low)) (subst (R (get_or xs i d)) (sym (first_of j d early)) (first i j d less early)))
+    | inr late ↦ (let m = within j inside late in elim (cases_lt i (length xs)) [
+      | inl low ↦ subst (λ (x : X). R x (get_or (xs ++ ys) j d)) (sym (first_of i d low)) (subst (R (get_or xs i d)) (sym (last_of j d late)) (cross i (j - length xs) d low m))
+      | inr high ↦ (
+          let less_too : i - length xs < j - length xs = omega (arith, less, high) in
+          subst (λ (x : X). R x (get_or (xs ++ ys) j d)) (sym (last_of i d high)) (subst (R (get_or ys (i - length xs) d)) (sym (last_of j d late)) (last (i - length xs) (j - length xs) d less_too m)))
+    ])
+  ]
+
+module _ (board : Survey) where
+  -- no lines for rows that have no hole
+  pub none : (among : RowKey → Type 0) → ((key : RowKey) → among key → 0 < length (places_of board key) → ⊥) → AreRowLines board among []
+  none among empty = record {
+    keys = [];
+    size = refl;
+    line = λ i k d l. absurd (omega (arith, l));
+    there = λ i k l. absurd (omega (arith, l));
+    sorted = λ i j d l m. absurd (omega (arith, m));
+    all = λ key a h. absurd (empty key a h);
+  }
+
+  -- the same lines for rows that are named in another way
+  pub renamed : (p q : RowKey → Type 0) (lines : List RingLine) → ((key : RowKey) → p key → q key) → ((key : RowKey) → q key → 0 < length (places_of board key) → p key) → AreRowLines board p lines → AreRowLines board q lines
+  renamed p q lines to back h = record {
+    keys = h.keys;
+    size = h.size;
+    line = h.line;
+    there = λ i k l. (let t = h.there i k l in (to (get_or h.keys i k) t.0, t.1));
+    sorted = h.sorted;
+    all = λ key a m. h.all key (back key a m) m;
+  }
+
+  -- the lines of some rows, and those of rows behind them
+  pub join : (p q r : RowKey → Type 0) (xs ys : List RingLine) → ((a b : RowKey) → p a → q b → IsBefore a b) → ((key : RowKey) → p key → r key) → ((key : RowKey) → q key → r key) → ((key : RowKey) → r key → p key ⊎ q key)
+      → AreRowLines board p xs → AreRowLines board q ys → AreRowLines board r (xs ++ ys)
+  join p q r xs ys before first last split x y =
+      let both = length-append x.keys y.keys in record {
+        keys = x.keys ++ y.keys;
+        size = both ∙ (ap₂ (λ (a b : ℕ). a + b) x.size y.size ∙ sym (length-append xs ys));
+        line = λ i k d l. elim (cases_lt i (length x.keys)) [
+          | inl low ↦ (
+              let there : i < length xs = omega (arith, low, x.size) in
+              subst (λ (key : RowKey). IsRowLine board key (get_or (xs ++ ys) i d)) (sym (first_of x.keys y.keys i k low)) (subst (IsRowLine board (get_or x.keys i k)) (sym (first_of xs ys i d there)) (x.line i k d low)))
+          | inr high ↦ (
+              let far : length xs ≤ i = omega (arith, high, x.size) in
+              let at : i - length x.keys ≡ i - length xs = ap (λ (n : ℕ). i - n) x.size in
+              let inside : i - length x.keys < length y.keys = within x.keys y.keys i l high in
+              subst (λ (key : RowKey). IsRowLine board key (get_or (xs ++ ys) i d)) (sym (last_of x.keys y.keys i k high))
+              (subst (IsRowLine board (get_or y.keys (i - length x.keys) k)) (ap (λ (n : ℕ). get_or ys n d) at ∙ sym (last_of xs ys i d far)) (y.line (i - length x.keys) k d inside)))
+        ];
+        there = λ i k l. elim (cases_lt i (length x.keys)) [
+          | inl low ↦ (let t = x.there i k low in subst (λ (key : RowKey). r key × (0 < length (places_of board key))) (sym (first_of x.keys y.keys i k low)) (first (get_or x.keys i k) t.0, t.1))
+          | inr high ↦ (
+              let t = y.there (i - length x.keys) k (within x.keys y.keys i l high) in
+              subst (λ (key : RowKey). r key × (0 < length (places_of board key))) (sym (last_of x.keys y.keys i k high)) (last (get_or y.keys (i - length x.keys) k) t.0, t.1))
+        ];
+        sorted = pairs_join x.keys y.keys IsBefore x.sorted y.sorted (λ i j d l m. before (get_or x.keys i d) (get_or y.keys j d) (x.there i d l).0 (y.there j d m).0);
+        all = λ key a h. elim (split key a) [
+          | inl one ↦ Contains-append_left x.keys y.keys key (x.all key one h)
+          | inr one ↦ Contains-append_right x.keys y.keys key (y.all key one h)
+        ];
+      }
+
+-- the rows of the layers before one, and those of its first so many files
+abbrev pub IsUpTo : ℕ → ℕ → RowKey → Type 0
+IsUpTo layer file key = (key.layer < layer) ⊎ ((key.layer ≡ layer) × (key.drill < file))
+
+module _ (board : Survey) (layer : ℕ) where
+  pub first_file : (lines : List RingLine) → AreRowLines board (λ key. key.layer < layer) lines → AreRowLines board (IsUpTo layer 0) lines
+  first_file lines = renamed board (λ key. key.layer < layer) (IsUpTo layer 0) lines (λ key a. inl a) (λ key a some. back key a)
+    where
+      back : (key : RowKey) → IsUpTo layer 0 key → key.layer < layer
+      back key (inl a) = a
+      back key (inr a) = absurd (omega (arith, a.1))
+
+  pub next_file : (file : ℕ) (stretch : Stretch) (old its all : List RingLine) → stretch.layer ≡ layer → stretch.drill ≡ file → all ≡ old ++ its → AreRowLines board (IsUpTo layer file) old → AreRowLines board (IsIn stretch) its
+      → AreRowLines board (IsUpTo layer (file + 1)) all
+  next_file file stretch old its all on in_it is x y =
+      subst (AreRowLines board (IsUpTo layer (file + 1))) (sym is) (join board (IsUpTo layer file) (IsIn stretch) (IsUpTo layer (file + 1)) old its before first last split x y)
+    where
+      before : (a b : RowKey) → IsUpTo layer file a → IsIn stretch b → IsBefore a b
+      before a b (inl less) k = inl (omega (arith, less, k.0, on))
+      before a b (inr same) k = inr (same.0 ∙ sym (k.0 ∙ on), inl (omega (arith, same.1, k.1, in_it)))
+
+      first : (key : RowKey) → IsUpTo layer file key → IsUpTo layer (file + 1) key
+      first key (inl less) = inl less
+      first key (inr same) = inr (same.0, omega (arith, same.1))
+
+      last : (key : RowKey) → IsIn stretch key → IsUpTo layer (file + 1) key
+      last key k = inr (k.0 ∙ on, omega (arith, k.1, in_it))
+
+      split : (key : RowKey) → IsUpTo layer (file + 1) key → IsUpTo layer file key ⊎ IsIn stretch key
+      split key (inl less) = inl (inl less)
+      split key (inr same) = elim (cases_lt key.drill file) [
+        | inl low ↦ inl (inr (same.0, low))
+        | inr high ↦ inr (same.0 ∙ sym on, omega (arith, high, same.1, in_it))
+      ]
+
+  pub last_file : (file : ℕ) (lines : List RingLine) → length board.files ≤ file → AreRowLines board (IsUpTo layer file) lines → AreRowLines board (λ key. key.layer < layer + 1) lines
+  last_file file lines past = renamed board (IsUpTo layer file) (λ key. key.layer < layer + 1) lines to back
+    where
+      to : (key : RowKey) → IsUpTo layer file key → key.layer < layer + 1
+      to key (inl less) = omega (arith, less)
+      to key (inr same) = omega (arith, same.0)
+
+      back : (key : RowKey) → key.layer < layer + 1 → 0 < length (places_of board key) → IsUpTo layer file key
+      back key less some = elim (cases_lt key.layer layer) [
+        | inl low ↦ inl low
+        | inr high ↦ elim (cases_lt key.drill file) [
+          | inl there ↦ inr (omega (arith, less, high), there)
+          | inr far ↦ absurd (no_file board key (omega (arith, past, far)) some)
+        ]
+      ]

@@ -1,0 +1,58 @@
+-- The holes of a drill file on a layer, by their radius.
+use Rattle.std.specs.Prelude.{◌≡◌, ℕ, ◌+◌, ◌-◌, ◌≤◌, ◌<◌, Bool, true, false, Option, Some, None, is_some, List, [], ◌∷◌, length, ⊤}
+use Rattle.std.specs.Global.{Vec}
+use Rattle.std.specs.Option.{option_map_or}
+use Rattle.std.specs.Ordering.{nat_cmp}
+use Rattle.std.specs.List.{filter, range_with_len}
+use Rattle.std.specs.BTreeMap.{BTreeMap, get}
+use Rattle.margins.specs.declared.row.LeastRing.{LeastRing}
+use Rattle.margins.specs.declared.row.RingRow.{RingRow}
+use Rattle.margin_text.specs.declared.LeastRing as told
+use Rattle.package_check.specs.Boards.{Survey}
+use Rattle.measuring.specs.Rows.{RowKey, holes_before, is_asked, places_of}
+use Rattle.measuring.specs.declared.rows.Stretch.{Stretch}
+
+-- the row of a radius in a stretch (docs/DEFINITIONS.md, Lines of a measure)
+abbrev pub row_of : Stretch → ℕ → RowKey
+row_of stretch radius = record { layer = stretch.layer; drill = stretch.drill; radius = radius }
+
+-- the rows of a stretch (docs/DEFINITIONS.md, Lines of a measure)
+abbrev pub IsIn : Stretch → RowKey → Type 0
+IsIn stretch key = (key.layer ≡ stretch.layer) × (key.drill ≡ stretch.drill)
+
+-- there is a place (docs/DEFINITIONS.md, Lines of a measure)
+abbrev pub is_filled : List ℕ → Bool
+is_filled [] = false
+is_filled (place ∷ places) = true
+
+-- the places that a table has for a radius (docs/DEFINITIONS.md, Lines of a measure)
+abbrev pub items_at : BTreeMap ℕ (Vec ℕ) → ℕ → List ℕ
+items_at table radius = option_map_or (λ places. places.items) (get nat_cmp table radius) []
+
+-- a table has a radius (docs/DEFINITIONS.md, Lines of a measure)
+abbrev pub has_radius : BTreeMap ℕ (Vec ℕ) → ℕ → Bool
+has_radius table radius = is_some (get nat_cmp table radius)
+
+-- a table has the places of each row of a stretch, by its radius, and no other radius (docs/DEFINITIONS.md, Lines of a measure)
+pub record IsTableOf (board : Survey) (stretch : Stretch) (table : BTreeMap ℕ (Vec ℕ)) : Type 0 where
+  pub items : (radius : ℕ) → items_at table radius ≡ places_of board (row_of stretch radius)
+  pub there : (radius : ℕ) → has_radius table radius ≡ is_filled (places_of board (row_of stretch radius))
+
+-- a stretch begins and ends where the holes of its file do, as far as there are holes (docs/DEFINITIONS.md, Lines of a measure)
+pub record IsStretch (board : Survey) (stretch : Stretch) : Type 0 where
+  pub ordered : stretch.start ≤ stretch.end
+  pub inside : stretch.end ≤ length board.holes
+  pub starts : stretch.start < stretch.end → stretch.start ≡ holes_before board.files stretch.drill
+  pub ends : stretch.end ≤ holes_before board.files (stretch.drill + 1)
+  pub all : (radius : ℕ) → places_of board (row_of stretch radius) ≡ filter (is_asked board (row_of stretch radius)) (range_with_len stretch.start (stretch.end - stretch.start))
+
+-- the least ring of a row lies among the holes of a file that begin at a place (docs/DEFINITIONS.md, Lines of a measure)
+abbrev pub IsToldBy : RingRow → ℕ → Type 0
+IsToldBy row start = (least : LeastRing) → row.least ≡ Some least → (start ≤ least.hole) × (least.hole < 18446744073709551615)
+
+-- the least ring with the number of its hole in a file that begins at a place (docs/DEFINITIONS.md, Lines of a measure)
+abbrev pub IsTold : Option LeastRing → ℕ → Option told.LeastRing → Type 0
+IsTold None start None = ⊤
+IsTold None start (Some told) = ⊥
+IsTold (Some least) start None = ⊥
+IsTold (Some least) start (Some told) = (told.ring ≡ least.ring) × (start + told.hole ≡ least.hole + 1)

@@ -1,0 +1,102 @@
+-- The lines of a measure that tell of rings and of the least gap. Lengths are whole picometres.
+use Rattle.std.specs.Prelude.{◌≡◌, ◌⊎◌, ◌&&◌, ◌==◌, ℕ, pos, ◌+◌, ◌-◌, ◌*◌, ◌<◌, Bool, Option, Some, None, List, [], length, take, get_or, ⊤}
+use Rattle.std.specs.List.{AllPairs, Contains, filter, sum_by, range_with_len}
+use Rattle.pad_shapes.specs.Pads.{pad_covers}
+use Rattle.ring_rules.specs.Meeting.{hole_at}
+use Rattle.ring_rules.specs.Places.{nowhere}
+use Rattle.margins.specs.Bests.{AreBest}
+use Rattle.margins.specs.Meets.{asks_ring}
+use Rattle.margins.specs.Nearness.{IsNearest, IsPair}
+use Rattle.margins.specs.Rows.{IsRow}
+use Rattle.margins.specs.declared.best.Best.{Best}
+use Rattle.margins.specs.declared.nearest.Nearest.{Nearest}
+use Rattle.margins.specs.declared.row.LeastRing as row
+use Rattle.margins.specs.declared.row.RingRow.{RingRow}
+use Rattle.margin_text.specs.declared.GapLine.{GapLine}
+use Rattle.margin_text.specs.declared.HolePlace.{HolePlace}
+use Rattle.margin_text.specs.declared.LeastRing as line
+use Rattle.margin_text.specs.declared.RingLine.{RingLine}
+use Rattle.package_check.specs.Boards.{Survey, hole_count}
+use Rattle.package_check.specs.declared.FileSum.{FileSum}
+
+-- how many holes the files before one have, by its index (docs/DEFINITIONS.md, Lines of a measure)
+abbrev pub holes_before : List FileSum → ℕ → ℕ
+holes_before files file = sum_by hole_count (take file files)
+
+-- the hole at a place of the list of all holes stands in a file, as the one of a number from 1 (docs/DEFINITIONS.md, Lines of a measure)
+pub record IsPlace (files : List FileSum) (hole : ℕ) (place : HolePlace) : Type 0 where
+  pub at : holes_before files place.drill + place.hole ≡ hole + 1
+  pub from_one : 0 < place.hole
+  pub inside : hole < holes_before files (place.drill + 1)
+
+-- a row: the layer of its rings, its drill file and the radius of its holes (docs/DEFINITIONS.md, Lines of a measure)
+pub record RowKey : Type 0 where
+  pub layer : ℕ
+  pub drill : ℕ
+  pub radius : ℕ
+
+-- the places of the holes of a file, in their order (docs/DEFINITIONS.md, Lines of a measure)
+abbrev pub places_in : List FileSum → ℕ → List ℕ
+places_in files file = range_with_len (holes_before files file) (holes_before files (file + 1) - holes_before files file)
+
+-- a hole asks a ring on the layer of a row, and has its radius (docs/DEFINITIONS.md, Lines of a measure)
+abbrev pub is_asked : Survey → RowKey → ℕ → Bool
+is_asked board key hole = asks_ring key.layer (get_or board.holes hole nowhere) && ((hole_at board.holes hole).radius == key.radius)
+
+-- the places of the holes of a row, in their order (docs/DEFINITIONS.md, Lines of a measure)
+abbrev pub places_of : Survey → RowKey → List ℕ
+places_of board key = filter (is_asked board key) (places_in board.files key.drill)
+
+-- the least ring of a row and the number of the first hole that has it, or none where each hole is bare (docs/DEFINITIONS.md, Lines of a measure)
+abbrev pub TellsLeast : List FileSum → ℕ → Option row.LeastRing → Option line.LeastRing → Type 0
+TellsLeast files drill None None = ⊤
+TellsLeast files drill None (Some told) = ⊥
+TellsLeast files drill (Some held) None = ⊥
+TellsLeast files drill (Some held) (Some told) = (told.ring ≡ held.ring) × IsPlace files held.hole (record { drill = drill; hole = told.hole })
+
+-- the line of a row, by the best pads of the layer (docs/DEFINITIONS.md, Lines of a measure)
+pub record IsRowLine (board : Survey) (key : RowKey) (line : RingLine) : Type 0 where
+  pub bests : List (Option Best)
+  pub best : AreBest pad_covers (get_or board.layers key.layer []) board.holes bests
+  pub row : RingRow
+  pub is : IsRow bests board.holes (places_of board key) row
+  pub layer : line.layer ≡ get_or board.layer_indexes key.layer 0
+  pub drill : line.drill ≡ key.drill
+  pub diameter : line.diameter ≡ pos (2 * key.radius)
+  pub holes : line.holes ≡ row.holes
+  pub bare : line.bare ≡ row.bare
+  pub least : TellsLeast board.files key.drill row.least line.least
+
+-- the order of rows: by layer, then by drill file, then by radius (docs/DEFINITIONS.md, Lines of a measure)
+abbrev pub IsBefore : RowKey → RowKey → Type 0
+IsBefore a b = (a.layer < b.layer) ⊎ ((a.layer ≡ b.layer) × ((a.drill < b.drill) ⊎ ((a.drill ≡ b.drill) × (a.radius < b.radius))))
+
+-- one line for each of some rows that has a hole, in the order of rows (docs/DEFINITIONS.md, Lines of a measure)
+pub record AreRowLines (board : Survey) (among : RowKey → Type 0) (lines : List RingLine) : Type 0 where
+  pub keys : List RowKey
+  pub size : length keys ≡ length lines
+  pub line : (i : ℕ) (k : RowKey) (d : RingLine) → i < length keys → IsRowLine board (get_or keys i k) (get_or lines i d)
+  pub there : (i : ℕ) (k : RowKey) → i < length keys → among (get_or keys i k) × (0 < length (places_of board (get_or keys i k)))
+  pub sorted : AllPairs IsBefore keys
+  pub all : (key : RowKey) → among key → 0 < length (places_of board key) → Contains keys key
+
+-- the lines of rings of a board: those of all rows of its layers (docs/DEFINITIONS.md, Lines of a measure)
+abbrev pub AreRingLines : Survey → List RingLine → Type 0
+AreRingLines board lines = AreRowLines board (λ key. key.layer < length board.layers) lines
+
+-- the place of a hole, as far as the files tell of it (docs/DEFINITIONS.md, Lines of a measure)
+abbrev pub IsToldPlace : Survey → ℕ → HolePlace → Type 0
+IsToldPlace board hole place = hole < holes_before board.files (length board.files) → IsPlace board.files hole place
+
+-- the line of the least gap: the first two holes that have it (docs/DEFINITIONS.md, Lines of a measure)
+pub record IsLeastGap (board : Survey) (line : GapLine) : Type 0 where
+  pub pair : Nearest
+  pub nearest : IsNearest board.holes (IsPair board.holes) pair
+  pub gap : line.gap ≡ pair.gap
+  pub first : IsToldPlace board pair.first line.first
+  pub second : IsToldPlace board pair.second line.second
+
+-- the line of the least gap, or none where there are fewer than two holes (docs/DEFINITIONS.md, Lines of a measure)
+abbrev pub IsGapLine : Survey → Option GapLine → Type 0
+IsGapLine board None = length board.holes < 2
+IsGapLine board (Some line) = IsLeastGap board line

@@ -1,0 +1,20 @@
+-- What is said of the work on a package, which is checked or measured.
+use Rattle.std.specs.Prelude.{ℕ, List, Option}
+use Rattle.package_check.specs.Package.{Source}
+use Rattle.ringcheck.specs.declared.Status.{Status}
+use Rattle.ringcheck.specs.declared.ending.Ended.{Ended}
+use Rattle.ringcheck.specs.declared.packages.Work.{Work}
+use Rattle.ringcheck.specs.declared.packages.Work.TheVariants as work
+use Rattle.ringcheck.specs.Measuring.{AnsweredMeasure, SaysMeasure}
+use Rattle.ringcheck.specs.Running.{Relation, Says}
+use Rattle.ringcheck.specs.Stopping.{Answered}
+
+-- what a status says of a work (docs/DEFINITIONS.md, Runs)
+abbrev pub SaysBy : Work → Relation → List ℕ → Option (List ℕ) → Option (List ℕ) → Status → Type 0
+SaysBy (work.Check rules) has name before after s = Says has name rules before after s
+SaysBy work.Measure has name before after s = SaysMeasure has name before after s
+
+-- what an end says of a work on files that are at hand (docs/DEFINITIONS.md, Runs)
+abbrev pub AnsweredBy : Work → List Source → Option (List ℕ) → Option (List ℕ) → Ended → Type 0
+AnsweredBy (work.Check rules) all before after e = Answered all rules before after e
+AnsweredBy work.Measure all before after e = AnsweredMeasure all before after e
