@@ -1,17 +1,20 @@
-# Checks each BOARD/board.csv below the working directory, and again only where a file of its folder has changed since.
+# Checks each BOARD/board.csv below the working directory, as many at a time as -j says.
 #
 #   make -j4 -k -f check-boards.mk RING=0.149 GAP=0.25
 #
-# A board that passes leaves BOARD/board.passed, its report. Any other leaves BOARD/board.report, and its status and path are
-# told; then the status of make is 2. With -k the other boards are checked all the same. Where the rules change, add -B: make
-# looks at the files of BOARD and of the folders in it, and not at the rules.
+# Each report is left as BOARD/board.report. The status and path of a board that does not pass are told, and then the status of
+# make is 2; with -k the other boards are checked all the same. Each run checks every board: that takes milliseconds, and dates
+# of files do not tell what is in them.
 RINGCHECK ?= ringcheck
 boards := $(wildcard */board.csv)
+ifeq ($(boards),)
+$(error there is no */board.csv here)
+endif
 
-.PHONY: all
-all: $(boards:.csv=.passed)
+.PHONY: all $(boards)
+all: $(boards)
 
-.SECONDEXPANSION:
-%/board.passed: $$(filter-out $$*/board.passed $$*/board.report,$$(wildcard $$*/* $$*/*/*))
-	@cd "$(@D)" && $(RINGCHECK) check --ring $(RING) --gap $(GAP) board.csv > board.report; status=$$?; \
-	if [ $$status -eq 0 ]; then mv board.report board.passed; else rm -f board.passed; echo "$$status $(@D)/board.csv"; exit $$status; fi
+$(boards):
+	@cd "$(@D)" && true > board.report || exit 4; \
+	$(RINGCHECK) check --ring "$(RING)" --gap "$(GAP)" board.csv > board.report; status=$$?; \
+	[ $$status -eq 0 ] || echo "$$status $@"; exit $$status
