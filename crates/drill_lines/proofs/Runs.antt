@@ -1,64 +1,28 @@
 -- Runs of a line: digits, numbers, and what stands behind them.
-use Rattle.std.proofs.Common.{◌≡◌, ℕ, zero, suc, ◌+◌, ◌<◌, ◌≤◌, Bool, true, false, cond, not, ◌||◌, ◌&&◌, ◌/◌, ◌%◌, ◌^◌, eqb, List, [], ◌∷◌, ◌++◌, length, take, drop, ℤ, pos, negsuc, Ok, refl, sym, ap, ◌∙◌, arith, replicate, lit<, lit≤}
-use Rattle.std.specs.Prelude.{unsigned_abs, decimal, take_while}
-use Rattle.std.specs.List.{list_all, list_any, prefix_len, fold}
-use Rattle.std.proofs.lemmas.List.{append-nil, length-append, take_at, drop_at}
-use Rattle.std.proofs.lemmas.List.Folds.{list_all-append}
+use Rattle.std.proofs.Common.{◌≡◌, ℕ, zero, suc, ◌+◌, ◌<◌, ◌≤◌, Bool, true, false, cond, not, ◌||◌, ◌&&◌, ◌/◌, ◌%◌, ◌^◌, eqb, List, [], ◌∷◌, ◌++◌, length, ℤ, Ok, refl, ap, ◌∙◌, arith, replicate, lit<, lit≤}
+use Rattle.std.specs.Prelude.{unsigned_abs, decimal}
+use Rattle.std.specs.List.{list_all, list_any, fold}
+use Rattle.std.proofs.lemmas.List.{length-append}
 use Rattle.std.proofs.lemmas.Bool.Decides.{nat_tests}
 use Rattle.std.proofs.lemmas.Fmt.{length-decimal-le}
 use Rattle.grid_units.proofs.Places.{length-places}
 use Rattle.grid_units.specs.Numbers.{is_digit, is_number, dec_of, max_units}
 use Rattle.grid_units.specs.Spellings.{minus, decimals, behind_any_point, pointed, places}
-use Rattle.grid_units.proofs.Spelled.{spells_decimal, digits-places, trims, pointed_reads}
+use Rattle.grid_units.proofs.Spelled.{spells_decimal, digits-places, trims, pointed_reads, digit_number, minus_numbers, minus_short}
 use Rattle.drill_lines.specs.Lines.{is_blank, trimmed}
 use Rattle.drill_lines.specs.Tools.{is_point, is_diameter}
-
-pub and_true : (a b : Bool) → a ≡ true → b ≡ true → (a && b) ≡ true
-and_true a b h k = λ i. (h i && k i)
-
-pub both_true : (a b : Bool) → (a && b) ≡ true → (a ≡ true) × (b ≡ true)
-both_true true b h = (refl, h)
-both_true false b h = absurd cc
+use Rattle.grid_units.proofs.BoolLemmas.{and_true, both_true}
+use Rattle.grid_units.proofs.ListLemmas.{all_weaker, all_append}
 
 pub or_right : (a b : Bool) → b ≡ true → (a || b) ≡ true
 or_right true b h = refl
 or_right false b h = h
 
--- a test that follows from another, over a list
-pub all_weaker : (p q : ℕ → Bool) → ((b : ℕ) → p b ≡ true → q b ≡ true) → (xs : List ℕ) → list_all p xs ≡ true → list_all q xs ≡ true
-all_weaker p q h [] e = refl
-all_weaker p q h (x ∷ xs) e = let k = both_true (p x) (list_all p xs) e in and_true (q x) (list_all q xs) (h x k.0) (all_weaker p q h xs k.1)
-
-pub all_append : (p : ℕ → Bool) (xs ys : List ℕ) → list_all p xs ≡ true → list_all p ys ≡ true → list_all p (xs ++ ys) ≡ true
-all_append p xs ys h k = list_all-append p xs ys ∙ and_true (list_all p xs) (list_all p ys) h k
-
 any_behind : (p : ℕ → Bool) (xs ys : List ℕ) → list_any p ys ≡ true → list_any p (xs ++ ys) ≡ true
 any_behind p [] ys h = h
 any_behind p (x ∷ xs) ys h = or_right (p x) (list_any p (xs ++ ys)) (any_behind p xs ys h)
 
-pub digit_number : (b : ℕ) → is_digit b ≡ true → is_number b ≡ true
-digit_number b h = λ i. (h i || (eqb b 43 || (eqb b 45 || eqb b 46)))
-
 -- ---- runs
-
--- a run of bytes that pass, behind which stands one that does not
-pub prefix_run : (p : ℕ → Bool) (xs ys : List ℕ) → list_all p xs ≡ true → prefix_len p ys ≡ 0 → prefix_len p (xs ++ ys) ≡ length xs
-prefix_run p [] ys h k = k
-prefix_run p (x ∷ xs) ys h k =
-    let b = both_true (p x) (list_all p xs) h in
-    ap (λ t. cond t (1 + prefix_len p (xs ++ ys)) 0) b.0 ∙ omega (arith, prefix_run p xs ys b.1 k)
-
-pub run_in_front : (p : ℕ → Bool) (xs ys : List ℕ) → list_all p xs ≡ true → prefix_len p ys ≡ 0 → take_while p (xs ++ ys) ≡ xs
-run_in_front p xs ys h k = ap (λ n. take n (xs ++ ys)) (prefix_run p xs ys h k) ∙ take_at xs ys (length xs) refl
-
-pub rest_behind : (p : ℕ → Bool) (xs ys : List ℕ) → list_all p xs ≡ true → prefix_len p ys ≡ 0 → drop (prefix_len p (xs ++ ys)) (xs ++ ys) ≡ ys
-rest_behind p xs ys h k = ap (λ n. drop n (xs ++ ys)) (prefix_run p xs ys h k) ∙ drop_at xs ys (length xs) refl
-
-pub run_alone : (p : ℕ → Bool) (xs : List ℕ) → list_all p xs ≡ true → take_while p xs ≡ xs
-run_alone p xs h = ap (take_while p) (sym (append-nil xs)) ∙ run_in_front p xs [] h refl
-
-pub rest_alone : (p : ℕ → Bool) (xs : List ℕ) → list_all p xs ≡ true → drop (prefix_len p xs) xs ≡ []
-rest_alone p xs h = ap (λ (x : List ℕ). drop (prefix_len p x) x) (sym (append-nil xs)) ∙ rest_behind p xs [] h refl
 
 -- ---- a spelled decimal
 
@@ -67,10 +31,6 @@ pub record IsRun (v : ℤ) (run : List ℕ) : Type 0 where
   pub numbers : list_all is_number run ≡ true
   pub point : list_any is_point run ≡ true
   pub reads : dec_of run ≡ Ok v
-
-minus_numbers : (v : ℤ) → list_all is_number (minus v) ≡ true
-minus_numbers (pos n) = refl
-minus_numbers (negsuc n) = refl
 
 pub decimal_digits : (n : ℕ) → n < 2 ^ 64 → list_all is_digit (decimal n) ≡ true
 decimal_digits n h = (spells_decimal n h).digits
@@ -138,10 +98,6 @@ zeros_pass zero p h = refl
 zeros_pass (suc n) p h = and_true (p 48) (list_all p (replicate n 48)) h (zeros_pass n p h)
 
 -- ---- lengths
-
-minus_short : (v : ℤ) → length (minus v) ≤ 1
-minus_short (pos n) = lit≤ tt
-minus_short (negsuc n) = lit≤ tt
 
 tail_short : (fs : List ℕ) → length fs ≤ 8 → length (behind_any_point fs) ≤ 9
 tail_short [] h = lit≤ tt

@@ -12,7 +12,7 @@ use Rattle.grid_units.specs.declared.zero_filling.Zeros.{Zeros}
 use Rattle.grid_units.specs.declared.zero_filling.Zeros.TheVariants.{Leading, Trailing}
 use Rattle.grid_units.specs.Results.{◌>>=◌, both}
 use Rattle.grid_units.specs.Numbers.{is_digit, is_digits, is_number, value}
-use Rattle.grid_units.proofs.Binds.{bind_ok}
+use Rattle.grid_units.proofs.Binds.{bind_ok, both_ok}
 use Rattle.drill_lines.specs.declared.command.Coordinates.{Coordinates}
 use Rattle.drill_lines.specs.declared.command.Part.{Part}
 use Rattle.drill_lines.specs.declared.command.Part.TheVariants as part
@@ -25,7 +25,7 @@ use Rattle.drill_lines.specs.Tools.{is_diameter, is_letter, is_skipped, are_fiel
 use Rattle.drill_lines.specs.Drilling.{coordinate_of, coordinate, field, Runs, runs_of, names_one, coordinates, slot_line, drill_from, drill_line}
 use Rattle.drill_lines.specs.Meaning.{one, begins_comment, begins_point, spells_nothing, is_old, is_incremental, ends_header, is_routed, repeats, line_before, common_line, header_line, body_word, body_line, line_in, meaning}
 use Rattle.drill_lines.specs.Writing.{can_name_zeros, is_tool_number, names_any, is_comment_text, is_sayable}
-use Rattle.drill_lines.proofs.Runs.{and_true, both_true}
+use Rattle.grid_units.proofs.BoolLemmas.{and_true, both_true}
 
 -- the command, if it is one, can be said in this part
 pub Said : Part → Result DrillCommand Reason → Type 0
@@ -119,12 +119,6 @@ coordinate_named s (Some run) v e =
     let b = bind_ok (coordinate_of s run) (λ x. Ok (Some x)) v e in
     let same : Some b.0 ≡ v = cc in
     ap is_some (sym same)
-
-both_ok : {A B : Type 0} (a : Result A Reason) (b : Result B Reason) (x : A × B) → both a b ≡ Ok x → (a ≡ Ok x.0) × (b ≡ Ok x.1)
-both_ok {A = A} {B = B} (Ok u) (Ok v) x e = let same : (let p : A × B = (u, v) in p ≡ x) = cc in (ap (λ (q : A × B). Ok q.0) same, ap (λ (q : A × B). Ok q.1) same)
-both_ok (Ok u) (Err f) x e = absurd cc
-both_ok (Err d) (Ok v) x e = absurd cc
-both_ok (Err d) (Err f) x e = absurd cc
 
 point_named : (s : Settings) (runs : Runs) (p : Coordinates) → coordinates s runs ≡ Ok p → names_any p ≡ names_one runs
 unfolding coordinates

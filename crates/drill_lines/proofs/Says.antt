@@ -14,7 +14,7 @@ use Rattle.grid_units.specs.declared.zero_filling.Zeros.TheVariants.{Leading, Tr
 use Rattle.grid_units.specs.Results.{◌>>=◌}
 use Rattle.grid_units.specs.Numbers.{is_digit, is_number}
 use Rattle.grid_units.specs.Spellings.{pointed}
-use Rattle.grid_units.proofs.Spelled.{length-zeros}
+use Rattle.grid_units.proofs.Spelled.{length-zeros, digit_number}
 use Rattle.drill_lines.specs.declared.command.Coordinates.{Coordinates}
 use Rattle.drill_lines.specs.declared.command.Part.{Part}
 use Rattle.drill_lines.specs.declared.command.Part.TheVariants as part
@@ -27,8 +27,10 @@ use Rattle.drill_lines.specs.Header.{is_zero, is_size, sizes, pattern, pattern_f
 use Rattle.drill_lines.specs.Drilling.{drill_line}
 use Rattle.drill_lines.specs.Meaning.{one, begins_comment, line_before, common_line, header_line, body_word, body_line, line_in, meaning}
 use Rattle.drill_lines.specs.Writing.{unit_word, zeros_word, pattern_word, coordinate_word, point_word, canonical, is_comment_text, can_name_zeros, names_any, is_sayable, AreDecs, IsPoint, IsTyped}
-use Rattle.drill_lines.proofs.Runs.{and_true, both_true, all_weaker, all_append, prefix_run, rest_behind, decimal_digits, digit_number, pointed_run, pointed_short, is_solid, solid_number, solid_kept, zeros_pass}
+use Rattle.drill_lines.proofs.Runs.{decimal_digits, pointed_run, pointed_short, is_solid, solid_number, solid_kept, zeros_pass}
 use Rattle.drill_lines.proofs.Words.{tool_spelled, pick_spelled, hit_spelled, slot_spelled}
+use Rattle.grid_units.proofs.BoolLemmas.{and_true, both_true}
+use Rattle.grid_units.proofs.ListLemmas.{all_weaker, all_append, prefix_run, rest_behind}
 
 -- ---- unit lines
 

@@ -1,5 +1,5 @@
 -- What the canonical lines spell: tools, picks and points.
-use Rattle.std.proofs.Common.{◌≡◌, ℕ, suc, ◌<◌, ◌≤◌, true, false, cond, not, ◌||◌, ◌&&◌, eqb, leb, List, [], ◌∷◌, ◌++◌, length, drop, ℤ, Option, Some, None, is_some, Ok, Err, refl, sym, ap, ◌∙◌, arith, append_assoc}
+use Rattle.std.proofs.Common.{◌≡◌, ℕ, suc, ◌≤◌, true, false, cond, not, ◌||◌, ◌&&◌, eqb, leb, List, [], ◌∷◌, ◌++◌, length, drop, ℤ, Option, Some, None, is_some, Ok, Err, refl, sym, ap, ◌∙◌, arith, append_assoc}
 use Rattle.std.specs.Prelude.{decimal, take_while, codes}
 use Rattle.std.specs.List.{list_all, prefix_len, count_by}
 use Rattle.std.proofs.lemmas.List.{append-nil}
@@ -16,7 +16,9 @@ use Rattle.drill_lines.specs.declared.command.DrillCommand.TheVariants.{Tool, Pi
 use Rattle.drill_lines.specs.Tools.{is_diameter, is_letter, number_from, diameter_of, diameter_run, tool_fields, tool_line, pick_fields, pick_line}
 use Rattle.drill_lines.specs.Drilling.{format_in, zeros_in, coordinate_of, coordinate, field, Runs, runs_of, names_one, coordinates, slot_line, drill_from, drill_line}
 use Rattle.drill_lines.specs.Writing.{coordinate_word, point_word, names_any, is_tool_number, IsDec, AreDecs, IsPoint}
-use Rattle.drill_lines.proofs.Runs.{or_right, and_true, both_true, all_weaker, run_in_front, rest_behind, run_alone, rest_alone, pointed_run, no_diameters}
+use Rattle.drill_lines.proofs.Runs.{or_right, pointed_run, no_diameters}
+use Rattle.grid_units.proofs.BoolLemmas.{and_true, both_true, not_empty}
+use Rattle.grid_units.proofs.ListLemmas.{all_weaker, run_in_front, rest_behind, run_alone, rest_alone}
 
 -- ---- tools
 
@@ -24,9 +26,6 @@ use Rattle.drill_lines.proofs.Runs.{or_right, and_true, both_true, all_weaker, r
 record IsNumber (least n : ℕ) (digits : List ℕ) : Type 0 where
   digits_are : list_all is_digit digits ≡ true
   reads : number_from least digits ≡ Ok n
-
-not_empty : (n : ℕ) → 0 < n → not (eqb n 0) ≡ true
-not_empty n h = grind (arith, nat_tests)
 
 number_spelled : (least n : ℕ) → least ≤ n → n ≤ 999 → IsNumber least n (decimal n)
 unfolding number_from

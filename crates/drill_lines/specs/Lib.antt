@@ -1,6 +1,5 @@
 pub mod Formats
 pub mod Lines
-pub mod Outcomes
 pub mod Header
 pub mod Tools
 pub mod Drilling

@@ -10,4 +10,4 @@ mod tools;
 
 pub use canonical::{is_sayable, push_canonical};
 pub use command::{Coordinate, Coordinates, DrillCommand, Format, Part, Settings};
-pub use line::{LineFail, read_line};
+pub use line::read_line;

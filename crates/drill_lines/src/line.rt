@@ -2,42 +2,16 @@
 
 ghost use Rattle.std.specs.Prelude.{◌≡◌, ◌≤◌, ◌||◌, ◌==◌, length, take};
 ghost use Rattle.std.specs.Str.{bytes_eq};
-ghost use Rattle.drill_lines.specs.declared.line.LineFail.TheVariants.{Memory, Refused};
 ghost use Rattle.drill_lines.specs.Lines.{is_blank, trimmed, begins};
-ghost use Rattle.drill_lines.specs.Outcomes.{Gives};
+ghost use Rattle.grid_units.specs.Results.{Gives};
 ghost use Rattle.drill_lines.specs.Meaning.{meaning, line_before, line_in, header_line, body_line, body_word, begins_point, common_line, spells_nothing, begins_comment, is_old, is_incremental, is_routed, repeats, ends_header};
 
 use crate::command::{DrillCommand, Part, Settings};
 use crate::drilling::drill_line;
 use crate::header::unit_line;
 use crate::tools::{pick_line, tool_line};
-use grid_units::{Reason, Text, Unit};
-use std::alloc::{AllocError, Global};
-
-/// Why a line gives no command.
-#[derive(Clone, Copy, Debug, PartialEq, Eq)]
-pub enum LineFail {
-    /// A growth was refused.
-    Memory,
-    /// The line was refused.
-    Refused(Reason),
-}
-
-impl From<AllocError> for LineFail {
-    ghost from_gives = { λ _ e. e ≡ Memory };
-
-    fn from(_error: AllocError) -> LineFail {
-        LineFail::Memory
-    }
-}
-
-impl From<Reason> for LineFail {
-    ghost from_gives = { λ reason e. e ≡ Refused reason };
-
-    fn from(reason: Reason) -> LineFail {
-        LineFail::Refused(reason)
-    }
-}
+use grid_units::{Reason, Stop, Text, Unit};
+use std::alloc::Global;
 
 fn is_blank(byte: u8) -> bool
     ensures { result ≡ is_blank byte }
@@ -239,7 +213,7 @@ fn read_trimmed(
     alloc: Global,
     settings: Settings,
     line: &[u8],
-) -> Result<Option<DrillCommand>, LineFail>
+) -> Result<Option<DrillCommand>, Stop>
     ensures { Gives result (meaning settings line.now) }
 {
     let Some((first, text)) = line.split_first() else {
@@ -251,7 +225,7 @@ fn read_trimmed(
     }
     match line_in(settings, line) {
         Ok(command) => Ok(command),
-        Err(reason) => Err(LineFail::Refused(reason)),
+        Err(reason) => Err(Stop::Refused(reason)),
     }
 }
 
@@ -264,7 +238,7 @@ pub fn read_line(
     alloc: Global,
     settings: Settings,
     line: &[u8],
-) -> Result<Option<DrillCommand>, LineFail>
+) -> Result<Option<DrillCommand>, Stop>
     ensures { Gives result (meaning settings (trimmed line.now)) }
 {
     read_trimmed(alloc, settings, &line[..trimmed_len(line)])

@@ -12,7 +12,7 @@ use Rattle.drill_text.specs.declared.judge.Judge.{Judge}
 use Rattle.drill_text.specs.declared.reader.Progress.{Progress}
 use Rattle.drill_text.specs.Lines.{bytes_of, Splits}
 use Rattle.grid_units.specs.Results.{◌>>=◌, fault, Answers, Tells}
-use Rattle.drill_text.specs.Reading.{text_limit, shown, spelled, ended, is_finish, place_behind_count, Reads, Shows}
+use Rattle.drill_text.specs.Reading.{shown, spelled, ended, is_finish, place_behind_count, Reads, Shows}
 use Rattle.drill_text.specs.declared.kept.Kept.{Kept}
 use Rattle.drill_text.specs.Knowing.{Knows}
 use Rattle.drill_text.specs.Keeping.{Met, Leaves, Ends}
@@ -21,6 +21,7 @@ use Rattle.grid_units.specs.Holes.{GridHole}
 use Rattle.drill_text.specs.Texts.{ReadsHoles}
 use Rattle.drill_text.specs.Standing.{Holds}
 use Rattle.grid_units.proofs.Binds.{bind_err, guard_err}
+use Rattle.grid_units.specs.Limits.{text_limit}
 
 ends_with : ℕ → List (List ℕ) → List ℕ → List DrillCommand → Result (List DrillCommand) Fault
 ends_with len lines rest commands = cond (ltb text_limit len) (Err (fault (suc (length lines)) text_limit TooLong)) (spelled (suc (length lines)) (length (bytes_of lines)) rest commands >>= ended len lines rest)

@@ -15,12 +15,14 @@ use Rattle.drill_lines.specs.Meaning.{meaning}
 use Rattle.drill_text.specs.Lines.{bytes_of, Splits}
 use Rattle.drill_text.specs.Lookback.{settings_after}
 use Rattle.drill_text.specs.Rules.{broken_rule}
-use Rattle.drill_text.specs.Reading.{line_limit, text_limit, is_finish, kept_unless, judged, step, spelled, commands_from, shown, ended, place_behind, read_in, Reads}
-use Rattle.drill_text.specs.Texts.{spelled_behind, AreShort, IsLegal}
+use Rattle.drill_text.specs.Reading.{is_finish, kept_unless, judged, step, spelled, commands_from, shown, ended, place_behind, read_in, Reads}
+use Rattle.drill_text.specs.Texts.{spelled_behind, AreShort}
 use Rattle.drill_text.specs.Faults.{SpellLegally, IsRefused, HasRefusedLine, HasFaultWithin, HasFaultBeyond, IsFirstFault, HasAnswer}
 use Rattle.drill_text.proofs.Splitting.{commands_from-push}
 use Rattle.drill_text.proofs.Shown.{shown_ok, show_ok, show_long, show_err, shown_err}
 use Rattle.drill_text.proofs.Spelling.{all_kept, all_spelled, reads_drill_text}
+use Rattle.grid_units.specs.Limits.{text_limit, line_limit}
+use Rattle.grid_units.specs.Lists.{IsLegal}
 
 at_err : {A : Type 0} (place byte : ℕ) (r : Result A Reason) (f : Fault) → at place byte r ≡ Err f → (r ≡ Err f.reason) × (f.place ≡ place) × (f.byte ≡ byte)
 at_err place byte (Ok y) f e = absurd cc
@@ -69,7 +71,7 @@ record Refused (place byte : ℕ) (lines : List (List ℕ)) (start : List DrillC
   commands : List DrillCommand
   short : AreShort before
   spelling : spelled_behind start before ≡ Ok commands
-  legal : IsLegal start → IsLegal commands
+  legal : IsLegal broken_rule start → IsLegal broken_rule commands
   refused : IsRefused commands line f.reason
   place_is : f.place ≡ place + length before
   byte_is : f.byte ≡ byte + length (bytes_of before)
@@ -136,7 +138,7 @@ lines_refused place byte (x ∷ before) line after start cs r e h =
     ∙ (lines_refused (suc place) next before line after b.0 cs r b.2 h
     ∙ (ap (λ p. Err (fault p (next + length (bytes_of before)) r)) k ∙ ap (λ o. Err (fault (place + suc (length before)) o r)) j))
 
-none_legal : IsLegal []
+none_legal : IsLegal broken_rule []
 none_legal = refl
 
 pub has_refused : (lines : List (List ℕ)) (f : Fault) → commands_from 1 0 lines [] ≡ Err f → HasRefusedLine lines f

@@ -2,8 +2,8 @@
 use Rattle.std.proofs.Common.{◌≡◌, ℕ, ℤ, List, [], ◌∷◌, ◌++◌, length, Option, None, Some, Result, Ok, Err, sym, ap, ◌∙◌, append-nil}
 use Rattle.std.specs.Option.{option_map, option_to_list}
 use Rattle.grid_units.specs.Holes.{GridHole}
-use Rattle.drill_lines.specs.declared.line.LineFail.{LineFail}
-use Rattle.drill_lines.specs.declared.line.LineFail.TheVariants as stops
+use Rattle.grid_units.specs.declared.stop.Stop.{Stop}
+use Rattle.grid_units.specs.declared.stop.Stop.TheVariants as stops
 use Rattle.drill_lines.specs.declared.command.Coordinates.{Coordinates}
 use Rattle.drill_lines.specs.declared.command.DrillCommand.{DrillCommand}
 use Rattle.drill_text.specs.declared.judge.Judge.{Judge}
@@ -14,7 +14,7 @@ use Rattle.drill_text.specs.Knowing.{told, Knows, Judges, Drills, after, moved, 
 use Rattle.drill_text.proofs.Lookbacks.{knows_more, same_rule}
 use Rattle.drill_text.proofs.Drilling.{ok_unless, unless_ok, unless_err, fresh}
 
-pub judges_drilled : (old new : Judge) (before : List DrillCommand) (c : DrillCommand) (p q : Coordinates) (d : Drilled) (r : Result (Unit {0}) LineFail)
+pub judges_drilled : (old new : Judge) (before : List DrillCommand) (c : DrillCommand) (p q : Coordinates) (d : Drilled) (r : Result (Unit {0}) Stop)
     → Knows old before → drilled (told old) c ≡ Some d
     → hole_in (told old) (length old.holes.items) p q ≡ ok_unless (first_broken (told old) (length old.holes.items) (drilled (told old) c) c) (hole_of d)
     → moved q (moved p (told old)) ≡ after c (told old) → tool_defined c ≡ None

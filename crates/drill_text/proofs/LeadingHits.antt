@@ -13,11 +13,13 @@ use Rattle.drill_lines.specs.declared.command.Part.TheVariants as part
 use Rattle.drill_lines.specs.declared.command.Settings.{Settings}
 use Rattle.drill_lines.specs.declared.command.DrillCommand.TheVariants as command
 use Rattle.drill_lines.specs.Drilling.{coordinate, coordinates, coordinate_of, field, drill_from, drill_line}
-use Rattle.drill_lines.proofs.Runs.{both_true, all_append, run_in_front, rest_behind, run_alone, rest_alone, is_solid, solid_kept, all_weaker}
+use Rattle.drill_lines.proofs.Runs.{is_solid, solid_kept}
 use Rattle.drill_lines.proofs.Trimming.{trim_blank}
 use Rattle.drill_lines.proofs.Says.{numbers_solid, solid_no_break}
 use Rattle.drill_lines.proofs.Fronts.{pointed_coordinate}
-use Rattle.drill_text.specs.Hits.{NamesDecimal, EndsLine, LeadsHit}
+use Rattle.drill_text.specs.Inner.Hits.{NamesDecimal, EndsLine, LeadsHit}
+use Rattle.grid_units.proofs.BoolLemmas.{both_true}
+use Rattle.grid_units.proofs.ListLemmas.{all_weaker, all_append, run_in_front, rest_behind, run_alone, rest_alone}
 
 -- ---- the line
 

@@ -1,5 +1,5 @@
 -- The canonical text of a sayable list spells just the list.
-use Rattle.std.proofs.Common.{◌≡◌, ◌≢◌, ℕ, ◌≤◌, Bool, true, false, not, ◌&&◌, eqb, List, [], ◌∷◌, ◌++◌, length, map, take, drop, get_or, Ok, Err, refl, sym, ap, subst, ◌∙◌, arith, append_assoc, append-nil, lit≤, add-one, suc, ◌+◌, ◌<◌, cond}
+use Rattle.std.proofs.Common.{◌≡◌, ◌≢◌, ℕ, ◌≤◌, true, false, not, ◌&&◌, eqb, List, [], ◌∷◌, ◌++◌, length, map, take, drop, get_or, Ok, Err, refl, sym, ap, subst, ◌∙◌, arith, append_assoc, append-nil, lit≤, add-one, suc, ◌+◌, ◌<◌, cond}
 use Rattle.std.specs.List.{list_any, list_all, AllByRecursion}
 use Rattle.std.specs.Option.{option_to_list}
 use Rattle.std.proofs.lemmas.List.{map-append, length-append, take-append-drop}
@@ -18,14 +18,12 @@ use Rattle.drill_lines.specs.Writing.{canonical, is_sayable, IsTyped}
 use Rattle.drill_lines.proofs.Says.{says}
 use Rattle.drill_text.specs.Lines.{ended_line, bytes_of, HasNoBreak}
 use Rattle.drill_text.specs.Lookback.{settings_after, part_after, part_named}
-use Rattle.drill_text.specs.Reading.{text_limit, is_finish}
+use Rattle.drill_text.specs.Reading.{is_finish}
 use Rattle.drill_text.specs.Texts.{spelled_behind, AreShort, SpellsText}
 use Rattle.drill_text.specs.Writing.{part_behind, part_from, are_sayable, is_over, drill_sayable, canonical_text, written as written_result}
 use Rattle.drill_text.proofs.Splitting.{AllR-append, bytes_of-push}
-
-both_true : (a b : Bool) → (a && b) ≡ true → (a ≡ true) × (b ≡ true)
-both_true true b h = (refl, h)
-both_true false b h = absurd cc
+use Rattle.grid_units.specs.Limits.{text_limit}
+use Rattle.grid_units.proofs.BoolLemmas.{both_true}
 
 pub AreTyped : List DrillCommand → Type 0
 AreTyped cs = AllByRecursion IsTyped cs

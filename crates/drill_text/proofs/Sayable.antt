@@ -1,5 +1,5 @@
 -- The commands that a text spells can be said.
-use Rattle.std.proofs.Common.{◌≡◌, ◌≢◌, ℕ, Bool, true, false, not, ◌&&◌, eqb, List, [], ◌∷◌, ◌++◌, Option, None, Some, Result, Ok, Err, IfOk, refl, sym, ap, subst, ◌∙◌, append_assoc, append-nil}
+use Rattle.std.proofs.Common.{◌≡◌, ◌≢◌, ℕ, Bool, true, false, not, eqb, List, [], ◌∷◌, ◌++◌, Option, None, Some, Result, Ok, Err, IfOk, refl, sym, ap, subst, ◌∙◌, append_assoc, append-nil}
 use Rattle.std.specs.List.{list_any, list_all, AllByRecursion}
 use Rattle.std.specs.Option.{option_to_list}
 use Rattle.std.proofs.lemmas.Bool.{eqb-true}
@@ -25,13 +25,7 @@ use Rattle.drill_text.proofs.Splitting.{AllR-append}
 use Rattle.drill_text.proofs.Spelling.{reads_drill_text, drill_text_reads}
 use Rattle.drill_text.proofs.Unique.{one_read}
 use Rattle.drill_text.proofs.RoundTrip.{part_more}
-
-both_true : (a b : Bool) → (a && b) ≡ true → (a ≡ true) × (b ≡ true)
-both_true true b h = (refl, h)
-both_true false b h = absurd cc
-
-and_true : (a b : Bool) → a ≡ true → b ≡ true → (a && b) ≡ true
-and_true a b h k = λ i. (h i && k i)
+use Rattle.grid_units.proofs.BoolLemmas.{both_true, and_true}
 
 not_ten : (b : ℕ) → b ≢ 10 → (t : Bool) → eqb b 10 ≡ t → not t ≡ true
 not_ten b h true e = absurd (h (eqb-true b 10 e))

@@ -8,7 +8,7 @@ use Rattle.grid_units.specs.declared.fault.Fault.{Fault}
 use Rattle.grid_units.specs.declared.fault.Reason.{Reason}
 use Rattle.grid_units.specs.declared.fault.Reason.TheVariants.{TooLong, Truncated}
 use Rattle.grid_units.specs.Results.{◌>>=◌, fault, at}
-use Rattle.grid_units.specs.Lists.{breaks, break_at, positions_after}
+use Rattle.grid_units.specs.Lists.{breaks, break_at, positions_after, IsLegal}
 use Rattle.grid_units.proofs.Binds.{bind_ok}
 use Rattle.grid_units.proofs.Lookbacks.{breaks-more, breaks-append}
 use Rattle.drill_lines.specs.declared.command.DrillCommand.{DrillCommand}
@@ -17,10 +17,11 @@ use Rattle.drill_lines.specs.Meaning.{meaning}
 use Rattle.drill_text.specs.Lines.{bytes_of, Splits}
 use Rattle.drill_text.specs.Lookback.{settings_after}
 use Rattle.drill_text.specs.Rules.{broken_rule}
-use Rattle.drill_text.specs.Reading.{line_limit, text_limit, is_finish, kept_unless, judged, step, spelled, commands_from, shown, ended, place_behind, Reads}
-use Rattle.drill_text.specs.Texts.{spelled_behind, AreShort, IsLegal, IsDrillText}
+use Rattle.drill_text.specs.Reading.{is_finish, kept_unless, judged, step, spelled, commands_from, shown, ended, place_behind, Reads}
+use Rattle.drill_text.specs.Texts.{spelled_behind, AreShort, IsDrillText}
 use Rattle.drill_text.proofs.Splitting.{commands_from-push}
 use Rattle.drill_text.proofs.Shown.{shown_ok, show_ok, show_push}
+use Rattle.grid_units.specs.Limits.{text_limit, line_limit}
 
 pub at_ok : {A : Type 0} (place byte : ℕ) (r : Result A Reason) (x : A) → at place byte r ≡ Ok x → r ≡ Ok x
 at_ok place byte (Ok y) x e = let same : y ≡ x = cc in ap (λ z. Ok z) same
@@ -34,14 +35,14 @@ record Kept (before : List DrillCommand) (line : List ℕ) (new : List DrillComm
   short : length line ≤ line_limit
   says : meaning (settings_after before) (trimmed line) ≡ Ok command
   new_is : before ++ option_to_list command ≡ new
-  keeps : IsLegal before → IsLegal new
+  keeps : IsLegal broken_rule before → IsLegal broken_rule new
 
-judged_ok : (before : List DrillCommand) (command : Option DrillCommand) (new : List DrillCommand) → judged before command ≡ Ok new → (before ++ option_to_list command ≡ new) × (IsLegal before → IsLegal new)
-judged_ok before None new e = let same : before ≡ new = cc in (append-nil before ∙ same, λ legal. subst IsLegal same legal)
+judged_ok : (before : List DrillCommand) (command : Option DrillCommand) (new : List DrillCommand) → judged before command ≡ Ok new → (before ++ option_to_list command ≡ new) × (IsLegal broken_rule before → IsLegal broken_rule new)
+judged_ok before None new e = let same : before ≡ new = cc in (append-nil before ∙ same, λ legal. subst (IsLegal broken_rule) same legal)
 judged_ok before (Some c) new e = by (broken_rule before c) refl e
   where
-    by : (o : Option Reason) → broken_rule before c ≡ o → kept_unless o before c ≡ Ok new → (before ++ c ∷ [] ≡ new) × (IsLegal before → IsLegal new)
-    by None none k = let same : before ++ c ∷ [] ≡ new = cc in (same, λ legal. subst IsLegal same (breaks-more broken_rule before c legal none))
+    by : (o : Option Reason) → broken_rule before c ≡ o → kept_unless o before c ≡ Ok new → (before ++ c ∷ [] ≡ new) × (IsLegal broken_rule before → IsLegal broken_rule new)
+    by None none k = let same : before ++ c ∷ [] ≡ new = cc in (same, λ legal. subst (IsLegal broken_rule) same (breaks-more broken_rule before c legal none))
     by (Some r) some k = absurd cc
 
 kept : (before : List DrillCommand) (line : List ℕ) (new : List DrillCommand) → step before line ≡ Ok new → Kept before line new
@@ -58,8 +59,8 @@ kept before line new e = by (ltb line_limit (length line)) refl e
 -- ---- all lines
 
 pub all_kept : (place byte : ℕ) (lines : List (List ℕ)) (before new : List DrillCommand) → commands_from place byte lines before ≡ Ok new
-    → AreShort lines × (spelled_behind before lines ≡ Ok new) × (IsLegal before → IsLegal new)
-all_kept place byte [] before new e = let same : before ≡ new = cc in (tt, ap (λ (x : List DrillCommand). Ok x) same, λ legal. subst IsLegal same legal)
+    → AreShort lines × (spelled_behind before lines ≡ Ok new) × (IsLegal broken_rule before → IsLegal broken_rule new)
+all_kept place byte [] before new e = let same : before ≡ new = cc in (tt, ap (λ (x : List DrillCommand). Ok x) same, λ legal. subst (IsLegal broken_rule) same legal)
 all_kept place byte (line ∷ lines) before new e =
     let next : ℕ = byte + (length line + 1) in
     let b = bind_ok (spelled place byte line before) (commands_from (suc place) next lines) new e in
@@ -75,7 +76,7 @@ nil_front : {A : Type 0} (xs ys : List A) → xs ++ ys ≡ [] → xs ≡ []
 nil_front [] ys e = refl
 nil_front (x ∷ xs) ys e = absurd cc
 
-pub legal_front : (cs ds : List DrillCommand) → IsLegal (cs ++ ds) → IsLegal cs
+pub legal_front : (cs ds : List DrillCommand) → IsLegal broken_rule (cs ++ ds) → IsLegal broken_rule cs
 legal_front cs ds legal = nil_front (breaks broken_rule cs) (filter_map (break_at broken_rule) (positions_after cs ds)) (sym (breaks-append broken_rule cs ds) ∙ legal)
 
 -- what lines spell begins with what stood before
@@ -95,28 +96,28 @@ no_break n None e = refl
 no_break n (Some r) e = absurd cc
 
 -- the last of a legal list breaks no rule
-pub last_legal : (before : List DrillCommand) (c : DrillCommand) → IsLegal (before ++ c ∷ []) → broken_rule before c ≡ None
+pub last_legal : (before : List DrillCommand) (c : DrillCommand) → IsLegal broken_rule (before ++ c ∷ []) → broken_rule before c ≡ None
 last_legal before c legal =
     no_break (length before) (broken_rule before c) (nil_back (breaks broken_rule before) (filter_map (break_at broken_rule) (positions_after before (c ∷ []))) (sym (breaks-append broken_rule before (c ∷ [])) ∙ legal))
 
 -- what is said is kept, where the list behind it is legal
-keeps_judged : (before : List DrillCommand) (command : Option DrillCommand) → IsLegal (before ++ option_to_list command) → judged before command ≡ Ok (before ++ option_to_list command)
+keeps_judged : (before : List DrillCommand) (command : Option DrillCommand) → IsLegal broken_rule (before ++ option_to_list command) → judged before command ≡ Ok (before ++ option_to_list command)
 keeps_judged before None legal = ap (λ (x : List DrillCommand). Ok x) (sym (append-nil before))
 keeps_judged before (Some c) legal = ap (λ o. kept_unless o before c) (last_legal before c legal)
 
-keeps_line : (before : List DrillCommand) (line : List ℕ) (command : Option DrillCommand) → length line ≤ line_limit → meaning (settings_after before) (trimmed line) ≡ Ok command → IsLegal (before ++ option_to_list command) → step before line ≡ Ok (before ++ option_to_list command)
+keeps_line : (before : List DrillCommand) (line : List ℕ) (command : Option DrillCommand) → length line ≤ line_limit → meaning (settings_after before) (trimmed line) ≡ Ok command → IsLegal broken_rule (before ++ option_to_list command) → step before line ≡ Ok (before ++ option_to_list command)
 unfolding step
 keeps_line before line command short says legal =
     ap (λ t. cond t (Err TooLong) (meaning (settings_after before) (trimmed line) >>= judged before)) (le-ltb _ _ short)
     ∙ (ap (λ r. r >>= judged before) says ∙ keeps_judged before command legal)
 
-pub all_spelled : (place byte : ℕ) (lines : List (List ℕ)) (before new : List DrillCommand) → AreShort lines → spelled_behind before lines ≡ Ok new → IsLegal new → commands_from place byte lines before ≡ Ok new
+pub all_spelled : (place byte : ℕ) (lines : List (List ℕ)) (before new : List DrillCommand) → AreShort lines → spelled_behind before lines ≡ Ok new → IsLegal broken_rule new → commands_from place byte lines before ≡ Ok new
 all_spelled place byte [] before new short e legal = let same : before ≡ new = cc in ap (λ (x : List DrillCommand). Ok x) same
 all_spelled place byte (line ∷ lines) before new short e legal =
     let next : ℕ = byte + (length line + 1) in
     let b = bind_ok (meaning (settings_after before) (trimmed line)) (λ command. spelled_behind (before ++ option_to_list command) lines) new e in
     let more = spelled_more (before ++ option_to_list b.0) lines new b.2 in
-    let now = keeps_line before line b.0 short.0 b.1 (legal_front (before ++ option_to_list b.0) more.0 (subst IsLegal more.1 legal)) in
+    let now = keeps_line before line b.0 short.0 b.1 (legal_front (before ++ option_to_list b.0) more.0 (subst (IsLegal broken_rule) more.1 legal)) in
     ap (λ r. at place byte r >>= commands_from (suc place) next lines) now ∙ all_spelled (suc place) next lines (before ++ option_to_list b.0) new short.1 b.2 legal
 
 -- ---- texts

@@ -1,12 +1,12 @@
 -- A text that goes on: its lines, its rest, and what the lines spell.
-use Rattle.std.proofs.Common.{◌≡◌, ◌≢◌, ℕ, suc, ◌+◌, List, [], ◌∷◌, ◌++◌, length, Result, Ok, Err, refl, sym, ap, ◌∙◌, arith, append_assoc}
+use Rattle.std.proofs.Common.{◌≡◌, ◌≢◌, ℕ, suc, ◌+◌, List, [], ◌∷◌, ◌++◌, length, sym, ap, ◌∙◌, arith, append_assoc}
 use Rattle.std.specs.List.{AllByRecursion}
 use Rattle.std.proofs.lemmas.List.{append-nil, length-append}
 use Rattle.std.proofs.lemmas.List.Concat.{flat_map-append}
 use Rattle.drill_lines.specs.declared.command.DrillCommand.{DrillCommand}
 use Rattle.drill_text.specs.Lines.{ended_line, bytes_of, HasNoBreak, Splits}
 use Rattle.grid_units.specs.Results.{◌>>=◌}
-use Rattle.grid_units.proofs.Binds.{bind_assoc}
+use Rattle.grid_units.proofs.Binds.{bind_assoc, bind_same, bind_Ok}
 use Rattle.drill_text.specs.Reading.{spelled, commands_from}
 
 pub AllR-append : {A : Type 0} (P : A → Type 0) (xs ys : List A) → AllByRecursion P xs → AllByRecursion P ys → AllByRecursion P (xs ++ ys)
@@ -33,14 +33,6 @@ Splits-close text lines rest s = record {
 }
 
 -- ---- what the lines spell
-
-bind_same : {A B E : Type 0} (r : Result A E) (f g : A → Result B E) → ((x : A) → f x ≡ g x) → (r >>= f) ≡ (r >>= g)
-bind_same (Ok x) f g h = h x
-bind_same (Err e) f g h = refl
-
-bind_Ok : {A E : Type 0} (r : Result A E) → (r >>= λ x. Ok x) ≡ r
-bind_Ok (Ok x) = refl
-bind_Ok (Err e) = refl
 
 pub commands_from-push : (place byte : ℕ) (lines : List (List ℕ)) (line : List ℕ) (before : List DrillCommand)
     → commands_from place byte (lines ++ line ∷ []) before ≡ (commands_from place byte lines before >>= spelled (place + length lines) (byte + length (bytes_of lines)) line)

@@ -8,10 +8,11 @@ use Rattle.grid_units.specs.declared.fault.Reason.TheVariants.{TooLong}
 use Rattle.drill_text.specs.Lines.{Splits}
 use Rattle.grid_units.specs.Results.{◌>>=◌, fault}
 use Rattle.grid_units.proofs.Binds.{bind_err, guard_err}
-use Rattle.drill_text.specs.Reading.{text_limit, shown, Shows, Reads}
+use Rattle.drill_text.specs.Reading.{shown, Shows, Reads}
 use Rattle.drill_text.specs.Standing.{HasFault}
 use Rattle.drill_text.proofs.Shown.{fault_stays}
 use Rattle.drill_text.proofs.Ending.{shows_reads}
+use Rattle.grid_units.specs.Limits.{text_limit}
 
 checks_len : ℕ → List (List ℕ) → List DrillCommand → Result (List DrillCommand) Fault
 checks_len len lines commands = cond (ltb text_limit len) (Err (fault (suc (length lines)) text_limit TooLong)) (Ok commands)

@@ -7,7 +7,8 @@ use Rattle.std.proofs.lemmas.Bool.{eqb-true}
 use Rattle.grid_units.specs.declared.fault.Fault.{Fault}
 use Rattle.drill_lines.specs.declared.command.DrillCommand.{DrillCommand}
 use Rattle.drill_text.specs.Lines.{bytes_of, HasNoBreak, Splits}
-use Rattle.drill_text.specs.Reading.{text_limit, Shows, Reads, shown_in, read_in}
+use Rattle.drill_text.specs.Reading.{Shows, Reads, shown_in, read_in}
+use Rattle.grid_units.specs.Limits.{text_limit}
 
 -- one more byte: the LF of a line, or another
 next : List (List ℕ) × List ℕ → ℕ → List (List ℕ) × List ℕ

@@ -11,8 +11,9 @@ use Rattle.drill_text.specs.declared.reader.Progress.{Progress}
 use Rattle.drill_text.specs.Lines.{Splits}
 use Rattle.grid_units.specs.Results.{◌>>=◌}
 use Rattle.grid_units.specs.Results.{fault}
-use Rattle.drill_text.specs.Reading.{text_limit, Shows}
+use Rattle.drill_text.specs.Reading.{Shows}
 use Rattle.drill_text.specs.Standing.{Holds, HasFault, Refuses, RefusesText}
+use Rattle.grid_units.specs.Limits.{text_limit}
 
 -- behind a text that is too long, its front shows what it shows
 checks_len : ℕ → List (List ℕ) → List DrillCommand → Result (List DrillCommand) Fault

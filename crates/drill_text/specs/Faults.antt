@@ -12,14 +12,16 @@ use Rattle.drill_lines.specs.Meaning.{meaning}
 use Rattle.drill_text.specs.Lines.{bytes_of, Splits}
 use Rattle.drill_text.specs.Lookback.{settings_after}
 use Rattle.drill_text.specs.Rules.{broken_rule}
-use Rattle.drill_text.specs.Reading.{line_limit, text_limit, is_finish, place_behind}
-use Rattle.drill_text.specs.Texts.{spelled_behind, AreShort, IsLegal, IsDrillText}
+use Rattle.drill_text.specs.Reading.{is_finish, place_behind}
+use Rattle.drill_text.specs.Texts.{spelled_behind, AreShort, IsDrillText}
+use Rattle.grid_units.specs.Limits.{text_limit, line_limit}
+use Rattle.grid_units.specs.Lists.{IsLegal}
 
 -- Lines spell these commands, which are legal, and none of them is too long (docs/DEFINITIONS.md, Reading a drill file).
 pub record SpellLegally (lines : List (List ℕ)) (commands : List DrillCommand) : Type 0 where
   pub short : AreShort lines
   pub spelling : spelled_behind [] lines ≡ Ok commands
-  pub legal : IsLegal commands
+  pub legal : IsLegal broken_rule commands
 
 -- a line behind these commands is refused by this reason: it is too long; or it spells nothing, by this reason; or the command
 -- that it spells breaks this rule (docs/DEFINITIONS.md, Reading a drill file)

@@ -8,8 +8,8 @@ use Rattle.grid_units.specs.Results.{◌>>=◌}
 use Rattle.grid_units.specs.Lists.{last_named}
 use Rattle.grid_units.specs.Points.{GridPoint, max_coordinate}
 use Rattle.grid_units.specs.Holes.{GridHole}
-use Rattle.drill_lines.specs.declared.line.LineFail.{LineFail}
-use Rattle.drill_lines.specs.declared.line.LineFail.TheVariants as stops
+use Rattle.grid_units.specs.declared.stop.Stop.{Stop}
+use Rattle.grid_units.specs.declared.stop.Stop.TheVariants as stops
 use Rattle.grid_units.specs.declared.lengths.Unit.{Unit as Units}
 use Rattle.grid_units.specs.declared.zero_filling.Zeros.{Zeros}
 use Rattle.drill_lines.specs.declared.command.Coordinates.{Coordinates}
@@ -151,7 +151,7 @@ pub record Takes (old : Judge) (c : DrillCommand) (new : Judge) : Type 0 where
   pub tools : defines_again (told old) c ≡ false → new.tools.entries ≡ old.tools.entries ++ option_to_list (tool_defined c)
 
 -- A hole was drilled from one point to another, or it breaks just this rule, or memory ran out (docs/DEFINITIONS.md, The judge of a drill file).
-abbrev pub Drills : Judge → Coordinates → Coordinates → Judge → Result (Unit {0}) LineFail → Type 0
+abbrev pub Drills : Judge → Coordinates → Coordinates → Judge → Result (Unit {0}) Stop → Type 0
 Drills old first second new (Ok _) = (hole : GridHole) × (hole_in (told old) (length old.holes.items) first second ≡ Ok hole)
     × (told new ≡ moved second (moved first (told old)))
     × (new.holes.items ≡ old.holes.items ++ hole ∷ [])
@@ -160,7 +160,7 @@ Drills old first second new (Err (stops.Refused broken)) = hole_in (told old) (l
 Drills old first second new (Err stops.Memory) = Unit {0}
 
 -- The command breaks no rule and was taken in, or it breaks just this one, or memory ran out (docs/DEFINITIONS.md, The judge of a drill file).
-abbrev pub Judges : List DrillCommand → DrillCommand → Judge → Result (Unit {0}) LineFail → Type 0
+abbrev pub Judges : List DrillCommand → DrillCommand → Judge → Result (Unit {0}) Stop → Type 0
 Judges before c new (Ok _) = (broken_rule before c ≡ None) × Knows new (before ++ c ∷ [])
 Judges before c new (Err (stops.Refused broken)) = broken_rule before c ≡ Some broken
 Judges before c new (Err stops.Memory) = Unit {0}

@@ -9,5 +9,5 @@ pub mod Knowing
 pub mod Keeping
 pub mod Standing
 pub mod Outcome
-pub mod Hits
 pub mod Faults
+pub mod Inner

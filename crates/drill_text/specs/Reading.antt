@@ -12,14 +12,7 @@ use Rattle.drill_lines.specs.Meaning.{meaning}
 use Rattle.drill_text.specs.Lines.{bytes_of, Splits}
 use Rattle.drill_text.specs.Lookback.{settings_after}
 use Rattle.drill_text.specs.Rules.{broken_rule}
-
--- the longest line (docs/FORMATS.md, Limits)
-abbrev pub line_limit : ℕ
-line_limit = 1048576
-
--- the longest text (docs/FORMATS.md, Limits)
-abbrev pub text_limit : ℕ
-text_limit = 268435456
+use Rattle.grid_units.specs.Limits.{text_limit, line_limit}
 
 -- these commands and this one behind them, unless it breaks a rule (docs/DEFINITIONS.md, Reading a drill file)
 abbrev pub kept_unless : Option Reason → List DrillCommand → DrillCommand → Result (List DrillCommand) Reason

@@ -6,15 +6,16 @@ use Rattle.grid_units.specs.declared.fault.Reason.{Reason}
 use Rattle.grid_units.specs.declared.fault.Fault.{Fault}
 use Rattle.grid_units.specs.Holes.{GridHole}
 use Rattle.grid_units.specs.Results.{◌>>=◌}
-use Rattle.grid_units.specs.Lists.{breaks}
+use Rattle.grid_units.specs.Lists.{IsLegal}
 use Rattle.drill_lines.specs.declared.command.DrillCommand.{DrillCommand}
 use Rattle.drill_lines.specs.Lines.{trimmed}
 use Rattle.drill_lines.specs.Meaning.{meaning}
 use Rattle.drill_text.specs.Lines.{Splits}
 use Rattle.drill_text.specs.Lookback.{settings_after}
-use Rattle.drill_text.specs.Rules.{broken_rule}
 use Rattle.drill_text.specs.Holes.{holes_of}
-use Rattle.drill_text.specs.Reading.{line_limit, text_limit, is_finish, Reads}
+use Rattle.drill_text.specs.Reading.{is_finish, Reads}
+use Rattle.grid_units.specs.Limits.{text_limit, line_limit}
+use Rattle.drill_text.specs.Rules.{broken_rule}
 
 -- these commands and those that the lines spell behind them, each line by the settings of the commands before it (docs/DEFINITIONS.md, Drill files)
 abbrev pub spelled_behind : List DrillCommand → List (List ℕ) → Result (List DrillCommand) Reason
@@ -36,14 +37,10 @@ pub record SpellsText (text : List ℕ) (commands : List DrillCommand) : Type 0 
   pub spelling : spelled_behind [] (lines ++ rest ∷ []) ≡ Ok commands
   pub ends : list_any is_finish commands ≡ true
 
--- no rule applies at any position of the list (docs/DEFINITIONS.md, Drill files)
-abbrev pub IsLegal : List DrillCommand → Type 0
-IsLegal commands = breaks broken_rule commands ≡ []
-
 -- a drill text of these commands (docs/DEFINITIONS.md, Drill files)
 pub record IsDrillText (text : List ℕ) (commands : List DrillCommand) : Type 0 where
   pub spells : SpellsText text commands
-  pub legal : IsLegal commands
+  pub legal : IsLegal broken_rule commands
 
 -- A whole text is a drill text whose commands drill these holes, or has this fault (docs/DEFINITIONS.md, Drill files).
 abbrev pub ReadsHoles : List ℕ → Result (List GridHole) Fault → Type 0

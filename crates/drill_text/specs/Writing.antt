@@ -10,8 +10,9 @@ use Rattle.drill_lines.specs.declared.command.DrillCommand.{DrillCommand}
 use Rattle.drill_lines.specs.Writing.{canonical, is_sayable}
 use Rattle.drill_text.specs.Lines.{bytes_of}
 use Rattle.drill_text.specs.Lookback.{part_named}
-use Rattle.drill_text.specs.Reading.{text_limit, Reads}
+use Rattle.drill_text.specs.Reading.{Reads}
 use Rattle.drill_text.specs.Texts.{IsDrillText}
+use Rattle.grid_units.specs.Limits.{text_limit}
 
 -- the part of a file behind one more command (docs/FORMATS.md, Drill lines)
 abbrev pub part_behind : Part → DrillCommand → Part

@@ -1,7 +1,7 @@
 //! Hits at decimals with points, as most lines are: read in one pass, from the first byte of a line to its LF.
 
 ghost use Rattle.std.specs.Prelude.{IfSome};
-ghost use Rattle.drill_text.specs.Hits.{NamesDecimal, EndsLine, LeadsHit};
+ghost use Rattle.drill_text.specs.Inner.Hits.{NamesDecimal, EndsLine, LeadsHit};
 
 use drill_lines::Coordinates;
 use grid_units::Dec;

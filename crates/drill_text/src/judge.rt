@@ -6,8 +6,8 @@ ghost use Rattle.indexmap.specs.IndexMap.{get};
 ghost use Rattle.drill_text.specs.Rules.{same_unit, same_zeros, same_format};
 ghost use Rattle.drill_text.specs.Lookback.{is_size_digit, sizes_named, file_format};
 
-use drill_lines::{Coordinate, Coordinates, DrillCommand, Format, LineFail, Part, Settings};
-use grid_units::{Dec, Hole, Point, Reason, Text, Unit, Zeros};
+use drill_lines::{Coordinate, Coordinates, DrillCommand, Format, Part, Settings};
+use grid_units::{Dec, Hole, Point, Reason, Stop, Text, Unit, Zeros};
 use indexmap::IndexMap;
 use std::alloc::{AllocError, Global};
 
@@ -31,7 +31,7 @@ pub(crate) struct Judge {
 
 impl Judge {
     ghost use Rattle.std.specs.Prelude.{◌≡◌, [], ◌∷◌, ◌++◌, List, OnOk, IfOk, IfErr, length, Some, None, Ok, true, false};
-    ghost use Rattle.drill_lines.specs.declared.line.LineFail.TheVariants.{Memory};
+    ghost use Rattle.grid_units.specs.declared.stop.Stop.TheVariants.{Memory};
     ghost use Rattle.std.specs.Option.{option_or};
     ghost use Rattle.std.specs.List.{find};
     ghost use Rattle.drill_lines.specs.declared.command.DrillCommand.{DrillCommand as TheCommand};
@@ -87,7 +87,7 @@ impl Judge {
     }
 
     /// Judges one more command, and takes it in where it breaks no rule.
-    pub(crate) fn step(&mut self, command: &DrillCommand) -> Result<(), LineFail>
+    pub(crate) fn step(&mut self, command: &DrillCommand) -> Result<(), Stop>
         ensures { (before : List TheCommand) → Knows self.old before → Judges before command.now self.new result }
     {
         match command {
@@ -98,12 +98,12 @@ impl Judge {
     }
 
     /// Judges a command that drills nothing, and takes it in where it breaks no rule.
-    fn settle(&mut self, command: &DrillCommand) -> Result<(), LineFail>
+    fn settle(&mut self, command: &DrillCommand) -> Result<(), Stop>
         requires { drills command.now ≡ false }
         ensures { (before : List TheCommand) → Knows self.old before → Judges before command.now self.new result }
     {
         if let Some(reason) = self.broken_rule(command) {
-            return Err(LineFail::Refused(reason));
+            return Err(Stop::Refused(reason));
         }
         self.take(command)?;
         Ok(())
@@ -256,7 +256,7 @@ impl Judge {
     }
 
     /// Drills at a point, where that breaks no rule.
-    fn drill_at(&mut self, point: &Coordinates) -> Result<(), LineFail>
+    fn drill_at(&mut self, point: &Coordinates) -> Result<(), Stop>
         ensures { Drills self.old point.now nowhere self.new result }
     {
         let hole = self.hit_hole(point)?;
@@ -281,7 +281,7 @@ impl Judge {
     }
 
     /// Drills from one point to another, where that breaks no rule.
-    fn drill_slot(&mut self, first: &Coordinates, second: &Coordinates) -> Result<(), LineFail>
+    fn drill_slot(&mut self, first: &Coordinates, second: &Coordinates) -> Result<(), Stop>
         ensures { Drills self.old first.now second.now self.new result }
     {
         let hole = self.hole(first, second)?;
@@ -303,7 +303,7 @@ impl Judge {
     }
 
     /// Adds a hole.
-    fn add(&mut self, hole: Hole) -> Result<(), LineFail>
+    fn add(&mut self, hole: Hole) -> Result<(), Stop>
         ensures told { told self.new ≡ told self.old }
         ensures tools { self.new.tools ≡ self.old.tools }
         ensures holes { OnOk result (self.new.holes.items ≡ self.old.holes.items ++ hole ∷ []) }
@@ -311,7 +311,7 @@ impl Judge {
     {
         match self.holes.push(hole) {
             Ok(()) => Ok(()),
-            Err(_) => Err(LineFail::Memory),
+            Err(_) => Err(Stop::Memory),
         }
     }
 

@@ -17,8 +17,8 @@ use crate::drill::Drill;
 use crate::hits::leading_hit;
 use crate::judge::Judge;
 use crate::kept::{Keeping, Kept};
-use drill_lines::{Coordinates, DrillCommand, LineFail, read_line};
-use grid_units::{Fail, Fault, Hole, Reason};
+use drill_lines::{Coordinates, DrillCommand, read_line};
+use grid_units::{Fail, Fault, Hole, Reason, Stop};
 use memchr::memchr;
 use std::alloc::Global;
 
@@ -79,8 +79,8 @@ fn keep(
             kept.add(command)?;
             Ok(())
         }
-        Err(LineFail::Memory) => Err(Fail::Memory),
-        Err(LineFail::Refused(reason)) => Err(refusal(place, byte, reason)),
+        Err(Stop::Memory) => Err(Fail::Memory),
+        Err(Stop::Refused(reason)) => Err(refusal(place, byte, reason)),
     }
 }
 
@@ -100,15 +100,15 @@ fn spell(
     match read_line(alloc, judge.settings(), line) {
         Ok(None) => Ok(()),
         Ok(Some(command)) => keep(place, byte, command, judge, kept),
-        Err(LineFail::Memory) => Err(Fail::Memory),
-        Err(LineFail::Refused(reason)) => Err(refusal(place, byte, reason)),
+        Err(Stop::Memory) => Err(Fail::Memory),
+        Err(Stop::Refused(reason)) => Err(refusal(place, byte, reason)),
     }
 }
 
 impl Progress {
     ghost use Rattle.std.specs.Prelude.{[], ◌∷◌, ◌++◌, List};
     ghost use Rattle.drill_lines.specs.declared.command.Part.TheVariants as part;
-    ghost use Rattle.drill_text.specs.Hits.{LeadsHit};
+    ghost use Rattle.drill_text.specs.Inner.Hits.{LeadsHit};
     ghost use Rattle.drill_text.specs.Standing.{Advances, Refuses, RefusesText, Holds};
 
     /// Nothing is read.

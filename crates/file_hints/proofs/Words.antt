@@ -1,14 +1,13 @@
 -- Words and numbers of a name.
-use Rattle.std.proofs.Common.{◌≡◌, ◌∙◌, ◌<◌, ◌≤◌, ◌^◌, ◌==◌, ◌&&◌, ◌||◌, ◌-◌, ℕ, min, List, [], ◌∷◌, Bool, true, false, not, Option, Some, length, map, take, reverse, Bor, unwrap_or, arith, refl, ap, sym}
+use Rattle.std.proofs.Common.{◌≡◌, ◌∙◌, ◌<◌, ◌≤◌, ◌||◌, ◌-◌, ℕ, min, List, [], ◌∷◌, Bool, true, false, Option, Some, length, map, take, reverse, Bor, unwrap_or, arith, refl, ap, sym}
 use mathlib.Core.List.{reverse_aux}
 use Rattle.std.specs.Prelude.{if◌then◌else◌}
-use Rattle.std.specs.List.{list_all, list_any, find, AllByRecursion}
+use Rattle.std.specs.List.{list_any, find}
 use Rattle.std.specs.Option.{option_map}
-use Rattle.std.proofs.lemmas.Bool.{false≢true, le-leb}
+use Rattle.std.proofs.lemmas.Bool.{le-leb}
 use Rattle.std.proofs.lemmas.List.{length-map, take-map, take_all}
-use Rattle.std.proofs.Math.Nat.{pow-le-pow_right}
-use Rattle.grid_units.specs.Numbers.{is_digit, is_digits, value}
-use Rattle.grid_units.proofs.Digits.{value_lt}
+use Rattle.grid_units.specs.Numbers.{is_digits, value}
+use Rattle.grid_units.proofs.Digits.{nine_digits}
 use Rattle.file_hints.specs.Names.{has_non_plated, is_number_of, number_of, stem_of}
 
 pub any_map : {X Y : Type 0} (p : Y → Bool) (f : X → Y) (xs : List X) → list_any (λ x. p (f x)) xs ≡ list_any p (map f xs)
@@ -23,21 +22,6 @@ find_map {X} {Y} p f (x ∷ xs) = by (p (f x)) (find_map p f xs)
         → option_map f (if b then Some x else find (λ x. p (f x)) xs) ≡ (if b then Some (f x) else find p (map f xs))
     by true e = refl
     by false e = e
-
-both_true : (a b : Bool) → (a && b) ≡ true → (a ≡ true) × (b ≡ true)
-both_true true b h = (refl, h)
-both_true false b h = absurd (false≢true h)
-
-each_digit : (xs : List ℕ) → list_all is_digit xs ≡ true → AllByRecursion (λ b. is_digit b ≡ true) xs
-each_digit [] h = tt
-each_digit (x ∷ xs) h = let k = both_true (is_digit x) (list_all is_digit xs) h in (k.0, each_digit xs k.1)
-
--- at most nine digits spell less than a billion
-pub nine_digits : (text : List ℕ) → is_digits text ≡ true → length text ≤ 9 → value text ≤ 999999999
-nine_digits text digits short =
-    let lt : value text < 10 ^ length text = value_lt text (each_digit text (both_true (not (length text == 0)) (list_all is_digit text) digits).1) in
-    let p : 10 ^ length text ≤ 10 ^ 9 = pow-le-pow_right {n = 10} (omega arith) {i = length text} {j = 9} short in
-    omega (arith, lt, p)
 
 -- the number that so many digits spell
 pub number_is : (most : ℕ) (text : List ℕ) (n : ℕ) → most ≤ 9 → is_digits text ≡ true → length text ≤ most → n ≡ min (value text) 999999999 → Some n ≡ number_of most text

@@ -19,12 +19,12 @@ use Rattle.gerber_rows.specs.declared.command.Action.TheVariants.{Plot, Move, Fl
 use Rattle.gerber_rows.specs.Items.{is_line_break, ender, IsItem, is_end}
 use Rattle.gerber_rows.specs.Numbers.{int_of, nat_of}
 use Rattle.gerber_rows.specs.Rows.{first_fit, field, modes_of}
-use Rattle.gerber_rows.specs.Words.{coordinate, kind, Fields, fields, names_action, is_operation, operands, operate, words, word}
+use Rattle.gerber_rows.specs.Words.{coordinate, kind, Fields, fields, names_action, is_operation, operands, operate, words, word, is_plot}
 use Rattle.gerber_rows.specs.Pieces.{extended}
 use Rattle.gerber_rows.specs.Meaning.{meaning, front_of}
-use Rattle.gerber_rows.specs.Beginnings.{begins_with_coordinate}
+use Rattle.gerber_rows.specs.Inner.Beginnings.{begins_with_coordinate}
 use Rattle.gerber_rows.specs.Canonical.{action_code}
-use Rattle.gerber_rows.specs.Plain.{BeginsWith, BeginsWithInt, BeginsWithCoordinate, coordinate_word, front_word, is_plain_plot}
+use Rattle.gerber_rows.specs.Plain.{BeginsWith, BeginsWithInt, BeginsWithCoordinate, coordinate_word, front_word}
 use Rattle.grid_units.proofs.Binds.{bind_ok}
 use Rattle.gerber_rows.proofs.Beginnings.{fits_front}
 use Rattle.gerber_rows.proofs.Numerals.{spells}
@@ -183,7 +183,7 @@ fields_found x y i j action hx hy hi hj =
 
 -- ---- what it spells
 
-kind_found : (plotting offsets : Bool) (action : Action) → (is_plain_plot action || not offsets) ≡ true → kind plotting offsets (Some (48 ∷ digit_of action ∷ [])) ≡ Ok action
+kind_found : (plotting offsets : Bool) (action : Action) → (is_plot action || not offsets) ≡ true → kind plotting offsets (Some (48 ∷ digit_of action ∷ [])) ≡ Ok action
 unfolding kind nat_of
 kind_found plotting false Plot h = refl
 kind_found plotting true Plot h = refl
@@ -196,7 +196,7 @@ left_out : coordinate None ≡ Ok None
 unfolding coordinate
 left_out = refl
 
-operates : (plotting : Bool) (m : Option Interpolation) (x y i j : Option (List ℕ)) (action : Action) (v w s t : Option ℤ) → coordinate x ≡ Ok v → coordinate y ≡ Ok w → coordinate i ≡ Ok s → coordinate j ≡ Ok t → (is_plain_plot action || not (is_some i || is_some j)) ≡ true
+operates : (plotting : Bool) (m : Option Interpolation) (x y i j : Option (List ℕ)) (action : Action) (v w s t : Option ℤ) → coordinate x ≡ Ok v → coordinate y ≡ Ok w → coordinate i ≡ Ok s → coordinate j ≡ Ok t → (is_plot action || not (is_some i || is_some j)) ≡ true
     → operate plotting m (found x y i j action) ≡ Ok (modes_of m ++ Operate action v w s t ∷ [])
 unfolding operate operands
 operates plotting m x y i j action v w s t hv hw hs ht may =
@@ -284,7 +284,7 @@ begins_so None None None tail h = absurd (false≢true h)
 long : (x y i j : Option (List ℕ)) (action : Action) → 0 < length (tail_x x y i j action)
 long x y i j action = omega (arith, length-append (coordinate_word 88 x) (tail_y y i j action), length-append (coordinate_word 89 y) (tail_i i j action), length-append (coordinate_word 73 i) (tail_j j action), length-append (coordinate_word 74 j) (code action))
 
-word_means : (plotting : Bool) (m : Option Interpolation) (x y i j : Option (List ℕ)) (action : Action) (v w s t : Option ℤ) → AreNumbers x → AreNumbers y → AreNumbers i → AreNumbers j → (is_some m || (is_some x || is_some y)) ≡ true → (is_plain_plot action || not (is_some i || is_some j)) ≡ true
+word_means : (plotting : Bool) (m : Option Interpolation) (x y i j : Option (List ℕ)) (action : Action) (v w s t : Option ℤ) → AreNumbers x → AreNumbers y → AreNumbers i → AreNumbers j → (is_some m || (is_some x || is_some y)) ≡ true → (is_plot action || not (is_some i || is_some j)) ≡ true
     → coordinate x ≡ Ok v → coordinate y ≡ Ok w → coordinate i ≡ Ok s → coordinate j ≡ Ok t
     → word plotting (body m x y i j action) ≡ Ok (modes_of m ++ Operate action v w s t ∷ [])
 unfolding word
@@ -394,7 +394,7 @@ front_long (Some Counterclockwise) = omega arith
 
 -- an interpolation that may stand in front, coordinates and a code make an item
 pub plain_item : (bytes behind_m behind_x behind_y behind_i rest more : List ℕ) (m : Option Interpolation) (v w s t : Option ℤ) (action : Action) → bytes ≡ front_word m ++ behind_m → BeginsWithCoordinate 88 behind_m v behind_x → BeginsWithCoordinate 89 behind_x w behind_y → BeginsWithCoordinate 73 behind_y s behind_i → BeginsWithCoordinate 74 behind_i t rest
-    → rest ≡ action_code action ++ more → (is_some m || (is_some v || is_some w)) ≡ true → (is_plain_plot action || not (is_some s || is_some t)) ≡ true
+    → rest ≡ action_code action ++ more → (is_some m || (is_some v || is_some w)) ≡ true → (is_plot action || not (is_some s || is_some t)) ≡ true
     → BeginsWith bytes (length bytes - length rest + 4) (modes_of m ++ Operate action v w s t ∷ [])
 plain_item bytes behind_m behind_x behind_y behind_i rest more m v w s t action front_is hx hy hi hj e some may =
     let x = hx.run in
@@ -415,7 +415,7 @@ plain_item bytes behind_m behind_x behind_y behind_i rest more m v w s t action 
     let len : length bytes - length rest + 4 ≡ length item = omega (arith, ap length whole, length-append item more, ap length e, length-append c more, code_long action, size) in
     let front : take (length bytes - length rest + 4) bytes ≡ item = (λ k. take (len k) (whole k)) ∙ take-append_seam item more in
     let there : (is_some m || (is_some x || is_some y)) ≡ true = (λ k. is_some m || (same_coordinate x v hx.value_is k || same_coordinate y w hy.value_is k)) ∙ some in
-    let plots : (is_plain_plot action || not (is_some i || is_some j)) ≡ true = (λ k. is_plain_plot action || not (same_coordinate i s hi.value_is k || same_coordinate j t hj.value_is k)) ∙ may in
+    let plots : (is_plot action || not (is_some i || is_some j)) ≡ true = (λ k. is_plot action || not (same_coordinate i s hi.value_is k || same_coordinate j t hj.value_is k)) ∙ may in
     let what : List Command = modes_of m ++ Operate action v w s t ∷ [] in
     let filled : 0 < length (body m x y i j action) = omega (arith, length-append f (tail_x x y i j action), long x y i j action) in
     let stands : Stands item what = subst (λ (z : List ℕ). Stands z what) (item_is m x y i j action) (stands_by (body m x y i j action) what filled (body_stays m x y i j action hx.numbers hy.numbers hi.numbers hj.numbers) (λ plotting. word_means plotting m x y i j action v w s t hx.numbers hy.numbers hi.numbers hj.numbers there plots hx.value_is hy.value_is hi.value_is hj.value_is)) in

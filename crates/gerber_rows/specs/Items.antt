@@ -27,6 +27,10 @@ pub record IsItem (bytes : List ℕ) : Type 0 where
   pub unfinished : IsUnfinished front
   pub whole : bytes ≡ front ++ ender front ∷ []
 
+-- the last byte is the end of an item that begins as the bytes before it do (docs/FORMATS.md, Cutting)
+abbrev pub IsEnded : List ℕ → Type 0
+IsEnded bytes = (front : List ℕ) × (bytes ≡ front ++ ender front ∷ [])
+
 -- `M02` or `M2`, the end of the text (Gerber format, End-of-file M02)
 abbrev pub is_end : List ℕ → Bool
 is_end bytes = bytes_eq bytes (codes "M02*") || bytes_eq bytes (codes "M2*")

@@ -1,4 +1,3 @@
-pub mod Beginnings
 pub mod Canonical
 pub mod Coordinates
 pub mod Items
@@ -7,5 +6,5 @@ pub mod Numbers
 pub mod Pieces
 pub mod Plain
 pub mod Rows
-pub mod Runs
 pub mod Words
+pub mod Inner

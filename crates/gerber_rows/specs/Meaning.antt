@@ -1,9 +1,7 @@
 -- What an item spells.
-use Rattle.std.specs.Prelude.{◌≡◌, ℕ, ◌-◌, Bool, ◌==◌, List, [], ◌∷◌, length, take, if◌then◌else◌, Result, Ok, Err}
+use Rattle.std.specs.Prelude.{ℕ, ◌-◌, Bool, ◌==◌, List, [], ◌∷◌, length, take, if◌then◌else◌, Err}
 use Rattle.grid_units.specs.declared.fault.Reason.{Reason}
 use Rattle.grid_units.specs.declared.fault.Reason.TheVariants.{BadWord}
-use Rattle.gerber_rows.specs.declared.item.ItemFail.{ItemFail}
-use Rattle.gerber_rows.specs.declared.item.ItemFail.TheVariants as fails
 use Rattle.gerber_rows.specs.Rows.{Meaning}
 use Rattle.gerber_rows.specs.Pieces.{extended}
 use Rattle.gerber_rows.specs.Words.{word}
@@ -16,13 +14,3 @@ front_of bytes = take (length bytes - 1) bytes
 unfoldable pub meaning : Bool → List ℕ → Meaning
 meaning plotting [] = Err BadWord
 meaning plotting (b ∷ bs) = if b == 37 then extended (front_of bs) else word plotting (front_of (b ∷ bs))
-
--- The failure is the reason of this answer, want of memory aside (docs/DEFINITIONS.md, Answers).
-abbrev pub Fails : {X : Type 0} → ItemFail → Result X Reason → Type 0
-Fails fails.Memory answer = Unit {0}
-Fails (fails.Refused reason) answer = answer ≡ Err reason
-
--- What a call returned is this answer, want of memory aside (docs/DEFINITIONS.md, Answers).
-abbrev pub Gives : {X : Type 0} → Result X ItemFail → Result X Reason → Type 0
-Gives (Ok x) answer = answer ≡ Ok x
-Gives (Err e) answer = Fails e answer

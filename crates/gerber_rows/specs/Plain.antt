@@ -2,8 +2,6 @@
 use Rattle.std.specs.Prelude.{◌≡◌, ℕ, ◌<◌, ◌≤◌, Bool, true, false, List, [], ◌∷◌, ◌++◌, length, take, Option, None, Some, IfSome, Ok, codes, ℤ}
 use Rattle.std.specs.List.{AllByRecursion}
 use Rattle.grid_units.specs.Numbers.{is_number}
-use Rattle.gerber_rows.specs.declared.command.Action.{Action}
-use Rattle.gerber_rows.specs.declared.command.Action.TheVariants.{Plot, Move, Flash}
 use Rattle.gerber_rows.specs.declared.command.Command.{Command}
 use Rattle.gerber_rows.specs.declared.command.Interpolation.{Interpolation}
 use Rattle.gerber_rows.specs.declared.command.Interpolation.TheVariants.{Linear, Clockwise, Counterclockwise}
@@ -37,12 +35,6 @@ front_word None = []
 front_word (Some Linear) = codes "G01"
 front_word (Some Clockwise) = codes "G02"
 front_word (Some Counterclockwise) = codes "G03"
-
--- the operation is a plot, beside which offsets may stand (Gerber format, Operations D01, D02, D03)
-abbrev pub is_plain_plot : Action → Bool
-is_plain_plot Plot = true
-is_plain_plot Move = false
-is_plain_plot Flash = false
 
 -- a coordinate's letter and its run, or nothing where it is left out (Gerber format, Coordinate data)
 abbrev pub coordinate_word : ℕ → Option (List ℕ) → List ℕ

@@ -1,5 +1,5 @@
 -- What a word spells: the rows of the table of words, in its order.
-use Rattle.std.specs.Prelude.{ℕ, Bool, false, not, ◌&&◌, ◌||◌, ◌==◌, nat_le, List, [], ◌∷◌, ◌++◌, length, drop, if◌then◌else◌, Option, None, Some, unwrap_or, is_some, Result, Ok, Err, is_ok, codes, ℤ}
+use Rattle.std.specs.Prelude.{ℕ, Bool, true, false, not, ◌&&◌, ◌||◌, ◌==◌, nat_le, List, [], ◌∷◌, ◌++◌, length, drop, if◌then◌else◌, Option, None, Some, unwrap_or, is_some, Result, Ok, Err, is_ok, codes, ℤ}
 use Rattle.std.specs.Option.{option_map, option_or}
 use Rattle.std.specs.List.{list_any, list_all, prefix_len, take_while}
 use Rattle.std.specs.Str.{bytes_eq}
@@ -119,6 +119,12 @@ select_row text = option_or (option_map alone (numbered (codes "D") text)) (opti
 unfoldable pub coordinate : Option (List ℕ) → Result (Option ℤ) Reason
 coordinate None = Ok None
 coordinate (Some run) = int_of run >>= λ n. Ok (Some n)
+
+-- a plot, beside which alone offsets may stand (Gerber format, Operations D01, D02, D03)
+abbrev pub is_plot : Action → Bool
+is_plot Plot = true
+is_plot Move = false
+is_plot Flash = false
 
 -- an operation with coordinates; offsets stand with a plot alone (Gerber format, Operations D01, D02, D03)
 abbrev pub action_with : Bool → ℕ → Result Action Reason

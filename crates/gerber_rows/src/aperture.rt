@@ -4,15 +4,14 @@ ghost use Rattle.std.specs.Prelude.{◌≡◌, ◌≤◌, ◌<◌, ◌+◌, ◌=
 ghost use Rattle.std.specs.List.{list_all, fold};
 ghost use Rattle.std.specs.Option.{option_copied};
 ghost use Rattle.grid_units.specs.Numbers.{is_number};
-ghost use Rattle.gerber_rows.specs.Meaning.{Gives};
+ghost use Rattle.grid_units.specs.Results.{Gives};
 ghost use Rattle.gerber_rows.specs.Pieces.{divided, divided_if, begins_name, goes_on_name, is_name, standard, least_sizes, most_sizes, add_size, are_sizes, sizes_of, aperture_number, define_standard, define_named, define_as, before_comma, after_comma, define, definition, macro_text};
 
 use crate::command::{Boxed, Command, Pieces, Sizes, Spelled, Standard, Template};
-use crate::item::ItemFail;
 use crate::number::read_nat;
 use crate::word::plain_len;
 use grid_units::numbers::{digits_len, is_digit, is_number};
-use grid_units::{Dec, Reason, Text, both};
+use grid_units::{Dec, Reason, Stop, Text, both};
 use std::alloc::{AllocError, Global};
 
 /// Whether a name may begin with this byte.
@@ -190,7 +189,7 @@ fn define_standard(
     digits: &[u8],
     aperture: Standard,
     parameters: Option<&[u8]>,
-) -> Result<Spelled, ItemFail>
+) -> Result<Spelled, Stop>
     ensures { Gives result (define_standard digits.now aperture (option_copied parameters.entry)) }
 {
     let (number, sizes) = both(aperture_number(digits), sizes_of(aperture, parameters))?;
@@ -215,7 +214,7 @@ fn define_named(
     digits: &[u8],
     name: &[u8],
     parameters: Option<&[u8]>,
-) -> Result<Spelled, ItemFail>
+) -> Result<Spelled, Stop>
     ensures { Gives result (define_named digits.now name.now (option_copied parameters.entry)) }
 {
     let number = aperture_number(digits)?;
@@ -231,7 +230,7 @@ fn define_as(
     digits: &[u8],
     name: &[u8],
     parameters: Option<&[u8]>,
-) -> Result<Spelled, ItemFail>
+) -> Result<Spelled, Stop>
     ensures { Gives result (define_as digits.now name.now (standard name.now) (option_copied parameters.entry)) }
 {
     match standard(name) {
@@ -261,20 +260,20 @@ fn before_comma(text: &[u8]) -> &[u8]
 
 /// A number's digits, and a template with its parameters.
 #[tactic(auto, unfolding(crate::specs::Pieces::define))]
-fn define(alloc: Global, digits: &[u8], text: &[u8]) -> Result<Spelled, ItemFail>
+fn define(alloc: Global, digits: &[u8], text: &[u8]) -> Result<Spelled, Stop>
     ensures { Gives result (define digits.now text.now) }
 {
     let name = before_comma(text);
     if is_name(name) {
         define_as(alloc, digits, name, after_comma(text))
     } else {
-        Err(ItemFail::Refused(Reason::BadWord))
+        Err(Stop::Refused(Reason::BadWord))
     }
 }
 
 /// The definition of an aperture, from its number on.
 #[tactic(auto, unfolding(crate::specs::Pieces::definition))]
-pub(crate) fn read_define(alloc: Global, text: &[u8]) -> Result<Spelled, ItemFail>
+pub(crate) fn read_define(alloc: Global, text: &[u8]) -> Result<Spelled, Stop>
     ensures { Gives result (definition text.now) }
 {
     let (digits, rest) = text.split_at(digits_len(text));
@@ -297,12 +296,12 @@ fn copy_pieces(alloc: Global, text: Option<&[u8]>) -> Result<Pieces, AllocError>
 
 /// The definition of a macro.
 #[tactic(auto, unfolding(crate::specs::Pieces::macro_text))]
-pub(crate) fn read_macro(alloc: Global, text: &[u8]) -> Result<Spelled, ItemFail>
+pub(crate) fn read_macro(alloc: Global, text: &[u8]) -> Result<Spelled, Stop>
     ensures { Gives result (macro_text text.now) }
 {
     let (name, pieces) = split_first(b'*', text);
     if !is_name(name) || standard(name).is_some() {
-        return Err(ItemFail::Refused(Reason::BadWord));
+        return Err(Stop::Refused(Reason::BadWord));
     }
     let name = Text::from_slice(alloc, name)?;
     let pieces = Boxed::new(alloc, copy_pieces(alloc, pieces)?)?;

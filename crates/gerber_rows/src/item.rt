@@ -1,46 +1,41 @@
 //! An item of a Gerber text.
 
-ghost use Rattle.std.specs.Prelude.{◌≡◌};
-ghost use Rattle.gerber_rows.specs.declared.item.ItemFail.TheVariants.{Memory, Refused};
-ghost use Rattle.gerber_rows.specs.Items.{is_end};
-ghost use Rattle.gerber_rows.specs.Meaning.{meaning, front_of, Gives};
+ghost use Rattle.std.specs.Prelude.{◌≡◌, ◌↔◌, IsTrue};
+ghost use Rattle.gerber_rows.specs.Items.{is_end, ender, IsEnded};
+ghost use Rattle.gerber_rows.specs.Meaning.{meaning, front_of};
+ghost use Rattle.grid_units.specs.Results.{Gives};
 
 use crate::command::Spelled;
 use crate::piece::read_extended;
 use crate::word::read_word;
-use grid_units::Reason;
-use std::alloc::{AllocError, Global};
-
-/// Why an item gives no commands.
-#[derive(Clone, Copy, Debug, PartialEq, Eq)]
-pub enum ItemFail {
-    /// A growth was refused.
-    Memory,
-    /// The item was refused.
-    Refused(Reason),
-}
-
-impl From<AllocError> for ItemFail {
-    ghost from_gives = { λ _ e. e ≡ Memory };
-
-    fn from(_error: AllocError) -> ItemFail {
-        ItemFail::Memory
-    }
-}
-
-impl From<Reason> for ItemFail {
-    ghost from_gives = { λ reason e. e ≡ Refused reason };
-
-    fn from(reason: Reason) -> ItemFail {
-        ItemFail::Refused(reason)
-    }
-}
+use grid_units::{Reason, Stop};
+use std::alloc::Global;
 
 /// Whether the item is the end of the text.
 pub fn is_text_end(bytes: &[u8]) -> bool
     ensures { result ≡ is_end bytes.now }
 {
     bytes == b"M02*".as_slice() || bytes == b"M2*".as_slice()
+}
+
+/// The byte that ends an item which begins so.
+pub fn end_of(bytes: &[u8]) -> u8
+    ensures { result ≡ ender bytes.now }
+{
+    match bytes {
+        [b'%', ..] => b'%',
+        _ => b'*',
+    }
+}
+
+/// Whether the last of the bytes ends an item which begins as they do.
+pub fn is_ended(bytes: &[u8]) -> bool
+    ensures { IsTrue result ↔ IsEnded bytes.now }
+{
+    match bytes.split_last() {
+        Some((last, front)) => *last == end_of(front),
+        None => false,
+    }
 }
 
 /// All bytes but the last.
@@ -53,17 +48,19 @@ fn front(bytes: &[u8]) -> &[u8]
     }
 }
 
-/// The commands of an item, where the last operation before it was a plot or not.
+/// The commands of an item, where the last operation before it was a plot or not. An item has no line breaks, and its last
+/// byte is its end: a `%` where it begins with `%`, else a `*` ([`is_ended`]).
 ///
 /// # Errors
 ///
 /// `Memory` where a growth was refused, else the first reason of the reading order.
 #[tactic(auto, unfolding(crate::specs::Meaning::meaning))]
-pub fn read_item(alloc: Global, plotting: bool, bytes: &[u8]) -> Result<Spelled, ItemFail>
+pub fn read_item(alloc: Global, plotting: bool, bytes: &[u8]) -> Result<Spelled, Stop>
+    requires item { IsEnded bytes.now }
     ensures { Gives result (meaning plotting bytes.now) }
 {
     match bytes {
-        [] => Err(ItemFail::Refused(Reason::BadWord)),
+        [] => Err(Stop::Refused(Reason::BadWord)),
         [b'%', rest @ ..] => read_extended(alloc, front(rest)),
         _ => read_word(alloc, plotting, front(bytes)),
     }

@@ -17,6 +17,6 @@ pub use command::{
     Action, AttributeKind, Block, Boxed, Command, Coordinate, Format, Interpolation, Pieces,
     QuadrantMode, Sizes, Spelled, Standard, Template,
 };
-pub use item::{ItemFail, is_text_end, read_item};
-pub use plain::{PlainOperation, plain_operation};
+pub use item::{end_of, is_ended, is_text_end, read_item};
+pub use plain::{PlainOperation, is_plot, plain_operation};
 pub use word::{comments_negative, is_negative_image};

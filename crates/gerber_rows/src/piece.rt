@@ -3,22 +3,20 @@
 ghost use Rattle.std.specs.Prelude.{◌≡◌, ◌==◌, ◌||◌, ◌&&◌, ℤ, not, is_some, unwrap_or, [], ◌++◌, IfSome, IfNone, codes, true, false};
 ghost use Rattle.std.specs.List.{list_all};
 ghost use Rattle.std.specs.Option.{option_copied, option_map};
-ghost use Rattle.grid_units.specs.Results.{both};
+ghost use Rattle.grid_units.specs.Results.{both, Gives};
 ghost use Rattle.grid_units.specs.Numbers.{is_number, is_digit, dec_of};
 ghost use Rattle.gerber_rows.specs.Numbers.{nat_of};
 ghost use Rattle.gerber_rows.specs.Words.{is};
-ghost use Rattle.gerber_rows.specs.Meaning.{Gives};
 ghost use Rattle.gerber_rows.specs.Rows.{first_fit, behind};
 ghost use Rattle.gerber_rows.specs.Pieces.{system_row, format, format_fields, format_row, unit_piece_row, polarity_row, mirror_row, run_behind, turn, scale, transform_row, block_fields, repeat, repeat_start, repeat_row, file_attribute, attribute, removal, may_be, turns_nothing, axes_are, leaves, plain_row, axes_row, negative_row, old_piece_row, block_row, older_pieces, pieces_from_attributes, pieces_from_polarity, is_several, last_byte, before_last, pieces, piece, extended};
 
 use crate::aperture::{read_define, read_macro};
 use crate::command::{AttributeKind, Block, Command, Format, Spelled};
 use crate::fields::{behind, digits_field, number_field};
-use crate::item::ItemFail;
 use crate::number::read_nat;
 use crate::word::{contains, is_negative_image};
 use grid_units::numbers::{is_digit, is_number};
-use grid_units::{Dec, Reason, Text, Unit, both};
+use grid_units::{Dec, Reason, Stop, Text, Unit, both};
 use std::alloc::Global;
 
 type Row = Option<Result<Spelled, Reason>>;
@@ -240,11 +238,11 @@ fn read_repeat(text: &[u8]) -> Row
 
 /// A file attribute.
 #[tactic(auto, unfolding(crate::specs::Pieces::file_attribute))]
-fn read_file_attribute(alloc: Global, text: &[u8]) -> Result<Spelled, ItemFail>
+fn read_file_attribute(alloc: Global, text: &[u8]) -> Result<Spelled, Stop>
     ensures { Gives result (file_attribute text.now) }
 {
     if is_negative_image(text) {
-        return Err(ItemFail::Refused(Reason::NegativeImage));
+        return Err(Stop::Refused(Reason::NegativeImage));
     }
     let text = Text::from_slice(alloc, text)?;
     Ok(Spelled::one(Command::Attribute(AttributeKind::File, text)))
@@ -252,7 +250,7 @@ fn read_file_attribute(alloc: Global, text: &[u8]) -> Result<Spelled, ItemFail>
 
 /// An attribute of apertures or objects.
 #[tactic(auto, unfolding(crate::specs::Pieces::attribute))]
-fn read_attribute(alloc: Global, kind: AttributeKind, text: &[u8]) -> Result<Spelled, ItemFail>
+fn read_attribute(alloc: Global, kind: AttributeKind, text: &[u8]) -> Result<Spelled, Stop>
     ensures { Gives result (attribute kind text.now) }
 {
     let text = Text::from_slice(alloc, text)?;
@@ -261,7 +259,7 @@ fn read_attribute(alloc: Global, kind: AttributeKind, text: &[u8]) -> Result<Spe
 
 /// Attributes that are deleted.
 #[tactic(auto, unfolding(crate::specs::Pieces::removal))]
-fn read_removal(alloc: Global, text: &[u8]) -> Result<Spelled, ItemFail>
+fn read_removal(alloc: Global, text: &[u8]) -> Result<Spelled, Stop>
     ensures { Gives result (removal text.now) }
 {
     let text = Text::from_slice(alloc, text)?;
@@ -405,7 +403,7 @@ fn read_older(text: &[u8]) -> Result<Spelled, Reason>
 }
 
 /// The rows from attributes on.
-fn read_from_attributes(alloc: Global, text: &[u8]) -> Result<Spelled, ItemFail>
+fn read_from_attributes(alloc: Global, text: &[u8]) -> Result<Spelled, Stop>
     ensures { Gives result (first_fit (pieces_from_attributes text.now)) }
 {
     if let Some(rest) = behind(b"TF", text) {
@@ -424,7 +422,7 @@ fn read_from_attributes(alloc: Global, text: &[u8]) -> Result<Spelled, ItemFail>
 }
 
 /// The rows from polarity on.
-fn read_from_polarity(alloc: Global, text: &[u8]) -> Result<Spelled, ItemFail>
+fn read_from_polarity(alloc: Global, text: &[u8]) -> Result<Spelled, Stop>
     ensures { Gives result (first_fit (pieces_from_polarity text.now)) }
 {
     if let Some(answer) = read_polarity(text) {
@@ -443,7 +441,7 @@ fn read_from_polarity(alloc: Global, text: &[u8]) -> Result<Spelled, ItemFail>
 }
 
 /// All rows.
-fn read_pieces(alloc: Global, text: &[u8]) -> Result<Spelled, ItemFail>
+fn read_pieces(alloc: Global, text: &[u8]) -> Result<Spelled, Stop>
     ensures { Gives result (first_fit (pieces text.now)) }
 {
     if let Some(answer) = read_system(text) {
@@ -466,11 +464,11 @@ fn read_pieces(alloc: Global, text: &[u8]) -> Result<Spelled, ItemFail>
 
 /// Pieces without their last `*`.
 #[tactic(auto, unfolding(crate::specs::Pieces::piece))]
-fn read_piece(alloc: Global, text: &[u8]) -> Result<Spelled, ItemFail>
+fn read_piece(alloc: Global, text: &[u8]) -> Result<Spelled, Stop>
     ensures { Gives result (piece text.now) }
 {
     if contains(text, b'*') && !begins(b"AM", text) {
-        return Err(ItemFail::Refused(Reason::SeveralInOne));
+        return Err(Stop::Refused(Reason::SeveralInOne));
     }
     read_pieces(alloc, text)
 }
@@ -488,11 +486,11 @@ fn before_star(text: &[u8]) -> Option<&[u8]>
 
 /// An extended item between its two `%`.
 #[tactic(auto, unfolding(crate::specs::Pieces::extended))]
-pub(crate) fn read_extended(alloc: Global, text: &[u8]) -> Result<Spelled, ItemFail>
+pub(crate) fn read_extended(alloc: Global, text: &[u8]) -> Result<Spelled, Stop>
     ensures { Gives result (extended text.now) }
 {
     match before_star(text) {
         Some(front) => read_piece(alloc, front),
-        None => Err(ItemFail::Refused(Reason::BadWord)),
+        None => Err(Stop::Refused(Reason::BadWord)),
     }
 }

@@ -4,8 +4,9 @@ ghost use Rattle.std.specs.Prelude.{◌≡◌, ◌≢◌, ◌++◌, [], ◌∷�
 ghost use Rattle.gerber_rows.specs.declared.command.Command.TheVariants.{Operate};
 ghost use Rattle.gerber_rows.specs.Canonical.{action_code};
 ghost use Rattle.gerber_rows.specs.Coordinates.{left_out};
-ghost use Rattle.gerber_rows.specs.Plain.{BeginsWith, BeginsWithInt, BeginsWithCoordinate, front_word, is_plain_plot};
+ghost use Rattle.gerber_rows.specs.Plain.{BeginsWith, BeginsWithInt, BeginsWithCoordinate, front_word};
 ghost use Rattle.gerber_rows.specs.Rows.{modes_of};
+ghost use Rattle.gerber_rows.specs.Words.{is_plot};
 
 use crate::command::{Action, Coordinate, Interpolation};
 use crate::number::{first_digits, signed};
@@ -83,15 +84,16 @@ fn begins_plainly(mode: Option<Interpolation>, x: Option<i64>, y: Option<i64>) -
     mode.is_some() || (x.is_some() || y.is_some())
 }
 
-fn is_plot(action: Action) -> bool
-    ensures { result ≡ is_plain_plot action }
+/// Whether an operation is a plot (`D01`), beside which alone offsets may stand.
+pub fn is_plot(action: Action) -> bool
+    ensures { result ≡ is_plot action }
 {
     matches!(action, Action::Plot)
 }
 
 /// Whether the offsets that stand there may stand beside this operation.
 fn may_stand(action: Action, i: Option<i64>, j: Option<i64>) -> bool
-    ensures { result ≡ (is_plain_plot action || not (is_some i || is_some j)) }
+    ensures { result ≡ (is_plot action || not (is_some i || is_some j)) }
 {
     is_plot(action) || !(i.is_some() || j.is_some())
 }

@@ -3,20 +3,18 @@
 ghost use Rattle.std.specs.Prelude.{◌≡◌, ◌≤◌, ◌==◌, ◌||◌, not, length, is_some, Some, Ok, true};
 ghost use Rattle.std.specs.List.{list_any, list_all, prefix_len};
 ghost use Rattle.std.specs.Option.{option_copied, option_map};
-ghost use Rattle.grid_units.specs.Results.{both};
-ghost use Rattle.gerber_rows.specs.Meaning.{Gives};
+ghost use Rattle.grid_units.specs.Results.{both, Gives};
 ghost use Rattle.grid_units.specs.Numbers.{is_digit};
 ghost use Rattle.gerber_rows.specs.Words.{nothing_row, first_field, is_negative_image, behind_spaces, comments_negative, comment, mode_front, mode_row, quadrant_row, region_row, unit_row, incremental_row, action, numbered, alone, prepared, select_row, coordinate, action_with, kind, fields, names_action, is_operation, has_offsets, operands, operate, operation_row, finish_row, old_row, later_words, words, word};
-ghost use Rattle.gerber_rows.specs.Beginnings.{begins_with_coordinate};
+ghost use Rattle.gerber_rows.specs.Inner.Beginnings.{begins_with_coordinate};
 ghost use Rattle.gerber_rows.specs.Rows.{first_fit};
-ghost use Rattle.gerber_rows.specs.Runs.{fields_of};
+ghost use Rattle.gerber_rows.specs.Inner.Runs.{fields_of};
 
 use crate::command::{Action, Command, Coordinate, Interpolation, QuadrantMode, Spelled};
 use crate::fields::{behind, digits_field, number_field};
-use crate::item::ItemFail;
 use crate::number::{read_int, read_nat};
 use grid_units::numbers::are_all_digits;
-use grid_units::{Reason, Text, Unit, both};
+use grid_units::{Reason, Stop, Text, Unit, both};
 use std::alloc::Global;
 
 type Row = Option<Result<Spelled, Reason>>;
@@ -107,11 +105,11 @@ pub fn comments_negative(text: &[u8]) -> bool
 
 /// A comment.
 #[tactic(auto, unfolding(crate::specs::Words::comment))]
-fn read_comment(alloc: Global, text: &[u8]) -> Result<Spelled, ItemFail>
+fn read_comment(alloc: Global, text: &[u8]) -> Result<Spelled, Stop>
     ensures { Gives result (comment text.now) }
 {
     if comments_negative(text) {
-        return Err(ItemFail::Refused(Reason::NegativeImage));
+        return Err(Stop::Refused(Reason::NegativeImage));
     }
     let text = Text::from_slice(alloc, text)?;
     Ok(Spelled::one(Command::Comment(text)))
@@ -502,11 +500,11 @@ fn read_coordinates(plotting: bool, text: &[u8]) -> Result<Spelled, Reason>
 
 /// A word without its `*`.
 #[tactic(auto, unfolding(crate::specs::Words::word))]
-pub(crate) fn read_word(alloc: Global, plotting: bool, text: &[u8]) -> Result<Spelled, ItemFail>
+pub(crate) fn read_word(alloc: Global, plotting: bool, text: &[u8]) -> Result<Spelled, Stop>
     ensures { Gives result (word plotting text.now) }
 {
     if contains(text, b'%') {
-        return Err(ItemFail::Refused(Reason::BadWord));
+        return Err(Stop::Refused(Reason::BadWord));
     }
     if begins_with_coordinate(text) {
         return Ok(read_coordinates(plotting, text)?);

@@ -13,9 +13,12 @@ use Rattle.gerber_rows.specs.Words.{is, word}
 use Rattle.gerber_rows.specs.Pieces.{last_byte, before_last, is_several, pieces, piece, extended}
 use Rattle.gerber_rows.specs.Meaning.{front_of, meaning}
 use Rattle.gerber_rows.specs.Canonical.{canonical}
-use Rattle.gerber_sayable.specs.Cut.{is_kept, unbroken, item_limit, Spells}
+use Rattle.gerber_sayable.specs.Cut.{is_kept, unbroken, Spells}
 use Rattle.gerber_sayable.specs.Sayable.{is_text_byte, is_text}
-use Rattle.gerber_sayable.proofs.Runs.{both_true, not_true, all_weaker, all_append, none_passes, kept_whole}
+use Rattle.gerber_sayable.proofs.Runs.{none_passes, kept_whole}
+use Rattle.grid_units.specs.Limits.{item_limit}
+use Rattle.grid_units.proofs.BoolLemmas.{both_true, not_true}
+use Rattle.grid_units.proofs.ListLemmas.{all_weaker, all_append}
 
 -- ---- bytes of texts
 

@@ -19,15 +19,18 @@ use Rattle.gerber_rows.specs.declared.command.Standard.{Standard}
 use Rattle.gerber_rows.specs.declared.command.Standard.TheVariants.{Circle, Rectangle, Obround, Polygon}
 use Rattle.gerber_rows.specs.declared.command.Template.{Template}
 use Rattle.gerber_rows.specs.declared.command.Template.TheVariants as templates
-use Rattle.gerber_rows.specs.Words.{comments_negative, is_negative_image}
+use Rattle.gerber_rows.specs.Words.{comments_negative, is_negative_image, is_plot}
 use Rattle.gerber_rows.specs.Pieces.{is_name, standard, least_sizes, most_sizes}
 use Rattle.gerber_rows.specs.Canonical.{canonical, coordinate_text, action_code, sizes_text, standard_name}
-use Rattle.gerber_sayable.specs.Cut.{is_kept, unbroken, item_limit}
-use Rattle.gerber_sayable.specs.Sayable.{is_text_byte, is_text, is_nat, may_be_int, is_dec, is_aperture_number, is_macro_name, is_parameters, is_plot, is_operation, is_block, has_fields, is_short}
-use Rattle.gerber_sayable.proofs.Runs.{both_true, all_weaker, all_append, kept_whole}
+use Rattle.gerber_sayable.specs.Cut.{is_kept, unbroken}
+use Rattle.gerber_sayable.specs.Sayable.{is_text_byte, is_text, is_nat, may_be_int, is_dec, is_aperture_number, is_macro_name, is_parameters, is_operation, is_block, has_fields, is_short}
+use Rattle.gerber_sayable.proofs.Runs.{kept_whole}
 use Rattle.gerber_sayable.proofs.Items.{text_kept, piece_unbroken}
 use Rattle.gerber_sayable.proofs.Numerals.{nat_is, int_is, dec_is}
 use Rattle.gerber_sayable.proofs.Pieces.{format_text, format_whole, named, define_text, define_whole, define_bytes, starred, macro_kept}
+use Rattle.grid_units.specs.Limits.{item_limit}
+use Rattle.grid_units.proofs.BoolLemmas.{both_true}
+use Rattle.grid_units.proofs.ListLemmas.{all_weaker, all_append}
 
 -- two tests of numbers that say the same
 pub same_test : (a b m n : ℕ) → (a ≤ b → m ≤ n) → (m ≤ n → a ≤ b) → leb a b ≡ leb m n

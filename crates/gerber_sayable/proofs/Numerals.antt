@@ -10,16 +10,14 @@ use Rattle.grid_units.specs.declared.fault.Reason.TheVariants.{BadNumber, TooMan
 use Rattle.grid_units.specs.Numbers.{is_digit, is_digits, is_number, value, unsigned, signed, dec_of, max_units}
 use Rattle.grid_units.specs.Spellings.{minus, decimals, behind_point, canonical, places}
 use Rattle.grid_units.proofs.Places.{length-places}
-use Rattle.grid_units.proofs.Spelled.{IsSpelling, spells_decimal, digits-places, trims, canonical_reads}
+use Rattle.grid_units.proofs.Spelled.{IsSpelling, spells_decimal, digits-places, trims, canonical_reads, digit_number, minus_numbers, minus_short}
 use Rattle.gerber_rows.specs.Numbers.{significant, int_of, nat_of}
 use Rattle.gerber_rows.specs.Canonical.{integer}
 use Rattle.gerber_sayable.specs.Sayable.{is_text_byte, is_text, is_nat, is_int, is_dec}
-use Rattle.gerber_sayable.proofs.Runs.{and_true, both_true, all_weaker, all_append}
+use Rattle.grid_units.proofs.BoolLemmas.{and_true, both_true, not_empty}
+use Rattle.grid_units.proofs.ListLemmas.{all_weaker, all_append}
 
 -- ---- bytes
-
-pub digit_number : (b : ℕ) → is_digit b ≡ true → is_number b ≡ true
-digit_number b h = λ i. (h i || (eqb b 43 || (eqb b 45 || eqb b 46)))
 
 pub number_text : (b : ℕ) → is_number b ≡ true → is_text_byte b ≡ true
 number_text b h = grind (arith, nat_tests)
@@ -29,17 +27,6 @@ digits_numbers ds h = all_weaker is_digit is_number digit_number ds h
 
 pub numbers_text : (xs : List ℕ) → list_all is_number xs ≡ true → is_text xs ≡ true
 numbers_text xs h = all_weaker is_number is_text_byte number_text xs h
-
-minus_numbers : (v : ℤ) → list_all is_number (minus v) ≡ true
-minus_numbers (pos n) = refl
-minus_numbers (negsuc n) = refl
-
-minus_short : (v : ℤ) → length (minus v) ≤ 1
-minus_short (pos n) = lit≤ tt
-minus_short (negsuc n) = lit≤ tt
-
-not_empty : (n : ℕ) → 0 < n → not (eqb n 0) ≡ true
-not_empty n h = grind (arith, nat_tests)
 
 -- ---- numbers without a sign
 

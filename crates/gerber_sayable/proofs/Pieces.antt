@@ -27,10 +27,12 @@ use Rattle.gerber_rows.specs.Pieces.{divided, system_row, format, format_row, un
 use Rattle.gerber_rows.specs.Canonical.{canonical, pieces_text, sizes_text, template_text, standard_name}
 use Rattle.gerber_sayable.specs.Cut.{is_kept, unbroken}
 use Rattle.gerber_sayable.specs.Sayable.{is_text_byte, is_text, is_nat, is_dec, is_format, is_aperture_number, is_macro_name, is_parameters, is_template, is_block, is_attribute}
-use Rattle.gerber_sayable.proofs.Runs.{and_true, both_true, not_true, all_weaker, all_append, kept_whole, prefix_run, prefix_alone, run_in_front, rest_behind, run_alone, rest_alone}
+use Rattle.gerber_sayable.proofs.Runs.{kept_whole, prefix_alone}
 use Rattle.gerber_sayable.proofs.Items.{is_inner, text_inner, text_kept, piece_item}
 use Rattle.gerber_sayable.proofs.Words.{behind_all}
 use Rattle.gerber_sayable.proofs.Numerals.{number_text, numbers_text, digits_numbers, nat_is, dec_is}
+use Rattle.grid_units.proofs.BoolLemmas.{and_true, both_true, not_true, and_false}
+use Rattle.grid_units.proofs.ListLemmas.{all_weaker, all_append, prefix_run, run_in_front, rest_behind, run_alone, rest_alone}
 
 -- ---- turns and scales
 
@@ -440,10 +442,6 @@ macro_piece name ps h =
     let k = both_true (is_macro_name name) (list_all is_text ps) h in
     ap macro_of (parts_divided 42 name ps refl (lists_weaker is_text_byte (λ b. not (eqb b 42)) text_no_star (name ∷ ps) (macro_texts name ps h)))
     ∙ ap (λ t. cond t (Ok (Macro name ps ∷ [])) (Err BadWord)) k.0
-
-and_false : (t : Bool) → (t && false) ≡ false
-and_false true = refl
-and_false false = refl
 
 pub macro_single : (name : List ℕ) (ps : List (List ℕ)) → is_several (macro_piece_text name ps) ≡ false
 unfolding macro_piece_text

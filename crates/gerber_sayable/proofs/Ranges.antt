@@ -9,17 +9,16 @@ use Rattle.std.proofs.lemmas.Fmt.{length-decimal-le}
 use Rattle.std.proofs.lemmas.Bool.{leb-true, le-leb, lt-ltb, ltb-false}
 use Rattle.grid_units.specs.declared.fault.Reason.{Reason}
 use Rattle.grid_units.specs.declared.fault.Reason.TheVariants.{BadWord, BadNumber, TooManyDigits, TooFine, TooFar}
-use Rattle.grid_units.specs.Results.{both}
 use Rattle.grid_units.specs.Numbers.{is_digit, is_digits, value, unsigned, is_negative, signed, fine, whole, fraction, is_decimal, is_coarse, all_digits, dec_of, max_units}
 use Rattle.grid_units.proofs.Binds.{bind_ok}
 use Rattle.grid_units.proofs.Digits.{value_lt, fine_is, filled_lt}
 use Rattle.gerber_rows.specs.declared.command.Action.{Action}
 use Rattle.gerber_rows.specs.declared.command.Action.TheVariants.{Plot, Move, Flash}
 use Rattle.gerber_rows.specs.Numbers.{significant, int_of, nat_of}
-use Rattle.gerber_rows.specs.Words.{action, coordinate, action_with, kind}
+use Rattle.gerber_rows.specs.Words.{action, coordinate, action_with, kind, is_plot}
 use Rattle.gerber_rows.proofs.Numerals.{value_significant}
-use Rattle.gerber_sayable.specs.Sayable.{is_nat, is_int, may_be_int, is_dec, is_plot}
-use Rattle.gerber_sayable.proofs.Runs.{and_true, both_true}
+use Rattle.gerber_sayable.specs.Sayable.{is_nat, is_int, may_be_int, is_dec}
+use Rattle.grid_units.proofs.BoolLemmas.{and_true, both_true, not_false}
 
 -- ---- what a test let through
 
@@ -34,12 +33,6 @@ refused false r y e h = (refl, h)
 pub allowed : {A : Type 0} (t : Bool) (r : Result A Reason) (y : A) (e : Reason) → cond t r (Err e) ≡ Ok y → (t ≡ true) × (r ≡ Ok y)
 allowed true r y e h = (refl, h)
 allowed false r y e h = absurd cc
-
-pub both_ok : {A B : Type 0} (a : Result A Reason) (b : Result B Reason) (x : A × B) → both a b ≡ Ok x → (a ≡ Ok x.0) × (b ≡ Ok x.1)
-both_ok {A = A} {B = B} (Ok u) (Ok v) x e = let same : (let p : A × B = (u, v) in p ≡ x) = cc in (ap (λ (q : A × B). Ok q.0) same, ap (λ (q : A × B). Ok q.1) same)
-both_ok (Ok u) (Err f) x e = absurd cc
-both_ok (Err d) (Ok v) x e = absurd cc
-both_ok (Err d) (Err f) x e = absurd cc
 
 -- ---- parts of lists that pass a test
 
@@ -142,10 +135,6 @@ or_true false = refl
 was_plot : (t : Bool) (rest : Result Action Reason) (a : Action) → cond t (Ok Plot) rest ≡ Ok a → t ≡ true → is_plot a ≡ true
 was_plot true rest a e h = let same : Plot ≡ a = let o : Ok Plot ≡ Ok a = e in cc in ap is_plot (sym same)
 was_plot false rest a e h = absurd cc
-
-not_false : (t : Bool) → not t ≡ false → t ≡ true
-not_false true h = refl
-not_false false h = absurd cc
 
 was_action : (t : Bool) (n : ℕ) (a : Action) → action_with t n ≡ Ok a → (is_plot a || not t) ≡ true
 was_action false n a e = or_true (is_plot a)

@@ -14,14 +14,16 @@ use Rattle.gerber_rows.specs.Words.{is, nothing_row, mode_front, mode_row, quadr
 use Rattle.gerber_rows.specs.Pieces.{extended}
 use Rattle.gerber_rows.specs.Meaning.{front_of, meaning}
 use Rattle.gerber_rows.specs.Canonical.{canonical}
-use Rattle.gerber_sayable.specs.Cut.{is_kept, unbroken, item_limit, IsCut, IsSpelled}
+use Rattle.gerber_sayable.specs.Cut.{is_kept, unbroken, IsCut, IsSpelled}
 use Rattle.gerber_sayable.specs.Sayable.{is_text_byte, is_text, has_fields, is_sayable, is_finish}
-use Rattle.gerber_sayable.proofs.Runs.{and_true, both_true, all_parts}
+use Rattle.gerber_sayable.proofs.Runs.{all_parts}
 use Rattle.gerber_sayable.proofs.Items.{front_last, is_inner}
 use Rattle.gerber_sayable.proofs.Says.{says}
 use Rattle.gerber_sayable.proofs.SaidWords.{Said, bounded, word_said}
 use Rattle.gerber_sayable.proofs.Lengths.{is_bounded}
 use Rattle.gerber_sayable.proofs.SaidPieces.{is_half, extended_said}
+use Rattle.grid_units.specs.Limits.{item_limit}
+use Rattle.grid_units.proofs.BoolLemmas.{and_true, both_true, neither}
 
 not_that : (b n : ℕ) → b ≢ n → (t : Bool) → eqb b n ≡ t → not t ≡ true
 not_that b n h true e = absurd (h (eqb-true b n e))
@@ -35,10 +37,6 @@ not_those n (x ∷ xs) h = and_true (not (eqb x n)) (list_all (λ b. not (eqb b 
 
 text_byte : (b : ℕ) → is_kept b ≡ true → not (eqb b 42) ≡ true → eqb b 37 ≡ false → is_text_byte b ≡ true
 text_byte b h k e = grind (arith, nat_tests)
-
-neither : (t u : Bool) → (t || u) ≡ false → (t ≡ false) × (u ≡ false)
-neither true u f = absurd cc
-neither false u f = (refl, f)
 
 texts : (xs : List ℕ) → list_all is_kept xs ≡ true → list_all (λ b. not (eqb b 42)) xs ≡ true → list_any (λ b. eqb b 37) xs ≡ false → is_text xs ≡ true
 texts [] h k e = refl

@@ -13,7 +13,7 @@ use Rattle.grid_units.specs.declared.fault.Reason.TheVariants.{SeveralInOne, Cle
 use Rattle.grid_units.specs.declared.lengths.Unit.TheVariants.{Inch, Millimetre}
 use Rattle.grid_units.specs.Results.{◌>>=◌, both}
 use Rattle.grid_units.specs.Numbers.{is_digit, is_number, dec_of}
-use Rattle.grid_units.proofs.Binds.{bind_ok}
+use Rattle.grid_units.proofs.Binds.{bind_ok, both_ok}
 use Rattle.gerber_rows.specs.declared.command.Command.TheVariants.{UnitIs, FormatIs, Define, Macro, Dark, Mirror, Turn, Scale, Repeat, RepeatEnd, Attribute, Remove}
 use Rattle.gerber_rows.specs.declared.command.Format.{Format}
 use Rattle.gerber_rows.specs.declared.command.Block.{Block}
@@ -26,14 +26,15 @@ use Rattle.gerber_rows.specs.Rows.{first_fit, behind, field}
 use Rattle.gerber_rows.specs.Words.{is, is_negative_image}
 use Rattle.gerber_rows.specs.Pieces.{divided, last_byte, before_last, system_row, format, format_fields, format_row, unit_piece_row, is_name, standard, least_sizes, most_sizes, add_size, are_sizes, sizes_of, aperture_number, define_standard, define_named, define_as, before_comma, after_comma, define, definition, define_row, macro_of, macro_text, macro_row, polarity_row, mirror_row, run_behind, turn, scale, transform_row, block_fields, repeat, repeat_fields, repeat_start, repeat_row, file_attribute, attribute, removal, turns_nothing, plain_row, axes_row, negative_row, old_piece_row, block_row, pieces, piece, extended}
 use Rattle.gerber_rows.proofs.Parts.{parts_all}
-use Rattle.gerber_sayable.specs.Cut.{is_kept, item_limit}
+use Rattle.gerber_sayable.specs.Cut.{is_kept}
 use Rattle.gerber_sayable.specs.Sayable.{is_text_byte, is_text, may_be_text, is_nat, is_dec, is_format, is_aperture_number, is_macro_name, is_parameters, is_block, is_attribute, has_fields, is_short, is_sayable}
-use Rattle.gerber_sayable.proofs.Runs.{and_true, both_true}
 use Rattle.gerber_sayable.proofs.Items.{is_inner}
 use Rattle.gerber_sayable.proofs.Pieces.{starred, joined_ends}
 use Rattle.gerber_sayable.proofs.Lengths.{is_bounded, attribute_test, removal_test, macro_test, named_test, plain_test, standard_test}
-use Rattle.gerber_sayable.proofs.Ranges.{refused, allowed, both_ok, all_drop, all_take, WasNat, was_nat, was_dec}
+use Rattle.gerber_sayable.proofs.Ranges.{refused, allowed, all_drop, all_take, WasNat, was_nat, was_dec}
 use Rattle.gerber_sayable.proofs.SaidWords.{Said, RowSaid, no_said, first_said, said_cond, row_cond, said_bind, row_map, row_or, no_command, no_answer, no_row, one_command, one_row, bounded, behind_is, behind_text, behind_length, inch_sayable, millimetre_sayable}
+use Rattle.grid_units.specs.Limits.{item_limit}
+use Rattle.grid_units.proofs.BoolLemmas.{and_true, both_true}
 
 -- ---- formats and units
 

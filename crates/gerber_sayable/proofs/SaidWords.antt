@@ -19,12 +19,13 @@ use Rattle.gerber_rows.specs.declared.command.Action.{Action}
 use Rattle.gerber_rows.specs.declared.command.Action.TheVariants.{Plot, Move, Flash}
 use Rattle.gerber_rows.specs.Numbers.{nat_of}
 use Rattle.gerber_rows.specs.Rows.{Meaning, Row, first_fit, behind, modes_of}
-use Rattle.gerber_rows.specs.Words.{is, nothing_row, comments_negative, comment, comment_row, mode_front, mode_row, quadrant_row, region_row, unit_row, incremental_row, action, numbered, alone, prepared, select_row, coordinate, kind, Fields, fields, is_operation, has_offsets, operands, operate, operation_row, finish_row, old_row, words, word}
-use Rattle.gerber_sayable.specs.Cut.{item_limit}
-use Rattle.gerber_sayable.specs.Sayable.{is_text_byte, is_text, is_nat, is_plot, is_operation as has_operands, has_fields, is_short, is_sayable, is_finish}
-use Rattle.gerber_sayable.proofs.Runs.{and_true}
+use Rattle.gerber_rows.specs.Words.{is, nothing_row, comments_negative, comment, comment_row, mode_front, mode_row, quadrant_row, region_row, unit_row, incremental_row, action, numbered, alone, prepared, select_row, coordinate, kind, Fields, fields, is_operation, has_offsets, operands, operate, operation_row, finish_row, old_row, words, word, is_plot}
+use Rattle.grid_units.specs.Limits.{item_limit}
+use Rattle.gerber_sayable.specs.Sayable.{is_text_byte, is_text, is_nat, is_operation as has_operands, has_fields, is_short, is_sayable, is_finish}
+use Rattle.grid_units.proofs.BoolLemmas.{and_true}
 use Rattle.gerber_sayable.proofs.Lengths.{is_bounded, bounded_short, short_true, comment_test}
-use Rattle.gerber_sayable.proofs.Ranges.{both_ok, all_drop, was_nat, was_coordinate, was_kind}
+use Rattle.gerber_sayable.proofs.Ranges.{all_drop, was_nat, was_coordinate, was_kind}
+use Rattle.grid_units.proofs.Binds.{both_ok}
 
 -- ---- what is said of an answer, of a row and of rows
 

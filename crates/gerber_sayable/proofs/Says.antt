@@ -13,13 +13,14 @@ use Rattle.gerber_rows.specs.declared.command.AttributeKind.TheVariants as kinds
 use Rattle.gerber_rows.specs.Words.{nothing_row, mode_front, mode_row, quadrant_row, region_row, unit_row, incremental_row, select_row, fields, operation_row, finish_row, old_row, word, comments_negative, is_negative_image}
 use Rattle.gerber_rows.specs.Pieces.{system_row, format_row, unit_piece_row, polarity_row, mirror_row, transform_row, repeat_row}
 use Rattle.gerber_rows.specs.Canonical.{canonical}
-use Rattle.gerber_sayable.specs.Cut.{unbroken, item_limit, Spells}
+use Rattle.gerber_sayable.specs.Cut.{unbroken, Spells}
 use Rattle.gerber_sayable.specs.Sayable.{is_text, is_attribute, is_nat, has_fields, is_short, is_sayable}
-use Rattle.gerber_sayable.proofs.Runs.{both_true, not_true}
 use Rattle.gerber_sayable.proofs.Items.{word_spells, pieces_spell, piece_spells}
 use Rattle.gerber_sayable.proofs.Numerals.{numbers_text, digits_numbers, nat_is, dec_is}
 use Rattle.gerber_sayable.proofs.Words.{comment_word, select_word, operation_text, operation_word, operation_bytes, operation_whole}
 use Rattle.gerber_sayable.proofs.Pieces.{turn_piece, scale_piece, attribute_text, attribute_piece, removal_piece, format_text, format_piece, format_whole, format_bytes, block_text, block_piece, block_whole, block_bytes, define_text, define_piece, define_whole, define_bytes, macro_piece_text, macro_piece, macro_single, macro_inner, macro_whole}
+use Rattle.grid_units.specs.Limits.{item_limit}
+use Rattle.grid_units.proofs.BoolLemmas.{both_true, not_true}
 
 -- the canonical item is within the limit
 abbrev Short : Command → Type 0

@@ -12,13 +12,15 @@ use Rattle.gerber_rows.specs.declared.command.Action.{Action}
 use Rattle.gerber_rows.specs.declared.command.Action.TheVariants.{Plot, Move, Flash}
 use Rattle.gerber_rows.specs.Numbers.{nat_of}
 use Rattle.gerber_rows.specs.Rows.{Row, first_fit, field}
-use Rattle.gerber_rows.specs.Words.{nothing_row, comments_negative, comment, comment_row, mode_front, mode_row, quadrant_row, region_row, unit_row, incremental_row, action, numbered, alone, prepared, select_row, coordinate, action_with, kind, Fields, fields, is_operation, operands, operate, operation_row, finish_row, old_row, later_words, words, word}
+use Rattle.gerber_rows.specs.Words.{nothing_row, comments_negative, comment, comment_row, mode_front, mode_row, quadrant_row, region_row, unit_row, incremental_row, action, numbered, alone, prepared, select_row, coordinate, action_with, kind, Fields, fields, is_operation, operands, operate, operation_row, finish_row, old_row, later_words, words, word, is_plot}
 use Rattle.gerber_rows.specs.Canonical.{integer, coordinate_text, action_code}
 use Rattle.gerber_rows.proofs.Beginnings.{fits_operation}
-use Rattle.gerber_sayable.specs.Sayable.{is_text_byte, is_text, is_nat, may_be_int, is_aperture_number, is_plot, is_operation as has_operands}
-use Rattle.gerber_sayable.proofs.Runs.{and_true, both_true, not_true, all_append, none_passes, run_in_front, rest_behind}
+use Rattle.gerber_sayable.specs.Sayable.{is_text_byte, is_text, is_nat, may_be_int, is_aperture_number, is_operation as has_operands}
+use Rattle.gerber_sayable.proofs.Runs.{none_passes}
 use Rattle.gerber_sayable.proofs.Items.{text_no_percent}
 use Rattle.gerber_sayable.proofs.Numerals.{numbers_text, digits_numbers, nat_is, int_is}
+use Rattle.grid_units.proofs.BoolLemmas.{and_true, both_true, not_true}
+use Rattle.grid_units.proofs.ListLemmas.{all_append, run_in_front, rest_behind}
 
 -- ---- all words
 

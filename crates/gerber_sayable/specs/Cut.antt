@@ -4,10 +4,7 @@ use Rattle.std.specs.List.{list_all}
 use Rattle.gerber_rows.specs.declared.command.Command.{Command}
 use Rattle.gerber_rows.specs.Items.{is_line_break, IsItem}
 use Rattle.gerber_rows.specs.Meaning.{meaning}
-
--- the longest item, its marks counted and its line breaks not (docs/FORMATS.md, Limits)
-abbrev pub item_limit : ℕ
-item_limit = 1048576
+use Rattle.grid_units.specs.Limits.{item_limit}
 
 -- a byte that is kept where a text is cut: neither CR nor LF (docs/FORMATS.md, Cutting)
 abbrev pub is_kept : ℕ → Bool

@@ -7,18 +7,18 @@ use Rattle.gerber_rows.specs.declared.command.Command.TheVariants.{Comment, Form
 use Rattle.gerber_rows.specs.declared.command.Format.{Format}
 use Rattle.gerber_rows.specs.declared.command.Block.{Block}
 use Rattle.gerber_rows.specs.declared.command.Action.{Action}
-use Rattle.gerber_rows.specs.declared.command.Action.TheVariants.{Plot}
 use Rattle.gerber_rows.specs.declared.command.AttributeKind.{AttributeKind}
 use Rattle.gerber_rows.specs.declared.command.AttributeKind.TheVariants as kinds
 use Rattle.gerber_rows.specs.declared.command.Template.{Template}
 use Rattle.gerber_rows.specs.declared.command.Template.TheVariants as templates
 use Rattle.gerber_rows.specs.declared.command.Standard.{Standard}
 use Rattle.gerber_rows.specs.Items.{is_line_break}
-use Rattle.gerber_rows.specs.Words.{comments_negative}
+use Rattle.gerber_rows.specs.Words.{comments_negative, is_plot}
 use Rattle.gerber_rows.specs.Words.{is_negative_image}
 use Rattle.gerber_rows.specs.Pieces.{is_name, standard, least_sizes, most_sizes}
 use Rattle.gerber_rows.specs.Canonical.{canonical}
-use Rattle.gerber_sayable.specs.Cut.{unbroken, item_limit}
+use Rattle.gerber_sayable.specs.Cut.{unbroken}
+use Rattle.grid_units.specs.Limits.{item_limit}
 
 -- ---- fields
 
@@ -74,11 +74,6 @@ is_parameters aperture sizes = list_all is_dec sizes && (nat_le (least_sizes ape
 abbrev pub is_template : Template → Bool
 is_template (templates.Standard aperture sizes) = is_parameters aperture sizes
 is_template (templates.Named name parameters) = is_macro_name name && may_be_text parameters
-
--- a plot (docs/FORMATS.md, Words)
-abbrev pub is_plot : Action → Bool
-is_plot Plot = true
-is_plot _ = false
 
 -- an operation: its coordinates are whole numbers, and offsets stand with a plot alone (docs/FORMATS.md, Words)
 abbrev pub is_operation : Action → Option ℤ → Option ℤ → Option ℤ → Option ℤ → Bool

@@ -3,11 +3,11 @@
 ghost use Rattle.std.specs.Prelude.{◌≡◌};
 ghost use Rattle.std.specs.List.{list_all};
 ghost use Rattle.std.specs.Option.{option_copied};
-ghost use Rattle.gerber_sayable.specs.Sayable.{is_text_byte, is_text, may_be_text, is_nat, is_int, may_be_int, is_dec, is_format, is_aperture_number, is_macro_name, is_parameters, is_template, is_plot, is_operation, is_block, is_attribute};
+ghost use Rattle.gerber_sayable.specs.Sayable.{is_text_byte, is_text, may_be_text, is_nat, is_int, may_be_int, is_dec, is_format, is_aperture_number, is_macro_name, is_parameters, is_template, is_operation, is_block, is_attribute};
 
 use gerber_rows::{
     Action, AttributeKind, Block, Format, Sizes, Standard, Template, is_name, is_negative_image,
-    least_sizes, most_sizes, standard,
+    is_plot, least_sizes, most_sizes, standard,
 };
 use grid_units::{Dec, Text};
 
@@ -109,12 +109,6 @@ pub(crate) fn is_template(template: &Template) -> bool
             is_macro_name(name.bytes()) && may_be_text(parameters)
         }
     }
-}
-
-fn is_plot(action: Action) -> bool
-    ensures { result ≡ is_plot action }
-{
-    matches!(action, Action::Plot)
 }
 
 pub(crate) fn is_operation(

@@ -4,7 +4,7 @@ ghost use Rattle.std.specs.Prelude.{◌≡◌, ◌+◌, ◌≤◌, ◌++◌, tru
 ghost use Rattle.std.specs.List.{flat_map};
 ghost use Rattle.gerber_rows.specs.declared.command.Command.TheVariants.{Define};
 ghost use Rattle.gerber_rows.specs.declared.command.Template.TheVariants.{Named};
-ghost use Rattle.gerber_sayable.specs.Cut.{item_limit};
+ghost use Rattle.grid_units.specs.Limits.{item_limit};
 ghost use Rattle.gerber_sayable.specs.Sayable.{has_fields, is_short, is_sayable};
 
 use crate::fields::{

@@ -21,26 +21,17 @@ use Rattle.gerber_sayable.specs.Sayable.{is_sayable, is_finish}
 use Rattle.gerber_sayable.proofs.Said.{item_says, end_means, finish_sayable}
 use Rattle.gerber_text.specs.declared.placed.Placed.{Placed}
 use Rattle.gerber_text.specs.Cut.{Mark, marks, bytes_of, first_offset, has_end, AreItems}
-use Rattle.gerber_text.specs.Reading.{Entries, item_limit, is_plotting, placed, spelled, commands_from, Reads, SpellsText, entries_of}
+use Rattle.gerber_text.specs.Reading.{Entries, is_plotting, placed, spelled, commands_from, Reads, SpellsText, entries_of}
 use Rattle.gerber_text.specs.Writing.{without_places, sayable}
 use Rattle.gerber_text.proofs.Spelling.{reads_spells}
-
-both_true : (a b : Bool) → (a && b) ≡ true → (a ≡ true) × (b ≡ true)
-both_true true b h = (refl, h)
-both_true false b h = absurd (false≢true h)
-
-and_true : (a b : Bool) → a ≡ true → b ≡ true → (a && b) ≡ true
-and_true a b h k = λ i. (h i && k i)
+use Rattle.grid_units.specs.Limits.{item_limit}
+use Rattle.grid_units.proofs.BoolLemmas.{both_true, and_true, neither}
 
 -- ---- lists
 
 -- sayable commands, none of which is the end of the text
 abbrev ArePlain : List Command → Type 0
 ArePlain cs = AllByRecursion (λ c. is_sayable c ≡ true) cs × (list_any is_finish cs ≡ false)
-
-neither : (t u : Bool) → (t || u) ≡ false → (t ≡ false) × (u ≡ false)
-neither true u h = absurd (false≢true (sym h))
-neither false u h = (refl, h)
 
 -- one more command in front
 sayable_more : (c : Command) (ds : List Command) → is_sayable c ≡ true → is_finish c ≡ false → sayable ds ≡ true → sayable (c ∷ ds) ≡ true

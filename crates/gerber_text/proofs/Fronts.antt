@@ -7,7 +7,7 @@ use Rattle.std.proofs.lemmas.List.Elements.{All-from_get_or, recursion_from_All}
 use Rattle.std.proofs.lemmas.Grind.{take_at_read}
 use Rattle.memchr.specs.Find.{Nowhere, Passes, is_byte3}
 use Rattle.gerber_rows.specs.Items.{is_line_break, ender, IsUnfinished, IsItem}
-use Rattle.gerber_text.specs.Bytes.{IsInside, IsFront}
+use Rattle.gerber_text.specs.Inner.Bytes.{IsInside, IsFront}
 use Rattle.gerber_text.proofs.Steps.{run_inside, run_kept, ender_stays}
 
 -- ---- runs

@@ -8,11 +8,12 @@ use Rattle.gerber_rows.specs.declared.command.Command.{Command}
 use Rattle.gerber_rows.specs.Items.{is_line_break, ender, IsUnfinished, IsItem, is_end}
 use Rattle.gerber_rows.specs.Meaning.{meaning}
 use Rattle.gerber_text.specs.Cut.{Mark, marks, bytes_of, first_offset, has_end, Splits}
-use Rattle.gerber_text.specs.Reading.{Entries, item_limit, is_plotting, placed, spelled, shown}
+use Rattle.gerber_text.specs.Reading.{Entries, is_plotting, placed, spelled, shown}
 use Rattle.gerber_text.proofs.Marks.{marks-append, marks_from-kept, bytes_of-enumerate}
 use Rattle.gerber_text.proofs.Splitting.{Splits-grow}
 use Rattle.gerber_text.proofs.Shown.{running_ok, show_ok}
 use Rattle.gerber_text.proofs.Steps.{closes}
+use Rattle.grid_units.specs.Limits.{item_limit}
 
 pub spelled_ok : (place byte : ℕ) (item : List ℕ) (before : Entries) (commands : List Command) → length item ≤ item_limit → meaning (is_plotting before) item ≡ Ok commands → spelled place byte item before ≡ Ok (before ++ placed place byte commands)
 unfolding spelled

@@ -10,12 +10,13 @@ use Rattle.grid_units.specs.declared.fault.Reason.TheVariants.{TooLong}
 use Rattle.grid_units.specs.Results.{◌>>=◌, fault}
 use Rattle.grid_units.proofs.Binds.{bind_err, guard_err}
 use Rattle.gerber_text.specs.Cut.{Mark, marks, marks_from, Splits}
-use Rattle.gerber_text.specs.Reading.{Entries, text_limit, commands_from, shown, Shows, KeptOf, KeptBefore}
+use Rattle.gerber_text.specs.Reading.{Entries, commands_from, shown, Shows, KeptOf, KeptBefore}
 use Rattle.gerber_text.specs.Standing.{Stops, FailsWith}
 use Rattle.gerber_text.proofs.Marks.{marks-append}
 use Rattle.gerber_text.proofs.Shown.{stops_stay}
 use Rattle.gerber_text.proofs.Unique.{same_items}
 use Rattle.gerber_text.proofs.Whole.{fails_by}
+use Rattle.grid_units.specs.Limits.{text_limit}
 
 -- ---- a text above the limit: its first bytes are those of the longer one
 

@@ -8,7 +8,7 @@ use Rattle.gerber_rows.specs.declared.command.Command.{Command}
 use Rattle.gerber_rows.specs.Items.{is_line_break, is_end, IsItem}
 use Rattle.gerber_rows.specs.Canonical.{canonical}
 use Rattle.gerber_text.specs.Cut.{Mark, marks_from, marks, bytes_of, first_offset, has_end, AreItems, Splits}
-use Rattle.gerber_text.specs.Reading.{Entries, is_plotting, spelled, commands_from, placed, text_limit}
+use Rattle.gerber_text.specs.Reading.{Entries, is_plotting, spelled, commands_from, placed}
 use Rattle.gerber_sayable.specs.Cut.{unbroken, Spells}
 use Rattle.gerber_sayable.specs.Sayable.{is_sayable, is_finish}
 use Rattle.gerber_sayable.proofs.Says.{says as canonical_spells}
@@ -17,16 +17,14 @@ use Rattle.gerber_text.specs.Writing.{lines, sayable, without_places, ReadsAs}
 use Rattle.gerber_text.proofs.Marks.{marks_from-append}
 use Rattle.gerber_text.proofs.Shown.{shown_ended}
 use Rattle.gerber_text.proofs.Whole.{reads_ok}
+use Rattle.grid_units.specs.Limits.{text_limit}
+use Rattle.grid_units.proofs.BoolLemmas.{both_true}
 
 -- each command is one that its canonical item spells, and the end of the text is the last and no other
 abbrev IsSayable : List Command → Type 0
 IsSayable [] = ⊥
 IsSayable (c ∷ []) = Spells (canonical c) c × (is_end (unbroken (canonical c)) ≡ true)
 IsSayable (c ∷ d ∷ cs) = Spells (canonical c) c × (is_end (unbroken (canonical c)) ≡ false) × IsSayable (d ∷ cs)
-
-both_true : (a b : Bool) → (a && b) ≡ true → (a ≡ true) × (b ≡ true)
-both_true true b h = (refl, h)
-both_true false b h = absurd (false≢true h)
 
 not_true : (a : Bool) → not a ≡ true → a ≡ false
 not_true true h = absurd (false≢true h)

@@ -10,13 +10,14 @@ use Rattle.grid_units.specs.declared.fault.Reason.TheVariants.{TooLong, AfterEnd
 use Rattle.gerber_text.specs.declared.reader.Progress.{Progress}
 use Rattle.gerber_rows.specs.Items.{is_line_break, ender, IsUnfinished}
 use Rattle.gerber_text.specs.Cut.{Mark, marks_from, marks, bytes_of, first_offset, has_end, Splits}
-use Rattle.gerber_text.specs.Bytes.{follows_or_drops}
+use Rattle.gerber_text.specs.Inner.Bytes.{follows_or_drops}
 use Rattle.grid_units.specs.Results.{◌>>=◌, fault, Tells}
-use Rattle.gerber_text.specs.Reading.{Entries, item_limit, spelled, commands_from, may_follow, behind_end, shown}
+use Rattle.gerber_text.specs.Reading.{Entries, spelled, commands_from, may_follow, behind_end, shown}
 use Rattle.gerber_text.specs.Standing.{Holds, Stops, Advances, Refuses}
 use Rattle.grid_units.proofs.Binds.{bind_ok, bind_err, guard_ok, guard_err}
 use Rattle.gerber_text.proofs.Marks.{marks-append, first_offset-append}
 use Rattle.gerber_text.proofs.Splitting.{Splits-grow, Splits-close, IsUnfinished-push, bytes_of-push, commands_from-push}
+use Rattle.grid_units.specs.Limits.{item_limit}
 
 -- ---- behind the end of the text
 

@@ -4,9 +4,10 @@ use Rattle.std.proofs.lemmas.List.{append-nil}
 use Rattle.grid_units.specs.declared.fault.Fault.{Fault}
 use Rattle.gerber_rows.specs.Items.{ender}
 use Rattle.gerber_text.specs.Cut.{Mark, marks, bytes_of, has_end, Splits}
-use Rattle.gerber_text.specs.Reading.{Entries, text_limit, read_in, Reads, SpellsText}
+use Rattle.gerber_text.specs.Reading.{Entries, read_in, Reads, SpellsText}
 use Rattle.gerber_text.proofs.Shown.{by_end}
 use Rattle.gerber_text.proofs.Spelling.{reads_spells, spells_reads}
+use Rattle.grid_units.specs.Limits.{text_limit}
 
 abbrev IsCutUp : List Mark → Type 0
 IsCutUp ms = (items : List (List Mark)) × (rest : List Mark) × Splits ms items rest

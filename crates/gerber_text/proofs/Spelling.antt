@@ -14,10 +14,11 @@ use Rattle.gerber_text.specs.declared.placed.Placed.{Placed}
 use Rattle.grid_units.specs.Results.{fault, Answers, AnswersAlways}
 use Rattle.grid_units.proofs.Binds.{bind_ok}
 use Rattle.gerber_text.specs.Cut.{Mark, marks, bytes_of, first_offset, has_end, Splits}
-use Rattle.gerber_text.specs.Reading.{Entries, text_limit, shown, ended, Reads, is_blank, may_follow, behind_end, SpellsText, entries_of}
+use Rattle.gerber_text.specs.Reading.{Entries, shown, ended, Reads, is_blank, may_follow, behind_end, SpellsText, entries_of}
 use Rattle.gerber_text.proofs.Shown.{shown_spelled, shown_ended}
 use Rattle.gerber_text.proofs.Unique.{one_read}
 use Rattle.gerber_text.proofs.Whole.{reads_ok}
+use Rattle.grid_units.specs.Limits.{text_limit}
 
 follow_by : (t : Bool) (m : Mark) (ms : List Mark) (place : ℕ) (cs ds : Entries) → may_follow m.1 ≡ t → behind_end place cs (m ∷ ms) ≡ Ok ds → (may_follow m.1 ≡ true) × (behind_end place cs ms ≡ Ok ds)
 follow_by true m ms place cs ds h e = (h, sym (ap (λ t. cond t (behind_end place cs ms) (Err (fault place m.0 AfterEnd))) h) ∙ e)

@@ -10,6 +10,7 @@ use Rattle.gerber_text.specs.Cut.{Mark, bytes_of, first_offset, has_end, AreItem
 use Rattle.grid_units.specs.Results.{◌>>=◌}
 use Rattle.gerber_text.specs.Reading.{Entries, spelled, commands_from}
 use Rattle.gerber_text.proofs.Marks.{AllR-append}
+use Rattle.grid_units.proofs.Binds.{bind_same, bind_Ok}
 
 -- ---- unfinished items
 
@@ -79,14 +80,6 @@ Splits-close ms items rest m s none e =
     }
 
 -- ---- what the items spell
-
-pub bind_same : {A B E : Type 0} (r : Result A E) (f g : A → Result B E) → ((x : A) → f x ≡ g x) → (r >>= f) ≡ (r >>= g)
-bind_same (Ok x) f g h = h x
-bind_same (Err e) f g h = refl
-
-bind_Ok : {A E : Type 0} (r : Result A E) → (r >>= λ x. Ok x) ≡ r
-bind_Ok (Ok x) = refl
-bind_Ok (Err e) = refl
 
 bind_assoc : {A B C E : Type 0} (r : Result A E) (f : A → Result B E) (g : B → Result C E) → ((r >>= f) >>= g) ≡ (r >>= λ x. f x >>= g)
 bind_assoc (Ok x) f g = refl

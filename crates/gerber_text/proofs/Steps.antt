@@ -7,7 +7,7 @@ use Rattle.std.proofs.lemmas.Bool.{eqb-false}
 use Rattle.grid_units.specs.Results.{fault, at}
 use Rattle.grid_units.specs.declared.fault.Reason.{Reason}
 use Rattle.grid_units.specs.declared.fault.Fault.{Fault}
-use Rattle.gerber_text.specs.Bytes.{IsInside}
+use Rattle.gerber_text.specs.Inner.Bytes.{IsInside}
 use Rattle.gerber_rows.specs.Items.{is_line_break, ender, IsUnfinished, is_end}
 use Rattle.gerber_text.specs.Cut.{Mark, marks, bytes_of, first_offset, has_end, Splits}
 use Rattle.gerber_text.specs.Reading.{Entries, spelled, shown}

@@ -7,8 +7,9 @@ use Rattle.std.proofs.lemmas.Bool.{eqb-true, eq-eqb}
 use Rattle.grid_units.specs.declared.fault.Fault.{Fault}
 use Rattle.gerber_rows.specs.Items.{ender, behind_mark, IsUnfinished, IsItem, is_end}
 use Rattle.gerber_text.specs.Cut.{Mark, marks, bytes_of, has_end, AreItems, Splits}
-use Rattle.gerber_text.specs.Reading.{Entries, text_limit, Shows, Reads, shown_in, read_in}
+use Rattle.gerber_text.specs.Reading.{Entries, Shows, Reads, shown_in, read_in}
 use Rattle.gerber_text.proofs.Splitting.{cond-append, has_end-push}
+use Rattle.grid_units.specs.Limits.{text_limit}
 
 abbrev pub Parts : Type 0
 Parts = List (List Mark) × List Mark

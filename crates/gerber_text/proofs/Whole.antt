@@ -10,10 +10,11 @@ use Rattle.grid_units.specs.declared.fault.Reason.TheVariants.{TooLong, Truncate
 use Rattle.gerber_text.specs.declared.reader.Progress.{Progress}
 use Rattle.gerber_text.specs.Cut.{Mark, marks, bytes_of, first_offset, has_end, Splits}
 use Rattle.grid_units.specs.Results.{◌>>=◌, fault, Answers, AnswersAlways}
-use Rattle.gerber_text.specs.Reading.{Entries, text_limit, commands_from, shown, Shows, ended, Reads, is_blank, KeptOf, KeptBefore, Keeps, entries_of, entries_behind}
+use Rattle.gerber_text.specs.Reading.{Entries, commands_from, shown, Shows, ended, Reads, is_blank, KeptOf, KeptBefore, Keeps, entries_of, entries_behind}
 use Rattle.gerber_text.specs.Standing.{Holds, Stops, Refuses, FailsWith, RefusesText, Ends}
 use Rattle.grid_units.proofs.Binds.{bind_err, guard_err}
 use Rattle.gerber_text.proofs.Shown.{kept_all}
+use Rattle.grid_units.specs.Limits.{text_limit}
 
 -- behind a text that is too long, its front shows what it shows
 checks_len : ℕ → List (List Mark) → Entries → Result Entries Fault

@@ -13,7 +13,7 @@ use Rattle.grid_units.specs.declared.fault.Reason.TheVariants.{TooLong}
 use Rattle.gerber_rows.specs.declared.command.Command.{Command}
 use Rattle.gerber_rows.specs.Canonical.{canonical}
 use Rattle.gerber_text.specs.declared.placed.Placed.{Placed}
-use Rattle.gerber_text.specs.Reading.{text_limit}
+use Rattle.grid_units.specs.Limits.{text_limit}
 use Rattle.gerber_text.specs.Writing.{lines, limited, canonical_text, without_places, sayable, ReadsAs, bytes_of_vector}
 use Rattle.gerber_text.proofs.RoundTrip.{reads_as}
 

@@ -10,29 +10,15 @@ use Rattle.grid_units.specs.declared.fault.Fail.{Fail}
 use Rattle.grid_units.specs.declared.fault.Fail.TheVariants as fails
 use Rattle.gerber_rows.specs.declared.command.Command.{Command}
 use Rattle.gerber_rows.specs.declared.command.Command.TheVariants.{Operate}
-use Rattle.gerber_rows.specs.declared.command.Action.{Action}
-use Rattle.gerber_rows.specs.declared.command.Action.TheVariants.{Plot, Move, Flash}
 use Rattle.gerber_rows.specs.Meaning.{meaning}
 use Rattle.gerber_text.specs.declared.placed.Placed.{Placed}
 use Rattle.gerber_text.specs.Cut.{Mark, marks, bytes_of, first_offset, has_end, Splits}
+use Rattle.grid_units.specs.Limits.{text_limit, item_limit}
+use Rattle.gerber_rows.specs.Words.{is_plot}
 
 -- commands with their places (docs/FORMATS.md, Cutting)
 abbrev pub Entries : Type 0
 Entries = List (Placed Command)
-
--- the longest item, its marks counted and its line breaks not (docs/FORMATS.md, Limits)
-abbrev pub item_limit : ℕ
-item_limit = 1048576
-
--- the longest text (docs/FORMATS.md, Limits)
-abbrev pub text_limit : ℕ
-text_limit = 268435456
-
--- an operation is a plot (Gerber format, Operations D01, D02, D03)
-abbrev pub is_plot : Action → Bool
-is_plot Plot = true
-is_plot Move = false
-is_plot Flash = false
 
 -- whether a command is a plot, of an operation alone (docs/FORMATS.md, How a row fits and is read)
 abbrev pub plot_of : Command → Option Bool

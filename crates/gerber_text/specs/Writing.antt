@@ -8,7 +8,8 @@ use Rattle.grid_units.specs.declared.fault.Reason.TheVariants.{TooLong}
 use Rattle.gerber_rows.specs.declared.command.Command.{Command}
 use Rattle.gerber_rows.specs.Canonical.{canonical}
 use Rattle.gerber_sayable.specs.Sayable.{is_sayable, is_finish}
-use Rattle.gerber_text.specs.Reading.{Entries, Reads, text_limit}
+use Rattle.gerber_text.specs.Reading.{Entries, Reads}
+use Rattle.grid_units.specs.Limits.{text_limit}
 
 -- each command's canonical item, and a line end after it (docs/FORMATS.md, The canonical Gerber text)
 abbrev pub lines : List Command → List ℕ

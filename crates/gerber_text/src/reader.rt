@@ -5,20 +5,20 @@ ghost use Rattle.std.specs.List.{list_all};
 ghost use Rattle.grid_units.specs.declared.fault.Fault.{Fault};
 ghost use Rattle.grid_units.specs.declared.fault.Fail.TheVariants.{Refused};
 ghost use Rattle.grid_units.specs.Results.{fault, Answers};
-ghost use Rattle.gerber_rows.specs.Items.{ender};
+ghost use Rattle.gerber_rows.specs.Items.{ender, IsEnded};
 ghost use Rattle.gerber_rows.specs.Rows.{modes_of};
 ghost use Rattle.gerber_rows.specs.declared.command.Command.TheVariants.{Mode};
 ghost use Rattle.gerber_text.specs.Reading.{Entries, Shows, spelled, placed, Leaves, plot_of, is_plotting, Reads, SpellsText, Keeps, KeptBefore, entries_of, entries_behind, is_blank};
-ghost use Rattle.gerber_text.specs.Bytes.{IsInside, IsFront, follows_or_drops};
+ghost use Rattle.gerber_text.specs.Inner.Bytes.{IsInside, IsFront, follows_or_drops};
 ghost use Rattle.gerber_text.specs.Reasons.{IsReasonOfReading};
 ghost use Rattle.gerber_text.specs.Writing.{without_places, sayable};
 
 use crate::placed::Placed;
 use gerber_rows::{
-    Action, Command, Interpolation, ItemFail, PlainOperation, Spelled, is_text_end,
-    plain_operation, read_item,
+    Command, Interpolation, PlainOperation, Spelled, end_of, is_plot, is_text_end, plain_operation,
+    read_item,
 };
-use grid_units::{Fail, Fault, Reason};
+use grid_units::{Fail, Fault, Reason, Stop};
 use memchr::memchr3;
 use std::alloc::{AllocError, Global};
 use std::mem::replace;
@@ -68,16 +68,6 @@ fn inside_len(bytes: &[u8], end: u8) -> usize
     }
 }
 
-/// The byte that ends an item which begins so.
-fn end_of(bytes: &[u8]) -> u8
-    ensures { result ≡ ender bytes.now }
-{
-    match bytes {
-        [b'%', ..] => b'%',
-        _ => b'*',
-    }
-}
-
 /// How many bytes the item takes with which these bytes begin, where it ends among them, has no line break in it and is
 /// within the limit.
 fn item_len(bytes: &[u8]) -> Option<usize>
@@ -120,7 +110,7 @@ fn plots_after(before: bool, what: &Command) -> bool
     ensures { result ≡ unwrap_or (plot_of what.now) before }
 {
     match what {
-        Command::Operate { action, .. } => matches!(action, Action::Plot),
+        Command::Operate { action, .. } => is_plot(*action),
         _ => before,
     }
 }
@@ -224,6 +214,7 @@ fn spell(
     item: &[u8],
     commands: &mut Vec<Placed<Command>>,
 ) -> Result<bool, Fail>
+    requires item { IsEnded item.now }
     requires short { length item.now ≤ 1048576 }
     ensures spelled { (gone : Entries) → plotting ≡ is_plotting (gone ++ commands.old.items) → Leaves result (gone ++ commands.new.items) (spelled place byte item.now (gone ++ commands.old.items)) }
     ensures plotting { (gone : Entries) → plotting ≡ is_plotting (gone ++ commands.old.items) → IfOk result (λ new. new ≡ is_plotting (gone ++ commands.new.items)) }
@@ -231,8 +222,8 @@ fn spell(
 {
     match read_item(alloc, plotting, item) {
         Ok(spelled) => Ok(add(plotting, place, byte, spelled, commands)?),
-        Err(ItemFail::Memory) => Err(Fail::Memory),
-        Err(ItemFail::Refused(reason)) => Err(Fail::Refused(Fault {
+        Err(Stop::Memory) => Err(Fail::Memory),
+        Err(Stop::Refused(reason)) => Err(Fail::Refused(Fault {
             place,
             byte,
             reason,
@@ -263,10 +254,7 @@ impl Progress {
     fn ender(&self) -> u8
         ensures { result ≡ ender self.now.item.items }
     {
-        match self.item.first() {
-            Some(b'%') => b'%',
-            _ => b'*',
-        }
+        end_of(&self.item)
     }
 
     /// The offset of the item's first byte, also where that is the next one.

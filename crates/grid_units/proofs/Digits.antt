@@ -1,5 +1,5 @@
 -- The value of digits that stand one behind the other.
-use Rattle.std.proofs.Common.{◌≡◌, ℕ, zero, suc, ◌+◌, ◌-◌, ◌*◌, ◌^◌, ◌<◌, ◌≤◌, Bool, true, false, cond, eqb, ◌&&◌, List, [], ◌∷◌, ◌++◌, length, take, drop, ℤ, pos, ◌*ℤ◌, Ok, Err, refl, sym, ap, ◌∙◌, arith, add-zero, mul-le-mul_right, zero-mul, ltb, lit<, ◌/◌}
+use Rattle.std.proofs.Common.{◌≡◌, ℕ, zero, suc, ◌+◌, ◌-◌, ◌*◌, ◌^◌, ◌<◌, ◌≤◌, Bool, true, false, not, cond, eqb, ◌&&◌, List, [], ◌∷◌, ◌++◌, length, take, drop, ℤ, pos, ◌*ℤ◌, Ok, Err, refl, sym, ap, ◌∙◌, arith, add-zero, mul-le-mul_right, zero-mul, ltb, lit<, ◌/◌}
 use Rattle.std.specs.Prelude.{neg_ℤ, All}
 use Rattle.std.specs.List.{fold, list_all, AllByRecursion}
 use Rattle.std.proofs.lemmas.Bool.{eqb-true, false≢true}
@@ -11,7 +11,8 @@ use Rattle.std.proofs.Math.IntN.{pos-*ℤ-pos}
 use Rattle.std.proofs.lemmas.List.Elements.{recursion_from_All}
 use Rattle.std.proofs.Common.{pow-add}
 use Rattle.grid_units.specs.declared.fault.Reason.TheVariants.{BadNumber, TooFine, TooFar}
-use Rattle.grid_units.specs.Numbers.{is_digit, value, is_coarse, fine, signed, is_negative, whole, fraction, is_decimal, all_digits, dec_of}
+use Rattle.grid_units.specs.Numbers.{is_digit, is_digits, value, is_coarse, fine, signed, is_negative, whole, fraction, is_decimal, all_digits, dec_of}
+use Rattle.grid_units.proofs.BoolLemmas.{both_true}
 
 regroup : (n d p v q : ℕ) → q ≡ p * 10 → (n * 10 + d) * p + v ≡ n * q + ((0 * 10 + d) * p + v)
 regroup n d p v q e = rw e (omega arith)
@@ -99,6 +100,18 @@ value_lt (d ∷ ds) h =
 
 scaled_lt : (v p q : ℕ) → v < p → 0 < q → v * q < p * q
 scaled_lt v p q l h = omega (arith, mul-le-mul_right q l)
+
+-- a test of all digits, digit by digit
+pub each_digit : (xs : List ℕ) → list_all is_digit xs ≡ true → AllByRecursion (λ b. is_digit b ≡ true) xs
+each_digit [] h = tt
+each_digit (x ∷ xs) h = let k = both_true (is_digit x) (list_all is_digit xs) h in (k.0, each_digit xs k.1)
+
+-- at most nine digits spell less than a billion
+pub nine_digits : (text : List ℕ) → is_digits text ≡ true → length text ≤ 9 → value text ≤ 999999999
+nine_digits text digits short =
+    let lt : value text < 10 ^ length text = value_lt text (each_digit text (both_true (not (eqb (length text) 0)) (list_all is_digit text) digits).1) in
+    let p : 10 ^ length text ≤ 10 ^ 9 = pow-le-pow_right {n = 10} (omega arith) {i = length text} {j = 9} short in
+    omega (arith, lt, p)
 
 -- eight digits at most, filled up to eight, spell less than 10^8
 pub filled_lt : (ds : List ℕ) → All (λ b. is_digit b ≡ true) ds → length ds ≤ 8 → value ds * 10 ^ (8 - length ds) < 10 ^ 8

@@ -10,7 +10,8 @@ use Rattle.std.proofs.Math.Nat.{pow-le-pow_right}
 use Rattle.grid_units.specs.Numbers.{is_digit, is_number, value, unsigned, is_negative, signed, fine, whole, fraction, is_decimal, is_coarse, all_digits}
 use Rattle.grid_units.specs.Fronts.{IsInFront}
 use Rattle.grid_units.proofs.Digits.{dec_ok, fine_is, value_lt, filled_lt}
-use Rattle.grid_units.proofs.Spelled.{and_true, both_true, before_point, behind_the_point, no_sign, no_minus}
+use Rattle.grid_units.proofs.Spelled.{before_point, behind_the_point, no_sign, no_minus}
+use Rattle.grid_units.proofs.BoolLemmas.{and_true, both_true}
 
 -- the sign in front of a text
 record HasSign (bytes sign : List ℕ) : Type 0 where

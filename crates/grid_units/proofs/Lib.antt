@@ -1,3 +1,5 @@
+pub mod BoolLemmas
+pub mod ListLemmas
 pub mod Steps
 pub mod Lookbacks
 pub mod Binds

@@ -33,18 +33,18 @@ unfolding trimmed
 trim_zero [] = refl
 trim_zero (x ∷ xs) = ap (λ (t : List ℕ). cond (eqb x 48 && eqb (length t) 0) [] (x ∷ t)) (trim_zero xs)
 
-not_zero : (n : ℕ) → 0 < n → eqb n 0 ≡ false
+pub not_zero : (n : ℕ) → 0 < n → eqb n 0 ≡ false
 not_zero n h = by (eqb n 0) refl
   where
     by : (t : Bool) → eqb n 0 ≡ t → eqb n 0 ≡ false
     by true e = absurd (omega (arith, h, eqb-true n 0 e))
     by false e = e
 
-skips : (t u : Bool) (x : ℕ) (xs : List ℕ) → u ≡ false → cond (t && u) [] (x ∷ xs) ≡ x ∷ xs
+pub skips : (t u : Bool) (x : ℕ) (xs : List ℕ) → u ≡ false → cond (t && u) [] (x ∷ xs) ≡ x ∷ xs
 skips true u x xs h = ap (λ v. cond v [] (x ∷ xs)) h
 skips false u x xs h = refl
 
-keeps : (t : Bool) (x : ℕ) (xs : List ℕ) → 0 < length xs → cond (t && eqb (length xs) 0) [] (x ∷ xs) ≡ x ∷ xs
+pub keeps : (t : Bool) (x : ℕ) (xs : List ℕ) → 0 < length xs → cond (t && eqb (length xs) 0) [] (x ∷ xs) ≡ x ∷ xs
 keeps t x xs h = skips t (eqb (length xs) 0) x xs (not_zero (length xs) h)
 
 -- digits that end with no zero are kept

@@ -5,14 +5,15 @@ use Rattle.std.specs.List.{list_all, prefix_len, before_first, after_first}
 use Rattle.std.proofs.lemmas.List.{append-nil, length-append, take_at, drop_all, take_all, drop_at}
 use mathlib.Core.List.{append_assoc}
 use Rattle.std.proofs.lemmas.List.Folds.{list_all-append}
-use Rattle.std.proofs.lemmas.Bool.{eqb-true, le-ltb, false≢true}
+use Rattle.std.proofs.lemmas.Bool.{eqb-true, le-ltb}
 use Rattle.std.proofs.lemmas.Bool.Decides.{nat_tests}
 use Rattle.std.proofs.lemmas.Fmt.{decimal_by_steps}
 use Rattle.std.proofs.Math.Nat.{pow-suc}
-use Rattle.grid_units.specs.Numbers.{is_digit, value, unsigned, is_negative, signed, fine, whole, fraction, is_decimal, is_coarse, all_digits, dec_of, max_units}
+use Rattle.grid_units.specs.Numbers.{is_digit, is_number, value, unsigned, is_negative, signed, fine, whole, fraction, is_decimal, is_coarse, all_digits, dec_of, max_units}
 use Rattle.grid_units.specs.Spellings.{places, trimmed, minus, decimals, behind_point, behind_any_point, signed_whole, canonical, pointed}
 use Rattle.grid_units.proofs.Digits.{value-append, dec_ok, fine_is}
 use Rattle.grid_units.proofs.Places.{length-places}
+use Rattle.grid_units.proofs.BoolLemmas.{and_true, both_true}
 
 -- ---- digits of a number
 
@@ -24,9 +25,6 @@ pub record IsSpelling (n : ℕ) (ds : List ℕ) : Type 0 where
 
 digit_is : (d : ℕ) → d < 10 → is_digit (48 + d) ≡ true
 digit_is d h = grind (arith, nat_tests)
-
-pub and_true : (a b : Bool) → a ≡ true → b ≡ true → (a && b) ≡ true
-and_true a b h k = λ i. (h i && k i)
 
 one_digit : (d : ℕ) → d < 10 → list_all is_digit ((48 + d) ∷ []) ≡ true
 one_digit d h = and_true (is_digit (48 + d)) true (digit_is d h) refl
@@ -63,15 +61,22 @@ value-places (suc w) n h =
     let p : 10 ^ suc w ≡ 10 ^ w * 10 = pow-suc 10 w in
     value_push (places w (n / 10)) (n % 10) ∙ omega (arith, value-places w (n / 10) (omega (arith, p)))
 
+pub digit_number : (b : ℕ) → is_digit b ≡ true → is_number b ≡ true
+digit_number b h = λ i. (h i || (eqb b 43 || (eqb b 45 || eqb b 46)))
+
+pub minus_numbers : (v : ℤ) → list_all is_number (minus v) ≡ true
+minus_numbers (pos n) = refl
+minus_numbers (negsuc n) = refl
+
+pub minus_short : (v : ℤ) → length (minus v) ≤ 1
+minus_short (pos n) = lit≤ tt
+minus_short (negsuc n) = lit≤ tt
+
 -- ---- zeros at the end
 
 trimmed_at : (d : ℕ) (ds : List ℕ) → trimmed (d ∷ ds) ≡ cond (eqb d 48 && eqb (length (trimmed ds)) 0) [] (d ∷ trimmed ds)
 unfolding trimmed
 trimmed_at d ds = refl
-
-pub both_true : (a b : Bool) → (a && b) ≡ true → (a ≡ true) × (b ≡ true)
-both_true true b h = (refl, h)
-both_true false b h = absurd (false≢true h)
 
 empty_is : (xs : List ℕ) → length xs ≡ 0 → xs ≡ []
 empty_is [] h = refl

@@ -1,5 +1,6 @@
 pub mod Reasons
 pub mod Results
+pub mod Limits
 pub mod Lists
 pub mod Points
 pub mod Holes

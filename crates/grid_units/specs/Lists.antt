@@ -1,5 +1,5 @@
 -- Looking back over a finished list: what its elements name, and the first that breaks a rule.
-use Rattle.std.specs.Prelude.{ℕ, List, [], ◌∷◌, ◌++◌, length, Option, None}
+use Rattle.std.specs.Prelude.{◌≡◌, ℕ, List, [], ◌∷◌, ◌++◌, length, Option, None}
 use Rattle.std.specs.Option.{option_or, option_map}
 use Rattle.std.specs.List.{filter_map}
 
@@ -25,3 +25,7 @@ break_at broken p = option_map (λ r. (length p.0, r)) (broken p.0 p.1)
 -- fault of the list (docs/DEFINITIONS.md, Looking back).
 abbrev pub breaks : {C R : Type 0} → (List C → C → Option R) → List C → List (ℕ × R)
 breaks broken cs = filter_map (break_at broken) (positions cs)
+
+-- no element of a list breaks a rule after those before it (docs/DEFINITIONS.md, Looking back)
+abbrev pub IsLegal : {C R : Type 0} → (List C → C → Option R) → List C → Type 0
+IsLegal broken cs = breaks broken cs ≡ []

@@ -1,9 +1,11 @@
 -- Answers and refusals.
-use Rattle.std.specs.Prelude.{ℕ, nat_le, if◌then◌else◌, Result, Ok, Err}
+use Rattle.std.specs.Prelude.{◌≡◌, ℕ, nat_le, if◌then◌else◌, Result, Ok, Err}
 use Rattle.grid_units.specs.declared.fault.Reason.{Reason}
 use Rattle.grid_units.specs.declared.fault.Fault.{Fault}
 use Rattle.grid_units.specs.declared.fault.Fail.{Fail}
 use Rattle.grid_units.specs.declared.fault.Fail.TheVariants as fails
+use Rattle.grid_units.specs.declared.stop.Stop.{Stop}
+use Rattle.grid_units.specs.declared.stop.Stop.TheVariants as stops
 use Rattle.grid_units.specs.Reasons.{number_of}
 
 infixl 10 ◌>>=◌
@@ -48,3 +50,13 @@ AnswersAlways view P (Err (fails.Refused f)) = P (Err f)
 abbrev pub Tells : (Fault → Type 0) → Fail → Type 0
 Tells P fails.Memory = Unit {0}
 Tells P (fails.Refused f) = P f
+
+-- What stopped a call is the reason of this answer, want of memory aside (docs/DEFINITIONS.md, Answers).
+abbrev pub Fails : {A : Type 0} → Stop → Result A Reason → Type 0
+Fails stops.Memory answer = Unit {0}
+Fails (stops.Refused reason) answer = answer ≡ Err reason
+
+-- What a call returned is this answer, want of memory aside (docs/DEFINITIONS.md, Answers).
+abbrev pub Gives : {A : Type 0} → Result A Stop → Result A Reason → Type 0
+Gives (Ok x) answer = answer ≡ Ok x
+Gives (Err stop) answer = Fails stop answer

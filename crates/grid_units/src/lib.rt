@@ -14,6 +14,7 @@ mod plane;
 mod ring_gap;
 mod span;
 mod spelling;
+mod stop;
 mod text;
 mod zero_filling;
 
@@ -25,6 +26,7 @@ pub use plane::{MAX_COORDINATE, Point, square, square_distance, square_length};
 pub use ring_gap::Rules;
 pub use span::{Span, is_in_span};
 pub use spelling::write_mm;
+pub use stop::Stop;
 pub use text::Text;
 pub use zero_filling::{Zeros, from_zeros};
 

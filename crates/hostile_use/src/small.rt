@@ -6,8 +6,8 @@ use crate::inputs::Held;
 use command_line::{Refusal, Request, parse};
 use drill_lines::push_canonical;
 use drill_text::{DrillCommand, read_drill};
-use gerber_rows::{ItemFail, Spelled, read_item, write_item};
-use grid_units::{Fail, Text};
+use gerber_rows::{Spelled, is_ended, read_item, write_item};
+use grid_units::{Fail, Reason, Stop, Text};
 use manifest::Name;
 use proposals::{Content, Named, Proposal, propose, write_proposal, write_reasons};
 use std::alloc::{AllocError, Global};
@@ -17,20 +17,25 @@ use std::fmt::Write;
 pub(crate) fn items(alloc: Global, text: &[u8]) -> Result<Vec<u8>, AllocError> {
     let mut out = Vec::new(alloc);
     for line in text.split(|byte| *byte == b'\n') {
-        put_item(&mut out, read_item(alloc, true, line))?;
+        let item = if is_ended(line) {
+            read_item(alloc, true, line)
+        } else {
+            Err(Stop::Refused(Reason::BadWord))
+        };
+        put_item(&mut out, item)?;
     }
     Ok(out)
 }
 
 /// Of an item that is refused the name of the reason is written.
-fn put_item(out: &mut Vec<u8>, item: Result<Spelled, ItemFail>) -> Result<(), AllocError> {
+fn put_item(out: &mut Vec<u8>, item: Result<Spelled, Stop>) -> Result<(), AllocError> {
     match item {
         Ok(spelled) => match spelled.into_parts() {
             (_, Some(command)) => write_item(out, &command),
             (_, None) => Ok(()),
         },
-        Err(ItemFail::Refused(reason)) => out.extend_from_slice(reason.name().as_bytes()),
-        Err(ItemFail::Memory) => Err(AllocError),
+        Err(Stop::Refused(reason)) => out.extend_from_slice(reason.name().as_bytes()),
+        Err(Stop::Memory) => Err(AllocError),
     }
 }
 

@@ -4,7 +4,7 @@ use Rattle.std.specs.List.{filter_map, cons_option, list_all}
 use Rattle.std.specs.Option.{option_map}
 use Rattle.std.proofs.Math.Seq.{take-length}
 use Rattle.std.proofs.lemmas.List.{map-append}
-use Rattle.grid_units.specs.Lists.{breaks, break_at, positions_after}
+use Rattle.grid_units.specs.Lists.{breaks, break_at, positions_after, IsLegal}
 use Rattle.grid_units.specs.Results.{◌>>=◌, fault}
 use Rattle.grid_units.specs.declared.fault.Fault.{Fault}
 use Rattle.grid_units.specs.declared.fault.Reason.{Reason}
@@ -12,13 +12,15 @@ use Rattle.grid_units.proofs.Binds.{bind_ok, bind_err}
 use Rattle.gerber_rows.specs.declared.command.Command.{Command}
 use Rattle.gerber_text.specs.declared.placed.Placed.{Placed}
 use Rattle.gerber_text.specs.Cut.{Mark, bytes_of, first_offset, has_end}
-use Rattle.gerber_text.specs.Reading.{Entries, KeptOf, Reads, commands_from, is_blank, item_limit, read_in, shown, spelled, text_limit}
+use Rattle.gerber_text.specs.Reading.{Entries, KeptOf, Reads, commands_from, is_blank, read_in, shown, spelled}
 use Rattle.gerber_text.proofs.Some.{some_reading}
-use Rattle.layer_image.specs.Faults.{without_places, fault_of, IsFirstFault}
+use Rattle.layer_image.specs.Faults.{fault_of, IsFirstFault}
 use Rattle.layer_image.specs.Layers.{EachTextAnswers, LayerImage, ReadsLayer, image_of}
-use Rattle.layer_image.specs.Rules.{broken_rule, IsLegal}
+use Rattle.layer_image.specs.Rules.{broken_rule}
 use Rattle.layer_image.proofs.Reading.{kept_all}
 use Rattle.layer_image.proofs.Unique.{spelled_place, rest_place, ended_place}
+use Rattle.grid_units.specs.Limits.{text_limit, item_limit}
+use Rattle.gerber_text.specs.Writing.{without_places}
 
 -- ---- a list is legal, or has a first fault
 
@@ -43,10 +45,10 @@ legal_after first (e ∷ cs) h = by (broken_rule (without_places first) e.what) 
         ap (λ p. cons_option (option_map (λ r. (length (without_places first), r)) p) (later (without_places first ++ e.what ∷ []))) q ∙ (ap later (sym again) ∙ rest (head None q))
     by (Some r) q rest = let none = head (Some r) q in absurd cc
 
-first_or_legal : (entries : Entries) → ((f : Fault) × IsFirstFault entries f) ⊎ IsLegal (without_places entries)
+first_or_legal : (entries : Entries) → ((f : Fault) × IsFirstFault entries f) ⊎ IsLegal broken_rule (without_places entries)
 first_or_legal entries = by (breaks fault_of entries) refl
   where
-    by : (l : List (ℕ × Fault)) → breaks fault_of entries ≡ l → ((f : Fault) × IsFirstFault entries f) ⊎ IsLegal (without_places entries)
+    by : (l : List (ℕ × Fault)) → breaks fault_of entries ≡ l → ((f : Fault) × IsFirstFault entries f) ⊎ IsLegal broken_rule (without_places entries)
     by [] e = inr (legal_after [] entries e)
     by (p ∷ l) e = inl (p.1, (p.0, ap (λ (m : List (ℕ × Fault)). slice_get m 0) e))
 

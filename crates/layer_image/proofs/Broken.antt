@@ -8,6 +8,7 @@ use Rattle.grid_units.specs.declared.fault.Reason.TheVariants as reason
 use Rattle.layer_image.specs.Lookback.{Standing}
 use Rattle.layer_image.specs.Flashes.{is_flash, copies_at}
 use Rattle.layer_image.specs.Rules.{first_broken, applies, reaches_too_far, flashes_too_far, sizes_badly, is_far_in, flashes_too_many}
+use Rattle.grid_units.proofs.BoolLemmas.{neither}
 
 -- where a search finds nothing, no element passes
 none_found : {A : Type 0} (p : A → Bool) (xs ys : List A) (x : A) → find p (xs ++ x ∷ ys) ≡ None → p x ≡ false
@@ -48,10 +49,6 @@ well_sized s count c h =
     (reason.InRegion ∷ reason.NotInRegion ∷ reason.NoFormat ∷ reason.NoUnit ∷ reason.UnitConflict ∷ reason.FormatConflict ∷ reason.Redefined
     ∷ reason.UnknownMacro ∷ reason.UnknownAperture ∷ reason.NoAperture ∷ [])
     (reason.BadRepeat ∷ reason.TooManyDigits ∷ reason.TooFar ∷ reason.TooManyPads ∷ []) reason.BadSize h
-
-pub neither : (a b : Bool) → (a || b) ≡ false → (a ≡ false) × (b ≡ false)
-neither true b h = cc
-neither false b h = (refl, h)
 
 second : (a b : Bool) → (a && b) ≡ false → a ≡ true → b ≡ false
 second true b h t = h

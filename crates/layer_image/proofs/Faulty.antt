@@ -9,12 +9,13 @@ use Rattle.gerber_text.specs.declared.placed.Placed.{Placed}
 use Rattle.gerber_text.specs.Reading.{Entries}
 use Rattle.layer_image.specs.declared.flashes.Keep.{Keep}
 use Rattle.layer_image.specs.declared.judge.Judge.{Judge}
-use Rattle.layer_image.specs.declared.judge.Stop.{Stop}
+use Rattle.grid_units.specs.declared.stop.Stop.{Stop}
 use Rattle.layer_image.specs.Knows.{Judges}
-use Rattle.layer_image.specs.declared.judge.Stop.TheVariants as stop
+use Rattle.grid_units.specs.declared.stop.Stop.TheVariants as stop
 use Rattle.layer_image.specs.declared.scan.Scan.{Scan}
 use Rattle.layer_image.specs.Standing.{Meets}
-use Rattle.layer_image.specs.Faults.{without_places, fault_of, fail_at, IsFirstFault}
+use Rattle.layer_image.specs.Faults.{fault_of, fail_at, IsFirstFault}
+use Rattle.gerber_text.specs.Writing.{without_places}
 
 pub stopped : (keep : Keep) (cs ds : Entries) (e : Placed Command) (new : Scan) (s : Stop) → breaks fault_of cs ≡ [] → Meets keep (without_places cs) e.what new (Err s) → Tells (IsFirstFault (cs ++ e ∷ ds)) (fail_at e.place e.byte s)
 stopped keep cs ds e new stop.Memory none answer = tt

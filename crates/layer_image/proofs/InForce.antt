@@ -1,5 +1,5 @@
 -- Most operations break no rule, and a flash among them makes one flash.
-use Rattle.std.proofs.Common.{◌≡◌, ℕ, ◌+◌, ◌*◌, ◌/◌, ◌^◌, ◌<◌, ◌≤◌, ℤ, pos, ◌*ℤ◌, unsigned_abs, Bool, true, false, cond, not, ◌||◌, ◌&&◌, nat_le, nat_lt, List, [], ◌∷◌, map, length, Option, None, Some, Ok, unwrap_or, is_none, refl, sym, ap, subst, ◌∙◌, arith, mul-le-mul_right}
+use Rattle.std.proofs.Common.{◌≡◌, ℕ, ◌+◌, ◌*◌, ◌/◌, ◌^◌, ◌<◌, ◌≤◌, ℤ, pos, ◌*ℤ◌, unsigned_abs, true, false, cond, not, ◌||◌, ◌&&◌, nat_le, nat_lt, List, [], ◌∷◌, map, length, Option, None, Some, Ok, unwrap_or, is_none, refl, sym, ap, subst, ◌∙◌, arith, mul-le-mul_right}
 use Rattle.std.proofs.lemmas.Int.{unsigned_abs-mul}
 use Rattle.std.proofs.lemmas.Bool.Decides.{nat_tests}
 use Rattle.std.specs.Option.{option_map_or, option_and_then}
@@ -36,6 +36,7 @@ use Rattle.layer_image.proofs.Grids.{no_multiple, not_far}
 use Rattle.layer_image.proofs.Knowing.{knows_more, same_rule}
 use Rattle.layer_image.proofs.Moves.{what_moved}
 use Rattle.layer_image.proofs.Places.{test_no}
+use Rattle.grid_units.proofs.BoolLemmas.{and_false}
 
 -- an operation breaks no rule where these rules do not apply
 pub none_broken : (s : Standing) (count : ℕ) (action : Action) (x y i j : Option ℤ)
@@ -135,10 +136,6 @@ one_point : (s : Standing) (l : Lengths) (x y : Option ℤ) → NamedLengths l s
 one_point s l x y h c r = one_copy (grid_at s x y) c r ∙ (λ k. record { x = length_is s l h (unwrap_or x s.x) k; y = length_is s l h (unwrap_or y s.y) k } ∷ [])
 
 -- ---- operations
-
-and_false : (b : Bool) → (b && false) ≡ false
-and_false true = refl
-and_false false = refl
 
 some_selected : (definition : ℕ → Option Aperture) (selected : Option ℕ) (shape : Aperture) → option_and_then definition selected ≡ Some shape → is_none selected ≡ false
 some_selected definition None shape h = absurd cc

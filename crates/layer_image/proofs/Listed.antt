@@ -8,11 +8,12 @@ use Rattle.grid_units.specs.declared.fault.Fault.{Fault}
 use Rattle.grid_units.specs.declared.fault.Reason.{Reason}
 use Rattle.gerber_rows.specs.declared.command.Command.{Command}
 use Rattle.gerber_text.specs.Reading.{Entries}
-use Rattle.layer_image.specs.Faults.{without_places, fault_of}
+use Rattle.layer_image.specs.Faults.{fault_of}
 use Rattle.layer_image.specs.Flashes.{flashes_of}
 use Rattle.layer_image.specs.Layers.{LayerReasons}
 use Rattle.layer_image.specs.Lookback.{standing}
 use Rattle.layer_image.specs.Rules.{all_rules, applies, broken_rule, first_broken}
+use Rattle.gerber_text.specs.Writing.{without_places}
 
 -- what a search finds is in the list
 found : {A : Type 0} (p : A → Bool) (xs : List A) (x : A) → find p xs ≡ Some x → Contains xs x

@@ -8,17 +8,20 @@ use Rattle.grid_units.specs.declared.fault.Fail.TheVariants as fails
 use Rattle.grid_units.proofs.Binds.{bind_ok}
 use Rattle.gerber_text.specs.declared.reader.WordReader.{WordReader}
 use Rattle.gerber_text.specs.Cut.{Mark}
-use Rattle.gerber_text.specs.Reading.{Entries, text_limit, commands_from, shown, Shows, Reads, KeptOf, KeptBefore, entries_behind}
+use Rattle.gerber_text.specs.Reading.{Entries, commands_from, shown, Shows, Reads, KeptOf, KeptBefore, entries_behind}
 use Rattle.gerber_text.specs.Standing.{StandsBehind, FailedBehind, FailsWith}
 use Rattle.gerber_text.proofs.Shown.{shown_spelled}
 use Rattle.gerber_text.proofs.Whole.{shows_reads}
 use Rattle.gerber_text.proofs.Longer.{fails_longer}
 use Rattle.layer_image.specs.declared.flash.Flash.{Flash}
 use Rattle.layer_image.specs.declared.flashes.Keep.{Keep}
-use Rattle.layer_image.specs.Faults.{without_places, IsFirstFault}
+use Rattle.layer_image.specs.Faults.{IsFirstFault}
 use Rattle.layer_image.specs.Layers.{LayerImage, ReadsLayer}
-use Rattle.layer_image.specs.Rules.{IsLegal}
+use Rattle.grid_units.specs.Lists.{IsLegal}
 use Rattle.layer_image.specs.Standing.{ShowsLayerFault, CoreEnds, ReadsFlashes, SumImage, ReadsSum}
+use Rattle.grid_units.specs.Limits.{text_limit}
+use Rattle.gerber_text.specs.Writing.{without_places}
+use Rattle.layer_image.specs.Rules.{broken_rule}
 
 short_ok : (t : Bool) (x cs : Entries) (e : Fault) → cond t (Err e) (Ok x) ≡ Ok cs → x ≡ cs
 short_ok true x cs e h = absurd cc
@@ -48,7 +51,7 @@ rule_shown text words gone cs (Err fails.Memory) (fails.Refused f) stands failed
 rule_shown text words gone cs (Err (fails.Refused g)) (fails.Refused f) stands failed shows keeps h = let k = keeps (fails.Refused g) failed in inl (k.0, gone ++ cs, k.2, h)
 
 -- a fault of reading is shown where the commands before it are legal
-pub words_shown : (text : List ℕ) (words : WordReader) (gone cs : Entries) (e : Fail) → FailedBehind words gone text e → KeptBefore text e (gone ++ cs) → IsLegal (without_places (gone ++ cs)) → Tells (ShowsLayerFault text) e
+pub words_shown : (text : List ℕ) (words : WordReader) (gone cs : Entries) (e : Fail) → FailedBehind words gone text e → KeptBefore text e (gone ++ cs) → IsLegal broken_rule (without_places (gone ++ cs)) → Tells (ShowsLayerFault text) e
 words_shown text words gone cs fails.Memory failed kept legal = tt
 words_shown text words gone cs (fails.Refused f) failed kept legal = inr (gone ++ cs, failed.fails.told, kept, legal)
 
@@ -75,7 +78,7 @@ pub layer_shows_reads : (text : List ℕ) (e : Fail) → Tells (ShowsLayerFault 
 layer_shows_reads text fails.Memory h = tt
 layer_shows_reads text (fails.Refused f) h = shown_read text f h
 
-pub end_err : (text : List ℕ) (gone : Entries) (keep : Keep) (e : Fail) → AnswersAlways (entries_behind gone) (λ answer. Reads text answer) (Err e) → KeptBefore text e gone → IsLegal (without_places gone) → CoreEnds text keep (Err e)
+pub end_err : (text : List ℕ) (gone : Entries) (keep : Keep) (e : Fail) → AnswersAlways (entries_behind gone) (λ answer. Reads text answer) (Err e) → KeptBefore text e gone → IsLegal broken_rule (without_places gone) → CoreEnds text keep (Err e)
 end_err text gone keep fails.Memory h kept legal = h
 end_err text gone keep (fails.Refused f) h kept legal = inr (gone, h, kept, legal)
 

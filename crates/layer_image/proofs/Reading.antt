@@ -7,11 +7,14 @@ use Rattle.grid_units.specs.declared.fault.Fail.{Fail}
 use Rattle.grid_units.specs.declared.fault.Fail.TheVariants as fails
 use Rattle.grid_units.proofs.Binds.{bind_ok}
 use Rattle.gerber_text.specs.Cut.{Mark, has_end}
-use Rattle.gerber_text.specs.Reading.{Entries, text_limit, commands_from, shown, Reads, KeptOf, Keeps}
+use Rattle.gerber_text.specs.Reading.{Entries, commands_from, shown, Reads, KeptOf, Keeps}
 use Rattle.gerber_text.proofs.Shown.{shown_spelled}
-use Rattle.layer_image.specs.Faults.{without_places, IsFirstFault}
+use Rattle.layer_image.specs.Faults.{IsFirstFault}
 use Rattle.layer_image.specs.Layers.{LayerImage, ReadsLayer, image_of}
-use Rattle.layer_image.specs.Rules.{IsLegal}
+use Rattle.grid_units.specs.Lists.{IsLegal}
+use Rattle.grid_units.specs.Limits.{text_limit}
+use Rattle.gerber_text.specs.Writing.{without_places}
+use Rattle.layer_image.specs.Rules.{broken_rule}
 
 ended_ok : (t u : Bool) (x cs : Entries) (e d : Fault) → cond t (Err e) (cond u (Ok x) (Err d)) ≡ Ok cs → x ≡ cs
 ended_ok true u x cs e d h = absurd cc
@@ -43,11 +46,11 @@ by_rule text entries (Err fails.Memory) (fails.Refused f) k h = inl (k.1.0, entr
 by_rule text entries (Err (fails.Refused g)) (fails.Refused f) k h = inl (k.1.0, entries, k.1.2, h)
 
 -- the fault of reading, where the commands before it are legal
-pub by_reading : (text : List ℕ) (entries : Entries) (e : Fail) → Keeps {X = Unit {0}} text entries (Err e) → IsLegal (without_places entries)
+pub by_reading : (text : List ℕ) (entries : Entries) (e : Fail) → Keeps {X = Unit {0}} text entries (Err e) → IsLegal broken_rule (without_places entries)
     → Answers {T = LayerImage} (λ layer. layer) (λ answer. ReadsLayer text answer) (Err e)
 by_reading text entries fails.Memory k h = tt
 by_reading text entries (fails.Refused f) k h = inr (entries, k.0, k.1, h)
 
 -- no fault
-pub by_both : (text : List ℕ) (entries : Entries) (layer : LayerImage) → Reads text (Ok entries) → IsLegal (without_places entries) → layer ≡ image_of entries → ReadsLayer text (Ok layer)
+pub by_both : (text : List ℕ) (entries : Entries) (layer : LayerImage) → Reads text (Ok entries) → IsLegal broken_rule (without_places entries) → layer ≡ image_of entries → ReadsLayer text (Ok layer)
 by_both text entries layer r legal is = subst (λ (l : LayerImage). ReadsLayer text (Ok l)) (sym is) (r, legal, refl)

@@ -4,7 +4,7 @@ use Rattle.std.specs.List.{filter_map, cons_option, list_all}
 use Rattle.std.specs.Option.{option_map}
 use Rattle.std.proofs.lemmas.Bool.{cases_lt}
 use Rattle.std.proofs.lemmas.List.{map-append, take-append-drop, length-take-le}
-use Rattle.grid_units.specs.Lists.{breaks, break_at, positions_after}
+use Rattle.grid_units.specs.Lists.{breaks, break_at, positions_after, IsLegal}
 use Rattle.grid_units.specs.Results.{◌>>=◌, fault, at}
 use Rattle.grid_units.specs.declared.fault.Fault.{Fault}
 use Rattle.grid_units.specs.declared.fault.Reason.{Reason}
@@ -15,12 +15,14 @@ use Rattle.gerber_rows.specs.declared.command.Command.{Command}
 use Rattle.gerber_rows.specs.Meaning.{meaning}
 use Rattle.gerber_text.specs.declared.placed.Placed.{Placed}
 use Rattle.gerber_text.specs.Cut.{Mark, marks, bytes_of, first_offset, has_end}
-use Rattle.gerber_text.specs.Reading.{Entries, KeptOf, Reads, behind_end, commands_from, is_blank, is_plotting, item_limit, may_follow, placed, read_in, shown, spelled, text_limit}
+use Rattle.gerber_text.specs.Reading.{Entries, KeptOf, Reads, behind_end, commands_from, is_blank, is_plotting, may_follow, placed, read_in, shown, spelled}
 use Rattle.gerber_text.proofs.Unique.{one_read, same_items}
-use Rattle.layer_image.specs.Faults.{without_places, fault_of, IsFirstFault}
+use Rattle.layer_image.specs.Faults.{fault_of, IsFirstFault}
 use Rattle.layer_image.specs.Layers.{LayerImage, ReadsLayer, image_of}
-use Rattle.layer_image.specs.Rules.{broken_rule, IsLegal}
+use Rattle.layer_image.specs.Rules.{broken_rule}
 use Rattle.layer_image.proofs.Reading.{kept_all}
+use Rattle.grid_units.specs.Limits.{text_limit, item_limit}
+use Rattle.gerber_text.specs.Writing.{without_places}
 
 -- ---- legal lists have no fault
 
@@ -37,14 +39,14 @@ sound_after first (e ∷ cs) h =
     ap (λ (o : Option Reason). cons_option (option_map (λ (f : Fault). (length first, f)) (option_map (fault e.place e.byte) o)) (filter_map (break_at fault_of) (positions_after (first ++ e ∷ []) cs))) both.0 ∙ rest
 
 -- a legal list has no first fault
-sound : (cs : Entries) → IsLegal (without_places cs) → breaks fault_of cs ≡ []
+sound : (cs : Entries) → IsLegal broken_rule (without_places cs) → breaks fault_of cs ≡ []
 sound cs h = sound_after [] cs h
 
 none_or_some : (o : Option (ℕ × Fault)) (p : ℕ × Fault) → o ≡ None → o ≡ Some p → ⊥
 none_or_some None p e k = cc
 none_or_some (Some q) p e k = cc
 
-no_fault : (cs : Entries) (f : Fault) → IsLegal (without_places cs) → IsFirstFault cs f → ⊥
+no_fault : (cs : Entries) (f : Fault) → IsLegal broken_rule (without_places cs) → IsFirstFault cs f → ⊥
 no_fault cs f legal h = none_or_some (slice_get (breaks fault_of cs) 0) (h.0, f) (ap (λ (l : List (ℕ × Fault)). slice_get l 0) (sound cs legal)) h.1
 
 front : (l m : List (ℕ × Fault)) (x : ℕ × Fault) → slice_get l 0 ≡ Some x → slice_get (l ++ m) 0 ≡ Some x
@@ -213,7 +215,7 @@ module _ (text : List ℕ) where
       ]
 
   -- first commands that are legal have no fault among fewer of them
-  no_early_fault : (n m : ℕ) (cs ds : Entries) (f : Fault) → KeptOf text n cs → KeptOf text m ds → n ≤ m → IsLegal (without_places ds) → IsFirstFault cs f → ⊥
+  no_early_fault : (n m : ℕ) (cs ds : Entries) (f : Fault) → KeptOf text n cs → KeptOf text m ds → n ≤ m → IsLegal broken_rule (without_places ds) → IsFirstFault cs f → ⊥
   no_early_fault n m cs ds f h k le legal first =
       let more = among n m cs ds h k le in
       no_fault ds f legal (subst (λ (es : Entries). IsFirstFault es f) (sym more.1) (longer cs more.0 f first))
@@ -238,7 +240,7 @@ module _ (text : List ℕ) where
   ]
 
   -- the fault of a rule stands before that of reading
-  rule_or_reading : (f g : Fault) (n m : ℕ) (cs ds : Entries) → KeptOf text n cs → IsFirstFault cs f → Reads text (Err g) → g.place ≡ suc m → KeptOf text m ds → IsLegal (without_places ds) → ⊥
+  rule_or_reading : (f g : Fault) (n m : ℕ) (cs ds : Entries) → KeptOf text n cs → IsFirstFault cs f → Reads text (Err g) → g.place ≡ suc m → KeptOf text m ds → IsLegal broken_rule (without_places ds) → ⊥
   rule_or_reading f g n m cs ds h first r place k legal = no_early_fault n m cs ds f h k (omega (arith, kept_before n cs g h r, place)) legal first
 
   same_fault : (f g : Fault) → ReadsLayer text (Err f) → ReadsLayer text (Err g) → f ≡ g

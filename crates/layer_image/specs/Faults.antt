@@ -1,5 +1,5 @@
 -- Commands with their places, and the fault of the first that breaks a rule.
-use Rattle.std.specs.Prelude.{◌≡◌, ℕ, List, map, Option, Some, slice_get}
+use Rattle.std.specs.Prelude.{◌≡◌, ℕ, Option, Some, slice_get}
 use Rattle.std.specs.Option.{option_map}
 use Rattle.grid_units.specs.Lists.{breaks}
 use Rattle.grid_units.specs.Results.{fault}
@@ -9,13 +9,10 @@ use Rattle.grid_units.specs.declared.fault.Fail.TheVariants as fails
 use Rattle.gerber_rows.specs.declared.command.Command.{Command}
 use Rattle.gerber_text.specs.declared.placed.Placed.{Placed}
 use Rattle.gerber_text.specs.Reading.{Entries}
-use Rattle.layer_image.specs.declared.judge.Stop.{Stop}
-use Rattle.layer_image.specs.declared.judge.Stop.TheVariants as stop
+use Rattle.grid_units.specs.declared.stop.Stop.{Stop}
+use Rattle.grid_units.specs.declared.stop.Stop.TheVariants as stop
 use Rattle.layer_image.specs.Rules.{broken_rule}
-
--- commands without their places (docs/DEFINITIONS.md, Faults)
-abbrev pub without_places : Entries → List Command
-without_places entries = map (λ entry. entry.what) entries
+use Rattle.gerber_text.specs.Writing.{without_places}
 
 -- the fault of a command that breaks a rule after those before it, at its place (docs/DEFINITIONS.md, Legal lists)
 abbrev pub fault_of : Entries → Placed Command → Option Fault

@@ -24,8 +24,9 @@ use Rattle.layer_image.specs.declared.flash.Why.TheVariants as why
 use Rattle.layer_image.specs.declared.flash.What.{What}
 use Rattle.layer_image.specs.declared.flash.What.TheVariants as what
 use Rattle.layer_image.specs.declared.flash.Flash.{Flash}
-use Rattle.layer_image.specs.Lookback.{Standing, standing, aperture_in, one}
+use Rattle.layer_image.specs.Lookback.{Standing, standing, aperture_in}
 use Rattle.layer_image.specs.Numbers.{fine_length, half_length}
+use Rattle.gerber_rows.specs.Pieces.{one}
 
 -- ---- copies
 

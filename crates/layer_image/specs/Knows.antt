@@ -4,8 +4,8 @@ use Rattle.std.specs.Option.{option_or}
 use Rattle.gerber_rows.specs.declared.command.Command.{Command}
 use Rattle.layer_image.specs.declared.flashes.Keep.{Keep}
 use Rattle.layer_image.specs.declared.judge.Judge.{Judge}
-use Rattle.layer_image.specs.declared.judge.Stop.{Stop}
-use Rattle.layer_image.specs.declared.judge.Stop.TheVariants.{Memory, Refused}
+use Rattle.grid_units.specs.declared.stop.Stop.{Stop}
+use Rattle.grid_units.specs.declared.stop.Stop.TheVariants.{Memory, Refused}
 use Rattle.layer_image.specs.Lookback.{Standing, standing, unit_named, format_named, region_named, definition_named, defines_macro, number_named, x_named, y_named, turn_named, scale_named, block_named}
 use Rattle.layer_image.specs.Rules.{broken_rule}
 use Rattle.layer_image.specs.Flashes.{flashes_of, flashes_at}

@@ -7,9 +7,11 @@ use Rattle.pad_shapes.specs.declared.pad.Pad.{Pad}
 use Rattle.gerber_text.specs.Reading.{Entries, Reads, SpellsText, KeptOf, KeptBefore}
 use Rattle.layer_image.specs.declared.flash.Flash.{Flash}
 use Rattle.layer_image.specs.Flashes.{flashes_of, pads_of}
-use Rattle.layer_image.specs.Faults.{without_places, IsFirstFault}
+use Rattle.layer_image.specs.Faults.{IsFirstFault}
 use Rattle.layer_image.specs.Functions.{file_function_of}
-use Rattle.layer_image.specs.Rules.{IsLegal, all_rules}
+use Rattle.layer_image.specs.Rules.{all_rules, broken_rule}
+use Rattle.gerber_text.specs.Writing.{without_places}
+use Rattle.grid_units.specs.Lists.{IsLegal}
 
 -- what is read of a layer (docs/DEFINITIONS.md, Layers)
 pub record LayerImage : Type 0 where
@@ -31,10 +33,10 @@ image_of entries = record {
 -- some first items of it spell commands of which this one is the first to break a rule; or it is the fault of reading,
 -- and the commands before it are legal (docs/DEFINITIONS.md, Layers).
 abbrev pub ReadsLayer : List ℕ → Result LayerImage Fault → Type 0
-ReadsLayer text (Ok image) = Reads text (Ok image.commands) × IsLegal (without_places image.commands) × (image ≡ image_of image.commands)
+ReadsLayer text (Ok image) = Reads text (Ok image.commands) × IsLegal broken_rule (without_places image.commands) × (image ≡ image_of image.commands)
 ReadsLayer text (Err f) =
     ((kept : ℕ) × (entries : Entries) × KeptOf text kept entries × IsFirstFault entries f)
-    ⊎ ((entries : Entries) × Reads text (Err f) × KeptBefore text (fails.Refused f) entries × IsLegal (without_places entries))
+    ⊎ ((entries : Entries) × Reads text (Err f) × KeptBefore text (fails.Refused f) entries × IsLegal broken_rule (without_places entries))
 
 -- texts that spell equal commands, at whatever places, have equal flashes, pads and file function (docs/DEFINITIONS.md, Layers)
 abbrev pub EqualCommands : Type 0
@@ -48,7 +50,7 @@ OneReading = (text : List ℕ) (a b : Result LayerImage Fault) → ReadsLayer te
 -- a text spells these commands, and they are legal (docs/DEFINITIONS.md, Layers)
 pub record IsLayerText (text : List ℕ) (commands : Entries) : Type 0 where
   pub spells : SpellsText text commands
-  pub legal : IsLegal (without_places commands)
+  pub legal : IsLegal broken_rule (without_places commands)
 
 -- a text reads as the layer of commands just where it spells them and they are legal (docs/DEFINITIONS.md, Layers)
 abbrev pub LayerTexts : Type 0

@@ -15,6 +15,7 @@ use Rattle.gerber_rows.specs.declared.command.Command.{Command}
 use Rattle.gerber_rows.specs.declared.command.Command.TheVariants as command
 use Rattle.layer_image.specs.declared.aperture.Aperture.{Aperture}
 use Rattle.layer_image.specs.declared.aperture.Aperture.TheVariants as aperture
+use Rattle.gerber_rows.specs.Pieces.{one}
 
 -- ---- what one command names
 
@@ -114,10 +115,6 @@ pub record Standing : Type 0 where
   pub turn : ℤ
   pub scale : ℤ
   pub block : Block
-
--- 1, in units of 10^-8 (docs/FORMATS.md, Numbers)
-abbrev pub one : ℤ
-one = pos 100000000
 
 -- each by what was named last, else as at the start (docs/FORMATS.md, Rules of a layer)
 abbrev pub standing : List Command → Standing

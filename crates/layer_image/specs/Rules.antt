@@ -2,7 +2,6 @@
 use Rattle.std.specs.Prelude.{◌≡◌, ℕ, ◌+◌, ◌%◌, ℤ, pos, Bool, true, false, not, ◌&&◌, ◌||◌, ◌==◌, nat_lt, int_lt, int_le, unsigned_abs, List, [], ◌∷◌, length, drop, Option, is_some, is_none}
 use Rattle.std.specs.Option.{option_map_or}
 use Rattle.std.specs.List.{find, list_any}
-use Rattle.grid_units.specs.Lists.{breaks}
 use Rattle.grid_units.specs.Points.{GridPoint}
 use Rattle.grid_units.specs.Numbers.{picometres, is_far}
 use Rattle.grid_units.specs.declared.fault.Reason.{Reason}
@@ -233,7 +232,3 @@ first_broken s count c = find (applies s count c) all_rules
 -- the first rule that a command breaks after the commands before it (docs/DEFINITIONS.md, Legal lists)
 abbrev pub broken_rule : List Command → Command → Option Reason
 broken_rule before c = first_broken (standing before) (length (flashes_of before)) c
-
--- No command breaks a rule after those before it (docs/DEFINITIONS.md, Legal lists).
-abbrev pub IsLegal : List Command → Type 0
-IsLegal commands = breaks broken_rule commands ≡ []

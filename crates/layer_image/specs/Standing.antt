@@ -1,6 +1,6 @@
 -- What a reader of a layer in pieces holds of the bytes so far.
 use Rattle.std.specs.Prelude.{◌≡◌, ◌⊎◌, ℕ, true, List, [], ◌∷◌, ◌++◌, Option, None, Some, Result, Ok, Err}
-use Rattle.grid_units.specs.Lists.{breaks}
+use Rattle.grid_units.specs.Lists.{breaks, IsLegal}
 use Rattle.grid_units.specs.declared.fault.Fault.{Fault}
 use Rattle.grid_units.specs.declared.fault.Fail.{Fail}
 use Rattle.grid_units.specs.declared.fault.Fail.TheVariants as fails
@@ -11,8 +11,8 @@ use Rattle.std.specs.Global.{Vec}
 use Rattle.gerber_text.specs.Standing.{StandsBehind, held}
 use Rattle.layer_image.specs.declared.flash.Flash.{Flash}
 use Rattle.layer_image.specs.declared.flashes.Keep.{Keep}
-use Rattle.layer_image.specs.declared.judge.Stop.{Stop}
-use Rattle.layer_image.specs.declared.judge.Stop.TheVariants.{Memory, Refused}
+use Rattle.grid_units.specs.declared.stop.Stop.{Stop}
+use Rattle.grid_units.specs.declared.stop.Stop.TheVariants.{Memory, Refused}
 use Rattle.layer_image.specs.declared.scan.Scan.{Scan}
 use Rattle.layer_image.specs.declared.reader.Core.{Core}
 use Rattle.layer_image.specs.declared.reader.FlashReader.{FlashReader}
@@ -20,13 +20,14 @@ use Rattle.layer_image.specs.declared.reader.LayerReader.{LayerReader}
 use Rattle.layer_image.specs.declared.reader.SumReader.{SumReader}
 use Rattle.layer_image.specs.declared.reader.LayerSum.{LayerSum}
 use Rattle.pad_shapes.specs.declared.pad.Pad.{Pad}
-use Rattle.layer_image.specs.Faults.{without_places, fault_of, IsFirstFault}
+use Rattle.layer_image.specs.Faults.{fault_of, IsFirstFault}
 use Rattle.layer_image.specs.Flashes.{others_in}
 use Rattle.layer_image.specs.Functions.{file_function_of}
 use Rattle.layer_image.specs.Keeping.{keeps_commands}
 use Rattle.layer_image.specs.Knows.{Knows}
 use Rattle.layer_image.specs.Layers.{LayerImage, ReadsLayer}
-use Rattle.layer_image.specs.Rules.{broken_rule, IsLegal}
+use Rattle.layer_image.specs.Rules.{broken_rule}
+use Rattle.gerber_text.specs.Writing.{without_places}
 
 -- A text shows a layer's fault, whatever follows: some first items of it spell commands of which this one is the first to
 -- break a rule; or it is the fault that the text shows, and the commands before it are legal
@@ -34,7 +35,7 @@ use Rattle.layer_image.specs.Rules.{broken_rule, IsLegal}
 abbrev pub ShowsLayerFault : List ℕ → Fault → Type 0
 ShowsLayerFault text f =
     ((kept : ℕ) × (entries : Entries) × KeptOf text kept entries × IsFirstFault entries f)
-    ⊎ ((entries : Entries) × Shows text (Err f) × KeptBefore text (fails.Refused f) entries × IsLegal (without_places entries))
+    ⊎ ((entries : Entries) × Shows text (Err f) × KeptBefore text (fails.Refused f) entries × IsLegal broken_rule (without_places entries))
 
 -- the scan has met just these commands (docs/DEFINITIONS.md, Legal lists)
 pub record Met (scan : Scan) (keep : Keep) (before : List Command) : Type 0 where
@@ -51,7 +52,7 @@ Meets keep before c new (Err Memory) = Unit {0}
 -- the scan has met just these commands, and none of them breaks a rule (docs/DEFINITIONS.md, Legal lists)
 pub record Scanned (scan : Scan) (keep : Keep) (entries : Entries) : Type 0 where
   pub met : Met scan keep (without_places entries)
-  pub legal : IsLegal (without_places entries)
+  pub legal : IsLegal broken_rule (without_places entries)
   pub sound : breaks fault_of entries ≡ []
 
 -- The reader has read this text, which shows no fault: the word reader has let go of its commands, the scan has met them,

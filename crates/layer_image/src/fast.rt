@@ -13,9 +13,10 @@ ghost use Rattle.layer_image.specs.Knows.{Knows, Judges, told};
 use crate::flash::Flash;
 use crate::flashes::{Flashes, Keep};
 use crate::in_force::FastPath;
-use crate::judge::{Judge, Stop};
+use crate::judge::Judge;
 use crate::rules::is_flash;
 use gerber_rows::{Action, Command};
+use grid_units::Stop;
 use std::alloc::Global;
 
 /// A judge, and what is in force for most operations.

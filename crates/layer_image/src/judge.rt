@@ -7,7 +7,7 @@ ghost use Rattle.gerber_rows.specs.declared.command.Action.{Action as TheAction}
 ghost use Rattle.gerber_rows.specs.declared.command.Command.{Command};
 ghost use Rattle.gerber_rows.specs.declared.command.Command.TheVariants as command;
 ghost use Rattle.layer_image.specs.declared.flashes.Keep.{Keep as TheKeep};
-ghost use Rattle.layer_image.specs.declared.judge.Stop.TheVariants.{Memory};
+ghost use Rattle.grid_units.specs.declared.stop.Stop.TheVariants.{Memory};
 ghost use Rattle.layer_image.specs.Lookback.{aperture_in, single};
 ghost use Rattle.layer_image.specs.Flashes.{copies_at, flashed, is_flash};
 ghost use Rattle.layer_image.specs.Rules.{first_broken, flashes_too_far, is_badly_sized, is_far_pad, is_far_point};
@@ -21,7 +21,7 @@ use crate::force::origin;
 use crate::rules::is_flash;
 use crate::tables::{Apertures, Names};
 use gerber_rows::{Action, Block, Command, Format, Template};
-use grid_units::{Dec, Reason, Unit};
+use grid_units::{Dec, Reason, Stop, Unit};
 use std::alloc::{AllocError, Global};
 
 /// What the commands so far say to the next one, and the flashes that they made.
@@ -40,21 +40,6 @@ pub(crate) struct Judge {
     pub(crate) scale: Dec,
     pub(crate) block: Block,
     pub(crate) flashes: Flashes,
-}
-
-/// Why a step stops.
-#[derive(Clone, Copy)]
-pub(crate) enum Stop {
-    Memory,
-    Refused(Reason),
-}
-
-impl From<AllocError> for Stop {
-    ghost from_gives = { λ _ stop. stop ≡ Memory };
-
-    fn from(_error: AllocError) -> Self {
-        Stop::Memory
-    }
 }
 
 impl Judge {

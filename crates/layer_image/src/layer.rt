@@ -3,7 +3,7 @@
 ghost use Rattle.std.specs.Prelude.{◌≡◌};
 ghost use Rattle.std.specs.Option.{option_copied};
 ghost use Rattle.grid_units.specs.Results.{Answers};
-ghost use Rattle.layer_image.specs.Faults.{without_places};
+ghost use Rattle.gerber_text.specs.Writing.{without_places};
 ghost use Rattle.layer_image.specs.Functions.{file_function_of};
 ghost use Rattle.layer_image.specs.Layers.{ReadsLayer, EqualCommands, OneReading, image_of};
 

@@ -11,10 +11,9 @@ ghost use Rattle.layer_image.specs.Faults.{fail_at, IsFirstFault};
 use crate::fast::FastJudge;
 use crate::flashes::Keep;
 use crate::function::function_named;
-use crate::judge::Stop;
 use gerber_rows::Command;
 use gerber_text::Placed;
-use grid_units::{Fail, Fault, Text};
+use grid_units::{Fail, Fault, Stop, Text};
 use std::alloc::{AllocError, Global};
 
 /// What the commands so far say of the layer.

@@ -8,6 +8,7 @@ use Rattle.std.proofs.lemmas.List.{map-append}
 use Rattle.std.proofs.lemmas.Map.Text.{is_eq-slice_cmp}
 use Rattle.manifest.specs.declared.Entry.{Entry}
 use Rattle.manifest.specs.Manifest.{Row, entry_of, field, is_repeated}
+use Rattle.grid_units.proofs.BoolLemmas.{twice_not}
 
 any_more : (p : Entry → Bool) (xs : List Entry) (x : Entry) → list_any p (xs ++ x ∷ []) ≡ cond (p x) true (list_any p xs)
 any_more p [] x = by (p x)
@@ -29,10 +30,6 @@ had_more before after row key name old new grown is e was =
     let all : map entry_of after ≡ map entry_of before ++ entry_of row ∷ [] = ap (map entry_of) grown ∙ map-append entry_of before (row ∷ []) in
     let same : is_eq (slice_cmp nat_cmp key name) ≡ bytes_eq (field 1 row) name = is_eq-slice_cmp key name ∙ ap (λ (k : List ℕ). bytes_eq k name) is in
     e ∙ rw (same, was) (sym (ap (is_repeated name) all ∙ any_more (λ entry. bytes_eq entry.name name) (map entry_of before) (entry_of row)))
-
-twice_not : (b : Bool) → not (not b) ≡ b
-twice_not true = refl
-twice_not false = refl
 
 -- a name that is not new to the set was there before
 pub was_there : (name key : List ℕ) (earlier : List Entry) (had is_new : Bool) → key ≡ name → is_new ≡ not had → had ≡ is_repeated key earlier → not is_new ≡ is_repeated name earlier

@@ -13,7 +13,7 @@ use Rattle.grid_units.specs.declared.fault.Fail.{Fail}
 use Rattle.grid_units.specs.declared.fault.Fail.TheVariants as fails
 use Rattle.manifest.specs.declared.Entry.{Entry}
 use Rattle.manifest.specs.Manifest.{Row, broken_behind, broken_rule, entries_of, entry_of, field, is_repeated, unless_wrong, wrong_together}
-use Rattle.manifest.specs.OneRecord.{judged, unless_broken}
+use Rattle.manifest.specs.Inner.OneRecord.{judged, unless_broken}
 
 broken : (o : Option Reason) (given : Entry) (place : ℕ) (f : Fault) → Err f ≡ at place 0 (unless_broken o given) → (why : Reason) × (o ≡ Some why) × (f ≡ fault place 0 why)
 broken None given place f e = absurd cc

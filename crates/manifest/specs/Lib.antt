@@ -1,2 +1,2 @@
 pub mod Manifest
-pub mod OneRecord
+pub mod Inner

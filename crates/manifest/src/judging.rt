@@ -7,8 +7,8 @@ ghost use Rattle.csv.specs.Records.{fields_of};
 ghost use Rattle.grid_units.specs.Results.{Answers, at, fault};
 ghost use Rattle.manifest.specs.Manifest as naming;
 ghost use Rattle.manifest.specs.Manifest.{field, is_control, is_plain_text, is_well_formed, manifest_of};
-ghost use Rattle.manifest.specs.OneRecord as reading;
-ghost use Rattle.manifest.specs.OneRecord.{judged};
+ghost use Rattle.manifest.specs.Inner.OneRecord as reading;
+ghost use Rattle.manifest.specs.Inner.OneRecord.{judged};
 
 use crate::names::Name;
 use crate::{Entry, Role};

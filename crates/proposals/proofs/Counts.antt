@@ -1,14 +1,11 @@
 -- How often a test passes, and at which elements.
-use Rattle.std.proofs.Common.{◌≡◌, ◌∙◌, ◌<◌, ◌≤◌, ◌+◌, ◌||◌, ◌&&◌, ℕ, Bool, true, false, cond, List, [], ◌∷◌, ◌++◌, length, map, suc, arith, refl, sym, ap, None}
+use Rattle.std.proofs.Common.{◌≡◌, ◌∙◌, ◌<◌, ◌≤◌, ◌+◌, ◌||◌, ℕ, Bool, true, false, cond, List, [], ◌∷◌, ◌++◌, length, map, suc, arith, refl, sym, ap, None}
 use Rattle.std.specs.Prelude.{nat_lt}
 use Rattle.std.specs.List.{list_any, list_all, filter, count_by, position, position_or_len}
 use Rattle.std.proofs.lemmas.Bool.{false≢true}
 use Rattle.std.proofs.lemmas.Bool.Decides.{nat_tests}
 use Rattle.std.proofs.lemmas.List.Sums.{sum_by-cons, sum_by-append}
-
-pub both : (a b : Bool) → (a && b) ≡ true → (a ≡ true) × (b ≡ true)
-both true b h = (refl, h)
-both false b h = absurd (false≢true h)
+use Rattle.grid_units.proofs.BoolLemmas.{both_true}
 
 or_first : (a b : Bool) → a ≡ true → (a || b) ≡ true
 or_first true b e = refl
@@ -24,8 +21,8 @@ one b = cond b 1 0
 module _ {A : Type 0} where
   -- a test that all elements pass
   pub all_at : (p : A → Bool) (before : List A) (x : A) (after : List A) → list_all p (before ++ x ∷ after) ≡ true → p x ≡ true
-  all_at p [] x after h = (both (p x) (list_all p after) h).0
-  all_at p (y ∷ before) x after h = all_at p before x after (both (p y) (list_all p (before ++ x ∷ after)) h).1
+  all_at p [] x after h = (both_true (p x) (list_all p after) h).0
+  all_at p (y ∷ before) x after h = all_at p before x after (both_true (p y) (list_all p (before ++ x ∷ after)) h).1
 
   -- a test that some element passes
   pub found : (f : A → Bool) (xs : List A) → list_any f xs ≡ true → (q : A) × (f q ≡ true) × ((p : A → Bool) → p q ≡ true → list_any p xs ≡ true)

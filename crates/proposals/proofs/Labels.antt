@@ -1,5 +1,5 @@
 -- The names of a manifest differ where those of the files do, and may stand in it where those may.
-use Rattle.std.proofs.Common.{◌≡◌, ◌∙◌, ◌<◌, ◌≤◌, ◌&&◌, ◌||◌, ◌==◌, ℕ, Bool, true, false, not, List, ◌∷◌, ◌++◌, length, arith, refl, sym, ap, subst}
+use Rattle.std.proofs.Common.{◌≡◌, ◌∙◌, ◌<◌, ◌≤◌, ◌||◌, ◌==◌, ℕ, Bool, true, false, not, List, ◌∷◌, ◌++◌, length, arith, refl, sym, ap, subst}
 use Rattle.std.specs.Prelude.{nat_lt, if◌then◌else◌}
 use Rattle.std.specs.List.{list_any, count_by}
 use Rattle.std.specs.Str.{bytes_eq, is_utf8}
@@ -11,7 +11,8 @@ use Rattle.manifest.specs.Manifest.{is_control, is_plain_text}
 use Rattle.proposals.specs.declared.outcome.Proposal.{Proposal}
 use Rattle.proposals.specs.Manifests.{is_ambiguous, label, named_so}
 use Rattle.proposals.specs.ReadingBack.{may_stand}
-use Rattle.proposals.proofs.Counts.{both, count_two, found}
+use Rattle.proposals.proofs.Counts.{count_two, found}
+use Rattle.grid_units.proofs.BoolLemmas.{and_true, both_true}
 
 -- the file has this name
 abbrev pub has_name : List ℕ → Proposal → Bool
@@ -73,16 +74,13 @@ not_both : (a b : Bool) → (a || b) ≡ false → a ≡ false
 not_both true b e = absurd (false≢true (sym e))
 not_both false b e = refl
 
-and_true : (a b : Bool) → a ≡ true → b ≡ true → (a && b) ≡ true
-and_true a b h k = λ i. (h i && k i)
-
 none : (b : Bool) → not b ≡ true → b ≡ false
 none true e = absurd (false≢true e)
 none false e = refl
 
 plain_short : (name : List ℕ) → is_plain_text name ≡ true → is_plain_text (short_name name) ≡ true
 plain_short name h =
-    let k = both (is_utf8 name) (not (list_any is_control name)) h in
+    let k = both_true (is_utf8 name) (not (list_any is_control name)) h in
     and_true (is_utf8 (short_name name)) (not (list_any is_control (short_name name))) (short_is_text name k.0)
     (ap not (short_none_passes is_control name (none (list_any is_control name) k.1)))
 
@@ -93,6 +91,6 @@ label_stands entries p h = by (is_ambiguous entries (short_name p.file)) refl
     by : (b : Bool) → is_ambiguous entries (short_name p.file) ≡ b → may_stand (if b then p.file else short_name p.file) ≡ true
     by true e = h
     by false e =
-        let k = both (is_plain_text p.file) (not (length p.file == 0)) h in
+        let k = both_true (is_plain_text p.file) (not (length p.file == 0)) h in
         and_true (is_plain_text (short_name p.file)) (not (length (short_name p.file) == 0)) (plain_short p.file k.0)
         (ap not (not_both (length (short_name p.file) == 0) (nat_lt 1 (named_so entries (short_name p.file))) e))

@@ -23,10 +23,7 @@ use Rattle.proposals.specs.declared.outcome.Proposed.{Proposed}
 use Rattle.proposals.specs.declared.outcome.Proposed.TheVariants.{Copper, Plated, Unplated, Undecided, LeftOut}
 use Rattle.proposals.specs.Manifests.{role_word, span_fields, span_in}
 use Rattle.proposals.specs.ReadingBack.{as_span, is_decided, may_stand, role_of}
-use Rattle.proposals.proofs.Counts.{both}
-
-and_true : (a b : Bool) → a ≡ true → b ≡ true → (a && b) ≡ true
-and_true a b h k = λ i. (h i && k i)
+use Rattle.grid_units.proofs.BoolLemmas.{and_true, both_true}
 
 -- ---- plain texts
 
@@ -35,12 +32,12 @@ abbrev visible : ℕ → Bool
 visible b = nat_le 32 b && nat_lt b 127
 
 below : (b : ℕ) → visible b ≡ true → (32 ≤ b) × (b < 127)
-below b h = let k = both (nat_le 32 b) (nat_lt b 127) h in (leb-true 32 b k.0, ltb-true b 127 k.1)
+below b h = let k = both_true (nat_le 32 b) (nat_lt b 127) h in (leb-true 32 b k.0, ltb-true b 127 k.1)
 
 ascii : (bs : List ℕ) → list_all visible bs ≡ true → IsAscii bs
 ascii [] h i = IsAscii-nil i
-ascii (b ∷ bs) h zero = let k = below b (both (visible b) (list_all visible bs) h).0 in let lt : b < 127 = k.1 in omega (arith, lt)
-ascii (b ∷ bs) h (suc i) = ascii bs (both (visible b) (list_all visible bs) h).1 i
+ascii (b ∷ bs) h zero = let k = below b (both_true (visible b) (list_all visible bs) h).0 in let lt : b < 127 = k.1 in omega (arith, lt)
+ascii (b ∷ bs) h (suc i) = ascii bs (both_true (visible b) (list_all visible bs) h).1 i
 
 no_control : (b : ℕ) → visible b ≡ true → is_control b ≡ false
 no_control b h =
@@ -54,7 +51,7 @@ no_control b h =
 none_controls : (bs : List ℕ) → list_all visible bs ≡ true → list_any is_control bs ≡ false
 none_controls [] h = refl
 none_controls (b ∷ bs) h =
-    let k = both (visible b) (list_all visible bs) h in
+    let k = both_true (visible b) (list_all visible bs) h in
     λ i. (no_control b k.0 i || none_controls bs k.1 i)
 
 plain : (bs : List ℕ) → list_all visible bs ≡ true → is_plain_text bs ≡ true
@@ -67,7 +64,7 @@ digit_visible b h = grind (arith, nat_tests)
 digits_visible : (bs : List ℕ) → list_all is_digit bs ≡ true → list_all visible bs ≡ true
 digits_visible [] h = refl
 digits_visible (b ∷ bs) h =
-    let k = both (is_digit b) (list_all is_digit bs) h in
+    let k = both_true (is_digit b) (list_all is_digit bs) h in
     and_true (visible b) (list_all visible bs) (digit_visible b k.0) (digits_visible bs k.1)
 
 -- ---- numbers of layers
@@ -144,8 +141,8 @@ neither false false h k = refl
 lawful : (n : ℕ) (row : Row) → length row ≡ n → n ≤ 5 → is_plain_text (field 0 row) ≡ true → may_stand (field 1 row) ≡ true → may_stand (field 2 row) ≡ true → is_plain_text (field 3 row) ≡ true
     → is_plain_text (field 4 row) ≡ true → is_some (role_named (field 0 row)) ≡ true → is_bad_span (entry_of row).role (field 3 row) (field 4 row) ≡ false → broken_rule n false row ≡ None
 lawful n row len five word name file first last role span =
-    let a = both (is_plain_text (field 1 row)) (not (length (field 1 row) == 0)) name in
-    let b = both (is_plain_text (field 2 row)) (not (length (field 2 row) == 0)) file in
+    let a = both_true (is_plain_text (field 1 row)) (not (length (field 1 row) == 0)) name in
+    let b = both_true (is_plain_text (field 2 row)) (not (length (field 2 row) == 0)) file in
     none_broken (is_well_formed n row) (is_some (role_named (field 0 row))) ((length (field 1 row) == 0) || (length (field 2 row) == 0)) (is_bad_span (entry_of row).role (field 3 row) (field 4 row))
     (well_formed row n len five word a.0 b.0 first last) role (neither (length (field 1 row) == 0) (length (field 2 row) == 0) a.1 b.1) span
 

@@ -13,6 +13,7 @@ use Rattle.grid_units.proofs.Lookbacks.{positions-append}
 use Rattle.proposals.specs.declared.outcome.Named.{Named}
 use Rattle.proposals.specs.declared.outcome.Content.TheVariants as content
 use Rattle.proposals.specs.Proposing.{is_named, name_of, once, proposal, proposals, unless_named}
+use Rattle.grid_units.proofs.BoolLemmas.{twice_not}
 
 -- a file that stands for none
 abbrev pub nothing : Named
@@ -43,10 +44,6 @@ had_more files i key name old new lt is e was =
     let grown : take (i + 1) files ≡ take i files ++ file ∷ [] = take_more files i nothing lt in
     let same : is_eq (slice_cmp nat_cmp key name) ≡ bytes_eq (name_of file) name = is_eq-slice_cmp key name ∙ ap (λ (k : List ℕ). bytes_eq k name) is in
     e ∙ rw (same, was) (sym (ap (is_named name) grown ∙ any_more (λ f. bytes_eq (name_of f) name) (take i files) file))
-
-twice_not : (b : Bool) → not (not b) ≡ b
-twice_not true = refl
-twice_not false = refl
 
 -- a name that is new to the set was not there, and the other way round
 pub is_new : (name key : List ℕ) (before : List Named) (had new : Bool) → key ≡ name → new ≡ not had → had ≡ is_named key before → is_named name before ≡ not new

@@ -22,12 +22,13 @@ use Rattle.proposals.specs.declared.outcome.Proposed.TheVariants.{Copper, Plated
 use Rattle.proposals.specs.declared.outcome.Proposal.{Proposal}
 use Rattle.proposals.specs.Manifests.{has_spans, is_copper, is_layer, label, manifest_text, span_in}
 use Rattle.proposals.specs.ReadingBack.{AreDecided, are_among, as_span, entry_in, is_decided, may_stand, role_of}
-use Rattle.proposals.proofs.Counts.{all_at, any_of_map, both, count_of_map, nowhere}
+use Rattle.proposals.proofs.Counts.{all_at, any_of_map, count_of_map, nowhere}
 use Rattle.proposals.proofs.Labels.{IsOnce, label_stands, not_repeated}
 use Rattle.proposals.proofs.Lawful.{CanBeNamed, entry_is, fields_of, no_rule_broken, width}
 use Rattle.proposals.proofs.Rereading.{read_all, texts}
 use Rattle.proposals.proofs.Rows.{rows_of}
 use Rattle.proposals.proofs.Shorts.{is_short, names_short}
+use Rattle.grid_units.proofs.BoolLemmas.{both_true}
 
 -- ---- lists
 
@@ -98,16 +99,16 @@ by_width false rows = refl
 can_be_named : (count : ℕ) (span : Option Layers) → are_among count span ≡ true → is_short span ≡ true → CanBeNamed span
 can_be_named count None a s = tt
 can_be_named count (Some layers) a s =
-    let k = both (nat_le 1 layers.first) (nat_le layers.first layers.last && nat_le layers.last count) a in
-    let l = both (nat_le layers.first layers.last) (nat_le layers.last count) k.1 in
+    let k = both_true (nat_le 1 layers.first) (nat_le layers.first layers.last && nat_le layers.last count) a in
+    let l = both_true (nat_le layers.first layers.last) (nat_le layers.last count) k.1 in
     (leb-true 1 layers.first k.0, leb-true layers.first layers.last l.0, leb-true layers.last 999999999 s)
 
 not_beyond : (count : ℕ) (spans : Bool) (span : Option Layers) → are_among count span ≡ true → ends_beyond count (if spans then as_span span else None) ≡ false
 not_beyond count false span a = refl
 not_beyond count true None a = refl
 not_beyond count true (Some layers) a =
-    let k = both (nat_le 1 layers.first) (nat_le layers.first layers.last && nat_le layers.last count) a in
-    let l = both (nat_le layers.first layers.last) (nat_le layers.last count) k.1 in
+    let k = both_true (nat_le 1 layers.first) (nat_le layers.first layers.last && nat_le layers.last count) a in
+    let l = both_true (nat_le layers.first layers.last) (nat_le layers.last count) k.1 in
     let le : layers.last ≤ count = leb-true layers.last count l.1 in
     let out : nat_lt count layers.last ≡ false = grind (arith, nat_tests) in
     out

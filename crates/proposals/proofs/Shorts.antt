@@ -11,7 +11,7 @@ use Rattle.file_hints.specs.Contents.{field, function_of, kind_of, has_line, pla
 use Rattle.file_hints.specs.Names.{end_of, ends_in_copper, has_point, inner_ends, inner_words, is_number_of, last_word, names_unplated, number_of, numbered, stem_of, words_of}
 use Rattle.file_hints.specs.declared.contents.Kind.{Kind}
 use Rattle.file_hints.specs.declared.contents.Kind.TheVariants.{Gerber, Drill, Empty, Neither}
-use Rattle.file_hints.proofs.Words.{nine_digits}
+use Rattle.grid_units.proofs.Digits.{nine_digits}
 use Rattle.proposals.specs.declared.outcome.Place.{Place}
 use Rattle.proposals.specs.declared.outcome.Place.TheVariants.{Numbered, Bottom, Unknown}
 use Rattle.proposals.specs.declared.outcome.Layers.{Layers}
@@ -24,7 +24,7 @@ use Rattle.proposals.specs.declared.outcome.Because.TheVariants as because
 use Rattle.proposals.specs.Deciding.{Decision, by_kind, copper_at, drill_by_function, drill_by_lines, drill_by_name, gerber_by_function, gerber_by_words, inner_copper, layers_named, no_copper, said, span_of, stack_place}
 use Rattle.proposals.specs.Manifests.{is_kept, span_in}
 use Rattle.proposals.specs.Proposing.{decided, name_of, once, proposal, proposals}
-use Rattle.proposals.proofs.Counts.{both}
+use Rattle.grid_units.proofs.BoolLemmas.{and_true, both_true}
 
 -- the last layer has nine digits at most
 abbrev pub is_short : Option Layers → Bool
@@ -42,7 +42,7 @@ layers_short first last = by (number_of 9 first) (is_number_of 9 last) refl
     by : (o : Option ℕ) (b : Bool) → is_number_of 9 last ≡ b → is_short (layers_named o (if b then Some (value last) else None)) ≡ true
     by None b e = refl
     by (Some n) true e =
-        let k = both (is_digits last) (nat_le (length last) 9) e in
+        let k = both_true (is_digits last) (nat_le (length last) 9) e in
         le-leb (value last) 999999999 (nine_digits last k.0 (leb-true (length last) 9 k.1))
     by (Some n) false e = refl
 
@@ -112,9 +112,6 @@ of_content name content.TooLong = refl
 
 -- ---- all files
 
-and_true : (a b : Bool) → a ≡ true → b ≡ true → (a && b) ≡ true
-and_true a b h k = λ i. (h i && k i)
-
 each : (files : List Named) → list_all names_short (map proposal files) ≡ true
 each [] = refl
 each (file ∷ files) = and_true (names_short (proposal file)) (list_all names_short (map proposal files)) (of_content (name_of file) file.content) (each files)
@@ -122,7 +119,7 @@ each (file ∷ files) = and_true (names_short (proposal file)) (list_all names_s
 module _ {A : Type 0} (p : A → Bool) where
   all_kept : (q : A → Bool) (xs : List A) → list_all p xs ≡ true → list_all p (filter q xs) ≡ true
   all_kept q [] h = refl
-  all_kept q (x ∷ xs) h = let k = both (p x) (list_all p xs) h in by (q x) k.0 (all_kept q xs k.1)
+  all_kept q (x ∷ xs) h = let k = both_true (p x) (list_all p xs) h in by (q x) k.0 (all_kept q xs k.1)
     where
       by : (b : Bool) → p x ≡ true → list_all p (filter q xs) ≡ true → list_all p (cond b (x ∷ filter q xs) (filter q xs)) ≡ true
       by true e more = and_true (p x) (list_all p (filter q xs)) e more

@@ -3,13 +3,13 @@ use Rattle.std.proofs.Common.{◌≡◌, ℕ, ◌≤◌, Bool, true, false, cond
 use Rattle.std.proofs.lemmas.Bool.{ltb-false}
 use Rattle.grid_units.specs.declared.fault.Reason.TheVariants.{TooLong}
 use Rattle.grid_units.specs.Results.{fault}
-use Rattle.gerber_text.specs.Reading.{text_limit}
+use Rattle.grid_units.specs.Limits.{text_limit}
 use Rattle.gerber_text.specs.Writing.{canonical_text, lines, without_places}
 use Rattle.gerber_text.proofs.AllSaid.{text_said}
 use Rattle.gerber_text.proofs.RoundTrip.{reads_as}
 use Rattle.gerber_text.proofs.Spelling.{reads_spells}
 use Rattle.layer_image.specs.Layers.{LayerImage, ReadsLayer, image_of}
-use Rattle.layer_image.specs.Rules.{IsLegal}
+use Rattle.grid_units.specs.Lists.{IsLegal}
 use Rattle.drill_lines.specs.declared.command.DrillCommand.{DrillCommand}
 use Rattle.drill_text.specs.Texts.{IsDrillText, SpellsText}
 use Rattle.drill_text.specs.Writing as drills
@@ -18,6 +18,7 @@ use Rattle.drill_text.proofs.Sayable as saying
 use Rattle.rewriting.specs.declared.Kind.TheVariants as kind
 use Rattle.rewriting.specs.Rewriting.{KeepsCommands, StaysAsItIs}
 use Rattle.rewriting.proofs.Typed.{text_typed}
+use Rattle.layer_image.specs.Rules.{broken_rule}
 
 -- a text that was written is the canonical one, and not too long
 short_text : (text written : List ℕ) → cond (ltb text_limit (length text)) (Err (fault 0 0 TooLong)) (Ok text) ≡ Ok written → (text ≡ written) × (length text ≤ text_limit)
@@ -33,7 +34,7 @@ layer_back bytes text a h e =
     let cs = without_places a.commands in
     let short = short_text (lines cs) text e in
     let back = reads_as cs text (sym short.0) (subst (λ (t : List ℕ). length t ≤ text_limit) short.0 short.1) (text_said bytes a.commands (reads_spells bytes a.commands h.0)) in
-    (image_of back.entries, (back.reads, subst IsLegal (sym back.same) h.1, refl), sym back.same)
+    (image_of back.entries, (back.reads, subst (IsLegal broken_rule) (sym back.same) h.1, refl), sym back.same)
 
 drill_back : (bytes text : List ℕ) (cs : List DrillCommand) → IsDrillText bytes cs → drills.written cs ≡ Ok text → IsDrillText text cs
 drill_back bytes text cs h e =

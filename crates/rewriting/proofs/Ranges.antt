@@ -13,7 +13,7 @@ use Rattle.grid_units.specs.Numbers.{is_digit, is_digits, value, unsigned, is_ne
 use Rattle.grid_units.proofs.Binds.{bind_ok}
 use Rattle.grid_units.proofs.Digits.{fine_is, filled_lt}
 use Rattle.grid_units.proofs.Filling.{filled_is, filled_bound, scaled_is, scaled_bound, wide}
-use Rattle.grid_units.proofs.Spelled.{both_true}
+use Rattle.grid_units.proofs.BoolLemmas.{both_true}
 use Rattle.drill_lines.specs.Formats.{AreSizes}
 use Rattle.drill_lines.specs.Writing.{IsDec}
 

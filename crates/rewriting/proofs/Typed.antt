@@ -14,7 +14,7 @@ use Rattle.grid_units.specs.declared.zero_filling.Zeros.{Zeros}
 use Rattle.grid_units.specs.declared.zero_filling.Zeros.TheVariants.{Leading, Trailing}
 use Rattle.grid_units.specs.Results.{◌>>=◌, both}
 use Rattle.grid_units.specs.Numbers.{is_digit, is_number, dec_of, zeros_of}
-use Rattle.grid_units.proofs.Binds.{bind_ok}
+use Rattle.grid_units.proofs.Binds.{bind_ok, both_ok}
 use Rattle.drill_lines.specs.declared.command.Coordinates.{Coordinates}
 use Rattle.drill_lines.specs.declared.command.Part.{Part}
 use Rattle.drill_lines.specs.declared.command.Part.TheVariants as part
@@ -28,7 +28,7 @@ use Rattle.drill_lines.specs.Tools.{is_point, is_diameter, is_letter, is_skipped
 use Rattle.drill_lines.specs.Drilling.{default_format, format_in, zeros_in, coordinate_of, coordinate, Runs, runs_of, names_one, coordinates, slot_line, drill_from, drill_line}
 use Rattle.drill_lines.specs.Meaning.{one, begins_comment, begins_point, spells_nothing, is_old, is_incremental, ends_header, is_routed, repeats, line_before, common_line, header_line, body_word, body_line, line_in, meaning}
 use Rattle.drill_lines.specs.Writing.{IsDec, AreDecs, IsPoint, IsTyped}
-use Rattle.drill_lines.proofs.Runs.{both_true}
+use Rattle.grid_units.proofs.BoolLemmas.{both_true}
 use Rattle.drill_text.specs.Lookback.{header, format_named, is_size_digit, sizes_named, file_format, settings_after}
 use Rattle.drill_text.specs.Lookback as lookback
 use Rattle.drill_text.specs.Texts.{spelled_behind, SpellsText}
@@ -63,12 +63,6 @@ one_bind : {A : Type 0} (r : Result A Reason) (f : A → Result DrillCommand Rea
 unfolding Typed
 one_bind (Ok x) f h = h x refl
 one_bind (Err e) f h = tt
-
-both_ok : {A B : Type 0} (a : Result A Reason) (b : Result B Reason) (x : A × B) → both a b ≡ Ok x → (a ≡ Ok x.0) × (b ≡ Ok x.1)
-both_ok {A = A} {B = B} (Ok u) (Ok v) x e = let same : (let p : A × B = (u, v) in p ≡ x) = cc in (ap (λ (q : A × B). Ok q.0) same, ap (λ (q : A × B). Ok q.1) same)
-both_ok (Ok u) (Err f) x e = absurd cc
-both_ok (Err d) (Ok v) x e = absurd cc
-both_ok (Err d) (Err f) x e = absurd cc
 
 -- ---- formats
 

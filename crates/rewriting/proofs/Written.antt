@@ -1,5 +1,5 @@
 -- A legal layer that is read again, and written as it is read.
-use Rattle.std.proofs.Common.{◌≡◌, ℕ, List, ◌++◌, Result, Ok, Err, sym, ap, subst, append-nil, [], ◌∷◌, length, arith, ◌∙◌, inl, inr}
+use Rattle.std.proofs.Common.{◌≡◌, ℕ, List, ◌++◌, Result, Ok, Err, sym, ap, subst, append-nil, [], ◌∙◌, inl, inr}
 use Rattle.std.specs.Global.{Vec}
 use Rattle.grid_units.specs.declared.fault.Fault.{Fault}
 use Rattle.grid_units.specs.declared.fault.Fail.{Fail}
@@ -16,7 +16,7 @@ use Rattle.gerber_text.proofs.Longer.{fails_longer}
 use Rattle.layer_image.specs.Layers.{LayerImage, ReadsLayer}
 use Rattle.layer_image.specs.Standing.{ShowsLayerFault, ReadsSum, sum_view}
 use Rattle.rewriting.specs.Rewriting.{RewritesLayer}
-use Rattle.rewriting.specs.Writing.{StopsIn}
+use Rattle.rewriting.specs.Inner.Writing.{StopsIn}
 
 pub stops : (text : List ℕ) (cs : Entries) (e : Fail) → FailsWith text cs e → Tells (StopsIn text) e
 stops text cs fails.Memory h = tt
@@ -67,11 +67,6 @@ pub drill_refused : ((text more : List ℕ) (f : Fault) → drills.Shows text (E
     → Answers (λ (v : Vec ℕ). v.items) (ReadsWritten whole) (Err e)
 drill_refused law text whole fails.Memory is h = tt
 drill_refused law text whole (fails.Refused f) is h = inl (subst (λ (t : List ℕ). drills.Reads t (Err f)) (append-nil text ∙ is) (law text [] f h))
-
--- all pieces were taken
-pub done_all : (done rest bytes : List ℕ) → length rest ≡ 0 → done ++ rest ≡ bytes → done ≡ bytes
-done_all done [] bytes e h = sym (append-nil done) ∙ h
-done_all done (b ∷ bs) bytes e h = absurd (omega arith)
 
 pub sum_refused : (bytes : List ℕ) (e : Fail) → Answers sum_view (ReadsSum bytes) (Err e) → Tells (λ f. ReadsLayer bytes (Err f)) e
 sum_refused bytes fails.Memory h = tt

@@ -1,2 +1,2 @@
 pub mod Rewriting
-pub mod Writing
+pub mod Inner

@@ -19,7 +19,7 @@ pub(crate) struct LayerWriter {
 
 impl LayerWriter {
     ghost use Rattle.layer_image.specs.Layers.{LayerImage, ReadsLayer};
-    ghost use Rattle.rewriting.specs.Writing.{WritesAfter, StopsIn};
+    ghost use Rattle.rewriting.specs.Inner.Writing.{WritesAfter, StopsIn};
 
     /// Nothing is read.
     pub(crate) fn new(alloc: Global) -> LayerWriter

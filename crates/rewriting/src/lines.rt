@@ -21,7 +21,7 @@ pub(crate) struct Lines {
 
 impl Lines {
     ghost use Rattle.std.specs.Prelude.{List, ℕ, true, false};
-    ghost use Rattle.rewriting.specs.Writing.{HoldsLines, HoldsText};
+    ghost use Rattle.rewriting.specs.Inner.Writing.{HoldsLines, HoldsText};
 
     /// No lines.
     pub(crate) fn new(alloc: Global) -> Lines

@@ -7,9 +7,9 @@ use Rattle.std.proofs.lemmas.List.Elements.{Contains-append_left, All-from_get_o
 use Rattle.pad_shapes.specs.declared.zone.Zone.{Zone}
 use Rattle.ring_rules.specs.Places.{IsChained, point_at}
 use Rattle.ring_rules.specs.Cells.{column_of, row_of}
-use Rattle.ring_rules.specs.Regions.{IsInRegion}
+use Rattle.ring_rules.specs.Inner.Regions.{IsInRegion}
 use Rattle.ring_rules.specs.Index.{GoesInAt}
-use Rattle.ring_rules.specs.Asking.{AddsPlaces, IsListed}
+use Rattle.ring_rules.specs.Inner.Asking.{AddsPlaces, IsListed}
 use Rattle.ring_rules.specs.declared.finding.Drilled.{Drilled}
 use Rattle.ring_rules.specs.declared.scale.Scale.{Scale}
 use Rattle.ring_rules.proofs.Adding.{contains_last}

@@ -4,7 +4,7 @@ use Rattle.std.proofs.lemmas.Bool.{cases_lt}
 use Rattle.std.proofs.lemmas.List.Elements.{Contains-append_left, Contains-push}
 use Rattle.grid_units.specs.Points.{GridPoint}
 use Rattle.ring_rules.specs.Cells.{row_of, column_of}
-use Rattle.ring_rules.specs.Blocks.{IsInBlock, IsInSome}
+use Rattle.ring_rules.specs.Inner.Blocks.{IsInBlock, IsInSome}
 use Rattle.ring_rules.specs.declared.blocks.Block.{Block}
 use Rattle.ring_rules.specs.declared.scale.Scale.{Scale}
 

@@ -5,7 +5,7 @@ use Rattle.std.specs.List.{list_any}
 use Rattle.grid_units.specs.Points.{GridPoint}
 use Rattle.grid_units.specs.Holes.{GridHole}
 use Rattle.ring_rules.specs.Findings.{covers_hole, is_oblique, lacks_ring}
-use Rattle.ring_rules.specs.Marks.{gives_ring}
+use Rattle.ring_rules.specs.Inner.Marks.{gives_ring}
 
 middle_of : (a b c : Bool) → (a && (b && c)) ≡ true → b ≡ true
 middle_of true true c e = refl

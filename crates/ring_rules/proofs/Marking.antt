@@ -4,7 +4,8 @@ use Rattle.std.specs.Prelude.{◌&&◌, ◌||◌, not}
 use Rattle.std.proofs.lemmas.Bool.{cases_eq, cases_lt}
 use Rattle.std.proofs.lemmas.List.{get_or-set_same, get_or-set_other, length-set}
 use Rattle.ring_rules.specs.Places.{IsChained}
-use Rattle.ring_rules.specs.Marks.{is_marked, TakesBack, IsTried}
+use Rattle.ring_rules.specs.Inner.Marks.{is_marked, TakesBack, IsTried}
+use Rattle.grid_units.proofs.BoolLemmas.{neither, either}
 
 -- both parts of what is true of a mark that stays
 pub stays_true : (m t : Bool) → (m && not t) ≡ true → (m ≡ true) × (t ≡ false)
@@ -16,15 +17,6 @@ stays_false : (m t : Bool) → m ≡ true → (m && not t) ≡ false → t ≡ t
 stays_false true true e f = refl
 stays_false true false e f = absurd cc
 stays_false false t e f = absurd cc
-
-pub neither : (a b : Bool) → (a || b) ≡ false → (a ≡ false) × (b ≡ false)
-neither true b e = absurd cc
-neither false true e = absurd cc
-neither false false e = (refl, refl)
-
-pub either : (b : Bool) → (b ≡ true) ⊎ (b ≡ false)
-either true = inl refl
-either false = inr refl
 
 pub takes_none : (test : ℕ → Bool) (marks : List Bool) → TakesBack test marks marks
 takes_none test marks = record { size = refl; kept = λ k e. e; passed = λ k e f. absurd (let g : true ≡ false = sym e ∙ f in cc) }

@@ -1,9 +1,6 @@
 -- An oblique plated slot is found on each layer of its span.
-use Rattle.std.proofs.Common.{◌≡◌, ℕ, ◌<◌, zero, suc, Bool, true, false, cond, List, [], ◌∷◌, map, length, get_or, refl, sym, ap, subst, ◌∙◌, arith}
-use Rattle.std.specs.List.{filter, flat_map, enumerate_from, Contains}
-use Rattle.std.proofs.lemmas.List.{length-map, get_or-map}
-use Rattle.std.proofs.lemmas.List.Concat.{flat_map-cons}
-use Rattle.std.proofs.lemmas.List.Elements.{Contains-append_left, Contains-append_right}
+use Rattle.std.proofs.Common.{◌≡◌, ℕ, ◌<◌, zero, suc, Bool, true, false, cond, List, [], ◌∷◌, length, get_or, refl, sym, ap, subst, ◌∙◌, arith}
+use Rattle.std.specs.List.{filter, enumerate_from, Contains}
 use Rattle.grid_units.specs.Points.{GridPoint}
 use Rattle.ring_rules.specs.Findings.{is_wanting, finding_of, layer_findings}
 use Rattle.ring_rules.specs.Passing.{FindsOblique}
@@ -11,16 +8,7 @@ use Rattle.ring_rules.specs.declared.finding.Drilled.{Drilled}
 use Rattle.ring_rules.specs.declared.finding.Finding.{Finding}
 use Rattle.ring_rules.specs.declared.finding.Finding.TheVariants.{Oblique}
 use Rattle.ring_rules.proofs.Clashing.{enumerated_at}
-
-flat_at : {X Y : Type 0} (f : X → List Y) (xs : List X) (x : X) (y : Y) (k : ℕ) → k < length xs → get_or xs k x ≡ x → Contains (f x) y → Contains (flat_map f xs) y
-flat_at f [] x y k lt e g = absurd (omega arith)
-flat_at {X} {Y} f (z ∷ zs) x y zero lt e g =
-    subst (λ (ys : List Y). Contains ys y) (sym (flat_map-cons f z zs)) (Contains-append_left (f z) (flat_map f zs) y (subst (λ (w : X). Contains (f w) y) (sym e) g))
-flat_at {X} {Y} f (z ∷ zs) x y (suc k) lt e g =
-    subst (λ (ys : List Y). Contains ys y) (sym (flat_map-cons f z zs)) (Contains-append_right (f z) (flat_map f zs) y (flat_at f zs x y k (omega arith) e g))
-
-map_among : {X Y : Type 0} (f : X → Y) (xs : List X) (x : X) → Contains xs x → Contains (map f xs) (f x)
-map_among f xs x h = let lt = h.1 in (h.0, omega (arith, lt, length-map xs f), get_or-map f xs h.0 x (f x) lt ∙ ap f h.2)
+use Rattle.grid_units.proofs.ListLemmas.{flat_at, map_among}
 
 -- one more before it
 behind : {X : Type 0} (z : X) (xs : List X) (x : X) → Contains xs x → Contains (z ∷ xs) x

@@ -7,7 +7,7 @@ use Rattle.grid_units.specs.Points.{GridPoint}
 use Rattle.grid_units.specs.Spans.{is_in_span}
 use Rattle.ring_rules.specs.Findings.{is_wanting}
 use Rattle.ring_rules.specs.Places.{nowhere}
-use Rattle.ring_rules.specs.Marks.{is_marked, gives_ring}
+use Rattle.ring_rules.specs.Inner.Marks.{is_marked, gives_ring}
 use Rattle.ring_rules.specs.declared.finding.Drilled.{Drilled}
 use Rattle.ring_rules.proofs.Giving.{given_by_none}
 

@@ -1,10 +1,9 @@
 -- Where nothing is found, each element passes.
-use Rattle.std.proofs.Common.{◌≡◌, ℕ, ℤ, pos, negsuc, zero, suc, ◌+◌, ◌<◌, inl, inr, Bool, true, false, cond, List, [], ◌∷◌, ◌++◌, map, length, get_or, refl, sym, ap, ◌∙◌, arith}
-use Rattle.std.specs.Prelude.{not, ◌&&◌, ◌||◌, nat_lt}
+use Rattle.std.proofs.Common.{◌≡◌, ℕ, ℤ, pos, negsuc, ◌+◌, ◌<◌, inl, inr, Bool, true, false, cond, List, [], length, get_or, refl, sym, ap, ◌∙◌, arith}
+use Rattle.std.specs.Prelude.{not, ◌&&◌, nat_lt}
 use Rattle.std.specs.List.{filter, flat_map, enumerate_from, list_any, Contains}
 use Rattle.std.specs.Ordering.{int_eq}
 use Rattle.std.proofs.lemmas.Bool.Decides.{nat_tests, Decides-int_eq}
-use Rattle.std.proofs.lemmas.List.Concat.{flat_map-cons}
 use Rattle.std.proofs.lemmas.List.FromFn.{get_or-enumerate_from, length-enumerate_from}
 use Rattle.grid_units.specs.Points.{GridPoint}
 use Rattle.grid_units.specs.Holes.{GridHole, AreClear}
@@ -15,33 +14,8 @@ use Rattle.grid_units.specs.Spans.{is_in_span}
 use Rattle.ring_rules.specs.Passing.{HoldsWhenNoneWant, HoldsSlotsWhenNoneWant, StraightWhenNoneWant, ApartWhenNoneClash}
 use Rattle.ring_rules.specs.declared.finding.Drilled.{Drilled}
 use Rattle.ring_rules.proofs.CoreLemmas.{clear_from_test, clear_holes_are_apart}
-
-no_map : {X Y : Type 0} (f : X → Y) (xs : List X) → map f xs ≡ [] → xs ≡ []
-no_map f [] e = refl
-no_map f (x ∷ xs) e = absurd cc
-
-no_left : {X : Type 0} (xs ys : List X) → xs ++ ys ≡ [] → xs ≡ []
-no_left [] ys e = refl
-no_left (x ∷ xs) ys e = absurd cc
-
-no_right : {X : Type 0} (xs ys : List X) → xs ++ ys ≡ [] → ys ≡ []
-no_right [] ys e = e
-no_right (x ∷ xs) ys e = absurd cc
-
--- what an element gives is nothing
-none_at : {X Y : Type 0} (f : X → List Y) (xs : List X) → flat_map f xs ≡ [] → (k : ℕ) (d : X) → k < length xs → f (get_or xs k d) ≡ []
-none_at f [] e k d h = absurd (omega arith)
-none_at f (x ∷ xs) e zero d h = no_left (f x) (flat_map f xs) (sym (flat_map-cons f x xs) ∙ e)
-none_at f (x ∷ xs) e (suc k) d h = none_at f xs (no_right (f x) (flat_map f xs) (sym (flat_map-cons f x xs) ∙ e)) k d (omega arith)
-
--- no element passes the test
-fails_at : {X : Type 0} (p : X → Bool) (xs : List X) → filter p xs ≡ [] → (k : ℕ) (d : X) → k < length xs → p (get_or xs k d) ≡ false
-fails_at p [] e k d h = absurd (omega arith)
-fails_at {X} p (x ∷ xs) e k d h = by_test (p x) refl k h (λ rest j l. fails_at p xs rest j d l) where
-  by_test : (b : Bool) → p x ≡ b → (k : ℕ) → k < length (x ∷ xs) → (filter p xs ≡ [] → (j : ℕ) → j < length xs → p (get_or xs j d) ≡ false) → p (get_or (x ∷ xs) k d) ≡ false
-  by_test true t k h rest = absurd (let g : cond (p x) (x ∷ filter p xs) (filter p xs) ≡ [] = e in let f : cond true (x ∷ filter p xs) (filter p xs) ≡ [] = rw t at g in cc)
-  by_test false t zero h rest = t
-  by_test false t (suc j) h rest = rest (let g : cond (p x) (x ∷ filter p xs) (filter p xs) ≡ [] = e in rw t at g) j (omega arith)
+use Rattle.grid_units.proofs.ListLemmas.{no_map, none_at, fails_at, passing}
+use Rattle.grid_units.proofs.BoolLemmas.{not_false, neither, then_not}
 
 -- a test of the elements with their places, at one of them
 fails_placed : {X : Type 0} (p : ℕ × X → Bool) (xs : List X) → filter p (enumerate_from 0 xs) ≡ [] → (k : ℕ) (d : X) → k < length xs → p (k, get_or xs k d) ≡ false
@@ -55,21 +29,6 @@ none_placed f xs e k d h =
     let inside : k < length (enumerate_from 0 xs) = omega (arith, length-enumerate_from 0 xs) in
     let z : 0 + k ≡ k = omega arith in
     sym (ap f (get_or-enumerate_from 0 xs k (k, d) h ∙ ap (λ n. (n, get_or xs k d)) z)) ∙ none_at f (enumerate_from 0 xs) e k (k, d) inside
-
--- an element that passes
-passing : {X : Type 0} (p : X → Bool) (xs : List X) → list_any p xs ≡ true → (x : X) × Contains xs x × (p x ≡ true)
-passing p [] e = absurd cc
-passing {X} p (x ∷ xs) e = by_test (p x) refl (λ rest. passing p xs rest) where
-  by_test : (b : Bool) → p x ≡ b → (list_any p xs ≡ true → (y : X) × Contains xs y × (p y ≡ true)) → (y : X) × Contains (x ∷ xs) y × (p y ≡ true)
-  by_test true t rest = (x, (0, omega arith, refl), t)
-  by_test false t rest =
-      let later : list_any p xs ≡ true = cc in
-      let found = rest later in
-      (found.0, (suc found.1.0, (let lt = found.1.1 in omega arith), found.1.2), found.2)
-
-not_false : (b : Bool) → not b ≡ false → b ≡ true
-not_false true e = refl
-not_false false e = absurd cc
 
 both_not : (a b : Bool) → a ≡ true → (a && not b) ≡ false → b ≡ true
 both_not true true t e = refl
@@ -110,14 +69,6 @@ both_so : (a b : Bool) → a ≡ true → b ≡ true → (a && b) ≡ true
 both_so true true s t = refl
 both_so true false s t = absurd cc
 both_so false b s t = absurd cc
-
-neither : (a b : Bool) → (a || b) ≡ false → (a ≡ false) × (b ≡ false)
-neither true b e = absurd cc
-neither false b e = (refl, e)
-
-then_not : (a b : Bool) → a ≡ true → (a && b) ≡ false → b ≡ false
-then_not true b t e = e
-then_not false b t e = absurd cc
 
 -- a plated hole that goes through the layer and is not wanting is not oblique, and is covered
 module _ {S : Type 0} (covers : S → GridPoint → ℕ → Bool) (ring : ℕ) (layers : List (List S)) (holes : List Drilled) where

@@ -3,14 +3,14 @@ use Rattle.std.proofs.Common.{◌≡◌, ℕ, ℤ, ◌<◌, ◌≤◌, ◌≤ℤ
 use Rattle.grid_units.specs.Points.{GridPoint}
 use Rattle.ring_rules.specs.Places.{point_at}
 use Rattle.ring_rules.specs.Cells.{place_of}
-use Rattle.ring_rules.specs.Marks.{is_marked}
-use Rattle.ring_rules.specs.Regions.{IsInRegion}
-use Rattle.ring_rules.specs.Blocks.{IsInSome, AreTried}
+use Rattle.ring_rules.specs.Inner.Marks.{is_marked}
+use Rattle.ring_rules.specs.Inner.Regions.{IsInRegion}
+use Rattle.ring_rules.specs.Inner.Blocks.{IsInSome, AreTried}
 use Rattle.ring_rules.specs.declared.blocks.Block.{Block}
 use Rattle.ring_rules.specs.declared.finding.Drilled.{Drilled}
 use Rattle.ring_rules.specs.declared.scale.Scale.{Scale}
 use Rattle.ring_rules.proofs.Bordering.{place-le}
-use Rattle.ring_rules.proofs.Marking.{either}
+use Rattle.grid_units.proofs.BoolLemmas.{either}
 
 pub in_rows : (x y : Scale) (top bottom left right : ℕ) (p : GridPoint) (low high first last : ℤ) → low ≤ℤ p.y → p.y ≤ℤ high → first ≤ℤ p.x → p.x ≤ℤ last
     → top ≤ place_of y low → place_of y high < bottom → left ≤ place_of x first → place_of x last < right → IsInRegion x y top bottom left right p

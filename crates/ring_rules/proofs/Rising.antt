@@ -13,6 +13,7 @@ use Rattle.std.proofs.lemmas.List.Elements.{All-nil, All-cons, All-head, All-tai
 use Rattle.std.proofs.lemmas.List.Kept.{AllPairs-cons}
 use Rattle.ring_rules.specs.Meeting.{Before}
 use Rattle.std.proofs.lemmas.Map.Keys.{IsDistinct-from_apart, IsDistinct-IsPermutation, apart_from_distinct}
+use Rattle.grid_units.proofs.BoolLemmas.{and_false}
 
 before_trans : (p q r : ℕ × ℕ) → Before p q → Before q r → Before p r
 before_trans p q r h k = elim h [
@@ -145,10 +146,6 @@ eq_flips m n = elim (cases_eq m n) [
   | inl same ↦ ap (λ k. nat_eq k n) same ∙ ap (nat_eq n) (sym same)
   | inr other ↦ no_eq m n other ∙ sym (no_eq n m (λ e. other (sym e)))
 ]
-
-and_false : (b : Bool) → (b && false) ≡ false
-and_false true = refl
-and_false false = refl
 
 true_is_not_false : ¬ (true ≡ false)
 true_is_not_false e = cc

@@ -2,9 +2,9 @@
 
 ghost use Rattle.std.specs.Prelude.{◌≡◌, ◌+◌, ◌≤◌, ◌<◌, false, length};
 ghost use Rattle.std.specs.List.{All};
-ghost use Rattle.ring_rules.specs.Marks.{gives_ring_at, TakesBack};
-ghost use Rattle.ring_rules.specs.Regions.{IsReady, IsTriedIn, HasNoMarkIn};
-ghost use Rattle.ring_rules.specs.Blocks.{IsBlock, IsInBlock, IsClosedRightly, AreTried};
+ghost use Rattle.ring_rules.specs.Inner.Marks.{gives_ring_at, TakesBack};
+ghost use Rattle.ring_rules.specs.Inner.Regions.{IsReady, IsTriedIn, HasNoMarkIn};
+ghost use Rattle.ring_rules.specs.Inner.Blocks.{IsBlock, IsInBlock, IsClosedRightly, AreTried};
 
 use crate::cells::Cells;
 use crate::finding::Drilled;

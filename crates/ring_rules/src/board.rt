@@ -4,8 +4,8 @@ ghost use Rattle.std.specs.Prelude.{◌≡◌, ℕ, ◌+◌, ◌<◌, ◌≤◌,
 ghost use Rattle.std.specs.List.{All};
 ghost use Rattle.grid_units.specs.Points.{GridPoint};
 ghost use Rattle.ring_rules.specs.Places.{nowhere};
-ghost use Rattle.ring_rules.specs.Regions.{IsReady};
-ghost use Rattle.ring_rules.specs.Blocks.{IsBlock, IsInSome};
+ghost use Rattle.ring_rules.specs.Inner.Regions.{IsReady};
+ghost use Rattle.ring_rules.specs.Inner.Blocks.{IsBlock, IsInSome};
 
 use crate::blocks::Block;
 use crate::cells::Cells;

@@ -22,16 +22,16 @@ fn range_distance(a: i64, b: i64, c: i64, d: i64) -> u64
     above.max(below)
 }
 
-/// How far the cores of two holes are apart along x.
-fn core_distance_x(a: &Hole, b: &Hole) -> u64
+/// How far the cores of two holes are apart along x, in pm: at most 20,000,000,000,000.
+pub fn core_distance_x(a: &Hole, b: &Hole) -> u64
     ensures value { result ≡ range_distance a.now.from.x a.now.to.x b.now.from.x b.now.to.x }
     ensures in_range { result ≤ 20000000000000 }
 {
     range_distance(a.from().x(), a.to().x(), b.from().x(), b.to().x())
 }
 
-/// How far the cores of two holes are apart along y.
-fn core_distance_y(a: &Hole, b: &Hole) -> u64
+/// How far the cores of two holes are apart along y, in pm: at most 20,000,000,000,000.
+pub fn core_distance_y(a: &Hole, b: &Hole) -> u64
     ensures value { result ≡ range_distance a.now.from.y a.now.to.y b.now.from.y b.now.to.y }
     ensures in_range { result ≤ 20000000000000 }
 {

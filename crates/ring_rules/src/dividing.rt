@@ -4,7 +4,7 @@ ghost use Rattle.std.specs.Prelude.{◌≡◌, ◌+◌, ◌≤◌, ◌<◌, IfOk
 ghost use Rattle.std.specs.List.{All};
 ghost use Rattle.grid_units.specs.Points.{GridPoint};
 ghost use Rattle.ring_rules.specs.Cells.{row_of};
-ghost use Rattle.ring_rules.specs.Blocks.{IsBlock, IsInSome};
+ghost use Rattle.ring_rules.specs.Inner.Blocks.{IsBlock, IsInSome};
 
 use crate::blocks::Block;
 use crate::regions::zone_of;

@@ -5,9 +5,9 @@ ghost use Rattle.std.specs.List.{All, Contains};
 ghost use Rattle.pad_shapes.specs.Zones.{IsInZone};
 ghost use Rattle.ring_rules.specs.Places.{point_at};
 ghost use Rattle.ring_rules.specs.Cells.{cell_at};
-ghost use Rattle.ring_rules.specs.Regions.{IsInRegion};
+ghost use Rattle.ring_rules.specs.Inner.Regions.{IsInRegion};
 ghost use Rattle.ring_rules.specs.Index.{IsIndexOf, GoesInAt};
-ghost use Rattle.ring_rules.specs.Asking.{AddsPlaces, IsListed};
+ghost use Rattle.ring_rules.specs.Inner.Asking.{AddsPlaces, IsListed};
 
 use crate::cells::{Cells, cell_in};
 use crate::finding::Drilled;

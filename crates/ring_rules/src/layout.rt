@@ -4,7 +4,7 @@ ghost use Rattle.std.specs.Prelude.{◌≡◌, ℕ, ◌+◌, ◌*◌, ◌^◌, �
 ghost use Rattle.grid_units.specs.Points.{GridPoint};
 ghost use Rattle.pad_shapes.specs.Zones.{IsInZone};
 ghost use Rattle.ring_rules.specs.Places.{point_at};
-ghost use Rattle.ring_rules.specs.Regions.{IsLaidOut};
+ghost use Rattle.ring_rules.specs.Inner.Regions.{IsLaidOut};
 
 use crate::cells::{Cells, chained};
 use crate::crowds::{is_crowded, uneven_x, uneven_y};

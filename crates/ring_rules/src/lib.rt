@@ -24,7 +24,7 @@ mod rings;
 mod scale;
 mod shape;
 
-pub use cores::clear_of;
+pub use cores::{clear_of, core_distance_x, core_distance_y};
 pub use finding::{Drilled, Finding};
 pub use gaps::gap_findings;
 pub use grid_units::Span;

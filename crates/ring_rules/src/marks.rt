@@ -5,7 +5,7 @@ ghost use Rattle.pad_shapes.specs.Shapes.{IsAlongAxis};
 ghost use Rattle.ring_rules.specs.Findings.{covers_hole};
 ghost use Rattle.ring_rules.specs.Places.{IsChained};
 ghost use Rattle.ring_rules.specs.Cells.{cell_at};
-ghost use Rattle.ring_rules.specs.Marks.{gives_ring, gives_ring_at, TakesBack, IsTried, HasNoMark};
+ghost use Rattle.ring_rules.specs.Inner.Marks.{gives_ring, gives_ring_at, TakesBack, IsTried, HasNoMark};
 
 use crate::cells::Cells;
 use crate::finding::{Drilled, is_oblique};

@@ -7,9 +7,9 @@ ghost use Rattle.grid_units.specs.Spans.{is_in_span};
 ghost use Rattle.ring_rules.specs.Findings.{is_wanting};
 ghost use Rattle.ring_rules.specs.Places.{nowhere};
 ghost use Rattle.ring_rules.specs.Cells.{place_of};
-ghost use Rattle.ring_rules.specs.Marks.{gives_ring, gives_ring_at, is_marked, TakesBack};
-ghost use Rattle.ring_rules.specs.Regions.{IsInRegion, IsReady};
-ghost use Rattle.ring_rules.specs.Blocks.{IsBlock, IsInSome, IsClosedRightly};
+ghost use Rattle.ring_rules.specs.Inner.Marks.{gives_ring, gives_ring_at, is_marked, TakesBack};
+ghost use Rattle.ring_rules.specs.Inner.Regions.{IsInRegion, IsReady};
+ghost use Rattle.ring_rules.specs.Inner.Blocks.{IsBlock, IsInSome, IsClosedRightly};
 
 use crate::blocks::try_blocks;
 use crate::board::Board;

@@ -3,8 +3,8 @@
 ghost use Rattle.std.specs.Prelude.{◌≡◌, ◌+◌, ◌≤◌, ◌<◌, false, length};
 ghost use Rattle.grid_units.specs.Points.{GridPoint};
 ghost use Rattle.pad_shapes.specs.Zones.{IsInZone};
-ghost use Rattle.ring_rules.specs.Marks.{gives_ring_at, TakesBack};
-ghost use Rattle.ring_rules.specs.Regions.{IsInRegion, IsOnBoard, IsReady, IsTriedIn, HasNoMarkIn};
+ghost use Rattle.ring_rules.specs.Inner.Marks.{gives_ring_at, TakesBack};
+ghost use Rattle.ring_rules.specs.Inner.Regions.{IsInRegion, IsOnBoard, IsReady, IsTriedIn, HasNoMarkIn};
 
 use crate::cells::{Cells, cell_in};
 use crate::finding::Drilled;

@@ -1,5 +1,5 @@
 -- Texts that are read in pieces, for their flashes or their holes alone.
-use Rattle.std.proofs.Common.{◌≡◌, ℕ, List, [], ◌∷◌, ◌++◌, length, Err, sym, subst, ◌∙◌, append-nil, arith}
+use Rattle.std.proofs.Common.{◌≡◌, ℕ, List, [], ◌++◌, Err, subst, append-nil}
 use Rattle.std.specs.Global.{Vec}
 use Rattle.grid_units.specs.Holes.{GridHole}
 use Rattle.grid_units.specs.declared.holes.Hole.{Hole}
@@ -13,11 +13,6 @@ use Rattle.layer_image.specs.declared.flash.Flash.{Flash}
 use Rattle.layer_image.specs.Layers.{ReadsLayer}
 use Rattle.layer_image.specs.Standing.{ShowsLayerFault, ReadsFlashes}
 use Rattle.tables.specs.Tables.{ShowsDrill, ShowsLayer}
-
--- all pieces were taken
-pub done_all : (done rest bytes : List ℕ) → length rest ≡ 0 → done ++ rest ≡ bytes → done ≡ bytes
-done_all done [] bytes e h = sym (append-nil done) ∙ h
-done_all done (b ∷ bs) bytes e h = absurd (omega arith)
 
 -- the fault that a layer shows so far is that of the whole text
 pub flashes_joined : {T : Type 0} (view : T → List Flash) → ((text more : List ℕ) (f : Fault) → ShowsLayerFault text f → ReadsLayer (text ++ more) (Err f)) → (text more whole : List ℕ) (e : Fail) → text ++ more ≡ whole

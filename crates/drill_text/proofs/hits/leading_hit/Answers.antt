@@ -1,6 +1,6 @@
 use Rattle.std.proofs.Common.{◌-◌, ◌+◌, length, not, refl, sym, ap, subst, ◌∙◌}
 use Rattle.drill_lines.specs.declared.command.Coordinates.{Coordinates}
-use Rattle.drill_text.specs.Hits.{LeadsHit}
+use Rattle.drill_text.specs.Inner.Hits.{LeadsHit}
 use Rattle.drill_text.proofs.LeadingHits.{hit_found}
 use Rattle.drill_text.proofs.hits.leading_hit.Goals as goal
 

@@ -1,6 +1,6 @@
 use Rattle.std.proofs.Common.{[], ◌∷◌, ◌++◌, Err, sym, subst}
 use Rattle.grid_units.specs.declared.fault.Fail.{Fail}
-use Rattle.drill_lines.specs.declared.line.LineFail.{LineFail}
+use Rattle.grid_units.specs.declared.stop.Stop.{Stop}
 use Rattle.drill_text.specs.Reading.{spelled}
 use Rattle.drill_text.specs.Knowing.{Judges}
 use Rattle.drill_text.specs.Keeping.{Leaves}
@@ -18,4 +18,4 @@ returns-in-Ok-clause-leaves c line before short spells met =
 pub returns-clause-leaves : goal.returns-clause-leaves
 returns-clause-leaves c line before short spells met =
     subst (λ (e : Fail). Leaves {X = Unit {0}} (Err e) c.step.new.self c.args.kept.now (spelled c.args.place c.args.byte line before)) (sym c.refusal.ensures)
-    (spelled_broken c.args.judge.now before c.args.place c.args.byte line c.args.command c.in-Err-Refused.reason met.knows short spells (subst (λ (e : LineFail). Judges before c.args.command c.step.new.self (Err e)) c.in-Err-Refused.field-0-is (c.in-Err-Refused.ensures before met.knows)))
+    (spelled_broken c.args.judge.now before c.args.place c.args.byte line c.args.command c.in-Err-Refused.reason met.knows short spells (subst (λ (e : Stop). Judges before c.args.command c.step.new.self (Err e)) c.in-Err-Refused.field-0-is (c.in-Err-Refused.ensures before met.knows)))

@@ -2,10 +2,10 @@ use Rattle.std.proofs.Common.{Option, None, Ok, Err, sym, ap, subst, ◌∙◌}
 use Rattle.drill_lines.specs.declared.command.DrillCommand.{DrillCommand}
 use Rattle.drill_lines.specs.declared.command.Settings.{Settings}
 use Rattle.grid_units.specs.declared.fault.Fail.{Fail}
-use Rattle.drill_lines.specs.declared.line.LineFail.{LineFail}
+use Rattle.grid_units.specs.declared.stop.Stop.{Stop}
 use Rattle.drill_lines.specs.Lines.{trimmed}
 use Rattle.drill_lines.specs.Meaning.{meaning}
-use Rattle.drill_lines.specs.Outcomes.{Fails}
+use Rattle.grid_units.specs.Results.{Fails}
 use Rattle.drill_text.specs.Reading.{spelled}
 use Rattle.drill_text.specs.Keeping.{Leaves}
 use Rattle.drill_text.proofs.Judging.{spelled_is}
@@ -20,4 +20,4 @@ pub returns-in-Err-Refused-clause-leaves : goal.returns-in-Err-Refused-clause-le
 returns-in-Err-Refused-clause-leaves c before met =
     let line = c.args.line.now in
     subst (λ (e : Fail). Leaves {X = Unit {0}} (Err e) c.args.judge.now c.args.kept.now (spelled c.args.place c.args.byte line before)) (sym c.refusal.ensures)
-    (spelled_is c.args.judge.now before c.args.place c.args.byte line (Err c.in-Err-Refused.reason) met.knows c.requires.short (ap (λ (s : Settings). meaning s (trimmed line)) (sym c.settings.ensures) ∙ subst (λ (e : LineFail). Fails e (meaning c.settings.result (trimmed line))) c.in-Err-Refused.field-0-is c.in-Err-Refused.ensures))
+    (spelled_is c.args.judge.now before c.args.place c.args.byte line (Err c.in-Err-Refused.reason) met.knows c.requires.short (ap (λ (s : Settings). meaning s (trimmed line)) (sym c.settings.ensures) ∙ subst (λ (e : Stop). Fails e (meaning c.settings.result (trimmed line))) c.in-Err-Refused.field-0-is c.in-Err-Refused.ensures))

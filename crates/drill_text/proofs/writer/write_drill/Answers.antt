@@ -2,7 +2,7 @@ use Rattle.std.proofs.Common.{◌≡◌, ℕ, ◌+◌, ◌<◌, ◌≤◌, List,
 use Rattle.std.proofs.lemmas.List.{take_more, take_all}
 use Rattle.drill_lines.specs.declared.command.DrillCommand.{DrillCommand}
 use Rattle.drill_lines.specs.Writing.{canonical}
-use Rattle.drill_text.specs.Reading.{text_limit}
+use Rattle.grid_units.specs.Limits.{text_limit}
 use Rattle.drill_text.specs.Texts.{SpellsText}
 use Rattle.drill_text.specs.Writing.{canonical_text, written, bytes_in}
 use Rattle.grid_units.specs.declared.fault.Fail.{Fail}

@@ -1,6 +1,6 @@
 use Rattle.std.proofs.Common.{sym, ap, ◌∙◌, cond, None, Err}
 use Rattle.grid_units.specs.declared.fault.Reason.TheVariants.{BadWord}
-use Rattle.gerber_rows.specs.Runs.{fields_of}
+use Rattle.gerber_rows.specs.Inner.Runs.{fields_of}
 use Rattle.gerber_rows.specs.Words.{Fields, is_operation, operate}
 use Rattle.gerber_rows.proofs.Beginnings.{fits_operation}
 use Rattle.gerber_rows.proofs.word.read_coordinates.Goals as goal

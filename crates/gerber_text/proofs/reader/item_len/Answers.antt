@@ -1,7 +1,7 @@
 use Rattle.std.proofs.Common.{◌≡◌, ℕ, List, take, drop, get_or, length, All, ◌<◌, sym, ap, subst, ◌∙◌, arith}
 use Rattle.std.proofs.lemmas.List.{take_rest, length-drop}
 use Rattle.gerber_rows.specs.Items.{ender}
-use Rattle.gerber_text.specs.Bytes.{IsInside}
+use Rattle.gerber_text.specs.Inner.Bytes.{IsInside}
 use Rattle.gerber_text.proofs.Fronts.{front_is}
 use Rattle.gerber_text.proofs.reader.item_len.Goals as goal
 

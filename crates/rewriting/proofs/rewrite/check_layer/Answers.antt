@@ -2,8 +2,9 @@ use Rattle.std.proofs.Common.{◌≡◌, ◌++◌, ℕ, List, [], ap, rules, sub
 use Rattle.std.proofs.lemmas.Result.{err_from_is_err_and}
 use Rattle.std.specs.Slice.Iter.{chunks_rest}
 use Rattle.layer_image.specs.Standing.{SumStandsAfter}
-use Rattle.rewriting.proofs.Written.{joined, done_all, sum_refused}
+use Rattle.rewriting.proofs.Written.{joined, sum_refused}
 use Rattle.rewriting.proofs.rewrite.check_layer.Goals as goal
+use Rattle.grid_units.proofs.ListLemmas.{done_all}
 
 pub loop-piece-init : goal.loop-piece-init
 loop-piece-init c = (search rules, tt, search rules, ([], c.new-reader.ensures, search rules))

@@ -4,9 +4,10 @@ use Rattle.std.specs.Global.{Vec}
 use Rattle.std.specs.Slice.Iter.{chunks_rest}
 use Rattle.grid_units.specs.declared.fault.Fault.{Fault}
 use Rattle.gerber_text.specs.Writing.{canonical_text, without_places}
-use Rattle.rewriting.specs.Writing.{WritesAfter}
-use Rattle.rewriting.proofs.Written.{legal_goes_on, done_all}
+use Rattle.rewriting.specs.Inner.Writing.{WritesAfter}
+use Rattle.rewriting.proofs.Written.{legal_goes_on}
 use Rattle.rewriting.proofs.rewrite.write_layer.Goals as goal
+use Rattle.grid_units.proofs.ListLemmas.{done_all}
 
 pub loop-piece-init : goal.loop-piece-init
 loop-piece-init c = (search rules, tt, search rules, ([], c.new-writer.ensures, search rules))

@@ -1,6 +1,6 @@
 use Rattle.std.proofs.Common.{◌≡◌, ℕ, List, ◌++◌}
 use Rattle.std.specs.Slice.Iter.{chunks_rest, chunks_size}
-use Rattle.rewriting.specs.Writing.{WritesAfter}
+use Rattle.rewriting.specs.Inner.Writing.{WritesAfter}
 use Rattle.rewriting.proofs.rewrite.write_layer.Given as goal
 
 abbrev pub invariant-loop-piece : goal.invariant-loop-piece

@@ -1,5 +1,5 @@
-use Rattle.ring_rules.specs.Marks.{gives_ring_at, TakesBack}
-use Rattle.ring_rules.specs.Blocks.{IsClosedRightly, AreTried}
+use Rattle.ring_rules.specs.Inner.Marks.{gives_ring_at, TakesBack}
+use Rattle.ring_rules.specs.Inner.Blocks.{IsClosedRightly, AreTried}
 use Rattle.ring_rules.proofs.blocks.try_blocks.Given as goal
 
 -- the blocks so far are tried

@@ -1,7 +1,7 @@
 use Rattle.std.proofs.Common.{List, sym, subst, arith}
 use Rattle.std.specs.List.{All}
 use Rattle.std.proofs.lemmas.List.Elements.{All-push}
-use Rattle.ring_rules.specs.Blocks.{IsBlock, IsInSome}
+use Rattle.ring_rules.specs.Inner.Blocks.{IsBlock, IsInSome}
 use Rattle.ring_rules.specs.declared.blocks.Block.{Block}
 use Rattle.ring_rules.proofs.Blocking.{in_more, in_columns}
 use Rattle.ring_rules.proofs.dividing.push_blocks.Goals as goal

@@ -2,7 +2,7 @@ use Rattle.std.proofs.Common.{◌+◌, ◌-◌, ◌≤◌, ◌<◌}
 use Rattle.std.specs.List.{All}
 use Rattle.grid_units.specs.Points.{GridPoint}
 use Rattle.ring_rules.specs.Cells.{row_of, column_of}
-use Rattle.ring_rules.specs.Blocks.{IsBlock, IsInSome}
+use Rattle.ring_rules.specs.Inner.Blocks.{IsBlock, IsInSome}
 use Rattle.ring_rules.proofs.dividing.push_blocks.Given as goal
 
 -- the columns so far are in blocks

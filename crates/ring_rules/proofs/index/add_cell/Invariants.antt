@@ -1,6 +1,6 @@
 use Rattle.std.proofs.Common.{◌≡◌, ℕ, ◌+◌, ◌<◌, ◌≤◌, length}
 use Rattle.ring_rules.specs.Cells.{cell_at}
-use Rattle.ring_rules.specs.Asking.{AddsPlaces, IsListed}
+use Rattle.ring_rules.specs.Inner.Asking.{AddsPlaces, IsListed}
 use Rattle.ring_rules.proofs.index.add_cell.Given as goal
 
 -- the link is one of the cell, and the places from it on are tried

@@ -3,7 +3,7 @@ use Rattle.std.proofs.lemmas.List.{get_or_default}
 use Rattle.pad_shapes.specs.Zones.{IsInZone}
 use Rattle.ring_rules.specs.declared.finding.Drilled.{Drilled}
 use Rattle.ring_rules.specs.Places.{nowhere, point_at}
-use Rattle.ring_rules.specs.Asking.{AddsPlaces}
+use Rattle.ring_rules.specs.Inner.Asking.{AddsPlaces}
 use Rattle.ring_rules.proofs.Asking.{places_one}
 use Rattle.ring_rules.proofs.index.add_place.Goals as goal
 

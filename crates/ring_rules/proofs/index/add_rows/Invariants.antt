@@ -1,7 +1,7 @@
 use Rattle.std.proofs.Common.{ℕ, ◌<◌, length}
 use Rattle.ring_rules.specs.Places.{point_at}
-use Rattle.ring_rules.specs.Regions.{IsInRegion}
-use Rattle.ring_rules.specs.Asking.{AddsPlaces, IsListed}
+use Rattle.ring_rules.specs.Inner.Regions.{IsInRegion}
+use Rattle.ring_rules.specs.Inner.Asking.{AddsPlaces, IsListed}
 use Rattle.ring_rules.proofs.index.add_rows.Given as goal
 
 -- the rows so far are tried

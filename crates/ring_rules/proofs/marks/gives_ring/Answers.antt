@@ -1,7 +1,7 @@
 use Rattle.std.proofs.Common.{◌≡◌, Bool, true, false, sym, ap, ◌∙◌}
 use Rattle.std.specs.Prelude.{◌&&◌, not}
 use Rattle.ring_rules.specs.Findings.{covers_hole, is_oblique}
-use Rattle.ring_rules.specs.Marks.{gives_ring}
+use Rattle.ring_rules.specs.Inner.Marks.{gives_ring}
 use Rattle.ring_rules.proofs.marks.gives_ring.Goals as goal
 
 pub returns-then-not-is_oblique : goal.returns-then-not-is_oblique

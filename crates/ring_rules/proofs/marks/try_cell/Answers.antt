@@ -3,7 +3,7 @@ use Rattle.std.specs.Prelude.{◌&&◌, not}
 use Rattle.std.proofs.lemmas.List.{get_or_default}
 use Rattle.ring_rules.specs.Places.{nowhere}
 use Rattle.ring_rules.specs.Cells.{cell_at}
-use Rattle.ring_rules.specs.Marks.{gives_ring, gives_ring_at, is_marked}
+use Rattle.ring_rules.specs.Inner.Marks.{gives_ring, gives_ring_at, is_marked}
 use Rattle.ring_rules.specs.declared.finding.Drilled.{Drilled}
 use Rattle.ring_rules.proofs.Chaining.{chain_falls}
 use Rattle.ring_rules.proofs.Marking.{takes_none, takes_more, tried_more, none_more}

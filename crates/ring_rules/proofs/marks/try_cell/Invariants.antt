@@ -1,6 +1,6 @@
 use Rattle.std.proofs.Common.{◌≡◌, ℕ, ◌+◌, ◌<◌, ◌≤◌, true, false, length}
 use Rattle.ring_rules.specs.Cells.{cell_at}
-use Rattle.ring_rules.specs.Marks.{gives_ring_at, is_marked, TakesBack}
+use Rattle.ring_rules.specs.Inner.Marks.{gives_ring_at, is_marked, TakesBack}
 use Rattle.ring_rules.proofs.marks.try_cell.Given as goal
 
 -- the link is one of the cell, and the places from it on are tried

@@ -1,7 +1,7 @@
 use Rattle.std.proofs.Common.{List, length, subst}
 use Rattle.ring_rules.specs.Places.{point_at}
-use Rattle.ring_rules.specs.Marks.{gives_ring_at}
-use Rattle.ring_rules.specs.Blocks.{AreTried}
+use Rattle.ring_rules.specs.Inner.Marks.{gives_ring_at}
+use Rattle.ring_rules.specs.Inner.Blocks.{AreTried}
 use Rattle.ring_rules.specs.declared.blocks.Block.{Block}
 use Rattle.ring_rules.proofs.Ranging.{tried_somewhere}
 use Rattle.ring_rules.proofs.pads.try_all.Goals as goal

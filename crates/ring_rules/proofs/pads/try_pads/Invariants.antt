@@ -2,8 +2,8 @@ use Rattle.std.proofs.Common.{◌≡◌, ℕ, ◌<◌, length, get_or, take}
 use Rattle.std.specs.Prelude.{◌&&◌, not}
 use Rattle.std.specs.List.{list_any}
 use Rattle.ring_rules.specs.Places.{nowhere}
-use Rattle.ring_rules.specs.Marks.{gives_ring, is_marked}
-use Rattle.ring_rules.specs.Blocks.{IsClosedRightly}
+use Rattle.ring_rules.specs.Inner.Marks.{gives_ring, is_marked}
+use Rattle.ring_rules.specs.Inner.Blocks.{IsClosedRightly}
 use Rattle.ring_rules.proofs.pads.try_pads.Given as goal
 
 -- a mark is left where none of the pads so far covers the hole

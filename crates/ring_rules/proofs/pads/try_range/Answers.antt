@@ -1,6 +1,6 @@
 use Rattle.std.proofs.Common.{get_or, ◌+◌}
 use Rattle.ring_rules.specs.Places.{nowhere, point_at}
-use Rattle.ring_rules.specs.Marks.{gives_ring_at}
+use Rattle.ring_rules.specs.Inner.Marks.{gives_ring_at}
 use Rattle.ring_rules.proofs.Ranging.{fails}
 use Rattle.ring_rules.proofs.Giving.{given_from}
 use Rattle.ring_rules.proofs.pads.try_range.Goals as goal

@@ -1,6 +1,6 @@
 use Rattle.std.proofs.Common.{◌≡◌, false}
-use Rattle.ring_rules.specs.Marks.{gives_ring_at, TakesBack}
-use Rattle.ring_rules.specs.Regions.{IsTriedIn, HasNoMarkIn}
+use Rattle.ring_rules.specs.Inner.Marks.{gives_ring_at, TakesBack}
+use Rattle.ring_rules.specs.Inner.Regions.{IsTriedIn, HasNoMarkIn}
 use Rattle.ring_rules.proofs.regions.try_rows.Given as goal
 
 -- the rows so far are tried

@@ -4,8 +4,9 @@ use Rattle.std.specs.Global.{Vec}
 use Rattle.std.specs.Slice.Iter.{chunks_rest}
 use Rattle.layer_image.specs.declared.flash.Flash.{Flash}
 use Rattle.layer_image.specs.Standing.{FlashesStandAfter}
-use Rattle.tables.proofs.Pieces.{done_all, flashes_joined}
+use Rattle.tables.proofs.Pieces.{flashes_joined}
 use Rattle.tables.proofs.show.read_flashes.Goals as goal
+use Rattle.grid_units.proofs.ListLemmas.{done_all}
 
 pub loop-piece-init : goal.loop-piece-init
 loop-piece-init c = (search rules, tt, search rules, ([], c.new-reader.ensures, search rules))

@@ -2,12 +2,13 @@ use Rattle.std.proofs.Common.{◌≡◌, ◌+◌, ◌-◌, ℕ, List, ◌++◌, 
 use Rattle.std.proofs.lemmas.List.{length-append, length-take, length-drop, take-append-drop}
 use Rattle.std.proofs.lemmas.Result.{err_from_is_err_and, IfErr-weaker}
 use Rattle.grid_units.specs.Results.{fault}
-use Rattle.drill_text.specs.Reading.{Shows, text_limit}
+use Rattle.drill_text.specs.Reading.{Shows}
 use Rattle.grid_units.specs.declared.fault.Reason.TheVariants.{TooLong}
 use Rattle.drill_text.specs.Standing.{Refuses, RefusesText}
 use Rattle.grid_units.specs.Results.{Tells}
 use Rattle.drill_text.proofs.Whole.{refuses_within, refuses_beyond, too_long_text}
 use Rattle.drill_text.proofs.reader.Progress.take.Goals as goal
+use Rattle.grid_units.specs.Limits.{text_limit}
 
 pub returns-then-piece-room-clause-err : goal.returns-then-piece-room-clause-err
 returns-then-piece-room-clause-err c =

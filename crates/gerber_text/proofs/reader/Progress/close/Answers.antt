@@ -87,3 +87,8 @@ pub returns-in_err-push-clause-err : goal.returns-in_err-push-clause-err
 returns-in_err-push-clause-err c =
     let p = err_from_is_err_and c.from_residual.result c.from_residual.ensures.1 in
     rw (p.1, p.2) (out_of_memory c.args.self.now c.args.self.now.commands.items (c.args.last ∷ []) refl)
+
+pub spell-requires-clause-item : goal.spell-requires-clause-item
+spell-requires-clause-item c =
+    let old = c.args.self.now.item.items in
+    (old, c.deref.ensures.value ∙ c.in_ok-push.ensures.items ∙ ap (λ b. old ++ b ∷ []) c.requires.last)

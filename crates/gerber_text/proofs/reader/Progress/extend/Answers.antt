@@ -3,7 +3,7 @@ use Rattle.std.specs.List.{AllByRecursion}
 use Rattle.std.proofs.lemmas.List.{length-append}
 use Rattle.std.proofs.lemmas.List.Elements.{recursion_from_All}
 use Rattle.grid_units.specs.declared.fault.Reason.TheVariants.{TooLong}
-use Rattle.gerber_text.specs.Bytes.{IsInside}
+use Rattle.gerber_text.specs.Inner.Bytes.{IsInside}
 use Rattle.gerber_rows.specs.Items.{ender, IsUnfinished}
 use Rattle.gerber_text.specs.Cut.{Mark, Splits, marks, bytes_of, has_end}
 use Rattle.grid_units.specs.Results.{fault}

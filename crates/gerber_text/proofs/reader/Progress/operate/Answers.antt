@@ -4,11 +4,12 @@ use Rattle.std.proofs.lemmas.Result.{err_from_is_err_and}
 use Rattle.gerber_rows.specs.declared.command.Command.{Command}
 use Rattle.gerber_rows.specs.declared.command.Command.TheVariants.{Operate}
 use Rattle.gerber_rows.specs.Rows.{modes_of}
-use Rattle.gerber_text.specs.Reading.{Entries, item_limit, is_plotting, placed, spelled}
+use Rattle.gerber_text.specs.Reading.{Entries, is_plotting, placed, spelled}
 use Rattle.gerber_text.proofs.Shown.{out_of_memory}
 use Rattle.gerber_text.proofs.Steps.{length-bytes_of}
 use Rattle.gerber_text.proofs.Items.{takes, spelled_ok}
 use Rattle.gerber_text.proofs.reader.Progress.operate.Goals as goal
+use Rattle.grid_units.specs.Limits.{item_limit}
 
 pub returns-clause-ok : goal.returns-clause-ok
 returns-clause-ok c gone text h =

@@ -3,7 +3,7 @@ use Rattle.std.proofs.lemmas.Bool.{false≢true}
 use Rattle.std.proofs.lemmas.List.{length-append}
 use Rattle.std.proofs.lemmas.List.Elements.{recursion_from_All}
 use Rattle.grid_units.specs.declared.fault.Reason.TheVariants.{AfterEnd}
-use Rattle.gerber_text.specs.Bytes.{follows_or_drops}
+use Rattle.gerber_text.specs.Inner.Bytes.{follows_or_drops}
 use Rattle.gerber_text.specs.Cut.{Mark, Splits, marks, marks_from}
 use Rattle.grid_units.specs.Results.{fault}
 use Rattle.gerber_text.specs.Standing.{Refuses}

@@ -2,7 +2,7 @@ use Rattle.std.proofs.Common.{◌≡◌, ◌+◌, ◌-◌, ℕ, List, ◌++◌, 
 use Rattle.std.proofs.lemmas.List.{length-append, length-take, length-drop, take-append-drop}
 use Rattle.std.proofs.lemmas.Result.{err_from_is_err_and, IfErr-weaker}
 use Rattle.grid_units.specs.Results.{fault}
-use Rattle.gerber_text.specs.Reading.{text_limit}
+use Rattle.grid_units.specs.Limits.{text_limit}
 use Rattle.grid_units.specs.declared.fault.Reason.TheVariants.{TooLong}
 use Rattle.grid_units.specs.declared.fault.Fail.TheVariants.{Refused}
 use Rattle.gerber_text.specs.Standing.{Refuses, RefusesText, FailsWith}

@@ -6,13 +6,14 @@ use Rattle.grid_units.specs.declared.fault.Fail.{Fail}
 use Rattle.grid_units.specs.declared.fault.Fail.TheVariants.{Memory, Refused}
 use Rattle.gerber_rows.specs.Items.{is_end}
 use Rattle.gerber_text.specs.declared.reader.Progress.{Progress}
-use Rattle.gerber_text.specs.Bytes.{IsFront}
-use Rattle.gerber_text.specs.Reading.{Entries, item_limit, spelled, Leaves}
+use Rattle.gerber_text.specs.Inner.Bytes.{IsFront}
+use Rattle.gerber_text.specs.Reading.{Entries, spelled, Leaves}
 use Rattle.gerber_text.specs.Standing.{Refuses, Holds}
 use Rattle.gerber_text.proofs.Shown.{out_of_memory, kept_pushed, front_of_push}
 use Rattle.gerber_text.proofs.Steps.{length-bytes_of, spelled_place}
 use Rattle.gerber_text.proofs.Items.{Taken, takes}
 use Rattle.gerber_text.proofs.reader.Progress.take_item.Goals as goal
+use Rattle.grid_units.specs.Limits.{item_limit}
 
 -- the item at the start of these bytes, for a reader that holds this text and no unfinished item
 taken : (old : Progress) (bytes : List ℕ) (len : ℕ) (gone : Entries) (text : List ℕ) (h : Holds old gone text) → old.ended ≡ false → old.item.items ≡ [] → IsFront bytes len → Taken text (take len bytes) h.items (old.items + 1) (gone ++ old.commands.items)
@@ -70,3 +71,6 @@ returns-in_err-self-clause-err c =
     let e = c.in_err-self.field-0.0 in
     let p = err_from_is_err_and c.from_residual.result c.from_residual.ensures.1 in
     rw (p.1, p.2) (refused_or_memory old c.args.bytes.now c.args.len c.requires.running no_item c.requires.front c.spell.new.commands.items c.in_err-self.ensures.err e (λ gone text h. c.in_err-self.ensures.spelled gone h.plotting))
+
+pub spell-requires-clause-item : goal.spell-requires-clause-item
+spell-requires-clause-item c = (c.requires.front.one.front, c.requires.front.one.whole)

@@ -11,7 +11,7 @@ use Rattle.layer_image.specs.Knows.{told, after}
 use Rattle.layer_image.specs.Keeping.{Adds}
 use Rattle.layer_image.specs.declared.judge.Judge.{Judge}
 use Rattle.layer_image.specs.declared.flashes.Flashes.{Flashes}
-use Rattle.layer_image.proofs.Broken.{neither}
+use Rattle.grid_units.proofs.BoolLemmas.{neither}
 use Rattle.layer_image.proofs.Adding.{adds_none}
 use Rattle.layer_image.proofs.judge.Judge.operate.Goals as goal
 use Rattle.layer_image.proofs.judge.Judge.operate.Goals.{then-is_flash+in_ok-flash_selected, else-is_flash}

@@ -10,10 +10,11 @@ use Rattle.gerber_text.specs.declared.placed.Placed.{Placed}
 use Rattle.gerber_text.specs.Reading.{Entries}
 use Rattle.layer_image.specs.Standing.{Met, Scanned}
 use Rattle.layer_image.specs.Rules.{broken_rule}
-use Rattle.layer_image.specs.Faults.{without_places, fault_of, fail_at, IsFirstFault}
+use Rattle.layer_image.specs.Faults.{fault_of, fail_at, IsFirstFault}
 use Rattle.layer_image.proofs.Faulty.{stopped}
 use Rattle.layer_image.proofs.Listing.{with_next, parted}
 use Rattle.layer_image.proofs.scan.Scan.scan.Goals as goal
+use Rattle.gerber_text.specs.Writing.{without_places}
 
 pub loop-entry-preserved : goal.loop-entry-preserved
 loop-entry-preserved c keep before h =

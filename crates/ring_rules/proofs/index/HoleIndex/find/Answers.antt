@@ -1,6 +1,6 @@
 use Rattle.std.proofs.Common.{ℕ, ◌+◌, List, subst, arith}
 use Rattle.ring_rules.specs.Places.{point_at}
-use Rattle.ring_rules.specs.Asking.{AddsPlaces}
+use Rattle.ring_rules.specs.Inner.Asking.{AddsPlaces}
 use Rattle.ring_rules.proofs.Ranging.{in_rows}
 use Rattle.ring_rules.proofs.Asking.{all_within}
 use Rattle.ring_rules.proofs.index.HoleIndex.find.Goals as goal

@@ -4,8 +4,8 @@ use Rattle.std.specs.List.{Contains}
 use Rattle.grid_units.specs.Points.{GridPoint}
 use Rattle.pad_shapes.specs.Zones.{IsInZone}
 use Rattle.ring_rules.specs.Places.{point_at}
-use Rattle.ring_rules.specs.Marks.{is_marked}
-use Rattle.ring_rules.specs.Regions.{IsInRegion, IsOnBoard, HasNoMarkIn}
+use Rattle.ring_rules.specs.Inner.Marks.{is_marked}
+use Rattle.ring_rules.specs.Inner.Regions.{IsInRegion, IsOnBoard, HasNoMarkIn}
 use Rattle.ring_rules.specs.declared.blocks.Block.{Block}
 use Rattle.ring_rules.specs.declared.finding.Drilled.{Drilled}
 use Rattle.ring_rules.specs.declared.scale.Scale.{Scale}

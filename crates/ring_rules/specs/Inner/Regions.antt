@@ -3,7 +3,7 @@ use Rattle.std.specs.Prelude.{◌≡◌, ℕ, ◌+◌, ◌*◌, ◌^◌, ◌<◌
 use Rattle.grid_units.specs.Points.{GridPoint}
 use Rattle.ring_rules.specs.Places.{nowhere, point_at, IsChained}
 use Rattle.ring_rules.specs.Cells.{column_of, row_of, cell_at}
-use Rattle.ring_rules.specs.Marks.{is_marked}
+use Rattle.ring_rules.specs.Inner.Marks.{is_marked}
 use Rattle.ring_rules.specs.declared.finding.Drilled.{Drilled}
 use Rattle.ring_rules.specs.declared.scale.Scale.{Scale}
 

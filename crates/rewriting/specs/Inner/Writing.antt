@@ -2,11 +2,12 @@
 use Rattle.std.specs.Prelude.{◌≡◌, ℕ, ◌<◌, ◌≤◌, true, false, List, length}
 use Rattle.grid_units.specs.declared.fault.Fault.{Fault}
 use Rattle.grid_units.specs.declared.fault.Fail.TheVariants as fails
-use Rattle.gerber_text.specs.Reading.{Entries, text_limit}
+use Rattle.gerber_text.specs.Reading.{Entries}
 use Rattle.gerber_text.specs.Standing.{StandsBehind, FailsWith}
 use Rattle.gerber_text.specs.Writing.{lines, without_places}
 use Rattle.rewriting.specs.declared.lines.Lines.{Lines}
 use Rattle.rewriting.specs.declared.layer_writer.LayerWriter.{LayerWriter}
+use Rattle.grid_units.specs.Limits.{text_limit}
 
 -- This text is held; or it is too long, and none of it is held.
 pub record HoldsText (held : Lines) (text : List ℕ) : Type 0 where

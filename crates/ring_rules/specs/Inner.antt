@@ -1,0 +1,4 @@
+pub mod Asking
+pub mod Blocks
+pub mod Marks
+pub mod Regions
