@@ -1,3 +1,0 @@
-pub mod Printed
-pub mod Pushed
-pub mod Spelled

@@ -4,13 +4,13 @@
 //! All lengths are whole picometres (pm), and are written in millimetres with nine decimals.
 #![tactic(auto)]
 
-mod lengths;
 mod lines;
-mod printing;
+mod measures;
 
 pub use lines::{push_gap, push_meets, push_ring, push_scale};
 pub use margins::Met;
-pub use printing::{Cut, buffer, print_measure, write_measure};
+pub use measures::{print_measure, write_measure};
+pub use printing::{Cut, buffer};
 
 /// The rings of the holes of one diameter in one drill file, on the layer of one copper file.
 #[derive(Clone, Copy, Debug, PartialEq, Eq)]

@@ -4,8 +4,8 @@ ghost use Rattle.std.specs.Prelude.{◌≡◌, ◌++◌, ◌∷◌, [], OnOk, st
 ghost use Rattle.grid_units.specs.Spellings.{millimetres};
 ghost use Rattle.margin_text.specs.Lines.{factor_word, gap_line, hole_words, least_words, meets_line, met_words, ring_counts, ring_files, ring_line, scale_line, scale_words};
 
-use crate::lengths::{push_mm, push_words};
 use crate::{Factor, GapLine, HolePlace, LeastRing, Meets, Met, RingLine, ScaleLine};
+use printing::{push_mm, push_words};
 use std::alloc::AllocError;
 use std::fmt::Write;
 

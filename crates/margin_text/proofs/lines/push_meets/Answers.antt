@@ -2,7 +2,7 @@ use Rattle.std.proofs.Common.{◌∙◌, ◌++◌, ◌∷◌, [], ℕ, List, cod
 use Rattle.std.specs.Prelude.{string_bytes}
 use Rattle.std.proofs.lemmas.Result.{on_ok_weaker}
 use Rattle.margin_text.specs.Lines.{meets_line, met_words}
-use Rattle.margin_text.proofs.Pushed.{pushed}
+use Rattle.printing.proofs.Pushed.{pushed}
 use Rattle.margin_text.proofs.lines.push_meets.Goals as goal
 
 pub returns : goal.returns

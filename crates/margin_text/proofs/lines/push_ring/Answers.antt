@@ -5,7 +5,7 @@ use Rattle.std.proofs.lemmas.Int.{to_z-of_z}
 use Rattle.std.proofs.lemmas.Result.{on_ok_weaker}
 use Rattle.grid_units.specs.Spellings.{millimetres}
 use Rattle.margin_text.specs.Lines.{least_words, ring_counts, ring_files, ring_line}
-use Rattle.margin_text.proofs.Pushed.{pushed}
+use Rattle.printing.proofs.Pushed.{pushed}
 use Rattle.margin_text.proofs.lines.push_ring.Goals as goal
 
 pub returns : goal.returns

@@ -1,49 +1,16 @@
 //! The text of a measure, printed part by part.
 
-ghost use Rattle.std.specs.Prelude.{◌≡◌, ◌++◌, [], IfOk, OnOk, string_bytes};
+ghost use Rattle.std.specs.Prelude.{◌≡◌, ◌++◌, IfOk, OnOk, string_bytes};
 ghost use Rattle.std.specs.List.{flat_map};
 ghost use Rattle.std.specs.Io.KnownBytes.{Appends};
 ghost use Rattle.margin_text.specs.Lines.{gap_lines, measure_text, meets_line, ring_line, scale_line};
-ghost use Rattle.margin_text.specs.Streaming.{PassesOn};
+ghost use Rattle.printing.specs.Parts.{PassesOn};
 
 use crate::lines::{push_gap, push_meets, push_ring, push_scale};
 use crate::{GapLine, Meets, RingLine, ScaleLine};
+use printing::{Cut, buffer, make_room, pass_on};
 use std::alloc::{AllocError, Global};
 use std::io::Write;
-use thiserror::Error;
-
-/// The writer failed, and it is not known what it took.
-#[derive(Clone, Copy, Debug, PartialEq, Eq, Error)]
-#[error("the measure was not written to its end")]
-pub struct Cut;
-
-/// How many bytes are gathered before they are written.
-const FULL: usize = 65_536;
-
-/// More bytes than a line has.
-const LINE: usize = 1_024;
-
-/// Writes what was gathered, and lets go of it.
-fn pass_on<W: Write>(text: &mut String, out: &mut W) -> Result<(), Cut>
-    ensures { OnOk result (Appends (W.contents out.old) (W.contents out.new) (string_bytes text.old) × (string_bytes text.new ≡ [])) }
-{
-    let written = out.write_all(text.as_bytes());
-    text.clear();
-    match written {
-        Ok(()) => Ok(()),
-        Err(_) => Err(Cut),
-    }
-}
-
-/// Makes room for a line behind what is gathered.
-fn make_room<W: Write>(text: &mut String, out: &mut W) -> Result<(), Cut>
-    ensures { OnOk result (PassesOn (W.contents out.old) (string_bytes text.old) (W.contents out.new) (string_bytes text.new) []) }
-{
-    if text.len() > FULL {
-        return pass_on(text, out);
-    }
-    Ok(())
-}
 
 /// Gathers a line of rings.
 fn gather_ring<W: Write>(text: &mut String, line: &RingLine, out: &mut W) -> Result<(), Cut>
@@ -110,17 +77,6 @@ fn end<W: Write>(
         Ok(()) => pass_on(text, out),
         Err(_) => Err(Cut),
     }
-}
-
-/// An empty text with room for the lines that [`print_measure`] gathers before it writes them.
-///
-/// # Errors
-///
-/// An `AllocError` where there is no memory for it.
-pub fn buffer(alloc: Global) -> Result<String, AllocError>
-    ensures { IfOk result (λ text. string_bytes text ≡ []) }
-{
-    String::with_capacity(alloc, FULL + LINE)
 }
 
 /// Prints what `text` holds, and the text of a measure behind it. Lines are gathered in `text` and written in parts. Where it is a

@@ -5,8 +5,8 @@ use Rattle.std.proofs.lemmas.Result.{on_ok_weaker}
 use Rattle.std.proofs.lemmas.Str.Pattern.{strip_prefix_char}
 use mir.Val.{to_z, of_z}
 use Rattle.grid_units.specs.Spellings.{millimetres, places}
-use Rattle.margin_text.proofs.Spelled.{below_one, behind_zero}
-use Rattle.margin_text.proofs.lengths.push_decimals.Goals as goal
+use Rattle.printing.proofs.Spelled.{below_one, behind_zero}
+use Rattle.printing.proofs.lengths.push_decimals.Goals as goal
 
 pub returns-in-Some : goal.returns-in-Some
 returns-in-Some c =

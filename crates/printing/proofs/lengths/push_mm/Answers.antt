@@ -4,8 +4,8 @@ use mir.Val.{to_z, of_z}
 use Rattle.std.proofs.lemmas.Int.{to_z-of_z}
 use Rattle.std.proofs.lemmas.Result.{on_ok_weaker}
 use Rattle.grid_units.specs.Spellings.{millimetres, minus, places}
-use Rattle.margin_text.proofs.Pushed.{pushed}
-use Rattle.margin_text.proofs.lengths.push_mm.Goals as goal
+use Rattle.printing.proofs.Pushed.{pushed}
+use Rattle.printing.proofs.lengths.push_mm.Goals as goal
 
 pub returns : goal.returns
 unfolding millimetres

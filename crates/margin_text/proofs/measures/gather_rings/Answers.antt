@@ -1,10 +1,10 @@
 use Rattle.std.proofs.Common.{List, ℕ, subst, take}
 use Rattle.std.specs.Prelude.{string_bytes}
 use Rattle.std.specs.List.{flat_map}
-use Rattle.margin_text.specs.Streaming.{PassesOn}
+use Rattle.printing.specs.Parts.{PassesOn}
 use Rattle.margin_text.specs.Lines.{ring_line}
-use Rattle.margin_text.proofs.Printed.{given_more, passes_more}
-use Rattle.margin_text.proofs.printing.gather_rings.Goals as goal
+use Rattle.printing.proofs.Printed.{given_more, passes_more}
+use Rattle.margin_text.proofs.measures.gather_rings.Goals as goal
 
 pub loop-line-preserved : goal.loop-line-preserved
 loop-line-preserved g c =

@@ -1,9 +1,9 @@
 use Rattle.std.proofs.Common.{take}
 use Rattle.std.specs.Prelude.{string_bytes}
 use Rattle.std.specs.List.{flat_map}
-use Rattle.margin_text.specs.Streaming.{PassesOn}
+use Rattle.printing.specs.Parts.{PassesOn}
 use Rattle.margin_text.specs.Lines.{scale_line}
-use Rattle.margin_text.proofs.printing.gather_scales.Given as goal
+use Rattle.margin_text.proofs.measures.gather_scales.Given as goal
 
 abbrev pub invariant-loop-line : goal.invariant-loop-line
 invariant-loop-line g l =
