@@ -1,0 +1,103 @@
+//! The text of a report for people: by how much each ring or gap of a package is lacking, and why.
+//!
+//! All lengths are whole picometres (pm), and are written in millimetres without the zeros at their end.
+#![tactic(auto)]
+
+use grid_units::{Hole, Rules};
+use layer_image::Why;
+use margin_text::{Meets, ScaleLine};
+use pad_shapes::Pad;
+
+/// The pad in which a hole lies deepest, and the ring that it has there.
+#[derive(Clone, Copy, Debug, PartialEq, Eq)]
+pub struct InPad {
+    /// The number of its flash on the layer, from 1.
+    pub flash: usize,
+    /// The pad.
+    pub pad: Pad,
+    /// The ring in pm, from -5 m to 5 m. Below 0 the hole is wider than the copper round its centre.
+    pub ring: i64,
+    /// The ring that is asked less this one, in pm: from 1 pm to 15 m.
+    pub lack: i64,
+}
+
+/// Why a hole lacks its ring on a layer: the first that applies.
+#[derive(Clone, Copy, Debug, PartialEq, Eq)]
+pub enum RingCause {
+    /// The pad is too small for the hole and its ring, wherever the hole stands in it.
+    Small(InPad),
+    /// The pad is large enough, and the hole stands off its centre.
+    Off(InPad),
+    /// The hole lies in no pad, and a flash that is none stands in it: why it is none, and its number on the layer, from 1.
+    Other {
+        /// Why the flash is no pad.
+        why: Why,
+        /// The number of the flash on the layer, from 1.
+        flash: usize,
+    },
+    /// The hole lies in no pad, and no other flash stands in it.
+    Nothing,
+    /// The hole is a plated slot that lies along no axis.
+    Oblique,
+}
+
+/// A hole and where it stands in a package.
+#[derive(Clone, Copy, Debug, PartialEq, Eq)]
+pub struct HoleAt {
+    /// The index of the drill file in the package, from 0.
+    pub drill: usize,
+    /// The number of the hole in its file, from 1.
+    pub number: usize,
+    /// The hole.
+    pub hole: Hole,
+}
+
+/// A hole that lacks its ring on a layer.
+#[derive(Clone, Copy, Debug, PartialEq, Eq)]
+pub struct RingLack {
+    /// The place of the layer among the copper files, from 0.
+    pub layer: usize,
+    /// The hole.
+    pub at: HoleAt,
+    /// Why it lacks its ring.
+    pub cause: RingCause,
+}
+
+/// Two holes that lack their gap.
+#[derive(Clone, Copy, Debug, PartialEq, Eq)]
+pub struct GapLack {
+    /// The hole that comes first in the package.
+    pub first: HoleAt,
+    /// The other hole.
+    pub second: HoleAt,
+    /// The gap in pm, from -10 m to 10 m. Below 0 the holes overlap.
+    pub gap: i64,
+    /// The gap that is asked less this one, in pm: from 1 pm to 20 m.
+    pub lack: i64,
+}
+
+/// A layer, before the holes that lack their ring there.
+#[derive(Clone, Copy, Debug, PartialEq, Eq)]
+pub struct LayerHead {
+    /// The index of the copper file in the package, from 0.
+    pub file: usize,
+    /// How many holes ask a ring there.
+    pub asked: usize,
+}
+
+/// What a report tells of a package.
+#[derive(Debug, Drop)]
+pub struct Telling {
+    /// The ring and the gap that are asked.
+    pub rules: Rules,
+    /// The layers, in the order of the copper files.
+    pub layers: Vec<LayerHead>,
+    /// The holes that lack their ring, layer by layer.
+    pub rings: Vec<RingLack>,
+    /// The pairs of holes that lack their gap.
+    pub gaps: Vec<GapLack>,
+    /// The drill files whose coordinates seem to be off by a factor.
+    pub scales: Vec<ScaleLine>,
+    /// The rules that the package meets.
+    pub meets: Meets,
+}
