@@ -1,0 +1,84 @@
+-- Why a hole lacks its ring on a layer. Lengths are whole picometres.
+use Rattle.std.specs.Prelude.{◌≡◌, ℕ, pos, ◌+◌, ◌-ℤ◌, Bool, true, false, not, Option, Some, None, List, length, get_or, nat_le, if◌then◌else◌}
+use Rattle.std.specs.List.{enumerate_from, filter_map, find}
+use Rattle.grid_units.specs.Points.{GridPoint, square}
+use Rattle.grid_units.specs.Holes.{GridHole}
+use Rattle.pad_shapes.specs.Pads.{pad_covers}
+use Rattle.pad_shapes.specs.declared.pad.Pad.{Pad}
+use Rattle.ring_rules.specs.Cores.{range_distance}
+use Rattle.ring_rules.specs.Findings.{is_oblique}
+use Rattle.ring_rules.specs.declared.finding.Drilled.{Drilled}
+use Rattle.layer_image.specs.Flashes.{is_other, pads_of}
+use Rattle.layer_image.specs.declared.flash.Flash.{Flash}
+use Rattle.layer_image.specs.declared.flash.What.{What}
+use Rattle.layer_image.specs.declared.flash.What.TheVariants as what
+use Rattle.causes.specs.declared.layer.LayerCauses.{LayerCauses}
+use Rattle.causes.specs.declared.layer.Other.{Other}
+use Rattle.margins.specs.Bests.{AreBest, AreShallow, IsBest}
+use Rattle.margins.specs.Depths.{pad_middle}
+use Rattle.margins.specs.declared.best.Best.{Best}
+use Rattle.report_text.specs.declared.InPad.{InPad}
+use Rattle.report_text.specs.declared.RingCause.{RingCause}
+use Rattle.report_text.specs.declared.RingCause.TheVariants as cause
+
+-- the place of a flash that is a pad (docs/DEFINITIONS.md, Causes)
+abbrev pub pad_place : ℕ × Flash → Option ℕ
+pad_place (place, flash) = if is_other flash.what then None else Some place
+
+-- the places of those flashes of a layer that are pads, in order (docs/DEFINITIONS.md, Causes)
+abbrev pub pad_places : List Flash → List ℕ
+pad_places flashes = filter_map pad_place (enumerate_from 0 flashes)
+
+-- what is told of a flash that is no pad: its place, its point, and why it is none (docs/DEFINITIONS.md, Causes)
+abbrev pub other_flash : ℕ → GridPoint → What → Option Other
+other_flash place at (what.Pad pad) = None
+other_flash place at (what.Other why) = Some (record { place = place; at = at; why = why })
+
+-- the flashes of a layer that are no pads, in order (docs/DEFINITIONS.md, Causes)
+abbrev pub others : List Flash → List Other
+others flashes = filter_map (λ f. other_flash f.0 f.1.at f.1.what) (enumerate_from 0 flashes)
+
+-- a point lies in a hole: it is no further from its core than its radius (docs/DEFINITIONS.md, Causes)
+abbrev pub is_in_hole : GridHole → GridPoint → Bool
+is_in_hole h p = nat_le (square (range_distance h.from.x h.to.x p.x p.x) + square (range_distance h.from.y h.to.y p.y p.y)) (square h.radius)
+
+-- the first flash that is no pad and has its point in the hole (docs/DEFINITIONS.md, Causes)
+abbrev pub other_in : List Flash → GridHole → Option Other
+other_in flashes h = find (λ other. is_in_hole h other.at) (others flashes)
+
+-- a pad is too small for a hole and its ring: it does not even cover its own middle with the radius and the ring (docs/DEFINITIONS.md, Causes)
+abbrev pub is_small : ℕ → GridHole → Pad → Bool
+is_small ring h pad = not (pad_covers pad (pad_middle pad) (h.radius + ring))
+
+-- the best pad of a hole on a layer, with the number of its flash, the ring that the hole has in it, and what it lacks of the ring that is asked (docs/DEFINITIONS.md, Causes)
+pub record IsInPad (flashes : List Flash) (asked : ℕ) (h : GridHole) (told : InPad) : Type 0 where
+  pub best : Best
+  pub deepest : IsBest pad_covers (pads_of flashes) (length (pads_of flashes)) h best
+  pub flash : told.flash ≡ get_or (pad_places flashes) best.pad 0 + 1
+  pub pad : (p : Pad) → told.pad ≡ get_or (pads_of flashes) best.pad p
+  pub ring : told.ring ≡ pos best.depth -ℤ pos h.radius
+  pub lack : told.lack ≡ pos asked -ℤ told.ring
+
+-- the hole is no oblique slot, and no pad of the layer covers both its ends (docs/DEFINITIONS.md, Causes)
+abbrev pub HasNoPad : List Flash → GridHole → Type 0
+HasNoPad flashes h = (is_oblique h ≡ false) × AreShallow pad_covers (pads_of flashes) (length (pads_of flashes)) h
+
+-- why a hole lacks a ring among the flashes of a layer: the pad in which it lies deepest is too small, or it lies off its middle; or it lies in none,
+-- and there is another flash in it, or nothing; or it is an oblique slot (docs/DEFINITIONS.md, Causes)
+abbrev pub IsCause : List Flash → ℕ → GridHole → RingCause → Type 0
+IsCause flashes ring h (cause.Small told) = (is_oblique h ≡ false) × IsInPad flashes ring h told × (is_small ring h told.pad ≡ true)
+IsCause flashes ring h (cause.Off told) = (is_oblique h ≡ false) × IsInPad flashes ring h told × (is_small ring h told.pad ≡ false)
+IsCause flashes ring h (cause.Other why flash) = HasNoPad flashes h × ((other : Other) × (other_in flashes h ≡ Some other) × (other.why ≡ why) × (flash ≡ other.place + 1))
+IsCause flashes ring h cause.Nothing = HasNoPad flashes h × (other_in flashes h ≡ None)
+IsCause flashes ring h cause.Oblique = is_oblique h ≡ true
+
+-- what is known of a layer: its pads, the places of their flashes, and its other flashes (docs/DEFINITIONS.md, Causes)
+pub record IsKnownOf (flashes : List Flash) (layer : LayerCauses) : Type 0 where
+  pub pads : layer.pads.items ≡ pads_of flashes
+  pub places : layer.places.items ≡ pad_places flashes
+  pub others : layer.others.items ≡ others flashes
+
+-- and for each hole the pad in which it lies deepest (docs/DEFINITIONS.md, Causes)
+pub record IsKnown (flashes : List Flash) (holes : List Drilled) (layer : LayerCauses) : Type 0 where
+  pub known : IsKnownOf flashes layer
+  pub bests : AreBest pad_covers (pads_of flashes) holes layer.bests.items

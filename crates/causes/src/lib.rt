@@ -1,0 +1,12 @@
+//! Why a hole lacks its ring on a layer, and by how much.
+//!
+//! All lengths are whole picometres (pm).
+#![tactic(auto)]
+
+mod cause;
+mod layer;
+
+pub use layer::LayerCauses;
+
+#[cfg(test)]
+mod tests;
