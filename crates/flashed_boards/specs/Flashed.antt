@@ -1,0 +1,44 @@
+-- The flashes of the files of a package.
+use Rattle.std.specs.Prelude.{◌≡◌, ℕ, ◌<◌, true, List, [], length, get_or, map, Result, Ok, Err, ⊤}
+use Rattle.layer_image.specs.Layers.{LayerImage, ReadsLayer}
+use Rattle.layer_image.specs.declared.flash.Flash.{Flash}
+use Rattle.package_check.specs.Boards.{IsBoard, Survey}
+use Rattle.package_check.specs.Package.{IsFirstRefused, Source, is_copper}
+use Rattle.package_check.specs.Standing.{PackageStandsAfter, copper_files}
+use Rattle.package_check.specs.declared.PackageFault.{PackageFault}
+use Rattle.package_check.specs.declared.PackageFault.TheVariants as stop
+use Rattle.flashed_boards.specs.declared.reader.FlashedReader.{FlashedReader}
+
+-- the flashes of a copper file are those of the layer that its text reads as (docs/DEFINITIONS.md, Boards with their flashes)
+abbrev pub AreFlashesOf : Source → List Flash → Type 0
+AreFlashesOf source flashes = is_copper source.role ≡ true → (image : LayerImage) → ReadsLayer source.bytes (Ok image) → flashes ≡ image.flashes
+
+-- for each file of a package a list of flashes: those of its layer, where it is copper (docs/DEFINITIONS.md, Boards with their flashes)
+pub record AreFlashes (sources : List Source) (flashes : List (List Flash)) : Type 0 where
+  pub size : length flashes ≡ length sources
+  pub each : (i : ℕ) (s : Source) → i < length sources → AreFlashesOf (get_or sources i s) (get_or flashes i [])
+
+-- a board with the flashes of each of its files (docs/DEFINITIONS.md, Boards with their flashes)
+pub record FlashedSurvey : Type 0 where
+  pub board : Survey
+  pub flashes : List (List Flash)
+
+-- the board of files that are all read, with the flashes of each (docs/DEFINITIONS.md, Boards with their flashes)
+pub record IsFlashed (sources : List Source) (flashed : FlashedSurvey) : Type 0 where
+  pub board : IsBoard sources flashed.board
+  pub flashes : AreFlashes sources flashed.flashes
+
+-- what is returned is the board of the package with its flashes, or the first file that is refused, want of memory aside (docs/DEFINITIONS.md, Boards with their flashes)
+abbrev pub AnswersFlashed : List Source → Result FlashedSurvey PackageFault → Type 0
+AnswersFlashed sources (Ok flashed) = IsFlashed sources flashed
+AnswersFlashed sources (Err stop.Memory) = ⊤
+AnswersFlashed sources (Err (stop.File index fault)) = IsFirstRefused sources index fault
+
+-- of how many copper files a reader was told (docs/DEFINITIONS.md, Boards with their flashes)
+abbrev pub copper_count : FlashedReader → ℕ
+copper_count reader = copper_files reader.taken
+
+-- the reader has taken just these files (docs/DEFINITIONS.md, Boards with their flashes)
+pub record FlashedStandsAfter (reader : FlashedReader) (sources : List Source) : Type 0 where
+  pub taken : PackageStandsAfter reader.taken sources
+  pub flashes : AreFlashes sources (map (λ flashes. flashes.items) reader.flashes.items)

@@ -1,0 +1,9 @@
+//! What the files of a package say, with each flash of its copper files.
+#![tactic(auto)]
+
+mod reader;
+
+pub use reader::{FlashedBoard, FlashedReader};
+
+#[cfg(test)]
+mod tests;

@@ -1,0 +1,133 @@
+//! A package whose files are taken one after the other, and the flashes of whose copper files are kept.
+
+ghost use Rattle.std.specs.Prelude.{◌≡◌, ◌++◌, ◌∷◌, ℕ, List, [], IfErr, IfOk, OnOk, map};
+ghost use Rattle.std.specs.List.{concat};
+ghost use Rattle.grid_units.specs.Results.{Answers, Tells};
+ghost use Rattle.layer_image.specs.Standing.{FlashesStandAfter, ReadsFlashes, ShowsLayerFault};
+ghost use Rattle.package_check.specs.Package.{Source};
+ghost use Rattle.flashed_boards.specs.Flashed.{AnswersFlashed, AreFlashesOf};
+
+use grid_units::Fail;
+use layer_image::{Flash, FlashReader, one_reading, shown_faults};
+use package_check::{Board, PackageFault, PackageReader, Role, Span};
+use std::alloc::{AllocError, Global};
+use std::marker::Model;
+
+/// What the files of a package say, with the flashes of each copper file.
+#[derive(Drop)]
+pub struct FlashedBoard {
+    /// What they say, all of them together.
+    pub board: Board,
+    /// The flashes of each file, in the order of the files. Those of a drill file say nothing.
+    pub flashes: Vec<Vec<Flash>>,
+}
+
+impl Model for FlashedBoard {
+    ghost use Rattle.std.specs.Prelude.{map};
+    ghost use Rattle.flashed_boards.specs.Flashed.{FlashedSurvey};
+
+    ghost Value = { FlashedSurvey };
+
+    ghost view = { λ b. record { board = b.board; flashes = map (λ flashes. flashes.items) b.flashes.items } };
+}
+
+/// A reader of a package, which takes its files one after the other, and keeps the flashes of the copper files too.
+#[derive(Drop)]
+pub struct FlashedReader {
+    alloc: Global,
+    taken: PackageReader,
+    flashes: Vec<Vec<Flash>>,
+}
+
+impl FlashedReader {
+    ghost use Rattle.flashed_boards.specs.Flashed.{FlashedStandsAfter, copper_count};
+
+    /// A reader that has taken no file, of a package with so many copper files.
+    pub fn new(alloc: Global, layers: usize) -> FlashedReader
+        ensures stands { FlashedStandsAfter result [] }
+        ensures layers { copper_count result ≡ layers }
+    {
+        FlashedReader {
+            alloc,
+            taken: PackageReader::new(alloc, layers),
+            flashes: Vec::new(alloc),
+        }
+    }
+
+    /// Takes the next file of the package, whose text comes in these pieces. A file that is refused is no error here:
+    /// [`FlashedReader::finish`] tells of the first of them.
+    ///
+    /// # Errors
+    ///
+    /// An `AllocError` where there is no memory.
+    pub fn take(
+        &mut self,
+        role: Role,
+        span: &Option<Span>,
+        pieces: &[&[u8]],
+    ) -> Result<(), AllocError>
+        ensures stands { (sources : List Source) (name : List ℕ) → FlashedStandsAfter self.old sources → OnOk result (FlashedStandsAfter self.new (sources
+            ++ record { role = role; name = name; span = span.now; bytes = concat (map (λ piece. piece.now) pieces.now); layers = copper_count self.old } ∷ [])) }
+        ensures layers { copper_count self.new ≡ copper_count self.old }
+    {
+        self.taken.take(role, span, pieces)?;
+        let its = flashes_of(self.alloc, role, pieces)?;
+        push(&mut self.flashes, its)
+    }
+
+    /// What the files that were taken say, all of them together, and the flashes of each.
+    ///
+    /// # Errors
+    ///
+    /// The first file that is refused, by its index, with its fault; `Memory` where there is no memory.
+    pub fn finish(self) -> Result<FlashedBoard, PackageFault>
+        ensures { (sources : List Source) → FlashedStandsAfter self sources → AnswersFlashed sources result }
+    {
+        let FlashedReader { taken, flashes, .. } = self;
+        let board = taken.board()?;
+        Ok(FlashedBoard { board, flashes })
+    }
+}
+
+/// Reads the flashes of a layer whose text comes in these pieces.
+fn read_flashes(alloc: Global, pieces: &[&[u8]]) -> Result<Vec<Flash>, Fail>
+    ensures { Answers (λ flashes. flashes.items) (ReadsFlashes (concat (map (λ piece. piece.now) pieces.now))) result }
+{
+    shown_faults();
+    let mut reader = FlashReader::new(alloc);
+    for piece in pieces {
+        reader.feed(piece)?;
+    }
+    reader.finish()
+}
+
+/// The flashes of a layer: none where its text is refused.
+fn flashes_or_none(alloc: Global, pieces: &[&[u8]]) -> Result<Vec<Flash>, AllocError>
+    ensures { (source : Source) → source.bytes ≡ concat (map (λ piece. piece.now) pieces.now) → IfOk result (λ flashes. AreFlashesOf source flashes.items) }
+{
+    one_reading();
+    match read_flashes(alloc, pieces) {
+        Ok(flashes) => Ok(flashes),
+        Err(Fail::Memory) => Err(AllocError),
+        Err(Fail::Refused(_)) => Ok(Vec::new(alloc)),
+    }
+}
+
+/// The flashes of a file: none where it is no copper.
+fn flashes_of(alloc: Global, role: Role, pieces: &[&[u8]]) -> Result<Vec<Flash>, AllocError>
+    ensures { (source : Source) → source.role ≡ role → source.bytes ≡ concat (map (λ piece. piece.now) pieces.now) → IfOk result (λ flashes. AreFlashesOf source flashes.items) }
+{
+    match role {
+        Role::Copper => flashes_or_none(alloc, pieces),
+        Role::Plated | Role::Unplated => Ok(Vec::new(alloc)),
+    }
+}
+
+fn push(all: &mut Vec<Vec<Flash>>, flashes: Vec<Flash>) -> Result<(), AllocError>
+    ensures { OnOk result (all.new.items ≡ all.old.items ++ flashes ∷ []) }
+{
+    if all.push(flashes).is_err() {
+        return Err(AllocError);
+    }
+    Ok(())
+}

@@ -1,0 +1,1 @@
+//! Flashes of the files of a package.
