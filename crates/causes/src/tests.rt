@@ -1,1 +1,171 @@
-//! Causes of worked examples.
+//! Causes of worked examples, in pm.
+
+use super::*;
+use grid_units::{Hole, Point, Rules};
+use layer_image::{Flash, What, Why};
+use pad_shapes::{Disc, Pad, Rect};
+use report_text::RingCause;
+use ring_rules::Drilled;
+use std::test::Fail;
+
+fn point(x: i64, y: i64) -> Result<Point, Fail> {
+    Ok(Point::new(x, y).ok_or("point")?)
+}
+
+/// A plated hole.
+fn hole(x: i64, y: i64, radius: i64) -> Result<Drilled, Fail> {
+    let at = point(x, y)?;
+    Ok(Drilled {
+        hole: Hole::new(at, at, radius).ok_or("hole")?,
+        plated: true,
+        span: None,
+    })
+}
+
+fn disc(x: i64, y: i64, radius: i64) -> Result<Flash, Fail> {
+    let at = point(x, y)?;
+    Ok(Flash {
+        at,
+        what: What::Pad(Pad::Disc(Disc::new(at, radius).ok_or("disc")?)),
+    })
+}
+
+fn square(x: i64, y: i64, half: i64) -> Result<Flash, Fail> {
+    let at = point(x, y)?;
+    Ok(Flash {
+        at,
+        what: What::Pad(Pad::Rect(Rect::new(at, half, half).ok_or("rect")?)),
+    })
+}
+
+fn other(x: i64, y: i64, why: Why) -> Result<Flash, Fail> {
+    Ok(Flash {
+        at: point(x, y)?,
+        what: What::Other(why),
+    })
+}
+
+/// Why a hole lacks a ring of so many pm.
+fn cause(
+    rt: HostRuntime,
+    flashes: &[Flash],
+    drilled: Drilled,
+    ring: i64,
+) -> Result<RingCause, Fail> {
+    let Ok(rules) = Rules::new(ring, 1) else {
+        return Err(Fail::from("rules"));
+    };
+    let holes = [drilled];
+    let known = LayerCauses::new(rt.alloc(), flashes, &holes)?;
+    Ok(known.cause(flashes, &holes, 0, rules))
+}
+
+/// The words for a cause: its name, the number of its flash, the ring and the lack.
+fn told_by(cause: RingCause) -> (&'static str, usize, i64, i64) {
+    match cause {
+        RingCause::Small(pad) => ("small", pad.flash, pad.ring, pad.lack),
+        RingCause::Off(pad) => ("off", pad.flash, pad.ring, pad.lack),
+        RingCause::Other { why, flash } => match why {
+            Why::Macro => ("macro", flash, 0, 0),
+            _ => ("another", flash, 0, 0),
+        },
+        RingCause::Nothing => ("nothing", 0, 0, 0),
+        RingCause::Oblique => ("oblique", 0, 0, 0),
+    }
+}
+
+/// What is told of a round hole that lacks a ring of so many pm.
+fn told(
+    rt: HostRuntime,
+    flashes: &[Flash],
+    x: i64,
+    y: i64,
+    radius: i64,
+    ring: i64,
+) -> Result<(&'static str, usize, i64, i64), Fail> {
+    Ok(told_by(cause(rt, flashes, hole(x, y, radius)?, ring)?))
+}
+
+#[test]
+fn a_hole_off_its_centre(rt: HostRuntime) -> Result<(), Fail> {
+    let flashes = [square(1_000, 0, 325_000_000)?];
+    let it = told(rt, &flashes, 0, 0, 200_000_000, 125_000_000)?;
+    assert_eq!(rt; it.0, "off");
+    assert_eq!(rt; it.1, 1);
+    assert_eq!(rt; it.2, 124_999_000);
+    assert_eq!(rt; it.3, 1_000);
+    Ok(())
+}
+
+/// A macro flash, a disc elsewhere, and one at a hole of the worked example.
+fn small_pads() -> Result<[Flash; 3], Fail> {
+    Ok([
+        other(0, 0, Why::Macro)?,
+        disc(0, 0, 1_000_000_000)?,
+        disc(50_546_000_000, 67_310_000_000, 203_200_000)?,
+    ])
+}
+
+#[test]
+fn a_pad_that_is_too_small(rt: HostRuntime) -> Result<(), Fail> {
+    let flashes = small_pads()?;
+    let it = told(
+        rt,
+        &flashes,
+        50_546_000_000,
+        67_310_000_000,
+        304_800_000,
+        100_000_000,
+    )?;
+    assert_eq!(rt; it.0, "small");
+    assert_eq!(rt; it.1, 3);
+    assert_eq!(rt; it.2, -101_600_000);
+    assert_eq!(rt; it.3, 201_600_000);
+    Ok(())
+}
+
+/// A pad elsewhere, and three other flashes: one out of the hole by 1 pm, one at its rim, one at its middle.
+fn other_flashes() -> Result<[Flash; 4], Fail> {
+    Ok([
+        disc(5_000_000_000, 0, 500_000_000)?,
+        other(400_000_001, 0, Why::Polygon)?,
+        other(0, 400_000_000, Why::Macro)?,
+        other(0, 0, Why::Turned)?,
+    ])
+}
+
+#[test]
+fn a_hole_in_another_flash(rt: HostRuntime) -> Result<(), Fail> {
+    let flashes = other_flashes()?;
+    let it = told(rt, &flashes, 0, 0, 400_000_000, 100_000_000)?;
+    assert_eq!(rt; it.0, "macro");
+    assert_eq!(rt; it.1, 3);
+    Ok(())
+}
+
+#[test]
+fn a_hole_in_nothing(rt: HostRuntime) -> Result<(), Fail> {
+    let flashes = [other(2_000_000_000, 0, Why::Macro)?];
+    let it = told(rt, &flashes, 0, 0, 400_000_000, 100_000_000)?;
+    assert_eq!(rt; it.0, "nothing");
+    Ok(())
+}
+
+/// What is told of a slot that lies along no axis.
+fn told_of_slot(rt: HostRuntime, flashes: &[Flash]) -> Result<&'static str, Fail> {
+    let from = point(0, 0)?;
+    let to = point(1_000_000, 1_000_000)?;
+    let slot = Drilled {
+        hole: Hole::new(from, to, 200_000_000).ok_or("hole")?,
+        plated: true,
+        span: None,
+    };
+    Ok(told_by(cause(rt, flashes, slot, 100_000_000)?).0)
+}
+
+#[test]
+fn an_oblique_slot(rt: HostRuntime) -> Result<(), Fail> {
+    let flashes = [disc(0, 0, 5_000_000_000)?];
+    assert_eq!(rt; told_of_slot(rt, &flashes)?, "oblique");
+    Ok(())
+}

@@ -1,0 +1,16 @@
+-- What is told so far, and one finding more.
+use Rattle.std.specs.Prelude.{◌≡◌, Bool, true, false, List, [], ◌∷◌, ◌++◌, ℕ}
+use Rattle.ring_rules.specs.declared.finding.Finding.{Finding}
+use Rattle.flashed_boards.specs.Flashed.{FlashedSurvey}
+use Rattle.causes.specs.Causes.{IsKnown}
+use Rattle.telling.specs.Telling.{layer_flashes}
+use Rattle.telling.specs.declared.rings.Known.{Known}
+
+-- what is known of a layer is that of its flashes and the holes of the board (docs/DEFINITIONS.md, Reports)
+abbrev pub IsKnownAt : FlashedSurvey → Known → Type 0
+IsKnownAt flashed known = IsKnown (layer_flashes flashed known.layer) flashed.board.holes known.causes
+
+-- a finding that is asked is told behind the others, and another is passed over (docs/DEFINITIONS.md, Reports)
+abbrev pub Adds : {T : Type 0} → Bool → (Finding → T → Type 0) → Finding → List T → List T → Type 0
+Adds {T} true Tells finding old new = (told : T) × Tells finding told × (new ≡ old ++ told ∷ [])
+Adds {T} false Tells finding old new = new ≡ old

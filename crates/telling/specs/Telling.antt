@@ -1,0 +1,92 @@
+-- What a report tells of a package. Lengths are whole picometres.
+use Rattle.std.specs.Prelude.{◌≡◌, ℕ, pos, ◌-ℤ◌, Bool, true, false, not, List, [], get_or, map, count_by, Result, Ok, Err, ⊤}
+use Rattle.std.specs.List.{AllZip, enumerate_from, filter}
+use Rattle.grid_units.specs.Holes.{GridRules}
+use Rattle.layer_image.specs.declared.flash.Flash.{Flash}
+use Rattle.ring_rules.specs.Meeting.{hole_at}
+use Rattle.ring_rules.specs.declared.finding.Drilled.{Drilled}
+use Rattle.ring_rules.specs.declared.finding.Finding.{Finding}
+use Rattle.ring_rules.specs.declared.finding.Finding.TheVariants.{Gap, Oblique, Ring}
+use Rattle.margins.specs.Gaps.{IsGap}
+use Rattle.margins.specs.Meets.{asks_ring}
+use Rattle.package_check.specs.Boards.{Survey, board_findings}
+use Rattle.package_check.specs.Package.{IsFirstRefused, Source}
+use Rattle.package_check.specs.declared.PackageFault.{PackageFault}
+use Rattle.package_check.specs.declared.PackageFault.TheVariants as stop
+use Rattle.measuring.specs.Measures.{IsMeasure}
+use Rattle.measuring.specs.Rows.{IsPlace}
+use Rattle.measuring.specs.declared.measure.Measure.{Measure}
+use Rattle.flashed_boards.specs.Flashed.{FlashedSurvey, IsFlashed}
+use Rattle.causes.specs.Causes.{IsCause}
+use Rattle.report_text.specs.declared.GapLack.{GapLack}
+use Rattle.report_text.specs.declared.HoleAt.{HoleAt}
+use Rattle.report_text.specs.declared.LayerHead.{LayerHead}
+use Rattle.report_text.specs.declared.RingLack.{RingLack}
+use Rattle.report_text.specs.declared.Telling.{Telling}
+
+-- a finding of a gap, and not of a ring (docs/DEFINITIONS.md, Reports)
+abbrev pub is_gap : Finding → Bool
+is_gap (Ring layer hole) = false
+is_gap (Oblique layer hole) = false
+is_gap (Gap first second) = true
+
+-- the flashes of a layer, by its place among the copper files (docs/DEFINITIONS.md, Reports)
+abbrev pub layer_flashes : FlashedSurvey → ℕ → List Flash
+layer_flashes flashed layer = get_or flashed.flashes (get_or flashed.board.layer_indexes layer 0) []
+
+-- a hole of a board, with its drill file and its number there (docs/DEFINITIONS.md, Reports)
+pub record IsHoleAt (board : Survey) (place : ℕ) (at : HoleAt) : Type 0 where
+  pub stands : IsPlace board.files place (record { drill = at.drill; hole = at.number })
+  pub hole : at.hole ≡ hole_at board.holes place
+
+-- what is told of a hole that lacks its ring on a layer: where it stands, and why (docs/DEFINITIONS.md, Reports)
+pub record TellsRingAt (flashed : FlashedSurvey) (ring layer hole : ℕ) (told : RingLack) : Type 0 where
+  pub layer_is : told.layer ≡ layer
+  pub at : IsHoleAt flashed.board hole told.at
+  pub cause : IsCause (layer_flashes flashed layer) ring (hole_at flashed.board.holes hole) told.cause
+
+-- what is told of a finding of a ring (docs/DEFINITIONS.md, Reports)
+abbrev pub TellsRing : FlashedSurvey → ℕ → Finding → RingLack → Type 0
+TellsRing flashed ring (Ring layer hole) told = TellsRingAt flashed ring layer hole told
+TellsRing flashed ring (Oblique layer hole) told = TellsRingAt flashed ring layer hole told
+TellsRing flashed ring (Gap first second) told = ⊥
+
+-- what is told of two holes that lack their gap: where they stand, the gap between them, and what it lacks of the one that is asked (docs/DEFINITIONS.md, Reports)
+pub record TellsGapOf (board : Survey) (asked first second : ℕ) (told : GapLack) : Type 0 where
+  pub first_at : IsHoleAt board first told.first
+  pub second_at : IsHoleAt board second told.second
+  pub gap : IsGap (hole_at board.holes first) (hole_at board.holes second) told.gap
+  pub lack : told.lack ≡ pos asked -ℤ told.gap
+
+-- what is told of a finding of a gap (docs/DEFINITIONS.md, Reports)
+abbrev pub TellsGap : Survey → ℕ → Finding → GapLack → Type 0
+TellsGap board asked (Ring layer hole) told = ⊥
+TellsGap board asked (Oblique layer hole) told = ⊥
+TellsGap board asked (Gap first second) told = TellsGapOf board asked first second told
+
+-- the head of a layer: its file, and how many holes ask a ring there (docs/DEFINITIONS.md, Reports)
+abbrev pub head_of : List Drilled → ℕ × ℕ → LayerHead
+head_of holes (layer, file) = record { file = file; asked = count_by (asks_ring layer) holes }
+
+-- what is told of a board under rules: each finding of its check, in order, and what the board meets (docs/DEFINITIONS.md, Reports)
+pub record IsTelling (asked : GridRules) (flashed : FlashedSurvey) (told : Telling) : Type 0 where
+  pub rules : told.rules ≡ asked
+  pub layers : told.layers.items ≡ map (head_of flashed.board.holes) (enumerate_from 0 flashed.board.layer_indexes)
+  pub rings : AllZip (TellsRing flashed asked.ring) (filter (λ finding. not (is_gap finding)) (board_findings asked flashed.board)) told.rings.items
+  pub gaps : AllZip (TellsGap flashed.board asked.gap) (filter is_gap (board_findings asked flashed.board)) told.gaps.items
+  pub measure : Measure
+  pub measured : IsMeasure flashed.board measure
+  pub scales : told.scales.items ≡ measure.scales.items
+  pub meets : told.meets ≡ measure.meets
+
+-- what is told of a package: that of the board of its files with their flashes (docs/DEFINITIONS.md, Reports)
+pub record IsTellingOf (sources : List Source) (asked : GridRules) (told : Telling) : Type 0 where
+  pub flashed : FlashedSurvey
+  pub read : IsFlashed sources flashed
+  pub is : IsTelling asked flashed told
+
+-- what is returned is what is told of the package, or the first file that is refused, want of memory aside (docs/DEFINITIONS.md, Reports)
+abbrev pub AnswersTelling : List Source → GridRules → Result Telling PackageFault → Type 0
+AnswersTelling sources asked (Ok told) = IsTellingOf sources asked told
+AnswersTelling sources asked (Err stop.Memory) = ⊤
+AnswersTelling sources asked (Err (stop.File index fault)) = IsFirstRefused sources index fault

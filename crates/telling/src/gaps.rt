@@ -1,0 +1,67 @@
+//! What is told of the holes that lack their gap.
+
+ghost use Rattle.std.specs.Prelude.{◌≡◌, ◌<◌, ◌-ℤ◌, IfOk, OnOk, length, pos};
+ghost use Rattle.std.specs.List.{All, AllZip, filter};
+ghost use Rattle.ring_rules.specs.Passing.{NamesPlaces};
+ghost use Rattle.telling.specs.Inner.Adding.{Adds};
+ghost use Rattle.telling.specs.Telling.{TellsGap, TellsGapOf, is_gap};
+
+use crate::places::hole_at;
+use grid_units::Rules;
+use margins::gap_between;
+use package_check::Board;
+use report_text::GapLack;
+use ring_rules::Finding;
+use std::alloc::{AllocError, Global};
+
+/// What is told of two holes that lack their gap.
+fn gap_lack(board: &Board, first: usize, second: usize, rules: Rules) -> GapLack
+    requires first { first < length board.now.holes }
+    requires second { second < length board.now.holes }
+    ensures { TellsGapOf board.now rules.gap first second result }
+{
+    let holes = board.holes();
+    let gap = gap_between(&holes[first].hole, &holes[second].hole);
+    GapLack {
+        first: hole_at(board, first),
+        second: hole_at(board, second),
+        gap,
+        lack: rules.gap() - gap,
+    }
+}
+
+/// Tells of a finding, behind the others, if it is one of a gap.
+fn push(
+    board: &Board,
+    finding: Finding,
+    rules: Rules,
+    told: &mut Vec<GapLack>,
+) -> Result<(), AllocError>
+    requires { NamesPlaces (length board.now.layers) (length board.now.holes) finding }
+    ensures { OnOk result (Adds (is_gap finding) (TellsGap board.now rules.gap) finding told.old.items told.new.items) }
+{
+    match finding {
+        Finding::Gap { first, second } => {
+            told.push(gap_lack(board, first, second, rules))?;
+            Ok(())
+        }
+        Finding::Ring { .. } | Finding::Oblique { .. } => Ok(()),
+    }
+}
+
+/// What is told of those findings that are of gaps, in their order.
+pub(crate) fn tell_gaps(
+    alloc: Global,
+    board: &Board,
+    findings: &[Finding],
+    rules: Rules,
+) -> Result<Vec<GapLack>, AllocError>
+    requires { All (NamesPlaces (length board.now.layers) (length board.now.holes)) findings.now }
+    ensures { IfOk result (λ told. AllZip (TellsGap board.now rules.gap) (filter is_gap findings.now) told.items) }
+{
+    let mut told = Vec::new(alloc);
+    for finding in findings {
+        push(board, *finding, rules, &mut told)?;
+    }
+    Ok(told)
+}

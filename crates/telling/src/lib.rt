@@ -1,0 +1,16 @@
+//! What a report tells of a package: by how much each ring or gap is lacking, and why.
+//!
+//! All lengths are whole picometres (pm).
+#![tactic(auto)]
+
+mod gaps;
+mod heads;
+mod places;
+mod rings;
+mod tell;
+
+pub use report_text::Telling;
+pub use tell::{tell_board, tell_bytes};
+
+#[cfg(test)]
+mod tests;

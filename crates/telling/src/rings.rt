@@ -1,0 +1,150 @@
+//! What is told of the holes that lack their rings.
+
+ghost use Rattle.std.specs.Prelude.{◌≡◌, ◌<◌, IfOk, IfSome, OnOk, length, not};
+ghost use Rattle.std.specs.List.{All, AllZip, filter};
+ghost use Rattle.ring_rules.specs.Passing.{NamesPlaces};
+ghost use Rattle.telling.specs.Inner.Adding.{Adds, IsKnownAt};
+ghost use Rattle.telling.specs.Telling.{TellsRing, TellsRingAt, is_gap, layer_flashes};
+
+use crate::places::hole_at;
+use causes::LayerCauses;
+use flashed_boards::FlashedBoard;
+use grid_units::Rules;
+use layer_image::Flash;
+use report_text::RingLack;
+use ring_rules::Finding;
+use std::alloc::{AllocError, Global};
+
+/// What is known of one layer.
+#[derive(Drop)]
+pub(crate) struct Known {
+    /// The place of the layer among the copper files.
+    pub(crate) layer: usize,
+    pub(crate) causes: LayerCauses,
+}
+
+/// The flashes of a layer, by its place among the copper files.
+fn layer_flashes(flashed: &FlashedBoard, layer: usize) -> &[Flash]
+    ensures { result.now ≡ layer_flashes flashed.now layer }
+{
+    let file = match flashed.board.layer_indexes().get(layer) {
+        Some(file) => *file,
+        None => 0,
+    };
+    match flashed.flashes.get(file) {
+        Some(flashes) => flashes,
+        None => &[],
+    }
+}
+
+/// What is known of a layer.
+fn known_on(alloc: Global, flashed: &FlashedBoard, layer: usize) -> Result<Known, AllocError>
+    ensures known { IfOk result (IsKnownAt flashed.now) }
+    ensures layer { IfOk result (λ known. known.layer ≡ layer) }
+{
+    let causes = LayerCauses::new(
+        alloc,
+        layer_flashes(flashed, layer),
+        flashed.board.holes(),
+    )?;
+    Ok(Known { layer, causes })
+}
+
+/// What is known of a layer: what is known already, if it is of this layer.
+fn turned_to(
+    alloc: Global,
+    flashed: &FlashedBoard,
+    known: Option<Known>,
+    layer: usize,
+) -> Result<Known, AllocError>
+    requires { IfSome known (IsKnownAt flashed.now) }
+    ensures known { IfOk result (IsKnownAt flashed.now) }
+    ensures layer { IfOk result (λ known. known.layer ≡ layer) }
+{
+    match known {
+        Some(known) => {
+            if known.layer == layer {
+                Ok(known)
+            } else {
+                known_on(alloc, flashed, layer)
+            }
+        }
+        None => known_on(alloc, flashed, layer),
+    }
+}
+
+/// What is told of a hole that lacks its ring on a layer, of which it is known what must be.
+fn ring_lack(flashed: &FlashedBoard, known: &Known, hole: usize, rules: Rules) -> RingLack
+    requires known { IsKnownAt flashed.now known.now }
+    requires hole { hole < length flashed.now.board.holes }
+    ensures { TellsRingAt flashed.now rules.ring known.now.layer hole result }
+{
+    let flashes = layer_flashes(flashed, known.layer);
+    RingLack {
+        layer: known.layer,
+        at: hole_at(&flashed.board, hole),
+        cause: known
+            .causes
+            .cause(flashes, flashed.board.holes(), hole, rules),
+    }
+}
+
+/// Tells of a hole that lacks its ring on a layer, behind the others.
+fn push_at(
+    alloc: Global,
+    flashed: &FlashedBoard,
+    known: Option<Known>,
+    layer: usize,
+    hole: usize,
+    rules: Rules,
+    told: &mut Vec<RingLack>,
+) -> Result<Option<Known>, AllocError>
+    requires known { IfSome known (IsKnownAt flashed.now) }
+    requires hole { hole < length flashed.now.board.holes }
+    ensures known { IfOk result (λ some. IfSome some (IsKnownAt flashed.now)) }
+    ensures adds { IfOk result (λ some. (lack : RingLack) × TellsRingAt flashed.now rules.ring layer hole lack × (told.new.items ≡ told.old.items ++ lack ∷ [])) }
+{
+    let known = turned_to(alloc, flashed, known, layer)?;
+    told.push(ring_lack(flashed, &known, hole, rules))?;
+    Ok(Some(known))
+}
+
+/// Tells of a finding, behind the others, if it is one of a ring.
+fn push(
+    alloc: Global,
+    flashed: &FlashedBoard,
+    known: Option<Known>,
+    finding: Finding,
+    rules: Rules,
+    told: &mut Vec<RingLack>,
+) -> Result<Option<Known>, AllocError>
+    requires known { IfSome known (IsKnownAt flashed.now) }
+    requires places { NamesPlaces (length flashed.now.board.layers) (length flashed.now.board.holes) finding }
+    ensures known { IfOk result (λ some. IfSome some (IsKnownAt flashed.now)) }
+    ensures adds { IfOk result (λ some. Adds (not (is_gap finding)) (TellsRing flashed.now rules.ring) finding told.old.items told.new.items) }
+{
+    match finding {
+        Finding::Ring { layer, hole } | Finding::Oblique { layer, hole } => {
+            push_at(alloc, flashed, known, layer, hole, rules, told)
+        }
+        Finding::Gap { .. } => Ok(known),
+    }
+}
+
+/// What is told of those findings that are of rings, in their order. What is known of a layer is kept until the next one is told of.
+pub(crate) fn tell_rings(
+    alloc: Global,
+    flashed: &FlashedBoard,
+    findings: &[Finding],
+    rules: Rules,
+) -> Result<Vec<RingLack>, AllocError>
+    requires { All (NamesPlaces (length flashed.now.board.layers) (length flashed.now.board.holes)) findings.now }
+    ensures { IfOk result (λ told. AllZip (TellsRing flashed.now rules.ring) (filter (λ finding. not (is_gap finding)) findings.now) told.items) }
+{
+    let mut told = Vec::new(alloc);
+    let mut known = None;
+    for finding in findings {
+        known = push(alloc, flashed, known, *finding, rules, &mut told)?;
+    }
+    Ok(told)
+}
