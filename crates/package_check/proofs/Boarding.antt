@@ -1,7 +1,7 @@
 -- What the files of a package say, and its holes with their places.
-use Rattle.std.proofs.Common.{◌≡◌, ◌<◌, ◌≤◌, ◌+◌, ◌++◌, ℕ, zero, suc, List, [], ◌∷◌, length, map, take, drop, get_or, min, arith, refl, sym, ap, subst, ◌∙◌, Bool, true, false, cond, not, append_assoc}
-use Rattle.std.specs.List.{flat_map, enumerate_from, count_by}
-use Rattle.std.proofs.lemmas.List.{append-nil, drop_all, drop_more, take_more, take_min, map-append, length-map}
+use Rattle.std.proofs.Common.{◌≡◌, ◌<◌, ◌≤◌, ◌+◌, ◌++◌, ℕ, zero, suc, List, [], ◌∷◌, length, map, take, drop, get_or, min, arith, refl, sym, ap, ap₂, subst, ◌∙◌, Bool, true, false, cond, not, append_assoc}
+use Rattle.std.specs.List.{flat_map, enumerate_from, count_by, sum_by}
+use Rattle.std.proofs.lemmas.List.{append-nil, drop_all, drop_more, take_more, take_min, map-append, length-append, length-map}
 use Rattle.std.proofs.lemmas.List.Concat.{flat_map-append, flat_map-cons}
 use Rattle.std.proofs.lemmas.List.Sums.{sum_by-cons}
 use Rattle.std.proofs.Math.Seq.{take-append_seam, drop-append_seam}
@@ -13,7 +13,7 @@ use Rattle.package_check.specs.declared.FileSum.{FileSum}
 use Rattle.package_check.specs.declared.Numbered.{Numbered}
 use Rattle.package_check.specs.declared.contents.Content.{Content}
 use Rattle.package_check.specs.declared.contents.Content.TheVariants as content
-use Rattle.package_check.specs.Boards.{Survey, IsBoard, board_on, hole_count, numbered_from, numbered_in, reported}
+use Rattle.package_check.specs.Boards.{FilesTellAllHoles, Survey, IsBoard, board_on, hole_count, numbered_from, numbered_in, reported}
 use Rattle.package_check.specs.Package.{Source, IsReport, findings, holes_of, layer_indexes, layers, report_on, sum_of}
 use Rattle.package_check.specs.Reports.{Account}
 use Rattle.package_check.specs.Soundness.{drilled_in}
@@ -93,6 +93,18 @@ counted (h ∷ hs) =
 all_listed : (one : Content) → hole_count (sum_of one) ≡ length (drilled_in one)
 all_listed (content.Layer image) = refl
 all_listed (content.Drill plated span holes) = counted holes ∙ sym (length-map holes (λ hole. let one : Drilled = record { hole = hole; plated = plated; span = span } in one))
+
+-- the files have as many holes as are listed for all of them
+pub all_told : (contents : List Content) → sum_by hole_count (map sum_of contents) ≡ length (flat_map drilled_in contents)
+all_told [] = refl
+all_told (c ∷ cs) =
+    sum_by-cons hole_count (sum_of c) (map sum_of cs)
+    ∙ (ap₂ (λ (a b : ℕ). a + b) (all_listed c) (all_told cs)
+    ∙ (sym (length-append (drilled_in c) (flat_map drilled_in cs)) ∙ ap length (sym (flat_map-cons drilled_in c cs))))
+
+pub files_told : FilesTellAllHoles
+files_told sources board b =
+    ap (λ (s : Survey). sum_by hole_count s.files) b.is ∙ (all_told b.contents ∙ sym (ap (λ (s : Survey). length s.holes) b.is))
 
 -- the holes of one file with their places
 placed_from : (file : ℕ) (plated : Bool) (span : Option LayerSpan) (n : ℕ) (holes : List GridHole)

@@ -1,6 +1,6 @@
 -- What the files of a package say, all of them together.
 use Rattle.std.specs.Prelude.{ℕ, ◌+◌, ◌≡◌, ◌++◌, List, [], ◌∷◌, length, map, take, drop, Result, Ok, Err, ⊤}
-use Rattle.std.specs.List.{flat_map, enumerate_from}
+use Rattle.std.specs.List.{flat_map, enumerate_from, sum_by}
 use Rattle.grid_units.specs.Holes.{GridRules}
 use Rattle.pad_shapes.specs.declared.pad.Pad.{Pad}
 use Rattle.ring_rules.specs.declared.finding.Drilled.{Drilled}
@@ -47,6 +47,14 @@ AnswersBoard sources (Err (stop.File index fault)) = IsFirstRefused sources inde
 abbrev pub hole_count : FileSum → ℕ
 hole_count (sum.Layer pads other) = 0
 hole_count (sum.Drill plated span round slots) = round + slots
+
+-- files tell of all holes: together they have just so many (docs/DEFINITIONS.md, Packages)
+abbrev pub TellAllHoles : List FileSum → List Drilled → Type 0
+TellAllHoles files holes = sum_by hole_count files ≡ length holes
+
+-- the files of a package that is read tell of all holes of its board (docs/DEFINITIONS.md, Packages)
+abbrev pub FilesTellAllHoles : Type 0
+FilesTellAllHoles = (sources : List Source) (board : Survey) → IsBoard sources board → TellAllHoles board.files board.holes
 
 -- holes with the index of their file, and their numbers in it from 1 (docs/DEFINITIONS.md, Packages)
 abbrev pub numbered_in : ℕ → List Drilled → List Numbered

@@ -3,7 +3,7 @@
 ghost use Rattle.std.specs.Prelude.{◌≡◌, ◌++◌, ◌∷◌, [], IfOk, OnOk, map, min, not, count_by};
 ghost use Rattle.std.specs.List.{flat_map};
 ghost use Rattle.grid_units.specs.Holes.{is_round};
-ghost use Rattle.package_check.specs.Boards.{board_findings, board_on, hole_count, numbered_from, numbered_in};
+ghost use Rattle.package_check.specs.Boards.{TellAllHoles, board_findings, board_on, hole_count, numbered_from, numbered_in};
 ghost use Rattle.package_check.specs.Package.{sum_of, layer_indexes, pads_of};
 ghost use Rattle.package_check.specs.Soundness.{drilled_in};
 
@@ -27,11 +27,13 @@ pub struct Board {
 
 impl Model for Board {
     ghost use Rattle.std.specs.Prelude.{map};
-    ghost use Rattle.package_check.specs.Boards.{Survey};
+    ghost use Rattle.package_check.specs.Boards.{Survey, TellAllHoles};
 
     ghost Value = { Survey };
 
     ghost view = { λ b. record { files = b.files.items; layers = map (λ l. l.pads) b.layers.items; layer_indexes = b.layer_indexes.items; holes = b.holes.items } };
+
+    ghost invariant = { λ b. TellAllHoles b.files.items b.holes.items };
 }
 
 /// The parts of a board that a report keeps: sums, indexes of the copper files, holes.
@@ -43,9 +45,10 @@ pub(crate) struct Kept {
 }
 
 impl Board {
-    /// How much each file holds.
+    /// How much each file holds. Together the files have just the holes of the board.
     pub fn files(&self) -> &[FileSum]
-        ensures { result.now ≡ self.now.files }
+        ensures sums { result.now ≡ self.now.files }
+        ensures told { TellAllHoles self.now.files self.now.holes }
     {
         &self.files
     }
@@ -249,6 +252,7 @@ fn total(contents: &[Content]) -> usize {
 }
 
 /// The board of what the files say.
+#[tactic(auto, using(crate::proofs::Boarding::all_told))]
 pub(crate) fn board_on(alloc: Global, contents: Vec<Content>) -> Result<Board, AllocError>
     ensures { IfOk result (λ board. board ≡ board_on contents.items) }
 {
@@ -266,7 +270,7 @@ pub(crate) fn board_on(alloc: Global, contents: Vec<Content>) -> Result<Board, A
 }
 
 /// How many of the first so many holes a file has.
-fn hole_count(file: &FileSum, all: usize) -> usize
+pub fn hole_count(file: &FileSum, all: usize) -> usize
     ensures { result ≡ min (hole_count file.now) all }
 {
     match file {

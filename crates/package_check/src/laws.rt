@@ -1,5 +1,6 @@
 // What follows from the definitions alone.
 ghost use Rattle.package_check.specs.Alike.{AnswersTheSame, OneAnswer, OneReading};
+ghost use Rattle.package_check.specs.Boards.{FilesTellAllHoles};
 ghost use Rattle.package_check.specs.Package.{FindingsNameTheirPlaces};
 ghost use Rattle.package_check.specs.Rewriting.{RewritingChangesNothing};
 ghost use Rattle.package_check.specs.Soundness.{PassingIsSound};
@@ -21,6 +22,11 @@ pub fn findings_name_their_places()
 {
     findings_name_places::<Pad>();
 }
+
+/// The files of a package that is read tell of all holes of its board.
+pub fn files_tell_all_holes()
+    ensures { FilesTellAllHoles }
+{}
 
 /// Packages whose files say the same have the same answer.
 pub fn answers_the_same()

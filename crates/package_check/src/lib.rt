@@ -12,7 +12,7 @@ mod readers;
 mod report;
 mod streaming;
 
-pub use board::Board;
+pub use board::{Board, hole_count};
 use grid_units::Fault;
 pub use manifest::Role;
 pub use package::{check_bytes, read_package};
