@@ -1,0 +1,4 @@
+pub mod Rounding
+pub mod Baring
+pub mod Counting
+pub mod Choosing

@@ -1,0 +1,97 @@
+-- Whether the coordinates of a drill file's holes are off by a factor. Lengths are whole picometres.
+use Rattle.std.specs.Prelude.{◌≡◌, ◌↔◌, ℕ, ℤ, pos, ◌*◌, ◌<◌, ◌≤◌, ◌*ℤ◌, ◌≤ℤ◌, Bool, true, not, ◌&&◌, ◌||◌, nat_le, unsigned_abs, Option, Some, None, List, [], ◌∷◌, length, get_or, count_by}
+use Rattle.std.specs.Int.{int_div_euclid}
+use Rattle.std.specs.List.{list_any}
+use Rattle.grid_units.specs.Points.{GridPoint, max_coordinate}
+use Rattle.grid_units.specs.Holes.{GridHole, is_round}
+use Rattle.pad_shapes.specs.Pads.{pad_covers}
+use Rattle.pad_shapes.specs.declared.pad.Pad.{Pad}
+use Rattle.ring_rules.specs.declared.finding.Drilled.{Drilled}
+use Rattle.margins.specs.Bests.{IsBare}
+use Rattle.margin_text.specs.declared.Factor.{Factor}
+use Rattle.margin_text.specs.declared.Factor.TheVariants as kind
+use Rattle.margin_text.specs.declared.ScaleLine.{ScaleLine}
+
+-- a factor as a fraction: the number above (docs/DEFINITIONS.md, Scales)
+abbrev pub multiplier : Factor → ℕ
+multiplier kind.Ten = 10
+multiplier kind.Tenth = 1
+multiplier kind.Inch = 254
+multiplier kind.PerInch = 10
+
+-- and the number below (docs/DEFINITIONS.md, Scales)
+abbrev pub divisor : Factor → ℕ
+divisor kind.Ten = 1
+divisor kind.Tenth = 10
+divisor kind.Inch = 10
+divisor kind.PerInch = 254
+
+-- a coordinate times a factor, rounded down (docs/DEFINITIONS.md, Scales)
+abbrev pub scaled : Factor → ℤ → ℤ
+scaled factor z = int_div_euclid (pos (multiplier factor) *ℤ z) (pos (divisor factor))
+
+-- rounded down: a whole number is no more than a coordinate times a factor just where it is no more than that (docs/DEFINITIONS.md, Scales)
+abbrev pub IsRoundedDown : Type 0
+IsRoundedDown = (factor : Factor) (z whole : ℤ) → ((pos (divisor factor) *ℤ whole) ≤ℤ (pos (multiplier factor) *ℤ z)) ↔ (whole ≤ℤ scaled factor z)
+
+-- a point with its coordinates times a factor (docs/DEFINITIONS.md, Scales)
+abbrev pub scaled_point : Factor → GridPoint → GridPoint
+scaled_point factor p = record { x = scaled factor p.x; y = scaled factor p.y }
+
+-- no coordinate is beyond ten metres (docs/DEFINITIONS.md, Scales)
+abbrev pub is_place : GridPoint → Bool
+is_place p = nat_le (unsigned_abs p.x) max_coordinate && nat_le (unsigned_abs p.y) max_coordinate
+
+-- no pad covers a point, with whatever reach (docs/DEFINITIONS.md, Scales)
+abbrev pub is_uncovered : List Pad → GridPoint → Bool
+is_uncovered pads p = not (list_any (λ pad. pad_covers pad p 0) pads)
+
+-- a round hole is bare just where no pad covers its centre (docs/DEFINITIONS.md, Scales)
+abbrev pub BareIsUncovered : Type 0
+BareIsUncovered = (pads : List Pad) (hole : GridHole) → is_round hole ≡ true → IsBare pad_covers pads hole ↔ (is_uncovered pads hole.from ≡ true)
+
+-- a hole is round and bare (docs/DEFINITIONS.md, Scales)
+abbrev pub is_bare : List Pad → Drilled → Bool
+is_bare pads d = is_round d.hole && is_uncovered pads d.hole.from
+
+-- a hole is round and would be bare with its coordinates times a factor, as it is where its place would be beyond ten metres (docs/DEFINITIONS.md, Scales)
+abbrev pub is_bare_by : List Pad → Factor → Drilled → Bool
+is_bare_by pads factor d = is_round d.hole && (not (is_place (scaled_point factor d.hole.from)) || is_uncovered pads (scaled_point factor d.hole.from))
+
+-- how many of some holes are round (docs/DEFINITIONS.md, Scales)
+abbrev pub round_count : List Drilled → ℕ
+round_count holes = count_by (λ d. is_round d.hole) holes
+
+-- how many of them are round and bare (docs/DEFINITIONS.md, Scales)
+abbrev pub bare_count : List Pad → List Drilled → ℕ
+bare_count pads holes = count_by (is_bare pads) holes
+
+-- how many of them are round and would be bare with their coordinates times a factor (docs/DEFINITIONS.md, Scales)
+abbrev pub bare_count_by : List Pad → List Drilled → Factor → ℕ
+bare_count_by pads holes factor = count_by (is_bare_by pads factor) holes
+
+-- the factors, in the order in which they are tried (docs/DEFINITIONS.md, Scales)
+abbrev pub factors : List Factor
+factors = kind.Ten ∷ kind.Tenth ∷ kind.Inch ∷ kind.PerInch ∷ []
+
+-- the first of some factors with the fewest: fewer than each before it, and no more than each of them (docs/DEFINITIONS.md, Scales)
+pub record IsFirstFewest (count : Factor → ℕ) (tried : List Factor) (factor : Factor) : Type 0 where
+  pub place : ℕ
+  pub inside : place < length tried
+  pub at : (d : Factor) → get_or tried place d ≡ factor
+  pub before : (d : Factor) (k : ℕ) → k < place → count factor < count (get_or tried k d)
+  pub fewest : (d : Factor) (k : ℕ) → k < length tried → count factor ≤ count (get_or tried k d)
+
+-- What is told of the holes of a drill file, by the pads of the first layer: of the round holes more than half are bare, and by the
+-- first factor with the fewest less than half of these would be (docs/DEFINITIONS.md, Scales).
+pub record IsScale (pads : List Pad) (holes : List Drilled) (line : ScaleLine) : Type 0 where
+  pub bare : line.bare ≡ bare_count pads holes
+  pub most : round_count holes < 2 * line.bare
+  pub first : IsFirstFewest (bare_count_by pads holes) factors line.factor
+  pub then : line.then ≡ bare_count_by pads holes line.factor
+  pub few : 2 * line.then < line.bare
+
+-- the line of a drill file, or none where nothing is told of its holes (docs/DEFINITIONS.md, Scales)
+abbrev pub IsScaleLine : List Pad → List Drilled → ℕ → Option ScaleLine → Type 0
+IsScaleLine pads holes drill None = (line : ScaleLine) → IsScale pads holes line → ⊥
+IsScaleLine pads holes drill (Some line) = IsScale pads holes line × (line.drill ≡ drill)

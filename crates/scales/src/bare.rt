@@ -1,0 +1,108 @@
+//! How many round holes are bare, where they are and with their coordinates times a factor.
+
+ghost use Rattle.std.specs.Prelude.{◌≡◌, ◌&&◌, ◌≤◌, length, List, IfOk};
+ghost use Rattle.grid_units.specs.Holes.{is_round};
+ghost use Rattle.pad_shapes.specs.Pads.{pad_covers};
+ghost use Rattle.pad_shapes.specs.declared.pad.Pad.{Pad as ThePad};
+ghost use Rattle.margins.specs.Bests.{AreBest};
+ghost use Rattle.margins.specs.Rows.{has_none};
+ghost use Rattle.scales.specs.Scales.{bare_count, bare_count_by, round_count};
+ghost use Rattle.scales.specs.Inner.Counting.{AreMoved, IsMoved};
+
+use crate::scaled::scaled_point;
+use grid_units::{Hole, Point};
+use margin_text::Factor;
+use margins::{Best, best_pads};
+use pad_shapes::Pad;
+use ring_rules::Drilled;
+use std::alloc::{AllocError, Global};
+
+/// How many of some holes are round.
+pub(crate) fn round_among(holes: &[Drilled]) -> usize
+    ensures { result ≡ round_count holes.now }
+{
+    holes
+        .iter()
+        .filter(|drilled| drilled.hole.is_round())
+        .count()
+}
+
+/// Whether a hole is round and bare, by its best pad.
+fn is_bare(drilled: &Drilled, best: Option<Best>) -> bool
+    ensures { result ≡ (is_round drilled.now.hole && has_none best) }
+{
+    drilled.hole.is_round() && best.is_none()
+}
+
+/// How many of some holes are round and bare, by their best pads.
+pub fn bare_among(bests: &[Option<Best>], holes: &[Drilled]) -> usize
+    requires { length bests.now ≡ length holes.now }
+    ensures exact { (pads : List ThePad) → AreBest pad_covers pads holes.now bests.now → result ≡ bare_count pads holes.now }
+    ensures few { result ≤ length holes.now }
+{
+    let mut bare = 0;
+    for (place, drilled) in holes.iter().enumerate() {
+        if is_bare(drilled, bests[place]) {
+            bare += 1;
+        }
+    }
+    bare
+}
+
+/// The hole round another centre.
+fn at_centre(drilled: &Drilled, centre: Point) -> Drilled
+    ensures from { result.hole.from ≡ centre }
+    ensures to { result.hole.to ≡ centre }
+{
+    Drilled {
+        hole: Hole::new(centre, centre, drilled.hole.radius()).unwrap(),
+        plated: drilled.plated,
+        span: drilled.span,
+    }
+}
+
+/// A round hole with its coordinates times a factor; none where it is a slot, or would be beyond ten metres.
+fn moved(drilled: &Drilled, factor: Factor) -> Option<Drilled>
+    ensures { IsMoved factor drilled.now result }
+{
+    if !drilled.hole.is_round() {
+        return None;
+    }
+    match scaled_point(drilled.hole.from(), factor) {
+        Some(centre) => Some(at_centre(drilled, centre)),
+        None => None,
+    }
+}
+
+/// Those of the round holes that have a place with their coordinates times a factor, at these.
+fn all_moved(alloc: Global, holes: &[Drilled], factor: Factor) -> Result<Vec<Drilled>, AllocError>
+    ensures { IfOk result (λ moved. AreMoved factor holes.now moved.items) }
+{
+    let mut all = Vec::new(alloc);
+    for drilled in holes {
+        if let Some(hole) = moved(drilled, factor) {
+            all.push(hole)?;
+        }
+    }
+    Ok(all)
+}
+
+/// How many of some holes are round and would be bare among the pads with their coordinates times a factor, rounded down. A place beyond
+/// ten metres is bare.
+///
+/// # Errors
+///
+/// Where there is no memory.
+pub fn bare_by(
+    alloc: Global,
+    pads: &[Pad],
+    holes: &[Drilled],
+    factor: Factor,
+) -> Result<usize, AllocError>
+    ensures { IfOk result (λ count. count ≡ bare_count_by pads.now holes.now factor) }
+{
+    let moved = all_moved(alloc, holes, factor)?;
+    let beyond = round_among(holes) - moved.len();
+    let bests = best_pads(alloc, pads, &moved)?;
+    Ok(beyond + bare_among(&bests, &moved))
+}

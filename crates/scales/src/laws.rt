@@ -1,0 +1,13 @@
+//! What follows from the definitions alone. A call of a law does nothing, and gives its clause.
+
+ghost use Rattle.scales.specs.Scales.{BareIsUncovered, IsRoundedDown};
+
+/// A coordinate times a factor is rounded down: it is the greatest whole number that is not above the product.
+pub fn rounded_down()
+    ensures { IsRoundedDown }
+{}
+
+/// A round hole is bare just where no pad covers its centre.
+pub fn bare_is_uncovered()
+    ensures { BareIsUncovered }
+{}

@@ -1,0 +1,18 @@
+//! Whether the coordinates of a drill file's holes are off by a factor: where most of its round holes are bare, and hardly any would be with
+//! their coordinates times ten, a tenth, an inch's millimetres or the other way round.
+//!
+//! All lengths are whole picometres (pm).
+#![tactic(auto)]
+
+mod bare;
+mod fewest;
+pub mod laws;
+mod line;
+mod scaled;
+
+pub use bare::{bare_among, bare_by};
+pub use line::scale_line;
+pub use scaled::scaled_point;
+
+#[cfg(test)]
+mod tests;
