@@ -3,3 +3,4 @@ pub mod Placing
 pub mod Joining
 pub mod Tabling
 pub mod Lining
+pub mod Scaled

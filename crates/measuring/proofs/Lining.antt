@@ -90,15 +90,14 @@ least_inside bests holes chosen row low high is inside least e =
     subst (λ (place : ℕ). (low ≤ place) × (place < high)) held.there (inside held.i 0 held.inside)
 
 -- and it is told by the number of that hole
-pub least_told : (files : List FileSum) (drill start end : ℕ) (held : Option LeastRing) (told : Option line.LeastRing) → (start < end → start ≡ holes_before files drill) → end ≤ holes_before files (drill + 1)
+pub least_told : (files : List FileSum) (drill start end : ℕ) (held : Option LeastRing) (told : Option line.LeastRing) → start ≡ holes_before files drill → end ≡ holes_before files (drill + 1)
     → ((least : LeastRing) → held ≡ Some least → (start ≤ least.hole) × (least.hole < end)) → IsTold held start told → TellsLeast files drill held told
 least_told files drill start end None None starts ends inside is = tt
 least_told files drill start end None (Some told) starts ends inside is = is
 least_told files drill start end (Some held) None starts ends inside is = is
 least_told files drill start end (Some held) (Some told) starts ends inside is =
     let at = inside held refl in
-    let begins = starts (omega (arith, at.0, at.1)) in
-    (is.0, record { at = omega (arith, begins, is.1); from_one = omega (arith, at.0, is.1); inside = omega (arith, at.1, ends) })
+    (is.0, record { at = omega (arith, starts, is.1); from_one = omega (arith, at.0, is.1); inside = omega (arith, at.1, ends) })
 
 -- the first hole of a row has its radius
 pub radius_of : (board : Survey) (key : RowKey) (d : ℕ) → 0 < length (places_of board key) → (hole_at board.holes (get_or (places_of board key) 0 d)).radius ≡ key.radius

@@ -1,10 +1,12 @@
 -- Where the holes of a package stand.
 use Rattle.std.proofs.Common.{◌≡◌, ℕ, ◌+◌, ◌-◌, ◌<◌, ◌≤◌, min, inl, inr, List, length, get_or, ap, ◌∙◌, arith}
-use Rattle.std.proofs.lemmas.List.Sums.{sum_by_more}
+use Rattle.std.specs.List.{sum_by}
+use Rattle.std.proofs.lemmas.List.{take_all}
+use Rattle.std.proofs.lemmas.List.Sums.{sum_by-take-le, sum_by_more}
 use Rattle.std.proofs.lemmas.Bool.{cases_lt}
 use Rattle.ring_rules.specs.declared.finding.Drilled.{Drilled}
 use Rattle.margins.specs.Nearness.{IsPair}
-use Rattle.package_check.specs.Boards.{hole_count}
+use Rattle.package_check.specs.Boards.{TellAllHoles, hole_count}
 use Rattle.package_check.specs.declared.FileSum.{FileSum}
 use Rattle.measuring.specs.Rows.{IsPlace, holes_before}
 
@@ -12,23 +14,31 @@ use Rattle.measuring.specs.Rows.{IsPlace, holes_before}
 pub before_next : (files : List FileSum) (file : ℕ) (one : FileSum) → file < length files → get_or files file one ≡ one → holes_before files (file + 1) ≡ holes_before files file + hole_count one
 before_next files file one inside is = sum_by_more hole_count files file one inside ∙ ap (λ (f : FileSum). holes_before files file + hole_count f) is
 
--- one of so many holes stands in the next file where fewer of them than it has are before it
-pub placed : (files : List FileSum) (file hole all before count : ℕ) (one : FileSum) → file < length files → get_or files file one ≡ one → before ≡ holes_before files file → before ≤ hole → hole < all
-    → count ≡ min (hole_count one) all → hole - before < count → IsPlace files hole (record { drill = file; hole = hole - before + 1 })
-placed files file hole all before count one inside is was le few counted less =
+-- where the holes of a file end, by how many of the rest it has
+pub end_is : (files : List FileSum) (holes : List Drilled) (file start count : ℕ) (one : FileSum) → TellAllHoles files holes → file < length files → get_or files file one ≡ one → start ≡ holes_before files file
+    → count ≡ min (hole_count one) (length holes - start) → (start + count ≡ holes_before files (file + 1)) × (start + count ≤ length holes)
+end_is files holes file start count one told inside is starts counted =
     let next = before_next files file one inside is in
-    record {
-      at = omega (arith, was, le);
-      from_one = omega arith;
-      inside = omega (arith, was, le, next, counted, less);
-    }
+    let most = sum_by-take-le hole_count files (file + 1) in
+    (omega (arith, told, starts, counted, next, most), omega (arith, told, starts, counted, next, most))
 
--- or it stands in a later one
-pub passed : (files : List FileSum) (file hole all before count : ℕ) (one : FileSum) → file < length files → get_or files file one ≡ one → before ≡ holes_before files file → before ≤ hole → hole < all
-    → count ≡ min (hole_count one) all → count ≤ hole - before → (before + count ≡ holes_before files (file + 1)) × (before + count ≤ hole)
-passed files file hole all before count one inside is was le few counted more =
-    let next = before_next files file one inside is in
-    (omega (arith, was, le, few, next, counted, more), omega (arith, le, more))
+-- the holes of a file begin in the list
+pub start_in : (files : List FileSum) (holes : List Drilled) (file start : ℕ) → TellAllHoles files holes → start ≡ holes_before files file → start ≤ length holes
+start_in files holes file start told starts = let most = sum_by-take-le hole_count files file in omega (arith, told, starts, most)
+
+-- a hole stands in the file before whose end it lies, if in none before it
+pub placed : (files : List FileSum) (file hole start end : ℕ) → start ≡ holes_before files file → end ≡ holes_before files (file + 1) → start ≤ hole → hole < end → IsPlace files hole (record { drill = file; hole = hole - start + 1 })
+placed files file hole start end starts ends low less = record {
+  at = omega (arith, starts, low);
+  from_one = omega arith;
+  inside = omega (arith, ends, less);
+}
+
+-- no hole stands behind the last file
+pub none_behind : (files : List FileSum) (holes : List Drilled) (file hole start : ℕ) → TellAllHoles files holes → length files ≤ file → start ≡ holes_before files file → start ≤ hole → hole < length holes → ⊥
+none_behind files holes file hole start told past starts low inside =
+    let all : holes_before files file ≡ sum_by hole_count files = ap (sum_by hole_count) (take_all file files past) in
+    omega (arith, all, told, starts, low, inside)
 
 -- fewer than two holes make no pair
 pub no_pair : (holes : List Drilled) → ((i j : ℕ) → IsPair holes i j → ⊥) → length holes < 2

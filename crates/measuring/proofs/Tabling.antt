@@ -1,13 +1,9 @@
 -- The holes of a drill file on a layer, by their radius.
-use Rattle.std.proofs.Common.{◌≡◌, ◌&&◌, ◌||◌, ℕ, ◌+◌, ◌-◌, ◌<◌, ◌≤◌, ◌⊎◌, inl, inr, zero, suc, min, Bool, true, false, cond, eqb, List, [], ◌∷◌, ◌++◌, length, get_or, refl, sym, subst, ap, ◌∙◌, arith}
+use Rattle.std.proofs.Common.{◌≡◌, ◌||◌, ℕ, ◌+◌, ◌-◌, ◌<◌, ◌≤◌, ◌⊎◌, inl, inr, zero, suc, Bool, true, false, cond, List, [], ◌∷◌, ◌++◌, length, get_or, refl, sym, subst, ap, ◌∙◌, arith}
 use Rattle.std.specs.List.{All, filter, range_with_len, sum_by}
-use Rattle.std.proofs.lemmas.List.{get_or_past, take_all}
+use Rattle.std.proofs.lemmas.List.{take_all}
 use Rattle.std.proofs.lemmas.List.Elements.{All-filter}
 use Rattle.std.proofs.lemmas.List.FromFn.{length-range_with_len, get_or-range_with_len}
-use Rattle.std.proofs.lemmas.Bool.{cases_lt}
-use Rattle.ring_rules.specs.Places.{nowhere}
-use Rattle.ring_rules.specs.declared.finding.Drilled.{Drilled}
-use Rattle.margins.specs.Meets.{asks_ring}
 use Rattle.package_check.specs.Boards.{Survey, hole_count}
 use Rattle.measuring.specs.Rows.{RowKey, holes_before, is_asked, places_of}
 use Rattle.measuring.specs.declared.rows.Stretch.{Stretch}
@@ -42,37 +38,6 @@ module _ (p : ℕ → Bool) where
       let next : suc n + 1 ≡ suc (n + 1) = omega arith in
       subst (λ (m : ℕ). filter p (range_with_len a m) ≡ filter p (range_with_len a (suc n))) (sym next) (ap (λ (xs : List ℕ). cond (p a) (a ∷ xs) xs) rest)
 
-  -- numbers from a bound on do not pass
-  beyond : (bound a n : ℕ) → ((k : ℕ) → bound ≤ k → p k ≡ false) → bound ≤ a → filter p (range_with_len a n) ≡ []
-  beyond bound a zero fails h = refl
-  beyond bound a (suc n) fails h = ap (λ (b : Bool). cond b (a ∷ filter p (range_with_len (a + 1) n)) (filter p (range_with_len (a + 1) n))) (fails a h) ∙ beyond bound (a + 1) n fails (omega (arith, h))
-
-  cut : (bound a m n : ℕ) → ((k : ℕ) → bound ≤ k → p k ≡ false) → bound ≤ a + m → m ≤ n → filter p (range_with_len a n) ≡ filter p (range_with_len a m)
-  cut bound a zero n fails h l = beyond bound a n fails (omega (arith, h))
-  cut bound a (suc m) zero fails h l = absurd (omega (arith, l))
-  cut bound a (suc m) (suc n) fails h l = ap (λ (xs : List ℕ). cond (p a) (a ∷ xs) xs) (cut bound (a + 1) m n fails (omega (arith, h)) (omega (arith, l)))
-
-  -- what passes of the numbers of a file, as far as there are holes
-  pub as_far : (bound before next start end : ℕ) → ((k : ℕ) → bound ≤ k → p k ≡ false) → before ≤ next → start ≡ min before bound → end ≡ min next bound
-      → filter p (range_with_len before (next - before)) ≡ filter p (range_with_len start (end - start))
-  as_far bound before next start end fails up first last = elim (cases_lt bound before) [
-    | inl past ↦ (
-        let none : end - start ≡ 0 = omega (arith, up, first, last, past) in
-        beyond bound before (next - before) fails (omega (arith, past)) ∙ ap (λ (n : ℕ). filter p (range_with_len start n)) (sym none))
-    | inr inside ↦ (
-        let same : start ≡ before = omega (arith, first, inside) in
-        let short : end - start ≤ next - before = omega (arith, up, first, last, inside) in
-        split inside same short (cases_lt (end - start) (next - before)))
-  ]
-    where
-      split : before ≤ bound → start ≡ before → end - start ≤ next - before → ((end - start < next - before) ⊎ (next - before ≤ end - start)) → filter p (range_with_len before (next - before)) ≡ filter p (range_with_len start (end - start))
-      split inside same short (inl less) =
-          let far : bound ≤ before + (end - start) = omega (arith, up, first, last, inside, less) in
-          cut bound before (end - start) (next - before) fails far short ∙ ap (λ (a : ℕ). filter p (range_with_len a (end - start))) (sym same)
-      split inside same short (inr more) =
-          let whole : next - before ≡ end - start = omega (arith, short, more) in
-          ap (λ (n : ℕ). filter p (range_with_len before n)) whole ∙ ap (λ (a : ℕ). filter p (range_with_len a (end - start))) (sym same)
-
 either : (b : Bool) → (b ≡ true) ⊎ (b ≡ false)
 either true = inl refl
 either false = inr refl
@@ -102,20 +67,12 @@ module _ (p : ℕ → Bool) (a n place : ℕ) (here : a + n ≡ place) where
     | inr fails ↦ is ∙ (ap (λ (b : Bool). b || old) fails ∙ (was ∙ sym (ap is_filled (passed_over fails))))
   ]
 
--- no row has a hole beyond the list
-pub not_asked : (board : Survey) (key : RowKey) (k : ℕ) → length board.holes ≤ k → is_asked board key k ≡ false
-not_asked board key k far = ap (λ (d : Drilled). asks_ring key.layer d && eqb d.hole.radius key.radius) (get_or_past board.holes k nowhere far)
-
--- the holes of a stretch
-pub stretched : (board : Survey) (stretch : Stretch) → holes_before board.files stretch.drill ≤ holes_before board.files (stretch.drill + 1) → stretch.start ≡ min (holes_before board.files stretch.drill) (length board.holes)
-    → stretch.end ≡ min (holes_before board.files (stretch.drill + 1)) (length board.holes) → IsStretch board stretch
-stretched board stretch up first last = record {
-  ordered = omega (arith, up, first, last);
-  inside = omega (arith, last);
-  starts = λ less. omega (arith, up, first, last, less);
-  ends = omega (arith, last);
-  all = λ radius. as_far (is_asked board (row_of stretch radius)) (length board.holes) (holes_before board.files stretch.drill) (holes_before board.files (stretch.drill + 1)) stretch.start stretch.end (not_asked board (row_of stretch radius)) up first last;
-}
+-- the places of a row are those of its stretch that are asked
+pub stretched : (board : Survey) (stretch : Stretch) (radius : ℕ) → IsStretch board stretch
+    → places_of board (row_of stretch radius) ≡ filter (is_asked board (row_of stretch radius)) (range_with_len stretch.start (stretch.end - stretch.start))
+stretched board stretch radius is = sym (
+    ap (λ (n : ℕ). filter (is_asked board (row_of stretch radius)) (range_with_len n (stretch.end - n))) is.starts
+    ∙ ap (λ (n : ℕ). filter (is_asked board (row_of stretch radius)) (range_with_len (holes_before board.files stretch.drill) (n - holes_before board.files stretch.drill))) is.ends)
 
 -- the places of a row lie in its stretch
 pub places_inside : (board : Survey) (stretch : Stretch) (radius : ℕ) → IsStretch board stretch → All (λ place. (stretch.start ≤ place) × (place < stretch.end)) (places_of board (row_of stretch radius))
@@ -127,7 +84,7 @@ places_inside board stretch radius is =
     let at : low + k ≡ get_or (range_with_len low size) k d = sym (get_or-range_with_len low size k d inside) in
     let ordered = is.ordered in
     subst (λ (place : ℕ). (stretch.start ≤ place) × (place < stretch.end)) at (omega arith, omega (arith, inside, ordered)) in
-    subst (All (λ place. (stretch.start ≤ place) × (place < stretch.end))) (sym (is.all radius)) (All-filter (is_asked board (row_of stretch radius)) (λ place. (stretch.start ≤ place) × (place < stretch.end)) (range_with_len low size) every)
+    subst (All (λ place. (stretch.start ≤ place) × (place < stretch.end))) (sym (stretched board stretch radius is)) (All-filter (is_asked board (row_of stretch radius)) (λ place. (stretch.start ≤ place) × (place < stretch.end)) (range_with_len low size) every)
 
 -- no file stands behind the last
 pub no_file : (board : Survey) (key : RowKey) → length board.files ≤ key.drill → 0 < length (places_of board key) → ⊥

@@ -1,3 +1,4 @@
 pub mod Measures
 pub mod Rows
+pub mod Scaling
 pub mod Inner

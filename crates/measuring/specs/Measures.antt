@@ -1,5 +1,5 @@
 -- By how much a package meets its rules. Lengths are whole picometres.
-use Rattle.std.specs.Prelude.{◌≡◌, ◌↔◌, ℕ, List, [], Result, Ok, Err, ⊤}
+use Rattle.std.specs.Prelude.{◌≡◌, ◌↔◌, ℕ, List, [], length, Result, Ok, Err, ⊤}
 use Rattle.grid_units.specs.Holes.{GridRules}
 use Rattle.grid_units.specs.declared.fault.Fault.{Fault}
 use Rattle.pad_shapes.specs.Pads.{pad_covers}
@@ -11,6 +11,7 @@ use Rattle.package_check.specs.Reports.{Account}
 use Rattle.package_check.specs.declared.PackageFault.{PackageFault}
 use Rattle.package_check.specs.declared.PackageFault.TheVariants as stop
 use Rattle.measuring.specs.Rows.{AreRingLines, IsGapLine}
+use Rattle.measuring.specs.Scaling.{AreScaleLines}
 use Rattle.measuring.specs.declared.measure.Measure.{Measure}
 
 -- both rules are allowed by what is met (docs/DEFINITIONS.md, Measures)
@@ -26,9 +27,10 @@ pub record PackagePasses (sources : List Source) (ring gap : Met) : Type 0 where
   pub reported : (rules : GridRules) → (report : Account) × IsReport sources rules report
   pub passes : (rules : GridRules) (report : Account) → IsReport sources rules report → (report.findings ≡ []) ↔ AllowsRules ring gap rules
 
--- the measure of a board: the line of its least gap, and the greatest ring and the greatest gap that it meets (docs/DEFINITIONS.md, Measures)
+-- the measure of a board: the lines of its rings and of its scales, the line of its least gap, and the greatest ring and the greatest gap that it meets (docs/DEFINITIONS.md, Measures)
 pub record IsMeasure (board : Survey) (measure : Measure) : Type 0 where
   pub lines : AreRingLines board measure.rings.items
+  pub scales : AreScaleLines board (length board.files) measure.scales.items
   pub gap : IsGapLine board measure.gap
   pub rings : MeetsRings pad_covers board.layers board.holes measure.meets.ring
   pub held : MeetsHeld pad_covers board.layers board.holes measure.meets.held

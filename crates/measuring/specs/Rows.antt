@@ -84,17 +84,13 @@ pub record AreRowLines (board : Survey) (among : RowKey → Type 0) (lines : Lis
 abbrev pub AreRingLines : Survey → List RingLine → Type 0
 AreRingLines board lines = AreRowLines board (λ key. key.layer < length board.layers) lines
 
--- the place of a hole, as far as the files tell of it (docs/DEFINITIONS.md, Lines of a measure)
-abbrev pub IsToldPlace : Survey → ℕ → HolePlace → Type 0
-IsToldPlace board hole place = hole < holes_before board.files (length board.files) → IsPlace board.files hole place
-
 -- the line of the least gap: the first two holes that have it (docs/DEFINITIONS.md, Lines of a measure)
 pub record IsLeastGap (board : Survey) (line : GapLine) : Type 0 where
   pub pair : Nearest
   pub nearest : IsNearest board.holes (IsPair board.holes) pair
   pub gap : line.gap ≡ pair.gap
-  pub first : IsToldPlace board pair.first line.first
-  pub second : IsToldPlace board pair.second line.second
+  pub first : IsPlace board.files pair.first line.first
+  pub second : IsPlace board.files pair.second line.second
 
 -- the line of the least gap, or none where there are fewer than two holes (docs/DEFINITIONS.md, Lines of a measure)
 abbrev pub IsGapLine : Survey → Option GapLine → Type 0

@@ -1,4 +1,5 @@
-//! By how much a package meets its rules: the least ring of each layer, drill file and diameter, the least gap, and the greatest ring and
+//! By how much a package meets its rules: the least ring of each layer, drill file and diameter, the least gap, the drill files whose
+//! coordinates seem to be off by a factor, and the greatest ring and
 //! the greatest gap under which its check finds nothing.
 //!
 //! All lengths are whole picometres (pm).
@@ -8,6 +9,7 @@ pub mod laws;
 mod measure;
 mod places;
 mod rows;
+mod scaling;
 
 pub use measure::{Measure, measure_board, measure_bytes};
 

@@ -9,10 +9,12 @@ ghost use Rattle.package_check.specs.Package.{IsAnswer, sources_of};
 ghost use Rattle.package_check.specs.Reports.{Account};
 ghost use Rattle.measuring.specs.Measures.{AnswersMeasure, BoardPasses, IsMeasure, PackagePasses, RefusesAlike};
 ghost use Rattle.measuring.specs.Rows.{AreRingLines};
+ghost use Rattle.measuring.specs.Scaling.{AreScaleLines};
 
 use crate::laws::measured_passes;
 use crate::places::gap_line;
 use crate::rows::push_layer;
+use crate::scaling::scale_lines;
 use margin_text::{GapLine, Meets, RingLine, ScaleLine};
 use margins::laws::{gaps_pass, rings_pass};
 use margins::{RingsMet, best_pads, gap_met_by, met_by_none, met_with, nearest_holes};
@@ -34,28 +36,34 @@ pub struct Measure {
     pub meets: Meets,
 }
 
-/// What a board meets of rings, and the lines of its rings.
+/// What a board meets of rings, the lines of its rings and those of its scales.
 #[derive(Drop)]
 struct Rings {
     met: RingsMet,
     lines: Vec<RingLine>,
+    scales: Vec<ScaleLine>,
 }
 
-/// The rings of a board. The best pads of each layer are looked for once.
+/// The rings of a board, and its scales. The best pads of each layer are looked for once.
 fn rings_on(alloc: Global, board: &Board) -> Result<Rings, AllocError>
     ensures met { IfOk result (λ rings. MeetsOn pad_covers board.now.layers board.now.holes (length board.now.layers) rings.met) }
     ensures lines { IfOk result (λ rings. AreRingLines board.now rings.lines.items) }
+    ensures scales { IfOk result (λ rings. AreScaleLines board.now (length board.now.files) rings.scales.items) }
 {
     let layers = board.layers(alloc)?;
     let holes = board.holes();
     let mut met = met_by_none(&layers, holes);
     let mut lines = Vec::new(alloc);
+    let mut scales = Vec::new(alloc);
     for layer in 0..layers.len() {
         let bests = best_pads(alloc, layers[layer], holes)?;
+        if layer == 0 {
+            scales = scale_lines(alloc, board, layers[layer], &bests)?;
+        }
         met = met_with(&layers, layer, &bests, holes, met);
         push_layer(alloc, board, &bests, layer, &mut lines)?;
     }
-    Ok(Rings { met, lines })
+    Ok(Rings { met, lines, scales })
 }
 
 fn measure_of(alloc: Global, board: &Board) -> Result<Measure, AllocError>
@@ -66,7 +74,7 @@ fn measure_of(alloc: Global, board: &Board) -> Result<Measure, AllocError>
     let gap = gap_met_by(board.holes(), nearest);
     Ok(Measure {
         rings: rings.lines,
-        scales: Vec::new(alloc),
+        scales: rings.scales,
         gap: gap_line(board, nearest),
         meets: Meets {
             ring: rings.met.ring,

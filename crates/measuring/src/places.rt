@@ -1,45 +1,44 @@
 //! Where the holes of a package stand: in which drill file, and as the one of which number.
 
-ghost use Rattle.std.specs.Prelude.{◌≡◌, ◌<◌, length, min};
+ghost use Rattle.std.specs.Prelude.{◌≡◌, ◌+◌, ◌<◌, ◌≤◌, length};
 ghost use Rattle.margins.specs.Nearness.{IsNearest, IsNearestOf, IsPair};
-ghost use Rattle.package_check.specs.Boards.{hole_count};
 ghost use Rattle.measuring.specs.Rows.{holes_before, IsPlace, IsGapLine, IsLeastGap};
 
 use margin_text::{GapLine, HolePlace};
 use margins::Nearest;
-use package_check::{Board, FileSum};
+use package_check::{Board, hole_count};
 
-/// How many of so many holes a file has.
-pub(crate) fn hole_count(file: &FileSum, all: usize) -> usize
-    ensures { result ≡ min (hole_count file.now) all }
+/// Where the holes of a file end in the list of all holes, by where they begin.
+pub(crate) fn end_of(board: &Board, drill: usize, start: usize) -> usize
+    requires inside { drill < length board.now.files }
+    requires starts { start ≡ holes_before board.now.files drill }
+    ensures ends { result ≡ holes_before board.now.files (drill + 1) }
+    ensures in_list { result ≤ length board.now.holes }
+    ensures ordered { start ≤ result }
 {
-    match file {
-        FileSum::Layer { .. } => 0,
-        FileSum::Drill { round, slots, .. } => round.saturating_add(*slots).min(all),
-    }
+    let files = board.files();
+    let rest = board.holes().len() - start;
+    start + hole_count(&files[drill], rest)
 }
 
-/// Where one of so many holes stands, by its place in the list of them.
-fn place_of(files: &[FileSum], hole: usize, all: usize) -> HolePlace
-    requires { hole < all }
-    ensures { hole < holes_before files.now (length files.now) → IsPlace files.now hole result }
+/// Where a hole stands, by its place in the list of all holes.
+fn place_of(board: &Board, hole: usize) -> HolePlace
+    requires { hole < length board.now.holes }
+    ensures { IsPlace board.now.files hole result }
 {
-    let mut before = 0;
-    for (drill, file) in files.iter().enumerate() {
-        let count = hole_count(file, all);
-        let rest = hole - before;
-        if rest < count {
+    let files = board.files();
+    let mut start = 0;
+    for drill in 0..files.len() {
+        let end = end_of(board, drill, start);
+        if hole < end {
             return HolePlace {
                 drill,
-                hole: rest + 1,
+                hole: hole - start + 1,
             };
         }
-        before += count;
+        start = end;
     }
-    HolePlace {
-        drill: files.len(),
-        hole: 0,
-    }
+    unreachable!()
 }
 
 /// The line of the gap between the nearest holes.
@@ -47,13 +46,10 @@ fn line_of(board: &Board, pair: Nearest) -> GapLine
     requires { IsNearest board.now.holes (IsPair board.now.holes) pair }
     ensures { IsLeastGap board.now result }
 {
-    let all = board.holes().len();
-    let first = place_of(board.files(), pair.first, all);
-    let second = place_of(board.files(), pair.second, all);
     GapLine {
         gap: pair.gap,
-        first,
-        second,
+        first: place_of(board, pair.first),
+        second: place_of(board, pair.second),
     }
 }
 

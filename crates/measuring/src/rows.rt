@@ -8,7 +8,7 @@ ghost use Rattle.margins.specs.Meets.{asks_ring};
 ghost use Rattle.measuring.specs.Rows.{AreRowLines, IsRowLine, places_of};
 ghost use Rattle.measuring.specs.Inner.Tables.{IsIn, IsStretch, IsTableOf, IsTold, IsToldBy, has_radius, items_at, row_of};
 
-use crate::places::hole_count;
+use crate::places::end_of;
 use margin_text::{LeastRing, RingLine};
 use margins::{Best, RingRow, asks_ring, ring_row};
 use package_check::Board;
@@ -166,11 +166,10 @@ pub(crate) fn push_layer(
     requires so_far { AreRowLines board.now (λ key. key.layer < layer) lines.old.items }
     ensures { OnOk result (AreRowLines board.now (λ key. key.layer < layer + 1) lines.new.items) }
 {
-    let all = board.holes().len();
     let files = board.files();
     let mut start = 0;
-    for (drill, file) in files.iter().enumerate() {
-        let end = start + hole_count(file, all - start);
+    for drill in 0..files.len() {
+        let end = end_of(board, drill, start);
         let stretch = Stretch {
             layer,
             drill,

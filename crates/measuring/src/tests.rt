@@ -2,7 +2,7 @@
 
 use crate::measure_bytes;
 use grid_units::{Fault, Reason, Rules};
-use margin_text::{GapLine, HolePlace, LeastRing, RingLine};
+use margin_text::{Factor, GapLine, HolePlace, LeastRing, RingLine, ScaleLine};
 use margins::Met;
 use package_check::{File, PackageFault, Role, check_bytes};
 use std::alloc::Global;
@@ -165,6 +165,30 @@ fn lines_of_gaps(rt: HostRuntime) -> Result<(), Failure> {
         .ok()
         .ok_or("no measure")?;
     assert_eq!(rt; measure.gap, None);
+    Ok(())
+}
+
+/// The scale of a plated file is told by the pads of the first layer.
+#[test]
+fn a_scale(rt: HostRuntime) -> Result<(), Failure> {
+    let alloc = rt.alloc();
+    let tenth = ScaleLine {
+        drill: 1,
+        bare: 3,
+        factor: Factor::Ten,
+        then: 0,
+    };
+    let none = file(Role::Copper, "none", NO_FLASH);
+    let discs = file(Role::Copper, "discs", DISCS);
+    for (first, role, second, told) in [
+        (discs, Role::Plated, none, Some(tenth)),
+        (discs, Role::Unplated, none, None),
+        (none, Role::Plated, discs, None),
+    ] {
+        let files = [first, file(role, "drill", TENTHS), second];
+        let measure = measure_bytes(alloc, &files).ok().ok_or("no measure")?;
+        assert_eq!(rt; measure.scales.first().copied(), told);
+    }
     Ok(())
 }
 

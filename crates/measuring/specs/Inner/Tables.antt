@@ -1,15 +1,16 @@
--- The holes of a drill file on a layer, by their radius.
-use Rattle.std.specs.Prelude.{◌≡◌, ℕ, ◌+◌, ◌-◌, ◌≤◌, ◌<◌, Bool, true, false, Option, Some, None, is_some, List, [], ◌∷◌, length, ⊤}
+-- The holes of a drill file on a layer, by their radius, and its line.
+use Rattle.std.specs.Prelude.{◌≡◌, ℕ, ◌+◌, ◌≤◌, ◌<◌, Bool, true, false, Option, Some, None, is_some, List, [], ◌∷◌, length, ⊤}
 use Rattle.std.specs.Global.{Vec}
 use Rattle.std.specs.Option.{option_map_or}
 use Rattle.std.specs.Ordering.{nat_cmp}
-use Rattle.std.specs.List.{filter, range_with_len}
 use Rattle.std.specs.BTreeMap.{BTreeMap, get}
 use Rattle.margins.specs.declared.row.LeastRing.{LeastRing}
 use Rattle.margins.specs.declared.row.RingRow.{RingRow}
 use Rattle.margin_text.specs.declared.LeastRing as told
+use Rattle.margin_text.specs.declared.ScaleLine.{ScaleLine}
 use Rattle.package_check.specs.Boards.{Survey}
-use Rattle.measuring.specs.Rows.{RowKey, holes_before, is_asked, places_of}
+use Rattle.measuring.specs.Rows.{RowKey, holes_before, places_of}
+use Rattle.measuring.specs.Scaling.{IsScaleOf}
 use Rattle.measuring.specs.declared.rows.Stretch.{Stretch}
 
 -- the row of a radius in a stretch (docs/DEFINITIONS.md, Lines of a measure)
@@ -38,13 +39,12 @@ pub record IsTableOf (board : Survey) (stretch : Stretch) (table : BTreeMap ℕ 
   pub items : (radius : ℕ) → items_at table radius ≡ places_of board (row_of stretch radius)
   pub there : (radius : ℕ) → has_radius table radius ≡ is_filled (places_of board (row_of stretch radius))
 
--- a stretch begins and ends where the holes of its file do, as far as there are holes (docs/DEFINITIONS.md, Lines of a measure)
+-- a stretch begins and ends where the holes of its file do (docs/DEFINITIONS.md, Lines of a measure)
 pub record IsStretch (board : Survey) (stretch : Stretch) : Type 0 where
   pub ordered : stretch.start ≤ stretch.end
   pub inside : stretch.end ≤ length board.holes
-  pub starts : stretch.start < stretch.end → stretch.start ≡ holes_before board.files stretch.drill
-  pub ends : stretch.end ≤ holes_before board.files (stretch.drill + 1)
-  pub all : (radius : ℕ) → places_of board (row_of stretch radius) ≡ filter (is_asked board (row_of stretch radius)) (range_with_len stretch.start (stretch.end - stretch.start))
+  pub starts : stretch.start ≡ holes_before board.files stretch.drill
+  pub ends : stretch.end ≡ holes_before board.files (stretch.drill + 1)
 
 -- the least ring of a row lies among the holes of a file that begin at a place (docs/DEFINITIONS.md, Lines of a measure)
 abbrev pub IsToldBy : RingRow → ℕ → Type 0
@@ -56,3 +56,13 @@ IsTold None start None = ⊤
 IsTold None start (Some told) = ⊥
 IsTold (Some least) start None = ⊥
 IsTold (Some least) start (Some told) = (told.ring ≡ least.ring) × (start + told.hole ≡ least.hole + 1)
+
+-- the line of the scale of a file, or none where it has none (docs/DEFINITIONS.md, Lines of a measure)
+abbrev pub IsScaleLineOf : Survey → ℕ → Option ScaleLine → Type 0
+IsScaleLineOf board drill None = (line : ScaleLine) → line.drill ≡ drill → IsScaleOf board line → ⊥
+IsScaleLineOf board drill (Some line) = IsScaleOf board line × (line.drill ≡ drill)
+
+-- a line that there is, as a list (docs/DEFINITIONS.md, Lines of a measure)
+abbrev pub listed : Option ScaleLine → List ScaleLine
+listed None = []
+listed (Some line) = line ∷ []

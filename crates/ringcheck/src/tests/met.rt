@@ -226,6 +226,35 @@ meets ring=any gap=0.250000000 held=any
     Ok(())
 }
 
+#[test]
+fn a_scale_is_told(rt: HostRuntime) -> Result<(), Failure> {
+    let tenth = Package {
+        define: "%ADD10C,0.6*%",
+        flashes: "X10000000Y0D03*\nX20000000Y0D03*\nX30000000Y10000000D03*",
+        hits: "X1.0Y0.0\nX2.0Y0.0\nX3.0Y1.0",
+        layer: "pads=3 other=0",
+        drill: "plated=yes round=3 slots=0",
+        lines: "ring layer=1 drill=2 diameter=0.400000000 holes=3 bare=3 least=none
+scale drill=2 bare=3 factor=10 then=0
+gap least=0.600000000 drill=2 hole=1 drill=2 hole=2
+meets ring=none gap=0.600000000 held=none
+",
+        ..SQUARE
+    };
+    let inches = Package {
+        hits: "X254.0Y0.0\nX508.0Y0.0\nX762.0Y254.0",
+        lines: "ring layer=1 drill=2 diameter=0.400000000 holes=3 bare=3 least=none
+scale drill=2 bare=3 factor=1/25.4 then=0
+gap least=253.600000000 drill=2 hole=1 drill=2 hole=2
+meets ring=none gap=253.600000000 held=none
+",
+        ..tenth
+    };
+    assert!(rt; tenth.is_told(rt.alloc())?);
+    assert!(rt; inches.is_told(rt.alloc())?);
+    Ok(())
+}
+
 /// Two tools, and three holes of which the first is a nanometre beside its pad's centre on the second layer.
 const TOOLS: &str =
     "M48\nMETRIC\nT1C0.3\nT2C0.4\n%\nT2\nX0.0Y0.0\nT1\nX0.0Y5.0\nT2\nX5.0Y0.0\nM30\n";

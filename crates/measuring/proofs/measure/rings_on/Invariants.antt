@@ -2,10 +2,12 @@ use Rattle.std.proofs.Common.{◌<◌, map}
 use Rattle.pad_shapes.specs.Pads.{pad_covers}
 use Rattle.margins.specs.Meets.{MeetsOn}
 use Rattle.measuring.specs.Rows.{AreRowLines}
+use Rattle.measuring.proofs.Scaled.{ScalesAt}
 use Rattle.measuring.proofs.measure.rings_on.Given as goal
 
 abbrev pub invariant-loop-layer : goal.invariant-loop-layer
 invariant-loop-layer l = record {
   met : MeetsOn pad_covers (map (λ pads. pads.now) l.layers.items) l.holes l.layer l.met;
   lines : AreRowLines l.board (λ key. key.layer < l.layer) l.lines.items;
+  scales : ScalesAt l.board l.layer l.scales.items;
 }

@@ -3,4 +3,4 @@ use Rattle.measuring.specs.Rows.{holes_before}
 use Rattle.measuring.proofs.places.place_of.Given as goal
 
 abbrev pub invariant-loop-drill : goal.invariant-loop-drill
-invariant-loop-drill l = (l.before ≡ holes_before l.files l.drill) × (l.before ≤ l.hole)
+invariant-loop-drill l = (l.start ≡ holes_before l.board.files l.drill) × (l.start ≤ l.hole)

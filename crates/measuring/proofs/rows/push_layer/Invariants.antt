@@ -1,10 +1,10 @@
-use Rattle.std.proofs.Common.{◌≡◌, min, length}
+use Rattle.std.proofs.Common.{◌≡◌}
 use Rattle.measuring.specs.Rows.{AreRowLines, holes_before}
 use Rattle.measuring.proofs.Joining.{IsUpTo}
 use Rattle.measuring.proofs.rows.push_layer.Given as goal
 
 abbrev pub invariant-loop-drill : goal.invariant-loop-drill
 invariant-loop-drill l = record {
-  start : l.start ≡ min (holes_before l.board.files l.drill) (length l.board.holes);
+  start : l.start ≡ holes_before l.board.files l.drill;
   lines : AreRowLines l.board (IsUpTo l.fn.layer l.drill) l.lines.items;
 }

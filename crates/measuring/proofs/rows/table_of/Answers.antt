@@ -6,7 +6,7 @@ use Rattle.ring_rules.specs.declared.finding.Drilled.{Drilled}
 use Rattle.margins.specs.Meets.{asks_ring}
 use Rattle.measuring.specs.Rows.{is_asked}
 use Rattle.measuring.specs.Inner.Tables.{has_radius, is_filled, items_at, row_of}
-use Rattle.measuring.proofs.Tabling.{items_added, there_added}
+use Rattle.measuring.proofs.Tabling.{items_added, stretched, there_added}
 use Rattle.measuring.proofs.rows.table_of.Goals as goal
 
 pub loop-place-init : goal.loop-place-init
@@ -51,8 +51,8 @@ returns c =
     record {
       items = λ radius.
           let p = is_asked c.args.board.now (row_of c.args.stretch.now radius) in
-          c.loop-place.invariant.items radius ∙ (ap (λ (m : ℕ). filter p (range_with_len start m)) ended ∙ sym (c.requires.all radius));
+          c.loop-place.invariant.items radius ∙ (ap (λ (m : ℕ). filter p (range_with_len start m)) ended ∙ sym (stretched c.args.board.now c.args.stretch.now radius c.requires));
       there = λ radius.
           let p = is_asked c.args.board.now (row_of c.args.stretch.now radius) in
-          c.loop-place.invariant.there radius ∙ ap is_filled (ap (λ (m : ℕ). filter p (range_with_len start m)) ended ∙ sym (c.requires.all radius));
+          c.loop-place.invariant.there radius ∙ ap is_filled (ap (λ (m : ℕ). filter p (range_with_len start m)) ended ∙ sym (stretched c.args.board.now c.args.stretch.now radius c.requires));
     }
