@@ -45,21 +45,6 @@ fn other(x: i64, y: i64, why: Why) -> Result<Flash, Fail> {
     })
 }
 
-/// Why a hole lacks a ring of so many pm.
-fn cause(
-    rt: HostRuntime,
-    flashes: &[Flash],
-    drilled: Drilled,
-    ring: i64,
-) -> Result<RingCause, Fail> {
-    let Ok(rules) = Rules::new(ring, 1) else {
-        return Err(Fail::from("rules"));
-    };
-    let holes = [drilled];
-    let known = LayerCauses::new(rt.alloc(), flashes, &holes)?;
-    Ok(known.cause(flashes, &holes, 0, rules))
-}
-
 /// The words for a cause: its name, the number of its flash, the ring and the lack.
 fn told_by(cause: RingCause) -> (&'static str, usize, i64, i64) {
     match cause {
@@ -74,6 +59,21 @@ fn told_by(cause: RingCause) -> (&'static str, usize, i64, i64) {
     }
 }
 
+/// What is told of a hole that lacks a ring of so many pm.
+fn told_of(
+    rt: HostRuntime,
+    flashes: &[Flash],
+    drilled: Drilled,
+    ring: i64,
+) -> Result<(&'static str, usize, i64, i64), Fail> {
+    let Ok(rules) = Rules::new(ring, 1) else {
+        return Err(Fail::from("rules"));
+    };
+    let holes = [drilled];
+    let known = LayerCauses::new(rt.alloc(), flashes, &holes)?;
+    Ok(told_by(known.cause(flashes, &holes, 0, rules)))
+}
+
 /// What is told of a round hole that lacks a ring of so many pm.
 fn told(
     rt: HostRuntime,
@@ -83,7 +83,7 @@ fn told(
     radius: i64,
     ring: i64,
 ) -> Result<(&'static str, usize, i64, i64), Fail> {
-    Ok(told_by(cause(rt, flashes, hole(x, y, radius)?, ring)?))
+    told_of(rt, flashes, hole(x, y, radius)?, ring)
 }
 
 #[test]
@@ -151,16 +151,21 @@ fn a_hole_in_nothing(rt: HostRuntime) -> Result<(), Fail> {
     Ok(())
 }
 
+/// A plated slot.
+fn slot(from: Point, to: Point) -> Result<Drilled, Fail> {
+    Ok(Drilled {
+        hole: Hole::new(from, to, 200_000_000).ok_or("hole")?,
+        plated: true,
+        span: None,
+    })
+}
+
 /// What is told of a slot that lies along no axis.
 fn told_of_slot(rt: HostRuntime, flashes: &[Flash]) -> Result<&'static str, Fail> {
     let from = point(0, 0)?;
     let to = point(1_000_000, 1_000_000)?;
-    let slot = Drilled {
-        hole: Hole::new(from, to, 200_000_000).ok_or("hole")?,
-        plated: true,
-        span: None,
-    };
-    Ok(told_by(cause(rt, flashes, slot, 100_000_000)?).0)
+    let it = told_of(rt, flashes, slot(from, to)?, 100_000_000)?;
+    Ok(it.0)
 }
 
 #[test]

@@ -12,6 +12,7 @@ mod rows;
 mod scaling;
 
 pub use measure::{Measure, measure_board, measure_bytes};
+pub use places::place_of;
 
 #[cfg(test)]
 mod tests;

@@ -21,8 +21,8 @@ pub(crate) fn end_of(board: &Board, drill: usize, start: usize) -> usize
     start + hole_count(&files[drill], rest)
 }
 
-/// Where a hole stands, by its place in the list of all holes.
-fn place_of(board: &Board, hole: usize) -> HolePlace
+/// Where a hole of a board stands, by its place in the list of all its holes, from 0: in which drill file, and as the one of which number.
+pub fn place_of(board: &Board, hole: usize) -> HolePlace
     requires { hole < length board.now.holes }
     ensures { IsPlace board.now.files hole result }
 {

@@ -11,4 +11,3 @@ pub mod Rewritten
 pub mod Joining
 pub mod Straight
 pub mod Taking
-pub mod Printed

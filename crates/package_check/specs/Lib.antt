@@ -9,4 +9,3 @@ pub mod Texts
 pub mod Rewriting
 pub mod Pieces
 pub mod Standing
-pub mod Streaming

@@ -15,7 +15,7 @@ mod streaming;
 pub use board::{Board, hole_count};
 use grid_units::Fault;
 pub use manifest::Role;
-pub use package::{check_bytes, read_package};
+pub use package::{check_bytes, layer_count, read_package};
 pub use package_reader::PackageReader;
 pub use pieces::check_pieces;
 pub use report::Report;

@@ -13,7 +13,8 @@ use crate::{Board, File, PackageFault, PackageReader, Report};
 use grid_units::Rules;
 use std::alloc::{AllocError, Global};
 
-fn layer_count(files: &[File]) -> usize
+/// How many of some files are copper.
+pub fn layer_count(files: &[File]) -> usize
     ensures { result ≡ layer_count files.now }
 {
     files.iter().filter(|file| is_copper(file.role)).count()

@@ -4,11 +4,12 @@ ghost use Rattle.std.specs.Prelude.{◌≡◌, ◌++◌, [], IfOk, IfErr, OnOk, 
 ghost use Rattle.std.specs.List.{flat_map};
 ghost use Rattle.std.specs.Io.KnownBytes.{Appends};
 ghost use Rattle.package_check.specs.Package.{sources_of};
-ghost use Rattle.package_check.specs.Streaming.{PassesOn};
+ghost use Rattle.printing.specs.Parts.{PassesOn};
 ghost use Rattle.package_check.specs.Texts.{file_lines, finding_line, last_line, report_text, rules_line, text_of};
 
 use crate::printing::{push_files, push_finding, push_last, push_rules};
 use crate::{File, FileSum, Report};
+use printing::{buffer, make_room, pass_on};
 use ring_rules::Finding;
 use std::alloc::{AllocError, Global};
 use std::io::Write;
@@ -25,30 +26,22 @@ pub enum PrintFault {
     Cut,
 }
 
-/// How many bytes are gathered before they are written.
-const FULL: usize = 65_536;
-
-/// More bytes than a line of a finding has.
-const LINE: usize = 1_024;
-
 /// The lines of the rules and of the files, with room for what is gathered behind them.
 fn first_lines(alloc: Global, names: &[&str], report: &Report) -> Result<String, AllocError>
     ensures { IfOk result (λ text. string_bytes text ≡ rules_line report.now.rules ++ file_lines 1 (map (λ name. name.now) names.now) report.now.files) }
 {
-    let mut text = String::with_capacity(alloc, FULL + LINE)?;
+    let mut text = buffer(alloc)?;
     push_rules(&mut text, report.rules())?;
     push_files(&mut text, names, report.files())?;
     Ok(text)
 }
 
 /// Writes what was gathered, and lets go of it.
-fn pass_on<W: Write>(text: &mut String, out: &mut W) -> Result<(), PrintFault>
+fn write_out<W: Write>(text: &mut String, out: &mut W) -> Result<(), PrintFault>
     ensures ok { OnOk result (Appends (W.contents out.old) (W.contents out.new) (string_bytes text.old) × (string_bytes text.new ≡ [])) }
     ensures fault { IfErr result (λ e. e ≡ PrintFault.Cut) }
 {
-    let written = out.write_all(text.as_bytes());
-    text.clear();
-    match written {
+    match pass_on(text, out) {
         Ok(()) => Ok(()),
         Err(_) => Err(PrintFault::Cut),
     }
@@ -64,8 +57,8 @@ fn gather<W: Write>(
     ensures ok { OnOk result (PassesOn (W.contents out.old) (string_bytes text.old) (W.contents out.new) (string_bytes text.new) (finding_line report.now.layers report.now.holes finding)) }
     ensures fault { IfErr result (λ e. e ≡ PrintFault.Cut) }
 {
-    if text.len() > FULL {
-        pass_on(text, out)?;
+    if make_room(text, out).is_err() {
+        return Err(PrintFault::Cut);
     }
     match push_finding(text, report, finding) {
         Ok(()) => Ok(()),
@@ -90,7 +83,7 @@ fn end<W: Write>(text: &mut String, report: &Report, out: &mut W) -> Result<(), 
     ensures fault { IfErr result (λ e. e ≡ PrintFault.Cut) }
 {
     match push_last(text, report.findings().len()) {
-        Ok(()) => pass_on(text, out),
+        Ok(()) => write_out(text, out),
         Err(_) => Err(PrintFault::Cut),
     }
 }
@@ -143,7 +136,7 @@ pub fn print_files<W: Write>(
     let Ok(mut text) = files_lines(alloc, names, files) else {
         return Err(PrintFault::Memory);
     };
-    pass_on(&mut text, out)
+    write_out(&mut text, out)
 }
 
 /// The names of files.

@@ -1,9 +1,9 @@
 use Rattle.std.proofs.Common.{List, ℕ, subst, take}
 use Rattle.std.specs.Prelude.{string_bytes}
 use Rattle.std.specs.List.{flat_map}
-use Rattle.package_check.specs.Streaming.{PassesOn}
+use Rattle.printing.specs.Parts.{PassesOn}
 use Rattle.package_check.specs.Texts.{finding_line}
-use Rattle.package_check.proofs.Printed.{given_more, passes_more}
+use Rattle.printing.proofs.Printed.{given_more, passes_more}
 use Rattle.package_check.proofs.streaming.gather_all.Goals as goal
 
 pub loop-finding-preserved : goal.loop-finding-preserved

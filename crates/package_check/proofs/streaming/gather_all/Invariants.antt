@@ -1,7 +1,7 @@
 use Rattle.std.proofs.Common.{take}
 use Rattle.std.specs.Prelude.{string_bytes}
 use Rattle.std.specs.List.{flat_map}
-use Rattle.package_check.specs.Streaming.{PassesOn}
+use Rattle.printing.specs.Parts.{PassesOn}
 use Rattle.package_check.specs.Texts.{finding_line}
 use Rattle.package_check.proofs.streaming.gather_all.Given as goal
 

@@ -4,7 +4,7 @@ use Rattle.std.specs.List.{flat_map}
 use Rattle.std.specs.Io.KnownBytes.{Appends}
 use Rattle.std.proofs.lemmas.Result.{on_ok_weaker}
 use Rattle.package_check.specs.Texts.{finding_line, last_line}
-use Rattle.package_check.proofs.Printed.{passes_end}
+use Rattle.printing.proofs.Printed.{passes_end}
 use Rattle.package_check.proofs.streaming.print_report.Goals as goal
 
 pub returns-clause-ok : goal.returns-clause-ok
