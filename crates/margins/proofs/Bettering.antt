@@ -1,5 +1,5 @@
 -- The best pads of holes, pad by pad.
-use Rattle.std.proofs.Common.{◌≡◌, ◌≢◌, ◌↔◌, ℕ, ℤ, pos, negsuc, ◌+◌, ◌<◌, ◌≤◌, ◌≤ℤ◌, ◌⊎◌, inl, inr, Bool, true, false, Option, Some, None, List, length, get_or, set, refl, sym, subst, ap, ◌∙◌, w64, to_z, of_z, arith}
+use Rattle.std.proofs.Common.{◌≡◌, ◌≢◌, ◌↔◌, ℕ, ℤ, pos, negsuc, ◌+◌, ◌<◌, ◌≤◌, ◌≤ℤ◌, inl, inr, Bool, true, false, Option, Some, None, List, length, get_or, set, refl, sym, subst, ap, ◌∙◌, w64, to_z, of_z, arith}
 use Rattle.std.specs.Prelude.{unsigned_abs}
 use Rattle.std.specs.List.{Contains}
 use Rattle.std.proofs.lemmas.Int.{ints}
@@ -18,12 +18,8 @@ use Rattle.margins.specs.Depths.{CoversLess}
 use Rattle.margins.specs.Bests.{IsBest, IsBestOf, IsBestPad}
 use Rattle.margins.specs.Inner.Bests.{asked, IsTaken, IsBetter, IsStep, IsBestSoFar, IsTriedNear, IsTriedAll}
 use Rattle.margins.specs.declared.best.Best.{Best}
-use Rattle.margins.proofs.Deepness.{both_true}
+use Rattle.grid_units.proofs.BoolLemmas.{both_true, either}
 use Rattle.margins.proofs.Wrapping.{natural}
-
-either : (b : Bool) → (b ≡ true) ⊎ (b ≡ false)
-either true = inl refl
-either false = inr refl
 
 not_both : {P : Type 0} (b : Bool) → b ≡ true → b ≡ false → P
 not_both b e f = absurd (let g : true ≡ false = sym e ∙ f in cc)

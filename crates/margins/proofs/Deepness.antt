@@ -1,5 +1,5 @@
 -- Depths from roots that are rounded up.
-use Rattle.std.proofs.Common.{◌≡◌, ◌↔◌, ℕ, ℤ, pos, ◌+◌, ◌-◌, ◌≤◌, ◌-ℤ◌, ◌≤ℤ◌, Bool, true, false, refl, sym, subst, arith}
+use Rattle.std.proofs.Common.{◌≡◌, ◌↔◌, ℕ, ℤ, pos, ◌+◌, ◌-◌, ◌≤◌, ◌-ℤ◌, ◌≤ℤ◌, Bool, true, refl, sym, subst, arith}
 use Rattle.std.specs.Prelude.{◌&&◌, nat_le}
 use Rattle.std.specs.Int.{int_min}
 use Rattle.std.proofs.lemmas.Int.{ints, clamps}
@@ -8,6 +8,7 @@ use Rattle.grid_units.specs.Holes.{GridHole}
 use Rattle.pad_shapes.specs.Shapes.{GridDisc, GridObround, end_radius, square_from_axis, disc_covers, obround_covers}
 use Rattle.margins.specs.Depths.{IsDepth, IsDepthOfHole}
 use Rattle.margins.specs.DepthLaws.{both_le, le_both}
+use Rattle.grid_units.proofs.BoolLemmas.{both_true}
 
 -- within a circle of a radius: the far point's distance, rounded up, is the root
 pub round_depth : (radius far root n : ℕ) → ((t : ℕ) → (far ≤ square t) ↔ (root ≤ t)) → ((nat_le n radius && nat_le far (square (radius - n))) ≡ true) ↔ (pos n ≤ℤ (pos radius -ℤ pos root))
@@ -28,11 +29,6 @@ straight_depth dx dy half_x half_y n = (
   λ e. let t = both_le (dx + n) half_x (dy + n) half_y e in omega (arith, ints, clamps, t.0, t.1),
   λ h. le_both (dx + n) half_x (dy + n) half_y (omega (arith, ints, clamps)) (omega (arith, ints, clamps)),
 )
-
-pub both_true : (a b : Bool) → (a && b) ≡ true → (a ≡ true) × (b ≡ true)
-both_true true true e = (refl, refl)
-both_true true false e = absurd cc
-both_true false b e = absurd cc
 
 -- the lesser of two depths
 pub lesser_depth : (a b : Bool) (x y : ℤ) (n : ℕ) → (a ≡ true) ↔ (pos n ≤ℤ x) → (b ≡ true) ↔ (pos n ≤ℤ y) → ((a && b) ≡ true) ↔ (pos n ≤ℤ int_min x y)

@@ -1,30 +1,9 @@
 -- Gaps from roots that are rounded down.
-use Rattle.std.proofs.Common.{◌≡◌, ◌↔◌, ℕ, ℤ, pos, negsuc, ◌+◌, ◌-◌, ◌≤◌, ◌+ℤ◌, ◌-ℤ◌, ◌≤ℤ◌, true, subst, arith}
+use Rattle.std.proofs.Common.{◌≡◌, ◌↔◌, ℕ, pos, ◌+◌, ◌≤◌, ◌+ℤ◌, ◌-ℤ◌, ◌≤ℤ◌, true, subst, arith}
 use Rattle.std.specs.Prelude.{nat_le}
-use Rattle.std.specs.Int.{int_min, int_max, w64}
-use mir.Val.{to_z, of_z}
-use Rattle.std.proofs.lemmas.Int.{ints, clamps}
+use Rattle.std.proofs.lemmas.Int.{ints}
 use Rattle.std.proofs.lemmas.Bool.Decides.{nat_tests}
-use Rattle.grid_units.specs.Points.{IsCoordinate, square}
-use Rattle.ring_rules.specs.Cores.{positive_part, range_distance}
-use borrow.Author.Differences.{up, down}
-
-positive_part_is : (z : ℤ) → positive_part z ≡ up z - down z
-positive_part_is (pos n) = omega arith
-positive_part_is (negsuc n) = omega arith
-
-pub range_distance_in_range : (a b c d : ℤ) → IsCoordinate a × IsCoordinate b → IsCoordinate c × IsCoordinate d → range_distance a b c d ≤ 20000000000000
-range_distance_in_range a b c d p q =
-    let x : positive_part (int_min c d -ℤ int_max a b) ≤ 20000000000000 = omega (arith, ints, clamps, positive_part_is (int_min c d -ℤ int_max a b)) in
-    let y : positive_part (int_min a b -ℤ int_max c d) ≤ 20000000000000 = omega (arith, ints, clamps, positive_part_is (int_min a b -ℤ int_max c d)) in
-    omega (arith, x, y)
-
--- a signed number, as the program passes it on
-abbrev pub passed : ℤ → ℤ
-passed z = to_z w64 (of_z w64 z)
-
-pub passed_coordinate : (z : ℤ) → IsCoordinate z → IsCoordinate (passed z)
-passed_coordinate z h = omega (arith, ints)
+use Rattle.grid_units.specs.Points.{square}
 
 -- the lengths that are no longer than the distance of the cores are those up to the gap and both radii
 pub gap_exact : (radii far root t : ℕ) → (square t ≤ far) ↔ (t ≤ root) → (square t ≤ far) ↔ (pos t ≤ℤ ((pos root -ℤ pos radii) +ℤ pos radii))

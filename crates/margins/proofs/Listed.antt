@@ -1,11 +1,11 @@
 -- The nearest holes among the findings of a gap that some pair falls short of.
-use Rattle.std.proofs.Common.{◌≡◌, ℕ, pos, zero, suc, ◌+◌, ◌<◌, ◌≤ℤ◌, ◌<ℤ◌, ◌⊎◌, inl, inr, Bool, true, false, cond, List, [], ◌∷◌, map, length, get_or, refl, sym, subst, ap, ◌∙◌, arith}
+use Rattle.std.proofs.Common.{◌≡◌, ℕ, pos, zero, suc, ◌+◌, ◌<◌, ◌≤ℤ◌, ◌<ℤ◌, inl, inr, Bool, true, false, cond, List, [], ◌∷◌, length, get_or, refl, sym, subst, ap, ◌∙◌, arith}
 use Rattle.std.specs.Prelude.{not, ◌&&◌, nat_lt}
 use Rattle.std.specs.List.{filter, flat_map, enumerate_from, Contains}
 use Rattle.std.proofs.lemmas.Int.{ints}
 use Rattle.std.proofs.lemmas.Bool.{cases_lt}
 use Rattle.std.proofs.lemmas.Bool.Decides.{nat_tests}
-use Rattle.std.proofs.lemmas.List.{get_or-map, length-map, get_or_default}
+use Rattle.std.proofs.lemmas.List.{get_or_default}
 use Rattle.std.proofs.lemmas.List.Concat.{flat_map-cons}
 use Rattle.std.proofs.lemmas.List.Elements.{Contains-append_left, Contains-append_right}
 use Rattle.std.proofs.lemmas.List.FromFn.{length-enumerate_from}
@@ -19,11 +19,10 @@ use Rattle.ring_rules.specs.declared.finding.Finding.TheVariants.{Gap}
 use Rattle.margins.specs.Nearness.{IsPair, IsNearest}
 use Rattle.margins.specs.Inner.Nearness.{IsHeld, IsTriedAt, AreTried}
 use Rattle.margins.specs.declared.nearest.Nearest.{Nearest}
+use Rattle.grid_units.proofs.BoolLemmas.{either}
+use Rattle.grid_units.proofs.ListLemmas.{map_among}
 use Rattle.margins.proofs.Nearing.{no_further_trans, no_further_self}
 use Rattle.margins.proofs.Passing.{placed, clear_gap}
-
-in_map : {X Y : Type 0} (f : X → Y) (xs : List X) (x : X) → Contains xs x → Contains (map f xs) (f x)
-in_map f xs x among = (among.0, (let h = among.1 in omega (arith, h, length-map xs f)), get_or-map f xs among.0 x (f x) among.1 ∙ ap f among.2)
 
 in_filter : {X : Type 0} (test : X → Bool) (xs : List X) (k : ℕ) (d : X) → k < length xs → test (get_or xs k d) ≡ true → Contains (filter test xs) (get_or xs k d)
 in_filter test [] k d h t = absurd (omega arith)
@@ -48,7 +47,7 @@ module _ (q : ℕ) (holes : List Drilled) (i j : ℕ) (pair : IsPair holes i j) 
       let inside : j < length (enumerate_from 0 holes) = (let l : j < length holes = pair.inside in omega (arith, l, length-enumerate_from 0 holes)) in
       let at : get_or (enumerate_from 0 holes) j (j, nowhere) ≡ (j, get_or holes j nowhere) = placed holes j (j, nowhere) pair.inside in
       let test : (nat_lt i j && not (are_clear q (hole_at holes i) (hole_at holes j))) ≡ true = ap (λ b. b && not (are_clear q (hole_at holes i) (hole_at holes j))) order ∙ ap not near in
-      in_map (λ (hole : ℕ × Drilled). Gap i hole.0) (filter (λ hole. nat_lt i hole.0 && not (are_clear q (hole_at holes i) hole.1.hole)) (enumerate_from 0 holes)) (j, get_or holes j nowhere)
+      map_among (λ (hole : ℕ × Drilled). Gap i hole.0) (filter (λ hole. nat_lt i hole.0 && not (are_clear q (hole_at holes i) hole.1.hole)) (enumerate_from 0 holes)) (j, get_or holes j nowhere)
       (subst (Contains (filter (λ hole. nat_lt i hole.0 && not (are_clear q (hole_at holes i) hole.1.hole)) (enumerate_from 0 holes))) at
       (in_filter (λ hole. nat_lt i hole.0 && not (are_clear q (hole_at holes i) hole.1.hole)) (enumerate_from 0 holes) j (j, nowhere) inside
       (ap (λ (hole : ℕ × Drilled). nat_lt i hole.0 && not (are_clear q (hole_at holes i) hole.1.hole)) at ∙ test)))
@@ -59,11 +58,6 @@ module _ (q : ℕ) (holes : List Drilled) (i j : ℕ) (pair : IsPair holes i j) 
       let inside : i < length (enumerate_from 0 holes) = omega (arith, before, length-enumerate_from 0 holes) in
       in_flat_map (λ (hole : ℕ × Drilled). hole_findings q holes hole.0 hole.1) (enumerate_from 0 holes) i (i, nowhere) (Gap i j) inside
       (subst (λ (hole : ℕ × Drilled). Contains (hole_findings q holes hole.0 hole.1) (Gap i j)) (sym (placed holes i (i, nowhere) before)) row)
-
--- of two tests one is right
-either : (b : Bool) → (b ≡ true) ⊎ (b ≡ false)
-either true = inl refl
-either false = inr refl
 
 -- the nearest of the pair that was tried first and of those that are nearer than a gap above its own
 pub nearest_found : (q : ℕ) (holes : List Drilled) (findings : List Finding) (start best : Nearest) → findings ≡ gap_findings q holes → start.gap <ℤ pos q → AreTried holes findings (length findings) start best → IsNearest holes (IsPair holes) best

@@ -1,5 +1,5 @@
 -- What a board meets says under which rules nothing is found.
-use Rattle.std.proofs.Common.{◌≡◌, ℕ, ℤ, pos, zero, suc, ◌+◌, ◌<◌, ◌≤◌, ◌+ℤ◌, ◌-ℤ◌, ◌≤ℤ◌, inl, inr, Bool, true, false, cond, List, [], ◌∷◌, ◌++◌, map, length, get_or, refl, sym, ap, ◌∙◌, arith}
+use Rattle.std.proofs.Common.{◌≡◌, ℕ, ℤ, pos, suc, ◌+◌, ◌<◌, ◌≤◌, ◌+ℤ◌, ◌-ℤ◌, ◌≤ℤ◌, inl, inr, Bool, true, false, cond, List, [], ◌∷◌, ◌++◌, map, length, get_or, refl, sym, ap, ◌∙◌, arith}
 use Rattle.std.specs.Prelude.{not, ◌&&◌, ◌||◌, nat_lt}
 use Rattle.std.specs.List.{filter, flat_map, enumerate_from, list_any, Contains}
 use Rattle.std.proofs.lemmas.Int.{ints}
@@ -21,38 +21,15 @@ use Rattle.margins.specs.Gaps.{IsGap}
 use Rattle.margins.specs.Bests.{IsBare}
 use Rattle.margins.specs.Meets.{asks_ring, IsRing, RingsPassExactly, GapsPassExactly}
 use Rattle.margins.specs.declared.met.Met.TheVariants as mets
+use Rattle.grid_units.proofs.BoolLemmas.{both_true, neither, not_false, then_not}
+use Rattle.grid_units.proofs.ListLemmas.{no_map, none_at, fails_at, passing}
 
 -- ---- lists in which nothing is found
-
-no_map : {X Y : Type 0} (f : X → Y) (xs : List X) → map f xs ≡ [] → xs ≡ []
-no_map f [] e = refl
-no_map f (x ∷ xs) e = absurd cc
-
-no_left : {X : Type 0} (xs ys : List X) → xs ++ ys ≡ [] → xs ≡ []
-no_left [] ys e = refl
-no_left (x ∷ xs) ys e = absurd cc
-
-no_right : {X : Type 0} (xs ys : List X) → xs ++ ys ≡ [] → ys ≡ []
-no_right [] ys e = e
-no_right (x ∷ xs) ys e = absurd cc
-
-none_at : {X Y : Type 0} (f : X → List Y) (xs : List X) → flat_map f xs ≡ [] → (k : ℕ) (d : X) → k < length xs → f (get_or xs k d) ≡ []
-none_at f [] e k d h = absurd (omega arith)
-none_at f (x ∷ xs) e zero d h = no_left (f x) (flat_map f xs) (sym (flat_map-cons f x xs) ∙ e)
-none_at f (x ∷ xs) e (suc k) d h = none_at f xs (no_right (f x) (flat_map f xs) (sym (flat_map-cons f x xs) ∙ e)) k d (omega arith)
 
 all_none : {X Y : Type 0} (f : X → List Y) (xs : List X) → ((k : ℕ) (d : X) → k < length xs → f (get_or xs k d) ≡ []) → flat_map f xs ≡ []
 all_none f [] h = refl
 all_none f (x ∷ xs) h =
     flat_map-cons f x xs ∙ (ap (λ ys. ys ++ flat_map f xs) (h 0 x (omega arith)) ∙ all_none f xs (λ k d l. h (suc k) d (omega (arith, l))))
-
-fails_at : {X : Type 0} (p : X → Bool) (xs : List X) → filter p xs ≡ [] → (k : ℕ) (d : X) → k < length xs → p (get_or xs k d) ≡ false
-fails_at p [] e k d h = absurd (omega arith)
-fails_at {X} p (x ∷ xs) e k d h = by_test (p x) refl k h (λ rest j l. fails_at p xs rest j d l) where
-  by_test : (b : Bool) → p x ≡ b → (k : ℕ) → k < length (x ∷ xs) → (filter p xs ≡ [] → (j : ℕ) → j < length xs → p (get_or xs j d) ≡ false) → p (get_or (x ∷ xs) k d) ≡ false
-  by_test true t k h rest = absurd (let g : cond (p x) (x ∷ filter p xs) (filter p xs) ≡ [] = e in let f : cond true (x ∷ filter p xs) (filter p xs) ≡ [] = rw t at g in cc)
-  by_test false t zero h rest = t
-  by_test false t (suc j) h rest = rest (let g : cond (p x) (x ∷ filter p xs) (filter p xs) ≡ [] = e in rw t at g) j (omega arith)
 
 all_fail : {X : Type 0} (p : X → Bool) (xs : List X) → ((k : ℕ) (d : X) → k < length xs → p (get_or xs k d) ≡ false) → filter p xs ≡ []
 all_fail p [] h = refl
@@ -86,45 +63,14 @@ all_none_placed f xs h = all_none f (enumerate_from 0 xs) (λ k d l.
 
 -- ---- tests
 
-not_false : (b : Bool) → not b ≡ false → b ≡ true
-not_false true e = refl
-not_false false e = absurd cc
-
-neither : (a b : Bool) → (a || b) ≡ false → (a ≡ false) × (b ≡ false)
-neither true b e = absurd cc
-neither false b e = (refl, e)
-
-then_not : (a b : Bool) → a ≡ true → (a && b) ≡ false → b ≡ false
-then_not true b t e = e
-then_not false b t e = absurd cc
-
 -- a test that fails where another one passed
 unless : (a b : Bool) → (a ≡ true → b ≡ false) → (a && b) ≡ false
 unless true b h = h refl
 unless false b h = refl
 
-both_true : (a b : Bool) → (a && b) ≡ true → (a ≡ true) × (b ≡ true)
-both_true true true e = (refl, refl)
-both_true true false e = absurd cc
-both_true false b e = absurd cc
-
 true_not : (b : Bool) → b ≡ true → not b ≡ false
 true_not true e = refl
 true_not false e = absurd cc
-
-false_not : (b : Bool) → not b ≡ true → b ≡ false
-false_not true e = absurd cc
-false_not false e = refl
-
-passing : {X : Type 0} (p : X → Bool) (xs : List X) → list_any p xs ≡ true → (x : X) × Contains xs x × (p x ≡ true)
-passing p [] e = absurd cc
-passing {X} p (x ∷ xs) e = by_test (p x) refl (λ rest. passing p xs rest) where
-  by_test : (b : Bool) → p x ≡ b → (list_any p xs ≡ true → (y : X) × Contains xs y × (p y ≡ true)) → (y : X) × Contains (x ∷ xs) y × (p y ≡ true)
-  by_test true t rest = (x, (0, omega arith, refl), t)
-  by_test false t rest =
-      let later : list_any p xs ≡ true = cc in
-      let found = rest later in
-      (found.0, (suc found.1.0, (let lt = found.1.1 in omega arith), found.1.2), found.2)
 
 -- some element of a list that is not empty
 some : {X : Type 0} (xs : List X) (k : ℕ) → k < length xs → X
