@@ -1,14 +1,14 @@
 -- The best pads of holes, pad by pad.
-use Rattle.std.proofs.Common.{◌≡◌, ◌≢◌, ◌↔◌, ℕ, ℤ, pos, negsuc, ◌+◌, ◌<◌, ◌≤◌, ◌≤ℤ◌, inl, inr, Bool, true, false, Option, Some, None, List, length, get_or, set, refl, sym, subst, ap, ◌∙◌, w64, to_z, of_z, arith}
+use Rattle.std.proofs.Common.{◌≡◌, ◌≢◌, ◌↔◌, ℕ, ℤ, pos, negsuc, ◌+◌, ◌<◌, ◌≤◌, ◌≤ℤ◌, ◌⊎◌, inl, inr, Bool, true, false, Option, Some, None, List, length, get_or, set, refl, sym, subst, ap, ◌∙◌, w64, to_z, of_z, arith}
 use Rattle.std.specs.Prelude.{unsigned_abs}
 use Rattle.std.specs.List.{Contains}
 use Rattle.std.proofs.lemmas.Int.{ints}
 use Rattle.std.proofs.lemmas.Bool.{cases_lt, cases_eq}
-use Rattle.std.proofs.lemmas.List.{get_or-set_same, get_or-set_other, length-set, get_or_default, get_or_past}
+use Rattle.std.proofs.lemmas.List.{get_or-set_same, get_or-set_other, length-set, get_or_default}
 use Rattle.grid_units.specs.Points.{GridPoint}
 use Rattle.grid_units.specs.Holes.{GridHole}
 use Rattle.pad_shapes.specs.Shapes.{covers_ends}
-use Rattle.pad_shapes.specs.Zones.{IsInZone, BoundsCentres}
+use Rattle.pad_shapes.specs.Zones.{IsInZone, CoversNone}
 use Rattle.pad_shapes.specs.declared.zone.Zone.{Zone}
 use Rattle.ring_rules.specs.Findings.{is_oblique}
 use Rattle.ring_rules.specs.Meeting.{hole_at}
@@ -16,7 +16,7 @@ use Rattle.ring_rules.specs.Places.{point_at}
 use Rattle.ring_rules.specs.declared.finding.Drilled.{Drilled}
 use Rattle.margins.specs.Depths.{CoversLess}
 use Rattle.margins.specs.Bests.{IsBest, IsBestOf, IsBestPad}
-use Rattle.margins.specs.Inner.Bests.{asked, IsTaken, IsBetter, IsStep, IsBestSoFar, IsTriedNear, IsTriedAll}
+use Rattle.margins.specs.Inner.Bests.{asked, IsTaken, IsBetter, IsStep, IsBestSoFar, IsTriedNear, IsTriedIn, IsTriedAll, IsInFirst, AskFor, AreBounds}
 use Rattle.margins.specs.declared.best.Best.{Best}
 use Rattle.grid_units.proofs.BoolLemmas.{both_true, either}
 use Rattle.margins.proofs.Wrapping.{natural}
@@ -94,9 +94,6 @@ step_twice covers pad place h a b c first second = record {
 pub near_none : {S : Type 0} (covers : S → GridPoint → ℕ → Bool) (pad : S) (place : ℕ) (holes : List Drilled) (near : List ℕ) (bests : List (Option Best)) → IsTriedNear covers pad place holes near 0 bests bests
 near_none covers pad place holes near bests = record { size = refl; kept = λ k. inl refl; tried = λ i h. absurd (omega (arith, h)) }
 
-pub all_none : {S : Type 0} (covers : S → GridPoint → ℕ → Bool) (pad : S) (place : ℕ) (holes : List Drilled) (bests : List (Option Best)) → IsTriedAll covers pad place holes 0 bests bests
-all_none covers pad place holes bests = record { size = refl; kept = λ k h. refl; tried = λ k h. absurd (omega (arith, h)) }
-
 -- one place more
 module _ {S : Type 0} (covers : S → GridPoint → ℕ → Bool) (pad : S) (place : ℕ) (holes : List Drilled) (before now : List (Option Best)) (p : ℕ) (next : Option Best) (inside : p < length now) where
   at_other : (k : ℕ) → k ≢ p → get_or (set now p next) k None ≡ get_or now k None
@@ -132,47 +129,140 @@ module _ {S : Type 0} (covers : S → GridPoint → ℕ → Bool) (pad : S) (pla
         ];
       }
 
-  pub all_more : IsTriedAll covers pad place holes p before now → IsStep covers pad place (hole_at holes p) (get_or now p None) next → IsTriedAll covers pad place holes (p + 1) before (set now p next)
-  all_more was step = record {
-    size = length-set now p next ∙ was.size;
-    kept = λ k h. at_other k (λ is. absurd (omega (arith, is, h))) ∙ was.kept k (omega (arith, h));
-    tried = λ k h. elim (cases_eq k p) [
-      | inl is ↦ at_place k is (subst (λ (b : Option Best). IsStep covers pad place (hole_at holes p) b next) (was.kept p (omega arith)) step)
-      | inr differs ↦ subst (IsStep covers pad place (hole_at holes k) (get_or before k None)) (sym (at_other k differs)) (was.tried k (omega (arith, h, differs)))
-    ];
-  }
+-- no test with more than what is asked passes, where nothing has changed
+not_deeper : (test : ℕ → Bool) (place : ℕ) (a b : Option Best) → b ≡ a → IsBetter test a place b → (reach : ℕ) → test reach ≡ true → reach < asked a
+not_deeper test place a b same (inl kept) reach t = kept.below reach t
+not_deeper test place a b same (inr next) reach t = absurd (
+    let is : asked a ≡ next.now.depth + 1 = ap asked (sym same ∙ next.is) in
+    let more : asked a ≤ next.now.depth = next.deeper in
+    omega (arith, is, more))
 
--- a pad covers no hole out of its zone
-pub near_all : {S : Type 0} (covers : S → GridPoint → ℕ → Bool) (pad : S) (place : ℕ) (holes : List Drilled) (near : List ℕ) (zone : Zone) (before after : List (Option Best)) → length before ≡ length holes → BoundsCentres covers pad 0 zone
-    → ((k : ℕ) → k < length holes → IsInZone zone (point_at holes k) → Contains near k) → IsTriedNear covers pad place holes near (length near) before after → IsTriedAll covers pad place holes (length holes) before after
-near_all {S} covers pad place holes near zone before after size bounds all was = record {
-  size = was.size;
-  kept = λ k h. get_or_past after k None (let s = was.size in omega (arith, h, s, size)) ∙ sym (get_or_past before k None (omega (arith, h, size)));
-  tried = λ k h. elim (was.kept k) [ inl same ↦ unmoved k h same | inr step ↦ step ];
-} where
-  at_near : (k : ℕ) → Contains near k → IsStep covers pad place (hole_at holes k) (get_or before k None) (get_or after k None)
-  at_near k among =
-      let is : get_or near among.0 0 ≡ k = get_or_default near among.0 0 k among.1 ∙ among.2 in
-      subst (λ (n : ℕ). IsStep covers pad place (hole_at holes n) (get_or before n None) (get_or after n None)) is (was.tried among.0 among.1)
-
-  not_deeper : (test : ℕ → Bool) (a b : Option Best) → b ≡ a → IsBetter test a place b → (reach : ℕ) → test reach ≡ true → reach < asked a
-  not_deeper test a b same (inl kept) reach t = kept.below reach t
-  not_deeper test a b same (inr next) reach t = absurd (
-      let is : asked a ≡ next.now.depth + 1 = ap asked (sym same ∙ next.is) in
+-- a step asks for no less
+step_asks : {S : Type 0} (covers : S → GridPoint → ℕ → Bool) (pad : S) (place : ℕ) (h : GridHole) (a b : Option Best) → IsStep covers pad place h a b → is_oblique h ≡ false → asked a ≤ asked b
+step_asks covers pad place h a b step e = by_better (step.straight e) where
+  by_better : IsBetter (λ reach. covers_ends covers pad h.from h.to reach) a place b → asked a ≤ asked b
+  by_better (inl kept) = (let same : asked b ≡ asked a = ap asked kept.same in omega (arith, same))
+  by_better (inr next) =
+      let is : asked b ≡ next.now.depth + 1 = ap asked next.is in
       let more : asked a ≤ next.now.depth = next.deeper in
-      omega (arith, is, more))
+      omega (arith, is, more)
 
-  unmoved : (k : ℕ) → k < length holes → get_or after k None ≡ get_or before k None → IsStep covers pad place (hole_at holes k) (get_or before k None) (get_or after k None)
-  unmoved k h same = record {
-    oblique = λ e. same;
-    straight = λ e. inl (record {
-      same = same;
-      below = λ reach t.
-          let from : covers pad (point_at holes k) reach ≡ true = (both_true (covers pad (hole_at holes k).from reach) (covers pad (hole_at holes k).to reach) t).0 in
-          let step = at_near k (all k h (bounds (point_at holes k) reach (omega arith) from)) in
-          not_deeper (λ reach. covers_ends covers pad (hole_at holes k).from (hole_at holes k).to reach) (get_or before k None) (get_or after k None) same (step.straight e) reach t;
-    });
+module _ {S : Type 0} (covers : S → GridPoint → ℕ → Bool) (pad : S) (place : ℕ) (holes : List Drilled) where
+  -- nothing is tried yet
+  pub tried_none : (zones : List Zone) (bests : List (Option Best)) → IsTriedIn covers pad place holes (IsInFirst zones 0) bests bests
+  tried_none zones bests = record { size = refl; kept = λ k. inl refl; tried = λ k h first. absurd (let l = first.early in omega (arith, l)) }
+
+  -- a pad that is no better in a zone
+  pub tried_left : (zone : Zone) (bound : ℕ) (bests : List (Option Best)) → AskFor holes bests zone bound → CoversNone covers pad bound zone → IsTriedIn covers pad place holes (IsInZone zone) bests bests
+  tried_left zone bound bests asks none = record {
+    size = refl;
+    kept = λ k. inl refl;
+    tried = λ k h within. record {
+      oblique = λ e. refl;
+      straight = λ e. inl (record {
+        same = refl;
+        below = λ reach t. elim (cases_lt reach (asked (get_or bests k None))) [
+          | inl less ↦ less
+          | inr more ↦
+              let low : bound ≤ asked (get_or bests k None) = asks k h within e in
+              let from : covers pad (point_at holes k) reach ≡ true = (both_true (covers pad (hole_at holes k).from reach) (covers pad (hole_at holes k).to reach) t).0 in
+              not_both (covers pad (point_at holes k) reach) from (none (point_at holes k) reach (omega (arith, low, more)) within)
+        ];
+      });
+    };
   }
+
+  -- the places that were found are those of a zone
+  pub tried_zone : (zone : Zone) (near : List ℕ) (before after : List (Option Best)) → ((k : ℕ) → k < length holes → IsInZone zone (point_at holes k) → Contains near k) → IsTriedNear covers pad place holes near (length near) before after
+      → IsTriedIn covers pad place holes (IsInZone zone) before after
+  tried_zone zone near before after all was = record {
+    size = was.size;
+    kept = was.kept;
+    tried = λ k h within.
+        let among : Contains near k = all k h within in
+        let is : get_or near among.0 0 ≡ k = get_or_default near among.0 0 k among.1 ∙ among.2 in
+        subst (λ (n : ℕ). IsStep covers pad place (hole_at holes n) (get_or before n None) (get_or after n None)) is (was.tried among.0 among.1);
+  }
+
+  -- at some holes, and then at some
+  pub tried_both : (first second both : GridPoint → Type 0) (a b c : List (Option Best)) → ((p : GridPoint) → both p → first p ⊎ second p) → IsTriedIn covers pad place holes first a b → IsTriedIn covers pad place holes second b c → IsTriedIn covers pad place holes both a c
+  tried_both first second both a b c split early late = record {
+    size = late.size ∙ early.size;
+    kept = λ k. elim (early.kept k) [
+      | inl same ↦ elim (late.kept k) [ inl still ↦ inl (still ∙ same) | inr step ↦ inr (from k same step) ]
+      | inr step ↦ inr (onward k step)
+    ];
+    tried = λ k h in_both. elim (split (point_at holes k) in_both) [
+      | inl in_first ↦ onward k (early.tried k h in_first)
+      | inr in_second ↦ elim (early.kept k) [ inl same ↦ from k same (late.tried k h in_second) | inr step ↦ onward k step ]
+    ];
+  } where
+    from : (k : ℕ) → get_or b k None ≡ get_or a k None → IsStep covers pad place (hole_at holes k) (get_or b k None) (get_or c k None) → IsStep covers pad place (hole_at holes k) (get_or a k None) (get_or c k None)
+    from k same step = subst (λ (x : Option Best). IsStep covers pad place (hole_at holes k) x (get_or c k None)) same step
+
+    onward : (k : ℕ) → IsStep covers pad place (hole_at holes k) (get_or a k None) (get_or b k None) → IsStep covers pad place (hole_at holes k) (get_or a k None) (get_or c k None)
+    onward k step = elim (late.kept k) [
+      | inl still ↦ subst (IsStep covers pad place (hole_at holes k) (get_or a k None)) (sym still) step
+      | inr next ↦ step_twice covers pad place (hole_at holes k) (get_or a k None) (get_or b k None) (get_or c k None) step next
+    ]
+
+  -- one zone more
+  pub tried_more : (zones : List Zone) (i : ℕ) (zone : Zone) (a b c : List (Option Best)) → i < length zones → ((z : Zone) → get_or zones i z ≡ zone) → IsTriedIn covers pad place holes (IsInFirst zones i) a b → IsTriedIn covers pad place holes (IsInZone zone) b c → IsTriedIn covers pad place holes (IsInFirst zones (i + 1)) a c
+  tried_more zones i zone a b c inside is =
+      tried_both (IsInFirst zones i) (IsInZone zone) (IsInFirst zones (i + 1)) a b c (λ p first. elim (cases_lt first.i i) [
+        | inl less ↦ inl (record { i = first.i; zone = first.zone; early = less; inside = first.inside; is = first.is; within = first.within })
+        | inr more ↦
+            let last : first.i ≡ i = (let l = first.early in omega (arith, l, more)) in
+            let z : Zone = first.zone in
+            let same : first.zone ≡ zone = sym first.is ∙ (ap (λ (n : ℕ). get_or zones n z) last ∙ is z) in
+            inr (subst (λ (w : Zone). IsInZone w p) same first.within)
+      ])
+
+  -- a pad covers no hole elsewhere
+  pub tried_whole : (among : GridPoint → Type 0) (before after : List (Option Best)) → ((k reach : ℕ) → k < length holes → covers pad (point_at holes k) reach ≡ true → among (point_at holes k)) → IsTriedIn covers pad place holes among before after → IsTriedAll covers pad place holes before after
+  tried_whole among before after bounds was = record {
+    size = was.size;
+    tried = λ k h. elim (was.kept k) [ inl same ↦ unmoved k h same | inr step ↦ step ];
+  } where
+    unmoved : (k : ℕ) → k < length holes → get_or after k None ≡ get_or before k None → IsStep covers pad place (hole_at holes k) (get_or before k None) (get_or after k None)
+    unmoved k h same = record {
+      oblique = λ e. same;
+      straight = λ e. inl (record {
+        same = same;
+        below = λ reach t.
+            let from : covers pad (point_at holes k) reach ≡ true = (both_true (covers pad (hole_at holes k).from reach) (covers pad (hole_at holes k).to reach) t).0 in
+            let step = was.tried k h (bounds k reach h from) in
+            not_deeper (λ reach. covers_ends covers pad (hole_at holes k).from (hole_at holes k).to reach) place (get_or before k None) (get_or after k None) same (step.straight e) reach t;
+      });
+    }
+
+  -- what the holes of a zone ask for is no less once a pad was tried
+  pub asks_still : (zone : Zone) (bound : ℕ) (before after : List (Option Best)) → ((k : ℕ) → (get_or after k None ≡ get_or before k None) ⊎ IsStep covers pad place (hole_at holes k) (get_or before k None) (get_or after k None)) → AskFor holes before zone bound → AskFor holes after zone bound
+  asks_still zone bound before after kept asks k h within e =
+      let was : bound ≤ asked (get_or before k None) = asks k h within e in
+      elim (kept k) [
+        | inl same ↦ (let now : asked (get_or after k None) ≡ asked (get_or before k None) = ap asked same in omega (arith, was, now))
+        | inr step ↦ (let now : asked (get_or before k None) ≤ asked (get_or after k None) = step_asks covers pad place (hole_at holes k) (get_or before k None) (get_or after k None) step e in omega (arith, was, now))
+      ]
+
+  pub bounds_still : (zones : List Zone) (bounds : List ℕ) (before after : List (Option Best)) → ((k : ℕ) → (get_or after k None ≡ get_or before k None) ⊎ IsStep covers pad place (hole_at holes k) (get_or before k None) (get_or after k None)) → AreBounds holes before zones bounds → AreBounds holes after zones bounds
+  bounds_still zones bounds before after kept was i zone h is = asks_still zone (get_or bounds i 0) before after kept (was i zone h is)
+
+  -- the bound of one zone is set
+  pub bounds_more : (zones : List Zone) (bounds : List ℕ) (i : ℕ) (zone : Zone) (bound : ℕ) (before after : List (Option Best)) → i < length bounds → ((z : Zone) → get_or zones i z ≡ zone)
+      → ((k : ℕ) → (get_or after k None ≡ get_or before k None) ⊎ IsStep covers pad place (hole_at holes k) (get_or before k None) (get_or after k None)) → AskFor holes after zone bound → AreBounds holes before zones bounds → AreBounds holes after zones (set bounds i bound)
+  bounds_more zones bounds i zone bound before after inside here kept asks was j z h is = elim (cases_eq j i) [
+    | inl same ↦
+        let at : get_or (set bounds i bound) j 0 ≡ bound = ap (λ (n : ℕ). get_or (set bounds i bound) n 0) same ∙ get_or-set_same bounds i bound 0 inside in
+        let to : zone ≡ z = sym (here z) ∙ (ap (λ (n : ℕ). get_or zones n z) (sym same) ∙ is) in
+        subst (AskFor holes after z) (sym at) (subst (λ (w : Zone). AskFor holes after w bound) to asks)
+    | inr differs ↦
+        subst (AskFor holes after z) (sym (get_or-set_other bounds i j bound 0 differs)) (asks_still z (get_or bounds j 0) before after kept (was j z h is))
+  ]
+
+-- nothing is asked for less than nothing
+pub bounds_none : (holes : List Drilled) (bests : List (Option Best)) (zones : List Zone) (bounds : List ℕ) → ((i : ℕ) → get_or bounds i 0 ≡ 0) → AreBounds holes bests zones bounds
+bounds_none holes bests zones bounds zero i zone h is k l within e = (let z : get_or bounds i 0 ≡ 0 = zero i in omega (arith, z))
 
 -- one pad more
 module _ {S : Type 0} (covers : S → GridPoint → ℕ → Bool) (pads : List S) (place : ℕ) (pad : S) (h : GridHole) (inside : place < length pads) (is : (p : S) → get_or pads place p ≡ pad) where

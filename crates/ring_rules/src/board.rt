@@ -44,7 +44,7 @@ fn least_reach(holes: &[Drilled], rules: Rules) -> u64
 }
 
 /// How many cells a block has in a row and in a column: about the fourth root of all cells, a power of two.
-fn block_side(cells: usize) -> usize
+pub(crate) fn block_side(cells: usize) -> usize
     ensures { 1 ≤ result }
 {
     let bits = 64 - (cells as u64).leading_zeros();

@@ -22,7 +22,7 @@ use std::alloc::{AllocError, Global};
 /// list, from 0.
 #[derive(Drop)]
 pub struct HoleIndex {
-    cells: Cells,
+    pub(crate) cells: Cells,
 }
 
 /// Whether a point lies between the left and the right of a zone.

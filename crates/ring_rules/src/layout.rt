@@ -1,6 +1,7 @@
 //! Cells that suit the holes of a board, and what is looked for among them.
 
 ghost use Rattle.std.specs.Prelude.{◌≡◌, ℕ, ◌+◌, ◌*◌, ◌^◌, ◌<◌, ◌≤◌, true, IfOk, length};
+ghost use Rattle.std.specs.List.{All, Contains};
 ghost use Rattle.grid_units.specs.Points.{GridPoint};
 ghost use Rattle.pad_shapes.specs.Zones.{IsInZone};
 ghost use Rattle.ring_rules.specs.Places.{point_at};
@@ -28,18 +29,35 @@ fn joined(zone: Zone, at: Point) -> Zone
     }
 }
 
-/// A zone that holds where each hole goes in.
-fn bounds(holes: &[Drilled]) -> Zone
-    ensures { (k : ℕ) → k < length holes.now → IsInZone result (point_at holes.now k) }
-{
-    let mut zone = Zone {
+/// A zone without points.
+fn no_zone() -> Zone {
+    Zone {
         left: i64::MAX,
         right: i64::MIN,
         bottom: i64::MAX,
         top: i64::MIN,
-    };
+    }
+}
+
+/// A zone that holds where each hole goes in.
+fn bounds(holes: &[Drilled]) -> Zone
+    ensures { (k : ℕ) → k < length holes.now → IsInZone result (point_at holes.now k) }
+{
+    let mut zone = no_zone();
     for drilled in holes {
         zone = joined(zone, drilled.hole.from());
+    }
+    zone
+}
+
+/// A zone that holds where the holes at some places go in.
+pub(crate) fn bounds_at(holes: &[Drilled], places: &[usize]) -> Zone
+    requires { All (λ k. k < length holes.now) places.now }
+    ensures { (k : ℕ) → Contains places.now k → IsInZone result (point_at holes.now k) }
+{
+    let mut zone = no_zone();
+    for place in places {
+        zone = joined(zone, holes[*place].hole.from());
     }
     zone
 }

@@ -23,6 +23,7 @@ mod regions;
 mod rings;
 mod scale;
 mod shape;
+mod zones;
 
 pub use cores::{clear_of, core_distance_x, core_distance_y};
 pub use finding::{Drilled, Finding};

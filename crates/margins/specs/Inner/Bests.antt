@@ -3,8 +3,11 @@ use Rattle.std.specs.Prelude.{◌≡◌, ℕ, ◌+◌, ◌<◌, ◌≤◌, ◌�
 use Rattle.grid_units.specs.Points.{GridPoint}
 use Rattle.grid_units.specs.Holes.{GridHole}
 use Rattle.pad_shapes.specs.Shapes.{max_half_side, covers_ends}
+use Rattle.pad_shapes.specs.Zones.{IsInZone}
+use Rattle.pad_shapes.specs.declared.zone.Zone.{Zone}
 use Rattle.ring_rules.specs.Findings.{is_oblique}
 use Rattle.ring_rules.specs.Meeting.{hole_at}
+use Rattle.ring_rules.specs.Places.{point_at}
 use Rattle.ring_rules.specs.declared.finding.Drilled.{Drilled}
 use Rattle.margins.specs.Bests.{IsBestOf}
 use Rattle.margins.specs.declared.best.Best.{Best}
@@ -49,8 +52,34 @@ pub record IsTriedNear {S : Type 0} (covers : S → GridPoint → ℕ → Bool) 
   pub kept : (k : ℕ) → (get_or after k None ≡ get_or before k None) ⊎ IsStep covers pad place (hole_at holes k) (get_or before k None) (get_or after k None)
   pub tried : (i : ℕ) → i < count → IsStep covers pad place (hole_at holes (get_or near i 0)) (get_or before (get_or near i 0) None) (get_or after (get_or near i 0) None)
 
--- a shape was tried at the first so many holes, and nothing else has changed (docs/DEFINITIONS.md, Best pads)
-pub record IsTriedAll {S : Type 0} (covers : S → GridPoint → ℕ → Bool) (pad : S) (place : ℕ) (holes : List Drilled) (count : ℕ) (before after : List (Option Best)) : Type 0 where
+-- a shape was tried at the holes of a list that go in at some points, perhaps at others too, and nothing else has changed (docs/DEFINITIONS.md, Best pads)
+pub record IsTriedIn {S : Type 0} (covers : S → GridPoint → ℕ → Bool) (pad : S) (place : ℕ) (holes : List Drilled) (among : GridPoint → Type 0) (before after : List (Option Best)) : Type 0 where
   pub size : length after ≡ length before
-  pub kept : (k : ℕ) → count ≤ k → get_or after k None ≡ get_or before k None
-  pub tried : (k : ℕ) → k < count → IsStep covers pad place (hole_at holes k) (get_or before k None) (get_or after k None)
+  pub kept : (k : ℕ) → (get_or after k None ≡ get_or before k None) ⊎ IsStep covers pad place (hole_at holes k) (get_or before k None) (get_or after k None)
+  pub tried : (k : ℕ) → k < length holes → among (point_at holes k) → IsStep covers pad place (hole_at holes k) (get_or before k None) (get_or after k None)
+
+-- a shape was tried at all holes of a list (docs/DEFINITIONS.md, Best pads)
+pub record IsTriedAll {S : Type 0} (covers : S → GridPoint → ℕ → Bool) (pad : S) (place : ℕ) (holes : List Drilled) (before after : List (Option Best)) : Type 0 where
+  pub size : length after ≡ length before
+  pub tried : (k : ℕ) → k < length holes → IsStep covers pad place (hole_at holes k) (get_or before k None) (get_or after k None)
+
+-- a point of one of the first so many zones (docs/DEFINITIONS.md, Best pads)
+pub record IsInFirst (zones : List Zone) (count : ℕ) (p : GridPoint) : Type 0 where
+  pub i : ℕ
+  pub zone : Zone
+  pub early : i < count
+  pub inside : i < length zones
+  pub is : get_or zones i zone ≡ zone
+  pub within : IsInZone zone p
+
+-- a hole that is no oblique slot asks for a bound or more of a shape that is better than its best so far (docs/DEFINITIONS.md, Best pads)
+abbrev pub AsksFor : GridHole → Option Best → ℕ → Type 0
+AsksFor h best bound = is_oblique h ≡ false → bound ≤ asked best
+
+-- so does each hole of a list that goes in within a zone (docs/DEFINITIONS.md, Best pads)
+abbrev pub AskFor : List Drilled → List (Option Best) → Zone → ℕ → Type 0
+AskFor holes bests zone bound = (k : ℕ) → k < length holes → IsInZone zone (point_at holes k) → AsksFor (hole_at holes k) (get_or bests k None) bound
+
+-- each of some zones has such a bound (docs/DEFINITIONS.md, Best pads)
+abbrev pub AreBounds : List Drilled → List (Option Best) → List Zone → List ℕ → Type 0
+AreBounds holes bests zones bounds = (i : ℕ) (zone : Zone) → i < length zones → get_or zones i zone ≡ zone → AskFor holes bests zone (get_or bounds i 0)

@@ -8,15 +8,17 @@ use Rattle.margins.proofs.bests.try_pads.Goals as goal
 pub loop-place-init : goal.loop-place-init
 loop-place-init g c = record {
   size = c.requires.size;
+  bounds = c.requires.bounds;
   each = λ k h. subst (IsBestSoFar g.S.PadShape.covers c.args.pads.now 0 (hole_at c.args.holes.now k)) (sym (c.requires.none k h)) (none_so_far g.S.PadShape.covers c.args.pads.now (hole_at c.args.holes.now k));
 }
 
 pub loop-place-preserved : goal.loop-place-preserved
 loop-place-preserved g c = record {
-  size = c.in_ok-try_pad.ensures.size ∙ c.loop-place.invariant.size;
+  size = c.in_ok-try_pad.ensures.tried.size ∙ c.loop-place.invariant.size;
+  bounds = c.in_ok-try_pad.ensures.bounds;
   each = λ k h. next_so_far g.S.PadShape.covers c.args.pads.now c.loop-place.place c.index-pads-place.result (hole_at c.args.holes.now k) c.loop-place-test.true
       (λ p. get_or_default c.args.pads.now c.loop-place.place p c.index-pads-place.result c.loop-place-test.true ∙ sym c.index-pads-place.is)
-      (get_or c.loop-place.bests k None) (get_or c.try_pad.new.bests k None) (c.loop-place.invariant.each k h) (c.in_ok-try_pad.ensures.tried k h);
+      (get_or c.loop-place.bests k None) (get_or c.try_pad.new.bests k None) (c.loop-place.invariant.each k h) (c.in_ok-try_pad.ensures.tried.tried k h);
 }
 
 pub returns : goal.returns

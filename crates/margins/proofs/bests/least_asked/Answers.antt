@@ -1,0 +1,31 @@
+use Rattle.std.proofs.Common.{◌≡◌, ℕ, ◌<◌, ◌≤◌, inl, inr, None, Option, length, get_or, sym, ap, subst, ◌∙◌, arith}
+use Rattle.std.proofs.lemmas.Bool.{cases_lt}
+use Rattle.std.proofs.lemmas.List.{get_or_default}
+use Rattle.std.proofs.lemmas.List.Elements.{All-get_or}
+use Rattle.ring_rules.specs.Meeting.{hole_at}
+use Rattle.ring_rules.specs.Places.{nowhere}
+use Rattle.ring_rules.specs.declared.finding.Drilled.{Drilled}
+use Rattle.margins.specs.Inner.Bests.{asked, AsksFor}
+use Rattle.margins.specs.declared.best.Best.{Best}
+use Rattle.margins.proofs.bests.least_asked.Goals as goal
+
+pub loop-hole-preserved : goal.loop-hole-preserved
+loop-hole-preserved c = λ i h. elim (cases_lt i c.loop-hole.hole-index) [
+  | inl less ↦ λ e. (let was : c.loop-hole.least ≤ asked (get_or c.args.bests.now (get_or c.args.near.now i 0) None) = c.loop-hole.invariant i less e in omega (arith, was, c.lesser_asked-least.ensures.less))
+  | inr more ↦
+      let p : ℕ = get_or c.args.near.now c.loop-hole.hole-index 0 in
+      let is : i ≡ c.loop-hole.hole-index = omega (arith, h, more) in
+      let listed : get_or c.args.near.now c.loop-hole.hole-index 0 < length c.args.holes.now = All-get_or (λ k. k < length c.args.holes.now) c.args.near.now c.loop-hole.hole-index 0 c.loop-hole-test.true c.requires.near in
+      let inside : get_or c.args.near.now c.loop-hole.hole-index 0 < length c.args.bests.now = omega (arith, listed, c.requires.size) in
+      subst (λ (n : ℕ). AsksFor (hole_at c.args.holes.now (get_or c.args.near.now n 0)) (get_or c.args.bests.now (get_or c.args.near.now n 0) None) c.lesser_asked-least.result) (sym is)
+      (subst (λ (d : Drilled). AsksFor d.hole (get_or c.args.bests.now p None) c.lesser_asked-least.result)
+      (get_or_default c.args.holes.now p c.index-holes-hole.result nowhere listed)
+      (subst (λ (b : Option Best). AsksFor (get_or c.args.holes.now p c.index-holes-hole.result).hole b c.lesser_asked-least.result)
+      (c.index-bests-hole.is ∙ get_or_default c.args.bests.now p c.index-bests-hole.result None inside)
+      c.lesser_asked-least.ensures.asks))
+]
+
+pub returns : goal.returns
+returns c = λ k among.
+    subst (λ (n : ℕ). AsksFor (hole_at c.args.holes.now n) (get_or c.args.bests.now n None) c.loop-hole.least) (get_or_default c.args.near.now among.0 0 k among.1 ∙ among.2)
+    (c.loop-hole.invariant among.0 (let inside = among.1 in omega (arith, inside, c.loop-hole-test.false)))

@@ -1,0 +1,82 @@
+//! Zones that together hold the holes of an index.
+
+ghost use Rattle.std.specs.Prelude.{◌≡◌, ℕ, ◌+◌, ◌<◌, ◌≤◌, length, get_or, IfOk, OnOk};
+ghost use Rattle.grid_units.specs.Points.{GridPoint};
+ghost use Rattle.pad_shapes.specs.Zones.{IsInZone};
+ghost use Rattle.ring_rules.specs.Places.{point_at};
+ghost use Rattle.ring_rules.specs.Index.{IsIndexOf, IsInOneOf};
+ghost use Rattle.ring_rules.specs.declared.blocks.Block.{Block};
+
+use crate::blocks::Block;
+use crate::board::block_side;
+use crate::dividing::divided;
+use crate::finding::Drilled;
+use crate::index::HoleIndex;
+use crate::layout::bounds_at;
+use crate::pads::{first_column, first_row, last_column, last_row};
+use pad_shapes::Zone;
+use std::alloc::{AllocError, Global};
+
+/// Appends a zone that holds the holes that go in within another one, if there are any.
+fn add_zone(
+    index: &HoleIndex,
+    holes: &[Drilled],
+    zone: &Zone,
+    near: &mut Vec<usize>,
+    zones: &mut Vec<Zone>,
+) -> Result<(), AllocError>
+    requires { IsIndexOf holes.now index.now }
+    ensures kept { OnOk result ((p : GridPoint) → IsInOneOf zones.old.items p → IsInOneOf zones.new.items p) }
+    ensures holds { OnOk result ((k : ℕ) → k < length holes.now → IsInZone zone.now (point_at holes.now k) → IsInOneOf zones.new.items (point_at holes.now k)) }
+{
+    index.find(holes, zone, near)?;
+    if !near.is_empty() {
+        zones.push(bounds_at(holes, near))?;
+    }
+    Ok(())
+}
+
+/// Appends such a zone for each of some blocks.
+fn add_zones(
+    index: &HoleIndex,
+    holes: &[Drilled],
+    blocks: &[Block],
+    near: &mut Vec<usize>,
+    zones: &mut Vec<Zone>,
+) -> Result<(), AllocError>
+    requires { IsIndexOf holes.now index.now }
+    ensures { OnOk result ((i : ℕ) (b : Block) → i < length blocks.now → b ≡ get_or blocks.now i b → (k : ℕ) → k < length holes.now → IsInZone b.zone (point_at holes.now k) → IsInOneOf zones.new.items (point_at holes.now k)) }
+{
+    for block in blocks {
+        add_zone(index, holes, &block.zone, near, zones)?;
+    }
+    Ok(())
+}
+
+impl HoleIndex {
+    /// Zones that together hold where each hole of the list goes in. They are about as many as the square root of the holes, and each
+    /// is as small as its holes allow; of both nothing is claimed. The holes are those that the index was made of.
+    ///
+    /// # Errors
+    ///
+    /// Where there is no memory.
+    pub fn zones(&self, alloc: Global, holes: &[Drilled]) -> Result<Vec<Zone>, AllocError>
+        requires { IsIndexOf holes.now self.now }
+        ensures { IfOk result (λ zones. (k : ℕ) → k < length holes.now → IsInOneOf zones.items (point_at holes.now k)) }
+    {
+        let side = block_side(self.cells.head.len());
+        let blocks = divided(alloc, &self.cells.x, &self.cells.y, side)?;
+        let mut near = Vec::new(alloc);
+        let mut zones = Vec::new(alloc);
+        add_zones(self, holes, &blocks, &mut near, &mut zones)?;
+        Ok(zones)
+    }
+
+    /// How many cells `find` looks through for a zone. Any answer is right: it only tells how long that takes.
+    pub fn cells_in(&self, zone: &Zone) -> usize {
+        let rows = last_row(&self.cells.y, zone) + 1;
+        let columns = last_column(&self.cells.x, zone) + 1;
+        let rows = rows.saturating_sub(first_row(&self.cells.y, zone));
+        rows.saturating_mul(columns.saturating_sub(first_column(&self.cells.x, zone)))
+    }
+}
