@@ -1,10 +1,87 @@
-//! Depths and gaps of small boards, in pm.
+//! Depths and gaps of small boards, in pm, and how often pads are asked.
+
+ghost use Rattle.std.specs.Prelude.{◌≡◌, pos, ◌+ℤ◌, ◌-ℤ◌};
+ghost use Rattle.pad_shapes.specs.Shapes.{IsInDisc, disc_covers};
+ghost use Rattle.pad_shapes.specs.ShapeLaws.{disc_holds, disc_holds_slots, disc_between, disc_extent};
+ghost use Rattle.margins.specs.DepthLaws.{disc_covers_less};
 
 use super::*;
 use grid_units::{Hole, Point};
-use pad_shapes::{Disc, Obround, Pad, Rect};
-use ring_rules::Drilled;
+use pad_shapes::{Disc, Obround, Pad, PadShape, Rect, Zone};
+use ring_rules::{Drilled, Span};
+use std::alloc::{AllocError, Global};
+use std::cell::Cell;
+use std::rc::Rc;
 use std::test::Fail;
+
+/// A disc that counts how often it is asked.
+#[derive(Drop)]
+struct Counted {
+    disc: Disc,
+    calls: Rc<Cell<u64>>,
+}
+
+impl Counted {
+    fn count(&self) {
+        self.calls.set(self.calls.get().saturating_add(1));
+    }
+}
+
+impl PadShape for Counted {
+    ghost points = { λ s. IsInDisc s.disc };
+
+    ghost covers = { λ s. disc_covers s.disc };
+
+    ghost left = { λ s. s.disc.centre.x -ℤ pos s.disc.radius };
+
+    ghost right = { λ s. s.disc.centre.x +ℤ pos s.disc.radius };
+
+    ghost holds = { λ s. disc_holds s.disc };
+
+    ghost holds_slots = { λ s. disc_holds_slots s.disc };
+
+    ghost between = { λ s. disc_between s.disc };
+
+    ghost extent = { λ s. disc_extent s.disc };
+
+    fn covers(&self, hole: Point, reach: i64) -> bool {
+        self.count();
+        self.disc.covers(hole, reach)
+    }
+
+    fn left(&self) -> i64 {
+        self.disc.left()
+    }
+
+    fn right(&self) -> i64 {
+        self.disc.right()
+    }
+
+    fn zone(&self, reach: u64) -> Option<Zone> {
+        self.count();
+        self.disc.zone(reach)
+    }
+
+    fn may_cover(&self, zone: &Zone, reach: u64) -> bool {
+        self.count();
+        self.disc.may_cover(zone, reach)
+    }
+}
+
+impl Deep for Counted {
+    ghost middle = { λ s. s.disc.centre };
+
+    ghost shrinks = { λ s. disc_covers_less s.disc };
+
+    fn depth(&self, at: Point) -> i64 {
+        self.count();
+        self.disc.depth(at)
+    }
+
+    fn middle(&self) -> Point {
+        self.disc.centre()
+    }
+}
 
 fn point(x: i64, y: i64) -> Result<Point, Fail> {
     Ok(Point::new(x, y).ok_or("point")?)
@@ -342,5 +419,101 @@ fn best_of_many_pads(rt: HostRuntime) -> Result<(), Fail> {
     let between = best_at(&bests, 100)?;
     assert_eq!(rt; between.pad, 100);
     assert_eq!(rt; between.depth, 250_000_000);
+    Ok(())
+}
+
+/// Discs of 50 mm radius, nearly at the middle: 2,000 of them, the first one larger by so much.
+fn counted_discs(alloc: Global, calls: &Rc<Cell<u64>>, more: i64) -> Result<Vec<Counted>, Fail> {
+    let mut pads = Vec::new(alloc);
+    for number in 0..2_000u16 {
+        let at = point(i64::from(number % 90), i64::from(number % 70))?;
+        let more = if number == 0 { more } else { 0 };
+        let disc = Disc::new(at, more.saturating_add(50_000_000_000)).ok_or("disc")?;
+        let calls = calls.clone()?;
+        pads.push(Counted { disc, calls })?;
+    }
+    Ok(pads)
+}
+
+/// Appends a plated hole.
+fn add_hole(holes: &mut Vec<Drilled>, hole: Hole, span: Option<Span>) -> Result<(), AllocError> {
+    holes.push(Drilled {
+        hole,
+        plated: true,
+        span,
+    })?;
+    Ok(())
+}
+
+/// A square of 2,000 holes, from 37 mm to 49 mm along each axis, or so far from there.
+fn square_of_holes(alloc: Global, off: i64) -> Result<Vec<Drilled>, Fail> {
+    let mut holes = Vec::new(alloc);
+    for number in 0..2_000u16 {
+        let x = i64::from(number % 45) * 270_000_000 + 37_000_000_000;
+        let y = i64::from(number / 45) * 270_000_000 + 37_000_000_000;
+        let hole = round(x.saturating_add(off), y.saturating_add(off), 1_000)?;
+        add_hole(&mut holes, hole, None)?;
+    }
+    Ok(holes)
+}
+
+/// How many of some best pads are the first one.
+fn count_of_first(bests: &[Option<Best>]) -> usize {
+    let mut count: usize = 0;
+    for best in bests {
+        match *best {
+            Some(best) if best.pad == 0 => count = count.saturating_add(1),
+            _ => {}
+        }
+    }
+    count
+}
+
+/// Discs with all holes in their boxes, and none in themselves, are asked for whole zones of holes.
+#[test]
+fn holes_in_corners_are_passed_over(rt: HostRuntime) -> Result<(), Fail> {
+    let calls = Rc::new(rt.alloc(), Cell::new(0))?;
+    let pads = counted_discs(rt.alloc(), &calls, 0)?;
+    let holes = square_of_holes(rt.alloc(), 0)?;
+    let bests = best_pads(rt.alloc(), &pads, &holes)?;
+    assert_eq!(rt; bests.iter().filter(|best| best.is_some()).count(), 0);
+    assert!(rt; calls.get() <= 400_000);
+    Ok(())
+}
+
+/// So are discs over all holes that are no deeper there than the first one.
+#[test]
+fn pads_that_are_no_deeper_are_passed_over(rt: HostRuntime) -> Result<(), Fail> {
+    let calls = Rc::new(rt.alloc(), Cell::new(0))?;
+    let pads = counted_discs(rt.alloc(), &calls, 30_000_000_000)?;
+    let holes = square_of_holes(rt.alloc(), -43_000_000_000)?;
+    let bests = best_pads(rt.alloc(), &pads, &holes)?;
+    assert_eq!(rt; count_of_first(&bests), 2_000);
+    assert!(rt; calls.get() <= 400_000);
+    Ok(())
+}
+
+/// Of equal pads that lie over many holes the first is the best of each, and a deeper one behind them is better.
+#[test]
+fn first_of_equal_pads_over_many_holes(rt: HostRuntime) -> Result<(), Fail> {
+    let mut pads = Vec::new(rt.alloc());
+    for _ in 0..20u8 {
+        pads.push(rect(
+            43_000_000_000,
+            43_000_000_000,
+            20_000_000_000,
+            20_000_000_000,
+        )?)?;
+    }
+    let holes = square_of_holes(rt.alloc(), 0)?;
+    let bests = best_pads(rt.alloc(), &pads, &holes)?;
+    assert_eq!(rt; best_at(&bests, 0)?.pad, 0);
+    assert_eq!(rt; best_at(&bests, 0)?.depth, 14_000_000_000);
+    assert_eq!(rt; best_at(&bests, 1_999)?.pad, 0);
+    pads.push(disc(37_000_000_000, 37_000_000_000, 14_000_000_001)?)?;
+    let bests = best_pads(rt.alloc(), &pads, &holes)?;
+    assert_eq!(rt; best_at(&bests, 0)?.pad, 20);
+    assert_eq!(rt; best_at(&bests, 0)?.depth, 14_000_000_001);
+    assert_eq!(rt; best_at(&bests, 1_999)?.pad, 0);
     Ok(())
 }
