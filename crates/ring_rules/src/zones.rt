@@ -1,6 +1,6 @@
 //! Zones that together hold the holes of an index.
 
-ghost use Rattle.std.specs.Prelude.{◌≡◌, ℕ, ◌+◌, ◌<◌, ◌≤◌, length, get_or, IfOk, OnOk};
+ghost use Rattle.std.specs.Prelude.{◌≡◌, ℕ, ◌<◌, length, get_or, IfOk, OnOk};
 ghost use Rattle.grid_units.specs.Points.{GridPoint};
 ghost use Rattle.pad_shapes.specs.Zones.{IsInZone};
 ghost use Rattle.ring_rules.specs.Places.{point_at};
