@@ -1,20 +1,12 @@
 //! Why one hole lacks its ring.
 
 ghost use Rattle.std.specs.Prelude.{◌≡◌, unsigned_abs};
-ghost use Rattle.ring_rules.specs.Findings.{is_oblique};
 ghost use Rattle.causes.specs.Causes.{is_in_hole, is_small};
 
 use grid_units::{Hole, Point, Rules, square, square_length};
 use margins::Deep;
 use pad_shapes::{Pad, PadShape};
 use ring_rules::{core_distance_x, core_distance_y};
-
-/// Whether the ends of a hole differ in x and in y.
-pub(crate) fn is_oblique(hole: &Hole) -> bool
-    ensures { result ≡ is_oblique hole.now }
-{
-    hole.from().x() != hole.to().x() && hole.from().y() != hole.to().y()
-}
 
 /// A hole of the same radius at a point.
 fn hole_at(at: Point, hole: &Hole) -> Hole

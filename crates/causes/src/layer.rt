@@ -9,13 +9,13 @@ ghost use Rattle.layer_image.specs.Flashes.{pad_in, pads_of};
 ghost use Rattle.margins.specs.Bests.{IsBestPad, IsBest};
 ghost use Rattle.causes.specs.Causes.{HasNoPad, IsCause, IsInPad, IsKnown, IsKnownOf, is_in_hole, other_flash, others, pad_place, pad_places};
 
-use crate::cause::{is_in_hole, is_oblique, is_small};
+use crate::cause::{is_in_hole, is_small};
 use grid_units::{Hole, Point, Rules};
 use layer_image::{Flash, What, Why};
 use margins::{Best, best_pads};
 use pad_shapes::Pad;
 use report_text::{InPad, RingCause};
-use ring_rules::Drilled;
+use ring_rules::{Drilled, is_oblique};
 use std::alloc::{AllocError, Global};
 
 /// A flash that is no pad.

@@ -15,16 +15,8 @@ use crate::best::Best;
 use crate::deep::{Deep, depth_of_hole};
 use grid_units::Hole;
 use pad_shapes::Zone;
-use ring_rules::{Drilled, HoleIndex, usual_zone};
+use ring_rules::{Drilled, HoleIndex, is_oblique, usual_zone};
 use std::alloc::{AllocError, Global};
-
-/// Whether the ends of a hole differ in x and in y.
-fn is_oblique(hole: &Hole) -> bool
-    ensures test { result ≡ is_oblique hole.now }
-    ensures along { result ≡ false → IsAlongAxis hole.now.from hole.now.to }
-{
-    hole.from().x() != hole.to().x() && hole.from().y() != hole.to().y()
-}
 
 /// How deep a hole must lie in a pad that is better than the best so far, in pm.
 fn asked(best: Option<Best>) -> i64

@@ -43,8 +43,8 @@ pub enum Finding {
     },
 }
 
-/// Whether the ends of a hole differ in x and in y.
-pub(crate) fn is_oblique(hole: &Hole) -> bool
+/// Whether the ends of a hole differ in x and in y. Else it lies along an axis, or is round.
+pub fn is_oblique(hole: &Hole) -> bool
     ensures test { result ≡ is_oblique hole.now }
     ensures along { result ≡ false → IsAlongAxis hole.now.from hole.now.to }
 {

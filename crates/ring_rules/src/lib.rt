@@ -26,7 +26,7 @@ mod shape;
 mod zones;
 
 pub use cores::{clear_of, core_distance_x, core_distance_y};
-pub use finding::{Drilled, Finding};
+pub use finding::{Drilled, Finding, is_oblique};
 pub use gaps::gap_findings;
 pub use grid_units::Span;
 pub use index::HoleIndex;
