@@ -1,8 +1,4 @@
-use Rattle.std.proofs.Common.{ℕ, ◌<◌, List, length, sym, subst}
-use Rattle.std.specs.List.{Contains}
-use Rattle.pad_shapes.specs.Zones.{IsInZone}
-use Rattle.ring_rules.specs.Places.{point_at}
-use Rattle.margins.proofs.Bettering.{tried_left, tried_zone}
+use Rattle.margins.proofs.Bettering.{tried_left}
 use Rattle.margins.proofs.bests.try_part.Goals as goal
 
 pub returns-then-not-may_cover-clause-tried : goal.returns-then-not-may_cover-clause-tried
