@@ -16,9 +16,14 @@ fn point(x: i64, y: i64) -> Result<Point, Fail> {
     Ok(Point::new(x, y).ok_or("point")?)
 }
 
+/// The point at a place in millimetres.
+fn millimetres(x: i64, y: i64) -> Result<Point, Fail> {
+    point(x.saturating_mul(MM), y.saturating_mul(MM))
+}
+
 /// A disc of 0.6 mm at a place in millimetres.
 fn disc(x: i64, y: i64) -> Result<Pad, Fail> {
-    Ok(Pad::Disc(Disc::new(point(x * MM, y * MM)?, 300_000_000).ok_or("disc")?))
+    Ok(Pad::Disc(Disc::new(millimetres(x, y)?, 300_000_000).ok_or("disc")?))
 }
 
 /// A hole of 0.4 mm between two points, in pm.
@@ -34,7 +39,8 @@ fn slot(from: (i64, i64), to: (i64, i64)) -> Result<Drilled, Fail> {
 
 /// A round hole at a place in millimetres.
 fn hit(x: i64, y: i64) -> Result<Drilled, Fail> {
-    slot((x * MM, y * MM), (x * MM, y * MM))
+    let (x, y) = (x.saturating_mul(MM), y.saturating_mul(MM));
+    slot((x, y), (x, y))
 }
 
 /// The line of a drill file with the index 1.
