@@ -1,0 +1,5 @@
+use Rattle.picture.proofs.Escaping.{escaped_safe}
+use Rattle.picture.proofs.laws.escaped_names.Goals as goal
+
+pub returns : goal.returns
+returns c = escaped_safe

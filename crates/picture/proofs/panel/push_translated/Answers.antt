@@ -1,0 +1,23 @@
+use Rattle.std.proofs.Common.{◌≡◌, ◌∙◌, ◌++◌, ℕ, List, sym, ap, rules, ℤ, w64, codes}
+use Rattle.std.specs.Prelude.{string_bytes}
+use mir.Val.{to_z, of_z}
+use Rattle.std.proofs.lemmas.Int.{to_z-of_z}
+use Rattle.std.proofs.lemmas.Result.{on_ok_weaker}
+use Rattle.printing.proofs.Pushed.{pushed}
+use Rattle.picture.specs.Elements.{after}
+use Rattle.picture.specs.Panels.{translated}
+use Rattle.picture.proofs.panel.push_translated.Goals as goal
+
+pub returns : goal.returns
+unfolding translated
+returns c =
+    let fits0 : to_z w64 (of_z w64 c.args.x) ≡ c.args.x = search (rules, to_z-of_z) in
+    let fits1 : to_z w64 (of_z w64 c.args.y) ≡ c.args.y = search (rules, to_z-of_z) in
+    let s0 = string_bytes c.args.text.now in
+    let s1 = string_bytes c.push_after.new.text in
+    let s2 = string_bytes c.push_after-2.new.text in
+    let r2 : List ℕ = codes ")\">\n" in
+    let r1 = after (codes " ") c.args.y ++ r2 in
+    on_ok_weaker c.push_words.result
+    (λ e. e ∙ sym (pushed s0 s1 (after (codes "\" transform=\"translate(") c.args.x) r1 (c.in_ok-push_after.ensures ∙ ap (λ (z : ℤ). s0 ++ after (codes "\" transform=\"translate(") z) fits0) ∙ pushed s1 s2 (after (codes " ") c.args.y) r2 (c.in_ok-push_after-2.ensures ∙ ap (λ (z : ℤ). s1 ++ after (codes " ") z) fits1)))
+    c.push_words.ensures

@@ -1,0 +1,4 @@
+pub mod Elements
+pub mod Escapes
+pub mod Panels
+pub mod Scenes

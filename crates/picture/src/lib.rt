@@ -1,0 +1,28 @@
+//! A board as a picture: a panel for each copper layer, with its pads, the other flashes, the holes, and what the rules find there, as
+//! SVG.
+//!
+//! All lengths are whole picometres (pm), and are written in millimetres.
+#![tactic(auto)]
+
+mod drawn;
+mod elements;
+mod findings;
+mod frame;
+mod holes;
+mod laws;
+mod names;
+mod pads;
+mod panel;
+mod pen;
+mod scene;
+mod widths;
+
+pub use frame::Frame;
+pub use laws::escaped_names;
+pub use names::escape;
+pub use panel::{Place, print_panel};
+pub use pen::Pen;
+pub use scene::{Lack, Scene, scene_of};
+
+#[cfg(test)]
+mod tests;

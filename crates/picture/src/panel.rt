@@ -1,0 +1,463 @@
+//! The text of a panel, printed part by part.
+
+ghost use Rattle.std.specs.Prelude.{◌≡◌, ◌++◌, ◌≤◌, ◌^◌, ◌+ℤ◌, neg_ℤ, pos, OnOk, None, string_bytes};
+ghost use Rattle.std.specs.List.{flat_map};
+ghost use Rattle.std.specs.Io.KnownBytes.{Appends};
+ghost use Rattle.printing.specs.Parts.{PassesOn};
+ghost use Rattle.picture.specs.Elements.{cross, crosses, crosses_start, last_end, outline, pads_behind, path_end, turn};
+ghost use Rattle.picture.specs.Panels.{behind_name, board_box, board_rect, drawn_words, lacks_text, marked, marks_text, name_start, note, note_start, panel_start, panel_text, ring_count, scene_text, translated};
+ghost use Rattle.picture.specs.Escapes.{escaped};
+
+use crate::drawn::{Crosses, Form, Holes, Lacks, Marks, Numbers};
+use crate::elements::{down, push_after, push_decimal, push_digits, push_text_start};
+use crate::frame::Frame;
+use crate::holes::push_crosses_start;
+use crate::names::escape;
+use crate::pads::{push_last_end, push_pad};
+use crate::pen::Pen;
+use crate::scene::{Lack, Scene};
+use grid_units::Point;
+use pad_shapes::Pad;
+use printing::{Cut, make_room, pass_on, push_words};
+use ring_rules::Drilled;
+use std::alloc::{AllocError, Global};
+use std::fmt::Write as Format;
+use std::io::Write;
+
+/// How many findings of a panel are marked and numbered at the most.
+const MOST_MARKED: usize = 100;
+
+/// Which panel it is, and where its origin stands on the page.
+#[derive(Clone, Copy)]
+pub struct Place<'a> {
+    /// The number of its file in the package, from 1.
+    pub file: usize,
+    /// The name of its file.
+    pub name: &'a str,
+    /// How far to the right, in pm.
+    pub x: i64,
+    /// How far down, in pm.
+    pub y: i64,
+}
+
+/// Appends where a panel stands, and the end of its begin.
+fn push_translated(text: &mut String, x: i64, y: i64) -> Result<(), AllocError>
+    ensures { OnOk result (string_bytes text.new ≡ string_bytes text.old ++ translated x y) }
+{
+    push_after(text, "\" transform=\"translate(", x)?;
+    push_after(text, " ", y)?;
+    push_words(text, ")\">\n")
+}
+
+/// Appends the begin of a panel.
+fn push_panel_start(text: &mut String, place: &Place) -> Result<(), AllocError>
+    ensures { OnOk result (string_bytes text.new ≡ string_bytes text.old ++ panel_start place.now) }
+{
+    push_decimal(text, "<g class=\"layer\" data-file=\"", place.file)?;
+    push_translated(text, place.x, place.y)
+}
+
+/// Appends a box.
+fn push_board_rect(
+    text: &mut String,
+    x: i64,
+    y: i64,
+    width: i64,
+    height: i64,
+) -> Result<(), AllocError>
+    ensures { OnOk result (string_bytes text.new ≡ string_bytes text.old ++ board_rect x y width height) }
+{
+    push_after(text, "<rect class=\"board\" x=\"", x)?;
+    push_after(text, "\" y=\"", y)?;
+    push_after(text, "\" width=\"", width)?;
+    push_after(text, "\" height=\"", height)?;
+    push_words(text, "\"/>\n")
+}
+
+/// Appends the box of the board.
+fn push_board_box(text: &mut String, frame: &Frame) -> Result<(), AllocError>
+    ensures { OnOk result (string_bytes text.new ≡ string_bytes text.old ++ board_box frame.now) }
+{
+    push_board_rect(text, frame.left, down(frame.top), frame.width, frame.height)
+}
+
+/// The y in a picture of what stands so far above the box.
+fn above(frame: &Frame, height: u64) -> i64
+    requires { height ≤ 10 ^ 14 }
+    ensures { result ≡ neg_ℤ (frame.now.top +ℤ pos height) }
+{
+    down(frame.top + height as i64)
+}
+
+/// Appends the begin of a name.
+fn push_name_start(text: &mut String, pen: &Pen, frame: &Frame) -> Result<(), AllocError>
+    ensures { OnOk result (string_bytes text.new ≡ string_bytes text.old ++ name_start pen.now frame.now) }
+{
+    push_text_start(
+        text,
+        "<text class=\"name\" x=\"",
+        frame.left,
+        above(frame, pen.unit * 5 / 2),
+    )
+}
+
+/// Appends the begin of a note.
+fn push_note_start(text: &mut String, pen: &Pen, frame: &Frame) -> Result<(), AllocError>
+    ensures { OnOk result (string_bytes text.new ≡ string_bytes text.old ++ note_start pen.now frame.now) }
+{
+    push_text_start(
+        text,
+        "<text class=\"note\" x=\"",
+        frame.left,
+        above(frame, pen.unit * 4 / 5),
+    )
+}
+
+/// How many rings are lacking.
+fn ring_count(lacks: &[Lack]) -> usize
+    ensures { result ≡ ring_count lacks.now }
+{
+    lacks
+        .iter()
+        .filter(|lack| matches!(lack, Lack::Ring { .. }))
+        .count()
+}
+
+/// Appends how many pads and other flashes stand in a panel, or that they are too many.
+fn push_drawn(text: &mut String, scene: &Scene) -> Result<(), AllocError>
+    ensures { OnOk result (string_bytes text.new ≡ string_bytes text.old ++ drawn_words scene.now) }
+{
+    if scene.crowded {
+        return push_words(text, "more than 100000 flashes and holes, ");
+    }
+    let (pads, other) = (scene.pads.len(), scene.crosses.len());
+    match write!(text, "{pads} pads, {other} other, ") {
+        Ok(()) => Ok(()),
+        Err(e) => Err(e),
+    }
+}
+
+/// Appends a note and its end.
+fn push_note(text: &mut String, scene: &Scene) -> Result<(), AllocError>
+    ensures { OnOk result (string_bytes text.new ≡ string_bytes text.old ++ note scene.now) }
+{
+    push_drawn(text, scene)?;
+    push_digits(text, ring_count(&scene.lacks), " rings lacking</text>\n")
+}
+
+/// Appends what stands behind the name of a panel.
+fn push_behind_name(
+    text: &mut String,
+    pen: &Pen,
+    frame: &Frame,
+    scene: &Scene,
+) -> Result<(), AllocError>
+    ensures { OnOk result (string_bytes text.new ≡ string_bytes text.old ++ (behind_name pen.now frame.now scene.now)) }
+{
+    push_words(text, "</text>\n")?;
+    push_note_start(text, pen, frame)?;
+    push_note(text, scene)?;
+    push_board_box(text, frame)
+}
+
+/// Appends what stands before the name of a panel.
+fn push_before_name(
+    text: &mut String,
+    place: &Place,
+    pen: &Pen,
+    frame: &Frame,
+) -> Result<(), AllocError>
+    ensures { OnOk result (string_bytes text.new ≡ string_bytes text.old ++ (panel_start place.now ++ name_start pen.now frame.now)) }
+{
+    push_panel_start(text, place)?;
+    push_name_start(text, pen, frame)
+}
+
+/// Gathers what stands before the name of a panel.
+fn gather_before_name<W: Write>(
+    text: &mut String,
+    place: &Place,
+    pen: &Pen,
+    frame: &Frame,
+    out: &mut W,
+) -> Result<(), Cut>
+    ensures { OnOk result (PassesOn (W.contents out.old) (string_bytes text.old) (W.contents out.new) (string_bytes text.new) (panel_start place.now ++ name_start pen.now frame.now)) }
+{
+    make_room(text, out)?;
+    match push_before_name(text, place, pen, frame) {
+        Ok(()) => Ok(()),
+        Err(_) => Err(Cut),
+    }
+}
+
+/// Writes bytes.
+fn write_out<W: Write>(bytes: &[u8], out: &mut W) -> Result<(), Cut>
+    ensures { OnOk result (Appends (W.contents out.old) (W.contents out.new) bytes.now) }
+{
+    match out.write_all(bytes) {
+        Ok(()) => Ok(()),
+        Err(_) => Err(Cut),
+    }
+}
+
+/// Writes what was gathered, and bytes behind it.
+fn write_bytes<W: Write>(text: &mut String, bytes: &[u8], out: &mut W) -> Result<(), Cut>
+    ensures { OnOk result (PassesOn (W.contents out.old) (string_bytes text.old) (W.contents out.new) (string_bytes text.new) bytes.now) }
+{
+    pass_on(text, out)?;
+    write_out(bytes, out)
+}
+
+/// Writes what was gathered, and a name behind it.
+fn write_name<W: Write>(
+    alloc: Global,
+    text: &mut String,
+    name: &str,
+    out: &mut W,
+) -> Result<(), Cut>
+    ensures { OnOk result (PassesOn (W.contents out.old) (string_bytes text.old) (W.contents out.new) (string_bytes text.new) (escaped name.now)) }
+{
+    match escape(alloc, name.as_bytes()) {
+        Ok(name) => write_bytes(text, &name, out),
+        Err(_) => Err(Cut),
+    }
+}
+
+/// Gathers what stands behind the name of a panel.
+fn gather_behind_name<W: Write>(
+    text: &mut String,
+    pen: &Pen,
+    frame: &Frame,
+    scene: &Scene,
+    out: &mut W,
+) -> Result<(), Cut>
+    ensures { OnOk result (PassesOn (W.contents out.old) (string_bytes text.old) (W.contents out.new) (string_bytes text.new) (behind_name pen.now frame.now scene.now)) }
+{
+    make_room(text, out)?;
+    match push_behind_name(text, pen, frame, scene) {
+        Ok(()) => Ok(()),
+        Err(_) => Err(Cut),
+    }
+}
+
+/// Gathers words.
+fn gather_words<W: Write>(text: &mut String, words: &str, out: &mut W) -> Result<(), Cut>
+    ensures { OnOk result (PassesOn (W.contents out.old) (string_bytes text.old) (W.contents out.new) (string_bytes text.new) words.now) }
+{
+    make_room(text, out)?;
+    match push_words(text, words) {
+        Ok(()) => Ok(()),
+        Err(_) => Err(Cut),
+    }
+}
+
+/// Gathers one thing, as it is drawn.
+fn gather<T, F: Form<T>, W: Write>(
+    text: &mut String,
+    form: &F,
+    pen: &Pen,
+    one: &T,
+    out: &mut W,
+) -> Result<(), Cut>
+    ensures { OnOk result (PassesOn (W.contents out.old) (string_bytes text.old) (W.contents out.new) (string_bytes text.new) (F.written pen.now one.now)) }
+{
+    make_room(text, out)?;
+    match form.push(text, pen, one) {
+        Ok(()) => Ok(()),
+        Err(_) => Err(Cut),
+    }
+}
+
+/// Gathers things one after the other, and writes those for which there is no room.
+fn gather_all<T, F: Form<T>, W: Write>(
+    text: &mut String,
+    form: &F,
+    pen: &Pen,
+    things: &[T],
+    out: &mut W,
+) -> Result<(), Cut>
+    ensures { OnOk result (PassesOn (W.contents out.old) (string_bytes text.old) (W.contents out.new) (string_bytes text.new) (flat_map (F.written pen.now) things.now)) }
+{
+    for one in things {
+        gather(text, form, pen, one, out)?;
+    }
+    Ok(())
+}
+
+/// Gathers a pad behind the pad before, if there is one.
+fn gather_pad<W: Write>(
+    text: &mut String,
+    before: Option<Pad>,
+    pad: &Pad,
+    out: &mut W,
+) -> Result<(), Cut>
+    ensures { OnOk result (PassesOn (W.contents out.old) (string_bytes text.old) (W.contents out.new) (string_bytes text.new) (turn before pad.now ++ outline pad.now)) }
+{
+    make_room(text, out)?;
+    match push_pad(text, before, pad) {
+        Ok(()) => Ok(()),
+        Err(_) => Err(Cut),
+    }
+}
+
+/// Gathers the end of the last path, if there is one.
+fn gather_last_end<W: Write>(text: &mut String, before: Option<Pad>, out: &mut W) -> Result<(), Cut>
+    ensures { OnOk result (PassesOn (W.contents out.old) (string_bytes text.old) (W.contents out.new) (string_bytes text.new) (last_end before)) }
+{
+    make_room(text, out)?;
+    match push_last_end(text, before) {
+        Ok(()) => Ok(()),
+        Err(_) => Err(Cut),
+    }
+}
+
+/// Gathers the paths of pads.
+fn gather_pads<W: Write>(text: &mut String, pads: &[Pad], out: &mut W) -> Result<(), Cut>
+    ensures { OnOk result (PassesOn (W.contents out.old) (string_bytes text.old) (W.contents out.new) (string_bytes text.new) (pads_behind None pads.now)) }
+{
+    let mut before = None;
+    for pad in pads {
+        gather_pad(text, before, pad, out)?;
+        before = Some(*pad);
+    }
+    gather_last_end(text, before, out)
+}
+
+/// Gathers the begin of the path of crosses.
+fn gather_crosses_start<W: Write>(text: &mut String, pen: &Pen, out: &mut W) -> Result<(), Cut>
+    ensures { OnOk result (PassesOn (W.contents out.old) (string_bytes text.old) (W.contents out.new) (string_bytes text.new) (crosses_start pen.now)) }
+{
+    make_room(text, out)?;
+    match push_crosses_start(text, pen) {
+        Ok(()) => Ok(()),
+        Err(_) => Err(Cut),
+    }
+}
+
+/// Gathers the path of crosses.
+fn gather_some_crosses<W: Write>(
+    text: &mut String,
+    pen: &Pen,
+    points: &[Point],
+    out: &mut W,
+) -> Result<(), Cut>
+    ensures { OnOk result (PassesOn (W.contents out.old) (string_bytes text.old) (W.contents out.new) (string_bytes text.new) ((crosses_start pen.now ++ flat_map (cross pen.now) points.now) ++ path_end)) }
+{
+    gather_crosses_start(text, pen, out)?;
+    gather_all(text, &Crosses, pen, points, out)?;
+    gather_words(text, "\"/>\n", out)
+}
+
+/// Gathers the path of crosses, if there are any.
+fn gather_crosses<W: Write>(
+    text: &mut String,
+    pen: &Pen,
+    points: &[Point],
+    out: &mut W,
+) -> Result<(), Cut>
+    ensures { OnOk result (PassesOn (W.contents out.old) (string_bytes text.old) (W.contents out.new) (string_bytes text.new) (crosses pen.now points.now)) }
+{
+    if points.is_empty() {
+        return Ok(());
+    }
+    gather_some_crosses(text, pen, points, out)
+}
+
+/// Those that are marked.
+fn marked(lacks: &[Lack]) -> &[Lack]
+    ensures { result.now ≡ marked lacks.now }
+{
+    if lacks.len() <= MOST_MARKED {
+        return lacks;
+    }
+    &lacks[..MOST_MARKED]
+}
+
+/// Gathers the marks of some findings, and their numbers.
+fn gather_marks<W: Write>(
+    text: &mut String,
+    pen: &Pen,
+    lacks: &[Lack],
+    out: &mut W,
+) -> Result<(), Cut>
+    ensures { OnOk result (PassesOn (W.contents out.old) (string_bytes text.old) (W.contents out.new) (string_bytes text.new) (marks_text pen.now lacks.now)) }
+{
+    gather_all(text, &Marks, pen, lacks, out)?;
+    gather_all(text, &Numbers, pen, lacks, out)
+}
+
+/// Gathers what is found, with marks and numbers.
+fn gather_lacks<W: Write>(
+    text: &mut String,
+    pen: &Pen,
+    lacks: &[Lack],
+    out: &mut W,
+) -> Result<(), Cut>
+    ensures { OnOk result (PassesOn (W.contents out.old) (string_bytes text.old) (W.contents out.new) (string_bytes text.new) (lacks_text pen.now lacks.now)) }
+{
+    let first = marked(lacks);
+    gather_all(text, &Lacks, pen, lacks, out)?;
+    gather_marks(text, pen, first, out)
+}
+
+/// Gathers pads, crosses, holes and what is found.
+fn gather_parts<W: Write>(
+    text: &mut String,
+    pen: &Pen,
+    pads: &[Pad],
+    points: &[Point],
+    holes: &[Drilled],
+    lacks: &[Lack],
+    out: &mut W,
+) -> Result<(), Cut>
+    ensures { OnOk result (PassesOn (W.contents out.old) (string_bytes text.old) (W.contents out.new) (string_bytes text.new) (scene_text pen.now pads.now points.now holes.now lacks.now)) }
+{
+    gather_pads(text, pads, out)?;
+    gather_crosses(text, pen, points, out)?;
+    gather_all(text, &Holes, pen, holes, out)?;
+    gather_lacks(text, pen, lacks, out)
+}
+
+/// Gathers what stands in a panel.
+fn gather_scene<W: Write>(
+    text: &mut String,
+    pen: &Pen,
+    scene: &Scene,
+    out: &mut W,
+) -> Result<(), Cut>
+    ensures { OnOk result (PassesOn (W.contents out.old) (string_bytes text.old) (W.contents out.new) (string_bytes text.new) (scene_text pen.now scene.now.pads.items scene.now.crosses.items scene.now.holes.now scene.now.lacks.items)) }
+{
+    gather_parts(
+        text,
+        pen,
+        &scene.pads,
+        &scene.crosses,
+        scene.holes,
+        &scene.lacks,
+        out,
+    )
+}
+
+/// Prints what `text` holds and the text of a panel behind it. The elements are gathered in `text` and written in parts; what is left is
+/// for the next call.
+///
+/// # Errors
+///
+/// [`Cut`] where the writer fails, or where there is no memory for an element.
+pub fn print_panel<W: Write>(
+    alloc: Global,
+    text: &mut String,
+    place: &Place,
+    frame: &Frame,
+    pen: &Pen,
+    scene: &Scene,
+    out: &mut W,
+) -> Result<(), Cut>
+    ensures { OnOk result (PassesOn (W.contents out.old) (string_bytes text.old) (W.contents out.new) (string_bytes text.new) (panel_text place.now frame.now pen.now scene.now)) }
+{
+    gather_before_name(text, place, pen, frame, out)?;
+    write_name(alloc, text, place.name, out)?;
+    gather_behind_name(text, pen, frame, scene, out)?;
+    gather_scene(text, pen, scene, out)?;
+    gather_words(text, "</g>\n", out)
+}

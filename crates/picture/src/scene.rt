@@ -1,0 +1,248 @@
+//! What stands in the panel of a layer.
+
+ghost use Rattle.std.specs.Prelude.{◌≡◌, ◌<◌, ◌^◌, ◌++◌, slice_get, IfOk, IsPermutation, OnOk};
+ghost use Rattle.layer_image.specs.Flashes.{pads_of};
+ghost use Rattle.picture.specs.Scenes.{cross_of, crosses_of, gap_lack, is_crowded, lack_of, lacks_of, pad_of, ring_lack, unless_crowded};
+
+use grid_units::{Hole, Point};
+use layer_image::{Flash, What};
+use pad_shapes::Pad;
+use ring_rules::{Drilled, Finding};
+use std::alloc::{AllocError, Global};
+
+/// How many flashes and holes a panel draws at the most.
+const MOST_DRAWN: usize = 100_000;
+
+/// What is lacking, and the number of its finding, from 1.
+#[derive(Clone, Copy)]
+pub enum Lack {
+    /// A ring round a hole.
+    Ring {
+        /// The number of the finding.
+        number: usize,
+        /// The hole.
+        hole: Hole,
+    },
+    /// A gap between two holes.
+    Gap {
+        /// The number of the finding.
+        number: usize,
+        /// The one hole.
+        first: Hole,
+        /// The other hole.
+        second: Hole,
+    },
+}
+
+/// What stands in a panel.
+#[derive(Drop)]
+pub struct Scene<'a> {
+    /// Whether there are more than 100,000 flashes and holes: then none of them is drawn.
+    pub crowded: bool,
+    /// The pads, those of one kind and size behind one another.
+    pub pads: Vec<Pad>,
+    /// The points of the flashes that are no pads.
+    pub crosses: Vec<Point>,
+    /// The holes.
+    pub holes: &'a [Drilled],
+    /// What is lacking, in the order of the findings.
+    pub lacks: Vec<Lack>,
+}
+
+/// Whether a panel is to draw more than it does.
+fn is_crowded(flashes: &[Flash], holes: &[Drilled]) -> bool
+    ensures { result ≡ is_crowded flashes.now holes.now }
+{
+    match flashes.len().checked_add(holes.len()) {
+        Some(count) => count > MOST_DRAWN,
+        None => true,
+    }
+}
+
+/// What is drawn of these flashes.
+fn drawn_flashes(crowded: bool, flashes: &[Flash]) -> &[Flash]
+    ensures { result.now ≡ unless_crowded crowded flashes.now }
+{
+    if crowded { &[] } else { flashes }
+}
+
+/// What is drawn of these holes.
+fn drawn_holes(crowded: bool, holes: &[Drilled]) -> &[Drilled]
+    ensures { result.now ≡ unless_crowded crowded holes.now }
+{
+    if crowded { &[] } else { holes }
+}
+
+/// The kind and the size of a pad.
+fn kind_of(pad: &Pad) -> (u8, i64, i64) {
+    match pad {
+        Pad::Disc(disc) => (0, disc.radius(), disc.radius()),
+        Pad::Rect(rect) => (1, rect.half_x(), rect.half_y()),
+        Pad::Obround(obround) => (2, obround.half_x(), obround.half_y()),
+    }
+}
+
+/// Adds the pad of a flash, if it is one.
+fn push_pad(pads: &mut Vec<Pad>, flash: &Flash) -> Result<(), AllocError>
+    ensures { OnOk result (pads.new.items ≡ pads.old.items ++ pad_of flash.now) }
+{
+    if let What::Pad(pad) = flash.what {
+        pads.push(pad)?;
+    }
+    Ok(())
+}
+
+/// Adds the point of a flash that is no pad.
+fn push_cross(points: &mut Vec<Point>, flash: &Flash) -> Result<(), AllocError>
+    ensures { OnOk result (points.new.items ≡ points.old.items ++ cross_of flash.now) }
+{
+    if let What::Other(_) = flash.what {
+        points.push(flash.at)?;
+    }
+    Ok(())
+}
+
+/// The pads of some flashes, in order.
+fn pads_of(alloc: Global, flashes: &[Flash]) -> Result<Vec<Pad>, AllocError>
+    ensures { IfOk result (λ pads. pads.items ≡ pads_of flashes.now) }
+{
+    let mut pads = Vec::new(alloc);
+    for flash in flashes {
+        push_pad(&mut pads, flash)?;
+    }
+    Ok(pads)
+}
+
+/// The pads of some flashes, those of one kind and size behind one another.
+fn sorted_pads(alloc: Global, flashes: &[Flash]) -> Result<Vec<Pad>, AllocError>
+    ensures { IfOk result (λ pads. IsPermutation (pads_of flashes.now) pads.items) }
+{
+    let mut pads = pads_of(alloc, flashes)?;
+    pads.sort_by_key(kind_of)?;
+    Ok(pads)
+}
+
+/// The points of the flashes that are no pads, in order.
+fn crosses_of(alloc: Global, flashes: &[Flash]) -> Result<Vec<Point>, AllocError>
+    ensures { IfOk result (λ points. points.items ≡ crosses_of flashes.now) }
+{
+    let mut points = Vec::new(alloc);
+    for flash in flashes {
+        push_cross(&mut points, flash)?;
+    }
+    Ok(points)
+}
+
+/// The hole at a place, if there is one.
+fn hole_at(holes: &[Drilled], place: usize) -> Option<Drilled>
+    ensures { result ≡ slice_get holes.now place }
+{
+    holes.get(place).copied()
+}
+
+/// Adds a ring that is lacking at a hole, if there is such a hole.
+fn push_ring(lacks: &mut Vec<Lack>, number: usize, hole: Option<Drilled>) -> Result<(), AllocError>
+    ensures { OnOk result (lacks.new.items ≡ lacks.old.items ++ ring_lack number hole) }
+{
+    if let Some(drilled) = hole {
+        lacks.push(Lack::Ring {
+            number,
+            hole: drilled.hole,
+        })?;
+    }
+    Ok(())
+}
+
+/// Adds a gap that is lacking between two holes, if there are both.
+fn push_gap(
+    lacks: &mut Vec<Lack>,
+    number: usize,
+    first: Option<Drilled>,
+    second: Option<Drilled>,
+) -> Result<(), AllocError>
+    ensures { OnOk result (lacks.new.items ≡ lacks.old.items ++ gap_lack number first second) }
+{
+    if let (Some(first), Some(second)) = (first, second) {
+        lacks.push(Lack::Gap {
+            number,
+            first: first.hole,
+            second: second.hole,
+        })?;
+    }
+    Ok(())
+}
+
+/// Adds what the finding at a place of their list shows on a layer.
+#[tactic(auto, unfolding(crate::specs::Scenes::lack_of))]
+fn push_lack(
+    lacks: &mut Vec<Lack>,
+    layer: usize,
+    holes: &[Drilled],
+    place: usize,
+    finding: Finding,
+) -> Result<(), AllocError>
+    requires { place < 2 ^ 63 }
+    ensures { OnOk result (lacks.new.items ≡ lacks.old.items ++ lack_of layer holes.now (place, finding)) }
+{
+    match finding {
+        Finding::Ring { layer: l, hole } | Finding::Oblique { layer: l, hole } => {
+            if l == layer {
+                push_ring(lacks, place + 1, hole_at(holes, hole))?;
+            }
+            Ok(())
+        }
+        Finding::Gap { first, second } => push_gap(
+            lacks,
+            place + 1,
+            hole_at(holes, first),
+            hole_at(holes, second),
+        ),
+    }
+}
+
+/// What the findings show on a layer.
+fn lacks_of(
+    alloc: Global,
+    layer: usize,
+    holes: &[Drilled],
+    findings: &[Finding],
+) -> Result<Vec<Lack>, AllocError>
+    ensures { IfOk result (λ lacks. lacks.items ≡ lacks_of layer holes.now findings.now) }
+{
+    let mut lacks = Vec::new(alloc);
+    for (place, finding) in findings.iter().enumerate() {
+        push_lack(&mut lacks, layer, holes, place, *finding)?;
+    }
+    Ok(lacks)
+}
+
+/// What stands in the panel of a layer, by its place among the copper files from 0: its pads, the other flashes and all holes, or none
+/// of them where they are more than 100,000; and what the findings show there. A layer or a hole that a finding names is its place in
+/// the lists that were judged.
+///
+/// # Errors
+///
+/// An `AllocError` where there is no memory for it.
+pub fn scene_of<'a>(
+    alloc: Global,
+    layer: usize,
+    flashes: &[Flash],
+    holes: &'a [Drilled],
+    findings: &[Finding],
+) -> Result<Scene<'a>, AllocError>
+    ensures crowded { IfOk result (λ scene. scene.crowded ≡ is_crowded flashes.now holes.now) }
+    ensures pads { IfOk result (λ scene. IsPermutation (pads_of (unless_crowded scene.crowded flashes.now)) scene.pads.items) }
+    ensures crosses { IfOk result (λ scene. scene.crosses.items ≡ crosses_of (unless_crowded scene.crowded flashes.now)) }
+    ensures holes { IfOk result (λ scene. scene.holes.now ≡ unless_crowded scene.crowded holes.now) }
+    ensures lacks { IfOk result (λ scene. scene.lacks.items ≡ lacks_of layer holes.now findings.now) }
+{
+    let crowded = is_crowded(flashes, holes);
+    let drawn = drawn_flashes(crowded, flashes);
+    Ok(Scene {
+        crowded,
+        pads: sorted_pads(alloc, drawn)?,
+        crosses: crosses_of(alloc, drawn)?,
+        holes: drawn_holes(crowded, holes),
+        lacks: lacks_of(alloc, layer, holes, findings)?,
+    })
+}

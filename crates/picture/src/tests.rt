@@ -1,0 +1,199 @@
+//! Pictures with the figures of worked examples.
+
+use super::*;
+use crate::findings::{push_lack, push_mark, push_number};
+use crate::holes::{push_cross, push_hole};
+use crate::pads::{push_last_end, push_pad};
+use grid_units::{Hole, Point};
+use layer_image::{Flash, What, Why};
+use pad_shapes::{Disc, Obround, Pad, Rect};
+use ring_rules::{Drilled, Finding};
+use std::test::Fail;
+
+/// The point at these coordinates, in pm.
+fn at(x: i64, y: i64) -> Point {
+    Point::new(x, y).unwrap()
+}
+
+/// A pen of a page whose unit is 0.4256 mm, with a rule of 0.1 mm.
+fn pen() -> Pen {
+    Pen {
+        unit: 425_600_000,
+        ring: 100_000_000,
+    }
+}
+
+/// A plated hole.
+fn drilled(from: Point, to: Point, radius: i64) -> Drilled {
+    Drilled {
+        hole: Hole::new(from, to, radius).unwrap(),
+        plated: true,
+        span: None,
+    }
+}
+
+/// Whether some pads have these paths.
+fn have_paths(rt: HostRuntime, pads: &[Pad], text: &str) -> Result<bool, Fail> {
+    let mut written = String::new(rt.alloc());
+    let mut before = None;
+    for pad in pads {
+        push_pad(&mut written, before, pad)?;
+        before = Some(*pad);
+    }
+    push_last_end(&mut written, before)?;
+    Ok(written.as_str() == text)
+}
+
+#[test]
+fn pads_of_one_kind_and_size_are_one_path(rt: HostRuntime) -> Result<(), Fail> {
+    let discs = [
+        Pad::Disc(Disc::new(at(157_250_000_000, -102_450_000_000), 250_000_000).unwrap()),
+        Pad::Disc(Disc::new(at(151_500_000_000, -81_500_000_000), 250_000_000).unwrap()),
+        Pad::Disc(Disc::new(at(153_080_000_000, -91_450_000_000), 300_000_000).unwrap()),
+    ];
+    assert!(rt;
+        have_paths(
+            rt,
+            &discs,
+            "<path class=\"line\" stroke-width=\"0.5\" d=\"M157.25 102.45h0M151.5 81.5h0\"/>\n<path class=\"line\" stroke-width=\"0.6\" d=\"M153.08 91.45h0\"/>\n"
+        )?
+    );
+    let rects = [
+        Pad::Rect(Rect::new(
+            at(115_570_000_000, -119_380_000_000),
+            800_000_000,
+            1_200_000_000,
+        )
+        .unwrap()),
+        Pad::Obround(Obround::new(at(0, 0), 800_000_000, 500_000_000).unwrap()),
+        Pad::Obround(Obround::new(at(0, 0), 500_000_000, 800_000_000).unwrap()),
+    ];
+    assert!(rt;
+        have_paths(
+            rt,
+            &rects,
+            "<path class=\"pad\" d=\"M114.77 118.18h1.6v2.4h-1.6z\"/>\n<path class=\"line\" stroke-width=\"1\" d=\"M-0.3 0h0.6\"/>\n<path class=\"line\" stroke-width=\"1\" d=\"M0 -0.3v0.6\"/>\n"
+        )?
+    );
+    Ok(())
+}
+
+#[test]
+fn crosses_have_two_lines(rt: HostRuntime) -> Result<(), Fail> {
+    let mut written = String::new(rt.alloc());
+    push_cross(&mut written, &pen(), at(150_400_000_000, -96_300_000_000))?;
+    assert_eq!(rt;
+        written.as_str(),
+        "M150.258133334 96.3h0.283733332M150.4 96.158133334v0.283733332"
+    );
+    Ok(())
+}
+
+#[test]
+fn holes_are_circles_and_slots(rt: HostRuntime) -> Result<(), Fail> {
+    let mut written = String::new(rt.alloc());
+    let round = at(142_290_000_000, -100_250_000_000);
+    push_hole(&mut written, &pen(), &drilled(round, round, 150_000_000))?;
+    let bare = Drilled {
+        plated: false,
+        ..drilled(round, round, 150_000_000)
+    };
+    push_hole(&mut written, &pen(), &bare)?;
+    let (from, to) = (
+        at(148_750_000_000, -109_250_000_000),
+        at(151_250_000_000, -109_250_000_000),
+    );
+    push_hole(&mut written, &pen(), &drilled(from, to, 750_000_000))?;
+    assert_eq!(rt;
+        written.as_str(),
+        "<circle class=\"plated\" cx=\"142.29\" cy=\"100.25\" r=\"0.15\" stroke-width=\"0.0375\"/>\n<circle class=\"unplated\" cx=\"142.29\" cy=\"100.25\" r=\"0.15\" stroke-width=\"0.0375\"/>\n<path class=\"rim\" stroke-width=\"1.5\" d=\"M148.75 109.25L151.25 109.25\"/>\n<path class=\"slot\" stroke-width=\"1.41488\" d=\"M148.75 109.25L151.25 109.25\"/>\n"
+    );
+    Ok(())
+}
+
+#[test]
+fn rings_have_marks_and_numbers(rt: HostRuntime) -> Result<(), Fail> {
+    let mut written = String::new(rt.alloc());
+    let centre = at(143_745_000_000, -99_547_000_000);
+    let lack = Lack::Ring {
+        number: 1,
+        hole: Hole::new(centre, centre, 150_000_000).unwrap(),
+    };
+    push_lack(&mut written, &pen(), &lack)?;
+    push_mark(&mut written, &pen(), &lack)?;
+    push_number(&mut written, &pen(), &lack)?;
+    assert_eq!(rt;
+        written.as_str(),
+        "<circle class=\"ring\" cx=\"143.745\" cy=\"99.547\" r=\"0.25\" stroke-width=\"0.03125\"/>\n<circle class=\"mark\" cx=\"143.745\" cy=\"99.547\" r=\"0.4628\" stroke-width=\"0.08512\"/>\n<text class=\"number\" x=\"144.06896\" y=\"99.22304\">1</text>\n"
+    );
+    Ok(())
+}
+
+#[test]
+fn gaps_are_lines_from_middle_to_middle(rt: HostRuntime) -> Result<(), Fail> {
+    let mut written = String::new(rt.alloc());
+    let slot = Hole::new(at(0, 0), at(2_000_000_000, 0), 500_000_000).unwrap();
+    let round = Hole::new(at(0, 1_000_000_000), at(0, 1_000_000_000), 500_000_000).unwrap();
+    let lack = Lack::Gap {
+        number: 1,
+        first: slot,
+        second: round,
+    };
+    push_lack(&mut written, &pen(), &lack)?;
+    assert_eq!(rt;
+        written.as_str(),
+        "<path class=\"gap\" stroke-width=\"0.12768\" d=\"M1 0L0 -1\"/>\n"
+    );
+    Ok(())
+}
+
+#[test]
+fn names_have_entities(rt: HostRuntime) -> Result<(), Fail> {
+    let name = escape(rt.alloc(), b"a<b>&\"c\"")?;
+    assert_eq!(rt; name.as_slice(), b"a&lt;b&gt;&amp;\"c\"".as_slice());
+    Ok(())
+}
+
+/// A pad, a flash that is no pad, and a pad again.
+fn flashes() -> [Flash; 3] {
+    [
+        Flash {
+            at: at(0, 0),
+            what: What::Pad(Pad::Rect(Rect::new(at(0, 0), 325_000_000, 325_000_000).unwrap())),
+        },
+        Flash {
+            at: at(1_000_000_000, 0),
+            what: What::Other(Why::Macro),
+        },
+        Flash {
+            at: at(2_000_000_000, 0),
+            what: What::Pad(Pad::Disc(Disc::new(at(2_000_000_000, 0), 300_000_000).unwrap())),
+        },
+    ]
+}
+
+#[test]
+fn rings_stand_in_their_panel_and_gaps_in_each(rt: HostRuntime) -> Result<(), Fail> {
+    let holes = [
+        drilled(at(0, 0), at(0, 0), 200_000_000),
+        drilled(at(1, 0), at(1, 0), 200_000_000),
+    ];
+    let findings = [
+        Finding::Ring { layer: 0, hole: 0 },
+        Finding::Ring { layer: 1, hole: 1 },
+        Finding::Gap {
+            first: 0,
+            second: 1,
+        },
+    ];
+    let top = scene_of(rt.alloc(), 0, &flashes(), &holes, &findings)?;
+    assert_eq!(rt; top.pads.len(), 2);
+    assert_eq!(rt; top.crosses.len(), 1);
+    assert_eq!(rt; top.holes.len(), 2);
+    assert_eq!(rt; top.lacks.len(), 2);
+    assert!(rt; matches!(top.lacks[0], Lack::Ring { number: 1, .. }));
+    assert!(rt; matches!(top.lacks[1], Lack::Gap { number: 3, .. }));
+    let bottom = scene_of(rt.alloc(), 1, &flashes(), &holes, &findings)?;
+    assert!(rt; matches!(bottom.lacks[0], Lack::Ring { number: 2, .. }));
+    Ok(())
+}

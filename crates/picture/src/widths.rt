@@ -1,0 +1,45 @@
+//! How wide lines are, and how long the arms of crosses, in pm.
+
+ghost use Rattle.std.specs.Prelude.{◌≡◌, ◌≤◌, ◌^◌, ◌*◌, ◌/◌, pos};
+ghost use Rattle.picture.specs.Elements.{arm, rim, ring_rim};
+
+use crate::pen::Pen;
+
+/// The length of an arm of a cross.
+pub(crate) fn arm(pen: &Pen) -> i64
+    ensures value { result ≡ pos (arm pen.now) }
+    ensures within { arm pen.now ≤ 10 ^ 13 }
+{
+    (pen.unit / 3) as i64
+}
+
+/// The width of the line round a circle of a radius.
+pub(crate) fn rim(pen: &Pen, radius: u64) -> u64
+    ensures value { result ≡ rim pen.now radius }
+    ensures within { result ≤ radius }
+    ensures thin { result ≤ 10 ^ 13 }
+{
+    (pen.unit / 10).min(radius / 4)
+}
+
+/// The width of the line round a ring of a radius.
+pub(crate) fn ring_rim(pen: &Pen, radius: u64) -> u64
+    ensures value { result ≡ ring_rim pen.now radius }
+    ensures thin { result ≤ 10 ^ 13 }
+{
+    (pen.unit / 10).min(radius / 8)
+}
+
+/// The width of strong lines.
+pub(crate) fn strong(pen: &Pen) -> i64
+    ensures { result ≡ pos (pen.now.unit / 5) }
+{
+    (pen.unit / 5) as i64
+}
+
+/// The width of the line of a gap.
+pub(crate) fn gap_width(pen: &Pen) -> i64
+    ensures { result ≡ pos (pen.now.unit * 3 / 10) }
+{
+    (pen.unit * 3 / 10) as i64
+}
