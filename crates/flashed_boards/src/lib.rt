@@ -3,7 +3,7 @@
 
 mod reader;
 
-pub use reader::{FlashedBoard, FlashedReader};
+pub use reader::{FlashedBoard, FlashedReader, read_flashed};
 
 #[cfg(test)]
 mod tests;

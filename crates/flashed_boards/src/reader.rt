@@ -4,12 +4,12 @@ ghost use Rattle.std.specs.Prelude.{◌≡◌, ◌++◌, ◌∷◌, ℕ, List, [
 ghost use Rattle.std.specs.List.{concat};
 ghost use Rattle.grid_units.specs.Results.{Answers, Tells};
 ghost use Rattle.layer_image.specs.Standing.{FlashesStandAfter, ReadsFlashes, ShowsLayerFault};
-ghost use Rattle.package_check.specs.Package.{Source};
-ghost use Rattle.flashed_boards.specs.Flashed.{AnswersFlashed, AreFlashesOf};
+ghost use Rattle.package_check.specs.Package.{Source, sources_of};
+ghost use Rattle.flashed_boards.specs.Flashed.{AnswersFlashed, AreFlashesOf, FlashedStandsAfter};
 
 use grid_units::Fail;
 use layer_image::{Flash, FlashReader, one_reading, shown_faults};
-use package_check::{Board, PackageFault, PackageReader, Role, Span};
+use package_check::{Board, File, PackageFault, PackageReader, Role, Span, layer_count};
 use std::alloc::{AllocError, Global};
 use std::marker::Model;
 
@@ -130,4 +130,29 @@ fn push(all: &mut Vec<Vec<Flash>>, flashes: Vec<Flash>) -> Result<(), AllocError
         return Err(AllocError);
     }
     Ok(())
+}
+
+/// A reader that has taken the files.
+fn reader_of(alloc: Global, files: &[File]) -> Result<FlashedReader, AllocError>
+    ensures { IfOk result (λ reader. FlashedStandsAfter reader (sources_of files.now)) }
+{
+    let mut reader = FlashedReader::new(alloc, layer_count(files));
+    for file in files {
+        reader.take(file.role, &file.span, &[file.bytes])?;
+    }
+    Ok(reader)
+}
+
+/// What the files say, all of them together, and the flashes of each.
+///
+/// # Errors
+///
+/// As those of [`package_check::check_bytes`].
+pub fn read_flashed(alloc: Global, files: &[File]) -> Result<FlashedBoard, PackageFault>
+    ensures { AnswersFlashed (sources_of files.now) result }
+{
+    match reader_of(alloc, files) {
+        Ok(reader) => reader.finish(),
+        Err(_) => Err(PackageFault::Memory),
+    }
 }

@@ -42,11 +42,7 @@ fn known_on(alloc: Global, flashed: &FlashedBoard, layer: usize) -> Result<Known
     ensures known { IfOk result (IsKnownAt flashed.now) }
     ensures layer { IfOk result (λ known. known.layer ≡ layer) }
 {
-    let causes = LayerCauses::new(
-        alloc,
-        layer_flashes(flashed, layer),
-        flashed.board.holes(),
-    )?;
+    let causes = LayerCauses::new(alloc, layer_flashes(flashed, layer), flashed.board.holes())?;
     Ok(Known { layer, causes })
 }
 
