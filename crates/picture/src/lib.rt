@@ -1,5 +1,4 @@
-//! A board as a picture: a panel for each copper layer, with its pads, the other flashes, the holes, and what the rules find there, as
-//! SVG.
+//! The panel of a copper layer, as SVG: its pads, the other flashes, the holes, and what the rules find there.
 //!
 //! All lengths are whole picometres (pm), and are written in millimetres.
 #![tactic(auto)]

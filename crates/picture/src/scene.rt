@@ -217,8 +217,8 @@ fn lacks_of(
 }
 
 /// What stands in the panel of a layer, by its place among the copper files from 0: its pads, the other flashes and all holes, or none
-/// of them where they are more than 100,000; and what the findings show there. A layer or a hole that a finding names is its place in
-/// the lists that were judged.
+/// of them where they are more than 100,000; and what the findings show there, numbered from 1 in their order. A layer or a hole that a
+/// finding names is its place in the lists that were judged.
 ///
 /// # Errors
 ///
