@@ -3,10 +3,17 @@
 //! All lengths are whole picometres (pm), and are written in millimetres without the zeros at their end.
 #![tactic(auto)]
 
+mod kind;
+mod lines;
+mod report;
+mod tallies;
+mod words;
+
 use grid_units::{Hole, Rules};
 use layer_image::Why;
 use margin_text::{Meets, ScaleLine};
 use pad_shapes::Pad;
+pub use report::{PrintFault, print_telling, write_telling};
 
 /// The pad in which a hole lies deepest, and the ring that it has there.
 #[derive(Clone, Copy, Debug, PartialEq, Eq)]
@@ -101,3 +108,6 @@ pub struct Telling {
     /// The rules that the package meets.
     pub meets: Meets,
 }
+
+#[cfg(test)]
+mod tests;

@@ -1,0 +1,21 @@
+use Rattle.std.proofs.Common.{◌∙◌, ◌+◌, ℕ, Bool, ap, ap₂, arith, sym}
+use Rattle.std.specs.Prelude.{◌==◌, ◌&&◌, not, if◌then◌else◌}
+use Rattle.report_text.specs.declared.RingLack.{RingLack}
+use Rattle.report_text.specs.Texts.{is_shown}
+use Rattle.report_text.proofs.Showing.{marks_all, rings_hidden, rings_left_more}
+use Rattle.report_text.proofs.tallies.rings_left.Goals as goal
+
+pub loop-i-preserved : goal.loop-i-preserved
+loop-i-preserved c =
+    let i = c.loop-i.i in
+    let most = c.args.most in
+    let layer = c.args.layer in
+    let left = c.is_left_on.ensures ∙ ap (λ (x : RingLack). (x.layer == layer) && not (is_shown most i)) c.index-rings-i.is in
+    record {
+      within = omega (arith, c.loop-i.invariant.within, c.one_if-left.ensures.within);
+      counted = ap₂ (λ (a b : ℕ). a + b) c.loop-i.invariant.counted (c.one_if-left.ensures.value ∙ ap (λ (b : Bool). if b then 1 else 0) left)
+          ∙ sym (rings_left_more layer most c.args.rings.now i c.index-rings-i.result c.loop-i-test.true);
+    }
+
+pub returns : goal.returns
+returns c = c.loop-i.invariant.counted ∙ ap (rings_hidden c.args.layer c.args.most) (marks_all 0 c.args.rings.now c.loop-i.i c.loop-i-test.false)

@@ -1,0 +1,69 @@
+-- Why holes lack their rings, as it is told.
+use Rattle.std.specs.Prelude.{◌==◌, ℕ, Bool, List, [], ◌∷◌, codes}
+use Rattle.layer_image.specs.declared.flash.Why.{Why}
+use Rattle.layer_image.specs.declared.flash.Why.TheVariants as whys
+use Rattle.report_text.specs.declared.RingCause.{RingCause}
+use Rattle.report_text.specs.declared.RingCause.TheVariants as causes
+use Rattle.report_text.specs.declared.kind.Kind.{Kind}
+use Rattle.report_text.specs.declared.kind.Kind.TheVariants as kinds
+
+-- the kind of a flash that is no pad (docs/FORMATS.md, Report for people)
+abbrev pub flash_kind : Why → Kind
+flash_kind whys.Macro = kinds.Macro
+flash_kind whys.Polygon = kinds.Polygon
+flash_kind whys.Holed = kinds.Holed
+flash_kind whys.Scaled = kinds.Scaled
+flash_kind whys.Turned = kinds.Turned
+
+-- the kind of a cause (docs/FORMATS.md, Report for people)
+abbrev pub kind_of : RingCause → Kind
+kind_of (causes.Small place) = kinds.Small
+kind_of (causes.Off place) = kinds.Off
+kind_of (causes.Other why flash) = flash_kind why
+kind_of causes.Nothing = kinds.Bare
+kind_of causes.Oblique = kinds.Oblique
+
+-- the kinds, in the order in which they are told (docs/FORMATS.md, Report for people)
+abbrev pub all_kinds : List Kind
+all_kinds =
+    kinds.Small ∷ kinds.Off ∷ kinds.Macro ∷ kinds.Polygon ∷ kinds.Holed ∷ kinds.Scaled ∷ kinds.Turned ∷ kinds.Bare ∷ kinds.Oblique ∷ []
+
+-- the place of a kind in that order (docs/FORMATS.md, Report for people)
+abbrev pub place_of : Kind → ℕ
+place_of kinds.Small = 0
+place_of kinds.Off = 1
+place_of kinds.Macro = 2
+place_of kinds.Polygon = 3
+place_of kinds.Holed = 4
+place_of kinds.Scaled = 5
+place_of kinds.Turned = 6
+place_of kinds.Bare = 7
+place_of kinds.Oblique = 8
+
+-- a cause is of a kind (docs/FORMATS.md, Report for people)
+abbrev pub is_of_kind : Kind → RingCause → Bool
+is_of_kind kind cause = place_of (kind_of cause) == place_of kind
+
+-- the words of a kind (docs/FORMATS.md, Report for people)
+abbrev pub kind_words : Kind → List ℕ
+kind_words kinds.Small = codes "pad too small"
+kind_words kinds.Off = codes "off centre"
+kind_words kinds.Macro = codes "only a macro flash"
+kind_words kinds.Polygon = codes "only a polygon flash"
+kind_words kinds.Holed = codes "only a holed flash"
+kind_words kinds.Scaled = codes "only a scaled flash"
+kind_words kinds.Turned = codes "only a turned flash"
+kind_words kinds.Bare = codes "no pad"
+kind_words kinds.Oblique = codes "oblique slot"
+
+-- what is said of a kind (docs/FORMATS.md, Report for people)
+abbrev pub hint : Kind → List ℕ
+hint kinds.Small = codes "the pad's own radius or half side is less than the hole's radius and the ring"
+hint kinds.Off = codes "the pad is large enough for a hole at its centre; drill files are rounded: see `ringcheck explain ring`"
+hint kinds.Macro = codes "flashes by a macro are not judged: choose circle, oval or rectangle: see `ringcheck explain macro`"
+hint kinds.Polygon = codes "polygon flashes are not judged"
+hint kinds.Holed = codes "flashes with a hole are not judged"
+hint kinds.Scaled = codes "scaled flashes are not judged"
+hint kinds.Turned = codes "flashes turned by other than quarters are not judged"
+hint kinds.Bare = codes "no pad reaches the hole's centre: removed or painted pad, plane, other origin or format: see `ringcheck explain none`"
+hint kinds.Oblique = codes "plated slots that lie along no axis are not judged"

@@ -1,0 +1,466 @@
+//! The text of a report, printed part by part.
+
+ghost use Rattle.std.specs.Prelude.{◌≡◌, ◌==◌, ◌++◌, [], if◌then◌else◌, length, map, not, IfErr, IfOk, OnOk, string_bytes};
+ghost use Rattle.std.specs.List.{count_by, enumerate_from, filter, flat_map};
+ghost use Rattle.std.specs.Io.KnownBytes.{Appends};
+ghost use Rattle.printing.specs.Parts.{PassesOn};
+ghost use Rattle.report_text.specs.Causes.{all_kinds};
+ghost use Rattle.report_text.specs.Texts.{causes_text, findings_text, gap_line, gaps_line, gaps_text, is_shown, kind_line, lacks_text, last_lines, layer_line, layer_text, more_line, name_of, ring_line, rules_line, scale_line, shown_lines, telling_text};
+
+use crate::kind::{KINDS, Kind};
+use crate::lines::{
+    push_count, push_gap, push_gaps, push_lacks, push_last, push_layer, push_meets, push_more,
+    push_ring, push_rules, push_scale,
+};
+use crate::tallies::{
+    gap_lacks, gaps_left, is_shown, is_shown_on, ring_lacks, rings_by, rings_left, rings_on,
+};
+use crate::words::name_of;
+use crate::{GapLack, LayerHead, RingLack, Telling};
+use grid_units::Rules;
+use margin_text::ScaleLine;
+use printing::{Cut, buffer, make_room, pass_on};
+use std::alloc::{AllocError, Global};
+use std::io::Write;
+use thiserror::Error;
+
+/// Why a report was not printed.
+#[derive(Clone, Copy, Debug, PartialEq, Eq, Error)]
+pub enum PrintFault {
+    /// There was no memory, and nothing was written.
+    #[error("out of memory before the report was written")]
+    Memory,
+    /// The writer failed, and it is not known what it took.
+    #[error("the report was not written to its end")]
+    Cut,
+}
+
+/// Gathers the first line.
+fn gather_rules<W: Write>(text: &mut String, rules: &Rules, out: &mut W) -> Result<(), Cut>
+    ensures { OnOk result (PassesOn (W.contents out.old) (string_bytes text.old) (W.contents out.new) (string_bytes text.new) (rules_line rules.now)) }
+{
+    make_room(text, out)?;
+    match push_rules(text, rules) {
+        Ok(()) => Ok(()),
+        Err(_) => Err(Cut),
+    }
+}
+
+/// Appends the line of a layer, by its place and its head.
+fn push_head(
+    text: &mut String,
+    names: &[&str],
+    rings: &[RingLack],
+    place: usize,
+    head: &LayerHead,
+) -> Result<(), AllocError>
+    ensures { OnOk result (string_bytes text.new ≡ string_bytes text.old ++ layer_line (name_of (map (λ name. name.now) names.now) head.now.file) (count_by (λ lack. lack.layer == place) rings.now) head.now.asked) }
+{
+    let lacking = rings_on(rings, place);
+    push_layer(text, name_of(names, head.file), lacking, head.asked)
+}
+
+/// Gathers the line of a layer, by its place and its head.
+fn gather_head<W: Write>(
+    text: &mut String,
+    names: &[&str],
+    rings: &[RingLack],
+    place: usize,
+    head: &LayerHead,
+    out: &mut W,
+) -> Result<(), Cut>
+    ensures { OnOk result (PassesOn (W.contents out.old) (string_bytes text.old) (W.contents out.new) (string_bytes text.new) (layer_line (name_of (map (λ name. name.now) names.now) head.now.file) (count_by (λ lack. lack.layer == place) rings.now) head.now.asked)) }
+{
+    make_room(text, out)?;
+    match push_head(text, names, rings, place, head) {
+        Ok(()) => Ok(()),
+        Err(_) => Err(Cut),
+    }
+}
+
+/// Gathers the line of a hole that lacks its ring, where it is shown.
+fn gather_ring<W: Write>(
+    text: &mut String,
+    names: &[&str],
+    lack: &RingLack,
+    shown: bool,
+    out: &mut W,
+) -> Result<(), Cut>
+    ensures { OnOk result (PassesOn (W.contents out.old) (string_bytes text.old) (W.contents out.new) (string_bytes text.new) (if shown then ring_line (map (λ name. name.now) names.now) lack.now else [])) }
+{
+    if !shown {
+        return Ok(());
+    }
+    make_room(text, out)?;
+    match push_ring(text, names, lack) {
+        Ok(()) => Ok(()),
+        Err(_) => Err(Cut),
+    }
+}
+
+/// Gathers the lines of the rings on a layer that are shown.
+fn gather_rings<W: Write>(
+    text: &mut String,
+    names: &[&str],
+    rings: &[RingLack],
+    layer: usize,
+    most: Option<usize>,
+    out: &mut W,
+) -> Result<(), Cut>
+    ensures { OnOk result (PassesOn (W.contents out.old) (string_bytes text.old) (W.contents out.new) (string_bytes text.new) (flat_map (λ finding. ring_line (map (λ name. name.now) names.now) finding.1) (filter (λ finding. is_shown most finding.0) (filter (λ finding. finding.1.layer == layer) (enumerate_from 0 rings.now))))) }
+{
+    for i in 0..rings.len() {
+        let shown = is_shown_on(&rings[i], layer, most, i as u128);
+        gather_ring(text, names, &rings[i], shown, out)?;
+    }
+    Ok(())
+}
+
+/// Gathers how many of the rings that are lacking on a layer are not shown.
+fn gather_rings_left<W: Write>(
+    text: &mut String,
+    rings: &[RingLack],
+    layer: usize,
+    most: Option<usize>,
+    out: &mut W,
+) -> Result<(), Cut>
+    ensures { OnOk result (PassesOn (W.contents out.old) (string_bytes text.old) (W.contents out.new) (string_bytes text.new) (more_line (count_by (λ finding. not (is_shown most finding.0)) (filter (λ finding. finding.1.layer == layer) (enumerate_from 0 rings.now))))) }
+{
+    make_room(text, out)?;
+    match push_more(text, rings_left(rings, layer, most)) {
+        Ok(()) => Ok(()),
+        Err(_) => Err(Cut),
+    }
+}
+
+/// Gathers a layer, by its place and its head.
+fn gather_layer<W: Write>(
+    text: &mut String,
+    names: &[&str],
+    rings: &[RingLack],
+    place: usize,
+    head: &LayerHead,
+    most: Option<usize>,
+    out: &mut W,
+) -> Result<(), Cut>
+    ensures { OnOk result (PassesOn (W.contents out.old) (string_bytes text.old) (W.contents out.new) (string_bytes text.new) (layer_text (map (λ name. name.now) names.now) most rings.now (place, head.now))) }
+{
+    gather_head(text, names, rings, place, head, out)?;
+    gather_rings(text, names, rings, place, most, out)?;
+    gather_rings_left(text, rings, place, most, out)
+}
+
+/// Gathers the layers.
+fn gather_layers<W: Write>(
+    text: &mut String,
+    names: &[&str],
+    layers: &[LayerHead],
+    rings: &[RingLack],
+    most: Option<usize>,
+    out: &mut W,
+) -> Result<(), Cut>
+    ensures { OnOk result (PassesOn (W.contents out.old) (string_bytes text.old) (W.contents out.new) (string_bytes text.new) (flat_map (layer_text (map (λ name. name.now) names.now) most rings.now) (enumerate_from 0 layers.now))) }
+{
+    for i in 0..layers.len() {
+        gather_layer(text, names, rings, i, &layers[i], most, out)?;
+    }
+    Ok(())
+}
+
+/// Gathers how many gaps are lacking.
+fn gather_gaps_line<W: Write>(text: &mut String, gaps: &[GapLack], out: &mut W) -> Result<(), Cut>
+    ensures { OnOk result (PassesOn (W.contents out.old) (string_bytes text.old) (W.contents out.new) (string_bytes text.new) (gaps_line (length gaps.now))) }
+{
+    make_room(text, out)?;
+    match push_gaps(text, gaps.len()) {
+        Ok(()) => Ok(()),
+        Err(_) => Err(Cut),
+    }
+}
+
+/// Gathers how many of the gaps that are lacking, behind so many rings, are not shown.
+fn gather_gaps_left<W: Write>(
+    text: &mut String,
+    gaps: &[GapLack],
+    rings: usize,
+    most: Option<usize>,
+    out: &mut W,
+) -> Result<(), Cut>
+    ensures { OnOk result (PassesOn (W.contents out.old) (string_bytes text.old) (W.contents out.new) (string_bytes text.new) (more_line (count_by (λ finding. not (is_shown most finding.0)) (enumerate_from rings gaps.now)))) }
+{
+    make_room(text, out)?;
+    match push_more(text, gaps_left(gaps, rings, most)) {
+        Ok(()) => Ok(()),
+        Err(_) => Err(Cut),
+    }
+}
+
+/// Gathers the line of two holes that lack their gap, where it is shown.
+fn gather_gap<W: Write>(
+    text: &mut String,
+    names: &[&str],
+    lack: &GapLack,
+    shown: bool,
+    out: &mut W,
+) -> Result<(), Cut>
+    ensures { OnOk result (PassesOn (W.contents out.old) (string_bytes text.old) (W.contents out.new) (string_bytes text.new) (if shown then gap_line (map (λ name. name.now) names.now) lack.now else [])) }
+{
+    if !shown {
+        return Ok(());
+    }
+    make_room(text, out)?;
+    match push_gap(text, names, lack) {
+        Ok(()) => Ok(()),
+        Err(_) => Err(Cut),
+    }
+}
+
+/// Gathers the lines of the gaps that are shown, behind so many rings.
+fn gather_gaps<W: Write>(
+    text: &mut String,
+    names: &[&str],
+    gaps: &[GapLack],
+    rings: usize,
+    most: Option<usize>,
+    out: &mut W,
+) -> Result<(), Cut>
+    ensures { OnOk result (PassesOn (W.contents out.old) (string_bytes text.old) (W.contents out.new) (string_bytes text.new) (flat_map (λ finding. gap_line (map (λ name. name.now) names.now) finding.1) (filter (λ finding. is_shown most finding.0) (enumerate_from rings gaps.now)))) }
+{
+    for i in 0..gaps.len() {
+        let shown = is_shown(most, rings as u128 + i as u128);
+        gather_gap(text, names, &gaps[i], shown, out)?;
+    }
+    Ok(())
+}
+
+/// Gathers the gaps.
+fn gather_all_gaps<W: Write>(
+    text: &mut String,
+    names: &[&str],
+    gaps: &[GapLack],
+    rings: usize,
+    most: Option<usize>,
+    out: &mut W,
+) -> Result<(), Cut>
+    ensures { OnOk result (PassesOn (W.contents out.old) (string_bytes text.old) (W.contents out.new) (string_bytes text.new) (gaps_text (map (λ name. name.now) names.now) most rings gaps.now)) }
+{
+    gather_gaps_line(text, gaps, out)?;
+    gather_gaps(text, names, gaps, rings, most, out)?;
+    gather_gaps_left(text, gaps, rings, most, out)
+}
+
+/// Gathers the rules and the findings.
+fn gather_findings<W: Write>(
+    text: &mut String,
+    names: &[&str],
+    telling: &Telling,
+    most: Option<usize>,
+    out: &mut W,
+) -> Result<(), Cut>
+    ensures { OnOk result (PassesOn (W.contents out.old) (string_bytes text.old) (W.contents out.new) (string_bytes text.new) (findings_text (map (λ name. name.now) names.now) telling.now most)) }
+{
+    let rings = telling.rings.as_slice();
+    gather_rules(text, &telling.rules, out)?;
+    gather_layers(text, names, &telling.layers, rings, most, out)?;
+    gather_all_gaps(text, names, &telling.gaps, rings.len(), most, out)
+}
+
+/// Gathers the line of a kind of cause.
+fn gather_kind<W: Write>(
+    text: &mut String,
+    rings: &[RingLack],
+    kind: Kind,
+    out: &mut W,
+) -> Result<(), Cut>
+    ensures { OnOk result (PassesOn (W.contents out.old) (string_bytes text.old) (W.contents out.new) (string_bytes text.new) (kind_line rings.now kind)) }
+{
+    make_room(text, out)?;
+    match push_count(text, kind, rings_by(rings, kind)) {
+        Ok(()) => Ok(()),
+        Err(_) => Err(Cut),
+    }
+}
+
+/// Gathers the lines of some kinds of causes.
+fn gather_kinds<W: Write>(
+    text: &mut String,
+    rings: &[RingLack],
+    kinds: &[Kind],
+    out: &mut W,
+) -> Result<(), Cut>
+    ensures { OnOk result (PassesOn (W.contents out.old) (string_bytes text.old) (W.contents out.new) (string_bytes text.new) (flat_map (kind_line rings.now) kinds.now)) }
+{
+    for kind in kinds {
+        gather_kind(text, rings, *kind, out)?;
+    }
+    Ok(())
+}
+
+/// Appends the lines of the least and the greatest lacks.
+fn push_all_lacks(text: &mut String, rings: &[RingLack], gaps: &[GapLack]) -> Result<(), AllocError>
+    ensures { OnOk result (string_bytes text.new ≡ string_bytes text.old ++ lacks_text rings.now gaps.now) }
+{
+    push_lacks(text, "rings lack ", ring_lacks(rings))?;
+    push_lacks(text, "gaps lack ", gap_lacks(gaps))
+}
+
+/// Gathers the lines of the least and the greatest lacks.
+fn gather_lacks<W: Write>(
+    text: &mut String,
+    rings: &[RingLack],
+    gaps: &[GapLack],
+    out: &mut W,
+) -> Result<(), Cut>
+    ensures { OnOk result (PassesOn (W.contents out.old) (string_bytes text.old) (W.contents out.new) (string_bytes text.new) (lacks_text rings.now gaps.now)) }
+{
+    make_room(text, out)?;
+    match push_all_lacks(text, rings, gaps) {
+        Ok(()) => Ok(()),
+        Err(_) => Err(Cut),
+    }
+}
+
+/// Gathers the line of a drill file whose coordinates seem to be off.
+fn gather_scale<W: Write>(
+    text: &mut String,
+    names: &[&str],
+    line: &ScaleLine,
+    out: &mut W,
+) -> Result<(), Cut>
+    ensures { OnOk result (PassesOn (W.contents out.old) (string_bytes text.old) (W.contents out.new) (string_bytes text.new) (scale_line (map (λ name. name.now) names.now) line.now)) }
+{
+    make_room(text, out)?;
+    match push_scale(text, names, line) {
+        Ok(()) => Ok(()),
+        Err(_) => Err(Cut),
+    }
+}
+
+/// Gathers the lines of the drill files whose coordinates seem to be off.
+fn gather_scales<W: Write>(
+    text: &mut String,
+    names: &[&str],
+    lines: &[ScaleLine],
+    out: &mut W,
+) -> Result<(), Cut>
+    ensures { OnOk result (PassesOn (W.contents out.old) (string_bytes text.old) (W.contents out.new) (string_bytes text.new) (flat_map (scale_line (map (λ name. name.now) names.now)) lines.now)) }
+{
+    for line in lines {
+        gather_scale(text, names, line, out)?;
+    }
+    Ok(())
+}
+
+/// Gathers why rings are lacking, how much is lacking, and what coordinates seem to be off.
+fn gather_causes<W: Write>(
+    text: &mut String,
+    names: &[&str],
+    telling: &Telling,
+    out: &mut W,
+) -> Result<(), Cut>
+    ensures { OnOk result (PassesOn (W.contents out.old) (string_bytes text.old) (W.contents out.new) (string_bytes text.new) (causes_text (map (λ name. name.now) names.now) telling.now)) }
+{
+    let rings = telling.rings.as_slice();
+    gather_kinds(text, rings, &KINDS, out)?;
+    gather_lacks(text, rings, &telling.gaps, out)?;
+    gather_scales(text, names, &telling.scales, out)
+}
+
+/// Appends the last lines.
+fn push_end(text: &mut String, telling: &Telling) -> Result<(), AllocError>
+    ensures { OnOk result (string_bytes text.new ≡ string_bytes text.old ++ last_lines telling.now) }
+{
+    let findings = telling.rings.len() as u128 + telling.gaps.len() as u128;
+    push_meets(text, &telling.meets)?;
+    push_last(text, findings)
+}
+
+/// Gathers the last lines, and writes what is left.
+fn end<W: Write>(text: &mut String, telling: &Telling, out: &mut W) -> Result<(), Cut>
+    ensures { OnOk result (Appends (W.contents out.old) (W.contents out.new) (string_bytes text.old ++ last_lines telling.now)) }
+{
+    match push_end(text, telling) {
+        Ok(()) => pass_on(text, out),
+        Err(_) => Err(Cut),
+    }
+}
+
+/// Prints what `text` holds, and the text of a report behind it.
+fn print_lines<W: Write>(
+    text: &mut String,
+    names: &[&str],
+    telling: &Telling,
+    most: Option<usize>,
+    out: &mut W,
+) -> Result<(), Cut>
+    ensures { OnOk result (Appends (W.contents out.old) (W.contents out.new) (string_bytes text.old ++ telling_text (map (λ name. name.now) names.now) telling.now most)) }
+{
+    gather_findings(text, names, telling, most, out)?;
+    gather_causes(text, names, telling, out)?;
+    end(text, telling, out)
+}
+
+/// How many bytes the longest name has.
+fn longest(names: &[&str]) -> usize {
+    let mut longest = 0;
+    for name in names {
+        longest = longest.max(name.len());
+    }
+    longest
+}
+
+/// An empty text with room for the lines that are gathered before they are written, with two names in each.
+fn room(alloc: Global, names: &[&str]) -> Result<String, AllocError>
+    ensures { IfOk result (λ text. string_bytes text ≡ []) }
+{
+    let mut text = buffer(alloc)?;
+    let more = longest(names).saturating_mul(2);
+    text.reserve(text.capacity().saturating_add(more))?;
+    Ok(text)
+}
+
+/// Prints the text of a report for people, by the names of the files of the package, with at most so many findings. It is written
+/// in parts: what they are gathered in is taken before the first of them is written, so no more memory is taken for a long report
+/// than for a short one.
+///
+/// # Errors
+///
+/// [`PrintFault::Memory`] where there is no memory, and then nothing was written; [`PrintFault::Cut`] where the writer fails.
+pub fn print_telling<W: Write>(
+    alloc: Global,
+    names: &[&str],
+    telling: &Telling,
+    most: Option<usize>,
+    out: &mut W,
+) -> Result<(), PrintFault>
+    ensures ok { OnOk result (Appends (W.contents out.old) (W.contents out.new) (telling_text (map (λ name. name.now) names.now) telling.now most)) }
+    ensures memory { IfErr result (λ e. e ≡ PrintFault.Memory → W.contents out.new ≡ W.contents out.old) }
+{
+    let Ok(mut text) = room(alloc, names) else {
+        return Err(PrintFault::Memory);
+    };
+    match print_lines(&mut text, names, telling, most, out) {
+        Ok(()) => Ok(()),
+        Err(_) => Err(PrintFault::Cut),
+    }
+}
+
+/// The text of a report for people, by the names of the files of the package, with at most so many findings.
+///
+/// # Errors
+///
+/// An `AllocError` where there is no memory for it.
+pub fn write_telling(
+    alloc: Global,
+    names: &[&str],
+    telling: &Telling,
+    most: Option<usize>,
+) -> Result<Vec<u8>, AllocError>
+    ensures { IfOk result (λ text. text.items ≡ telling_text (map (λ name. name.now) names.now) telling.now most) }
+{
+    let mut text = Vec::new(alloc);
+    match print_telling(alloc, names, telling, most, &mut text) {
+        Ok(()) => Ok(text),
+        Err(_) => Err(AllocError),
+    }
+}

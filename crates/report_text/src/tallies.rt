@@ -1,0 +1,131 @@
+//! How many findings there are, which of them are shown, and how much they lack.
+
+ghost use Rattle.std.specs.Prelude.{◌≡◌, ◌≤◌, ◌==◌, ◌&&◌, if◌then◌else◌, map, not};
+ghost use Rattle.std.specs.List.{count_by, enumerate_from, filter, filter_map};
+ghost use Rattle.report_text.specs.Causes.{is_of_kind};
+ghost use Rattle.report_text.specs.Inner.{widened};
+ghost use Rattle.report_text.specs.Texts.{is_shown, lack_of, least_and_greatest};
+
+use crate::kind::{Kind, is_of_kind};
+use crate::{GapLack, RingCause, RingLack};
+
+/// Whether a finding at this position of the whole report is shown.
+pub(crate) fn is_shown(most: Option<usize>, position: u128) -> bool
+    ensures { result ≡ is_shown most position }
+{
+    match most {
+        Some(most) => position < most as u128,
+        None => true,
+    }
+}
+
+/// How many rings are lacking on a layer.
+pub(crate) fn rings_on(rings: &[RingLack], layer: usize) -> usize
+    ensures { result ≡ count_by (λ lack. lack.layer == layer) rings.now }
+{
+    rings.iter().filter(|lack| lack.layer == layer).count()
+}
+
+/// How many rings are lacking by a kind.
+pub(crate) fn rings_by(rings: &[RingLack], kind: Kind) -> usize
+    ensures { result ≡ count_by (λ lack. is_of_kind kind lack.cause) rings.now }
+{
+    rings
+        .iter()
+        .filter(|lack| is_of_kind(kind, &lack.cause))
+        .count()
+}
+
+/// Whether a ring at this position of the whole report is lacking on a layer, and shown.
+pub(crate) fn is_shown_on(
+    lack: &RingLack,
+    layer: usize,
+    most: Option<usize>,
+    position: u128,
+) -> bool
+    ensures { result ≡ ((lack.now.layer == layer) && is_shown most position) }
+{
+    lack.layer == layer && is_shown(most, position)
+}
+
+/// Whether a ring at this position of the whole report is lacking on a layer, and not shown.
+fn is_left_on(lack: &RingLack, layer: usize, most: Option<usize>, position: u128) -> bool
+    ensures { result ≡ ((lack.now.layer == layer) && not (is_shown most position)) }
+{
+    lack.layer == layer && !is_shown(most, position)
+}
+
+/// One where a test passes, else none.
+fn one_if(passes: bool) -> usize
+    ensures value { result ≡ (if passes then 1 else 0) }
+    ensures within { result ≤ 1 }
+{
+    if passes { 1 } else { 0 }
+}
+
+/// How many of the rings that are lacking on a layer are not shown.
+pub(crate) fn rings_left(rings: &[RingLack], layer: usize, most: Option<usize>) -> usize
+    ensures { result ≡ count_by (λ finding. not (is_shown most finding.0)) (filter (λ finding. finding.1.layer == layer) (enumerate_from 0 rings.now)) }
+{
+    let mut left = 0;
+    for i in 0..rings.len() {
+        left += one_if(is_left_on(&rings[i], layer, most, i as u128));
+    }
+    left
+}
+
+/// How many of the gaps that are lacking, behind so many rings, are not shown.
+pub(crate) fn gaps_left(gaps: &[GapLack], rings: usize, most: Option<usize>) -> usize
+    ensures { result ≡ count_by (λ finding. not (is_shown most finding.0)) (enumerate_from rings gaps.now) }
+{
+    let mut left = 0;
+    for i in 0..gaps.len() {
+        left += one_if(!is_shown(most, rings as u128 + i as u128));
+    }
+    left
+}
+
+/// What a ring lacks, where its hole lies in a pad.
+fn lack_of(cause: &RingCause) -> Option<i64>
+    ensures { result ≡ lack_of cause.now }
+{
+    match cause {
+        RingCause::Small(place) | RingCause::Off(place) => Some(place.lack),
+        RingCause::Other { .. } | RingCause::Nothing | RingCause::Oblique => None,
+    }
+}
+
+/// The least and the greatest of some lengths, and of one more where there is one.
+fn widened(lacks: Option<(i64, i64)>, lack: Option<i64>) -> Option<(i64, i64)>
+    ensures { result ≡ widened lacks lack }
+{
+    let Some(lack) = lack else {
+        return lacks;
+    };
+    match lacks {
+        Some((least, greatest)) => Some((least.min(lack), greatest.max(lack))),
+        None => Some((lack, lack)),
+    }
+}
+
+/// The least and the greatest lack of rings.
+pub(crate) fn ring_lacks(rings: &[RingLack]) -> Option<(i64, i64)>
+    ensures { result ≡ least_and_greatest (filter_map (λ lack. lack_of lack.cause) rings.now) }
+{
+    let mut lacks = None;
+    for i in 0..rings.len() {
+        lacks = widened(lacks, lack_of(&rings[i].cause));
+    }
+    lacks
+}
+
+/// The least and the greatest lack of gaps.
+pub(crate) fn gap_lacks(gaps: &[GapLack]) -> Option<(i64, i64)>
+    ensures { result ≡ least_and_greatest (map (λ lack. lack.lack) gaps.now) }
+{
+    let mut lacks = None;
+    for i in 0..gaps.len() {
+        lacks = widened(lacks, Some(gaps[i].lack));
+    }
+    lacks
+}
