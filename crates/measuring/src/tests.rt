@@ -168,27 +168,34 @@ fn lines_of_gaps(rt: HostRuntime) -> Result<(), Failure> {
     Ok(())
 }
 
+/// The first scale of a package of two layers with a drill file between them.
+fn scale_of(
+    rt: HostRuntime,
+    first: &[u8],
+    role: Role,
+    second: &[u8],
+) -> Result<Option<ScaleLine>, Failure> {
+    let files = [
+        file(Role::Copper, "first", first),
+        file(role, "drill", TENTHS),
+        file(Role::Copper, "second", second),
+    ];
+    let measure = measure_bytes(rt.alloc(), &files).ok().ok_or("no measure")?;
+    Ok(measure.scales.first().copied())
+}
+
 /// The scale of a plated file is told by the pads of the first layer.
 #[test]
 fn a_scale(rt: HostRuntime) -> Result<(), Failure> {
-    let alloc = rt.alloc();
     let tenth = ScaleLine {
         drill: 1,
         bare: 3,
         factor: Factor::Ten,
         then: 0,
     };
-    let none = file(Role::Copper, "none", NO_FLASH);
-    let discs = file(Role::Copper, "discs", DISCS);
-    for (first, role, second, told) in [
-        (discs, Role::Plated, none, Some(tenth)),
-        (discs, Role::Unplated, none, None),
-        (none, Role::Plated, discs, None),
-    ] {
-        let files = [first, file(role, "drill", TENTHS), second];
-        let measure = measure_bytes(alloc, &files).ok().ok_or("no measure")?;
-        assert_eq!(rt; measure.scales.first().copied(), told);
-    }
+    assert_eq!(rt; scale_of(rt, DISCS, Role::Plated, NO_FLASH)?, Some(tenth));
+    assert_eq!(rt; scale_of(rt, DISCS, Role::Unplated, NO_FLASH)?, None);
+    assert_eq!(rt; scale_of(rt, NO_FLASH, Role::Plated, DISCS)?, None);
     Ok(())
 }
 

@@ -1,5 +1,5 @@
 -- What the parts of a check or a measure say together.
-use Rattle.std.proofs.Common.{◌≡◌, ◌≢◌, ◌≤◌, ℕ, List, Option, Ok, length}
+use Rattle.std.proofs.Common.{◌≡◌, ◌≢◌, ◌≤◌, ℕ, List, Option, Ok, length, subst, sym}
 use Rattle.grid_units.specs.Holes.{GridRules}
 use Rattle.grid_units.specs.declared.fault.Fault.{Fault}
 use Rattle.manifest.specs.declared.Entry.{Entry}
@@ -29,17 +29,17 @@ measured all before after ended.LoaderFailed h = cc (h (λ x. cc x) (λ x. cc x)
 measured all before after ended.OutOfMemory h = tt
 measured all before after ended.WriterFailed h = tt
 
+-- what holds of a refusal, and where memory or the writer failed, holds of an end that is else a refusal
+refused_by : (P : Ended → Type 0) → P (ended.Said status.Refused) → P ended.OutOfMemory → P ended.WriterFailed → (e : Ended) → (e ≢ ended.WriterFailed → e ≢ ended.OutOfMemory → e ≡ ended.Said status.Refused) → P e
+refused_by P refused memory writer (ended.Said s) h = subst P (sym (h (λ x. cc x) (λ x. cc x))) refused
+refused_by P refused memory writer ended.LoaderFailed h = subst P (sym (h (λ x. cc x) (λ x. cc x))) refused
+refused_by P refused memory writer ended.OutOfMemory h = memory
+refused_by P refused memory writer ended.WriterFailed h = writer
+
 -- a file is refused
 pub refused_file : (all : List Source) (before after : Option (List ℕ)) (fault : ℕ × Fault) (e : Ended) → IsFirstRefused all fault.0 fault.1
     → (e ≢ ended.WriterFailed → e ≢ ended.OutOfMemory → e ≡ ended.Said status.Refused) → AnsweredMeasure all before after e
-refused_file all before after fault (ended.Said status.Pass) a h = cc (h (λ x. cc x) (λ x. cc x))
-refused_file all before after fault (ended.Said status.Findings) a h = cc (h (λ x. cc x) (λ x. cc x))
-refused_file all before after fault (ended.Said status.Refused) a h = (fault, a)
-refused_file all before after fault (ended.Said status.Usage) a h = cc (h (λ x. cc x) (λ x. cc x))
-refused_file all before after fault (ended.Said status.Device) a h = cc (h (λ x. cc x) (λ x. cc x))
-refused_file all before after fault ended.LoaderFailed a h = cc (h (λ x. cc x) (λ x. cc x))
-refused_file all before after fault ended.OutOfMemory a h = tt
-refused_file all before after fault ended.WriterFailed a h = tt
+refused_file all before after fault e a h = refused_by (AnsweredMeasure all before after) (fault, a) tt tt e h
 
 -- what is said of files at hand does not end by the loader
 measured_cause : (all : List Source) (before after : Option (List ℕ)) (e : Ended) (old new : ℕ) → AnsweredMeasure all before after e → HasCause old new e

@@ -1,6 +1,6 @@
 //! What is told of the holes that lack their gap.
 
-ghost use Rattle.std.specs.Prelude.{◌≡◌, ◌<◌, ◌-ℤ◌, IfOk, OnOk, length, pos};
+ghost use Rattle.std.specs.Prelude.{◌≡◌, ◌<◌, ◌≤ℤ◌, ◌-ℤ◌, IfOk, OnOk, length, neg_ℤ, pos};
 ghost use Rattle.std.specs.List.{All, AllZip, filter};
 ghost use Rattle.ring_rules.specs.Passing.{NamesPlaces};
 ghost use Rattle.telling.specs.Inner.Adding.{Adds};
@@ -14,19 +14,29 @@ use report_text::GapLack;
 use ring_rules::Finding;
 use std::alloc::{AllocError, Global};
 
+/// What a gap lacks of the one that is asked.
+fn lack_of(rules: Rules, gap: i64) -> i64
+    requires least { neg_ℤ (pos 10000000000000) ≤ℤ gap }
+    requires most { gap ≤ℤ pos 30000000000000 }
+    ensures { result ≡ pos rules.gap -ℤ gap }
+{
+    rules.gap() - gap
+}
+
 /// What is told of two holes that lack their gap.
 fn gap_lack(board: &Board, first: usize, second: usize, rules: Rules) -> GapLack
     requires first { first < length board.now.holes }
     requires second { second < length board.now.holes }
     ensures { TellsGapOf board.now rules.gap first second result }
 {
-    let holes = board.holes();
-    let gap = gap_between(&holes[first].hole, &holes[second].hole);
+    let first = hole_at(board, first);
+    let second = hole_at(board, second);
+    let gap = gap_between(&first.hole, &second.hole);
     GapLack {
-        first: hole_at(board, first),
-        second: hole_at(board, second),
+        first,
+        second,
         gap,
-        lack: rules.gap() - gap,
+        lack: lack_of(rules, gap),
     }
 }
 

@@ -1,6 +1,6 @@
 //! What is told of the holes that lack their rings.
 
-ghost use Rattle.std.specs.Prelude.{◌≡◌, ◌<◌, IfOk, IfSome, OnOk, length, not};
+ghost use Rattle.std.specs.Prelude.{◌≡◌, ◌<◌, ◌++◌, ◌∷◌, [], IfOk, IfSome, OnOk, length, not};
 ghost use Rattle.std.specs.List.{All, AllZip, filter};
 ghost use Rattle.ring_rules.specs.Passing.{NamesPlaces};
 ghost use Rattle.telling.specs.Inner.Adding.{Adds, IsKnownAt};
@@ -85,6 +85,29 @@ fn ring_lack(flashed: &FlashedBoard, known: &Known, hole: usize, rules: Rules) -
     }
 }
 
+/// Appends one item more.
+fn add<T: Copy>(all: &mut Vec<T>, item: T) -> Result<(), AllocError>
+    ensures { OnOk result (all.new.items ≡ all.old.items ++ item ∷ []) }
+{
+    all.push(item)?;
+    Ok(())
+}
+
+/// Tells of a hole that lacks its ring on a layer of which it is known what must be, behind the others.
+fn push_known(
+    flashed: &FlashedBoard,
+    known: &Known,
+    hole: usize,
+    rules: Rules,
+    told: &mut Vec<RingLack>,
+) -> Result<(), AllocError>
+    requires known { IsKnownAt flashed.now known.now }
+    requires hole { hole < length flashed.now.board.holes }
+    ensures { OnOk result ((lack : RingLack) × TellsRingAt flashed.now rules.ring known.now.layer hole lack × (told.new.items ≡ told.old.items ++ lack ∷ [])) }
+{
+    add(told, ring_lack(flashed, known, hole, rules))
+}
+
 /// Tells of a hole that lacks its ring on a layer, behind the others.
 fn push_at(
     alloc: Global,
@@ -98,10 +121,10 @@ fn push_at(
     requires known { IfSome known (IsKnownAt flashed.now) }
     requires hole { hole < length flashed.now.board.holes }
     ensures known { IfOk result (λ some. IfSome some (IsKnownAt flashed.now)) }
-    ensures adds { IfOk result (λ some. (lack : RingLack) × TellsRingAt flashed.now rules.ring layer hole lack × (told.new.items ≡ told.old.items ++ lack ∷ [])) }
+    ensures adds { OnOk result ((lack : RingLack) × TellsRingAt flashed.now rules.ring layer hole lack × (told.new.items ≡ told.old.items ++ lack ∷ [])) }
 {
     let known = turned_to(alloc, flashed, known, layer)?;
-    told.push(ring_lack(flashed, &known, hole, rules))?;
+    push_known(flashed, &known, hole, rules, told)?;
     Ok(Some(known))
 }
 
@@ -117,7 +140,7 @@ fn push(
     requires known { IfSome known (IsKnownAt flashed.now) }
     requires places { NamesPlaces (length flashed.now.board.layers) (length flashed.now.board.holes) finding }
     ensures known { IfOk result (λ some. IfSome some (IsKnownAt flashed.now)) }
-    ensures adds { IfOk result (λ some. Adds (not (is_gap finding)) (TellsRing flashed.now rules.ring) finding told.old.items told.new.items) }
+    ensures adds { OnOk result (Adds (not (is_gap finding)) (TellsRing flashed.now rules.ring) finding told.old.items told.new.items) }
 {
     match finding {
         Finding::Ring { layer, hole } | Finding::Oblique { layer, hole } => {

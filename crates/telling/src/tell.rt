@@ -30,6 +30,13 @@ fn findings_on(alloc: Global, board: &Board, rules: Rules) -> Result<Vec<Finding
     board.findings(alloc, rules)
 }
 
+/// The board alone.
+fn board_of(flashed: &FlashedBoard) -> &Board
+    ensures { result.now ≡ flashed.now.board }
+{
+    &flashed.board
+}
+
 /// What is told of a board under these rules.
 ///
 /// # Errors
@@ -42,13 +49,14 @@ pub fn tell_board(
 ) -> Result<Telling, AllocError>
     ensures { IfOk result (IsTelling rules flashed.now) }
 {
-    let findings = findings_on(alloc, &flashed.board, rules)?;
-    let measure = measure_board(alloc, &flashed.board)?;
+    let board = board_of(flashed);
+    let findings = findings_on(alloc, board, rules)?;
+    let measure = measure_board(alloc, board)?;
     Ok(Telling {
         rules,
-        layers: heads(alloc, &flashed.board)?,
+        layers: heads(alloc, board)?,
         rings: tell_rings(alloc, flashed, &findings, rules)?,
-        gaps: tell_gaps(alloc, &flashed.board, &findings, rules)?,
+        gaps: tell_gaps(alloc, board, &findings, rules)?,
         scales: measure.scales,
         meets: measure.meets,
     })

@@ -12,7 +12,7 @@ loop-finding-preserved c =
     let i = c.loop-finding.finding-index in
     let all = c.args.findings.now in
     record {
-      known = c.in_ok-push.ensures.known;
+      known = c.in_ok-known.ensures.known;
       told = subst (λ (xs : List Finding). AllZip (TellsRing c.args.flashed.now c.args.rules.ring) (filter (λ finding. not (is_gap finding)) xs) c.push.new.told.items) (sym (take_more all i _ c.loop-finding-test.true))
-          (added (TellsRing c.args.flashed.now c.args.rules.ring) (λ finding. not (is_gap finding)) (take i all) _ c.loop-finding.told.items c.push.new.told.items c.loop-finding.invariant.told c.in_ok-push.ensures.adds);
+          (added (TellsRing c.args.flashed.now c.args.rules.ring) (λ finding. not (is_gap finding)) (take i all) _ c.loop-finding.told.items c.push.new.told.items c.loop-finding.invariant.told c.in_ok-known.ensures.adds);
     }
