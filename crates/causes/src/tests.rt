@@ -12,14 +12,10 @@ fn point(x: i64, y: i64) -> Result<Point, Fail> {
     Ok(Point::new(x, y).ok_or("point")?)
 }
 
-/// A plated hole.
-fn hole(x: i64, y: i64, radius: i64) -> Result<Drilled, Fail> {
+/// A round hole.
+fn hole(x: i64, y: i64, radius: i64) -> Result<Hole, Fail> {
     let at = point(x, y)?;
-    Ok(Drilled {
-        hole: Hole::new(at, at, radius).ok_or("hole")?,
-        plated: true,
-        span: None,
-    })
+    Ok(Hole::new(at, at, radius).ok_or("hole")?)
 }
 
 fn disc(x: i64, y: i64, radius: i64) -> Result<Flash, Fail> {
@@ -63,13 +59,17 @@ fn told_by(cause: RingCause) -> (&'static str, usize, i64, i64) {
 fn told_of(
     rt: HostRuntime,
     flashes: &[Flash],
-    drilled: Drilled,
+    hole: Hole,
     ring: i64,
 ) -> Result<(&'static str, usize, i64, i64), Fail> {
     let Ok(rules) = Rules::new(ring, 1) else {
         return Err(Fail::from("rules"));
     };
-    let holes = [drilled];
+    let holes = [Drilled {
+        hole,
+        plated: true,
+        span: None,
+    }];
     let known = LayerCauses::new(rt.alloc(), flashes, &holes)?;
     Ok(told_by(known.cause(flashes, &holes, 0, rules)))
 }
@@ -151,13 +151,9 @@ fn a_hole_in_nothing(rt: HostRuntime) -> Result<(), Fail> {
     Ok(())
 }
 
-/// A plated slot.
-fn slot(from: Point, to: Point) -> Result<Drilled, Fail> {
-    Ok(Drilled {
-        hole: Hole::new(from, to, 200_000_000).ok_or("hole")?,
-        plated: true,
-        span: None,
-    })
+/// A slot.
+fn slot(from: Point, to: Point) -> Result<Hole, Fail> {
+    Ok(Hole::new(from, to, 200_000_000).ok_or("hole")?)
 }
 
 /// What is told of a slot that lies along no axis.
