@@ -11,8 +11,13 @@ use ring_rules::{Drilled, Finding};
 use std::test::Fail;
 
 /// The point at these coordinates, in pm.
-fn at(x: i64, y: i64) -> Point {
-    Point::new(x, y).unwrap()
+fn at(x: i64, y: i64) -> Result<Point, Fail> {
+    Ok(Point::new(x, y).ok_or("point")?)
+}
+
+/// The hole between two points.
+fn hole(from: Point, to: Point, radius: i64) -> Result<Hole, Fail> {
+    Ok(Hole::new(from, to, radius).ok_or("hole")?)
 }
 
 /// A pen of a page whose unit is 0.4256 mm, with a rule of 0.1 mm.
@@ -23,11 +28,11 @@ fn pen() -> Pen {
     }
 }
 
-/// A plated hole.
-fn drilled(from: Point, to: Point, radius: i64) -> Drilled {
+/// A hole of every layer.
+fn drilled(hole: Hole, plated: bool) -> Drilled {
     Drilled {
-        hole: Hole::new(from, to, radius).unwrap(),
-        plated: true,
+        hole,
+        plated,
         span: None,
     }
 }
@@ -47,9 +52,9 @@ fn have_paths(rt: HostRuntime, pads: &[Pad], text: &str) -> Result<bool, Fail> {
 #[test]
 fn pads_of_one_kind_and_size_are_one_path(rt: HostRuntime) -> Result<(), Fail> {
     let discs = [
-        Pad::Disc(Disc::new(at(157_250_000_000, -102_450_000_000), 250_000_000).unwrap()),
-        Pad::Disc(Disc::new(at(151_500_000_000, -81_500_000_000), 250_000_000).unwrap()),
-        Pad::Disc(Disc::new(at(153_080_000_000, -91_450_000_000), 300_000_000).unwrap()),
+        Pad::Disc(Disc::new(at(157_250_000_000, -102_450_000_000)?, 250_000_000).unwrap()),
+        Pad::Disc(Disc::new(at(151_500_000_000, -81_500_000_000)?, 250_000_000).unwrap()),
+        Pad::Disc(Disc::new(at(153_080_000_000, -91_450_000_000)?, 300_000_000).unwrap()),
     ];
     assert!(rt;
         have_paths(
@@ -60,13 +65,13 @@ fn pads_of_one_kind_and_size_are_one_path(rt: HostRuntime) -> Result<(), Fail> {
     );
     let rects = [
         Pad::Rect(Rect::new(
-            at(115_570_000_000, -119_380_000_000),
+            at(115_570_000_000, -119_380_000_000)?,
             800_000_000,
             1_200_000_000,
         )
         .unwrap()),
-        Pad::Obround(Obround::new(at(0, 0), 800_000_000, 500_000_000).unwrap()),
-        Pad::Obround(Obround::new(at(0, 0), 500_000_000, 800_000_000).unwrap()),
+        Pad::Obround(Obround::new(at(0, 0)?, 800_000_000, 500_000_000).unwrap()),
+        Pad::Obround(Obround::new(at(0, 0)?, 500_000_000, 800_000_000).unwrap()),
     ];
     assert!(rt;
         have_paths(
@@ -81,7 +86,7 @@ fn pads_of_one_kind_and_size_are_one_path(rt: HostRuntime) -> Result<(), Fail> {
 #[test]
 fn crosses_have_two_lines(rt: HostRuntime) -> Result<(), Fail> {
     let mut written = String::new(rt.alloc());
-    push_cross(&mut written, &pen(), at(150_400_000_000, -96_300_000_000))?;
+    push_cross(&mut written, &pen(), at(150_400_000_000, -96_300_000_000)?)?;
     assert_eq!(rt;
         written.as_str(),
         "M150.258133334 96.3h0.283733332M150.4 96.158133334v0.283733332"
@@ -92,18 +97,14 @@ fn crosses_have_two_lines(rt: HostRuntime) -> Result<(), Fail> {
 #[test]
 fn holes_are_circles_and_slots(rt: HostRuntime) -> Result<(), Fail> {
     let mut written = String::new(rt.alloc());
-    let round = at(142_290_000_000, -100_250_000_000);
-    push_hole(&mut written, &pen(), &drilled(round, round, 150_000_000))?;
-    let bare = Drilled {
-        plated: false,
-        ..drilled(round, round, 150_000_000)
-    };
-    push_hole(&mut written, &pen(), &bare)?;
-    let (from, to) = (
-        at(148_750_000_000, -109_250_000_000),
-        at(151_250_000_000, -109_250_000_000),
-    );
-    push_hole(&mut written, &pen(), &drilled(from, to, 750_000_000))?;
+    let centre = at(142_290_000_000, -100_250_000_000)?;
+    let round = hole(centre, centre, 150_000_000)?;
+    let from = at(148_750_000_000, -109_250_000_000)?;
+    let to = at(151_250_000_000, -109_250_000_000)?;
+    let slot = hole(from, to, 750_000_000)?;
+    push_hole(&mut written, &pen(), &drilled(round, true))?;
+    push_hole(&mut written, &pen(), &drilled(round, false))?;
+    push_hole(&mut written, &pen(), &drilled(slot, true))?;
     assert_eq!(rt;
         written.as_str(),
         "<circle class=\"plated\" cx=\"142.29\" cy=\"100.25\" r=\"0.15\" stroke-width=\"0.0375\"/>\n<circle class=\"unplated\" cx=\"142.29\" cy=\"100.25\" r=\"0.15\" stroke-width=\"0.0375\"/>\n<path class=\"rim\" stroke-width=\"1.5\" d=\"M148.75 109.25L151.25 109.25\"/>\n<path class=\"slot\" stroke-width=\"1.41488\" d=\"M148.75 109.25L151.25 109.25\"/>\n"
@@ -114,10 +115,10 @@ fn holes_are_circles_and_slots(rt: HostRuntime) -> Result<(), Fail> {
 #[test]
 fn rings_have_marks_and_numbers(rt: HostRuntime) -> Result<(), Fail> {
     let mut written = String::new(rt.alloc());
-    let centre = at(143_745_000_000, -99_547_000_000);
+    let centre = at(143_745_000_000, -99_547_000_000)?;
     let lack = Lack::Ring {
         number: 1,
-        hole: Hole::new(centre, centre, 150_000_000).unwrap(),
+        hole: hole(centre, centre, 150_000_000)?,
     };
     push_lack(&mut written, &pen(), &lack)?;
     push_mark(&mut written, &pen(), &lack)?;
@@ -132,8 +133,8 @@ fn rings_have_marks_and_numbers(rt: HostRuntime) -> Result<(), Fail> {
 #[test]
 fn gaps_are_lines_from_middle_to_middle(rt: HostRuntime) -> Result<(), Fail> {
     let mut written = String::new(rt.alloc());
-    let slot = Hole::new(at(0, 0), at(2_000_000_000, 0), 500_000_000).unwrap();
-    let round = Hole::new(at(0, 1_000_000_000), at(0, 1_000_000_000), 500_000_000).unwrap();
+    let slot = hole(at(0, 0)?, at(2_000_000_000, 0)?, 500_000_000)?;
+    let round = hole(at(0, 1_000_000_000)?, at(0, 1_000_000_000)?, 500_000_000)?;
     let lack = Lack::Gap {
         number: 1,
         first: slot,
@@ -155,29 +156,35 @@ fn names_have_entities(rt: HostRuntime) -> Result<(), Fail> {
 }
 
 /// A pad, a flash that is no pad, and a pad again.
-fn flashes() -> [Flash; 3] {
-    [
+fn flashes() -> Result<[Flash; 3], Fail> {
+    let first = at(0, 0)?;
+    let second = at(1_000_000_000, 0)?;
+    let third = at(2_000_000_000, 0)?;
+    Ok([
         Flash {
-            at: at(0, 0),
-            what: What::Pad(Pad::Rect(Rect::new(at(0, 0), 325_000_000, 325_000_000).unwrap())),
+            at: first,
+            what: What::Pad(Pad::Rect(Rect::new(first, 325_000_000, 325_000_000).unwrap())),
         },
         Flash {
-            at: at(1_000_000_000, 0),
+            at: second,
             what: What::Other(Why::Macro),
         },
         Flash {
-            at: at(2_000_000_000, 0),
-            what: What::Pad(Pad::Disc(Disc::new(at(2_000_000_000, 0), 300_000_000).unwrap())),
+            at: third,
+            what: What::Pad(Pad::Disc(Disc::new(third, 300_000_000).unwrap())),
         },
-    ]
+    ])
 }
 
-#[test]
-fn rings_stand_in_their_panel_and_gaps_in_each(rt: HostRuntime) -> Result<(), Fail> {
-    let holes = [
-        drilled(at(0, 0), at(0, 0), 200_000_000),
-        drilled(at(1, 0), at(1, 0), 200_000_000),
-    ];
+/// How many pads, crosses, holes and findings stand in the panel of a layer, by two holes that lack a ring each, on one layer each, and the gap.
+fn counts(
+    rt: HostRuntime,
+    layer: usize,
+    first: Hole,
+    second: Hole,
+) -> Result<(usize, usize, usize, usize), Fail> {
+    let flashes = flashes()?;
+    let holes = [drilled(first, true), drilled(second, true)];
     let findings = [
         Finding::Ring { layer: 0, hole: 0 },
         Finding::Ring { layer: 1, hole: 1 },
@@ -186,14 +193,21 @@ fn rings_stand_in_their_panel_and_gaps_in_each(rt: HostRuntime) -> Result<(), Fa
             second: 1,
         },
     ];
-    let top = scene_of(rt.alloc(), 0, &flashes(), &holes, &findings)?;
-    assert_eq!(rt; top.pads.len(), 2);
-    assert_eq!(rt; top.crosses.len(), 1);
-    assert_eq!(rt; top.holes.len(), 2);
-    assert_eq!(rt; top.lacks.len(), 2);
-    assert!(rt; matches!(top.lacks[0], Lack::Ring { number: 1, .. }));
-    assert!(rt; matches!(top.lacks[1], Lack::Gap { number: 3, .. }));
-    let bottom = scene_of(rt.alloc(), 1, &flashes(), &holes, &findings)?;
-    assert!(rt; matches!(bottom.lacks[0], Lack::Ring { number: 2, .. }));
+    let scene = scene_of(rt.alloc(), layer, &flashes, &holes, &findings)?;
+    Ok((
+        scene.pads.len(),
+        scene.crosses.len(),
+        scene.holes.len(),
+        scene.lacks.len(),
+    ))
+}
+
+#[test]
+fn rings_stand_in_their_panel_and_gaps_in_each(rt: HostRuntime) -> Result<(), Fail> {
+    let first = hole(at(0, 0)?, at(0, 0)?, 200_000_000)?;
+    let second = hole(at(1, 0)?, at(1, 0)?, 200_000_000)?;
+    assert_eq!(rt; counts(rt, 0, first, second)?, (2, 1, 2, 2));
+    assert_eq!(rt; counts(rt, 1, first, second)?, (2, 1, 2, 2));
+    assert_eq!(rt; counts(rt, 2, first, second)?, (2, 1, 2, 1));
     Ok(())
 }
