@@ -275,6 +275,14 @@ fn unseen(cause: RingCause) -> Result<RingLack, Fail> {
     })
 }
 
+/// A drill file at a tenth of its size.
+const TENTH: ScaleLine = ScaleLine {
+    drill: 1,
+    bare: 3,
+    factor: Factor::Ten,
+    then: 0,
+};
+
 #[test]
 fn causes_and_scales_are_told(rt: HostRuntime) -> Result<(), Fail> {
     let board = Meets {
@@ -301,12 +309,7 @@ fn causes_and_scales_are_told(rt: HostRuntime) -> Result<(), Fail> {
     telling.rings.push(unseen(RingCause::Off(off))?)?;
     let small = in_disc(1, (0, 0), 250_000_000, 99_394_596, 50_605_404)?;
     telling.rings.push(unseen(RingCause::Small(small))?)?;
-    telling.scales.push(ScaleLine {
-        drill: 1,
-        bare: 3,
-        factor: Factor::Ten,
-        then: 0,
-    })?;
+    telling.scales.push(TENTH)?;
     let text = "ring 0.15, gap 0.25\n\
         0 gaps lacking\n\
         1 pad too small: the pad's own radius or half side is less than the hole's radius and the ring\n\
