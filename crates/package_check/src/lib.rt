@@ -4,10 +4,10 @@
 mod board;
 mod contents;
 pub mod laws;
+mod lines;
 mod package;
 mod package_reader;
 mod pieces;
-mod printing;
 mod readers;
 mod report;
 mod streaming;

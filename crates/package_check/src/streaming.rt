@@ -7,7 +7,7 @@ ghost use Rattle.package_check.specs.Package.{sources_of};
 ghost use Rattle.printing.specs.Parts.{PassesOn};
 ghost use Rattle.package_check.specs.Texts.{file_lines, finding_line, last_line, report_text, rules_line, text_of};
 
-use crate::printing::{push_files, push_finding, push_last, push_rules};
+use crate::lines::{push_files, push_finding, push_last, push_rules};
 use crate::{File, FileSum, Report};
 use printing::{buffer, make_room, pass_on};
 use ring_rules::Finding;

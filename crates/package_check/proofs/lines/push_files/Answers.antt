@@ -4,7 +4,7 @@ use Rattle.package_check.specs.declared.FileSum.{FileSum}
 use Rattle.package_check.specs.Texts.{file_line}
 use Rattle.package_check.proofs.Lining.{line_more, lines_end, sums_end}
 use Rattle.package_check.proofs.Joining.{no_piece}
-use Rattle.package_check.proofs.printing.push_files.Goals as goal
+use Rattle.package_check.proofs.lines.push_files.Goals as goal
 
 pub loop-index-preserved : goal.loop-index-preserved
 loop-index-preserved c = record {

@@ -1,7 +1,7 @@
 use Rattle.std.proofs.Common.{◌≡◌, ◌++◌, ◌+◌, map, drop}
 use Rattle.std.specs.Prelude.{string_bytes}
 use Rattle.package_check.specs.Texts.{file_lines}
-use Rattle.package_check.proofs.printing.push_files.Given as goal
+use Rattle.package_check.proofs.lines.push_files.Given as goal
 
 abbrev pub invariant-loop-index : goal.invariant-loop-index
 invariant-loop-index l = record {
