@@ -16,7 +16,7 @@ use Rattle.ring_rules.specs.Places.{point_at}
 use Rattle.ring_rules.specs.declared.finding.Drilled.{Drilled}
 use Rattle.margins.specs.Depths.{CoversLess}
 use Rattle.margins.specs.Bests.{IsBest, IsBestOf, IsBestPad}
-use Rattle.margins.specs.Inner.Bests.{asked, IsTaken, IsBetter, IsStep, IsBestSoFar, IsTriedNear, IsTriedIn, IsTriedAll, IsInFirst, AskFor, AreBounds}
+use Rattle.margins.specs.Inner.Bests.{asked, IsTaken, IsBetter, IsStep, IsBestSoFar, IsTriedNear, IsTriedIn, IsTriedAll, IsInSome, AskFor, AreBounds}
 use Rattle.margins.specs.declared.best.Best.{Best}
 use Rattle.grid_units.proofs.BoolLemmas.{both_true, either}
 use Rattle.margins.proofs.Wrapping.{natural}
@@ -147,13 +147,24 @@ step_asks covers pad place h a b step e = by_better (step.straight e) where
       let more : asked a ≤ next.now.depth = next.deeper in
       omega (arith, is, more)
 
+-- a point of some zones, or of one more
+one_more : (zones : List Zone) (first i : ℕ) (zone : Zone) → ((z : Zone) → get_or zones i z ≡ zone) → (p : GridPoint) → IsInSome zones first (i + 1) p → IsInSome zones first i p ⊎ IsInZone zone p
+one_more zones first i zone is p some = elim (cases_lt some.i i) [
+  | inl less ↦ inl (record { i = some.i; zone = some.zone; from = some.from; early = less; inside = some.inside; is = some.is; within = some.within })
+  | inr more ↦
+      let last : some.i ≡ i = (let l = some.early in omega (arith, l, more)) in
+      let z : Zone = some.zone in
+      let same : some.zone ≡ zone = sym some.is ∙ (ap (λ (n : ℕ). get_or zones n z) last ∙ is z) in
+      inr (subst (λ (w : Zone). IsInZone w p) same some.within)
+]
+
 module _ {S : Type 0} (covers : S → GridPoint → ℕ → Bool) (pad : S) (place : ℕ) (holes : List Drilled) where
   -- nothing is tried yet
-  pub tried_none : (zones : List Zone) (bests : List (Option Best)) → IsTriedIn covers pad place holes (IsInFirst zones 0) bests bests
-  tried_none zones bests = record { size = refl; kept = λ k. inl refl; tried = λ k h first. absurd (let l = first.early in omega (arith, l)) }
+  pub tried_none : (zones : List Zone) (first : ℕ) (bests : List (Option Best)) → IsTriedIn covers pad place holes (IsInSome zones first first) bests bests
+  tried_none zones first bests = record { size = refl; kept = λ k. inl refl; tried = λ k h some. absurd (let l = some.from in let m = some.early in omega (arith, l, m)) }
 
   -- a pad that is no better in a zone
-  pub tried_left : (zone : Zone) (bound : ℕ) (bests : List (Option Best)) → AskFor holes bests zone bound → CoversNone covers pad bound zone → IsTriedIn covers pad place holes (IsInZone zone) bests bests
+  pub tried_left : (zone : Zone) (bound : ℕ) (bests : List (Option Best)) → AskFor holes bests (IsInZone zone) bound → CoversNone covers pad bound zone → IsTriedIn covers pad place holes (IsInZone zone) bests bests
   tried_left zone bound bests asks none = record {
     size = refl;
     kept = λ k. inl refl;
@@ -206,17 +217,13 @@ module _ {S : Type 0} (covers : S → GridPoint → ℕ → Bool) (pad : S) (pla
       | inr next ↦ step_twice covers pad place (hole_at holes k) (get_or a k None) (get_or b k None) (get_or c k None) step next
     ]
 
+  -- at some holes, and so at fewer
+  pub tried_fewer : (among fewer : GridPoint → Type 0) (before after : List (Option Best)) → ((k : ℕ) → k < length holes → fewer (point_at holes k) → among (point_at holes k)) → IsTriedIn covers pad place holes among before after → IsTriedIn covers pad place holes fewer before after
+  tried_fewer among fewer before after less was = record { size = was.size; kept = was.kept; tried = λ k h in_fewer. was.tried k h (less k h in_fewer) }
+
   -- one zone more
-  pub tried_more : (zones : List Zone) (i : ℕ) (zone : Zone) (a b c : List (Option Best)) → i < length zones → ((z : Zone) → get_or zones i z ≡ zone) → IsTriedIn covers pad place holes (IsInFirst zones i) a b → IsTriedIn covers pad place holes (IsInZone zone) b c → IsTriedIn covers pad place holes (IsInFirst zones (i + 1)) a c
-  tried_more zones i zone a b c inside is =
-      tried_both (IsInFirst zones i) (IsInZone zone) (IsInFirst zones (i + 1)) a b c (λ p first. elim (cases_lt first.i i) [
-        | inl less ↦ inl (record { i = first.i; zone = first.zone; early = less; inside = first.inside; is = first.is; within = first.within })
-        | inr more ↦
-            let last : first.i ≡ i = (let l = first.early in omega (arith, l, more)) in
-            let z : Zone = first.zone in
-            let same : first.zone ≡ zone = sym first.is ∙ (ap (λ (n : ℕ). get_or zones n z) last ∙ is z) in
-            inr (subst (λ (w : Zone). IsInZone w p) same first.within)
-      ])
+  pub tried_more : (zones : List Zone) (first i : ℕ) (zone : Zone) (a b c : List (Option Best)) → ((z : Zone) → get_or zones i z ≡ zone) → IsTriedIn covers pad place holes (IsInSome zones first i) a b → IsTriedIn covers pad place holes (IsInZone zone) b c → IsTriedIn covers pad place holes (IsInSome zones first (i + 1)) a c
+  tried_more zones first i zone a b c is = tried_both (IsInSome zones first i) (IsInZone zone) (IsInSome zones first (i + 1)) a b c (one_more zones first i zone is)
 
   -- a pad covers no hole elsewhere
   pub tried_whole : (among : GridPoint → Type 0) (before after : List (Option Best)) → ((k reach : ℕ) → k < length holes → covers pad (point_at holes k) reach ≡ true → among (point_at holes k)) → IsTriedIn covers pad place holes among before after → IsTriedAll covers pad place holes before after
@@ -236,31 +243,46 @@ module _ {S : Type 0} (covers : S → GridPoint → ℕ → Bool) (pad : S) (pla
       });
     }
 
-  -- what the holes of a zone ask for is no less once a pad was tried
-  pub asks_still : (zone : Zone) (bound : ℕ) (before after : List (Option Best)) → ((k : ℕ) → (get_or after k None ≡ get_or before k None) ⊎ IsStep covers pad place (hole_at holes k) (get_or before k None) (get_or after k None)) → AskFor holes before zone bound → AskFor holes after zone bound
-  asks_still zone bound before after kept asks k h within e =
+  -- what holes ask for is no less once a pad was tried
+  pub asks_still : (among : GridPoint → Type 0) (bound : ℕ) (before after : List (Option Best)) → ((k : ℕ) → (get_or after k None ≡ get_or before k None) ⊎ IsStep covers pad place (hole_at holes k) (get_or before k None) (get_or after k None)) → AskFor holes before among bound → AskFor holes after among bound
+  asks_still among bound before after kept asks k h within e =
       let was : bound ≤ asked (get_or before k None) = asks k h within e in
       elim (kept k) [
         | inl same ↦ (let now : asked (get_or after k None) ≡ asked (get_or before k None) = ap asked same in omega (arith, was, now))
         | inr step ↦ (let now : asked (get_or before k None) ≤ asked (get_or after k None) = step_asks covers pad place (hole_at holes k) (get_or before k None) (get_or after k None) step e in omega (arith, was, now))
       ]
 
+  -- what the holes of some zones and of one more ask for
+  pub asks_more : (zones : List Zone) (first i : ℕ) (zone : Zone) (least bound next : ℕ) (before after : List (Option Best)) → ((z : Zone) → get_or zones i z ≡ zone) → next ≤ least → next ≤ bound
+      → ((k : ℕ) → (get_or after k None ≡ get_or before k None) ⊎ IsStep covers pad place (hole_at holes k) (get_or before k None) (get_or after k None)) → AskFor holes before (IsInSome zones first i) least → AskFor holes after (IsInZone zone) bound → AskFor holes after (IsInSome zones first (i + 1)) next
+  asks_more zones first i zone least bound next before after is low below kept some one k h within e = elim (one_more zones first i zone is (point_at holes k) within) [
+    | inl earlier ↦ (let m : least ≤ asked (get_or after k None) = asks_still (IsInSome zones first i) least before after kept some k h earlier e in omega (arith, low, m))
+    | inr here ↦ (let m : bound ≤ asked (get_or after k None) = one k h here e in omega (arith, below, m))
+  ]
+
   pub bounds_still : (zones : List Zone) (bounds : List ℕ) (before after : List (Option Best)) → ((k : ℕ) → (get_or after k None ≡ get_or before k None) ⊎ IsStep covers pad place (hole_at holes k) (get_or before k None) (get_or after k None)) → AreBounds holes before zones bounds → AreBounds holes after zones bounds
-  bounds_still zones bounds before after kept was i zone h is = asks_still zone (get_or bounds i 0) before after kept (was i zone h is)
+  bounds_still zones bounds before after kept was i zone h is = asks_still (IsInZone zone) (get_or bounds i 0) before after kept (was i zone h is)
 
   -- the bound of one zone is set
   pub bounds_more : (zones : List Zone) (bounds : List ℕ) (i : ℕ) (zone : Zone) (bound : ℕ) (before after : List (Option Best)) → i < length bounds → ((z : Zone) → get_or zones i z ≡ zone)
-      → ((k : ℕ) → (get_or after k None ≡ get_or before k None) ⊎ IsStep covers pad place (hole_at holes k) (get_or before k None) (get_or after k None)) → AskFor holes after zone bound → AreBounds holes before zones bounds → AreBounds holes after zones (set bounds i bound)
+      → ((k : ℕ) → (get_or after k None ≡ get_or before k None) ⊎ IsStep covers pad place (hole_at holes k) (get_or before k None) (get_or after k None)) → AskFor holes after (IsInZone zone) bound → AreBounds holes before zones bounds → AreBounds holes after zones (set bounds i bound)
   bounds_more zones bounds i zone bound before after inside here kept asks was j z h is = elim (cases_eq j i) [
     | inl same ↦
         let at : get_or (set bounds i bound) j 0 ≡ bound = ap (λ (n : ℕ). get_or (set bounds i bound) n 0) same ∙ get_or-set_same bounds i bound 0 inside in
         let to : zone ≡ z = sym (here z) ∙ (ap (λ (n : ℕ). get_or zones n z) (sym same) ∙ is) in
-        subst (AskFor holes after z) (sym at) (subst (λ (w : Zone). AskFor holes after w bound) to asks)
+        subst (AskFor holes after (IsInZone z)) (sym at) (subst (λ (w : Zone). AskFor holes after (IsInZone w) bound) to asks)
     | inr differs ↦
-        subst (AskFor holes after z) (sym (get_or-set_other bounds i j bound 0 differs)) (asks_still z (get_or bounds j 0) before after kept (was j z h is))
+        subst (AskFor holes after (IsInZone z)) (sym (get_or-set_other bounds i j bound 0 differs)) (asks_still (IsInZone z) (get_or bounds j 0) before after kept (was j z h is))
   ]
 
 -- nothing is asked for less than nothing
+pub asks_none : (holes : List Drilled) (bests : List (Option Best)) (among : GridPoint → Type 0) → AskFor holes bests among 0
+asks_none holes bests among k h within e = omega arith
+
+-- what all holes ask for
+pub asks_all : (holes : List Drilled) (bests : List (Option Best)) (among all : GridPoint → Type 0) (bound : ℕ) → ((k : ℕ) → k < length holes → among (point_at holes k)) → AskFor holes bests among bound → AskFor holes bests all bound
+asks_all holes bests among all bound every asks k h within e = asks k h (every k h) e
+
 pub bounds_none : (holes : List Drilled) (bests : List (Option Best)) (zones : List Zone) (bounds : List ℕ) → ((i : ℕ) → get_or bounds i 0 ≡ 0) → AreBounds holes bests zones bounds
 bounds_none holes bests zones bounds zero i zone h is k l within e = (let z : get_or bounds i 0 ≡ 0 = zero i in omega (arith, z))
 

@@ -9,3 +9,5 @@ pub mod Listed
 pub mod Trying
 pub mod Bettering
 pub mod Rowing
+pub mod Parting
+pub mod Flatness

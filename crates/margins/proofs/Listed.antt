@@ -1,5 +1,5 @@
 -- The nearest holes among the findings of a gap that some pair falls short of.
-use Rattle.std.proofs.Common.{◌≡◌, ℕ, pos, zero, suc, ◌+◌, ◌<◌, ◌≤ℤ◌, ◌<ℤ◌, inl, inr, Bool, true, false, cond, List, [], ◌∷◌, length, get_or, refl, sym, subst, ap, ◌∙◌, arith}
+use Rattle.std.proofs.Common.{◌≡◌, ℕ, ℤ, pos, zero, suc, ◌+◌, ◌<◌, ◌≤ℤ◌, inl, inr, Bool, true, false, cond, List, [], ◌∷◌, length, get_or, refl, sym, subst, ap, ◌∙◌, arith}
 use Rattle.std.specs.Prelude.{not, ◌&&◌, nat_lt}
 use Rattle.std.specs.List.{filter, flat_map, enumerate_from, Contains}
 use Rattle.std.proofs.lemmas.Int.{ints}
@@ -16,8 +16,8 @@ use Rattle.ring_rules.specs.Findings.{hole_findings, gap_findings}
 use Rattle.ring_rules.specs.declared.finding.Drilled.{Drilled}
 use Rattle.ring_rules.specs.declared.finding.Finding.{Finding}
 use Rattle.ring_rules.specs.declared.finding.Finding.TheVariants.{Gap}
-use Rattle.margins.specs.Nearness.{IsPair, IsNearest}
-use Rattle.margins.specs.Inner.Nearness.{IsHeld, IsTriedAt, AreTried}
+use Rattle.margins.specs.Nearness.{IsPair, IsNearest, IsNoFurther}
+use Rattle.margins.specs.Inner.Nearness.{IsHeld, IsTriedAt, AreTried, IsEnough}
 use Rattle.margins.specs.declared.nearest.Nearest.{Nearest}
 use Rattle.grid_units.proofs.BoolLemmas.{either}
 use Rattle.grid_units.proofs.ListLemmas.{map_among}
@@ -59,20 +59,30 @@ module _ (q : ℕ) (holes : List Drilled) (i j : ℕ) (pair : IsPair holes i j) 
       in_flat_map (λ (hole : ℕ × Drilled). hole_findings q holes hole.0 hole.1) (enumerate_from 0 holes) i (i, nowhere) (Gap i j) inside
       (subst (λ (hole : ℕ × Drilled). Contains (hole_findings q holes hole.0 hole.1) (Gap i j)) (sym (placed holes i (i, nowhere) before)) row)
 
--- the nearest of the pair that was tried first and of those that are nearer than a gap above its own
-pub nearest_found : (q : ℕ) (holes : List Drilled) (findings : List Finding) (start best : Nearest) → findings ≡ gap_findings q holes → start.gap <ℤ pos q → AreTried holes findings (length findings) start best → IsNearest holes (IsPair holes) best
+-- a pair with so much of a gap is no nearer
+pub enough : (pair : Nearest) (q : ℕ) (i j : ℕ) (g : ℤ) → i < j → IsEnough pair q → pos q ≤ℤ g → IsNoFurther pair i j g
+enough pair q i j g order (inl above) far = record {
+  by_gap = omega (arith, ints, above, far);
+  by_first = λ e. absurd (omega (arith, ints, above, far, e));
+  by_second = λ e f. absurd (omega (arith, ints, above, far, e));
+}
+enough pair q i j g order (inr upto) far =
+    let low : pair.gap ≤ℤ pos q = upto.0 in
+    let first : pair.first ≡ 0 = upto.1.first in
+    let second : pair.second ≡ 1 = upto.1.second in
+    record {
+      by_gap = omega (arith, ints, low, far);
+      by_first = λ e. omega (arith, first);
+      by_second = λ e f. omega (arith, second, order);
+    }
+
+-- the nearest of the pair that was tried first and of those that are not clear with so much of a gap
+pub nearest_found : (q : ℕ) (holes : List Drilled) (findings : List Finding) (start best : Nearest) → findings ≡ gap_findings q holes → IsEnough start q → AreTried holes findings (length findings) start best → IsNearest holes (IsPair holes) best
 nearest_found q holes findings start best is above so = record {
   there = so.held.listed;
   gap = so.held.gap;
   least = λ i j g pair gap. elim (either (are_clear q (hole_at holes i) (hole_at holes j))) [
-    | inl clear ↦
-        let far : pos q ≤ℤ g = clear_gap (hole_at holes i) (hole_at holes j) g q gap clear in
-        let near : best.gap ≤ℤ start.gap = so.back.by_gap in
-        record {
-          by_gap = omega (arith, ints, above, far, near);
-          by_first = λ e. absurd (omega (arith, ints, above, far, near, e));
-          by_second = λ e f. absurd (omega (arith, ints, above, far, near, e));
-        }
+    | inl clear ↦ no_further_trans best start i j g so.back (enough start q i j g pair.ordered above (clear_gap (hole_at holes i) (hole_at holes j) g q gap clear))
     | inr near ↦
         let found : Contains findings (Gap i j) = subst (λ (fs : List Finding). Contains fs (Gap i j)) (sym is) (listed q holes i j pair near) in
         so.seen (Gap i j) found.0 i j g found.1 found.2 pair gap

@@ -1,5 +1,5 @@
 -- Pairs of holes that are tried one by one.
-use Rattle.std.proofs.Common.{◌≡◌, ℕ, ◌<◌, List, length, refl, sym, subst, ◌∙◌, arith}
+use Rattle.std.proofs.Common.{◌≡◌, ℕ, ℤ, ◌<◌, List, length, refl, sym, subst, ◌∙◌, arith}
 use Rattle.ring_rules.specs.Meeting.{hole_at}
 use Rattle.ring_rules.specs.declared.finding.Drilled.{Drilled}
 use Rattle.ring_rules.specs.declared.finding.Finding.{Finding}
@@ -45,3 +45,7 @@ tried_gap holes finding first second best result is so = record {
       (so.new g (subst (λ (n : ℕ). IsPair holes n second) x (subst (λ (n : ℕ). IsPair holes i n) y pair))
       (subst (λ (n : ℕ). IsGap (hole_at holes n) (hole_at holes second) g) x (subst (λ (n : ℕ). IsGap (hole_at holes i) (hole_at holes n) g) y gap)));
 }
+
+-- the pair so far stays, as the next one is no nearer
+pub tried_far : (holes : List Drilled) (first second : ℕ) (best : Nearest) → IsHeld holes best → ((gap : ℤ) → IsGap (hole_at holes first) (hole_at holes second) gap → IsNoFurther best first second gap) → IsTried holes first second best best
+tried_far holes first second best held far = record { held = held; back = no_further_self best; new = λ g pair gap. far g gap }

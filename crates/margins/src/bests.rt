@@ -5,14 +5,15 @@ ghost use Rattle.std.specs.List.{All, Contains};
 ghost use Rattle.pad_shapes.specs.Shapes.{covers_ends, IsAlongAxis, IsReach};
 ghost use Rattle.pad_shapes.specs.Zones.{IsInZone, BoundsCentres};
 ghost use Rattle.ring_rules.specs.Findings.{is_oblique};
-ghost use Rattle.ring_rules.specs.Index.{IsIndexOf, IsInOneOf};
+ghost use Rattle.ring_rules.specs.Index.{IsIndexOf};
 ghost use Rattle.ring_rules.specs.Meeting.{hole_at};
 ghost use Rattle.ring_rules.specs.Places.{point_at};
 ghost use Rattle.margins.specs.Bests.{IsBestPad, AreBest};
-ghost use Rattle.margins.specs.Inner.Bests.{asked, IsBetter, IsStep, IsTriedNear, IsTriedIn, IsTriedAll, IsInFirst, AsksFor, AskFor, AreBounds};
+ghost use Rattle.margins.specs.Inner.Bests.{asked, IsBetter, IsStep, IsTriedNear, IsTriedIn, IsTriedAll, IsInSome, AsksFor, AskFor, AreBounds, IsDivision};
 
 use crate::best::Best;
 use crate::deep::{Deep, depth_of_hole};
+use crate::parts::{Division, divided};
 use grid_units::Hole;
 use pad_shapes::Zone;
 use ring_rules::{Drilled, HoleIndex, is_oblique, usual_zone};
@@ -115,53 +116,184 @@ fn least_asked(holes: &[Drilled], near: &[usize], bests: &[Option<Best>]) -> u64
     least
 }
 
-/// Tries a pad at the holes of a zone, where it may be better at one of them, and says what these ask at least from now on.
+/// Tries a pad at the holes of a part, where it may be better at one of them, and says what these ask at least from now on.
 fn try_part<S: Deep>(
     index: &HoleIndex,
     pad: &S,
     place: usize,
     holes: &[Drilled],
-    zone: &Zone,
+    part: &Zone,
     bound: u64,
     near: &mut Vec<usize>,
     bests: &mut [Option<Best>],
 ) -> Result<u64, AllocError>
     requires index { IsIndexOf holes.now index.now }
     requires size { length bests.old ≡ length holes.now }
-    requires bound { AskFor holes.now bests.old zone.now bound }
-    ensures tried { OnOk result (IsTriedIn S.covers pad.now place holes.now (IsInZone zone.now) bests.old bests.new) }
-    ensures bound { IfOk result (λ bound. AskFor holes.now bests.new zone.now bound) }
+    requires bound { AskFor holes.now bests.old (IsInZone part.now) bound }
+    ensures tried { OnOk result (IsTriedIn S.covers pad.now place holes.now (IsInZone part.now) bests.old bests.new) }
+    ensures bound { IfOk result (AskFor holes.now bests.new (IsInZone part.now)) }
 {
-    if !pad.may_cover(zone, bound) {
+    if !pad.may_cover(part, bound) {
         return Ok(bound);
     }
-    index.find(holes, zone, near)?;
+    index.find(holes, part, near)?;
     try_near(pad, place, holes, near, bests);
     Ok(least_asked(holes, near, bests))
 }
 
-/// Tries a pad at the holes of some zones, each with what its holes ask at least.
+/// Tries a pad at the holes of the parts from one to below another, each with what its holes ask at least, and says what all of these
+/// ask at least from now on.
 fn try_parts<S: Deep>(
     index: &HoleIndex,
     pad: &S,
     place: usize,
     holes: &[Drilled],
-    zones: &[Zone],
+    parts: &[Zone],
+    first: usize,
+    last: usize,
     bounds: &mut [u64],
     near: &mut Vec<usize>,
     bests: &mut [Option<Best>],
-) -> Result<(), AllocError>
+) -> Result<u64, AllocError>
     requires index { IsIndexOf holes.now index.now }
     requires size { length bests.old ≡ length holes.now }
-    requires zones { length bounds.old ≡ length zones.now }
-    requires bounds { AreBounds holes.now bests.old zones.now bounds.old }
-    ensures tried { OnOk result (IsTriedIn S.covers pad.now place holes.now (IsInFirst zones.now (length zones.now)) bests.old bests.new) }
-    ensures bounds { OnOk result (AreBounds holes.now bests.new zones.now bounds.new) }
+    requires last { last ≤ length parts.now }
+    requires parts { length bounds.old ≡ length parts.now }
+    requires bounds { AreBounds holes.now bests.old parts.now bounds.old }
+    ensures tried { OnOk result (IsTriedIn S.covers pad.now place holes.now (IsInSome parts.now first last) bests.old bests.new) }
+    ensures bounds { OnOk result (AreBounds holes.now bests.new parts.now bounds.new) }
+    ensures least { IfOk result (AskFor holes.now bests.new (IsInSome parts.now first last)) }
 {
-    for (i, zone) in zones.iter().enumerate() {
-        bounds[i] = try_part(index, pad, place, holes, zone, bounds[i], near, bests)?;
+    let mut least = u64::MAX;
+    for i in first..last {
+        let bound = try_part(index, pad, place, holes, &parts[i], bounds[i], near, bests)?;
+        bounds[i] = bound;
+        least = bound.min(least);
     }
-    Ok(())
+    Ok(least)
+}
+
+/// Tries a pad at the holes of a zone, part by part, where it may be better at one of them, and says what these ask at least from now on.
+fn try_zone<S: Deep>(
+    index: &HoleIndex,
+    pad: &S,
+    place: usize,
+    holes: &[Drilled],
+    zone: &Zone,
+    bound: u64,
+    parts: &[Zone],
+    first: usize,
+    last: usize,
+    bounds: &mut [u64],
+    near: &mut Vec<usize>,
+    bests: &mut [Option<Best>],
+) -> Result<u64, AllocError>
+    requires index { IsIndexOf holes.now index.now }
+    requires size { length bests.old ≡ length holes.now }
+    requires bound { AskFor holes.now bests.old (IsInZone zone.now) bound }
+    requires last { last ≤ length parts.now }
+    requires parts { length bounds.old ≡ length parts.now }
+    requires bounds { AreBounds holes.now bests.old parts.now bounds.old }
+    requires whole { (k : ℕ) → k < length holes.now → IsInZone zone.now (point_at holes.now k) → IsInSome parts.now first last (point_at holes.now k) }
+    ensures tried { OnOk result (IsTriedIn S.covers pad.now place holes.now (IsInZone zone.now) bests.old bests.new) }
+    ensures bounds { OnOk result (AreBounds holes.now bests.new parts.now bounds.new) }
+    ensures bound { IfOk result (AskFor holes.now bests.new (IsInZone zone.now)) }
+{
+    if !pad.may_cover(zone, bound) {
+        return Ok(bound);
+    }
+    try_parts(
+        index, pad, place, holes, parts, first, last, bounds, near, bests,
+    )
+}
+
+/// Tries a pad at the holes of all zones, each with what its holes ask at least, and says what all holes ask at least from now on.
+fn try_zones<S: Deep>(
+    index: &HoleIndex,
+    pad: &S,
+    place: usize,
+    holes: &[Drilled],
+    division: &Division,
+    zone_bounds: &mut [u64],
+    part_bounds: &mut [u64],
+    near: &mut Vec<usize>,
+    bests: &mut [Option<Best>],
+) -> Result<u64, AllocError>
+    requires index { IsIndexOf holes.now index.now }
+    requires size { length bests.old ≡ length holes.now }
+    requires division { IsDivision holes.now division.now }
+    requires zones { length zone_bounds.old ≡ length division.now.zones.items }
+    requires zone_bounds { AreBounds holes.now bests.old division.now.zones.items zone_bounds.old }
+    requires parts { length part_bounds.old ≡ length division.now.parts.items }
+    requires part_bounds { AreBounds holes.now bests.old division.now.parts.items part_bounds.old }
+    ensures tried { OnOk result (IsTriedIn S.covers pad.now place holes.now (IsInSome division.now.zones.items 0 (length division.now.zones.items)) bests.old bests.new) }
+    ensures zone_bounds { OnOk result (AreBounds holes.now bests.new division.now.zones.items zone_bounds.new) }
+    ensures part_bounds { OnOk result (AreBounds holes.now bests.new division.now.parts.items part_bounds.new) }
+    ensures least { IfOk result (AskFor holes.now bests.new (IsInSome division.now.zones.items 0 (length division.now.zones.items))) }
+{
+    let mut least = u64::MAX;
+    for i in 0..division.zones.len() {
+        let bound = try_zone(
+            index,
+            pad,
+            place,
+            holes,
+            &division.zones[i],
+            zone_bounds[i],
+            &division.parts,
+            division.starts[i],
+            division.starts[i + 1],
+            part_bounds,
+            near,
+            bests,
+        )?;
+        zone_bounds[i] = bound;
+        least = bound.min(least);
+    }
+    Ok(least)
+}
+
+/// Tries a pad at the holes of the board, zone by zone, where it may be better at one of them, and says what these ask at least from now
+/// on.
+fn try_all<S: Deep>(
+    index: &HoleIndex,
+    pad: &S,
+    place: usize,
+    holes: &[Drilled],
+    division: &Division,
+    least: u64,
+    zone_bounds: &mut [u64],
+    part_bounds: &mut [u64],
+    near: &mut Vec<usize>,
+    bests: &mut [Option<Best>],
+) -> Result<u64, AllocError>
+    requires index { IsIndexOf holes.now index.now }
+    requires size { length bests.old ≡ length holes.now }
+    requires division { IsDivision holes.now division.now }
+    requires least { AskFor holes.now bests.old (IsInZone division.now.whole) least }
+    requires zones { length zone_bounds.old ≡ length division.now.zones.items }
+    requires zone_bounds { AreBounds holes.now bests.old division.now.zones.items zone_bounds.old }
+    requires parts { length part_bounds.old ≡ length division.now.parts.items }
+    requires part_bounds { AreBounds holes.now bests.old division.now.parts.items part_bounds.old }
+    ensures tried { OnOk result (IsTriedIn S.covers pad.now place holes.now (IsInZone division.now.whole) bests.old bests.new) }
+    ensures zone_bounds { OnOk result (AreBounds holes.now bests.new division.now.zones.items zone_bounds.new) }
+    ensures part_bounds { OnOk result (AreBounds holes.now bests.new division.now.parts.items part_bounds.new) }
+    ensures least { IfOk result (AskFor holes.now bests.new (IsInZone division.now.whole)) }
+{
+    if !pad.may_cover(&division.whole, least) {
+        return Ok(least);
+    }
+    try_zones(
+        index,
+        pad,
+        place,
+        holes,
+        division,
+        zone_bounds,
+        part_bounds,
+        near,
+        bests,
+    )
 }
 
 /// The zone of a pad, where it has no more than so many cells.
@@ -176,33 +308,52 @@ fn small_zone<S: Deep>(index: &HoleIndex, pad: &S, most: usize) -> Option<Zone>
     }
 }
 
-/// Tries a pad at the holes that it may cover: at those of its zone where it is small, else zone by zone of the board.
+/// Tries a pad at the holes that it may cover: at those of its zone where it is small, else zone by zone of the board. Says what the holes
+/// of the board ask at least from now on.
 fn try_pad<S: Deep>(
     index: &HoleIndex,
     pad: &S,
     place: usize,
     holes: &[Drilled],
-    zones: &[Zone],
-    bounds: &mut [u64],
+    division: &Division,
+    least: u64,
+    zone_bounds: &mut [u64],
+    part_bounds: &mut [u64],
     near: &mut Vec<usize>,
     bests: &mut [Option<Best>],
-) -> Result<(), AllocError>
+) -> Result<u64, AllocError>
     requires index { IsIndexOf holes.now index.now }
     requires size { length bests.old ≡ length holes.now }
-    requires zones { length bounds.old ≡ length zones.now }
-    requires bounds { AreBounds holes.now bests.old zones.now bounds.old }
-    requires whole { (k : ℕ) → k < length holes.now → IsInOneOf zones.now (point_at holes.now k) }
+    requires division { IsDivision holes.now division.now }
+    requires least { AskFor holes.now bests.old (IsInZone division.now.whole) least }
+    requires zones { length zone_bounds.old ≡ length division.now.zones.items }
+    requires zone_bounds { AreBounds holes.now bests.old division.now.zones.items zone_bounds.old }
+    requires parts { length part_bounds.old ≡ length division.now.parts.items }
+    requires part_bounds { AreBounds holes.now bests.old division.now.parts.items part_bounds.old }
     ensures tried { OnOk result (IsTriedAll S.covers pad.now place holes.now bests.old bests.new) }
-    ensures bounds { OnOk result (AreBounds holes.now bests.new zones.now bounds.new) }
+    ensures zone_bounds { OnOk result (AreBounds holes.now bests.new division.now.zones.items zone_bounds.new) }
+    ensures part_bounds { OnOk result (AreBounds holes.now bests.new division.now.parts.items part_bounds.new) }
+    ensures least { IfOk result (AskFor holes.now bests.new (IsInZone division.now.whole)) }
 {
-    match small_zone(index, pad, zones.len()) {
+    match small_zone(index, pad, division.zones.len()) {
         Some(zone) => {
             index.find(holes, &zone, near)?;
             try_near(pad, place, holes, near, bests);
+            Ok(least)
         }
-        None => try_parts(index, pad, place, holes, zones, bounds, near, bests)?,
+        None => try_all(
+            index,
+            pad,
+            place,
+            holes,
+            division,
+            least,
+            zone_bounds,
+            part_bounds,
+            near,
+            bests,
+        ),
     }
-    Ok(())
 }
 
 /// Tries all pads in their order, at holes that have none yet.
@@ -211,21 +362,36 @@ fn try_pads<S: Deep>(
     index: &HoleIndex,
     pads: &[S],
     holes: &[Drilled],
-    zones: &[Zone],
-    bounds: &mut [u64],
+    division: &Division,
+    zone_bounds: &mut [u64],
+    part_bounds: &mut [u64],
     bests: &mut [Option<Best>],
 ) -> Result<(), AllocError>
     requires index { IsIndexOf holes.now index.now }
     requires size { length bests.old ≡ length holes.now }
-    requires zones { length bounds.old ≡ length zones.now }
-    requires bounds { AreBounds holes.now bests.old zones.now bounds.old }
-    requires whole { (k : ℕ) → k < length holes.now → IsInOneOf zones.now (point_at holes.now k) }
+    requires division { IsDivision holes.now division.now }
+    requires zones { length zone_bounds.old ≡ length division.now.zones.items }
+    requires zone_bounds { AreBounds holes.now bests.old division.now.zones.items zone_bounds.old }
+    requires parts { length part_bounds.old ≡ length division.now.parts.items }
+    requires part_bounds { AreBounds holes.now bests.old division.now.parts.items part_bounds.old }
     requires none { (k : ℕ) → k < length holes.now → get_or bests.old k None ≡ None }
     ensures { OnOk result ((k : ℕ) → k < length holes.now → IsBestPad S.covers pads.now (hole_at holes.now k) (get_or bests.new k None)) }
 {
     let mut near = Vec::new(alloc);
+    let mut least = 0;
     for (place, pad) in pads.iter().enumerate() {
-        try_pad(index, pad, place, holes, zones, bounds, &mut near, bests)?;
+        least = try_pad(
+            index,
+            pad,
+            place,
+            holes,
+            division,
+            least,
+            zone_bounds,
+            part_bounds,
+            &mut near,
+            bests,
+        )?;
     }
     Ok(())
 }
@@ -244,9 +410,19 @@ pub fn best_pads<S: Deep>(
 {
     let (width, height) = usual_zone(&[pads]);
     let index = HoleIndex::new(alloc, holes, width, height)?;
-    let zones = index.zones(alloc, holes)?;
-    let mut bounds = vec![in alloc; 0; zones.len()]?;
+    let division = divided(alloc, &index, holes)?;
+    let mut zone_bounds = vec![in alloc; 0; division.zones.len()]?;
+    let mut part_bounds = vec![in alloc; 0; division.parts.len()]?;
     let mut bests = vec![in alloc; None; holes.len()]?;
-    try_pads(alloc, &index, pads, holes, &zones, &mut bounds, &mut bests)?;
+    try_pads(
+        alloc,
+        &index,
+        pads,
+        holes,
+        &division,
+        &mut zone_bounds,
+        &mut part_bounds,
+        &mut bests,
+    )?;
     Ok(bests)
 }

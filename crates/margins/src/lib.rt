@@ -7,10 +7,12 @@
 mod best;
 mod bests;
 mod deep;
+mod flat;
 mod gap;
 pub mod laws;
 mod met;
 mod nearest;
+mod parts;
 mod roots;
 mod row;
 mod shapes;
@@ -18,6 +20,7 @@ mod shapes;
 pub use best::Best;
 pub use bests::{best_pad, best_pads};
 pub use deep::{Deep, depth_of_hole};
+pub use flat::bare_holes;
 pub use gap::gap_between;
 pub use met::{
     Met, RingsMet, asks_ring, gap_met, gap_met_by, held_met, met_by_none, met_with, ring_met,

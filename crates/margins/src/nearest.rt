@@ -1,15 +1,18 @@
 //! The two holes of a board that are nearest to each other.
 //!
 //! Some pairs are tried first, two for each hole. If these are as good as chance, the pairs that are nearer than the nearest of
-//! them are fewer than the holes. They are looked up as the findings of a gap.
+//! them are fewer than the holes. They are looked up as the findings of a gap. Those at the same gap may be many, as on a board whose
+//! holes stand on a grid: they are left out where the nearest pair so far is the first of all.
 
-ghost use Rattle.std.specs.Prelude.{◌≡◌, ◌+◌, ◌<◌, ◌<ℤ◌, pos, length, true, false, IfOk, IfSome};
+ghost use Rattle.std.specs.Prelude.{◌≡◌, ◌+◌, ◌<◌, ◌⊎◌, ℤ, pos, length, true, false, IfOk, IfSome};
+ghost use Rattle.ring_rules.specs.Meeting.{hole_at};
+ghost use Rattle.margins.specs.Gaps.{IsGap};
 ghost use Rattle.margins.specs.Nearness.{IsNoFurther, IsNearestOf, IsPair};
-ghost use Rattle.margins.specs.Inner.Nearness.{IsNearer, IsPairBefore, IsPairAt, IsHeld, IsTried, IsTriedAt, AreTried, IsStart};
+ghost use Rattle.margins.specs.Inner.Nearness.{IsNearer, IsPairBefore, IsPairAt, IsHeld, IsTried, IsTriedAt, AreTried, IsStart, IsFirstPair, IsEnough};
 
 use crate::gap::gap_between;
 use grid_units::Rules;
-use ring_rules::{Drilled, Finding, gap_findings};
+use ring_rules::{Drilled, Finding, clear_of, gap_findings};
 use std::alloc::{AllocError, Global};
 
 /// Two holes that are nearest to each other, by their places in the list, from 0.
@@ -47,12 +50,51 @@ fn pair_at(holes: &[Drilled], first: usize, second: usize) -> Nearest
     Nearest { first, second, gap }
 }
 
+/// By how much the gap of a rule exceeds that of a pair: by nothing where no pair comes before it, as it is that of the first two holes.
+fn excess(pair: &Nearest) -> i64
+    ensures { (result ≡ pos 1) ⊎ ((result ≡ pos 0) × IsFirstPair pair.now) }
+{
+    if pair.first == 0 && pair.second == 1 {
+        0
+    } else {
+        1
+    }
+}
+
+/// Rules such that two holes that are clear are no nearer than a pair, if there are any.
+fn rules_above(pair: &Nearest) -> Option<Rules>
+    ensures { IfSome result (λ rules. IsEnough pair.now rules.gap) }
+{
+    if pair.gap < 1 {
+        Rules::new(0, 1).ok()
+    } else if pair.gap < 10_000_000_000_000 {
+        Rules::new(0, pair.gap + excess(pair)).ok()
+    } else {
+        None
+    }
+}
+
+/// Whether the holes at two places are clear by so much that they are no nearer than a pair. No root is taken.
+fn is_further(holes: &[Drilled], first: usize, second: usize, pair: &Nearest) -> bool
+    requires ordered { first < second }
+    requires inside { second < length holes.now }
+    ensures { result ≡ true → (gap : ℤ) → IsGap (hole_at holes.now first) (hole_at holes.now second) gap → IsNoFurther pair.now first second gap }
+{
+    match rules_above(pair) {
+        Some(rules) => clear_of(&holes[first].hole, &holes[second].hole, rules),
+        None => false,
+    }
+}
+
 /// The nearer of the nearest pair so far and the holes at two places, where these are two of the list in their order.
 fn tried(holes: &[Drilled], first: usize, second: usize, best: Nearest) -> Nearest
     requires { IsHeld holes.now best }
     ensures { IsTried holes.now first second best result }
 {
     if second <= first || holes.len() <= second {
+        return best;
+    }
+    if is_further(holes, first, second, &best) {
         return best;
     }
     let next = pair_at(holes, first, second);
@@ -107,19 +149,6 @@ fn nearest_found(holes: &[Drilled], findings: &[Finding], start: Nearest) -> Nea
         best = tried_at(holes, finding, best);
     }
     best
-}
-
-/// Rules with a gap that a pair falls short of, if there are any.
-fn rules_above(pair: &Nearest) -> Option<Rules>
-    ensures { IfSome result (λ rules. pair.now.gap <ℤ pos rules.gap) }
-{
-    if pair.gap < 1 {
-        Rules::new(0, 1).ok()
-    } else if pair.gap < 10_000_000_000_000 {
-        Rules::new(0, pair.gap + 1).ok()
-    } else {
-        None
-    }
 }
 
 /// The nearer of the nearest pair so far and the next one.

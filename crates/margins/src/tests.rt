@@ -225,13 +225,33 @@ fn deepest_pad(rt: HostRuntime) -> Result<(), Fail> {
 
 /// A hole is bare without a pad, outside of all, and where it is an oblique slot.
 #[test]
-fn bare_holes(rt: HostRuntime) -> Result<(), Fail> {
+fn holes_without_a_pad(rt: HostRuntime) -> Result<(), Fail> {
     let wide = rect(0, 0, 325_000_000, 325_000_000)?;
     let hole = round(0, 0, 200_000_000)?;
     let none: [Pad; 0] = [];
     assert_eq!(rt; best_pad(&none, &hole).is_none(), true);
     let oblique = slot((0, 0), (1_000, 1_000), 100_000_000)?;
     assert_eq!(rt; best_pad(&[wide], &oblique).is_none(), true);
+    Ok(())
+}
+
+/// A hole is bare where two pads cover one of its ends each, and not where one covers its centre, however small that pad is.
+#[test]
+fn bare_and_covered_holes(rt: HostRuntime) -> Result<(), Fail> {
+    let pads = [
+        disc(0, 0, 100_000_000)?,
+        disc(1_000_000_000, 0, 100_000_000)?,
+    ];
+    let covered = drilled(round(60_000_000, 80_000_000, 200_000_000)?);
+    let outside = drilled(round(60_000_001, 80_000_000, 200_000_000)?);
+    let between = drilled(slot((0, 0), (1_000_000_000, 0), 200_000_000)?);
+    let oblique = drilled(slot((0, 0), (1_000, 1_000), 200_000_000)?);
+    let bare = bare_holes(rt.alloc(), &pads, &[covered, outside, between, oblique])?;
+    assert_eq!(rt; bare.len(), 4);
+    assert_eq!(rt; bare[0], false);
+    assert_eq!(rt; bare[1], true);
+    assert_eq!(rt; bare[2], true);
+    assert_eq!(rt; bare[3], true);
     Ok(())
 }
 
@@ -246,6 +266,24 @@ fn nearest_pairs(rt: HostRuntime) -> Result<(), Fail> {
     assert_eq!(rt; near.first, 1);
     assert_eq!(rt; near.second, 2);
     assert_eq!(rt; near.gap, 100_000_000);
+    Ok(())
+}
+
+/// The first two holes of a row are the nearest, unless two others are nearer.
+#[test]
+fn nearest_of_a_row(rt: HostRuntime) -> Result<(), Fail> {
+    let first = drilled(round(0, 0, 200_000_000)?);
+    let second = drilled(round(1_000_000_000, 0, 200_000_000)?);
+    let third = drilled(round(2_000_000_000, 0, 200_000_000)?);
+    let near = nearest_holes(rt.alloc(), &[first, second, third])?.ok_or("none")?;
+    assert_eq!(rt; near.first, 0);
+    assert_eq!(rt; near.second, 1);
+    assert_eq!(rt; near.gap, 600_000_000);
+    let fourth = drilled(round(2_900_000_000, 0, 200_000_000)?);
+    let near = nearest_holes(rt.alloc(), &[first, second, third, fourth])?.ok_or("none")?;
+    assert_eq!(rt; near.first, 2);
+    assert_eq!(rt; near.second, 3);
+    assert_eq!(rt; near.gap, 500_000_000);
     Ok(())
 }
 

@@ -1,5 +1,5 @@
 -- A round hole is bare just where no pad covers its centre.
-use Rattle.std.proofs.Common.{◌≡◌, ℕ, ℤ, ◌+◌, ◌<◌, ◌&&◌, not, Bool, true, false, inl, inr, Option, Some, None, List, length, take, get_or, refl, sym, subst, ap, ◌∙◌, arith}
+use Rattle.std.proofs.Common.{◌≡◌, ◌↔◌, ℕ, ℤ, ◌+◌, ◌<◌, ◌&&◌, not, Bool, true, false, inl, inr, Option, Some, None, List, length, take, get_or, refl, sym, subst, ap, ◌∙◌, arith}
 use Rattle.std.specs.Ordering.{int_eq}
 use Rattle.std.specs.List.{count_by, list_any}
 use Rattle.std.proofs.lemmas.Bool.Decides.{Decides-int_eq}
@@ -16,7 +16,7 @@ use Rattle.ring_rules.specs.Findings.{is_oblique}
 use Rattle.ring_rules.specs.Meeting.{hole_at}
 use Rattle.ring_rules.specs.Places.{nowhere}
 use Rattle.ring_rules.specs.declared.finding.Drilled.{Drilled}
-use Rattle.margins.specs.Bests.{AreBest, AreShallow, IsBare, IsBestPad}
+use Rattle.margins.specs.Bests.{AreBest, AreBare, AreShallow, IsBare, IsBestPad}
 use Rattle.margins.specs.DepthLaws.{pad_covers_less}
 use Rattle.margins.specs.Rows.{has_none}
 use Rattle.margins.specs.declared.best.Best.{Best}
@@ -122,3 +122,29 @@ module _ (pads : List Pad) (holes : List Drilled) (bests : List (Option Best)) (
 
   pub bare_still : (bare : ℕ) (t : Bool) → t ≡ (is_round (get_or holes k d).hole && has_none (get_or bests k b)) → t ≡ false → bare ≡ count_by (is_bare pads) (take k holes) → bare ≡ count_by (is_bare pads) (take (k + 1) holes)
   bare_still bare t is e was = was ∙ sym (count_by_more_no (is_bare pads) holes k d inside (here ∙ (sym is ∙ e)))
+
+-- whether a round hole is bare
+told_bare : (pads : List Pad) (h : GridHole) (b : Bool) → is_round h ≡ true → (b ≡ true) ↔ IsBare pad_covers pads h → is_uncovered pads h.from ≡ b
+told_bare pads h true round is = uncovered pads h round (is.0 refl)
+told_bare pads h false round is = refused pads h round (is_uncovered pads h.from) (λ e. either_way false (is.1 (inr (shallow pads h round e))) refl)
+
+by_bare : (pads : List Pad) (h : GridHole) (b : Bool) → (b ≡ true) ↔ IsBare pad_covers pads h → (is_round h && is_uncovered pads h.from) ≡ (is_round h && b)
+by_bare pads h b is = by (is_round h) refl
+  where
+    by : (t : Bool) → is_round h ≡ t → (t && is_uncovered pads h.from) ≡ (t && b)
+    by true e = told_bare pads h b e is
+    by false e = refl
+
+module _ (pads : List Pad) (holes : List Drilled) (bare : List Bool) (all : AreBare pad_covers pads holes bare) (k : ℕ) (d : Drilled) (b : Bool) (inside : k < length holes) where
+  at_hole : is_bare pads (get_or holes k d) ≡ (is_round (get_or holes k d).hole && get_or bare k b)
+  at_hole =
+      let size = all.size in
+      let same : get_or bare k b ≡ get_or bare k false = get_or_default bare k b false (omega (arith, inside, size)) in
+      let there : get_or holes k d ≡ get_or holes k nowhere = get_or_default holes k d nowhere inside in
+      ap (is_bare pads) there ∙ (by_bare pads (hole_at holes k) (get_or bare k false) (all.each k inside) ∙ (ap (λ (t : Bool). is_round (hole_at holes k) && t) (sym same) ∙ ap (λ (e : Drilled). is_round e.hole && get_or bare k b) (sym there)))
+
+  pub told_more : (count : ℕ) (t : Bool) → t ≡ (is_round (get_or holes k d).hole && get_or bare k b) → t ≡ true → count ≡ count_by (is_bare pads) (take k holes) → count + 1 ≡ count_by (is_bare pads) (take (k + 1) holes)
+  told_more count t is e was = ap (λ (n : ℕ). n + 1) was ∙ sym (count_by_more_yes (is_bare pads) holes k d inside (at_hole ∙ (sym is ∙ e)))
+
+  pub told_still : (count : ℕ) (t : Bool) → t ≡ (is_round (get_or holes k d).hole && get_or bare k b) → t ≡ false → count ≡ count_by (is_bare pads) (take k holes) → count ≡ count_by (is_bare pads) (take (k + 1) holes)
+  told_still count t is e was = was ∙ sym (count_by_more_no (is_bare pads) holes k d inside (at_hole ∙ (sym is ∙ e)))

@@ -4,7 +4,7 @@ ghost use Rattle.std.specs.Prelude.{◌≡◌, ◌&&◌, ◌≤◌, length, List
 ghost use Rattle.grid_units.specs.Holes.{is_round};
 ghost use Rattle.pad_shapes.specs.Pads.{pad_covers};
 ghost use Rattle.pad_shapes.specs.declared.pad.Pad.{Pad as ThePad};
-ghost use Rattle.margins.specs.Bests.{AreBest};
+ghost use Rattle.margins.specs.Bests.{AreBest, AreBare};
 ghost use Rattle.margins.specs.Rows.{has_none};
 ghost use Rattle.scales.specs.Scales.{bare_count, bare_count_by, round_count};
 ghost use Rattle.scales.specs.Inner.Counting.{AreMoved, IsMoved};
@@ -12,7 +12,7 @@ ghost use Rattle.scales.specs.Inner.Counting.{AreMoved, IsMoved};
 use crate::scaled::scaled_point;
 use grid_units::{Hole, Point};
 use margin_text::Factor;
-use margins::{Best, best_pads};
+use margins::{Best, bare_holes};
 use pad_shapes::Pad;
 use ring_rules::Drilled;
 use std::alloc::{AllocError, Global};
@@ -47,6 +47,28 @@ pub fn bare_among(bests: &[Option<Best>], holes: &[Drilled]) -> usize
         }
     }
     bare
+}
+
+/// Whether a hole is round and bare, by what is told of it.
+fn is_told(drilled: &Drilled, is_bare: bool) -> bool
+    ensures { result ≡ (is_round drilled.now.hole && is_bare) }
+{
+    drilled.hole.is_round() && is_bare
+}
+
+/// How many of some holes are round and bare, by whether each of them is bare.
+fn bare_in(bare: &[bool], holes: &[Drilled]) -> usize
+    requires { length bare.now ≡ length holes.now }
+    ensures exact { (pads : List ThePad) → AreBare pad_covers pads holes.now bare.now → result ≡ bare_count pads holes.now }
+    ensures few { result ≤ length holes.now }
+{
+    let mut count = 0;
+    for (place, drilled) in holes.iter().enumerate() {
+        if is_told(drilled, bare[place]) {
+            count += 1;
+        }
+    }
+    count
 }
 
 /// The hole round another centre.
@@ -103,6 +125,6 @@ pub fn bare_by(
 {
     let moved = all_moved(alloc, holes, factor)?;
     let beyond = round_among(holes) - moved.len();
-    let bests = best_pads(alloc, pads, &moved)?;
-    Ok(beyond + bare_among(&bests, &moved))
+    let bare = bare_holes(alloc, pads, &moved)?;
+    Ok(beyond + bare_in(&bare, &moved))
 }

@@ -29,7 +29,7 @@ fn is_twice_below(number: usize, other: usize) -> bool
 
 /// The line of a drill file, by the pads of the first layer, its holes and the best of these pads for each of them: there is one where
 /// more than half of its round holes are bare, and less than half of these would be with their coordinates times a factor. It names the
-/// first of the factors by which the fewest would be. It takes as long as four looks for best pads, where more than half are bare.
+/// first of the factors by which the fewest would be. It takes as long as four looks for bare holes, where more than half are bare.
 ///
 /// # Errors
 ///

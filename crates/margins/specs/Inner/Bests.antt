@@ -11,6 +11,7 @@ use Rattle.ring_rules.specs.Places.{point_at}
 use Rattle.ring_rules.specs.declared.finding.Drilled.{Drilled}
 use Rattle.margins.specs.Bests.{IsBestOf}
 use Rattle.margins.specs.declared.best.Best.{Best}
+use Rattle.margins.specs.declared.parts.Division.{Division}
 
 -- how deep a hole must lie for a shape to be better than the best so far (docs/DEFINITIONS.md, Best pads)
 abbrev pub asked : Option Best → ℕ
@@ -63,11 +64,12 @@ pub record IsTriedAll {S : Type 0} (covers : S → GridPoint → ℕ → Bool) (
   pub size : length after ≡ length before
   pub tried : (k : ℕ) → k < length holes → IsStep covers pad place (hole_at holes k) (get_or before k None) (get_or after k None)
 
--- a point of one of the first so many zones (docs/DEFINITIONS.md, Best pads)
-pub record IsInFirst (zones : List Zone) (count : ℕ) (p : GridPoint) : Type 0 where
+-- a point of one of the zones from one to below another (docs/DEFINITIONS.md, Best pads)
+pub record IsInSome (zones : List Zone) (first last : ℕ) (p : GridPoint) : Type 0 where
   pub i : ℕ
   pub zone : Zone
-  pub early : i < count
+  pub from : first ≤ i
+  pub early : i < last
   pub inside : i < length zones
   pub is : get_or zones i zone ≡ zone
   pub within : IsInZone zone p
@@ -76,10 +78,19 @@ pub record IsInFirst (zones : List Zone) (count : ℕ) (p : GridPoint) : Type 0 
 abbrev pub AsksFor : GridHole → Option Best → ℕ → Type 0
 AsksFor h best bound = is_oblique h ≡ false → bound ≤ asked best
 
--- so does each hole of a list that goes in within a zone (docs/DEFINITIONS.md, Best pads)
-abbrev pub AskFor : List Drilled → List (Option Best) → Zone → ℕ → Type 0
-AskFor holes bests zone bound = (k : ℕ) → k < length holes → IsInZone zone (point_at holes k) → AsksFor (hole_at holes k) (get_or bests k None) bound
+-- so does each hole of a list that goes in at some points (docs/DEFINITIONS.md, Best pads)
+abbrev pub AskFor : List Drilled → List (Option Best) → (GridPoint → Type 0) → ℕ → Type 0
+AskFor holes bests among bound = (k : ℕ) → k < length holes → among (point_at holes k) → AsksFor (hole_at holes k) (get_or bests k None) bound
 
 -- each of some zones has such a bound (docs/DEFINITIONS.md, Best pads)
 abbrev pub AreBounds : List Drilled → List (Option Best) → List Zone → List ℕ → Type 0
-AreBounds holes bests zones bounds = (i : ℕ) (zone : Zone) → i < length zones → get_or zones i zone ≡ zone → AskFor holes bests zone (get_or bounds i 0)
+AreBounds holes bests zones bounds = (i : ℕ) (zone : Zone) → i < length zones → get_or zones i zone ≡ zone → AskFor holes bests (IsInZone zone) (get_or bounds i 0)
+
+-- zones that hold where the holes of a list go in, each with the parts that hold those that go in within it (docs/DEFINITIONS.md, Best pads)
+pub record IsDivision (holes : List Drilled) (d : Division) : Type 0 where
+  pub whole : (k : ℕ) → k < length holes → IsInZone d.whole (point_at holes k)
+  pub zones : (k : ℕ) → k < length holes → IsInSome d.zones.items 0 (length d.zones.items) (point_at holes k)
+  pub starts : length d.starts.items ≡ length d.zones.items + 1
+  pub ends : (i : ℕ) → get_or d.starts.items i 0 ≤ length d.parts.items
+  pub parts : (i : ℕ) (zone : Zone) → i < length d.zones.items → get_or d.zones.items i zone ≡ zone → (k : ℕ) → k < length holes → IsInZone zone (point_at holes k)
+      → IsInSome d.parts.items (get_or d.starts.items i 0) (get_or d.starts.items (i + 1) 0) (point_at holes k)

@@ -1,5 +1,5 @@
 -- The two nearest holes of a list, pair by pair.
-use Rattle.std.specs.Prelude.{◌≡◌, ℕ, ℤ, ◌<◌, ◌⊎◌, Option, Some, None, List, length, get_or}
+use Rattle.std.specs.Prelude.{◌≡◌, ℕ, ℤ, pos, ◌<◌, ◌<ℤ◌, ◌≤ℤ◌, ◌⊎◌, Option, Some, None, List, length, get_or}
 use Rattle.ring_rules.specs.Meeting.{hole_at}
 use Rattle.ring_rules.specs.declared.finding.Drilled.{Drilled}
 use Rattle.ring_rules.specs.declared.finding.Finding.{Finding}
@@ -61,3 +61,12 @@ pub record AreTried (holes : List Drilled) (findings : List Finding) (count : �
 abbrev pub IsStart : List Drilled → Option Nearest → Type 0
 IsStart holes None = length holes < 2
 IsStart holes (Some pair) = IsHeld holes pair
+
+-- the first two holes of a list: no pair comes before theirs (docs/DEFINITIONS.md, Nearest holes)
+pub record IsFirstPair (pair : Nearest) : Type 0 where
+  pub first : pair.first ≡ 0
+  pub second : pair.second ≡ 1
+
+-- two holes with a gap of so much or more are no nearer than a pair (docs/DEFINITIONS.md, Nearest holes)
+abbrev pub IsEnough : Nearest → ℕ → Type 0
+IsEnough pair gap = (pair.gap <ℤ pos gap) ⊎ ((pair.gap ≤ℤ pos gap) × IsFirstPair pair)

@@ -1,24 +1,29 @@
 use Rattle.std.proofs.Common.{◌≡◌, ℕ, None, length, get_or, sym, subst, ◌∙◌, arith}
 use Rattle.std.proofs.lemmas.List.{get_or_default}
+use Rattle.pad_shapes.specs.Zones.{IsInZone}
 use Rattle.ring_rules.specs.Meeting.{hole_at}
 use Rattle.margins.specs.Inner.Bests.{IsBestSoFar}
-use Rattle.margins.proofs.Bettering.{none_so_far, next_so_far, best_of_all}
+use Rattle.margins.proofs.Bettering.{none_so_far, next_so_far, best_of_all, asks_none}
 use Rattle.margins.proofs.bests.try_pads.Goals as goal
 
 pub loop-place-init : goal.loop-place-init
 loop-place-init g c = record {
   size = c.requires.size;
-  bounds = c.requires.bounds;
+  least = asks_none c.args.holes.now c.args.bests.now (IsInZone c.args.division.now.whole);
+  zones = c.requires.zone_bounds;
+  parts = c.requires.part_bounds;
   each = λ k h. subst (IsBestSoFar g.S.PadShape.covers c.args.pads.now 0 (hole_at c.args.holes.now k)) (sym (c.requires.none k h)) (none_so_far g.S.PadShape.covers c.args.pads.now (hole_at c.args.holes.now k));
 }
 
 pub loop-place-preserved : goal.loop-place-preserved
 loop-place-preserved g c = record {
-  size = c.in_ok-try_pad.ensures.tried.size ∙ c.loop-place.invariant.size;
-  bounds = c.in_ok-try_pad.ensures.bounds;
+  size = c.in_ok-least.ensures.tried.size ∙ c.loop-place.invariant.size;
+  least = c.in_ok-least.ensures.least;
+  zones = c.in_ok-least.ensures.zone_bounds;
+  parts = c.in_ok-least.ensures.part_bounds;
   each = λ k h. next_so_far g.S.PadShape.covers c.args.pads.now c.loop-place.place c.index-pads-place.result (hole_at c.args.holes.now k) c.loop-place-test.true
       (λ p. get_or_default c.args.pads.now c.loop-place.place p c.index-pads-place.result c.loop-place-test.true ∙ sym c.index-pads-place.is)
-      (get_or c.loop-place.bests k None) (get_or c.try_pad.new.bests k None) (c.loop-place.invariant.each k h) (c.in_ok-try_pad.ensures.tried.tried k h);
+      (get_or c.loop-place.bests k None) (get_or c.try_pad.new.bests k None) (c.loop-place.invariant.each k h) (c.in_ok-least.ensures.tried.tried k h);
 }
 
 pub returns : goal.returns

@@ -1,5 +1,8 @@
-use Rattle.margins.proofs.Trying.{tried_old, tried_new}
+use Rattle.margins.proofs.Trying.{tried_far, tried_old, tried_new}
 use Rattle.margins.proofs.nearest.tried.Goals as goal
+
+pub returns-then-is_further : goal.returns-then-is_further
+returns-then-is_further c = tried_far c.args.holes.now c.args.first c.args.second c.args.best c.requires (c.is_further.ensures c.if-is_further.true)
 
 pub returns-then-is_no_further : goal.returns-then-is_no_further
 returns-then-is_no_further c =

@@ -1,0 +1,104 @@
+//! Which holes are bare.
+
+ghost use Rattle.std.specs.Prelude.{◌≡◌, map, IfOk};
+ghost use Rattle.margins.specs.Bests.{AreBare};
+ghost use Rattle.margins.specs.Rows.{has_none};
+ghost use Rattle.margins.specs.Flats.{flat_covers, flat_holds, flat_holds_slots, flat_between, flat_covers_less};
+
+use crate::best::Best;
+use crate::bests::best_pads;
+use crate::deep::Deep;
+use grid_units::Point;
+use pad_shapes::{PadShape, Zone};
+use ring_rules::Drilled;
+use std::alloc::{AllocError, Global};
+
+/// The same shape, in which nothing lies deep: it covers with no reach what the shape covers so, and nothing with a greater one.
+#[derive(Clone, Copy)]
+struct Flat<S> {
+    shape: S,
+}
+
+impl<S: PadShape> PadShape for Flat<S> {
+    ghost points = { λ s. S.points s.shape };
+
+    ghost covers = { λ s. flat_covers S.covers s.shape };
+
+    ghost left = { λ s. S.left s.shape };
+
+    ghost right = { λ s. S.right s.shape };
+
+    ghost holds = { λ s. flat_holds S.points S.covers S.holds s.shape };
+
+    ghost holds_slots = { λ s. flat_holds_slots S.points S.covers S.holds_slots s.shape };
+
+    ghost between = { λ s. flat_between S.covers S.left S.right S.between s.shape };
+
+    ghost extent = { λ s. S.extent s.shape };
+
+    fn covers(&self, hole: Point, reach: i64) -> bool {
+        reach == 0 && self.shape.covers(hole, 0)
+    }
+
+    fn left(&self) -> i64 {
+        self.shape.left()
+    }
+
+    fn right(&self) -> i64 {
+        self.shape.right()
+    }
+
+    fn zone(&self, reach: u64) -> Option<Zone> {
+        self.shape.zone(0)
+    }
+
+    fn may_cover(&self, zone: &Zone, reach: u64) -> bool {
+        reach == 0 && self.shape.may_cover(zone, 0)
+    }
+}
+
+impl<S: Deep> Deep for Flat<S> {
+    ghost middle = { λ s. S.middle s.shape };
+
+    ghost shrinks = { λ s. flat_covers_less S.covers s.shape };
+
+    fn depth(&self, at: Point) -> i64 {
+        if self.shape.covers(at, 0) { 0 } else { -1 }
+    }
+
+    fn middle(&self) -> Point {
+        self.shape.middle()
+    }
+}
+
+/// The shapes of some shapes in which nothing lies deep.
+fn flats<S: Deep + Copy>(alloc: Global, pads: &[S]) -> Result<Vec<Flat<S>>, AllocError>
+    ensures { IfOk result (λ flats. flats.items ≡ map (λ pad. record { shape = pad }) pads.now) }
+{
+    pads.iter().map(|pad| Flat { shape: *pad }).collect(alloc)
+}
+
+/// Which holes have no best pad.
+fn nones(alloc: Global, bests: &[Option<Best>]) -> Result<Vec<bool>, AllocError>
+    ensures { IfOk result (λ nones. nones.items ≡ map has_none bests.now) }
+{
+    bests.iter().map(|best| best.is_none()).collect(alloc)
+}
+
+/// Whether each of some holes is bare, in their order: an oblique slot, or covered by no pad at both ends with any reach. That is what
+/// `best_pads` tells too; here nothing is asked of a hole again once a pad covers it.
+///
+/// # Errors
+///
+/// Where there is no memory.
+pub fn bare_holes<S: Deep + Copy>(
+    alloc: Global,
+    pads: &[S],
+    holes: &[Drilled],
+) -> Result<Vec<bool>, AllocError>
+    ensures { IfOk result (λ bare. AreBare S.covers pads.now holes.now bare.items) }
+{
+    let flats = flats(alloc, pads)?;
+    let bests = best_pads(alloc, &flats, holes)?;
+    nones(alloc, &bests)
+}

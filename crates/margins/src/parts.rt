@@ -1,0 +1,155 @@
+//! The zones in which the holes of a board go in, each cut into parts of few holes.
+
+ghost use Rattle.std.specs.Prelude.{◌≡◌, ℕ, ◌≤◌, ◌<◌, length, get_or, IfOk, OnOk};
+ghost use Rattle.std.specs.List.{All};
+ghost use Rattle.grid_units.specs.Points.{GridPoint};
+ghost use Rattle.pad_shapes.specs.Zones.{IsInZone};
+ghost use Rattle.ring_rules.specs.Index.{IsIndexOf, IsInOneOf};
+ghost use Rattle.ring_rules.specs.Places.{point_at};
+ghost use Rattle.margins.specs.Inner.Bests.{IsInSome, IsDivision};
+
+use grid_units::Point;
+use pad_shapes::Zone;
+use ring_rules::{Drilled, HoleIndex};
+use std::alloc::{AllocError, Global};
+
+/// How many holes a part has at most. Any number is right: only the time depends on it.
+const FEW: usize = 8;
+
+/// The zones of a board, and the parts of each.
+#[derive(Drop)]
+pub(crate) struct Division {
+    /// A zone that holds all others.
+    pub whole: Zone,
+    /// The zones.
+    pub zones: Vec<Zone>,
+    /// Where the parts of each zone begin in the list of parts; behind it where the last ones end.
+    pub starts: Vec<usize>,
+    /// The parts, zone by zone.
+    pub parts: Vec<Zone>,
+}
+
+/// A zone without points.
+fn no_zone() -> Zone {
+    Zone {
+        left: i64::MAX,
+        right: i64::MIN,
+        bottom: i64::MAX,
+        top: i64::MIN,
+    }
+}
+
+/// The zone of a point.
+fn zone_of(at: Point) -> Zone
+    ensures { IsInZone result at }
+{
+    Zone {
+        left: at.x(),
+        right: at.x(),
+        bottom: at.y(),
+        top: at.y(),
+    }
+}
+
+/// The least zone that holds two others.
+fn hull(a: Zone, b: Zone) -> Zone
+    ensures first { (p : GridPoint) → IsInZone a p → IsInZone result p }
+    ensures second { (p : GridPoint) → IsInZone b p → IsInZone result p }
+{
+    Zone {
+        left: a.left.min(b.left),
+        right: a.right.max(b.right),
+        bottom: a.bottom.min(b.bottom),
+        top: a.top.max(b.top),
+    }
+}
+
+/// A zone that holds some others.
+fn hull_of(zones: &[Zone]) -> Zone
+    ensures { (p : GridPoint) → IsInOneOf zones.now p → IsInZone result p }
+{
+    let mut whole = no_zone();
+    for zone in zones {
+        whole = hull(whole, *zone);
+    }
+    whole
+}
+
+/// A zone that holds where those holes go in whose places stand in a list from one place to below another.
+fn part_of(holes: &[Drilled], near: &[usize], start: usize, end: usize) -> Zone
+    requires near { All (λ k. k < length holes.now) near.now }
+    requires end { end ≤ length near.now }
+    ensures { (i : ℕ) → start ≤ i → i < end → IsInZone result (point_at holes.now (get_or near.now i 0)) }
+{
+    let mut part = no_zone();
+    for i in start..end {
+        part = hull(part, zone_of(holes[near[i]].hole.from()));
+    }
+    part
+}
+
+/// The end of what begins at a place, within so many places.
+fn end_of(start: usize, count: usize) -> usize
+    requires { start < count }
+    ensures more { start < result }
+    ensures within { result ≤ count }
+{
+    start + FEW.min(count - start)
+}
+
+/// Appends parts that together hold where the holes at some places go in.
+fn add_parts(holes: &[Drilled], near: &[usize], parts: &mut Vec<Zone>) -> Result<(), AllocError>
+    requires { All (λ k. k < length holes.now) near.now }
+    ensures longer { OnOk result (length parts.old.items ≤ length parts.new.items) }
+    ensures kept { OnOk result ((first last : ℕ) (p : GridPoint) → IsInSome parts.old.items first last p → IsInSome parts.new.items first last p) }
+    ensures holds { OnOk result ((i : ℕ) → i < length near.now → IsInSome parts.new.items (length parts.old.items) (length parts.new.items) (point_at holes.now (get_or near.now i 0))) }
+{
+    let mut start = 0;
+    while start < near.len() {
+        let end = end_of(start, near.len());
+        parts.push(part_of(holes, near, start, end))?;
+        start = end;
+    }
+    Ok(())
+}
+
+/// Zones that hold where the holes of an index go in, with their parts.
+fn cut(
+    alloc: Global,
+    index: &HoleIndex,
+    holes: &[Drilled],
+    zones: Vec<Zone>,
+) -> Result<Division, AllocError>
+    requires index { IsIndexOf holes.now index.now }
+    requires zones { (k : ℕ) → k < length holes.now → IsInOneOf zones.items (point_at holes.now k) }
+    ensures { IfOk result (IsDivision holes.now) }
+{
+    let mut near = Vec::new(alloc);
+    let mut parts = Vec::new(alloc);
+    let mut starts = Vec::new(alloc);
+    starts.push(0)?;
+    for zone in &zones {
+        index.find(holes, zone, &mut near)?;
+        add_parts(holes, &near, &mut parts)?;
+        starts.push(parts.len())?;
+    }
+    Ok(Division {
+        whole: hull_of(&zones),
+        zones,
+        starts,
+        parts,
+    })
+}
+
+/// The zones of the holes of an index, and their parts.
+pub(crate) fn divided(
+    alloc: Global,
+    index: &HoleIndex,
+    holes: &[Drilled],
+) -> Result<Division, AllocError>
+    requires { IsIndexOf holes.now index.now }
+    ensures { IfOk result (IsDivision holes.now) }
+{
+    let zones = index.zones(alloc, holes)?;
+    cut(alloc, index, holes, zones)
+}
