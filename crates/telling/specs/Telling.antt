@@ -1,5 +1,5 @@
 -- What a report tells of a package. Lengths are whole picometres.
-use Rattle.std.specs.Prelude.{◌≡◌, ℕ, pos, ◌-ℤ◌, Bool, true, false, not, List, [], get_or, map, count_by, Result, Ok, Err, ⊤}
+use Rattle.std.specs.Prelude.{◌≡◌, ℕ, pos, ◌+◌, ◌-ℤ◌, Bool, true, false, not, List, [], length, get_or, map, count_by, Result, Ok, Err, ⊤}
 use Rattle.std.specs.List.{AllZip, enumerate_from, filter}
 use Rattle.grid_units.specs.Holes.{GridRules}
 use Rattle.layer_image.specs.declared.flash.Flash.{Flash}
@@ -10,7 +10,9 @@ use Rattle.ring_rules.specs.declared.finding.Finding.TheVariants.{Gap, Oblique, 
 use Rattle.margins.specs.Gaps.{IsGap}
 use Rattle.margins.specs.Meets.{asks_ring}
 use Rattle.package_check.specs.Boards.{Survey, board_findings}
-use Rattle.package_check.specs.Package.{IsFirstRefused, Source}
+use Rattle.package_check.specs.Package.{IsFirstRefused, IsReport, Source}
+use Rattle.package_check.specs.Reports.{Account}
+use Rattle.package_check.specs.Soundness.{IsSound}
 use Rattle.package_check.specs.declared.PackageFault.{PackageFault}
 use Rattle.package_check.specs.declared.PackageFault.TheVariants as stop
 use Rattle.measuring.specs.Measures.{IsMeasure}
@@ -90,3 +92,13 @@ abbrev pub AnswersTelling : List Source → GridRules → Result Telling Package
 AnswersTelling sources asked (Ok told) = IsTellingOf sources asked told
 AnswersTelling sources asked (Err stop.Memory) = ⊤
 AnswersTelling sources asked (Err (stop.File index fault)) = IsFirstRefused sources index fault
+
+-- what is told of a package is as its check: the check reports on it, by just as many findings, and a package of which none is told is sound (docs/DEFINITIONS.md, Reports)
+pub record IsAsCheck (sources : List Source) (asked : GridRules) (told : Telling) : Type 0 where
+  pub reported : (report : Account) × IsReport sources asked report
+  pub count : (report : Account) → IsReport sources asked report → length report.findings ≡ length told.rings.items + length told.gaps.items
+  pub sound : told.rings.items ≡ [] → told.gaps.items ≡ [] → IsSound sources asked
+
+-- what is told of any package is as its check (docs/DEFINITIONS.md, Reports)
+abbrev pub TellsAsChecks : Type 0
+TellsAsChecks = (sources : List Source) (asked : GridRules) (told : Telling) → IsTellingOf sources asked told → IsAsCheck sources asked told

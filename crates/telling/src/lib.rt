@@ -5,6 +5,7 @@
 
 mod gaps;
 mod heads;
+pub mod laws;
 mod places;
 mod rings;
 mod tell;
