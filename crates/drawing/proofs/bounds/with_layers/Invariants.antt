@@ -1,0 +1,7 @@
+use Rattle.std.proofs.Common.{◌≡◌, map, take}
+use Rattle.std.specs.List.{flat_map, fold}
+use Rattle.drawing.specs.Boxes.{joined_to, pad_extent}
+use Rattle.drawing.proofs.bounds.with_layers.Given as goal
+
+abbrev pub invariant-loop-layer : goal.invariant-loop-layer
+invariant-loop-layer l = l.all ≡ fold joined_to l.fn.before (flat_map (λ layer. map pad_extent layer) (take l.layer-index (map (λ layer. layer.now) l.layers)))

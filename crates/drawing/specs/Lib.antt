@@ -1,0 +1,4 @@
+pub mod Boxes
+pub mod Drawings
+pub mod Layouts
+pub mod Pages

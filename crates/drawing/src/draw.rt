@@ -1,0 +1,202 @@
+//! The page of a board, printed part by part.
+
+ghost use Rattle.std.specs.Prelude.{◌≡◌, ◌++◌, ℕ, List, map, IfErr, IfOk, OnOk, string_bytes};
+ghost use Rattle.std.specs.List.{flat_map};
+ghost use Rattle.std.specs.Io.KnownBytes.{Appends};
+ghost use Rattle.printing.specs.Parts.{PassesOn};
+ghost use Rattle.drawing.specs.Drawings.{IsDrawn, IsPage, found};
+ghost use Rattle.drawing.specs.Pages.{before_panels, behind_panels, page_text, text_of_panel};
+
+use crate::bounds::extent_of;
+use crate::laying::layout_of;
+use crate::layout::Layout;
+use crate::page::{push_before_panels, push_behind_panels};
+use crate::panels::{Panel, panels_of};
+use flashed_boards::FlashedBoard;
+use grid_units::Rules;
+use package_check::Board;
+use picture::print_panel;
+use printing::{Cut, buffer, make_room, pass_on};
+use ring_rules::Finding;
+use std::alloc::{AllocError, Global};
+use std::io::Write;
+use thiserror::Error;
+
+/// Why a drawing was not printed.
+#[derive(Clone, Copy, Debug, PartialEq, Eq, Error)]
+pub enum PrintFault {
+    /// There was no memory, and nothing was written.
+    #[error("out of memory before the drawing was written")]
+    Memory,
+    /// The writer failed, or memory ran out after a part was written: it is not known what the writer took.
+    #[error("the drawing was not written to its end")]
+    Cut,
+}
+
+/// What a page shows.
+#[derive(Drop)]
+pub(crate) struct Page<'a> {
+    /// How its panels stand.
+    layout: Layout,
+    /// How many findings there are.
+    count: usize,
+    /// Its panels.
+    panels: Vec<Panel<'a>>,
+}
+
+/// What is found under the rules, nothing where there are none.
+fn found(alloc: Global, board: &Board, rules: &Option<Rules>) -> Result<Vec<Finding>, AllocError>
+    ensures { IfOk result (λ findings. findings.items ≡ found rules.now board.now) }
+{
+    match rules {
+        Some(rules) => board.findings(alloc, *rules),
+        None => Ok(Vec::new(alloc)),
+    }
+}
+
+/// The board alone.
+fn board_of(flashed: &FlashedBoard) -> &Board
+    ensures { result.now ≡ flashed.now.board }
+{
+    &flashed.board
+}
+
+/// Gathers what stands before the panels.
+fn gather_before_panels<W: Write>(
+    text: &mut String,
+    layout: &Layout,
+    rules: &Option<Rules>,
+    count: usize,
+    out: &mut W,
+) -> Result<(), Cut>
+    ensures { OnOk result (PassesOn (W.contents out.old) (string_bytes text.old) (W.contents out.new) (string_bytes text.new) (before_panels layout.now rules.now count)) }
+{
+    make_room(text, out)?;
+    match push_before_panels(text, layout, rules, count) {
+        Ok(()) => Ok(()),
+        Err(_) => Err(Cut),
+    }
+}
+
+/// Gathers a panel.
+fn gather_panel<W: Write>(
+    alloc: Global,
+    text: &mut String,
+    layout: &Layout,
+    panel: &Panel,
+    out: &mut W,
+) -> Result<(), Cut>
+    ensures { OnOk result (PassesOn (W.contents out.old) (string_bytes text.old) (W.contents out.new) (string_bytes text.new) (text_of_panel layout.now panel.now)) }
+{
+    print_panel(
+        alloc,
+        text,
+        &panel.place,
+        &layout.frame,
+        &layout.pen,
+        &panel.scene,
+        out,
+    )
+}
+
+/// Gathers the panels one after the other.
+fn gather_panels<W: Write>(
+    alloc: Global,
+    text: &mut String,
+    layout: &Layout,
+    panels: &[Panel],
+    out: &mut W,
+) -> Result<(), Cut>
+    ensures { OnOk result (PassesOn (W.contents out.old) (string_bytes text.old) (W.contents out.new) (string_bytes text.new) (flat_map (text_of_panel layout.now) panels.now)) }
+{
+    for panel in panels {
+        gather_panel(alloc, text, layout, panel, out)?;
+    }
+    Ok(())
+}
+
+/// Gathers what stands behind the panels, and writes what is left.
+fn end<W: Write>(text: &mut String, layout: &Layout, out: &mut W) -> Result<(), Cut>
+    ensures { OnOk result (Appends (W.contents out.old) (W.contents out.new) (string_bytes text.old ++ behind_panels layout.now)) }
+{
+    match push_behind_panels(text, layout) {
+        Ok(()) => pass_on(text, out),
+        Err(_) => Err(Cut),
+    }
+}
+
+/// Prints what `text` holds, and the text of a page behind it.
+fn print_page<W: Write>(
+    alloc: Global,
+    text: &mut String,
+    layout: &Layout,
+    rules: &Option<Rules>,
+    count: usize,
+    panels: &[Panel],
+    out: &mut W,
+) -> Result<(), Cut>
+    ensures { OnOk result (Appends (W.contents out.old) (W.contents out.new) (string_bytes text.old ++ page_text layout.now rules.now count panels.now)) }
+{
+    gather_before_panels(text, layout, rules, count, out)?;
+    gather_panels(alloc, text, layout, panels, out)?;
+    end(text, layout, out)
+}
+
+/// What the page of a board shows.
+fn page_of<'a>(
+    alloc: Global,
+    names: &[&'a str],
+    flashed: &'a FlashedBoard,
+    rules: &Option<Rules>,
+) -> Result<Page<'a>, AllocError>
+    ensures { IfOk result (IsPage (map (λ name. name.now) names.now) flashed.now rules.now) }
+{
+    let board = board_of(flashed);
+    let findings = found(alloc, board, rules)?;
+    let layers = board.layers(alloc)?;
+    let extent = extent_of(&layers, board.holes());
+    let layout = layout_of(extent, board.layer_indexes().len(), rules);
+    let panels = panels_of(alloc, &layout, names, flashed, &findings)?;
+    Ok(Page {
+        layout,
+        count: findings.len(),
+        panels,
+    })
+}
+
+/// Prints a board as a page of SVG, by the names of its files: a panel for each copper file, with what is found under the rules; nothing
+/// is looked for where there are none. What the panels show is gathered before the first byte is written. The text is written in parts.
+///
+/// # Errors
+///
+/// [`PrintFault::Memory`] where there is no memory, and then nothing was written; [`PrintFault::Cut`] where the writer fails, or where
+/// there is no memory for the name of a file or for an element after a part was written.
+pub fn print_drawing<'a, W: Write>(
+    alloc: Global,
+    names: &[&'a str],
+    flashed: &'a FlashedBoard,
+    rules: &Option<Rules>,
+    out: &mut W,
+) -> Result<(), PrintFault>
+    ensures ok { OnOk result ((text : List ℕ) × IsDrawn (map (λ name. name.now) names.now) flashed.now rules.now text × Appends (W.contents out.old) (W.contents out.new) text) }
+    ensures memory { IfErr result (λ e. e ≡ PrintFault.Memory → W.contents out.new ≡ W.contents out.old) }
+{
+    let Ok(page) = page_of(alloc, names, flashed, rules) else {
+        return Err(PrintFault::Memory);
+    };
+    let Ok(mut text) = buffer(alloc) else {
+        return Err(PrintFault::Memory);
+    };
+    match print_page(
+        alloc,
+        &mut text,
+        &page.layout,
+        rules,
+        page.count,
+        &page.panels,
+        out,
+    ) {
+        Ok(()) => Ok(()),
+        Err(_) => Err(PrintFault::Cut),
+    }
+}

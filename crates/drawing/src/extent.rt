@@ -1,0 +1,171 @@
+//! How far pads and holes reach.
+
+ghost use Rattle.std.specs.Prelude.{◌≡◌, ◌≤◌, ◌^◌, ◌*◌, ◌+ℤ◌, ◌-ℤ◌, pos, unsigned_abs};
+ghost use Rattle.std.specs.Int.{int_min, int_max};
+ghost use Rattle.drawing.specs.Boxes.{extent_round, hole_extent, joined, joined_to, pad_extent};
+
+use grid_units::{Hole, Point};
+use pad_shapes::Pad;
+use std::marker::Model;
+
+/// How far something reaches along both axes, in pm.
+#[derive(Clone, Copy)]
+pub(crate) struct Extent {
+    left: i64,
+    right: i64,
+    bottom: i64,
+    top: i64,
+}
+
+impl Model for Extent {
+    ghost use Rattle.std.specs.Prelude.{◌≤◌, ◌^◌, ◌*◌, unsigned_abs};
+    ghost use Rattle.drawing.specs.Boxes.{GridExtent};
+
+    ghost Value = { GridExtent };
+
+    ghost view = { λ e. record { left = e.left; right = e.right; bottom = e.bottom; top = e.top } };
+
+    ghost invariant = { λ e. (unsigned_abs e.left ≤ 2 * 10 ^ 13) × ((unsigned_abs e.right ≤ 2 * 10 ^ 13) × ((unsigned_abs e.bottom ≤ 2 * 10 ^ 13) × (unsigned_abs e.top ≤ 2 * 10 ^ 13))) };
+
+    ghost inverse = { λ e. record { left = e.left; right = e.right; bottom = e.bottom; top = e.top } };
+}
+
+impl Extent {
+    /// The least x in pm, at most 20 m from 0.
+    pub(crate) fn left(&self) -> i64
+        ensures value { result ≡ self.now.left }
+        ensures near { unsigned_abs result ≤ 2 * 10 ^ 13 }
+    {
+        self.left
+    }
+
+    /// The greatest x in pm, at most 20 m from 0.
+    pub(crate) fn right(&self) -> i64
+        ensures value { result ≡ self.now.right }
+        ensures near { unsigned_abs result ≤ 2 * 10 ^ 13 }
+    {
+        self.right
+    }
+
+    /// The least y in pm, at most 20 m from 0.
+    pub(crate) fn bottom(&self) -> i64
+        ensures value { result ≡ self.now.bottom }
+        ensures near { unsigned_abs result ≤ 2 * 10 ^ 13 }
+    {
+        self.bottom
+    }
+
+    /// The greatest y in pm, at most 20 m from 0.
+    pub(crate) fn top(&self) -> i64
+        ensures value { result ≡ self.now.top }
+        ensures near { unsigned_abs result ≤ 2 * 10 ^ 13 }
+    {
+        self.top
+    }
+
+    /// The least extent with both.
+    fn joined(&self, other: &Extent) -> Extent
+        ensures { result ≡ joined self.now other.now }
+    {
+        Extent {
+            left: lesser(self.left, other.left),
+            right: greater(self.right, other.right),
+            bottom: lesser(self.bottom, other.bottom),
+            top: greater(self.top, other.top),
+        }
+    }
+}
+
+/// The lesser of two lengths.
+fn lesser(first: i64, second: i64) -> i64
+    requires first { unsigned_abs first ≤ 2 * 10 ^ 13 }
+    requires second { unsigned_abs second ≤ 2 * 10 ^ 13 }
+    ensures value { result ≡ int_min first second }
+    ensures near { unsigned_abs result ≤ 2 * 10 ^ 13 }
+{
+    first.min(second)
+}
+
+/// The greater of two lengths.
+fn greater(first: i64, second: i64) -> i64
+    requires first { unsigned_abs first ≤ 2 * 10 ^ 13 }
+    requires second { unsigned_abs second ≤ 2 * 10 ^ 13 }
+    ensures value { result ≡ int_max first second }
+    ensures near { unsigned_abs result ≤ 2 * 10 ^ 13 }
+{
+    first.max(second)
+}
+
+/// A coordinate less a length.
+fn less(at: i64, far: u64) -> i64
+    requires at { unsigned_abs at ≤ 10 ^ 13 }
+    requires far { far ≤ 5000000000000 }
+    ensures value { result ≡ at -ℤ pos far }
+    ensures near { unsigned_abs result ≤ 2 * 10 ^ 13 }
+{
+    at - far as i64
+}
+
+/// A coordinate and a length.
+fn more(at: i64, far: u64) -> i64
+    requires at { unsigned_abs at ≤ 10 ^ 13 }
+    requires far { far ≤ 5000000000000 }
+    ensures value { result ≡ at +ℤ pos far }
+    ensures near { unsigned_abs result ≤ 2 * 10 ^ 13 }
+{
+    at + far as i64
+}
+
+/// The extent of what reaches so far from a point along each axis, in pm.
+fn extent_round(centre: Point, far_x: u64, far_y: u64) -> Extent
+    requires x { far_x ≤ 5000000000000 }
+    requires y { far_y ≤ 5000000000000 }
+    ensures { result ≡ extent_round centre far_x far_y }
+{
+    Extent {
+        left: less(centre.x(), far_x),
+        right: more(centre.x(), far_x),
+        bottom: less(centre.y(), far_y),
+        top: more(centre.y(), far_y),
+    }
+}
+
+/// The extent of a pad.
+pub(crate) fn pad_extent(pad: &Pad) -> Extent
+    ensures { result ≡ pad_extent pad.now }
+{
+    match pad {
+        Pad::Disc(disc) => {
+            let radius = disc.radius().unsigned_abs();
+            extent_round(disc.centre(), radius, radius)
+        }
+        Pad::Rect(rect) => extent_round(
+            rect.centre(),
+            rect.half_x().unsigned_abs(),
+            rect.half_y().unsigned_abs(),
+        ),
+        Pad::Obround(obround) => extent_round(
+            obround.centre(),
+            obround.half_x().unsigned_abs(),
+            obround.half_y().unsigned_abs(),
+        ),
+    }
+}
+
+/// The extent of a hole.
+pub(crate) fn hole_extent(hole: &Hole) -> Extent
+    ensures { result ≡ hole_extent hole.now }
+{
+    let radius = hole.radius().unsigned_abs();
+    extent_round(hole.from(), radius, radius).joined(&extent_round(hole.to(), radius, radius))
+}
+
+/// The extent of what there is so far, and of one thing more.
+pub(crate) fn joined_to(all: Option<Extent>, extent: Extent) -> Option<Extent>
+    ensures { result ≡ joined_to all extent }
+{
+    match all {
+        Some(all) => Some(all.joined(&extent)),
+        None => Some(extent),
+    }
+}

@@ -1,0 +1,18 @@
+//! A board drawn as a page: a title, a panel for each copper file, a scale and a legend, as SVG.
+//!
+//! All lengths are whole picometres (pm), and are written in millimetres.
+#![tactic(auto)]
+
+mod bounds;
+mod columns;
+mod draw;
+mod extent;
+mod laying;
+mod layout;
+mod page;
+mod panels;
+mod places;
+mod scale;
+mod words;
+
+pub use draw::{PrintFault, print_drawing};

@@ -1,0 +1,128 @@
+//! The panels of a board.
+
+ghost use Rattle.std.specs.Prelude.{◌≡◌, ◌++◌, ◌∷◌, ◌-ℤ◌, ◌+ℤ◌, [], pos, get_or, map, IfOk, OnOk};
+ghost use Rattle.std.specs.List.{AllZip, enumerate_from};
+ghost use Rattle.drawing.specs.Drawings.{IsPanel, IsScene, number_of};
+ghost use Rattle.drawing.specs.Layouts.{box_left, box_top};
+
+use crate::layout::Layout;
+use flashed_boards::FlashedBoard;
+use layer_image::Flash;
+use picture::{Place, Scene, scene_of};
+use ring_rules::{Drilled, Finding};
+use std::alloc::{AllocError, Global};
+
+/// A panel: where it stands, and what stands in it.
+#[derive(Drop)]
+pub(crate) struct Panel<'a> {
+    /// Where it stands.
+    pub(crate) place: Place<'a>,
+    /// What stands in it.
+    pub(crate) scene: Scene<'a>,
+}
+
+/// The name of a file; empty where it has none.
+fn name_of<'a>(names: &[&'a str], file: usize) -> &'a str
+    ensures { result.now ≡ get_or (map (λ name. name.now) names.now) file [] }
+{
+    match names.get(file) {
+        Some(name) => *name,
+        None => "",
+    }
+}
+
+/// The flashes of a file.
+fn flashes_of(flashed: &FlashedBoard, file: usize) -> &[Flash]
+    ensures { result.now ≡ get_or flashed.now.flashes file [] }
+{
+    match flashed.flashes.get(file) {
+        Some(flashes) => flashes,
+        None => &[],
+    }
+}
+
+/// Where the panel of a layer stands, by its place among the copper files and the index of its file.
+fn place_of<'a>(layout: &Layout, names: &[&'a str], layer: usize, file: usize) -> Place<'a>
+    ensures file { result.file ≡ number_of file }
+    ensures name { result.name.now ≡ get_or (map (λ name. name.now) names.now) file [] }
+    ensures x { result.x ≡ pos (box_left layout.now layer) -ℤ layout.now.frame.left }
+    ensures y { result.y ≡ pos (box_top layout.now layer) +ℤ layout.now.frame.top }
+{
+    Place {
+        file: file.saturating_add(1),
+        name: name_of(names, file),
+        x: layout.box_left(layer) as i64 - layout.frame.left,
+        y: layout.box_top(layer) as i64 + layout.frame.top,
+    }
+}
+
+/// What stands in the panel of a layer.
+fn scene_on<'a>(
+    alloc: Global,
+    layer: usize,
+    flashes: &[Flash],
+    holes: &'a [Drilled],
+    findings: &[Finding],
+) -> Result<Scene<'a>, AllocError>
+    ensures { IfOk result (IsScene layer flashes.now holes.now findings.now) }
+{
+    scene_of(alloc, layer, flashes, holes, findings)
+}
+
+/// The panel of a layer, by its place among the copper files and the index of its file.
+fn panel_of<'a>(
+    alloc: Global,
+    layout: &Layout,
+    names: &[&'a str],
+    flashed: &'a FlashedBoard,
+    findings: &[Finding],
+    layer: usize,
+    file: usize,
+) -> Result<Panel<'a>, AllocError>
+    ensures { IfOk result (IsPanel (map (λ name. name.now) names.now) flashed.now findings.now layout.now (layer, file)) }
+{
+    let scene = scene_on(
+        alloc,
+        layer,
+        flashes_of(flashed, file),
+        flashed.board.holes(),
+        findings,
+    )?;
+    Ok(Panel {
+        place: place_of(layout, names, layer, file),
+        scene,
+    })
+}
+
+/// Adds a panel.
+fn add<'a>(panels: &mut Vec<Panel<'a>>, panel: Panel<'a>) -> Result<(), AllocError>
+    ensures { OnOk result (panels.new.items ≡ panels.old.items ++ panel.entry ∷ []) }
+{
+    if panels.push(panel).is_err() {
+        return Err(AllocError);
+    }
+    Ok(())
+}
+
+/// The panels of a board, one for each copper file.
+///
+/// # Errors
+///
+/// An `AllocError` where there is no memory for what stands in them.
+pub(crate) fn panels_of<'a>(
+    alloc: Global,
+    layout: &Layout,
+    names: &[&'a str],
+    flashed: &'a FlashedBoard,
+    findings: &[Finding],
+) -> Result<Vec<Panel<'a>>, AllocError>
+    ensures { IfOk result (λ panels. AllZip (IsPanel (map (λ name. name.now) names.now) flashed.now findings.now layout.now) (enumerate_from 0 flashed.now.board.layer_indexes) panels.items) }
+{
+    let files = flashed.board.layer_indexes();
+    let mut panels = Vec::new(alloc);
+    for layer in 0..files.len() {
+        let panel = panel_of(alloc, layout, names, flashed, findings, layer, files[layer])?;
+        add(&mut panels, panel)?;
+    }
+    Ok(panels)
+}
