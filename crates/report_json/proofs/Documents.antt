@@ -1,0 +1,178 @@
+-- A report and a measure, as their tokens are printed, and that they read back.
+use Rattle.std.proofs.Common.{◌≡◌, ◌≤◌, ◌+◌, ◌++◌, ◌∙◌, ℕ, true, false, List, [], ◌∷◌, Some, map, ap, ap₂, append_assoc, arith}
+use Rattle.std.specs.Prelude.{codes}
+use Rattle.std.specs.List.{All, enumerate_from, flat_map}
+use Rattle.std.proofs.lemmas.List.Concat.{flat_map-append}
+use Rattle.std.proofs.lemmas.List.Elements.{All-append, All-map}
+use Rattle.json.specs.Json.{Json, document, max_depth}
+use Rattle.json.specs.Print.{print}
+use Rattle.json.specs.Token.{Token}
+use Rattle.json.specs.Tree.{json_tokens, items_tokens, depth, items_depth, HasNumbers}
+use Rattle.json.proofs.Printed.Trees.{document-print}
+use Rattle.margin_text.specs.declared.Meets.{Meets}
+use Rattle.measuring.specs.declared.measure.Measure.{Measure}
+use Rattle.package_check.specs.Boards.{Survey}
+use Rattle.package_check.specs.declared.FileSum.{FileSum}
+use Rattle.report_text.specs.declared.Telling.{Telling}
+use Rattle.report_text.specs.Texts as texts
+use Rattle.report_json.specs.Inner.Heads.{array_begin, finding_tokens, list_tokens, measure_end, measure_head, telling_end, telling_head}
+use Rattle.report_json.specs.Inner.Parts.{ended_by, member_tokens, members_tokens}
+use Rattle.report_json.specs.Packages.{file_values, measure_value, opening, result_word, stop_value, telling_value}
+use Rattle.report_json.specs.Values.{file_value, gap_value, if_there, items_of, least_gap_value, meets_value, ring_value, row_value, rules_value, scale_value}
+use Rattle.report_json.specs.declared.refused.Stop.{Stop}
+use Rattle.report_json.specs.declared.refused.Stop.TheVariants as stops
+use Rattle.report_json.proofs.Depths.{file_within, gap_within, least_gap_within, meets_within, ring_within, row_within, scale_within, there_within}
+use Rattle.report_json.proofs.Gathering.{ended_more}
+use Rattle.report_json.proofs.Numerals.{decimal_number}
+use Rattle.report_json.proofs.Whole.{array_and, begun, items_numbers, items_within, told_numbers, told_tokens, told_within}
+
+-- no value ends before the first file
+pub telling_begins : (telling : Telling) → ended_by false (telling_head telling) ≡ false
+unfolding telling_head
+telling_begins telling =
+    let rules = member_tokens (codes "rules") (rules_value telling.rules) in
+    let meets = member_tokens (codes "meets") (meets_value telling.meets) in
+    ended_more true rules (meets ++ array_begin (codes "files")) ∙ begun meets (ended_by true rules) (codes "files")
+
+pub measure_begins : (meets : Meets) → ended_by false (measure_head meets) ≡ false
+unfolding measure_head
+measure_begins meets = begun (member_tokens (codes "meets") (meets_value meets)) true (codes "files")
+
+-- the members of a report behind its rules, part by part
+report_tokens : (rules meets scales found : List Token) (k1 k2 k3 k4 : Token) (fs ss gs : List Json) → flat_map json_tokens ss ≡ scales → flat_map json_tokens gs ≡ found
+    → rules ++ (k1 ∷ (meets ++ (k2 ∷ Token.begin_array ∷ (items_tokens (items_of fs) ++ (k3 ∷ Token.begin_array ∷ (items_tokens (items_of ss) ++ (k4 ∷ Token.begin_array ∷ (items_tokens (items_of gs) ++ (Token.end_object ∷ [])))))))))
+    ≡ (rules ++ (k1 ∷ (meets ++ (k2 ∷ Token.begin_array ∷ []))))
+    ++ (((flat_map json_tokens fs ++ (Token.end_array ∷ k3 ∷ Token.begin_array ∷ (scales ++ (Token.end_array ∷ k4 ∷ Token.begin_array ∷ [])))) ++ found) ++ (Token.end_array ∷ Token.end_object ∷ []))
+report_tokens rules meets scales found k1 k2 k3 k4 fs ss gs es eg = rw (← es, ← eg) (simp (array_and, append_assoc))
+
+-- the members of a measure behind its result, part by part
+table_tokens : (meets scales rows gap : List Token) (k2 k3 k4 k5 : Token) (fs ss rs : List Json) → flat_map json_tokens ss ≡ scales → flat_map json_tokens rs ≡ rows
+    → meets ++ (k2 ∷ Token.begin_array ∷ (items_tokens (items_of fs) ++ (k3 ∷ Token.begin_array ∷ (items_tokens (items_of ss) ++ (k4 ∷ Token.begin_array ∷ (items_tokens (items_of rs) ++ (k5 ∷ (gap ++ (Token.end_object ∷ [])))))))))
+    ≡ (meets ++ (k2 ∷ Token.begin_array ∷ []))
+    ++ (((flat_map json_tokens fs ++ (Token.end_array ∷ k3 ∷ Token.begin_array ∷ (scales ++ (Token.end_array ∷ k4 ∷ Token.begin_array ∷ [])))) ++ rows) ++ (Token.end_array ∷ k5 ∷ (gap ++ (Token.end_object ∷ []))))
+table_tokens meets scales rows gap k2 k3 k4 k5 fs ss rs es er = rw (← es, ← er) (simp (array_and, append_assoc))
+
+-- the values before the first list
+abbrev start : List ℕ → List Token → List Token
+start result rest = Token.begin_object ∷ (members_tokens (opening result) ++ rest)
+
+-- the tokens of a report, part by part
+pub telling_parts : (names : List (List ℕ)) (files : List FileSum) (telling : Telling)
+    → json_tokens (telling_value names files telling) ≡ telling_head telling ++ ((list_tokens names files telling.scales.items (codes "findings") ++ finding_tokens telling.layers.items telling.rings.items telling.gaps.items) ++ telling_end)
+unfolding telling_value telling_head
+telling_parts names files telling =
+    ap (λ (ts : List Token). start (result_word telling.rings.items telling.gaps.items) (Token.key (codes "rules") ∷ ts))
+    (report_tokens (json_tokens (rules_value telling.rules)) (json_tokens (meets_value telling.meets)) (flat_map (λ line. json_tokens (scale_value line)) telling.scales.items) (finding_tokens telling.layers.items telling.rings.items telling.gaps.items)
+    (Token.key (codes "meets")) (Token.key (codes "files")) (Token.key (codes "scales")) (Token.key (codes "findings"))
+    (file_values names files) (map scale_value telling.scales.items) (map (ring_value telling.layers.items) telling.rings.items ++ map gap_value telling.gaps.items)
+    (told_tokens scale_value telling.scales.items)
+    (flat_map-append json_tokens (map (ring_value telling.layers.items) telling.rings.items) (map gap_value telling.gaps.items)
+    ∙ ap₂ (λ (rs gs : List Token). rs ++ gs) (told_tokens (ring_value telling.layers.items) telling.rings.items) (told_tokens gap_value telling.gaps.items)))
+
+-- the tokens of a measure, part by part
+pub measure_parts : (names : List (List ℕ)) (board : Survey) (measure : Measure)
+    → json_tokens (measure_value names board measure)
+    ≡ measure_head measure.meets ++ ((list_tokens names board.files measure.scales.items (codes "rings") ++ flat_map (λ line. json_tokens (row_value line)) measure.rings.items) ++ measure_end board measure.gap)
+unfolding measure_value measure_head
+measure_parts names board measure =
+    ap (λ (ts : List Token). start (codes "measured") (Token.key (codes "meets") ∷ ts))
+    (table_tokens (json_tokens (meets_value measure.meets)) (flat_map (λ line. json_tokens (scale_value line)) measure.scales.items) (flat_map (λ line. json_tokens (row_value line)) measure.rings.items)
+    (json_tokens (if_there (least_gap_value board.files board.holes) measure.gap))
+    (Token.key (codes "files")) (Token.key (codes "scales")) (Token.key (codes "rings")) (Token.key (codes "gap"))
+    (file_values names board.files) (map scale_value measure.scales.items) (map row_value measure.rings.items)
+    (told_tokens scale_value measure.scales.items) (told_tokens row_value measure.rings.items))
+
+-- how deep the files nest
+files_within : (names : List (List ℕ)) (files : List FileSum) → items_depth (items_of (file_values names files)) ≤ 1
+files_within names files = told_within (λ file. file_value (file.0 + 1) (texts.name_of names file.0) file.1) 1 (λ file. file_within (file.0 + 1) (texts.name_of names file.0) file.1) (enumerate_from 0 files)
+
+module _ (names : List (List ℕ)) (files : List FileSum) (telling : Telling) where
+  -- the numbers of a report
+  pub telling_numbers : HasNumbers (rules_value telling.rules) → HasNumbers (meets_value telling.meets) → All HasNumbers (file_values names files) → All (λ line. HasNumbers (scale_value line)) telling.scales.items
+      → All (λ lack. HasNumbers (ring_value telling.layers.items lack)) telling.rings.items → All (λ lack. HasNumbers (gap_value lack)) telling.gaps.items → HasNumbers (telling_value names files telling)
+  unfolding telling_value
+  telling_numbers rules meets named scales rings gaps =
+      let found = All-append HasNumbers (map (ring_value telling.layers.items) telling.rings.items) (map gap_value telling.gaps.items)
+      (All-map HasNumbers (ring_value telling.layers.items) telling.rings.items rings) (All-map HasNumbers gap_value telling.gaps.items gaps) in (
+        tt,
+        (
+          decimal_number 1 (omega arith),
+          (
+            tt,
+            (
+              rules,
+              (
+                meets,
+                (
+                  items_numbers (file_values names files) named,
+                  (
+                    told_numbers scale_value telling.scales.items scales,
+                    (items_numbers (map (ring_value telling.layers.items) telling.rings.items ++ map gap_value telling.gaps.items) found, tt),
+                  ),
+                ),
+              ),
+            ),
+          ),
+        ),
+      )
+
+  telling_within : depth (telling_value names files telling) ≤ max_depth
+  unfolding telling_value rules_value
+  telling_within =
+      let meets = meets_within telling.meets in
+      let named = files_within names files in
+      let scales = told_within scale_value 1 scale_within telling.scales.items in
+      let found = items_within 3 (map (ring_value telling.layers.items) telling.rings.items ++ map gap_value telling.gaps.items)
+      (All-append (λ v. depth v ≤ 3) (map (ring_value telling.layers.items) telling.rings.items) (map gap_value telling.gaps.items)
+      (All-map (λ v. depth v ≤ 3) (ring_value telling.layers.items) telling.rings.items (λ k d l. ring_within telling.layers.items _)) (All-map (λ v. depth v ≤ 3) gap_value telling.gaps.items (λ k d l. gap_within _))) in
+      omega (arith, meets, named, scales, found)
+
+  -- a report reads back
+  pub telling_reads_back : HasNumbers (telling_value names files telling) → document (print (json_tokens (telling_value names files telling))) ≡ Some (telling_value names files telling)
+  telling_reads_back h = document-print (telling_value names files telling) h telling_within
+
+module _ (names : List (List ℕ)) (board : Survey) (measure : Measure) where
+  -- the numbers of a measure
+  pub measure_numbers : HasNumbers (meets_value measure.meets) → All HasNumbers (file_values names board.files) → All (λ line. HasNumbers (scale_value line)) measure.scales.items
+      → All (λ line. HasNumbers (row_value line)) measure.rings.items → HasNumbers (if_there (least_gap_value board.files board.holes) measure.gap) → HasNumbers (measure_value names board measure)
+  unfolding measure_value
+  measure_numbers meets named scales rows gap = (
+    tt,
+    (
+      decimal_number 1 (omega arith),
+      (
+        tt,
+        (
+          meets,
+          (
+            items_numbers (file_values names board.files) named,
+            (
+              told_numbers scale_value measure.scales.items scales,
+              (told_numbers row_value measure.rings.items rows, (gap, tt)),
+            ),
+          ),
+        ),
+      ),
+    ),
+  )
+
+  measure_within : depth (measure_value names board measure) ≤ max_depth
+  unfolding measure_value
+  measure_within =
+      let meets = meets_within measure.meets in
+      let named = files_within names board.files in
+      let scales = told_within scale_value 1 scale_within measure.scales.items in
+      let rows = told_within row_value 1 row_within measure.rings.items in
+      let gap = there_within 3 (least_gap_value board.files board.holes) (least_gap_within board.files board.holes) measure.gap in
+      omega (arith, meets, named, scales, rows, gap)
+
+  -- a measure reads back
+  pub measure_reads_back : HasNumbers (measure_value names board measure) → document (print (json_tokens (measure_value names board measure))) ≡ Some (measure_value names board measure)
+  measure_reads_back h = document-print (measure_value names board measure) h measure_within
+
+-- how deep a refusal nests
+pub stop_within : (stop : Stop) → depth (stop_value stop) ≤ max_depth
+stop_within (stops.RefusedManifest place reason) = omega arith
+stop_within (stops.Refused index name fault) = omega arith
+stop_within stops.ManifestDevice = omega arith
+stop_within (stops.Device index name) = omega arith

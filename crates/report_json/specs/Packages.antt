@@ -1,0 +1,68 @@
+-- The values of JSON that are printed: of a measure, of a report and of a refusal.
+use Rattle.std.specs.Prelude.{ℕ, ◌+◌, ◌==◌, ◌++◌, List, [], ◌∷◌, codes, length, map, if◌then◌else◌}
+use Rattle.std.specs.List.{enumerate_from}
+use Rattle.json.specs.Json.{Json}
+use Rattle.grid_units.specs.Reasons.{name_of}
+use Rattle.grid_units.specs.declared.fault.Fault.{Fault}
+use Rattle.grid_units.specs.declared.fault.Reason.{Reason}
+use Rattle.measuring.specs.declared.measure.Measure.{Measure}
+use Rattle.package_check.specs.Boards.{Survey}
+use Rattle.package_check.specs.declared.FileSum.{FileSum}
+use Rattle.report_text.specs.Texts as texts
+use Rattle.report_text.specs.declared.GapLack.{GapLack}
+use Rattle.report_text.specs.declared.RingLack.{RingLack}
+use Rattle.report_text.specs.declared.Telling.{Telling}
+use Rattle.report_json.specs.Values.{array_of, file_value, gap_value, if_there, least_gap_value, meets_value, object_of, ring_value, row_value, rules_value, scale_value, whole, word}
+use Rattle.report_json.specs.declared.refused.Stop.{Stop}
+use Rattle.report_json.specs.declared.refused.Stop.TheVariants as stops
+
+-- the first members of each object: the format, its version, and the result (docs/DEFINITIONS.md, JSON)
+abbrev pub opening : List ℕ → List (List ℕ × Json)
+opening result = (codes "format", word (codes "ringcheck")) ∷ (codes "version", whole 1) ∷ (codes "result", word result) ∷ []
+
+-- how much each file holds, by the names of the files (docs/DEFINITIONS.md, JSON)
+abbrev pub file_values : List (List ℕ) → List FileSum → List Json
+file_values names files = map (λ file. file_value (file.0 + 1) (texts.name_of names file.0) file.1) (enumerate_from 0 files)
+
+-- the result of a report: whether nothing is found (docs/DEFINITIONS.md, JSON)
+abbrev pub result_word : List RingLack → List GapLack → List ℕ
+result_word rings gaps = if length rings + length gaps == 0 then codes "pass" else codes "findings"
+
+-- a report: the rules, what is met, the files, the scales, and all findings, rings before gaps (docs/DEFINITIONS.md, JSON)
+unfoldable pub telling_value : List (List ℕ) → List FileSum → Telling → Json
+telling_value names files telling =
+    object_of (opening (result_word telling.rings.items telling.gaps.items) ++ ((codes "rules", rules_value telling.rules) ∷ (codes "meets", meets_value telling.meets)
+    ∷ (codes "files", array_of (file_values names files)) ∷ (codes "scales", array_of (map scale_value telling.scales.items))
+    ∷ (codes "findings", array_of (map (ring_value telling.layers.items) telling.rings.items ++ map gap_value telling.gaps.items)) ∷ []))
+
+-- a measure: what is met, the files, the scales, the rings, and the least gap of the holes of the board (docs/DEFINITIONS.md, JSON)
+unfoldable pub measure_value : List (List ℕ) → Survey → Measure → Json
+measure_value names board measure =
+    object_of (opening (codes "measured") ++ ((codes "meets", meets_value measure.meets) ∷ (codes "files", array_of (file_values names board.files))
+    ∷ (codes "scales", array_of (map scale_value measure.scales.items)) ∷ (codes "rings", array_of (map row_value measure.rings.items))
+    ∷ (codes "gap", if_there (least_gap_value board.files board.holes) measure.gap) ∷ []))
+
+-- a file that is refused (docs/DEFINITIONS.md, JSON)
+abbrev pub refused_value : ℕ → List ℕ → Fault → Json
+refused_value index name fault =
+    object_of (opening (codes "refused") ++ ((codes "file", whole (index + 1)) ∷ (codes "name", word name) ∷ (codes "place", whole fault.place)
+    ∷ (codes "byte", whole fault.byte) ∷ (codes "reason", word (name_of fault.reason)) ∷ []))
+
+-- a manifest that is refused (docs/DEFINITIONS.md, JSON)
+abbrev pub refused_manifest_value : ℕ → Reason → Json
+refused_manifest_value place reason = object_of (opening (codes "refused") ++ ((codes "place", whole place) ∷ (codes "reason", word (name_of reason)) ∷ []))
+
+-- a file that cannot be read (docs/DEFINITIONS.md, JSON)
+abbrev pub device_value : ℕ → List ℕ → Json
+device_value index name = object_of (opening (codes "device") ++ ((codes "file", whole (index + 1)) ∷ (codes "name", word name) ∷ []))
+
+-- a manifest that cannot be read (docs/DEFINITIONS.md, JSON)
+abbrev pub manifest_device_value : Json
+manifest_device_value = object_of (opening (codes "device"))
+
+-- what is refused, or what cannot be read (docs/DEFINITIONS.md, JSON)
+abbrev pub stop_value : Stop → Json
+stop_value (stops.RefusedManifest place reason) = refused_manifest_value place reason
+stop_value (stops.Refused index name fault) = refused_value index name.now fault
+stop_value stops.ManifestDevice = manifest_device_value
+stop_value (stops.Device index name) = device_value index name.now

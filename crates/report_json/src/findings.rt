@@ -1,0 +1,185 @@
+//! The values of findings.
+
+ghost use Rattle.std.specs.Prelude.{◌≡◌, ◌++◌, codes, OnOk};
+ghost use Rattle.json.specs.Json.{null};
+ghost use Rattle.json.specs.Tree.{json_tokens, HasNumbers};
+ghost use Rattle.report_json.specs.Inner.Parts.{member_tokens};
+ghost use Rattle.report_json.specs.Values.{cause_word, flash_of, gap_value, if_there, layer_number, picometres, ring_of, ring_value, whole, why_word, word};
+ghost use Rattle.report_text.specs.Texts.{lack_of};
+
+use crate::members::{put_begin, put_count_there, put_end, put_length, put_length_there, put_text};
+use crate::values::put_hole;
+use json::Writer;
+use layer_image::Why;
+use report_text::{GapLack, LayerHead, RingCause, RingLack};
+use std::alloc::AllocError;
+
+/// The word for why a flash is no pad.
+fn why_word(why: Why) -> &'static str
+    ensures { result.now ≡ why_word why }
+{
+    match why {
+        Why::Macro => "macro",
+        Why::Polygon => "polygon",
+        Why::Holed => "holed",
+        Why::Scaled => "scaled",
+        Why::Turned => "turned",
+    }
+}
+
+/// The word for why a hole lacks its ring.
+fn cause_word(cause: &RingCause) -> &'static str
+    ensures { result.now ≡ cause_word cause.now }
+{
+    match cause {
+        RingCause::Small(_) => "small",
+        RingCause::Off(_) => "off",
+        RingCause::Other { why, .. } => why_word(*why),
+        RingCause::Nothing => "none",
+        RingCause::Oblique => "oblique",
+    }
+}
+
+/// The ring that a hole has, where it lies in a pad.
+fn ring_of(cause: &RingCause) -> Option<i64>
+    ensures { result ≡ ring_of cause.now }
+{
+    match cause {
+        RingCause::Small(place) | RingCause::Off(place) => Some(place.ring),
+        RingCause::Other { .. } | RingCause::Nothing | RingCause::Oblique => None,
+    }
+}
+
+/// What a ring lacks, where the hole lies in a pad.
+fn lack_of(cause: &RingCause) -> Option<i64>
+    ensures { result ≡ lack_of cause.now }
+{
+    match cause {
+        RingCause::Small(place) | RingCause::Off(place) => Some(place.lack),
+        RingCause::Other { .. } | RingCause::Nothing | RingCause::Oblique => None,
+    }
+}
+
+/// The number of the flash in which a hole lies, where there is one.
+fn flash_of(cause: &RingCause) -> Option<u128>
+    ensures { result ≡ flash_of cause.now }
+{
+    match cause {
+        RingCause::Small(place) | RingCause::Off(place) => Some(place.flash as u128),
+        RingCause::Other { flash, .. } => Some(*flash as u128),
+        RingCause::Nothing | RingCause::Oblique => None,
+    }
+}
+
+/// The number of the file of a layer, by its place among the copper files.
+fn layer_number(layers: &[LayerHead], layer: usize) -> Option<u128>
+    ensures { result ≡ layer_number layers.now layer }
+{
+    match layers.get(layer) {
+        Some(head) => Some(head.file as u128 + 1),
+        None => None,
+    }
+}
+
+/// Appends the member of the number of a layer, or null.
+fn put_layer(to: &mut Writer, layers: &[LayerHead], layer: usize) -> Result<(), AllocError>
+    ensures before { to.new.before ≡ to.old.before }
+    ensures tokens { OnOk result (to.new.tokens ≡ to.old.tokens ++ member_tokens (codes "layer") (if_there whole (layer_number layers.now layer))) }
+    ensures numbers { OnOk result (HasNumbers (if_there whole (layer_number layers.now layer))) }
+{
+    put_count_there(to, "layer", layer_number(layers, layer))
+}
+
+/// Appends the member of the ring that a hole has, or null.
+fn put_ring(to: &mut Writer, cause: &RingCause) -> Result<(), AllocError>
+    ensures before { to.new.before ≡ to.old.before }
+    ensures tokens { OnOk result (to.new.tokens ≡ to.old.tokens ++ member_tokens (codes "has_pm") (if_there picometres (ring_of cause.now))) }
+    ensures numbers { OnOk result (HasNumbers (if_there picometres (ring_of cause.now))) }
+{
+    put_length_there(to, "has_pm", ring_of(cause))
+}
+
+/// Appends the member of what a ring lacks, or null.
+fn put_lack(to: &mut Writer, cause: &RingCause) -> Result<(), AllocError>
+    ensures before { to.new.before ≡ to.old.before }
+    ensures tokens { OnOk result (to.new.tokens ≡ to.old.tokens ++ member_tokens (codes "lacks_pm") (if_there picometres (lack_of cause.now))) }
+    ensures numbers { OnOk result (HasNumbers (if_there picometres (lack_of cause.now))) }
+{
+    put_length_there(to, "lacks_pm", lack_of(cause))
+}
+
+/// Appends the member of the cause.
+fn put_cause(to: &mut Writer, cause: &RingCause) -> Result<(), AllocError>
+    ensures before { to.new.before ≡ to.old.before }
+    ensures tokens { OnOk result (to.new.tokens ≡ to.old.tokens ++ member_tokens (codes "cause") (word (cause_word cause.now))) }
+{
+    put_text(to, "cause", cause_word(cause))
+}
+
+/// Appends the member of the flash, or null.
+fn put_flash(to: &mut Writer, cause: &RingCause) -> Result<(), AllocError>
+    ensures before { to.new.before ≡ to.old.before }
+    ensures tokens { OnOk result (to.new.tokens ≡ to.old.tokens ++ member_tokens (codes "flash") (if_there whole (flash_of cause.now))) }
+    ensures numbers { OnOk result (HasNumbers (if_there whole (flash_of cause.now))) }
+{
+    put_count_there(to, "flash", flash_of(cause))
+}
+
+/// Appends the members of the gap of two holes and of what it lacks.
+fn put_gap(to: &mut Writer, lack: &GapLack) -> Result<(), AllocError>
+    ensures before { to.new.before ≡ to.old.before }
+    ensures tokens { OnOk result (to.new.tokens ≡ to.old.tokens ++ (member_tokens (codes "has_pm") (picometres lack.now.gap) ++ member_tokens (codes "lacks_pm") (picometres lack.now.lack))) }
+    ensures gap { OnOk result (HasNumbers (picometres lack.now.gap)) }
+    ensures lack { OnOk result (HasNumbers (picometres lack.now.lack)) }
+{
+    put_length(to, "has_pm", lack.gap)?;
+    put_length(to, "lacks_pm", lack.lack)
+}
+
+/// Appends that a finding is not waived.
+fn put_waived(to: &mut Writer) -> Result<(), AllocError>
+    ensures before { to.new.before ≡ to.old.before }
+    ensures tokens { OnOk result (to.new.tokens ≡ to.old.tokens ++ member_tokens (codes "waived") null) }
+{
+    to.key("waived")?;
+    to.null()
+}
+
+/// Appends a hole that lacks its ring on one of these layers.
+#[tactic(auto, unfolding(crate::specs::Values::ring_value))]
+pub(crate) fn write_ring(
+    to: &mut Writer,
+    layers: &[LayerHead],
+    lack: &RingLack,
+) -> Result<(), AllocError>
+    ensures before { to.new.before ≡ to.old.before }
+    ensures tokens { OnOk result (to.new.tokens ≡ to.old.tokens ++ json_tokens (ring_value layers.now lack.now)) }
+    ensures numbers { OnOk result (HasNumbers (ring_value layers.now lack.now)) }
+{
+    put_begin(to)?;
+    put_text(to, "kind", "ring")?;
+    put_layer(to, layers, lack.layer)?;
+    put_hole(to, "at", &lack.at)?;
+    put_ring(to, &lack.cause)?;
+    put_lack(to, &lack.cause)?;
+    put_cause(to, &lack.cause)?;
+    put_flash(to, &lack.cause)?;
+    put_waived(to)?;
+    put_end(to)
+}
+
+/// Appends two holes that lack their gap.
+#[tactic(auto, unfolding(crate::specs::Values::gap_value))]
+pub(crate) fn write_gap(to: &mut Writer, lack: &GapLack) -> Result<(), AllocError>
+    ensures before { to.new.before ≡ to.old.before }
+    ensures tokens { OnOk result (to.new.tokens ≡ to.old.tokens ++ json_tokens (gap_value lack.now)) }
+    ensures numbers { OnOk result (HasNumbers (gap_value lack.now)) }
+{
+    put_begin(to)?;
+    put_text(to, "kind", "gap")?;
+    put_hole(to, "at", &lack.first)?;
+    put_hole(to, "and", &lack.second)?;
+    put_gap(to, lack)?;
+    put_waived(to)?;
+    put_end(to)
+}
