@@ -3,7 +3,7 @@ _ringcheck() {
   local word=${COMP_WORDS[COMP_CWORD]} before=${COMP_WORDS[COMP_CWORD - 1]} command=${COMP_WORDS[1]} options=
   COMPREPLY=()
   if [ "$COMP_CWORD" -eq 1 ]; then
-    mapfile -t COMPREPLY < <(compgen -W 'check measure manifest explain show rewrite help --help --version' -- "$word")
+    mapfile -t COMPREPLY < <(compgen -W 'check report measure draw manifest explain show rewrite help --help --version' -- "$word")
     return
   fi
   # The shell cuts `--kind=layer` at its sign.
@@ -17,10 +17,11 @@ _ringcheck() {
       mapfile -t COMPREPLY < <(compgen -W 'layer drill' -- "$word")
       return
       ;;
-    --ring | --gap) return ;;
+    --ring | --gap | --max) return ;;
   esac
   case $command in
-    check) options='--ring --gap --help' ;;
+    check | draw) options='--ring --gap --help' ;;
+    report) options='--ring --gap --max --help' ;;
     measure) options='--help' ;;
     manifest) options='--why --help' ;;
     show | rewrite) options='--kind --help' ;;
@@ -29,7 +30,7 @@ _ringcheck() {
       return
       ;;
     help)
-      mapfile -t COMPREPLY < <(compgen -W 'check measure manifest explain show rewrite' -- "$word")
+      mapfile -t COMPREPLY < <(compgen -W 'check report measure draw manifest explain show rewrite' -- "$word")
       return
       ;;
     *) return ;;

@@ -1,8 +1,10 @@
 # Completion of ringcheck for fish.
-set -l first 'not __fish_seen_subcommand_from check measure manifest explain show rewrite help'
+set -l first 'not __fish_seen_subcommand_from check report measure draw manifest explain show rewrite help'
 complete -c ringcheck -f
 complete -c ringcheck -n $first -a check -d 'the rings and gaps of a package'
+complete -c ringcheck -n $first -a report -d 'each finding, by how much and why'
 complete -c ringcheck -n $first -a measure -d 'the greatest ring and gap that a package meets'
+complete -c ringcheck -n $first -a draw -d 'a package as an SVG picture'
 complete -c ringcheck -n $first -a manifest -d 'a manifest of some files'
 complete -c ringcheck -n $first -a explain -d 'what a reason or a cause means, and what to set'
 complete -c ringcheck -n $first -a show -d "the table of a layer's flashes or of a drill file's holes"
@@ -12,8 +14,9 @@ complete -c ringcheck -s h -l help -d 'print help'
 complete -c ringcheck -n $first -s V -l version -d 'print the version'
 complete -c ringcheck -n '__fish_seen_subcommand_from manifest' -l why -d 'say why instead'
 complete -c ringcheck -n '__fish_seen_subcommand_from explain' -a '(ringcheck explain 2>/dev/null | string replace ": " \t)'
-complete -c ringcheck -n '__fish_seen_subcommand_from help' -a 'check measure manifest explain show rewrite'
-complete -c ringcheck -n '__fish_seen_subcommand_from check' -l ring -x -d 'copper round a plated hole, in mm'
-complete -c ringcheck -n '__fish_seen_subcommand_from check' -l gap -x -d 'gap between two holes, in mm'
+complete -c ringcheck -n '__fish_seen_subcommand_from help' -a 'check report measure draw manifest explain show rewrite'
+complete -c ringcheck -n '__fish_seen_subcommand_from check report draw' -l ring -x -d 'copper round a plated hole, in mm'
+complete -c ringcheck -n '__fish_seen_subcommand_from check report draw' -l gap -x -d 'gap between two holes, in mm'
+complete -c ringcheck -n '__fish_seen_subcommand_from report' -l max -x -d 'findings that are told at most'
 complete -c ringcheck -n '__fish_seen_subcommand_from show rewrite' -l kind -x -a 'layer drill' -d 'what the file is'
-complete -c ringcheck -n '__fish_seen_subcommand_from check measure manifest show rewrite' -F
+complete -c ringcheck -n '__fish_seen_subcommand_from check report measure draw manifest show rewrite' -F

@@ -1,13 +1,13 @@
 -- The request of a line that names one file.
-use Rattle.std.proofs.Common.{◌≡◌, ◌∙◌, sym, List, Option, Some, Bool, true, false, codes, refl}
+use Rattle.std.proofs.Common.{◌≡◌, ◌∙◌, sym, List, Option, Some, Bool, true, false, codes, refl, option_map}
 use Rattle.std.specs.Prelude.{if◌then◌else◌}
 use Rattle.std.specs.Str.{bytes_eq}
 use Rattle.std.proofs.lemmas.Bool.{false≢true}
 use Rattle.std.proofs.lemmas.Slice.Eq.{bytes_eq-Decides}
 use Rattle.clap.specs.Words.{Row, Text, all_of, first_of, one_of}
 use Rattle.command_line.specs.declared.Request.{Request}
-use Rattle.command_line.specs.declared.Request.TheVariants.{Check, Measure, Show, Rewrite, Manifest, Explain}
-use Rattle.command_line.specs.Line.{AsksFor, IsExplain, IsManifest, IsMeasure, IsRewrite, IsShow}
+use Rattle.command_line.specs.declared.Request.TheVariants.{Check, Measure, Report, Draw, Show, Rewrite, Manifest, Explain}
+use Rattle.command_line.specs.Line.{AsksFor, IsDraw, IsExplain, IsManifest, IsMeasure, IsReport, IsRewrite, IsShow}
 
 some_is : {A : Type 0} (x y : A) → Some x ≡ Some y → x ≡ y
 some_is x y e = cc
@@ -19,6 +19,8 @@ module _ (k f : Text) (rows : List Row) (kind_is : first_of (codes "kind") rows 
   pub is_show : (asked : Request) → AsksFor (Some (codes "show", rows)) asked → IsShow k f asked
   is_show (Check ring gap manifest) a = cc a.0
   is_show (Measure manifest) a = cc a.0
+  is_show (Report ring gap most manifest) a = absurd (differ (codes "show") (codes "report") refl a.0)
+  is_show (Draw ring gap manifest) a = absurd (differ (codes "show") (codes "draw") refl a.0)
   is_show (Show kind file) a = (some_is _ _ (sym a.1 ∙ kind_is), some_is _ _ (sym a.2 ∙ file_is))
   is_show (Rewrite kind file) a = cc a.0
   is_show (Manifest why files) a = cc a.0
@@ -27,6 +29,8 @@ module _ (k f : Text) (rows : List Row) (kind_is : first_of (codes "kind") rows 
   pub is_rewrite : (asked : Request) → AsksFor (Some (codes "rewrite", rows)) asked → IsRewrite k f asked
   is_rewrite (Check ring gap manifest) a = cc a.0
   is_rewrite (Measure manifest) a = absurd (differ (codes "rewrite") (codes "measure") refl a.0)
+  is_rewrite (Report ring gap most manifest) a = absurd (differ (codes "rewrite") (codes "report") refl a.0)
+  is_rewrite (Draw ring gap manifest) a = absurd (differ (codes "rewrite") (codes "draw") refl a.0)
   is_rewrite (Show kind file) a = cc a.0
   is_rewrite (Rewrite kind file) a = (some_is _ _ (sym a.1 ∙ kind_is), some_is _ _ (sym a.2 ∙ file_is))
   is_rewrite (Manifest why files) a = cc a.0
@@ -37,6 +41,8 @@ pub is_manifest : (why : Bool) (fs : List Text) (rows : List Row) → one_of (co
     → (asked : Request) → AsksFor (Some (codes "manifest", rows)) asked → IsManifest why fs asked
 is_manifest why fs rows w f (Check ring gap manifest) a = cc a.0
 is_manifest why fs rows w f (Measure manifest) a = cc a.0
+is_manifest why fs rows w f (Report ring gap most manifest) a = absurd (differ (codes "manifest") (codes "report") refl a.0)
+is_manifest why fs rows w f (Draw ring gap manifest) a = absurd (differ (codes "manifest") (codes "draw") refl a.0)
 is_manifest why fs rows w f (Show kind file) a = cc a.0
 is_manifest why fs rows w f (Rewrite kind file) a = cc a.0
 is_manifest true fs rows w f (Manifest why files) a = (a.1.yes w, some_is _ _ (sym a.2 ∙ f))
@@ -47,15 +53,43 @@ is_manifest why fs rows w f (Explain word) a = cc a.0
 pub is_measure : (m : Text) (rows : List Row) → first_of (codes "manifest") rows ≡ Some m → (asked : Request) → AsksFor (Some (codes "measure", rows)) asked → IsMeasure m asked
 is_measure m rows w (Check ring gap manifest) a = cc a.0
 is_measure m rows w (Measure manifest) a = some_is _ _ (sym a.1 ∙ w)
+is_measure m rows w (Report ring gap most manifest) a = absurd (differ (codes "measure") (codes "report") refl a.0)
+is_measure m rows w (Draw ring gap manifest) a = absurd (differ (codes "measure") (codes "draw") refl a.0)
 is_measure m rows w (Show kind file) a = cc a.0
 is_measure m rows w (Rewrite kind file) a = absurd (differ (codes "measure") (codes "rewrite") refl a.0)
 is_measure m rows w (Manifest why files) a = absurd (differ (codes "measure") (codes "manifest") refl a.0)
 is_measure m rows w (Explain word) a = absurd (differ (codes "measure") (codes "explain") refl a.0)
 
+-- the request of a line for a report
+pub is_report : (r g : Text) (o : Option Text) (m : Text) (rows : List Row) → first_of (codes "ring") rows ≡ Some r → first_of (codes "gap") rows ≡ Some g → first_of (codes "max") rows ≡ o
+    → first_of (codes "manifest") rows ≡ Some m → (asked : Request) → AsksFor (Some (codes "report", rows)) asked → IsReport r g o m asked
+is_report r g o m rows v w x y (Check ring gap manifest) a = absurd (differ (codes "report") (codes "check") refl a.0)
+is_report r g o m rows v w x y (Measure manifest) a = absurd (differ (codes "report") (codes "measure") refl a.0)
+is_report r g o m rows v w x y (Report ring gap most manifest) a = (some_is _ _ (sym a.1 ∙ v), some_is _ _ (sym a.2 ∙ w), sym a.3 ∙ x, some_is _ _ (sym a.4 ∙ y))
+is_report r g o m rows v w x y (Draw ring gap manifest) a = absurd (differ (codes "report") (codes "draw") refl a.0)
+is_report r g o m rows v w x y (Show kind file) a = absurd (differ (codes "report") (codes "show") refl a.0)
+is_report r g o m rows v w x y (Rewrite kind file) a = absurd (differ (codes "report") (codes "rewrite") refl a.0)
+is_report r g o m rows v w x y (Manifest why files) a = absurd (differ (codes "report") (codes "manifest") refl a.0)
+is_report r g o m rows v w x y (Explain word) a = absurd (differ (codes "report") (codes "explain") refl a.0)
+
+-- the request of a line for a picture
+pub is_draw : (o : Option (Text × Text)) (m : Text) (rows : List Row) → first_of (codes "ring") rows ≡ option_map (λ rules. rules.0) o → first_of (codes "gap") rows ≡ option_map (λ rules. rules.1) o
+    → first_of (codes "manifest") rows ≡ Some m → (asked : Request) → AsksFor (Some (codes "draw", rows)) asked → IsDraw o m asked
+is_draw o m rows v w y (Check ring gap manifest) a = absurd (differ (codes "draw") (codes "check") refl a.0)
+is_draw o m rows v w y (Measure manifest) a = absurd (differ (codes "draw") (codes "measure") refl a.0)
+is_draw o m rows v w y (Report ring gap most manifest) a = absurd (differ (codes "draw") (codes "report") refl a.0)
+is_draw o m rows v w y (Draw ring gap manifest) a = (sym a.1 ∙ v, sym a.2 ∙ w, some_is _ _ (sym a.3 ∙ y))
+is_draw o m rows v w y (Show kind file) a = absurd (differ (codes "draw") (codes "show") refl a.0)
+is_draw o m rows v w y (Rewrite kind file) a = absurd (differ (codes "draw") (codes "rewrite") refl a.0)
+is_draw o m rows v w y (Manifest why files) a = absurd (differ (codes "draw") (codes "manifest") refl a.0)
+is_draw o m rows v w y (Explain word) a = absurd (differ (codes "draw") (codes "explain") refl a.0)
+
 -- the request of a line that names a word, or none
 pub is_explain : (o : Option Text) (rows : List Row) → first_of (codes "word") rows ≡ o → (asked : Request) → AsksFor (Some (codes "explain", rows)) asked → IsExplain o asked
 is_explain o rows w (Check ring gap manifest) a = cc a.0
 is_explain o rows w (Measure manifest) a = absurd (differ (codes "explain") (codes "measure") refl a.0)
+is_explain o rows w (Report ring gap most manifest) a = absurd (differ (codes "explain") (codes "report") refl a.0)
+is_explain o rows w (Draw ring gap manifest) a = absurd (differ (codes "explain") (codes "draw") refl a.0)
 is_explain o rows w (Show kind file) a = cc a.0
 is_explain o rows w (Rewrite kind file) a = absurd (differ (codes "explain") (codes "rewrite") refl a.0)
 is_explain o rows w (Manifest why files) a = cc a.0

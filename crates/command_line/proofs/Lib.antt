@@ -7,3 +7,5 @@ pub mod ShowWords
 pub mod ManifestWords
 pub mod OtherWords
 pub mod MeasureWords
+pub mod ReportWords
+pub mod DrawWords

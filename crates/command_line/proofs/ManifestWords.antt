@@ -22,7 +22,7 @@ abbrev program : App
 program = built ringcheck_app
 
 abbrev listing : Shape
-listing = get_or program.subs 2 check_app.top
+listing = get_or program.subs 4 check_app.top
 
 -- ---- the words after the subcommand's name
 

@@ -16,7 +16,7 @@ use Rattle.command_line.specs.Line.{check_app, measure_words, is_plain_word, rin
 
 -- the subcommand, as the program's command is built
 abbrev measuring : Shape
-measuring = get_or (built ringcheck_app).subs 1 check_app.top
+measuring = get_or (built ringcheck_app).subs 2 check_app.top
 
 abbrev pub given : Text → Row
 given value = record { id = codes "manifest"; values = value ∷ []; count = None; source = Some source.CommandLine; reading = reading_of parser.String }

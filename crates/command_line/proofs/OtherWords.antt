@@ -22,7 +22,7 @@ use Rattle.command_line.specs.Steps.{IsRefusalFor}
 
 -- the subcommand, as the program's command is built
 abbrev explaining : Shape
-explaining = get_or (built ringcheck_app).subs 3 check_app.top
+explaining = get_or (built ringcheck_app).subs 5 check_app.top
 
 -- ---- no word
 

@@ -15,7 +15,7 @@ use Rattle.command_line.specs.Line.{check_app, file_words, is_plain_word, ringch
 
 -- the subcommand, as the program's command is built
 abbrev showing : Shape
-showing = get_or (built ringcheck_app).subs 4 check_app.top
+showing = get_or (built ringcheck_app).subs 6 check_app.top
 
 -- the words after the subcommand's name
 abbrev values : Text → Text → List Text

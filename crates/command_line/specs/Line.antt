@@ -8,7 +8,7 @@ use Rattle.clap.specs.declared.builder.action.ArgAction.TheVariants.{Append, Set
 use Rattle.clap.specs.declared.error.kind.ErrorKind.{ErrorKind}
 use Rattle.clap.specs.declared.error.kind.ErrorKind.TheVariants.{DisplayHelp, DisplayVersion}
 use Rattle.command_line.specs.declared.Request.{Request}
-use Rattle.command_line.specs.declared.Request.TheVariants.{Check, Measure, Show, Rewrite, Manifest, Explain}
+use Rattle.command_line.specs.declared.Request.TheVariants.{Check, Measure, Report, Draw, Show, Rewrite, Manifest, Explain}
 use Rattle.command_line.specs.declared.Refusal.{Refusal}
 use Rattle.command_line.specs.declared.Refusal.TheVariants.{Help, Version, Usage, Memory}
 
@@ -26,6 +26,10 @@ option id = record (positional id) { long = Some id }
 abbrev pub maybe : Text → Rule
 maybe id = record (new_rule id) { action = Some Set; value_names = 1 }
 
+-- an option with one value that need not be there (docs/FORMATS.md, The program)
+abbrev pub maybe_option : Text → Rule
+maybe_option id = record (maybe id) { long = Some id }
+
 -- one required word or more with a place (docs/FORMATS.md, The program)
 abbrev pub several : Text → Rule
 several id = record (new_rule id) { required = true; action = Some Append; range = Some (record { start_inclusive = 1; end_inclusive = usize_max }); value_names = 1 }
@@ -41,6 +45,15 @@ check_app = with_rule (with_rule (with_rule (new_app (codes "check")) (option (c
 -- `measure MANIFEST` (docs/FORMATS.md, The program)
 abbrev pub measure_app : App
 measure_app = with_rule (new_app (codes "measure")) (positional (codes "manifest"))
+
+-- `report --ring MM --gap MM [--max N] MANIFEST` (docs/FORMATS.md, The program)
+abbrev pub report_app : App
+report_app =
+    with_rule (with_rule (with_rule (with_rule (new_app (codes "report")) (option (codes "ring"))) (option (codes "gap"))) (maybe_option (codes "max"))) (positional (codes "manifest"))
+
+-- `draw [--ring MM --gap MM] MANIFEST` (docs/FORMATS.md, The program)
+abbrev pub draw_app : App
+draw_app = with_rule (with_rule (with_rule (new_app (codes "draw")) (maybe_option (codes "ring"))) (maybe_option (codes "gap"))) (positional (codes "manifest"))
 
 -- `show --kind layer|drill FILE` and `rewrite --kind layer|drill FILE` (docs/FORMATS.md, The program)
 abbrev pub file_app : Text → App
@@ -61,7 +74,8 @@ program_app = let bare = new_app (codes "ringcheck") in record bare { top = reco
 -- the program with its commands (docs/FORMATS.md, The program)
 abbrev pub ringcheck_app : App
 ringcheck_app =
-    with_subcommand (with_subcommand (with_subcommand (with_subcommand (with_subcommand (with_subcommand program_app check_app.top) measure_app.top) manifest_app.top) explain_app.top)
+    with_subcommand (with_subcommand (with_subcommand (with_subcommand (with_subcommand (with_subcommand (with_subcommand (with_subcommand program_app
+    check_app.top) report_app.top) measure_app.top) draw_app.top) manifest_app.top) explain_app.top)
     (file_app (codes "show")).top) (file_app (codes "rewrite")).top
 
 -- ---- what any words ask for
@@ -78,6 +92,12 @@ AsksFor None asked = ⊥
 AsksFor (Some (name, rows)) (Check ring gap manifest) =
     (name ≡ codes "check") × (first_of (codes "ring") rows ≡ Some ring.now) × (first_of (codes "gap") rows ≡ Some gap.now) × (first_of (codes "manifest") rows ≡ Some manifest.now)
 AsksFor (Some (name, rows)) (Measure manifest) = (name ≡ codes "measure") × (first_of (codes "manifest") rows ≡ Some manifest.now)
+AsksFor (Some (name, rows)) (Report ring gap most manifest) =
+    (name ≡ codes "report") × (first_of (codes "ring") rows ≡ Some ring.now) × (first_of (codes "gap") rows ≡ Some gap.now)
+    × (first_of (codes "max") rows ≡ option_map (λ n. n.now) most) × (first_of (codes "manifest") rows ≡ Some manifest.now)
+AsksFor (Some (name, rows)) (Draw ring gap manifest) =
+    (name ≡ codes "draw") × (first_of (codes "ring") rows ≡ option_map (λ r. r.now) ring) × (first_of (codes "gap") rows ≡ option_map (λ g. g.now) gap)
+    × (first_of (codes "manifest") rows ≡ Some manifest.now)
 AsksFor (Some (name, rows)) (Show kind file) = (name ≡ codes "show") × (first_of (codes "kind") rows ≡ Some kind.now) × (first_of (codes "file") rows ≡ Some file.now)
 AsksFor (Some (name, rows)) (Rewrite kind file) =
     (name ≡ codes "rewrite") × (first_of (codes "kind") rows ≡ Some kind.now) × (first_of (codes "file") rows ≡ Some file.now)
@@ -109,6 +129,8 @@ check_words ring gap manifest = codes "check" ∷ codes "--ring" ∷ ring ∷ co
 abbrev pub IsCheck : Text → Text → Text → Request → Type 0
 IsCheck r g m (Check ring gap manifest) = (ring.now ≡ r) × (gap.now ≡ g) × (manifest.now ≡ m)
 IsCheck r g m (Measure manifest) = ⊥
+IsCheck r g m (Report ring gap most manifest) = ⊥
+IsCheck r g m (Draw ring gap manifest) = ⊥
 IsCheck r g m (Show kind file) = ⊥
 IsCheck r g m (Rewrite kind file) = ⊥
 IsCheck r g m (Manifest why files) = ⊥
@@ -132,6 +154,8 @@ file_words name kind file = name ∷ codes "--kind" ∷ kind ∷ file ∷ []
 abbrev pub IsShow : Text → Text → Request → Type 0
 IsShow k f (Check ring gap manifest) = ⊥
 IsShow k f (Measure manifest) = ⊥
+IsShow k f (Report ring gap most manifest) = ⊥
+IsShow k f (Draw ring gap manifest) = ⊥
 IsShow k f (Show kind file) = (kind.now ≡ k) × (file.now ≡ f)
 IsShow k f (Rewrite kind file) = ⊥
 IsShow k f (Manifest why files) = ⊥
@@ -141,6 +165,8 @@ IsShow k f (Explain word) = ⊥
 abbrev pub IsRewrite : Text → Text → Request → Type 0
 IsRewrite k f (Check ring gap manifest) = ⊥
 IsRewrite k f (Measure manifest) = ⊥
+IsRewrite k f (Report ring gap most manifest) = ⊥
+IsRewrite k f (Draw ring gap manifest) = ⊥
 IsRewrite k f (Show kind file) = ⊥
 IsRewrite k f (Rewrite kind file) = (kind.now ≡ k) × (file.now ≡ f)
 IsRewrite k f (Manifest why files) = ⊥
@@ -168,6 +194,8 @@ manifest_words why files = codes "manifest" ∷ (if why then codes "--why" ∷ f
 abbrev pub IsManifest : Bool → List Text → Request → Type 0
 IsManifest w fs (Check ring gap manifest) = ⊥
 IsManifest w fs (Measure manifest) = ⊥
+IsManifest w fs (Report ring gap most manifest) = ⊥
+IsManifest w fs (Draw ring gap manifest) = ⊥
 IsManifest w fs (Show kind file) = ⊥
 IsManifest w fs (Rewrite kind file) = ⊥
 IsManifest w fs (Manifest why files) = (why ≡ w) × (map (λ file. file.now) files.items ≡ fs)
@@ -181,10 +209,55 @@ measure_words manifest = codes "measure" ∷ manifest ∷ []
 abbrev pub IsMeasure : Text → Request → Type 0
 IsMeasure m (Check ring gap manifest) = ⊥
 IsMeasure m (Measure manifest) = manifest.now ≡ m
+IsMeasure m (Report ring gap most manifest) = ⊥
+IsMeasure m (Draw ring gap manifest) = ⊥
 IsMeasure m (Show kind file) = ⊥
 IsMeasure m (Rewrite kind file) = ⊥
 IsMeasure m (Manifest why files) = ⊥
 IsMeasure m (Explain word) = ⊥
+
+-- a word that need not be there is plain where it is (docs/FORMATS.md, The program)
+abbrev pub is_plain_if_some : Option Text → Bool
+is_plain_if_some None = true
+is_plain_if_some (Some word) = is_plain_word word
+
+-- the words of `report` in their usual order, with the number of findings that are told at most or without (docs/FORMATS.md, The program)
+abbrev pub report_words : Text → Text → Option Text → Text → List Text
+report_words ring gap None manifest = codes "report" ∷ codes "--ring" ∷ ring ∷ codes "--gap" ∷ gap ∷ manifest ∷ []
+report_words ring gap (Some most) manifest = codes "report" ∷ codes "--ring" ∷ ring ∷ codes "--gap" ∷ gap ∷ codes "--max" ∷ most ∷ manifest ∷ []
+
+-- the request is for a report under these rules of the package of this manifest, with as many findings at most, or all (docs/FORMATS.md, The program)
+abbrev pub IsReport : Text → Text → Option Text → Text → Request → Type 0
+IsReport r g o m (Check ring gap manifest) = ⊥
+IsReport r g o m (Measure manifest) = ⊥
+IsReport r g o m (Report ring gap most manifest) = (ring.now ≡ r) × (gap.now ≡ g) × (option_map (λ n. n.now) most ≡ o) × (manifest.now ≡ m)
+IsReport r g o m (Draw ring gap manifest) = ⊥
+IsReport r g o m (Show kind file) = ⊥
+IsReport r g o m (Rewrite kind file) = ⊥
+IsReport r g o m (Manifest why files) = ⊥
+IsReport r g o m (Explain word) = ⊥
+
+-- the words of `draw` in their usual order, with a ring and a gap or without (docs/FORMATS.md, The program)
+abbrev pub draw_words : Option (Text × Text) → Text → List Text
+draw_words None manifest = codes "draw" ∷ manifest ∷ []
+draw_words (Some (ring, gap)) manifest = codes "draw" ∷ codes "--ring" ∷ ring ∷ codes "--gap" ∷ gap ∷ manifest ∷ []
+
+-- a ring and a gap that need not be there are plain words where they are (docs/FORMATS.md, The program)
+abbrev pub are_plain_rules : Option (Text × Text) → Bool
+are_plain_rules None = true
+are_plain_rules (Some (ring, gap)) = is_plain_word ring && is_plain_word gap
+
+-- the request is to draw the package of this manifest with these rules, a ring and a gap, or with none (docs/FORMATS.md, The program)
+abbrev pub IsDraw : Option (Text × Text) → Text → Request → Type 0
+IsDraw o m (Check ring gap manifest) = ⊥
+IsDraw o m (Measure manifest) = ⊥
+IsDraw o m (Report ring gap most manifest) = ⊥
+IsDraw o m (Draw ring gap manifest) =
+    (option_map (λ r. r.now) ring ≡ option_map (λ rules. rules.0) o) × (option_map (λ g. g.now) gap ≡ option_map (λ rules. rules.1) o) × (manifest.now ≡ m)
+IsDraw o m (Show kind file) = ⊥
+IsDraw o m (Rewrite kind file) = ⊥
+IsDraw o m (Manifest why files) = ⊥
+IsDraw o m (Explain word) = ⊥
 
 -- the words of `explain`, with a word to explain or without (docs/FORMATS.md, The program)
 abbrev pub explain_words : Option Text → List Text
@@ -195,6 +268,8 @@ explain_words (Some word) = codes "explain" ∷ word ∷ []
 abbrev pub IsExplain : Option Text → Request → Type 0
 IsExplain o (Check ring gap manifest) = ⊥
 IsExplain o (Measure manifest) = ⊥
+IsExplain o (Report ring gap most manifest) = ⊥
+IsExplain o (Draw ring gap manifest) = ⊥
 IsExplain o (Show kind file) = ⊥
 IsExplain o (Rewrite kind file) = ⊥
 IsExplain o (Manifest why files) = ⊥

@@ -2,7 +2,7 @@
 
 ghost use Rattle.std.specs.Prelude.{◌≡◌, IfOk, codes, false};
 ghost use Rattle.clap.specs.Words.{app_of, new_app, rule_of};
-ghost use Rattle.command_line.specs.Line.{check_app, explain_app, file_app, manifest_app, maybe, measure_app, option, positional, ringcheck_app, several, switch};
+ghost use Rattle.command_line.specs.Line.{check_app, draw_app, explain_app, file_app, manifest_app, maybe, maybe_option, measure_app, option, positional, report_app, ringcheck_app, several, switch};
 
 use clap::{Arg, ArgAction, Command};
 use std::alloc::{AllocError, Global};
@@ -19,6 +19,10 @@ const STATUSES: &str =
 Begin:  ringcheck manifest gerbers/* > board.csv
         ringcheck check --ring 0.125 --gap 0.25 board.csv";
 
+const RING: &str = "Copper that must stand round a plated hole, in mm: 0.125";
+
+const GAP: &str = "Gap that any two holes must keep, in mm: 0.25";
+
 const CHECK: &str = "A manifest is a CSV file with the first record role,name,file and one for each
 file; a role is copper, plated or unplated. With role,name,file,first,last a
 drill file may name the first and the last layer that it goes through. File
@@ -29,6 +33,15 @@ const MEASURE: &str = "It is the greatest rule under which check finds nothing; 
 ring where holes without a pad are left out. Lengths are in mm, or any, or
 none. A line ring tells the least ring of the holes of one diameter.
 Example:  ringcheck measure board.csv";
+
+const REPORT: &str = "The findings are those of check, in its order and with its status, but files
+have their names. Lengths are in mm. Below stand the causes that occur, each
+with what to set, and the rules that the package meets.
+Example:  ringcheck report --ring 0.125 --gap 0.25 board.csv";
+
+const DRAW: &str = "Each copper layer has a panel, seen from above, with its pads and its holes.
+With a ring and a gap the findings are drawn too: give both, or neither.
+Example:  ringcheck draw --ring 0.125 --gap 0.25 board.csv > board.svg";
 
 const MANIFEST: &str = "What a file is, is taken from its text, its file function and its name: read
 the manifest before you use it. A file that may be copper or holes, and of
@@ -48,7 +61,9 @@ pub(crate) fn ringcheck<'a>(alloc: Global) -> Result<Command<'a>, AllocError>
     ensures { IfOk result (λ c. app_of c ≡ ringcheck_app) }
 {
     let check = check(alloc)?;
+    let report = report(alloc)?;
     let measure = measure(alloc)?;
+    let draw = draw(alloc)?;
     let manifest = manifest(alloc)?;
     let explain = explain(alloc)?;
     let show = show(alloc)?;
@@ -64,7 +79,9 @@ pub(crate) fn ringcheck<'a>(alloc: Global) -> Result<Command<'a>, AllocError>
     .no_binary_name(true)
     .subcommand_required(true);
     bare.subcommand(check)?
+        .subcommand(report)?
         .subcommand(measure)?
+        .subcommand(draw)?
         .subcommand(manifest)?
         .subcommand(explain)?
         .subcommand(show)?
@@ -82,18 +99,8 @@ fn check<'a>(alloc: Global) -> Result<Command<'a>, AllocError>
         "ringcheck check --ring <MM> --gap <MM> <MANIFEST>",
         CHECK,
     )
-    .arg(option_of(
-        alloc,
-        "ring",
-        "MM",
-        "Copper that must stand round a plated hole, in mm: 0.125",
-    ))?
-    .arg(option_of(
-        alloc,
-        "gap",
-        "MM",
-        "Gap that any two holes must keep, in mm: 0.25",
-    ))?
+    .arg(ring_of(alloc))?
+    .arg(gap_of(alloc))?
     .arg(value_of(
         alloc,
         "manifest",
@@ -113,6 +120,54 @@ fn measure<'a>(alloc: Global) -> Result<Command<'a>, AllocError>
         "ringcheck measure <MANIFEST>",
         MEASURE,
     )
+    .arg(value_of(
+        alloc,
+        "manifest",
+        "MANIFEST",
+        "Manifest of the package, a CSV file as for check",
+    ))
+}
+
+/// `report --ring MM --gap MM [--max N] MANIFEST`
+fn report<'a>(alloc: Global) -> Result<Command<'a>, AllocError>
+    ensures { IfOk result (λ c. app_of c ≡ report_app) }
+{
+    described(
+        alloc,
+        "report",
+        "Tell of each finding by how much, and why",
+        "ringcheck report --ring <MM> --gap <MM> [--max <N>] <MANIFEST>",
+        REPORT,
+    )
+    .arg(ring_of(alloc))?
+    .arg(gap_of(alloc))?
+    .arg(maybe_option_of(
+        alloc,
+        "max",
+        "N",
+        "Findings that are told at most; all where it is not there",
+    ))?
+    .arg(value_of(
+        alloc,
+        "manifest",
+        "MANIFEST",
+        "Manifest of the package, a CSV file as for check",
+    ))
+}
+
+/// `draw [--ring MM --gap MM] MANIFEST`
+fn draw<'a>(alloc: Global) -> Result<Command<'a>, AllocError>
+    ensures { IfOk result (λ c. app_of c ≡ draw_app) }
+{
+    described(
+        alloc,
+        "draw",
+        "Draw a package as an SVG picture",
+        "ringcheck draw [--ring <MM> --gap <MM>] <MANIFEST>",
+        DRAW,
+    )
+    .arg(maybe_option_of(alloc, "ring", "MM", RING))?
+    .arg(maybe_option_of(alloc, "gap", "MM", GAP))?
     .arg(value_of(
         alloc,
         "manifest",
@@ -234,6 +289,30 @@ fn value_of<'a>(alloc: Global, id: &'a str, shown: &'a str, help: &'a str) -> Ar
     ensures global { result.global ≡ false }
 {
     maybe_of(alloc, id, shown, help).required(true)
+}
+
+/// An option with one value that need not be there.
+fn maybe_option_of<'a>(alloc: Global, id: &'a str, shown: &'a str, help: &'a str) -> Arg<'a>
+    ensures rule { rule_of result ≡ maybe_option id.entry.now }
+    ensures global { result.global ≡ false }
+{
+    maybe_of(alloc, id, shown, help).long(id)
+}
+
+/// The ring that is asked.
+fn ring_of<'a>(alloc: Global) -> Arg<'a>
+    ensures rule { rule_of result ≡ option (codes "ring") }
+    ensures global { result.global ≡ false }
+{
+    option_of(alloc, "ring", "MM", RING)
+}
+
+/// The gap that is asked.
+fn gap_of<'a>(alloc: Global) -> Arg<'a>
+    ensures rule { rule_of result ≡ option (codes "gap") }
+    ensures global { result.global ≡ false }
+{
+    option_of(alloc, "gap", "MM", GAP)
 }
 
 /// A required option with one value.

@@ -2,7 +2,9 @@
 //!
 //! ```text
 //! ringcheck check --ring MM --gap MM MANIFEST
+//! ringcheck report --ring MM --gap MM [--max N] MANIFEST
 //! ringcheck measure MANIFEST
+//! ringcheck draw [--ring MM --gap MM] MANIFEST
 //! ringcheck manifest [--why] FILE..
 //! ringcheck explain [WORD]
 //! ringcheck show --kind layer|drill FILE
@@ -10,9 +12,9 @@
 //! ```
 #![tactic(auto)]
 
-ghost use Rattle.std.specs.Prelude.{◌≡◌, ◌∷◌, [], Bool, IfSome, Some, None, List, true, codes, length, map, option_map};
+ghost use Rattle.std.specs.Prelude.{◌≡◌, ◌∷◌, [], Bool, IfSome, Some, None, List, Option, true, codes, length, map, option_map};
 ghost use Rattle.clap.specs.Words.{Row, Text, first_of, found_of, kind_of, one_of, rows_of, subcommand_rows_of};
-ghost use Rattle.command_line.specs.Line.{AnswersAs, AnswersCheck, AnswersLine, AnswersVersion, AsksFor, IsExplain, IsManifest, IsMeasure, IsRewrite, IsShow, Switched, are_plain_words, check_words, explain_words, file_words, is_plain_word, manifest_words, measure_words};
+ghost use Rattle.command_line.specs.Line.{AnswersAs, AnswersCheck, AnswersLine, AnswersVersion, AsksFor, IsDraw, IsExplain, IsManifest, IsMeasure, IsReport, IsRewrite, IsShow, Switched, are_plain_rules, are_plain_words, check_words, draw_words, explain_words, file_words, is_plain_if_some, is_plain_word, manifest_words, measure_words, report_words};
 ghost use Rattle.command_line.specs.Steps.{HasCheckRows, IsCheckIfSome, IsRefusalFor};
 
 mod commands;
@@ -35,6 +37,21 @@ pub enum Request<'a> {
     },
     /// Tell the greatest ring and gap that the package of a manifest meets.
     Measure {
+        manifest: &'a str,
+    },
+    /// Tell of each finding under the ring and the gap by how much, and why; the ring and the gap are texts in mm. At most as
+    /// many findings are told as `most` says, a text too, and all where there is none.
+    Report {
+        ring: &'a str,
+        gap: &'a str,
+        most: Option<&'a str>,
+        manifest: &'a str,
+    },
+    /// Draw the package of a manifest, with the findings under a ring and a gap where they are given. Both are texts in mm;
+    /// one of them may be there without the other.
+    Draw {
+        ring: Option<&'a str>,
+        gap: Option<&'a str>,
         manifest: &'a str,
     },
     /// Print the table of a file.
@@ -85,6 +102,10 @@ pub fn parse<'a>(alloc: Global, words: &'a [&'a str]) -> Result<Request<'a>, Ref
     ensures check { (r g m : Text) → map (λ w. w.now) words.entry.now ≡ check_words r g m → is_plain_word r ≡ true
         → is_plain_word g ≡ true → is_plain_word m ≡ true → AnswersCheck r g m result }
     ensures measure { (m : Text) → map (λ w. w.now) words.entry.now ≡ measure_words m → is_plain_word m ≡ true → AnswersAs (IsMeasure m) result }
+    ensures report { (r g : Text) (most : Option Text) (m : Text) → map (λ w. w.now) words.entry.now ≡ report_words r g most m → is_plain_word r ≡ true
+        → is_plain_word g ≡ true → is_plain_if_some most ≡ true → is_plain_word m ≡ true → AnswersAs (IsReport r g most m) result }
+    ensures draw { (rules : Option (Text × Text)) (m : Text) → map (λ w. w.now) words.entry.now ≡ draw_words rules m → are_plain_rules rules ≡ true
+        → is_plain_word m ≡ true → AnswersAs (IsDraw rules m) result }
     ensures show { (k f : Text) → map (λ w. w.now) words.entry.now ≡ file_words (codes "show") k f → is_plain_word k ≡ true
         → is_plain_word f ≡ true → AnswersAs (IsShow k f) result }
     ensures rewrite { (k f : Text) → map (λ w. w.now) words.entry.now ≡ file_words (codes "rewrite") k f → is_plain_word k ≡ true
@@ -127,7 +148,9 @@ fn request_of<'a>(alloc: Global, matches: &ArgMatches<'a>) -> Option<Request<'a>
     let (name, values) = matches.subcommand()?;
     match name {
         "check" => check_request(values),
+        "report" => report_request(values),
         "measure" => measure_request(values),
+        "draw" => draw_request(values),
         "manifest" => manifest_request(alloc, values),
         "explain" => Some(explain_request(values)),
         "show" => show_request(values),
@@ -152,6 +175,31 @@ fn measure_request<'a>(values: &ArgMatches<'a>) -> Option<Request<'a>>
 {
     let manifest = value(values, "manifest")?;
     Some(Request::Measure { manifest })
+}
+
+fn report_request<'a>(values: &ArgMatches<'a>) -> Option<Request<'a>>
+    ensures { IfSome result (λ asked. AsksFor (Some (codes "report", rows_of (found_of values.now))) asked) }
+{
+    let ring = value(values, "ring")?;
+    let gap = value(values, "gap")?;
+    let package = value(values, "manifest")?;
+    Some(Request::Report {
+        ring,
+        gap,
+        most: value(values, "max"),
+        manifest: package,
+    })
+}
+
+fn draw_request<'a>(values: &ArgMatches<'a>) -> Option<Request<'a>>
+    ensures { IfSome result (λ asked. AsksFor (Some (codes "draw", rows_of (found_of values.now))) asked) }
+{
+    let package = value(values, "manifest")?;
+    Some(Request::Draw {
+        ring: value(values, "ring"),
+        gap: value(values, "gap"),
+        manifest: package,
+    })
 }
 
 fn show_request<'a>(values: &ArgMatches<'a>) -> Option<Request<'a>>

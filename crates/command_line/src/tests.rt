@@ -132,13 +132,27 @@ fn other_words_are_refused(rt: HostRuntime) {
     assert!(rt; is_usage(rt, &["measure"]));
     assert!(rt; is_usage(rt, &["measure", "m.csv", "n.csv"]));
     assert!(rt; is_usage(rt, &["measure", "--ring", "0.125", "m.csv"]));
+    assert!(rt; is_usage(rt, &["report", "m.csv"]));
+    assert!(rt; is_usage(rt, &["report", "--ring", "0.125", "m.csv"]));
+    assert!(rt;
+        is_usage(
+            rt,
+            &[
+                "report", "--ring", "0.125", "--gap", "0.2", "--max", "m.csv"
+            ]
+        )
+    );
+    assert!(rt; is_usage(rt, &["draw"]));
+    assert!(rt; is_usage(rt, &["draw", "--max", "2", "m.csv"]));
 }
 
 #[test]
 fn help_is_given_where_it_is_asked_for(rt: HostRuntime) {
     let commands = [
         "check",
+        "report",
         "measure",
+        "draw",
         "manifest",
         "explain",
         "show",
@@ -165,6 +179,27 @@ fn help_is_given_where_it_is_asked_for(rt: HostRuntime) {
             rt,
             &["measure", "--help"],
             &["<MANIFEST>", "Example:  ringcheck measure "]
+        )
+    );
+    assert!(rt;
+        helps(
+            rt,
+            &["report", "--help"],
+            &[
+                "ringcheck report --ring <MM> --gap <MM> [--max <N>] <MANIFEST>",
+                "Tell of each finding by how much, and why",
+                "Findings that are told at most; all where it is not there"
+            ]
+        )
+    );
+    assert!(rt;
+        helps(
+            rt,
+            &["draw", "--help"],
+            &[
+                "ringcheck draw [--ring <MM> --gap <MM>] <MANIFEST>",
+                "Draw a package as an SVG picture"
+            ]
         )
     );
 }
@@ -194,6 +229,88 @@ fn a_measure_is_asked_for(rt: HostRuntime) {
         Ok(Request::Measure { manifest: "m.csv" })
     );
     assert!(rt; asked);
+}
+
+/// Whether the words ask for a report with a ring of 0.125, a gap of 0.2, two findings at most and the manifest `m.csv`.
+fn asks_for_two(rt: HostRuntime, words: &[&str]) -> bool {
+    match parse(rt.alloc(), words) {
+        Ok(
+            Request::Report {
+                ring,
+                gap,
+                most: Some(most),
+                manifest,
+            },
+        ) => ring == "0.125" && gap == "0.2" && most == "2" && manifest == "m.csv",
+        _ => false,
+    }
+}
+
+#[test]
+fn a_report_is_asked_for(rt: HostRuntime) {
+    let all = matches!(
+        parse(
+            rt.alloc(),
+            &["report", "--ring", "0.125", "--gap", "0.2", "m.csv"]
+        ),
+        Ok(Request::Report {
+            ring: "0.125",
+            gap: "0.2",
+            most: None,
+            manifest: "m.csv"
+        })
+    );
+    assert!(rt; all);
+    assert!(rt;
+        asks_for_two(
+            rt,
+            &[
+                "report", "--ring", "0.125", "--gap", "0.2", "--max", "2", "m.csv"
+            ]
+        )
+    );
+    assert!(rt;
+        asks_for_two(
+            rt,
+            &[
+                "report", "--max", "2", "m.csv", "--gap", "0.2", "--ring", "0.125"
+            ]
+        )
+    );
+}
+
+#[test]
+fn a_picture_is_asked_for(rt: HostRuntime) {
+    let bare = matches!(
+        parse(rt.alloc(), &["draw", "m.csv"]),
+        Ok(Request::Draw {
+            ring: None,
+            gap: None,
+            manifest: "m.csv"
+        })
+    );
+    assert!(rt; bare);
+    let ruled = matches!(
+        parse(
+            rt.alloc(),
+            &["draw", "--ring", "0.125", "--gap", "0.2", "m.csv"]
+        ),
+        Ok(Request::Draw {
+            ring: Some("0.125"),
+            gap: Some("0.2"),
+            manifest: "m.csv"
+        })
+    );
+    assert!(rt; ruled);
+    let one = matches!(
+        parse(rt.alloc(), &["draw", "--ring", "0.125", "m.csv"]),
+        Ok(Request::Draw {
+            ring: Some("0.125"),
+            gap: None,
+            ..
+        })
+    );
+    assert!(rt; one);
 }
 
 #[test]
@@ -235,7 +352,9 @@ fn fits_a_screen(rt: HostRuntime, words: &[&str]) -> bool {
 #[test]
 fn help_fits_a_screen(rt: HostRuntime) {
     assert!(rt; fits_a_screen(rt, &["--help"]));
-    for command in ["check", "measure", "manifest", "explain", "show", "rewrite"] {
+    for command in [
+        "check", "report", "measure", "draw", "manifest", "explain", "show", "rewrite",
+    ] {
         assert!(rt; fits_a_screen(rt, &[command, "--help"]), "of {command}");
     }
 }

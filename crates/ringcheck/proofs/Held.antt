@@ -1,4 +1,4 @@
--- What a check that passes, or a measure, says of three files at hand.
+-- What a check or a report that passes, or a measure, says of three files at hand.
 use Rattle.std.proofs.Common.{◌≡◌, ◌⊎◌, inl, inr, ℕ, zero, suc, List, [], ◌∷◌, Option, Result, Ok, Err, length, codes, ap, sym, subst, refl, arith}
 use Rattle.std.specs.List.{Contains}
 use Rattle.grid_units.specs.Holes.{GridRules}
@@ -11,6 +11,7 @@ use Rattle.package_check.specs.Soundness.{IsSound}
 use Rattle.ringcheck.specs.declared.Status.{Status}
 use Rattle.ringcheck.specs.declared.Status.TheVariants as status
 use Rattle.ringcheck.specs.Measuring.{SaysMeasure}
+use Rattle.ringcheck.specs.Reporting.{SaysReportOf}
 use Rattle.ringcheck.specs.Running.{HasFiles, SaysOf, file_limit, sources, within}
 use Rattle.ringcheck.proofs.Loaded.{along}
 
@@ -63,10 +64,29 @@ met_as_held m l d before after status.Pass says is =
       subst (λ t. manifest t ≡ Ok says.entries) (first_held m l d held.text held.held) held.names,
       says.files,
       along (within file_limit (lies m l d)) (lies m l d) (λ n b h. h.0) says.entries says.files held.loaded,
-      says.measures.measure,
-      says.measures.passes,
+      says.holds.measure,
+      says.holds.passes,
     )
 met_as_held m l d before after status.Findings says is = cc
 met_as_held m l d before after status.Refused says is = cc
 met_as_held m l d before after status.Usage says is = cc
 met_as_held m l d before after status.Device says is = cc
+
+-- the files that the manifest names are sound, where a report tells of no finding
+pub told_as_held : (m l d : List ℕ) (r : Result (GridRules × Option ℕ) Reason) (before after : Option (List ℕ)) (s : Status) → SaysReportOf (lies m l d) (codes "m.csv") r before after s → s ≡ status.Pass
+    → (asked : GridRules × Option ℕ) × (r ≡ Ok asked) × (entries : List Entry) × (manifest m ≡ Ok entries) × (files : List (List ℕ)) × HasFiles (lies m l d) entries files × IsSound (sources entries files) asked.0
+told_as_held m l d (Err why) before after s says is = absurd (never s says is)
+told_as_held m l d (Ok (rules, most)) before after status.Pass says is =
+    let held = says.held in (
+      (rules, most),
+      refl,
+      says.entries,
+      subst (λ t. manifest t ≡ Ok says.entries) (first_held m l d held.text held.held) held.names,
+      says.files,
+      along (within file_limit (lies m l d)) (lies m l d) (λ n b h. h.0) says.entries says.files held.loaded,
+      says.holds.sound,
+    )
+told_as_held m l d (Ok (rules, most)) before after status.Findings says is = cc
+told_as_held m l d (Ok (rules, most)) before after status.Refused says is = cc
+told_as_held m l d (Ok (rules, most)) before after status.Usage says is = cc
+told_as_held m l d (Ok (rules, most)) before after status.Device says is = cc

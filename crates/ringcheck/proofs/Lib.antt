@@ -4,3 +4,7 @@ pub mod Refusals
 pub mod Held
 pub mod Folders
 pub mod Working
+pub mod Reporting
+pub mod Doing
+pub mod Flashing
+pub mod Counting

@@ -6,3 +6,6 @@ pub mod Stopping
 pub mod Folders
 pub mod Measuring
 pub mod Working
+pub mod Reporting
+pub mod Doing
+pub mod Drawing

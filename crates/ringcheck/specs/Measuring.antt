@@ -1,20 +1,16 @@
 -- What a run says of the measure of a package.
-use Rattle.std.specs.Prelude.{◌++◌, ℕ, List, map, ⊤, Option}
+use Rattle.std.specs.Prelude.{◌++◌, ℕ, List, map, Option}
 use Rattle.std.specs.Io.KnownBytes.{Appends}
-use Rattle.grid_units.specs.Holes.{GridRules}
-use Rattle.grid_units.specs.declared.fault.Fault.{Fault}
-use Rattle.manifest.specs.declared.Entry.{Entry}
 use Rattle.margin_text.specs.Lines.{measure_text}
 use Rattle.measuring.specs.Measures.{IsMeasure, PackagePasses}
 use Rattle.measuring.specs.declared.measure.Measure.{Measure}
 use Rattle.package_check.specs.Boards.{IsBoard, Survey}
-use Rattle.package_check.specs.Package.{Source, IsFirstRefused}
+use Rattle.package_check.specs.Package.{Source}
 use Rattle.package_check.specs.Texts.{file_lines}
 use Rattle.ringcheck.specs.declared.Status.{Status}
-use Rattle.ringcheck.specs.declared.Status.TheVariants as status
 use Rattle.ringcheck.specs.declared.ending.Ended.{Ended}
-use Rattle.ringcheck.specs.declared.ending.Ended.TheVariants as ended
-use Rattle.ringcheck.specs.Running.{Relation, HasPackage, RefusedIn, sources}
+use Rattle.ringcheck.specs.Doing.{AnsweredDone, SaysDone}
+use Rattle.ringcheck.specs.Running.{Relation}
 
 -- the lines of a measure (docs/FORMATS.md, Measure)
 abbrev pub lines_of : Measure → List ℕ
@@ -34,29 +30,10 @@ pub record Measures (all : List Source) (before after : Option (List ℕ)) : Typ
   pub written : Appends before after (board_text (map (λ source. source.name) all) board measure)
   pub passes : PackagePasses all measure.meets.ring measure.meets.gap
 
--- a package that the loader has, whose measure the writer got (docs/DEFINITIONS.md, Runs)
-pub record Measured (has : Relation) (name : List ℕ) (before after : Option (List ℕ)) : Type 0 where
-  pub entries : List Entry
-  pub files : List (List ℕ)
-  pub held : HasPackage has name entries files
-  pub measures : Measures (sources entries files) before after
-
--- What a status says of the measure of a package. It is refused just where a check would refuse it, whatever the rules
--- (docs/DEFINITIONS.md, Runs).
+-- what a status says of the measure of a package (docs/DEFINITIONS.md, Runs)
 abbrev pub SaysMeasure : Relation → List ℕ → Option (List ℕ) → Option (List ℕ) → Status → Type 0
-SaysMeasure has name before after status.Pass = Measured has name before after
-SaysMeasure has name before after status.Findings = ⊥
-SaysMeasure has name before after status.Refused = (rules : GridRules) → RefusedIn has name rules
-SaysMeasure has name before after status.Usage = ⊥
-SaysMeasure has name before after status.Device = ⊤
+SaysMeasure has name before after s = SaysDone has name (λ all. Measures all before after) s
 
 -- what an end says of the measure of files that are at hand (docs/DEFINITIONS.md, Runs)
 abbrev pub AnsweredMeasure : List Source → Option (List ℕ) → Option (List ℕ) → Ended → Type 0
-AnsweredMeasure all before after (ended.Said status.Pass) = Measures all before after
-AnsweredMeasure all before after (ended.Said status.Findings) = ⊥
-AnsweredMeasure all before after (ended.Said status.Refused) = (fault : ℕ × Fault) × IsFirstRefused all fault.0 fault.1
-AnsweredMeasure all before after (ended.Said status.Usage) = ⊥
-AnsweredMeasure all before after (ended.Said status.Device) = ⊥
-AnsweredMeasure all before after ended.LoaderFailed = ⊥
-AnsweredMeasure all before after ended.OutOfMemory = ⊤
-AnsweredMeasure all before after ended.WriterFailed = ⊤
+AnsweredMeasure all before after e = AnsweredDone all (λ all. Measures all before after) e

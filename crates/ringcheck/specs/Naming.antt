@@ -1,11 +1,11 @@
--- The rules that two words of a command line name.
-use Rattle.std.specs.Prelude.{ℕ, ℤ, pos, Bool, ◌&&◌, List, Result, Ok, Err, unsigned_abs, int_le, if◌then◌else◌}
+-- The rules, and how many findings are told, that words of a command line name.
+use Rattle.std.specs.Prelude.{ℕ, ℤ, pos, Bool, ◌&&◌, List, Option, Some, None, Result, Ok, Err, length, nat_le, unsigned_abs, int_le, if◌then◌else◌}
 use Rattle.grid_units.specs.declared.fault.Reason.{Reason}
-use Rattle.grid_units.specs.declared.fault.Reason.TheVariants.{BadRule}
+use Rattle.grid_units.specs.declared.fault.Reason.TheVariants.{BadNumber, BadRule}
 use Rattle.grid_units.specs.declared.lengths.Unit.TheVariants.{Millimetre}
 use Rattle.grid_units.specs.Points.{max_coordinate}
 use Rattle.grid_units.specs.Holes.{GridRules}
-use Rattle.grid_units.specs.Numbers.{dec_of, picometres, within_limit}
+use Rattle.grid_units.specs.Numbers.{dec_of, is_digits, picometres, value, within_limit}
 use Rattle.grid_units.specs.Results.{◌>>=◌}
 
 -- the length in pm that a word names in millimetres, or why it names none (docs/FORMATS.md, The program)
@@ -23,3 +23,23 @@ rules_of ring gap = if are_rules ring gap then Ok (record { ring = unsigned_abs 
 -- the rules that two words name in millimetres, or the first refusal, the ring's before the gap's (docs/FORMATS.md, The program)
 unfoldable pub rules_named : List ℕ → List ℕ → Result GridRules Reason
 rules_named ring gap = length_named ring >>= λ r. (length_named gap >>= λ g. rules_of r g)
+
+-- how many findings a word of one to nine digits names (docs/FORMATS.md, The program)
+unfoldable pub count_named : List ℕ → Result ℕ Reason
+count_named word = if is_digits word && nat_le (length word) 9 then Ok (value word) else Err BadNumber
+
+-- how many findings are told at most, where a word says so: else all of them (docs/FORMATS.md, The program)
+unfoldable pub most_named : Option (List ℕ) → Result (Option ℕ) Reason
+most_named None = Ok None
+most_named (Some word) = count_named word >>= λ n. Ok (Some n)
+
+-- the rules of a report, and how many findings it tells at most, or the first refusal, that of the rules first (docs/FORMATS.md, The program)
+unfoldable pub report_named : List ℕ → List ℕ → Option (List ℕ) → Result (GridRules × Option ℕ) Reason
+report_named ring gap most = rules_named ring gap >>= λ rules. (most_named most >>= λ n. Ok (rules, n))
+
+-- the rules of a picture: those of a ring and a gap, or none; one of these alone names none (docs/FORMATS.md, The program)
+unfoldable pub draw_named : Option (List ℕ) → Option (List ℕ) → Result (Option GridRules) Reason
+draw_named None None = Ok None
+draw_named (Some ring) (Some gap) = rules_named ring gap >>= λ rules. Ok (Some rules)
+draw_named (Some ring) None = Err BadRule
+draw_named None (Some gap) = Err BadRule

@@ -56,6 +56,13 @@ pub record HasPackage (has : Relation) (name : List ℕ) (entries : List Entry) 
   pub short : length text ≤ manifest_limit
   pub loaded : HasFiles (within file_limit has) entries files
 
+-- a package that the loader has, of whose files this holds (docs/DEFINITIONS.md, Runs)
+pub record OfPackage (has : Relation) (name : List ℕ) (Holds : List Source → Type 0) : Type 0 where
+  pub entries : List Entry
+  pub files : List (List ℕ)
+  pub held : HasPackage has name entries files
+  pub holds : Holds (sources entries files)
+
 -- a package that the loader has, whose report the writer got (docs/DEFINITIONS.md, Runs)
 pub record Reported (has : Relation) (name : List ℕ) (rules : GridRules) (before after : Option (List ℕ)) (report : Account) : Type 0 where
   pub entries : List Entry

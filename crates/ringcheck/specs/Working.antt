@@ -1,11 +1,15 @@
--- What is said of the work on a package, which is checked or measured.
+-- What is said of the work on a package, which is checked or measured, or told or drawn.
 use Rattle.std.specs.Prelude.{ℕ, List, Option}
 use Rattle.package_check.specs.Package.{Source}
 use Rattle.ringcheck.specs.declared.Status.{Status}
 use Rattle.ringcheck.specs.declared.ending.Ended.{Ended}
 use Rattle.ringcheck.specs.declared.packages.Work.{Work}
 use Rattle.ringcheck.specs.declared.packages.Work.TheVariants as work
+use Rattle.ringcheck.specs.declared.flashed.FlashedWork.{FlashedWork}
+use Rattle.ringcheck.specs.declared.flashed.FlashedWork.TheVariants as flashed
+use Rattle.ringcheck.specs.Drawing.{AnsweredDraw, SaysDraw}
 use Rattle.ringcheck.specs.Measuring.{AnsweredMeasure, SaysMeasure}
+use Rattle.ringcheck.specs.Reporting.{AnsweredReport, SaysReport}
 use Rattle.ringcheck.specs.Running.{Relation, Says}
 use Rattle.ringcheck.specs.Stopping.{Answered}
 
@@ -18,3 +22,13 @@ SaysBy work.Measure has name before after s = SaysMeasure has name before after 
 abbrev pub AnsweredBy : Work → List Source → Option (List ℕ) → Option (List ℕ) → Ended → Type 0
 AnsweredBy (work.Check rules) all before after e = Answered all rules before after e
 AnsweredBy work.Measure all before after e = AnsweredMeasure all before after e
+
+-- what a status says of a work that wants the flashes (docs/DEFINITIONS.md, Runs)
+abbrev pub SaysFlashed : FlashedWork → Relation → List ℕ → Option (List ℕ) → Option (List ℕ) → Status → Type 0
+SaysFlashed (flashed.Report rules most) has name before after s = SaysReport has name rules most before after s
+SaysFlashed (flashed.Draw rules) has name before after s = SaysDraw has name rules before after s
+
+-- what an end says of such a work on files that are at hand (docs/DEFINITIONS.md, Runs)
+abbrev pub AnsweredFlashed : FlashedWork → List Source → Option (List ℕ) → Option (List ℕ) → Ended → Type 0
+AnsweredFlashed (flashed.Report rules most) all before after e = AnsweredReport all rules most before after e
+AnsweredFlashed (flashed.Draw rules) all before after e = AnsweredDraw all rules before after e

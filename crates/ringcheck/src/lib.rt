@@ -1,8 +1,10 @@
 //! The program: packages, layers and drill files from a loader, and what is printed of them to a writer.
 #![tactic(auto)]
 
+mod drawings;
 mod ending;
 mod explaining;
+mod flashed;
 mod lines;
 mod loading_files;
 mod measures;
@@ -10,7 +12,9 @@ mod naming;
 mod packages;
 mod program;
 mod proposing;
+mod reports;
 mod single_files;
+mod taking;
 
 pub use loading::{LoadFault, Loader, MAX_LIMIT, ReadFail, read_all};
 pub use manifest::{Entry, Name, Role, read_manifest};

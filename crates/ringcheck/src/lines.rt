@@ -4,6 +4,7 @@ ghost use Rattle.std.specs.Prelude.{◌≡◌, IfOk};
 ghost use Rattle.std.specs.String.{string_bytes};
 ghost use Rattle.ringcheck.specs.Printing.{refusal};
 
+use explanations::explanation;
 use grid_units::{Fault, Reason};
 use std::alloc::{AllocError, Global};
 
@@ -56,4 +57,21 @@ pub(crate) fn usage(alloc: Global, reason: Reason) -> Result<String, AllocError>
 /// The line, and `clap`'s text below it, of words that are no command.
 pub(crate) fn usage_with(alloc: Global, text: &str) -> Result<String, AllocError> {
     format!(in alloc; "usage\n{text}")
+}
+
+/// A line, and below it the page of a reason, each line of it after two spaces.
+pub(crate) fn with_page(
+    line: Result<String, AllocError>,
+    reason: Reason,
+) -> Result<String, AllocError> {
+    let mut text = line?;
+    let Some(page) = explanation(reason.name()) else {
+        return Ok(text);
+    };
+    for row in page.lines() {
+        text.push_str("  ")?;
+        text.push_str(row)?;
+        text.push('\n')?;
+    }
+    Ok(text)
 }

@@ -4,12 +4,12 @@ ghost use Rattle.std.specs.Prelude.{◌≡◌, ◌≤◌, ◌++◌, ◌∷◌, [
 ghost use Rattle.std.specs.List.{count_by};
 ghost use Rattle.manifest.specs.Manifest.{manifest};
 ghost use Rattle.package_check.specs.Package.{Source, is_copper};
-ghost use Rattle.package_check.specs.Standing.{PackageStandsAfter, copper_files};
 ghost use Rattle.ringcheck.specs.Endings.{HasRisen};
 ghost use Rattle.ringcheck.specs.Running.{HasFiles, file_limit, manifest_limit, sources, within};
 ghost use Rattle.ringcheck.specs.Stopping.{IsUnread, StopsManifest, StopsFiles};
 
-use crate::{Entry, LoadFault, Loader, PackageReader, Role, read_manifest};
+use crate::taking::TakesFiles;
+use crate::{Entry, LoadFault, Loader, Role, read_manifest};
 use grid_units::{Fail, Reason};
 use std::alloc::Global;
 
@@ -76,32 +76,32 @@ fn layer_count(entries: &[Entry]) -> usize
 }
 
 /// Takes the file of an entry, whose bytes are loaded.
-fn take_file(reader: &mut PackageReader, entry: &Entry, bytes: &[u8]) -> Result<(), Stop>
-    ensures stands { (sources : List Source) → PackageStandsAfter reader.old sources → OnOk result (PackageStandsAfter reader.new (sources
-        ++ record { role = entry.now.role; name = entry.now.name; span = entry.now.span; bytes = bytes.now; layers = copper_files reader.old } ∷ [])) }
-    ensures layers { copper_files reader.new ≡ copper_files reader.old }
+fn take_file<R: TakesFiles>(reader: &mut R, entry: &Entry, bytes: &[u8]) -> Result<(), Stop>
+    ensures stands { (sources : List Source) → R.stands reader.old sources → OnOk result (R.stands reader.new (sources
+        ++ record { role = entry.now.role; name = entry.now.name; span = entry.now.span; bytes = bytes.now; layers = R.copper reader.old } ∷ [])) }
+    ensures layers { R.copper reader.new ≡ R.copper reader.old }
     ensures err { IfErr result (λ stop. stop ≡ Stop.Memory) }
 {
-    match reader.take(entry.role, &entry.span, &[bytes]) {
+    match reader.take_file(entry, bytes) {
         Ok(()) => Ok(()),
         Err(_) => Err(Stop::Memory),
     }
 }
 
-/// A reader that has taken the files of the entries, in order. They are loaded one after the other, and the bytes of each are let
+/// What has taken the files of the entries, in order. They are loaded one after the other, and the bytes of each are let
 /// go of before the next is loaded.
-pub(crate) fn take_files<L: Loader>(
+pub(crate) fn take_files<L: Loader, R: TakesFiles + Drop>(
     alloc: Global,
     loader: &mut L,
     entries: &[Entry],
-) -> Result<PackageReader, Stop>
+) -> Result<R, Stop>
     ensures keeps { (n b : List ℕ) → L.has loader.new n b ↔ L.has loader.old n b }
-    ensures ok { IfOk result (λ reader. (files : List (List ℕ)) × HasFiles (within file_limit (L.has loader.old)) entries.now files × PackageStandsAfter reader (sources entries.now files)) }
+    ensures ok { IfOk result (λ reader. (files : List (List ℕ)) × HasFiles (within file_limit (L.has loader.old)) entries.now files × R.stands reader (sources entries.now files)) }
     ensures err { IfErr result (StopsFiles (L.has loader.old) entries.now) }
     ensures counts { L.failed loader.old ≤ L.failed loader.new }
     ensures unread { IfErr result (λ stop. IsUnread stop → HasRisen (L.failed loader.old) (L.failed loader.new)) }
 {
-    let mut reader = PackageReader::new(alloc, layer_count(entries));
+    let mut reader = R::of_layers(alloc, layer_count(entries));
     for (index, entry) in entries.iter().enumerate() {
         match loader.load(alloc, entry.file.as_str(), FILE_LIMIT) {
             Ok(bytes) => take_file(&mut reader, entry, bytes.as_slice())?,

@@ -1,8 +1,9 @@
-//! The rules that two words of a command line name.
+//! The rules, and how many findings are told, that words of a command line name.
 
-ghost use Rattle.std.specs.Prelude.{◌≡◌};
+ghost use Rattle.std.specs.Prelude.{◌≡◌, option_map};
 ghost use Rattle.ringcheck.specs.Naming as words;
 
+use grid_units::numbers::{capped_value, is_digits};
 use grid_units::{Dec, Reason, Rules, Unit};
 
 /// The length in pm that a word names in millimetres.
@@ -28,4 +29,52 @@ pub(crate) fn rules_named(ring: &str, gap: &str) -> Result<Rules, Reason>
     let ring = length_named(ring)?;
     let gap = length_named(gap)?;
     rules_of(ring, gap)
+}
+
+/// How many findings a word of one to nine digits names.
+#[tactic(auto, unfolding(crate::specs::Naming::count_named))]
+fn count_named(word: &str) -> Result<usize, Reason>
+    ensures { result ≡ words.count_named word.now }
+{
+    if !is_digits(word.as_bytes()) || word.len() > 9 {
+        return Err(Reason::BadNumber);
+    }
+    Ok(capped_value(word.as_bytes(), 999_999_999) as usize)
+}
+
+/// How many findings are told at most: all where no word says it.
+#[tactic(auto, unfolding(crate::specs::Naming::most_named))]
+fn most_named(word: Option<&str>) -> Result<Option<usize>, Reason>
+    ensures { result ≡ words.most_named (option_map (λ w. w.now) word.entry) }
+{
+    match word {
+        None => Ok(None),
+        Some(word) => Ok(Some(count_named(word)?)),
+    }
+}
+
+/// The rules of a report, and how many findings it tells at most, the rules read first.
+#[tactic(auto, unfolding(crate::specs::Naming::report_named))]
+pub(crate) fn report_named(
+    ring: &str,
+    gap: &str,
+    most: Option<&str>,
+) -> Result<(Rules, Option<usize>), Reason>
+    ensures { result ≡ words.report_named ring.now gap.now (option_map (λ w. w.now) most.entry) }
+{
+    let rules = rules_named(ring, gap)?;
+    let most = most_named(most)?;
+    Ok((rules, most))
+}
+
+/// The rules of a picture: a ring and a gap, or neither. One of them alone is refused.
+#[tactic(auto, unfolding(crate::specs::Naming::draw_named))]
+pub(crate) fn draw_named(ring: Option<&str>, gap: Option<&str>) -> Result<Option<Rules>, Reason>
+    ensures { result ≡ words.draw_named (option_map (λ w. w.now) ring.entry) (option_map (λ w. w.now) gap.entry) }
+{
+    match (ring, gap) {
+        (None, None) => Ok(None),
+        (Some(ring), Some(gap)) => Ok(Some(rules_named(ring, gap)?)),
+        (Some(_), None) | (None, Some(_)) => Err(Reason::BadRule),
+    }
 }

@@ -47,7 +47,7 @@ pub(crate) const ABOVE_LIMIT: Fault = Fault {
 };
 
 /// Tells why nothing was checked.
-fn tell<W: Write>(alloc: Global, out: &mut W, entries: &[Entry], stop: Stop) -> Ended
+pub(crate) fn tell<W: Write>(alloc: Global, out: &mut W, entries: &[Entry], stop: Stop) -> Ended
     ensures { TellsOf stop result }
 {
     match stop {
@@ -156,7 +156,7 @@ fn work_on<L: Loader, W: Write>(
         Ok(entries) => entries,
         Err(stop) => return tell(alloc, out, &[], stop),
     };
-    match take_files(alloc, loader, entries.as_slice()) {
+    match take_files::<L, PackageReader>(alloc, loader, entries.as_slice()) {
         Ok(reader) => answer(alloc, work, reader, entries.as_slice(), out),
         Err(stop) => tell(alloc, out, entries.as_slice(), stop),
     }

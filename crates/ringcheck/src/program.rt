@@ -1,16 +1,19 @@
 //! The whole program, over a loader and a writer.
 
-ghost use Rattle.std.specs.Prelude.{◌≡◌, ◌∷◌, [], map, true, ℕ, Bool, List, Some, None, codes};
-ghost use Rattle.command_line.specs.Line.{are_plain_words, check_words, explain_words, file_words, is_plain_word, manifest_words, measure_words};
+ghost use Rattle.std.specs.Prelude.{◌≡◌, ◌∷◌, [], map, true, ℕ, Bool, List, Option, Some, None, codes, option_map};
+ghost use Rattle.command_line.specs.Line.{are_plain_rules, are_plain_words, check_words, draw_words, explain_words, file_words, is_plain_if_some, is_plain_word, manifest_words, measure_words, report_words};
+ghost use Rattle.ringcheck.specs.Drawing.{SaysDrawOf};
 ghost use Rattle.ringcheck.specs.Endings.{HasCause, status_after};
 ghost use Rattle.ringcheck.specs.Folders.{SaysManifest, SaysPage, SaysVersion};
 ghost use Rattle.ringcheck.specs.Measuring.{SaysMeasure};
 ghost use Rattle.ringcheck.specs.Naming as named;
 ghost use Rattle.ringcheck.specs.Printing.{SaysFileOf, kind_named};
+ghost use Rattle.ringcheck.specs.Reporting.{SaysReportOf};
 ghost use Rattle.ringcheck.specs.Running.{SaysOf};
 
 use crate::ending::{Ended, say, say_line, say_out_of_memory};
 use crate::explaining::explain;
+use crate::flashed::{draw, report};
 use crate::packages::{check, measure};
 use crate::proposing::print_manifest;
 use crate::single_files::{Task, print};
@@ -28,8 +31,12 @@ fn run_to_end<L: Loader, W: Write>(
 ) -> Ended
     ensures check { (r g m : List ℕ) → map (λ w. w.now) words.now ≡ check_words r g m → is_plain_word r ≡ true → is_plain_word g ≡ true
         → is_plain_word m ≡ true → SaysOf (L.has loader.old) m (named.rules_named r g) (W.contents out.old) (W.contents out.new) (status_after result) }
+    ensures report { (r g : List ℕ) (most : Option (List ℕ)) (m : List ℕ) → map (λ w. w.now) words.now ≡ report_words r g most m → is_plain_word r ≡ true → is_plain_word g ≡ true
+        → is_plain_if_some most ≡ true → is_plain_word m ≡ true → SaysReportOf (L.has loader.old) m (named.report_named r g most) (W.contents out.old) (W.contents out.new) (status_after result) }
     ensures measure { (m : List ℕ) → map (λ w. w.now) words.now ≡ measure_words m → is_plain_word m ≡ true
         → SaysMeasure (L.has loader.old) m (W.contents out.old) (W.contents out.new) (status_after result) }
+    ensures draw { (rules : Option (List ℕ × List ℕ)) (m : List ℕ) → map (λ w. w.now) words.now ≡ draw_words rules m → are_plain_rules rules ≡ true → is_plain_word m ≡ true
+        → SaysDrawOf (L.has loader.old) m (named.draw_named (option_map (λ both. both.0) rules) (option_map (λ both. both.1) rules)) (W.contents out.old) (W.contents out.new) (status_after result) }
     ensures show { (k f : List ℕ) → map (λ w. w.now) words.now ≡ file_words (codes "show") k f → is_plain_word k ≡ true → is_plain_word f ≡ true
         → SaysFileOf Task.Show (kind_named k) (L.has loader.old) f (W.contents out.old) (W.contents out.new) (status_after result) }
     ensures rewrite { (k f : List ℕ) → map (λ w. w.now) words.now ≡ file_words (codes "rewrite") k f → is_plain_word k ≡ true → is_plain_word f ≡ true
@@ -50,7 +57,22 @@ fn run_to_end<L: Loader, W: Write>(
                 manifest,
             },
         ) => check(alloc, ring, gap, manifest, loader, out),
+        Ok(
+            Request::Report {
+                ring,
+                gap,
+                most,
+                manifest,
+            },
+        ) => report(alloc, ring, gap, most, manifest, loader, out),
         Ok(Request::Measure { manifest }) => measure(alloc, manifest, loader, out),
+        Ok(
+            Request::Draw {
+                ring,
+                gap,
+                manifest,
+            },
+        ) => draw(alloc, ring, gap, manifest, loader, out),
         Ok(Request::Show { kind, file }) => print(alloc, Task::Show, kind, file, loader, out),
         Ok(Request::Rewrite { kind, file }) => print(alloc, Task::Rewrite, kind, file, loader, out),
         Ok(Request::Manifest { why, files }) => {
@@ -77,8 +99,12 @@ pub fn run<L: Loader, W: Write>(
 ) -> Status
     ensures check { (r g m : List ℕ) → map (λ w. w.now) words.now ≡ check_words r g m → is_plain_word r ≡ true → is_plain_word g ≡ true
         → is_plain_word m ≡ true → SaysOf (L.has loader.old) m (named.rules_named r g) (W.contents out.old) (W.contents out.new) result }
+    ensures report { (r g : List ℕ) (most : Option (List ℕ)) (m : List ℕ) → map (λ w. w.now) words.now ≡ report_words r g most m → is_plain_word r ≡ true → is_plain_word g ≡ true
+        → is_plain_if_some most ≡ true → is_plain_word m ≡ true → SaysReportOf (L.has loader.old) m (named.report_named r g most) (W.contents out.old) (W.contents out.new) result }
     ensures measure { (m : List ℕ) → map (λ w. w.now) words.now ≡ measure_words m → is_plain_word m ≡ true
         → SaysMeasure (L.has loader.old) m (W.contents out.old) (W.contents out.new) result }
+    ensures draw { (rules : Option (List ℕ × List ℕ)) (m : List ℕ) → map (λ w. w.now) words.now ≡ draw_words rules m → are_plain_rules rules ≡ true → is_plain_word m ≡ true
+        → SaysDrawOf (L.has loader.old) m (named.draw_named (option_map (λ both. both.0) rules) (option_map (λ both. both.1) rules)) (W.contents out.old) (W.contents out.new) result }
     ensures show { (k f : List ℕ) → map (λ w. w.now) words.now ≡ file_words (codes "show") k f → is_plain_word k ≡ true → is_plain_word f ≡ true
         → SaysFileOf Task.Show (kind_named k) (L.has loader.old) f (W.contents out.old) (W.contents out.new) result }
     ensures rewrite { (k f : List ℕ) → map (λ w. w.now) words.now ≡ file_words (codes "rewrite") k f → is_plain_word k ≡ true → is_plain_word f ≡ true

@@ -7,9 +7,11 @@ use std::alloc::{AllocError, Global};
 mod checking;
 mod commands;
 mod devices;
+mod drawn;
 mod met;
 mod one_file;
 mod refusals;
+mod told;
 mod words;
 
 const WORDS: [&str; 6] = ["check", "--ring", "0.125", "--gap", "0.25", "m.csv"];

@@ -4,11 +4,13 @@ use Rattle.clap.specs.Lexer.{usize_max}
 use Rattle.clap.specs.Kinds.{HasKind, Kinds}
 use Rattle.clap.specs.Words.{Text, fault_of, is_simple, is_simple_and_free, subcommand_of, takes}
 use Rattle.command_line.specs.Line.{AsksFor, manifest_words}
-use Rattle.command_line.proofs.Files.{is_explain, is_manifest, is_measure, is_rewrite, is_show}
+use Rattle.command_line.proofs.Files.{is_draw, is_explain, is_manifest, is_measure, is_report, is_rewrite, is_show}
+use Rattle.command_line.proofs.DrawWords.{draw_found, draw_has, draw_taken, rows_of_draw}
 use Rattle.command_line.proofs.ManifestWords.{manifest_found, manifest_taken, no_more_files}
 use Rattle.command_line.proofs.MeasureWords.{manifest_first, measure_found, measure_taken}
 use Rattle.command_line.proofs.MeasureWords as measured
 use Rattle.command_line.proofs.OtherWords.{given, list_found, list_taken, told, version_fault, word_first, word_found, word_taken}
+use Rattle.command_line.proofs.ReportWords.{report_found, report_has, report_taken, rows_of_report}
 use Rattle.command_line.proofs.RewriteWords.{rewrite_found, rewrite_taken}
 use Rattle.command_line.proofs.ShowWords.{show_found, show_taken}
 use Rattle.command_line.proofs.Answered.{asked, refused}
@@ -27,6 +29,14 @@ returns-in-Some c =
       measure = λ m e p.
           is_measure m (measured.given m ∷ []) (manifest_first m) c.in-Some.request
           (subst (λ o. AsksFor o c.in-Some.request) (parsed.1 ∙ ap₂ subcommand_of c.in-Ok.ensures e ∙ measure_found m p) c.in-Some.ensures.asked);
+      report = λ r g o m e p q t s.
+          let (ring, gap, most, manifest) = report_has r g o m in
+          is_report r g o m (rows_of_report r g o m) ring gap most manifest c.in-Some.request
+          (subst (λ o. AsksFor o c.in-Some.request) (parsed.1 ∙ ap₂ subcommand_of c.in-Ok.ensures e ∙ report_found r g o m p q t s) c.in-Some.ensures.asked);
+      draw = λ o m e p s.
+          let (ring, gap, manifest) = draw_has o m in
+          is_draw o m (rows_of_draw o m) ring gap manifest c.in-Some.request
+          (subst (λ o. AsksFor o c.in-Some.request) (parsed.1 ∙ ap₂ subcommand_of c.in-Ok.ensures e ∙ draw_found o m p s) c.in-Some.ensures.asked);
       show = λ k f e p q.
           let (rows, found, kind, file) = show_found k f p q in
           is_show k f rows kind file c.in-Some.request
@@ -58,6 +68,12 @@ returns c =
           rw (c.refusal_for.ensures.memory memory) tt;
       measure = λ m e p.
           let memory = c.in-Err.ensures.passes (ap₂ takes c.in-Ok.ensures e ∙ measure_taken m p) in
+          rw (c.refusal_for.ensures.memory memory) tt;
+      report = λ r g o m e p q t s.
+          let memory = c.in-Err.ensures.passes (ap₂ takes c.in-Ok.ensures e ∙ report_taken r g o m p q t s) in
+          rw (c.refusal_for.ensures.memory memory) tt;
+      draw = λ o m e p s.
+          let memory = c.in-Err.ensures.passes (ap₂ takes c.in-Ok.ensures e ∙ draw_taken o m p s) in
           rw (c.refusal_for.ensures.memory memory) tt;
       show = λ k f e p q.
           let memory = c.in-Err.ensures.passes (ap₂ takes c.in-Ok.ensures e ∙ show_taken k f p q) in

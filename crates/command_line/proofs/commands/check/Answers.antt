@@ -5,6 +5,6 @@ use Rattle.command_line.proofs.commands.check.Goals as goal
 
 pub returns : goal.returns
 returns c =
-    let ring = c.in_ok-arg.ensures.shape c.option_of.ensures.global ∙ ap₂ with_rule c.described.ensures c.option_of.ensures.rule in
-    let gap = c.in_ok-arg-2.ensures.shape c.option_of-2.ensures.global ∙ ap₂ with_rule ring c.option_of-2.ensures.rule in
+    let ring = c.in_ok-arg.ensures.shape c.ring_of.ensures.global ∙ ap₂ with_rule c.described.ensures c.ring_of.ensures.rule in
+    let gap = c.in_ok-arg-2.ensures.shape c.gap_of.ensures.global ∙ ap₂ with_rule ring c.gap_of.ensures.rule in
     IfOk-weaker c.arg-3.result _ _ (λ x h. h.shape c.value_of.ensures.global ∙ ap₂ with_rule gap c.value_of.ensures.rule) c.arg-3.ensures

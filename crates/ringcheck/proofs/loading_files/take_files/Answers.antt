@@ -3,7 +3,6 @@ use Rattle.std.specs.List.{count_by}
 use Rattle.std.proofs.lemmas.List.{take_all, take_more}
 use Rattle.manifest.specs.declared.Entry.{Entry}
 use Rattle.package_check.specs.Package.{Source, is_copper}
-use Rattle.package_check.specs.Standing.{PackageStandsAfter}
 use Rattle.ringcheck.proofs.Loaded.{has_more, same_length, sources_more}
 use Rattle.ringcheck.specs.Running.{HasFiles, file_limit, sources_among, within}
 use Rattle.ringcheck.proofs.loading_files.take_files.Goals as goal
@@ -23,8 +22,8 @@ loop-index-preserved g c =
     let here = (inv.keeps _ _).0 (rw c.as_str.ensures at c.in-Ok.ensures.gives.0) in
     let source = λ (b : List ℕ) (k : ℕ). let s : Source = record { role = entry.role; name = entry.name; span = entry.span; bytes = b; layers = k } in s in
     let stands = c.in_ok-take_file-in-Ok.ensures.stands (sources_among n before files) inv.taken.2 in
-    let one = subst (λ (s : Source). PackageStandsAfter c.take_file.new.reader (sources_among n before files ++ s ∷ [])) (λ k. source (c.as_slice.ensures.value k) (inv.layers k)) stands in
-    let all = subst (λ (ss : List Source). PackageStandsAfter c.take_file.new.reader ss) (sym (sources_more n before files entry bytes (same_length has before files inv.taken.1))) one in
+    let one = subst (λ (s : Source). g.R.TakesFiles.stands c.take_file.new.reader (sources_among n before files ++ s ∷ [])) (λ k. source (c.as_slice.ensures.value k) (inv.layers k)) stands in
+    let all = subst (λ (ss : List Source). g.R.TakesFiles.stands c.take_file.new.reader ss) (sym (sources_more n before files entry bytes (same_length has before files inv.taken.1))) one in
     record {
       keeps = λ m b. ((λ h. (inv.keeps m b).0 ((c.load.ensures.keeps m b).0 h)), (λ h. (c.load.ensures.keeps m b).1 ((inv.keeps m b).1 h)));
       counted = omega arith;
@@ -32,7 +31,7 @@ loop-index-preserved g c =
       taken = (
         files ++ bytes ∷ [],
         subst (λ (es : List Entry). HasFiles has es (files ++ bytes ∷ [])) more (has_more has before files entry bytes inv.taken.1 (here, c.in-Ok.ensures.gives.1)),
-        subst (λ (es : List Entry). PackageStandsAfter c.take_file.new.reader (sources_among n es (files ++ bytes ∷ []))) more all,
+        subst (λ (es : List Entry). g.R.TakesFiles.stands c.take_file.new.reader (sources_among n es (files ++ bytes ∷ []))) more all,
       );
     }
 
@@ -49,7 +48,7 @@ returns g c =
       ok = (
         files,
         subst (λ (es : List Entry). HasFiles has es files) all inv.taken.1,
-        subst (λ (es : List Entry). PackageStandsAfter c.loop-index.reader (sources_among n es files)) all inv.taken.2,
+        subst (λ (es : List Entry). g.R.TakesFiles.stands c.loop-index.reader (sources_among n es files)) all inv.taken.2,
       );
       err = tt;
       counts = inv.counted;

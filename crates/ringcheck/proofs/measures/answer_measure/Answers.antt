@@ -12,7 +12,7 @@ use Rattle.ringcheck.proofs.measures.answer_measure.Goals as goal
 pub returns-in-Err-File : goal.returns-in-Err-File
 returns-in-Err-File g c files same stands =
     let all = sources c.args.entries.now files in
-    refused_file all _ _ (c.in-Err-File.index, c.in-Err-File.fault) c.say_line.result (rw c.in-Err-File.field-0-is at (c.in-Err-File.ensures all stands)) c.say_line.ensures.ends
+    refused_file _ _ all (c.in-Err-File.index, c.in-Err-File.fault) c.say_line.result (rw c.in-Err-File.field-0-is at (c.in-Err-File.ensures all stands)) c.say_line.ensures.ends
 
 pub returns-in-Ok-measure_board : goal.returns-in-Ok-measure_board
 returns-in-Ok-measure_board g c files same stands =
@@ -24,7 +24,7 @@ returns-in-Ok-measure_board g c files same stands =
     let names = names_among (count_by (λ (e : Entry). is_copper e.role) entries) entries files same in
     let read = c.in-Ok.ensures all stands in
     let is = c.in-Ok-measure_board.ensures.exact in
-    measured all (told c.args.out.now) (told c.print.new.out) c.print.result
+    measured (told c.args.out.now) (told c.print.new.out) all c.print.result
     (λ w m. (
       c.print.ensures.ends w m,
       record {

@@ -1,0 +1,20 @@
+use Rattle.std.proofs.Common.{List, ℕ, subst, sym, ◌∙◌}
+use Rattle.std.specs.List.{count_by}
+use Rattle.manifest.specs.declared.Entry.{Entry}
+use Rattle.drawing.specs.Drawings.{IsDrawn}
+use Rattle.package_check.specs.Package.{is_copper}
+use Rattle.ringcheck.proofs.Loaded.{names_among}
+use Rattle.ringcheck.proofs.drawings.answer_draw.Goals as goal
+
+pub returns-in-Ok-print_drawing : goal.returns-in-Ok-print_drawing
+returns-in-Ok-print_drawing g c files same read =
+    let entries = c.args.entries.now in
+    let names = names_among (count_by (λ (e : Entry). is_copper e.role) entries) entries files same in
+    let (text, is, written) = rw c.as_slice.ensures.value at c.in-Ok-print_drawing.ensures.ok in
+    record {
+      flashed = c.args.board.now;
+      read = read;
+      text = text;
+      is = subst (λ (ns : List (List ℕ)). IsDrawn ns c.args.board.now c.args.rules text) (c.in-Ok.ensures ∙ sym names) is;
+      written = written;
+    }

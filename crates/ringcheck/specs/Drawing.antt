@@ -1,0 +1,34 @@
+-- What a run says of the picture of a package.
+use Rattle.std.specs.Prelude.{◌≡◌, ◌⊎◌, ℕ, List, map, Option, Result, Ok, Err}
+use Rattle.std.specs.Io.KnownBytes.{Appends}
+use Rattle.grid_units.specs.Holes.{GridRules}
+use Rattle.grid_units.specs.declared.fault.Reason.{Reason}
+use Rattle.drawing.specs.Drawings.{IsDrawn}
+use Rattle.flashed_boards.specs.Flashed.{FlashedSurvey, IsFlashed}
+use Rattle.package_check.specs.Package.{Source}
+use Rattle.ringcheck.specs.declared.Status.{Status}
+use Rattle.ringcheck.specs.declared.Status.TheVariants as status
+use Rattle.ringcheck.specs.declared.ending.Ended.{Ended}
+use Rattle.ringcheck.specs.Doing.{AnsweredDone, SaysDone}
+use Rattle.ringcheck.specs.Running.{Relation}
+
+-- The writer got the page of the board of files, with what is found under the rules, if there are any (docs/DEFINITIONS.md, Runs).
+pub record Draws (all : List Source) (rules : Option GridRules) (before after : Option (List ℕ)) : Type 0 where
+  pub flashed : FlashedSurvey
+  pub read : IsFlashed all flashed
+  pub text : List ℕ
+  pub is : IsDrawn (map (λ source. source.name) all) flashed rules text
+  pub written : Appends before after text
+
+-- what a status says of the picture of a package (docs/DEFINITIONS.md, Runs)
+abbrev pub SaysDraw : Relation → List ℕ → Option GridRules → Option (List ℕ) → Option (List ℕ) → Status → Type 0
+SaysDraw has name rules before after s = SaysDone has name (λ all. Draws all rules before after) s
+
+-- the same, of rules that words name, or that they do not name (docs/DEFINITIONS.md, Runs)
+abbrev pub SaysDrawOf : Relation → List ℕ → Result (Option GridRules) Reason → Option (List ℕ) → Option (List ℕ) → Status → Type 0
+SaysDrawOf has name (Ok rules) before after s = SaysDraw has name rules before after s
+SaysDrawOf has name (Err why) before after s = (s ≡ status.Usage) ⊎ (s ≡ status.Device)
+
+-- what an end says of the picture of files that are at hand (docs/DEFINITIONS.md, Runs)
+abbrev pub AnsweredDraw : List Source → Option GridRules → Option (List ℕ) → Option (List ℕ) → Ended → Type 0
+AnsweredDraw all rules before after e = AnsweredDone all (λ all. Draws all rules before after) e

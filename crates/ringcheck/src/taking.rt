@@ -1,0 +1,62 @@
+//! What takes the files of a package one after the other.
+
+ghost use Rattle.std.specs.Prelude.{◌≡◌, ◌++◌, ◌∷◌, [], ℕ, List, OnOk};
+ghost use Rattle.package_check.specs.Package.{Source};
+ghost use Rattle.package_check.specs.Standing.{PackageStandsAfter, copper_files};
+ghost use Rattle.flashed_boards.specs.Flashed.{FlashedStandsAfter, copper_count};
+
+use crate::{Entry, PackageReader};
+use flashed_boards::FlashedReader;
+use std::alloc::{AllocError, Global};
+
+/// Takes the files of a package one after the other.
+pub(crate) trait TakesFiles {
+    /// It has taken just these files.
+    ghost stands: { Self → List Source → Type 0 };
+
+    /// Of how many copper files it was told.
+    ghost copper: { Self → ℕ };
+
+    /// One that has taken no file, of a package with so many copper files.
+    fn of_layers(alloc: Global, layers: usize) -> Self
+        ensures stands { stands result [] }
+        ensures layers { copper result ≡ layers };
+
+    /// Takes the file of the next entry, with these bytes.
+    ///
+    /// # Errors
+    ///
+    /// An `AllocError` where there is no memory.
+    fn take_file(&mut self, entry: &Entry, bytes: &[u8]) -> Result<(), AllocError>
+        ensures stands { (sources : List Source) → stands self.old sources → OnOk result (stands self.new (sources
+            ++ record { role = entry.now.role; name = entry.now.name; span = entry.now.span; bytes = bytes.now; layers = copper self.old } ∷ [])) }
+        ensures layers { copper self.new ≡ copper self.old };
+}
+
+impl TakesFiles for PackageReader {
+    ghost stands = { PackageStandsAfter };
+
+    ghost copper = { copper_files };
+
+    fn of_layers(alloc: Global, layers: usize) -> Self {
+        PackageReader::new(alloc, layers)
+    }
+
+    fn take_file(&mut self, entry: &Entry, bytes: &[u8]) -> Result<(), AllocError> {
+        PackageReader::take(self, entry.role, &entry.span, &[bytes])
+    }
+}
+
+impl TakesFiles for FlashedReader {
+    ghost stands = { FlashedStandsAfter };
+
+    ghost copper = { copper_count };
+
+    fn of_layers(alloc: Global, layers: usize) -> Self {
+        FlashedReader::new(alloc, layers)
+    }
+
+    fn take_file(&mut self, entry: &Entry, bytes: &[u8]) -> Result<(), AllocError> {
+        FlashedReader::take(self, entry.role, &entry.span, &[bytes])
+    }
+}
