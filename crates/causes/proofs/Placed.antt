@@ -1,5 +1,5 @@
 -- The places of the flashes of a layer.
-use Rattle.std.proofs.Common.{◌≡◌, ◌<◌, ◌+◌, ◌∷◌, ℕ, zero, suc, Bool, true, false, cond, List, [], Option, Some, None, length, get_or, refl, ap, subst, sym, ◌∙◌, arith}
+use Rattle.std.proofs.Common.{◌≡◌, ◌<◌, ◌+◌, ◌∷◌, ℕ, suc, Bool, true, false, cond, List, [], Option, Some, None, length, refl, ap, subst, arith}
 use Rattle.std.specs.List.{All, cons_option, enumerate_from, filter_map, find}
 use Rattle.std.specs.Option.{IfSome}
 use Rattle.std.proofs.lemmas.List.Elements.{All-cons}
@@ -10,10 +10,9 @@ use Rattle.layer_image.specs.declared.flash.What.TheVariants as what
 use Rattle.pad_shapes.specs.declared.pad.Pad.{Pad}
 use Rattle.grid_units.specs.Points.{GridPoint}
 use Rattle.causes.specs.Causes.{other_flash, others, pad_place, pad_places}
-use Rattle.causes.specs.declared.layer.Other.{Other}
 
 -- an optional element in front
-in_front : {X : Type 0} (P : X → Type 0) (x : Option X) (xs : List X) → IfSome x P → All P xs → All P (cons_option x xs)
+pub in_front : {X : Type 0} (P : X → Type 0) (x : Option X) (xs : List X) → IfSome x P → All P xs → All P (cons_option x xs)
 in_front P None xs h all = all
 in_front P (Some x) xs h all = All-cons P x xs h all
 

@@ -1,6 +1,7 @@
 -- Why a hole lacks its ring on a layer. Lengths are whole picometres.
-use Rattle.std.specs.Prelude.{◌≡◌, ℕ, pos, ◌+◌, ◌-ℤ◌, Bool, true, false, not, Option, Some, None, List, length, get_or, nat_le, if◌then◌else◌}
+use Rattle.std.specs.Prelude.{◌≡◌, ℕ, pos, ◌+◌, ◌<◌, ◌≤◌, ◌-ℤ◌, ◌≤ℤ◌, Bool, true, false, not, Option, Some, None, List, length, get_or, nat_le, if◌then◌else◌}
 use Rattle.std.specs.List.{enumerate_from, filter_map, find}
+use Rattle.std.specs.List.Sorted.{IsPermutation}
 use Rattle.grid_units.specs.Points.{GridPoint, square}
 use Rattle.grid_units.specs.Holes.{GridHole}
 use Rattle.pad_shapes.specs.Pads.{pad_covers}
@@ -13,7 +14,7 @@ use Rattle.layer_image.specs.declared.flash.Flash.{Flash}
 use Rattle.layer_image.specs.declared.flash.What.{What}
 use Rattle.layer_image.specs.declared.flash.What.TheVariants as what
 use Rattle.causes.specs.declared.layer.LayerCauses.{LayerCauses}
-use Rattle.causes.specs.declared.layer.Other.{Other}
+use Rattle.causes.specs.declared.other.Other.{Other}
 use Rattle.margins.specs.Bests.{AreBest, AreShallow, IsBest}
 use Rattle.margins.specs.Depths.{pad_middle}
 use Rattle.margins.specs.declared.best.Best.{Best}
@@ -72,11 +73,20 @@ IsCause flashes ring h (cause.Other why flash) = HasNoPad flashes h × ((other :
 IsCause flashes ring h cause.Nothing = HasNoPad flashes h × (other_in flashes h ≡ None)
 IsCause flashes ring h cause.Oblique = is_oblique h ≡ true
 
--- what is known of a layer: its pads, the places of their flashes, and its other flashes (docs/DEFINITIONS.md, Causes)
+-- no flash has a greater x than a later one (docs/DEFINITIONS.md, Causes)
+abbrev pub RiseByX : List Other → Type 0
+RiseByX all = (i j : ℕ) (d : Other) → i ≤ j → j < length all → (get_or all i d).at.x ≤ℤ (get_or all j d).at.x
+
+-- the flashes of a layer that are no pads, by the x of their points (docs/DEFINITIONS.md, Causes)
+pub record AreByX (flashes : List Flash) (found : List Other) : Type 0 where
+  pub all : IsPermutation (others flashes) found
+  pub rise : RiseByX found
+
+-- what is known of a layer: its pads, the places of their flashes, and its other flashes by x (docs/DEFINITIONS.md, Causes)
 pub record IsKnownOf (flashes : List Flash) (layer : LayerCauses) : Type 0 where
   pub pads : layer.pads.items ≡ pads_of flashes
   pub places : layer.places.items ≡ pad_places flashes
-  pub others : layer.others.items ≡ others flashes
+  pub others : AreByX flashes layer.others.items
 
 -- and for each hole the pad in which it lies deepest (docs/DEFINITIONS.md, Causes)
 pub record IsKnown (flashes : List Flash) (holes : List Drilled) (layer : LayerCauses) : Type 0 where

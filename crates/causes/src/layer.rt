@@ -1,33 +1,22 @@
 //! What is known of a layer, for the causes of its holes.
 
-ghost use Rattle.std.specs.Prelude.{◌≡◌, ◌<◌, ◌+◌, ◌-ℤ◌, ◌≤ℤ◌, ℕ, pos, neg_ℤ, false, IfOk, length, get_or};
-ghost use Rattle.std.specs.List.{find};
+ghost use Rattle.std.specs.Prelude.{◌≡◌, ◌<◌, ◌+◌, ◌-ℤ◌, ◌≤ℤ◌, ℕ, List, pos, neg_ℤ, false, true, IfOk, length, get_or};
 ghost use Rattle.pad_shapes.specs.Pads.{pad_covers};
 ghost use Rattle.ring_rules.specs.Findings.{is_oblique};
 ghost use Rattle.ring_rules.specs.Meeting.{hole_at};
 ghost use Rattle.layer_image.specs.Flashes.{pad_in, pads_of};
-ghost use Rattle.margins.specs.Bests.{IsBestPad, IsBest};
-ghost use Rattle.causes.specs.Causes.{HasNoPad, IsCause, IsInPad, IsKnown, IsKnownOf, is_in_hole, other_flash, others, pad_place, pad_places};
+ghost use Rattle.margins.specs.Bests.{AreBest, IsBestPad, IsBest};
+ghost use Rattle.causes.specs.Causes.{HasNoPad, IsCause, IsInPad, IsKnown, IsKnownOf, pad_place, pad_places};
 
-use crate::cause::{is_in_hole, is_small};
-use grid_units::{Hole, Point, Rules};
-use layer_image::{Flash, What, Why};
+use crate::cause::is_small;
+use crate::other::{Other, first_in, others};
+use grid_units::{Hole, Rules};
+use layer_image::{Flash, What};
 use margins::{Best, best_pads};
 use pad_shapes::Pad;
 use report_text::{InPad, RingCause};
 use ring_rules::{Drilled, is_oblique};
 use std::alloc::{AllocError, Global};
-
-/// A flash that is no pad.
-#[derive(Clone, Copy, Debug, PartialEq, Eq)]
-pub(crate) struct Other {
-    /// Its place on the layer, from 0.
-    pub(crate) place: usize,
-    /// Its point.
-    pub(crate) at: Point,
-    /// Why it is no pad.
-    pub(crate) why: Why,
-}
 
 /// What is known of a layer: its pads and its other flashes, and the pad in which each hole lies deepest.
 #[derive(Drop)]
@@ -58,20 +47,6 @@ fn pad_place(place: usize, flash: &Flash) -> Option<usize>
     }
 }
 
-/// What is told of a flash, where it is no pad.
-fn other_flash(place: usize, flash: &Flash) -> Option<Other>
-    ensures { result ≡ other_flash place flash.now.at flash.now.what }
-{
-    match flash.what {
-        What::Pad(_) => None,
-        What::Other(why) => Some(Other {
-            place,
-            at: flash.at,
-            why,
-        }),
-    }
-}
-
 fn pads_of(alloc: Global, flashes: &[Flash]) -> Result<Vec<Pad>, AllocError>
     ensures { IfOk result (λ pads. pads.items ≡ pads_of flashes.now) }
 {
@@ -89,26 +64,6 @@ fn pad_places(alloc: Global, flashes: &[Flash]) -> Result<Vec<usize>, AllocError
         .enumerate()
         .filter_map(|(place, flash)| pad_place(place, flash))
         .collect(alloc)
-}
-
-fn others(alloc: Global, flashes: &[Flash]) -> Result<Vec<Other>, AllocError>
-    ensures { IfOk result (λ found. found.items ≡ others flashes.now) }
-{
-    flashes
-        .iter()
-        .enumerate()
-        .filter_map(|(place, flash)| other_flash(place, flash))
-        .collect(alloc)
-}
-
-/// The first of some flashes whose point lies in a hole.
-fn first_in(others: &[Other], hole: &Hole) -> Option<Other>
-    ensures { result ≡ find (λ other. is_in_hole hole.now other.at) others.now }
-{
-    others
-        .iter()
-        .copied()
-        .find(|other| is_in_hole(hole, other.at))
 }
 
 /// The ring of a hole in its best pad.
@@ -129,7 +84,48 @@ fn lack_of(rules: Rules, ring: i64) -> i64
     rules.ring() - ring
 }
 
+/// Whether two lists have the same pads.
+fn are_same(pads: &[Pad], others: &[Pad]) -> bool
+    ensures { result ≡ true → pads.now ≡ others.now }
+{
+    pads == others
+}
+
+/// The best pads of a layer for these holes: those that are known where they are of the same pads, since to look for them takes long.
+fn bests_of(
+    alloc: Global,
+    pads: &[Pad],
+    holes: &[Drilled],
+    known_pads: &[Pad],
+    known: &[Option<Best>],
+) -> Result<Vec<Option<Best>>, AllocError>
+    ensures { AreBest pad_covers known_pads.now holes.now known.now → IfOk result (λ bests. AreBest pad_covers pads.now holes.now bests.items) }
+{
+    if are_same(pads, known_pads) {
+        return known.to_vec(alloc);
+    }
+    best_pads(alloc, pads, holes)
+}
+
 impl LayerCauses {
+    /// What is known of the layer of these flashes, by its pads and the best of them for each hole.
+    fn of(
+        alloc: Global,
+        flashes: &[Flash],
+        pads: Vec<Pad>,
+        bests: Vec<Option<Best>>,
+    ) -> Result<LayerCauses, AllocError>
+        requires { pads.items ≡ pads_of flashes.now }
+        ensures { (holes : List Drilled) → AreBest pad_covers (pads_of flashes.now) holes bests.items → IfOk result (IsKnown flashes.now holes) }
+    {
+        Ok(LayerCauses {
+            places: pad_places(alloc, flashes)?,
+            others: others(alloc, flashes)?,
+            pads,
+            bests,
+        })
+    }
+
     /// What is known of the layer of these flashes, for these holes.
     ///
     /// # Errors
@@ -144,12 +140,27 @@ impl LayerCauses {
     {
         let pads = pads_of(alloc, flashes)?;
         let bests = best_pads(alloc, &pads, holes)?;
-        Ok(LayerCauses {
-            places: pad_places(alloc, flashes)?,
-            others: others(alloc, flashes)?,
-            bests,
-            pads,
-        })
+        LayerCauses::of(alloc, flashes, pads, bests)
+    }
+
+    /// What is known of the layer of these flashes, for these holes, where the best pads of some pads for these holes are known already:
+    /// where the flashes are those pads, these are not looked for again.
+    ///
+    /// # Errors
+    ///
+    /// Where there is no memory.
+    pub fn with_bests(
+        alloc: Global,
+        flashes: &[Flash],
+        holes: &[Drilled],
+        pads: &[Pad],
+        bests: &[Option<Best>],
+    ) -> Result<LayerCauses, AllocError>
+        ensures { AreBest pad_covers pads.now holes.now bests.now → IfOk result (IsKnown flashes.now holes.now) }
+    {
+        let own = pads_of(alloc, flashes)?;
+        let bests = bests_of(alloc, &own, holes, pads, bests)?;
+        LayerCauses::of(alloc, flashes, own, bests)
     }
 
     /// The number of the flash of a pad, from 1.

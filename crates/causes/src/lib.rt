@@ -5,6 +5,7 @@
 
 mod cause;
 mod layer;
+mod other;
 
 pub use layer::LayerCauses;
 

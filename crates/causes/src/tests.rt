@@ -3,6 +3,7 @@
 use super::*;
 use grid_units::{Hole, Point, Rules};
 use layer_image::{Flash, What, Why};
+use margins::best_pads;
 use pad_shapes::{Disc, Pad, Rect};
 use report_text::RingCause;
 use ring_rules::Drilled;
@@ -168,5 +169,80 @@ fn told_of_slot(rt: HostRuntime, flashes: &[Flash]) -> Result<&'static str, Fail
 fn an_oblique_slot(rt: HostRuntime) -> Result<(), Fail> {
     let flashes = [disc(0, 0, 5_000_000_000)?];
     assert_eq!(rt; told_of_slot(rt, &flashes)?, "oblique");
+    Ok(())
+}
+
+/// What is told of a hole of 0.4 mm at the origin that lacks a ring of 0.125 mm, where the best of some pads are known.
+fn told_by_bests(
+    rt: HostRuntime,
+    flashes: &[Flash],
+    pads: &[Pad],
+) -> Result<(&'static str, usize, i64, i64), Fail> {
+    let Ok(rules) = Rules::new(125_000_000, 1) else {
+        return Err(Fail::from("rules"));
+    };
+    let holes = [Drilled {
+        hole: hole(0, 0, 200_000_000)?,
+        plated: true,
+        span: None,
+    }];
+    let bests = best_pads(rt.alloc(), pads, &holes)?;
+    let known = LayerCauses::with_bests(rt.alloc(), flashes, &holes, pads, &bests)?;
+    Ok(told_by(known.cause(flashes, &holes, 0, rules)))
+}
+
+#[test]
+fn best_pads_of_the_layer_are_known(rt: HostRuntime) -> Result<(), Fail> {
+    let flashes = [square(1_000, 0, 325_000_000)?];
+    let rect = Rect::new(point(1_000, 0)?, 325_000_000, 325_000_000).ok_or("rect")?;
+    let it = told_by_bests(rt, &flashes, &[Pad::Rect(rect)])?;
+    assert_eq!(rt; it.0, "off");
+    assert_eq!(rt; it.2, 124_999_000);
+    assert_eq!(rt; it.3, 1_000);
+    Ok(())
+}
+
+#[test]
+fn best_pads_of_another_layer_are_known(rt: HostRuntime) -> Result<(), Fail> {
+    let flashes = [square(1_000, 0, 325_000_000)?];
+    let disc = Disc::new(point(0, 0)?, 1_000_000_000).ok_or("disc")?;
+    let it = told_by_bests(rt, &flashes, &[Pad::Disc(disc)])?;
+    assert_eq!(rt; it.0, "off");
+    assert_eq!(rt; it.2, 124_999_000);
+    assert_eq!(rt; it.3, 1_000);
+    Ok(())
+}
+
+/// What is told of a slot of 1 um along x among these flashes.
+fn told_along_x(rt: HostRuntime, flashes: &[Flash]) -> Result<(&'static str, usize), Fail> {
+    let from = point(0, 0)?;
+    let to = point(1_000_000, 0)?;
+    let it = told_of(rt, flashes, slot(from, to)?, 100_000_000)?;
+    Ok((it.0, it.1))
+}
+
+#[test]
+fn a_flash_at_the_right_rim_of_a_slot(rt: HostRuntime) -> Result<(), Fail> {
+    let flashes = [
+        other(-200_000_001, 0, Why::Polygon)?,
+        other(201_000_000, 0, Why::Macro)?,
+        other(500_000, 0, Why::Turned)?,
+        other(-200_000_000, 0, Why::Turned)?,
+    ];
+    let it = told_along_x(rt, &flashes)?;
+    assert_eq!(rt; it.0, "macro");
+    assert_eq!(rt; it.1, 2);
+    Ok(())
+}
+
+#[test]
+fn a_flash_at_the_left_rim_of_a_slot(rt: HostRuntime) -> Result<(), Fail> {
+    let flashes = [
+        other(201_000_001, 0, Why::Polygon)?,
+        other(-200_000_000, 0, Why::Macro)?,
+    ];
+    let it = told_along_x(rt, &flashes)?;
+    assert_eq!(rt; it.0, "macro");
+    assert_eq!(rt; it.1, 2);
     Ok(())
 }

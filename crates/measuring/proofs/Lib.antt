@@ -4,3 +4,4 @@ pub mod Joining
 pub mod Tabling
 pub mod Lining
 pub mod Scaled
+pub mod Kept

@@ -1,9 +1,11 @@
 -- By how much a package meets its rules. Lengths are whole picometres.
-use Rattle.std.specs.Prelude.{◌≡◌, ◌↔◌, ℕ, List, [], length, Result, Ok, Err, ⊤}
+use Rattle.std.specs.Prelude.{◌≡◌, ◌↔◌, ℕ, ◌<◌, Option, List, [], length, get_or, Result, Ok, Err, ⊤}
 use Rattle.grid_units.specs.Holes.{GridRules}
 use Rattle.grid_units.specs.declared.fault.Fault.{Fault}
 use Rattle.pad_shapes.specs.Pads.{pad_covers}
+use Rattle.margins.specs.Bests.{AreBest}
 use Rattle.margins.specs.Meets.{MeetsRings, MeetsHeld, MeetsGaps, allows}
+use Rattle.margins.specs.declared.best.Best.{Best}
 use Rattle.margins.specs.declared.met.Met.{Met}
 use Rattle.package_check.specs.Boards.{IsBoard, Survey, board_findings}
 use Rattle.package_check.specs.Package.{IsFirstRefused, IsReport, Source}
@@ -42,13 +44,18 @@ pub record IsMeasureOf (sources : List Source) (measure : Measure) : Type 0 wher
   pub read : IsBoard sources board
   pub is : IsMeasure board measure
 
--- what is returned is the measure of the package, or the first file that is refused, want of memory aside (docs/DEFINITIONS.md, Measures)
+-- the best pads of each of the first so many layers of a board, for each of its holes (docs/DEFINITIONS.md, Measures)
+pub record AreLayerBests (board : Survey) (count : ℕ) (bests : List (List (Option Best))) : Type 0 where
+  pub size : length bests ≡ count
+  pub each : (layer : ℕ) → layer < count → AreBest pad_covers (get_or board.layers layer []) board.holes (get_or bests layer [])
+
+-- what is returned is the measure of the package, or the first file that is refused, running out of memory aside (docs/DEFINITIONS.md, Measures)
 abbrev pub AnswersMeasure : List Source → Result Measure PackageFault → Type 0
 AnswersMeasure sources (Ok measure) = IsMeasureOf sources measure
 AnswersMeasure sources (Err stop.Memory) = ⊤
 AnswersMeasure sources (Err (stop.File index fault)) = IsFirstRefused sources index fault
 
--- a package is measured just where a check reports on it, and refused just as by a check, want of memory aside (docs/DEFINITIONS.md, Measures)
+-- a package is measured just where a check reports on it, and refused just as by a check, running out of memory aside (docs/DEFINITIONS.md, Measures)
 abbrev pub RefusesAlike : Result Account (ℕ × Fault) → Result Measure PackageFault → Type 0
 RefusesAlike (Ok report) (Ok measure) = ⊤
 RefusesAlike (Err refusal) (Ok measure) = ⊥

@@ -11,7 +11,7 @@ mod places;
 mod rows;
 mod scaling;
 
-pub use measure::{Measure, measure_board, measure_bytes};
+pub use measure::{Measure, measure_board, measure_bytes, measure_with_bests};
 pub use places::place_of;
 
 #[cfg(test)]

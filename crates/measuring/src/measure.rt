@@ -1,13 +1,13 @@
 //! The measure of a package.
 
-ghost use Rattle.std.specs.Prelude.{ℕ, Result, IfOk, length};
+ghost use Rattle.std.specs.Prelude.{◌≡◌, ◌++◌, ◌∷◌, [], ℕ, Result, IfOk, OnOk, false, true, length, map};
 ghost use Rattle.grid_units.specs.Holes.{GridRules};
 ghost use Rattle.grid_units.specs.declared.fault.Fault.{Fault as TheFault};
 ghost use Rattle.pad_shapes.specs.Pads.{pad_covers};
 ghost use Rattle.margins.specs.Meets.{MeetsOn};
 ghost use Rattle.package_check.specs.Package.{IsAnswer, sources_of};
 ghost use Rattle.package_check.specs.Reports.{Account};
-ghost use Rattle.measuring.specs.Measures.{AnswersMeasure, BoardPasses, IsMeasure, PackagePasses, RefusesAlike};
+ghost use Rattle.measuring.specs.Measures.{AnswersMeasure, AreLayerBests, BoardPasses, IsMeasure, PackagePasses, RefusesAlike};
 ghost use Rattle.measuring.specs.Rows.{AreRingLines};
 ghost use Rattle.measuring.specs.Scaling.{AreScaleLines};
 
@@ -17,7 +17,7 @@ use crate::rows::push_layer;
 use crate::scaling::scale_lines;
 use margin_text::{GapLine, Meets, RingLine, ScaleLine};
 use margins::laws::{gaps_pass, rings_pass};
-use margins::{RingsMet, best_pads, gap_met_by, met_by_none, met_with, nearest_holes};
+use margins::{Best, RingsMet, best_pads, gap_met_by, met_by_none, met_with, nearest_holes};
 use package_check::laws::one_answer;
 use package_check::{Board, File, PackageFault, read_package};
 use pad_shapes::Pad;
@@ -36,25 +36,46 @@ pub struct Measure {
     pub meets: Meets,
 }
 
-/// What a board meets of rings, the lines of its rings and those of its scales.
+/// What a board meets of rings, the lines of its rings and those of its scales, and the best pads of each layer where they are kept.
 #[derive(Drop)]
 struct Rings {
     met: RingsMet,
     lines: Vec<RingLine>,
     scales: Vec<ScaleLine>,
+    bests: Vec<Vec<Option<Best>>>,
 }
 
-/// The rings of a board, and its scales. The best pads of each layer are looked for once.
-fn rings_on(alloc: Global, board: &Board) -> Result<Rings, AllocError>
+/// Keeps the best pads of a layer behind those of the layers before it, or lets them go.
+fn keep(
+    keeps: bool,
+    bests: Vec<Option<Best>>,
+    kept: &mut Vec<Vec<Option<Best>>>,
+) -> Result<(), AllocError>
+    ensures { OnOk result (keeps ≡ true → kept.new.items ≡ kept.old.items ++ bests ∷ []) }
+{
+    if !keeps {
+        return Ok(());
+    }
+    match kept.push(bests) {
+        Ok(()) => Ok(()),
+        Err(_) => Err(AllocError),
+    }
+}
+
+/// The rings of a board, and its scales. The best pads of each layer are looked for once, and kept only where that is asked, since those of
+/// all layers take memory.
+fn rings_on(alloc: Global, board: &Board, keeps: bool) -> Result<Rings, AllocError>
     ensures met { IfOk result (λ rings. MeetsOn pad_covers board.now.layers board.now.holes (length board.now.layers) rings.met) }
     ensures lines { IfOk result (λ rings. AreRingLines board.now rings.lines.items) }
     ensures scales { IfOk result (λ rings. AreScaleLines board.now (length board.now.files) rings.scales.items) }
+    ensures bests { keeps ≡ true → IfOk result (λ rings. AreLayerBests board.now (length board.now.layers) (map (λ bests. bests.items) rings.bests.items)) }
 {
     let layers = board.layers(alloc)?;
     let holes = board.holes();
     let mut met = met_by_none(&layers, holes);
     let mut lines = Vec::new(alloc);
     let mut scales = Vec::new(alloc);
+    let mut kept = Vec::new(alloc);
     for layer in 0..layers.len() {
         let bests = best_pads(alloc, layers[layer], holes)?;
         if layer == 0 {
@@ -62,17 +83,29 @@ fn rings_on(alloc: Global, board: &Board) -> Result<Rings, AllocError>
         }
         met = met_with(&layers, layer, &bests, holes, met);
         push_layer(alloc, board, &bests, layer, &mut lines)?;
+        keep(keeps, bests, &mut kept)?;
     }
-    Ok(Rings { met, lines, scales })
+    Ok(Rings {
+        met,
+        lines,
+        scales,
+        bests: kept,
+    })
 }
 
-fn measure_of(alloc: Global, board: &Board) -> Result<Measure, AllocError>
-    ensures { IfOk result (IsMeasure board.now) }
+/// The measure of a board, and the best pads of each layer where they are kept.
+fn measure_of(
+    alloc: Global,
+    board: &Board,
+    keeps: bool,
+) -> Result<(Measure, Vec<Vec<Option<Best>>>), AllocError>
+    ensures exact { IfOk result (λ found. IsMeasure board.now found.0) }
+    ensures bests { keeps ≡ true → IfOk result (λ found. AreLayerBests board.now (length board.now.layers) (map (λ bests. bests.items) found.1.items)) }
 {
-    let rings = rings_on(alloc, board)?;
+    let rings = rings_on(alloc, board, keeps)?;
     let nearest = nearest_holes(alloc, board.holes())?;
     let gap = gap_met_by(board.holes(), nearest);
-    Ok(Measure {
+    let measure = Measure {
         rings: rings.lines,
         scales: rings.scales,
         gap: gap_line(board, nearest),
@@ -81,7 +114,16 @@ fn measure_of(alloc: Global, board: &Board) -> Result<Measure, AllocError>
             gap,
             held: rings.met.held,
         },
-    })
+    };
+    Ok((measure, rings.bests))
+}
+
+/// The measure of a board alone.
+fn measure_alone(alloc: Global, board: &Board) -> Result<Measure, AllocError>
+    ensures { IfOk result (IsMeasure board.now) }
+{
+    let (measure, _) = measure_of(alloc, board, false)?;
+    Ok(measure)
 }
 
 /// The measure of a board.
@@ -95,7 +137,23 @@ pub fn measure_board(alloc: Global, board: &Board) -> Result<Measure, AllocError
 {
     rings_pass::<Pad>();
     gaps_pass();
-    measure_of(alloc, board)
+    measure_alone(alloc, board)
+}
+
+/// The measure of a board, and for each of its layers the best pad of each hole there. These take memory for each layer and hole: where
+/// only the measure is asked, [`measure_board`] keeps none of them.
+///
+/// # Errors
+///
+/// Where there is no memory.
+pub fn measure_with_bests(
+    alloc: Global,
+    board: &Board,
+) -> Result<(Measure, Vec<Vec<Option<Best>>>), AllocError>
+    ensures exact { IfOk result (λ found. IsMeasure board.now found.0) }
+    ensures bests { IfOk result (λ found. AreLayerBests board.now (length board.now.layers) (map (λ bests. bests.items) found.1.items)) }
+{
+    measure_of(alloc, board, true)
 }
 
 fn measure_files(alloc: Global, files: &[File]) -> Result<Measure, PackageFault>

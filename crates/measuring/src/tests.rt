@@ -1,10 +1,10 @@
 //! What small packages meet, in pm; and that their check agrees.
 
-use crate::measure_bytes;
+use crate::{measure_bytes, measure_with_bests};
 use grid_units::{Fault, Reason, Rules};
 use margin_text::{Factor, GapLine, HolePlace, LeastRing, RingLine, ScaleLine};
-use margins::Met;
-use package_check::{File, PackageFault, Role, check_bytes};
+use margins::{Best, Met};
+use package_check::{File, PackageFault, Role, check_bytes, read_package};
 use std::alloc::Global;
 use std::test::Fail as Failure;
 
@@ -331,4 +331,28 @@ fn what_is_refused_has_no_measure(rt: HostRuntime) {
         reason: Reason::Truncated,
     };
     assert_eq!(rt; refused, Some(PackageFault::File { index: 0, fault }));
+}
+
+/// How deep the first hole lies in the best pad of a layer, by the place of the layer.
+fn first_depth(bests: &[Vec<Option<Best>>], layer: usize) -> Option<u64> {
+    let best = *bests.get(layer)?.first()?;
+    Some(best?.depth)
+}
+
+#[test]
+fn best_pads_of_each_layer(rt: HostRuntime) -> Result<(), Failure> {
+    let alloc = rt.alloc();
+    let files = [
+        file(Role::Copper, "top", SQUARE),
+        file(Role::Copper, "inner", NO_FLASH),
+        file(Role::Plated, "pth", HIT),
+        file(Role::Copper, "bottom", TWO),
+    ];
+    let board = read_package(alloc, &files).ok().ok_or("no board")?;
+    let (measure, bests) = measure_with_bests(alloc, &board)?;
+    assert_eq!(rt; (measure.rings.len(), bests.len()), (3, 3));
+    assert_eq!(rt; first_depth(&bests, 0), Some(325_000_000));
+    assert_eq!(rt; first_depth(&bests, 1), None);
+    assert_eq!(rt; first_depth(&bests, 2), Some(1_000_000_000));
+    Ok(())
 }

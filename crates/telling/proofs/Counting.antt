@@ -3,18 +3,15 @@ use Rattle.std.proofs.Common.{◌≡◌, ◌+◌, ◌∷◌, ℕ, Bool, true, fa
 use Rattle.std.specs.List.{AllZip, filter}
 use Rattle.std.proofs.lemmas.List.Filters.{length-filter_both}
 use Rattle.std.proofs.lemmas.Slice.Zip.{AllZip-long}
-use Rattle.std.specs.Prelude.{Result, Ok, Err}
-use Rattle.grid_units.specs.Holes.{GridRules}
+use Rattle.std.specs.Prelude.{Result, Ok}
 use Rattle.grid_units.specs.declared.fault.Fault.{Fault}
 use Rattle.ring_rules.specs.declared.finding.Finding.{Finding}
 use Rattle.package_check.specs.Alike.{OneAnswer}
 use Rattle.package_check.specs.Boards.{board_findings, reported}
-use Rattle.package_check.specs.Package.{IsReport, Source}
 use Rattle.package_check.specs.Reports.{Account}
 use Rattle.package_check.specs.Soundness.{PassingIsSound}
 use Rattle.package_check.proofs.Boarding.{reported_on}
-use Rattle.report_text.specs.declared.Telling.{Telling}
-use Rattle.telling.specs.Telling.{IsAsCheck, IsTellingOf, TellsAsChecks, is_gap}
+use Rattle.telling.specs.Telling.{TellsAsChecks, is_gap}
 
 twice : (b : Bool) → b ≡ not (not b)
 twice true = refl

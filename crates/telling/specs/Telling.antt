@@ -87,7 +87,7 @@ pub record IsTellingOf (sources : List Source) (asked : GridRules) (told : Telli
   pub read : IsFlashed sources flashed
   pub is : IsTelling asked flashed told
 
--- what is returned is what is told of the package, or the first file that is refused, want of memory aside (docs/DEFINITIONS.md, Reports)
+-- what is returned is what is told of the package, or the first file that is refused, running out of memory aside (docs/DEFINITIONS.md, Reports)
 abbrev pub AnswersTelling : List Source → GridRules → Result Telling PackageFault → Type 0
 AnswersTelling sources asked (Ok told) = IsTellingOf sources asked told
 AnswersTelling sources asked (Err stop.Memory) = ⊤

@@ -3,7 +3,8 @@
 ghost use Rattle.std.specs.Prelude.{◌≡◌, ◌<◌, ◌++◌, ◌∷◌, [], IfOk, IfSome, OnOk, length, not};
 ghost use Rattle.std.specs.List.{All, AllZip, filter};
 ghost use Rattle.ring_rules.specs.Passing.{NamesPlaces};
-ghost use Rattle.telling.specs.Inner.Adding.{Adds, IsKnownAt};
+ghost use Rattle.causes.specs.Causes.{IsKnown};
+ghost use Rattle.telling.specs.Inner.Adding.{Adds, AreBoardBests, IsKnownAt};
 ghost use Rattle.telling.specs.Telling.{TellsRing, TellsRingAt, is_gap, layer_flashes};
 
 use crate::places::hole_at;
@@ -11,6 +12,7 @@ use causes::LayerCauses;
 use flashed_boards::FlashedBoard;
 use grid_units::Rules;
 use layer_image::Flash;
+use margins::Best;
 use report_text::RingLack;
 use ring_rules::Finding;
 use std::alloc::{AllocError, Global};
@@ -37,12 +39,37 @@ fn layer_flashes(flashed: &FlashedBoard, layer: usize) -> &[Flash]
     }
 }
 
+/// The causes of a layer, by the best pads of the layers of the board.
+fn causes_on(
+    alloc: Global,
+    flashed: &FlashedBoard,
+    bests: &[Vec<Option<Best>>],
+    layer: usize,
+) -> Result<LayerCauses, AllocError>
+    requires { AreBoardBests flashed.now.board bests.now }
+    ensures { IfOk result (IsKnown (layer_flashes flashed.now layer) flashed.now.board.holes) }
+{
+    let flashes = layer_flashes(flashed, layer);
+    let holes = flashed.board.holes();
+    let layers = flashed.board.layers(alloc)?;
+    match (layers.get(layer), bests.get(layer)) {
+        (Some(pads), Some(bests)) => LayerCauses::with_bests(alloc, flashes, holes, pads, bests),
+        _ => LayerCauses::new(alloc, flashes, holes),
+    }
+}
+
 /// What is known of a layer.
-fn known_on(alloc: Global, flashed: &FlashedBoard, layer: usize) -> Result<Known, AllocError>
+fn known_on(
+    alloc: Global,
+    flashed: &FlashedBoard,
+    bests: &[Vec<Option<Best>>],
+    layer: usize,
+) -> Result<Known, AllocError>
+    requires { AreBoardBests flashed.now.board bests.now }
     ensures known { IfOk result (IsKnownAt flashed.now) }
     ensures layer { IfOk result (λ known. known.layer ≡ layer) }
 {
-    let causes = LayerCauses::new(alloc, layer_flashes(flashed, layer), flashed.board.holes())?;
+    let causes = causes_on(alloc, flashed, bests, layer)?;
     Ok(Known { layer, causes })
 }
 
@@ -50,10 +77,12 @@ fn known_on(alloc: Global, flashed: &FlashedBoard, layer: usize) -> Result<Known
 fn turned_to(
     alloc: Global,
     flashed: &FlashedBoard,
+    bests: &[Vec<Option<Best>>],
     known: Option<Known>,
     layer: usize,
 ) -> Result<Known, AllocError>
-    requires { IfSome known (IsKnownAt flashed.now) }
+    requires bests { AreBoardBests flashed.now.board bests.now }
+    requires known { IfSome known (IsKnownAt flashed.now) }
     ensures known { IfOk result (IsKnownAt flashed.now) }
     ensures layer { IfOk result (λ known. known.layer ≡ layer) }
 {
@@ -62,10 +91,10 @@ fn turned_to(
             if known.layer == layer {
                 Ok(known)
             } else {
-                known_on(alloc, flashed, layer)
+                known_on(alloc, flashed, bests, layer)
             }
         }
-        None => known_on(alloc, flashed, layer),
+        None => known_on(alloc, flashed, bests, layer),
     }
 }
 
@@ -112,18 +141,20 @@ fn push_known(
 fn push_at(
     alloc: Global,
     flashed: &FlashedBoard,
+    bests: &[Vec<Option<Best>>],
     known: Option<Known>,
     layer: usize,
     hole: usize,
     rules: Rules,
     told: &mut Vec<RingLack>,
 ) -> Result<Option<Known>, AllocError>
+    requires bests { AreBoardBests flashed.now.board bests.now }
     requires known { IfSome known (IsKnownAt flashed.now) }
     requires hole { hole < length flashed.now.board.holes }
     ensures known { IfOk result (λ some. IfSome some (IsKnownAt flashed.now)) }
     ensures adds { OnOk result ((lack : RingLack) × TellsRingAt flashed.now rules.ring layer hole lack × (told.new.items ≡ told.old.items ++ lack ∷ [])) }
 {
-    let known = turned_to(alloc, flashed, known, layer)?;
+    let known = turned_to(alloc, flashed, bests, known, layer)?;
     push_known(flashed, &known, hole, rules, told)?;
     Ok(Some(known))
 }
@@ -132,11 +163,13 @@ fn push_at(
 fn push(
     alloc: Global,
     flashed: &FlashedBoard,
+    bests: &[Vec<Option<Best>>],
     known: Option<Known>,
     finding: Finding,
     rules: Rules,
     told: &mut Vec<RingLack>,
 ) -> Result<Option<Known>, AllocError>
+    requires bests { AreBoardBests flashed.now.board bests.now }
     requires known { IfSome known (IsKnownAt flashed.now) }
     requires places { NamesPlaces (length flashed.now.board.layers) (length flashed.now.board.holes) finding }
     ensures known { IfOk result (λ some. IfSome some (IsKnownAt flashed.now)) }
@@ -144,26 +177,29 @@ fn push(
 {
     match finding {
         Finding::Ring { layer, hole } | Finding::Oblique { layer, hole } => {
-            push_at(alloc, flashed, known, layer, hole, rules, told)
+            push_at(alloc, flashed, bests, known, layer, hole, rules, told)
         }
         Finding::Gap { .. } => Ok(known),
     }
 }
 
-/// What is told of those findings that are of rings, in their order. What is known of a layer is kept until the next one is told of.
+/// What is told of those findings that are of rings, in their order, by the best pads of each layer. What is known of a layer is kept until
+/// the next one is told of.
 pub(crate) fn tell_rings(
     alloc: Global,
     flashed: &FlashedBoard,
+    bests: &[Vec<Option<Best>>],
     findings: &[Finding],
     rules: Rules,
 ) -> Result<Vec<RingLack>, AllocError>
-    requires { All (NamesPlaces (length flashed.now.board.layers) (length flashed.now.board.holes)) findings.now }
+    requires bests { AreBoardBests flashed.now.board bests.now }
+    requires places { All (NamesPlaces (length flashed.now.board.layers) (length flashed.now.board.holes)) findings.now }
     ensures { IfOk result (λ told. AllZip (TellsRing flashed.now rules.ring) (filter (λ finding. not (is_gap finding)) findings.now) told.items) }
 {
     let mut told = Vec::new(alloc);
     let mut known = None;
     for finding in findings {
-        known = push(alloc, flashed, known, *finding, rules, &mut told)?;
+        known = push(alloc, flashed, bests, known, *finding, rules, &mut told)?;
     }
     Ok(told)
 }

@@ -13,7 +13,7 @@ use crate::heads::heads;
 use crate::rings::tell_rings;
 use flashed_boards::{FlashedBoard, read_flashed};
 use grid_units::Rules;
-use measuring::measure_board;
+use measuring::measure_with_bests;
 use package_check::{Board, File, PackageFault};
 use pad_shapes::Pad;
 use report_text::Telling;
@@ -51,11 +51,11 @@ pub fn tell_board(
 {
     let board = board_of(flashed);
     let findings = findings_on(alloc, board, rules)?;
-    let measure = measure_board(alloc, board)?;
+    let (measure, bests) = measure_with_bests(alloc, board)?;
     Ok(Telling {
         rules,
         layers: heads(alloc, board)?,
-        rings: tell_rings(alloc, flashed, &findings, rules)?,
+        rings: tell_rings(alloc, flashed, &bests, &findings, rules)?,
         gaps: tell_gaps(alloc, board, &findings, rules)?,
         scales: measure.scales,
         meets: measure.meets,

@@ -1,6 +1,10 @@
 -- What is told so far, and one finding more.
-use Rattle.std.specs.Prelude.{◌≡◌, Bool, true, false, List, [], ◌∷◌, ◌++◌, ℕ}
+use Rattle.std.specs.Prelude.{◌≡◌, Bool, true, false, List, [], ◌∷◌, ◌++◌, Option, length, map}
+use Rattle.std.specs.Global.{Vec}
 use Rattle.ring_rules.specs.declared.finding.Finding.{Finding}
+use Rattle.margins.specs.declared.best.Best.{Best}
+use Rattle.package_check.specs.Boards.{Survey}
+use Rattle.measuring.specs.Measures.{AreLayerBests}
 use Rattle.flashed_boards.specs.Flashed.{FlashedSurvey}
 use Rattle.causes.specs.Causes.{IsKnown}
 use Rattle.telling.specs.Telling.{layer_flashes}
@@ -9,6 +13,10 @@ use Rattle.telling.specs.declared.rings.Known.{Known}
 -- what is known of a layer is that of its flashes and the holes of the board (docs/DEFINITIONS.md, Reports)
 abbrev pub IsKnownAt : FlashedSurvey → Known → Type 0
 IsKnownAt flashed known = IsKnown (layer_flashes flashed known.layer) flashed.board.holes known.causes
+
+-- the best pads of each layer of a board, for each of its holes (docs/DEFINITIONS.md, Reports)
+abbrev pub AreBoardBests : Survey → List (Vec (Option Best)) → Type 0
+AreBoardBests board bests = AreLayerBests board (length board.layers) (map (λ its. its.items) bests)
 
 -- a finding that is asked is told behind the others, and another is passed over (docs/DEFINITIONS.md, Reports)
 abbrev pub Adds : {T : Type 0} → Bool → (Finding → T → Type 0) → Finding → List T → List T → Type 0

@@ -1,6 +1,7 @@
-use Rattle.std.proofs.Common.{◌<◌, map}
+use Rattle.std.proofs.Common.{◌≡◌, ◌<◌, true, map}
 use Rattle.pad_shapes.specs.Pads.{pad_covers}
 use Rattle.margins.specs.Meets.{MeetsOn}
+use Rattle.measuring.specs.Measures.{AreLayerBests}
 use Rattle.measuring.specs.Rows.{AreRowLines}
 use Rattle.measuring.proofs.Scaled.{ScalesAt}
 use Rattle.measuring.proofs.measure.rings_on.Given as goal
@@ -10,4 +11,5 @@ invariant-loop-layer l = record {
   met : MeetsOn pad_covers (map (λ pads. pads.now) l.layers.items) l.holes l.layer l.met;
   lines : AreRowLines l.board (λ key. key.layer < l.layer) l.lines.items;
   scales : ScalesAt l.board l.layer l.scales.items;
+  bests : l.keeps ≡ true → AreLayerBests l.board l.layer (map (λ bests. bests.items) l.kept.items);
 }

@@ -1,4 +1,4 @@
-use Rattle.std.proofs.Common.{◌++◌, ◌∷◌, List, [], take, subst, sym, ap}
+use Rattle.std.proofs.Common.{List, take, subst, sym}
 use Rattle.std.specs.List.{AllZip, filter}
 use Rattle.std.proofs.lemmas.List.{take_more}
 use Rattle.ring_rules.specs.declared.finding.Finding.{Finding}

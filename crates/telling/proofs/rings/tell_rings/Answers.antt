@@ -1,4 +1,4 @@
-use Rattle.std.proofs.Common.{◌++◌, ◌∷◌, List, [], take, subst, sym, ap}
+use Rattle.std.proofs.Common.{List, take, subst, sym}
 use Rattle.std.specs.Prelude.{not}
 use Rattle.std.specs.List.{AllZip, filter}
 use Rattle.std.proofs.lemmas.List.{take_more}

@@ -1,14 +1,15 @@
-use Rattle.std.proofs.Common.{◌≡◌, Bool, ◌<◌, Some, length, arith, sym, ap, ◌∙◌}
+use Rattle.std.proofs.Common.{◌≡◌, ◌<◌, Bool, Some, length, arith, sym, subst, ◌∙◌}
 use Rattle.std.specs.List.{find}
-use Rattle.causes.specs.Causes.{is_in_hole, others}
+use Rattle.causes.specs.Causes.{AreByX, is_in_hole, others}
 use Rattle.causes.proofs.Placed.{found_has, others_below}
-use Rattle.causes.specs.declared.layer.Other.{Other}
+use Rattle.causes.specs.declared.other.Other.{Other}
 use Rattle.causes.proofs.layer.LayerCauses.in_none.Goals as goal
 
 pub overflow_add-result : goal.overflow_add-result
 overflow_add-result c =
     let fs = c.args.flashes.now in
     let in_hole : Other → Bool = λ other. is_in_hole c.args.hole.now other.at in
-    let found : find in_hole (others fs) ≡ Some c.in-Some.other = ap (find in_hole) (sym c.requires.known.others ∙ sym c.deref.ensures.value) ∙ (sym c.first_in.ensures ∙ c.in-Some.is) in
+    let known = subst (AreByX fs) (sym c.deref.ensures.value) c.requires.known.others in
+    let found : find in_hole (others fs) ≡ Some c.in-Some.other = sym (c.first_in.ensures fs known) ∙ c.in-Some.is in
     let below = found_has (λ other. other.place < length fs) in_hole (others fs) c.in-Some.other (others_below fs) found in
     omega (arith, below)

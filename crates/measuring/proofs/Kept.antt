@@ -1,0 +1,37 @@
+-- The best pads of the layers of a board, one layer more at a time.
+use Rattle.std.proofs.Common.{◌≡◌, ℕ, ◌+◌, ◌++◌, ◌∷◌, inl, inr, List, [], Option, get_or, map, refl, sym, subst, ap, ◌∙◌, arith}
+use Rattle.std.specs.Global.{Vec}
+use Rattle.std.proofs.lemmas.Bool.{cases_lt}
+use Rattle.std.proofs.lemmas.List.{get_or_append_left, get_or_push, length-append, map_push}
+use Rattle.pad_shapes.specs.Pads.{pad_covers}
+use Rattle.margins.specs.Bests.{AreBest}
+use Rattle.margins.specs.declared.best.Best.{Best}
+use Rattle.package_check.specs.Boards.{Survey}
+use Rattle.measuring.specs.Measures.{AreLayerBests}
+
+module _ (board : Survey) where
+  -- no layer yet
+  pub none_kept : AreLayerBests board 0 []
+  none_kept = record { size = refl; each = λ layer l. absurd (omega (arith, l)) }
+
+  next_kept : (count : ℕ) (old : List (List (Option Best))) (bests : List (Option Best)) → AreLayerBests board count old → AreBest pad_covers (get_or board.layers count []) board.holes bests → AreLayerBests board (count + 1) (old ++ bests ∷ [])
+  next_kept count old bests was is = record {
+    size = (let size = length-append old (bests ∷ []) in omega (arith, size, was.size));
+    each = λ layer l. elim (cases_lt layer count) [
+      | inl low ↦ subst (λ (b : List (Option Best)). AreBest pad_covers (get_or board.layers layer []) board.holes b) (sym (get_or_append_left old (bests ∷ []) [] layer (omega (arith, low, was.size)))) (was.each layer low)
+      | inr high ↦ (
+          let last : count ≡ layer = omega (arith, l, high) in
+          subst (λ (n : ℕ). AreBest pad_covers (get_or board.layers n []) board.holes (get_or (old ++ bests ∷ []) n [])) last
+          (subst (λ (b : List (Option Best)). AreBest pad_covers (get_or board.layers count []) board.holes b) (sym (get_or_push old bests [] count was.size)) is))
+    ];
+  }
+
+  -- the best pads of the next layer, behind those of the others
+  pub one_more : (count : ℕ) (old new : List (Vec (Option Best))) (bests : Vec (Option Best)) → new ≡ old ++ bests ∷ [] → AreLayerBests board count (map (λ b. b.items) old)
+      → AreBest pad_covers (get_or board.layers count []) board.holes bests.items → AreLayerBests board (count + 1) (map (λ b. b.items) new)
+  one_more count old new bests e was is =
+      subst (AreLayerBests board (count + 1)) (sym (ap (map (λ b. b.items)) e ∙ map_push (λ b. b.items) old bests)) (next_kept count (map (λ b. b.items) old) bests.items was is)
+
+  -- those of all layers
+  pub all_kept : (count all : ℕ) (bests : List (List (Option Best))) → count ≡ all → AreLayerBests board count bests → AreLayerBests board all bests
+  all_kept count all bests e is = subst (λ (n : ℕ). AreLayerBests board n bests) e is
