@@ -1,5 +1,5 @@
 -- Where the panels of a board stand on a page. Lengths are whole picometres.
-use Rattle.std.specs.Prelude.{◌≡◌, ◌≤◌, ◌<◌, ◌+◌, ◌*◌, ◌/◌, ◌%◌, ◌^◌, ◌⊎◌, ℕ, ℤ, min, max, unsigned_abs, Option, None, Some}
+use Rattle.std.specs.Prelude.{◌≡◌, ◌≤◌, ◌<◌, ◌+◌, ◌*◌, ◌/◌, ◌%◌, ◌^◌, ◌⊎◌, ℕ, min, max, unsigned_abs, Option, None, Some}
 use Rattle.std.specs.Int.{abs_diff, div_ceil}
 use Rattle.grid_units.specs.Holes.{GridRules}
 use Rattle.picture.specs.declared.frame.Frame.{Frame}

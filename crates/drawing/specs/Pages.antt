@@ -1,12 +1,12 @@
 -- The text of a page: its elements, in their order.
-use Rattle.std.specs.Prelude.{ℕ, ℤ, pos, ◌+◌, ◌*◌, ◌/◌, ◌==◌, List, ◌++◌, codes, decimal, Option, None, Some, if◌then◌else◌}
+use Rattle.std.specs.Prelude.{ℕ, pos, ◌+◌, ◌*◌, ◌/◌, ◌==◌, List, ◌++◌, codes, decimal, Option, None, Some, if◌then◌else◌}
 use Rattle.std.specs.List.{flat_map}
 use Rattle.grid_units.specs.Holes.{GridRules}
 use Rattle.printing.specs.Lengths.{short_millimetres}
 use Rattle.picture.specs.Panels.{panel_text}
 use Rattle.drawing.specs.declared.layout.Layout.{Layout}
 use Rattle.drawing.specs.declared.panels.Panel.{Panel}
-use Rattle.drawing.specs.Layouts.{box_left, boxes_end, page_height, page_width, pixels}
+use Rattle.drawing.specs.Layouts.{boxes_end, page_height, page_width, pixels}
 
 -- words, and a length behind them (docs/FORMATS.md, Pictures)
 abbrev pub named : List ℕ → ℕ → List ℕ
@@ -20,7 +20,7 @@ counted words number = words ++ decimal number
 
 -- how elements look, by their classes (docs/FORMATS.md, Pictures)
 unfoldable pub style_words : List ℕ
-style_words = codes "<style>text{fill:#222}.title{font-size:1.6em;font-weight:bold}.name{font-size:1.2em;font-weight:bold}.board{fill:#fbfaf6;stroke:#999;stroke-width:.08em}.pad{fill:#d8a35d}.line{fill:none;stroke:#d8a35d;stroke-linecap:round}.other{fill:none;stroke:#6a6a6a}.plated,.unplated{fill:#fff;stroke:#333}.unplated{stroke-dasharray:.24em}.rim{fill:none;stroke:#333;stroke-linecap:round}.slot{fill:none;stroke:#fff;stroke-linecap:round}circle.ring{fill:#d4001a;fill-opacity:.35;stroke:#d4001a}path.ring{fill:none;stroke:#d4001a;stroke-opacity:.35;stroke-linecap:round}.mark{fill:none;stroke:#d4001a}.gap{fill:none;stroke:#7a00c8;stroke-linecap:round}.number{fill:#d4001a;font-weight:bold;stroke:#fff;stroke-width:.24em;paint-order:stroke}.scale{fill:none;stroke:#222;stroke-width:.16em}</style>\n<rect width=\"100%\" height=\"100%\" fill=\"#fff\"/>\n"
+style_words = codes "<style>text{fill:#222;font-size:1.25px}.title{font-size:2px;font-weight:bold}.name{font-size:1.5px;font-weight:bold}.board{fill:#fbfaf6;stroke:#999;stroke-width:.08em}.pad{fill:#d8a35d}.line{fill:none;stroke:#d8a35d;stroke-linecap:round}.other{fill:none;stroke:#6a6a6a}.plated,.unplated{fill:#fff;stroke:#333}.unplated{stroke-dasharray:.24em}.rim{fill:none;stroke:#333;stroke-linecap:round}.slot{fill:none;stroke:#fff;stroke-linecap:round}circle.ring{fill:#d4001a;fill-opacity:.35;stroke:#d4001a}path.ring{fill:none;stroke:#d4001a;stroke-opacity:.35;stroke-linecap:round}.mark{fill:none;stroke:#d4001a}.gap{fill:none;stroke:#7a00c8;stroke-linecap:round}.number{fill:#d4001a;font-weight:bold;stroke:#fff;stroke-width:.24em;paint-order:stroke}.scale{fill:none;stroke:#222;stroke-width:.16em}</style>\n<rect width=\"100%\" height=\"100%\" fill=\"#fff\"/>\n"
 
 -- the size of the text, and the page in pixels (docs/FORMATS.md, Pictures)
 unfoldable pub sizes_words : ℕ → ℕ → ℕ → List ℕ
@@ -51,9 +51,9 @@ abbrev pub title_words : Option GridRules → ℕ → List ℕ
 title_words None count = codes "no rules"
 title_words (Some rules) count = rules_words rules.ring rules.gap ++ found_words count
 
--- the begin of a text at a place, behind its first words (docs/FORMATS.md, Pictures)
-unfoldable pub text_start : List ℕ → ℕ → ℕ → List ℕ
-text_start words x y = named words x ++ (named (codes "\" y=\"") y ++ codes "\">")
+-- the begin of a text at a place, whose letters are in units, behind its first words (docs/FORMATS.md, Pictures)
+unfoldable pub text_start : List ℕ → ℕ → ℕ → ℕ → List ℕ
+text_start words x y unit = named words x ++ (named (codes " ") y ++ (named (codes ") scale(") unit ++ codes ")\">"))
 
 -- the end of a text (docs/FORMATS.md, Pictures)
 abbrev pub text_end : List ℕ
@@ -62,7 +62,7 @@ text_end = codes "</text>\n"
 -- the title (docs/FORMATS.md, Pictures)
 abbrev pub title : Layout → Option GridRules → ℕ → List ℕ
 title l asked count =
-    text_start (codes "<text class=\"title\" x=\"") (3 * l.pen.unit) (3 * l.pen.unit) ++ (title_words asked count ++ text_end)
+    text_start (codes "<text class=\"title\" transform=\"translate(") (3 * l.pen.unit) (3 * l.pen.unit) l.pen.unit ++ (title_words asked count ++ text_end)
 
 -- ---- the scale and the legend
 
@@ -71,14 +71,14 @@ unfoldable pub bar_at : ℕ → ℕ → ℕ → List ℕ
 bar_at x y bar = named (codes "<path class=\"scale\" d=\"M") x ++ (named (codes " ") y ++ (named (codes "h") bar ++ codes "\"/>\n"))
 
 -- the length of a bar at a place (docs/FORMATS.md, Pictures)
-unfoldable pub length_at : ℕ → ℕ → ℕ → List ℕ
-length_at x y bar = text_start (codes "<text x=\"") x y ++ (named (codes "") bar ++ codes " mm</text>\n")
+unfoldable pub length_at : ℕ → ℕ → ℕ → ℕ → List ℕ
+length_at x y unit bar = text_start (codes "<text transform=\"translate(") x y unit ++ (named (codes "") bar ++ codes " mm</text>\n")
 
 -- the scale (docs/FORMATS.md, Pictures)
 abbrev pub scale : Layout → List ℕ
 scale l =
     bar_at (3 * l.pen.unit) (boxes_end l + 3 * l.pen.unit) l.bar
-    ++ length_at (4 * l.pen.unit + l.bar) (boxes_end l + 17 * l.pen.unit / 5) l.bar
+    ++ length_at (4 * l.pen.unit + l.bar) (boxes_end l + 17 * l.pen.unit / 5) l.pen.unit l.bar
 
 -- what the elements mean, in units (docs/FORMATS.md, Pictures)
 unfoldable pub legend_words : List ℕ

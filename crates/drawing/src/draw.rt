@@ -15,7 +15,7 @@ use crate::panels::{Panel, panels_of};
 use flashed_boards::FlashedBoard;
 use grid_units::Rules;
 use package_check::Board;
-use picture::print_panel;
+use picture::{name_room, print_panel};
 use printing::{Cut, buffer, make_room, pass_on};
 use ring_rules::Finding;
 use std::alloc::{AllocError, Global};
@@ -28,20 +28,20 @@ pub enum PrintFault {
     /// There was no memory, and nothing was written.
     #[error("out of memory before the drawing was written")]
     Memory,
-    /// The writer failed, or memory ran out after a part was written: it is not known what the writer took.
+    /// The writer failed, and it is not known what it took.
     #[error("the drawing was not written to its end")]
     Cut,
 }
 
 /// What a page shows.
 #[derive(Drop)]
-pub(crate) struct Page<'a> {
+pub(crate) struct Page<'n, 'h> {
     /// How its panels stand.
     layout: Layout,
     /// How many findings there are.
     count: usize,
     /// Its panels.
-    panels: Vec<Panel<'a>>,
+    panels: Vec<Panel<'n, 'h>>,
 }
 
 /// What is found under the rules, nothing where there are none.
@@ -78,10 +78,10 @@ fn gather_before_panels<W: Write>(
     }
 }
 
-/// Gathers a panel.
+/// Gathers a panel, whose name is put into `room`.
 fn gather_panel<W: Write>(
-    alloc: Global,
     text: &mut String,
+    room: &mut Vec<u8>,
     layout: &Layout,
     panel: &Panel,
     out: &mut W,
@@ -89,8 +89,8 @@ fn gather_panel<W: Write>(
     ensures { OnOk result (PassesOn (W.contents out.old) (string_bytes text.old) (W.contents out.new) (string_bytes text.new) (text_of_panel layout.now panel.now)) }
 {
     print_panel(
-        alloc,
         text,
+        room,
         &panel.place,
         &layout.frame,
         &layout.pen,
@@ -99,10 +99,10 @@ fn gather_panel<W: Write>(
     )
 }
 
-/// Gathers the panels one after the other.
+/// Gathers the panels one after the other, each of whose names is put into `room`.
 fn gather_panels<W: Write>(
-    alloc: Global,
     text: &mut String,
+    room: &mut Vec<u8>,
     layout: &Layout,
     panels: &[Panel],
     out: &mut W,
@@ -110,25 +110,30 @@ fn gather_panels<W: Write>(
     ensures { OnOk result (PassesOn (W.contents out.old) (string_bytes text.old) (W.contents out.new) (string_bytes text.new) (flat_map (text_of_panel layout.now) panels.now)) }
 {
     for panel in panels {
-        gather_panel(alloc, text, layout, panel, out)?;
+        gather_panel(text, room, layout, panel, out)?;
     }
     Ok(())
 }
 
-/// Gathers what stands behind the panels, and writes what is left.
-fn end<W: Write>(text: &mut String, layout: &Layout, out: &mut W) -> Result<(), Cut>
-    ensures { OnOk result (Appends (W.contents out.old) (W.contents out.new) (string_bytes text.old ++ behind_panels layout.now)) }
+/// Gathers what stands behind the panels.
+fn gather_behind_panels<W: Write>(
+    text: &mut String,
+    layout: &Layout,
+    out: &mut W,
+) -> Result<(), Cut>
+    ensures { OnOk result (PassesOn (W.contents out.old) (string_bytes text.old) (W.contents out.new) (string_bytes text.new) (behind_panels layout.now)) }
 {
+    make_room(text, out)?;
     match push_behind_panels(text, layout) {
-        Ok(()) => pass_on(text, out),
+        Ok(()) => Ok(()),
         Err(_) => Err(Cut),
     }
 }
 
-/// Prints what `text` holds, and the text of a page behind it.
+/// Prints what `text` holds, and the text of a page behind it. The names of its panels are put into `room`.
 fn print_page<W: Write>(
-    alloc: Global,
     text: &mut String,
+    room: &mut Vec<u8>,
     layout: &Layout,
     rules: &Option<Rules>,
     count: usize,
@@ -138,17 +143,18 @@ fn print_page<W: Write>(
     ensures { OnOk result (Appends (W.contents out.old) (W.contents out.new) (string_bytes text.old ++ page_text layout.now rules.now count panels.now)) }
 {
     gather_before_panels(text, layout, rules, count, out)?;
-    gather_panels(alloc, text, layout, panels, out)?;
-    end(text, layout, out)
+    gather_panels(text, room, layout, panels, out)?;
+    gather_behind_panels(text, layout, out)?;
+    pass_on(text, out)
 }
 
 /// What the page of a board shows.
-fn page_of<'a>(
+fn page_of<'n, 'h>(
     alloc: Global,
-    names: &[&'a str],
-    flashed: &'a FlashedBoard,
+    names: &[&'n str],
+    flashed: &'h FlashedBoard,
     rules: &Option<Rules>,
-) -> Result<Page<'a>, AllocError>
+) -> Result<Page<'n, 'h>, AllocError>
     ensures { IfOk result (IsPage (map (λ name. name.now) names.now) flashed.now rules.now) }
 {
     let board = board_of(flashed);
@@ -165,16 +171,16 @@ fn page_of<'a>(
 }
 
 /// Prints a board as a page of SVG, by the names of its files: a panel for each copper file, with what is found under the rules; nothing
-/// is looked for where there are none. What the panels show is gathered before the first byte is written. The text is written in parts.
+/// is looked for where there are none. The text is written in parts: what the panels show, and the room that the parts and the names of
+/// files are gathered in, is taken before the first of them is written, and no memory after it.
 ///
 /// # Errors
 ///
-/// [`PrintFault::Memory`] where there is no memory, and then nothing was written; [`PrintFault::Cut`] where the writer fails, or where
-/// there is no memory for the name of a file or for an element after a part was written.
-pub fn print_drawing<'a, W: Write>(
+/// [`PrintFault::Memory`] where there is no memory, and then nothing was written; [`PrintFault::Cut`] where the writer fails.
+pub fn print_drawing<W: Write>(
     alloc: Global,
-    names: &[&'a str],
-    flashed: &'a FlashedBoard,
+    names: &[&str],
+    flashed: &FlashedBoard,
     rules: &Option<Rules>,
     out: &mut W,
 ) -> Result<(), PrintFault>
@@ -187,9 +193,12 @@ pub fn print_drawing<'a, W: Write>(
     let Ok(mut text) = buffer(alloc) else {
         return Err(PrintFault::Memory);
     };
+    let Ok(mut room) = name_room(alloc, names) else {
+        return Err(PrintFault::Memory);
+    };
     match print_page(
-        alloc,
         &mut text,
+        &mut room,
         &page.layout,
         rules,
         page.count,

@@ -16,3 +16,6 @@ mod scale;
 mod words;
 
 pub use draw::{PrintFault, print_drawing};
+
+#[cfg(test)]
+mod tests;

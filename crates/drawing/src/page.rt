@@ -61,8 +61,14 @@ fn push_title(
 ) -> Result<(), AllocError>
     ensures { OnOk result (string_bytes text.new ≡ string_bytes text.old ++ title layout.now rules.now count) }
 {
-    let margin = 3 * layout.pen.unit;
-    push_text_start(text, "<text class=\"title\" x=\"", margin, margin)?;
+    let unit = layout.pen.unit;
+    push_text_start(
+        text,
+        "<text class=\"title\" transform=\"translate(",
+        3 * unit,
+        3 * unit,
+        unit,
+    )?;
     push_title_words(text, rules, count)?;
     push_words(text, "</text>\n")
 }
@@ -86,7 +92,13 @@ fn push_scale(text: &mut String, layout: &Layout) -> Result<(), AllocError>
 {
     let (unit, end) = (layout.pen.unit, layout.boxes_end());
     push_bar(text, 3 * unit, end + 3 * unit, layout.bar)?;
-    push_length(text, 4 * unit + layout.bar, end + 17 * unit / 5, layout.bar)
+    push_length(
+        text,
+        4 * unit + layout.bar,
+        end + 17 * unit / 5,
+        unit,
+        layout.bar,
+    )
 }
 
 /// Appends the legend and the end of the page.

@@ -14,11 +14,11 @@ use std::alloc::{AllocError, Global};
 
 /// A panel: where it stands, and what stands in it.
 #[derive(Drop)]
-pub(crate) struct Panel<'a> {
+pub(crate) struct Panel<'n, 'h> {
     /// Where it stands.
-    pub(crate) place: Place<'a>,
+    pub(crate) place: Place<'n>,
     /// What stands in it.
-    pub(crate) scene: Scene<'a>,
+    pub(crate) scene: Scene<'h>,
 }
 
 /// The name of a file; empty where it has none.
@@ -70,15 +70,15 @@ fn scene_on<'a>(
 }
 
 /// The panel of a layer, by its place among the copper files and the index of its file.
-fn panel_of<'a>(
+fn panel_of<'n, 'h>(
     alloc: Global,
     layout: &Layout,
-    names: &[&'a str],
-    flashed: &'a FlashedBoard,
+    names: &[&'n str],
+    flashed: &'h FlashedBoard,
     findings: &[Finding],
     layer: usize,
     file: usize,
-) -> Result<Panel<'a>, AllocError>
+) -> Result<Panel<'n, 'h>, AllocError>
     ensures { IfOk result (IsPanel (map (λ name. name.now) names.now) flashed.now findings.now layout.now (layer, file)) }
 {
     let scene = scene_on(
@@ -95,7 +95,7 @@ fn panel_of<'a>(
 }
 
 /// Adds a panel.
-fn add<'a>(panels: &mut Vec<Panel<'a>>, panel: Panel<'a>) -> Result<(), AllocError>
+fn add<'n, 'h>(panels: &mut Vec<Panel<'n, 'h>>, panel: Panel<'n, 'h>) -> Result<(), AllocError>
     ensures { OnOk result (panels.new.items ≡ panels.old.items ++ panel.entry ∷ []) }
 {
     if panels.push(panel).is_err() {
@@ -109,13 +109,13 @@ fn add<'a>(panels: &mut Vec<Panel<'a>>, panel: Panel<'a>) -> Result<(), AllocErr
 /// # Errors
 ///
 /// An `AllocError` where there is no memory for what stands in them.
-pub(crate) fn panels_of<'a>(
+pub(crate) fn panels_of<'n, 'h>(
     alloc: Global,
     layout: &Layout,
-    names: &[&'a str],
-    flashed: &'a FlashedBoard,
+    names: &[&'n str],
+    flashed: &'h FlashedBoard,
     findings: &[Finding],
-) -> Result<Vec<Panel<'a>>, AllocError>
+) -> Result<Vec<Panel<'n, 'h>>, AllocError>
     ensures { IfOk result (λ panels. AllZip (IsPanel (map (λ name. name.now) names.now) flashed.now findings.now layout.now) (enumerate_from 0 flashed.now.board.layer_indexes) panels.items) }
 {
     let files = flashed.board.layer_indexes();

@@ -33,7 +33,7 @@ pub(crate) fn push_style(text: &mut String) -> Result<(), AllocError>
 {
     push_words(
         text,
-        "<style>text{fill:#222}.title{font-size:1.6em;font-weight:bold}.name{font-size:1.2em;font-weight:bold}.board{fill:#fbfaf6;stroke:#999;stroke-width:.08em}.pad{fill:#d8a35d}.line{fill:none;stroke:#d8a35d;stroke-linecap:round}.other{fill:none;stroke:#6a6a6a}.plated,.unplated{fill:#fff;stroke:#333}.unplated{stroke-dasharray:.24em}.rim{fill:none;stroke:#333;stroke-linecap:round}.slot{fill:none;stroke:#fff;stroke-linecap:round}circle.ring{fill:#d4001a;fill-opacity:.35;stroke:#d4001a}path.ring{fill:none;stroke:#d4001a;stroke-opacity:.35;stroke-linecap:round}.mark{fill:none;stroke:#d4001a}.gap{fill:none;stroke:#7a00c8;stroke-linecap:round}.number{fill:#d4001a;font-weight:bold;stroke:#fff;stroke-width:.24em;paint-order:stroke}.scale{fill:none;stroke:#222;stroke-width:.16em}</style>\n<rect width=\"100%\" height=\"100%\" fill=\"#fff\"/>\n",
+        "<style>text{fill:#222;font-size:1.25px}.title{font-size:2px;font-weight:bold}.name{font-size:1.5px;font-weight:bold}.board{fill:#fbfaf6;stroke:#999;stroke-width:.08em}.pad{fill:#d8a35d}.line{fill:none;stroke:#d8a35d;stroke-linecap:round}.other{fill:none;stroke:#6a6a6a}.plated,.unplated{fill:#fff;stroke:#333}.unplated{stroke-dasharray:.24em}.rim{fill:none;stroke:#333;stroke-linecap:round}.slot{fill:none;stroke:#fff;stroke-linecap:round}circle.ring{fill:#d4001a;fill-opacity:.35;stroke:#d4001a}path.ring{fill:none;stroke:#d4001a;stroke-opacity:.35;stroke-linecap:round}.mark{fill:none;stroke:#d4001a}.gap{fill:none;stroke:#7a00c8;stroke-linecap:round}.number{fill:#d4001a;font-weight:bold;stroke:#fff;stroke-width:.24em;paint-order:stroke}.scale{fill:none;stroke:#222;stroke-width:.16em}</style>\n<rect width=\"100%\" height=\"100%\" fill=\"#fff\"/>\n",
     )
 }
 
@@ -93,21 +93,24 @@ pub(crate) fn push_rules(text: &mut String, ring: u64, gap: u64) -> Result<(), A
     push_words(text, " mm: ")
 }
 
-/// Appends the begin of a text at a place, behind its first words.
+/// Appends the begin of a text at a place, whose letters are in units, behind its first words.
 #[tactic(auto, unfolding(crate::specs::Pages::text_start))]
 pub(crate) fn push_text_start(
     text: &mut String,
     words: &str,
     x: u64,
     y: u64,
+    unit: u64,
 ) -> Result<(), AllocError>
     requires x { x < 2 ^ 63 }
     requires y { y < 2 ^ 63 }
-    ensures { OnOk result (string_bytes text.new ≡ string_bytes text.old ++ text_start words.now x y) }
+    requires unit { unit < 2 ^ 63 }
+    ensures { OnOk result (string_bytes text.new ≡ string_bytes text.old ++ text_start words.now x y unit) }
 {
     push_named(text, words, x)?;
-    push_named(text, "\" y=\"", y)?;
-    push_words(text, "\">")
+    push_named(text, " ", y)?;
+    push_named(text, ") scale(", unit)?;
+    push_words(text, ")\">")
 }
 
 /// Appends the bar of the scale.
@@ -126,13 +129,20 @@ pub(crate) fn push_bar(text: &mut String, x: u64, y: u64, bar: u64) -> Result<()
 
 /// Appends the length of the bar.
 #[tactic(auto, unfolding(crate::specs::Pages::length_at))]
-pub(crate) fn push_length(text: &mut String, x: u64, y: u64, bar: u64) -> Result<(), AllocError>
+pub(crate) fn push_length(
+    text: &mut String,
+    x: u64,
+    y: u64,
+    unit: u64,
+    bar: u64,
+) -> Result<(), AllocError>
     requires x { x < 2 ^ 63 }
     requires y { y < 2 ^ 63 }
+    requires unit { unit < 2 ^ 63 }
     requires bar { bar < 2 ^ 63 }
-    ensures { OnOk result (string_bytes text.new ≡ string_bytes text.old ++ length_at x y bar) }
+    ensures { OnOk result (string_bytes text.new ≡ string_bytes text.old ++ length_at x y unit bar) }
 {
-    push_text_start(text, "<text x=\"", x, y)?;
+    push_text_start(text, "<text transform=\"translate(", x, y, unit)?;
     push_named(text, "", bar)?;
     push_words(text, " mm</text>\n")
 }

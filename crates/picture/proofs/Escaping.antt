@@ -1,7 +1,8 @@
 -- Names that are escaped.
-use Rattle.std.proofs.Common.{◌≡◌, ◌≢◌, ◌==◌, ◌++◌, ◌∷◌, [], ℕ, List, Bool, true, false, refl, arith, codes, if◌then◌else◌, IsTrue, rules}
+use Rattle.std.proofs.Common.{◌≡◌, ◌≢◌, ◌≤◌, ◌*◌, ◌==◌, ◌++◌, ◌∷◌, [], ℕ, List, Bool, true, false, length, refl, arith, codes, if◌then◌else◌, IsTrue, rules}
 use Rattle.std.proofs.lemmas.Bool.Decides.{nat_tests}
-use Rattle.picture.specs.Escapes.{IsEscaped, begins_entity, escaped}
+use Rattle.std.proofs.lemmas.List.{length-append}
+use Rattle.picture.specs.Escapes.{IsEscaped, begins_entity, escaped, escaped_byte}
 
 -- a byte that is neither of the two
 plain : (b : ℕ) (t : List ℕ) → b ≢ 38 → b ≢ 60 → IsEscaped t → IsEscaped (b ∷ t)
@@ -29,3 +30,17 @@ pub escaped_safe : (name : List ℕ) → IsEscaped (escaped name)
 unfolding IsEscaped
 escaped_safe [] = tt
 escaped_safe (b ∷ bs) = written (b == 38) (b == 60) (b == 62) b (escaped bs) refl refl (escaped_safe bs)
+
+-- how long a byte is as it is written
+byte_short : (amp less more : Bool) (b : ℕ)
+    → length (if amp then codes "&amp;" else if less then codes "&lt;" else if more then codes "&gt;" else b ∷ []) ≤ 5
+byte_short true less more b = search rules
+byte_short false true more b = search rules
+byte_short false false true b = search rules
+byte_short false false false b = search rules
+
+-- how long a whole name is
+pub escaped_short : (name : List ℕ) → length (escaped name) ≤ 5 * length name
+escaped_short [] = search rules
+escaped_short (b ∷ bs) =
+    omega (arith, length-append (escaped_byte b) (escaped bs), byte_short (b == 38) (b == 60) (b == 62) b, escaped_short bs)

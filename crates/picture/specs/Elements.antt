@@ -213,13 +213,13 @@ abbrev pub number_of : Lack → ℕ
 number_of (Ring n h) = n
 number_of (Gap n a b) = n
 
--- the begin of a text at a place, behind its first words (docs/FORMATS.md, Pictures)
-unfoldable pub text_start : List ℕ → ℤ → ℤ → List ℕ
-text_start words x y = after words x ++ (after (codes "\" y=\"") y ++ codes "\">")
+-- the begin of a text at a place, whose letters are in units, behind its first words (docs/FORMATS.md, Pictures)
+unfoldable pub text_start : Pen → List ℕ → ℤ → ℤ → List ℕ
+text_start pen words x y = after words x ++ (after (codes " ") y ++ (after (codes ") scale(") (pos pen.unit) ++ codes ")\">"))
 
 -- a number at a place (docs/FORMATS.md, Pictures)
-unfoldable pub number_at : ℤ → ℤ → ℕ → List ℕ
-number_at x y n = text_start (codes "<text class=\"number\" x=\"") x y ++ (decimal n ++ codes "</text>\n")
+unfoldable pub number_at : Pen → ℤ → ℤ → ℕ → List ℕ
+number_at pen x y n = text_start pen (codes "<text class=\"number\" transform=\"translate(") x y ++ (decimal n ++ codes "</text>\n")
 
 -- how far the number of a finding stands beside its place and above it (docs/FORMATS.md, Pictures)
 abbrev pub aside : Pen → Lack → ℕ
@@ -228,4 +228,4 @@ aside pen found = mark_radius pen found * 7 / 10
 -- the number of a finding, at the upper right of its mark (docs/FORMATS.md, Pictures)
 unfoldable pub number : Pen → Lack → List ℕ
 number pen found =
-    number_at (place_x found +ℤ pos (aside pen found)) (neg_ℤ (place_y found +ℤ pos (aside pen found))) (number_of found)
+    number_at pen (place_x found +ℤ pos (aside pen found)) (neg_ℤ (place_y found +ℤ pos (aside pen found))) (number_of found)

@@ -33,11 +33,11 @@ board_box f = board_rect f.left (neg_ℤ f.top) f.width f.height
 
 -- the begin of the name of a panel, above the box (docs/FORMATS.md, Pictures)
 abbrev pub name_start : Pen → Frame → List ℕ
-name_start pen f = text_start (codes "<text class=\"name\" x=\"") f.left (neg_ℤ (f.top +ℤ pos (pen.unit * 5 / 2)))
+name_start pen f = text_start pen (codes "<text class=\"name\" transform=\"translate(") f.left (neg_ℤ (f.top +ℤ pos (pen.unit * 5 / 2)))
 
 -- the begin of the note below the name (docs/FORMATS.md, Pictures)
 abbrev pub note_start : Pen → Frame → List ℕ
-note_start pen f = text_start (codes "<text class=\"note\" x=\"") f.left (neg_ℤ (f.top +ℤ pos (pen.unit * 4 / 5)))
+note_start pen f = text_start pen (codes "<text class=\"note\" transform=\"translate(") f.left (neg_ℤ (f.top +ℤ pos (pen.unit * 4 / 5)))
 
 -- a ring is lacking, and no gap (docs/FORMATS.md, Pictures)
 abbrev pub is_ring : Lack → Bool

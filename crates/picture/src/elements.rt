@@ -3,6 +3,8 @@
 ghost use Rattle.std.specs.Prelude.{◌≡◌, ◌++◌, ◌≤◌, ◌^◌, OnOk, decimal, neg_ℤ, string_bytes, unsigned_abs};
 ghost use Rattle.picture.specs.Elements.{across, after, along, box, circle, line, lines_start, number_at, start, text_start};
 
+use crate::pen::Pen;
+use crate::widths::unit;
 use printing::{push_short_mm, push_words};
 use std::alloc::AllocError;
 use std::fmt::Write;
@@ -138,30 +140,39 @@ pub(crate) fn push_digits(text: &mut String, number: usize, words: &str) -> Resu
     }
 }
 
-/// Appends the begin of a text at a place, behind its first words.
+/// Appends the begin of a text at a place, whose letters are in units, behind its first words.
 pub(crate) fn push_text_start(
     text: &mut String,
+    pen: &Pen,
     words: &str,
     x: i64,
     y: i64,
 ) -> Result<(), AllocError>
-    ensures { OnOk result (string_bytes text.new ≡ string_bytes text.old ++ text_start words.now x y) }
+    ensures { OnOk result (string_bytes text.new ≡ string_bytes text.old ++ text_start pen.now words.now x y) }
 {
     push_after(text, words, x)?;
-    push_after(text, "\" y=\"", y)?;
-    push_words(text, "\">")
+    push_after(text, " ", y)?;
+    push_after(text, ") scale(", unit(pen))?;
+    push_words(text, ")\">")
 }
 
 /// Appends a number at a place.
 #[tactic(auto, unfolding(crate::specs::Elements::number_at))]
 pub(crate) fn push_number_at(
     text: &mut String,
+    pen: &Pen,
     x: i64,
     y: i64,
     number: usize,
 ) -> Result<(), AllocError>
-    ensures { OnOk result (string_bytes text.new ≡ string_bytes text.old ++ number_at x y number) }
+    ensures { OnOk result (string_bytes text.new ≡ string_bytes text.old ++ number_at pen.now x y number) }
 {
-    push_text_start(text, "<text class=\"number\" x=\"", x, y)?;
+    push_text_start(
+        text,
+        pen,
+        "<text class=\"number\" transform=\"translate(",
+        x,
+        y,
+    )?;
     push_digits(text, number, "</text>\n")
 }

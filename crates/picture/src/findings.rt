@@ -172,5 +172,5 @@ pub(crate) fn push_number(text: &mut String, pen: &Pen, found: &Lack) -> Result<
     ensures { OnOk result (string_bytes text.new ≡ string_bytes text.old ++ number pen.now found.now) }
 {
     let (x, y) = number_place(pen, found);
-    push_number_at(text, x, y, number_of(found))
+    push_number_at(text, pen, x, y, number_of(found))
 }

@@ -17,8 +17,8 @@ mod scene;
 mod widths;
 
 pub use frame::Frame;
-pub use laws::escaped_names;
-pub use names::escape;
+pub use laws::{escaped_lengths, escaped_names};
+pub use names::{escape, name_room};
 pub use panel::{Place, print_panel};
 pub use pen::Pen;
 pub use scene::{Lack, Scene, scene_of};

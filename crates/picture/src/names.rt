@@ -1,9 +1,12 @@
 //! Names in a picture.
 
-ghost use Rattle.std.specs.Prelude.{◌≡◌, ◌++◌, IfOk, OnOk};
+ghost use Rattle.std.specs.Prelude.{◌≡◌, ◌++◌, [], IfOk, OnOk};
 ghost use Rattle.picture.specs.Escapes.{escaped, escaped_byte};
 
 use std::alloc::{AllocError, Global};
+
+/// How many bytes a byte of a name takes in a picture at the most: those of `&amp;`.
+const MOST_BYTES: usize = 5;
 
 /// Appends a byte of a name.
 fn push_escaped(text: &mut Vec<u8>, byte: u8) -> Result<(), AllocError>
@@ -20,17 +23,38 @@ fn push_escaped(text: &mut Vec<u8>, byte: u8) -> Result<(), AllocError>
     }
 }
 
-/// The bytes of a name as they stand in a picture: `&`, `<` and `>` are written as entities.
+/// How many bytes the longest name has.
+fn longest(names: &[&str]) -> usize {
+    let mut longest = 0;
+    for name in names {
+        longest = longest.max(name.len());
+    }
+    longest
+}
+
+/// An empty text with room for any one of these names as it stands in a picture.
 ///
 /// # Errors
 ///
 /// An `AllocError` where there is no memory for it.
-pub fn escape(alloc: Global, name: &[u8]) -> Result<Vec<u8>, AllocError>
-    ensures { IfOk result (λ text. text.items ≡ escaped name.now) }
+pub fn name_room(alloc: Global, names: &[&str]) -> Result<Vec<u8>, AllocError>
+    ensures { IfOk result (λ room. room.items ≡ []) }
 {
-    let mut text = Vec::new(alloc);
+    Vec::with_capacity(alloc, longest(names).saturating_mul(MOST_BYTES))
+}
+
+/// Puts the bytes of a name as they stand in a picture in place of what `text` holds: `&`, `<` and `>` are written as entities. No
+/// memory is taken where there is room for them.
+///
+/// # Errors
+///
+/// An `AllocError` where there is no memory for them.
+pub fn escape(text: &mut Vec<u8>, name: &[u8]) -> Result<(), AllocError>
+    ensures { OnOk result (text.new.items ≡ escaped name.now) }
+{
+    text.clear();
     for byte in name {
-        push_escaped(&mut text, *byte)?;
+        push_escaped(text, *byte)?;
     }
-    Ok(text)
+    Ok(())
 }

@@ -20,7 +20,7 @@ use grid_units::Point;
 use pad_shapes::Pad;
 use printing::{Cut, make_room, pass_on, push_words};
 use ring_rules::Drilled;
-use std::alloc::{AllocError, Global};
+use std::alloc::AllocError;
 use std::fmt::Write as Format;
 use std::io::Write;
 
@@ -95,7 +95,8 @@ fn push_name_start(text: &mut String, pen: &Pen, frame: &Frame) -> Result<(), Al
 {
     push_text_start(
         text,
-        "<text class=\"name\" x=\"",
+        pen,
+        "<text class=\"name\" transform=\"translate(",
         frame.left,
         above(frame, pen.unit * 5 / 2),
     )
@@ -107,7 +108,8 @@ fn push_note_start(text: &mut String, pen: &Pen, frame: &Frame) -> Result<(), Al
 {
     push_text_start(
         text,
-        "<text class=\"note\" x=\"",
+        pen,
+        "<text class=\"note\" transform=\"translate(",
         frame.left,
         above(frame, pen.unit * 4 / 5),
     )
@@ -208,17 +210,17 @@ fn write_bytes<W: Write>(text: &mut String, bytes: &[u8], out: &mut W) -> Result
     write_out(bytes, out)
 }
 
-/// Writes what was gathered, and a name behind it.
+/// Writes what was gathered, and a name behind it, which is put into `room` first.
 fn write_name<W: Write>(
-    alloc: Global,
     text: &mut String,
+    room: &mut Vec<u8>,
     name: &str,
     out: &mut W,
 ) -> Result<(), Cut>
     ensures { OnOk result (PassesOn (W.contents out.old) (string_bytes text.old) (W.contents out.new) (string_bytes text.new) (escaped name.now)) }
 {
-    match escape(alloc, name.as_bytes()) {
-        Ok(name) => write_bytes(text, &name, out),
+    match escape(room, name.as_bytes()) {
+        Ok(()) => write_bytes(text, room, out),
         Err(_) => Err(Cut),
     }
 }
@@ -439,14 +441,15 @@ fn gather_scene<W: Write>(
 }
 
 /// Prints what `text` holds and the text of a panel behind it. The elements are gathered in `text` and written in parts; what is left is
-/// for the next call.
+/// for the next call. The name of the file is put into `room`, in place of what it held. No memory is taken where `text` is a
+/// [`buffer`](printing::buffer), and `room` was taken by [`name_room`](crate::name_room) for this name among others.
 ///
 /// # Errors
 ///
-/// [`Cut`] where the writer fails, or where there is no memory for an element.
+/// [`Cut`] where the writer fails, or where there is no memory for the name or an element.
 pub fn print_panel<W: Write>(
-    alloc: Global,
     text: &mut String,
+    room: &mut Vec<u8>,
     place: &Place,
     frame: &Frame,
     pen: &Pen,
@@ -456,7 +459,7 @@ pub fn print_panel<W: Write>(
     ensures { OnOk result (PassesOn (W.contents out.old) (string_bytes text.old) (W.contents out.new) (string_bytes text.new) (panel_text place.now frame.now pen.now scene.now)) }
 {
     gather_before_name(text, place, pen, frame, out)?;
-    write_name(alloc, text, place.name, out)?;
+    write_name(text, room, place.name, out)?;
     gather_behind_name(text, pen, frame, scene, out)?;
     gather_scene(text, pen, scene, out)?;
     gather_words(text, "</g>\n", out)

@@ -125,7 +125,7 @@ fn rings_have_marks_and_numbers(rt: HostRuntime) -> Result<(), Fail> {
     push_number(&mut written, &pen(), &lack)?;
     assert_eq!(rt;
         written.as_str(),
-        "<circle class=\"ring\" cx=\"143.745\" cy=\"99.547\" r=\"0.25\" stroke-width=\"0.03125\"/>\n<circle class=\"mark\" cx=\"143.745\" cy=\"99.547\" r=\"0.4628\" stroke-width=\"0.08512\"/>\n<text class=\"number\" x=\"144.06896\" y=\"99.22304\">1</text>\n"
+        "<circle class=\"ring\" cx=\"143.745\" cy=\"99.547\" r=\"0.25\" stroke-width=\"0.03125\"/>\n<circle class=\"mark\" cx=\"143.745\" cy=\"99.547\" r=\"0.4628\" stroke-width=\"0.08512\"/>\n<text class=\"number\" transform=\"translate(144.06896 99.22304) scale(0.4256)\">1</text>\n"
     );
     Ok(())
 }
@@ -150,8 +150,14 @@ fn gaps_are_lines_from_middle_to_middle(rt: HostRuntime) -> Result<(), Fail> {
 
 #[test]
 fn names_have_entities(rt: HostRuntime) -> Result<(), Fail> {
-    let name = escape(rt.alloc(), b"a<b>&\"c\"")?;
+    let mut name = name_room(rt.alloc(), &["&", "12345678"])?;
+    escape(&mut name, b"a<b>&\"c\"")?;
     assert_eq!(rt; name.as_slice(), b"a&lt;b&gt;&amp;\"c\"".as_slice());
+    escape(&mut name, b"&&&&&&&&")?;
+    assert_eq!(rt;
+        name.as_slice(),
+        b"&amp;&amp;&amp;&amp;&amp;&amp;&amp;&amp;".as_slice()
+    );
     Ok(())
 }
 

@@ -30,6 +30,13 @@ pub(crate) fn ring_rim(pen: &Pen, radius: u64) -> u64
     (pen.unit / 10).min(radius / 8)
 }
 
+/// The unit that texts are scaled by.
+pub(crate) fn unit(pen: &Pen) -> i64
+    ensures { result ≡ pos pen.now.unit }
+{
+    pen.unit as i64
+}
+
 /// The width of strong lines.
 pub(crate) fn strong(pen: &Pen) -> i64
     ensures { result ≡ pos (pen.now.unit / 5) }

@@ -1,4 +1,4 @@
-use Rattle.std.proofs.Common.{◌*◌, ◌<◌, ◌^◌, ℕ, arith}
+use Rattle.std.proofs.Common.{arith}
 use Rattle.drawing.proofs.Bars.{bar_of_five, bar_of_one, bar_of_two}
 use Rattle.drawing.proofs.scale.bar_of.Goals as goal
 

@@ -1,4 +1,4 @@
-use Rattle.std.proofs.Common.{◌∙◌, ◌++◌, ℕ, List, sym, codes}
+use Rattle.std.proofs.Common.{◌∙◌, ◌++◌, sym, codes}
 use Rattle.std.specs.Prelude.{string_bytes}
 use Rattle.std.proofs.lemmas.Result.{on_ok_weaker}
 use Rattle.printing.proofs.Pushed.{pushed}
