@@ -1,0 +1,4 @@
+pub mod Firsts
+pub mod IdlePlaces
+pub mod Judging
+pub mod Matches

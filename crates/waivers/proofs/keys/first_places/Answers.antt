@@ -1,0 +1,12 @@
+use Rattle.std.proofs.Common.{◌≡◌, ◌∙◌, Some, None, sym}
+use Rattle.std.specs.Prelude.{if◌then◌else◌}
+use Rattle.std.specs.Option.{option_or}
+use Rattle.std.specs.Str.{bytes_eq}
+use Rattle.waivers.proofs.Firsts.{first_more}
+use Rattle.waivers.proofs.keys.first_places.Goals as goal
+
+pub loop-place-preserved : goal.loop-place-preserved
+loop-place-preserved c = λ key.
+    let same : c.as_slice.result.now ≡ c.index-keys-place.result.items = c.as_slice.ensures.value in
+    let more = first_more (λ other. bytes_eq other.items key) c.args.keys.now c.loop-place.place c.index-keys-place.result c.loop-place-test.true c.index-keys-place.is in
+    c.in_ok-add_first.ensures key ∙ ((λ i. option_or (c.loop-place.invariant key i) (if bytes_eq (same i) key then Some c.loop-place.place else None)) ∙ sym more)

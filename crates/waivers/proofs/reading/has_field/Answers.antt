@@ -1,0 +1,13 @@
+use Rattle.std.proofs.Common.{◌∙◌, ap₂, sym}
+use Rattle.std.specs.Str.{bytes_eq}
+use Rattle.csv.specs.Records.{fields_of}
+use Rattle.manifest.proofs.Fields.{empty_differs, field_is, no_field}
+use Rattle.waivers.proofs.reading.has_field.Goals as goal
+
+pub returns-in-Some : goal.returns-in-Some
+returns-in-Some c =
+    let same = field_is (fields_of c.args.row.now) c.args.i _ c.in-Some.ensures.value in
+    c.eq.ensures ∙ ap₂ bytes_eq same c.as_bytes.ensures.value
+
+pub returns-in-None : goal.returns-in-None
+returns-in-None c = rw (no_field (fields_of c.args.row.now) c.args.i c.in-None.ensures.value) (sym (empty_differs c.args.text.now c.requires))

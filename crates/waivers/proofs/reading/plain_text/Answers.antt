@@ -1,0 +1,19 @@
+use Rattle.std.proofs.Common.{◌≡◌, false, refl, inl, inr}
+use Rattle.std.proofs.lemmas.Str.{is_utf8-from_IsUtf8, IsUtf8-from_is_utf8}
+use Rattle.std.proofs.lemmas.Bool.{cases_Bool}
+use Rattle.std.specs.Str.{is_utf8}
+use Rattle.std.specs.List.{list_any}
+use Rattle.manifest.specs.Manifest.{is_control}
+use Rattle.waivers.proofs.reading.plain_text.Goals as goal
+
+pub returns-in_default : goal.returns-in_default
+returns-in_default c = elim (cases_Bool (is_utf8 c.args.bytes.now)) [
+  | inl t ↦ absurd (c.in_default.ensures.cases.0 (IsUtf8-from_is_utf8 c.args.bytes.now t))
+  | inr f ↦ rw f refl
+]
+
+pub returns-else-has_control : goal.returns-else-has_control
+returns-else-has_control c =
+    let text = is_utf8-from_IsUtf8 c.args.bytes.now c.in-Ok.ensures.cases.1 in
+    let plain : list_any is_control c.args.bytes.now ≡ false = cc in
+    (rw (text, plain) refl, c.in-Ok.ensures.cases.0)

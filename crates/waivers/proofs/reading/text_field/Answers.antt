@@ -1,0 +1,15 @@
+use Rattle.std.proofs.Common.{sym, ap, ◌∙◌}
+use Rattle.csv.specs.Records.{fields_of}
+use Rattle.manifest.specs.Manifest.{is_plain_text}
+use Rattle.manifest.proofs.Fields.{empty_plain, field_is, no_field}
+use Rattle.waivers.proofs.reading.text_field.Goals as goal
+
+pub returns-in-Some : goal.returns-in-Some
+returns-in-Some c =
+    let same = field_is (fields_of c.args.row.now) c.args.i _ c.in-Some.ensures.value in
+    rw (← same) c.plain_text.ensures
+
+pub returns-in-None : goal.returns-in-None
+returns-in-None c =
+    let none = no_field (fields_of c.args.row.now) c.args.i c.in-None.ensures.value in
+    (ap is_plain_text none ∙ empty_plain, sym none)

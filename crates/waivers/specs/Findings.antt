@@ -1,0 +1,54 @@
+-- The five fields of a finding, and the text of all findings.
+use Rattle.std.specs.Prelude.{ℕ, List, [], ◌∷◌, ◌++◌, codes, slice_get}
+use Rattle.std.specs.List.{flat_map}
+use Rattle.std.specs.Option.{option_map_or}
+use Rattle.csv.specs.Writing.{default_writer, row_text}
+use Rattle.manifest.specs.Manifest.{Row}
+use Rattle.printing.specs.Lengths.{short_millimetres}
+use Rattle.report_text.specs.declared.GapLack.{GapLack}
+use Rattle.report_text.specs.declared.HoleAt.{HoleAt}
+use Rattle.report_text.specs.declared.LayerHead.{LayerHead}
+use Rattle.report_text.specs.declared.RingCause.{RingCause}
+use Rattle.report_text.specs.declared.RingCause.TheVariants as causes
+use Rattle.report_text.specs.declared.RingLack.{RingLack}
+use Rattle.report_text.specs.declared.Telling.{Telling}
+use Rattle.report_text.specs.Texts.{drilled_words, name_of}
+
+-- a hole without its number: the name of its drill file, its diameter and where it is (docs/FORMATS.md, Waivers)
+abbrev pub hole_field : List (List ℕ) → HoleAt → List ℕ
+hole_field names at = name_of names at.drill ++ (codes ", " ++ drilled_words at.hole)
+
+-- the name of a layer's file, by the place of the layer; empty where the report has none there (docs/FORMATS.md, Waivers)
+abbrev pub layer_field : List (List ℕ) → List LayerHead → ℕ → List ℕ
+layer_field names layers place = option_map_or (λ head. name_of names head.file) (slice_get layers place) []
+
+-- the ring that a hole has, or `none` where it lies in no pad (docs/FORMATS.md, Waivers)
+abbrev pub has_field : RingCause → List ℕ
+has_field (causes.Small place) = short_millimetres place.ring
+has_field (causes.Off place) = short_millimetres place.ring
+has_field (causes.Other why flash) = codes "none"
+has_field causes.Nothing = codes "none"
+has_field causes.Oblique = codes "none"
+
+-- the five fields of a hole that lacks its ring (docs/FORMATS.md, Waivers)
+abbrev pub ring_fields : List (List ℕ) → List LayerHead → RingLack → Row
+ring_fields names layers lack = codes "ring" ∷ layer_field names layers lack.layer ∷ hole_field names lack.at ∷ [] ∷ has_field lack.cause ∷ []
+
+-- the five fields of two holes that lack their gap (docs/FORMATS.md, Waivers)
+abbrev pub gap_fields : List (List ℕ) → GapLack → Row
+gap_fields names lack = codes "gap" ∷ [] ∷ hole_field names lack.first ∷ hole_field names lack.second ∷ short_millimetres lack.gap ∷ []
+
+-- the record of a finding: its five fields, and an empty one for the reason (docs/FORMATS.md, Waivers)
+abbrev pub finding_record : Row → List ℕ
+finding_record finding = row_text default_writer (finding ++ [] ∷ [])
+
+-- the head of a file of waivers (docs/FORMATS.md, Waivers)
+abbrev pub head_record : List ℕ
+head_record = row_text default_writer (codes "kind" ∷ codes "layer" ∷ codes "hole" ∷ codes "and" ∷ codes "has" ∷ codes "why" ∷ [])
+
+-- the text of all findings, those of rings first (docs/FORMATS.md, Waivers)
+abbrev pub findings_text : List (List ℕ) → Telling → List ℕ
+findings_text names told =
+    head_record
+    ++ (flat_map (λ lack. finding_record (ring_fields names told.layers.items lack)) told.rings.items
+    ++ flat_map (λ lack. finding_record (gap_fields names lack)) told.gaps.items)

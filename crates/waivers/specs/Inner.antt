@@ -1,0 +1,33 @@
+-- Words between the public ones and those of single steps.
+use Rattle.std.specs.Prelude.{ℕ, Bool, List, Option, Some, None, Result, Ok, Err}
+use Rattle.std.specs.Borrow.{Bor}
+use Rattle.std.specs.BTreeMap.{BTreeMap, get_by}
+use Rattle.std.specs.BTreeSet.{BTreeSet, contains}
+use Rattle.std.specs.Cmp.Lexicographic.{slice_cmp}
+use Rattle.std.specs.Ordering.{nat_cmp}
+use Rattle.csv.specs.Writing.{default_writer, row_text}
+use Rattle.grid_units.specs.declared.fault.Reason.{Reason}
+use Rattle.manifest.specs.Manifest.{Row}
+use Rattle.waivers.specs.declared.Waiver.{Waiver}
+use Rattle.waivers.specs.Reading.{broken_rule, waiver_of}
+
+-- a waiver, if no rule is broken (docs/FORMATS.md, Waivers)
+abbrev pub unless_broken : Option Reason → Waiver → Result Waiver Reason
+unless_broken None waiver = Ok waiver
+unless_broken (Some why) waiver = Err why
+
+-- what a record behind the head gives (docs/FORMATS.md, Waivers)
+abbrev pub judged : Row → Result Waiver Reason
+judged row = unless_broken (broken_rule row) (waiver_of row)
+
+-- the text by which five fields are looked up: no two others have it (docs/FORMATS.md, Waivers)
+abbrev pub key_of : Row → List ℕ
+key_of fields = row_text default_writer fields
+
+-- the place that a table has for a key (docs/FORMATS.md, Waivers)
+abbrev pub place_at : BTreeMap (Bor (List ℕ)) ℕ → List ℕ → Option ℕ
+place_at table key = get_by (λ k. slice_cmp nat_cmp key k.now) table
+
+-- a set has a place (docs/FORMATS.md, Waivers)
+abbrev pub has_place : BTreeSet ℕ → ℕ → Bool
+has_place places place = contains nat_cmp places place

@@ -1,0 +1,4 @@
+pub mod Reading
+pub mod Findings
+pub mod Waiving
+pub mod Inner

@@ -1,0 +1,59 @@
+-- What the records of a file of waivers say, and by which rule it is refused.
+use Rattle.std.specs.Prelude.{◌+◌, ◌==◌, ◌&&◌, ◌||◌, ℕ, Bool, not, if◌then◌else◌, List, [], ◌∷◌, length, codes, slice_get, map, Option, Some, None, Result, Ok, Err}
+use Rattle.std.specs.Str.{bytes_eq}
+use Rattle.grid_units.specs.Lists.{breaks}
+use Rattle.grid_units.specs.Results.{fault}
+use Rattle.grid_units.specs.declared.fault.Reason.{Reason}
+use Rattle.grid_units.specs.declared.fault.Reason.TheVariants.{BadManifest, BadRole, EmptyName}
+use Rattle.grid_units.specs.declared.fault.Fault.{Fault}
+use Rattle.manifest.specs.Manifest.{Row, field, is_well_formed, rows_of}
+use Rattle.waivers.specs.declared.Waiver.{Waiver}
+
+-- the first three fields are `kind`, `layer`, `hole` (docs/FORMATS.md, Waivers)
+abbrev pub names_place : Row → Bool
+names_place row = bytes_eq (field 0 row) (codes "kind") && (bytes_eq (field 1 row) (codes "layer") && bytes_eq (field 2 row) (codes "hole"))
+
+-- the three fields behind them are `and`, `has`, `why` (docs/FORMATS.md, Waivers)
+abbrev pub names_reason : Row → Bool
+names_reason row = bytes_eq (field 3 row) (codes "and") && (bytes_eq (field 4 row) (codes "has") && bytes_eq (field 5 row) (codes "why"))
+
+-- just the fields `kind`, `layer`, `hole`, `and`, `has`, `why`: the head (docs/FORMATS.md, Waivers)
+abbrev pub is_heading : Row → Bool
+is_heading row = (length row == 6) && (names_place row && names_reason row)
+
+-- a kind of finding: `ring` or `gap` (docs/FORMATS.md, Waivers)
+abbrev pub is_kind : List ℕ → Bool
+is_kind word = bytes_eq word (codes "ring") || bytes_eq word (codes "gap")
+
+-- the first rule that a record behind the head breaks (docs/FORMATS.md, Waivers)
+abbrev pub broken_rule : Row → Option Reason
+broken_rule row =
+    if not (is_well_formed 6 row) then Some BadManifest
+    else (if not (is_kind (field 0 row)) then Some BadRole
+    else (if length (field 5 row) == 0 then Some EmptyName else None))
+
+-- the waiver that a record is (docs/FORMATS.md, Waivers)
+abbrev pub waiver_of : Row → Waiver
+waiver_of row = record { kind = field 0 row; layer = field 1 row; hole = field 2 row; and = field 3 row; has = field 4 row; why = field 5 row }
+
+-- the first record behind the head that breaks a rule, counted from 0, and what it breaks (docs/FORMATS.md, Waivers)
+abbrev pub first_wrong : List Row → Option (ℕ × Reason)
+first_wrong rows = slice_get (breaks (λ before row. broken_rule row) rows) 0
+
+-- these waivers where nothing is wrong; the first record behind the head has the number 2 (docs/FORMATS.md, Waivers)
+abbrev pub unless_wrong : Option (ℕ × Reason) → List Waiver → Result (List Waiver) Fault
+unless_wrong None all = Ok all
+unless_wrong (Some wrong) all = Err (fault (wrong.0 + 2) 0 wrong.1)
+
+-- the waivers of the records behind the head (docs/FORMATS.md, Waivers)
+abbrev pub waivers_behind : List Row → Result (List Waiver) Fault
+waivers_behind rows = unless_wrong (first_wrong rows) (map waiver_of rows)
+
+-- the waivers of a list of records (docs/FORMATS.md, Waivers)
+abbrev pub waivers_of : List Row → Result (List Waiver) Fault
+waivers_of [] = Err (fault 1 0 BadManifest)
+waivers_of (first ∷ rows) = if is_heading first then waivers_behind rows else Err (fault 1 0 BadManifest)
+
+-- the waivers of a text, or the first refusal (docs/FORMATS.md, Waivers)
+abbrev pub waivers : List ℕ → Result (List Waiver) Fault
+waivers text = waivers_of (rows_of text)

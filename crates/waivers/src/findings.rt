@@ -1,0 +1,163 @@
+//! The five fields by which a finding is known.
+
+ghost use Rattle.std.specs.Prelude.{◌≡◌, ◌*◌, ◌++◌, pos, map, IfOk, OnOk, string_bytes};
+ghost use Rattle.printing.specs.Lengths.{short_millimetres};
+ghost use Rattle.report_text.specs.Texts.{drilled_words, ends_words, name_of, point_words};
+ghost use Rattle.waivers.specs.Findings.{gap_fields, has_field, hole_field, layer_field, ring_fields};
+
+use grid_units::{Hole, Point};
+use printing::{push_short_mm, push_words};
+use report_text::{GapLack, HoleAt, LayerHead, RingCause, RingLack};
+use std::alloc::{AllocError, Global};
+use std::marker::Model;
+
+/// The five fields of a finding. Contracts see them as the list of their bytes.
+#[derive(Drop)]
+pub(crate) struct Finding {
+    pub(crate) kind: &'static str,
+    pub(crate) layer: String,
+    pub(crate) hole: String,
+    pub(crate) and: String,
+    pub(crate) has: String,
+}
+
+impl Model for Finding {
+    ghost use Rattle.std.specs.Prelude.{ℕ, List, [], ◌∷◌, string_bytes};
+
+    ghost Value = { List (List ℕ) };
+
+    ghost view = { λ finding. finding.kind.now ∷ string_bytes finding.layer ∷ string_bytes finding.hole ∷ string_bytes finding.and ∷ string_bytes finding.has ∷ [] };
+}
+
+/// The name of a file of the package; empty where it has none.
+fn name_of<'a>(names: &[&'a str], file: usize) -> &'a str
+    ensures { result.now ≡ name_of (map (λ name. name.now) names.now) file }
+{
+    match names.get(file) {
+        Some(name) => *name,
+        None => "",
+    }
+}
+
+/// The name of a layer's file; empty where the report has no such layer.
+fn layer_name<'a>(names: &[&'a str], layers: &[LayerHead], place: usize) -> &'a str
+    ensures { result.now ≡ layer_field (map (λ name. name.now) names.now) layers.now place }
+{
+    match layers.get(place) {
+        Some(head) => name_of(names, head.file),
+        None => "",
+    }
+}
+
+/// Appends a point.
+#[tactic(auto, unfolding(report_text::specs::Texts::two_lengths))]
+fn push_point(text: &mut String, at: Point) -> Result<(), AllocError>
+    ensures { OnOk result (string_bytes text.new ≡ string_bytes text.old ++ point_words at) }
+{
+    push_short_mm(text, at.x())?;
+    push_words(text, ",")?;
+    push_short_mm(text, at.y())
+}
+
+/// Appends the centre of a round hole, or both ends of a slot.
+fn push_ends(text: &mut String, hole: &Hole) -> Result<(), AllocError>
+    ensures { OnOk result (string_bytes text.new ≡ string_bytes text.old ++ ends_words hole.now) }
+{
+    push_point(text, hole.from())?;
+    if hole.is_round() {
+        return Ok(());
+    }
+    push_words(text, " to ")?;
+    push_point(text, hole.to())
+}
+
+/// The diameter of a hole.
+fn diameter(hole: &Hole) -> i64
+    ensures { result ≡ pos (2 * hole.now.radius) }
+{
+    2 * hole.radius()
+}
+
+/// Appends the diameter of a hole, and where it is.
+#[tactic(auto, unfolding(report_text::specs::Texts::drilled_words))]
+fn push_drilled(text: &mut String, hole: &Hole) -> Result<(), AllocError>
+    ensures { OnOk result (string_bytes text.new ≡ string_bytes text.old ++ drilled_words hole.now) }
+{
+    push_short_mm(text, diameter(hole))?;
+    push_words(text, " at ")?;
+    push_ends(text, hole)
+}
+
+/// Appends a hole: the name of its drill file, its diameter and where it is.
+fn push_hole(text: &mut String, names: &[&str], at: &HoleAt) -> Result<(), AllocError>
+    ensures { OnOk result (string_bytes text.new ≡ string_bytes text.old ++ hole_field (map (λ name. name.now) names.now) at.now) }
+{
+    push_words(text, name_of(names, at.drill))?;
+    push_words(text, ", ")?;
+    push_drilled(text, &at.hole)
+}
+
+/// A hole: the name of its drill file, its diameter and where it is.
+fn hole_text(alloc: Global, names: &[&str], at: &HoleAt) -> Result<String, AllocError>
+    ensures { IfOk result (λ text. string_bytes text ≡ hole_field (map (λ name. name.now) names.now) at.now) }
+{
+    let mut text = String::new(alloc);
+    push_hole(&mut text, names, at)?;
+    Ok(text)
+}
+
+/// A length in pm as millimetres.
+fn length_text(alloc: Global, length: i64) -> Result<String, AllocError>
+    ensures { IfOk result (λ text. string_bytes text ≡ short_millimetres length) }
+{
+    let mut text = String::new(alloc);
+    push_short_mm(&mut text, length)?;
+    Ok(text)
+}
+
+/// The ring that a hole has, or `none` where it lies in no pad.
+fn ring_text(alloc: Global, cause: &RingCause) -> Result<String, AllocError>
+    ensures { IfOk result (λ text. string_bytes text ≡ has_field cause.now) }
+{
+    match cause {
+        RingCause::Small(place) | RingCause::Off(place) => length_text(alloc, place.ring),
+        RingCause::Other { .. } | RingCause::Nothing | RingCause::Oblique => {
+            String::from_str(alloc, "none")
+        }
+    }
+}
+
+/// The fields of a hole that lacks its ring.
+pub(crate) fn ring_finding(
+    alloc: Global,
+    names: &[&str],
+    layers: &[LayerHead],
+    lack: &RingLack,
+) -> Result<Finding, AllocError>
+    ensures { IfOk result (λ finding. finding ≡ ring_fields (map (λ name. name.now) names.now) layers.now lack.now) }
+{
+    Ok(Finding {
+        kind: "ring",
+        layer: String::from_str(alloc, layer_name(names, layers, lack.layer))?,
+        hole: hole_text(alloc, names, &lack.at)?,
+        and: String::new(alloc),
+        has: ring_text(alloc, &lack.cause)?,
+    })
+}
+
+/// The fields of two holes that lack their gap.
+pub(crate) fn gap_finding(
+    alloc: Global,
+    names: &[&str],
+    lack: &GapLack,
+) -> Result<Finding, AllocError>
+    ensures { IfOk result (λ finding. finding ≡ gap_fields (map (λ name. name.now) names.now) lack.now) }
+{
+    Ok(Finding {
+        kind: "gap",
+        layer: String::new(alloc),
+        hole: hole_text(alloc, names, &lack.first)?,
+        and: hole_text(alloc, names, &lack.second)?,
+        has: length_text(alloc, lack.gap)?,
+    })
+}

@@ -1,0 +1,180 @@
+//! The texts by which findings and waivers are looked up.
+
+ghost use Rattle.std.specs.Prelude.{◌≡◌, IfOk, OnOk, ℕ, List, map, ◌∷◌, [], Some, None, if◌then◌else◌};
+ghost use Rattle.std.specs.List.{position_from};
+ghost use Rattle.std.specs.Option.{option_or};
+ghost use Rattle.std.specs.Str.{bytes_eq};
+ghost use Rattle.waivers.specs.Findings.{gap_fields, ring_fields};
+ghost use Rattle.waivers.specs.Inner.{key_of, place_at};
+ghost use Rattle.waivers.specs.Waiving.{compared};
+
+use crate::Waiver;
+use crate::findings::{Finding, gap_finding, ring_finding};
+use crate::table::Table;
+use report_text::{GapLack, LayerHead, RingLack};
+use std::alloc::{AllocError, Global};
+use std::collections::BTreeMap;
+
+/// The key of five fields: their record, so that no other fields have it.
+fn key_of<'f>(
+    alloc: Global,
+    kind: &'f str,
+    layer: &'f str,
+    hole: &'f str,
+    and: &'f str,
+    has: &'f str,
+) -> Result<Vec<u8>, AllocError>
+    ensures { IfOk result (λ key. key.items ≡ key_of (kind.now ∷ layer.now ∷ hole.now ∷ and.now ∷ has.now ∷ [])) }
+{
+    let table = Table::new(alloc)?;
+    let fields = [
+        kind.as_bytes(),
+        layer.as_bytes(),
+        hole.as_bytes(),
+        and.as_bytes(),
+        has.as_bytes(),
+    ];
+    table.with_row(&fields)?.into_bytes()
+}
+
+/// The key of a finding.
+fn finding_key(alloc: Global, finding: &Finding) -> Result<Vec<u8>, AllocError>
+    ensures { IfOk result (λ key. key.items ≡ key_of finding.now) }
+{
+    key_of(
+        alloc,
+        finding.kind,
+        finding.layer.as_str(),
+        finding.hole.as_str(),
+        finding.and.as_str(),
+        finding.has.as_str(),
+    )
+}
+
+/// The key of a ring.
+fn ring_key(
+    alloc: Global,
+    names: &[&str],
+    layers: &[LayerHead],
+    lack: &RingLack,
+) -> Result<Vec<u8>, AllocError>
+    ensures { IfOk result (λ key. key.items ≡ key_of (ring_fields (map (λ name. name.now) names.now) layers.now lack.now)) }
+{
+    let finding = ring_finding(alloc, names, layers, lack)?;
+    finding_key(alloc, &finding)
+}
+
+/// The keys of the rings that are lacking, in their order.
+pub(crate) fn ring_keys(
+    alloc: Global,
+    names: &[&str],
+    layers: &[LayerHead],
+    rings: &[RingLack],
+) -> Result<Vec<Vec<u8>>, AllocError>
+    ensures { IfOk result (λ keys. map (λ key. key.items) keys.items ≡ map (λ lack. key_of (ring_fields (map (λ name. name.now) names.now) layers.now lack)) rings.now) }
+{
+    let mut keys = Vec::new(alloc);
+    for lack in rings {
+        keys.push(ring_key(alloc, names, layers, lack)?)?;
+    }
+    Ok(keys)
+}
+
+/// The key of a gap.
+fn gap_key(alloc: Global, names: &[&str], lack: &GapLack) -> Result<Vec<u8>, AllocError>
+    ensures { IfOk result (λ key. key.items ≡ key_of (gap_fields (map (λ name. name.now) names.now) lack.now)) }
+{
+    let finding = gap_finding(alloc, names, lack)?;
+    finding_key(alloc, &finding)
+}
+
+/// The keys of the gaps that are lacking, in their order.
+pub(crate) fn gap_keys(
+    alloc: Global,
+    names: &[&str],
+    gaps: &[GapLack],
+) -> Result<Vec<Vec<u8>>, AllocError>
+    ensures { IfOk result (λ keys. map (λ key. key.items) keys.items ≡ map (λ lack. key_of (gap_fields (map (λ name. name.now) names.now) lack)) gaps.now) }
+{
+    let mut keys = Vec::new(alloc);
+    for lack in gaps {
+        keys.push(gap_key(alloc, names, lack)?)?;
+    }
+    Ok(keys)
+}
+
+/// The key of the fields that a waiver compares.
+fn waiver_key(alloc: Global, waiver: &Waiver) -> Result<Vec<u8>, AllocError>
+    ensures { IfOk result (λ key. key.items ≡ key_of (compared waiver.now)) }
+{
+    key_of(
+        alloc,
+        waiver.kind.as_str(),
+        waiver.layer.as_str(),
+        waiver.hole.as_str(),
+        waiver.and.as_str(),
+        waiver.has.as_str(),
+    )
+}
+
+/// The keys of waivers, in their order.
+pub(crate) fn waiver_keys(alloc: Global, waivers: &[Waiver]) -> Result<Vec<Vec<u8>>, AllocError>
+    ensures { IfOk result (λ keys. map (λ key. key.items) keys.items ≡ map (λ waiver. key_of (compared waiver)) waivers.now) }
+{
+    let mut keys = Vec::new(alloc);
+    for waiver in waivers {
+        keys.push(waiver_key(alloc, waiver)?)?;
+    }
+    Ok(keys)
+}
+
+/// Gives a key a place, if it has none.
+fn add_first<'k>(
+    table: &mut BTreeMap<&'k [u8], usize>,
+    key: &'k [u8],
+    place: usize,
+) -> Result<(), AllocError>
+    ensures { OnOk result ((other : List ℕ) → place_at table.new other ≡ option_or (place_at table.old other) (if bytes_eq key.now other then Some place else None)) }
+{
+    if table.contains_key(&key) {
+        return Ok(());
+    }
+    table.insert(key, place)?;
+    Ok(())
+}
+
+/// The place of the first of equal keys, by the key.
+pub(crate) fn first_places<'k>(
+    alloc: Global,
+    keys: &'k [Vec<u8>],
+) -> Result<BTreeMap<&'k [u8], usize>, AllocError>
+    ensures { IfOk result (λ table. (key : List ℕ) → place_at table key ≡ position_from (λ other. bytes_eq other.items key) 0 keys.now) }
+{
+    let mut table = BTreeMap::new(alloc);
+    for (place, key) in keys.iter().enumerate() {
+        add_first(&mut table, key.as_slice(), place)?;
+    }
+    Ok(table)
+}
+
+/// The place that a table has for a key.
+fn place_of<'k>(table: &BTreeMap<&'k [u8], usize>, key: &'k [u8]) -> Option<usize>
+    ensures { result ≡ place_at table.now key.now }
+{
+    table.get(&key).copied()
+}
+
+/// The place that a table has for each of some keys.
+pub(crate) fn places_of<'k>(
+    alloc: Global,
+    table: &BTreeMap<&'k [u8], usize>,
+    keys: &'k [Vec<u8>],
+) -> Result<Vec<Option<usize>>, AllocError>
+    ensures { IfOk result (λ places. places.items ≡ map (λ key. place_at table.now key.items) keys.now) }
+{
+    let mut places = Vec::new(alloc);
+    for key in keys {
+        places.push(place_of(table, key.as_slice()))?;
+    }
+    Ok(places)
+}

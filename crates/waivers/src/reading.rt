@@ -1,0 +1,175 @@
+//! Which records are waivers, and by which rule the first wrong one is refused.
+
+ghost use Rattle.std.specs.Prelude.{◌≡◌, ◌<◌, length, map, true, false, MatchOption};
+ghost use Rattle.std.specs.List.{list_any};
+ghost use Rattle.std.specs.Str.{bytes_eq};
+ghost use Rattle.csv.specs.Records.{fields_of};
+ghost use Rattle.grid_units.specs.Results.{Answers, at, fault};
+ghost use Rattle.manifest.specs.Manifest.{field, is_control, is_plain_text, is_well_formed};
+ghost use Rattle.waivers.specs.Reading as naming;
+ghost use Rattle.waivers.specs.Inner.{judged};
+
+use crate::Waiver;
+use csv::ByteRecord;
+use grid_units::{Fail, Fault, Reason};
+use manifest::Name;
+use std::alloc::Global;
+use std::str;
+
+/// How many fields each record has.
+const FIELDS: usize = 6;
+
+/// The waivers that the records are.
+pub(crate) fn waivers_of(alloc: Global, rows: &[ByteRecord]) -> Result<Vec<Waiver>, Fail>
+    ensures { Answers (λ all. all.items) (λ answer. answer ≡ naming.waivers_of (map fields_of rows.now)) result }
+{
+    let Some((first, behind)) = rows.split_first() else {
+        return Err(refused(1, Reason::BadManifest));
+    };
+    if !is_heading(first) {
+        return Err(refused(1, Reason::BadManifest));
+    }
+    waivers_behind(alloc, behind)
+}
+
+/// The waivers that the records behind the head are.
+fn waivers_behind(alloc: Global, rows: &[ByteRecord]) -> Result<Vec<Waiver>, Fail>
+    ensures { Answers (λ all. all.items) (λ answer. answer ≡ naming.waivers_behind (map fields_of rows.now)) result }
+{
+    let mut waivers = Vec::new(alloc);
+    for (i, row) in rows.iter().enumerate() {
+        let waiver = waiver_of(alloc, i as u64 + 2, row)?;
+        waivers.push(waiver)?;
+    }
+    Ok(waivers)
+}
+
+/// The refusal of a record by its number.
+fn refused(place: u64, reason: Reason) -> Fail
+    ensures { result ≡ Fail.Refused (fault place 0 reason) }
+{
+    Fail::Refused(Fault {
+        place,
+        byte: 0,
+        reason,
+    })
+}
+
+/// The waiver that a record is.
+fn waiver_of(alloc: Global, place: u64, row: &ByteRecord) -> Result<Waiver, Fail>
+    ensures { Answers (λ waiver. waiver) (λ answer. answer ≡ at place 0 (judged (fields_of row.now))) result }
+{
+    let Some(fields) = text_fields(row) else {
+        return Err(refused(place, Reason::BadManifest));
+    };
+    if !is_kind(fields.kind) {
+        return Err(refused(place, Reason::BadRole));
+    }
+    if fields.why.is_empty() {
+        return Err(refused(place, Reason::EmptyName));
+    }
+    Ok(Waiver {
+        kind: Name::new(alloc, fields.kind)?,
+        layer: Name::new(alloc, fields.layer)?,
+        hole: Name::new(alloc, fields.hole)?,
+        and: Name::new(alloc, fields.and)?,
+        has: Name::new(alloc, fields.has)?,
+        why: Name::new(alloc, fields.why)?,
+    })
+}
+
+/// The fields of a record, each of plain text.
+#[derive(Clone, Copy)]
+struct Fields<'a> {
+    kind: &'a str,
+    layer: &'a str,
+    hole: &'a str,
+    and: &'a str,
+    has: &'a str,
+    why: &'a str,
+}
+
+/// The fields of a record, if it is well formed.
+fn text_fields<'a>(row: &'a ByteRecord) -> Option<Fields<'a>>
+    ensures { MatchOption result (is_well_formed 6 (fields_of row.now) ≡ false)
+        (λ f. (is_well_formed 6 (fields_of row.now) ≡ true) × (f.kind.now ≡ field 0 (fields_of row.now)) × (f.layer.now ≡ field 1 (fields_of row.now))
+        × (f.hole.now ≡ field 2 (fields_of row.now)) × (f.and.now ≡ field 3 (fields_of row.now)) × (f.has.now ≡ field 4 (fields_of row.now))
+        × (f.why.now ≡ field 5 (fields_of row.now))) }
+{
+    if row.len() != FIELDS {
+        return None;
+    }
+    Some(Fields {
+        kind: text_field(row, 0)?,
+        layer: text_field(row, 1)?,
+        hole: text_field(row, 2)?,
+        and: text_field(row, 3)?,
+        has: text_field(row, 4)?,
+        why: text_field(row, 5)?,
+    })
+}
+
+/// A field, if it is plain text. One that the record lacks is empty.
+fn text_field(row: &ByteRecord, i: usize) -> Option<&str>
+    ensures { MatchOption result (is_plain_text (field i (fields_of row.now)) ≡ false)
+        (λ text. (is_plain_text (field i (fields_of row.now)) ≡ true) × (text.now ≡ field i (fields_of row.now))) }
+{
+    match row.get(i) {
+        Some(field) => plain_text(field),
+        None => Some(""),
+    }
+}
+
+/// The text of these bytes, if they are UTF-8 without control bytes.
+fn plain_text(bytes: &[u8]) -> Option<&str>
+    ensures { MatchOption result (is_plain_text bytes.now ≡ false)
+        (λ text. (is_plain_text bytes.now ≡ true) × (text.now ≡ bytes.now)) }
+{
+    let Ok(text) = str::from_utf8(bytes) else {
+        return None;
+    };
+    if has_control(bytes) { None } else { Some(text) }
+}
+
+fn has_control(bytes: &[u8]) -> bool
+    ensures { result ≡ list_any is_control bytes.now }
+{
+    bytes.iter().any(|byte| *byte < 0x20 || *byte == 0x7F)
+}
+
+/// Whether this is the head.
+fn is_heading(row: &ByteRecord) -> bool
+    ensures { result ≡ naming.is_heading (fields_of row.now) }
+{
+    row.len() == FIELDS && names_place(row) && names_reason(row)
+}
+
+fn names_place(row: &ByteRecord) -> bool
+    ensures { result ≡ naming.names_place (fields_of row.now) }
+{
+    has_field(row, 0, "kind") && has_field(row, 1, "layer") && has_field(row, 2, "hole")
+}
+
+fn names_reason(row: &ByteRecord) -> bool
+    ensures { result ≡ naming.names_reason (fields_of row.now) }
+{
+    has_field(row, 3, "and") && has_field(row, 4, "has") && has_field(row, 5, "why")
+}
+
+/// Whether the field at a place is this text.
+fn has_field(row: &ByteRecord, i: usize, text: &str) -> bool
+    requires { 0 < length text.now }
+    ensures { result ≡ bytes_eq (field i (fields_of row.now)) text.now }
+{
+    match row.get(i) {
+        Some(field) => field == text.as_bytes(),
+        None => false,
+    }
+}
+
+/// Whether a word is a kind of finding.
+fn is_kind(word: &str) -> bool
+    ensures { result ≡ naming.is_kind word.now }
+{
+    word == "ring" || word == "gap"
+}
