@@ -17,12 +17,16 @@ _ringcheck() {
       mapfile -t COMPREPLY < <(compgen -W 'layer drill' -- "$word")
       return
       ;;
+    --format)
+      mapfile -t COMPREPLY < <(compgen -W 'text json' -- "$word")
+      return
+      ;;
     --ring | --gap | --max) return ;;
   esac
   case $command in
     check | draw) options='--ring --gap --help' ;;
-    report) options='--ring --gap --max --help' ;;
-    measure) options='--help' ;;
+    report) options='--ring --gap --max --format --help' ;;
+    measure) options='--format --help' ;;
     manifest) options='--why --help' ;;
     show | rewrite) options='--kind --help' ;;
     explain)

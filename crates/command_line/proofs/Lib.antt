@@ -1,5 +1,6 @@
 pub mod Answered
 pub mod FirstText
+pub mod Behind
 pub mod Words
 pub mod Files
 pub mod RewriteWords

@@ -1,87 +1,79 @@
--- What the command makes of the words of `measure`.
-use Rattle.std.proofs.Common.{◌≡◌, ◌∙◌, ◌==◌, ◌&&◌, ℕ, true, false, refl, ap, ap₂, List, [], ◌∷◌, Option, Some, None, codes, Bool, get_or}
-use Rattle.std.specs.List.{list_all}
-use Rattle.std.proofs.lemmas.Bool.{false≢true}
-use Rattle.clap.proofs.SimpleLemmas.{is_false}
+-- What the command makes of the words of `measure`, one word after another.
+use Rattle.std.proofs.Common.{◌≡◌, ◌++◌, true, refl, List, [], ◌∷◌, Option, Some, None, codes, get_or}
 use Rattle.clap.specs.Words.{Row, Text, first_of, subcommand_of, takes}
-use Rattle.clap.specs.Walk.{Held, Walk, walked, nothing_held, walk, finished}
-use Rattle.clap.specs.Walk.{idle}
+use Rattle.clap.specs.Walk.{Walk, finished, idle, nothing_held, walk_from, option as waits_for}
 use Rattle.clap.specs.Simple.{Shape, built}
-use Rattle.clap.specs.Takes.{default_passes, is_valid, level_passes, settle_passes, turn_passes, walk_passes}
-use Rattle.clap.specs.Values.{reading_of}
-use Rattle.clap.specs.declared.builder.value_parser.ValueParser.TheVariants as parser
-use Rattle.clap.specs.declared.parser.matches.ValueSource.TheVariants as source
 use Rattle.clap.proofs.OnLiterals.{clap_on_literals}
-use Rattle.command_line.specs.Line.{check_app, measure_words, is_plain_word, ringcheck_app}
+use Rattle.command_line.specs.Line.{check_app, is_plain_if_some, is_plain_word, measure_words, option_words, ringcheck_app}
+use Rattle.command_line.proofs.Behind.{Goes, GoesByPlain, IsNamed, Runs, given, given_if_some, goes_if_some, goes_last, is_found, is_taken, passes_end, standing}
 
 -- the subcommand, as the program's command is built
 abbrev measuring : Shape
 measuring = get_or (built ringcheck_app).subs 2 check_app.top
 
-abbrev pub given : Text → Row
-given value = record { id = codes "manifest"; values = value ∷ []; count = None; source = Some source.CommandLine; reading = reading_of parser.String }
-
-abbrev standing : Option (Text × List Text) → ℕ → Walk
-standing pending position = record {
-  held = record { rows = []; pending = pending; skip = 0 };
-  waiting = idle;
-  position = position;
-  is_trailing = false;
-  stopped = None;
-}
-
-abbrev start : Walk
-start = standing None 1
-
-abbrev has_manifest : Text → Walk
-has_manifest m = standing (Some (codes "manifest", m ∷ [])) 2
-
-abbrev Goes : Walk → Text → Walk → Type 0
-Goes before word after = (walked measuring.rules [] before word ≡ after) × (turn_passes measuring [] before word ≡ true)
-
-manifest_goes : (x : ℕ) (xs : Text) → (x == 45) ≡ false → Goes start (x ∷ xs) (has_manifest (x ∷ xs))
+named : IsNamed measuring (codes "measure")
 unfolding clap_on_literals
-manifest_goes x xs p = (rw (p, p) refl, rw (p, p) refl)
+named = record { taken_below = λ rest. refl; taken_here = λ rest. refl; found_below = λ rest. refl; found_here = λ rest. refl }
 
-walked_all : (m : Text) → Goes start m (has_manifest m) → walk measuring.rules [] nothing_held (m ∷ []) ≡ has_manifest m
-walked_all m g = g.0
+-- ---- the walk
 
-passes_all : (m : Text) → Goes start m (has_manifest m) → walk_passes measuring [] start (m ∷ []) ≡ true
-unfolding walk_passes
-passes_all m g = rw g.1 refl
+abbrev wants_format : Walk
+wants_format = standing [] (Some (codes "format", [])) (waits_for (codes "format")) 1
 
-abbrev passes_end : Held → Bool → Bool
-passes_end end goes = goes && (settle_passes measuring.rules measuring.args_override_self end
-    && (list_all default_passes measuring.rules && is_valid measuring (finished measuring.rules end) false))
+abbrev after_format : Option Text → Walk
+after_format None = standing [] None idle 1
+after_format (Some f) = standing [] (Some (codes "format", f ∷ [])) idle 1
 
-end_passes : (m : Text) → passes_end (has_manifest m).held true ≡ true
+abbrev after_manifest : Option Text → Text → Walk
+after_manifest o m = standing (given_if_some (codes "format") o) (Some (codes "manifest", m ∷ [])) idle 2
+
+to_format : Goes measuring (after_format None) (codes "--format") wants_format
 unfolding clap_on_literals
-end_passes m = refl
+to_format = (refl, refl)
 
-level : (m : Text) → Goes start m (has_manifest m) → level_passes measuring [] nothing_held (m ∷ []) false ≡ true
-level m g = ap₂ (λ (v : Walk) (b : Bool). passes_end v.held b) (walked_all m g) (passes_all m g) ∙ end_passes m
-
-taken_below : (m : Text) → takes ringcheck_app (measure_words m) ≡ (level_passes measuring [] nothing_held (m ∷ []) false && true)
+format : GoesByPlain measuring wants_format (λ w. after_format (Some w))
 unfolding clap_on_literals
-taken_below m = refl
+format x xs p = (rw (p, p) refl, rw (p, p) refl)
 
-found_below : (m : Text) → subcommand_of ringcheck_app (measure_words m) ≡ Some (codes "measure", finished measuring.rules (walk measuring.rules [] nothing_held (m ∷ [])).held)
+manifest : (o : Option Text) → GoesByPlain measuring (after_format o) (after_manifest o)
 unfolding clap_on_literals
-found_below m = refl
+manifest None x xs p = (rw (p, p) refl, rw (p, p) refl)
+manifest (Some f) x xs p = (rw (p, p) refl, rw (p, p) refl)
 
-end_rows : (m : Text) → finished measuring.rules (has_manifest m).held ≡ given m ∷ []
+-- the words behind the name
+abbrev values : Option Text → Text → List Text
+values o m = option_words (codes "--format") o ++ m ∷ []
+
+runs : (o : Option Text) (m : Text) → is_plain_if_some o ≡ true → is_plain_word m ≡ true → Runs measuring (walk_from nothing_held) (values o m) (after_manifest o m)
+runs o m t s =
+    goes_if_some measuring (codes "--format") o wants_format after_format (m ∷ []) (after_manifest o m) to_format format t
+    (goes_last measuring m (after_format o) (after_manifest o) (manifest o) s)
+
+-- ---- its end
+
+end_passes : (o : Option Text) (m : Text) → passes_end measuring (after_manifest o m).held ≡ true
 unfolding clap_on_literals
-end_rows m = refl
+end_passes None m = refl
+end_passes (Some f) m = refl
 
-pub measure_taken : (m : Text) → is_plain_word m ≡ true → takes ringcheck_app (measure_words m) ≡ true
-measure_taken [] p = absurd (false≢true p)
-measure_taken (x ∷ xs) p = taken_below (x ∷ xs) ∙ ap (λ (b : Bool). b && true) (level (x ∷ xs) (manifest_goes x xs (is_false (x == 45) p)))
+-- the rows of the values
+abbrev pub rows_of_measure : Option Text → Text → List Row
+rows_of_measure o m = given_if_some (codes "format") o ++ given (codes "manifest") m ∷ []
 
-pub measure_found : (m : Text) → is_plain_word m ≡ true → subcommand_of ringcheck_app (measure_words m) ≡ Some (codes "measure", given m ∷ [])
-measure_found [] p = absurd (false≢true p)
-measure_found (x ∷ xs) p =
-    let with_name : List Row → Option (Text × List Row) = λ rows. Some (codes "measure", rows) in
-    found_below (x ∷ xs) ∙ ap (λ (v : Walk). with_name (finished measuring.rules v.held)) (walked_all (x ∷ xs) (manifest_goes x xs (is_false (x == 45) p))) ∙ ap with_name (end_rows (x ∷ xs))
+end_rows : (o : Option Text) (m : Text) → finished measuring.rules (after_manifest o m).held ≡ rows_of_measure o m
+unfolding clap_on_literals
+end_rows None m = refl
+end_rows (Some f) m = refl
 
-pub manifest_first : (m : Text) → first_of (codes "manifest") (given m ∷ []) ≡ Some m
-manifest_first m = refl
+-- the words of `measure` are taken
+pub measure_taken : (o : Option Text) (m : Text) → is_plain_if_some o ≡ true → is_plain_word m ≡ true → takes ringcheck_app (measure_words o m) ≡ true
+measure_taken o m t s = is_taken measuring (codes "measure") named (values o m) (after_manifest o m) (runs o m t s) (end_passes o m)
+
+-- and give these rows
+pub measure_found : (o : Option Text) (m : Text) → is_plain_if_some o ≡ true → is_plain_word m ≡ true
+    → subcommand_of ringcheck_app (measure_words o m) ≡ Some (codes "measure", rows_of_measure o m)
+measure_found o m t s = is_found measuring (codes "measure") named (values o m) (after_manifest o m) (runs o m t s) (rows_of_measure o m) (end_rows o m)
+
+pub measure_has : (o : Option Text) (m : Text) → (first_of (codes "format") (rows_of_measure o m) ≡ o) × (first_of (codes "manifest") (rows_of_measure o m) ≡ Some m)
+measure_has None m = (refl, refl)
+measure_has (Some f) m = (refl, refl)

@@ -1,24 +1,17 @@
 -- What the command makes of the words of `explain`, and of `--version`.
-use Rattle.std.proofs.Common.{◌≡◌, ◌∙◌, ◌==◌, ◌&&◌, ◌⊎◌, inl, inr, ℕ, true, false, refl, ap, ap₂, List, [], ◌∷◌, Option, Some, None, codes, Bool, get_or, Err}
-use Rattle.std.specs.List.{list_all}
-use Rattle.std.proofs.lemmas.Bool.{false≢true}
-use Rattle.clap.proofs.SimpleLemmas.{is_false}
+use Rattle.std.proofs.Common.{◌≡◌, ◌⊎◌, inl, inr, true, refl, [], ◌∷◌, Some, None, codes, get_or, Err}
 use Rattle.clap.specs.Kinds.{IsAmong}
-use Rattle.clap.specs.Words.{Row, Text, fault_of, first_of, subcommand_of, takes}
-use Rattle.clap.specs.Walk.{Held, Walk, walked, nothing_held, walk, finished}
-use Rattle.clap.specs.Walk.{idle}
+use Rattle.clap.specs.Words.{Text, fault_of, first_of, subcommand_of, takes}
+use Rattle.clap.specs.Walk.{Walk, finished, idle, nothing_held, walk_from}
 use Rattle.clap.specs.Simple.{Shape, built}
-use Rattle.clap.specs.Takes.{default_passes, is_valid, level_passes, settle_passes, turn_passes, walk_passes}
-use Rattle.clap.specs.Values.{reading_of}
-use Rattle.clap.specs.declared.builder.value_parser.ValueParser.TheVariants as parser
 use Rattle.clap.specs.declared.error.kind.ErrorKind.{ErrorKind}
 use Rattle.clap.specs.declared.error.kind.ErrorKind.TheVariants.{DisplayVersion, OutOfMemory}
-use Rattle.clap.specs.declared.parser.matches.ValueSource.TheVariants as source
 use Rattle.clap.proofs.OnLiterals.{clap_on_literals}
 use Rattle.command_line.specs.declared.Refusal.{Refusal}
 use Rattle.command_line.specs.declared.Refusal.TheVariants.{Help, Version, Usage, Memory}
 use Rattle.command_line.specs.Line.{AnswersVersion, check_app, explain_words, is_plain_word, ringcheck_app}
 use Rattle.command_line.specs.Steps.{IsRefusalFor}
+use Rattle.command_line.proofs.Behind.{GoesByPlain, IsNamed, Runs, given, goes_last, is_found, is_taken, passes_end, standing}
 
 -- the subcommand, as the program's command is built
 abbrev explaining : Shape
@@ -36,72 +29,35 @@ list_found = refl
 
 -- ---- a word
 
-abbrev pub given : Text → Row
-given value = record { id = codes "word"; values = value ∷ []; count = None; source = Some source.CommandLine; reading = reading_of parser.String }
-
-abbrev standing : Option (Text × List Text) → ℕ → Walk
-standing pending position = record {
-  held = record { rows = []; pending = pending; skip = 0 };
-  waiting = idle;
-  position = position;
-  is_trailing = false;
-  stopped = None;
-}
-
-abbrev start : Walk
-start = standing None 1
+named : IsNamed explaining (codes "explain")
+unfolding clap_on_literals
+named = record { taken_below = λ rest. refl; taken_here = λ rest. refl; found_below = λ rest. refl; found_here = λ rest. refl }
 
 abbrev has_word : Text → Walk
-has_word w = standing (Some (codes "word", w ∷ [])) 2
+has_word w = standing [] (Some (codes "word", w ∷ [])) idle 2
 
-abbrev Goes : Walk → Text → Walk → Type 0
-Goes before word after = (walked explaining.rules [] before word ≡ after) × (turn_passes explaining [] before word ≡ true)
-
-word_goes : (x : ℕ) (xs : Text) → (x == 45) ≡ false → Goes start (x ∷ xs) (has_word (x ∷ xs))
+word : GoesByPlain explaining (walk_from nothing_held) has_word
 unfolding clap_on_literals
-word_goes x xs p = (rw (p, p) refl, rw (p, p) refl)
+word x xs p = (rw (p, p) refl, rw (p, p) refl)
 
-walked_all : (w : Text) → Goes start w (has_word w) → walk explaining.rules [] nothing_held (w ∷ []) ≡ has_word w
-walked_all w g = g.0
+runs : (w : Text) → is_plain_word w ≡ true → Runs explaining (walk_from nothing_held) (w ∷ []) (has_word w)
+runs w p = goes_last explaining w (walk_from nothing_held) has_word word p
 
-passes_all : (w : Text) → Goes start w (has_word w) → walk_passes explaining [] start (w ∷ []) ≡ true
-unfolding walk_passes
-passes_all w g = rw g.1 refl
-
-abbrev passes_end : Held → Bool → Bool
-passes_end end goes = goes && (settle_passes explaining.rules explaining.args_override_self end
-    && (list_all default_passes explaining.rules && is_valid explaining (finished explaining.rules end) false))
-
-end_passes : (w : Text) → passes_end (has_word w).held true ≡ true
+end_passes : (w : Text) → passes_end explaining (has_word w).held ≡ true
 unfolding clap_on_literals
 end_passes w = refl
 
-level : (w : Text) → Goes start w (has_word w) → level_passes explaining [] nothing_held (w ∷ []) false ≡ true
-level w g = ap₂ (λ (v : Walk) (b : Bool). passes_end v.held b) (walked_all w g) (passes_all w g) ∙ end_passes w
-
-taken_below : (w : Text) → takes ringcheck_app (explain_words (Some w)) ≡ (level_passes explaining [] nothing_held (w ∷ []) false && true)
-unfolding clap_on_literals
-taken_below w = refl
-
-found_below : (w : Text) → subcommand_of ringcheck_app (explain_words (Some w)) ≡ Some (codes "explain", finished explaining.rules (walk explaining.rules [] nothing_held (w ∷ [])).held)
-unfolding clap_on_literals
-found_below w = refl
-
-end_rows : (w : Text) → finished explaining.rules (has_word w).held ≡ given w ∷ []
+end_rows : (w : Text) → finished explaining.rules (has_word w).held ≡ given (codes "word") w ∷ []
 unfolding clap_on_literals
 end_rows w = refl
 
 pub word_taken : (w : Text) → is_plain_word w ≡ true → takes ringcheck_app (explain_words (Some w)) ≡ true
-word_taken [] p = absurd (false≢true p)
-word_taken (x ∷ xs) p = taken_below (x ∷ xs) ∙ ap (λ (b : Bool). b && true) (level (x ∷ xs) (word_goes x xs (is_false (x == 45) p)))
+word_taken w p = is_taken explaining (codes "explain") named (w ∷ []) (has_word w) (runs w p) (end_passes w)
 
-pub word_found : (w : Text) → is_plain_word w ≡ true → subcommand_of ringcheck_app (explain_words (Some w)) ≡ Some (codes "explain", given w ∷ [])
-word_found [] p = absurd (false≢true p)
-word_found (x ∷ xs) p =
-    let with_name : List Row → Option (Text × List Row) = λ rows. Some (codes "explain", rows) in
-    found_below (x ∷ xs) ∙ ap (λ (v : Walk). with_name (finished explaining.rules v.held)) (walked_all (x ∷ xs) (word_goes x xs (is_false (x == 45) p))) ∙ ap with_name (end_rows (x ∷ xs))
+pub word_found : (w : Text) → is_plain_word w ≡ true → subcommand_of ringcheck_app (explain_words (Some w)) ≡ Some (codes "explain", given (codes "word") w ∷ [])
+word_found w p = is_found explaining (codes "explain") named (w ∷ []) (has_word w) (runs w p) (given (codes "word") w ∷ []) (end_rows w)
 
-pub word_first : (w : Text) → first_of (codes "word") (given w ∷ []) ≡ Some w
+pub word_first : (w : Text) → first_of (codes "word") (given (codes "word") w ∷ []) ≡ Some w
 word_first w = refl
 
 -- ---- the version

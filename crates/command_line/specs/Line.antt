@@ -1,5 +1,5 @@
 -- The program's command line, in the words of `clap`.
-use Rattle.std.specs.Prelude.{◌≡◌, ◌≢◌, ◌==◌, ◌&&◌, Bool, true, false, not, List, [], ◌∷◌, length, map, codes, Some, None, Option, option_map, Result, Ok, Err, if◌then◌else◌}
+use Rattle.std.specs.Prelude.{◌≡◌, ◌≢◌, ◌==◌, ◌&&◌, Bool, true, false, not, List, [], ◌∷◌, ◌++◌, length, map, codes, Some, None, Option, option_map, Result, Ok, Err, if◌then◌else◌}
 use Rattle.std.specs.List.{list_all}
 use Rattle.clap.specs.Lexer.{usize_max}
 use Rattle.clap.specs.Words.{App, Row, Rule, Text, all_of, fault_of, first_of, new_app, new_rule, one_of, subcommand_of, with_rule, with_subcommand}
@@ -42,14 +42,15 @@ switch id = record (new_rule id) { long = Some id; action = Some SetTrue }
 abbrev pub check_app : App
 check_app = with_rule (with_rule (with_rule (new_app (codes "check")) (option (codes "ring"))) (option (codes "gap"))) (positional (codes "manifest"))
 
--- `measure MANIFEST` (docs/FORMATS.md, The program)
+-- `measure [--format text|json] MANIFEST` (docs/FORMATS.md, The program)
 abbrev pub measure_app : App
-measure_app = with_rule (new_app (codes "measure")) (positional (codes "manifest"))
+measure_app = with_rule (with_rule (new_app (codes "measure")) (maybe_option (codes "format"))) (positional (codes "manifest"))
 
--- `report --ring MM --gap MM [--max N] MANIFEST` (docs/FORMATS.md, The program)
+-- `report --ring MM --gap MM [--max N] [--format text|json] MANIFEST` (docs/FORMATS.md, The program)
 abbrev pub report_app : App
 report_app =
-    with_rule (with_rule (with_rule (with_rule (new_app (codes "report")) (option (codes "ring"))) (option (codes "gap"))) (maybe_option (codes "max"))) (positional (codes "manifest"))
+    with_rule (with_rule (with_rule (with_rule (with_rule (new_app (codes "report")) (option (codes "ring"))) (option (codes "gap"))) (maybe_option (codes "max")))
+    (maybe_option (codes "format"))) (positional (codes "manifest"))
 
 -- `draw [--ring MM --gap MM] MANIFEST` (docs/FORMATS.md, The program)
 abbrev pub draw_app : App
@@ -91,10 +92,12 @@ abbrev pub AsksFor : Option (Text × List Row) → Request → Type 0
 AsksFor None asked = ⊥
 AsksFor (Some (name, rows)) (Check ring gap manifest) =
     (name ≡ codes "check") × (first_of (codes "ring") rows ≡ Some ring.now) × (first_of (codes "gap") rows ≡ Some gap.now) × (first_of (codes "manifest") rows ≡ Some manifest.now)
-AsksFor (Some (name, rows)) (Measure manifest) = (name ≡ codes "measure") × (first_of (codes "manifest") rows ≡ Some manifest.now)
-AsksFor (Some (name, rows)) (Report ring gap most manifest) =
+AsksFor (Some (name, rows)) (Measure format manifest) =
+    (name ≡ codes "measure") × (first_of (codes "format") rows ≡ option_map (λ f. f.now) format) × (first_of (codes "manifest") rows ≡ Some manifest.now)
+AsksFor (Some (name, rows)) (Report ring gap most format manifest) =
     (name ≡ codes "report") × (first_of (codes "ring") rows ≡ Some ring.now) × (first_of (codes "gap") rows ≡ Some gap.now)
-    × (first_of (codes "max") rows ≡ option_map (λ n. n.now) most) × (first_of (codes "manifest") rows ≡ Some manifest.now)
+    × (first_of (codes "max") rows ≡ option_map (λ n. n.now) most) × (first_of (codes "format") rows ≡ option_map (λ f. f.now) format)
+    × (first_of (codes "manifest") rows ≡ Some manifest.now)
 AsksFor (Some (name, rows)) (Draw ring gap manifest) =
     (name ≡ codes "draw") × (first_of (codes "ring") rows ≡ option_map (λ r. r.now) ring) × (first_of (codes "gap") rows ≡ option_map (λ g. g.now) gap)
     × (first_of (codes "manifest") rows ≡ Some manifest.now)
@@ -105,7 +108,7 @@ AsksFor (Some (name, rows)) (Manifest why files) =
     (name ≡ codes "manifest") × Switched (one_of (codes "why") rows) why × (all_of (codes "file") rows ≡ Some (map (λ file. file.now) files.items))
 AsksFor (Some (name, rows)) (Explain word) = (name ≡ codes "explain") × (first_of (codes "word") rows ≡ option_map (λ w. w.now) word)
 
--- The answer to the words of a line, want of memory aside: a request just where `clap` finds no fault in them, and else help
+-- The answer to the words of a line, running out of memory aside: a request just where `clap` finds no fault in them, and else help
 -- or the version where that is what it finds asked for (docs/FORMATS.md, The program).
 abbrev pub AnswersLine : List Text → Result Request Refusal → Type 0
 AnswersLine words (Ok asked) = (fault_of ringcheck_app words ≡ []) × AsksFor (subcommand_of ringcheck_app words) asked
@@ -128,15 +131,15 @@ check_words ring gap manifest = codes "check" ∷ codes "--ring" ∷ ring ∷ co
 -- the request is a check with these words (docs/FORMATS.md, The program)
 abbrev pub IsCheck : Text → Text → Text → Request → Type 0
 IsCheck r g m (Check ring gap manifest) = (ring.now ≡ r) × (gap.now ≡ g) × (manifest.now ≡ m)
-IsCheck r g m (Measure manifest) = ⊥
-IsCheck r g m (Report ring gap most manifest) = ⊥
+IsCheck r g m (Measure format manifest) = ⊥
+IsCheck r g m (Report ring gap most format manifest) = ⊥
 IsCheck r g m (Draw ring gap manifest) = ⊥
 IsCheck r g m (Show kind file) = ⊥
 IsCheck r g m (Rewrite kind file) = ⊥
 IsCheck r g m (Manifest why files) = ⊥
 IsCheck r g m (Explain word) = ⊥
 
--- the answer is a check with these words, want of memory aside (docs/FORMATS.md, The program)
+-- the answer is a check with these words, running out of memory aside (docs/FORMATS.md, The program)
 abbrev pub AnswersCheck : Text → Text → Text → Result Request Refusal → Type 0
 AnswersCheck r g m (Ok asked) = IsCheck r g m asked
 AnswersCheck r g m (Err Memory) = Unit {0}
@@ -153,8 +156,8 @@ file_words name kind file = name ∷ codes "--kind" ∷ kind ∷ file ∷ []
 -- the request is to show a file of this kind (docs/FORMATS.md, The program)
 abbrev pub IsShow : Text → Text → Request → Type 0
 IsShow k f (Check ring gap manifest) = ⊥
-IsShow k f (Measure manifest) = ⊥
-IsShow k f (Report ring gap most manifest) = ⊥
+IsShow k f (Measure format manifest) = ⊥
+IsShow k f (Report ring gap most format manifest) = ⊥
 IsShow k f (Draw ring gap manifest) = ⊥
 IsShow k f (Show kind file) = (kind.now ≡ k) × (file.now ≡ f)
 IsShow k f (Rewrite kind file) = ⊥
@@ -164,15 +167,15 @@ IsShow k f (Explain word) = ⊥
 -- the request is to rewrite a file of this kind (docs/FORMATS.md, The program)
 abbrev pub IsRewrite : Text → Text → Request → Type 0
 IsRewrite k f (Check ring gap manifest) = ⊥
-IsRewrite k f (Measure manifest) = ⊥
-IsRewrite k f (Report ring gap most manifest) = ⊥
+IsRewrite k f (Measure format manifest) = ⊥
+IsRewrite k f (Report ring gap most format manifest) = ⊥
 IsRewrite k f (Draw ring gap manifest) = ⊥
 IsRewrite k f (Show kind file) = ⊥
 IsRewrite k f (Rewrite kind file) = (kind.now ≡ k) × (file.now ≡ f)
 IsRewrite k f (Manifest why files) = ⊥
 IsRewrite k f (Explain word) = ⊥
 
--- the answer is such a request, want of memory aside (docs/FORMATS.md, The program)
+-- the answer is such a request, running out of memory aside (docs/FORMATS.md, The program)
 abbrev pub AnswersAs : (Request → Type 0) → Result Request Refusal → Type 0
 AnswersAs IsAsked (Ok asked) = IsAsked asked
 AnswersAs IsAsked (Err Memory) = Unit {0}
@@ -193,49 +196,55 @@ manifest_words why files = codes "manifest" ∷ (if why then codes "--why" ∷ f
 -- the request is for a manifest of these files, or for the table of why (docs/FORMATS.md, The program)
 abbrev pub IsManifest : Bool → List Text → Request → Type 0
 IsManifest w fs (Check ring gap manifest) = ⊥
-IsManifest w fs (Measure manifest) = ⊥
-IsManifest w fs (Report ring gap most manifest) = ⊥
+IsManifest w fs (Measure format manifest) = ⊥
+IsManifest w fs (Report ring gap most format manifest) = ⊥
 IsManifest w fs (Draw ring gap manifest) = ⊥
 IsManifest w fs (Show kind file) = ⊥
 IsManifest w fs (Rewrite kind file) = ⊥
 IsManifest w fs (Manifest why files) = (why ≡ w) × (map (λ file. file.now) files.items ≡ fs)
 IsManifest w fs (Explain word) = ⊥
 
--- the words of `measure` (docs/FORMATS.md, The program)
-abbrev pub measure_words : Text → List Text
-measure_words manifest = codes "measure" ∷ manifest ∷ []
-
--- the request is to measure the package of this manifest (docs/FORMATS.md, The program)
-abbrev pub IsMeasure : Text → Request → Type 0
-IsMeasure m (Check ring gap manifest) = ⊥
-IsMeasure m (Measure manifest) = manifest.now ≡ m
-IsMeasure m (Report ring gap most manifest) = ⊥
-IsMeasure m (Draw ring gap manifest) = ⊥
-IsMeasure m (Show kind file) = ⊥
-IsMeasure m (Rewrite kind file) = ⊥
-IsMeasure m (Manifest why files) = ⊥
-IsMeasure m (Explain word) = ⊥
-
 -- a word that need not be there is plain where it is (docs/FORMATS.md, The program)
 abbrev pub is_plain_if_some : Option Text → Bool
 is_plain_if_some None = true
 is_plain_if_some (Some word) = is_plain_word word
 
--- the words of `report` in their usual order, with the number of findings that are told at most or without (docs/FORMATS.md, The program)
-abbrev pub report_words : Text → Text → Option Text → Text → List Text
-report_words ring gap None manifest = codes "report" ∷ codes "--ring" ∷ ring ∷ codes "--gap" ∷ gap ∷ manifest ∷ []
-report_words ring gap (Some most) manifest = codes "report" ∷ codes "--ring" ∷ ring ∷ codes "--gap" ∷ gap ∷ codes "--max" ∷ most ∷ manifest ∷ []
+-- the words of an option and its value where it is there (docs/FORMATS.md, The program)
+abbrev pub option_words : Text → Option Text → List Text
+option_words name None = []
+option_words name (Some value) = name ∷ value ∷ []
 
--- the request is for a report under these rules of the package of this manifest, with as many findings at most, or all (docs/FORMATS.md, The program)
-abbrev pub IsReport : Text → Text → Option Text → Text → Request → Type 0
-IsReport r g o m (Check ring gap manifest) = ⊥
-IsReport r g o m (Measure manifest) = ⊥
-IsReport r g o m (Report ring gap most manifest) = (ring.now ≡ r) × (gap.now ≡ g) × (option_map (λ n. n.now) most ≡ o) × (manifest.now ≡ m)
-IsReport r g o m (Draw ring gap manifest) = ⊥
-IsReport r g o m (Show kind file) = ⊥
-IsReport r g o m (Rewrite kind file) = ⊥
-IsReport r g o m (Manifest why files) = ⊥
-IsReport r g o m (Explain word) = ⊥
+-- the words of `measure` in their usual order, with a format or without (docs/FORMATS.md, The program)
+abbrev pub measure_words : Option Text → Text → List Text
+measure_words format manifest = codes "measure" ∷ (option_words (codes "--format") format ++ manifest ∷ [])
+
+-- the request is to measure the package of this manifest, with this format or without (docs/FORMATS.md, The program)
+abbrev pub IsMeasure : Option Text → Text → Request → Type 0
+IsMeasure o m (Check ring gap manifest) = ⊥
+IsMeasure o m (Measure format manifest) = (option_map (λ f. f.now) format ≡ o) × (manifest.now ≡ m)
+IsMeasure o m (Report ring gap most format manifest) = ⊥
+IsMeasure o m (Draw ring gap manifest) = ⊥
+IsMeasure o m (Show kind file) = ⊥
+IsMeasure o m (Rewrite kind file) = ⊥
+IsMeasure o m (Manifest why files) = ⊥
+IsMeasure o m (Explain word) = ⊥
+
+-- the words of `report` in their usual order, with the number of findings that are told at most and a format, or without (docs/FORMATS.md, The program)
+abbrev pub report_words : Text → Text → Option Text → Option Text → Text → List Text
+report_words ring gap most format manifest =
+    codes "report" ∷ codes "--ring" ∷ ring ∷ codes "--gap" ∷ gap ∷ (option_words (codes "--max") most ++ (option_words (codes "--format") format ++ manifest ∷ []))
+
+-- the request is for a report under these rules of the package of this manifest, with this number of findings at most and this format or without (docs/FORMATS.md, The program)
+abbrev pub IsReport : Text → Text → Option Text → Option Text → Text → Request → Type 0
+IsReport r g n o m (Check ring gap manifest) = ⊥
+IsReport r g n o m (Measure format manifest) = ⊥
+IsReport r g n o m (Report ring gap most format manifest) =
+    (ring.now ≡ r) × (gap.now ≡ g) × (option_map (λ t. t.now) most ≡ n) × (option_map (λ f. f.now) format ≡ o) × (manifest.now ≡ m)
+IsReport r g n o m (Draw ring gap manifest) = ⊥
+IsReport r g n o m (Show kind file) = ⊥
+IsReport r g n o m (Rewrite kind file) = ⊥
+IsReport r g n o m (Manifest why files) = ⊥
+IsReport r g n o m (Explain word) = ⊥
 
 -- the words of `draw` in their usual order, with a ring and a gap or without (docs/FORMATS.md, The program)
 abbrev pub draw_words : Option (Text × Text) → Text → List Text
@@ -250,8 +259,8 @@ are_plain_rules (Some (ring, gap)) = is_plain_word ring && is_plain_word gap
 -- the request is to draw the package of this manifest with these rules, a ring and a gap, or with none (docs/FORMATS.md, The program)
 abbrev pub IsDraw : Option (Text × Text) → Text → Request → Type 0
 IsDraw o m (Check ring gap manifest) = ⊥
-IsDraw o m (Measure manifest) = ⊥
-IsDraw o m (Report ring gap most manifest) = ⊥
+IsDraw o m (Measure format manifest) = ⊥
+IsDraw o m (Report ring gap most format manifest) = ⊥
 IsDraw o m (Draw ring gap manifest) =
     (option_map (λ r. r.now) ring ≡ option_map (λ rules. rules.0) o) × (option_map (λ g. g.now) gap ≡ option_map (λ rules. rules.1) o) × (manifest.now ≡ m)
 IsDraw o m (Show kind file) = ⊥
@@ -267,15 +276,15 @@ explain_words (Some word) = codes "explain" ∷ word ∷ []
 -- the request is to explain this word, or to list all (docs/FORMATS.md, The program)
 abbrev pub IsExplain : Option Text → Request → Type 0
 IsExplain o (Check ring gap manifest) = ⊥
-IsExplain o (Measure manifest) = ⊥
-IsExplain o (Report ring gap most manifest) = ⊥
+IsExplain o (Measure format manifest) = ⊥
+IsExplain o (Report ring gap most format manifest) = ⊥
 IsExplain o (Draw ring gap manifest) = ⊥
 IsExplain o (Show kind file) = ⊥
 IsExplain o (Rewrite kind file) = ⊥
 IsExplain o (Manifest why files) = ⊥
 IsExplain o (Explain word) = option_map (λ w. w.now) word ≡ o
 
--- the answer is the version, want of memory aside (docs/FORMATS.md, The program)
+-- the answer is the version, running out of memory aside (docs/FORMATS.md, The program)
 abbrev pub AnswersVersion : Result Request Refusal → Type 0
 AnswersVersion (Ok asked) = ⊥
 AnswersVersion (Err Memory) = Unit {0}

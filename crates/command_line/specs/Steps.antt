@@ -17,7 +17,7 @@ abbrev pub IsCheckIfSome : Text → Text → Text → Option Request → Type 0
 IsCheckIfSome r g m None = ⊥
 IsCheckIfSome r g m (Some asked) = IsCheck r g m asked
 
--- the refusal for a kind of error, want of memory aside (docs/FORMATS.md, The program)
+-- the refusal for a kind of error, running out of memory aside (docs/FORMATS.md, The program)
 abbrev pub IsRefusalFor : ErrorKind → Refusal → Type 0
 IsRefusalFor kind (Help text) = kind ≡ DisplayHelp
 IsRefusalFor kind Version = kind ≡ DisplayVersion

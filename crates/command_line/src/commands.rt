@@ -19,9 +19,12 @@ const STATUSES: &str =
 Begin:  ringcheck manifest gerbers/* > board.csv
         ringcheck check --ring 0.125 --gap 0.25 board.csv";
 
-const RING: &str = "Copper that must stand round a plated hole, in mm: 0.125";
+const RING: &str = "Copper to stand round a plated hole, in mm: 0.125";
 
 const GAP: &str = "Gap that any two holes must keep, in mm: 0.25";
+
+const FORMAT: &str = "Lines for people, or one object of JSON;
+text where it is not there";
 
 const CHECK: &str = "A manifest is a CSV file with the first record role,name,file and one for each
 file; a role is copper, plated or unplated. With role,name,file,first,last a
@@ -33,6 +36,10 @@ const MEASURE: &str = "It is the greatest rule under which check finds nothing; 
 ring where holes without a pad are left out. Lengths are in mm, or any, or
 none. A line ring tells the least ring of the holes of one diameter.
 Example:  ringcheck measure board.csv";
+
+// Behind `Usage: ` on two lines, the second below the options of the first.
+const REPORT_USAGE: &str = "ringcheck report --ring <MM> --gap <MM> [--max <N>]
+                        [--format <text|json>] <MANIFEST>";
 
 const REPORT: &str = "The findings are those of check, in its order and with its status, but files
 have their names. Lengths are in mm. Below stand the causes that occur, each
@@ -109,7 +116,7 @@ fn check<'a>(alloc: Global) -> Result<Command<'a>, AllocError>
     ))
 }
 
-/// `measure MANIFEST`
+/// `measure [--format text|json] MANIFEST`
 fn measure<'a>(alloc: Global) -> Result<Command<'a>, AllocError>
     ensures { IfOk result (λ c. app_of c ≡ measure_app) }
 {
@@ -117,9 +124,10 @@ fn measure<'a>(alloc: Global) -> Result<Command<'a>, AllocError>
         alloc,
         "measure",
         "Tell the greatest ring and gap that a package meets",
-        "ringcheck measure <MANIFEST>",
+        "ringcheck measure [--format <text|json>] <MANIFEST>",
         MEASURE,
     )
+    .arg(format_of(alloc))?
     .arg(value_of(
         alloc,
         "manifest",
@@ -128,7 +136,7 @@ fn measure<'a>(alloc: Global) -> Result<Command<'a>, AllocError>
     ))
 }
 
-/// `report --ring MM --gap MM [--max N] MANIFEST`
+/// `report --ring MM --gap MM [--max N] [--format text|json] MANIFEST`
 fn report<'a>(alloc: Global) -> Result<Command<'a>, AllocError>
     ensures { IfOk result (λ c. app_of c ≡ report_app) }
 {
@@ -136,7 +144,7 @@ fn report<'a>(alloc: Global) -> Result<Command<'a>, AllocError>
         alloc,
         "report",
         "Tell of each finding by how much, and why",
-        "ringcheck report --ring <MM> --gap <MM> [--max <N>] <MANIFEST>",
+        REPORT_USAGE,
         REPORT,
     )
     .arg(ring_of(alloc))?
@@ -145,8 +153,9 @@ fn report<'a>(alloc: Global) -> Result<Command<'a>, AllocError>
         alloc,
         "max",
         "N",
-        "Findings that are told at most; all where it is not there",
+        "Findings told at most; all where it is not there",
     ))?
+    .arg(format_of(alloc))?
     .arg(value_of(
         alloc,
         "manifest",
@@ -313,6 +322,14 @@ fn gap_of<'a>(alloc: Global) -> Arg<'a>
     ensures global { result.global ≡ false }
 {
     option_of(alloc, "gap", "MM", GAP)
+}
+
+/// The format that is asked, where one is.
+fn format_of<'a>(alloc: Global) -> Arg<'a>
+    ensures rule { rule_of result ≡ maybe_option (codes "format") }
+    ensures global { result.global ≡ false }
+{
+    maybe_option_of(alloc, "format", "text|json", FORMAT)
 }
 
 /// A required option with one value.

@@ -2,8 +2,8 @@
 //!
 //! ```text
 //! ringcheck check --ring MM --gap MM MANIFEST
-//! ringcheck report --ring MM --gap MM [--max N] MANIFEST
-//! ringcheck measure MANIFEST
+//! ringcheck report --ring MM --gap MM [--max N] [--format text|json] MANIFEST
+//! ringcheck measure [--format text|json] MANIFEST
 //! ringcheck draw [--ring MM --gap MM] MANIFEST
 //! ringcheck manifest [--why] FILE..
 //! ringcheck explain [WORD]
@@ -35,16 +35,19 @@ pub enum Request<'a> {
         gap: &'a str,
         manifest: &'a str,
     },
-    /// Tell the greatest ring and gap that the package of a manifest meets.
+    /// Tell the greatest ring and gap that the package of a manifest meets, in the format of this name, where one is named.
     Measure {
+        format: Option<&'a str>,
         manifest: &'a str,
     },
     /// Tell of each finding under the ring and the gap by how much, and why; the ring and the gap are texts in mm. At most as
-    /// many findings are told as `most` says, a text too, and all where there is none.
+    /// many findings are told as `most` says, a text too, and all where there is none. The format is the name of one, where one
+    /// is named.
     Report {
         ring: &'a str,
         gap: &'a str,
         most: Option<&'a str>,
+        format: Option<&'a str>,
         manifest: &'a str,
     },
     /// Draw the package of a manifest, with the findings under a ring and a gap where they are given. Both are texts in mm;
@@ -101,9 +104,11 @@ pub fn parse<'a>(alloc: Global, words: &'a [&'a str]) -> Result<Request<'a>, Ref
     ensures exact { AnswersLine (map (λ w. w.now) words.entry.now) result }
     ensures check { (r g m : Text) → map (λ w. w.now) words.entry.now ≡ check_words r g m → is_plain_word r ≡ true
         → is_plain_word g ≡ true → is_plain_word m ≡ true → AnswersCheck r g m result }
-    ensures measure { (m : Text) → map (λ w. w.now) words.entry.now ≡ measure_words m → is_plain_word m ≡ true → AnswersAs (IsMeasure m) result }
-    ensures report { (r g : Text) (most : Option Text) (m : Text) → map (λ w. w.now) words.entry.now ≡ report_words r g most m → is_plain_word r ≡ true
-        → is_plain_word g ≡ true → is_plain_if_some most ≡ true → is_plain_word m ≡ true → AnswersAs (IsReport r g most m) result }
+    ensures measure { (format : Option Text) (m : Text) → map (λ w. w.now) words.entry.now ≡ measure_words format m → is_plain_if_some format ≡ true
+        → is_plain_word m ≡ true → AnswersAs (IsMeasure format m) result }
+    ensures report { (r g : Text) (most format : Option Text) (m : Text) → map (λ w. w.now) words.entry.now ≡ report_words r g most format m
+        → is_plain_word r ≡ true → is_plain_word g ≡ true → is_plain_if_some most ≡ true → is_plain_if_some format ≡ true → is_plain_word m ≡ true
+        → AnswersAs (IsReport r g most format m) result }
     ensures draw { (rules : Option (Text × Text)) (m : Text) → map (λ w. w.now) words.entry.now ≡ draw_words rules m → are_plain_rules rules ≡ true
         → is_plain_word m ≡ true → AnswersAs (IsDraw rules m) result }
     ensures show { (k f : Text) → map (λ w. w.now) words.entry.now ≡ file_words (codes "show") k f → is_plain_word k ≡ true
@@ -125,7 +130,7 @@ pub fn parse<'a>(alloc: Global, words: &'a [&'a str]) -> Result<Request<'a>, Ref
     match command.try_get_matches_from(words) {
         Ok(matches) => match request_of(alloc, &matches) {
             Some(request) => Ok(request),
-            // Each value is required, so that only want of memory takes this arm.
+            // Each value is required, so that only running out of memory takes this arm.
             None => Err(Refusal::Memory),
         },
         Err(error) => Err(refusal_for(alloc, &error)),
@@ -174,7 +179,8 @@ fn measure_request<'a>(values: &ArgMatches<'a>) -> Option<Request<'a>>
     ensures { IfSome result (λ asked. AsksFor (Some (codes "measure", rows_of (found_of values.now))) asked) }
 {
     let manifest = value(values, "manifest")?;
-    Some(Request::Measure { manifest })
+    let format = value(values, "format");
+    Some(Request::Measure { format, manifest })
 }
 
 fn report_request<'a>(values: &ArgMatches<'a>) -> Option<Request<'a>>
@@ -187,6 +193,7 @@ fn report_request<'a>(values: &ArgMatches<'a>) -> Option<Request<'a>>
         ring,
         gap,
         most: value(values, "max"),
+        format: value(values, "format"),
         manifest: package,
     })
 }

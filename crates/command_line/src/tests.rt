@@ -132,6 +132,7 @@ fn other_words_are_refused(rt: HostRuntime) {
     assert!(rt; is_usage(rt, &["measure"]));
     assert!(rt; is_usage(rt, &["measure", "m.csv", "n.csv"]));
     assert!(rt; is_usage(rt, &["measure", "--ring", "0.125", "m.csv"]));
+    assert!(rt; is_usage(rt, &["measure", "--max", "2", "m.csv"]));
     assert!(rt; is_usage(rt, &["report", "m.csv"]));
     assert!(rt; is_usage(rt, &["report", "--ring", "0.125", "m.csv"]));
     assert!(rt;
@@ -144,6 +145,28 @@ fn other_words_are_refused(rt: HostRuntime) {
     );
     assert!(rt; is_usage(rt, &["draw"]));
     assert!(rt; is_usage(rt, &["draw", "--max", "2", "m.csv"]));
+}
+
+#[test]
+fn a_format_is_named_once_and_of_two_commands(rt: HostRuntime) {
+    assert!(rt; is_usage(rt, &["measure", "m.csv", "--format"]));
+    assert!(rt; is_usage(rt, &["measure", "--format", "json"]));
+    assert!(rt;
+        is_usage(
+            rt,
+            &["measure", "--format", "json", "--format", "json", "m.csv"]
+        )
+    );
+    let (ring, gap, file) = ("--ring=0.125", "--gap=0.2", "m.csv");
+    assert!(rt; is_usage(rt, &["report", ring, gap, file, "--format"]));
+    assert!(rt;
+        is_usage(
+            rt,
+            &["report", "--format=text", ring, gap, "--format=json", file]
+        )
+    );
+    assert!(rt; is_usage(rt, &["check", "--format=json", ring, gap, file]));
+    assert!(rt; is_usage(rt, &["draw", "--format", "json", "m.csv"]));
 }
 
 #[test]
@@ -178,7 +201,11 @@ fn help_is_given_where_it_is_asked_for(rt: HostRuntime) {
         helps(
             rt,
             &["measure", "--help"],
-            &["<MANIFEST>", "Example:  ringcheck measure "]
+            &[
+                "ringcheck measure [--format <text|json>] <MANIFEST>",
+                "--format <text|json>  Lines for people, or one object of JSON;\n",
+                "Example:  ringcheck measure "
+            ]
         )
     );
     assert!(rt;
@@ -186,9 +213,12 @@ fn help_is_given_where_it_is_asked_for(rt: HostRuntime) {
             rt,
             &["report", "--help"],
             &[
-                "ringcheck report --ring <MM> --gap <MM> [--max <N>] <MANIFEST>",
+                "ringcheck report --ring <MM> --gap <MM> [--max <N>]\n",
+                " [--format <text|json>] <MANIFEST>\n",
                 "Tell of each finding by how much, and why",
-                "Findings that are told at most; all where it is not there"
+                "--max <N>             Findings told at most; all where it is not there\n",
+                "--format <text|json>  Lines for people, or one object of JSON;\n",
+                "                            text where it is not there\n"
             ]
         )
     );
@@ -226,9 +256,49 @@ fn a_manifest_is_asked_for(rt: HostRuntime) {
 fn a_measure_is_asked_for(rt: HostRuntime) {
     let asked = matches!(
         parse(rt.alloc(), &["measure", "m.csv"]),
-        Ok(Request::Measure { manifest: "m.csv" })
+        Ok(Request::Measure {
+            format: None,
+            manifest: "m.csv"
+        })
     );
     assert!(rt; asked);
+}
+
+/// Whether the words ask for a measure in the format `json` of the manifest `m.csv`.
+fn asks_for_json(rt: HostRuntime, words: &[&str]) -> bool {
+    match parse(rt.alloc(), words) {
+        Ok(
+            Request::Measure {
+                format: Some(format),
+                manifest,
+            },
+        ) => format == "json" && manifest == "m.csv",
+        _ => false,
+    }
+}
+
+#[test]
+fn a_measure_in_a_format_is_asked_for(rt: HostRuntime) {
+    assert!(rt; asks_for_json(rt, &["measure", "--format", "json", "m.csv"]));
+    assert!(rt; asks_for_json(rt, &["measure", "m.csv", "--format", "json"]));
+    assert!(rt; asks_for_json(rt, &["measure", "--format=json", "m.csv"]));
+    assert!(rt; asks_for_json(rt, &["measure", "--format=json", "--", "m.csv"]));
+    let other = matches!(
+        parse(rt.alloc(), &["measure", "--format", "xml", "m.csv"]),
+        Ok(Request::Measure {
+            format: Some("xml"),
+            manifest: "m.csv"
+        })
+    );
+    assert!(rt; other);
+    let empty = matches!(
+        parse(rt.alloc(), &["measure", "--format=", "m.csv"]),
+        Ok(Request::Measure {
+            format: Some(""),
+            ..
+        })
+    );
+    assert!(rt; empty);
 }
 
 /// Whether the words ask for a report with a ring of 0.125, a gap of 0.2, two findings at most and the manifest `m.csv`.
@@ -239,6 +309,7 @@ fn asks_for_two(rt: HostRuntime, words: &[&str]) -> bool {
                 ring,
                 gap,
                 most: Some(most),
+                format: None,
                 manifest,
             },
         ) => ring == "0.125" && gap == "0.2" && most == "2" && manifest == "m.csv",
@@ -257,6 +328,7 @@ fn a_report_is_asked_for(rt: HostRuntime) {
             ring: "0.125",
             gap: "0.2",
             most: None,
+            format: None,
             manifest: "m.csv"
         })
     );
@@ -276,6 +348,69 @@ fn a_report_is_asked_for(rt: HostRuntime) {
                 "report", "--max", "2", "m.csv", "--gap", "0.2", "--ring", "0.125"
             ]
         )
+    );
+}
+
+/// What a report with a ring of 0.125, a gap of 0.2 and the manifest `m.csv` is asked for with: the number of findings that
+/// are told at most, and the format, each empty where there is none.
+fn limits_of<'a>(rt: HostRuntime, words: &'a [&'a str]) -> Option<(&'a str, &'a str)> {
+    match parse(rt.alloc(), words) {
+        Ok(
+            Request::Report {
+                ring,
+                gap,
+                most,
+                format,
+                manifest,
+            },
+        ) if ring == "0.125" && gap == "0.2" && manifest == "m.csv" => {
+            Some((most.unwrap_or(""), format.unwrap_or("")))
+        }
+        _ => None,
+    }
+}
+
+#[test]
+fn a_report_in_a_format_is_asked_for(rt: HostRuntime) {
+    assert!(rt;
+        limits_of(
+            rt,
+            &[
+                "report", "--ring", "0.125", "--gap", "0.2", "--format", "json", "m.csv"
+            ]
+        ) == Some(("", "json"))
+    );
+    assert!(rt;
+        limits_of(
+            rt,
+            &[
+                "report", "--ring", "0.125", "--gap", "0.2", "--max", "2", "--format", "json",
+                "m.csv"
+            ]
+        ) == Some(("2", "json"))
+    );
+    assert!(rt;
+        limits_of(
+            rt,
+            &[
+                "report",
+                "--format=json",
+                "m.csv",
+                "--gap",
+                "0.2",
+                "--max=2",
+                "--ring",
+                "0.125"
+            ]
+        ) == Some(("2", "json"))
+    );
+    assert!(rt;
+        limits_of(
+            rt,
+            &[
+                "report", "m.csv", "--gap", "0.2", "--ring", "0.125", "--format", "text"
+            ]
+        ) == Some(("", "text"))
     );
 }
 
@@ -336,13 +471,13 @@ fn the_version_is_asked_for(rt: HostRuntime) {
     assert!(rt; VERSION_LINE.starts_with("ringcheck ") && VERSION_LINE.contains(VERSION));
 }
 
-/// Whether help fits 24 lines of 80 columns, and its usage begins with the program's name.
+/// Whether help fits 24 lines of 79 columns, and its usage begins with the program's name.
 fn fits_a_screen(rt: HostRuntime, words: &[&str]) -> bool {
     match parse(rt.alloc(), words) {
         Err(Refusal::Help(text)) => {
             let text = text.as_str();
             text.lines().count() <= 24
-                && text.lines().all(|line| line.len() <= 80)
+                && text.lines().all(|line| line.len() < 80)
                 && text.contains("Usage: ringcheck ")
         }
         _ => false,

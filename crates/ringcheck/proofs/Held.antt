@@ -10,7 +10,8 @@ use Rattle.measuring.specs.declared.measure.Measure.{Measure}
 use Rattle.package_check.specs.Soundness.{IsSound}
 use Rattle.ringcheck.specs.declared.Status.{Status}
 use Rattle.ringcheck.specs.declared.Status.TheVariants as status
-use Rattle.ringcheck.specs.Measuring.{SaysMeasure}
+use Rattle.ringcheck.specs.declared.naming.Format.{Format}
+use Rattle.ringcheck.specs.Measuring.{SaysMeasureOf}
 use Rattle.ringcheck.specs.Reporting.{SaysReportOf}
 use Rattle.ringcheck.specs.Running.{HasFiles, SaysOf, file_limit, sources, within}
 use Rattle.ringcheck.proofs.Loaded.{along}
@@ -55,10 +56,11 @@ sound_as_held m l d (Ok rules) before after status.Usage says is = cc
 sound_as_held m l d (Ok rules) before after status.Device says is = cc
 
 -- the files that the manifest names pass under just the rules that are met
-pub met_as_held : (m l d : List ℕ) (before after : Option (List ℕ)) (s : Status) → SaysMeasure (lies m l d) (codes "m.csv") before after s → s ≡ status.Pass
+pub met_as_held : (m l d : List ℕ) (r : Result Format Reason) (before after : Option (List ℕ)) (s : Status) → SaysMeasureOf (lies m l d) (codes "m.csv") r before after s → s ≡ status.Pass
     → (entries : List Entry) × (manifest m ≡ Ok entries) × (files : List (List ℕ)) × HasFiles (lies m l d) entries files
     × (measure : Measure) × PackagePasses (sources entries files) measure.meets.ring measure.meets.gap
-met_as_held m l d before after status.Pass says is =
+met_as_held m l d (Err why) before after s says is = absurd (never s says is)
+met_as_held m l d (Ok form) before after status.Pass says is =
     let held = says.held in (
       says.entries,
       subst (λ t. manifest t ≡ Ok says.entries) (first_held m l d held.text held.held) held.names,
@@ -67,18 +69,18 @@ met_as_held m l d before after status.Pass says is =
       says.holds.measure,
       says.holds.passes,
     )
-met_as_held m l d before after status.Findings says is = cc
-met_as_held m l d before after status.Refused says is = cc
-met_as_held m l d before after status.Usage says is = cc
-met_as_held m l d before after status.Device says is = cc
+met_as_held m l d (Ok form) before after status.Findings says is = cc
+met_as_held m l d (Ok form) before after status.Refused says is = cc
+met_as_held m l d (Ok form) before after status.Usage says is = cc
+met_as_held m l d (Ok form) before after status.Device says is = cc
 
 -- the files that the manifest names are sound, where a report tells of no finding
-pub told_as_held : (m l d : List ℕ) (r : Result (GridRules × Option ℕ) Reason) (before after : Option (List ℕ)) (s : Status) → SaysReportOf (lies m l d) (codes "m.csv") r before after s → s ≡ status.Pass
-    → (asked : GridRules × Option ℕ) × (r ≡ Ok asked) × (entries : List Entry) × (manifest m ≡ Ok entries) × (files : List (List ℕ)) × HasFiles (lies m l d) entries files × IsSound (sources entries files) asked.0
+pub told_as_held : (m l d : List ℕ) (r : Result (GridRules × Option ℕ × Format) Reason) (before after : Option (List ℕ)) (s : Status) → SaysReportOf (lies m l d) (codes "m.csv") r before after s → s ≡ status.Pass
+    → (asked : GridRules × Option ℕ × Format) × (r ≡ Ok asked) × (entries : List Entry) × (manifest m ≡ Ok entries) × (files : List (List ℕ)) × HasFiles (lies m l d) entries files × IsSound (sources entries files) asked.0
 told_as_held m l d (Err why) before after s says is = absurd (never s says is)
-told_as_held m l d (Ok (rules, most)) before after status.Pass says is =
+told_as_held m l d (Ok (rules, most, form)) before after status.Pass says is =
     let held = says.held in (
-      (rules, most),
+      (rules, most, form),
       refl,
       says.entries,
       subst (λ t. manifest t ≡ Ok says.entries) (first_held m l d held.text held.held) held.names,
@@ -86,7 +88,7 @@ told_as_held m l d (Ok (rules, most)) before after status.Pass says is =
       along (within file_limit (lies m l d)) (lies m l d) (λ n b h. h.0) says.entries says.files held.loaded,
       says.holds.sound,
     )
-told_as_held m l d (Ok (rules, most)) before after status.Findings says is = cc
-told_as_held m l d (Ok (rules, most)) before after status.Refused says is = cc
-told_as_held m l d (Ok (rules, most)) before after status.Usage says is = cc
-told_as_held m l d (Ok (rules, most)) before after status.Device says is = cc
+told_as_held m l d (Ok (rules, most, form)) before after status.Findings says is = cc
+told_as_held m l d (Ok (rules, most, form)) before after status.Refused says is = cc
+told_as_held m l d (Ok (rules, most, form)) before after status.Usage says is = cc
+told_as_held m l d (Ok (rules, most, form)) before after status.Device says is = cc

@@ -13,6 +13,7 @@ use Rattle.ringcheck.specs.declared.Status.TheVariants as status
 use Rattle.ringcheck.specs.declared.ending.Ended.{Ended}
 use Rattle.ringcheck.specs.declared.ending.Ended.TheVariants as ended
 use Rattle.ringcheck.specs.declared.loading_files.Stop.{Stop}
+use Rattle.ringcheck.specs.declared.naming.Format.{Format}
 use Rattle.ringcheck.specs.Endings.{HasCause, status_after}
 use Rattle.ringcheck.specs.Reporting.{AnsweredReport, SaysReport, Tells, telling_status}
 use Rattle.ringcheck.specs.Running.{HasFiles, Says, bad_file, file_limit, manifest_limit, sources, within}
@@ -40,9 +41,9 @@ no_other : (s : Status) → s ≢ status.Pass → s ≢ status.Findings → (s �
 no_other s p f (inl e) = p e
 no_other s p f (inr e) = f e
 
-module _ (all : List Source) (rules : GridRules) (most : Option ℕ) (before after : Option (List ℕ)) where
+module _ (all : List Source) (rules : GridRules) (most : Option ℕ) (form : Format) (before after : Option (List ℕ)) where
   -- a report was printed
-  pub told : (t : Telling) (e : Ended) → (e ≢ ended.WriterFailed → e ≢ ended.OutOfMemory → (e ≡ ended.Said (telling_status t.rings.items t.gaps.items)) × Tells all rules most before after t) → AnsweredReport all rules most before after e
+  pub told : (t : Telling) (e : Ended) → (e ≢ ended.WriterFailed → e ≢ ended.OutOfMemory → (e ≡ ended.Said (telling_status t.rings.items t.gaps.items)) × Tells all rules most form before after t) → AnsweredReport all rules most form before after e
   told t (ended.Said status.Pass) h =
       let (a, b) = h (λ x. cc x) (λ x. cc x) in
       let none = passed t.rings.items t.gaps.items a in
@@ -56,11 +57,11 @@ module _ (all : List Source) (rules : GridRules) (most : Option ℕ) (before aft
   told t ended.WriterFailed h = tt
 
   -- a file is refused
-  pub refused_file : (fault : ℕ × Fault) (e : Ended) → IsFirstRefused all fault.0 fault.1 → (e ≢ ended.WriterFailed → e ≢ ended.OutOfMemory → e ≡ ended.Said status.Refused) → AnsweredReport all rules most before after e
-  refused_file fault e a h = refused_by (AnsweredReport all rules most before after) (fault, a) tt tt e h
+  pub refused_file : (fault : ℕ × Fault) (e : Ended) → IsFirstRefused all fault.0 fault.1 → (e ≢ ended.WriterFailed → e ≢ ended.OutOfMemory → e ≡ ended.Said status.Refused) → AnsweredReport all rules most form before after e
+  refused_file fault e a h = refused_by (AnsweredReport all rules most form before after) (fault, a) tt tt e h
 
   -- what is said of files at hand does not end by the loader
-  pub answered_cause : (e : Ended) (old new : ℕ) → AnsweredReport all rules most before after e → HasCause old new e
+  pub answered_cause : (e : Ended) (old new : ℕ) → AnsweredReport all rules most form before after e → HasCause old new e
   answered_cause (ended.Said status.Pass) old new a = tt
   answered_cause (ended.Said status.Findings) old new a = tt
   answered_cause (ended.Said status.Refused) old new a = tt
@@ -70,9 +71,9 @@ module _ (all : List Source) (rules : GridRules) (most : Option ℕ) (before aft
   answered_cause ended.OutOfMemory old new a = tt
   answered_cause ended.WriterFailed old new a = tt
 
-module _ (has : List ℕ → List ℕ → Type 0) (name : List ℕ) (rules : GridRules) (most : Option ℕ) (before after : Option (List ℕ)) where
+module _ (has : List ℕ → List ℕ → Type 0) (name : List ℕ) (rules : GridRules) (most : Option ℕ) (form : Format) (before after : Option (List ℕ)) where
   -- what a check refuses is refused here
-  stopped : (s : Stop) (e : Ended) → TellsOf s e → Says has name rules before after (status_after e) → SaysReport has name rules most before after (status_after e)
+  stopped : (s : Stop) (e : Ended) → TellsOf s e → Says has name rules before after (status_after e) → SaysReport has name rules most form before after (status_after e)
   stopped s (ended.Said status.Pass) i h = absurd i
   stopped s (ended.Said status.Findings) i h = absurd i
   stopped s (ended.Said status.Refused) i h = h
@@ -82,16 +83,16 @@ module _ (has : List ℕ → List ℕ → Type 0) (name : List ℕ) (rules : Gri
   stopped s ended.OutOfMemory i h = tt
   stopped s ended.WriterFailed i h = tt
 
-  pub stopped_manifest : (s : Stop) (e : Ended) → StopsManifest has name s → TellsOf s e → SaysReport has name rules most before after (status_after e)
+  pub stopped_manifest : (s : Stop) (e : Ended) → StopsManifest has name s → TellsOf s e → SaysReport has name rules most form before after (status_after e)
   stopped_manifest s e h i = stopped s e i (checking.stopped_manifest has name rules before after s e h i)
 
   module _ (text : List ℕ) (entries : List Entry) (held : has name text) (names : manifest text ≡ Ok entries) where
     pub stopped_files : (later : List ℕ → List ℕ → Type 0) → ((n b : List ℕ) → later n b → has n b) → (s : Stop) (e : Ended)
-        → StopsFiles later entries s → TellsOf s e → SaysReport has name rules most before after (status_after e)
+        → StopsFiles later entries s → TellsOf s e → SaysReport has name rules most form before after (status_after e)
     stopped_files later to s e h i = stopped s e i (checking.stopped_files has name rules before after text entries held names later to s e h i)
 
-    pub said : length text ≤ manifest_limit → (files : List (List ℕ)) (e : Ended) → HasFiles (within file_limit has) entries files → AnsweredReport (sources entries files) rules most before after e
-        → SaysReport has name rules most before after (status_after e)
+    pub said : length text ≤ manifest_limit → (files : List (List ℕ)) (e : Ended) → HasFiles (within file_limit has) entries files → AnsweredReport (sources entries files) rules most form before after e
+        → SaysReport has name rules most form before after (status_after e)
     said short files (ended.Said status.Pass) h a = record { entries = entries; files = files; held = record { text = text; held = held; names = names; short = short; loaded = h }; holds = a }
     said short files (ended.Said status.Findings) h a = record { entries = entries; files = files; held = record { text = text; held = held; names = names; short = short; loaded = h }; holds = a }
     said short files (ended.Said status.Refused) h a = bad_file entries files a.0 (record { text = text; held = held; names = names; short = short; loaded = h }) a.1

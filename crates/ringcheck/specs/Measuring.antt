@@ -1,14 +1,20 @@
 -- What a run says of the measure of a package.
-use Rattle.std.specs.Prelude.{◌++◌, ℕ, List, map, Option}
+use Rattle.std.specs.Prelude.{◌≡◌, ◌⊎◌, ◌++◌, ℕ, List, map, Option, Result, Ok, Err}
 use Rattle.std.specs.Io.KnownBytes.{Appends}
+use Rattle.grid_units.specs.declared.fault.Reason.{Reason}
 use Rattle.margin_text.specs.Lines.{measure_text}
 use Rattle.measuring.specs.Measures.{IsMeasure, PackagePasses}
 use Rattle.measuring.specs.declared.measure.Measure.{Measure}
 use Rattle.package_check.specs.Boards.{IsBoard, Survey}
 use Rattle.package_check.specs.Package.{Source}
 use Rattle.package_check.specs.Texts.{file_lines}
+use Rattle.report_json.specs.Packages.{measure_value}
+use Rattle.report_json.specs.Values.{json_text}
 use Rattle.ringcheck.specs.declared.Status.{Status}
+use Rattle.ringcheck.specs.declared.Status.TheVariants as status
 use Rattle.ringcheck.specs.declared.ending.Ended.{Ended}
+use Rattle.ringcheck.specs.declared.naming.Format.{Format}
+use Rattle.ringcheck.specs.declared.naming.Format.TheVariants as format
 use Rattle.ringcheck.specs.Doing.{AnsweredDone, SaysDone}
 use Rattle.ringcheck.specs.Running.{Relation}
 
@@ -20,20 +26,30 @@ lines_of measure = measure_text measure.rings.items measure.scales.items measure
 abbrev pub board_text : List (List ℕ) → Survey → Measure → List ℕ
 board_text names board measure = file_lines 1 names board.files ++ lines_of measure
 
--- The writer got the measure of files: that of the board that they make. A check of them finds nothing under just the rules that are met
--- (docs/DEFINITIONS.md, Runs).
-pub record Measures (all : List Source) (before after : Option (List ℕ)) : Type 0 where
+-- what is printed of a measure in a format (docs/FORMATS.md, Measure; JSON)
+abbrev pub measure_page : Format → List (List ℕ) → Survey → Measure → List ℕ
+measure_page format.Text names board measure = board_text names board measure
+measure_page format.Json names board measure = json_text (measure_value names board measure)
+
+-- The writer got the measure of files in a format: that of the board that they make. A check of them finds nothing under just the rules
+-- that are met (docs/DEFINITIONS.md, Runs).
+pub record Measures (all : List Source) (form : Format) (before after : Option (List ℕ)) : Type 0 where
   pub board : Survey
   pub read : IsBoard all board
   pub measure : Measure
   pub is : IsMeasure board measure
-  pub written : Appends before after (board_text (map (λ source. source.name) all) board measure)
+  pub written : Appends before after (measure_page form (map (λ source. source.name) all) board measure)
   pub passes : PackagePasses all measure.meets.ring measure.meets.gap
 
 -- what a status says of the measure of a package (docs/DEFINITIONS.md, Runs)
-abbrev pub SaysMeasure : Relation → List ℕ → Option (List ℕ) → Option (List ℕ) → Status → Type 0
-SaysMeasure has name before after s = SaysDone has name (λ all. Measures all before after) s
+abbrev pub SaysMeasure : Relation → List ℕ → Format → Option (List ℕ) → Option (List ℕ) → Status → Type 0
+SaysMeasure has name form before after s = SaysDone has name (λ all. Measures all form before after) s
+
+-- the same, in a format that a word names, or that it does not name (docs/DEFINITIONS.md, Runs)
+abbrev pub SaysMeasureOf : Relation → List ℕ → Result Format Reason → Option (List ℕ) → Option (List ℕ) → Status → Type 0
+SaysMeasureOf has name (Ok form) before after s = SaysMeasure has name form before after s
+SaysMeasureOf has name (Err why) before after s = (s ≡ status.Usage) ⊎ (s ≡ status.Device)
 
 -- what an end says of the measure of files that are at hand (docs/DEFINITIONS.md, Runs)
-abbrev pub AnsweredMeasure : List Source → Option (List ℕ) → Option (List ℕ) → Ended → Type 0
-AnsweredMeasure all before after e = AnsweredDone all (λ all. Measures all before after) e
+abbrev pub AnsweredMeasure : List Source → Format → Option (List ℕ) → Option (List ℕ) → Ended → Type 0
+AnsweredMeasure all form before after e = AnsweredDone all (λ all. Measures all form before after) e

@@ -1,12 +1,15 @@
--- The rules, and how many findings are told, that words of a command line name.
-use Rattle.std.specs.Prelude.{ℕ, ℤ, pos, Bool, ◌&&◌, List, Option, Some, None, Result, Ok, Err, length, nat_le, unsigned_abs, int_le, if◌then◌else◌}
+-- The rules, how many findings are told, and the format, that words of a command line name.
+use Rattle.std.specs.Prelude.{ℕ, ℤ, pos, Bool, ◌&&◌, List, Option, Some, None, Result, Ok, Err, length, codes, nat_le, unsigned_abs, int_le, if◌then◌else◌}
+use Rattle.std.specs.Str.{bytes_eq}
 use Rattle.grid_units.specs.declared.fault.Reason.{Reason}
-use Rattle.grid_units.specs.declared.fault.Reason.TheVariants.{BadNumber, BadRule}
+use Rattle.grid_units.specs.declared.fault.Reason.TheVariants.{BadNumber, BadRole, BadRule}
 use Rattle.grid_units.specs.declared.lengths.Unit.TheVariants.{Millimetre}
 use Rattle.grid_units.specs.Points.{max_coordinate}
 use Rattle.grid_units.specs.Holes.{GridRules}
 use Rattle.grid_units.specs.Numbers.{dec_of, is_digits, picometres, value, within_limit}
 use Rattle.grid_units.specs.Results.{◌>>=◌}
+use Rattle.ringcheck.specs.declared.naming.Format.{Format}
+use Rattle.ringcheck.specs.declared.naming.Format.TheVariants as format
 
 -- the length in pm that a word names in millimetres, or why it names none (docs/FORMATS.md, The program)
 unfoldable pub length_named : List ℕ → Result ℤ Reason
@@ -33,9 +36,14 @@ unfoldable pub most_named : Option (List ℕ) → Result (Option ℕ) Reason
 most_named None = Ok None
 most_named (Some word) = count_named word >>= λ n. Ok (Some n)
 
--- the rules of a report, and how many findings it tells at most, or the first refusal, that of the rules first (docs/FORMATS.md, The program)
-unfoldable pub report_named : List ℕ → List ℕ → Option (List ℕ) → Result (GridRules × Option ℕ) Reason
-report_named ring gap most = rules_named ring gap >>= λ rules. (most_named most >>= λ n. Ok (rules, n))
+-- the format that a word names: text where there is none (docs/FORMATS.md, The program)
+unfoldable pub format_named : Option (List ℕ) → Result Format Reason
+format_named None = Ok format.Text
+format_named (Some word) = if bytes_eq word (codes "text") then Ok format.Text else (if bytes_eq word (codes "json") then Ok format.Json else Err BadRole)
+
+-- the rules of a report, how many findings it tells at most, and its format, or the first refusal in this order (docs/FORMATS.md, The program)
+unfoldable pub report_named : List ℕ → List ℕ → Option (List ℕ) → Option (List ℕ) → Result (GridRules × Option ℕ × Format) Reason
+report_named ring gap most form = rules_named ring gap >>= λ rules. (most_named most >>= λ n. (format_named form >>= λ f. Ok (rules, n, f)))
 
 -- the rules of a picture: those of a ring and a gap, or none; one of these alone names none (docs/FORMATS.md, The program)
 unfoldable pub draw_named : Option (List ℕ) → Option (List ℕ) → Result (Option GridRules) Reason

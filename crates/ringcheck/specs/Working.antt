@@ -16,19 +16,19 @@ use Rattle.ringcheck.specs.Stopping.{Answered}
 -- what a status says of a work (docs/DEFINITIONS.md, Runs)
 abbrev pub SaysBy : Work → Relation → List ℕ → Option (List ℕ) → Option (List ℕ) → Status → Type 0
 SaysBy (work.Check rules) has name before after s = Says has name rules before after s
-SaysBy work.Measure has name before after s = SaysMeasure has name before after s
+SaysBy (work.Measure form) has name before after s = SaysMeasure has name form before after s
 
 -- what an end says of a work on files that are at hand (docs/DEFINITIONS.md, Runs)
 abbrev pub AnsweredBy : Work → List Source → Option (List ℕ) → Option (List ℕ) → Ended → Type 0
 AnsweredBy (work.Check rules) all before after e = Answered all rules before after e
-AnsweredBy work.Measure all before after e = AnsweredMeasure all before after e
+AnsweredBy (work.Measure form) all before after e = AnsweredMeasure all form before after e
 
 -- what a status says of a work that wants the flashes (docs/DEFINITIONS.md, Runs)
 abbrev pub SaysFlashed : FlashedWork → Relation → List ℕ → Option (List ℕ) → Option (List ℕ) → Status → Type 0
-SaysFlashed (flashed.Report rules most) has name before after s = SaysReport has name rules most before after s
+SaysFlashed (flashed.Report rules most form) has name before after s = SaysReport has name rules most form before after s
 SaysFlashed (flashed.Draw rules) has name before after s = SaysDraw has name rules before after s
 
 -- what an end says of such a work on files that are at hand (docs/DEFINITIONS.md, Runs)
 abbrev pub AnsweredFlashed : FlashedWork → List Source → Option (List ℕ) → Option (List ℕ) → Ended → Type 0
-AnsweredFlashed (flashed.Report rules most) all before after e = AnsweredReport all rules most before after e
+AnsweredFlashed (flashed.Report rules most form) all before after e = AnsweredReport all rules most form before after e
 AnsweredFlashed (flashed.Draw rules) all before after e = AnsweredDraw all rules before after e

@@ -12,6 +12,7 @@ mod naming;
 mod packages;
 mod program;
 mod proposing;
+mod refusing;
 mod reports;
 mod single_files;
 mod taking;

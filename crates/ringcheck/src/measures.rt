@@ -3,16 +3,21 @@
 ghost use Rattle.std.specs.Prelude.{◌≡◌, ◌≢◌, ◌++◌, ℕ, List, map, length, string_bytes};
 ghost use Rattle.std.specs.Io.KnownBytes.{Appends};
 ghost use Rattle.package_check.specs.Standing.{PackageStandsAfter};
-ghost use Rattle.ringcheck.specs.Measuring.{AnsweredMeasure, board_text, lines_of};
+ghost use Rattle.report_json.specs.Packages.{measure_value};
+ghost use Rattle.report_json.specs.Values.{json_text};
+ghost use Rattle.ringcheck.specs.Measuring.{AnsweredMeasure, board_text, lines_of, measure_page};
 ghost use Rattle.ringcheck.specs.Running.{sources};
 
-use crate::ending::{Ended, say_line, say_out_of_memory};
-use crate::packages::{name_at, names_of};
-use crate::{Entry, PackageFault, PackageReader, PrintFault, Status, lines};
+use crate::ending::{Ended, say_out_of_memory};
+use crate::naming::Format;
+use crate::packages::names_of;
+use crate::refusing::{Style, say_refused};
+use crate::{Entry, PackageFault, PackageReader, PrintFault, Status};
 use margin_text::{buffer, print_measure};
 use measuring::laws::measured_passes;
 use measuring::{Measure, measure_board};
 use package_check::{Board, print_files};
+use report_json::print_measure_json;
 use std::alloc::Global;
 use std::io::Write;
 
@@ -34,51 +39,95 @@ fn print_lines<W: Write>(text: &mut String, measure: &Measure, out: &mut W) -> E
     }
 }
 
-/// Prints the lines on the files and those of the measure.
-fn print<W: Write>(
+/// Prints the lines on the files of these names and those of the measure.
+fn print_text<W: Write>(
     alloc: Global,
-    entries: &[Entry],
+    names: &[&str],
     board: &Board,
     measure: &Measure,
     out: &mut W,
 ) -> Ended
-    ensures written { result ≢ Ended.WriterFailed → result ≢ Ended.OutOfMemory → Appends (W.contents out.old) (W.contents out.new) (board_text (map (λ entry. entry.name) entries.now) board.now measure.now) }
+    ensures written { result ≢ Ended.WriterFailed → result ≢ Ended.OutOfMemory → Appends (W.contents out.old) (W.contents out.new) (board_text (map (λ name. name.now) names.now) board.now measure.now) }
     ensures ends { result ≢ Ended.WriterFailed → result ≢ Ended.OutOfMemory → result ≡ Ended.Said Status.Pass }
 {
-    let Ok(names) = names_of(alloc, entries) else {
-        return say_out_of_memory(out);
-    };
     let Ok(mut text) = buffer(alloc) else {
         return say_out_of_memory(out);
     };
-    match print_files(alloc, names.as_slice(), board.files(), out) {
+    match print_files(alloc, names, board.files(), out) {
         Ok(()) => print_lines(&mut text, measure, out),
         Err(PrintFault::Memory) => say_out_of_memory(out),
         Err(PrintFault::Cut) => Ended::WriterFailed,
     }
 }
 
-/// Measures the files of these entries, which a reader has taken, and prints the measure.
+/// Prints the measure of a board with files of these names as JSON.
+fn print_json<W: Write>(
+    alloc: Global,
+    names: &[&str],
+    board: &Board,
+    measure: &Measure,
+    out: &mut W,
+) -> Ended
+    ensures written { result ≢ Ended.WriterFailed → result ≢ Ended.OutOfMemory → Appends (W.contents out.old) (W.contents out.new) (json_text (measure_value (map (λ name. name.now) names.now) board.now measure.now)) }
+    ensures ends { result ≢ Ended.WriterFailed → result ≢ Ended.OutOfMemory → result ≡ Ended.Said Status.Pass }
+{
+    match print_measure_json(alloc, names, board, measure, out) {
+        Ok(()) => Ended::Said(Status::Pass),
+        Err(report_json::PrintFault::Memory) => say_out_of_memory(out),
+        Err(report_json::PrintFault::Cut) => Ended::WriterFailed,
+    }
+}
+
+/// Prints the measure of a board with files of these entries.
+fn print<W: Write>(
+    alloc: Global,
+    entries: &[Entry],
+    format: Format,
+    board: &Board,
+    measure: &Measure,
+    out: &mut W,
+) -> Ended
+    ensures written { result ≢ Ended.WriterFailed → result ≢ Ended.OutOfMemory → Appends (W.contents out.old) (W.contents out.new) (measure_page format (map (λ entry. entry.name) entries.now) board.now measure.now) }
+    ensures ends { result ≢ Ended.WriterFailed → result ≢ Ended.OutOfMemory → result ≡ Ended.Said Status.Pass }
+{
+    let Ok(names) = names_of(alloc, entries) else {
+        return say_out_of_memory(out);
+    };
+    match format {
+        Format::Text => print_text(alloc, names.as_slice(), board, measure, out),
+        Format::Json => print_json(alloc, names.as_slice(), board, measure, out),
+    }
+}
+
+/// How it is told why there is no measure.
+pub(crate) fn style_of(format: Format) -> Style {
+    match format {
+        Format::Text => Style::Line,
+        Format::Json => Style::Json,
+    }
+}
+
+/// Measures the files of these entries, which a reader has taken, and prints the measure in this format.
 pub(crate) fn answer_measure<W: Write>(
     alloc: Global,
     reader: PackageReader,
     entries: &[Entry],
+    format: Format,
     out: &mut W,
 ) -> Ended
     ensures { (files : List (List ℕ)) → length entries.now ≡ length files → PackageStandsAfter reader (sources entries.now files)
-        → AnsweredMeasure (sources entries.now files) (W.contents out.old) (W.contents out.new) result }
+        → AnsweredMeasure (sources entries.now files) format (W.contents out.old) (W.contents out.new) result }
 {
     let board = match reader.board() {
         Ok(board) => board,
         Err(PackageFault::Memory) => return say_out_of_memory(out),
         Err(PackageFault::File { index, fault }) => {
-            let line = lines::refused(alloc, index, fault, name_at(entries, index));
-            return say_line(out, line, Ended::Said(Status::Refused));
+            return say_refused(alloc, style_of(format), entries, index, fault, out);
         }
     };
     measured_passes();
     match measure_board(alloc, &board) {
-        Ok(measure) => print(alloc, entries, &board, &measure, out),
+        Ok(measure) => print(alloc, entries, format, &board, &measure, out),
         Err(_) => say_out_of_memory(out),
     }
 }

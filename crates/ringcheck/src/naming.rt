@@ -1,4 +1,4 @@
-//! The rules, and how many findings are told, that words of a command line name.
+//! The rules, how many findings are told, and the format, that words of a command line name.
 
 ghost use Rattle.std.specs.Prelude.{◌≡◌, option_map};
 ghost use Rattle.ringcheck.specs.Naming as words;
@@ -31,6 +31,27 @@ pub(crate) fn rules_named(ring: &str, gap: &str) -> Result<Rules, Reason>
     rules_of(ring, gap)
 }
 
+/// How a measure or a report is printed.
+#[derive(Clone, Copy, Debug, PartialEq, Eq)]
+pub(crate) enum Format {
+    /// Lines for people.
+    Text,
+    /// One object of JSON on one line.
+    Json,
+}
+
+/// The format that a word names: text where there is none.
+#[tactic(auto, unfolding(crate::specs::Naming::format_named))]
+pub(crate) fn format_named(word: Option<&str>) -> Result<Format, Reason>
+    ensures { result ≡ words.format_named (option_map (λ w. w.now) word.entry) }
+{
+    match word {
+        None | Some("text") => Ok(Format::Text),
+        Some("json") => Ok(Format::Json),
+        Some(_) => Err(Reason::BadRole),
+    }
+}
+
 /// How many findings a word of one to nine digits names.
 #[tactic(auto, unfolding(crate::specs::Naming::count_named))]
 fn count_named(word: &str) -> Result<usize, Reason>
@@ -53,18 +74,20 @@ fn most_named(word: Option<&str>) -> Result<Option<usize>, Reason>
     }
 }
 
-/// The rules of a report, and how many findings it tells at most, the rules read first.
+/// The rules of a report, how many findings it tells at most, and its format, read in this order.
 #[tactic(auto, unfolding(crate::specs::Naming::report_named))]
 pub(crate) fn report_named(
     ring: &str,
     gap: &str,
     most: Option<&str>,
-) -> Result<(Rules, Option<usize>), Reason>
-    ensures { result ≡ words.report_named ring.now gap.now (option_map (λ w. w.now) most.entry) }
+    format: Option<&str>,
+) -> Result<(Rules, Option<usize>, Format), Reason>
+    ensures { result ≡ words.report_named ring.now gap.now (option_map (λ w. w.now) most.entry) (option_map (λ w. w.now) format.entry) }
 {
     let rules = rules_named(ring, gap)?;
     let most = most_named(most)?;
-    Ok((rules, most))
+    let format = format_named(format)?;
+    Ok((rules, most, format))
 }
 
 /// The rules of a picture: a ring and a gap, or neither. One of them alone is refused.

@@ -1,25 +1,26 @@
 //! Checks or measures the package of a manifest, and says what was found.
 
-ghost use Rattle.std.specs.Prelude.{◌≡◌, ◌≢◌, ℕ, List, IfOk, map, length};
+ghost use Rattle.std.specs.Prelude.{◌≡◌, ◌≢◌, ℕ, List, IfOk, map, length, option_map};
 ghost use Rattle.std.specs.Io.KnownBytes.{Appends};
 ghost use Rattle.ringcheck.specs.Endings.{HasCause, status_after};
 ghost use Rattle.ringcheck.specs.Naming as named;
 ghost use Rattle.package_check.specs.Standing.{PackageStandsAfter};
 ghost use Rattle.package_check.specs.Texts.{text_of};
-ghost use Rattle.ringcheck.specs.Measuring.{SaysMeasure};
+ghost use Rattle.ringcheck.specs.Measuring.{SaysMeasureOf};
 ghost use Rattle.ringcheck.specs.Running.{SaysOf, sources};
-ghost use Rattle.ringcheck.specs.Stopping.{Answered, TellsOf};
+ghost use Rattle.ringcheck.specs.Stopping.{Answered};
 ghost use Rattle.ringcheck.specs.Working.{AnsweredBy, SaysBy};
 ghost use Rattle.ringcheck.specs.Stopping as stopping;
 
-use crate::ending::{Ended, say, say_line, say_out_of_memory};
-use crate::loading_files::{Stop, load_manifest, take_files};
-use crate::measures::answer_measure;
-use crate::naming::rules_named;
+use crate::ending::{Ended, say_line, say_out_of_memory};
+use crate::loading_files::{load_manifest, take_files};
+use crate::measures::{answer_measure, style_of};
+use crate::naming::{Format, format_named, rules_named};
+use crate::refusing::{Style, say_refused, tell};
 use crate::{
     Entry, Loader, PackageFault, PackageReader, PrintFault, Report, Status, lines, print_report,
 };
-use grid_units::{Fault, Reason, Rules};
+use grid_units::Rules;
 use std::alloc::{AllocError, Global};
 use std::io::Write;
 
@@ -28,42 +29,16 @@ use std::io::Write;
 pub(crate) enum Work {
     /// It is checked under these rules.
     Check(Rules),
-    /// It is measured.
-    Measure,
+    /// It is measured, and the measure is printed in this format.
+    Measure(Format),
 }
 
-pub(crate) fn name_at(entries: &[Entry], index: usize) -> &str {
-    match entries.get(index) {
-        Some(entry) => entry.name.as_str(),
-        None => "",
-    }
-}
-
-/// The fault of a text that is above its limit.
-pub(crate) const ABOVE_LIMIT: Fault = Fault {
-    place: 0,
-    byte: 0,
-    reason: Reason::TooLong,
-};
-
-/// Tells why nothing was checked.
-pub(crate) fn tell<W: Write>(alloc: Global, out: &mut W, entries: &[Entry], stop: Stop) -> Ended
-    ensures { TellsOf stop result }
-{
-    match stop {
-        Stop::Memory => say_out_of_memory(out),
-        Stop::Device => say(out, b"device\n", Ended::LoaderFailed),
-        Stop::DeviceFile(index) => {
-            let line = lines::device(alloc, index, name_at(entries, index));
-            say_line(out, line, Ended::LoaderFailed)
-        }
-        Stop::Manifest { place, reason } => {
-            let line = lines::refused_manifest(alloc, place, reason);
-            say_line(out, line, Ended::Said(Status::Refused))
-        }
-        Stop::LongFile(index) => {
-            let line = lines::refused(alloc, index, ABOVE_LIMIT, name_at(entries, index));
-            say_line(out, line, Ended::Said(Status::Refused))
+impl Work {
+    /// How it is told why it was not done.
+    fn style(self) -> Style {
+        match self {
+            Work::Check(_) => Style::Line,
+            Work::Measure(format) => style_of(format),
         }
     }
 }
@@ -118,8 +93,7 @@ fn answer_check<W: Write>(
         Ok(report) => print(alloc, entries, &report, out),
         Err(PackageFault::Memory) => say_out_of_memory(out),
         Err(PackageFault::File { index, fault }) => {
-            let line = lines::refused(alloc, index, fault, name_at(entries, index));
-            say_line(out, line, Ended::Said(Status::Refused))
+            say_refused(alloc, Style::Line, entries, index, fault, out)
         }
     }
 }
@@ -137,7 +111,7 @@ fn answer<W: Write>(
 {
     match work {
         Work::Check(rules) => answer_check(alloc, reader, entries, rules, out),
-        Work::Measure => answer_measure(alloc, reader, entries, out),
+        Work::Measure(format) => answer_measure(alloc, reader, entries, format, out),
     }
 }
 
@@ -154,11 +128,11 @@ fn work_on<L: Loader, W: Write>(
 {
     let entries = match load_manifest(alloc, loader, name) {
         Ok(entries) => entries,
-        Err(stop) => return tell(alloc, out, &[], stop),
+        Err(stop) => return tell(alloc, work.style(), &[], stop, out),
     };
     match take_files::<L, PackageReader>(alloc, loader, entries.as_slice()) {
         Ok(reader) => answer(alloc, work, reader, entries.as_slice(), out),
-        Err(stop) => tell(alloc, out, entries.as_slice(), stop),
+        Err(stop) => tell(alloc, work.style(), entries.as_slice(), stop, out),
     }
 }
 
@@ -180,15 +154,19 @@ pub(crate) fn check<L: Loader, W: Write>(
     }
 }
 
-/// Measures the package of a manifest.
+/// Measures the package of a manifest, and prints the measure in the format that a word names.
 pub(crate) fn measure<L: Loader, W: Write>(
     alloc: Global,
+    format: Option<&str>,
     name: &str,
     loader: &mut L,
     out: &mut W,
 ) -> Ended
-    ensures says { SaysMeasure (L.has loader.old) name.now (W.contents out.old) (W.contents out.new) (status_after result) }
+    ensures says { SaysMeasureOf (L.has loader.old) name.now (named.format_named (option_map (λ w. w.now) format.entry)) (W.contents out.old) (W.contents out.new) (status_after result) }
     ensures cause { HasCause (L.failed loader.old) (L.failed loader.new) result }
 {
-    work_on(alloc, Work::Measure, name, loader, out)
+    match format_named(format) {
+        Ok(format) => work_on(alloc, Work::Measure(format), name, loader, out),
+        Err(reason) => say_line(out, lines::usage(alloc, reason), Ended::Said(Status::Usage)),
+    }
 }

@@ -5,7 +5,7 @@ ghost use Rattle.command_line.specs.Line.{are_plain_rules, are_plain_words, chec
 ghost use Rattle.ringcheck.specs.Drawing.{SaysDrawOf};
 ghost use Rattle.ringcheck.specs.Endings.{HasCause, status_after};
 ghost use Rattle.ringcheck.specs.Folders.{SaysManifest, SaysPage, SaysVersion};
-ghost use Rattle.ringcheck.specs.Measuring.{SaysMeasure};
+ghost use Rattle.ringcheck.specs.Measuring.{SaysMeasureOf};
 ghost use Rattle.ringcheck.specs.Naming as named;
 ghost use Rattle.ringcheck.specs.Printing.{SaysFileOf, kind_named};
 ghost use Rattle.ringcheck.specs.Reporting.{SaysReportOf};
@@ -31,10 +31,10 @@ fn run_to_end<L: Loader, W: Write>(
 ) -> Ended
     ensures check { (r g m : List ℕ) → map (λ w. w.now) words.now ≡ check_words r g m → is_plain_word r ≡ true → is_plain_word g ≡ true
         → is_plain_word m ≡ true → SaysOf (L.has loader.old) m (named.rules_named r g) (W.contents out.old) (W.contents out.new) (status_after result) }
-    ensures report { (r g : List ℕ) (most : Option (List ℕ)) (m : List ℕ) → map (λ w. w.now) words.now ≡ report_words r g most m → is_plain_word r ≡ true → is_plain_word g ≡ true
-        → is_plain_if_some most ≡ true → is_plain_word m ≡ true → SaysReportOf (L.has loader.old) m (named.report_named r g most) (W.contents out.old) (W.contents out.new) (status_after result) }
-    ensures measure { (m : List ℕ) → map (λ w. w.now) words.now ≡ measure_words m → is_plain_word m ≡ true
-        → SaysMeasure (L.has loader.old) m (W.contents out.old) (W.contents out.new) (status_after result) }
+    ensures report { (r g : List ℕ) (most format : Option (List ℕ)) (m : List ℕ) → map (λ w. w.now) words.now ≡ report_words r g most format m → is_plain_word r ≡ true → is_plain_word g ≡ true
+        → is_plain_if_some most ≡ true → is_plain_if_some format ≡ true → is_plain_word m ≡ true → SaysReportOf (L.has loader.old) m (named.report_named r g most format) (W.contents out.old) (W.contents out.new) (status_after result) }
+    ensures measure { (format : Option (List ℕ)) (m : List ℕ) → map (λ w. w.now) words.now ≡ measure_words format m → is_plain_if_some format ≡ true → is_plain_word m ≡ true
+        → SaysMeasureOf (L.has loader.old) m (named.format_named format) (W.contents out.old) (W.contents out.new) (status_after result) }
     ensures draw { (rules : Option (List ℕ × List ℕ)) (m : List ℕ) → map (λ w. w.now) words.now ≡ draw_words rules m → are_plain_rules rules ≡ true → is_plain_word m ≡ true
         → SaysDrawOf (L.has loader.old) m (named.draw_named (option_map (λ both. both.0) rules) (option_map (λ both. both.1) rules)) (W.contents out.old) (W.contents out.new) (status_after result) }
     ensures show { (k f : List ℕ) → map (λ w. w.now) words.now ≡ file_words (codes "show") k f → is_plain_word k ≡ true → is_plain_word f ≡ true
@@ -62,10 +62,11 @@ fn run_to_end<L: Loader, W: Write>(
                 ring,
                 gap,
                 most,
+                format,
                 manifest,
             },
-        ) => report(alloc, ring, gap, most, manifest, loader, out),
-        Ok(Request::Measure { manifest }) => measure(alloc, manifest, loader, out),
+        ) => report(alloc, ring, gap, most, format, manifest, loader, out),
+        Ok(Request::Measure { format, manifest }) => measure(alloc, format, manifest, loader, out),
         Ok(
             Request::Draw {
                 ring,
@@ -99,10 +100,10 @@ pub fn run<L: Loader, W: Write>(
 ) -> Status
     ensures check { (r g m : List ℕ) → map (λ w. w.now) words.now ≡ check_words r g m → is_plain_word r ≡ true → is_plain_word g ≡ true
         → is_plain_word m ≡ true → SaysOf (L.has loader.old) m (named.rules_named r g) (W.contents out.old) (W.contents out.new) result }
-    ensures report { (r g : List ℕ) (most : Option (List ℕ)) (m : List ℕ) → map (λ w. w.now) words.now ≡ report_words r g most m → is_plain_word r ≡ true → is_plain_word g ≡ true
-        → is_plain_if_some most ≡ true → is_plain_word m ≡ true → SaysReportOf (L.has loader.old) m (named.report_named r g most) (W.contents out.old) (W.contents out.new) result }
-    ensures measure { (m : List ℕ) → map (λ w. w.now) words.now ≡ measure_words m → is_plain_word m ≡ true
-        → SaysMeasure (L.has loader.old) m (W.contents out.old) (W.contents out.new) result }
+    ensures report { (r g : List ℕ) (most format : Option (List ℕ)) (m : List ℕ) → map (λ w. w.now) words.now ≡ report_words r g most format m → is_plain_word r ≡ true → is_plain_word g ≡ true
+        → is_plain_if_some most ≡ true → is_plain_if_some format ≡ true → is_plain_word m ≡ true → SaysReportOf (L.has loader.old) m (named.report_named r g most format) (W.contents out.old) (W.contents out.new) result }
+    ensures measure { (format : Option (List ℕ)) (m : List ℕ) → map (λ w. w.now) words.now ≡ measure_words format m → is_plain_if_some format ≡ true → is_plain_word m ≡ true
+        → SaysMeasureOf (L.has loader.old) m (named.format_named format) (W.contents out.old) (W.contents out.new) result }
     ensures draw { (rules : Option (List ℕ × List ℕ)) (m : List ℕ) → map (λ w. w.now) words.now ≡ draw_words rules m → are_plain_rules rules ≡ true → is_plain_word m ≡ true
         → SaysDrawOf (L.has loader.old) m (named.draw_named (option_map (λ both. both.0) rules) (option_map (λ both. both.1) rules)) (W.contents out.old) (W.contents out.new) result }
     ensures show { (k f : List ℕ) → map (λ w. w.now) words.now ≡ file_words (codes "show") k f → is_plain_word k ≡ true → is_plain_word f ≡ true

@@ -8,7 +8,7 @@ ghost use Rattle.ringcheck.specs.Printing as printing;
 
 use crate::ending::{Ended, say, say_line, say_out_of_memory};
 use crate::loading_files::FILE_LIMIT;
-use crate::packages::ABOVE_LIMIT;
+use crate::refusing::ABOVE_LIMIT;
 use crate::{Kind, LoadFault, Loader, Status, lines, rewrite_bytes, show_drill, show_layer};
 use grid_units::{Fail, Reason};
 use std::alloc::Global;

@@ -8,6 +8,7 @@ mod checking;
 mod commands;
 mod devices;
 mod drawn;
+mod formats;
 mod met;
 mod one_file;
 mod refusals;

@@ -1,15 +1,15 @@
-use Rattle.std.proofs.Common.{◌≡◌, ◌∙◌, ap, ap₂, ◌≤◌, length, map, Bor, refl, subst, sym, [], ◌∷◌, Some, None, arith}
+use Rattle.std.proofs.Common.{◌≡◌, ◌∙◌, ap, ap₂, ◌≤◌, length, map, Bor, refl, subst, sym, [], ◌∷◌, Some, None, arith, codes}
 use Rattle.std.proofs.lemmas.List.{length-map}
 use Rattle.clap.specs.Lexer.{usize_max}
 use Rattle.clap.specs.Kinds.{HasKind, Kinds}
 use Rattle.clap.specs.Words.{Text, fault_of, is_simple, is_simple_and_free, subcommand_of, takes}
 use Rattle.command_line.specs.Line.{AsksFor, manifest_words}
 use Rattle.command_line.proofs.Files.{is_draw, is_explain, is_manifest, is_measure, is_report, is_rewrite, is_show}
+use Rattle.command_line.proofs.Behind.{given}
 use Rattle.command_line.proofs.DrawWords.{draw_found, draw_has, draw_taken, rows_of_draw}
 use Rattle.command_line.proofs.ManifestWords.{manifest_found, manifest_taken, no_more_files}
-use Rattle.command_line.proofs.MeasureWords.{manifest_first, measure_found, measure_taken}
-use Rattle.command_line.proofs.MeasureWords as measured
-use Rattle.command_line.proofs.OtherWords.{given, list_found, list_taken, told, version_fault, word_first, word_found, word_taken}
+use Rattle.command_line.proofs.MeasureWords.{measure_found, measure_has, measure_taken, rows_of_measure}
+use Rattle.command_line.proofs.OtherWords.{list_found, list_taken, told, version_fault, word_first, word_found, word_taken}
 use Rattle.command_line.proofs.ReportWords.{report_found, report_has, report_taken, rows_of_report}
 use Rattle.command_line.proofs.RewriteWords.{rewrite_found, rewrite_taken}
 use Rattle.command_line.proofs.ShowWords.{show_found, show_taken}
@@ -26,13 +26,14 @@ returns-in-Some c =
       check = λ r g m e p q s.
           let (rows, found, has) = check_found r g m p q s in
           c.in-Some.ensures.check r g m rows (parsed.1 ∙ ap₂ subcommand_of c.in-Ok.ensures e ∙ found) has;
-      measure = λ m e p.
-          is_measure m (measured.given m ∷ []) (manifest_first m) c.in-Some.request
-          (subst (λ o. AsksFor o c.in-Some.request) (parsed.1 ∙ ap₂ subcommand_of c.in-Ok.ensures e ∙ measure_found m p) c.in-Some.ensures.asked);
-      report = λ r g o m e p q t s.
-          let (ring, gap, most, manifest) = report_has r g o m in
-          is_report r g o m (rows_of_report r g o m) ring gap most manifest c.in-Some.request
-          (subst (λ o. AsksFor o c.in-Some.request) (parsed.1 ∙ ap₂ subcommand_of c.in-Ok.ensures e ∙ report_found r g o m p q t s) c.in-Some.ensures.asked);
+      measure = λ o m e t s.
+          let (format, manifest) = measure_has o m in
+          is_measure o m (rows_of_measure o m) format manifest c.in-Some.request
+          (subst (λ o. AsksFor o c.in-Some.request) (parsed.1 ∙ ap₂ subcommand_of c.in-Ok.ensures e ∙ measure_found o m t s) c.in-Some.ensures.asked);
+      report = λ r g n o m e p q t u s.
+          let (ring, gap, most, format, manifest) = report_has r g n o m in
+          is_report r g n o m (rows_of_report r g n o m) ring gap most format manifest c.in-Some.request
+          (subst (λ o. AsksFor o c.in-Some.request) (parsed.1 ∙ ap₂ subcommand_of c.in-Ok.ensures e ∙ report_found r g n o m p q t u s) c.in-Some.ensures.asked);
       draw = λ o m e p s.
           let (ring, gap, manifest) = draw_has o m in
           is_draw o m (rows_of_draw o m) ring gap manifest c.in-Some.request
@@ -53,7 +54,7 @@ returns-in-Some c =
           is_explain None [] refl c.in-Some.request
           (subst (λ o. AsksFor o c.in-Some.request) (parsed.1 ∙ ap₂ subcommand_of c.in-Ok.ensures e ∙ list_found) c.in-Some.ensures.asked);
       explain = λ w e p.
-          is_explain (Some w) (given w ∷ []) (word_first w) c.in-Some.request
+          is_explain (Some w) (given (codes "word") w ∷ []) (word_first w) c.in-Some.request
           (subst (λ o. AsksFor o c.in-Some.request) (parsed.1 ∙ ap₂ subcommand_of c.in-Ok.ensures e ∙ word_found w p) c.in-Some.ensures.asked);
       version = λ e. let no = sym faultless ∙ ap₂ fault_of c.in-Ok.ensures e ∙ version_fault in cc no;
     }
@@ -66,11 +67,11 @@ returns c =
       check = λ r g m e p q s.
           let memory = c.in-Err.ensures.passes (ap₂ takes c.in-Ok.ensures e ∙ check_taken r g m p q s) in
           rw (c.refusal_for.ensures.memory memory) tt;
-      measure = λ m e p.
-          let memory = c.in-Err.ensures.passes (ap₂ takes c.in-Ok.ensures e ∙ measure_taken m p) in
+      measure = λ o m e t s.
+          let memory = c.in-Err.ensures.passes (ap₂ takes c.in-Ok.ensures e ∙ measure_taken o m t s) in
           rw (c.refusal_for.ensures.memory memory) tt;
-      report = λ r g o m e p q t s.
-          let memory = c.in-Err.ensures.passes (ap₂ takes c.in-Ok.ensures e ∙ report_taken r g o m p q t s) in
+      report = λ r g n o m e p q t u s.
+          let memory = c.in-Err.ensures.passes (ap₂ takes c.in-Ok.ensures e ∙ report_taken r g n o m p q t u s) in
           rw (c.refusal_for.ensures.memory memory) tt;
       draw = λ o m e p s.
           let memory = c.in-Err.ensures.passes (ap₂ takes c.in-Ok.ensures e ∙ draw_taken o m p s) in

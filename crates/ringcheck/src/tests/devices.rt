@@ -1,4 +1,4 @@
-//! Loaders and writers that fail, and want of memory.
+//! Loaders and writers that fail, and running out of memory.
 
 use super::*;
 use std::io::{self, Write};

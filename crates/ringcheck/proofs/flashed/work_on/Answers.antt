@@ -8,10 +8,10 @@ pub returns-in-Err : goal.returns-in-Err
 returns-in-Err g c =
     let has = g.L.Loader.has c.args.loader.now in
     let told = g.W.Write.contents in
-    let after = told c.tell_stop.new.out in
+    let after = told c.tell.new.out in
     record {
-      says = stopped_manifest has c.args.name.now c.args.work (told c.args.out.now) after c.in-Err.stop c.tell_stop.result c.in-Err.ensures.err c.tell_stop.ensures;
-      cause = stopped_cause c.in-Err.stop c.tell_stop.result _ _ c.tell_stop.ensures c.in-Err.ensures.unread;
+      says = stopped_manifest has c.args.name.now c.args.work (told c.args.out.now) after c.in-Err.stop c.tell.result c.in-Err.ensures.err c.tell.ensures;
+      cause = stopped_cause c.in-Err.stop c.tell.result _ _ c.tell.ensures c.in-Err.ensures.unread;
     }
 
 pub returns-in-Ok-take_files : goal.returns-in-Ok-take_files
@@ -33,12 +33,12 @@ pub returns : goal.returns
 returns g c =
     let has = g.L.Loader.has c.args.loader.now in
     let told = g.W.Write.contents in
-    let after = told c.tell_stop-in-Err-take_files.new.out in
+    let after = told c.tell-in-Err-take_files.new.out in
     let (text, held, names, short) = c.in-Ok.ensures.ok in
     record {
       says = stopped_files has c.args.name.now c.args.work (told c.args.out.now) after text c.in-Ok.entries.items held names
-          (g.L.Loader.has c.load_manifest.new.loader) (λ n b. (c.in-Ok.ensures.keeps n b).0) c.in-Err-take_files.stop c.tell_stop-in-Err-take_files.result
-          (rw c.as_slice.ensures.value at c.in-Err-take_files.ensures.err) c.tell_stop-in-Err-take_files.ensures;
-      cause = stopped_cause c.in-Err-take_files.stop c.tell_stop-in-Err-take_files.result _ _ c.tell_stop-in-Err-take_files.ensures
+          (g.L.Loader.has c.load_manifest.new.loader) (λ n b. (c.in-Ok.ensures.keeps n b).0) c.in-Err-take_files.stop c.tell-in-Err-take_files.result
+          (rw c.as_slice.ensures.value at c.in-Err-take_files.ensures.err) c.tell-in-Err-take_files.ensures;
+      cause = stopped_cause c.in-Err-take_files.stop c.tell-in-Err-take_files.result _ _ c.tell-in-Err-take_files.ensures
           (λ u. risen_since _ _ _ c.in-Ok.ensures.counts (c.in-Err-take_files.ensures.unread u));
     }

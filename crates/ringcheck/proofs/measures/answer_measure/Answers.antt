@@ -3,7 +3,7 @@ use Rattle.std.specs.Io.KnownBytes.{Appends}
 use Rattle.std.specs.List.{count_by}
 use Rattle.manifest.specs.declared.Entry.{Entry}
 use Rattle.package_check.specs.Package.{is_copper}
-use Rattle.ringcheck.specs.Measuring.{board_text}
+use Rattle.ringcheck.specs.Measuring.{measure_page}
 use Rattle.ringcheck.specs.Running.{sources}
 use Rattle.ringcheck.proofs.Loaded.{names_among}
 use Rattle.ringcheck.proofs.Working.{measured, refused_file}
@@ -12,7 +12,7 @@ use Rattle.ringcheck.proofs.measures.answer_measure.Goals as goal
 pub returns-in-Err-File : goal.returns-in-Err-File
 returns-in-Err-File g c files same stands =
     let all = sources c.args.entries.now files in
-    refused_file _ _ all (c.in-Err-File.index, c.in-Err-File.fault) c.say_line.result (rw c.in-Err-File.field-0-is at (c.in-Err-File.ensures all stands)) c.say_line.ensures.ends
+    refused_file _ _ c.args.format all (c.in-Err-File.index, c.in-Err-File.fault) c.say_refused.result (rw c.in-Err-File.field-0-is at (c.in-Err-File.ensures all stands)) c.say_refused.ensures
 
 pub returns-in-Ok-measure_board : goal.returns-in-Ok-measure_board
 returns-in-Ok-measure_board g c files same stands =
@@ -24,7 +24,7 @@ returns-in-Ok-measure_board g c files same stands =
     let names = names_among (count_by (λ (e : Entry). is_copper e.role) entries) entries files same in
     let read = c.in-Ok.ensures all stands in
     let is = c.in-Ok-measure_board.ensures.exact in
-    measured (told c.args.out.now) (told c.print.new.out) all c.print.result
+    measured (told c.args.out.now) (told c.print.new.out) c.args.format all c.print.result
     (λ w m. (
       c.print.ensures.ends w m,
       record {
@@ -32,7 +32,7 @@ returns-in-Ok-measure_board g c files same stands =
         read = read;
         measure = measure;
         is = is;
-        written = subst (λ (ns : List (List ℕ)). Appends (told c.args.out.now) (told c.print.new.out) (board_text ns board measure)) (sym names) (c.print.ensures.written w m);
+        written = subst (λ (ns : List (List ℕ)). Appends (told c.args.out.now) (told c.print.new.out) (measure_page c.args.format ns board measure)) (sym names) (c.print.ensures.written w m);
         passes = c.measured_passes.ensures all board measure.meets.ring measure.meets.gap read is.rings is.gaps;
       },
     ))

@@ -12,7 +12,7 @@ use Rattle.ringcheck.proofs.packages.answer_check.Goals as goal
 pub returns-in-Err-File : goal.returns-in-Err-File
 returns-in-Err-File g c files same stands =
     let all = sources c.args.entries.now files in
-    refused_file all c.args.rules _ _ (c.in-Err-File.index, c.in-Err-File.fault) c.say_line.result (rw c.in-Err-File.field-0-is at (c.in-Err-File.ensures.exact all stands)) c.say_line.ensures.ends
+    refused_file all c.args.rules _ _ (c.in-Err-File.index, c.in-Err-File.fault) c.say_refused.result (rw c.in-Err-File.field-0-is at (c.in-Err-File.ensures.exact all stands)) c.say_refused.ensures
 
 pub returns-in-Ok : goal.returns-in-Ok
 returns-in-Ok g c files same stands =
