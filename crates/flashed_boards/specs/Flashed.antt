@@ -28,7 +28,7 @@ pub record IsFlashed (sources : List Source) (flashed : FlashedSurvey) : Type 0 
   pub board : IsBoard sources flashed.board
   pub flashes : AreFlashes sources flashed.flashes
 
--- what is returned is the board of the package with its flashes, or the first file that is refused, want of memory aside (docs/DEFINITIONS.md, Boards with their flashes)
+-- what is returned is the board of the package with its flashes, or the first file that is refused, running out of memory aside (docs/DEFINITIONS.md, Boards with their flashes)
 abbrev pub AnswersFlashed : List Source → Result FlashedSurvey PackageFault → Type 0
 AnswersFlashed sources (Ok flashed) = IsFlashed sources flashed
 AnswersFlashed sources (Err stop.Memory) = ⊤

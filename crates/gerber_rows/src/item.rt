@@ -53,7 +53,7 @@ fn front(bytes: &[u8]) -> &[u8]
 ///
 /// # Errors
 ///
-/// `Memory` where a growth was refused, else the first reason of the reading order.
+/// `Memory` where an allocation failed, else the first reason of the reading order.
 #[tactic(auto, unfolding(crate::specs::Meaning::meaning))]
 pub fn read_item(alloc: Global, plotting: bool, bytes: &[u8]) -> Result<Spelled, Stop>
     requires item { IsEnded bytes.now }

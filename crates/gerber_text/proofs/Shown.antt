@@ -223,7 +223,7 @@ kept_all r gone text h = ap (λ (x : List (List Mark)). commands_from 1 x []) (t
 pub kept_pushed : (r : Progress) (gone : Entries) (text : List ℕ) (h : Holds r gone text) (item : List Mark) → commands_from 1 (take (length h.items) (h.items ++ item ∷ [])) [] ≡ Ok (gone ++ r.commands.items)
 kept_pushed r gone text h item = ap (λ (x : List (List Mark)). commands_from 1 x []) (front_of_push h.items item (length h.items) (omega arith)).1 ∙ kept_all r gone text h
 
--- want of memory stops a reader anywhere, with the commands that it has
+-- running out of memory stops a reader anywhere, with the commands that it has
 pub out_of_memory : (old : Progress) (left : Entries) (bytes : List ℕ) → left ≡ old.commands.items → Refuses old left bytes fails.Memory
 out_of_memory old left bytes same = λ gone text h.
     let here : Stops (marks text) (gone ++ left) fails.Memory = record {

@@ -37,7 +37,7 @@ placed place byte commands = map (λ what. record { place = place; byte = byte; 
 unfoldable pub spelled : ℕ → ℕ → List ℕ → Entries → Result Entries Fault
 spelled place byte bytes before = at place byte (if nat_lt item_limit (length bytes) then Err TooLong else (meaning (is_plotting before) bytes >>= λ commands. Ok (before ++ placed place byte commands)))
 
--- What a call leaves is what reading gives, want of memory aside (docs/DEFINITIONS.md, Answers).
+-- What a call leaves is what reading gives, running out of memory aside (docs/DEFINITIONS.md, Answers).
 abbrev pub Leaves : {X : Type 0} → Result X Fail → Entries → Result Entries Fault → Type 0
 Leaves (Ok x) new read = read ≡ Ok new
 Leaves (Err fails.Memory) new read = Unit {0}

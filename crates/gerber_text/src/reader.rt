@@ -593,7 +593,7 @@ impl WordReader {
     ///
     /// # Errors
     ///
-    /// The first fault that the text shows so far, whatever follows; `Memory` where a growth was refused. A
+    /// The first fault that the text shows so far, whatever follows; `Memory` where an allocation failed. A
     /// reader that has failed gives its failure again.
     pub fn feed(&mut self, piece: &[u8]) -> Result<(), Fail>
         ensures ok { (gone : Entries) (text : List ℕ) → StandsBehind self.old gone text → OnOk result (StandsBehind self.new gone (text ++ piece.now)) }
@@ -612,7 +612,7 @@ impl WordReader {
     }
 
     /// The commands of the items that have ended so far; after a fault those before its place, and after
-    /// want of memory those of some first items.
+    /// running out of memory those of some first items.
     pub fn commands(&self) -> &[Placed<Command>]
         ensures held { result.now ≡ held self.now }
         ensures shown { (gone : Entries) (text : List ℕ) → StandsBehind self.now gone text → Shows text (Ok (gone ++ result.now)) }
@@ -694,7 +694,7 @@ pub struct Kept {
 ///
 /// # Errors
 ///
-/// The first fault of the text; `Memory` where a growth was refused.
+/// The first fault of the text; `Memory` where an allocation failed.
 pub fn read_words(alloc: Global, bytes: &[u8]) -> Result<Vec<Placed<Command>>, Fail>
     ensures exact { Answers entries_of (λ answer. Reads bytes.now answer) result }
     ensures found { IfOk result (λ v. SpellsText bytes.now v.items) }
@@ -706,8 +706,8 @@ pub fn read_words(alloc: Global, bytes: &[u8]) -> Result<Vec<Placed<Command>>, F
     reader.finish()
 }
 
-/// The commands that a text spells, or those of the items before its first fault, and this fault. Where a
-/// growth was refused they are those of some first items.
+/// The commands that a text spells, or those of the items before its first fault, and this fault. Where an
+/// allocation failed they are those of some first items.
 pub fn read_kept(alloc: Global, bytes: &[u8]) -> Kept
     ensures { Keeps bytes.now result.commands.items result.outcome }
 {

@@ -34,7 +34,7 @@ both (Ok x) (Err b) = Err b
 both (Err a) (Ok y) = Err a
 both (Err a) (Err b) = Err (first_reason a b)
 
--- What a call returned, seen by a view, is an answer of which P speaks, want of memory aside (docs/DEFINITIONS.md, Answers).
+-- What a call returned, seen by a view, is an answer of which P speaks, running out of memory aside (docs/DEFINITIONS.md, Answers).
 abbrev pub Answers : {T V : Type 0} → (T → V) → (Result V Fault → Type 0) → Result T Fail → Type 0
 Answers view P (Ok x) = P (Ok (view x))
 Answers view P (Err fails.Memory) = Unit {0}
@@ -46,17 +46,17 @@ AnswersAlways view P (Ok x) = P (Ok (view x))
 AnswersAlways view P (Err fails.Memory) = ⊥
 AnswersAlways view P (Err (fails.Refused f)) = P (Err f)
 
--- A failure is a fault of which P speaks, want of memory aside (docs/DEFINITIONS.md, Answers).
+-- A failure is a fault of which P speaks, running out of memory aside (docs/DEFINITIONS.md, Answers).
 abbrev pub Tells : (Fault → Type 0) → Fail → Type 0
 Tells P fails.Memory = Unit {0}
 Tells P (fails.Refused f) = P f
 
--- What stopped a call is the reason of this answer, want of memory aside (docs/DEFINITIONS.md, Answers).
+-- What stopped a call is the reason of this answer, running out of memory aside (docs/DEFINITIONS.md, Answers).
 abbrev pub Fails : {A : Type 0} → Stop → Result A Reason → Type 0
 Fails stops.Memory answer = Unit {0}
 Fails (stops.Refused reason) answer = answer ≡ Err reason
 
--- What a call returned is this answer, want of memory aside (docs/DEFINITIONS.md, Answers).
+-- What a call returned is this answer, running out of memory aside (docs/DEFINITIONS.md, Answers).
 abbrev pub Gives : {A : Type 0} → Result A Stop → Result A Reason → Type 0
 Gives (Ok x) answer = answer ≡ Ok x
 Gives (Err stop) answer = Fails stop answer

@@ -210,7 +210,7 @@ pub struct Fault {
 /// Why a call gives no value.
 #[derive(Clone, Copy, Debug, PartialEq, Eq)]
 pub enum Fail {
-    /// A growth was refused.
+    /// An allocation failed.
     Memory,
     /// The input was refused.
     Refused(Fault),

@@ -9,7 +9,7 @@ use std::alloc::AllocError;
 /// Why an item, a line or a command gives nothing: a [`Fail`](crate::Fail) whose place is the caller's to add.
 #[derive(Clone, Copy, Debug, PartialEq, Eq)]
 pub enum Stop {
-    /// A growth was refused.
+    /// An allocation failed.
     Memory,
     /// It was refused.
     Refused(Reason),

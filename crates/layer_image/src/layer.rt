@@ -78,8 +78,8 @@ impl Layer {
 ///
 /// # Errors
 ///
-/// The first fault of the text: of its items or of the rules, whichever stands first; `Memory` where a
-/// growth was refused.
+/// The first fault of the text: of its items or of the rules, whichever stands first; `Memory` where an
+/// allocation failed.
 pub fn read_layer(alloc: Global, bytes: &[u8]) -> Result<Layer, Fail>
     ensures { Answers (λ layer. layer) (λ answer. ReadsLayer bytes.now answer) result }
 {

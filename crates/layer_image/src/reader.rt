@@ -160,7 +160,7 @@ impl LayerReader {
     ///
     /// # Errors
     ///
-    /// The first fault that the text shows so far, whatever follows; `Memory` where a growth was refused. A
+    /// The first fault that the text shows so far, whatever follows; `Memory` where an allocation failed. A
     /// reader that has failed gives its failure again.
     pub fn feed(&mut self, piece: &[u8]) -> Result<(), Fail>
         ensures ok { (text : List ℕ) → LayerStandsAfter self.old text → OnOk result (LayerStandsAfter self.new (text ++ piece.now)) }
@@ -175,7 +175,7 @@ impl LayerReader {
     ///
     /// # Errors
     ///
-    /// The first fault of the text; `Memory` where a growth was refused. A reader that has failed gives its
+    /// The first fault of the text; `Memory` where an allocation failed. A reader that has failed gives its
     /// failure again.
     pub fn finish(self) -> Result<Layer, Fail>
         ensures exact { (text : List ℕ) → LayerStandsAfter self text → Answers (λ layer. layer) (λ answer. ReadsLayer text answer) result }

@@ -40,7 +40,7 @@ impl Scan {
     ///
     /// # Errors
     ///
-    /// The fault of the first command that breaks a rule; `Memory` where a growth was refused.
+    /// The fault of the first command that breaks a rule; `Memory` where an allocation failed.
     pub(crate) fn scan(&mut self, alloc: Global, entries: &[Placed<Command>]) -> Result<(), Fail>
         ensures ok { (keep : TheKeep) (before : Entries) → Scanned self.old keep before → OnOk result (Scanned self.new keep (before ++ entries.now)) }
         ensures refused { (keep : TheKeep) (before : Entries) → Scanned self.old keep before → IfErr result (Tells (IsFirstFault (before ++ entries.now))) }

@@ -8,7 +8,7 @@ use csv::{ByteRecord, ReaderBuilder};
 use std::alloc::{AllocError, Global};
 
 /// Every record of a text, the first as the others, of any lengths. A slice can always be read, so
-/// what `csv` refuses here is for want of memory.
+/// what `csv` refuses here is where memory runs out.
 // The reader's buffers would lie in the frame of what runs long after it.
 #[inline(never)]
 pub(crate) fn all_rows(alloc: Global, text: &[u8]) -> Result<Vec<ByteRecord>, AllocError>

@@ -37,7 +37,7 @@ pub record IsBoard (sources : List Source) (board : Survey) : Type 0 where
   pub read : AreRead sources contents
   pub is : board ≡ board_on contents
 
--- what is returned is the board of the package, or the first file that is refused, want of memory aside (docs/DEFINITIONS.md, Packages)
+-- what is returned is the board of the package, or the first file that is refused, running out of memory aside (docs/DEFINITIONS.md, Packages)
 abbrev pub AnswersBoard : List Source → Result Survey PackageFault → Type 0
 AnswersBoard sources (Ok board) = IsBoard sources board
 AnswersBoard sources (Err stop.Memory) = ⊤

@@ -178,18 +178,18 @@ abbrev pub IsAnswer : List Source → GridRules → Result Account (ℕ × Fault
 IsAnswer sources rules (Ok report) = IsReport sources rules report
 IsAnswer sources rules (Err refusal) = IsFirstRefused sources refusal.0 refusal.1
 
--- a refusal that is the answer to a package, want of memory aside (docs/DEFINITIONS.md, Packages)
+-- a refusal that is the answer to a package, running out of memory aside (docs/DEFINITIONS.md, Packages)
 abbrev pub IsRefused : List Source → PackageFault → Type 0
 IsRefused sources stop.Memory = ⊤
 IsRefused sources (stop.File index fault) = IsFirstRefused sources index fault
 
--- what is returned is the answer to the package, want of memory aside (docs/DEFINITIONS.md, Packages)
+-- what is returned is the answer to the package, running out of memory aside (docs/DEFINITIONS.md, Packages)
 abbrev pub AnswersPackage : List Source → GridRules → Result Account PackageFault → Type 0
 AnswersPackage sources rules (Ok report) = IsAnswer sources rules (Ok report)
 AnswersPackage sources rules (Err stop.Memory) = ⊤
 AnswersPackage sources rules (Err (stop.File index fault)) = IsAnswer sources rules (Err (index, fault))
 
--- what is returned is just this answer, want of memory aside (docs/DEFINITIONS.md, Packages)
+-- what is returned is just this answer, running out of memory aside (docs/DEFINITIONS.md, Packages)
 abbrev pub AnswersJust : Result Account (ℕ × Fault) → Result Account PackageFault → Type 0
 AnswersJust answer (Ok report) = answer ≡ Ok report
 AnswersJust answer (Err stop.Memory) = ⊤

@@ -67,8 +67,8 @@ fn rewrite_drill(alloc: Global, bytes: &[u8]) -> Result<Vec<u8>, Fail>
 /// # Errors
 ///
 /// The first fault of the bytes, as [`layer_image::read_layer`] or [`drill_text::read_drill`] gives it;
-/// [`grid_units::Reason::TooLong`] at place 0 and byte 0 where the text would be above 268,435,456 bytes; `Memory` where a
-/// growth was refused.
+/// [`grid_units::Reason::TooLong`] at place 0 and byte 0 where the text would be above 268,435,456 bytes; `Memory` where an
+/// allocation failed.
 pub fn rewrite_bytes(alloc: Global, kind: Kind, bytes: &[u8]) -> Result<Vec<u8>, Fail>
     ensures exact { Answers (λ text. text.items) (Rewrites kind bytes.now) result }
 {

@@ -98,7 +98,7 @@ fn read_holes(alloc: Global, bytes: &[u8]) -> Result<Vec<Hole>, Fail>
 ///
 /// # Errors
 ///
-/// The first fault of the text; `Memory` where a growth was refused.
+/// The first fault of the text; `Memory` where an allocation failed.
 pub fn show_layer(alloc: Global, bytes: &[u8]) -> Result<Vec<u8>, Fail>
     ensures exact { Answers (λ text. text.items) (ShowsLayer bytes.now) result }
 {
@@ -114,7 +114,7 @@ pub fn show_layer(alloc: Global, bytes: &[u8]) -> Result<Vec<u8>, Fail>
 ///
 /// # Errors
 ///
-/// The first fault of the text; `Memory` where a growth was refused.
+/// The first fault of the text; `Memory` where an allocation failed.
 pub fn show_drill(alloc: Global, bytes: &[u8]) -> Result<Vec<u8>, Fail>
     ensures exact { Answers (λ text. text.items) (ShowsDrill bytes.now) result }
 {
