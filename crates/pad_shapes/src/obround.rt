@@ -2,7 +2,7 @@
 
 ghost use Rattle.std.specs.Prelude.{◌≡◌, pos, ◌≤◌, ◌+ℤ◌, ◌-ℤ◌, ◌↔◌, IsSome, IfSome, unsigned_abs};
 ghost use Rattle.pad_shapes.specs.Shapes.{IsHalfSide, IsInObround, end_radius, square_from_axis, obround_covers, max_half_side};
-ghost use Rattle.pad_shapes.specs.ShapeLaws.{obround_holds, obround_holds_slots, obround_between, obround_extent};
+ghost use Rattle.pad_shapes.specs.Inner.ShapeLaws.{obround_holds, obround_holds_slots, obround_between, obround_extent};
 
 use crate::shape::{PadShape, is_half_side};
 use crate::zone::{Zone, beyond_x, beyond_y, deep_within, is_within};

@@ -2,7 +2,7 @@
 
 ghost use Rattle.std.specs.Prelude.{◌≡◌};
 ghost use Rattle.pad_shapes.specs.Pads.{IsInPad, pad_covers, pad_left, pad_right};
-ghost use Rattle.pad_shapes.specs.ShapeLaws.{pad_holds, pad_holds_slots, pad_between, pad_extent};
+ghost use Rattle.pad_shapes.specs.Inner.ShapeLaws.{pad_holds, pad_holds_slots, pad_between, pad_extent};
 
 use crate::disc::Disc;
 use crate::obround::Obround;

@@ -2,7 +2,7 @@
 
 ghost use Rattle.std.specs.Prelude.{◌≡◌, pos, ◌+ℤ◌, ◌-ℤ◌, ◌↔◌, IsSome, IfSome, unsigned_abs};
 ghost use Rattle.pad_shapes.specs.Shapes.{IsHalfSide, IsInRect, rect_covers};
-ghost use Rattle.pad_shapes.specs.ShapeLaws.{rect_holds, rect_holds_slots, rect_between, rect_extent};
+ghost use Rattle.pad_shapes.specs.Inner.ShapeLaws.{rect_holds, rect_holds_slots, rect_between, rect_extent};
 
 use crate::shape::{PadShape, is_half_side};
 use crate::zone::{Zone, beyond_x, beyond_y, deep_within};

@@ -30,7 +30,7 @@ pub use finding::{Drilled, Finding, is_oblique};
 pub use gaps::gap_findings;
 pub use grid_units::Span;
 pub use index::HoleIndex;
-pub use rings::{ring_findings, usual_zone};
+pub use rings::{layer_findings, ring_findings, usual_zone};
 
 #[cfg(test)]
 mod tests;

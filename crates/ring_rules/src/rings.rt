@@ -25,7 +25,11 @@ fn finding_of(layer: usize, hole: usize, drilled: &Drilled) -> Finding
 }
 
 /// Appends the findings of one layer, by the mark of each hole that lacks its ring there.
-fn layer_findings(
+///
+/// # Errors
+///
+/// Where there is no memory.
+pub fn layer_findings(
     findings: &mut Vec<Finding>,
     layer: usize,
     holes: &[Drilled],
