@@ -2,6 +2,7 @@
 //! pieces.
 #![tactic(auto)]
 
+pub mod laws;
 mod placed;
 mod reader;
 mod sayable_lists;
@@ -12,8 +13,8 @@ pub use gerber_rows::{
     QuadrantMode, Sizes, Standard, Template,
 };
 pub use placed::Placed;
-pub use reader::{Kept, WordReader, one_reading, read_kept, read_words};
-pub use sayable_lists::{sayable, sayable_texts};
+pub use reader::{Kept, WordReader, read_kept, read_words};
+pub use sayable_lists::sayable;
 pub use writer::{write_commands, write_placed};
 
 #[cfg(test)]

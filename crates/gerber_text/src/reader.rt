@@ -1,16 +1,15 @@
 //! A Gerber text, read whole or in pieces.
 
-ghost use Rattle.std.specs.Prelude.{◌≡◌, ◌↔◌, List, Result, ℕ, ◌+◌, ◌≤◌, ◌<◌, ◌||◌, ◌==◌, true, false, Bool, if◌then◌else◌, Ok, OnOk, OnErr, IfOk, IfErr, IfNone, IfSome, take, length, vec_len, slice_index, All, IsTrue, map, ◌++◌, [], ◌∷◌, unwrap_or};
+ghost use Rattle.std.specs.Prelude.{◌≡◌, List, ℕ, ◌+◌, ◌≤◌, ◌<◌, ◌||◌, ◌==◌, true, false, Bool, if◌then◌else◌, Ok, OnOk, OnErr, IfOk, IfErr, IfNone, IfSome, take, length, vec_len, slice_index, All, IsTrue, map, ◌++◌, [], ◌∷◌, unwrap_or};
 ghost use Rattle.std.specs.List.{list_all};
-ghost use Rattle.grid_units.specs.declared.fault.Fault.{Fault};
 ghost use Rattle.grid_units.specs.declared.fault.Fail.TheVariants.{Refused};
+ghost use Rattle.grid_units.specs.Limits.{item_limit, text_limit};
 ghost use Rattle.grid_units.specs.Results.{fault, Answers};
 ghost use Rattle.gerber_rows.specs.Items.{ender, IsEnded};
 ghost use Rattle.gerber_rows.specs.Rows.{modes_of};
 ghost use Rattle.gerber_rows.specs.declared.command.Command.TheVariants.{Mode};
 ghost use Rattle.gerber_text.specs.Reading.{Entries, Shows, spelled, placed, Leaves, plot_of, is_plotting, Reads, SpellsText, Keeps, KeptBefore, entries_of, entries_behind, is_blank};
 ghost use Rattle.gerber_text.specs.Inner.Bytes.{IsInside, IsFront, follows_or_drops};
-ghost use Rattle.gerber_text.specs.Reasons.{IsReasonOfReading};
 ghost use Rattle.gerber_text.specs.Writing.{without_places, sayable};
 
 use crate::placed::Placed;
@@ -39,8 +38,8 @@ pub(crate) struct Progress {
     ended: bool,
     plotting: bool,
     ghost counted: { items ≤ offset },
-    ghost in_text: { offset ≤ 268435456 },
-    ghost in_item: { vec_len item ≤ 1048576 },
+    ghost in_text: { offset ≤ text_limit },
+    ghost in_item: { vec_len item ≤ item_limit },
 }
 
 fn is_break(byte: u8) -> bool
@@ -215,7 +214,7 @@ fn spell(
     commands: &mut Vec<Placed<Command>>,
 ) -> Result<bool, Fail>
     requires item { IsEnded item.now }
-    requires short { length item.now ≤ 1048576 }
+    requires short { length item.now ≤ item_limit }
     ensures spelled { (gone : Entries) → plotting ≡ is_plotting (gone ++ commands.old.items) → Leaves result (gone ++ commands.new.items) (spelled place byte item.now (gone ++ commands.old.items)) }
     ensures plotting { (gone : Entries) → plotting ≡ is_plotting (gone ++ commands.old.items) → IfOk result (λ new. new ≡ is_plotting (gone ++ commands.new.items)) }
     ensures err { OnErr result (commands.new.items ≡ commands.old.items) }
@@ -272,7 +271,7 @@ impl Progress {
     /// Drops a CR or LF.
     fn skip_break(&mut self, byte: u8)
         requires dropped { is_line_break byte ≡ true }
-        requires room { self.old.offset < 268435456 }
+        requires room { self.old.offset < text_limit }
         ensures offset { self.new.offset ≡ self.old.offset + 1 }
         ensures ok { Advances self.old self.new (byte ∷ []) }
     {
@@ -284,7 +283,7 @@ impl Progress {
         requires running { self.old.ended ≡ false }
         requires fresh { vec_len self.old.item ≡ 0 }
         requires begins { BeginsWith bytes.now operation.len (modes_of operation.mode ++ Operate operation.action operation.x operation.y operation.i operation.j ∷ []) }
-        requires room { self.old.offset + length bytes.now ≤ 268435456 }
+        requires room { self.old.offset + length bytes.now ≤ text_limit }
         ensures offset { OnOk result (self.new.offset ≡ self.old.offset + operation.len) }
         ensures ok { OnOk result (Advances self.old self.new (take operation.len bytes.now)) }
         ensures err { IfErr result (Refuses self.old self.new.commands.items (take operation.len bytes.now)) }
@@ -313,14 +312,14 @@ impl Progress {
         Ok(())
     }
 
-    /// Takes the operation at the start of these bytes, where it stands there plainly, else the first byte of
-    /// an item, and says how many bytes these are.
+    /// Takes the common operation at the start of these bytes, where it stands there plainly; else the item, where
+    /// it stands there whole; else one byte. Returns how many bytes it took.
     fn start(&mut self, bytes: &[u8]) -> Result<usize, Fail>
         requires running { self.old.ended ≡ false }
         requires fresh { vec_len self.old.item ≡ 0 }
         requires some { 0 < length bytes.now }
         requires inside { IsInside 42 (slice_index bytes.now 0) }
-        requires room { self.old.offset + length bytes.now ≤ 268435456 }
+        requires room { self.old.offset + length bytes.now ≤ text_limit }
         ensures taken { IfOk result (λ n. (0 < n) × (n ≤ length bytes.now) × (self.new.offset ≡ self.old.offset + n)) }
         ensures ok { IfOk result (λ n. Advances self.old self.new (take n bytes.now)) }
         ensures err { IfErr result (Refuses self.old self.new.commands.items bytes.now) }
@@ -342,7 +341,7 @@ impl Progress {
         requires fresh { vec_len self.old.item ≡ 0 }
         requires some { 0 < length bytes.now }
         requires inside { IsInside 42 (slice_index bytes.now 0) }
-        requires room { self.old.offset + length bytes.now ≤ 268435456 }
+        requires room { self.old.offset + length bytes.now ≤ text_limit }
         ensures taken { IfOk result (λ n. (0 < n) × (n ≤ length bytes.now) × (self.new.offset ≡ self.old.offset + n)) }
         ensures ok { IfOk result (λ n. Advances self.old self.new (take n bytes.now)) }
         ensures err { IfErr result (Refuses self.old self.new.commands.items bytes.now) }
@@ -364,7 +363,7 @@ impl Progress {
         requires running { self.old.ended ≡ false }
         requires fresh { vec_len self.old.item ≡ 0 }
         requires front { IsFront bytes.now len }
-        requires room { self.old.offset + length bytes.now ≤ 268435456 }
+        requires room { self.old.offset + length bytes.now ≤ text_limit }
         ensures offset { OnOk result (self.new.offset ≡ self.old.offset + len) }
         ensures ok { OnOk result (Advances self.old self.new (take len bytes.now)) }
         ensures err { IfErr result (Refuses self.old self.new.commands.items (take len bytes.now)) }
@@ -391,7 +390,7 @@ impl Progress {
         requires running { self.old.ended ≡ false }
         requires fresh { vec_len self.old.item ≡ 0 }
         requires inside { IsInside 42 byte }
-        requires room { self.old.offset < 268435456 }
+        requires room { self.old.offset < text_limit }
         ensures offset { OnOk result (self.new.offset ≡ self.old.offset + 1) }
         ensures ok { OnOk result (Advances self.old self.new (byte ∷ [])) }
         ensures err { IfErr result (Refuses self.old self.new.commands.items (byte ∷ [])) }
@@ -407,7 +406,7 @@ impl Progress {
         requires running { self.old.ended ≡ false }
         requires begun { 0 < vec_len self.old.item }
         requires inside { All (IsInside (ender self.old.item.items)) run.now }
-        requires room { self.old.offset + length run.now ≤ 268435456 }
+        requires room { self.old.offset + length run.now ≤ text_limit }
         ensures offset { OnOk result (self.new.offset ≡ self.old.offset + length run.now) }
         ensures ok { OnOk result (Advances self.old self.new run.now) }
         ensures err { IfErr result (Refuses self.old self.new.commands.items run.now) }
@@ -424,7 +423,7 @@ impl Progress {
     fn close(&mut self, last: u8) -> Result<(), Fail>
         requires running { self.old.ended ≡ false }
         requires last { last ≡ ender self.old.item.items }
-        requires room { self.old.offset < 268435456 }
+        requires room { self.old.offset < text_limit }
         ensures offset { OnOk result (self.new.offset ≡ self.old.offset + 1) }
         ensures ok { OnOk result (Advances self.old self.new (last ∷ [])) }
         ensures err { IfErr result (Refuses self.old self.new.commands.items (last ∷ [])) }
@@ -453,7 +452,7 @@ impl Progress {
     /// Passes over bytes behind the end of the text.
     fn pass(&mut self, bytes: &[u8]) -> Result<(), Fail>
         requires ended { self.old.ended ≡ true }
-        requires room { self.old.offset + length bytes.now ≤ 268435456 }
+        requires room { self.old.offset + length bytes.now ≤ text_limit }
         ensures offset { OnOk result (self.new.offset ≡ self.old.offset + length bytes.now) }
         ensures ok { OnOk result (Advances self.old self.new bytes.now) }
         ensures err { IfErr result (Refuses self.old self.new.commands.items bytes.now) }
@@ -470,7 +469,7 @@ impl Progress {
     /// Takes some of the bytes, from the first on, and says how many.
     fn take_some(&mut self, bytes: &[u8]) -> Result<usize, Fail>
         requires some { 0 < length bytes.now }
-        requires room { self.old.offset + length bytes.now ≤ 268435456 }
+        requires room { self.old.offset + length bytes.now ≤ text_limit }
         ensures taken { IfOk result (λ n. (0 < n) × (n ≤ length bytes.now) × (self.new.offset ≡ self.old.offset + n)) }
         ensures ok { IfOk result (λ n. Advances self.old self.new (take n bytes.now)) }
         ensures err { IfErr result (Refuses self.old self.new.commands.items bytes.now) }
@@ -497,7 +496,7 @@ impl Progress {
 
     /// Takes all of the bytes.
     fn take_all(&mut self, bytes: &[u8]) -> Result<(), Fail>
-        requires room { self.old.offset + length bytes.now ≤ 268435456 }
+        requires room { self.old.offset + length bytes.now ≤ text_limit }
         ensures offset { OnOk result (self.new.offset ≡ self.old.offset + length bytes.now) }
         ensures ok { OnOk result (Advances self.old self.new bytes.now) }
         ensures err { IfErr result (Refuses self.old self.new.commands.items bytes.now) }
@@ -715,13 +714,3 @@ pub fn read_kept(alloc: Global, bytes: &[u8]) -> Kept
     let _ = reader.feed(bytes);
     reader.into_kept()
 }
-
-/// A text shows one thing, and has one reading, which is some commands just where the text spells them, or a fault for one
-/// of the reasons of reading.
-pub fn one_reading()
-    ensures shown { (text : List ℕ) (a b : Result Entries Fault) → Shows text a → Shows text b → a ≡ b }
-    ensures read { (text : List ℕ) (a b : Result Entries Fault) → Reads text a → Reads text b → a ≡ b }
-    ensures some { (text : List ℕ) → (answer : Result Entries Fault) × Reads text answer }
-    ensures spelled { (text : List ℕ) (commands : Entries) → SpellsText text commands ↔ Reads text (Ok commands) }
-    ensures reasons { (text : List ℕ) (f : Fault) → Reads text (Err f) → IsReasonOfReading f.reason }
-{}

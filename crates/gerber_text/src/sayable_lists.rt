@@ -1,9 +1,8 @@
 //! Lists of commands that some text spells.
 
-ghost use Rattle.std.specs.Prelude.{◌≡◌, true, List, ℕ};
+ghost use Rattle.std.specs.Prelude.{◌≡◌};
 ghost use Rattle.gerber_sayable.specs.Sayable.{is_finish};
-ghost use Rattle.gerber_text.specs.Reading.{Entries, SpellsText};
-ghost use Rattle.gerber_text.specs.Writing.{without_places, sayable};
+ghost use Rattle.gerber_text.specs.Writing.{sayable};
 
 use gerber_rows::Command;
 use gerber_sayable::is_sayable;
@@ -29,8 +28,3 @@ pub fn sayable(commands: &[Command]) -> bool
     }
     ended
 }
-
-/// The commands that a text spells are sayable.
-pub fn sayable_texts()
-    ensures { (text : List ℕ) (commands : Entries) → SpellsText text commands → sayable (without_places commands) ≡ true }
-{}

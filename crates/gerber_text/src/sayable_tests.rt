@@ -1,5 +1,6 @@
+use crate::laws::sayable_texts;
 use crate::tests::is_same_in_pieces;
-use crate::{Command, Placed, read_words, sayable, sayable_texts, write_commands, write_placed};
+use crate::{Command, Placed, read_words, sayable, write_commands, write_placed};
 use gerber_rows::{Action, Block, Boxed, Coordinate, Format, Pieces, Template};
 use grid_units::{Dec, Fail, Text};
 use std::alloc::{AllocError, Global};

@@ -52,8 +52,8 @@ fn lines_of(alloc: Global, commands: &[Command]) -> Result<Vec<u8>, AllocError>
 ///
 /// # Errors
 ///
-/// [`Reason::TooLong`] at place 0 where the text would be above 268,435,456 bytes; `Memory` where a growth
-/// was refused.
+/// [`Reason::TooLong`] at place 0 where the text would be above 268,435,456 bytes; `Memory` where an
+/// allocation failed.
 pub fn write_commands(alloc: Global, commands: &[Command]) -> Result<Vec<u8>, Fail>
     ensures exact { Answers bytes_of_vector (λ answer. answer ≡ canonical_text commands.now) result }
     ensures reads_back { sayable commands.now ≡ true → IfOk result (λ text. ReadsAs text.items commands.now) }
@@ -76,8 +76,8 @@ fn lines_of_placed(alloc: Global, commands: &[Placed<Command>]) -> Result<Vec<u8
 ///
 /// # Errors
 ///
-/// [`Reason::TooLong`] at place 0 where the text would be above 268,435,456 bytes; `Memory` where a growth
-/// was refused.
+/// [`Reason::TooLong`] at place 0 where the text would be above 268,435,456 bytes; `Memory` where an
+/// allocation failed.
 pub fn write_placed(alloc: Global, commands: &[Placed<Command>]) -> Result<Vec<u8>, Fail>
     ensures exact { Answers bytes_of_vector (λ answer. answer ≡ canonical_text (without_places commands.now)) result }
     ensures reads_back { sayable (without_places commands.now) ≡ true → IfOk result (λ text. ReadsAs text.items (without_places commands.now)) }

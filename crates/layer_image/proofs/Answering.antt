@@ -17,7 +17,7 @@ use Rattle.gerber_text.proofs.Some.{some_reading}
 use Rattle.layer_image.specs.Faults.{fault_of, IsFirstFault}
 use Rattle.layer_image.specs.Layers.{EachTextAnswers, LayerImage, ReadsLayer, image_of}
 use Rattle.layer_image.specs.Rules.{broken_rule}
-use Rattle.layer_image.proofs.Reading.{kept_all}
+use Rattle.layer_image.proofs.Reading.{by_both, kept_all}
 use Rattle.layer_image.proofs.Unique.{spelled_place, rest_place, ended_place}
 use Rattle.grid_units.specs.Limits.{text_limit, item_limit}
 use Rattle.gerber_text.specs.Writing.{without_places}
@@ -94,7 +94,7 @@ kept_before_fault text f r = elim (read_stop (length text) r.items r.rest f (sym
 answer_of : (text : List ℕ) (r : Result Entries Fault) → Reads text r → (answer : Result LayerImage Fault) × ReadsLayer text answer
 answer_of text (Ok entries) r = elim (first_or_legal entries) [
   | inl first ↦ let all = kept_all text entries r in (Err first.0, inl (all.0, entries, all.1, first.1))
-  | inr legal ↦ (Ok (image_of entries), (r, legal, refl))
+  | inr legal ↦ (Ok (image_of entries), by_both text entries (image_of entries) r legal refl)
 ]
 answer_of text (Err f) r =
     let before = kept_before_fault text f r in

@@ -10,7 +10,7 @@ use Rattle.gerber_text.specs.Reading.{Entries}
 use Rattle.layer_image.specs.declared.flashes.Keep.{Keep}
 use Rattle.layer_image.specs.declared.judge.Judge.{Judge}
 use Rattle.grid_units.specs.declared.stop.Stop.{Stop}
-use Rattle.layer_image.specs.Knows.{Judges}
+use Rattle.layer_image.specs.Inner.Knows.{Judges}
 use Rattle.grid_units.specs.declared.stop.Stop.TheVariants as stop
 use Rattle.layer_image.specs.declared.scan.Scan.{Scan}
 use Rattle.layer_image.specs.Standing.{Meets}

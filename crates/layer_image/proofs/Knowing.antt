@@ -11,7 +11,7 @@ use Rattle.layer_image.specs.declared.judge.Judge.{Judge}
 use Rattle.layer_image.specs.Lookback.{standing, single, unit_named, format_named, region_named, definition_named, defines_macro, number_named, x_named, y_named, turn_named, scale_named, block_named}
 use Rattle.layer_image.specs.Rules.{broken_rule, first_broken}
 use Rattle.layer_image.specs.Flashes.{flashes_at, flashes_of, pads_of, pad_in, is_other, others_in}
-use Rattle.layer_image.specs.Knows.{Knows, Takes, after, told}
+use Rattle.layer_image.specs.Inner.Knows.{Knows, Takes, after, told}
 use Rattle.grid_units.proofs.Lookbacks.{last_named-more, last_or-more, list_any-more, flat_positions-more}
 use Rattle.gerber_rows.specs.Pieces.{one}
 

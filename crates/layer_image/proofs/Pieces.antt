@@ -18,7 +18,7 @@ use Rattle.layer_image.specs.declared.flashes.Keep.{Keep}
 use Rattle.layer_image.specs.Faults.{IsFirstFault}
 use Rattle.layer_image.specs.Layers.{LayerImage, ReadsLayer}
 use Rattle.grid_units.specs.Lists.{IsLegal}
-use Rattle.layer_image.specs.Standing.{ShowsLayerFault, CoreEnds, ReadsFlashes, SumImage, ReadsSum}
+use Rattle.layer_image.specs.Standing.{ShowsLayerFault, CoreEnds, FlashImage, ReadsFlashSum, ReadsFlashes, SumImage, ReadsSum}
 use Rattle.grid_units.specs.Limits.{text_limit}
 use Rattle.gerber_text.specs.Writing.{without_places}
 use Rattle.layer_image.specs.Rules.{broken_rule}
@@ -94,3 +94,7 @@ ends_sum text T view keep (fails.Refused f) h = h
 pub ends_flashes : (text : List ℕ) (T : Type 0) (view : T → List Flash) (keep : Keep) (e : Fail) → CoreEnds text keep (Err e) → Answers view (ReadsFlashes text) (Err e)
 ends_flashes text T view keep fails.Memory h = tt
 ends_flashes text T view keep (fails.Refused f) h = h
+
+pub ends_flash_sum : (text : List ℕ) (T : Type 0) (view : T → FlashImage) (keep : Keep) (e : Fail) → CoreEnds text keep (Err e) → Answers view (ReadsFlashSum text) (Err e)
+ends_flash_sum text T view keep fails.Memory h = tt
+ends_flash_sum text T view keep (fails.Refused f) h = h

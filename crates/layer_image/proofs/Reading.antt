@@ -9,6 +9,7 @@ use Rattle.grid_units.proofs.Binds.{bind_ok}
 use Rattle.gerber_text.specs.Cut.{Mark, has_end}
 use Rattle.gerber_text.specs.Reading.{Entries, commands_from, shown, Reads, KeptOf, Keeps}
 use Rattle.gerber_text.proofs.Shown.{shown_spelled}
+use Rattle.gerber_text.proofs.Spelling.{reads_spells}
 use Rattle.layer_image.specs.Faults.{IsFirstFault}
 use Rattle.layer_image.specs.Layers.{LayerImage, ReadsLayer, image_of}
 use Rattle.grid_units.specs.Lists.{IsLegal}
@@ -53,4 +54,4 @@ by_reading text entries (fails.Refused f) k h = inr (entries, k.0, k.1, h)
 
 -- no fault
 pub by_both : (text : List ℕ) (entries : Entries) (layer : LayerImage) → Reads text (Ok entries) → IsLegal broken_rule (without_places entries) → layer ≡ image_of entries → ReadsLayer text (Ok layer)
-by_both text entries layer r legal is = subst (λ (l : LayerImage). ReadsLayer text (Ok l)) (sym is) (r, legal, refl)
+by_both text entries layer r legal is = subst (λ (l : LayerImage). ReadsLayer text (Ok l)) (sym is) (record { spells = reads_spells text entries r; legal = legal }, refl)

@@ -16,6 +16,7 @@ use Rattle.gerber_rows.specs.Meaning.{meaning}
 use Rattle.gerber_text.specs.declared.placed.Placed.{Placed}
 use Rattle.gerber_text.specs.Cut.{Mark, marks, bytes_of, first_offset, has_end}
 use Rattle.gerber_text.specs.Reading.{Entries, KeptOf, Reads, behind_end, commands_from, is_blank, is_plotting, may_follow, placed, read_in, shown, spelled}
+use Rattle.gerber_text.proofs.Spelling.{spells_reads}
 use Rattle.gerber_text.proofs.Unique.{one_read, same_items}
 use Rattle.layer_image.specs.Faults.{fault_of, IsFirstFault}
 use Rattle.layer_image.specs.Layers.{LayerImage, ReadsLayer, image_of}
@@ -225,13 +226,17 @@ module _ (text : List ℕ) where
       let more = among n m cs ds h k le in
       one_first ds f g (subst (λ (es : Entries). IsFirstFault es f) (sym more.1) (longer cs more.0 f first)) second
 
+  -- reading gives the commands of a layer's text
+  computed : {image : LayerImage} → ReadsLayer text (Ok image) → Reads text (Ok image.commands)
+  computed {image} h = spells_reads text image.commands h.0.spells
+
   not_both : (image : LayerImage) (f : Fault) → ReadsLayer text (Ok image) → ReadsLayer text (Err f) → ⊥
   not_both image f h (inl k) =
-      let all = kept_all text image.commands h.0 in
+      let all = kept_all text image.commands (computed h) in
       let same = (same_items (marks (take text_limit text)) k.2.items all.1.items k.2.rest all.1.rest k.2.splits all.1.splits).0 in
       let within : k.0 ≤ length all.1.items = subst (λ (items : List (List Mark)). k.0 ≤ length items) same k.2.within in
-      no_early_fault k.0 all.0 k.1 image.commands f k.2 all.1 (omega (arith, within, all.2)) h.1 k.3
-  not_both image f h (inr k) = differ (one_read text (Err f) (Ok image.commands) k.1 h.0)
+      no_early_fault k.0 all.0 k.1 image.commands f k.2 all.1 (omega (arith, within, all.2)) h.0.legal k.3
+  not_both image f h (inr k) = differ (one_read text (Err f) (Ok image.commands) k.1 (computed h))
 
   by_two_rules : (f g : Fault) → (n m : ℕ) (cs ds : Entries) → KeptOf text n cs → KeptOf text m ds → IsFirstFault cs f → IsFirstFault ds g → f ≡ g
   by_two_rules f g n m cs ds h k first second = elim (cases_lt m n) [
@@ -251,8 +256,8 @@ module _ (text : List ℕ) where
 
   pub one_layer : (a b : Result LayerImage Fault) → ReadsLayer text a → ReadsLayer text b → a ≡ b
   one_layer (Ok a) (Ok b) h k =
-      let same = ok_same (one_read text (Ok a.commands) (Ok b.commands) h.0 k.0) in
-      ap Ok (h.2 ∙ (ap image_of same ∙ sym k.2))
+      let same = ok_same (one_read text (Ok a.commands) (Ok b.commands) (computed h) (computed k)) in
+      ap Ok (h.1 ∙ (ap image_of same ∙ sym k.1))
   one_layer (Ok a) (Err g) h k = absurd (not_both a g h k)
   one_layer (Err f) (Ok b) h k = absurd (not_both b f k h)
   one_layer (Err f) (Err g) h k = ap Err (same_fault f g h k)

@@ -29,11 +29,16 @@ image_of entries = record {
   file_function = file_function_of (without_places entries);
 }
 
--- A text reads as a layer: it spells these commands, they are legal, and the rest follows from them. Or it has this fault:
+-- a layer's text of these commands: it is cut into items that spell them, and they are legal (docs/DEFINITIONS.md, Layers)
+pub record IsLayerText (text : List ℕ) (commands : Entries) : Type 0 where
+  pub spells : SpellsText text commands
+  pub legal : IsLegal broken_rule (without_places commands)
+
+-- A text reads as a layer: it is the text of the layer's commands, and the rest follows from them. Or it has this fault:
 -- some first items of it spell commands of which this one is the first to break a rule; or it is the fault of reading,
 -- and the commands before it are legal (docs/DEFINITIONS.md, Layers).
 abbrev pub ReadsLayer : List ℕ → Result LayerImage Fault → Type 0
-ReadsLayer text (Ok image) = Reads text (Ok image.commands) × IsLegal broken_rule (without_places image.commands) × (image ≡ image_of image.commands)
+ReadsLayer text (Ok image) = IsLayerText text image.commands × (image ≡ image_of image.commands)
 ReadsLayer text (Err f) =
     ((kept : ℕ) × (entries : Entries) × KeptOf text kept entries × IsFirstFault entries f)
     ⊎ ((entries : Entries) × Reads text (Err f) × KeptBefore text (fails.Refused f) entries × IsLegal broken_rule (without_places entries))
@@ -47,18 +52,13 @@ EqualCommands = (s t : List ℕ) (a b : LayerImage) → ReadsLayer s (Ok a) → 
 abbrev pub OneReading : Type 0
 OneReading = (text : List ℕ) (a b : Result LayerImage Fault) → ReadsLayer text a → ReadsLayer text b → a ≡ b
 
--- a text spells these commands, and they are legal (docs/DEFINITIONS.md, Layers)
-pub record IsLayerText (text : List ℕ) (commands : Entries) : Type 0 where
-  pub spells : SpellsText text commands
-  pub legal : IsLegal broken_rule (without_places commands)
-
--- a text reads as the layer of commands just where it spells them and they are legal (docs/DEFINITIONS.md, Layers)
+-- a text is that of a layer's commands just where reading it gives them and they are legal (docs/DEFINITIONS.md, Layers)
 abbrev pub LayerTexts : Type 0
-LayerTexts = (text : List ℕ) (commands : Entries) → IsLayerText text commands ↔ ReadsLayer text (Ok (image_of commands))
+LayerTexts = (text : List ℕ) (commands : Entries) → IsLayerText text commands ↔ (Reads text (Ok commands) × IsLegal broken_rule (without_places commands))
 
--- what a text reads as is the layer of its commands (docs/DEFINITIONS.md, Layers)
+-- a text reads as a layer just where reading it gives the layer's commands, they are legal and the rest follows from them (docs/DEFINITIONS.md, Layers)
 abbrev pub LayersOfTexts : Type 0
-LayersOfTexts = (text : List ℕ) (image : LayerImage) → ReadsLayer text (Ok image) → IsLayerText text image.commands × (image ≡ image_of image.commands)
+LayersOfTexts = (text : List ℕ) (image : LayerImage) → ReadsLayer text (Ok image) ↔ (Reads text (Ok image.commands) × IsLegal broken_rule (without_places image.commands) × (image ≡ image_of image.commands))
 
 -- A fault of a layer has the reason of one of the fifteen rules, or it is the fault of its text (docs/DEFINITIONS.md, Layers).
 abbrev pub LayerReasons : Type 0

@@ -6,9 +6,9 @@ pub mod Flashes
 pub mod Rules
 pub mod Tables
 pub mod Keeping
-pub mod Knows
 pub mod InForce
 pub mod Faults
 pub mod Functions
 pub mod Layers
 pub mod Standing
+pub mod Inner

@@ -16,6 +16,7 @@ use Rattle.grid_units.specs.declared.stop.Stop.TheVariants.{Memory, Refused}
 use Rattle.layer_image.specs.declared.scan.Scan.{Scan}
 use Rattle.layer_image.specs.declared.reader.Core.{Core}
 use Rattle.layer_image.specs.declared.reader.FlashReader.{FlashReader}
+use Rattle.layer_image.specs.declared.reader.FlashSum.{FlashSum}
 use Rattle.layer_image.specs.declared.reader.LayerReader.{LayerReader}
 use Rattle.layer_image.specs.declared.reader.SumReader.{SumReader}
 use Rattle.layer_image.specs.declared.reader.LayerSum.{LayerSum}
@@ -24,7 +25,7 @@ use Rattle.layer_image.specs.Faults.{fault_of, IsFirstFault}
 use Rattle.layer_image.specs.Flashes.{others_in}
 use Rattle.layer_image.specs.Functions.{file_function_of}
 use Rattle.layer_image.specs.Keeping.{keeps_commands}
-use Rattle.layer_image.specs.Knows.{Knows}
+use Rattle.layer_image.specs.Inner.Knows.{Knows}
 use Rattle.layer_image.specs.Layers.{LayerImage, ReadsLayer}
 use Rattle.layer_image.specs.Rules.{broken_rule}
 use Rattle.gerber_text.specs.Writing.{without_places}
@@ -127,3 +128,24 @@ sum_failure reader = reader.core.failed
 -- the reader has read this text, which shows no fault of a layer (docs/DEFINITIONS.md, Reading in pieces)
 abbrev pub SumStandsAfter : SumReader → List ℕ → Type 0
 SumStandsAfter reader text = CoreStands reader.core text
+
+-- ---- the reader for flashes, for a package
+
+-- what a package needs of a layer whose flashes are kept (docs/DEFINITIONS.md, Boards with their flashes)
+pub record FlashImage : Type 0 where
+  pub flashes : List Flash
+  pub other : ℕ
+  pub file_function : Option (List ℕ)
+
+-- the same of a layer that was read (docs/DEFINITIONS.md, Boards with their flashes)
+abbrev pub flash_image : LayerImage → FlashImage
+flash_image image = record { flashes = image.flashes; other = others_in image.flashes; file_function = image.file_function }
+
+-- what was returned, as lists (docs/DEFINITIONS.md, Boards with their flashes)
+abbrev pub flash_view : FlashSum → FlashImage
+flash_view sum = record { flashes = sum.flashes.items; other = sum.other; file_function = sum.file_function }
+
+-- a text has the flashes, their number and the file function of the layer that it reads as, or its fault (docs/DEFINITIONS.md, Boards with their flashes)
+abbrev pub ReadsFlashSum : List ℕ → Result FlashImage Fault → Type 0
+ReadsFlashSum text (Ok sum) = (image : LayerImage) × ReadsLayer text (Ok image) × (sum ≡ flash_image image)
+ReadsFlashSum text (Err f) = ReadsLayer text (Err f)

@@ -8,7 +8,7 @@ ghost use Rattle.layer_image.specs.InForce.{IsFastPath, changes_force};
 ghost use Rattle.layer_image.specs.Flashes.{is_flash};
 ghost use Rattle.layer_image.specs.Rules.{first_broken};
 ghost use Rattle.layer_image.specs.Keeping.{flash_count};
-ghost use Rattle.layer_image.specs.Knows.{Knows, Judges, told};
+ghost use Rattle.layer_image.specs.Inner.Knows.{Knows, Judges, told};
 
 use crate::flash::Flash;
 use crate::flashes::{Flashes, Keep};

@@ -1,4 +1,4 @@
-//! What is in force when a command comes: its unit and decimals, its points, its aperture, and what it would flash.
+//! The graphics state as one command sees it: its unit and decimals, its points, its aperture, and what it would flash.
 
 ghost use Rattle.std.specs.Prelude.{◌≡◌, ◌≤◌, IfSome, false};
 ghost use Rattle.std.specs.List.{find, list_any};
@@ -7,7 +7,7 @@ ghost use Rattle.layer_image.specs.Flashes.{unit_in_force, decimals_in_force, gr
 ghost use Rattle.layer_image.specs.Moved.{origin};
 ghost use Rattle.layer_image.specs.Rules.{is_far_pad, is_far_side, sides};
 ghost use Rattle.layer_image.specs.Grids.{IsBounded};
-ghost use Rattle.layer_image.specs.Knows.{told};
+ghost use Rattle.layer_image.specs.Inner.Knows.{told};
 ghost use Rattle.layer_image.specs.InForce.{IsLoneWhat};
 
 use crate::aperture::Aperture;

@@ -1,4 +1,4 @@
-//! What is in force for most operations: lengths of coordinates, and what a flash leaves.
+//! The graphics state as one command sees it, for most operations: lengths of coordinates, and what a flash leaves.
 
 ghost use Rattle.std.specs.Prelude.{◌≡◌, ◌≤◌, ◌<◌, ◌*◌, ◌^◌, ◌*ℤ◌, IfSome, pos, nat_le, unsigned_abs};
 
@@ -97,7 +97,7 @@ pub(crate) struct FastPath {
 }
 
 impl FastPath {
-    ghost use Rattle.layer_image.specs.Knows.{told};
+    ghost use Rattle.layer_image.specs.Inner.Knows.{told};
     ghost use Rattle.layer_image.specs.InForce.{IsFastPath};
 
     /// What is in force after the commands that a judge has taken in.

@@ -12,7 +12,7 @@ ghost use Rattle.layer_image.specs.Lookback.{aperture_in, single};
 ghost use Rattle.layer_image.specs.Flashes.{copies_at, flashed, is_flash};
 ghost use Rattle.layer_image.specs.Rules.{first_broken, flashes_too_far, is_badly_sized, is_far_pad, is_far_point};
 ghost use Rattle.layer_image.specs.Keeping.{Adds, flash_count};
-ghost use Rattle.layer_image.specs.Knows.{Knows, Takes, Judges, IfRefused, told, after};
+ghost use Rattle.layer_image.specs.Inner.Knows.{Knows, Takes, Judges, IfRefused, told, after};
 
 use crate::aperture::{Aperture, aperture_of};
 use crate::flash::Flash;

@@ -2,7 +2,7 @@
 
 ghost use Rattle.std.specs.Prelude.{◌++◌, ℕ, List, Err};
 ghost use Rattle.grid_units.specs.declared.fault.Fault.{Fault};
-ghost use Rattle.layer_image.specs.Layers.{EachTextAnswers, LayerReasons, LayerTexts, LayersOfTexts, ReadsLayer};
+ghost use Rattle.layer_image.specs.Layers.{EachTextAnswers, EqualCommands, LayerReasons, LayerTexts, LayersOfTexts, OneReading, ReadsLayer};
 ghost use Rattle.layer_image.specs.Standing.{ShowsLayerFault};
 
 /// The fault that a text shows is shown by each longer text too, and is the one that the text has.
@@ -12,12 +12,22 @@ pub fn shown_faults()
     ensures joined { (text more : List ℕ) (f : Fault) → ShowsLayerFault text f → ReadsLayer (text ++ more) (Err f) }
 {}
 
-/// A text reads as a layer just where it spells commands that are legal, and then as the layer of these commands; each
-/// other text has a fault.
+/// Reading a text gives commands that are legal just where the text is a layer's text of them, and a text reads as a layer
+/// just where reading gives the layer's commands; each other text has a fault.
 pub fn layer_texts()
     ensures just { LayerTexts }
-    ensures only { LayersOfTexts }
+    ensures reads { LayersOfTexts }
     ensures each { EachTextAnswers }
+{}
+
+/// A text reads as one layer, or has one fault.
+pub fn one_reading()
+    ensures { OneReading }
+{}
+
+/// Texts that spell equal commands have equal flashes, pads and file function.
+pub fn equal_commands()
+    ensures { EqualCommands }
 {}
 
 /// A fault of a layer has the reason of one of the fifteen rules, or it is the fault of its text.

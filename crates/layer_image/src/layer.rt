@@ -3,9 +3,7 @@
 ghost use Rattle.std.specs.Prelude.{◌≡◌};
 ghost use Rattle.std.specs.Option.{option_copied};
 ghost use Rattle.grid_units.specs.Results.{Answers};
-ghost use Rattle.gerber_text.specs.Writing.{without_places};
-ghost use Rattle.layer_image.specs.Functions.{file_function_of};
-ghost use Rattle.layer_image.specs.Layers.{ReadsLayer, EqualCommands, OneReading, image_of};
+ghost use Rattle.layer_image.specs.Layers.{ReadsLayer};
 
 use crate::flash::Flash;
 use crate::flashes::Flashes;
@@ -103,13 +101,3 @@ pub(crate) fn layer_of(
         file_function,
     }
 }
-
-/// A text reads as one layer, or has one fault.
-pub fn one_reading()
-    ensures { OneReading }
-{}
-
-/// Texts that spell equal commands have equal flashes, pads and file function.
-pub fn equal_commands()
-    ensures { EqualCommands }
-{}

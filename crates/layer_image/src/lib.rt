@@ -20,9 +20,9 @@ mod size;
 mod tables;
 
 pub use flash::{Flash, What, Why};
-pub use laws::{layer_reasons, layer_texts, shown_faults};
-pub use layer::{Layer, equal_commands, one_reading, read_layer};
-pub use reader::{FlashReader, LayerReader, LayerSum, SumReader};
+pub use laws::{equal_commands, layer_reasons, layer_texts, one_reading, shown_faults};
+pub use layer::{Layer, read_layer};
+pub use reader::{FlashReader, FlashSum, LayerReader, LayerSum, SumReader};
 
 #[cfg(test)]
 mod tests;

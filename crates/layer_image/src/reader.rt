@@ -190,6 +190,14 @@ impl LayerReader {
     }
 }
 
+/// The flashes of a layer in order, how many of them are no pads, and its file function.
+#[derive(Drop)]
+pub struct FlashSum {
+    pub flashes: Vec<Flash>,
+    pub other: usize,
+    pub file_function: Option<Text>,
+}
+
 /// A reader of a layer that comes in pieces, for its flashes. It keeps no commands.
 #[derive(Drop)]
 pub struct FlashReader {
@@ -198,7 +206,7 @@ pub struct FlashReader {
 }
 
 impl FlashReader {
-    ghost use Rattle.layer_image.specs.Standing.{FlashesStandAfter, ReadsFlashes, ShowsLayerFault, flash_failure};
+    ghost use Rattle.layer_image.specs.Standing.{FlashesStandAfter, ReadsFlashSum, ReadsFlashes, ShowsLayerFault, flash_failure, flash_view};
 
     /// A reader that has read nothing.
     pub fn new(alloc: Global) -> FlashReader
@@ -237,6 +245,28 @@ impl FlashReader {
         let (scan, _) = self.core.end()?;
         let Scan { judge, .. } = scan;
         Ok(judge.into_flashes().all)
+    }
+
+    /// The flashes of the layer of the text, as [`FlashReader::finish`] gives them, with what else a package needs of it.
+    ///
+    /// # Errors
+    ///
+    /// As those of [`FlashReader::finish`].
+    pub fn finish_whole(self) -> Result<FlashSum, Fail>
+        ensures exact { (text : List ℕ) → FlashesStandAfter self text → Answers flash_view (ReadsFlashSum text) result }
+        ensures failed { IfSome (flash_failure self) (λ e. result ≡ Err e) }
+    {
+        let (scan, _) = self.core.end()?;
+        let Scan {
+            judge,
+            file_function,
+        } = scan;
+        let flashes = judge.into_flashes();
+        Ok(FlashSum {
+            flashes: flashes.all,
+            other: flashes.others as usize,
+            file_function,
+        })
     }
 }
 

@@ -8,7 +8,7 @@ ghost use Rattle.layer_image.specs.Lookback.{aperture_in};
 ghost use Rattle.layer_image.specs.Flashes.{is_flash, copies_at};
 ghost use Rattle.layer_image.specs.Rules.{applies, later_rules, first_broken, differs_in_unit, differs_in_format, lacks_macro, needs_aperture, flashes_too_far, is_far_in, is_far_pad, is_long_by, repeats_badly, is_bad_count, is_not_positive, may_stand_in_region};
 ghost use Rattle.layer_image.specs.Keeping.{flash_count};
-ghost use Rattle.layer_image.specs.Knows.{told};
+ghost use Rattle.layer_image.specs.Inner.Knows.{told};
 
 use crate::aperture::is_badly_sized;
 use crate::judge::Judge;

@@ -1,6 +1,8 @@
 //! Layers that are read, and why others are refused.
 
-use crate::{Flash, FlashReader, Layer, LayerReader, LayerSum, SumReader, What, Why, read_layer};
+use crate::{
+    Flash, FlashReader, FlashSum, Layer, LayerReader, LayerSum, SumReader, What, Why, read_layer,
+};
 use grid_units::{Fail, Fault, Point, Reason};
 use pad_shapes::{Disc, Obround, Pad, Rect};
 use std::alloc::{AllocError, Global};
@@ -701,5 +703,33 @@ fn the_flashes_of_a_layer_in_pieces(rt: HostRuntime) -> Result<(), TestFail> {
     assert_eq!(rt; flashes.len(), 6);
     let layer = read_layer(alloc, &text).map_err(|_| "refused")?;
     assert!(rt; flashes.as_slice() == layer.flashes());
+    Ok(())
+}
+
+/// The flashes of a text in two pieces, with what else a package needs of it.
+fn whole_of(alloc: Global, text: &[u8]) -> Result<FlashSum, Fail> {
+    let half = text.len() / 2;
+    let mut reader = FlashReader::new(alloc);
+    reader.feed(&text[..half])?;
+    reader.feed(&text[half..])?;
+    reader.finish_whole()
+}
+
+#[test]
+fn the_flashes_of_a_layer_with_its_sum(rt: HostRuntime) -> Result<(), TestFail> {
+    let alloc = rt.alloc();
+    let turned =
+        b"%TF.FileFunction,Copper,L1,Top*%\n%ADD11R,1X2*%\nX9Y9D03*\nD11*\n%SRX2Y3I5J1*%\n%LR45*%\nX0Y0D03*\n";
+    let text = with(alloc, 5, turned)?;
+    let whole = whole_of(alloc, &text).map_err(|_| "refused")?;
+    let layer = read_layer(alloc, &text).map_err(|_| "refused")?;
+    assert!(rt; whole.flashes.as_slice() == layer.flashes());
+    assert_eq!(rt; whole.other, 6);
+    assert!(rt; whole.file_function.as_ref().map(|text| text.bytes()) == layer.file_function());
+    let early = refused(4, 37, Reason::UnknownAperture);
+    assert_eq!(rt;
+        whole_of(alloc, &two_faults(alloc)?).map(|_| ()).err(),
+        early
+    );
     Ok(())
 }

@@ -8,7 +8,7 @@ use Rattle.gerber_text.specs.Writing.{canonical_text, lines, without_places}
 use Rattle.gerber_text.proofs.AllSaid.{text_said}
 use Rattle.gerber_text.proofs.RoundTrip.{reads_as}
 use Rattle.gerber_text.proofs.Spelling.{reads_spells}
-use Rattle.layer_image.specs.Layers.{LayerImage, ReadsLayer, image_of}
+use Rattle.layer_image.specs.Layers.{IsLayerText, LayerImage, ReadsLayer, image_of}
 use Rattle.grid_units.specs.Lists.{IsLegal}
 use Rattle.drill_lines.specs.declared.command.DrillCommand.{DrillCommand}
 use Rattle.drill_text.specs.Texts.{IsDrillText, SpellsText}
@@ -33,8 +33,9 @@ layer_back : (bytes text : List ℕ) (a : LayerImage) → ReadsLayer bytes (Ok a
 layer_back bytes text a h e =
     let cs = without_places a.commands in
     let short = short_text (lines cs) text e in
-    let back = reads_as cs text (sym short.0) (subst (λ (t : List ℕ). length t ≤ text_limit) short.0 short.1) (text_said bytes a.commands (reads_spells bytes a.commands h.0)) in
-    (image_of back.entries, (back.reads, subst (IsLegal broken_rule) (sym back.same) h.1, refl), sym back.same)
+    let back = reads_as cs text (sym short.0) (subst (λ (t : List ℕ). length t ≤ text_limit) short.0 short.1) (text_said bytes a.commands h.0.spells) in
+    let again : IsLayerText text back.entries = record { spells = reads_spells text back.entries back.reads; legal = subst (IsLegal broken_rule) (sym back.same) h.0.legal } in
+    (image_of back.entries, (again, refl), sym back.same)
 
 drill_back : (bytes text : List ℕ) (cs : List DrillCommand) → IsDrillText bytes cs → drills.written cs ≡ Ok text → IsDrillText text cs
 drill_back bytes text cs h e =

@@ -10,6 +10,7 @@ use Rattle.drill_text.specs.Writing.{ReadsWritten}
 use Rattle.gerber_text.specs.Reading.{Entries, Shows, Reads, entries_behind}
 use Rattle.gerber_text.specs.Standing.{FailsWith}
 use Rattle.gerber_text.specs.Writing.{canonical_text, without_places}
+use Rattle.gerber_text.proofs.Spelling.{spells_reads}
 use Rattle.gerber_text.proofs.Unique.{one_read}
 use Rattle.gerber_text.proofs.Whole.{shows_reads}
 use Rattle.gerber_text.proofs.Longer.{fails_longer}
@@ -26,20 +27,24 @@ stops text cs (fails.Refused f) h = (cs, h)
 no_fault : (text : List ℕ) (cs : Entries) (f : Fault) → Reads text (Ok cs) → Reads text (Err f) → ⊥
 no_fault text cs f h k = let e : (let x : Result Entries Fault = Ok cs in let y : Result Entries Fault = Err f in x ≡ y) = one_read text (Ok cs) (Err f) h k in cc
 
+-- reading gives the commands of a layer's text
+pub layer_read : (text : List ℕ) (image : LayerImage) → ReadsLayer text (Ok image) → Reads text (Ok image.commands)
+layer_read text image h = spells_reads text image.commands h.0.spells
+
 pub same_commands : (text : List ℕ) (cs ds : Entries) → Reads text (Ok cs) → Reads text (Ok ds) → cs ≡ ds
 same_commands text cs ds h k = let e : (let x : Result Entries Fault = Ok cs in let y : Result Entries Fault = Ok ds in x ≡ y) = one_read text (Ok cs) (Ok ds) h k in cc
 
 pub legal_ends : {T V : Type 0} (view : T → V) (P : Result V Fault → Type 0) (text : List ℕ) (gone : Entries) (image : LayerImage) (e : Fail) → ReadsLayer text (Ok image)
     → AnswersAlways (entries_behind gone) (λ answer. Reads text answer) (Err e) → Answers view P (Err e)
 legal_ends view P text gone image fails.Memory h k = tt
-legal_ends view P text gone image (fails.Refused f) h k = absurd (no_fault text image.commands f h.0 k)
+legal_ends view P text gone image (fails.Refused f) h k = absurd (no_fault text image.commands f (layer_read text image h) k)
 
 pub legal_goes_on : {T V : Type 0} (view : T → V) (P : Result V Fault → Type 0) (text more whole : List ℕ) (image : LayerImage) (e : Fail) → text ++ more ≡ whole → ReadsLayer whole (Ok image)
     → Tells (StopsIn text) e → Answers view P (Err e)
 legal_goes_on view P text more whole image fails.Memory is h k = tt
 legal_goes_on view P text more whole image (fails.Refused f) is h k =
     let on = fails_longer text more k.0 (fails.Refused f) k.1 in
-    absurd (no_fault whole image.commands f h.0 (subst (λ (t : List ℕ). Reads t (Err f)) is (shows_reads (text ++ more) f on.told)))
+    absurd (no_fault whole image.commands f (layer_read whole image h) (subst (λ (t : List ℕ). Reads t (Err f)) is (shows_reads (text ++ more) f on.told)))
 
 pub from_always : {T V : Type 0} (view : T → V) (P : Result V Fault → Type 0) (r : Result T Fail) → AnswersAlways view P r → Answers view P r
 from_always view P (Ok x) h = h

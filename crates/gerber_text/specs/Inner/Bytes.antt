@@ -3,6 +3,7 @@ use Rattle.std.specs.Prelude.{◌≡◌, ℕ, ◌<◌, ◌≤◌, Bool, false, �
 use Rattle.std.specs.List.{AllByRecursion}
 use Rattle.gerber_rows.specs.Items.{is_line_break, IsItem}
 use Rattle.gerber_text.specs.Reading.{may_follow}
+use Rattle.grid_units.specs.Limits.{item_limit}
 
 -- bytes that neither end an item nor are dropped
 abbrev pub IsInside : ℕ → ℕ → Type 0
@@ -16,6 +17,6 @@ follows_or_drops b = is_line_break b || may_follow b
 pub record IsFront (bytes : List ℕ) (len : ℕ) : Type 0 where
   pub some : 0 < len
   pub within : len ≤ length bytes
-  pub short : len ≤ 1048576
+  pub short : len ≤ item_limit
   pub one : IsItem (take len bytes)
   pub kept : AllByRecursion (λ b. is_line_break b ≡ false) (take len bytes)

@@ -1,12 +1,14 @@
--- A reading that gives commands is a text that spells them.
-use Rattle.std.proofs.Common.{refl}
+-- Reading gives commands just where a text spells them.
 use Rattle.gerber_text.proofs.Spelling.{reads_spells, spells_reads}
 use Rattle.layer_image.proofs.Answering.{each_answers}
 use Rattle.layer_image.proofs.laws.layer_texts.Goals as goal
 
 pub returns : goal.returns
 returns c = record {
-  just = λ text commands. (λ t. (spells_reads text commands t.spells, t.legal, refl), λ r. record { spells = reads_spells text commands r.0; legal = r.1 });
+  just = λ text commands. (λ t. (spells_reads text commands t.spells, t.legal), λ r. record { spells = reads_spells text commands r.0; legal = r.1 });
+  reads = λ text image. (
+    λ h. (spells_reads text image.commands h.0.spells, h.0.legal, h.1),
+    λ r. (record { spells = reads_spells text image.commands r.0; legal = r.1 }, r.2),
+  );
   each = each_answers;
-  only = λ text image r. (record { spells = reads_spells text image.commands r.0; legal = r.1 }, r.2);
 }

@@ -5,7 +5,7 @@ use mir.Syntax.{w64}
 use Rattle.grid_units.specs.Points.{GridPoint}
 use Rattle.layer_image.specs.InForce.{point_of}
 use Rattle.layer_image.specs.Keeping.{flash_count}
-use Rattle.layer_image.specs.Knows.{told}
+use Rattle.layer_image.specs.Inner.Knows.{told}
 use Rattle.layer_image.specs.Moved.{moved}
 use Rattle.layer_image.proofs.InForce.{flash_is}
 use Rattle.layer_image.proofs.fast.FastJudge.flash.Goals as goal

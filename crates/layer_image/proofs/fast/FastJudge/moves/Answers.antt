@@ -1,7 +1,7 @@
 -- What is in force says that no rule applies.
 use Rattle.std.proofs.Common.{sym, ◌∙◌}
 use Rattle.layer_image.specs.Keeping.{flash_count}
-use Rattle.layer_image.specs.Knows.{told}
+use Rattle.layer_image.specs.Inner.Knows.{told}
 use Rattle.layer_image.proofs.InForce.{move_is}
 use Rattle.layer_image.proofs.fast.FastJudge.moves.Goals as goal
 

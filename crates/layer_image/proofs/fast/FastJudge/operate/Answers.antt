@@ -3,7 +3,7 @@ use Rattle.std.proofs.Common.{sym, subst}
 use Rattle.gerber_rows.specs.declared.command.Command.TheVariants as command
 use Rattle.layer_image.specs.InForce.{IsFastPath, IsFlashOf}
 use Rattle.layer_image.specs.Keeping.{flash_count}
-use Rattle.layer_image.specs.Knows.{told}
+use Rattle.layer_image.specs.Inner.Knows.{told}
 use Rattle.layer_image.proofs.InForce.{judged, moved_takes, flash_takes}
 use Rattle.layer_image.proofs.fast.FastJudge.operate.Goals as goal
 

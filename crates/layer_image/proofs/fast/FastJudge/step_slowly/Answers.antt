@@ -3,7 +3,7 @@ use Rattle.std.proofs.Common.{◌≡◌, false, Result, Ok, Err, OnOk, sym, subs
 use Rattle.std.specs.Result.{is_err}
 use Rattle.layer_image.specs.InForce.{IsFastPath}
 use Rattle.grid_units.specs.declared.stop.Stop.{Stop}
-use Rattle.layer_image.specs.Knows.{Takes, told}
+use Rattle.layer_image.specs.Inner.Knows.{Takes, told}
 use Rattle.layer_image.proofs.InForce.{keeps_fast}
 use Rattle.layer_image.proofs.fast.FastJudge.step_slowly.Goals as goal
 

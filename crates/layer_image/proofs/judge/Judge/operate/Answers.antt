@@ -7,7 +7,7 @@ use Rattle.gerber_rows.specs.declared.command.Command.TheVariants as command
 use Rattle.layer_image.specs.Lookback.{aperture_in}
 use Rattle.layer_image.specs.Flashes.{flashed, flashes_at, copies_at}
 use Rattle.layer_image.specs.Rules.{is_far_point}
-use Rattle.layer_image.specs.Knows.{told, after}
+use Rattle.layer_image.specs.Inner.Knows.{told, after}
 use Rattle.layer_image.specs.Keeping.{Adds}
 use Rattle.layer_image.specs.declared.judge.Judge.{Judge}
 use Rattle.layer_image.specs.declared.flashes.Flashes.{Flashes}

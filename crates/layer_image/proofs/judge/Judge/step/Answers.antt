@@ -2,7 +2,7 @@
 use Rattle.std.proofs.Common.{◌≡◌, sym, ◌∙◌, None, Some}
 use Rattle.layer_image.specs.Rules.{first_broken}
 use Rattle.layer_image.specs.Keeping.{flash_count}
-use Rattle.layer_image.specs.Knows.{told}
+use Rattle.layer_image.specs.Inner.Knows.{told}
 use Rattle.layer_image.proofs.Knowing.{knows_more, same_rule}
 use Rattle.layer_image.proofs.judge.Judge.step.Goals as goal
 

@@ -4,7 +4,7 @@ use Rattle.gerber_rows.specs.declared.command.Command.{Command}
 use Rattle.gerber_rows.specs.declared.command.Command.TheVariants.{Operate}
 use Rattle.layer_image.specs.Rules.{reaches_too_far, sizes_badly, flashes_too_many}
 use Rattle.layer_image.specs.Keeping.{flash_count}
-use Rattle.layer_image.specs.Knows.{told, Takes}
+use Rattle.layer_image.specs.Inner.Knows.{told, Takes}
 use Rattle.layer_image.proofs.Broken.{not_too_far, not_too_many, well_sized, near_flash, few_flashes}
 use Rattle.layer_image.proofs.judge.Judge.take.Goals as goal
 

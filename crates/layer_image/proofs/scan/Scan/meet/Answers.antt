@@ -2,7 +2,7 @@
 use Rattle.std.proofs.Common.{◌∷◌, ◌++◌, [], sym, subst}
 use Rattle.std.proofs.lemmas.Result.{err_from_is_err_and}
 use Rattle.layer_image.specs.declared.fast.FastJudge.{FastJudge}
-use Rattle.layer_image.specs.Knows.{Knows}
+use Rattle.layer_image.specs.Inner.Knows.{Knows}
 use Rattle.layer_image.proofs.Faulty.{stops_too}
 use Rattle.layer_image.proofs.scan.Scan.meet.Goals as goal
 

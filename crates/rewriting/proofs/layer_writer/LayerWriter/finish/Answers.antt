@@ -5,7 +5,7 @@ use Rattle.grid_units.specs.declared.fault.Fault.{Fault}
 use Rattle.grid_units.specs.Results.{AnswersAlways}
 use Rattle.gerber_text.specs.Reading.{Entries}
 use Rattle.gerber_text.specs.Writing.{canonical_text, without_places, bytes_of_vector}
-use Rattle.rewriting.proofs.Written.{legal_ends, from_always, same_commands}
+use Rattle.rewriting.proofs.Written.{legal_ends, from_always, layer_read, same_commands}
 use Rattle.rewriting.proofs.layer_writer.LayerWriter.finish.Goals as goal
 
 pub returns-in_err-commands : goal.returns-in_err-commands
@@ -16,6 +16,6 @@ returns-in_err-commands c text image h legal =
 pub returns : goal.returns
 returns c text image h legal =
     let all : Entries = h.gone ++ c.in_ok-commands.commands.items in
-    let same : h.gone ++ c.deref.result.now ≡ image.commands = ap (λ (x : Entries). h.gone ++ x) c.deref.ensures.value ∙ same_commands text all image.commands (c.in_ok-commands.ensures.exact h.gone text h.words) legal.0 in
+    let same : h.gone ++ c.deref.result.now ≡ image.commands = ap (λ (x : Entries). h.gone ++ x) c.deref.ensures.value ∙ same_commands text all image.commands (c.in_ok-commands.ensures.exact h.gone text h.words) (layer_read text image legal) in
     from_always (λ (v : Vec ℕ). v.items) (λ (answer : Result (List ℕ) Fault). answer ≡ canonical_text (without_places image.commands)) c.finish-2.result
     (subst (λ (x : Entries). AnswersAlways bytes_of_vector (λ answer. answer ≡ canonical_text (without_places x)) c.finish-2.result) same (c.finish-2.ensures (h.gone ++ c.deref.result.now) (c.in_ok-add.ensures h.gone h.lines)))
