@@ -74,8 +74,8 @@ slot_line settings from line =
 unfoldable pub drill_from : Settings → Runs → List ℕ → Result DrillCommand Reason
 drill_from settings from rest =
     if length rest == 0 then (coordinates settings from >>= λ p. Ok (Hit p))
-    else (if bytes_eq (take 3 rest) (codes "G85") then slot_line settings from (drop 3 rest)
-    else Err BadLine)
+    else if bytes_eq (take 3 rest) (codes "G85") then slot_line settings from (drop 3 rest)
+    else Err BadLine
 
 -- a hit or a slot (docs/FORMATS.md, Drill lines)
 unfoldable pub drill_line : Settings → List ℕ → Result DrillCommand Reason

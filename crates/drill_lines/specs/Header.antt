@@ -43,5 +43,5 @@ unit_format unit zeros (b ∷ bs) = if (b == 44) && list_all is_number bs then (
 unfoldable pub unit_line : Units → List ℕ → Result DrillCommand Reason
 unit_line unit line =
     if begins (codes ",LZ") line then unit_format unit (Some Leading) (drop 3 line)
-    else (if begins (codes ",TZ") line then unit_format unit (Some Trailing) (drop 3 line)
-    else unit_format unit None line)
+    else if begins (codes ",TZ") line then unit_format unit (Some Trailing) (drop 3 line)
+    else unit_format unit None line

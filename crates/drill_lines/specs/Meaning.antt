@@ -23,8 +23,8 @@ one read = read >>= λ command. Ok (Some command)
 unfoldable pub line_before : List ℕ → Result (Option DrillCommand) Reason
 line_before line =
     if bytes_eq line (codes "%") then Ok None
-    else (if bytes_eq line (codes "M48") then Ok (Some Start)
-    else Err OldFormat)
+    else if bytes_eq line (codes "M48") then Ok (Some Start)
+    else Err OldFormat
 
 -- a line that spells nothing, in the header and in the body (docs/FORMATS.md, Drill lines)
 abbrev pub spells_nothing : List ℕ → Bool
@@ -42,11 +42,11 @@ is_incremental line = bytes_eq line (codes "G91") || bytes_eq line (codes "ICI,O
 unfoldable pub common_line : List ℕ → Result (Option DrillCommand) Reason
 common_line line =
     if bytes_eq line (codes "M71") then Ok (Some (UnitCode Millimetre))
-    else (if bytes_eq line (codes "M72") then Ok (Some (UnitCode Inch))
-    else (if spells_nothing line then Ok None
-    else (if is_old line then Err OldFormat
-    else (if is_incremental line then Err Incremental
-    else Err BadLine))))
+    else if bytes_eq line (codes "M72") then Ok (Some (UnitCode Inch))
+    else if spells_nothing line then Ok None
+    else if is_old line then Err OldFormat
+    else if is_incremental line then Err Incremental
+    else Err BadLine
 
 -- `%` or `M95` (docs/FORMATS.md, Drill lines)
 abbrev pub ends_header : List ℕ → Bool
@@ -56,10 +56,10 @@ ends_header line = bytes_eq line (codes "%") || bytes_eq line (codes "M95")
 unfoldable pub header_line : List ℕ → Result (Option DrillCommand) Reason
 header_line line =
     if ends_header line then Ok (Some HeaderEnd)
-    else (if begins (codes "INCH") line then one (unit_line Inch (drop 4 line))
-    else (if begins (codes "METRIC") line then one (unit_line Millimetre (drop 6 line))
-    else (if begins (codes "T") line then one (tool_line (drop 1 line))
-    else common_line line)))
+    else if begins (codes "INCH") line then one (unit_line Inch (drop 4 line))
+    else if begins (codes "METRIC") line then one (unit_line Millimetre (drop 6 line))
+    else if begins (codes "T") line then one (tool_line (drop 1 line))
+    else common_line line
 
 -- a routed path (docs/FORMATS.md, Drill lines)
 abbrev pub is_routed : List ℕ → Bool
@@ -73,9 +73,9 @@ repeats line = begins (codes "R") line || (begins (codes "M01") line || (begins 
 unfoldable pub body_word : List ℕ → Result (Option DrillCommand) Reason
 body_word line =
     if bytes_eq line (codes "M30") then Ok (Some Finish)
-    else (if is_routed line then Err Routed
-    else (if repeats line then Err Repeat
-    else common_line line))
+    else if is_routed line then Err Routed
+    else if repeats line then Err Repeat
+    else common_line line
 
 -- a line begins with `X` or `Y` (docs/FORMATS.md, Drill lines)
 abbrev pub begins_point : List ℕ → Bool
@@ -85,8 +85,8 @@ begins_point line = begins (codes "X") line || begins (codes "Y") line
 unfoldable pub body_line : Settings → List ℕ → Result (Option DrillCommand) Reason
 body_line settings line =
     if begins_point line then one (drill_line settings line)
-    else (if begins (codes "T") line then one (pick_line (drop 1 line))
-    else body_word line)
+    else if begins (codes "T") line then one (pick_line (drop 1 line))
+    else body_word line
 
 -- a line in this part of the file (docs/FORMATS.md, Drill lines)
 unfoldable pub line_in : Part → Settings → List ℕ → Result (Option DrillCommand) Reason

@@ -14,6 +14,7 @@ use Rattle.drill_lines.specs.declared.command.DrillCommand.{DrillCommand}
 use Rattle.drill_lines.specs.declared.command.DrillCommand.TheVariants.{Comment, Start, UnitLine, Tool, HeaderEnd, UnitCode, Pick, Hit, Slot, Finish}
 use Rattle.drill_lines.specs.Formats.{Digits, AreSizes}
 use Rattle.drill_lines.specs.Lines.{trimmed}
+use Rattle.grid_units.specs.Limits.{line_limit}
 
 -- ---- lines
 
@@ -65,7 +66,7 @@ canonical Finish = codes "M30"
 
 -- a comment's text: without LF, without a blank at its end, and of a line that is not too long (docs/FORMATS.md, Canonical drill text)
 abbrev pub is_comment_text : List ℕ → Bool
-is_comment_text text = not (list_any (λ b. b == 10) text) && ((length (trimmed text) == length text) && nat_lt (length text) 1048576)
+is_comment_text text = not (list_any (λ b. b == 10) text) && ((length (trimmed text) == length text) && nat_lt (length text) line_limit)
 
 -- zeros that a unit line can name (docs/FORMATS.md, Drill lines)
 abbrev pub can_name_zeros : Option Zeros → Bool

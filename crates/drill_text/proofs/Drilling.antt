@@ -14,7 +14,7 @@ use Rattle.drill_text.specs.Lookback.{Standing}
 use Rattle.std.specs.Option.{option_or}
 use Rattle.drill_text.specs.Holes.{Drilled, hole_of, unit_or}
 use Rattle.drill_text.specs.Rules.{first_broken, applies, has_no_tool, is_bad, defines_again, max_holes}
-use Rattle.drill_text.specs.Knowing.{drilled_between, nowhere, hole_in, width_in, width_of, point_in, hole_between, round_hole}
+use Rattle.drill_text.specs.Inner.Knowing.{drilled_between, nowhere, hole_in, width_in, width_of, point_in, hole_between, round_hole}
 
 -- a value, unless a rule is broken
 pub ok_unless : {A : Type 0} → Option Reason → A → Result A Reason

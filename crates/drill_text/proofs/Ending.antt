@@ -14,7 +14,7 @@ use Rattle.drill_text.specs.Lines.{bytes_of, Splits}
 use Rattle.grid_units.specs.Results.{◌>>=◌, fault, Answers, Tells}
 use Rattle.drill_text.specs.Reading.{shown, spelled, ended, is_finish, place_behind_count, Reads, Shows}
 use Rattle.drill_text.specs.declared.kept.Kept.{Kept}
-use Rattle.drill_text.specs.Knowing.{Knows}
+use Rattle.drill_text.specs.Inner.Knowing.{Knows}
 use Rattle.drill_text.specs.Keeping.{Met, Leaves, Ends}
 use Rattle.drill_text.specs.Outcome.{DrillFile, commands_in, file_of}
 use Rattle.grid_units.specs.Holes.{GridHole}

@@ -10,7 +10,7 @@ use Rattle.drill_text.specs.declared.judge.Judge.{Judge}
 use Rattle.drill_text.specs.Lookback.{tool_defined}
 use Rattle.drill_text.specs.Holes.{Drilled, hole_of}
 use Rattle.drill_text.specs.Rules.{first_broken}
-use Rattle.drill_text.specs.Knowing.{told, Knows, Judges, Drills, after, moved, drilled, hole_in}
+use Rattle.drill_text.specs.Inner.Knowing.{told, Knows, Judges, Drills, after, moved, drilled, hole_in}
 use Rattle.drill_text.proofs.Lookbacks.{knows_more, same_rule}
 use Rattle.drill_text.proofs.Drilling.{ok_unless, unless_ok, unless_err, fresh}
 

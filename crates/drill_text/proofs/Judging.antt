@@ -12,7 +12,7 @@ use Rattle.drill_lines.specs.Meaning.{meaning}
 use Rattle.drill_text.specs.Rules.{broken_rule}
 use Rattle.grid_units.specs.Results.{fault, at}
 use Rattle.drill_text.specs.Reading.{kept_unless, judged, step, spelled}
-use Rattle.drill_text.specs.Knowing.{Knows}
+use Rattle.drill_text.specs.Inner.Knowing.{Knows}
 use Rattle.grid_units.specs.Limits.{line_limit}
 
 step_is : (judge : Judge) (before : List DrillCommand) (line : List ℕ) (r : Result (Option DrillCommand) Reason) → Knows judge before → length line ≤ line_limit → meaning judge.settings (trimmed line) ≡ r → step before line ≡ (r >>= judged before)

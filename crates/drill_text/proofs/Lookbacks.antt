@@ -15,7 +15,7 @@ use Rattle.drill_text.specs.declared.judge.Judge.{Judge}
 use Rattle.drill_text.specs.Lookback.{Standing, standing, settings_after, header, ends_header, part_named, unit_named, zeros_named, format_named, diameter_named, tool_named, tool_defined, tools_of, points_named, points_of, x_named, y_named}
 use Rattle.drill_text.specs.Holes.{unit_after, point_at, coordinate_in, diameter_after, drilled_at, hole_of, holes_at, holes_of}
 use Rattle.drill_text.specs.Rules.{broken_rule, first_broken, defines_again}
-use Rattle.drill_text.specs.Knowing.{told, Knows, Takes, after, settings_and, given_last, moved, nowhere, drilled, onto}
+use Rattle.drill_text.specs.Inner.Knowing.{told, Knows, Takes, after, settings_and, given_last, moved, nowhere, drilled, onto}
 
 -- ---- the header as a whole
 

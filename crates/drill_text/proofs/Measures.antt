@@ -9,7 +9,7 @@ use Rattle.grid_units.specs.declared.fault.Reason.TheVariants.{TooFar}
 use Rattle.grid_units.specs.Numbers.{picometres, is_far, within_limit}
 use Rattle.grid_units.specs.Points.{max_coordinate}
 use Rattle.grid_units.proofs.Binds.{guard_ok}
-use Rattle.drill_text.specs.Knowing.{IsWidth}
+use Rattle.drill_text.specs.Inner.Knowing.{IsWidth}
 
 pub no_length : (unit : Units) → Ok (pos 0) ≡ within_limit (picometres unit 8 (pos 0))
 unfolding within_limit

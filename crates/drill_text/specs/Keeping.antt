@@ -11,7 +11,7 @@ use Rattle.drill_text.specs.declared.kept.Keeping.TheVariants as keep
 use Rattle.drill_text.specs.declared.lines.Lines.{Lines}
 use Rattle.drill_text.specs.Reading.{is_finish, Reads}
 use Rattle.drill_text.specs.Writing.{canonical_text}
-use Rattle.drill_text.specs.Knowing.{Knows}
+use Rattle.drill_text.specs.Inner.Knowing.{Knows}
 use Rattle.grid_units.specs.Limits.{text_limit}
 
 -- The lines are those of the commands; or these are too long, and none is held (docs/DEFINITIONS.md, The judge of a drill file).

@@ -5,7 +5,6 @@ pub mod Rules
 pub mod Reading
 pub mod Texts
 pub mod Writing
-pub mod Knowing
 pub mod Keeping
 pub mod Standing
 pub mod Outcome

@@ -40,7 +40,7 @@ impl HolesReader {
     /// The fault that the text so far shows, whatever follows it, or [`Fail::Memory`].
     pub fn feed(&mut self, piece: &[u8]) -> Result<(), Fail>
         ensures ok { (text : List ℕ) → HolesStandAfter self.old text → OnOk result (HolesStandAfter self.new (text ++ piece.now)) }
-        ensures fault { (text : List ℕ) → HolesStandAfter self.old text → IfErr result (Tells (λ f. Shows (text ++ piece.now) (Err f))) }
+        ensures err { (text : List ℕ) → HolesStandAfter self.old text → IfErr result (Tells (λ f. Shows (text ++ piece.now) (Err f))) }
         ensures failed { IfSome (holes_failure self.old) (λ e. result ≡ Err e) }
         ensures fails { IfErr result (λ e. holes_failure self.new ≡ Some e) }
     {

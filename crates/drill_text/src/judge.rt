@@ -40,7 +40,7 @@ impl Judge {
     ghost use Rattle.grid_units.specs.declared.fault.Reason.TheVariants as reason;
     ghost use Rattle.drill_text.specs.Rules.{first_broken, applies, rules, differs, same_unit, same_zeros, same_format, picks_unknown, drills, has_no_tool};
     ghost use Rattle.drill_text.specs.Holes.{unit_or};
-    ghost use Rattle.drill_text.specs.Knowing.{told, Knows, Takes, Judges, Drills, given, moved, drilled, length_in, point_in, width_of, IsWidth, nowhere, hole_between, hole_in, round_hole};
+    ghost use Rattle.drill_text.specs.Inner.Knowing.{told, Knows, Takes, Judges, Drills, given, moved, drilled, length_in, point_in, width_of, IsWidth, nowhere, hole_between, hole_in, round_hole};
 
     /// A judge that has met no command.
     pub(crate) fn new(alloc: Global) -> Judge

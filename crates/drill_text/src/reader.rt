@@ -379,7 +379,7 @@ impl DrillReader {
     /// Takes the next piece of the text. A reader that has failed gives its failure again.
     pub fn feed(&mut self, piece: &[u8]) -> Result<(), Fail>
         ensures ok { (text : List ℕ) → StandsAfter self.old text → OnOk result (StandsAfter self.new (text ++ piece.now)) }
-        ensures fault { (text : List ℕ) → StandsAfter self.old text → IfErr result (Tells (λ f. Shows (text ++ piece.now) (Err f))) }
+        ensures err { (text : List ℕ) → StandsAfter self.old text → IfErr result (Tells (λ f. Shows (text ++ piece.now) (Err f))) }
         ensures failed { IfSome (failure self.old) (λ e. result ≡ Err e) }
         ensures fails { IfErr result (λ e. failure self.new ≡ Some e) }
     {

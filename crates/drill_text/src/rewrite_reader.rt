@@ -40,7 +40,7 @@ impl RewriteReader {
     /// The fault that the text so far shows, whatever follows it, or [`Fail::Memory`].
     pub fn feed(&mut self, piece: &[u8]) -> Result<(), Fail>
         ensures ok { (text : List ℕ) → LinesStandAfter self.old text → OnOk result (LinesStandAfter self.new (text ++ piece.now)) }
-        ensures fault { (text : List ℕ) → LinesStandAfter self.old text → IfErr result (Tells (λ f. Shows (text ++ piece.now) (Err f))) }
+        ensures err { (text : List ℕ) → LinesStandAfter self.old text → IfErr result (Tells (λ f. Shows (text ++ piece.now) (Err f))) }
         ensures failed { IfSome (rewrite_failure self.old) (λ e. result ≡ Err e) }
         ensures fails { IfErr result (λ e. rewrite_failure self.new ≡ Some e) }
     {

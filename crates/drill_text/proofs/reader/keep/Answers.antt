@@ -2,7 +2,7 @@ use Rattle.std.proofs.Common.{[], ◌∷◌, ◌++◌, Err, sym, subst}
 use Rattle.grid_units.specs.declared.fault.Fail.{Fail}
 use Rattle.grid_units.specs.declared.stop.Stop.{Stop}
 use Rattle.drill_text.specs.Reading.{spelled}
-use Rattle.drill_text.specs.Knowing.{Judges}
+use Rattle.drill_text.specs.Inner.Knowing.{Judges}
 use Rattle.drill_text.specs.Keeping.{Leaves}
 use Rattle.drill_text.proofs.Judging.{spelled_kept, spelled_broken}
 use Rattle.drill_text.proofs.reader.keep.Goals as goal

@@ -1,5 +1,5 @@
 use Rattle.std.proofs.Common.{length, sym, ◌∙◌}
-use Rattle.drill_text.specs.Knowing.{told, round_hole}
+use Rattle.drill_text.specs.Inner.Knowing.{told, round_hole}
 use Rattle.drill_text.proofs.Drilling.{round_is}
 use Rattle.drill_text.proofs.judge.Judge.hit_hole.Goals as goal
 

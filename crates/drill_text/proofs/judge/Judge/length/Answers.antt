@@ -1,6 +1,6 @@
 use Rattle.std.proofs.Common.{ℤ, Option, sym, ap, ◌∙◌}
 use Rattle.drill_text.specs.Holes.{unit_or}
-use Rattle.drill_text.specs.Knowing.{length_in}
+use Rattle.drill_text.specs.Inner.Knowing.{length_in}
 use Rattle.drill_text.proofs.Measures.{no_length}
 use Rattle.drill_text.proofs.judge.Judge.length.Goals as goal
 

@@ -1,7 +1,7 @@
 -- The command breaks no rule, so the judge that took it in knows one command more.
 use Rattle.std.proofs.Common.{◌≡◌, length, sym, ◌∙◌, None}
 use Rattle.drill_text.specs.Rules.{first_broken}
-use Rattle.drill_text.specs.Knowing.{told, drilled}
+use Rattle.drill_text.specs.Inner.Knowing.{told, drilled}
 use Rattle.drill_text.proofs.Lookbacks.{knows_more, same_rule}
 use Rattle.drill_text.proofs.Drilling.{fresh}
 use Rattle.drill_text.proofs.judge.Judge.settle.Goals as goal

@@ -1,7 +1,7 @@
 use Rattle.std.proofs.Common.{length, refl, sym, subst}
 use Rattle.drill_lines.specs.declared.command.DrillCommand.{DrillCommand}
 use Rattle.drill_lines.specs.declared.command.DrillCommand.TheVariants as command
-use Rattle.drill_text.specs.Knowing.{told, Judges, nowhere, drilled_between}
+use Rattle.drill_text.specs.Inner.Knowing.{told, Judges, nowhere, drilled_between}
 use Rattle.drill_text.proofs.Lookbacks.{moved_one, moved_two}
 use Rattle.drill_text.proofs.Drilling.{hit_rule, slot_rule}
 use Rattle.drill_text.proofs.Judgements.{judges_drilled}

@@ -5,7 +5,7 @@ use Rattle.indexmap.proofs.CallerLemmas.{insert_entry-new}
 use Rattle.drill_lines.specs.declared.command.DrillCommand.{DrillCommand}
 use Rattle.drill_text.specs.Lookback.{tool_defined}
 use Rattle.drill_text.specs.Rules.{defines_again}
-use Rattle.drill_text.specs.Knowing.{told}
+use Rattle.drill_text.specs.Inner.Knowing.{told}
 use Rattle.drill_text.proofs.judge.Judge.take.Goals as goal
 
 none : {A : Type 0} (o : Option A) → is_some o ≡ false → o ≡ None
