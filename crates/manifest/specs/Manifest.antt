@@ -169,3 +169,14 @@ manifest_of (first ∷ files) = files_of (width_of first) files
 -- the files that a manifest's bytes name, or the first refusal (docs/FORMATS.md, Judging)
 abbrev pub manifest : List ℕ → Result (List Entry) Fault
 manifest text = manifest_of (rows_of text)
+
+-- the reasons for which a manifest is refused (docs/FORMATS.md, Judging)
+abbrev pub is_manifest_reason : Reason → Bool
+is_manifest_reason BadManifest = true
+is_manifest_reason BadRole = true
+is_manifest_reason EmptyName = true
+is_manifest_reason RepeatedName = true
+is_manifest_reason NoCopper = true
+is_manifest_reason NoDrill = true
+is_manifest_reason BadSpan = true
+is_manifest_reason _ = false

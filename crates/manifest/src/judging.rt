@@ -1,23 +1,22 @@
 //! Which records name files, and by which rule the first wrong one is refused.
 
-ghost use Rattle.std.specs.Prelude.{◌≡◌, ◌<◌, ◌≤◌, length, map, true, false, MatchOption, IfSome};
-ghost use Rattle.std.specs.List.{list_any, count_by};
-ghost use Rattle.std.specs.Str.{bytes_eq};
+ghost use Rattle.std.specs.Prelude.{◌≡◌, ◌≤◌, map, true, false, MatchOption, IfSome};
+ghost use Rattle.std.specs.List.{count_by};
 ghost use Rattle.csv.specs.Records.{fields_of};
 ghost use Rattle.grid_units.specs.Results.{Answers, at, fault};
 ghost use Rattle.manifest.specs.Manifest as naming;
-ghost use Rattle.manifest.specs.Manifest.{field, is_control, is_plain_text, is_well_formed, manifest_of};
+ghost use Rattle.manifest.specs.Manifest.{field, is_well_formed, manifest_of};
 ghost use Rattle.manifest.specs.Inner.OneRecord as reading;
 ghost use Rattle.manifest.specs.Inner.OneRecord.{judged};
 
 use crate::names::Name;
+use crate::rows::{has_field, text_field};
 use crate::{Entry, Role};
 use csv::ByteRecord;
 use grid_units::numbers::{capped_value, is_digits};
 use grid_units::{Fail, Fault, Reason, Span};
 use std::alloc::Global;
 use std::collections::BTreeSet;
-use std::str;
 
 /// The files that the records name.
 pub(crate) fn manifest_of(alloc: Global, rows: &[ByteRecord]) -> Result<Vec<Entry>, Fail>
@@ -134,34 +133,6 @@ fn text_fields<'a>(row: &'a ByteRecord, width: usize) -> Option<Fields<'a>>
     })
 }
 
-/// A field, if it is plain text. One that the record lacks is empty.
-fn text_field(row: &ByteRecord, i: usize) -> Option<&str>
-    ensures { MatchOption result (is_plain_text (field i (fields_of row.now)) ≡ false)
-        (λ text. (is_plain_text (field i (fields_of row.now)) ≡ true) × (text.now ≡ field i (fields_of row.now))) }
-{
-    match row.get(i) {
-        Some(field) => plain_text(field),
-        None => Some(""),
-    }
-}
-
-/// The text of these bytes, if they are UTF-8 without control bytes.
-fn plain_text(bytes: &[u8]) -> Option<&str>
-    ensures { MatchOption result (is_plain_text bytes.now ≡ false)
-        (λ text. (is_plain_text bytes.now ≡ true) × (text.now ≡ bytes.now)) }
-{
-    let Ok(text) = str::from_utf8(bytes) else {
-        return None;
-    };
-    if has_control(bytes) { None } else { Some(text) }
-}
-
-fn has_control(bytes: &[u8]) -> bool
-    ensures { result ≡ list_any is_control bytes.now }
-{
-    bytes.iter().any(|byte| *byte < 0x20 || *byte == 0x7F)
-}
-
 /// How many fields each record has, if this is the first one of a manifest.
 fn width_of(first: &ByteRecord) -> Option<usize>
     ensures value { result ≡ naming.width_of (fields_of first.now) }
@@ -186,17 +157,6 @@ fn names_spans(row: &ByteRecord) -> bool
     ensures { result ≡ naming.names_spans (fields_of row.now) }
 {
     has_field(row, 3, "first") && has_field(row, 4, "last")
-}
-
-/// Whether the field at a place is this text.
-fn has_field(row: &ByteRecord, i: usize, text: &str) -> bool
-    requires { 0 < length text.now }
-    ensures { result ≡ bytes_eq (field i (fields_of row.now)) text.now }
-{
-    match row.get(i) {
-        Some(field) => field == text.as_bytes(),
-        None => false,
-    }
 }
 
 /// The role that a word names.

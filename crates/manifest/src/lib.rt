@@ -9,8 +9,10 @@ ghost use Rattle.grid_units.specs.Results.{Answers};
 ghost use Rattle.manifest.specs.Manifest.{manifest};
 
 mod judging;
+pub mod laws;
 mod names;
-mod rows;
+pub mod rows;
+pub mod table;
 #[cfg(test)]
 mod tests;
 

@@ -1,17 +1,23 @@
-//! The records of a text.
+//! The records of a text, and their fields.
 
-ghost use Rattle.std.specs.Prelude.{◌≡◌, IfOk, map};
+ghost use Rattle.std.specs.Prelude.{◌≡◌, ◌<◌, length, map, true, false, IfOk, MatchOption};
+ghost use Rattle.std.specs.List.{list_any};
+ghost use Rattle.std.specs.Str.{bytes_eq};
 ghost use Rattle.csv.specs.Records.{fields_of};
-ghost use Rattle.manifest.specs.Manifest.{rows_of};
+ghost use Rattle.manifest.specs.Manifest.{field, is_control, is_plain_text, rows_of};
 
 use csv::{ByteRecord, ReaderBuilder};
 use std::alloc::{AllocError, Global};
+use std::str;
 
-/// Every record of a text, the first as the others, of any lengths. A slice can always be read, so
-/// what `csv` refuses here is where memory runs out.
+/// Every record of a text, the first as the others, of any lengths. A byte order mark before the text is dropped.
+///
+/// # Errors
+///
+/// An `AllocError` where there is no memory. A slice can always be read, so `csv` refuses nothing else here.
 // The reader's buffers would lie in the frame of what runs long after it.
 #[inline(never)]
-pub(crate) fn all_rows(alloc: Global, text: &[u8]) -> Result<Vec<ByteRecord>, AllocError>
+pub fn all_rows(alloc: Global, text: &[u8]) -> Result<Vec<ByteRecord>, AllocError>
     ensures { IfOk result (λ v. map fields_of v.items ≡ rows_of text.now) }
 {
     let reader = ReaderBuilder::new()
@@ -26,4 +32,43 @@ pub(crate) fn all_rows(alloc: Global, text: &[u8]) -> Result<Vec<ByteRecord>, Al
         }
     }
     Ok(rows)
+}
+
+/// The field at a place from 0, if it is plain text: UTF-8 without control bytes. One that the record lacks is empty.
+pub fn text_field(row: &ByteRecord, i: usize) -> Option<&str>
+    ensures { MatchOption result (is_plain_text (field i (fields_of row.now)) ≡ false)
+        (λ text. (is_plain_text (field i (fields_of row.now)) ≡ true) × (text.now ≡ field i (fields_of row.now))) }
+{
+    match row.get(i) {
+        Some(field) => plain_text(field),
+        None => Some(""),
+    }
+}
+
+/// The text of these bytes, if they are UTF-8 without control bytes.
+fn plain_text(bytes: &[u8]) -> Option<&str>
+    ensures { MatchOption result (is_plain_text bytes.now ≡ false)
+        (λ text. (is_plain_text bytes.now ≡ true) × (text.now ≡ bytes.now)) }
+{
+    let Ok(text) = str::from_utf8(bytes) else {
+        return None;
+    };
+    if has_control(bytes) { None } else { Some(text) }
+}
+
+fn has_control(bytes: &[u8]) -> bool
+    ensures { result ≡ list_any is_control bytes.now }
+{
+    bytes.iter().any(|byte| *byte < 0x20 || *byte == 0x7F)
+}
+
+/// Whether the field at a place is this text, which is not empty.
+pub fn has_field(row: &ByteRecord, i: usize, text: &str) -> bool
+    requires { 0 < length text.now }
+    ensures { result ≡ bytes_eq (field i (fields_of row.now)) text.now }
+{
+    match row.get(i) {
+        Some(field) => field == text.as_bytes(),
+        None => false,
+    }
 }

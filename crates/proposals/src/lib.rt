@@ -11,7 +11,6 @@ mod order;
 mod outcome;
 mod proposing;
 mod reasons;
-mod table;
 
 pub use manifests::write_proposal;
 pub use outcome::{Because, Content, Layers, Named, Place, Proposal, Proposed};

@@ -10,9 +10,9 @@ ghost use Rattle.proposals.specs.Manifests.{IsManifestOf};
 use crate::order::in_order;
 use crate::outcome::{Layers, Proposal, Proposed};
 use crate::reasons::role_word;
-use crate::table::Table;
 use file_hints::short_name;
 use itoa::Buffer;
+use manifest::table::Table;
 use std::alloc::{AllocError, Global};
 
 fn is_copper(file: &Proposal) -> bool

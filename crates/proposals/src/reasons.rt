@@ -5,7 +5,7 @@ ghost use Rattle.csv.specs.Writing.{default_writer, row_text};
 ghost use Rattle.proposals.specs.Manifests as says;
 
 use crate::outcome::{Because, Proposal, Proposed};
-use crate::table::Table;
+use manifest::table::Table;
 use std::alloc::{AllocError, Global};
 
 /// The word of a role.

@@ -10,7 +10,7 @@ use std::marker::Model;
 /// The rows so far. Contracts see their bytes.
 // A writer has kilobytes of buffers, which each move of a table would copy on the stack.
 #[derive(Drop)]
-pub(crate) struct Table {
+pub struct Table {
     writer: Box<Writer<Vec<u8>>>,
 }
 
@@ -27,9 +27,13 @@ impl Model for Table {
 
 impl Table {
     /// No rows.
+    ///
+    /// # Errors
+    ///
+    /// An `AllocError` where there is no memory.
     // The writer lies on the stack until it is boxed.
     #[inline(never)]
-    pub(crate) fn new(alloc: Global) -> Result<Table, AllocError>
+    pub fn new(alloc: Global) -> Result<Table, AllocError>
         ensures { IfOk result (λ table. table ≡ []) }
     {
         let writer = WriterBuilder::new().from_writer(Vec::new(alloc));
@@ -39,7 +43,11 @@ impl Table {
     }
 
     /// These rows and one more.
-    pub(crate) fn with_row(self, fields: &[&[u8]]) -> Result<Table, AllocError>
+    ///
+    /// # Errors
+    ///
+    /// An `AllocError` where there is no memory.
+    pub fn with_row(self, fields: &[&[u8]]) -> Result<Table, AllocError>
         ensures { IfOk result (λ table. table ≡ self ++ row_text default_writer (map (λ field. field.now) fields.now)) }
     {
         let mut writer = self.writer;
@@ -50,9 +58,13 @@ impl Table {
     }
 
     /// The bytes of the rows.
+    ///
+    /// # Errors
+    ///
+    /// An `AllocError` where there is no memory.
     // As for a table without rows.
     #[inline(never)]
-    pub(crate) fn into_bytes(self) -> Result<Vec<u8>, AllocError>
+    pub fn into_bytes(self) -> Result<Vec<u8>, AllocError>
         ensures { IfOk result (λ bytes. bytes.items ≡ self) }
     {
         match Box::into_inner(self.writer).into_inner() {

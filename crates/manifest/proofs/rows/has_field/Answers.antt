@@ -2,7 +2,7 @@ use Rattle.std.proofs.Common.{◌∙◌, ap₂, sym}
 use Rattle.std.specs.Str.{bytes_eq}
 use Rattle.csv.specs.Records.{fields_of}
 use Rattle.manifest.proofs.Fields.{empty_differs, field_is, no_field}
-use Rattle.manifest.proofs.judging.has_field.Goals as goal
+use Rattle.manifest.proofs.rows.has_field.Goals as goal
 
 pub returns-in-Some : goal.returns-in-Some
 returns-in-Some c =

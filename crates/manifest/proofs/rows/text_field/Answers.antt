@@ -2,7 +2,7 @@ use Rattle.std.proofs.Common.{sym, ap, ◌∙◌}
 use Rattle.csv.specs.Records.{fields_of}
 use Rattle.manifest.specs.Manifest.{is_plain_text}
 use Rattle.manifest.proofs.Fields.{empty_plain, field_is, no_field}
-use Rattle.manifest.proofs.judging.text_field.Goals as goal
+use Rattle.manifest.proofs.rows.text_field.Goals as goal
 
 pub returns-in-Some : goal.returns-in-Some
 returns-in-Some c =

@@ -4,7 +4,7 @@ use Rattle.std.proofs.lemmas.Bool.{cases_Bool}
 use Rattle.std.specs.Str.{is_utf8}
 use Rattle.std.specs.List.{list_any}
 use Rattle.manifest.specs.Manifest.{is_control}
-use Rattle.manifest.proofs.judging.plain_text.Goals as goal
+use Rattle.manifest.proofs.rows.plain_text.Goals as goal
 
 pub returns-in_default : goal.returns-in_default
 returns-in_default c = elim (cases_Bool (is_utf8 c.args.bytes.now)) [
