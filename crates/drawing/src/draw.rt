@@ -54,13 +54,6 @@ fn found(alloc: Global, board: &Board, rules: &Option<Rules>) -> Result<Vec<Find
     }
 }
 
-/// The board alone.
-fn board_of(flashed: &FlashedBoard) -> &Board
-    ensures { result.now ≡ flashed.now.board }
-{
-    &flashed.board
-}
-
 /// Gathers what stands before the panels.
 fn gather_before_panels<W: Write>(
     text: &mut String,
@@ -157,7 +150,7 @@ fn page_of<'n, 'h>(
 ) -> Result<Page<'n, 'h>, AllocError>
     ensures { IfOk result (IsPage (map (λ name. name.now) names.now) flashed.now rules.now) }
 {
-    let board = board_of(flashed);
+    let board = flashed.board();
     let findings = found(alloc, board, rules)?;
     let layers = board.layers(alloc)?;
     let extent = extent_of(&layers, board.holes());

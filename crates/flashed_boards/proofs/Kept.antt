@@ -1,6 +1,6 @@
 -- Flashes that are kept file by file.
-use Rattle.std.proofs.Common.{◌≡◌, ◌<◌, ◌+◌, ◌++◌, ◌∷◌, ℕ, true, List, [], Result, Ok, Err, Option, OnOk, length, map, get_or, arith, sym, ap, ap₂, subst, ◌∙◌, ◌⊎◌, inl, inr}
-use Rattle.std.proofs.lemmas.List.{length-append, map-append}
+use Rattle.std.proofs.Common.{◌≡◌, ◌<◌, ◌+◌, ◌++◌, ◌∷◌, ℕ, List, [], Result, Ok, length, get_or, arith, sym, ap, subst, ◌∙◌, ◌⊎◌, inl, inr}
+use Rattle.std.proofs.lemmas.List.{length-append}
 use Rattle.std.proofs.Math.ListN.{get_or-append}
 use Rattle.std.proofs.Math.Seq.{get_or-append_seam}
 use Rattle.std.proofs.lemmas.Bool.{cases_lt}
@@ -8,7 +8,7 @@ use Rattle.grid_units.specs.declared.fault.Fault.{Fault}
 use Rattle.layer_image.specs.Layers.{LayerImage, OneReading, ReadsLayer}
 use Rattle.layer_image.specs.Standing.{ReadsFlashes}
 use Rattle.layer_image.specs.declared.flash.Flash.{Flash}
-use Rattle.package_check.specs.Package.{Source, is_copper}
+use Rattle.package_check.specs.Package.{Source}
 use Rattle.flashed_boards.specs.Flashed.{AreFlashes, AreFlashesOf}
 
 abbrev the_ok : LayerImage → Result LayerImage Fault
@@ -17,18 +17,10 @@ the_ok image = Ok image
 ok_same : {a b : LayerImage} → the_ok a ≡ the_ok b → a ≡ b
 ok_same e = cc
 
-not_both : {a : LayerImage} {f : Fault} → the_ok a ≡ Err f → ⊥
-not_both e = cc
-
 -- the flashes that are read of a text are those of each layer that it reads as
 pub flashes_read : OneReading → (source : Source) (text : List ℕ) (flashes : List Flash) → source.bytes ≡ text → ReadsFlashes text (Ok flashes) → AreFlashesOf source flashes
 flashes_read one source text flashes same read = λ copper image reads.
     read.2 ∙ ap (λ (i : LayerImage). i.flashes) (ok_same (one text (Ok read.0) (Ok image) read.1 (subst (λ (t : List ℕ). ReadsLayer t (Ok image)) same reads)))
-
--- a text that is refused reads as no layer
-pub flashes_refused : OneReading → (source : Source) (text : List ℕ) (flashes : List Flash) (f : Fault) → source.bytes ≡ text → ReadsFlashes text (Err f) → AreFlashesOf source flashes
-flashes_refused one source text flashes f same refused = λ copper image reads.
-    absurd (not_both (one text (Ok image) (Err f) (subst (λ (t : List ℕ). ReadsLayer t (Ok image)) same reads) refused))
 
 -- one more file
 pub flashes_more : (sources : List Source) (flashes : List (List Flash)) (s : Source) (f : List Flash) → AreFlashes sources flashes → AreFlashesOf s f → AreFlashes (sources ++ s ∷ []) (flashes ++ f ∷ [])

@@ -4,7 +4,7 @@ use Rattle.layer_image.specs.Layers.{LayerImage, ReadsLayer}
 use Rattle.layer_image.specs.declared.flash.Flash.{Flash}
 use Rattle.package_check.specs.Boards.{IsBoard, Survey}
 use Rattle.package_check.specs.Package.{IsFirstRefused, Source, is_copper}
-use Rattle.package_check.specs.Standing.{PackageStandsAfter, copper_files}
+use Rattle.package_check.specs.Standing.{HasRefusedNone, PackageStandsAfter, copper_files}
 use Rattle.package_check.specs.declared.PackageFault.{PackageFault}
 use Rattle.package_check.specs.declared.PackageFault.TheVariants as stop
 use Rattle.flashed_boards.specs.declared.reader.FlashedReader.{FlashedReader}
@@ -38,7 +38,7 @@ AnswersFlashed sources (Err (stop.File index fault)) = IsFirstRefused sources in
 abbrev pub copper_count : FlashedReader → ℕ
 copper_count reader = copper_files reader.taken
 
--- the reader has taken just these files (docs/DEFINITIONS.md, Boards with their flashes)
+-- the reader has taken just these files, and has their flashes where it has refused none of them (docs/DEFINITIONS.md, Boards with their flashes)
 pub record FlashedStandsAfter (reader : FlashedReader) (sources : List Source) : Type 0 where
   pub taken : PackageStandsAfter reader.taken sources
-  pub flashes : AreFlashes sources (map (λ flashes. flashes.items) reader.flashes.items)
+  pub flashes : HasRefusedNone reader.taken → AreFlashes sources (map (λ flashes. flashes.items) reader.flashes.items)

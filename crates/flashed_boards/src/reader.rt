@@ -1,14 +1,12 @@
 //! A package whose files are taken one after the other, and the flashes of whose copper files are kept.
 
-ghost use Rattle.std.specs.Prelude.{◌≡◌, ◌++◌, ◌∷◌, ℕ, List, [], IfErr, IfOk, OnOk, map};
+ghost use Rattle.std.specs.Prelude.{◌≡◌, ◌++◌, ◌∷◌, ℕ, List, [], IfOk, OnOk, map};
 ghost use Rattle.std.specs.List.{concat};
-ghost use Rattle.grid_units.specs.Results.{Answers, Tells};
-ghost use Rattle.layer_image.specs.Standing.{FlashesStandAfter, ReadsFlashes, ShowsLayerFault};
 ghost use Rattle.package_check.specs.Package.{Source, sources_of};
-ghost use Rattle.flashed_boards.specs.Flashed.{AnswersFlashed, AreFlashesOf, FlashedStandsAfter};
+ghost use Rattle.flashed_boards.specs.Flashed.{AnswersFlashed, FlashedStandsAfter};
 
-use grid_units::Fail;
-use layer_image::{Flash, FlashReader, one_reading, shown_faults};
+use layer_image::{Flash, one_reading};
+use package_check::laws::one_answer;
 use package_check::{Board, File, PackageFault, PackageReader, Role, Span, layer_count};
 use std::alloc::{AllocError, Global};
 use std::marker::Model;
@@ -31,10 +29,18 @@ impl Model for FlashedBoard {
     ghost view = { λ b. record { board = b.board; flashes = map (λ flashes. flashes.items) b.flashes.items } };
 }
 
+impl FlashedBoard {
+    /// What the files say, without their flashes.
+    pub fn board(&self) -> &Board
+        ensures { result.now ≡ self.now.board }
+    {
+        &self.board
+    }
+}
+
 /// A reader of a package, which takes its files one after the other, and keeps the flashes of the copper files too.
 #[derive(Drop)]
 pub struct FlashedReader {
-    alloc: Global,
     taken: PackageReader,
     flashes: Vec<Vec<Flash>>,
 }
@@ -48,7 +54,6 @@ impl FlashedReader {
         ensures layers { copper_count result ≡ layers }
     {
         FlashedReader {
-            alloc,
             taken: PackageReader::new(alloc, layers),
             flashes: Vec::new(alloc),
         }
@@ -70,8 +75,8 @@ impl FlashedReader {
             ++ record { role = role; name = name; span = span.now; bytes = concat (map (λ piece. piece.now) pieces.now); layers = copper_count self.old } ∷ [])) }
         ensures layers { copper_count self.new ≡ copper_count self.old }
     {
-        self.taken.take(role, span, pieces)?;
-        let its = flashes_of(self.alloc, role, pieces)?;
+        one_reading();
+        let its = self.taken.take_with_flashes(role, span, pieces)?;
         push(&mut self.flashes, its)
     }
 
@@ -83,43 +88,10 @@ impl FlashedReader {
     pub fn finish(self) -> Result<FlashedBoard, PackageFault>
         ensures { (sources : List Source) → FlashedStandsAfter self sources → AnswersFlashed sources result }
     {
-        let FlashedReader { taken, flashes, .. } = self;
+        one_answer();
+        let FlashedReader { taken, flashes } = self;
         let board = taken.board()?;
         Ok(FlashedBoard { board, flashes })
-    }
-}
-
-/// Reads the flashes of a layer whose text comes in these pieces.
-fn read_flashes(alloc: Global, pieces: &[&[u8]]) -> Result<Vec<Flash>, Fail>
-    ensures { Answers (λ flashes. flashes.items) (ReadsFlashes (concat (map (λ piece. piece.now) pieces.now))) result }
-{
-    shown_faults();
-    let mut reader = FlashReader::new(alloc);
-    for piece in pieces {
-        reader.feed(piece)?;
-    }
-    reader.finish()
-}
-
-/// The flashes of a layer: none where its text is refused.
-fn flashes_or_none(alloc: Global, pieces: &[&[u8]]) -> Result<Vec<Flash>, AllocError>
-    ensures { (source : Source) → source.bytes ≡ concat (map (λ piece. piece.now) pieces.now) → IfOk result (λ flashes. AreFlashesOf source flashes.items) }
-{
-    one_reading();
-    match read_flashes(alloc, pieces) {
-        Ok(flashes) => Ok(flashes),
-        Err(Fail::Memory) => Err(AllocError),
-        Err(Fail::Refused(_)) => Ok(Vec::new(alloc)),
-    }
-}
-
-/// The flashes of a file: none where it is no copper.
-fn flashes_of(alloc: Global, role: Role, pieces: &[&[u8]]) -> Result<Vec<Flash>, AllocError>
-    ensures { (source : Source) → source.role ≡ role → source.bytes ≡ concat (map (λ piece. piece.now) pieces.now) → IfOk result (λ flashes. AreFlashesOf source flashes.items) }
-{
-    match role {
-        Role::Copper => flashes_or_none(alloc, pieces),
-        Role::Plated | Role::Unplated => Ok(Vec::new(alloc)),
     }
 }
 

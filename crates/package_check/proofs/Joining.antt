@@ -10,7 +10,7 @@ use Rattle.grid_units.specs.declared.fault.Fail.TheVariants as fails
 use Rattle.grid_units.specs.Results.{Answers, Tells}
 use Rattle.drill_text.specs.Reading.{Shows, Reads}
 use Rattle.layer_image.specs.Layers.{ReadsLayer}
-use Rattle.layer_image.specs.Standing.{ReadsSum, ShowsLayerFault, sum_view}
+use Rattle.layer_image.specs.Standing.{ReadsFlashSum, ReadsSum, ShowsLayerFault, flash_view, sum_view}
 use Rattle.package_check.specs.Readers.{ReadsDrill}
 
 -- ---- joining
@@ -54,6 +54,12 @@ pub sum_joined : ((text more : List ℕ) (f : Fault) → ShowsLayerFault text f 
     → Answers sum_view (ReadsSum whole) (Err e)
 sum_joined law text more whole fails.Memory is h = tt
 sum_joined law text more whole (fails.Refused f) is h = subst (λ (t : List ℕ). ReadsLayer t (Err f)) is (law text more f h)
+
+-- the same of a layer whose flashes are kept
+pub flashes_joined : ((text more : List ℕ) (f : Fault) → ShowsLayerFault text f → ReadsLayer (text ++ more) (Err f)) → (text more whole : List ℕ) (e : Fail) → text ++ more ≡ whole → Tells (ShowsLayerFault text) e
+    → Answers flash_view (ReadsFlashSum whole) (Err e)
+flashes_joined law text more whole fails.Memory is h = tt
+flashes_joined law text more whole (fails.Refused f) is h = subst (λ (t : List ℕ). ReadsLayer t (Err f)) is (law text more f h)
 
 -- the fault that the text so far shows is shown by the whole piece
 pub told_longer : ((text more : List ℕ) (f : Fault) → ShowsLayerFault text f → ShowsLayerFault (text ++ more) f) → (text more whole : List ℕ) (e : Fail) → text ++ more ≡ whole → Tells (ShowsLayerFault text) e → Tells (ShowsLayerFault whole) e

@@ -11,3 +11,4 @@ pub mod Rewritten
 pub mod Joining
 pub mod Straight
 pub mod Taking
+pub mod Flashing

@@ -61,6 +61,11 @@ pub some_of : (stopped : Option Fail) → is_some stopped ≡ true → stopped �
 some_of None h e = absurd cc
 some_of (Some x) h e = absurd cc
 
+-- what holds where a file was read holds where none is refused
+pub ok_where_none : (outcome : Result (Unit {0}) Fail) (X : Type 0) → result_err outcome ≡ None → OnOk outcome X → X
+ok_where_none (Ok u) X none h = h
+ok_where_none (Err e) X none h = absurd cc
+
 module _ (q : Role) (span : Option LayerSpan) (bytes : List ℕ) (n : ℕ) where
   -- a reader that has taken one more file
   pub next_said : (name : List ℕ) (before after : List Content) (sources : List Source) (outcome : Result (Unit {0}) Fail) (r : Result (Unit {0}) AllocError)

@@ -25,6 +25,10 @@ PackageStandsAfter reader sources = Said reader.stopped reader.contents.items so
 abbrev pub HasNoMemory : PackageReader → Type 0
 HasNoMemory reader = reader.stopped ≡ Some fails.Memory
 
+-- the reader has refused none of the files that it has taken (docs/DEFINITIONS.md, Packages)
+abbrev pub HasRefusedNone : PackageReader → Type 0
+HasRefusedNone reader = reader.stopped ≡ None
+
 -- The next file is read, and what it says stands behind what was kept; or it is refused, and nothing is kept of it
 -- (docs/DEFINITIONS.md, Packages).
 abbrev pub ReadsNext : Source → List Content → List Content → Result (Unit {0}) Fail → Type 0

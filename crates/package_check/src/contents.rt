@@ -1,12 +1,15 @@
 // What a file of a package says.
-ghost use Rattle.std.specs.Prelude.{◌≡◌, map};
+ghost use Rattle.std.specs.Prelude.{◌≡◌, ◌&&◌, ℕ, List, Ok, OnOk, is_some, map, not, true};
 ghost use Rattle.std.specs.List.{concat};
 ghost use Rattle.grid_units.specs.Results.{Answers};
+ghost use Rattle.layer_image.specs.Standing.{ReadsFlashes};
+ghost use Rattle.package_check.specs.Readers.{ReadsLayer};
 ghost use Rattle.package_check.specs.Package.{Reads, ReadsCopper, ReadsHoles, is_bad_span, is_copper, nameless};
 
 use crate::Role;
-use crate::readers::{Drill, Layer, read_holes, read_image};
+use crate::readers::{Drill, Layer, read_holes, read_image, read_image_with_flashes};
 use grid_units::{Fail, Fault, Reason};
+use layer_image::Flash;
 use ring_rules::Span;
 use std::alloc::Global;
 
@@ -21,10 +24,10 @@ pub(crate) enum Content {
     },
 }
 
-fn read_copper(alloc: Global, pieces: &[&[u8]]) -> Result<Content, Fail>
-    ensures { Answers (λ x. x) (ReadsCopper (concat (map (λ piece. piece.now) pieces.now))) result }
+/// A layer as what a file says, where it is copper.
+fn copper_of(layer: Layer) -> Result<Content, Fail>
+    ensures { (bytes : List ℕ) → ReadsLayer bytes (Ok layer) → Answers (λ x. x) (ReadsCopper bytes) result }
 {
-    let layer = read_image(alloc, pieces)?;
     if layer.is_copper() {
         Ok(Content::Layer(layer))
     } else {
@@ -34,6 +37,26 @@ fn read_copper(alloc: Global, pieces: &[&[u8]]) -> Result<Content, Fail>
             reason: Reason::NotCopper,
         }))
     }
+}
+
+fn read_copper(alloc: Global, pieces: &[&[u8]]) -> Result<Content, Fail>
+    ensures { Answers (λ x. x) (ReadsCopper (concat (map (λ piece. piece.now) pieces.now))) result }
+{
+    let layer = read_image(alloc, pieces)?;
+    copper_of(layer)
+}
+
+/// What a copper file says, and its flashes.
+fn read_copper_with_flashes(
+    alloc: Global,
+    flashes: &mut Vec<Flash>,
+    pieces: &[&[u8]],
+) -> Result<Content, Fail>
+    ensures copper { Answers (λ x. x) (ReadsCopper (concat (map (λ piece. piece.now) pieces.now))) result }
+    ensures flashes { OnOk result (ReadsFlashes (concat (map (λ piece. piece.now) pieces.now)) (Ok flashes.new.items)) }
+{
+    let layer = read_image_with_flashes(alloc, flashes, pieces)?;
+    copper_of(layer)
 }
 
 fn read_drilled(
@@ -90,4 +113,29 @@ pub(crate) fn read_file(
         Role::Plated => read_drilled(alloc, true, *span, pieces),
         Role::Unplated => read_drilled(alloc, false, *span, pieces),
     }
+}
+
+/// Whether a file of this role is copper, and has no span as it must not have.
+fn is_spanless_copper(role: Role, span: Option<Span>) -> bool
+    ensures { result ≡ (is_copper role && not (is_some span)) }
+{
+    is_copper(role) && span.is_none()
+}
+
+/// What such a file says, as [`read_file`] gives it, and its flashes where it is copper.
+pub(crate) fn read_file_with_flashes(
+    alloc: Global,
+    flashes: &mut Vec<Flash>,
+    role: Role,
+    span: &Option<Span>,
+    layers: usize,
+    pieces: &[&[u8]],
+) -> Result<Content, Fail>
+    ensures content { Answers (λ x. x) (Reads (nameless role span.now layers (concat (map (λ piece. piece.now) pieces.now)))) result }
+    ensures flashes { is_copper role ≡ true → OnOk result (ReadsFlashes (concat (map (λ piece. piece.now) pieces.now)) (Ok flashes.new.items)) }
+{
+    if is_spanless_copper(role, *span) {
+        return read_copper_with_flashes(alloc, flashes, pieces);
+    }
+    read_file(alloc, role, span, layers, pieces)
 }

@@ -1,20 +1,22 @@
 //! A package whose files are taken one after the other.
 
-ghost use Rattle.std.specs.Prelude.{◌≡◌, ◌++◌, ◌∷◌, ℕ, List, [], Err, Result, IfOk, OnOk, OnErr, alloc_error, map};
+ghost use Rattle.std.specs.Prelude.{◌≡◌, ◌++◌, ◌∷◌, ℕ, List, [], true, Ok, Err, Result, IfOk, OnOk, OnErr, alloc_error, is_some, map};
 ghost use Rattle.std.specs.List.{concat};
 ghost use Rattle.grid_units.specs.declared.fault.Fault.{Fault as TheFault};
+ghost use Rattle.layer_image.specs.Standing.{ReadsFlashes};
 ghost use Rattle.package_check.specs.Boards.{AnswersBoard};
-ghost use Rattle.package_check.specs.Package.{AnswersJust, AnswersPackage, IsAnswer, NamesItsPlaces, Source, nameless};
+ghost use Rattle.package_check.specs.Package.{AnswersJust, AnswersPackage, IsAnswer, NamesItsPlaces, Source, is_copper, nameless};
 ghost use Rattle.package_check.specs.Reports.{Account};
 ghost use Rattle.package_check.specs.Soundness.{IsSound};
 ghost use Rattle.package_check.specs.Standing.{ReadsNext};
 
 use crate::board::board_on;
-use crate::contents::{Content, read_file};
+use crate::contents::{Content, read_file, read_file_with_flashes};
 use crate::laws::{findings_name_their_places, one_answer, one_reading, passing_is_sound};
 use crate::report::report_on;
 use crate::{Board, PackageFault, Report, Role};
 use grid_units::{Fail, Rules};
+use layer_image::Flash;
 use ring_rules::Span;
 use std::alloc::{AllocError, Global};
 
@@ -29,7 +31,7 @@ pub struct PackageReader {
 }
 
 impl PackageReader {
-    ghost use Rattle.package_check.specs.Standing.{HasNoMemory, PackageStandsAfter, copper_files};
+    ghost use Rattle.package_check.specs.Standing.{HasNoMemory, HasRefusedNone, PackageStandsAfter, copper_files};
 
     /// A reader that has taken no file, of a package with so many copper files.
     pub fn new(alloc: Global, layers: usize) -> PackageReader
@@ -62,7 +64,7 @@ impl PackageReader {
         ensures failed { HasNoMemory self.old → result ≡ Err alloc_error }
         ensures fails { OnErr result (HasNoMemory self.new) }
     {
-        if self.stopped.is_some() {
+        if self.is_stopped() {
             return self.outcome();
         }
         let read = read_next(
@@ -75,6 +77,69 @@ impl PackageReader {
         );
         self.stopped = read.err();
         self.outcome()
+    }
+
+    /// Takes the next file, as [`PackageReader::take`] does, and gives the flashes of a copper file, which is read but once.
+    /// Those of a drill file, and those behind the first file that is refused, say nothing.
+    ///
+    /// # Errors
+    ///
+    /// As those of [`PackageReader::take`].
+    pub fn take_with_flashes(
+        &mut self,
+        role: Role,
+        span: &Option<Span>,
+        pieces: &[&[u8]],
+    ) -> Result<Vec<Flash>, AllocError>
+        ensures stands { (sources : List Source) (name : List ℕ) → PackageStandsAfter self.old sources → OnOk result (PackageStandsAfter self.new (sources
+            ++ record { role = role; name = name; span = span.now; bytes = concat (map (λ piece. piece.now) pieces.now); layers = copper_files self.old } ∷ [])) }
+        ensures layers { copper_files self.new ≡ copper_files self.old }
+        ensures failed { HasNoMemory self.old → result ≡ Err alloc_error }
+        ensures fails { OnErr result (HasNoMemory self.new) }
+        ensures refused { HasRefusedNone self.new → HasRefusedNone self.old }
+        ensures flashes { is_copper role ≡ true → HasRefusedNone self.new → IfOk result (λ flashes. ReadsFlashes (concat (map (λ piece. piece.now) pieces.now)) (Ok flashes.items)) }
+    {
+        let mut flashes = Vec::new(self.alloc);
+        self.take_next(&mut flashes, role, span, pieces)?;
+        Ok(flashes)
+    }
+
+    fn take_next(
+        &mut self,
+        flashes: &mut Vec<Flash>,
+        role: Role,
+        span: &Option<Span>,
+        pieces: &[&[u8]],
+    ) -> Result<(), AllocError>
+        ensures stands { (sources : List Source) (name : List ℕ) → PackageStandsAfter self.old sources → OnOk result (PackageStandsAfter self.new (sources
+            ++ record { role = role; name = name; span = span.now; bytes = concat (map (λ piece. piece.now) pieces.now); layers = copper_files self.old } ∷ [])) }
+        ensures layers { copper_files self.new ≡ copper_files self.old }
+        ensures failed { HasNoMemory self.old → result ≡ Err alloc_error }
+        ensures fails { OnErr result (HasNoMemory self.new) }
+        ensures refused { HasRefusedNone self.new → HasRefusedNone self.old }
+        ensures flashes { is_copper role ≡ true → HasRefusedNone self.new → ReadsFlashes (concat (map (λ piece. piece.now) pieces.now)) (Ok flashes.new.items) }
+    {
+        if self.is_stopped() {
+            return self.outcome();
+        }
+        let read = read_next_with_flashes(
+            self.alloc,
+            &mut self.contents,
+            flashes,
+            role,
+            span,
+            self.layers,
+            pieces,
+        );
+        self.stopped = read.err();
+        self.outcome()
+    }
+
+    /// Whether a file was refused, or memory ran out.
+    fn is_stopped(&self) -> bool
+        ensures { result ≡ is_some self.now.stopped }
+    {
+        self.stopped.is_some()
     }
 
     /// Whether memory ran out.
@@ -154,6 +219,24 @@ fn read_next(
     ensures { ReadsNext (nameless role span.now layers (concat (map (λ piece. piece.now) pieces.now))) contents.old.items contents.new.items result }
 {
     let content = read_file(alloc, role, span, layers, pieces)?;
+    keep(contents, content)?;
+    Ok(())
+}
+
+/// Reads the next file as [`read_next`] does, with the flashes of a copper file.
+fn read_next_with_flashes(
+    alloc: Global,
+    contents: &mut Vec<Content>,
+    flashes: &mut Vec<Flash>,
+    role: Role,
+    span: &Option<Span>,
+    layers: usize,
+    pieces: &[&[u8]],
+) -> Result<(), Fail>
+    ensures next { ReadsNext (nameless role span.now layers (concat (map (λ piece. piece.now) pieces.now))) contents.old.items contents.new.items result }
+    ensures flashes { is_copper role ≡ true → OnOk result (ReadsFlashes (concat (map (λ piece. piece.now) pieces.now)) (Ok flashes.new.items)) }
+{
+    let content = read_file_with_flashes(alloc, flashes, role, span, layers, pieces)?;
     keep(contents, content)?;
     Ok(())
 }

@@ -1,17 +1,18 @@
 //! What the files of a package say, of which the check keeps pads and holes alone.
 
-ghost use Rattle.std.specs.Prelude.{◌≡◌, ◌≤◌, ◌++◌, ◌==◌, not, ℕ, List, Err, IfErr, IfOk, OnOk, length, map};
+ghost use Rattle.std.specs.Prelude.{◌≡◌, ◌≤◌, ◌++◌, ◌∷◌, [], ◌==◌, not, ℕ, List, Ok, Err, IfErr, IfOk, OnOk, length, map};
 ghost use Rattle.std.specs.List.{concat, prefix_len, take_while};
 ghost use Rattle.grid_units.specs.Results.{Answers, Tells};
-ghost use Rattle.layer_image.specs.Standing.{ReadsSum, ShowsLayerFault, SumStandsAfter, sum_view};
+ghost use Rattle.layer_image.specs.Flashes.{pads_of};
+ghost use Rattle.layer_image.specs.Standing.{FlashesStandAfter, ReadsFlashSum, ReadsFlashes, ReadsSum, ShowsLayerFault, SumStandsAfter, flash_view, sum_view};
 ghost use Rattle.package_check.specs.Readers.{ReadsLayer, ReadsDrill, is_copper_function};
 
 use drill_text::HolesReader;
 use drill_text::laws::faults_stay;
 use grid_units::{Fail, Hole, Text};
-use layer_image::{LayerSum, SumReader, shown_faults};
+use layer_image::{Flash, FlashReader, FlashSum, LayerSum, SumReader, What, shown_faults};
 use pad_shapes::Pad;
-use std::alloc::Global;
+use std::alloc::{AllocError, Global};
 use std::marker::Model;
 
 /// How many bytes of a layer are read at once: the reader holds the commands of so many, and then lets go of them.
@@ -145,6 +146,76 @@ pub(crate) fn read_image(alloc: Global, pieces: &[&[u8]]) -> Result<Layer, Fail>
     Ok(Layer {
         pads: sum.pads,
         other: sum.other,
+        is_copper,
+    })
+}
+
+/// Takes a piece of a layer whose flashes are kept, some bytes at a time.
+fn feed_flashes(reader: &mut FlashReader, piece: &[u8]) -> Result<(), Fail>
+    ensures ok { (text : List ℕ) → FlashesStandAfter reader.old text → OnOk result (FlashesStandAfter reader.new (text ++ piece.now)) }
+    ensures err { (text : List ℕ) → FlashesStandAfter reader.old text → IfErr result (Tells (ShowsLayerFault (text ++ piece.now))) }
+{
+    shown_faults();
+    for bytes in piece.chunks(PIECE) {
+        reader.feed(bytes)?;
+    }
+    Ok(())
+}
+
+/// The flashes of the layer whose text comes in these pieces, with what else a package needs of it.
+fn read_flashes(alloc: Global, pieces: &[&[u8]]) -> Result<FlashSum, Fail>
+    ensures { Answers flash_view (ReadsFlashSum (concat (map (λ piece. piece.now) pieces.now))) result }
+{
+    shown_faults();
+    let mut reader = FlashReader::new(alloc);
+    for piece in pieces {
+        feed_flashes(&mut reader, piece)?;
+    }
+    reader.finish_whole()
+}
+
+/// Adds a flash to the pads, where it is one.
+fn push_pad(pads: &mut Vec<Pad>, flash: &Flash) -> Result<(), AllocError>
+    ensures { OnOk result (pads.new.items ≡ pads.old.items ++ pads_of (flash.now ∷ [])) }
+{
+    match flash.what {
+        What::Pad(pad) => {
+            pads.push(pad)?;
+            Ok(())
+        }
+        What::Other(_) => Ok(()),
+    }
+}
+
+/// The pads among the flashes, in order, in a list with room for so many.
+fn pads_among(alloc: Global, flashes: &[Flash], count: usize) -> Result<Vec<Pad>, AllocError>
+    ensures { IfOk result (λ pads. pads.items ≡ pads_of flashes.now) }
+{
+    let mut all = Vec::with_capacity(alloc, count)?;
+    for flash in flashes {
+        push_pad(&mut all, flash)?;
+    }
+    Ok(all)
+}
+
+/// What a copper file says, as [`read_image`] gives it, and its flashes.
+pub(crate) fn read_image_with_flashes(
+    alloc: Global,
+    flashes: &mut Vec<Flash>,
+    pieces: &[&[u8]],
+) -> Result<Layer, Fail>
+    ensures image { Answers (λ x. x) (ReadsLayer (concat (map (λ piece. piece.now) pieces.now))) result }
+    ensures flashes { OnOk result (ReadsFlashes (concat (map (λ piece. piece.now) pieces.now)) (Ok flashes.new.items)) }
+{
+    let sum = read_flashes(alloc, pieces)?;
+    let other = sum.other;
+    let count = sum.flashes.len().saturating_sub(other);
+    let pads = pads_among(alloc, &sum.flashes, count)?;
+    let is_copper = is_copper_function(&sum.file_function);
+    *flashes = sum.flashes;
+    Ok(Layer {
+        pads,
+        other,
         is_copper,
     })
 }

@@ -1,6 +1,6 @@
 use crate::{
-    File, FileSum, PackageFault, PiecedFile, Role, Span, check_bytes, check_pieces, print_files,
-    read_package, write_report,
+    File, FileSum, PackageFault, PackageReader, PiecedFile, Role, Span, check_bytes, check_pieces,
+    print_files, read_package, write_report,
 };
 use grid_units::{Fault, Reason, Rules};
 use std::alloc::Global;
@@ -307,4 +307,45 @@ fn a_refused_file_has_no_board(rt: HostRuntime) {
             fault: FAULT
         })
     );
+}
+
+#[test]
+fn a_reader_gives_the_flashes_of_copper(rt: HostRuntime) -> Result<(), Failure> {
+    let alloc = rt.alloc();
+    let mut reader = PackageReader::new(alloc, 2);
+    let (start, end) = TWO.split_at(50);
+    let flashes = reader.take_with_flashes(Role::Copper, &None, &[start, end])?;
+    assert_eq!(rt; flashes.len(), 2);
+    let flashes = reader.take_with_flashes(Role::Plated, &None, &[DRILL])?;
+    assert_eq!(rt; flashes.len(), 0);
+    reader.take(Role::Copper, &None, &[TWO])?;
+    let board = reader.board().ok().ok_or("no board")?;
+    let wanted = [
+        FileSum::Layer { pads: 2, other: 0 },
+        FileSum::Drill {
+            plated: true,
+            span: None,
+            round: 1,
+            slots: 0,
+        },
+        FileSum::Layer { pads: 2, other: 0 },
+    ];
+    assert_eq!(rt; board.files(), wanted.as_slice());
+    assert_eq!(rt; board.layers(alloc)?.len(), 2);
+    Ok(())
+}
+
+#[test]
+fn a_reader_with_flashes_tells_of_the_first_refusal(rt: HostRuntime) -> Result<(), Failure> {
+    let mut reader = PackageReader::new(rt.alloc(), 2);
+    reader.take_with_flashes(Role::Copper, &Span::new(1, 1), &[TWO])?;
+    reader.take_with_flashes(Role::Copper, &None, &[DRILL])?;
+    assert_eq!(rt;
+        reader.board().err(),
+        Some(PackageFault::File {
+            index: 0,
+            fault: FAULT
+        })
+    );
+    Ok(())
 }

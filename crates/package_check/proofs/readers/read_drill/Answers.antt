@@ -13,7 +13,7 @@ returns-in_err-feed c =
     let xs = c.args.pieces.now in
     let i = c.loop-piece.piece-index in
     rw (p.1, p.2) (drill_joined (λ (holes : Vec GridHole). holes.items) c.faults_stay.ensures.read (joined (take i xs) ++ (get_or xs i no_piece).now) (joined (drop (i + 1) xs)) (joined xs) c.in_err-feed.field-0.0
-    (joined_all xs i no_piece c.loop-piece-test.true) (c.in_err-feed.ensures.fault (joined (take i xs)) c.loop-piece.invariant))
+    (joined_all xs i no_piece c.loop-piece-test.true) (c.in_err-feed.ensures.err (joined (take i xs)) c.loop-piece.invariant))
 
 pub loop-piece-preserved : goal.loop-piece-preserved
 loop-piece-preserved c =

@@ -6,16 +6,16 @@ use Rattle.package_check.proofs.Joining.{joined}
 use Rattle.package_check.proofs.Taking.{next_said, none_of, some_of, still_said}
 use Rattle.package_check.proofs.package_reader.PackageReader.take.Goals as goal
 
-pub returns-then-is_some-clause-stands : goal.returns-then-is_some-clause-stands
-returns-then-is_some-clause-stands c sources name stands =
+pub returns-then-is_stopped-clause-stands : goal.returns-then-is_stopped-clause-stands
+returns-then-is_stopped-clause-stands c sources name stands =
     still_said c.args.self.now.stopped c.args.self.now.contents.items sources
     (record { role = c.args.role; name = name; span = c.args.span.now; bytes = joined c.args.pieces.now; layers = c.args.self.now.layers }) c.outcome.result
-    (some_of c.args.self.now.stopped (sym c.is_some.ensures ∙ c.if-is_some.true)) stands
+    (some_of c.args.self.now.stopped (sym c.is_stopped.ensures ∙ c.if-is_stopped.true)) stands
 
 pub returns-clause-stands : goal.returns-clause-stands
 returns-clause-stands c sources name stands =
     let before = c.args.self.now.contents.items in
-    let read = subst (λ (st : Option Fail). Said st before sources) (none_of c.args.self.now.stopped (sym c.is_some.ensures ∙ c.if-is_some.false)) stands in
+    let read = subst (λ (st : Option Fail). Said st before sources) (none_of c.args.self.now.stopped (sym c.is_stopped.ensures ∙ c.if-is_stopped.false)) stands in
     let s : Source = record { role = c.args.role; name = name; span = c.args.span.now; bytes = joined c.args.pieces.now; layers = c.args.self.now.layers } in
     subst (λ (st : Option Fail). OnOk c.outcome-2.result (Said st c.read_next-read.new.contents.items (sources ++ s ∷ []))) (sym c.err-self.ensures.value)
     (next_said c.args.role c.args.span.now (joined c.args.pieces.now) c.args.self.now.layers name before c.read_next-read.new.contents.items sources c.read_next-read.result c.outcome-2.result

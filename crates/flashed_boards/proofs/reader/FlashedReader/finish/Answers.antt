@@ -1,0 +1,10 @@
+use Rattle.package_check.proofs.Flashing.{none_refused}
+use Rattle.flashed_boards.proofs.reader.FlashedReader.finish.Goals as goal
+
+pub returns : goal.returns
+returns c = λ sources stands.
+    let board = c.in_ok-board.ensures sources stands.taken in
+    record {
+      board = board;
+      flashes = stands.flashes (none_refused c.one_answer.ensures c.args.self.taken sources c.in_ok-board.board stands.taken board);
+    }
