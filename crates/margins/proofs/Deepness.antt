@@ -7,7 +7,7 @@ use Rattle.grid_units.specs.Points.{GridPoint, apart, square, square_distance}
 use Rattle.grid_units.specs.Holes.{GridHole}
 use Rattle.pad_shapes.specs.Shapes.{GridDisc, GridObround, end_radius, square_from_axis, disc_covers, obround_covers}
 use Rattle.margins.specs.Depths.{IsDepth, IsDepthOfHole}
-use Rattle.margins.specs.DepthLaws.{both_le, le_both}
+use Rattle.margins.specs.Inner.DepthLaws.{both_le, le_both}
 use Rattle.grid_units.proofs.BoolLemmas.{both_true}
 
 -- within a circle of a radius: the far point's distance, rounded up, is the root

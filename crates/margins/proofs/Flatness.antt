@@ -11,7 +11,7 @@ use Rattle.ring_rules.specs.Meeting.{hole_at}
 use Rattle.ring_rules.specs.declared.finding.Drilled.{Drilled}
 use Rattle.margins.specs.Depths.{CoversLess}
 use Rattle.margins.specs.Bests.{IsBare, IsBestPad, AreBest, AreBare}
-use Rattle.margins.specs.Flats.{flat_covers}
+use Rattle.margins.specs.Inner.Flats.{flat_covers}
 use Rattle.margins.specs.Rows.{has_none}
 use Rattle.margins.specs.declared.best.Best.{Best}
 

@@ -11,3 +11,4 @@ pub mod Bettering
 pub mod Rowing
 pub mod Parting
 pub mod Flatness
+pub mod Lacked

@@ -1,6 +1,6 @@
 -- What a board meets says under which rules nothing is found.
-use Rattle.std.proofs.Common.{◌≡◌, ℕ, ℤ, pos, suc, ◌+◌, ◌<◌, ◌≤◌, ◌+ℤ◌, ◌-ℤ◌, ◌≤ℤ◌, inl, inr, Bool, true, false, cond, List, [], ◌∷◌, ◌++◌, map, length, get_or, refl, sym, ap, ◌∙◌, arith}
-use Rattle.std.specs.Prelude.{not, ◌&&◌, ◌||◌, nat_lt}
+use Rattle.std.proofs.Common.{◌≡◌, ℕ, ℤ, pos, suc, ◌+◌, ◌<◌, ◌≤◌, ◌+ℤ◌, ◌-ℤ◌, ◌≤ℤ◌, inl, inr, Bool, true, false, cond, Option, Some, None, List, [], ◌∷◌, ◌++◌, map, length, get_or, refl, sym, ap, ◌∙◌, arith}
+use Rattle.std.specs.Prelude.{not, ◌&&◌, ◌||◌, nat_lt, int_lt}
 use Rattle.std.specs.List.{filter, flat_map, enumerate_from, list_any, Contains}
 use Rattle.std.proofs.lemmas.Int.{ints}
 use Rattle.std.proofs.lemmas.Bool.Decides.{nat_tests}
@@ -19,7 +19,8 @@ use Rattle.ring_rules.specs.declared.finding.Finding.TheVariants.{Gap}
 use Rattle.margins.specs.Depths.{CoversLess}
 use Rattle.margins.specs.Gaps.{IsGap}
 use Rattle.margins.specs.Bests.{IsBare}
-use Rattle.margins.specs.Meets.{asks_ring, IsRing, RingsPassExactly, GapsPassExactly}
+use Rattle.margins.specs.Meets.{asks_ring, IsRing, IsRingOf, RingsPassExactly, GapsPassExactly}
+use Rattle.margins.specs.Inner.Lacking.{is_short}
 use Rattle.margins.specs.declared.met.Met.TheVariants as mets
 use Rattle.grid_units.proofs.BoolLemmas.{both_true, neither, not_false, then_not}
 use Rattle.grid_units.proofs.ListLemmas.{no_map, none_at, fails_at, passing}
@@ -113,6 +114,19 @@ module _ {S : Type 0} (covers : S → GridPoint → ℕ → Bool) (pads : List S
       let found = (covering none).1 in
       let there = found.1 in
       let f : true ≡ false = sym (ap (λ (x : S). covers_hole covers q h x) there.2 ∙ found.2) ∙ shallow found.0 there.0 (h.radius + q) there.1 in cc
+
+  same_tests : (a b : Bool) → (b ≡ false → a ≡ true → ⊥) → (a ≡ false → b ≡ false) → a ≡ b
+  same_tests true true f g = refl
+  same_tests true false f g = absurd (f refl refl)
+  same_tests false true f g = let e : true ≡ false = g refl in cc
+  same_tests false false f g = refl
+
+  -- what a hole has is less than a rule just where it lacks that ring
+  pub short_lacks : CoversLess covers → (ring : Option ℤ) → IsRingOf covers pads h ring → is_short q ring ≡ lacks_ring covers q pads h
+  short_lacks less None is = same_tests true (lacks_ring covers q pads h) (λ none e. bare_lacks is none) (λ e. absurd cc)
+  short_lacks less (Some ring) is = same_tests (int_lt ring (pos q)) (lacks_ring covers q pads h)
+      (λ none e. let within : pos q ≤ℤ ring = covers_ring ring is none in omega (arith, ints, within, e))
+      (λ e. ring_covers less ring is (let within : pos q ≤ℤ ring = omega (arith, ints, e) in within))
 
 -- ---- all rings
 

@@ -1,5 +1,5 @@
 -- The shape of a list in which a hole lies deepest. Lengths are whole picometres.
-use Rattle.std.specs.Prelude.{◌≡◌, ◌↔◌, ℕ, ◌<◌, ◌≤◌, ◌⊎◌, Bool, true, false, Option, Some, None, List, length, get_or}
+use Rattle.std.specs.Prelude.{◌≡◌, ◌↔◌, ℕ, ◌<◌, ◌≤◌, ◌⊎◌, Bool, true, false, Option, Some, None, List, [], length, get_or}
 use Rattle.grid_units.specs.Points.{GridPoint}
 use Rattle.grid_units.specs.Holes.{GridHole}
 use Rattle.pad_shapes.specs.Shapes.{max_half_side, covers_ends}
@@ -38,6 +38,11 @@ IsBestPad covers pads h (Some best) = (is_oblique h ≡ false) × IsBest covers 
 pub record AreBest {S : Type 0} (covers : S → GridPoint → ℕ → Bool) (pads : List S) (holes : List Drilled) (bests : List (Option Best)) : Type 0 where
   pub size : length bests ≡ length holes
   pub each : (k : ℕ) → k < length holes → IsBestPad covers pads (hole_at holes k) (get_or bests k None)
+
+-- the best shape of each layer for each of some holes, layer by layer (docs/DEFINITIONS.md, Best pads)
+pub record AreBestOn {S : Type 0} (covers : S → GridPoint → ℕ → Bool) (layers : List (List S)) (holes : List Drilled) (bests : List (List (Option Best))) : Type 0 where
+  pub size : length bests ≡ length layers
+  pub each : (layer : ℕ) → layer < length layers → AreBest covers (get_or layers layer []) holes (get_or bests layer [])
 
 -- for each of some holes whether it is bare, in their order (docs/DEFINITIONS.md, Best pads)
 pub record AreBare {S : Type 0} (covers : S → GridPoint → ℕ → Bool) (pads : List S) (holes : List Drilled) (bare : List Bool) : Type 0 where

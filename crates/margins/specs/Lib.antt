@@ -1,7 +1,5 @@
 pub mod Depths
-pub mod DepthLaws
 pub mod Gaps
-pub mod Flats
 pub mod Bests
 pub mod Nearness
 pub mod Meets

@@ -3,7 +3,7 @@
 ghost use Rattle.std.specs.Prelude.{◌≡◌, map, IfOk};
 ghost use Rattle.margins.specs.Bests.{AreBare};
 ghost use Rattle.margins.specs.Rows.{has_none};
-ghost use Rattle.margins.specs.Flats.{flat_covers, flat_holds, flat_holds_slots, flat_between, flat_covers_less};
+ghost use Rattle.margins.specs.Inner.Flats.{flat_covers, flat_holds, flat_holds_slots, flat_between, flat_covers_less};
 
 use crate::best::Best;
 use crate::bests::best_pads;

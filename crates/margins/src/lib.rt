@@ -9,6 +9,7 @@ mod bests;
 mod deep;
 mod flat;
 mod gap;
+mod lacking;
 pub mod laws;
 mod met;
 mod nearest;
@@ -22,6 +23,7 @@ pub use bests::{best_pad, best_pads};
 pub use deep::{Deep, depth_of_hole};
 pub use flat::bare_holes;
 pub use gap::gap_between;
+pub use lacking::ring_findings_by;
 pub use met::{
     Met, RingsMet, asks_ring, gap_met, gap_met_by, held_met, met_by_none, met_with, ring_met,
     rings_met,

@@ -3,7 +3,7 @@
 ghost use Rattle.std.specs.Prelude.{◌≡◌, ◌≤◌};
 ghost use Rattle.grid_units.specs.Points.{apart};
 ghost use Rattle.margins.specs.Depths.{pad_middle};
-ghost use Rattle.margins.specs.DepthLaws.{disc_covers_less, rect_covers_less, obround_covers_less, pad_covers_less};
+ghost use Rattle.margins.specs.Inner.DepthLaws.{disc_covers_less, rect_covers_less, obround_covers_less, pad_covers_less};
 
 use crate::deep::Deep;
 use crate::roots::{length_above, less};

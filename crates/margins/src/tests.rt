@@ -2,8 +2,8 @@
 
 ghost use Rattle.std.specs.Prelude.{◌≡◌, pos, ◌+ℤ◌, ◌-ℤ◌};
 ghost use Rattle.pad_shapes.specs.Shapes.{IsInDisc, disc_covers};
-ghost use Rattle.pad_shapes.specs.ShapeLaws.{disc_holds, disc_holds_slots, disc_between, disc_extent};
-ghost use Rattle.margins.specs.DepthLaws.{disc_covers_less};
+ghost use Rattle.pad_shapes.specs.Inner.ShapeLaws.{disc_holds, disc_holds_slots, disc_between, disc_extent};
+ghost use Rattle.margins.specs.Inner.DepthLaws.{disc_covers_less};
 
 use super::*;
 use grid_units::{Hole, Point};

@@ -17,7 +17,7 @@ use Rattle.ring_rules.specs.Meeting.{hole_at}
 use Rattle.ring_rules.specs.Places.{nowhere}
 use Rattle.ring_rules.specs.declared.finding.Drilled.{Drilled}
 use Rattle.margins.specs.Bests.{AreBest, AreBare, AreShallow, IsBare, IsBestPad}
-use Rattle.margins.specs.DepthLaws.{pad_covers_less}
+use Rattle.margins.specs.Inner.DepthLaws.{pad_covers_less}
 use Rattle.margins.specs.Rows.{has_none}
 use Rattle.margins.specs.declared.best.Best.{Best}
 use Rattle.scales.specs.Scales.{BareIsUncovered, is_bare, is_uncovered}

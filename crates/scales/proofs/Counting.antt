@@ -7,7 +7,7 @@ use Rattle.std.proofs.lemmas.Bool.Decides.{Decides-int_eq}
 use Rattle.std.proofs.lemmas.List.{length-append, take_all}
 use Rattle.std.proofs.lemmas.List.Sums.{sum_by-append, sum_by-cons, sum_by_more}
 use Rattle.grid_units.specs.Points.{GridPoint, IsCoordinate, max_coordinate}
-use Rattle.margins.specs.DepthLaws.{both_le, le_both}
+use Rattle.margins.specs.Inner.DepthLaws.{both_le, le_both}
 use Rattle.grid_units.specs.Holes.{GridHole, is_round}
 use Rattle.pad_shapes.specs.declared.pad.Pad.{Pad}
 use Rattle.ring_rules.specs.declared.finding.Drilled.{Drilled}

@@ -6,6 +6,7 @@ ghost use Rattle.ring_rules.specs.Passing.{NamesPlaces};
 ghost use Rattle.package_check.specs.Boards.{board_findings};
 ghost use Rattle.package_check.specs.Package.{sources_of};
 ghost use Rattle.flashed_boards.specs.Flashed.{AnswersFlashed};
+ghost use Rattle.telling.specs.Inner.Adding.{AreBoardBests};
 ghost use Rattle.telling.specs.Telling.{AnswersTelling, IsTelling};
 
 use crate::gaps::tell_gaps;
@@ -13,28 +14,46 @@ use crate::heads::heads;
 use crate::rings::tell_rings;
 use flashed_boards::{FlashedBoard, read_flashed};
 use grid_units::Rules;
+use margins::{Best, ring_findings_by};
 use measuring::measure_with_bests;
 use package_check::{Board, File, PackageFault};
 use pad_shapes::Pad;
 use report_text::Telling;
-use ring_rules::Finding;
 use ring_rules::laws::findings_name_places;
+use ring_rules::{Finding, gap_findings};
 use std::alloc::{AllocError, Global};
 
-/// What the rules find on a board.
-fn findings_on(alloc: Global, board: &Board, rules: Rules) -> Result<Vec<Finding>, AllocError>
+/// What the rules find of rings on a board, by the best pads of its layers, and then of gaps.
+fn rings_and_gaps(
+    alloc: Global,
+    board: &Board,
+    bests: &[Vec<Option<Best>>],
+    rules: Rules,
+) -> Result<Vec<Finding>, AllocError>
+    requires { AreBoardBests board.now bests.now }
+    ensures { IfOk result (λ found. found.items ≡ board_findings rules board.now) }
+{
+    let layers = board.layers(alloc)?;
+    let holes = board.holes();
+    let mut findings = ring_findings_by(alloc, &layers, holes, bests, rules)?;
+    let gaps = gap_findings(alloc, holes, rules)?;
+    findings.extend_from_slice(&gaps)?;
+    Ok(findings)
+}
+
+/// What the check of a board finds, by the best pads of its layers.
+fn findings_on(
+    alloc: Global,
+    board: &Board,
+    bests: &[Vec<Option<Best>>],
+    rules: Rules,
+) -> Result<Vec<Finding>, AllocError>
+    requires { AreBoardBests board.now bests.now }
     ensures are { IfOk result (λ found. found.items ≡ board_findings rules board.now) }
     ensures places { IfOk result (λ found. All (NamesPlaces (length board.now.layers) (length board.now.holes)) found.items) }
 {
     findings_name_places::<Pad>();
-    board.findings(alloc, rules)
-}
-
-/// The board alone.
-fn board_of(flashed: &FlashedBoard) -> &Board
-    ensures { result.now ≡ flashed.now.board }
-{
-    &flashed.board
+    rings_and_gaps(alloc, board, bests, rules)
 }
 
 /// What is told of a board under these rules.
@@ -49,9 +68,9 @@ pub fn tell_board(
 ) -> Result<Telling, AllocError>
     ensures { IfOk result (IsTelling rules flashed.now) }
 {
-    let board = board_of(flashed);
-    let findings = findings_on(alloc, board, rules)?;
+    let board = flashed.board();
     let (measure, bests) = measure_with_bests(alloc, board)?;
+    let findings = findings_on(alloc, board, &bests, rules)?;
     Ok(Telling {
         rules,
         layers: heads(alloc, board)?,

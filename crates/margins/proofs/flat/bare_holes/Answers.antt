@@ -1,7 +1,7 @@
 use Rattle.std.proofs.Common.{◌≡◌, Bool, Option, List, map, refl, sym, subst, ◌∙◌}
 use Rattle.std.proofs.lemmas.Result.{IfOk-weaker}
 use Rattle.margins.specs.Bests.{AreBest, AreBare}
-use Rattle.margins.specs.Flats.{flat_covers}
+use Rattle.margins.specs.Inner.Flats.{flat_covers}
 use Rattle.margins.specs.Rows.{has_none}
 use Rattle.margins.specs.declared.best.Best.{Best}
 use Rattle.margins.proofs.Flatness.{bare_told}

@@ -16,5 +16,5 @@ returns-clause-places c =
     let rules = c.args.rules in
     let named = All-append (NamesPlaces (length board.layers) (length board.holes)) (ring_findings pad_covers rules.ring board.layers board.holes) (gap_findings rules.gap board.holes)
     (c.findings_name_places.ensures.rings rules.ring board.layers board.holes) (c.findings_name_places.ensures.gaps rules.gap (length board.layers) board.holes) in
-    IfOk-weaker c.findings.result (λ (found : Vec Finding). found.items ≡ board_findings rules board) (λ (found : Vec Finding). All (NamesPlaces (length board.layers) (length board.holes)) found.items)
-    (λ found e. subst (λ (xs : List Finding). All (NamesPlaces (length board.layers) (length board.holes)) xs) (sym e) named) c.findings.ensures
+    IfOk-weaker c.rings_and_gaps.result (λ (found : Vec Finding). found.items ≡ board_findings rules board) (λ (found : Vec Finding). All (NamesPlaces (length board.layers) (length board.holes)) found.items)
+    (λ found e. subst (λ (xs : List Finding). All (NamesPlaces (length board.layers) (length board.holes)) xs) (sym e) named) c.rings_and_gaps.ensures

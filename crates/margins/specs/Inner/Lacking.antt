@@ -1,0 +1,15 @@
+-- Which holes lack their ring, by their best pads.
+use Rattle.std.specs.Prelude.{ℕ, ℤ, pos, Bool, true, ◌&&◌, int_lt, Option, Some, None}
+use Rattle.ring_rules.specs.declared.finding.Drilled.{Drilled}
+use Rattle.margins.specs.Meets.{asks_ring}
+use Rattle.margins.specs.Rows.{ring_by}
+use Rattle.margins.specs.declared.best.Best.{Best}
+
+-- a hole has no ring, or one that is less than the rule (docs/DEFINITIONS.md, What a board meets)
+abbrev pub is_short : ℕ → Option ℤ → Bool
+is_short rule None = true
+is_short rule (Some ring) = int_lt ring (pos rule)
+
+-- a hole asks a ring on a layer, and has less than the rule by its best pad there (docs/DEFINITIONS.md, What a board meets)
+abbrev pub falls_short : ℕ → ℕ → Drilled → Option Best → Bool
+falls_short rule layer d best = asks_ring layer d && is_short rule (ring_by best d.hole)

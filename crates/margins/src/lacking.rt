@@ -1,0 +1,73 @@
+//! What is found of rings, by the best pads of the holes.
+
+ghost use Rattle.std.specs.Prelude.{◌≡◌, ◌<◌, [], length, map, get_or, IfOk};
+ghost use Rattle.ring_rules.specs.Findings.{is_wanting, ring_findings};
+ghost use Rattle.margins.specs.Bests.{AreBest, AreBestOn};
+ghost use Rattle.margins.specs.Inner.Lacking.{is_short, falls_short};
+
+use crate::best::Best;
+use crate::deep::Deep;
+use crate::met::asks_ring;
+use crate::row::ring_of;
+use grid_units::Rules;
+use ring_rules::{Drilled, Finding, layer_findings};
+use std::alloc::{AllocError, Global};
+
+/// Whether a ring that a hole has, if it has one, is less than the rule.
+fn is_short(ring: Option<i64>, rules: Rules) -> bool
+    ensures { result ≡ is_short rules.ring ring }
+{
+    match ring {
+        Some(ring) => ring < rules.ring(),
+        None => true,
+    }
+}
+
+/// Whether a hole asks a ring on a layer and has less by its best pad there.
+fn falls_short(layer: usize, drilled: &Drilled, best: Option<Best>, rules: Rules) -> bool
+    ensures { result ≡ falls_short rules.ring layer drilled.now best }
+{
+    asks_ring(layer, drilled) && is_short(ring_of(best, &drilled.hole), rules)
+}
+
+/// Whether each hole lacks its ring on a layer, by the best pads of the holes there.
+fn wanting_by<S: Deep>(
+    alloc: Global,
+    layers: &[&[S]],
+    layer: usize,
+    bests: &[Option<Best>],
+    holes: &[Drilled],
+    rules: Rules,
+) -> Result<Vec<bool>, AllocError>
+    requires { AreBest S.covers (get_or (map (λ pads. pads.now) layers.now) layer []) holes.now bests.now }
+    ensures { IfOk result (λ wanting. wanting.items ≡ map (is_wanting S.covers rules.ring layer (get_or (map (λ pads. pads.now) layers.now) layer [])) holes.now) }
+{
+    let mut wanting = Vec::new(alloc);
+    for (hole, drilled) in holes.iter().enumerate() {
+        wanting.push(falls_short(layer, drilled, bests[hole], rules))?;
+    }
+    Ok(wanting)
+}
+
+/// What [`ring_rules::ring_findings`] finds, by the best pads of the holes on each layer: no pad is looked at again.
+///
+/// # Errors
+///
+/// Where there is no memory.
+pub fn ring_findings_by<S: Deep>(
+    alloc: Global,
+    layers: &[&[S]],
+    holes: &[Drilled],
+    bests: &[Vec<Option<Best>>],
+    rules: Rules,
+) -> Result<Vec<Finding>, AllocError>
+    requires { AreBestOn S.covers (map (λ pads. pads.now) layers.now) holes.now (map (λ its. its.items) bests.now) }
+    ensures { IfOk result (λ findings. findings.items ≡ ring_findings S.covers rules.ring (map (λ pads. pads.now) layers.now) holes.now) }
+{
+    let mut findings = Vec::new(alloc);
+    for (layer, its) in bests.iter().enumerate() {
+        let wanting = wanting_by(alloc, layers, layer, its, holes, rules)?;
+        layer_findings(&mut findings, layer, holes, &wanting)?;
+    }
+    Ok(findings)
+}
