@@ -1,5 +1,6 @@
 -- How deep the values nest.
 use Rattle.std.proofs.Common.{◌≤◌, ℕ, List, [], ◌∷◌, Option, Some, None, arith}
+use Rattle.std.specs.Borrow.{Bor}
 use Rattle.std.specs.Prelude.{codes}
 use Rattle.json.specs.Json.{Json}
 use Rattle.json.specs.Tree.{depth}
@@ -18,7 +19,7 @@ use Rattle.report_text.specs.declared.LayerHead.{LayerHead}
 use Rattle.report_text.specs.declared.RingLack.{RingLack}
 use Rattle.ring_rules.specs.declared.finding.Drilled.{Drilled}
 use Rattle.report_text.specs.Texts.{lack_of}
-use Rattle.report_json.specs.Values.{drill_value, file_value, flash_of, gap_value, hole_value, hole_there, if_there, layer_number, layer_value, least_gap_value, least_hole, least_ring, meets_value, met_value, picometres, place_value, point_value, ring_of, ring_value, row_value, scale_value, whole}
+use Rattle.report_json.specs.Values.{drill_value, file_value, flash_of, gap_value, hole_value, hole_there, if_there, layer_number, layer_value, least_gap_value, least_hole, least_ring, meets_value, met_value, picometres, place_value, point_value, ring_of, ring_value, row_value, scale_value, whole, why_value, word}
 use Rattle.report_json.proofs.Whole.{members_within}
 
 -- what may be null
@@ -58,19 +59,23 @@ row_within line =
     let hole = there_within 0 whole (λ n. omega arith) (least_hole line) in
     omega (arith, ring, hole)
 
-pub ring_within : (layers : List LayerHead) (lack : RingLack) → depth (ring_value layers lack) ≤ 3
+pub why_within : (why : Option (Bor (List ℕ))) → depth (why_value why) ≤ 0
+why_within why = there_within 0 (λ (there : Bor (List ℕ)). word there.now) (λ there. omega arith) why
+
+pub ring_within : (layers : List LayerHead) (lack : RingLack) (why : Option (Bor (List ℕ))) → depth (ring_value layers lack why) ≤ 3
 unfolding ring_value
-ring_within layers lack =
+ring_within layers lack why =
     let layer = there_within 0 whole (λ n. omega arith) (layer_number layers lack.layer) in
     let at = hole_within lack.at in
     let ring = there_within 0 picometres (λ n. omega arith) (ring_of lack.cause) in
     let less = there_within 0 picometres (λ n. omega arith) (lack_of lack.cause) in
     let flash = there_within 0 whole (λ n. omega arith) (flash_of lack.cause) in
-    omega (arith, layer, at, ring, less, flash)
+    let waived = why_within why in
+    omega (arith, layer, at, ring, less, flash, waived)
 
-pub gap_within : (lack : GapLack) → depth (gap_value lack) ≤ 3
+pub gap_within : (lack : GapLack) (why : Option (Bor (List ℕ))) → depth (gap_value lack why) ≤ 3
 unfolding gap_value
-gap_within lack = let first = hole_within lack.first in let second = hole_within lack.second in omega (arith, first, second)
+gap_within lack why = let first = hole_within lack.first in let second = hole_within lack.second in let waived = why_within why in omega (arith, first, second, waived)
 
 place_within : (files : List FileSum) (holes : List Drilled) (place : HolePlace) → depth (place_value files holes place) ≤ 2
 place_within files holes place =

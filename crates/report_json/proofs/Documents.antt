@@ -1,5 +1,6 @@
 -- A report and a measure, as their tokens are printed, and that they read back.
-use Rattle.std.proofs.Common.{◌≡◌, ◌≤◌, ◌+◌, ◌++◌, ◌∙◌, ℕ, true, false, List, [], ◌∷◌, Some, map, ap, ap₂, append_assoc, arith}
+use Rattle.std.proofs.Common.{◌≡◌, ◌≤◌, ◌+◌, ◌++◌, ◌∙◌, ℕ, true, false, List, [], ◌∷◌, Some, map, Option, ap, append_assoc, arith}
+use Rattle.std.specs.Borrow.{Bor}
 use Rattle.std.specs.Prelude.{codes}
 use Rattle.std.specs.List.{All, enumerate_from, flat_map}
 use Rattle.std.proofs.lemmas.List.Concat.{flat_map-append}
@@ -13,11 +14,14 @@ use Rattle.margin_text.specs.declared.Meets.{Meets}
 use Rattle.measuring.specs.declared.measure.Measure.{Measure}
 use Rattle.package_check.specs.Boards.{Survey}
 use Rattle.package_check.specs.declared.FileSum.{FileSum}
+use Rattle.report_text.specs.declared.GapLack.{GapLack}
+use Rattle.report_text.specs.declared.LayerHead.{LayerHead}
+use Rattle.report_text.specs.declared.RingLack.{RingLack}
 use Rattle.report_text.specs.declared.Telling.{Telling}
 use Rattle.report_text.specs.Texts as texts
 use Rattle.report_json.specs.Inner.Heads.{array_begin, finding_tokens, list_tokens, measure_end, measure_head, telling_end, telling_head}
 use Rattle.report_json.specs.Inner.Parts.{ended_by, member_tokens, members_tokens}
-use Rattle.report_json.specs.Packages.{file_values, measure_value, opening, result_word, stop_value, telling_value}
+use Rattle.report_json.specs.Packages.{file_values, gap_values, measure_value, opening, ring_values, stop_value, told_result, told_value}
 use Rattle.report_json.specs.Values.{file_value, gap_value, if_there, items_of, least_gap_value, meets_value, ring_value, row_value, rules_value, scale_value}
 use Rattle.report_json.specs.declared.refused.Stop.{Stop}
 use Rattle.report_json.specs.declared.refused.Stop.TheVariants as stops
@@ -27,9 +31,9 @@ use Rattle.report_json.proofs.Numerals.{decimal_number}
 use Rattle.report_json.proofs.Whole.{array_and, begun, items_numbers, items_within, told_numbers, told_tokens, told_within}
 
 -- no value ends before the first file
-pub telling_begins : (telling : Telling) → ended_by false (telling_head telling) ≡ false
+pub telling_begins : (telling : Telling) (rings gaps : List (Option (Bor (List ℕ)))) → ended_by false (telling_head telling rings gaps) ≡ false
 unfolding telling_head
-telling_begins telling =
+telling_begins telling rings gaps =
     let rules = member_tokens (codes "rules") (rules_value telling.rules) in
     let meets = member_tokens (codes "meets") (meets_value telling.meets) in
     ended_more true rules (meets ++ array_begin (codes "files")) ∙ begun meets (ended_by true rules) (codes "files")
@@ -57,17 +61,18 @@ abbrev start : List ℕ → List Token → List Token
 start result rest = Token.begin_object ∷ (members_tokens (opening result) ++ rest)
 
 -- the tokens of a report, part by part
-pub telling_parts : (names : List (List ℕ)) (files : List FileSum) (telling : Telling)
-    → json_tokens (telling_value names files telling) ≡ telling_head telling ++ ((list_tokens names files telling.scales.items (codes "findings") ++ finding_tokens telling.layers.items telling.rings.items telling.gaps.items) ++ telling_end)
-unfolding telling_value telling_head
-telling_parts names files telling =
-    ap (λ (ts : List Token). start (result_word telling.rings.items telling.gaps.items) (Token.key (codes "rules") ∷ ts))
-    (report_tokens (json_tokens (rules_value telling.rules)) (json_tokens (meets_value telling.meets)) (flat_map (λ line. json_tokens (scale_value line)) telling.scales.items) (finding_tokens telling.layers.items telling.rings.items telling.gaps.items)
+pub telling_parts : (names : List (List ℕ)) (files : List FileSum) (telling : Telling) (rings gaps : List (Option (Bor (List ℕ))))
+    → json_tokens (told_value names files telling rings gaps)
+    ≡ telling_head telling rings gaps ++ ((list_tokens names files telling.scales.items (codes "findings") ++ finding_tokens telling.layers.items telling.rings.items telling.gaps.items rings gaps) ++ telling_end)
+unfolding told_value telling_head
+telling_parts names files telling rings gaps =
+    let told = ring_values telling.layers.items telling.rings.items rings in
+    ap (λ (ts : List Token). start (told_result telling rings gaps) (Token.key (codes "rules") ∷ ts))
+    (report_tokens (json_tokens (rules_value telling.rules)) (json_tokens (meets_value telling.meets)) (flat_map (λ line. json_tokens (scale_value line)) telling.scales.items) (finding_tokens telling.layers.items telling.rings.items telling.gaps.items rings gaps)
     (Token.key (codes "meets")) (Token.key (codes "files")) (Token.key (codes "scales")) (Token.key (codes "findings"))
-    (file_values names files) (map scale_value telling.scales.items) (map (ring_value telling.layers.items) telling.rings.items ++ map gap_value telling.gaps.items)
+    (file_values names files) (map scale_value telling.scales.items) (told ++ gap_values telling.gaps.items gaps)
     (told_tokens scale_value telling.scales.items)
-    (flat_map-append json_tokens (map (ring_value telling.layers.items) telling.rings.items) (map gap_value telling.gaps.items)
-    ∙ ap₂ (λ (rs gs : List Token). rs ++ gs) (told_tokens (ring_value telling.layers.items) telling.rings.items) (told_tokens gap_value telling.gaps.items)))
+    (flat_map-append json_tokens told (gap_values telling.gaps.items gaps)))
 
 -- the tokens of a measure, part by part
 pub measure_parts : (names : List (List ℕ)) (board : Survey) (measure : Measure)
@@ -86,14 +91,23 @@ measure_parts names board measure =
 files_within : (names : List (List ℕ)) (files : List FileSum) → items_depth (items_of (file_values names files)) ≤ 1
 files_within names files = told_within (λ file. file_value (file.0 + 1) (texts.name_of names file.0) file.1) 1 (λ file. file_within (file.0 + 1) (texts.name_of names file.0) file.1) (enumerate_from 0 files)
 
-module _ (names : List (List ℕ)) (files : List FileSum) (telling : Telling) where
+-- how deep the findings nest
+rings_within : (layers : List LayerHead) (rings : List RingLack) (whys : List (Option (Bor (List ℕ)))) → All (λ v. depth v ≤ 3) (ring_values layers rings whys)
+rings_within layers rings whys =
+    All-map (λ v. depth v ≤ 3) (λ (one : ℕ × RingLack). ring_value layers one.1 (texts.why_at whys one.0)) (enumerate_from 0 rings) (λ k d l. ring_within layers _ _)
+
+gaps_within : (gaps : List GapLack) (whys : List (Option (Bor (List ℕ)))) → All (λ v. depth v ≤ 3) (gap_values gaps whys)
+gaps_within gaps whys =
+    All-map (λ v. depth v ≤ 3) (λ (one : ℕ × GapLack). gap_value one.1 (texts.why_at whys one.0)) (enumerate_from 0 gaps) (λ k d l. gap_within _ _)
+
+module _ (names : List (List ℕ)) (files : List FileSum) (telling : Telling) (of_rings of_gaps : List (Option (Bor (List ℕ)))) where
   -- the numbers of a report
   pub telling_numbers : HasNumbers (rules_value telling.rules) → HasNumbers (meets_value telling.meets) → All HasNumbers (file_values names files) → All (λ line. HasNumbers (scale_value line)) telling.scales.items
-      → All (λ lack. HasNumbers (ring_value telling.layers.items lack)) telling.rings.items → All (λ lack. HasNumbers (gap_value lack)) telling.gaps.items → HasNumbers (telling_value names files telling)
-  unfolding telling_value
+      → All HasNumbers (ring_values telling.layers.items telling.rings.items of_rings) → All HasNumbers (gap_values telling.gaps.items of_gaps) → HasNumbers (told_value names files telling of_rings of_gaps)
+  unfolding told_value
   telling_numbers rules meets named scales rings gaps =
-      let found = All-append HasNumbers (map (ring_value telling.layers.items) telling.rings.items) (map gap_value telling.gaps.items)
-      (All-map HasNumbers (ring_value telling.layers.items) telling.rings.items rings) (All-map HasNumbers gap_value telling.gaps.items gaps) in (
+      let told = ring_values telling.layers.items telling.rings.items of_rings in
+      let found = All-append HasNumbers told (gap_values telling.gaps.items of_gaps) rings gaps in (
         tt,
         (
           decimal_number 1 (omega arith),
@@ -105,10 +119,7 @@ module _ (names : List (List ℕ)) (files : List FileSum) (telling : Telling) wh
                 meets,
                 (
                   items_numbers (file_values names files) named,
-                  (
-                    told_numbers scale_value telling.scales.items scales,
-                    (items_numbers (map (ring_value telling.layers.items) telling.rings.items ++ map gap_value telling.gaps.items) found, tt),
-                  ),
+                  (told_numbers scale_value telling.scales.items scales, (items_numbers (told ++ gap_values telling.gaps.items of_gaps) found, tt)),
                 ),
               ),
             ),
@@ -116,20 +127,21 @@ module _ (names : List (List ℕ)) (files : List FileSum) (telling : Telling) wh
         ),
       )
 
-  telling_within : depth (telling_value names files telling) ≤ max_depth
-  unfolding telling_value rules_value
+  telling_within : depth (told_value names files telling of_rings of_gaps) ≤ max_depth
+  unfolding told_value rules_value
   telling_within =
       let meets = meets_within telling.meets in
       let named = files_within names files in
       let scales = told_within scale_value 1 scale_within telling.scales.items in
-      let found = items_within 3 (map (ring_value telling.layers.items) telling.rings.items ++ map gap_value telling.gaps.items)
-      (All-append (λ v. depth v ≤ 3) (map (ring_value telling.layers.items) telling.rings.items) (map gap_value telling.gaps.items)
-      (All-map (λ v. depth v ≤ 3) (ring_value telling.layers.items) telling.rings.items (λ k d l. ring_within telling.layers.items _)) (All-map (λ v. depth v ≤ 3) gap_value telling.gaps.items (λ k d l. gap_within _))) in
+      let told = ring_values telling.layers.items telling.rings.items of_rings in
+      let found = items_within 3 (told ++ gap_values telling.gaps.items of_gaps)
+      (All-append (λ v. depth v ≤ 3) told (gap_values telling.gaps.items of_gaps) (rings_within telling.layers.items telling.rings.items of_rings) (gaps_within telling.gaps.items of_gaps)) in
       omega (arith, meets, named, scales, found)
 
   -- a report reads back
-  pub telling_reads_back : HasNumbers (telling_value names files telling) → document (print (json_tokens (telling_value names files telling))) ≡ Some (telling_value names files telling)
-  telling_reads_back h = document-print (telling_value names files telling) h telling_within
+  pub telling_reads_back : HasNumbers (told_value names files telling of_rings of_gaps)
+      → document (print (json_tokens (told_value names files telling of_rings of_gaps))) ≡ Some (told_value names files telling of_rings of_gaps)
+  telling_reads_back h = document-print (told_value names files telling of_rings of_gaps) h telling_within
 
 module _ (names : List (List ℕ)) (board : Survey) (measure : Measure) where
   -- the numbers of a measure
@@ -176,3 +188,5 @@ stop_within (stops.RefusedManifest place reason) = omega arith
 stop_within (stops.Refused index name fault) = omega arith
 stop_within stops.ManifestDevice = omega arith
 stop_within (stops.Device index name) = omega arith
+stop_within (stops.RefusedWaivers place reason) = omega arith
+stop_within stops.WaiversDevice = omega arith

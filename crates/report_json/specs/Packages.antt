@@ -1,7 +1,8 @@
 -- The values of JSON that are printed: of a measure, of a report and of a refusal.
-use Rattle.std.specs.Prelude.{ℕ, ◌+◌, ◌==◌, ◌++◌, List, [], ◌∷◌, codes, length, map, if◌then◌else◌}
+use Rattle.std.specs.Prelude.{ℕ, ◌+◌, ◌==◌, ◌++◌, true, List, [], ◌∷◌, Option, codes, length, map, if◌then◌else◌}
+use Rattle.std.specs.Borrow.{Bor}
 use Rattle.std.specs.List.{enumerate_from}
-use Rattle.json.specs.Json.{Json}
+use Rattle.json.specs.Json.{Json, boolean}
 use Rattle.grid_units.specs.Reasons.{name_of}
 use Rattle.grid_units.specs.declared.fault.Fault.{Fault}
 use Rattle.grid_units.specs.declared.fault.Reason.{Reason}
@@ -10,8 +11,10 @@ use Rattle.package_check.specs.Boards.{Survey}
 use Rattle.package_check.specs.declared.FileSum.{FileSum}
 use Rattle.report_text.specs.Texts as texts
 use Rattle.report_text.specs.declared.GapLack.{GapLack}
+use Rattle.report_text.specs.declared.LayerHead.{LayerHead}
 use Rattle.report_text.specs.declared.RingLack.{RingLack}
 use Rattle.report_text.specs.declared.Telling.{Telling}
+use Rattle.report_text.specs.declared.Whys.{Whys}
 use Rattle.report_json.specs.Values.{array_of, file_value, gap_value, if_there, least_gap_value, meets_value, object_of, ring_value, row_value, rules_value, scale_value, whole, word}
 use Rattle.report_json.specs.declared.refused.Stop.{Stop}
 use Rattle.report_json.specs.declared.refused.Stop.TheVariants as stops
@@ -24,16 +27,36 @@ opening result = (codes "format", word (codes "ringcheck")) ∷ (codes "version"
 abbrev pub file_values : List (List ℕ) → List FileSum → List Json
 file_values names files = map (λ file. file_value (file.0 + 1) (texts.name_of names file.0) file.1) (enumerate_from 0 files)
 
--- the result of a report: whether nothing is found (docs/DEFINITIONS.md, JSON)
-abbrev pub result_word : List RingLack → List GapLack → List ℕ
-result_word rings gaps = if length rings + length gaps == 0 then codes "pass" else codes "findings"
+-- the rings that are lacking on some layers, each with the reason at its place (docs/DEFINITIONS.md, JSON)
+abbrev pub ring_values : List LayerHead → List RingLack → List (Option (Bor (List ℕ))) → List Json
+ring_values layers rings whys = map (λ one. ring_value layers one.1 (texts.why_at whys one.0)) (enumerate_from 0 rings)
 
--- a report: the rules, what is met, the files, the scales, and all findings, rings before gaps (docs/DEFINITIONS.md, JSON)
-unfoldable pub telling_value : List (List ℕ) → List FileSum → Telling → Json
-telling_value names files telling =
-    object_of (opening (result_word telling.rings.items telling.gaps.items) ++ ((codes "rules", rules_value telling.rules) ∷ (codes "meets", meets_value telling.meets)
+-- the gaps that are lacking, each with the reason at its place (docs/DEFINITIONS.md, JSON)
+abbrev pub gap_values : List GapLack → List (Option (Bor (List ℕ))) → List Json
+gap_values gaps whys = map (λ one. gap_value one.1 (texts.why_at whys one.0)) (enumerate_from 0 gaps)
+
+-- the result of a report by how many findings it has, and how many of them are waived: nothing is found, all is waived, or neither (docs/DEFINITIONS.md, JSON)
+abbrev pub result_word : ℕ → ℕ → List ℕ
+result_word findings waived = if findings == 0 then codes "pass" else if waived == findings then codes "waived" else codes "findings"
+
+-- the result of a report by the reasons of its rings and of its gaps (docs/DEFINITIONS.md, JSON)
+abbrev pub told_result : Telling → List (Option (Bor (List ℕ))) → List (Option (Bor (List ℕ))) → List ℕ
+told_result telling rings gaps = result_word (length telling.rings.items + length telling.gaps.items) (texts.waived_in telling rings gaps)
+
+-- a report by the reasons of its rings and of its gaps: the rules, what is met, the files, the scales, and all findings, rings before gaps (docs/DEFINITIONS.md, JSON)
+unfoldable pub told_value : List (List ℕ) → List FileSum → Telling → List (Option (Bor (List ℕ))) → List (Option (Bor (List ℕ))) → Json
+told_value names files telling rings gaps =
+    object_of (opening (told_result telling rings gaps) ++ ((codes "rules", rules_value telling.rules) ∷ (codes "meets", meets_value telling.meets)
     ∷ (codes "files", array_of (file_values names files)) ∷ (codes "scales", array_of (map scale_value telling.scales.items))
-    ∷ (codes "findings", array_of (map (ring_value telling.layers.items) telling.rings.items ++ map gap_value telling.gaps.items)) ∷ []))
+    ∷ (codes "findings", array_of (ring_values telling.layers.items telling.rings.items rings ++ gap_values telling.gaps.items gaps)) ∷ []))
+
+-- a report with waivers (docs/DEFINITIONS.md, JSON)
+abbrev pub waived_value : List (List ℕ) → List FileSum → Telling → Whys → Json
+waived_value names files telling whys = told_value names files telling whys.rings.now whys.gaps.now
+
+-- a report without waivers (docs/DEFINITIONS.md, JSON)
+abbrev pub telling_value : List (List ℕ) → List FileSum → Telling → Json
+telling_value names files telling = told_value names files telling [] []
 
 -- a measure: what is met, the files, the scales, the rings, and the least gap of the holes of the board (docs/DEFINITIONS.md, JSON)
 unfoldable pub measure_value : List (List ℕ) → Survey → Measure → Json
@@ -60,9 +83,23 @@ device_value index name = object_of (opening (codes "device") ++ ((codes "file",
 abbrev pub manifest_device_value : Json
 manifest_device_value = object_of (opening (codes "device"))
 
+-- the first members where the file of waivers is meant: those of each object, and that it is this file (docs/DEFINITIONS.md, JSON)
+abbrev pub waivers_opening : List ℕ → List (List ℕ × Json)
+waivers_opening result = opening result ++ (codes "waivers", boolean true) ∷ []
+
+-- a file of waivers that is refused (docs/DEFINITIONS.md, JSON)
+abbrev pub refused_waivers_value : ℕ → Reason → Json
+refused_waivers_value place reason = object_of (waivers_opening (codes "refused") ++ ((codes "place", whole place) ∷ (codes "reason", word (name_of reason)) ∷ []))
+
+-- a file of waivers that cannot be read (docs/DEFINITIONS.md, JSON)
+abbrev pub waivers_device_value : Json
+waivers_device_value = object_of (waivers_opening (codes "device"))
+
 -- what is refused, or what cannot be read (docs/DEFINITIONS.md, JSON)
 abbrev pub stop_value : Stop → Json
 stop_value (stops.RefusedManifest place reason) = refused_manifest_value place reason
 stop_value (stops.Refused index name fault) = refused_value index name.now fault
 stop_value stops.ManifestDevice = manifest_device_value
 stop_value (stops.Device index name) = device_value index name.now
+stop_value (stops.RefusedWaivers place reason) = refused_waivers_value place reason
+stop_value stops.WaiversDevice = waivers_device_value

@@ -1,5 +1,6 @@
 -- Values of JSON, from the smallest up. Lengths are whole picometres; files and holes are numbered from 1.
 use Rattle.std.specs.Prelude.{ℕ, ℤ, pos, ◌+◌, ◌-◌, ◌*◌, ◌++◌, Bool, List, [], ◌∷◌, codes, decimal, drop, Option, Some, None, option_map, slice_get, if◌then◌else◌}
+use Rattle.std.specs.Borrow.{Bor}
 use Rattle.std.specs.Fmt.{signed_decimal}
 use Rattle.json.specs.Json.{Json, null, number, string, array, object, Items, no_items, item, Members, no_members, member}
 use Rattle.json.specs.Print.{print}
@@ -156,18 +157,22 @@ flash_of causes.Oblique = None
 abbrev pub layer_number : List LayerHead → ℕ → Option ℕ
 layer_number layers layer = option_map (λ head. head.file + 1) (slice_get layers layer)
 
--- a hole that lacks its ring on a layer (docs/DEFINITIONS.md, JSON)
-unfoldable pub ring_value : List LayerHead → RingLack → Json
-ring_value layers lack =
+-- why a finding is accepted; null where it is not (docs/DEFINITIONS.md, JSON)
+abbrev pub why_value : Option (Bor (List ℕ)) → Json
+why_value why = if_there (λ there. word there.now) why
+
+-- a hole that lacks its ring on a layer, and why that is accepted (docs/DEFINITIONS.md, JSON)
+unfoldable pub ring_value : List LayerHead → RingLack → Option (Bor (List ℕ)) → Json
+ring_value layers lack why =
     object_of ((codes "kind", word (codes "ring")) ∷ (codes "layer", if_there whole (layer_number layers lack.layer)) ∷ (codes "at", hole_value lack.at)
     ∷ (codes "has_pm", if_there picometres (ring_of lack.cause)) ∷ (codes "lacks_pm", if_there picometres (lack_of lack.cause)) ∷ (codes "cause", word (cause_word lack.cause))
-    ∷ (codes "flash", if_there whole (flash_of lack.cause)) ∷ (codes "waived", null) ∷ [])
+    ∷ (codes "flash", if_there whole (flash_of lack.cause)) ∷ (codes "waived", why_value why) ∷ [])
 
--- two holes that lack their gap (docs/DEFINITIONS.md, JSON)
-unfoldable pub gap_value : GapLack → Json
-gap_value lack =
+-- two holes that lack their gap, and why that is accepted (docs/DEFINITIONS.md, JSON)
+unfoldable pub gap_value : GapLack → Option (Bor (List ℕ)) → Json
+gap_value lack why =
     object_of ((codes "kind", word (codes "gap")) ∷ (codes "at", hole_value lack.first) ∷ (codes "and", hole_value lack.second) ∷ (codes "has_pm", picometres lack.gap)
-    ∷ (codes "lacks_pm", picometres lack.lack) ∷ (codes "waived", null) ∷ [])
+    ∷ (codes "lacks_pm", picometres lack.lack) ∷ (codes "waived", why_value why) ∷ [])
 
 -- the least ring of a row, where not all of its holes are bare (docs/DEFINITIONS.md, JSON)
 abbrev pub least_ring : RingLine → Option ℤ

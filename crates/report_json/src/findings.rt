@@ -1,10 +1,9 @@
 //! The values of findings.
 
 ghost use Rattle.std.specs.Prelude.{◌≡◌, ◌++◌, codes, OnOk};
-ghost use Rattle.json.specs.Json.{null};
 ghost use Rattle.json.specs.Tree.{json_tokens, HasNumbers};
 ghost use Rattle.report_json.specs.Inner.Parts.{member_tokens};
-ghost use Rattle.report_json.specs.Values.{cause_word, flash_of, gap_value, if_there, layer_number, picometres, ring_of, ring_value, whole, why_word, word};
+ghost use Rattle.report_json.specs.Values.{cause_word, flash_of, gap_value, if_there, layer_number, picometres, ring_of, ring_value, whole, why_value, why_word, word};
 ghost use Rattle.report_text.specs.Texts.{lack_of};
 
 use crate::members::{put_begin, put_count_there, put_end, put_length, put_length_there, put_text};
@@ -136,25 +135,30 @@ fn put_gap(to: &mut Writer, lack: &GapLack) -> Result<(), AllocError>
     put_length(to, "lacks_pm", lack.lack)
 }
 
-/// Appends that a finding is not waived.
-fn put_waived(to: &mut Writer) -> Result<(), AllocError>
+/// Appends the member of the reason why a finding is accepted, or null.
+fn put_waived(to: &mut Writer, why: Option<&str>) -> Result<(), AllocError>
     ensures before { to.new.before ≡ to.old.before }
-    ensures tokens { OnOk result (to.new.tokens ≡ to.old.tokens ++ member_tokens (codes "waived") null) }
+    ensures tokens { OnOk result (to.new.tokens ≡ to.old.tokens ++ member_tokens (codes "waived") (why_value why.entry)) }
+    ensures numbers { OnOk result (HasNumbers (why_value why.entry)) }
 {
     to.key("waived")?;
-    to.null()
+    match why {
+        Some(why) => to.string(why),
+        None => to.null(),
+    }
 }
 
-/// Appends a hole that lacks its ring on one of these layers.
+/// Appends a hole that lacks its ring on one of these layers, and why that is accepted.
 #[tactic(auto, unfolding(crate::specs::Values::ring_value))]
 pub(crate) fn write_ring(
     to: &mut Writer,
     layers: &[LayerHead],
     lack: &RingLack,
+    why: Option<&str>,
 ) -> Result<(), AllocError>
     ensures before { to.new.before ≡ to.old.before }
-    ensures tokens { OnOk result (to.new.tokens ≡ to.old.tokens ++ json_tokens (ring_value layers.now lack.now)) }
-    ensures numbers { OnOk result (HasNumbers (ring_value layers.now lack.now)) }
+    ensures tokens { OnOk result (to.new.tokens ≡ to.old.tokens ++ json_tokens (ring_value layers.now lack.now why.entry)) }
+    ensures numbers { OnOk result (HasNumbers (ring_value layers.now lack.now why.entry)) }
 {
     put_begin(to)?;
     put_text(to, "kind", "ring")?;
@@ -164,22 +168,26 @@ pub(crate) fn write_ring(
     put_lack(to, &lack.cause)?;
     put_cause(to, &lack.cause)?;
     put_flash(to, &lack.cause)?;
-    put_waived(to)?;
+    put_waived(to, why)?;
     put_end(to)
 }
 
-/// Appends two holes that lack their gap.
+/// Appends two holes that lack their gap, and why that is accepted.
 #[tactic(auto, unfolding(crate::specs::Values::gap_value))]
-pub(crate) fn write_gap(to: &mut Writer, lack: &GapLack) -> Result<(), AllocError>
+pub(crate) fn write_gap(
+    to: &mut Writer,
+    lack: &GapLack,
+    why: Option<&str>,
+) -> Result<(), AllocError>
     ensures before { to.new.before ≡ to.old.before }
-    ensures tokens { OnOk result (to.new.tokens ≡ to.old.tokens ++ json_tokens (gap_value lack.now)) }
-    ensures numbers { OnOk result (HasNumbers (gap_value lack.now)) }
+    ensures tokens { OnOk result (to.new.tokens ≡ to.old.tokens ++ json_tokens (gap_value lack.now why.entry)) }
+    ensures numbers { OnOk result (HasNumbers (gap_value lack.now why.entry)) }
 {
     put_begin(to)?;
     put_text(to, "kind", "gap")?;
     put_hole(to, "at", &lack.first)?;
     put_hole(to, "and", &lack.second)?;
     put_gap(to, lack)?;
-    put_waived(to)?;
+    put_waived(to, why)?;
     put_end(to)
 }

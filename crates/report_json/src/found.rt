@@ -9,60 +9,76 @@ ghost use Rattle.json.specs.Token.{begin_object};
 ghost use Rattle.json.specs.Tree.{json_tokens, HasNumbers};
 ghost use Rattle.report_json.specs.Inner.Heads.{finding_tokens, list_tokens, telling_end, telling_head};
 ghost use Rattle.report_json.specs.Inner.Parts.{Prints, members_tokens};
-ghost use Rattle.report_json.specs.Packages.{opening, result_word, telling_value};
-ghost use Rattle.report_json.specs.Values.{gap_value, json_text, meets_value, ring_value, rules_value};
+ghost use Rattle.report_json.specs.Packages.{gap_values, opening, result_word, ring_values, telling_value, told_result, waived_value};
+ghost use Rattle.report_json.specs.Values.{json_text, meets_value, rules_value};
 
 use crate::members::{put_array, put_opening};
-use crate::parts::{Gaps, Part, Rings, buffer, end, gather_all, gather_lists};
+use crate::parts::{Part, buffer, end, gather_gaps, gather_lists, gather_rings, longest_why};
 use crate::values::{put_meets, put_rules};
 use json::Writer;
 use package_check::FileSum;
 use printing::Cut;
-use report_text::{GapLack, LayerHead, PrintFault, RingLack, Telling};
+use report_text::{GapLack, LayerHead, PrintFault, RingLack, Telling, Whys, count_waived};
 use std::alloc::{AllocError, Global};
 use std::io::Write;
 
-/// The result of a report.
-fn result_word(rings: &[RingLack], gaps: &[GapLack]) -> &'static str
-    ensures { result.now ≡ result_word rings.now gaps.now }
+/// The result of a report with so many findings, so many of them waived.
+fn result_word(findings: u128, waived: u128) -> &'static str
+    ensures { result.now ≡ result_word findings waived }
 {
-    if rings.is_empty() && gaps.is_empty() {
+    if findings == 0 {
         "pass"
+    } else if waived == findings {
+        "waived"
     } else {
         "findings"
     }
 }
 
-/// Appends the first members of a report.
-fn put_first(to: &mut Writer, telling: &Telling) -> Result<(), AllocError>
-    ensures before { to.new.before ≡ to.old.before }
-    ensures tokens { OnOk result (to.new.tokens ≡ to.old.tokens ++ begin_object ∷ members_tokens (opening (result_word telling.now.rings.items telling.now.gaps.items))) }
+/// The result of a report.
+fn told_result(telling: &Telling, whys: &Whys) -> &'static str
+    ensures { result.now ≡ told_result telling.now whys.now.rings.now whys.now.gaps.now }
 {
-    put_opening(to, result_word(&telling.rings, &telling.gaps))
+    let findings = telling.rings.len() as u128 + telling.gaps.len() as u128;
+    result_word(findings, count_waived(telling, whys))
+}
+
+/// Appends the first members of a report.
+fn put_first(to: &mut Writer, telling: &Telling, whys: &Whys) -> Result<(), AllocError>
+    ensures before { to.new.before ≡ to.old.before }
+    ensures tokens { OnOk result (to.new.tokens ≡ to.old.tokens ++ begin_object ∷ members_tokens (opening (told_result telling.now whys.now.rings.now whys.now.gaps.now))) }
+{
+    put_opening(to, told_result(telling, whys))
 }
 
 /// Appends a report up to its files.
 #[tactic(auto, unfolding(crate::specs::Inner::Heads::telling_head))]
-fn write_head(to: &mut Writer, telling: &Telling) -> Result<(), AllocError>
+fn write_head(to: &mut Writer, telling: &Telling, whys: &Whys) -> Result<(), AllocError>
     ensures before { to.new.before ≡ to.old.before }
-    ensures tokens { OnOk result (to.new.tokens ≡ to.old.tokens ++ telling_head telling.now) }
+    ensures tokens { OnOk result (to.new.tokens ≡ to.old.tokens ++ telling_head telling.now whys.now.rings.now whys.now.gaps.now) }
     ensures rules { OnOk result (HasNumbers (rules_value telling.now.rules)) }
     ensures meets { OnOk result (HasNumbers (meets_value telling.now.meets)) }
 {
-    put_first(to, telling)?;
+    put_first(to, telling, whys)?;
     put_rules(to, "rules", &telling.rules)?;
     put_meets(to, "meets", &telling.meets)?;
     put_array(to, "files")
 }
 
 /// A report up to its files, with room for what is gathered behind it.
-fn head(alloc: Global, names: &[&str], telling: &Telling) -> Result<Vec<u8>, AllocError>
-    ensures text { IfOk result (λ text. text.items ≡ print (telling_head telling.now)) }
+fn head(
+    alloc: Global,
+    names: &[&str],
+    telling: &Telling,
+    whys: &Whys,
+) -> Result<Vec<u8>, AllocError>
+    ensures text { IfOk result (λ text. text.items ≡ print (telling_head telling.now whys.now.rings.now whys.now.gaps.now)) }
     ensures rules { IfOk result (λ _. HasNumbers (rules_value telling.now.rules)) }
     ensures meets { IfOk result (λ _. HasNumbers (meets_value telling.now.meets)) }
 {
-    let mut to = Writer::new(buffer(alloc, names)?);
-    write_head(&mut to, telling)?;
+    let why = longest_why(whys.rings).max(longest_why(whys.gaps));
+    let mut to = Writer::new(buffer(alloc, names, why)?);
+    write_head(&mut to, telling, whys)?;
     Ok(to.into_inner())
 }
 
@@ -72,15 +88,15 @@ fn gather_findings<W: Write>(
     layers: &[LayerHead],
     rings: &[RingLack],
     gaps: &[GapLack],
+    whys: &Whys,
     out: &mut W,
 ) -> Result<Part, Cut>
-    ensures parts { IfOk result (λ left. Prints (W.contents out.old) part.text.items part.ended (W.contents out.new) left.text.items left.ended (finding_tokens layers.now rings.now gaps.now)) }
-    ensures rings { IfOk result (λ _. All (λ lack. HasNumbers (ring_value layers.now lack)) rings.now) }
-    ensures gaps { IfOk result (λ _. All (λ lack. HasNumbers (gap_value lack)) gaps.now) }
+    ensures parts { IfOk result (λ left. Prints (W.contents out.old) part.text.items part.ended (W.contents out.new) left.text.items left.ended (finding_tokens layers.now rings.now gaps.now whys.now.rings.now whys.now.gaps.now)) }
+    ensures rings { IfOk result (λ _. All HasNumbers (ring_values layers.now rings.now whys.now.rings.now)) }
+    ensures gaps { IfOk result (λ _. All HasNumbers (gap_values gaps.now whys.now.gaps.now)) }
 {
-    let form = Rings { layers };
-    let told = gather_all(part, &form, rings, out)?;
-    gather_all(told, &Gaps, gaps, out)
+    let told = gather_rings(part, layers, rings, whys.rings, out)?;
+    gather_gaps(told, gaps, whys.gaps, out)
 }
 
 /// Appends the end of a report.
@@ -111,13 +127,14 @@ fn print_behind<W: Write>(
     names: &[&str],
     files: &[FileSum],
     telling: &Telling,
+    whys: &Whys,
     out: &mut W,
 ) -> Result<(), Cut>
-    requires head { text.items ≡ print (telling_head telling.now) }
+    requires head { text.items ≡ print (telling_head telling.now whys.now.rings.now whys.now.gaps.now) }
     requires rules { HasNumbers (rules_value telling.now.rules) }
     requires meets { HasNumbers (meets_value telling.now.meets) }
-    ensures text { OnOk result (Appends (W.contents out.old) (W.contents out.new) (json_text (telling_value (map (λ name. name.now) names.now) files.now telling.now))) }
-    ensures numbers { OnOk result (HasNumbers (telling_value (map (λ name. name.now) names.now) files.now telling.now)) }
+    ensures text { OnOk result (Appends (W.contents out.old) (W.contents out.new) (json_text (waived_value (map (λ name. name.now) names.now) files.now telling.now whys.now))) }
+    ensures numbers { OnOk result (HasNumbers (waived_value (map (λ name. name.now) names.now) files.now telling.now whys.now)) }
 {
     let part = Part { text, ended: false };
     let scales = telling.scales.as_slice();
@@ -125,8 +142,37 @@ fn print_behind<W: Write>(
     let layers = telling.layers.as_slice();
     let rings = telling.rings.as_slice();
     let gaps = telling.gaps.as_slice();
-    let findings = gather_findings(lists, layers, rings, gaps, out)?;
+    let findings = gather_findings(lists, layers, rings, gaps, whys, out)?;
     print_end(findings, out)
+}
+
+/// Prints the JSON of a report by the names of the files of the package and how much each holds, with the reasons why findings are
+/// accepted: one line with its line end. All findings are told. It is written in parts, with room for the longest reason, so no more
+/// memory is taken for a long report than for a short one.
+///
+/// # Errors
+///
+/// [`PrintFault::Memory`] where there is no memory, and then nothing was written; [`PrintFault::Cut`] where the writer fails, or
+/// where there is no memory for a part.
+pub fn print_waived_json<W: Write>(
+    alloc: Global,
+    names: &[&str],
+    files: &[FileSum],
+    telling: &Telling,
+    whys: &Whys,
+    out: &mut W,
+) -> Result<(), PrintFault>
+    ensures ok { OnOk result (Appends (W.contents out.old) (W.contents out.new) (json_text (waived_value (map (λ name. name.now) names.now) files.now telling.now whys.now))) }
+    ensures reads_back { OnOk result (document (print (json_tokens (waived_value (map (λ name. name.now) names.now) files.now telling.now whys.now))) ≡ Some (waived_value (map (λ name. name.now) names.now) files.now telling.now whys.now)) }
+    ensures memory { IfErr result (λ e. e ≡ PrintFault.Memory → W.contents out.new ≡ W.contents out.old) }
+{
+    let Ok(text) = head(alloc, names, telling, whys) else {
+        return Err(PrintFault::Memory);
+    };
+    match print_behind(text, names, files, telling, whys, out) {
+        Ok(()) => Ok(()),
+        Err(_) => Err(PrintFault::Cut),
+    }
 }
 
 /// Prints the JSON of a report by the names of the files of the package and how much each holds: one line with its line end. All
@@ -147,13 +193,12 @@ pub fn print_telling_json<W: Write>(
     ensures reads_back { OnOk result (document (print (json_tokens (telling_value (map (λ name. name.now) names.now) files.now telling.now))) ≡ Some (telling_value (map (λ name. name.now) names.now) files.now telling.now)) }
     ensures memory { IfErr result (λ e. e ≡ PrintFault.Memory → W.contents out.new ≡ W.contents out.old) }
 {
-    let Ok(text) = head(alloc, names, telling) else {
-        return Err(PrintFault::Memory);
+    let none = Whys {
+        rings: &[],
+        gaps: &[],
+        idle: &[],
     };
-    match print_behind(text, names, files, telling, out) {
-        Ok(()) => Ok(()),
-        Err(_) => Err(PrintFault::Cut),
-    }
+    print_waived_json(alloc, names, files, telling, &none, out)
 }
 
 /// The JSON of a report.

@@ -11,7 +11,7 @@ mod parts;
 mod refused;
 mod values;
 
-pub use found::{print_telling_json, write_telling_json};
+pub use found::{print_telling_json, print_waived_json, write_telling_json};
 pub use measured::{print_measure_json, write_measure_json};
 pub use refused::{Stop, refusal_json};
 pub use report_text::PrintFault;

@@ -127,7 +127,7 @@ fn head(alloc: Global, names: &[&str], meets: &Meets) -> Result<Vec<u8>, AllocEr
     ensures text { IfOk result (λ text. text.items ≡ print (measure_head meets.now)) }
     ensures meets { IfOk result (λ _. HasNumbers (meets_value meets.now)) }
 {
-    let mut to = Writer::new(buffer(alloc, names)?);
+    let mut to = Writer::new(buffer(alloc, names, 0)?);
     write_head(&mut to, meets)?;
     Ok(to.into_inner())
 }

@@ -1,6 +1,7 @@
 //! The members of objects, one by one.
 
-ghost use Rattle.std.specs.Prelude.{◌≡◌, ◌++◌, ◌∷◌, [], OnOk};
+ghost use Rattle.std.specs.Prelude.{◌≡◌, ◌++◌, ◌∷◌, [], true, OnOk};
+ghost use Rattle.json.specs.Json.{boolean};
 ghost use Rattle.json.specs.Print.{IsNumber};
 ghost use Rattle.json.specs.Token.{begin_array, begin_object, end_object, key};
 ghost use Rattle.json.specs.Tree.{json_tokens, HasNumbers};
@@ -61,6 +62,15 @@ pub(crate) fn put_text(to: &mut Writer, name: &str, letters: &str) -> Result<(),
 {
     to.key(name)?;
     to.string(letters)
+}
+
+/// Appends a member that is true.
+pub(crate) fn put_true(to: &mut Writer, name: &str) -> Result<(), AllocError>
+    ensures before { to.new.before ≡ to.old.before }
+    ensures tokens { OnOk result (to.new.tokens ≡ to.old.tokens ++ member_tokens name.now (boolean true)) }
+{
+    to.key(name)?;
+    to.boolean(true)
 }
 
 /// Appends a member that is a natural number, or null.

@@ -10,9 +10,9 @@ ghost use Rattle.json.specs.Tree.{json_tokens, HasNumbers};
 ghost use Rattle.printing.specs.Parts.{PassesOn};
 ghost use Rattle.report_json.specs.Inner.Heads.{list_tokens};
 ghost use Rattle.report_json.specs.Inner.Parts.{Prints};
-ghost use Rattle.report_json.specs.Packages.{file_values};
+ghost use Rattle.report_json.specs.Packages.{file_values, gap_values, ring_values};
 ghost use Rattle.report_json.specs.Values.{file_value, gap_value, ring_value, row_value, scale_value};
-ghost use Rattle.report_text.specs.Texts.{name_of};
+ghost use Rattle.report_text.specs.Texts.{name_of, why_at};
 
 use crate::findings::{write_gap, write_ring};
 use crate::members::put_array;
@@ -28,7 +28,7 @@ use std::io::Write;
 /// How many bytes are gathered before they are written. Each value begins on what is gathered anew, and clears room as large as that.
 const FULL: usize = 4_096;
 
-/// More bytes than a value has beside a name in it, and six for each byte of a name.
+/// More bytes than a value has beside a name or a reason in it, and six for each byte of those.
 const VALUE: usize = 2_048;
 
 /// How many bytes the longest name has.
@@ -40,11 +40,22 @@ fn longest(names: &[&str]) -> usize {
     longest
 }
 
-/// An empty text with room for what is gathered before it is written.
-pub(crate) fn buffer(alloc: Global, names: &[&str]) -> Result<Vec<u8>, AllocError>
+/// How many bytes the longest reason has.
+pub(crate) fn longest_why(whys: &[Option<&str>]) -> usize {
+    let mut longest = 0;
+    for why in whys {
+        if let Some(why) = why {
+            longest = longest.max(why.len());
+        }
+    }
+    longest
+}
+
+/// An empty text with room for what is gathered before it is written, with a reason of so many bytes.
+pub(crate) fn buffer(alloc: Global, names: &[&str], why: usize) -> Result<Vec<u8>, AllocError>
     ensures { IfOk result (λ text. text.items ≡ []) }
 {
-    let more = longest(names).saturating_mul(6);
+    let more = longest(names).max(why).saturating_mul(6);
     Vec::with_capacity(alloc, (FULL + VALUE).saturating_add(more))
 }
 
@@ -116,28 +127,32 @@ impl Form<RingLine> for Rows {
     }
 }
 
-/// Rings that are lacking on some layers.
+/// A ring that is lacking on one of some layers, and why that is accepted.
 #[derive(Drop)]
-pub(crate) struct Rings<'a> {
-    pub(crate) layers: &'a [LayerHead],
+struct RingAt<'a> {
+    layers: &'a [LayerHead],
+    why: Option<&'a str>,
 }
 
-impl<'a> Form<RingLack> for Rings<'a> {
-    ghost value = { λ form lack. ring_value form.layers.now lack };
+impl<'a> Form<RingLack> for RingAt<'a> {
+    ghost value = { λ form lack. ring_value form.layers.now lack form.why };
 
     fn write(&self, to: &mut Writer, one: &RingLack) -> Result<(), AllocError> {
-        write_ring(to, self.layers, one)
+        write_ring(to, self.layers, one, self.why)
     }
 }
 
-/// Gaps that are lacking.
-pub(crate) struct Gaps;
+/// A gap that is lacking, and why that is accepted.
+#[derive(Drop)]
+struct GapAt<'a> {
+    why: Option<&'a str>,
+}
 
-impl Form<GapLack> for Gaps {
-    ghost value = { λ form lack. gap_value lack };
+impl<'a> Form<GapLack> for GapAt<'a> {
+    ghost value = { λ form lack. gap_value lack form.why };
 
     fn write(&self, to: &mut Writer, one: &GapLack) -> Result<(), AllocError> {
-        write_gap(to, one)
+        write_gap(to, one, self.why)
     }
 }
 
@@ -254,6 +269,87 @@ fn gather_files<W: Write>(
     let mut left = part;
     for file in 0..files.len() {
         left = gather_file(left, names, file, &files[file], out)?;
+    }
+    Ok(left)
+}
+
+/// Why the finding at a place is accepted.
+fn why_of<'a>(whys: &[Option<&'a str>], place: usize) -> Option<&'a str>
+    ensures { result ≡ why_at whys.now place }
+{
+    match whys.get(place) {
+        Some(why) => *why,
+        None => None,
+    }
+}
+
+/// Gathers a ring that is lacking, by its place.
+fn gather_ring<W: Write>(
+    part: Part,
+    layers: &[LayerHead],
+    whys: &[Option<&str>],
+    place: usize,
+    lack: &RingLack,
+    out: &mut W,
+) -> Result<Part, Cut>
+    ensures parts { IfOk result (λ left. Prints (W.contents out.old) part.text.items part.ended (W.contents out.new) left.text.items left.ended (json_tokens (ring_value layers.now lack.now (why_at whys.now place)))) }
+    ensures numbers { IfOk result (λ _. HasNumbers (ring_value layers.now lack.now (why_at whys.now place))) }
+{
+    let form = RingAt {
+        layers,
+        why: why_of(whys, place),
+    };
+    gather(part, &form, lack, out)
+}
+
+/// Gathers the rings that are lacking on some layers, each with the reason at its place.
+pub(crate) fn gather_rings<W: Write>(
+    part: Part,
+    layers: &[LayerHead],
+    rings: &[RingLack],
+    whys: &[Option<&str>],
+    out: &mut W,
+) -> Result<Part, Cut>
+    ensures parts { IfOk result (λ left. Prints (W.contents out.old) part.text.items part.ended (W.contents out.new) left.text.items left.ended (flat_map json_tokens (ring_values layers.now rings.now whys.now))) }
+    ensures numbers { IfOk result (λ _. All HasNumbers (ring_values layers.now rings.now whys.now)) }
+{
+    let mut left = part;
+    for i in 0..rings.len() {
+        left = gather_ring(left, layers, whys, i, &rings[i], out)?;
+    }
+    Ok(left)
+}
+
+/// Gathers a gap that is lacking, by its place.
+fn gather_gap<W: Write>(
+    part: Part,
+    whys: &[Option<&str>],
+    place: usize,
+    lack: &GapLack,
+    out: &mut W,
+) -> Result<Part, Cut>
+    ensures parts { IfOk result (λ left. Prints (W.contents out.old) part.text.items part.ended (W.contents out.new) left.text.items left.ended (json_tokens (gap_value lack.now (why_at whys.now place)))) }
+    ensures numbers { IfOk result (λ _. HasNumbers (gap_value lack.now (why_at whys.now place))) }
+{
+    let form = GapAt {
+        why: why_of(whys, place),
+    };
+    gather(part, &form, lack, out)
+}
+
+/// Gathers the gaps that are lacking, each with the reason at its place.
+pub(crate) fn gather_gaps<W: Write>(
+    part: Part,
+    gaps: &[GapLack],
+    whys: &[Option<&str>],
+    out: &mut W,
+) -> Result<Part, Cut>
+    ensures parts { IfOk result (λ left. Prints (W.contents out.old) part.text.items part.ended (W.contents out.new) left.text.items left.ended (flat_map json_tokens (gap_values gaps.now whys.now))) }
+    ensures numbers { IfOk result (λ _. All HasNumbers (gap_values gaps.now whys.now)) }
+{
+    let mut left = part;
+    for i in 0..gaps.len() {
+        left = gather_gap(left, whys, i, &gaps[i], out)?;
     }
     Ok(left)
 }

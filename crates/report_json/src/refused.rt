@@ -1,16 +1,17 @@
 //! The JSON of a refusal, and of what cannot be read.
 
-ghost use Rattle.std.specs.Prelude.{◌≡◌, ◌+◌, ◌++◌, Some, IfOk, OnOk, codes, string_bytes};
+ghost use Rattle.std.specs.Prelude.{◌≡◌, ◌+◌, ◌++◌, ◌∷◌, Some, IfOk, OnOk, codes, string_bytes};
 ghost use Rattle.std.specs.Str.{IsUtf8};
 ghost use Rattle.grid_units.specs.Reasons.{name_of};
 ghost use Rattle.json.specs.Json.{document};
 ghost use Rattle.json.specs.Print.{print};
+ghost use Rattle.json.specs.Token.{begin_object};
 ghost use Rattle.json.specs.Tree.{json_tokens, HasNumbers};
-ghost use Rattle.report_json.specs.Inner.Parts.{member_tokens};
-ghost use Rattle.report_json.specs.Packages.{device_value, manifest_device_value, refused_manifest_value, refused_value, stop_value};
+ghost use Rattle.report_json.specs.Inner.Parts.{member_tokens, members_tokens};
+ghost use Rattle.report_json.specs.Packages.{device_value, manifest_device_value, refused_manifest_value, refused_value, refused_waivers_value, stop_value, waivers_device_value, waivers_opening};
 ghost use Rattle.report_json.specs.Values.{json_text, whole, word};
 
-use crate::members::{put_count, put_end, put_opening, put_text};
+use crate::members::{put_count, put_end, put_opening, put_text, put_true};
 use grid_units::{Fault, Reason};
 use json::Writer;
 use std::alloc::{AllocError, Global};
@@ -43,6 +44,15 @@ pub enum Stop<'a> {
         /// Its name in the manifest.
         name: &'a str,
     },
+    /// The file of waivers is refused.
+    RefusedWaivers {
+        /// The number of its record from 1; 0 where the whole of it is refused.
+        place: u64,
+        /// Why.
+        reason: Reason,
+    },
+    /// The file of waivers cannot be read.
+    WaiversDevice,
 }
 
 /// Appends the number and the name of a file.
@@ -129,6 +139,38 @@ fn write_device(to: &mut Writer, index: usize, name: &str) -> Result<(), AllocEr
     put_end(to)
 }
 
+/// Appends the begin of an object that tells of the file of waivers.
+fn put_waivers(to: &mut Writer, result_word: &str) -> Result<(), AllocError>
+    ensures before { to.new.before ≡ to.old.before }
+    ensures tokens { OnOk result (to.new.tokens ≡ to.old.tokens ++ begin_object ∷ members_tokens (waivers_opening result_word.now)) }
+    ensures numbers { OnOk result (HasNumbers (whole 1)) }
+{
+    put_opening(to, result_word)?;
+    put_true(to, "waivers")
+}
+
+/// Appends that the file of waivers is refused.
+fn write_refused_waivers(to: &mut Writer, place: u64, reason: Reason) -> Result<(), AllocError>
+    ensures before { to.new.before ≡ to.old.before }
+    ensures tokens { OnOk result (to.new.tokens ≡ to.old.tokens ++ json_tokens (refused_waivers_value place reason)) }
+    ensures numbers { OnOk result (HasNumbers (refused_waivers_value place reason)) }
+{
+    put_waivers(to, "refused")?;
+    put_place(to, place)?;
+    put_reason(to, reason)?;
+    put_end(to)
+}
+
+/// Appends that the file of waivers cannot be read.
+fn write_waivers_device(to: &mut Writer) -> Result<(), AllocError>
+    ensures before { to.new.before ≡ to.old.before }
+    ensures tokens { OnOk result (to.new.tokens ≡ to.old.tokens ++ json_tokens (waivers_device_value)) }
+    ensures numbers { OnOk result (HasNumbers (waivers_device_value)) }
+{
+    put_waivers(to, "device")?;
+    put_end(to)
+}
+
 /// Appends what is refused, or what cannot be read.
 fn write_stop(to: &mut Writer, stop: &Stop) -> Result<(), AllocError>
     ensures before { to.new.before ≡ to.old.before }
@@ -140,6 +182,8 @@ fn write_stop(to: &mut Writer, stop: &Stop) -> Result<(), AllocError>
         Stop::Refused { index, name, fault } => write_refused(to, *index, name, *fault),
         Stop::ManifestDevice => write_manifest_device(to),
         Stop::Device { index, name } => write_device(to, *index, name),
+        Stop::RefusedWaivers { place, reason } => write_refused_waivers(to, *place, *reason),
+        Stop::WaiversDevice => write_waivers_device(to),
     }
 }
 

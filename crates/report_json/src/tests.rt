@@ -7,7 +7,7 @@ use margin_text::{Meets, Met};
 use measuring::measure_board;
 use package_check::{File, FileSum, Role, read_package};
 use pad_shapes::{Disc, Pad};
-use report_text::{GapLack, HoleAt, InPad, LayerHead, RingCause, RingLack, Telling};
+use report_text::{GapLack, HoleAt, InPad, LayerHead, RingCause, RingLack, Telling, Whys};
 use std::alloc::Global;
 use std::test::Fail;
 
@@ -62,6 +62,29 @@ fn refusals_are_told(rt: HostRuntime) -> Result<(), Fail> {
             rt,
             &Stop::ManifestDevice,
             "{\"format\":\"ringcheck\",\"version\":1,\"result\":\"device\"}\n"
+        )?
+    );
+    Ok(())
+}
+
+#[test]
+fn files_of_waivers_are_told(rt: HostRuntime) -> Result<(), Fail> {
+    let refused = Stop::RefusedWaivers {
+        place: 2,
+        reason: Reason::EmptyName,
+    };
+    assert!(rt;
+        is_refused(
+            rt,
+            &refused,
+            "{\"format\":\"ringcheck\",\"version\":1,\"result\":\"refused\",\"waivers\":true,\"place\":2,\"reason\":\"EmptyName\"}\n"
+        )?
+    );
+    assert!(rt;
+        is_refused(
+            rt,
+            &Stop::WaiversDevice,
+            "{\"format\":\"ringcheck\",\"version\":1,\"result\":\"device\",\"waivers\":true}\n"
         )?
     );
     Ok(())
@@ -322,5 +345,74 @@ fn a_long_report_is_told(rt: HostRuntime) -> Result<(), Fail> {
         "{\"kind\":\"gap\",\"at\":{\"drill\":3,\"hole\":213,\"from_pm\":[50546000000,67310000000],\"to_pm\":[50546000000,67310000000],\"diameter_pm\":609600000},\"and\":{\"drill\":3,\"hole\":214,\"from_pm\":[51181000000,66548000000],\"to_pm\":[51181000000,66548000000],\"diameter_pm\":609600000},\"has_pm\":382301708,\"lacks_pm\":1,\"waived\":null}",
     )?;
     assert!(rt; is_told(rt, &telling, "findings", findings.as_str())?);
+    Ok(())
+}
+
+/// Two holes that lack their gap.
+fn close_pair() -> Result<GapLack, Fail> {
+    Ok(GapLack {
+        first: hole_at(1, 1, (0, 0), (0, 0), 400_000_000)?,
+        second: hole_at(1, 2, (0, 0), (0, 0), 400_000_000)?,
+        gap: -400_000_000,
+        lack: 650_000_000,
+    })
+}
+
+/// A ring and a gap that are lacking, as JSON up to the reasons.
+const RING: &str =
+    "{\"kind\":\"ring\",\"layer\":1,\"at\":{\"drill\":4,\"hole\":7,\"from_pm\":[142240000000,-97790000000],\"to_pm\":[142240000000,-97790000000],\"diameter_pm\":750000000},\"has_pm\":null,\"lacks_pm\":null,\"cause\":\"macro\",\"flash\":156,\"waived\":";
+
+const GAP: &str =
+    "{\"kind\":\"gap\",\"at\":{\"drill\":2,\"hole\":1,\"from_pm\":[0,0],\"to_pm\":[0,0],\"diameter_pm\":400000000},\"and\":{\"drill\":2,\"hole\":2,\"from_pm\":[0,0],\"to_pm\":[0,0],\"diameter_pm\":400000000},\"has_pm\":-400000000,\"lacks_pm\":650000000,\"waived\":";
+
+/// Whether a report with waivers has this JSON: the result, and the findings behind the head.
+fn is_waived_told(
+    rt: HostRuntime,
+    telling: &Telling,
+    whys: &Whys,
+    word: &str,
+    findings: &str,
+) -> Result<bool, Fail> {
+    let alloc = rt.alloc();
+    let files = [FileSum::Layer {
+        pads: 242,
+        other: 3,
+    }];
+    let mut written: Vec<u8> = Vec::new(alloc);
+    let answer = print_waived_json(alloc, &["top_layer"], &files, telling, whys, &mut written);
+    let wanted = format!(in alloc;
+        "{{\"format\":\"ringcheck\",\"version\":1,\"result\":\"{word}\",{HEAD}{findings}]}}\n"
+    )?;
+    Ok(answer.is_ok() && written.as_slice() == wanted.as_bytes())
+}
+
+#[test]
+fn waivers_are_told(rt: HostRuntime) -> Result<(), Fail> {
+    let alloc = rt.alloc();
+    let mut telling = nothing(alloc, 100_000_000, 250_000_000, NO_RING)?;
+    let whys = Whys {
+        rings: &[Some("milled \"by hand\"")],
+        gaps: &[Some("slot")],
+        idle: &[8],
+    };
+    assert!(rt; is_waived_told(rt, &telling, &whys, "pass", "")?);
+    tell_in_macro(&mut telling)?;
+    telling.gaps.push(close_pair()?)?;
+    let all = format!(in alloc; "{RING}\"milled \\\"by hand\\\"\"}},{GAP}\"slot\"}}")?;
+    assert!(rt; is_waived_told(rt, &telling, &whys, "waived", all.as_str())?);
+    let ring = Whys {
+        rings: &[Some("milled \"by hand\"")],
+        gaps: &[],
+        idle: &[],
+    };
+    let some = format!(in alloc; "{RING}\"milled \\\"by hand\\\"\"}},{GAP}null}}")?;
+    assert!(rt; is_waived_told(rt, &telling, &ring, "findings", some.as_str())?);
+    let gap = Whys {
+        rings: &[None, Some("more than there are")],
+        gaps: &[Some("slot")],
+        idle: &[],
+    };
+    let some = format!(in alloc; "{RING}null}},{GAP}\"slot\"}}")?;
+    assert!(rt; is_waived_told(rt, &telling, &gap, "findings", some.as_str())?);
     Ok(())
 }

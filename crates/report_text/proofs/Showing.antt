@@ -1,6 +1,6 @@
 -- One more finding of a report, with its position.
 use Rattle.std.proofs.Common.{◌≡◌, ◌<◌, ◌≤◌, ◌+◌, ◌++◌, ℕ, Bool, true, false, cond, List, [], ◌∷◌, Option, length, take, get_or, refl, ap, ◌∙◌, arith}
-use Rattle.std.specs.Prelude.{◌==◌, ◌&&◌, not, if◌then◌else◌}
+use Rattle.std.specs.Prelude.{◌-◌, ◌==◌, ◌&&◌, not, if◌then◌else◌}
 use Rattle.std.specs.List.{count_by, enumerate_from, filter, flat_map}
 use Rattle.std.proofs.lemmas.List.{append-nil, take_all, take_more}
 use Rattle.std.proofs.lemmas.List.Concat.{flat_map-append, flat_map-cons}
@@ -53,44 +53,52 @@ count_push_both {A} q p xs x = ap (count_by p) (filter-append q xs (x ∷ [])) �
     nothing : (n : ℕ) → n ≡ n + 0
     nothing n = omega arith
 
--- the lines of the rings on a layer that are shown
-abbrev pub rings_text : (RingLack → List ℕ) → ℕ → Option ℕ → List (ℕ × RingLack) → List ℕ
-rings_text line layer most marks = flat_map (λ finding. line finding.1) (filter (λ finding. is_shown most finding.0) (filter (λ finding. finding.1.layer == layer) marks))
+-- the place of a gap among the gaps, by its place behind the rings
+pub behind : (first i : ℕ) → (first + i) - first ≡ i
+behind first i = omega arith
 
--- how many rings on a layer are not shown
-abbrev pub rings_hidden : ℕ → Option ℕ → List (ℕ × RingLack) → ℕ
-rings_hidden layer most marks = count_by (λ finding. not (is_shown most finding.0)) (filter (λ finding. finding.1.layer == layer) marks)
+-- the line of a finding, where it is shown
+pub same_line : {X Y : Type 0} {a b : Bool} {x y : X} {v w : Y} (line : X → Y → List ℕ) → a ≡ b → x ≡ y → v ≡ w → (if a then line x v else []) ≡ (if b then line y w else [])
+same_line line shown is why = λ j. if shown j then line (is j) (why j) else []
+
+-- the lines of the rings on a layer that are shown
+abbrev pub rings_text : (ℕ × RingLack → List ℕ) → ℕ → Option ℕ → List (ℕ × RingLack) → List ℕ
+rings_text line layer most marks = flat_map line (filter (λ finding. is_shown most finding.0) (filter (λ finding. finding.1.layer == layer) marks))
+
+-- how many rings on a layer are at a place that passes a test
+abbrev pub rings_counted : (ℕ → Bool) → ℕ → List (ℕ × RingLack) → ℕ
+rings_counted p layer marks = count_by (λ finding. p finding.0) (filter (λ finding. finding.1.layer == layer) marks)
 
 -- the lines of the gaps that are shown
-abbrev pub gap_lines : (GapLack → List ℕ) → Option ℕ → List (ℕ × GapLack) → List ℕ
-gap_lines line most marks = flat_map (λ finding. line finding.1) (filter (λ finding. is_shown most finding.0) marks)
+abbrev pub gap_lines : (ℕ × GapLack → List ℕ) → Option ℕ → List (ℕ × GapLack) → List ℕ
+gap_lines line most marks = flat_map line (filter (λ finding. is_shown most finding.0) marks)
 
 -- how many gaps are not shown
 abbrev pub gaps_hidden : Option ℕ → List (ℕ × GapLack) → ℕ
 gaps_hidden most marks = count_by (λ finding. not (is_shown most finding.0)) marks
 
 -- the lines of the rings on a layer that are shown, and of one more
-pub rings_more : (line : RingLack → List ℕ) (layer : ℕ) (most : Option ℕ) (rings : List RingLack) (i : ℕ) (d : RingLack) → i < length rings
+pub rings_more : (line : ℕ × RingLack → List ℕ) (layer : ℕ) (most : Option ℕ) (rings : List RingLack) (i : ℕ) (d : RingLack) → i < length rings
     → rings_text line layer most (take (i + 1) (enumerate_from 0 rings))
-    ≡ rings_text line layer most (take i (enumerate_from 0 rings)) ++ (if ((get_or rings i d).layer == layer) && is_shown most i then line (get_or rings i d) else [])
+    ≡ rings_text line layer most (take i (enumerate_from 0 rings)) ++ (if ((get_or rings i d).layer == layer) && is_shown most i then line (i, get_or rings i d) else [])
 rings_more line layer most rings i d lt =
     ap (rings_text line layer most) (marks_more 0 rings i i d (omega arith) lt)
-    ∙ lines_push_both (λ (finding : ℕ × RingLack). finding.1.layer == layer) (λ (finding : ℕ × RingLack). is_shown most finding.0) (λ (finding : ℕ × RingLack). line finding.1) (take i (enumerate_from 0 rings)) (i, get_or rings i d)
+    ∙ lines_push_both (λ (finding : ℕ × RingLack). finding.1.layer == layer) (λ (finding : ℕ × RingLack). is_shown most finding.0) line (take i (enumerate_from 0 rings)) (i, get_or rings i d)
 
--- how many of the rings on a layer are not shown, and of one more
-pub rings_left_more : (layer : ℕ) (most : Option ℕ) (rings : List RingLack) (i : ℕ) (d : RingLack) → i < length rings
-    → rings_hidden layer most (take (i + 1) (enumerate_from 0 rings))
-    ≡ rings_hidden layer most (take i (enumerate_from 0 rings)) + (if ((get_or rings i d).layer == layer) && not (is_shown most i) then 1 else 0)
-rings_left_more layer most rings i d lt =
-    ap (rings_hidden layer most) (marks_more 0 rings i i d (omega arith) lt)
-    ∙ count_push_both (λ (finding : ℕ × RingLack). finding.1.layer == layer) (λ (finding : ℕ × RingLack). not (is_shown most finding.0)) (take i (enumerate_from 0 rings)) (i, get_or rings i d)
+-- how many of the rings on a layer are at such a place, and of one more
+pub rings_counted_more : (p : ℕ → Bool) (layer : ℕ) (rings : List RingLack) (i : ℕ) (d : RingLack) → i < length rings
+    → rings_counted p layer (take (i + 1) (enumerate_from 0 rings))
+    ≡ rings_counted p layer (take i (enumerate_from 0 rings)) + (if ((get_or rings i d).layer == layer) && p i then 1 else 0)
+rings_counted_more p layer rings i d lt =
+    ap (rings_counted p layer) (marks_more 0 rings i i d (omega arith) lt)
+    ∙ count_push_both (λ (finding : ℕ × RingLack). finding.1.layer == layer) (λ (finding : ℕ × RingLack). p finding.0) (take i (enumerate_from 0 rings)) (i, get_or rings i d)
 
 -- the lines of the gaps that are shown, and of one more
-pub gaps_more : (line : GapLack → List ℕ) (most : Option ℕ) (first : ℕ) (gaps : List GapLack) (i : ℕ) (d : GapLack) → i < length gaps
-    → gap_lines line most (take (i + 1) (enumerate_from first gaps)) ≡ gap_lines line most (take i (enumerate_from first gaps)) ++ (if is_shown most (first + i) then line (get_or gaps i d) else [])
+pub gaps_more : (line : ℕ × GapLack → List ℕ) (most : Option ℕ) (first : ℕ) (gaps : List GapLack) (i : ℕ) (d : GapLack) → i < length gaps
+    → gap_lines line most (take (i + 1) (enumerate_from first gaps)) ≡ gap_lines line most (take i (enumerate_from first gaps)) ++ (if is_shown most (first + i) then line (first + i, get_or gaps i d) else [])
 gaps_more line most first gaps i d lt =
     ap (gap_lines line most) (marks_more first gaps i (first + i) d refl lt)
-    ∙ lines_push (λ (finding : ℕ × GapLack). is_shown most finding.0) (λ (finding : ℕ × GapLack). line finding.1) (take i (enumerate_from first gaps)) (first + i, get_or gaps i d)
+    ∙ lines_push (λ (finding : ℕ × GapLack). is_shown most finding.0) line (take i (enumerate_from first gaps)) (first + i, get_or gaps i d)
 
 gaps_left_at : (most : Option ℕ) (first : ℕ) (gaps : List GapLack) (i : ℕ) (d : GapLack) → i < length gaps
     → gaps_hidden most (take (i + 1) (enumerate_from first gaps)) ≡ gaps_hidden most (take i (enumerate_from first gaps)) + (if not (is_shown most (first + i)) then 1 else 0)

@@ -1,5 +1,6 @@
 -- The text of a report for people. Findings are counted over the whole report: those of rings first, then those of gaps.
-use Rattle.std.specs.Prelude.{ℕ, ℤ, pos, ◌+◌, ◌*◌, ◌==◌, ◌-ℤ◌, ◌++◌, Bool, true, false, not, nat_lt, List, [], ◌∷◌, length, map, codes, decimal, Option, Some, None, get_or, if◌then◌else◌}
+use Rattle.std.specs.Prelude.{ℕ, ℤ, pos, ◌+◌, ◌-◌, ◌*◌, ◌==◌, ◌-ℤ◌, ◌++◌, Bool, true, false, not, nat_lt, List, [], ◌∷◌, length, map, take, codes, decimal, Option, Some, None, is_some, get_or, if◌then◌else◌}
+use Rattle.std.specs.Borrow.{Bor}
 use Rattle.std.specs.Int.{int_min, int_max}
 use Rattle.std.specs.List.{count_by, enumerate_from, filter, filter_map, flat_map, fold}
 use Rattle.std.specs.Ordering.{int_eq}
@@ -21,6 +22,7 @@ use Rattle.report_text.specs.declared.RingCause.{RingCause}
 use Rattle.report_text.specs.declared.RingCause.TheVariants as causes
 use Rattle.report_text.specs.declared.RingLack.{RingLack}
 use Rattle.report_text.specs.declared.Telling.{Telling}
+use Rattle.report_text.specs.declared.Whys.{Whys}
 use Rattle.report_text.specs.declared.kind.Kind.{Kind}
 use Rattle.report_text.specs.Causes.{all_kinds, flash_kind, hint, is_of_kind, kind_words}
 use Rattle.report_text.specs.declared.kind.Kind.TheVariants as kinds
@@ -122,10 +124,34 @@ cause_words hole (causes.Other why flash) = other_words (kind_words (flash_kind 
 cause_words hole causes.Nothing = bare_words kinds.Bare
 cause_words hole causes.Oblique = bare_words kinds.Oblique
 
--- the line of a hole that lacks its ring (docs/FORMATS.md, Report for people)
-unfoldable pub ring_line : List (List ℕ) → RingLack → List ℕ
-ring_line names lack =
-    codes "  " ++ (hole_words names lack.at ++ (codes ": " ++ (cause_words lack.at.hole lack.cause ++ 10 ∷ [])))
+-- why a finding is accepted, by its place among the rings or among the gaps: not told where the list has no such place (docs/FORMATS.md, Report for people)
+abbrev pub why_at : List (Option (Bor (List ℕ))) → ℕ → Option (Bor (List ℕ))
+why_at whys place = get_or whys place None
+
+-- the finding at a place is waived (docs/FORMATS.md, Report for people)
+abbrev pub is_waived : List (Option (Bor (List ℕ))) → ℕ → Bool
+is_waived whys place = is_some (why_at whys place)
+
+-- how many of so many findings are waived (docs/FORMATS.md, Report for people)
+abbrev pub waived_of : List (Option (Bor (List ℕ))) → ℕ → ℕ
+waived_of whys findings = count_by is_some (take findings whys)
+
+-- why a finding is accepted, at the end of its line (docs/FORMATS.md, Report for people)
+abbrev pub why_words : Option (Bor (List ℕ)) → List ℕ
+why_words None = []
+why_words (Some why) = codes ", waived: " ++ why.now
+
+-- how many of the findings that a line counts are waived, where there are some (docs/FORMATS.md, Report for people)
+abbrev pub waived_words : ℕ → List ℕ
+waived_words waived = if waived == 0 then [] else codes ", " ++ (decimal waived ++ codes " waived")
+
+-- a hole that lacks its ring (docs/FORMATS.md, Report for people)
+unfoldable pub ring_words : List (List ℕ) → RingLack → List ℕ
+ring_words names lack = codes "  " ++ (hole_words names lack.at ++ (codes ": " ++ cause_words lack.at.hole lack.cause))
+
+-- the line of a hole that lacks its ring, and why that is accepted (docs/FORMATS.md, Report for people)
+unfoldable pub ring_line : List (List ℕ) → RingLack → Option (Bor (List ℕ)) → List ℕ
+ring_line names lack why = ring_words names lack ++ (why_words why ++ 10 ∷ [])
 
 -- two holes (docs/FORMATS.md, Report for people)
 abbrev pub pair_words : List (List ℕ) → HoleAt → HoleAt → List ℕ
@@ -133,12 +159,15 @@ pair_words names first second = codes "  " ++ (hole_words names first ++ (codes 
 
 -- the gap that two holes have, and what it lacks (docs/FORMATS.md, Report for people)
 abbrev pub gap_words : ℤ → ℤ → List ℕ
-gap_words gap lack = codes ": " ++ (measured_words (codes "gap ") gap lack ++ 10 ∷ [])
+gap_words gap lack = codes ": " ++ measured_words (codes "gap ") gap lack
 
--- the line of two holes that lack their gap (docs/FORMATS.md, Report for people)
-unfoldable pub gap_line : List (List ℕ) → GapLack → List ℕ
-gap_line names lack =
-    pair_words names lack.first lack.second ++ gap_words lack.gap lack.lack
+-- two holes that lack their gap (docs/FORMATS.md, Report for people)
+unfoldable pub near_words : List (List ℕ) → GapLack → List ℕ
+near_words names lack = pair_words names lack.first lack.second ++ gap_words lack.gap lack.lack
+
+-- the line of two holes that lack their gap, and why that is accepted (docs/FORMATS.md, Report for people)
+unfoldable pub gap_line : List (List ℕ) → GapLack → Option (Bor (List ℕ)) → List ℕ
+gap_line names lack why = near_words names lack ++ (why_words why ++ 10 ∷ [])
 
 -- a finding at this position of the whole report is shown: each where there is no limit, else those below it (docs/FORMATS.md, Report for people)
 abbrev pub is_shown : Option ℕ → ℕ → Bool
@@ -150,28 +179,46 @@ abbrev pub more_line : ℕ → List ℕ
 more_line left = if left == 0 then [] else codes "  and " ++ (decimal left ++ codes " more\n")
 
 -- the lines of some findings with their positions: of those that are shown, and of how many are not (docs/FORMATS.md, Report for people)
-abbrev pub shown_lines : {X : Type 0} → (X → List ℕ) → Option ℕ → List (ℕ × X) → List ℕ
+abbrev pub shown_lines : {X : Type 0} → (ℕ × X → List ℕ) → Option ℕ → List (ℕ × X) → List ℕ
 shown_lines line most findings =
-    flat_map (λ finding. line finding.1) (filter (λ finding. is_shown most finding.0) findings)
+    flat_map line (filter (λ finding. is_shown most finding.0) findings)
     ++ more_line (count_by (λ finding. not (is_shown most finding.0)) findings)
 
--- the line of a layer: how many of the holes that ask a ring there lack it (docs/FORMATS.md, Report for people)
-abbrev pub layer_line : List ℕ → ℕ → ℕ → List ℕ
-layer_line name lacking asked = name ++ (codes ": " ++ (decimal lacking ++ (codes " of " ++ (decimal asked ++ codes " rings lacking\n"))))
+-- how many of the holes that ask a ring on a layer lack it (docs/FORMATS.md, Report for people)
+abbrev pub layer_words : List ℕ → ℕ → ℕ → List ℕ
+layer_words name lacking asked = name ++ (codes ": " ++ (decimal lacking ++ (codes " of " ++ (decimal asked ++ codes " rings lacking"))))
+
+-- the line of a layer: how many of the holes that ask a ring there lack it, and of how many that is waived (docs/FORMATS.md, Report for people)
+abbrev pub layer_line : List ℕ → ℕ → ℕ → ℕ → List ℕ
+layer_line name lacking asked waived = layer_words name lacking asked ++ (waived_words waived ++ 10 ∷ [])
+
+-- the rings that are lacking on a layer, with their places among all rings (docs/FORMATS.md, Report for people)
+abbrev pub rings_on : ℕ → List RingLack → List (ℕ × RingLack)
+rings_on layer rings = filter (λ finding. finding.1.layer == layer) (enumerate_from 0 rings)
+
+-- how many of the rings that are lacking on a layer are waived (docs/FORMATS.md, Report for people)
+abbrev pub waived_on : List (Option (Bor (List ℕ))) → ℕ → List RingLack → ℕ
+waived_on whys layer rings = count_by (λ finding. is_waived whys finding.0) (rings_on layer rings)
 
 -- a layer, by its place and its head: its line, and those of the rings that are lacking there (docs/FORMATS.md, Report for people)
-abbrev pub layer_text : List (List ℕ) → Option ℕ → List RingLack → ℕ × LayerHead → List ℕ
-layer_text names most rings layer =
-    layer_line (name_of names layer.1.file) (count_by (λ lack. lack.layer == layer.0) rings) layer.1.asked
-    ++ shown_lines (ring_line names) most (filter (λ finding. finding.1.layer == layer.0) (enumerate_from 0 rings))
+abbrev pub layer_text : List (List ℕ) → Option ℕ → List RingLack → List (Option (Bor (List ℕ))) → ℕ × LayerHead → List ℕ
+layer_text names most rings whys layer =
+    layer_line (name_of names layer.1.file) (count_by (λ lack. lack.layer == layer.0) rings) layer.1.asked (waived_on whys layer.0 rings)
+    ++ shown_lines (λ finding. ring_line names finding.1 (why_at whys finding.0)) most (rings_on layer.0 rings)
 
 -- how many gaps are lacking (docs/FORMATS.md, Report for people)
-abbrev pub gaps_line : ℕ → List ℕ
-gaps_line lacking = decimal lacking ++ codes " gaps lacking\n"
+abbrev pub gaps_words : ℕ → List ℕ
+gaps_words lacking = decimal lacking ++ codes " gaps lacking"
+
+-- the line of the gaps: how many are lacking, and how many of them are waived (docs/FORMATS.md, Report for people)
+abbrev pub gaps_line : ℕ → ℕ → List ℕ
+gaps_line lacking waived = gaps_words lacking ++ (waived_words waived ++ 10 ∷ [])
 
 -- the gaps that are lacking, behind so many rings (docs/FORMATS.md, Report for people)
-abbrev pub gaps_text : List (List ℕ) → Option ℕ → ℕ → List GapLack → List ℕ
-gaps_text names most rings gaps = gaps_line (length gaps) ++ shown_lines (gap_line names) most (enumerate_from rings gaps)
+abbrev pub gaps_text : List (List ℕ) → Option ℕ → ℕ → List GapLack → List (Option (Bor (List ℕ))) → List ℕ
+gaps_text names most rings gaps whys =
+    gaps_line (length gaps) (waived_of whys (length gaps))
+    ++ shown_lines (λ finding. gap_line names finding.1 (why_at whys (finding.0 - rings))) most (enumerate_from rings gaps)
 
 -- how many rings are lacking, why, and what is said of it (docs/FORMATS.md, Report for people)
 abbrev pub counted_words : ℕ → List ℕ → List ℕ → List ℕ
@@ -249,9 +296,16 @@ meets_line meets = both_words meets.ring meets.gap ++ (held_words meets.ring mee
 unfoldable pub rules_line : GridRules → List ℕ
 rules_line rules = codes "ring " ++ (two_lengths (pos rules.ring) (codes ", gap ") (pos rules.gap) ++ 10 ∷ [])
 
--- the last line: that nothing is lacking, or how many findings there are (docs/FORMATS.md, Report for people)
-abbrev pub last_line : ℕ → List ℕ
-last_line findings = if findings == 0 then codes "PASS\n" else codes "FINDINGS " ++ (decimal findings ++ 10 ∷ [])
+-- the line of a waiver that waives nothing, by the number of its record (docs/FORMATS.md, Report for people)
+abbrev pub idle_line : ℕ → List ℕ
+idle_line number = codes "waiver " ++ (decimal number ++ codes " waives nothing\n")
+
+-- the last line: that nothing is lacking, that all findings are waived, or how many are not (docs/FORMATS.md, Report for people)
+abbrev pub last_line : ℕ → ℕ → List ℕ
+last_line findings waived =
+    if findings == 0 then codes "PASS\n"
+    else if waived == findings then codes "WAIVED " ++ (decimal findings ++ 10 ∷ [])
+    else codes "FINDINGS " ++ (decimal (findings - waived) ++ 10 ∷ [])
 
 -- the lines of the least and the greatest lacks, of rings and of gaps (docs/FORMATS.md, Report for people)
 abbrev pub lacks_text : List RingLack → List GapLack → List ℕ
@@ -260,11 +314,11 @@ lacks_text rings gaps =
     ++ lacks_line (codes "gaps lack ") (least_and_greatest (map (λ lack. lack.lack) gaps))
 
 -- the rules, and the findings (docs/FORMATS.md, Report for people)
-abbrev pub findings_text : List (List ℕ) → Telling → Option ℕ → List ℕ
-findings_text names telling most =
+abbrev pub findings_text : List (List ℕ) → Telling → Option ℕ → List (Option (Bor (List ℕ))) → List (Option (Bor (List ℕ))) → List ℕ
+findings_text names telling most rings gaps =
     rules_line telling.rules
-    ++ (flat_map (layer_text names most telling.rings.items) (enumerate_from 0 telling.layers.items)
-    ++ gaps_text names most (length telling.rings.items) telling.gaps.items)
+    ++ (flat_map (layer_text names most telling.rings.items rings) (enumerate_from 0 telling.layers.items)
+    ++ gaps_text names most (length telling.rings.items) telling.gaps.items gaps)
 
 -- why rings are lacking, how much is lacking, and what coordinates seem to be off (docs/FORMATS.md, Report for people)
 abbrev pub causes_text : List (List ℕ) → Telling → List ℕ
@@ -272,10 +326,24 @@ causes_text names telling =
     flat_map (kind_line telling.rings.items) all_kinds
     ++ (lacks_text telling.rings.items telling.gaps.items ++ flat_map (scale_line names) telling.scales.items)
 
--- the rules that the package meets, and the last line (docs/FORMATS.md, Report for people)
-abbrev pub last_lines : Telling → List ℕ
-last_lines telling = meets_line telling.meets ++ last_line (length telling.rings.items + length telling.gaps.items)
+-- how many findings are waived, rings and gaps, by the reasons of each (docs/FORMATS.md, Report for people)
+abbrev pub waived_in : Telling → List (Option (Bor (List ℕ))) → List (Option (Bor (List ℕ))) → ℕ
+waived_in telling rings gaps = waived_of rings (length telling.rings.items) + waived_of gaps (length telling.gaps.items)
 
--- the text of a report for people, by the names of the files and how many findings are shown at most (docs/FORMATS.md, Report for people)
+-- the rules that the package meets, the waivers that waive nothing, and the last line (docs/FORMATS.md, Report for people)
+abbrev pub last_lines : Telling → List (Option (Bor (List ℕ))) → List (Option (Bor (List ℕ))) → List ℕ → List ℕ
+last_lines telling rings gaps idle =
+    meets_line telling.meets ++ (flat_map idle_line idle ++ last_line (length telling.rings.items + length telling.gaps.items) (waived_in telling rings gaps))
+
+-- the text of a report by the reasons of its rings and of its gaps, and by the numbers of the waivers that waive nothing (docs/FORMATS.md, Report for people)
+abbrev pub told_text : List (List ℕ) → Telling → Option ℕ → List (Option (Bor (List ℕ))) → List (Option (Bor (List ℕ))) → List ℕ → List ℕ
+told_text names telling most rings gaps idle =
+    findings_text names telling most rings gaps ++ (causes_text names telling ++ last_lines telling rings gaps idle)
+
+-- the text of a report for people with waivers, by the names of the files and how many findings are shown at most (docs/FORMATS.md, Report for people)
+abbrev pub waived_text : List (List ℕ) → Telling → Option ℕ → Whys → List ℕ
+waived_text names telling most whys = told_text names telling most whys.rings.now whys.gaps.now whys.idle.now
+
+-- the same without waivers (docs/FORMATS.md, Report for people)
 abbrev pub telling_text : List (List ℕ) → Telling → Option ℕ → List ℕ
-telling_text names telling most = findings_text names telling most ++ (causes_text names telling ++ last_lines telling)
+telling_text names telling most = told_text names telling most [] [] []

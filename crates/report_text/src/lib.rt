@@ -7,13 +7,16 @@ mod kind;
 mod lines;
 mod report;
 mod tallies;
+mod waived;
 mod words;
 
 use grid_units::{Hole, Rules};
 use layer_image::Why;
 use margin_text::{Meets, ScaleLine};
 use pad_shapes::Pad;
-pub use report::{PrintFault, print_telling, write_telling};
+pub use report::{PrintFault, print_telling, print_waived, write_telling};
+pub use waived::count_waived;
+pub use words::{name_of, push_drilled};
 
 /// The pad in which a hole lies deepest, and the ring that it has there.
 #[derive(Clone, Copy, Debug, PartialEq, Eq)]
@@ -107,6 +110,17 @@ pub struct Telling {
     pub scales: Vec<ScaleLine>,
     /// The rules that the package meets.
     pub meets: Meets,
+}
+
+/// Why findings of a report are accepted. A list that is shorter than the findings says `None` of the others.
+#[derive(Clone, Copy, Debug)]
+pub struct Whys<'a> {
+    /// Of each ring that is lacking, in the order of [`Telling::rings`], the reason why it is accepted, or `None`.
+    pub rings: &'a [Option<&'a str>],
+    /// The same of each gap.
+    pub gaps: &'a [Option<&'a str>],
+    /// The numbers of the records of the file of waivers that waive nothing, in order.
+    pub idle: &'a [usize],
 }
 
 #[cfg(test)]

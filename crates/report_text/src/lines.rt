@@ -1,8 +1,8 @@
 //! The lines of a report, one by one.
 
-ghost use Rattle.std.specs.Prelude.{◌≡◌, ◌++◌, codes, map, OnOk, string_bytes};
+ghost use Rattle.std.specs.Prelude.{◌≡◌, ◌≤◌, ◌++◌, ◌∷◌, [], codes, decimal, map, OnOk, string_bytes};
 ghost use Rattle.margin_text.specs.Lines.{factor_word};
-ghost use Rattle.report_text.specs.Texts.{are_same, both_words, count_line, counted_words, gap_line, gap_words, gaps_line, held_ring, held_words, lacks_line, last_line, layer_line, meets_line, met_words, more_line, named_met, pair_words, ring_line, rules_line, scale_line, scale_words};
+ghost use Rattle.report_text.specs.Texts.{are_same, both_words, count_line, counted_words, gap_line, gap_words, gaps_line, gaps_words, held_ring, held_words, idle_line, lacks_line, last_line, layer_line, layer_words, meets_line, met_words, more_line, named_met, near_words, pair_words, ring_line, ring_words, rules_line, scale_line, scale_words, waived_words, why_words};
 
 use crate::kind::{Kind, hint, kind_words};
 use crate::words::{name_of, push_cause, push_hole, push_measured, push_two};
@@ -23,34 +23,83 @@ pub(crate) fn push_rules(text: &mut String, rules: &Rules) -> Result<(), AllocEr
     push_words(text, "\n")
 }
 
+/// Appends how many of the holes that ask a ring on a layer lack it.
+fn push_layer_words(
+    text: &mut String,
+    name: &str,
+    lacking: usize,
+    asked: usize,
+) -> Result<(), AllocError>
+    ensures { OnOk result (string_bytes text.new ≡ string_bytes text.old ++ layer_words name.now lacking asked) }
+{
+    match write!(text, "{name}: {lacking} of {asked} rings lacking") {
+        Ok(()) => Ok(()),
+        Err(e) => Err(e),
+    }
+}
+
+/// Appends how many findings are waived, where there are some.
+fn push_waived(text: &mut String, waived: usize) -> Result<(), AllocError>
+    ensures { OnOk result (string_bytes text.new ≡ string_bytes text.old ++ waived_words waived) }
+{
+    if waived == 0 {
+        return Ok(());
+    }
+    match write!(text, ", {waived} waived") {
+        Ok(()) => Ok(()),
+        Err(e) => Err(e),
+    }
+}
+
+/// Appends why a finding is accepted, where it is.
+fn push_why(text: &mut String, why: Option<&str>) -> Result<(), AllocError>
+    ensures { OnOk result (string_bytes text.new ≡ string_bytes text.old ++ why_words why.entry) }
+{
+    let Some(why) = why else {
+        return Ok(());
+    };
+    push_words(text, ", waived: ")?;
+    push_words(text, why)
+}
+
 /// Appends the line of a layer.
 pub(crate) fn push_layer(
     text: &mut String,
     name: &str,
     lacking: usize,
     asked: usize,
+    waived: usize,
 ) -> Result<(), AllocError>
-    ensures { OnOk result (string_bytes text.new ≡ string_bytes text.old ++ layer_line name.now lacking asked) }
+    ensures { OnOk result (string_bytes text.new ≡ string_bytes text.old ++ layer_line name.now lacking asked waived) }
 {
-    match write!(text, "{name}: {lacking} of {asked} rings lacking\n") {
-        Ok(()) => Ok(()),
-        Err(e) => Err(e),
-    }
+    push_layer_words(text, name, lacking, asked)?;
+    push_waived(text, waived)?;
+    push_words(text, "\n")
 }
 
-/// Appends the line of a hole that lacks its ring.
+/// Appends a hole that lacks its ring.
+#[tactic(auto, unfolding(crate::specs::Texts::ring_words))]
+fn push_ring_words(text: &mut String, names: &[&str], lack: &RingLack) -> Result<(), AllocError>
+    ensures { OnOk result (string_bytes text.new ≡ string_bytes text.old ++ ring_words (map (λ name. name.now) names.now) lack.now) }
+{
+    push_words(text, "  ")?;
+    push_hole(text, names, &lack.at)?;
+    push_words(text, ": ")?;
+    push_cause(text, &lack.at.hole, &lack.cause)
+}
+
+/// Appends the line of a hole that lacks its ring, and why that is accepted.
 #[tactic(auto, unfolding(crate::specs::Texts::ring_line))]
 pub(crate) fn push_ring(
     text: &mut String,
     names: &[&str],
     lack: &RingLack,
+    why: Option<&str>,
 ) -> Result<(), AllocError>
-    ensures { OnOk result (string_bytes text.new ≡ string_bytes text.old ++ ring_line (map (λ name. name.now) names.now) lack.now) }
+    ensures { OnOk result (string_bytes text.new ≡ string_bytes text.old ++ ring_line (map (λ name. name.now) names.now) lack.now why.entry) }
 {
-    push_words(text, "  ")?;
-    push_hole(text, names, &lack.at)?;
-    push_words(text, ": ")?;
-    push_cause(text, &lack.at.hole, &lack.cause)?;
+    push_ring_words(text, names, lack)?;
+    push_why(text, why)?;
     push_words(text, "\n")
 }
 
@@ -68,13 +117,22 @@ pub(crate) fn push_more(text: &mut String, left: usize) -> Result<(), AllocError
 }
 
 /// Appends how many gaps are lacking.
-pub(crate) fn push_gaps(text: &mut String, lacking: usize) -> Result<(), AllocError>
-    ensures { OnOk result (string_bytes text.new ≡ string_bytes text.old ++ gaps_line lacking) }
+fn push_gaps_words(text: &mut String, lacking: usize) -> Result<(), AllocError>
+    ensures { OnOk result (string_bytes text.new ≡ string_bytes text.old ++ gaps_words lacking) }
 {
-    match write!(text, "{lacking} gaps lacking\n") {
+    match write!(text, "{lacking} gaps lacking") {
         Ok(()) => Ok(()),
         Err(e) => Err(e),
     }
+}
+
+/// Appends how many gaps are lacking, and how many of them are waived.
+pub(crate) fn push_gaps(text: &mut String, lacking: usize, waived: usize) -> Result<(), AllocError>
+    ensures { OnOk result (string_bytes text.new ≡ string_bytes text.old ++ gaps_line lacking waived) }
+{
+    push_gaps_words(text, lacking)?;
+    push_waived(text, waived)?;
+    push_words(text, "\n")
 }
 
 /// Appends two holes.
@@ -97,17 +155,31 @@ fn push_gap_words(text: &mut String, gap: i64, lack: i64) -> Result<(), AllocErr
     ensures { OnOk result (string_bytes text.new ≡ string_bytes text.old ++ gap_words gap lack) }
 {
     push_words(text, ": ")?;
-    push_measured(text, "gap ", gap, lack)?;
-    push_words(text, "\n")
+    push_measured(text, "gap ", gap, lack)
 }
 
-/// Appends the line of two holes that lack their gap.
-#[tactic(auto, unfolding(crate::specs::Texts::gap_line))]
-pub(crate) fn push_gap(text: &mut String, names: &[&str], lack: &GapLack) -> Result<(), AllocError>
-    ensures { OnOk result (string_bytes text.new ≡ string_bytes text.old ++ gap_line (map (λ name. name.now) names.now) lack.now) }
+/// Appends two holes that lack their gap.
+#[tactic(auto, unfolding(crate::specs::Texts::near_words))]
+fn push_near(text: &mut String, names: &[&str], lack: &GapLack) -> Result<(), AllocError>
+    ensures { OnOk result (string_bytes text.new ≡ string_bytes text.old ++ near_words (map (λ name. name.now) names.now) lack.now) }
 {
     push_pair(text, names, &lack.first, &lack.second)?;
     push_gap_words(text, lack.gap, lack.lack)
+}
+
+/// Appends the line of two holes that lack their gap, and why that is accepted.
+#[tactic(auto, unfolding(crate::specs::Texts::gap_line))]
+pub(crate) fn push_gap(
+    text: &mut String,
+    names: &[&str],
+    lack: &GapLack,
+    why: Option<&str>,
+) -> Result<(), AllocError>
+    ensures { OnOk result (string_bytes text.new ≡ string_bytes text.old ++ gap_line (map (λ name. name.now) names.now) lack.now why.entry) }
+{
+    push_near(text, names, lack)?;
+    push_why(text, why)?;
+    push_words(text, "\n")
 }
 
 /// Appends how many rings are lacking, why, and what is said of it.
@@ -259,15 +331,36 @@ pub(crate) fn push_meets(text: &mut String, meets: &Meets) -> Result<(), AllocEr
     push_words(text, "\n")
 }
 
-/// Appends the last line: that nothing is lacking, or how many findings there are.
-pub(crate) fn push_last(text: &mut String, findings: u128) -> Result<(), AllocError>
-    ensures { OnOk result (string_bytes text.new ≡ string_bytes text.old ++ last_line findings) }
+/// Appends the line of a waiver that waives nothing.
+pub(crate) fn push_idle(text: &mut String, number: usize) -> Result<(), AllocError>
+    ensures { OnOk result (string_bytes text.new ≡ string_bytes text.old ++ idle_line number) }
+{
+    match write!(text, "waiver {number} waives nothing\n") {
+        Ok(()) => Ok(()),
+        Err(e) => Err(e),
+    }
+}
+
+/// Appends a word, a count and a line end.
+fn push_result(text: &mut String, word: &str, count: u128) -> Result<(), AllocError>
+    ensures { OnOk result (string_bytes text.new ≡ string_bytes text.old ++ (word.now ++ (decimal count ++ 10 ∷ []))) }
+{
+    match write!(text, "{word}{count}\n") {
+        Ok(()) => Ok(()),
+        Err(e) => Err(e),
+    }
+}
+
+/// Appends the last line: that nothing is lacking, that all findings are waived, or how many are not.
+pub(crate) fn push_last(text: &mut String, findings: u128, waived: u128) -> Result<(), AllocError>
+    requires { waived ≤ findings }
+    ensures { OnOk result (string_bytes text.new ≡ string_bytes text.old ++ last_line findings waived) }
 {
     if findings == 0 {
         return push_words(text, "PASS\n");
     }
-    match write!(text, "FINDINGS {findings}\n") {
-        Ok(()) => Ok(()),
-        Err(e) => Err(e),
+    if waived == findings {
+        return push_result(text, "WAIVED ", findings);
     }
+    push_result(text, "FINDINGS ", findings - waived)
 }

@@ -1,24 +1,25 @@
 //! The text of a report, printed part by part.
 
-ghost use Rattle.std.specs.Prelude.{◌≡◌, ◌==◌, ◌++◌, [], if◌then◌else◌, length, map, not, IfErr, IfOk, OnOk, string_bytes};
+ghost use Rattle.std.specs.Prelude.{◌≡◌, ◌==◌, ◌+◌, ◌-◌, ◌++◌, [], if◌then◌else◌, length, map, not, IfErr, IfOk, OnOk, string_bytes};
 ghost use Rattle.std.specs.List.{count_by, enumerate_from, filter, flat_map};
 ghost use Rattle.std.specs.Io.KnownBytes.{Appends};
 ghost use Rattle.printing.specs.Parts.{PassesOn};
 ghost use Rattle.report_text.specs.Causes.{all_kinds};
-ghost use Rattle.report_text.specs.Texts.{causes_text, findings_text, gap_line, gaps_line, gaps_text, is_shown, kind_line, lacks_text, last_lines, layer_line, layer_text, more_line, name_of, ring_line, rules_line, scale_line, shown_lines, telling_text};
+ghost use Rattle.report_text.specs.Texts.{causes_text, findings_text, gap_line, gaps_line, gaps_text, idle_line, is_shown, kind_line, lacks_text, last_line, last_lines, layer_line, layer_text, meets_line, more_line, name_of, ring_line, rings_on, rules_line, scale_line, telling_text, waived_in, waived_of, waived_on, waived_text, why_at};
 
 use crate::kind::{KINDS, Kind};
 use crate::lines::{
-    push_count, push_gap, push_gaps, push_lacks, push_last, push_layer, push_meets, push_more,
-    push_ring, push_rules, push_scale,
+    push_count, push_gap, push_gaps, push_idle, push_lacks, push_last, push_layer, push_meets,
+    push_more, push_ring, push_rules, push_scale,
 };
 use crate::tallies::{
     gap_lacks, gaps_left, is_shown, is_shown_on, ring_lacks, rings_by, rings_left, rings_on,
 };
+use crate::waived::{count_waived, waived_of, waived_on, why_of};
 use crate::words::name_of;
-use crate::{GapLack, LayerHead, RingLack, Telling};
+use crate::{GapLack, LayerHead, RingLack, Telling, Whys};
 use grid_units::Rules;
-use margin_text::ScaleLine;
+use margin_text::{Meets, ScaleLine};
 use printing::{Cut, buffer, make_room, pass_on};
 use std::alloc::{AllocError, Global};
 use std::io::Write;
@@ -51,13 +52,15 @@ fn push_head(
     text: &mut String,
     names: &[&str],
     rings: &[RingLack],
+    whys: &[Option<&str>],
     place: usize,
     head: &LayerHead,
 ) -> Result<(), AllocError>
-    ensures { OnOk result (string_bytes text.new ≡ string_bytes text.old ++ layer_line (name_of (map (λ name. name.now) names.now) head.now.file) (count_by (λ lack. lack.layer == place) rings.now) head.now.asked) }
+    ensures { OnOk result (string_bytes text.new ≡ string_bytes text.old ++ layer_line (name_of (map (λ name. name.now) names.now) head.now.file) (count_by (λ lack. lack.layer == place) rings.now) head.now.asked (waived_on whys.now place rings.now)) }
 {
     let lacking = rings_on(rings, place);
-    push_layer(text, name_of(names, head.file), lacking, head.asked)
+    let waived = waived_on(whys, place, rings);
+    push_layer(text, name_of(names, head.file), lacking, head.asked, waived)
 }
 
 /// Gathers the line of a layer, by its place and its head.
@@ -65,14 +68,15 @@ fn gather_head<W: Write>(
     text: &mut String,
     names: &[&str],
     rings: &[RingLack],
+    whys: &[Option<&str>],
     place: usize,
     head: &LayerHead,
     out: &mut W,
 ) -> Result<(), Cut>
-    ensures { OnOk result (PassesOn (W.contents out.old) (string_bytes text.old) (W.contents out.new) (string_bytes text.new) (layer_line (name_of (map (λ name. name.now) names.now) head.now.file) (count_by (λ lack. lack.layer == place) rings.now) head.now.asked)) }
+    ensures { OnOk result (PassesOn (W.contents out.old) (string_bytes text.old) (W.contents out.new) (string_bytes text.new) (layer_line (name_of (map (λ name. name.now) names.now) head.now.file) (count_by (λ lack. lack.layer == place) rings.now) head.now.asked (waived_on whys.now place rings.now))) }
 {
     make_room(text, out)?;
-    match push_head(text, names, rings, place, head) {
+    match push_head(text, names, rings, whys, place, head) {
         Ok(()) => Ok(()),
         Err(_) => Err(Cut),
     }
@@ -83,16 +87,17 @@ fn gather_ring<W: Write>(
     text: &mut String,
     names: &[&str],
     lack: &RingLack,
+    why: Option<&str>,
     shown: bool,
     out: &mut W,
 ) -> Result<(), Cut>
-    ensures { OnOk result (PassesOn (W.contents out.old) (string_bytes text.old) (W.contents out.new) (string_bytes text.new) (if shown then ring_line (map (λ name. name.now) names.now) lack.now else [])) }
+    ensures { OnOk result (PassesOn (W.contents out.old) (string_bytes text.old) (W.contents out.new) (string_bytes text.new) (if shown then ring_line (map (λ name. name.now) names.now) lack.now why.entry else [])) }
 {
     if !shown {
         return Ok(());
     }
     make_room(text, out)?;
-    match push_ring(text, names, lack) {
+    match push_ring(text, names, lack, why) {
         Ok(()) => Ok(()),
         Err(_) => Err(Cut),
     }
@@ -103,15 +108,16 @@ fn gather_rings<W: Write>(
     text: &mut String,
     names: &[&str],
     rings: &[RingLack],
+    whys: &[Option<&str>],
     layer: usize,
     most: Option<usize>,
     out: &mut W,
 ) -> Result<(), Cut>
-    ensures { OnOk result (PassesOn (W.contents out.old) (string_bytes text.old) (W.contents out.new) (string_bytes text.new) (flat_map (λ finding. ring_line (map (λ name. name.now) names.now) finding.1) (filter (λ finding. is_shown most finding.0) (filter (λ finding. finding.1.layer == layer) (enumerate_from 0 rings.now))))) }
+    ensures { OnOk result (PassesOn (W.contents out.old) (string_bytes text.old) (W.contents out.new) (string_bytes text.new) (flat_map (λ finding. ring_line (map (λ name. name.now) names.now) finding.1 (why_at whys.now finding.0)) (filter (λ finding. is_shown most finding.0) (rings_on layer rings.now)))) }
 {
     for i in 0..rings.len() {
         let shown = is_shown_on(&rings[i], layer, most, i as u128);
-        gather_ring(text, names, &rings[i], shown, out)?;
+        gather_ring(text, names, &rings[i], why_of(whys, i), shown, out)?;
     }
     Ok(())
 }
@@ -138,15 +144,16 @@ fn gather_layer<W: Write>(
     text: &mut String,
     names: &[&str],
     rings: &[RingLack],
+    whys: &[Option<&str>],
     place: usize,
     head: &LayerHead,
     most: Option<usize>,
     out: &mut W,
 ) -> Result<(), Cut>
-    ensures { OnOk result (PassesOn (W.contents out.old) (string_bytes text.old) (W.contents out.new) (string_bytes text.new) (layer_text (map (λ name. name.now) names.now) most rings.now (place, head.now))) }
+    ensures { OnOk result (PassesOn (W.contents out.old) (string_bytes text.old) (W.contents out.new) (string_bytes text.new) (layer_text (map (λ name. name.now) names.now) most rings.now whys.now (place, head.now))) }
 {
-    gather_head(text, names, rings, place, head, out)?;
-    gather_rings(text, names, rings, place, most, out)?;
+    gather_head(text, names, rings, whys, place, head, out)?;
+    gather_rings(text, names, rings, whys, place, most, out)?;
     gather_rings_left(text, rings, place, most, out)
 }
 
@@ -156,23 +163,41 @@ fn gather_layers<W: Write>(
     names: &[&str],
     layers: &[LayerHead],
     rings: &[RingLack],
+    whys: &[Option<&str>],
     most: Option<usize>,
     out: &mut W,
 ) -> Result<(), Cut>
-    ensures { OnOk result (PassesOn (W.contents out.old) (string_bytes text.old) (W.contents out.new) (string_bytes text.new) (flat_map (layer_text (map (λ name. name.now) names.now) most rings.now) (enumerate_from 0 layers.now))) }
+    ensures { OnOk result (PassesOn (W.contents out.old) (string_bytes text.old) (W.contents out.new) (string_bytes text.new) (flat_map (layer_text (map (λ name. name.now) names.now) most rings.now whys.now) (enumerate_from 0 layers.now))) }
 {
     for i in 0..layers.len() {
-        gather_layer(text, names, rings, i, &layers[i], most, out)?;
+        gather_layer(text, names, rings, whys, i, &layers[i], most, out)?;
     }
     Ok(())
 }
 
-/// Gathers how many gaps are lacking.
-fn gather_gaps_line<W: Write>(text: &mut String, gaps: &[GapLack], out: &mut W) -> Result<(), Cut>
-    ensures { OnOk result (PassesOn (W.contents out.old) (string_bytes text.old) (W.contents out.new) (string_bytes text.new) (gaps_line (length gaps.now))) }
+/// Appends how many gaps are lacking, and how many of them are waived.
+fn push_gaps_line(
+    text: &mut String,
+    gaps: &[GapLack],
+    whys: &[Option<&str>],
+) -> Result<(), AllocError>
+    ensures { OnOk result (string_bytes text.new ≡ string_bytes text.old ++ gaps_line (length gaps.now) (waived_of whys.now (length gaps.now))) }
+{
+    let waived = waived_of(whys, gaps.len());
+    push_gaps(text, gaps.len(), waived)
+}
+
+/// Gathers how many gaps are lacking, and how many of them are waived.
+fn gather_gaps_line<W: Write>(
+    text: &mut String,
+    gaps: &[GapLack],
+    whys: &[Option<&str>],
+    out: &mut W,
+) -> Result<(), Cut>
+    ensures { OnOk result (PassesOn (W.contents out.old) (string_bytes text.old) (W.contents out.new) (string_bytes text.new) (gaps_line (length gaps.now) (waived_of whys.now (length gaps.now)))) }
 {
     make_room(text, out)?;
-    match push_gaps(text, gaps.len()) {
+    match push_gaps_line(text, gaps, whys) {
         Ok(()) => Ok(()),
         Err(_) => Err(Cut),
     }
@@ -200,16 +225,17 @@ fn gather_gap<W: Write>(
     text: &mut String,
     names: &[&str],
     lack: &GapLack,
+    why: Option<&str>,
     shown: bool,
     out: &mut W,
 ) -> Result<(), Cut>
-    ensures { OnOk result (PassesOn (W.contents out.old) (string_bytes text.old) (W.contents out.new) (string_bytes text.new) (if shown then gap_line (map (λ name. name.now) names.now) lack.now else [])) }
+    ensures { OnOk result (PassesOn (W.contents out.old) (string_bytes text.old) (W.contents out.new) (string_bytes text.new) (if shown then gap_line (map (λ name. name.now) names.now) lack.now why.entry else [])) }
 {
     if !shown {
         return Ok(());
     }
     make_room(text, out)?;
-    match push_gap(text, names, lack) {
+    match push_gap(text, names, lack, why) {
         Ok(()) => Ok(()),
         Err(_) => Err(Cut),
     }
@@ -220,15 +246,16 @@ fn gather_gaps<W: Write>(
     text: &mut String,
     names: &[&str],
     gaps: &[GapLack],
+    whys: &[Option<&str>],
     rings: usize,
     most: Option<usize>,
     out: &mut W,
 ) -> Result<(), Cut>
-    ensures { OnOk result (PassesOn (W.contents out.old) (string_bytes text.old) (W.contents out.new) (string_bytes text.new) (flat_map (λ finding. gap_line (map (λ name. name.now) names.now) finding.1) (filter (λ finding. is_shown most finding.0) (enumerate_from rings gaps.now)))) }
+    ensures { OnOk result (PassesOn (W.contents out.old) (string_bytes text.old) (W.contents out.new) (string_bytes text.new) (flat_map (λ finding. gap_line (map (λ name. name.now) names.now) finding.1 (why_at whys.now (finding.0 - rings))) (filter (λ finding. is_shown most finding.0) (enumerate_from rings gaps.now)))) }
 {
     for i in 0..gaps.len() {
         let shown = is_shown(most, rings as u128 + i as u128);
-        gather_gap(text, names, &gaps[i], shown, out)?;
+        gather_gap(text, names, &gaps[i], why_of(whys, i), shown, out)?;
     }
     Ok(())
 }
@@ -238,14 +265,15 @@ fn gather_all_gaps<W: Write>(
     text: &mut String,
     names: &[&str],
     gaps: &[GapLack],
+    whys: &[Option<&str>],
     rings: usize,
     most: Option<usize>,
     out: &mut W,
 ) -> Result<(), Cut>
-    ensures { OnOk result (PassesOn (W.contents out.old) (string_bytes text.old) (W.contents out.new) (string_bytes text.new) (gaps_text (map (λ name. name.now) names.now) most rings gaps.now)) }
+    ensures { OnOk result (PassesOn (W.contents out.old) (string_bytes text.old) (W.contents out.new) (string_bytes text.new) (gaps_text (map (λ name. name.now) names.now) most rings gaps.now whys.now)) }
 {
-    gather_gaps_line(text, gaps, out)?;
-    gather_gaps(text, names, gaps, rings, most, out)?;
+    gather_gaps_line(text, gaps, whys, out)?;
+    gather_gaps(text, names, gaps, whys, rings, most, out)?;
     gather_gaps_left(text, gaps, rings, most, out)
 }
 
@@ -255,14 +283,23 @@ fn gather_findings<W: Write>(
     names: &[&str],
     telling: &Telling,
     most: Option<usize>,
+    whys: &Whys,
     out: &mut W,
 ) -> Result<(), Cut>
-    ensures { OnOk result (PassesOn (W.contents out.old) (string_bytes text.old) (W.contents out.new) (string_bytes text.new) (findings_text (map (λ name. name.now) names.now) telling.now most)) }
+    ensures { OnOk result (PassesOn (W.contents out.old) (string_bytes text.old) (W.contents out.new) (string_bytes text.new) (findings_text (map (λ name. name.now) names.now) telling.now most whys.now.rings.now whys.now.gaps.now)) }
 {
     let rings = telling.rings.as_slice();
     gather_rules(text, &telling.rules, out)?;
-    gather_layers(text, names, &telling.layers, rings, most, out)?;
-    gather_all_gaps(text, names, &telling.gaps, rings.len(), most, out)
+    gather_layers(text, names, &telling.layers, rings, whys.rings, most, out)?;
+    gather_all_gaps(
+        text,
+        names,
+        &telling.gaps,
+        whys.gaps,
+        rings.len(),
+        most,
+        out,
+    )
 }
 
 /// Gathers the line of a kind of cause.
@@ -366,23 +403,68 @@ fn gather_causes<W: Write>(
     gather_scales(text, names, &telling.scales, out)
 }
 
-/// Appends the last lines.
-fn push_end(text: &mut String, telling: &Telling) -> Result<(), AllocError>
-    ensures { OnOk result (string_bytes text.new ≡ string_bytes text.old ++ last_lines telling.now) }
+/// Gathers the line of the rules that the package meets.
+fn gather_meets<W: Write>(text: &mut String, meets: &Meets, out: &mut W) -> Result<(), Cut>
+    ensures { OnOk result (PassesOn (W.contents out.old) (string_bytes text.old) (W.contents out.new) (string_bytes text.new) (meets_line meets.now)) }
 {
-    let findings = telling.rings.len() as u128 + telling.gaps.len() as u128;
-    push_meets(text, &telling.meets)?;
-    push_last(text, findings)
+    make_room(text, out)?;
+    match push_meets(text, meets) {
+        Ok(()) => Ok(()),
+        Err(_) => Err(Cut),
+    }
 }
 
-/// Gathers the last lines, and writes what is left.
-fn end<W: Write>(text: &mut String, telling: &Telling, out: &mut W) -> Result<(), Cut>
-    ensures { OnOk result (Appends (W.contents out.old) (W.contents out.new) (string_bytes text.old ++ last_lines telling.now)) }
+/// Gathers the line of a waiver that waives nothing.
+fn gather_idle<W: Write>(text: &mut String, number: usize, out: &mut W) -> Result<(), Cut>
+    ensures { OnOk result (PassesOn (W.contents out.old) (string_bytes text.old) (W.contents out.new) (string_bytes text.new) (idle_line number)) }
 {
-    match push_end(text, telling) {
+    make_room(text, out)?;
+    match push_idle(text, number) {
+        Ok(()) => Ok(()),
+        Err(_) => Err(Cut),
+    }
+}
+
+/// Gathers the lines of the waivers that waive nothing.
+fn gather_all_idle<W: Write>(text: &mut String, idle: &[usize], out: &mut W) -> Result<(), Cut>
+    ensures { OnOk result (PassesOn (W.contents out.old) (string_bytes text.old) (W.contents out.new) (string_bytes text.new) (flat_map idle_line idle.now)) }
+{
+    for number in idle {
+        gather_idle(text, *number, out)?;
+    }
+    Ok(())
+}
+
+/// Appends the last line.
+fn push_end(text: &mut String, telling: &Telling, whys: &Whys) -> Result<(), AllocError>
+    ensures { OnOk result (string_bytes text.new ≡ string_bytes text.old ++ last_line (length telling.now.rings.items + length telling.now.gaps.items) (waived_in telling.now whys.now.rings.now whys.now.gaps.now)) }
+{
+    let findings = telling.rings.len() as u128 + telling.gaps.len() as u128;
+    push_last(text, findings, count_waived(telling, whys))
+}
+
+/// Gathers the last line, and writes what is left.
+fn end<W: Write>(text: &mut String, telling: &Telling, whys: &Whys, out: &mut W) -> Result<(), Cut>
+    ensures { OnOk result (Appends (W.contents out.old) (W.contents out.new) (string_bytes text.old ++ last_line (length telling.now.rings.items + length telling.now.gaps.items) (waived_in telling.now whys.now.rings.now whys.now.gaps.now))) }
+{
+    match push_end(text, telling, whys) {
         Ok(()) => pass_on(text, out),
         Err(_) => Err(Cut),
     }
+}
+
+/// Gathers the last lines, and writes what is left.
+fn print_last<W: Write>(
+    text: &mut String,
+    telling: &Telling,
+    whys: &Whys,
+    out: &mut W,
+) -> Result<(), Cut>
+    ensures { OnOk result (Appends (W.contents out.old) (W.contents out.new) (string_bytes text.old ++ last_lines telling.now whys.now.rings.now whys.now.gaps.now whys.now.idle.now)) }
+{
+    gather_meets(text, &telling.meets, out)?;
+    gather_all_idle(text, whys.idle, out)?;
+    end(text, telling, whys, out)
 }
 
 /// Prints what `text` holds, and the text of a report behind it.
@@ -391,13 +473,14 @@ fn print_lines<W: Write>(
     names: &[&str],
     telling: &Telling,
     most: Option<usize>,
+    whys: &Whys,
     out: &mut W,
 ) -> Result<(), Cut>
-    ensures { OnOk result (Appends (W.contents out.old) (W.contents out.new) (string_bytes text.old ++ telling_text (map (λ name. name.now) names.now) telling.now most)) }
+    ensures { OnOk result (Appends (W.contents out.old) (W.contents out.new) (string_bytes text.old ++ waived_text (map (λ name. name.now) names.now) telling.now most whys.now)) }
 {
-    gather_findings(text, names, telling, most, out)?;
+    gather_findings(text, names, telling, most, whys, out)?;
     gather_causes(text, names, telling, out)?;
-    end(text, telling, out)
+    print_last(text, telling, whys, out)
 }
 
 /// How many bytes the longest name has.
@@ -409,14 +492,59 @@ fn longest(names: &[&str]) -> usize {
     longest
 }
 
-/// An empty text with room for the lines that are gathered before they are written, with two names in each.
-fn room(alloc: Global, names: &[&str]) -> Result<String, AllocError>
+/// How many bytes the longest reason has.
+fn longest_why(whys: &[Option<&str>]) -> usize {
+    let mut longest = 0;
+    for why in whys {
+        if let Some(why) = why {
+            longest = longest.max(why.len());
+        }
+    }
+    longest
+}
+
+/// How many bytes the names and the reason in a line have at most.
+fn longest_told(names: &[&str], whys: &Whys) -> usize {
+    let why = longest_why(whys.rings).max(longest_why(whys.gaps));
+    longest(names).saturating_mul(2).saturating_add(why)
+}
+
+/// An empty text with room for the lines that are gathered before they are written, with two names and a reason in each.
+fn room(alloc: Global, names: &[&str], whys: &Whys) -> Result<String, AllocError>
     ensures { IfOk result (λ text. string_bytes text ≡ []) }
 {
     let mut text = buffer(alloc)?;
-    let more = longest(names).saturating_mul(2);
+    let more = longest_told(names, whys);
     text.reserve(text.capacity().saturating_add(more))?;
     Ok(text)
+}
+
+/// Prints the text of a report for people, by the names of the files of the package, with at most so many findings, and with the
+/// reasons why findings are accepted. A finding that has a reason is told with it, and is not counted in the last line; it is
+/// `WAIVED` where each finding has one. The report is written in parts: what they are gathered in is taken before the first of them
+/// is written, with room for the longest reason, so no more memory is taken for a long report than for a short one.
+///
+/// # Errors
+///
+/// [`PrintFault::Memory`] where there is no memory, and then nothing was written; [`PrintFault::Cut`] where the writer fails.
+pub fn print_waived<W: Write>(
+    alloc: Global,
+    names: &[&str],
+    telling: &Telling,
+    most: Option<usize>,
+    whys: &Whys,
+    out: &mut W,
+) -> Result<(), PrintFault>
+    ensures ok { OnOk result (Appends (W.contents out.old) (W.contents out.new) (waived_text (map (λ name. name.now) names.now) telling.now most whys.now)) }
+    ensures memory { IfErr result (λ e. e ≡ PrintFault.Memory → W.contents out.new ≡ W.contents out.old) }
+{
+    let Ok(mut text) = room(alloc, names, whys) else {
+        return Err(PrintFault::Memory);
+    };
+    match print_lines(&mut text, names, telling, most, whys, out) {
+        Ok(()) => Ok(()),
+        Err(_) => Err(PrintFault::Cut),
+    }
 }
 
 /// Prints the text of a report for people, by the names of the files of the package, with at most so many findings. It is written
@@ -436,13 +564,12 @@ pub fn print_telling<W: Write>(
     ensures ok { OnOk result (Appends (W.contents out.old) (W.contents out.new) (telling_text (map (λ name. name.now) names.now) telling.now most)) }
     ensures memory { IfErr result (λ e. e ≡ PrintFault.Memory → W.contents out.new ≡ W.contents out.old) }
 {
-    let Ok(mut text) = room(alloc, names) else {
-        return Err(PrintFault::Memory);
+    let none = Whys {
+        rings: &[],
+        gaps: &[],
+        idle: &[],
     };
-    match print_lines(&mut text, names, telling, most, out) {
-        Ok(()) => Ok(()),
-        Err(_) => Err(PrintFault::Cut),
-    }
+    print_waived(alloc, names, telling, most, &none, out)
 }
 
 /// The text of a report for people, by the names of the files of the package, with at most so many findings.

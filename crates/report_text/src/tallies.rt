@@ -56,7 +56,7 @@ fn is_left_on(lack: &RingLack, layer: usize, most: Option<usize>, position: u128
 }
 
 /// One where a test passes, else none.
-fn one_if(passes: bool) -> usize
+pub(crate) fn one_if(passes: bool) -> usize
     ensures value { result ≡ (if passes then 1 else 0) }
     ensures within { result ≤ 1 }
 {

@@ -155,7 +155,7 @@ fn a_limited_report_is_told(rt: HostRuntime) -> Result<(), Fail> {
 /// Whether the line of a hole that lacks its ring is this one.
 fn is_ring_line(rt: HostRuntime, drill: &str, lack: &RingLack, text: &str) -> Result<bool, Fail> {
     let mut written = String::new(rt.alloc());
-    lines::push_ring(&mut written, &["top", drill], lack)?;
+    lines::push_ring(&mut written, &["top", drill], lack, None)?;
     Ok(written.as_str() == text)
 }
 
@@ -326,5 +326,142 @@ fn causes_and_scales_are_told(rt: HostRuntime) -> Result<(), Fail> {
         this board meets ring none, gap 1.046051224; where a pad is, ring 0.275\n\
         FINDINGS 10\n";
     assert!(rt; is_told(rt, &["top", "pth"], &telling, None, text)?);
+    Ok(())
+}
+
+const HOLED: [&str; 2] = ["top_layer", "pth"];
+
+/// The reasons of the rings and of the gaps of a board of three of each.
+const RINGS: [Option<&str>; 3] = [Some("milled"), Some("milled"), Some("by hand")];
+
+const GAPS: [Option<&str>; 3] = [Some("drilled \"twice\""), Some("x"), Some("y")];
+
+/// Tells of a hole that lies in no pad, and that is hit twice.
+fn tell_twice_hit(telling: &mut Telling, number: usize) -> Result<(), Fail> {
+    telling.rings.push(RingLack {
+        layer: 0,
+        at: hole_at(1, number, (0, 0), 400_000_000)?,
+        cause: RingCause::Nothing,
+    })?;
+    telling.gaps.push(GapLack {
+        first: hole_at(1, number, (0, 0), 400_000_000)?,
+        second: hole_at(1, number, (0, 0), 400_000_000)?,
+        gap: -400_000_000,
+        lack: 650_000_000,
+    })?;
+    Ok(())
+}
+
+/// Three holes that lack their ring and three pairs that lack their gap.
+fn three_of_each(alloc: Global) -> Result<Telling, Fail> {
+    let board = meets(100_000_000, -400_000_000);
+    let mut telling = nothing(alloc, 100_000_000, 250_000_000, board)?;
+    telling.layers.push(LayerHead {
+        file: 0,
+        asked: 245,
+    })?;
+    for number in 1..4 {
+        tell_twice_hit(&mut telling, number)?;
+    }
+    Ok(telling)
+}
+
+/// Whether a report with waivers has this text.
+fn is_waived_told(
+    rt: HostRuntime,
+    telling: &Telling,
+    most: Option<usize>,
+    whys: &Whys,
+    text: &str,
+) -> Result<bool, Fail> {
+    let mut written: Vec<u8> = Vec::new(rt.alloc());
+    let answer = print_waived(rt.alloc(), &HOLED, telling, most, whys, &mut written);
+    Ok(answer.is_ok() && written.as_slice() == text.as_bytes())
+}
+
+#[test]
+fn a_board_whose_findings_are_waived_is_told(rt: HostRuntime) -> Result<(), Fail> {
+    let telling = three_of_each(rt.alloc())?;
+    let whys = Whys {
+        rings: &RINGS,
+        gaps: &GAPS,
+        idle: &[8],
+    };
+    let text = "ring 0.1, gap 0.25\n\
+        top_layer: 3 of 245 rings lacking, 3 waived\n  \
+        hole 1 of pth, 0.4 at 0,0: no ring, no pad, waived: milled\n  \
+        hole 2 of pth, 0.4 at 0,0: no ring, no pad, waived: milled\n  \
+        hole 3 of pth, 0.4 at 0,0: no ring, no pad, waived: by hand\n\
+        3 gaps lacking, 3 waived\n  \
+        hole 1 of pth, 0.4 at 0,0, and hole 1 of pth, 0.4 at 0,0: gap -0.4, lacks 0.65, waived: drilled \"twice\"\n  \
+        hole 2 of pth, 0.4 at 0,0, and hole 2 of pth, 0.4 at 0,0: gap -0.4, lacks 0.65, waived: x\n  \
+        hole 3 of pth, 0.4 at 0,0, and hole 3 of pth, 0.4 at 0,0: gap -0.4, lacks 0.65, waived: y\n\
+        3 no pad: no pad reaches the hole's centre: removed or painted pad, plane, other origin or format: see `ringcheck explain none`\n\
+        gaps lack 0.65 to 0.65\n\
+        this board meets ring 0.1, gap -0.4\n\
+        waiver 8 waives nothing\n\
+        WAIVED 6\n";
+    assert!(rt; is_waived_told(rt, &telling, None, &whys, text)?);
+    assert_eq!(rt; count_waived(&telling, &whys), 6);
+    Ok(())
+}
+
+#[test]
+fn a_finding_that_is_not_waived_is_counted(rt: HostRuntime) -> Result<(), Fail> {
+    let telling = three_of_each(rt.alloc())?;
+    let whys = Whys {
+        rings: &[Some("milled"), None, Some("by hand")],
+        gaps: &GAPS,
+        idle: &[2, 9],
+    };
+    let text = "ring 0.1, gap 0.25\n\
+        top_layer: 3 of 245 rings lacking, 2 waived\n  \
+        hole 1 of pth, 0.4 at 0,0: no ring, no pad, waived: milled\n  \
+        hole 2 of pth, 0.4 at 0,0: no ring, no pad\n  \
+        and 1 more\n\
+        3 gaps lacking, 3 waived\n  \
+        and 3 more\n\
+        3 no pad: no pad reaches the hole's centre: removed or painted pad, plane, other origin or format: see `ringcheck explain none`\n\
+        gaps lack 0.65 to 0.65\n\
+        this board meets ring 0.1, gap -0.4\n\
+        waiver 2 waives nothing\n\
+        waiver 9 waives nothing\n\
+        FINDINGS 1\n";
+    assert!(rt; is_waived_told(rt, &telling, Some(2), &whys, text)?);
+    Ok(())
+}
+
+#[test]
+fn a_shorter_list_waives_no_more(rt: HostRuntime) -> Result<(), Fail> {
+    let telling = three_of_each(rt.alloc())?;
+    let whys = Whys {
+        rings: &[],
+        gaps: &[None, Some("milled")],
+        idle: &[],
+    };
+    let text = "ring 0.1, gap 0.25\n\
+        top_layer: 3 of 245 rings lacking\n  \
+        and 3 more\n\
+        3 gaps lacking, 1 waived\n  \
+        and 3 more\n\
+        3 no pad: no pad reaches the hole's centre: removed or painted pad, plane, other origin or format: see `ringcheck explain none`\n\
+        gaps lack 0.65 to 0.65\n\
+        this board meets ring 0.1, gap -0.4\n\
+        FINDINGS 5\n";
+    assert!(rt; is_waived_told(rt, &telling, Some(0), &whys, text)?);
+    Ok(())
+}
+
+#[test]
+fn a_waiver_that_waives_nothing_leaves_a_pass(rt: HostRuntime) -> Result<(), Fail> {
+    let telling = nothing(rt.alloc(), 0, 1, meets(0, 1))?;
+    let whys = Whys {
+        rings: &RINGS,
+        gaps: &[],
+        idle: &[2],
+    };
+    let text =
+        "ring 0, gap 0.000000001\n0 gaps lacking\nthis board meets ring 0, gap 0.000000001\nwaiver 2 waives nothing\nPASS\n";
+    assert!(rt; is_waived_told(rt, &telling, None, &whys, text)?);
     Ok(())
 }

@@ -12,7 +12,7 @@ use std::alloc::AllocError;
 use std::fmt::Write;
 
 /// The name of a file of the package; empty where it has none.
-pub(crate) fn name_of<'a>(names: &[&'a str], file: usize) -> &'a str
+pub fn name_of<'a>(names: &[&'a str], file: usize) -> &'a str
     ensures { result.now ≡ name_of (map (λ name. name.now) names.now) file }
 {
     match names.get(file) {
@@ -63,8 +63,12 @@ fn diameter(hole: &Hole) -> i64
 }
 
 /// Appends the diameter of a hole, and where it is.
+///
+/// # Errors
+///
+/// Where there is no memory.
 #[tactic(auto, unfolding(crate::specs::Texts::drilled_words))]
-fn push_drilled(text: &mut String, hole: &Hole) -> Result<(), AllocError>
+pub fn push_drilled(text: &mut String, hole: &Hole) -> Result<(), AllocError>
     ensures { OnOk result (string_bytes text.new ≡ string_bytes text.old ++ drilled_words hole.now) }
 {
     push_short_mm(text, diameter(hole))?;

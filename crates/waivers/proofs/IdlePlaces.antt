@@ -1,7 +1,8 @@
 -- The waivers that waive nothing, one place after another.
-use Rattle.std.proofs.Common.{◌≡◌, ◌∙◌, ◌+◌, ◌++◌, ◌||◌, ℕ, zero, suc, List, [], ◌∷◌, Bool, true, false, not, cond, arith, refl, ap, sym}
+use Rattle.std.proofs.Common.{◌≡◌, ◌∙◌, ◌+◌, ◌++◌, ◌||◌, ℕ, zero, suc, List, [], ◌∷◌, Bool, true, false, not, cond, map, arith, refl, ap, sym}
 use Rattle.std.specs.Prelude.{if◌then◌else◌}
 use Rattle.std.specs.List.{filter, list_any, range_with_len}
+use Rattle.std.proofs.lemmas.List.{map-append}
 use Rattle.waivers.specs.declared.waiving.Waived.{Waived}
 use Rattle.waivers.specs.Waiving.{idle_of, is_by, is_used}
 
@@ -34,3 +35,16 @@ idle_more waived place before after none had used empty rings gaps was is =
     turned : (b : Bool) → (if b then [] else place ∷ []) ≡ (if not b then place ∷ [] else [])
     turned true = refl
     turned false = refl
+
+-- their numbers, of one more
+pub numbers_more : (waived : Waived) (place : ℕ) (before after : List ℕ) (none had used : Bool) → none ≡ false → had ≡ (none || list_any (is_by place) waived.rings.items) → used ≡ (had || list_any (is_by place) waived.gaps.items)
+    → before ≡ map (λ (n : ℕ). n + 2) (idle_of waived place) → after ≡ before ++ (if used then [] else (place + 2) ∷ []) → after ≡ map (λ (n : ℕ). n + 2) (idle_of waived (place + 1))
+numbers_more waived place before after none had used empty rings gaps was is =
+    let number = λ (n : ℕ). n + 2 in
+    let more : List ℕ = if used then [] else place ∷ [] in
+    let places = idle_more waived place (idle_of waived place) (idle_of waived place ++ more) none had used empty rings gaps refl refl in
+    is ∙ ((λ i. was i ++ numbered used i) ∙ (sym (map-append number (idle_of waived place) more) ∙ ap (map number) places))
+  where
+    numbered : (b : Bool) → (if b then [] else (place + 2) ∷ []) ≡ map (λ (n : ℕ). n + 2) (if b then [] else place ∷ [])
+    numbered true = refl
+    numbered false = refl

@@ -2,3 +2,4 @@ pub mod Firsts
 pub mod IdlePlaces
 pub mod Judging
 pub mod Matches
+pub mod Refusals

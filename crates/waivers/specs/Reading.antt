@@ -1,5 +1,5 @@
 -- What the records of a file of waivers say, and by which rule it is refused.
-use Rattle.std.specs.Prelude.{◌+◌, ◌==◌, ◌&&◌, ◌||◌, ℕ, Bool, not, if◌then◌else◌, List, [], ◌∷◌, length, codes, slice_get, map, Option, Some, None, Result, Ok, Err}
+use Rattle.std.specs.Prelude.{◌+◌, ◌==◌, ◌&&◌, ◌||◌, ℕ, Bool, true, false, not, if◌then◌else◌, List, [], ◌∷◌, length, codes, slice_get, map, Option, Some, None, Result, Ok, Err}
 use Rattle.std.specs.Str.{bytes_eq}
 use Rattle.grid_units.specs.Lists.{breaks}
 use Rattle.grid_units.specs.Results.{fault}
@@ -57,3 +57,10 @@ waivers_of (first ∷ rows) = if is_heading first then waivers_behind rows else 
 -- the waivers of a text, or the first refusal (docs/FORMATS.md, Waivers)
 abbrev pub waivers : List ℕ → Result (List Waiver) Fault
 waivers text = waivers_of (rows_of text)
+
+-- the reasons for which a file of waivers is refused (docs/FORMATS.md, Waivers)
+abbrev pub is_waiver_reason : Reason → Bool
+is_waiver_reason BadManifest = true
+is_waiver_reason BadRole = true
+is_waiver_reason EmptyName = true
+is_waiver_reason _ = false

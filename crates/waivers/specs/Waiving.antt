@@ -1,9 +1,12 @@
 -- Which waiver waives a finding, and which waive nothing.
-use Rattle.std.specs.Prelude.{◌||◌, ◌&&◌, ◌==◌, ℕ, Bool, false, not, List, [], ◌∷◌, Option, Some, None, is_some}
+use Rattle.std.specs.Prelude.{◌≡◌, ◌+◌, ◌||◌, ◌&&◌, ◌==◌, ℕ, Bool, false, not, List, [], ◌∷◌, length, map, slice_get, Option, Some, None, is_some, option_map}
 use Rattle.std.specs.Cmp.Lexicographic.{pointwise}
 use Rattle.std.specs.List.{filter, list_all, list_any, position, range_with_len}
 use Rattle.std.specs.Str.{bytes_eq}
 use Rattle.manifest.specs.Manifest.{Row}
+use Rattle.report_text.specs.declared.Telling.{Telling}
+use Rattle.report_text.specs.declared.Whys.{Whys}
+use Rattle.waivers.specs.Findings.{gap_fields, ring_fields}
 use Rattle.waivers.specs.declared.Waiver.{Waiver}
 use Rattle.waivers.specs.declared.waiving.Waived.{Waived}
 
@@ -18,6 +21,16 @@ waives finding waiver = pointwise bytes_eq (compared waiver) finding
 -- the place from 0 of the first waiver that waives a finding (docs/FORMATS.md, Waivers)
 abbrev pub waived_by : List Waiver → Row → Option ℕ
 waived_by all finding = position (waives finding) all
+
+-- which waiver waives each finding of a report, by the names of the files of the package (docs/FORMATS.md, Waivers)
+pub record IsWaived (all : List Waiver) (names : List (List ℕ)) (told : Telling) (waived : Waived) : Type 0 where
+  pub rings : waived.rings.items ≡ map (λ lack. waived_by all (ring_fields names told.layers.items lack)) told.rings.items
+  pub gaps : waived.gaps.items ≡ map (λ lack. waived_by all (gap_fields names lack)) told.gaps.items
+
+-- why a finding is accepted, by the place of its waiver (docs/FORMATS.md, Waivers)
+abbrev pub reason_at : List Waiver → Option ℕ → Option (List ℕ)
+reason_at all None = None
+reason_at all (Some place) = option_map (λ waiver. waiver.why) (slice_get all place)
 
 -- a finding is waived by the waiver at a place (docs/FORMATS.md, Waivers)
 abbrev pub is_by : ℕ → Option ℕ → Bool
@@ -35,3 +48,13 @@ are_all_waived waived = list_all is_some waived.rings.items && list_all is_some 
 -- the places below a number of the waivers that waive nothing, in order (docs/FORMATS.md, Waivers)
 abbrev pub idle_of : Waived → ℕ → List ℕ
 idle_of waived count = filter (λ place. not (is_used waived place)) (range_with_len 0 count)
+
+-- the numbers of the records of the waivers that waive nothing, the head being 1 (docs/FORMATS.md, Waivers)
+abbrev pub idle_numbers : List Waiver → Waived → List ℕ
+idle_numbers all waived = map (λ place. place + 2) (idle_of waived (length all))
+
+-- what a report tells of waivers: the reason of each finding that is waived, and the waivers that waive nothing (docs/FORMATS.md, Waivers)
+pub record AreReasons (all : List Waiver) (waived : Waived) (whys : Whys) : Type 0 where
+  pub rings : map (option_map (λ why. why.now)) whys.rings.now ≡ map (reason_at all) waived.rings.items
+  pub gaps : map (option_map (λ why. why.now)) whys.gaps.now ≡ map (reason_at all) waived.gaps.items
+  pub idle : whys.idle.now ≡ idle_numbers all waived

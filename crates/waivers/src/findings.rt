@@ -1,13 +1,12 @@
 //! The five fields by which a finding is known.
 
-ghost use Rattle.std.specs.Prelude.{◌≡◌, ◌*◌, ◌++◌, pos, map, IfOk, OnOk, string_bytes};
+ghost use Rattle.std.specs.Prelude.{◌≡◌, ◌++◌, map, IfOk, OnOk, string_bytes};
 ghost use Rattle.printing.specs.Lengths.{short_millimetres};
-ghost use Rattle.report_text.specs.Texts.{drilled_words, ends_words, name_of, point_words};
+ghost use Rattle.report_text.specs.Texts.{name_of};
 ghost use Rattle.waivers.specs.Findings.{gap_fields, has_field, hole_field, layer_field, ring_fields};
 
-use grid_units::{Hole, Point};
 use printing::{push_short_mm, push_words};
-use report_text::{GapLack, HoleAt, LayerHead, RingCause, RingLack};
+use report_text::{GapLack, HoleAt, LayerHead, RingCause, RingLack, name_of, push_drilled};
 use std::alloc::{AllocError, Global};
 use std::marker::Model;
 
@@ -29,16 +28,6 @@ impl Model for Finding {
     ghost view = { λ finding. finding.kind.now ∷ string_bytes finding.layer ∷ string_bytes finding.hole ∷ string_bytes finding.and ∷ string_bytes finding.has ∷ [] };
 }
 
-/// The name of a file of the package; empty where it has none.
-fn name_of<'a>(names: &[&'a str], file: usize) -> &'a str
-    ensures { result.now ≡ name_of (map (λ name. name.now) names.now) file }
-{
-    match names.get(file) {
-        Some(name) => *name,
-        None => "",
-    }
-}
-
 /// The name of a layer's file; empty where the report has no such layer.
 fn layer_name<'a>(names: &[&'a str], layers: &[LayerHead], place: usize) -> &'a str
     ensures { result.now ≡ layer_field (map (λ name. name.now) names.now) layers.now place }
@@ -47,45 +36,6 @@ fn layer_name<'a>(names: &[&'a str], layers: &[LayerHead], place: usize) -> &'a 
         Some(head) => name_of(names, head.file),
         None => "",
     }
-}
-
-/// Appends a point.
-#[tactic(auto, unfolding(report_text::specs::Texts::two_lengths))]
-fn push_point(text: &mut String, at: Point) -> Result<(), AllocError>
-    ensures { OnOk result (string_bytes text.new ≡ string_bytes text.old ++ point_words at) }
-{
-    push_short_mm(text, at.x())?;
-    push_words(text, ",")?;
-    push_short_mm(text, at.y())
-}
-
-/// Appends the centre of a round hole, or both ends of a slot.
-fn push_ends(text: &mut String, hole: &Hole) -> Result<(), AllocError>
-    ensures { OnOk result (string_bytes text.new ≡ string_bytes text.old ++ ends_words hole.now) }
-{
-    push_point(text, hole.from())?;
-    if hole.is_round() {
-        return Ok(());
-    }
-    push_words(text, " to ")?;
-    push_point(text, hole.to())
-}
-
-/// The diameter of a hole.
-fn diameter(hole: &Hole) -> i64
-    ensures { result ≡ pos (2 * hole.now.radius) }
-{
-    2 * hole.radius()
-}
-
-/// Appends the diameter of a hole, and where it is.
-#[tactic(auto, unfolding(report_text::specs::Texts::drilled_words))]
-fn push_drilled(text: &mut String, hole: &Hole) -> Result<(), AllocError>
-    ensures { OnOk result (string_bytes text.new ≡ string_bytes text.old ++ drilled_words hole.now) }
-{
-    push_short_mm(text, diameter(hole))?;
-    push_words(text, " at ")?;
-    push_ends(text, hole)
 }
 
 /// Appends a hole: the name of its drill file, its diameter and where it is.

@@ -10,7 +10,7 @@ ghost use Rattle.waivers.specs.Waiving.{compared};
 
 use crate::Waiver;
 use crate::findings::{Finding, gap_finding, ring_finding};
-use crate::table::Table;
+use manifest::table::Table;
 use report_text::{GapLack, LayerHead, RingLack};
 use std::alloc::{AllocError, Global};
 use std::collections::BTreeMap;

@@ -10,20 +10,20 @@ ghost use Rattle.waivers.specs.Reading.{waivers};
 
 mod findings;
 mod keys;
+pub mod laws;
 mod printed;
 mod reading;
-mod rows;
-mod table;
 #[cfg(test)]
 mod tests;
 mod waiving;
 
 use grid_units::Fail;
 use manifest::Name;
+use manifest::rows::all_rows;
 pub use printed::print_waivers;
 pub use report_text::PrintFault;
 use std::alloc::Global;
-pub use waiving::{Waived, idle, waive};
+pub use waiving::{Waived, idle, reasons, waive};
 
 /// A finding that is accepted, as a file of waivers tells it.
 #[derive(Debug, Drop)]
@@ -57,6 +57,6 @@ pub struct Waiver {
 pub fn read_waivers(alloc: Global, bytes: &[u8]) -> Result<Vec<Waiver>, Fail>
     ensures exact { Answers (λ all. all.items) (λ answer. answer ≡ waivers bytes.now) result }
 {
-    let rows = rows::all_rows(alloc, bytes)?;
+    let rows = all_rows(alloc, bytes)?;
     reading::waivers_of(alloc, rows.as_slice())
 }

@@ -7,7 +7,7 @@ ghost use Rattle.csv.specs.Writing.{default_writer, row_text};
 ghost use Rattle.waivers.specs.Findings.{finding_record, findings_text, gap_fields, head_record, ring_fields};
 
 use crate::findings::{Finding, gap_finding, ring_finding};
-use crate::table::Table;
+use manifest::table::Table;
 use report_text::{GapLack, LayerHead, PrintFault, RingLack, Telling};
 use std::alloc::{AllocError, Global};
 use std::io::Write;

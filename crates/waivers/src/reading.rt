@@ -1,11 +1,9 @@
 //! Which records are waivers, and by which rule the first wrong one is refused.
 
-ghost use Rattle.std.specs.Prelude.{◌≡◌, ◌<◌, length, map, true, false, MatchOption};
-ghost use Rattle.std.specs.List.{list_any};
-ghost use Rattle.std.specs.Str.{bytes_eq};
+ghost use Rattle.std.specs.Prelude.{◌≡◌, map, true, false, MatchOption};
 ghost use Rattle.csv.specs.Records.{fields_of};
 ghost use Rattle.grid_units.specs.Results.{Answers, at, fault};
-ghost use Rattle.manifest.specs.Manifest.{field, is_control, is_plain_text, is_well_formed};
+ghost use Rattle.manifest.specs.Manifest.{field, is_well_formed};
 ghost use Rattle.waivers.specs.Reading as naming;
 ghost use Rattle.waivers.specs.Inner.{judged};
 
@@ -13,8 +11,8 @@ use crate::Waiver;
 use csv::ByteRecord;
 use grid_units::{Fail, Fault, Reason};
 use manifest::Name;
+use manifest::rows::{has_field, text_field};
 use std::alloc::Global;
-use std::str;
 
 /// How many fields each record has.
 const FIELDS: usize = 6;
@@ -109,34 +107,6 @@ fn text_fields<'a>(row: &'a ByteRecord) -> Option<Fields<'a>>
     })
 }
 
-/// A field, if it is plain text. One that the record lacks is empty.
-fn text_field(row: &ByteRecord, i: usize) -> Option<&str>
-    ensures { MatchOption result (is_plain_text (field i (fields_of row.now)) ≡ false)
-        (λ text. (is_plain_text (field i (fields_of row.now)) ≡ true) × (text.now ≡ field i (fields_of row.now))) }
-{
-    match row.get(i) {
-        Some(field) => plain_text(field),
-        None => Some(""),
-    }
-}
-
-/// The text of these bytes, if they are UTF-8 without control bytes.
-fn plain_text(bytes: &[u8]) -> Option<&str>
-    ensures { MatchOption result (is_plain_text bytes.now ≡ false)
-        (λ text. (is_plain_text bytes.now ≡ true) × (text.now ≡ bytes.now)) }
-{
-    let Ok(text) = str::from_utf8(bytes) else {
-        return None;
-    };
-    if has_control(bytes) { None } else { Some(text) }
-}
-
-fn has_control(bytes: &[u8]) -> bool
-    ensures { result ≡ list_any is_control bytes.now }
-{
-    bytes.iter().any(|byte| *byte < 0x20 || *byte == 0x7F)
-}
-
 /// Whether this is the head.
 fn is_heading(row: &ByteRecord) -> bool
     ensures { result ≡ naming.is_heading (fields_of row.now) }
@@ -154,17 +124,6 @@ fn names_reason(row: &ByteRecord) -> bool
     ensures { result ≡ naming.names_reason (fields_of row.now) }
 {
     has_field(row, 3, "and") && has_field(row, 4, "has") && has_field(row, 5, "why")
-}
-
-/// Whether the field at a place is this text.
-fn has_field(row: &ByteRecord, i: usize, text: &str) -> bool
-    requires { 0 < length text.now }
-    ensures { result ≡ bytes_eq (field i (fields_of row.now)) text.now }
-{
-    match row.get(i) {
-        Some(field) => field == text.as_bytes(),
-        None => false,
-    }
 }
 
 /// Whether a word is a kind of finding.

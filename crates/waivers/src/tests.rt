@@ -328,13 +328,14 @@ fn with_reasons(rt: HostRuntime, behind: &str) -> Result<String, AllocError> {
     Ok(text)
 }
 
-/// Which waivers of a file waive the seven findings.
-fn waived_by(rt: HostRuntime, text: &str) -> Result<Waived, Failed> {
+/// The waivers of a file, and which of them waive the seven findings.
+fn waived_by(rt: HostRuntime, text: &str) -> Result<(Vec<Waiver>, Waived), Failed> {
     let told = seven_findings(rt)?;
-    match read_waivers(rt.alloc(), text.as_bytes()) {
-        Ok(read) => Ok(waive(rt.alloc(), &NAMES, &told, read.as_slice())?),
-        Err(_) => Err("refused".into()),
-    }
+    let Ok(read) = read_waivers(rt.alloc(), text.as_bytes()) else {
+        return Err("refused".into());
+    };
+    let waived = waive(rt.alloc(), &NAMES, &told, read.as_slice())?;
+    Ok((read, waived))
 }
 
 #[test]
@@ -342,13 +343,27 @@ fn the_first_waiver_of_a_finding_is_told(rt: HostRuntime) -> Result<(), Failed> 
     let stale = "ring,top_layer,\"pic_programmer-PTH, 0.75 at 142.24,-97.79\",,0.05,seen\n\
         gap,,\"drill, 0.6096 at 50.546,67.31\",\"drill, 0.6096 at 51.181,66.548\",0.382301708,again\n";
     let text = with_reasons(rt, stale)?;
-    let waived = waived_by(rt, text.as_str())?;
+    let (read, waived) = waived_by(rt, text.as_str())?;
     let rings = [Some(0), Some(1), Some(2), Some(3), Some(4), Some(5)];
     assert!(rt; waived.rings.as_slice() == rings.as_slice());
     assert!(rt; waived.gaps.as_slice() == [Some(6)].as_slice());
     assert!(rt; waived.all());
-    let idle = idle(rt.alloc(), &waived, 9)?;
-    assert!(rt; idle.as_slice() == [7, 8].as_slice());
+    let idle = idle(rt.alloc(), &waived, read.as_slice())?;
+    assert!(rt; idle.as_slice() == [9, 10].as_slice());
+    Ok(())
+}
+
+#[test]
+fn a_finding_has_the_reason_of_its_waiver(rt: HostRuntime) -> Result<(), Failed> {
+    let records = "kind,layer,hole,and,has,why\n\
+        gap,,\"drill, 0.6096 at 50.546,67.31\",\"drill, 0.6096 at 51.181,66.548\",0.382301708,as drawn\n\
+        ring,top_layer,\"pic_programmer-PTH, 0.75 at 142.24,-97.79\",,none,rounded pin 1; seen by eye\n";
+    let (read, waived) = waived_by(rt, records)?;
+    let rings = reasons(rt.alloc(), read.as_slice(), waived.rings.as_slice())?;
+    let gaps = reasons(rt.alloc(), read.as_slice(), waived.gaps.as_slice())?;
+    let first = Some("rounded pin 1; seen by eye");
+    assert!(rt; rings.as_slice() == [first, None, None, None, None, None].as_slice());
+    assert!(rt; gaps.as_slice() == [Some("as drawn")].as_slice());
     Ok(())
 }
 
@@ -363,15 +378,15 @@ fn every_field_but_the_reason_is_compared(rt: HostRuntime) -> Result<(), Failed>
     ] {
         let mut text = String::from_str(rt.alloc(), "kind,layer,hole,and,has,why\n")?;
         text.push_str(record)?;
-        let waived = waived_by(rt, text.as_str())?;
+        let (read, waived) = waived_by(rt, text.as_str())?;
         assert!(rt;
             waived.rings.as_slice() == [None; 6].as_slice(),
             "of {record}"
         );
         assert!(rt; waived.gaps.as_slice() == [None].as_slice(), "of {record}");
         assert!(rt; !waived.all());
-        let idle = idle(rt.alloc(), &waived, 1)?;
-        assert!(rt; idle.as_slice() == [0].as_slice(), "of {record}");
+        let idle = idle(rt.alloc(), &waived, read.as_slice())?;
+        assert!(rt; idle.as_slice() == [2].as_slice(), "of {record}");
     }
     Ok(())
 }
@@ -380,6 +395,6 @@ fn every_field_but_the_reason_is_compared(rt: HostRuntime) -> Result<(), Failed>
 fn a_report_without_findings_is_waived(rt: HostRuntime) -> Result<(), Failed> {
     let waived = waive(rt.alloc(), &NAMES, &no_findings(rt)?, &[])?;
     assert!(rt; waived.all());
-    assert_eq!(rt; idle(rt.alloc(), &waived, 0)?.len(), 0);
+    assert_eq!(rt; idle(rt.alloc(), &waived, &[])?.len(), 0);
     Ok(())
 }

@@ -1,10 +1,11 @@
 //! Which findings are waived, and which waivers waive nothing.
 
-ghost use Rattle.std.specs.Prelude.{◌≡◌, ◌||◌, ◌++◌, ◌∷◌, [], ℕ, IfOk, OnOk, map, is_some, if◌then◌else◌};
+ghost use Rattle.std.specs.Prelude.{◌≡◌, ◌+◌, ◌||◌, ◌++◌, ◌∷◌, [], ℕ, IfOk, OnOk, map, is_some, option_map, if◌then◌else◌};
 ghost use Rattle.std.specs.List.{list_all, list_any};
 ghost use Rattle.waivers.specs.Findings.{gap_fields, ring_fields};
 ghost use Rattle.waivers.specs.Inner.{has_place};
-ghost use Rattle.waivers.specs.Waiving.{are_all_waived, idle_of, is_by, waived_by};
+ghost use Rattle.waivers.specs.Waiving as naming;
+ghost use Rattle.waivers.specs.Waiving.{are_all_waived, idle_numbers, is_by, waived_by};
 
 use crate::Waiver;
 use crate::keys::{first_places, gap_keys, places_of, ring_keys, waiver_keys};
@@ -35,6 +36,33 @@ fn are_some(places: &[Option<usize>]) -> bool
     ensures { result ≡ list_all is_some places.now }
 {
     places.iter().all(|place| place.is_some())
+}
+
+/// Why the finding of the waiver at a place is accepted.
+fn reason_at(waivers: &[Waiver], place: Option<usize>) -> Option<&str>
+    ensures { option_map (λ why. why.now) result ≡ naming.reason_at waivers.now place }
+{
+    let waiver = waivers.get(place?)?;
+    Some(waiver.why.as_str())
+}
+
+/// Why each finding is accepted, by the index of its waiver.
+///
+/// # Errors
+///
+/// An `AllocError` where there is no memory.
+pub fn reasons<'a>(
+    alloc: Global,
+    waivers: &'a [Waiver],
+    places: &[Option<usize>],
+) -> Result<Vec<Option<&'a str>>, AllocError>
+    ensures { IfOk result (λ whys. map (option_map (λ why. why.now)) whys.items ≡ map (naming.reason_at waivers.entry.now) places.now) }
+{
+    let mut whys = Vec::new(alloc);
+    for place in places {
+        whys.push(reason_at(waivers, *place))?;
+    }
+    Ok(whys)
 }
 
 /// Which waiver waives each finding of a report, by the names of the files of the package: the first whose first five fields are
@@ -74,31 +102,36 @@ fn add_used(used: &mut BTreeSet<usize>, places: &[Option<usize>]) -> Result<(), 
     Ok(())
 }
 
-/// Adds a waiver that waives nothing.
-fn push_idle(idle: &mut Vec<usize>, used: &BTreeSet<usize>, place: usize) -> Result<(), AllocError>
-    ensures { OnOk result (idle.new.items ≡ idle.old.items ++ (if has_place used.now place then [] else place ∷ [])) }
+/// Adds the number of the record of a waiver that waives nothing.
+fn push_idle(
+    idle: &mut Vec<usize>,
+    used: &BTreeSet<usize>,
+    place: usize,
+    number: usize,
+) -> Result<(), AllocError>
+    ensures { OnOk result (idle.new.items ≡ idle.old.items ++ (if has_place used.now place then [] else number ∷ [])) }
 {
     if used.contains(&place) {
         return Ok(());
     }
-    idle.push(place)?;
+    idle.push(number)?;
     Ok(())
 }
 
-/// The indexes below `count` of the waivers that waive nothing, in order.
+/// The numbers of the records of the waivers that waive nothing, in order; the head of their file is the record 1.
 ///
 /// # Errors
 ///
 /// An `AllocError` where there is no memory.
-pub fn idle(alloc: Global, waived: &Waived, count: usize) -> Result<Vec<usize>, AllocError>
-    ensures { IfOk result (λ places. places.items ≡ idle_of waived.now count) }
+pub fn idle(alloc: Global, waived: &Waived, waivers: &[Waiver]) -> Result<Vec<usize>, AllocError>
+    ensures { IfOk result (λ numbers. numbers.items ≡ idle_numbers waivers.now waived.now) }
 {
     let mut used = BTreeSet::new(alloc);
     add_used(&mut used, waived.rings.as_slice())?;
     add_used(&mut used, waived.gaps.as_slice())?;
     let mut idle = Vec::new(alloc);
-    for place in 0..count {
-        push_idle(&mut idle, &used, place)?;
+    for place in 0..waivers.len() {
+        push_idle(&mut idle, &used, place, place + 2)?;
     }
     Ok(idle)
 }

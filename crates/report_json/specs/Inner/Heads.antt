@@ -1,5 +1,6 @@
 -- The tokens of a measure and of a report, part by part.
 use Rattle.std.specs.Prelude.{ℕ, ◌++◌, List, [], ◌∷◌, codes, Option}
+use Rattle.std.specs.Borrow.{Bor}
 use Rattle.std.specs.List.{flat_map}
 use Rattle.json.specs.Token.{Token}
 use Rattle.json.specs.Tree.{json_tokens}
@@ -13,8 +14,8 @@ use Rattle.report_text.specs.declared.LayerHead.{LayerHead}
 use Rattle.report_text.specs.declared.RingLack.{RingLack}
 use Rattle.report_text.specs.declared.Telling.{Telling}
 use Rattle.report_json.specs.Inner.Parts.{member_tokens, members_tokens}
-use Rattle.report_json.specs.Packages.{file_values, opening, result_word}
-use Rattle.report_json.specs.Values.{gap_value, if_there, least_gap_value, meets_value, ring_value, rules_value, scale_value}
+use Rattle.report_json.specs.Packages.{file_values, gap_values, opening, ring_values, told_result}
+use Rattle.report_json.specs.Values.{if_there, least_gap_value, meets_value, rules_value, scale_value}
 
 -- the name of a member whose array begins
 abbrev pub array_begin : List ℕ → List Token
@@ -25,9 +26,9 @@ abbrev pub next_array : List ℕ → List Token
 next_array name = Token.end_array ∷ array_begin name
 
 -- a report up to its files
-unfoldable pub telling_head : Telling → List Token
-telling_head telling =
-    Token.begin_object ∷ (members_tokens (opening (result_word telling.rings.items telling.gaps.items))
+unfoldable pub telling_head : Telling → List (Option (Bor (List ℕ))) → List (Option (Bor (List ℕ))) → List Token
+telling_head telling rings gaps =
+    Token.begin_object ∷ (members_tokens (opening (told_result telling rings gaps))
     ++ (member_tokens (codes "rules") (rules_value telling.rules) ++ (member_tokens (codes "meets") (meets_value telling.meets) ++ array_begin (codes "files"))))
 
 -- a measure up to its files
@@ -41,8 +42,8 @@ list_tokens names files scales name =
     flat_map json_tokens (file_values names files) ++ (next_array (codes "scales") ++ (flat_map (λ line. json_tokens (scale_value line)) scales ++ next_array name))
 
 -- the findings of a report
-abbrev pub finding_tokens : List LayerHead → List RingLack → List GapLack → List Token
-finding_tokens layers rings gaps = flat_map (λ lack. json_tokens (ring_value layers lack)) rings ++ flat_map (λ lack. json_tokens (gap_value lack)) gaps
+abbrev pub finding_tokens : List LayerHead → List RingLack → List GapLack → List (Option (Bor (List ℕ))) → List (Option (Bor (List ℕ))) → List Token
+finding_tokens layers rings gaps of_rings of_gaps = flat_map json_tokens (ring_values layers rings of_rings) ++ flat_map json_tokens (gap_values gaps of_gaps)
 
 -- the end of a report
 abbrev pub telling_end : List Token

@@ -6,6 +6,6 @@ pub returns-clause-parts : goal.returns-clause-parts
 returns-clause-parts g c =
     let told = g.W.Write.contents in
     let rings = c.in_ok-told.told in
-    IfOk-weaker c.gather_all-2.result _ _
-    (λ x e. prints_more (told c.args.out.now) (told c.gather_all.new.out) (told c.gather_all-2.new.out) c.args.part.text.items rings.text.items x.text.items c.args.part.ended rings.ended x.ended _ _ c.in_ok-told.ensures.parts e)
-    c.gather_all-2.ensures.parts
+    IfOk-weaker c.gather_gaps.result _ _
+    (λ x e. prints_more (told c.args.out.now) (told c.gather_rings.new.out) (told c.gather_gaps.new.out) c.args.part.text.items rings.text.items x.text.items c.args.part.ended rings.ended x.ended _ _ c.in_ok-told.ensures.parts e)
+    c.gather_gaps.ensures.parts

@@ -20,9 +20,9 @@ returns g c =
     let s2 = string_bytes c.gather_layers.new.text in
     let s3 = string_bytes c.gather_all_gaps.new.text in
     let layers = subst (λ (t : List ℕ). PassesOn (told c.gather_rules.new.out) s1 (told c.gather_layers.new.out) s2 t)
-    (ap₂ (λ (r : List RingLack) (l : List LayerHead). flat_map (layer_text names most r) (enumerate_from 0 l)) rings c.deref.ensures.value) c.in_ok-gather_layers.ensures in
+    (ap₂ (λ (r : List RingLack) (l : List LayerHead). flat_map (layer_text names most r c.args.whys.now.rings.now) (enumerate_from 0 l)) rings c.deref.ensures.value) c.in_ok-gather_layers.ensures in
     on_ok_weaker c.gather_all_gaps.result
     (λ e. passes_three (told c.args.out.now) (told c.gather_rules.new.out) (told c.gather_layers.new.out) (told c.gather_all_gaps.new.out) (string_bytes c.args.text.now) s1 s2 s3 _ _ _ c.in_ok-gather_rules.ensures layers
     (subst (λ (t : List ℕ). PassesOn (told c.gather_layers.new.out) s2 (told c.gather_all_gaps.new.out) s3 t)
-    (ap₂ (λ (n : ℕ) (l : List GapLack). gaps_text names most n l) (ap length rings) c.deref-2.ensures.value) e))
+    (ap₂ (λ (n : ℕ) (l : List GapLack). gaps_text names most n l c.args.whys.now.gaps.now) (ap length rings) c.deref-2.ensures.value) e))
     c.gather_all_gaps.ensures

@@ -1,10 +1,10 @@
 use Rattle.std.proofs.Common.{map, take}
-use Rattle.std.specs.Prelude.{string_bytes}
+use Rattle.std.specs.Prelude.{◌-◌, string_bytes}
 use Rattle.std.specs.List.{enumerate_from, filter, flat_map}
 use Rattle.printing.specs.Parts.{PassesOn}
-use Rattle.report_text.specs.Texts.{gap_line, is_shown}
+use Rattle.report_text.specs.Texts.{gap_line, is_shown, why_at}
 use Rattle.report_text.proofs.report.gather_gaps.Given as goal
 
 abbrev pub invariant-loop-i : goal.invariant-loop-i
 invariant-loop-i g l =
-    PassesOn (g.W.Write.contents l.fn.out) (string_bytes l.fn.text) (g.W.Write.contents l.out) (string_bytes l.text) (flat_map (λ finding. gap_line (map (λ name. name.now) l.names) finding.1) (filter (λ finding. is_shown l.most finding.0) (take l.i (enumerate_from l.rings l.gaps))))
+    PassesOn (g.W.Write.contents l.fn.out) (string_bytes l.fn.text) (g.W.Write.contents l.out) (string_bytes l.text) (flat_map (λ finding. gap_line (map (λ name. name.now) l.names) finding.1 (why_at l.whys (finding.0 - l.rings))) (filter (λ finding. is_shown l.most finding.0) (take l.i (enumerate_from l.rings l.gaps))))

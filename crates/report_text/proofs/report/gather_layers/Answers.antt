@@ -15,12 +15,12 @@ loop-i-preserved g c =
     let names : List (List ℕ) = map (λ name. name.now) c.args.names.now in
     let first = string_bytes c.args.text.now in
     let last = string_bytes c.gather_layer.new.text in
-    subst (λ (t : List ℕ). PassesOn (told c.args.out.now) first (told c.gather_layer.new.out) last t) (sym (layers_more (layer_text names c.args.most c.args.rings.now) all i _ c.loop-i-test.true))
-    (passes_more (told c.args.out.now) (told c.loop-i.out) (told c.gather_layer.new.out) first (string_bytes c.loop-i.text) last (flat_map (layer_text names c.args.most c.args.rings.now) (take i (enumerate_from 0 all))) _ c.loop-i.invariant c.in_ok-gather_layer.ensures)
+    subst (λ (t : List ℕ). PassesOn (told c.args.out.now) first (told c.gather_layer.new.out) last t) (sym (layers_more (layer_text names c.args.most c.args.rings.now c.args.whys.now) all i _ c.loop-i-test.true))
+    (passes_more (told c.args.out.now) (told c.loop-i.out) (told c.gather_layer.new.out) first (string_bytes c.loop-i.text) last (flat_map (layer_text names c.args.most c.args.rings.now c.args.whys.now) (take i (enumerate_from 0 all))) _ c.loop-i.invariant c.in_ok-gather_layer.ensures)
 
 pub returns : goal.returns
 returns g c =
     let told = g.W.Write.contents in
     let names : List (List ℕ) = map (λ name. name.now) c.args.names.now in
     subst (λ (t : List ℕ). PassesOn (told c.args.out.now) (string_bytes c.args.text.now) (told c.loop-i.out) (string_bytes c.loop-i.text) t)
-    (ap (flat_map (layer_text names c.args.most c.args.rings.now)) (marks_all 0 c.args.layers.now c.loop-i.i c.loop-i-test.false)) c.loop-i.invariant
+    (ap (flat_map (layer_text names c.args.most c.args.rings.now c.args.whys.now)) (marks_all 0 c.args.layers.now c.loop-i.i c.loop-i-test.false)) c.loop-i.invariant

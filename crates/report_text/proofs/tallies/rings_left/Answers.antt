@@ -2,7 +2,7 @@ use Rattle.std.proofs.Common.{◌∙◌, ◌+◌, ℕ, Bool, ap, ap₂, arith, s
 use Rattle.std.specs.Prelude.{◌==◌, ◌&&◌, not, if◌then◌else◌}
 use Rattle.report_text.specs.declared.RingLack.{RingLack}
 use Rattle.report_text.specs.Texts.{is_shown}
-use Rattle.report_text.proofs.Showing.{marks_all, rings_hidden, rings_left_more}
+use Rattle.report_text.proofs.Showing.{marks_all, rings_counted, rings_counted_more}
 use Rattle.report_text.proofs.tallies.rings_left.Goals as goal
 
 pub loop-i-preserved : goal.loop-i-preserved
@@ -14,8 +14,8 @@ loop-i-preserved c =
     record {
       within = omega (arith, c.loop-i.invariant.within, c.one_if-left.ensures.within);
       counted = ap₂ (λ (a b : ℕ). a + b) c.loop-i.invariant.counted (c.one_if-left.ensures.value ∙ ap (λ (b : Bool). if b then 1 else 0) left)
-          ∙ sym (rings_left_more layer most c.args.rings.now i c.index-rings-i.result c.loop-i-test.true);
+          ∙ sym (rings_counted_more (λ (n : ℕ). not (is_shown most n)) layer c.args.rings.now i c.index-rings-i.result c.loop-i-test.true);
     }
 
 pub returns : goal.returns
-returns c = c.loop-i.invariant.counted ∙ ap (rings_hidden c.args.layer c.args.most) (marks_all 0 c.args.rings.now c.loop-i.i c.loop-i-test.false)
+returns c = c.loop-i.invariant.counted ∙ ap (rings_counted (λ (n : ℕ). not (is_shown c.args.most n)) c.args.layer) (marks_all 0 c.args.rings.now c.loop-i.i c.loop-i-test.false)
