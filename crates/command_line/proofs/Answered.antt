@@ -8,7 +8,7 @@ use Rattle.command_line.specs.declared.Request.{Request}
 use Rattle.command_line.specs.declared.Refusal.{Refusal}
 use Rattle.command_line.specs.declared.Refusal.TheVariants.{Help, Version, Usage, Memory}
 use Rattle.command_line.specs.Line.{AnswersLine, AsksFor, ringcheck_app}
-use Rattle.command_line.specs.Steps.{IsRefusalFor}
+use Rattle.command_line.specs.Inner.Steps.{IsRefusalFor}
 
 pub asked : (a : App) (words : List Text) (rows : Option (Text × List Row)) (request : Request) → a ≡ ringcheck_app → fault_of a words ≡ [] → rows ≡ subcommand_of a words
     → AsksFor rows request → AnswersLine words (Ok request)

@@ -10,7 +10,7 @@ use Rattle.clap.proofs.OnLiterals.{clap_on_literals}
 use Rattle.command_line.specs.declared.Refusal.{Refusal}
 use Rattle.command_line.specs.declared.Refusal.TheVariants.{Help, Version, Usage, Memory}
 use Rattle.command_line.specs.Line.{AnswersVersion, check_app, explain_words, is_plain_word, ringcheck_app}
-use Rattle.command_line.specs.Steps.{IsRefusalFor}
+use Rattle.command_line.specs.Inner.Steps.{IsRefusalFor}
 use Rattle.command_line.proofs.Behind.{GoesByPlain, IsNamed, Runs, given, goes_last, is_found, is_taken, passes_end, standing}
 
 -- the subcommand, as the program's command is built

@@ -57,12 +57,22 @@ after_most r g (Some n) = standing (given (codes "ring") r ∷ given (codes "gap
 abbrev rows_to_most : Text → Text → Option Text → List Row
 rows_to_most r g n = given (codes "ring") r ∷ given (codes "gap") g ∷ given_if_some (codes "max") n
 
-abbrev wants_format : Text → Text → Option Text → Walk
-wants_format r g n = standing (rows_to_most r g n) (Some (codes "format", [])) (waits_for (codes "format")) 1
+abbrev wants_waive : Text → Text → Option Text → Walk
+wants_waive r g n = standing (rows_to_most r g n) (Some (codes "waive", [])) (waits_for (codes "waive")) 1
 
-abbrev after_format : Text → Text → Option Text → Option Text → Walk
-after_format r g n None = after_most r g n
-after_format r g n (Some f) = standing (rows_to_most r g n) (Some (codes "format", f ∷ [])) idle 1
+abbrev after_waive : Text → Text → Option Text → Option Text → Walk
+after_waive r g n None = after_most r g n
+after_waive r g n (Some l) = standing (rows_to_most r g n) (Some (codes "waive", l ∷ [])) idle 1
+
+abbrev rows_to_waive : Text → Text → Option Text → Option Text → List Row
+rows_to_waive r g n l = given (codes "ring") r ∷ given (codes "gap") g ∷ (given_if_some (codes "max") n ++ given_if_some (codes "waive") l)
+
+abbrev wants_format : Text → Text → Option Text → Option Text → Walk
+wants_format r g n l = standing (rows_to_waive r g n l) (Some (codes "format", [])) (waits_for (codes "format")) 1
+
+abbrev after_format : Text → Text → Option Text → Option Text → Option Text → Walk
+after_format r g n l None = after_waive r g n l
+after_format r g n l (Some f) = standing (rows_to_waive r g n l) (Some (codes "format", f ∷ [])) idle 1
 
 to_most : (r g : Text) → Goes reporting (has_gap r g) (codes "--max") (wants_most r g)
 unfolding clap_on_literals
@@ -72,86 +82,122 @@ most : (r g : Text) → GoesByPlain reporting (wants_most r g) (λ w. after_most
 unfolding clap_on_literals
 most r g x xs p = (rw (p, p) refl, rw (p, p) refl)
 
-to_format : (r g : Text) (n : Option Text) → Goes reporting (after_most r g n) (codes "--format") (wants_format r g n)
+to_waive : (r g : Text) (n : Option Text) → Goes reporting (after_most r g n) (codes "--waive") (wants_waive r g n)
 unfolding clap_on_literals
-to_format r g None = (refl, refl)
-to_format r g (Some n) = (refl, refl)
+to_waive r g None = (refl, refl)
+to_waive r g (Some n) = (refl, refl)
 
-format : (r g : Text) (n : Option Text) → GoesByPlain reporting (wants_format r g n) (λ w. after_format r g n (Some w))
+waive : (r g : Text) (n : Option Text) → GoesByPlain reporting (wants_waive r g n) (λ w. after_waive r g n (Some w))
 unfolding clap_on_literals
-format r g n x xs p = (rw (p, p) refl, rw (p, p) refl)
+waive r g n x xs p = (rw (p, p) refl, rw (p, p) refl)
+
+to_format : (r g : Text) (n l : Option Text) → Goes reporting (after_waive r g n l) (codes "--format") (wants_format r g n l)
+unfolding clap_on_literals
+to_format r g None None = (refl, refl)
+to_format r g None (Some l) = (refl, refl)
+to_format r g (Some n) None = (refl, refl)
+to_format r g (Some n) (Some l) = (refl, refl)
+
+format : (r g : Text) (n l : Option Text) → GoesByPlain reporting (wants_format r g n l) (λ w. after_format r g n l (Some w))
+unfolding clap_on_literals
+format r g n l x xs p = (rw (p, p) refl, rw (p, p) refl)
 
 -- ---- the manifest
 
-abbrev after_manifest : Text → Text → Option Text → Option Text → Text → Walk
-after_manifest r g n o m = standing (given (codes "ring") r ∷ given (codes "gap") g ∷ (given_if_some (codes "max") n ++ given_if_some (codes "format") o)) (Some (codes "manifest", m ∷ [])) idle 2
+abbrev after_manifest : Text → Text → Option Text → Option Text → Option Text → Text → Walk
+after_manifest r g n l o m =
+    standing (given (codes "ring") r ∷ given (codes "gap") g ∷ (given_if_some (codes "max") n ++ (given_if_some (codes "waive") l ++ given_if_some (codes "format") o)))
+    (Some (codes "manifest", m ∷ [])) idle 2
 
-manifest : (r g : Text) (n o : Option Text) → GoesByPlain reporting (after_format r g n o) (after_manifest r g n o)
+manifest : (r g : Text) (n l o : Option Text) → GoesByPlain reporting (after_format r g n l o) (after_manifest r g n l o)
 unfolding clap_on_literals
-manifest r g None None x xs p = (rw (p, p) refl, rw (p, p) refl)
-manifest r g None (Some f) x xs p = (rw (p, p) refl, rw (p, p) refl)
-manifest r g (Some n) None x xs p = (rw (p, p) refl, rw (p, p) refl)
-manifest r g (Some n) (Some f) x xs p = (rw (p, p) refl, rw (p, p) refl)
+manifest r g None None None x xs p = (rw (p, p) refl, rw (p, p) refl)
+manifest r g None None (Some f) x xs p = (rw (p, p) refl, rw (p, p) refl)
+manifest r g None (Some l) None x xs p = (rw (p, p) refl, rw (p, p) refl)
+manifest r g None (Some l) (Some f) x xs p = (rw (p, p) refl, rw (p, p) refl)
+manifest r g (Some n) None None x xs p = (rw (p, p) refl, rw (p, p) refl)
+manifest r g (Some n) None (Some f) x xs p = (rw (p, p) refl, rw (p, p) refl)
+manifest r g (Some n) (Some l) None x xs p = (rw (p, p) refl, rw (p, p) refl)
+manifest r g (Some n) (Some l) (Some f) x xs p = (rw (p, p) refl, rw (p, p) refl)
 
 -- ---- all words behind the name
 
 abbrev format_values : Option Text → Text → List Text
 format_values o m = option_words (codes "--format") o ++ m ∷ []
 
-abbrev most_values : Option Text → Option Text → Text → List Text
-most_values n o m = option_words (codes "--max") n ++ format_values o m
+abbrev waive_values : Option Text → Option Text → Text → List Text
+waive_values l o m = option_words (codes "--waive") l ++ format_values o m
 
-abbrev values : Text → Text → Option Text → Option Text → Text → List Text
-values r g n o m = codes "--ring" ∷ r ∷ codes "--gap" ∷ g ∷ most_values n o m
+abbrev most_values : Option Text → Option Text → Option Text → Text → List Text
+most_values n l o m = option_words (codes "--max") n ++ waive_values l o m
 
-module _ (r g : Text) (n o : Option Text) (m : Text) where
+abbrev values : Text → Text → Option Text → Option Text → Option Text → Text → List Text
+values r g n l o m = codes "--ring" ∷ r ∷ codes "--gap" ∷ g ∷ most_values n l o m
+
+module _ (r g : Text) (n l o : Option Text) (m : Text) where
   abbrev end : Walk
-  end = after_manifest r g n o m
+  end = after_manifest r g n l o m
 
-  runs : is_plain_word r ≡ true → is_plain_word g ≡ true → is_plain_if_some n ≡ true → is_plain_if_some o ≡ true → is_plain_word m ≡ true
-      → Runs reporting (walk_from nothing_held) (values r g n o m) end
-  runs p q t u s =
-      goes_by reporting (codes "--ring") r (walk_from nothing_held) wants_ring has_ring (codes "--gap" ∷ g ∷ most_values n o m) end to_ring ring p
-      (goes_by reporting (codes "--gap") g (has_ring r) (wants_gap r) (has_gap r) (most_values n o m) end (to_gap r) (gap r) q
-      (goes_if_some reporting (codes "--max") n (wants_most r g) (after_most r g) (format_values o m) end (to_most r g) (most r g) t
-      (goes_if_some reporting (codes "--format") o (wants_format r g n) (after_format r g n) (m ∷ []) end (to_format r g n) (format r g n) u
-      (goes_last reporting m (after_format r g n o) (after_manifest r g n o) (manifest r g n o) s))))
+  runs : is_plain_word r ≡ true → is_plain_word g ≡ true → is_plain_if_some n ≡ true → is_plain_if_some l ≡ true → is_plain_if_some o ≡ true → is_plain_word m ≡ true
+      → Runs reporting (walk_from nothing_held) (values r g n l o m) end
+  runs p q t v u s =
+      goes_by reporting (codes "--ring") r (walk_from nothing_held) wants_ring has_ring (codes "--gap" ∷ g ∷ most_values n l o m) end to_ring ring p
+      (goes_by reporting (codes "--gap") g (has_ring r) (wants_gap r) (has_gap r) (most_values n l o m) end (to_gap r) (gap r) q
+      (goes_if_some reporting (codes "--max") n (wants_most r g) (after_most r g) (waive_values l o m) end (to_most r g) (most r g) t
+      (goes_if_some reporting (codes "--waive") l (wants_waive r g n) (after_waive r g n) (format_values o m) end (to_waive r g n) (waive r g n) v
+      (goes_if_some reporting (codes "--format") o (wants_format r g n l) (after_format r g n l) (m ∷ []) end (to_format r g n l) (format r g n l) u
+      (goes_last reporting m (after_format r g n l o) (after_manifest r g n l o) (manifest r g n l o) s)))))
 
 -- ---- its end
 
-end_passes : (r g : Text) (n o : Option Text) (m : Text) → passes_end reporting (after_manifest r g n o m).held ≡ true
+end_passes : (r g : Text) (n l o : Option Text) (m : Text) → passes_end reporting (after_manifest r g n l o m).held ≡ true
 unfolding clap_on_literals
-end_passes r g None None m = refl
-end_passes r g None (Some f) m = refl
-end_passes r g (Some n) None m = refl
-end_passes r g (Some n) (Some f) m = refl
+end_passes r g None None None m = refl
+end_passes r g None None (Some f) m = refl
+end_passes r g None (Some l) None m = refl
+end_passes r g None (Some l) (Some f) m = refl
+end_passes r g (Some n) None None m = refl
+end_passes r g (Some n) None (Some f) m = refl
+end_passes r g (Some n) (Some l) None m = refl
+end_passes r g (Some n) (Some l) (Some f) m = refl
 
 -- the rows of the values
-abbrev pub rows_of_report : Text → Text → Option Text → Option Text → Text → List Row
-rows_of_report r g n o m =
-    given (codes "ring") r ∷ given (codes "gap") g ∷ (given_if_some (codes "max") n ++ (given_if_some (codes "format") o ++ given (codes "manifest") m ∷ []))
+abbrev pub rows_of_report : Text → Text → Option Text → Option Text → Option Text → Text → List Row
+rows_of_report r g n l o m =
+    given (codes "ring") r ∷ given (codes "gap") g
+    ∷ (given_if_some (codes "max") n ++ (given_if_some (codes "waive") l ++ (given_if_some (codes "format") o ++ given (codes "manifest") m ∷ [])))
 
-end_rows : (r g : Text) (n o : Option Text) (m : Text) → finished reporting.rules (after_manifest r g n o m).held ≡ rows_of_report r g n o m
+end_rows : (r g : Text) (n l o : Option Text) (m : Text) → finished reporting.rules (after_manifest r g n l o m).held ≡ rows_of_report r g n l o m
 unfolding clap_on_literals
-end_rows r g None None m = refl
-end_rows r g None (Some f) m = refl
-end_rows r g (Some n) None m = refl
-end_rows r g (Some n) (Some f) m = refl
+end_rows r g None None None m = refl
+end_rows r g None None (Some f) m = refl
+end_rows r g None (Some l) None m = refl
+end_rows r g None (Some l) (Some f) m = refl
+end_rows r g (Some n) None None m = refl
+end_rows r g (Some n) None (Some f) m = refl
+end_rows r g (Some n) (Some l) None m = refl
+end_rows r g (Some n) (Some l) (Some f) m = refl
 
 -- the words of `report` are taken
-pub report_taken : (r g : Text) (n o : Option Text) (m : Text) → is_plain_word r ≡ true → is_plain_word g ≡ true → is_plain_if_some n ≡ true → is_plain_if_some o ≡ true → is_plain_word m ≡ true
-    → takes ringcheck_app (report_words r g n o m) ≡ true
-report_taken r g n o m p q t u s = is_taken reporting (codes "report") named (values r g n o m) (after_manifest r g n o m) (runs r g n o m p q t u s) (end_passes r g n o m)
+pub report_taken : (r g : Text) (n l o : Option Text) (m : Text) → is_plain_word r ≡ true → is_plain_word g ≡ true → is_plain_if_some n ≡ true → is_plain_if_some l ≡ true → is_plain_if_some o ≡ true
+    → is_plain_word m ≡ true → takes ringcheck_app (report_words r g n l o m) ≡ true
+report_taken r g n l o m p q t v u s =
+    is_taken reporting (codes "report") named (values r g n l o m) (after_manifest r g n l o m) (runs r g n l o m p q t v u s) (end_passes r g n l o m)
 
 -- and give these rows
-pub report_found : (r g : Text) (n o : Option Text) (m : Text) → is_plain_word r ≡ true → is_plain_word g ≡ true → is_plain_if_some n ≡ true → is_plain_if_some o ≡ true → is_plain_word m ≡ true
-    → subcommand_of ringcheck_app (report_words r g n o m) ≡ Some (codes "report", rows_of_report r g n o m)
-report_found r g n o m p q t u s =
-    is_found reporting (codes "report") named (values r g n o m) (after_manifest r g n o m) (runs r g n o m p q t u s) (rows_of_report r g n o m) (end_rows r g n o m)
+pub report_found : (r g : Text) (n l o : Option Text) (m : Text) → is_plain_word r ≡ true → is_plain_word g ≡ true → is_plain_if_some n ≡ true → is_plain_if_some l ≡ true → is_plain_if_some o ≡ true
+    → is_plain_word m ≡ true → subcommand_of ringcheck_app (report_words r g n l o m) ≡ Some (codes "report", rows_of_report r g n l o m)
+report_found r g n l o m p q t v u s =
+    is_found reporting (codes "report") named (values r g n l o m) (after_manifest r g n l o m) (runs r g n l o m p q t v u s) (rows_of_report r g n l o m) (end_rows r g n l o m)
 
-pub report_has : (r g : Text) (n o : Option Text) (m : Text) → (first_of (codes "ring") (rows_of_report r g n o m) ≡ Some r) × (first_of (codes "gap") (rows_of_report r g n o m) ≡ Some g)
-    × (first_of (codes "max") (rows_of_report r g n o m) ≡ n) × (first_of (codes "format") (rows_of_report r g n o m) ≡ o) × (first_of (codes "manifest") (rows_of_report r g n o m) ≡ Some m)
-report_has r g None None m = (refl, refl, refl, refl, refl)
-report_has r g None (Some f) m = (refl, refl, refl, refl, refl)
-report_has r g (Some n) None m = (refl, refl, refl, refl, refl)
-report_has r g (Some n) (Some f) m = (refl, refl, refl, refl, refl)
+pub report_has : (r g : Text) (n l o : Option Text) (m : Text) → (first_of (codes "ring") (rows_of_report r g n l o m) ≡ Some r) × (first_of (codes "gap") (rows_of_report r g n l o m) ≡ Some g)
+    × (first_of (codes "max") (rows_of_report r g n l o m) ≡ n) × (first_of (codes "waive") (rows_of_report r g n l o m) ≡ l)
+    × (first_of (codes "format") (rows_of_report r g n l o m) ≡ o) × (first_of (codes "manifest") (rows_of_report r g n l o m) ≡ Some m)
+report_has r g None None None m = (refl, refl, refl, refl, refl, refl)
+report_has r g None None (Some f) m = (refl, refl, refl, refl, refl, refl)
+report_has r g None (Some l) None m = (refl, refl, refl, refl, refl, refl)
+report_has r g None (Some l) (Some f) m = (refl, refl, refl, refl, refl, refl)
+report_has r g (Some n) None None m = (refl, refl, refl, refl, refl, refl)
+report_has r g (Some n) None (Some f) m = (refl, refl, refl, refl, refl, refl)
+report_has r g (Some n) (Some l) None m = (refl, refl, refl, refl, refl, refl)
+report_has r g (Some n) (Some l) (Some f) m = (refl, refl, refl, refl, refl, refl)

@@ -4,7 +4,7 @@ use Rattle.clap.specs.Words.{Row, Text, is_simple, is_simple_and_free, subcomman
 use Rattle.clap.specs.Walk.{Walk, finished, idle, nothing_held, walk_from, option as waits_for}
 use Rattle.clap.specs.Simple.{Shape, built}
 use Rattle.clap.proofs.OnLiterals.{clap_on_literals}
-use Rattle.command_line.specs.Steps.{HasCheckRows}
+use Rattle.command_line.specs.Inner.Steps.{HasCheckRows}
 use Rattle.command_line.specs.Line.{check_app, check_words, is_plain_word, ringcheck_app}
 use Rattle.command_line.proofs.Behind.{Goes, GoesByPlain, IsNamed, Runs, given, goes_by, goes_last, is_found, is_taken, passes_end, standing}
 

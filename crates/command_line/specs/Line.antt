@@ -46,11 +46,11 @@ check_app = with_rule (with_rule (with_rule (new_app (codes "check")) (option (c
 abbrev pub measure_app : App
 measure_app = with_rule (with_rule (new_app (codes "measure")) (maybe_option (codes "format"))) (positional (codes "manifest"))
 
--- `report --ring MM --gap MM [--max N] [--format text|json] MANIFEST` (docs/FORMATS.md, The program)
+-- `report --ring MM --gap MM [--max N] [--waive FILE] [--format text|json|waivers] MANIFEST` (docs/FORMATS.md, The program)
 abbrev pub report_app : App
 report_app =
-    with_rule (with_rule (with_rule (with_rule (with_rule (new_app (codes "report")) (option (codes "ring"))) (option (codes "gap"))) (maybe_option (codes "max")))
-    (maybe_option (codes "format"))) (positional (codes "manifest"))
+    with_rule (with_rule (with_rule (with_rule (with_rule (with_rule (new_app (codes "report")) (option (codes "ring"))) (option (codes "gap"))) (maybe_option (codes "max")))
+    (maybe_option (codes "waive"))) (maybe_option (codes "format"))) (positional (codes "manifest"))
 
 -- `draw [--ring MM --gap MM] MANIFEST` (docs/FORMATS.md, The program)
 abbrev pub draw_app : App
@@ -94,9 +94,10 @@ AsksFor (Some (name, rows)) (Check ring gap manifest) =
     (name ≡ codes "check") × (first_of (codes "ring") rows ≡ Some ring.now) × (first_of (codes "gap") rows ≡ Some gap.now) × (first_of (codes "manifest") rows ≡ Some manifest.now)
 AsksFor (Some (name, rows)) (Measure format manifest) =
     (name ≡ codes "measure") × (first_of (codes "format") rows ≡ option_map (λ f. f.now) format) × (first_of (codes "manifest") rows ≡ Some manifest.now)
-AsksFor (Some (name, rows)) (Report ring gap most format manifest) =
+AsksFor (Some (name, rows)) (Report ring gap most waive format manifest) =
     (name ≡ codes "report") × (first_of (codes "ring") rows ≡ Some ring.now) × (first_of (codes "gap") rows ≡ Some gap.now)
-    × (first_of (codes "max") rows ≡ option_map (λ n. n.now) most) × (first_of (codes "format") rows ≡ option_map (λ f. f.now) format)
+    × (first_of (codes "max") rows ≡ option_map (λ n. n.now) most) × (first_of (codes "waive") rows ≡ option_map (λ w. w.now) waive)
+    × (first_of (codes "format") rows ≡ option_map (λ f. f.now) format)
     × (first_of (codes "manifest") rows ≡ Some manifest.now)
 AsksFor (Some (name, rows)) (Draw ring gap manifest) =
     (name ≡ codes "draw") × (first_of (codes "ring") rows ≡ option_map (λ r. r.now) ring) × (first_of (codes "gap") rows ≡ option_map (λ g. g.now) gap)
@@ -132,7 +133,7 @@ check_words ring gap manifest = codes "check" ∷ codes "--ring" ∷ ring ∷ co
 abbrev pub IsCheck : Text → Text → Text → Request → Type 0
 IsCheck r g m (Check ring gap manifest) = (ring.now ≡ r) × (gap.now ≡ g) × (manifest.now ≡ m)
 IsCheck r g m (Measure format manifest) = ⊥
-IsCheck r g m (Report ring gap most format manifest) = ⊥
+IsCheck r g m (Report ring gap most waive format manifest) = ⊥
 IsCheck r g m (Draw ring gap manifest) = ⊥
 IsCheck r g m (Show kind file) = ⊥
 IsCheck r g m (Rewrite kind file) = ⊥
@@ -157,7 +158,7 @@ file_words name kind file = name ∷ codes "--kind" ∷ kind ∷ file ∷ []
 abbrev pub IsShow : Text → Text → Request → Type 0
 IsShow k f (Check ring gap manifest) = ⊥
 IsShow k f (Measure format manifest) = ⊥
-IsShow k f (Report ring gap most format manifest) = ⊥
+IsShow k f (Report ring gap most waive format manifest) = ⊥
 IsShow k f (Draw ring gap manifest) = ⊥
 IsShow k f (Show kind file) = (kind.now ≡ k) × (file.now ≡ f)
 IsShow k f (Rewrite kind file) = ⊥
@@ -168,7 +169,7 @@ IsShow k f (Explain word) = ⊥
 abbrev pub IsRewrite : Text → Text → Request → Type 0
 IsRewrite k f (Check ring gap manifest) = ⊥
 IsRewrite k f (Measure format manifest) = ⊥
-IsRewrite k f (Report ring gap most format manifest) = ⊥
+IsRewrite k f (Report ring gap most waive format manifest) = ⊥
 IsRewrite k f (Draw ring gap manifest) = ⊥
 IsRewrite k f (Show kind file) = ⊥
 IsRewrite k f (Rewrite kind file) = (kind.now ≡ k) × (file.now ≡ f)
@@ -197,7 +198,7 @@ manifest_words why files = codes "manifest" ∷ (if why then codes "--why" ∷ f
 abbrev pub IsManifest : Bool → List Text → Request → Type 0
 IsManifest w fs (Check ring gap manifest) = ⊥
 IsManifest w fs (Measure format manifest) = ⊥
-IsManifest w fs (Report ring gap most format manifest) = ⊥
+IsManifest w fs (Report ring gap most waive format manifest) = ⊥
 IsManifest w fs (Draw ring gap manifest) = ⊥
 IsManifest w fs (Show kind file) = ⊥
 IsManifest w fs (Rewrite kind file) = ⊥
@@ -222,29 +223,30 @@ measure_words format manifest = codes "measure" ∷ (option_words (codes "--form
 abbrev pub IsMeasure : Option Text → Text → Request → Type 0
 IsMeasure o m (Check ring gap manifest) = ⊥
 IsMeasure o m (Measure format manifest) = (option_map (λ f. f.now) format ≡ o) × (manifest.now ≡ m)
-IsMeasure o m (Report ring gap most format manifest) = ⊥
+IsMeasure o m (Report ring gap most waive format manifest) = ⊥
 IsMeasure o m (Draw ring gap manifest) = ⊥
 IsMeasure o m (Show kind file) = ⊥
 IsMeasure o m (Rewrite kind file) = ⊥
 IsMeasure o m (Manifest why files) = ⊥
 IsMeasure o m (Explain word) = ⊥
 
--- the words of `report` in their usual order, with the number of findings that are told at most and a format, or without (docs/FORMATS.md, The program)
-abbrev pub report_words : Text → Text → Option Text → Option Text → Text → List Text
-report_words ring gap most format manifest =
-    codes "report" ∷ codes "--ring" ∷ ring ∷ codes "--gap" ∷ gap ∷ (option_words (codes "--max") most ++ (option_words (codes "--format") format ++ manifest ∷ []))
+-- the words of `report` in their usual order, with the number of findings that are told at most, a file of waivers and a format, or without (docs/FORMATS.md, The program)
+abbrev pub report_words : Text → Text → Option Text → Option Text → Option Text → Text → List Text
+report_words ring gap most waive format manifest =
+    codes "report" ∷ codes "--ring" ∷ ring ∷ codes "--gap" ∷ gap
+    ∷ (option_words (codes "--max") most ++ (option_words (codes "--waive") waive ++ (option_words (codes "--format") format ++ manifest ∷ [])))
 
--- the request is for a report under these rules of the package of this manifest, with this number of findings at most and this format or without (docs/FORMATS.md, The program)
-abbrev pub IsReport : Text → Text → Option Text → Option Text → Text → Request → Type 0
-IsReport r g n o m (Check ring gap manifest) = ⊥
-IsReport r g n o m (Measure format manifest) = ⊥
-IsReport r g n o m (Report ring gap most format manifest) =
-    (ring.now ≡ r) × (gap.now ≡ g) × (option_map (λ t. t.now) most ≡ n) × (option_map (λ f. f.now) format ≡ o) × (manifest.now ≡ m)
-IsReport r g n o m (Draw ring gap manifest) = ⊥
-IsReport r g n o m (Show kind file) = ⊥
-IsReport r g n o m (Rewrite kind file) = ⊥
-IsReport r g n o m (Manifest why files) = ⊥
-IsReport r g n o m (Explain word) = ⊥
+-- the request is for a report under these rules of the package of this manifest, with this number of findings at most, this file of waivers and this format, or without (docs/FORMATS.md, The program)
+abbrev pub IsReport : Text → Text → Option Text → Option Text → Option Text → Text → Request → Type 0
+IsReport r g n v o m (Check ring gap manifest) = ⊥
+IsReport r g n v o m (Measure format manifest) = ⊥
+IsReport r g n v o m (Report ring gap most waive format manifest) =
+    (ring.now ≡ r) × (gap.now ≡ g) × (option_map (λ t. t.now) most ≡ n) × (option_map (λ w. w.now) waive ≡ v) × (option_map (λ f. f.now) format ≡ o) × (manifest.now ≡ m)
+IsReport r g n v o m (Draw ring gap manifest) = ⊥
+IsReport r g n v o m (Show kind file) = ⊥
+IsReport r g n v o m (Rewrite kind file) = ⊥
+IsReport r g n v o m (Manifest why files) = ⊥
+IsReport r g n v o m (Explain word) = ⊥
 
 -- the words of `draw` in their usual order, with a ring and a gap or without (docs/FORMATS.md, The program)
 abbrev pub draw_words : Option (Text × Text) → Text → List Text
@@ -260,7 +262,7 @@ are_plain_rules (Some (ring, gap)) = is_plain_word ring && is_plain_word gap
 abbrev pub IsDraw : Option (Text × Text) → Text → Request → Type 0
 IsDraw o m (Check ring gap manifest) = ⊥
 IsDraw o m (Measure format manifest) = ⊥
-IsDraw o m (Report ring gap most format manifest) = ⊥
+IsDraw o m (Report ring gap most waive format manifest) = ⊥
 IsDraw o m (Draw ring gap manifest) =
     (option_map (λ r. r.now) ring ≡ option_map (λ rules. rules.0) o) × (option_map (λ g. g.now) gap ≡ option_map (λ rules. rules.1) o) × (manifest.now ≡ m)
 IsDraw o m (Show kind file) = ⊥
@@ -277,7 +279,7 @@ explain_words (Some word) = codes "explain" ∷ word ∷ []
 abbrev pub IsExplain : Option Text → Request → Type 0
 IsExplain o (Check ring gap manifest) = ⊥
 IsExplain o (Measure format manifest) = ⊥
-IsExplain o (Report ring gap most format manifest) = ⊥
+IsExplain o (Report ring gap most waive format manifest) = ⊥
 IsExplain o (Draw ring gap manifest) = ⊥
 IsExplain o (Show kind file) = ⊥
 IsExplain o (Rewrite kind file) = ⊥

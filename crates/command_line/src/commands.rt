@@ -26,6 +26,9 @@ const GAP: &str = "Gap that any two holes must keep, in mm: 0.25";
 const FORMAT: &str = "Lines for people, or one object of JSON;
 text where it is not there";
 
+const REPORT_FORMAT: &str = "text, for people; json, one object; or waivers, a
+file to write reasons into; text if not there";
+
 const CHECK: &str = "A manifest is a CSV file with the first record role,name,file and one for each
 file; a role is copper, plated or unplated. With role,name,file,first,last a
 drill file may name the first and the last layer that it goes through. File
@@ -38,8 +41,8 @@ none. A line ring tells the least ring of the holes of one diameter.
 Example:  ringcheck measure board.csv";
 
 // Behind `Usage: ` on two lines, the second below the options of the first.
-const REPORT_USAGE: &str = "ringcheck report --ring <MM> --gap <MM> [--max <N>]
-                        [--format <text|json>] <MANIFEST>";
+const REPORT_USAGE: &str = "ringcheck report --ring <MM> --gap <MM> [--max <N>] [--waive <FILE>]
+                        [--format <text|json|waivers>] <MANIFEST>";
 
 const REPORT: &str = "The findings are those of check, in its order and with its status, but files
 have their names. Lengths are in mm. Below stand the causes that occur, each
@@ -136,7 +139,7 @@ fn measure<'a>(alloc: Global) -> Result<Command<'a>, AllocError>
     ))
 }
 
-/// `report --ring MM --gap MM [--max N] [--format text|json] MANIFEST`
+/// `report --ring MM --gap MM [--max N] [--waive FILE] [--format text|json|waivers] MANIFEST`
 fn report<'a>(alloc: Global) -> Result<Command<'a>, AllocError>
     ensures { IfOk result (λ c. app_of c ≡ report_app) }
 {
@@ -155,7 +158,13 @@ fn report<'a>(alloc: Global) -> Result<Command<'a>, AllocError>
         "N",
         "Findings told at most; all where it is not there",
     ))?
-    .arg(format_of(alloc))?
+    .arg(maybe_option_of(
+        alloc,
+        "waive",
+        "FILE",
+        "File of waivers: findings that are accepted",
+    ))?
+    .arg(maybe_option_of(alloc, "format", "NAME", REPORT_FORMAT))?
     .arg(value_of(
         alloc,
         "manifest",

@@ -2,7 +2,7 @@
 //!
 //! ```text
 //! ringcheck check --ring MM --gap MM MANIFEST
-//! ringcheck report --ring MM --gap MM [--max N] [--format text|json] MANIFEST
+//! ringcheck report --ring MM --gap MM [--max N] [--waive FILE] [--format text|json|waivers] MANIFEST
 //! ringcheck measure [--format text|json] MANIFEST
 //! ringcheck draw [--ring MM --gap MM] MANIFEST
 //! ringcheck manifest [--why] FILE..
@@ -15,7 +15,7 @@
 ghost use Rattle.std.specs.Prelude.{◌≡◌, ◌∷◌, [], Bool, IfSome, Some, None, List, Option, true, codes, length, map, option_map};
 ghost use Rattle.clap.specs.Words.{Row, Text, first_of, found_of, kind_of, one_of, rows_of, subcommand_rows_of};
 ghost use Rattle.command_line.specs.Line.{AnswersAs, AnswersCheck, AnswersLine, AnswersVersion, AsksFor, IsDraw, IsExplain, IsManifest, IsMeasure, IsReport, IsRewrite, IsShow, Switched, are_plain_rules, are_plain_words, check_words, draw_words, explain_words, file_words, is_plain_if_some, is_plain_word, manifest_words, measure_words, report_words};
-ghost use Rattle.command_line.specs.Steps.{HasCheckRows, IsCheckIfSome, IsRefusalFor};
+ghost use Rattle.command_line.specs.Inner.Steps.{HasCheckRows, IsCheckIfSome, IsRefusalFor};
 
 mod commands;
 #[cfg(test)]
@@ -41,12 +41,13 @@ pub enum Request<'a> {
         manifest: &'a str,
     },
     /// Tell of each finding under the ring and the gap by how much, and why; the ring and the gap are texts in mm. At most as
-    /// many findings are told as `most` says, a text too, and all where there is none. The format is the name of one, where one
+    /// many findings are told as `most` says, a text too, and all where there is none. The file of waivers has this name, where there is one; the format is the name of one, where one
     /// is named.
     Report {
         ring: &'a str,
         gap: &'a str,
         most: Option<&'a str>,
+        waive: Option<&'a str>,
         format: Option<&'a str>,
         manifest: &'a str,
     },
@@ -106,9 +107,9 @@ pub fn parse<'a>(alloc: Global, words: &'a [&'a str]) -> Result<Request<'a>, Ref
         → is_plain_word g ≡ true → is_plain_word m ≡ true → AnswersCheck r g m result }
     ensures measure { (format : Option Text) (m : Text) → map (λ w. w.now) words.entry.now ≡ measure_words format m → is_plain_if_some format ≡ true
         → is_plain_word m ≡ true → AnswersAs (IsMeasure format m) result }
-    ensures report { (r g : Text) (most format : Option Text) (m : Text) → map (λ w. w.now) words.entry.now ≡ report_words r g most format m
-        → is_plain_word r ≡ true → is_plain_word g ≡ true → is_plain_if_some most ≡ true → is_plain_if_some format ≡ true → is_plain_word m ≡ true
-        → AnswersAs (IsReport r g most format m) result }
+    ensures report { (r g : Text) (most waive format : Option Text) (m : Text) → map (λ w. w.now) words.entry.now ≡ report_words r g most waive format m
+        → is_plain_word r ≡ true → is_plain_word g ≡ true → is_plain_if_some most ≡ true → is_plain_if_some waive ≡ true → is_plain_if_some format ≡ true → is_plain_word m ≡ true
+        → AnswersAs (IsReport r g most waive format m) result }
     ensures draw { (rules : Option (Text × Text)) (m : Text) → map (λ w. w.now) words.entry.now ≡ draw_words rules m → are_plain_rules rules ≡ true
         → is_plain_word m ≡ true → AnswersAs (IsDraw rules m) result }
     ensures show { (k f : Text) → map (λ w. w.now) words.entry.now ≡ file_words (codes "show") k f → is_plain_word k ≡ true
@@ -193,6 +194,7 @@ fn report_request<'a>(values: &ArgMatches<'a>) -> Option<Request<'a>>
         ring,
         gap,
         most: value(values, "max"),
+        waive: value(values, "waive"),
         format: value(values, "format"),
         manifest: package,
     })

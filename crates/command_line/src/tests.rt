@@ -92,32 +92,6 @@ fn a_value_may_begin_with_a_minus_only_behind_an_equals_sign(rt: HostRuntime) {
 fn other_words_are_refused(rt: HostRuntime) {
     let none: [&str; 0] = [];
     assert!(rt; is_usage(rt, &none));
-    assert!(rt; is_usage(rt, &["check"]));
-    assert!(rt; is_usage(rt, &["check", "--ring", "0.125", "m.csv"]));
-    assert!(rt; is_usage(rt, &["check", "--gap", "0.2", "m.csv"]));
-    assert!(rt; is_usage(rt, &["check", "--ring", "0.125", "--gap", "0.2"]));
-    assert!(rt;
-        is_usage(
-            rt,
-            &[
-                "check", "--ring", "0.125", "--ring", "0.125", "--gap", "0.2", "m.csv"
-            ]
-        )
-    );
-    assert!(rt;
-        is_usage(
-            rt,
-            &["check", "--ring", "0.125", "--gap", "0.2", "m.csv", "n.csv"]
-        )
-    );
-    assert!(rt;
-        is_usage(
-            rt,
-            &[
-                "check", "--ring", "0.125", "--gap", "0.2", "--fast", "m.csv"
-            ]
-        )
-    );
     assert!(rt; is_usage(rt, &["Check", "--ring", "0.125", "--gap", "0.2", "m.csv"]));
     assert!(rt; is_usage(rt, &["--ring", "0.125", "--gap", "0.2", "m.csv"]));
     assert!(rt; is_usage(rt, &["show", "top.gbr"]));
@@ -129,20 +103,30 @@ fn other_words_are_refused(rt: HostRuntime) {
     assert!(rt; is_usage(rt, &["manifest", "--fast", "top.gbr"]));
     assert!(rt; is_usage(rt, &["explain", "Routed", "ring"]));
     assert!(rt; is_usage(rt, &["check", "--version"]));
+}
+
+#[test]
+fn a_check_with_other_words_is_refused(rt: HostRuntime) {
+    let (ring, gap, file) = ("--ring=0.125", "--gap=0.2", "m.csv");
+    assert!(rt; is_usage(rt, &["check"]));
+    assert!(rt; is_usage(rt, &["check", "--ring", "0.125", file]));
+    assert!(rt; is_usage(rt, &["check", "--gap", "0.2", file]));
+    assert!(rt; is_usage(rt, &["check", "--ring", "0.125", "--gap", "0.2"]));
+    assert!(rt; is_usage(rt, &["check", ring, ring, gap, file]));
+    assert!(rt; is_usage(rt, &["check", ring, gap, file, "n.csv"]));
+    assert!(rt; is_usage(rt, &["check", ring, gap, "--fast", file]));
+}
+
+#[test]
+fn measures_reports_and_pictures_with_other_words_are_refused(rt: HostRuntime) {
     assert!(rt; is_usage(rt, &["measure"]));
     assert!(rt; is_usage(rt, &["measure", "m.csv", "n.csv"]));
     assert!(rt; is_usage(rt, &["measure", "--ring", "0.125", "m.csv"]));
     assert!(rt; is_usage(rt, &["measure", "--max", "2", "m.csv"]));
     assert!(rt; is_usage(rt, &["report", "m.csv"]));
     assert!(rt; is_usage(rt, &["report", "--ring", "0.125", "m.csv"]));
-    assert!(rt;
-        is_usage(
-            rt,
-            &[
-                "report", "--ring", "0.125", "--gap", "0.2", "--max", "m.csv"
-            ]
-        )
-    );
+    let (ring, gap, file) = ("--ring=0.125", "--gap=0.2", "m.csv");
+    assert!(rt; is_usage(rt, &["report", ring, gap, "--max", file]));
     assert!(rt; is_usage(rt, &["draw"]));
     assert!(rt; is_usage(rt, &["draw", "--max", "2", "m.csv"]));
 }
@@ -197,6 +181,10 @@ fn help_is_given_where_it_is_asked_for(rt: HostRuntime) {
     assert!(rt; helps(rt, &["help", "check"], &values));
     assert!(rt; helps(rt, &["show", "--help"], &["--kind <layer|drill>", "<FILE>"]));
     assert!(rt; helps(rt, &["rewrite", "-h"], &["--kind <layer|drill>", "<FILE>"]));
+}
+
+#[test]
+fn help_tells_the_options_of_a_command(rt: HostRuntime) {
     assert!(rt;
         helps(
             rt,
@@ -213,12 +201,12 @@ fn help_is_given_where_it_is_asked_for(rt: HostRuntime) {
             rt,
             &["report", "--help"],
             &[
-                "ringcheck report --ring <MM> --gap <MM> [--max <N>]\n",
-                " [--format <text|json>] <MANIFEST>\n",
+                "ringcheck report --ring <MM> --gap <MM> [--max <N>] [--waive <FILE>]\n",
+                " [--format <text|json|waivers>] <MANIFEST>\n",
                 "Tell of each finding by how much, and why",
-                "--max <N>             Findings told at most; all where it is not there\n",
-                "--format <text|json>  Lines for people, or one object of JSON;\n",
-                "                            text where it is not there\n"
+                "--max <N>        Findings told at most; all where it is not there\n",
+                "--waive <FILE>   File of waivers: findings that are accepted\n",
+                "--format <NAME>  text, for people; json, one object; or waivers, a\n"
             ]
         )
     );
@@ -309,6 +297,7 @@ fn asks_for_two(rt: HostRuntime, words: &[&str]) -> bool {
                 ring,
                 gap,
                 most: Some(most),
+                waive: None,
                 format: None,
                 manifest,
             },
@@ -328,6 +317,7 @@ fn a_report_is_asked_for(rt: HostRuntime) {
             ring: "0.125",
             gap: "0.2",
             most: None,
+            waive: None,
             format: None,
             manifest: "m.csv"
         })
@@ -352,19 +342,24 @@ fn a_report_is_asked_for(rt: HostRuntime) {
 }
 
 /// What a report with a ring of 0.125, a gap of 0.2 and the manifest `m.csv` is asked for with: the number of findings that
-/// are told at most, and the format, each empty where there is none.
-fn limits_of<'a>(rt: HostRuntime, words: &'a [&'a str]) -> Option<(&'a str, &'a str)> {
+/// are told at most, the file of waivers and the format, each empty where there is none.
+fn limits_of<'a>(rt: HostRuntime, words: &'a [&'a str]) -> Option<(&'a str, &'a str, &'a str)> {
     match parse(rt.alloc(), words) {
         Ok(
             Request::Report {
                 ring,
                 gap,
                 most,
+                waive,
                 format,
                 manifest,
             },
         ) if ring == "0.125" && gap == "0.2" && manifest == "m.csv" => {
-            Some((most.unwrap_or(""), format.unwrap_or("")))
+            Some((
+                most.unwrap_or(""),
+                waive.unwrap_or(""),
+                format.unwrap_or(""),
+            ))
         }
         _ => None,
     }
@@ -378,7 +373,7 @@ fn a_report_in_a_format_is_asked_for(rt: HostRuntime) {
             &[
                 "report", "--ring", "0.125", "--gap", "0.2", "--format", "json", "m.csv"
             ]
-        ) == Some(("", "json"))
+        ) == Some(("", "", "json"))
     );
     assert!(rt;
         limits_of(
@@ -387,7 +382,7 @@ fn a_report_in_a_format_is_asked_for(rt: HostRuntime) {
                 "report", "--ring", "0.125", "--gap", "0.2", "--max", "2", "--format", "json",
                 "m.csv"
             ]
-        ) == Some(("2", "json"))
+        ) == Some(("2", "", "json"))
     );
     assert!(rt;
         limits_of(
@@ -402,7 +397,7 @@ fn a_report_in_a_format_is_asked_for(rt: HostRuntime) {
                 "--ring",
                 "0.125"
             ]
-        ) == Some(("2", "json"))
+        ) == Some(("2", "", "json"))
     );
     assert!(rt;
         limits_of(
@@ -410,7 +405,43 @@ fn a_report_in_a_format_is_asked_for(rt: HostRuntime) {
             &[
                 "report", "m.csv", "--gap", "0.2", "--ring", "0.125", "--format", "text"
             ]
-        ) == Some(("", "text"))
+        ) == Some(("", "", "text"))
+    );
+}
+
+#[test]
+fn a_report_with_waivers_is_asked_for(rt: HostRuntime) {
+    assert!(rt;
+        limits_of(
+            rt,
+            &[
+                "report", "--ring", "0.125", "--gap", "0.2", "--waive", "w.csv", "m.csv"
+            ]
+        ) == Some(("", "w.csv", ""))
+    );
+    assert!(rt;
+        limits_of(
+            rt,
+            &[
+                "report", "--ring", "0.125", "--gap", "0.2", "--max", "2", "--waive", "w.csv",
+                "--format", "json", "m.csv"
+            ]
+        ) == Some(("2", "w.csv", "json"))
+    );
+    assert!(rt;
+        limits_of(
+            rt,
+            &[
+                "report",
+                "m.csv",
+                "--format=waivers",
+                "--waive=w.csv",
+                "--gap",
+                "0.2",
+                "--ring",
+                "0.125"
+            ]
+        ) == Some(("", "w.csv", "waivers"))
     );
 }
 

@@ -239,21 +239,27 @@ millimetres, as in --ring 0.125 --gap 0.25.
 ";
 
 const BAD_MANIFEST: &str = "\
-BadManifest: the manifest must begin with the record that names its fields
-(role,name,file), and each other record must have as many fields, of UTF-8
-text without control characters. Place is the number of the record.
+BadManifest: in the manifest: it must begin with the record that names its
+fields (role,name,file), and each other record must have as many fields, of
+UTF-8 text without control characters. Place is the number of the record.
+In a file of waivers: the same, of the fields kind,layer,hole,and,has,why.
+With manifest: a word is empty or has a control character.
 ";
 
 const BAD_ROLE: &str = "\
 BadRole: in the manifest: the role of a record is none of copper, plated and
 unplated. A ? stands for what is not decided: decide, and write the role in.
+In a file of waivers: the kind of a record is neither ring nor gap.
 With show and rewrite: the kind is neither layer nor drill.
+With --format: the word is no format, or it is waivers beside --waive.
 With explain: the word has no page; ringcheck explain lists those that have.
 ";
 
 const EMPTY_NAME: &str = "\
-EmptyName: a record of the manifest has an empty name or an empty file name.
+EmptyName: in the manifest: a record has an empty name or an empty file name.
 Write it in; place is the number of the record.
+In a file of waivers: a record has no reason. Write why the finding is
+accepted behind its last comma, or take the record out.
 ";
 
 const REPEATED_NAME: &str = "\

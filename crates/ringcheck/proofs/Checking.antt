@@ -18,7 +18,7 @@ use Rattle.package_check.specs.Package.{Source, IsAnswer}
 use Rattle.package_check.specs.Soundness.{IsSound}
 use Rattle.package_check.specs.Texts.{report_text}
 use Rattle.ringcheck.specs.Running.{HasFiles, file_limit, manifest_limit, within, RefusedIn, Says, long_manifest, bad_manifest, long_file, bad_file, sources}
-use Rattle.ringcheck.specs.Stopping.{Answered, IsRefusal, IsUnread, RefusedManifest, StopsFiles, StopsManifest, TellsOf, status_of}
+use Rattle.ringcheck.specs.Inner.Stopping.{Answered, IsRefusal, IsUnread, RefusedManifest, StopsFiles, StopsManifest, TellsOf, status_of}
 
 passed : (fs : List Finding) → ended.Said status.Pass ≡ ended.Said (status_of fs) → fs ≡ []
 passed [] e = refl
@@ -88,6 +88,17 @@ pub risen_since : (old middle new : ℕ) → old ≤ middle → HasRisen middle 
 risen_since old middle new le (inl more) = inl (omega arith)
 risen_since old middle new le (inr last) = inr last
 
+-- an end that has its cause since a later time has it since an earlier one
+pub cause_since : (old middle new : ℕ) (e : Ended) → old ≤ middle → HasCause middle new e → HasCause old new e
+cause_since old middle new (ended.Said status.Pass) le h = tt
+cause_since old middle new (ended.Said status.Findings) le h = tt
+cause_since old middle new (ended.Said status.Refused) le h = tt
+cause_since old middle new (ended.Said status.Usage) le h = tt
+cause_since old middle new (ended.Said status.Device) le h = absurd h
+cause_since old middle new ended.LoaderFailed le h = risen_since old middle new le h
+cause_since old middle new ended.OutOfMemory le h = tt
+cause_since old middle new ended.WriterFailed le h = tt
+
 module _ (has : List ℕ → List ℕ → Type 0) (name : List ℕ) (rules : GridRules) (before after : Option (List ℕ)) where
   of_manifest : RefusedManifest has name → RefusedIn has name rules
   of_manifest h = elim h.2 [
@@ -101,6 +112,8 @@ module _ (has : List ℕ → List ℕ → Type 0) (name : List ℕ) (rules : Gri
   manifest_refusal stop.Memory h i = absurd i
   manifest_refusal stop.Device h i = absurd i
   manifest_refusal (stop.DeviceFile index) h i = absurd i
+  manifest_refusal (stop.Waivers place reason) h i = absurd h
+  manifest_refusal stop.DeviceWaivers h i = absurd i
 
   pub stopped_manifest : (s : Stop) (e : Ended) → StopsManifest has name s → TellsOf s e → Says has name rules before after (status_after e)
   stopped_manifest s (ended.Said status.Pass) h i = absurd i
@@ -119,6 +132,8 @@ module _ (has : List ℕ → List ℕ → Type 0) (name : List ℕ) (rules : Gri
     file_refusal later to stop.Memory h i = absurd i
     file_refusal later to stop.Device h i = absurd i
     file_refusal later to (stop.DeviceFile index) h i = absurd i
+    file_refusal later to (stop.Waivers place reason) h i = absurd h
+    file_refusal later to stop.DeviceWaivers h i = absurd i
 
     pub stopped_files : (later : List ℕ → List ℕ → Type 0) → ((n b : List ℕ) → later n b → has n b) → (s : Stop) (e : Ended)
         → StopsFiles later entries s → TellsOf s e → Says has name rules before after (status_after e)

@@ -1,5 +1,5 @@
 -- What a check or a report that passes, or a measure, says of three files at hand.
-use Rattle.std.proofs.Common.{◌≡◌, ◌⊎◌, inl, inr, ℕ, zero, suc, List, [], ◌∷◌, Option, Result, Ok, Err, length, codes, ap, sym, subst, refl, arith}
+use Rattle.std.proofs.Common.{◌≡◌, ◌⊎◌, inl, inr, ℕ, zero, suc, List, [], ◌∷◌, Option, None, Result, Ok, Err, length, codes, ap, sym, subst, refl, arith}
 use Rattle.std.specs.List.{Contains}
 use Rattle.grid_units.specs.Holes.{GridRules}
 use Rattle.grid_units.specs.declared.fault.Reason.{Reason}
@@ -11,6 +11,7 @@ use Rattle.package_check.specs.Soundness.{IsSound}
 use Rattle.ringcheck.specs.declared.Status.{Status}
 use Rattle.ringcheck.specs.declared.Status.TheVariants as status
 use Rattle.ringcheck.specs.declared.naming.Format.{Format}
+use Rattle.ringcheck.specs.declared.naming.ReportFormat.{ReportFormat}
 use Rattle.ringcheck.specs.Measuring.{SaysMeasureOf}
 use Rattle.ringcheck.specs.Reporting.{SaysReportOf}
 use Rattle.ringcheck.specs.Running.{HasFiles, SaysOf, file_limit, sources, within}
@@ -75,8 +76,8 @@ met_as_held m l d (Ok form) before after status.Usage says is = cc
 met_as_held m l d (Ok form) before after status.Device says is = cc
 
 -- the files that the manifest names are sound, where a report tells of no finding
-pub told_as_held : (m l d : List ℕ) (r : Result (GridRules × Option ℕ × Format) Reason) (before after : Option (List ℕ)) (s : Status) → SaysReportOf (lies m l d) (codes "m.csv") r before after s → s ≡ status.Pass
-    → (asked : GridRules × Option ℕ × Format) × (r ≡ Ok asked) × (entries : List Entry) × (manifest m ≡ Ok entries) × (files : List (List ℕ)) × HasFiles (lies m l d) entries files × IsSound (sources entries files) asked.0
+pub told_as_held : (m l d : List ℕ) (r : Result (GridRules × Option ℕ × ReportFormat) Reason) (before after : Option (List ℕ)) (s : Status) → SaysReportOf (lies m l d) (codes "m.csv") r None before after s → s ≡ status.Pass
+    → (asked : GridRules × Option ℕ × ReportFormat) × (r ≡ Ok asked) × (entries : List Entry) × (manifest m ≡ Ok entries) × (files : List (List ℕ)) × HasFiles (lies m l d) entries files × IsSound (sources entries files) asked.0
 told_as_held m l d (Err why) before after s says is = absurd (never s says is)
 told_as_held m l d (Ok (rules, most, form)) before after status.Pass says is =
     let held = says.held in (

@@ -1,5 +1,6 @@
 -- What the parts of a report for people say together.
-use Rattle.std.proofs.Common.{◌≡◌, ◌≢◌, ◌<◌, ◌≤◌, ◌+◌, ℕ, List, [], ◌∷◌, Option, Ok, length, ◌⊎◌, inl, inr, arith, refl}
+use Rattle.std.proofs.Common.{◌≡◌, ◌≢◌, ◌<◌, ◌≤◌, ◌+◌, ℕ, Bool, true, false, List, [], ◌∷◌, Option, Some, None, Ok, length, ◌⊎◌, inl, inr, arith, refl}
+use Rattle.std.specs.Prelude.{if◌then◌else◌}
 use Rattle.grid_units.specs.Holes.{GridRules}
 use Rattle.grid_units.specs.declared.fault.Fault.{Fault}
 use Rattle.manifest.specs.declared.Entry.{Entry}
@@ -13,13 +14,19 @@ use Rattle.ringcheck.specs.declared.Status.TheVariants as status
 use Rattle.ringcheck.specs.declared.ending.Ended.{Ended}
 use Rattle.ringcheck.specs.declared.ending.Ended.TheVariants as ended
 use Rattle.ringcheck.specs.declared.loading_files.Stop.{Stop}
-use Rattle.ringcheck.specs.declared.naming.Format.{Format}
+use Rattle.ringcheck.specs.declared.loading_files.Stop.TheVariants as stop
+use Rattle.ringcheck.specs.declared.naming.ReportFormat.{ReportFormat}
 use Rattle.ringcheck.specs.Endings.{HasCause, status_after}
-use Rattle.ringcheck.specs.Reporting.{AnsweredReport, SaysReport, Tells, telling_status}
-use Rattle.ringcheck.specs.Running.{HasFiles, Says, bad_file, file_limit, manifest_limit, sources, within}
-use Rattle.ringcheck.specs.Stopping.{StopsFiles, StopsManifest, TellsOf}
+use Rattle.ringcheck.specs.Reporting.{AnsweredReport, SaysReport, SaysWaiving, Tells, TellsAccepted, telling_status, waived_status}
+use Rattle.ringcheck.specs.Running.{HasFiles, HasPackage, RefusedIn, Says, bad_file, bad_manifest, file_limit, long_file, long_manifest, manifest_limit, sources, within}
+use Rattle.ringcheck.specs.Inner.Stopping.{IsRefusal, StopsFiles, StopsManifest, StopsWaivers, TellsOf}
+use Rattle.ringcheck.specs.Waiving.{RefusedWaivers}
+use Rattle.waivers.specs.Waiving.{are_all_waived}
+use Rattle.waivers.specs.declared.Waiver.{Waiver}
+use Rattle.waivers.specs.declared.waiving.Waived.{Waived}
 use Rattle.ringcheck.proofs.Checking as checking
 use Rattle.ringcheck.proofs.Doing.{refused_by}
+use Rattle.ringcheck.proofs.Loaded.{along}
 
 passed : (rs : List RingLack) (gs : List GapLack) → ended.Said status.Pass ≡ ended.Said (telling_status rs gs) → (rs ≡ []) × (gs ≡ [])
 passed [] [] e = (refl, refl)
@@ -41,9 +48,9 @@ no_other : (s : Status) → s ≢ status.Pass → s ≢ status.Findings → (s �
 no_other s p f (inl e) = p e
 no_other s p f (inr e) = f e
 
-module _ (all : List Source) (rules : GridRules) (most : Option ℕ) (form : Format) (before after : Option (List ℕ)) where
+module _ (all : List Source) (rules : GridRules) (most : Option ℕ) (form : ReportFormat) (before after : Option (List ℕ)) where
   -- a report was printed
-  pub told : (t : Telling) (e : Ended) → (e ≢ ended.WriterFailed → e ≢ ended.OutOfMemory → (e ≡ ended.Said (telling_status t.rings.items t.gaps.items)) × Tells all rules most form before after t) → AnsweredReport all rules most form before after e
+  pub told : (t : Telling) (e : Ended) → (e ≢ ended.WriterFailed → e ≢ ended.OutOfMemory → (e ≡ ended.Said (telling_status t.rings.items t.gaps.items)) × Tells all rules most form before after t) → AnsweredReport all rules most form None before after e
   told t (ended.Said status.Pass) h =
       let (a, b) = h (λ x. cc x) (λ x. cc x) in
       let none = passed t.rings.items t.gaps.items a in
@@ -56,12 +63,45 @@ module _ (all : List Source) (rules : GridRules) (most : Option ℕ) (form : For
   told t ended.OutOfMemory h = tt
   told t ended.WriterFailed h = tt
 
+  -- all is waived, or not
+  each : (b : Bool) → ended.Said status.Pass ≡ ended.Said (if b then status.Pass else status.Findings) → b ≡ true
+  each true e = refl
+  each false e = absurd (cc e)
+
+  some : (b : Bool) → ended.Said status.Findings ≡ ended.Said (if b then status.Pass else status.Findings) → b ≡ false
+  some true e = absurd (cc e)
+  some false e = refl
+
+  given : (b : Bool) (s : Status) → ended.Said s ≡ ended.Said (if b then status.Pass else status.Findings) → (s ≡ status.Pass) ⊎ (s ≡ status.Findings)
+  given true s e = inl (cc e)
+  given false s e = inr (cc e)
+
+  -- a report was printed with waivers
+  pub waived_told : (waivers : List Waiver) (t : Telling) (e : Ended)
+      → (e ≢ ended.WriterFailed → e ≢ ended.OutOfMemory → (waived : Waived) × (e ≡ ended.Said (waived_status waived)) × TellsAccepted all rules most form waivers before after t waived)
+      → AnsweredReport all rules most form (Some waivers) before after e
+  waived_told waivers t (ended.Said status.Pass) h =
+      let (waived, a, b) = h (λ x. cc x) (λ x. cc x) in
+      record { told = t; waived = waived; tells = b; each = each (are_all_waived waived) a; sound = b.as_check.sound }
+  waived_told waivers t (ended.Said status.Findings) h =
+      let (waived, a, b) = h (λ x. cc x) (λ x. cc x) in record { told = t; waived = waived; tells = b; some = some (are_all_waived waived) a }
+  waived_told waivers t (ended.Said status.Refused) h =
+      let (waived, a, b) = h (λ x. cc x) (λ x. cc x) in absurd (no_other status.Refused (λ x. cc x) (λ x. cc x) (given (are_all_waived waived) status.Refused a))
+  waived_told waivers t (ended.Said status.Usage) h =
+      let (waived, a, b) = h (λ x. cc x) (λ x. cc x) in absurd (no_other status.Usage (λ x. cc x) (λ x. cc x) (given (are_all_waived waived) status.Usage a))
+  waived_told waivers t (ended.Said status.Device) h =
+      let (waived, a, b) = h (λ x. cc x) (λ x. cc x) in absurd (no_other status.Device (λ x. cc x) (λ x. cc x) (given (are_all_waived waived) status.Device a))
+  waived_told waivers t ended.LoaderFailed h = let (waived, a, b) = h (λ x. cc x) (λ x. cc x) in cc a
+  waived_told waivers t ended.OutOfMemory h = tt
+  waived_told waivers t ended.WriterFailed h = tt
+
+module _ (all : List Source) (rules : GridRules) (most : Option ℕ) (form : ReportFormat) (waivers : Option (List Waiver)) (before after : Option (List ℕ)) where
   -- a file is refused
-  pub refused_file : (fault : ℕ × Fault) (e : Ended) → IsFirstRefused all fault.0 fault.1 → (e ≢ ended.WriterFailed → e ≢ ended.OutOfMemory → e ≡ ended.Said status.Refused) → AnsweredReport all rules most form before after e
-  refused_file fault e a h = refused_by (AnsweredReport all rules most form before after) (fault, a) tt tt e h
+  pub refused_file : (fault : ℕ × Fault) (e : Ended) → IsFirstRefused all fault.0 fault.1 → (e ≢ ended.WriterFailed → e ≢ ended.OutOfMemory → e ≡ ended.Said status.Refused) → AnsweredReport all rules most form waivers before after e
+  refused_file fault e a h = refused_by (AnsweredReport all rules most form waivers before after) (fault, a) tt tt e h
 
   -- what is said of files at hand does not end by the loader
-  pub answered_cause : (e : Ended) (old new : ℕ) → AnsweredReport all rules most form before after e → HasCause old new e
+  pub answered_cause : (e : Ended) (old new : ℕ) → AnsweredReport all rules most form waivers before after e → HasCause old new e
   answered_cause (ended.Said status.Pass) old new a = tt
   answered_cause (ended.Said status.Findings) old new a = tt
   answered_cause (ended.Said status.Refused) old new a = tt
@@ -71,9 +111,9 @@ module _ (all : List Source) (rules : GridRules) (most : Option ℕ) (form : For
   answered_cause ended.OutOfMemory old new a = tt
   answered_cause ended.WriterFailed old new a = tt
 
-module _ (has : List ℕ → List ℕ → Type 0) (name : List ℕ) (rules : GridRules) (most : Option ℕ) (form : Format) (before after : Option (List ℕ)) where
+module _ (has : List ℕ → List ℕ → Type 0) (name : List ℕ) (rules : GridRules) (most : Option ℕ) (form : ReportFormat) (waivers : Option (List Waiver)) (before after : Option (List ℕ)) where
   -- what a check refuses is refused here
-  stopped : (s : Stop) (e : Ended) → TellsOf s e → Says has name rules before after (status_after e) → SaysReport has name rules most form before after (status_after e)
+  stopped : (s : Stop) (e : Ended) → TellsOf s e → Says has name rules before after (status_after e) → SaysReport has name rules most form waivers before after (status_after e)
   stopped s (ended.Said status.Pass) i h = absurd i
   stopped s (ended.Said status.Findings) i h = absurd i
   stopped s (ended.Said status.Refused) i h = h
@@ -83,16 +123,16 @@ module _ (has : List ℕ → List ℕ → Type 0) (name : List ℕ) (rules : Gri
   stopped s ended.OutOfMemory i h = tt
   stopped s ended.WriterFailed i h = tt
 
-  pub stopped_manifest : (s : Stop) (e : Ended) → StopsManifest has name s → TellsOf s e → SaysReport has name rules most form before after (status_after e)
+  pub stopped_manifest : (s : Stop) (e : Ended) → StopsManifest has name s → TellsOf s e → SaysReport has name rules most form waivers before after (status_after e)
   stopped_manifest s e h i = stopped s e i (checking.stopped_manifest has name rules before after s e h i)
 
   module _ (text : List ℕ) (entries : List Entry) (held : has name text) (names : manifest text ≡ Ok entries) where
     pub stopped_files : (later : List ℕ → List ℕ → Type 0) → ((n b : List ℕ) → later n b → has n b) → (s : Stop) (e : Ended)
-        → StopsFiles later entries s → TellsOf s e → SaysReport has name rules most form before after (status_after e)
+        → StopsFiles later entries s → TellsOf s e → SaysReport has name rules most form waivers before after (status_after e)
     stopped_files later to s e h i = stopped s e i (checking.stopped_files has name rules before after text entries held names later to s e h i)
 
-    pub said : length text ≤ manifest_limit → (files : List (List ℕ)) (e : Ended) → HasFiles (within file_limit has) entries files → AnsweredReport (sources entries files) rules most form before after e
-        → SaysReport has name rules most form before after (status_after e)
+    pub said : length text ≤ manifest_limit → (files : List (List ℕ)) (e : Ended) → HasFiles (within file_limit has) entries files → AnsweredReport (sources entries files) rules most form waivers before after e
+        → SaysReport has name rules most form waivers before after (status_after e)
     said short files (ended.Said status.Pass) h a = record { entries = entries; files = files; held = record { text = text; held = held; names = names; short = short; loaded = h }; holds = a }
     said short files (ended.Said status.Findings) h a = record { entries = entries; files = files; held = record { text = text; held = held; names = names; short = short; loaded = h }; holds = a }
     said short files (ended.Said status.Refused) h a = bad_file entries files a.0 (record { text = text; held = held; names = names; short = short; loaded = h }) a.1
@@ -101,3 +141,49 @@ module _ (has : List ℕ → List ℕ → Type 0) (name : List ℕ) (rules : Gri
     said short files ended.LoaderFailed h a = absurd a
     said short files ended.OutOfMemory h a = tt
     said short files ended.WriterFailed h a = tt
+
+-- what is held or refused by a loader that has no more is so by one that has more
+module _ (later has : List ℕ → List ℕ → Type 0) (to : (n b : List ℕ) → later n b → has n b) (name : List ℕ) where
+  package_along : (entries : List Entry) (files : List (List ℕ)) → HasPackage later name entries files → HasPackage has name entries files
+  package_along entries files h = record {
+    text = h.text;
+    held = to name h.text h.held;
+    names = h.names;
+    short = h.short;
+    loaded = along (within file_limit later) (within file_limit has) (λ n b w. (to n b w.0, w.1)) entries files h.loaded;
+  }
+
+  refused_along : (rules : GridRules) → RefusedIn later name rules → RefusedIn has name rules
+  refused_along rules (long_manifest text held long) = long_manifest text (to name text held) long
+  refused_along rules (bad_manifest text fault held bad) = bad_manifest text fault (to name text held) bad
+  refused_along rules (long_file text entries entry bytes held names lies loaded long) = long_file text entries entry bytes (to name text held) names lies (to entry.file bytes loaded) long
+  refused_along rules (bad_file entries files fault held answer) = bad_file entries files fault (package_along entries files held) answer
+
+  pub report_along : (rules : GridRules) (most : Option ℕ) (form : ReportFormat) (waivers : Option (List Waiver)) (before after : Option (List ℕ)) (s : Status)
+      → SaysReport later name rules most form waivers before after s → SaysReport has name rules most form waivers before after s
+  report_along rules most form waivers before after status.Pass h = record { entries = h.entries; files = h.files; held = package_along h.entries h.files h.held; holds = h.holds }
+  report_along rules most form waivers before after status.Findings h = record { entries = h.entries; files = h.files; held = package_along h.entries h.files h.held; holds = h.holds }
+  report_along rules most form waivers before after status.Refused h = refused_along rules h
+  report_along rules most form waivers before after status.Usage h = h
+  report_along rules most form waivers before after status.Device h = tt
+
+-- there are no waivers
+module _ (has : List ℕ → List ℕ → Type 0) (name file : List ℕ) (rules : GridRules) (most : Option ℕ) (form : ReportFormat) (before after : Option (List ℕ)) where
+  waivers_refusal : (s : Stop) → StopsWaivers has file s → IsRefusal s → RefusedWaivers has file
+  waivers_refusal (stop.Waivers place reason) h i = h
+  waivers_refusal (stop.Manifest place reason) h i = absurd h
+  waivers_refusal (stop.LongFile index) h i = absurd h
+  waivers_refusal stop.Memory h i = absurd i
+  waivers_refusal stop.Device h i = absurd i
+  waivers_refusal stop.DeviceWaivers h i = absurd i
+  waivers_refusal (stop.DeviceFile index) h i = absurd i
+
+  pub stopped_waivers : (s : Stop) (e : Ended) → StopsWaivers has file s → TellsOf s e → SaysWaiving has name rules most form (Some file) before after (status_after e)
+  stopped_waivers s (ended.Said status.Pass) h i = absurd i
+  stopped_waivers s (ended.Said status.Findings) h i = absurd i
+  stopped_waivers s (ended.Said status.Refused) h i = inl (refl, waivers_refusal s h i)
+  stopped_waivers s (ended.Said status.Usage) h i = absurd i
+  stopped_waivers s (ended.Said status.Device) h i = absurd i
+  stopped_waivers s ended.LoaderFailed h i = inr (inl refl)
+  stopped_waivers s ended.OutOfMemory h i = inr (inl refl)
+  stopped_waivers s ended.WriterFailed h i = inr (inl refl)

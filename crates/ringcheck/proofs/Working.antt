@@ -14,8 +14,8 @@ use Rattle.ringcheck.specs.declared.naming.Format.{Format}
 use Rattle.ringcheck.specs.Endings.{HasCause, status_after}
 use Rattle.ringcheck.specs.Measuring.{AnsweredMeasure, Measures}
 use Rattle.ringcheck.specs.Running.{HasFiles, file_limit, manifest_limit, sources, within}
-use Rattle.ringcheck.specs.Stopping.{StopsFiles, StopsManifest, TellsOf}
-use Rattle.ringcheck.specs.Working.{AnsweredBy, SaysBy}
+use Rattle.ringcheck.specs.Inner.Stopping.{StopsFiles, StopsManifest, TellsOf}
+use Rattle.ringcheck.specs.Inner.Working.{AnsweredBy, SaysBy}
 use Rattle.ringcheck.proofs.Checking as checking
 use Rattle.ringcheck.proofs.Doing as doing
 

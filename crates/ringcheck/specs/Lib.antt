@@ -2,10 +2,10 @@ pub mod Endings
 pub mod Naming
 pub mod Printing
 pub mod Running
-pub mod Stopping
+pub mod Waiving
 pub mod Folders
 pub mod Measuring
-pub mod Working
 pub mod Reporting
 pub mod Doing
 pub mod Drawing
+pub mod Inner

@@ -1,5 +1,5 @@
 -- The rules, how many findings are told, and the format, that words of a command line name.
-use Rattle.std.specs.Prelude.{ℕ, ℤ, pos, Bool, ◌&&◌, List, Option, Some, None, Result, Ok, Err, length, codes, nat_le, unsigned_abs, int_le, if◌then◌else◌}
+use Rattle.std.specs.Prelude.{ℕ, ℤ, pos, Bool, ◌&&◌, not, is_some, List, Option, Some, None, Result, Ok, Err, length, codes, nat_le, unsigned_abs, int_le, if◌then◌else◌}
 use Rattle.std.specs.Str.{bytes_eq}
 use Rattle.grid_units.specs.declared.fault.Reason.{Reason}
 use Rattle.grid_units.specs.declared.fault.Reason.TheVariants.{BadNumber, BadRole, BadRule}
@@ -10,6 +10,8 @@ use Rattle.grid_units.specs.Numbers.{dec_of, is_digits, picometres, value, withi
 use Rattle.grid_units.specs.Results.{◌>>=◌}
 use Rattle.ringcheck.specs.declared.naming.Format.{Format}
 use Rattle.ringcheck.specs.declared.naming.Format.TheVariants as format
+use Rattle.ringcheck.specs.declared.naming.ReportFormat.{ReportFormat}
+use Rattle.ringcheck.specs.declared.naming.ReportFormat.TheVariants as told
 
 -- the length in pm that a word names in millimetres, or why it names none (docs/FORMATS.md, The program)
 unfoldable pub length_named : List ℕ → Result ℤ Reason
@@ -41,9 +43,17 @@ unfoldable pub format_named : Option (List ℕ) → Result Format Reason
 format_named None = Ok format.Text
 format_named (Some word) = if bytes_eq word (codes "text") then Ok format.Text else (if bytes_eq word (codes "json") then Ok format.Json else Err BadRole)
 
--- the rules of a report, how many findings it tells at most, and its format, or the first refusal in this order (docs/FORMATS.md, The program)
-unfoldable pub report_named : List ℕ → List ℕ → Option (List ℕ) → Option (List ℕ) → Result (GridRules × Option ℕ × Format) Reason
-report_named ring gap most form = rules_named ring gap >>= λ rules. (most_named most >>= λ n. (format_named form >>= λ f. Ok (rules, n, f)))
+-- the format of a report that a word names: text where there is none; it prints no waivers where it is given some (docs/FORMATS.md, The program)
+unfoldable pub report_format_named : Bool → Option (List ℕ) → Result ReportFormat Reason
+report_format_named waives None = Ok told.Text
+report_format_named waives (Some word) =
+    if bytes_eq word (codes "text") then Ok told.Text
+    else (if bytes_eq word (codes "json") then Ok told.Json
+    else (if bytes_eq word (codes "waivers") && not waives then Ok told.Waivers else Err BadRole))
+
+-- the rules of a report, how many findings it tells at most, and its format, or the first refusal in this order; a file of waivers may be given (docs/FORMATS.md, The program)
+unfoldable pub report_named : List ℕ → List ℕ → Option (List ℕ) → Option (List ℕ) → Option (List ℕ) → Result (GridRules × Option ℕ × ReportFormat) Reason
+report_named ring gap most waive form = rules_named ring gap >>= λ rules. (most_named most >>= λ n. (report_format_named (is_some waive) form >>= λ f. Ok (rules, n, f)))
 
 -- the rules of a picture: those of a ring and a gap, or none; one of these alone names none (docs/FORMATS.md, The program)
 unfoldable pub draw_named : Option (List ℕ) → Option (List ℕ) → Result (Option GridRules) Reason

@@ -1,5 +1,5 @@
 -- What is said of a report on findings.
-use Rattle.std.specs.Prelude.{◌≡◌, ◌<◌, ◌+◌, ◌⊎◌, ℕ, List, [], ◌∷◌, Option, Result, Ok, Err, length, map, ⊤}
+use Rattle.std.specs.Prelude.{◌≡◌, ◌<◌, ◌+◌, ◌⊎◌, ℕ, true, false, List, [], ◌∷◌, Option, Some, None, Result, Ok, Err, length, map, ⊤, if◌then◌else◌}
 use Rattle.std.specs.Io.KnownBytes.{Appends}
 use Rattle.grid_units.specs.Holes.{GridRules}
 use Rattle.grid_units.specs.declared.fault.Fault.{Fault}
@@ -7,31 +7,53 @@ use Rattle.grid_units.specs.declared.fault.Reason.{Reason}
 use Rattle.package_check.specs.Package.{Source, IsFirstRefused}
 use Rattle.package_check.specs.Soundness.{IsSound}
 use Rattle.package_check.specs.declared.FileSum.{FileSum}
-use Rattle.report_json.specs.Packages.{telling_value}
+use Rattle.report_json.specs.Packages.{telling_value, waived_value}
 use Rattle.report_json.specs.Values.{json_text}
-use Rattle.report_text.specs.Texts.{telling_text}
+use Rattle.report_text.specs.Texts.{telling_text, waived_text}
 use Rattle.report_text.specs.declared.GapLack.{GapLack}
 use Rattle.report_text.specs.declared.RingLack.{RingLack}
 use Rattle.report_text.specs.declared.Telling.{Telling}
+use Rattle.report_text.specs.declared.Whys.{Whys}
 use Rattle.telling.specs.Telling.{IsAsCheck, IsTellingOf}
 use Rattle.ringcheck.specs.declared.Status.{Status}
 use Rattle.ringcheck.specs.declared.Status.TheVariants as status
 use Rattle.ringcheck.specs.declared.ending.Ended.{Ended}
 use Rattle.ringcheck.specs.declared.ending.Ended.TheVariants as ended
-use Rattle.ringcheck.specs.declared.naming.Format.{Format}
-use Rattle.ringcheck.specs.declared.naming.Format.TheVariants as format
+use Rattle.ringcheck.specs.declared.naming.ReportFormat.{ReportFormat}
+use Rattle.ringcheck.specs.declared.naming.ReportFormat.TheVariants as format
 use Rattle.ringcheck.specs.Running.{OfPackage, Relation, RefusedIn}
+use Rattle.ringcheck.specs.Waiving.{HasWaivers, RefusedWaivers}
+use Rattle.waivers.specs.Findings.{findings_text}
+use Rattle.waivers.specs.Waiving.{AreReasons, IsWaived, are_all_waived}
+use Rattle.waivers.specs.declared.Waiver.{Waiver}
+use Rattle.waivers.specs.declared.waiving.Waived.{Waived}
 
--- what is printed of a report in a format: as text with so many findings at most, as JSON with all of them (docs/FORMATS.md, Report; JSON)
-abbrev pub telling_page : Format → List (List ℕ) → List FileSum → Telling → Option ℕ → List ℕ
+-- what is printed of a report in a format: as text with so many findings at most, as JSON or as a file of waivers with all of them (docs/FORMATS.md, Report; JSON; Waivers)
+abbrev pub telling_page : ReportFormat → List (List ℕ) → List FileSum → Telling → Option ℕ → List ℕ
 telling_page format.Text names files told most = telling_text names told most
 telling_page format.Json names files told most = json_text (telling_value names files told)
+telling_page format.Waivers names files told most = findings_text names told
+
+-- the same with the reasons why findings are accepted (docs/FORMATS.md, Report; JSON; Waivers)
+abbrev pub waived_page : ReportFormat → List (List ℕ) → List FileSum → Telling → Option ℕ → Whys → List ℕ
+waived_page format.Text names files told most whys = waived_text names told most whys
+waived_page format.Json names files told most whys = json_text (waived_value names files told whys)
+waived_page format.Waivers names files told most whys = findings_text names told
 
 -- The writer got the report of files under rules, in a format. It has just as many findings as the check of them (docs/DEFINITIONS.md, Runs).
-pub record Tells (all : List Source) (rules : GridRules) (most : Option ℕ) (form : Format) (before after : Option (List ℕ)) (told : Telling) : Type 0 where
+pub record Tells (all : List Source) (rules : GridRules) (most : Option ℕ) (form : ReportFormat) (before after : Option (List ℕ)) (told : Telling) : Type 0 where
   pub is : IsTellingOf all rules told
   pub as_check : IsAsCheck all rules told
   pub written : Appends before after (telling_page form (map (λ source. source.name) all) is.flashed.board.files told most)
+
+-- The same with the waivers of a file: which of them waives each finding, and why (docs/DEFINITIONS.md, Runs).
+pub record TellsAccepted (all : List Source) (rules : GridRules) (most : Option ℕ) (form : ReportFormat) (waivers : List Waiver) (before after : Option (List ℕ)) (told : Telling) (waived : Waived) : Type 0 where
+  pub is : IsTellingOf all rules told
+  pub as_check : IsAsCheck all rules told
+  pub waives : IsWaived waivers (map (λ source. source.name) all) told waived
+  pub whys : Whys
+  pub reasons : AreReasons waivers waived whys
+  pub written : Appends before after (waived_page form (map (λ source. source.name) all) is.flashed.board.files told most whys)
 
 -- the status of a report with these findings (docs/DEFINITIONS.md, Runs)
 abbrev pub telling_status : List RingLack → List GapLack → Status
@@ -40,7 +62,7 @@ telling_status [] (gap ∷ gaps) = status.Findings
 telling_status (ring ∷ rings) gaps = status.Findings
 
 -- the writer got a report without a finding, and the files are sound (docs/DEFINITIONS.md, Runs)
-pub record TellsSound (all : List Source) (rules : GridRules) (most : Option ℕ) (form : Format) (before after : Option (List ℕ)) : Type 0 where
+pub record TellsSound (all : List Source) (rules : GridRules) (most : Option ℕ) (form : ReportFormat) (before after : Option (List ℕ)) : Type 0 where
   pub told : Telling
   pub tells : Tells all rules most form before after told
   pub rings : told.rings.items ≡ []
@@ -48,31 +70,67 @@ pub record TellsSound (all : List Source) (rules : GridRules) (most : Option ℕ
   pub sound : IsSound all rules
 
 -- the writer got a report with some finding (docs/DEFINITIONS.md, Runs)
-pub record TellsFindings (all : List Source) (rules : GridRules) (most : Option ℕ) (form : Format) (before after : Option (List ℕ)) : Type 0 where
+pub record TellsFindings (all : List Source) (rules : GridRules) (most : Option ℕ) (form : ReportFormat) (before after : Option (List ℕ)) : Type 0 where
   pub told : Telling
   pub tells : Tells all rules most form before after told
   pub some : 0 < length told.rings.items + length told.gaps.items
 
+-- the status of a report by which waiver waives each finding (docs/DEFINITIONS.md, Runs)
+abbrev pub waived_status : Waived → Status
+waived_status waived = if are_all_waived waived then status.Pass else status.Findings
+
+-- the writer got a report whose findings are all waived, each by some record; without findings the files are sound (docs/DEFINITIONS.md, Runs)
+pub record TellsWaived (all : List Source) (rules : GridRules) (most : Option ℕ) (form : ReportFormat) (waivers : List Waiver) (before after : Option (List ℕ)) : Type 0 where
+  pub told : Telling
+  pub waived : Waived
+  pub tells : TellsAccepted all rules most form waivers before after told waived
+  pub each : are_all_waived waived ≡ true
+  pub sound : told.rings.items ≡ [] → told.gaps.items ≡ [] → IsSound all rules
+
+-- the writer got a report with some finding that no record waives (docs/DEFINITIONS.md, Runs)
+pub record TellsUnwaived (all : List Source) (rules : GridRules) (most : Option ℕ) (form : ReportFormat) (waivers : List Waiver) (before after : Option (List ℕ)) : Type 0 where
+  pub told : Telling
+  pub waived : Waived
+  pub tells : TellsAccepted all rules most form waivers before after told waived
+  pub some : are_all_waived waived ≡ false
+
+-- the writer got a report that passes, without a file of waivers or with the waivers of one (docs/DEFINITIONS.md, Runs)
+abbrev pub TellsPass : List Source → GridRules → Option ℕ → ReportFormat → Option (List Waiver) → Option (List ℕ) → Option (List ℕ) → Type 0
+TellsPass all rules most form None before after = TellsSound all rules most form before after
+TellsPass all rules most form (Some waivers) before after = TellsWaived all rules most form waivers before after
+
+-- the writer got a report that does not pass, without a file of waivers or with the waivers of one (docs/DEFINITIONS.md, Runs)
+abbrev pub TellsLacks : List Source → GridRules → Option ℕ → ReportFormat → Option (List Waiver) → Option (List ℕ) → Option (List ℕ) → Type 0
+TellsLacks all rules most form None before after = TellsFindings all rules most form before after
+TellsLacks all rules most form (Some waivers) before after = TellsUnwaived all rules most form waivers before after
+
 -- What a status says of the report for people of a package. It is refused just where the check is (docs/DEFINITIONS.md, Runs).
-abbrev pub SaysReport : Relation → List ℕ → GridRules → Option ℕ → Format → Option (List ℕ) → Option (List ℕ) → Status → Type 0
-SaysReport has name rules most form before after status.Pass = OfPackage has name (λ all. TellsSound all rules most form before after)
-SaysReport has name rules most form before after status.Findings = OfPackage has name (λ all. TellsFindings all rules most form before after)
-SaysReport has name rules most form before after status.Refused = RefusedIn has name rules
-SaysReport has name rules most form before after status.Usage = ⊥
-SaysReport has name rules most form before after status.Device = ⊤
+abbrev pub SaysReport : Relation → List ℕ → GridRules → Option ℕ → ReportFormat → Option (List Waiver) → Option (List ℕ) → Option (List ℕ) → Status → Type 0
+SaysReport has name rules most form waivers before after status.Pass = OfPackage has name (λ all. TellsPass all rules most form waivers before after)
+SaysReport has name rules most form waivers before after status.Findings = OfPackage has name (λ all. TellsLacks all rules most form waivers before after)
+SaysReport has name rules most form waivers before after status.Refused = RefusedIn has name rules
+SaysReport has name rules most form waivers before after status.Usage = ⊥
+SaysReport has name rules most form waivers before after status.Device = ⊤
+
+-- The same with the file of waivers that is named, if one is: this file is refused, it cannot be read or memory ran out, or it has waivers
+-- and the report is made with them (docs/DEFINITIONS.md, Runs).
+abbrev pub SaysWaiving : Relation → List ℕ → GridRules → Option ℕ → ReportFormat → Option (List ℕ) → Option (List ℕ) → Option (List ℕ) → Status → Type 0
+SaysWaiving has name rules most form None before after s = SaysReport has name rules most form None before after s
+SaysWaiving has name rules most form (Some file) before after s =
+    ((s ≡ status.Refused) × RefusedWaivers has file) ⊎ ((s ≡ status.Device) ⊎ ((waivers : List Waiver) × HasWaivers has file waivers × SaysReport has name rules most form (Some waivers) before after s))
 
 -- the same, of rules, a count and a format that words name, or that they do not name (docs/DEFINITIONS.md, Runs)
-abbrev pub SaysReportOf : Relation → List ℕ → Result (GridRules × Option ℕ × Format) Reason → Option (List ℕ) → Option (List ℕ) → Status → Type 0
-SaysReportOf has name (Ok (rules, most, form)) before after s = SaysReport has name rules most form before after s
-SaysReportOf has name (Err why) before after s = (s ≡ status.Usage) ⊎ (s ≡ status.Device)
+abbrev pub SaysReportOf : Relation → List ℕ → Result (GridRules × Option ℕ × ReportFormat) Reason → Option (List ℕ) → Option (List ℕ) → Option (List ℕ) → Status → Type 0
+SaysReportOf has name (Ok (rules, most, form)) waive before after s = SaysWaiving has name rules most form waive before after s
+SaysReportOf has name (Err why) waive before after s = (s ≡ status.Usage) ⊎ (s ≡ status.Device)
 
 -- what an end says of the report of files that are at hand (docs/DEFINITIONS.md, Runs)
-abbrev pub AnsweredReport : List Source → GridRules → Option ℕ → Format → Option (List ℕ) → Option (List ℕ) → Ended → Type 0
-AnsweredReport all rules most form before after (ended.Said status.Pass) = TellsSound all rules most form before after
-AnsweredReport all rules most form before after (ended.Said status.Findings) = TellsFindings all rules most form before after
-AnsweredReport all rules most form before after (ended.Said status.Refused) = (fault : ℕ × Fault) × IsFirstRefused all fault.0 fault.1
-AnsweredReport all rules most form before after (ended.Said status.Usage) = ⊥
-AnsweredReport all rules most form before after (ended.Said status.Device) = ⊥
-AnsweredReport all rules most form before after ended.LoaderFailed = ⊥
-AnsweredReport all rules most form before after ended.OutOfMemory = ⊤
-AnsweredReport all rules most form before after ended.WriterFailed = ⊤
+abbrev pub AnsweredReport : List Source → GridRules → Option ℕ → ReportFormat → Option (List Waiver) → Option (List ℕ) → Option (List ℕ) → Ended → Type 0
+AnsweredReport all rules most form waivers before after (ended.Said status.Pass) = TellsPass all rules most form waivers before after
+AnsweredReport all rules most form waivers before after (ended.Said status.Findings) = TellsLacks all rules most form waivers before after
+AnsweredReport all rules most form waivers before after (ended.Said status.Refused) = (fault : ℕ × Fault) × IsFirstRefused all fault.0 fault.1
+AnsweredReport all rules most form waivers before after (ended.Said status.Usage) = ⊥
+AnsweredReport all rules most form waivers before after (ended.Said status.Device) = ⊥
+AnsweredReport all rules most form waivers before after ended.LoaderFailed = ⊥
+AnsweredReport all rules most form waivers before after ended.OutOfMemory = ⊤
+AnsweredReport all rules most form waivers before after ended.WriterFailed = ⊤

@@ -1,18 +1,18 @@
 //! Tells of the package of a manifest, or draws it: what wants the flashes of its layers too.
 
-ghost use Rattle.std.specs.Prelude.{◌≡◌, ℕ, List, length, option_map};
+ghost use Rattle.std.specs.Prelude.{◌≡◌, ℕ, List, None, Some, length, option_map};
 ghost use Rattle.flashed_boards.specs.Flashed.{FlashedStandsAfter, IsFlashed};
 ghost use Rattle.ringcheck.specs.Drawing.{SaysDrawOf};
 ghost use Rattle.ringcheck.specs.Endings.{HasCause, status_after};
 ghost use Rattle.ringcheck.specs.Naming as named;
-ghost use Rattle.ringcheck.specs.Reporting.{SaysReportOf};
+ghost use Rattle.ringcheck.specs.Reporting.{SaysReport, SaysReportOf, SaysWaiving};
 ghost use Rattle.ringcheck.specs.Running.{sources};
-ghost use Rattle.ringcheck.specs.Working.{AnsweredFlashed, SaysFlashed};
+ghost use Rattle.ringcheck.specs.Inner.Working.{AnsweredFlashed, SaysFlashed};
 
 use crate::drawings::answer_draw;
 use crate::ending::{Ended, say_line, say_out_of_memory};
-use crate::loading_files::{load_manifest, take_files};
-use crate::naming::{Format, draw_named, report_named};
+use crate::loading_files::{load_manifest, load_waivers, take_files};
+use crate::naming::{ReportFormat, ReportWords, draw_named, report_named};
 use crate::refusing::{Style, say_refused, tell};
 use crate::reports::answer_report;
 use crate::{Entry, Loader, PackageFault, Status, lines};
@@ -20,22 +20,43 @@ use flashed_boards::{FlashedBoard, FlashedReader};
 use grid_units::Rules;
 use std::alloc::Global;
 use std::io::Write;
+use waivers::Waiver;
+
+/// What a report is asked for.
+#[derive(Debug, Drop)]
+pub(crate) struct ReportOrder {
+    /// The ring and the gap that are asked.
+    pub(crate) rules: Rules,
+    /// How many findings are told at most.
+    pub(crate) most: Option<usize>,
+    pub(crate) format: ReportFormat,
+    /// The waivers of the file that was named, if one was.
+    pub(crate) waivers: Option<Vec<Waiver>>,
+}
+
+/// How it is told why there is no report.
+fn style_of(format: ReportFormat) -> Style {
+    match format {
+        ReportFormat::Text => Style::Page,
+        ReportFormat::Json => Style::Json,
+        ReportFormat::Waivers => Style::Line,
+    }
+}
 
 /// What is done with a package whose flashes are wanted too.
-#[derive(Clone, Copy, Debug, PartialEq, Eq)]
+#[derive(Debug, Drop)]
 pub(crate) enum FlashedWork {
-    /// Its findings under these rules are told, at most so many, in this format.
-    Report(Rules, Option<usize>, Format),
+    /// Its findings are told.
+    Report(ReportOrder),
     /// It is drawn, with what is found under the rules, if there are any.
     Draw(Option<Rules>),
 }
 
 impl FlashedWork {
     /// How it is told why it was not done.
-    fn style(self) -> Style {
+    fn style(&self) -> Style {
         match self {
-            FlashedWork::Report(_, _, Format::Text) => Style::Page,
-            FlashedWork::Report(_, _, Format::Json) => Style::Json,
+            FlashedWork::Report(order) => style_of(order.format),
             FlashedWork::Draw(_) => Style::Line,
         }
     }
@@ -44,32 +65,30 @@ impl FlashedWork {
 /// Does this work on a board of the files of these entries.
 fn answer_board<W: Write>(
     alloc: Global,
-    work: FlashedWork,
+    work: &FlashedWork,
     board: &FlashedBoard,
     entries: &[Entry],
     out: &mut W,
 ) -> Ended
     ensures { (files : List (List ℕ)) → length entries.now ≡ length files → IsFlashed (sources entries.now files) board.now
-        → AnsweredFlashed work (sources entries.now files) (W.contents out.old) (W.contents out.new) result }
+        → AnsweredFlashed work.now (sources entries.now files) (W.contents out.old) (W.contents out.new) result }
 {
     match work {
-        FlashedWork::Report(rules, most, format) => {
-            answer_report(alloc, board, entries, rules, most, format, out)
-        }
-        FlashedWork::Draw(rules) => answer_draw(alloc, board, entries, rules, out),
+        FlashedWork::Report(order) => answer_report(alloc, board, entries, order, out),
+        FlashedWork::Draw(rules) => answer_draw(alloc, board, entries, *rules, out),
     }
 }
 
 /// Does this work on the files of these entries, which a reader has taken.
 fn answer<W: Write>(
     alloc: Global,
-    work: FlashedWork,
+    work: &FlashedWork,
     reader: FlashedReader,
     entries: &[Entry],
     out: &mut W,
 ) -> Ended
     ensures { (files : List (List ℕ)) → length entries.now ≡ length files → FlashedStandsAfter reader (sources entries.now files)
-        → AnsweredFlashed work (sources entries.now files) (W.contents out.old) (W.contents out.new) result }
+        → AnsweredFlashed work.now (sources entries.now files) (W.contents out.old) (W.contents out.new) result }
 {
     match reader.finish() {
         Ok(board) => answer_board(alloc, work, &board, entries, out),
@@ -83,12 +102,12 @@ fn answer<W: Write>(
 /// Does this work on the package of a manifest.
 fn work_on<L: Loader, W: Write>(
     alloc: Global,
-    work: FlashedWork,
+    work: &FlashedWork,
     name: &str,
     loader: &mut L,
     out: &mut W,
 ) -> Ended
-    ensures says { SaysFlashed work (L.has loader.old) name.now (W.contents out.old) (W.contents out.new) (status_after result) }
+    ensures says { SaysFlashed work.now (L.has loader.old) name.now (W.contents out.old) (W.contents out.new) (status_after result) }
     ensures cause { HasCause (L.failed loader.old) (L.failed loader.new) result }
 {
     let entries = match load_manifest(alloc, loader, name) {
@@ -101,27 +120,76 @@ fn work_on<L: Loader, W: Write>(
     }
 }
 
-/// Tells of the package of a manifest under the rules that two words name: each finding, by how much and why, and at most as
-/// many of them as a third word says, in the format that a fourth one names.
-pub(crate) fn report<L: Loader, W: Write>(
+/// Tells of the package of a manifest without waivers.
+fn report_plain<L: Loader, W: Write>(
     alloc: Global,
-    ring: &str,
-    gap: &str,
-    most: Option<&str>,
-    format: Option<&str>,
+    rules: Rules,
+    most: Option<usize>,
+    format: ReportFormat,
     name: &str,
     loader: &mut L,
     out: &mut W,
 ) -> Ended
-    ensures says { SaysReportOf (L.has loader.old) name.now (named.report_named ring.now gap.now (option_map (λ w. w.now) most.entry) (option_map (λ w. w.now) format.entry)) (W.contents out.old) (W.contents out.new) (status_after result) }
+    ensures says { SaysReport (L.has loader.old) name.now rules most format None (W.contents out.old) (W.contents out.new) (status_after result) }
     ensures cause { HasCause (L.failed loader.old) (L.failed loader.new) result }
 {
-    match report_named(ring, gap, most, format) {
-        Ok((rules, most, format)) => {
-            let work = FlashedWork::Report(rules, most, format);
-            work_on(alloc, work, name, loader, out)
+    let order = ReportOrder {
+        rules,
+        most,
+        format,
+        waivers: None,
+    };
+    work_on(alloc, &FlashedWork::Report(order), name, loader, out)
+}
+
+/// Tells of the package of a manifest with the waivers of a file, which is loaded first.
+fn report_waived<L: Loader, W: Write>(
+    alloc: Global,
+    rules: Rules,
+    most: Option<usize>,
+    format: ReportFormat,
+    file: &str,
+    name: &str,
+    loader: &mut L,
+    out: &mut W,
+) -> Ended
+    ensures says { SaysWaiving (L.has loader.old) name.now rules most format (Some file.now) (W.contents out.old) (W.contents out.new) (status_after result) }
+    ensures cause { HasCause (L.failed loader.old) (L.failed loader.new) result }
+{
+    let waivers = match load_waivers(alloc, loader, file) {
+        Ok(waivers) => waivers,
+        Err(stop) => return tell(alloc, style_of(format), &[], stop, out),
+    };
+    let order = ReportOrder {
+        rules,
+        most,
+        format,
+        waivers: Some(waivers),
+    };
+    work_on(alloc, &FlashedWork::Report(order), name, loader, out)
+}
+
+/// Tells of the package of a manifest as these words ask: each finding under the rules, by how much, why, and whether it is
+/// waived.
+pub(crate) fn report<L: Loader, W: Write>(
+    alloc: Global,
+    asked: &ReportWords,
+    name: &str,
+    loader: &mut L,
+    out: &mut W,
+) -> Ended
+    ensures says { SaysReportOf (L.has loader.old) name.now (named.report_named asked.now.ring.now asked.now.gap.now (option_map (λ w. w.now) asked.now.most) (option_map (λ w. w.now) asked.now.waive) (option_map (λ w. w.now) asked.now.format)) (option_map (λ w. w.now) asked.now.waive) (W.contents out.old) (W.contents out.new) (status_after result) }
+    ensures cause { HasCause (L.failed loader.old) (L.failed loader.new) result }
+{
+    let (rules, most, format) = match report_named(asked) {
+        Ok(named) => named,
+        Err(reason) => {
+            return say_line(out, lines::usage(alloc, reason), Ended::Said(Status::Usage));
         }
-        Err(reason) => say_line(out, lines::usage(alloc, reason), Ended::Said(Status::Usage)),
+    };
+    match asked.waive {
+        None => report_plain(alloc, rules, most, format, name, loader, out),
+        Some(file) => report_waived(alloc, rules, most, format, file, name, loader, out),
     }
 }
 
@@ -138,7 +206,7 @@ pub(crate) fn draw<L: Loader, W: Write>(
     ensures cause { HasCause (L.failed loader.old) (L.failed loader.new) result }
 {
     match draw_named(ring, gap) {
-        Ok(rules) => work_on(alloc, FlashedWork::Draw(rules), name, loader, out),
+        Ok(rules) => work_on(alloc, &FlashedWork::Draw(rules), name, loader, out),
         Err(reason) => say_line(out, lines::usage(alloc, reason), Ended::Said(Status::Usage)),
     }
 }

@@ -42,6 +42,16 @@ pub(crate) fn refused_manifest(
     format!(in alloc; "refused manifest place={place} reason={reason}\n")
 }
 
+/// The line of a file of waivers that is refused.
+pub(crate) fn refused_waivers(
+    alloc: Global,
+    place: u64,
+    reason: Reason,
+) -> Result<String, AllocError> {
+    let reason = reason.name();
+    format!(in alloc; "refused waivers place={place} reason={reason}\n")
+}
+
 /// The line of a file that can't be read.
 pub(crate) fn device(alloc: Global, index: usize, name: &str) -> Result<String, AllocError> {
     let number = index as u128 + 1;

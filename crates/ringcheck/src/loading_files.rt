@@ -6,17 +6,19 @@ ghost use Rattle.manifest.specs.Manifest.{manifest};
 ghost use Rattle.package_check.specs.Package.{Source, is_copper};
 ghost use Rattle.ringcheck.specs.Endings.{HasRisen};
 ghost use Rattle.ringcheck.specs.Running.{HasFiles, file_limit, manifest_limit, sources, within};
-ghost use Rattle.ringcheck.specs.Stopping.{IsUnread, StopsManifest, StopsFiles};
+ghost use Rattle.ringcheck.specs.Inner.Stopping.{IsUnread, StopsManifest, StopsFiles, StopsWaivers};
+ghost use Rattle.ringcheck.specs.Waiving.{HasWaivers};
 
 use crate::taking::TakesFiles;
 use crate::{Entry, LoadFault, Loader, Role, read_manifest};
 use grid_units::{Fail, Reason};
 use std::alloc::Global;
+use waivers::{Waiver, read_waivers};
 
 /// The most bytes of a file.
 pub(crate) const FILE_LIMIT: u64 = 268_435_456;
 
-/// The most bytes of a manifest.
+/// The most bytes of a manifest, and of a file of waivers.
 const MANIFEST_LIMIT: u64 = 1_048_576;
 
 /// Why a package was not loaded.
@@ -31,6 +33,10 @@ pub(crate) enum Stop {
     Manifest { place: u64, reason: Reason },
     /// The file of this entry is above the limit.
     LongFile(usize),
+    /// The file of waivers is refused.
+    Waivers { place: u64, reason: Reason },
+    /// The file of waivers can't be read.
+    DeviceWaivers,
 }
 
 /// The entries of the manifest under a name.
@@ -57,6 +63,36 @@ pub(crate) fn load_manifest<L: Loader>(
         Err(LoadFault::Device) => Err(Stop::Device),
         Err(LoadFault::Memory) => Err(Stop::Memory),
         Err(LoadFault::TooLong) => Err(Stop::Manifest {
+            place: 0,
+            reason: Reason::TooLong,
+        }),
+    }
+}
+
+/// The waivers of the file under a name.
+pub(crate) fn load_waivers<L: Loader>(
+    alloc: Global,
+    loader: &mut L,
+    file: &str,
+) -> Result<Vec<Waiver>, Stop>
+    ensures keeps { (n b : List ℕ) → L.has loader.new n b ↔ L.has loader.old n b }
+    ensures ok { IfOk result (λ all. HasWaivers (L.has loader.old) file.now all.items) }
+    ensures err { IfErr result (StopsWaivers (L.has loader.old) file.now) }
+    ensures counts { L.failed loader.old ≤ L.failed loader.new }
+    ensures unread { IfErr result (λ stop. IsUnread stop → HasRisen (L.failed loader.old) (L.failed loader.new)) }
+{
+    match loader.load(alloc, file, MANIFEST_LIMIT) {
+        Ok(bytes) => match read_waivers(alloc, bytes.as_slice()) {
+            Ok(waivers) => Ok(waivers),
+            Err(Fail::Memory) => Err(Stop::Memory),
+            Err(Fail::Refused(fault)) => Err(Stop::Waivers {
+                place: fault.place,
+                reason: fault.reason,
+            }),
+        },
+        Err(LoadFault::Device) => Err(Stop::DeviceWaivers),
+        Err(LoadFault::Memory) => Err(Stop::Memory),
+        Err(LoadFault::TooLong) => Err(Stop::Waivers {
             place: 0,
             reason: Reason::TooLong,
         }),

@@ -52,6 +52,30 @@ pub(crate) fn format_named(word: Option<&str>) -> Result<Format, Reason>
     }
 }
 
+/// How a report is printed.
+#[derive(Clone, Copy, Debug, PartialEq, Eq)]
+pub(crate) enum ReportFormat {
+    /// Lines for people.
+    Text,
+    /// One object of JSON on one line.
+    Json,
+    /// Its findings as a file of waivers, whose reasons are left to the user.
+    Waivers,
+}
+
+/// The format of a report that a word names: text where there is none. It prints no waivers where it is given some.
+#[tactic(auto, unfolding(crate::specs::Naming::report_format_named))]
+fn report_format_named(waives: bool, word: Option<&str>) -> Result<ReportFormat, Reason>
+    ensures { result ≡ words.report_format_named waives (option_map (λ w. w.now) word.entry) }
+{
+    match word {
+        None | Some("text") => Ok(ReportFormat::Text),
+        Some("json") => Ok(ReportFormat::Json),
+        Some(word) if word == "waivers" && !waives => Ok(ReportFormat::Waivers),
+        Some(_) => Err(Reason::BadRole),
+    }
+}
+
 /// How many findings a word of one to nine digits names.
 #[tactic(auto, unfolding(crate::specs::Naming::count_named))]
 fn count_named(word: &str) -> Result<usize, Reason>
@@ -74,19 +98,26 @@ fn most_named(word: Option<&str>) -> Result<Option<usize>, Reason>
     }
 }
 
+/// The words of the options of a report.
+#[derive(Clone, Copy, Debug)]
+pub(crate) struct ReportWords<'a> {
+    pub(crate) ring: &'a str,
+    pub(crate) gap: &'a str,
+    pub(crate) most: Option<&'a str>,
+    pub(crate) waive: Option<&'a str>,
+    pub(crate) format: Option<&'a str>,
+}
+
 /// The rules of a report, how many findings it tells at most, and its format, read in this order.
 #[tactic(auto, unfolding(crate::specs::Naming::report_named))]
 pub(crate) fn report_named(
-    ring: &str,
-    gap: &str,
-    most: Option<&str>,
-    format: Option<&str>,
-) -> Result<(Rules, Option<usize>, Format), Reason>
-    ensures { result ≡ words.report_named ring.now gap.now (option_map (λ w. w.now) most.entry) (option_map (λ w. w.now) format.entry) }
+    asked: &ReportWords,
+) -> Result<(Rules, Option<usize>, ReportFormat), Reason>
+    ensures { result ≡ words.report_named asked.now.ring.now asked.now.gap.now (option_map (λ w. w.now) asked.now.most) (option_map (λ w. w.now) asked.now.waive) (option_map (λ w. w.now) asked.now.format) }
 {
-    let rules = rules_named(ring, gap)?;
-    let most = most_named(most)?;
-    let format = format_named(format)?;
+    let rules = rules_named(asked.ring, asked.gap)?;
+    let most = most_named(asked.most)?;
+    let format = report_format_named(asked.waive.is_some(), asked.format)?;
     Ok((rules, most, format))
 }
 

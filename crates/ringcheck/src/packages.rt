@@ -8,9 +8,9 @@ ghost use Rattle.package_check.specs.Standing.{PackageStandsAfter};
 ghost use Rattle.package_check.specs.Texts.{text_of};
 ghost use Rattle.ringcheck.specs.Measuring.{SaysMeasureOf};
 ghost use Rattle.ringcheck.specs.Running.{SaysOf, sources};
-ghost use Rattle.ringcheck.specs.Stopping.{Answered};
-ghost use Rattle.ringcheck.specs.Working.{AnsweredBy, SaysBy};
-ghost use Rattle.ringcheck.specs.Stopping as stopping;
+ghost use Rattle.ringcheck.specs.Inner.Stopping.{Answered};
+ghost use Rattle.ringcheck.specs.Inner.Working.{AnsweredBy, SaysBy};
+ghost use Rattle.ringcheck.specs.Inner.Stopping as stopping;
 
 use crate::ending::{Ended, say_line, say_out_of_memory};
 use crate::loading_files::{load_manifest, take_files};

@@ -14,6 +14,7 @@ ghost use Rattle.ringcheck.specs.Running.{SaysOf};
 use crate::ending::{Ended, say, say_line, say_out_of_memory};
 use crate::explaining::explain;
 use crate::flashed::{draw, report};
+use crate::naming::ReportWords;
 use crate::packages::{check, measure};
 use crate::proposing::print_manifest;
 use crate::single_files::{Task, print};
@@ -31,8 +32,8 @@ fn run_to_end<L: Loader, W: Write>(
 ) -> Ended
     ensures check { (r g m : List ℕ) → map (λ w. w.now) words.now ≡ check_words r g m → is_plain_word r ≡ true → is_plain_word g ≡ true
         → is_plain_word m ≡ true → SaysOf (L.has loader.old) m (named.rules_named r g) (W.contents out.old) (W.contents out.new) (status_after result) }
-    ensures report { (r g : List ℕ) (most format : Option (List ℕ)) (m : List ℕ) → map (λ w. w.now) words.now ≡ report_words r g most format m → is_plain_word r ≡ true → is_plain_word g ≡ true
-        → is_plain_if_some most ≡ true → is_plain_if_some format ≡ true → is_plain_word m ≡ true → SaysReportOf (L.has loader.old) m (named.report_named r g most format) (W.contents out.old) (W.contents out.new) (status_after result) }
+    ensures report { (r g : List ℕ) (most waive format : Option (List ℕ)) (m : List ℕ) → map (λ w. w.now) words.now ≡ report_words r g most waive format m → is_plain_word r ≡ true → is_plain_word g ≡ true
+        → is_plain_if_some most ≡ true → is_plain_if_some waive ≡ true → is_plain_if_some format ≡ true → is_plain_word m ≡ true → SaysReportOf (L.has loader.old) m (named.report_named r g most waive format) waive (W.contents out.old) (W.contents out.new) (status_after result) }
     ensures measure { (format : Option (List ℕ)) (m : List ℕ) → map (λ w. w.now) words.now ≡ measure_words format m → is_plain_if_some format ≡ true → is_plain_word m ≡ true
         → SaysMeasureOf (L.has loader.old) m (named.format_named format) (W.contents out.old) (W.contents out.new) (status_after result) }
     ensures draw { (rules : Option (List ℕ × List ℕ)) (m : List ℕ) → map (λ w. w.now) words.now ≡ draw_words rules m → are_plain_rules rules ≡ true → is_plain_word m ≡ true
@@ -62,10 +63,20 @@ fn run_to_end<L: Loader, W: Write>(
                 ring,
                 gap,
                 most,
+                waive,
                 format,
                 manifest,
             },
-        ) => report(alloc, ring, gap, most, format, manifest, loader, out),
+        ) => {
+            let asked = ReportWords {
+                ring,
+                gap,
+                most,
+                waive,
+                format,
+            };
+            report(alloc, &asked, manifest, loader, out)
+        }
         Ok(Request::Measure { format, manifest }) => measure(alloc, format, manifest, loader, out),
         Ok(
             Request::Draw {
@@ -100,8 +111,8 @@ pub fn run<L: Loader, W: Write>(
 ) -> Status
     ensures check { (r g m : List ℕ) → map (λ w. w.now) words.now ≡ check_words r g m → is_plain_word r ≡ true → is_plain_word g ≡ true
         → is_plain_word m ≡ true → SaysOf (L.has loader.old) m (named.rules_named r g) (W.contents out.old) (W.contents out.new) result }
-    ensures report { (r g : List ℕ) (most format : Option (List ℕ)) (m : List ℕ) → map (λ w. w.now) words.now ≡ report_words r g most format m → is_plain_word r ≡ true → is_plain_word g ≡ true
-        → is_plain_if_some most ≡ true → is_plain_if_some format ≡ true → is_plain_word m ≡ true → SaysReportOf (L.has loader.old) m (named.report_named r g most format) (W.contents out.old) (W.contents out.new) result }
+    ensures report { (r g : List ℕ) (most waive format : Option (List ℕ)) (m : List ℕ) → map (λ w. w.now) words.now ≡ report_words r g most waive format m → is_plain_word r ≡ true → is_plain_word g ≡ true
+        → is_plain_if_some most ≡ true → is_plain_if_some waive ≡ true → is_plain_if_some format ≡ true → is_plain_word m ≡ true → SaysReportOf (L.has loader.old) m (named.report_named r g most waive format) waive (W.contents out.old) (W.contents out.new) result }
     ensures measure { (format : Option (List ℕ)) (m : List ℕ) → map (λ w. w.now) words.now ≡ measure_words format m → is_plain_if_some format ≡ true → is_plain_word m ≡ true
         → SaysMeasureOf (L.has loader.old) m (named.format_named format) (W.contents out.old) (W.contents out.new) result }
     ensures draw { (rules : Option (List ℕ × List ℕ)) (m : List ℕ) → map (λ w. w.now) words.now ≡ draw_words rules m → are_plain_rules rules ≡ true → is_plain_word m ≡ true

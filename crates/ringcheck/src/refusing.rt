@@ -1,7 +1,7 @@
 //! Tells why nothing was done with a package.
 
 ghost use Rattle.std.specs.Prelude.{◌≡◌, ◌≢◌};
-ghost use Rattle.ringcheck.specs.Stopping.{TellsOf};
+ghost use Rattle.ringcheck.specs.Inner.Stopping.{TellsOf};
 
 use crate::ending::{Ended, say, say_line, say_out_of_memory};
 use crate::loading_files::Stop;
@@ -65,6 +65,20 @@ fn refused_manifest(
     }
 }
 
+/// What is said of a file of waivers that is refused.
+fn refused_waivers(
+    alloc: Global,
+    style: Style,
+    place: u64,
+    reason: Reason,
+) -> Result<String, AllocError> {
+    match style {
+        Style::Line => lines::refused_waivers(alloc, place, reason),
+        Style::Page => lines::with_page(lines::refused_waivers(alloc, place, reason), reason),
+        Style::Json => refusal_json(alloc, &report_json::Stop::RefusedWaivers { place, reason }),
+    }
+}
+
 /// What is said of a file that can't be read.
 fn unread(alloc: Global, style: Style, index: usize, name: &str) -> Result<String, AllocError> {
     match style {
@@ -73,16 +87,13 @@ fn unread(alloc: Global, style: Style, index: usize, name: &str) -> Result<Strin
     }
 }
 
-/// Says that a manifest can't be read.
-fn say_unread_manifest<W: Write>(alloc: Global, style: Style, out: &mut W) -> Ended
+/// Says that a manifest or a file of waivers can't be read.
+fn say_unread<W: Write>(alloc: Global, style: Style, stop: &report_json::Stop, out: &mut W) -> Ended
     ensures { result ≢ Ended.WriterFailed → result ≢ Ended.OutOfMemory → result ≡ Ended.LoaderFailed }
 {
     match style {
         Style::Line | Style::Page => say(out, b"device\n", Ended::LoaderFailed),
-        Style::Json => {
-            let text = refusal_json(alloc, &report_json::Stop::ManifestDevice);
-            say_line(out, text, Ended::LoaderFailed)
-        }
+        Style::Json => say_line(out, refusal_json(alloc, stop), Ended::LoaderFailed),
     }
 }
 
@@ -113,13 +124,18 @@ pub(crate) fn tell<W: Write>(
 {
     match stop {
         Stop::Memory => say_out_of_memory(out),
-        Stop::Device => say_unread_manifest(alloc, style, out),
+        Stop::Device => say_unread(alloc, style, &report_json::Stop::ManifestDevice, out),
+        Stop::DeviceWaivers => say_unread(alloc, style, &report_json::Stop::WaiversDevice, out),
         Stop::DeviceFile(index) => {
             let text = unread(alloc, style, index, name_at(entries, index));
             say_line(out, text, Ended::LoaderFailed)
         }
         Stop::Manifest { place, reason } => {
             let text = refused_manifest(alloc, style, place, reason);
+            say_line(out, text, Ended::Said(Status::Refused))
+        }
+        Stop::Waivers { place, reason } => {
+            let text = refused_waivers(alloc, style, place, reason);
             say_line(out, text, Ended::Said(Status::Refused))
         }
         Stop::LongFile(index) => say_refused(alloc, style, entries, index, ABOVE_LIMIT, out),

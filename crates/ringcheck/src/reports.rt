@@ -1,27 +1,30 @@
 //! Tells of the findings of a board.
 
-ghost use Rattle.std.specs.Prelude.{◌≡◌, ◌≢◌, ℕ, List, map, length};
+ghost use Rattle.std.specs.Prelude.{◌≡◌, ◌≢◌, ℕ, List, Option, OnOk, map, length};
 ghost use Rattle.std.specs.Io.KnownBytes.{Appends};
-ghost use Rattle.report_text.specs.Texts.{telling_text};
 ghost use Rattle.flashed_boards.specs.Flashed.{IsFlashed};
-ghost use Rattle.report_json.specs.Packages.{telling_value};
-ghost use Rattle.report_json.specs.Values.{json_text};
-ghost use Rattle.ringcheck.specs.Reporting.{AnsweredReport, telling_page, telling_status};
+ghost use Rattle.report_text.specs.declared.Whys.{Whys as TheWhys};
+ghost use Rattle.ringcheck.specs.Reporting.{AnsweredReport, telling_page, telling_status, waived_page};
+ghost use Rattle.ringcheck.specs.Reporting as reporting;
 ghost use Rattle.ringcheck.specs.Running.{sources};
+ghost use Rattle.ringcheck.specs.Inner.Working.{given};
+ghost use Rattle.waivers.specs.Waiving.{AreReasons, IsWaived};
+ghost use Rattle.waivers.specs.declared.waiving.Waived.{Waived as WaivedBy};
 
 use crate::ending::{Ended, say_out_of_memory};
-use crate::naming::Format;
+use crate::flashed::ReportOrder;
+use crate::naming::ReportFormat;
 use crate::packages::names_of;
 use crate::{Entry, Status};
 use flashed_boards::FlashedBoard;
-use grid_units::Rules;
-use package_check::Board;
-use report_json::print_telling_json;
-use report_text::{PrintFault, Telling, print_telling};
+use package_check::FileSum;
+use report_json::{print_telling_json, print_waived_json};
+use report_text::{PrintFault, Telling, Whys, print_telling, print_waived};
 use std::alloc::Global;
 use std::io::Write;
 use telling::laws::tells_as_checks;
 use telling::tell_board;
+use waivers::{Waived, Waiver, idle, print_waivers, reasons, waive};
 
 /// The status of a report: whether it has a finding.
 fn status_of(told: &Telling) -> Status
@@ -34,69 +37,133 @@ fn status_of(told: &Telling) -> Status
     }
 }
 
-/// Prints a report on files of these names as text, with so many findings at most.
-fn print_text<W: Write>(
-    alloc: Global,
-    names: &[&str],
-    told: &Telling,
-    most: Option<usize>,
-    out: &mut W,
-) -> Ended
-    ensures written { result ≢ Ended.WriterFailed → result ≢ Ended.OutOfMemory → Appends (W.contents out.old) (W.contents out.new) (telling_text (map (λ name. name.now) names.now) told.now most) }
-    ensures ends { result ≢ Ended.WriterFailed → result ≢ Ended.OutOfMemory → result ≡ Ended.Said (telling_status told.now.rings.items told.now.gaps.items) }
+/// The status of a report with waivers: whether it has a finding that none of them waives.
+fn waived_status(waived: &Waived) -> Status
+    ensures { result ≡ reporting.waived_status waived.now }
 {
-    match print_telling(alloc, names, told, most, out) {
-        Ok(()) => Ended::Said(status_of(told)),
-        Err(PrintFault::Memory) => say_out_of_memory(out),
-        Err(PrintFault::Cut) => Ended::WriterFailed,
+    if waived.all() {
+        Status::Pass
+    } else {
+        Status::Findings
     }
 }
 
-/// Prints a report on a board with files of these names as JSON.
-fn print_json<W: Write>(
-    alloc: Global,
-    names: &[&str],
-    board: &Board,
-    told: &Telling,
-    out: &mut W,
-) -> Ended
-    ensures written { result ≢ Ended.WriterFailed → result ≢ Ended.OutOfMemory → Appends (W.contents out.old) (W.contents out.new) (json_text (telling_value (map (λ name. name.now) names.now) board.now.files told.now)) }
-    ensures ends { result ≢ Ended.WriterFailed → result ≢ Ended.OutOfMemory → result ≡ Ended.Said (telling_status told.now.rings.items told.now.gaps.items) }
-{
-    match print_telling_json(alloc, names, board.files(), told, out) {
-        Ok(()) => Ended::Said(status_of(told)),
-        Err(PrintFault::Memory) => say_out_of_memory(out),
-        Err(PrintFault::Cut) => Ended::WriterFailed,
-    }
-}
-
-/// Prints a report on a board with files of these entries.
+/// Prints a report in a format. As text it has so many findings at most.
 fn print<W: Write>(
     alloc: Global,
-    entries: &[Entry],
-    board: &Board,
+    names: &[&str],
+    files: &[FileSum],
     told: &Telling,
-    most: Option<usize>,
-    format: Format,
+    order: &ReportOrder,
     out: &mut W,
-) -> Ended
-    ensures written { result ≢ Ended.WriterFailed → result ≢ Ended.OutOfMemory → Appends (W.contents out.old) (W.contents out.new) (telling_page format (map (λ entry. entry.name) entries.now) board.now.files told.now most) }
-    ensures ends { result ≢ Ended.WriterFailed → result ≢ Ended.OutOfMemory → result ≡ Ended.Said (telling_status told.now.rings.items told.now.gaps.items) }
+) -> Result<(), PrintFault>
+    ensures { OnOk result (Appends (W.contents out.old) (W.contents out.new) (telling_page order.now.format (map (λ name. name.now) names.now) files.now told.now order.now.most)) }
 {
-    let Ok(names) = names_of(alloc, entries) else {
-        return say_out_of_memory(out);
-    };
-    match format {
-        Format::Text => print_text(alloc, names.as_slice(), told, most, out),
-        Format::Json => print_json(alloc, names.as_slice(), board, told, out),
+    match order.format {
+        ReportFormat::Text => print_telling(alloc, names, told, order.most, out),
+        ReportFormat::Json => print_telling_json(alloc, names, files, told, out),
+        ReportFormat::Waivers => print_waivers(alloc, names, told, out),
     }
 }
 
-/// The board alone.
-fn board_of(flashed: &FlashedBoard) -> &Board
-    ensures { result.now ≡ flashed.now.board }
+/// Prints a report with the reasons why findings are accepted.
+fn print_accepted<W: Write>(
+    alloc: Global,
+    names: &[&str],
+    files: &[FileSum],
+    told: &Telling,
+    order: &ReportOrder,
+    whys: &Whys,
+    out: &mut W,
+) -> Result<(), PrintFault>
+    ensures { OnOk result (Appends (W.contents out.old) (W.contents out.new) (waived_page order.now.format (map (λ name. name.now) names.now) files.now told.now order.now.most whys.now)) }
 {
-    &flashed.board
+    match order.format {
+        ReportFormat::Text => print_waived(alloc, names, told, order.most, whys, out),
+        ReportFormat::Json => print_waived_json(alloc, names, files, told, whys, out),
+        ReportFormat::Waivers => print_waivers(alloc, names, told, out),
+    }
+}
+
+/// Prints a report, and tells its status.
+fn answer_plain<W: Write>(
+    alloc: Global,
+    names: &[&str],
+    files: &[FileSum],
+    told: &Telling,
+    order: &ReportOrder,
+    out: &mut W,
+) -> Ended
+    ensures written { result ≢ Ended.WriterFailed → result ≢ Ended.OutOfMemory → Appends (W.contents out.old) (W.contents out.new) (telling_page order.now.format (map (λ name. name.now) names.now) files.now told.now order.now.most) }
+    ensures ends { result ≢ Ended.WriterFailed → result ≢ Ended.OutOfMemory → result ≡ Ended.Said (telling_status told.now.rings.items told.now.gaps.items) }
+{
+    match print(alloc, names, files, told, order, out) {
+        Ok(()) => Ended::Said(status_of(told)),
+        Err(PrintFault::Memory) => say_out_of_memory(out),
+        Err(PrintFault::Cut) => Ended::WriterFailed,
+    }
+}
+
+/// Prints a report with the reasons of these waivers, by which of them waives each finding.
+fn print_reasons<W: Write>(
+    alloc: Global,
+    names: &[&str],
+    files: &[FileSum],
+    told: &Telling,
+    order: &ReportOrder,
+    waivers: &[Waiver],
+    waived: &Waived,
+    out: &mut W,
+) -> Result<(), PrintFault>
+    ensures { OnOk result ((whys : TheWhys) × AreReasons waivers.now waived.now whys
+        × Appends (W.contents out.old) (W.contents out.new) (waived_page order.now.format (map (λ name. name.now) names.now) files.now told.now order.now.most whys)) }
+{
+    let Ok(rings) = reasons(alloc, waivers, waived.rings.as_slice()) else {
+        return Err(PrintFault::Memory);
+    };
+    let Ok(gaps) = reasons(alloc, waivers, waived.gaps.as_slice()) else {
+        return Err(PrintFault::Memory);
+    };
+    let Ok(idle) = idle(alloc, waived, waivers) else {
+        return Err(PrintFault::Memory);
+    };
+    let whys = Whys {
+        rings: rings.as_slice(),
+        gaps: gaps.as_slice(),
+        idle: idle.as_slice(),
+    };
+    print_accepted(alloc, names, files, told, order, &whys, out)
+}
+
+/// Prints a report with these waivers, and tells its status.
+fn answer_waived<W: Write>(
+    alloc: Global,
+    names: &[&str],
+    files: &[FileSum],
+    told: &Telling,
+    order: &ReportOrder,
+    waivers: &[Waiver],
+    out: &mut W,
+) -> Ended
+    ensures { result ≢ Ended.WriterFailed → result ≢ Ended.OutOfMemory → (waived : WaivedBy) × (result ≡ Ended.Said (reporting.waived_status waived))
+        × IsWaived waivers.now (map (λ name. name.now) names.now) told.now waived × (whys : TheWhys) × AreReasons waivers.now waived whys
+        × Appends (W.contents out.old) (W.contents out.new) (waived_page order.now.format (map (λ name. name.now) names.now) files.now told.now order.now.most whys) }
+{
+    let Ok(waived) = waive(alloc, names, told, waivers) else {
+        return say_out_of_memory(out);
+    };
+    match print_reasons(alloc, names, files, told, order, waivers, &waived, out) {
+        Ok(()) => Ended::Said(waived_status(&waived)),
+        Err(PrintFault::Memory) => say_out_of_memory(out),
+        Err(PrintFault::Cut) => Ended::WriterFailed,
+    }
+}
+
+/// How much each file of the board holds.
+fn files_of(flashed: &FlashedBoard) -> &[FileSum]
+    ensures { result.now ≡ flashed.now.board.files }
+{
+    flashed.board.files()
 }
 
 /// Prints the report on a board of the files of these entries.
@@ -104,18 +171,30 @@ pub(crate) fn answer_report<W: Write>(
     alloc: Global,
     flashed: &FlashedBoard,
     entries: &[Entry],
-    rules: Rules,
-    most: Option<usize>,
-    format: Format,
+    order: &ReportOrder,
     out: &mut W,
 ) -> Ended
     ensures { (files : List (List ℕ)) → length entries.now ≡ length files → IsFlashed (sources entries.now files) flashed.now
-        → AnsweredReport (sources entries.now files) rules most format (W.contents out.old) (W.contents out.new) result }
+        → AnsweredReport (sources entries.now files) order.now.rules order.now.most order.now.format (given order.now.waivers) (W.contents out.old) (W.contents out.new) result }
 {
     tells_as_checks();
-    let board = board_of(flashed);
-    match tell_board(alloc, flashed, rules) {
-        Ok(told) => print(alloc, entries, board, &told, most, format, out),
-        Err(_) => say_out_of_memory(out),
+    let Ok(names) = names_of(alloc, entries) else {
+        return say_out_of_memory(out);
+    };
+    let Ok(told) = tell_board(alloc, flashed, order.rules) else {
+        return say_out_of_memory(out);
+    };
+    let files = files_of(flashed);
+    match &order.waivers {
+        None => answer_plain(alloc, names.as_slice(), files, &told, order, out),
+        Some(waivers) => answer_waived(
+            alloc,
+            names.as_slice(),
+            files,
+            &told,
+            order,
+            waivers.as_slice(),
+            out,
+        ),
     }
 }

@@ -13,6 +13,7 @@ mod met;
 mod one_file;
 mod refusals;
 mod told;
+mod waived;
 mod words;
 
 const WORDS: [&str; 6] = ["check", "--ring", "0.125", "--gap", "0.25", "m.csv"];

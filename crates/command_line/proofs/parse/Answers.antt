@@ -30,10 +30,10 @@ returns-in-Some c =
           let (format, manifest) = measure_has o m in
           is_measure o m (rows_of_measure o m) format manifest c.in-Some.request
           (subst (λ o. AsksFor o c.in-Some.request) (parsed.1 ∙ ap₂ subcommand_of c.in-Ok.ensures e ∙ measure_found o m t s) c.in-Some.ensures.asked);
-      report = λ r g n o m e p q t u s.
-          let (ring, gap, most, format, manifest) = report_has r g n o m in
-          is_report r g n o m (rows_of_report r g n o m) ring gap most format manifest c.in-Some.request
-          (subst (λ o. AsksFor o c.in-Some.request) (parsed.1 ∙ ap₂ subcommand_of c.in-Ok.ensures e ∙ report_found r g n o m p q t u s) c.in-Some.ensures.asked);
+      report = λ r g n l o m e p q t v u s.
+          let (ring, gap, most, waive, format, manifest) = report_has r g n l o m in
+          is_report r g n l o m (rows_of_report r g n l o m) ring gap most waive format manifest c.in-Some.request
+          (subst (λ o. AsksFor o c.in-Some.request) (parsed.1 ∙ ap₂ subcommand_of c.in-Ok.ensures e ∙ report_found r g n l o m p q t v u s) c.in-Some.ensures.asked);
       draw = λ o m e p s.
           let (ring, gap, manifest) = draw_has o m in
           is_draw o m (rows_of_draw o m) ring gap manifest c.in-Some.request
@@ -70,8 +70,8 @@ returns c =
       measure = λ o m e t s.
           let memory = c.in-Err.ensures.passes (ap₂ takes c.in-Ok.ensures e ∙ measure_taken o m t s) in
           rw (c.refusal_for.ensures.memory memory) tt;
-      report = λ r g n o m e p q t u s.
-          let memory = c.in-Err.ensures.passes (ap₂ takes c.in-Ok.ensures e ∙ report_taken r g n o m p q t u s) in
+      report = λ r g n l o m e p q t v u s.
+          let memory = c.in-Err.ensures.passes (ap₂ takes c.in-Ok.ensures e ∙ report_taken r g n l o m p q t v u s) in
           rw (c.refusal_for.ensures.memory memory) tt;
       draw = λ o m e p s.
           let memory = c.in-Err.ensures.passes (ap₂ takes c.in-Ok.ensures e ∙ draw_taken o m p s) in

@@ -223,7 +223,7 @@ fn the_version_is_told(rt: HostRuntime) {
 }
 
 #[test]
-fn want_of_memory_changes_no_proposal(rt: HostRuntime) {
+fn out_of_memory_changes_no_proposal(rt: HostRuntime) {
     let files = [("top.gbr", LAYER), ("pth.drl", DRILL)];
     let mut out: Vec<u8> = Vec::new(rt.alloc());
     let words = ["manifest", "top.gbr", "pth.drl"];

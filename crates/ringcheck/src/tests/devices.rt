@@ -221,7 +221,7 @@ fn passes_or_lacks_memory(alloc: Global, words: &[&str], text: &str) -> bool {
 }
 
 #[test]
-fn want_of_memory_changes_no_answer(rt: HostRuntime) {
+fn out_of_memory_changes_no_answer(rt: HostRuntime) {
     assert!(rt; passes_or_lacks_memory(rt.alloc(), &WORDS, REPORT));
     assert!(rt; passes_or_lacks_memory(rt.alloc(), &MEASURE, MEASURED));
 }

@@ -8,7 +8,7 @@ ghost use Rattle.manifest.specs.declared.Entry.{Entry as TheEntry};
 ghost use Rattle.package_check.specs.Soundness.{IsSound};
 ghost use Rattle.ringcheck.specs.Running.{HasFiles, sources};
 ghost use Rattle.ringcheck.specs.Naming.{report_named};
-ghost use Rattle.ringcheck.specs.declared.naming.Format.{Format};
+ghost use Rattle.ringcheck.specs.declared.naming.ReportFormat.{ReportFormat};
 
 use super::*;
 use std::test::Fail as Failure;
@@ -146,7 +146,7 @@ fn refusals_come_with_their_page(rt: HostRuntime) -> Result<(), Failure> {
 /// Whether a report finds nothing on a package of three files at hand. Then the files that its manifest names, as they lie there, are
 /// sound.
 fn is_told_sound<'x>(alloc: Global, records: &'x str, layer: &'x str, drill: &'x str) -> bool
-    ensures { IsTrue result → (asked : GridRules × Option ℕ × Format) × (report_named (codes "0.125") (codes "0.25") None None ≡ Ok asked) × (entries : List TheEntry) × (manifest records.now ≡ Ok entries) × (files : List (List ℕ))
+    ensures { IsTrue result → (asked : GridRules × Option ℕ × ReportFormat) × (report_named (codes "0.125") (codes "0.25") None None None ≡ Ok asked) × (entries : List TheEntry) × (manifest records.now ≡ Ok entries) × (files : List (List ℕ))
         × HasFiles (λ n b. Contains {X = List ℕ × List ℕ} ((codes "m.csv", records.now) ∷ (codes "top.gbr", layer.now) ∷ (codes "pth.drl", drill.now) ∷ []) (n, b)) entries files
         × IsSound (sources entries files) asked.0 }
 {

@@ -18,6 +18,7 @@ use Rattle.package_check.specs.Package.{Source, IsAnswer}
 use Rattle.package_check.specs.Soundness.{IsSound}
 use Rattle.package_check.specs.Texts.{report_text}
 use Rattle.ringcheck.specs.Running.{Relation, manifest_limit, file_limit}
+use Rattle.ringcheck.specs.Waiving.{RefusedWaivers}
 
 -- bytes of a manifest that are refused (docs/DEFINITIONS.md, Runs)
 abbrev pub RefusedManifest : Relation → List ℕ → Type 0
@@ -34,6 +35,18 @@ StopsManifest has name (stop.LongFile index) = ⊥
 StopsManifest has name stop.Memory = ⊤
 StopsManifest has name stop.Device = ⊤
 StopsManifest has name (stop.DeviceFile index) = ⊤
+StopsManifest has name (stop.Waivers place reason) = ⊥
+StopsManifest has name stop.DeviceWaivers = ⊤
+
+-- what a stop says of the bytes that the loader has for a file of waivers (docs/DEFINITIONS.md, Runs)
+abbrev pub StopsWaivers : Relation → List ℕ → Stop → Type 0
+StopsWaivers has name (stop.Waivers place reason) = RefusedWaivers has name
+StopsWaivers has name (stop.Manifest place reason) = ⊥
+StopsWaivers has name (stop.LongFile index) = ⊥
+StopsWaivers has name stop.Memory = ⊤
+StopsWaivers has name stop.Device = ⊤
+StopsWaivers has name stop.DeviceWaivers = ⊤
+StopsWaivers has name (stop.DeviceFile index) = ⊤
 
 -- and for the files of its entries (docs/DEFINITIONS.md, Runs)
 abbrev pub StopsFiles : Relation → List Entry → Stop → Type 0
@@ -42,6 +55,8 @@ StopsFiles has entries (stop.Manifest place reason) = ⊥
 StopsFiles has entries stop.Memory = ⊤
 StopsFiles has entries stop.Device = ⊤
 StopsFiles has entries (stop.DeviceFile index) = ⊤
+StopsFiles has entries (stop.Waivers place reason) = ⊥
+StopsFiles has entries stop.DeviceWaivers = ⊤
 
 -- a stop that is a refusal (docs/DEFINITIONS.md, Runs)
 abbrev pub IsRefusal : Stop → Type 0
@@ -50,14 +65,18 @@ IsRefusal (stop.LongFile index) = ⊤
 IsRefusal stop.Memory = ⊥
 IsRefusal stop.Device = ⊥
 IsRefusal (stop.DeviceFile index) = ⊥
+IsRefusal (stop.Waivers place reason) = ⊤
+IsRefusal stop.DeviceWaivers = ⊥
 
--- a stop at a manifest or a file that can't be read (docs/DEFINITIONS.md, Runs)
+-- a stop at a manifest, a file of waivers or a file that can't be read (docs/DEFINITIONS.md, Runs)
 abbrev pub IsUnread : Stop → Type 0
 IsUnread (stop.Manifest place reason) = ⊥
 IsUnread (stop.LongFile index) = ⊥
 IsUnread stop.Memory = ⊥
 IsUnread stop.Device = ⊤
 IsUnread (stop.DeviceFile index) = ⊤
+IsUnread (stop.Waivers place reason) = ⊥
+IsUnread stop.DeviceWaivers = ⊤
 
 -- the end that tells of a stop (docs/DEFINITIONS.md, Runs)
 abbrev pub TellsOf : Stop → Ended → Type 0

@@ -1,5 +1,6 @@
 -- What is said of the work on a package, which is checked or measured, or told or drawn.
-use Rattle.std.specs.Prelude.{ℕ, List, Option}
+use Rattle.std.specs.Prelude.{ℕ, List, Option, option_map}
+use Rattle.std.specs.Global.{Vec}
 use Rattle.package_check.specs.Package.{Source}
 use Rattle.ringcheck.specs.declared.Status.{Status}
 use Rattle.ringcheck.specs.declared.ending.Ended.{Ended}
@@ -11,7 +12,8 @@ use Rattle.ringcheck.specs.Drawing.{AnsweredDraw, SaysDraw}
 use Rattle.ringcheck.specs.Measuring.{AnsweredMeasure, SaysMeasure}
 use Rattle.ringcheck.specs.Reporting.{AnsweredReport, SaysReport}
 use Rattle.ringcheck.specs.Running.{Relation, Says}
-use Rattle.ringcheck.specs.Stopping.{Answered}
+use Rattle.ringcheck.specs.Inner.Stopping.{Answered}
+use Rattle.waivers.specs.declared.Waiver.{Waiver}
 
 -- what a status says of a work (docs/DEFINITIONS.md, Runs)
 abbrev pub SaysBy : Work → Relation → List ℕ → Option (List ℕ) → Option (List ℕ) → Status → Type 0
@@ -23,12 +25,16 @@ abbrev pub AnsweredBy : Work → List Source → Option (List ℕ) → Option (L
 AnsweredBy (work.Check rules) all before after e = Answered all rules before after e
 AnsweredBy (work.Measure form) all before after e = AnsweredMeasure all form before after e
 
+-- the waivers that a report is given, if it is given some (docs/DEFINITIONS.md, Runs)
+abbrev pub given : Option (Vec Waiver) → Option (List Waiver)
+given waivers = option_map (λ all. all.items) waivers
+
 -- what a status says of a work that wants the flashes (docs/DEFINITIONS.md, Runs)
 abbrev pub SaysFlashed : FlashedWork → Relation → List ℕ → Option (List ℕ) → Option (List ℕ) → Status → Type 0
-SaysFlashed (flashed.Report rules most form) has name before after s = SaysReport has name rules most form before after s
+SaysFlashed (flashed.Report order) has name before after s = SaysReport has name order.rules order.most order.format (given order.waivers) before after s
 SaysFlashed (flashed.Draw rules) has name before after s = SaysDraw has name rules before after s
 
 -- what an end says of such a work on files that are at hand (docs/DEFINITIONS.md, Runs)
 abbrev pub AnsweredFlashed : FlashedWork → List Source → Option (List ℕ) → Option (List ℕ) → Ended → Type 0
-AnsweredFlashed (flashed.Report rules most form) all before after e = AnsweredReport all rules most form before after e
+AnsweredFlashed (flashed.Report order) all before after e = AnsweredReport all order.rules order.most order.format (given order.waivers) before after e
 AnsweredFlashed (flashed.Draw rules) all before after e = AnsweredDraw all rules before after e

@@ -1,0 +1,22 @@
+use Rattle.std.proofs.Common.{inr, Some}
+use Rattle.ringcheck.proofs.Checking.{cause_since, stopped_cause}
+use Rattle.ringcheck.proofs.Reporting.{report_along, stopped_waivers}
+use Rattle.ringcheck.specs.Endings.{status_after}
+use Rattle.ringcheck.proofs.flashed.report_waived.Goals as goal
+
+pub returns-in-Err : goal.returns-in-Err
+returns-in-Err g c =
+    let told = g.W.Write.contents in
+    record {
+      says = stopped_waivers (g.L.Loader.has c.args.loader.now) c.args.name.now c.args.file.now c.args.rules c.args.most c.args.format (told c.args.out.now) (told c.tell.new.out) c.in-Err.stop c.tell.result c.in-Err.ensures.err c.tell.ensures;
+      cause = stopped_cause c.in-Err.stop c.tell.result _ _ c.tell.ensures c.in-Err.ensures.unread;
+    }
+
+pub returns : goal.returns
+returns g c =
+    let told = g.W.Write.contents in
+    let later = g.L.Loader.has c.load_waivers.new.loader in
+    record {
+      says = inr (inr (c.in-Ok.waivers.items, c.in-Ok.ensures.ok, report_along later (g.L.Loader.has c.args.loader.now) (λ n b. (c.in-Ok.ensures.keeps n b).0) c.args.name.now c.args.rules c.args.most c.args.format (Some c.in-Ok.waivers.items) (told c.args.out.now) (told c.work_on.new.out) (status_after c.work_on.result) c.work_on.ensures.says));
+      cause = cause_since _ _ _ c.work_on.result c.in-Ok.ensures.counts c.work_on.ensures.cause;
+    }
