@@ -18,14 +18,21 @@ _ringcheck() {
       return
       ;;
     --format)
-      mapfile -t COMPREPLY < <(compgen -W 'text json' -- "$word")
+      local formats='text json'
+      [ "$command" != report ] || formats+=' waivers'
+      mapfile -t COMPREPLY < <(compgen -W "$formats" -- "$word")
+      return
+      ;;
+    --waive)
+      compopt -o filenames
+      mapfile -t COMPREPLY < <(compgen -f -- "$word")
       return
       ;;
     --ring | --gap | --max) return ;;
   esac
   case $command in
     check | draw) options='--ring --gap --help' ;;
-    report) options='--ring --gap --max --format --help' ;;
+    report) options='--ring --gap --max --waive --format --help' ;;
     measure) options='--format --help' ;;
     manifest) options='--why --help' ;;
     show | rewrite) options='--kind --help' ;;

@@ -18,6 +18,8 @@ complete -c ringcheck -n '__fish_seen_subcommand_from help' -a 'check report mea
 complete -c ringcheck -n '__fish_seen_subcommand_from check report draw' -l ring -x -d 'copper round a plated hole, in mm'
 complete -c ringcheck -n '__fish_seen_subcommand_from check report draw' -l gap -x -d 'gap between two holes, in mm'
 complete -c ringcheck -n '__fish_seen_subcommand_from report' -l max -x -d 'findings that are told at most'
+complete -c ringcheck -n '__fish_seen_subcommand_from report' -l waive -r -F -d 'the findings that are accepted'
 complete -c ringcheck -n '__fish_seen_subcommand_from report measure' -l format -x -a 'text json' -d 'lines for people, or one object of JSON'
+complete -c ringcheck -n '__fish_seen_subcommand_from report' -l format -x -a waivers -d 'a file of waivers of all findings'
 complete -c ringcheck -n '__fish_seen_subcommand_from show rewrite' -l kind -x -a 'layer drill' -d 'what the file is'
 complete -c ringcheck -n '__fish_seen_subcommand_from check report measure draw manifest show rewrite' -F
