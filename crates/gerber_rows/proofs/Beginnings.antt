@@ -7,9 +7,13 @@ use Rattle.gerber_rows.specs.declared.command.Command.TheVariants.{Mode}
 use Rattle.gerber_rows.specs.declared.command.Interpolation.{Interpolation}
 use Rattle.gerber_rows.specs.declared.command.Interpolation.TheVariants.{Linear, Clockwise, Counterclockwise}
 use Rattle.gerber_rows.specs.Plain.{front_word}
-use Rattle.gerber_rows.specs.Inner.Beginnings.{begins_with_coordinate}
 use Rattle.gerber_rows.specs.Rows.{first_fit}
 use Rattle.gerber_rows.specs.Words.{nothing_row, comment_row, mode_front, mode_row, quadrant_row, region_row, unit_row, incremental_row, select_row, operation_row, finish_row, old_row, words, fields, is_operation, operate}
+
+-- a word begins with `X` or `Y`
+abbrev pub begins_with_coordinate : List ℕ → Bool
+begins_with_coordinate [] = false
+begins_with_coordinate (b ∷ bs) = (eqb b 88) || (eqb b 89)
 
 not_empty : (n : ℕ) → eqb (suc n) 0 ≡ false
 not_empty n = by (eqb (suc n) 0) refl

@@ -22,11 +22,10 @@ use Rattle.gerber_rows.specs.Rows.{first_fit, field, modes_of}
 use Rattle.gerber_rows.specs.Words.{coordinate, kind, Fields, fields, names_action, is_operation, operands, operate, words, word, is_plot}
 use Rattle.gerber_rows.specs.Pieces.{extended}
 use Rattle.gerber_rows.specs.Meaning.{meaning, front_of}
-use Rattle.gerber_rows.specs.Inner.Beginnings.{begins_with_coordinate}
 use Rattle.gerber_rows.specs.Canonical.{action_code}
 use Rattle.gerber_rows.specs.Plain.{BeginsWith, BeginsWithInt, BeginsWithCoordinate, coordinate_word, front_word}
 use Rattle.grid_units.proofs.Binds.{bind_ok}
-use Rattle.gerber_rows.proofs.Beginnings.{fits_front}
+use Rattle.gerber_rows.proofs.Beginnings.{begins_with_coordinate, fits_front}
 use Rattle.gerber_rows.proofs.Numerals.{spells}
 
 -- ---- an integer

@@ -1,2 +1,2 @@
-pub mod Beginnings
+pub mod Parameters
 pub mod Runs

@@ -1,6 +1,5 @@
 -- What an item spells.
 use Rattle.std.specs.Prelude.{ℕ, ◌-◌, Bool, ◌==◌, List, [], ◌∷◌, length, take, if◌then◌else◌, Err}
-use Rattle.grid_units.specs.declared.fault.Reason.{Reason}
 use Rattle.grid_units.specs.declared.fault.Reason.TheVariants.{BadWord}
 use Rattle.gerber_rows.specs.Rows.{Meaning}
 use Rattle.gerber_rows.specs.Pieces.{extended}

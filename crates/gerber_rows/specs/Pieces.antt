@@ -1,8 +1,8 @@
 -- What an extended item spells: the rows of the table of pieces, in its order.
-use Rattle.std.specs.Prelude.{ℕ, ◌-◌, ◌+◌, Bool, true, false, not, ◌&&◌, ◌||◌, ◌==◌, nat_le, nat_lt, List, [], ◌∷◌, ◌++◌, length, take, drop, if◌then◌else◌, Option, None, Some, unwrap_or, is_some, Result, Ok, Err, codes, ℤ, pos}
+use Rattle.std.specs.Prelude.{ℕ, ◌-◌, ◌+◌, Bool, true, false, not, ◌&&◌, ◌||◌, ◌==◌, nat_le, nat_lt, List, [], ◌∷◌, length, take, drop, map, if◌then◌else◌, Option, None, Some, unwrap_or, is_some, Result, Ok, Err, codes, ℤ, pos}
 use Rattle.std.specs.Option.{option_map, option_or}
 use Rattle.std.specs.Ordering.{int_eq}
-use Rattle.std.specs.List.{list_any, list_all, fold, prefix_len, take_while, slice_split}
+use Rattle.std.specs.List.{list_any, list_all, prefix_len, take_while, slice_split}
 use Rattle.grid_units.specs.Results.{◌>>=◌, both}
 use Rattle.grid_units.specs.Numbers.{is_digit, is_number, dec_of}
 use Rattle.grid_units.specs.declared.fault.Reason.{Reason}
@@ -100,9 +100,10 @@ most_sizes Rectangle = 4
 most_sizes Obround = 4
 most_sizes Polygon = 5
 
--- one more parameter: every one is read, and the first reason of the reading order is the answer (docs/FORMATS.md, How a row fits and is read)
-abbrev pub add_size : Result (List ℤ) Reason → List ℕ → Result (List ℤ) Reason
-add_size sizes run = both sizes (dec_of run) >>= λ p. Ok (p.0 ++ p.1 ∷ [])
+-- all of several fields: every one is read, and the first reason of the reading order is the answer (docs/FORMATS.md, How a row fits and is read)
+abbrev pub all_of : {A : Type 0} → List (Result A Reason) → Result (List A) Reason
+all_of [] = Ok []
+all_of (field ∷ fields) = both field (all_of fields) >>= λ p. Ok (p.0 ∷ p.1)
 
 -- as many parameters as the aperture takes, each a run (docs/FORMATS.md, Apertures)
 abbrev pub are_sizes : Standard → List (List ℕ) → Bool
@@ -111,7 +112,7 @@ are_sizes aperture runs = list_all (list_all is_number) runs && (nat_le (least_s
 -- the parameters of a standard aperture, divided by `X` (docs/FORMATS.md, Apertures)
 unfoldable pub sizes_of : Standard → Option (List ℕ) → Result (List ℤ) Reason
 sizes_of aperture None = Err BadWord
-sizes_of aperture (Some text) = if are_sizes aperture (divided 88 text) then fold add_size (Ok []) (divided 88 text) else Err BadWord
+sizes_of aperture (Some text) = if are_sizes aperture (divided 88 text) then all_of (map dec_of (divided 88 text)) else Err BadWord
 
 -- the number of an aperture, at least 10 (Gerber format, Aperture definition AD)
 unfoldable pub aperture_number : List ℕ → Result ℕ Reason

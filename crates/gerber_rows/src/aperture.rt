@@ -1,11 +1,12 @@
 //! Definitions of apertures and of macros.
 
-ghost use Rattle.std.specs.Prelude.{◌≡◌, ◌≤◌, ◌<◌, ◌+◌, ◌==◌, ◌||◌, ◌&&◌, nat_le, length, position, count_by, IfOk, IfSome, Ok, [], ◌∷◌};
-ghost use Rattle.std.specs.List.{list_all, fold};
+ghost use Rattle.std.specs.Prelude.{◌≡◌, ◌≤◌, ◌<◌, ◌+◌, ◌==◌, ◌||◌, ◌&&◌, nat_le, length, map, position, count_by, IfOk, IfSome, ◌∷◌};
+ghost use Rattle.std.specs.List.{list_all};
 ghost use Rattle.std.specs.Option.{option_copied};
-ghost use Rattle.grid_units.specs.Numbers.{is_number};
+ghost use Rattle.grid_units.specs.Numbers.{is_number, dec_of};
 ghost use Rattle.grid_units.specs.Results.{Gives};
-ghost use Rattle.gerber_rows.specs.Pieces.{divided, divided_if, begins_name, goes_on_name, is_name, standard, least_sizes, most_sizes, add_size, are_sizes, sizes_of, aperture_number, define_standard, define_named, define_as, before_comma, after_comma, define, definition, macro_text};
+ghost use Rattle.gerber_rows.specs.Inner.Parameters.{with_one_more};
+ghost use Rattle.gerber_rows.specs.Pieces.{divided, divided_if, begins_name, goes_on_name, is_name, standard, least_sizes, most_sizes, all_of, are_sizes, sizes_of, aperture_number, define_standard, define_named, define_as, before_comma, after_comma, define, definition, macro_text};
 
 use crate::command::{Boxed, Command, Pieces, Sizes, Spelled, Standard, Template};
 use crate::number::read_nat;
@@ -129,10 +130,10 @@ fn are_sizes(aperture: Standard, text: &[u8]) -> bool
     are_size_bytes(text) && takes(aperture, divisions(text))
 }
 
-/// One more parameter: every one is read, and the first reason of the reading order is the answer.
+/// One more parameter: it is read also behind one that is refused, since its reason may be the first of the reading order.
 fn add_size(sizes: Result<Sizes, Reason>, run: &[u8]) -> Result<Sizes, Reason>
     requires { IfOk sizes (λ s. length s < 5) }
-    ensures { result ≡ add_size sizes run.now }
+    ensures { result ≡ with_one_more sizes (dec_of run.now) }
 {
     match both(sizes, Dec::read(run)) {
         Ok((mut sizes, size)) => {
@@ -146,7 +147,7 @@ fn add_size(sizes: Result<Sizes, Reason>, run: &[u8]) -> Result<Sizes, Reason>
 /// The parameters, divided by `X`.
 fn read_sizes(text: &[u8]) -> Result<Sizes, Reason>
     requires { length (divided 88 text.now) ≤ 5 }
-    ensures { result ≡ fold add_size (Ok []) (divided 88 text.now) }
+    ensures { result ≡ all_of (map dec_of (divided 88 text.now)) }
 {
     let mut sizes = Ok(Sizes::new());
     let mut left = Some(text);

@@ -5,8 +5,7 @@ ghost use Rattle.std.specs.List.{list_any, list_all, prefix_len};
 ghost use Rattle.std.specs.Option.{option_copied, option_map};
 ghost use Rattle.grid_units.specs.Results.{both, Gives};
 ghost use Rattle.grid_units.specs.Numbers.{is_digit};
-ghost use Rattle.gerber_rows.specs.Words.{nothing_row, first_field, is_negative_image, behind_spaces, comments_negative, comment, mode_front, mode_row, quadrant_row, region_row, unit_row, incremental_row, action, numbered, alone, prepared, select_row, coordinate, action_with, kind, fields, names_action, is_operation, has_offsets, operands, operate, operation_row, finish_row, old_row, later_words, words, word};
-ghost use Rattle.gerber_rows.specs.Inner.Beginnings.{begins_with_coordinate};
+ghost use Rattle.gerber_rows.specs.Words.{nothing_row, first_field, is_negative_image, behind_spaces, comments_negative, comment, mode_front, mode_row, quadrant_row, region_row, unit_row, incremental_row, action, numbered, alone, prepared, select_row, coordinate, action_with, kind, fields, names_action, is_operation, has_offsets, operands, operate, operation_row, finish_row, old_row, later_words, word};
 ghost use Rattle.gerber_rows.specs.Rows.{first_fit};
 ghost use Rattle.gerber_rows.specs.Inner.Runs.{fields_of};
 
@@ -475,29 +474,6 @@ fn read_later(plotting: bool, text: &[u8]) -> Result<Spelled, Reason>
     }
 }
 
-/// Whether a word begins with the coordinate `X` or `Y`, as most words do.
-fn begins_with_coordinate(text: &[u8]) -> bool
-    ensures { result ≡ begins_with_coordinate text.now }
-{
-    match text {
-        [first, ..] => *first == b'X' || *first == b'Y',
-        [] => false,
-    }
-}
-
-/// A word that begins with a coordinate: no row but that of operations fits.
-fn read_coordinates(plotting: bool, text: &[u8]) -> Result<Spelled, Reason>
-    requires { begins_with_coordinate text.now ≡ true }
-    ensures { result ≡ first_fit (words plotting text.now) }
-{
-    let f = fields(text);
-    if is_operation(&f) {
-        read_operate(plotting, None, &f)
-    } else {
-        Err(Reason::BadWord)
-    }
-}
-
 /// A word without its `*`.
 #[tactic(auto, unfolding(crate::specs::Words::word))]
 pub(crate) fn read_word(alloc: Global, plotting: bool, text: &[u8]) -> Result<Spelled, Stop>
@@ -505,9 +481,6 @@ pub(crate) fn read_word(alloc: Global, plotting: bool, text: &[u8]) -> Result<Sp
 {
     if contains(text, b'%') {
         return Err(Stop::Refused(Reason::BadWord));
-    }
-    if begins_with_coordinate(text) {
-        return Ok(read_coordinates(plotting, text)?);
     }
     if let Some(answer) = read_nothing(text) {
         return Ok(answer?);

@@ -2,15 +2,15 @@
 use Rattle.std.proofs.Common.{◌≡◌, ℕ, ◌+◌, ◌-◌, ◌≤◌, Bool, true, false, cond, not, ◌||◌, ◌&&◌, eqb, leb, ltb, List, [], ◌∷◌, ◌++◌, length, take, drop, map, ℤ, Option, Some, None, is_some, Ok, Err, refl, sym, ap, ◌∙◌, arith, append_assoc}
 use Rattle.std.specs.Prelude.{decimal, codes, take_while}
 use Rattle.std.specs.Option.{option_map, option_or}
-use Rattle.std.specs.List.{list_all, list_any, prefix_len, fold, flat_map, slice_split, onto_first, join_with_byte}
-use Rattle.std.proofs.lemmas.List.{append-nil, length-append, length-map, take_at, take_all, drop_at}
+use Rattle.std.specs.List.{list_all, list_any, prefix_len, flat_map, slice_split, onto_first, join_with_byte}
+use Rattle.std.proofs.lemmas.List.{length-append, length-map, take_at, take_all, drop_at}
 use Rattle.std.proofs.lemmas.List.Elements.{filter-append}
 use Rattle.std.proofs.lemmas.Bool.{leb-true, le-leb, lt-ltb, le-ltb, ltb-true}
 use Rattle.std.proofs.lemmas.Bool.Decides.{nat_tests}
 use Rattle.std.proofs.lemmas.Fmt.{decimal_digit}
 use Rattle.grid_units.specs.declared.fault.Reason.TheVariants.{BadWord, BadNumber, NegativeImage}
 use Rattle.grid_units.specs.Results.{◌>>=◌, both}
-use Rattle.grid_units.specs.Numbers.{is_digit, is_number}
+use Rattle.grid_units.specs.Numbers.{is_digit, is_number, dec_of}
 use Rattle.grid_units.specs.Spellings.{canonical as canonical_dec}
 use Rattle.gerber_rows.specs.declared.command.Command.TheVariants.{FormatIs, Define, Macro, Turn, Scale, Repeat, Attribute, Remove}
 use Rattle.gerber_rows.specs.declared.command.Format.{Format}
@@ -23,7 +23,7 @@ use Rattle.gerber_rows.specs.declared.command.Template.{Template}
 use Rattle.gerber_rows.specs.declared.command.Template.TheVariants as templates
 use Rattle.gerber_rows.specs.Rows.{Row, Meaning, first_fit, field}
 use Rattle.gerber_rows.specs.Words.{is_negative_image}
-use Rattle.gerber_rows.specs.Pieces.{divided, system_row, format, format_row, unit_piece_row, begins_name, goes_on_name, is_name, standard, least_sizes, most_sizes, add_size, are_sizes, sizes_of, aperture_number, define_standard, define_named, define_as, before_comma, after_comma, define, definition, define_row, macro_of, macro_text, macro_row, polarity_row, mirror_row, run_behind, turn, scale, transform_row, block_fields, repeat, repeat_fields, repeat_start, repeat_row, file_attribute, attribute, removal, pieces_from_attributes, pieces_from_polarity, pieces, is_several}
+use Rattle.gerber_rows.specs.Pieces.{divided, system_row, format, format_row, unit_piece_row, begins_name, goes_on_name, is_name, standard, least_sizes, most_sizes, all_of, are_sizes, sizes_of, aperture_number, define_standard, define_named, define_as, before_comma, after_comma, define, definition, define_row, macro_of, macro_text, macro_row, polarity_row, mirror_row, run_behind, turn, scale, transform_row, block_fields, repeat, repeat_fields, repeat_start, repeat_row, file_attribute, attribute, removal, pieces_from_attributes, pieces_from_polarity, pieces, is_several}
 use Rattle.gerber_rows.specs.Canonical.{canonical, pieces_text, sizes_text, template_text, standard_name}
 use Rattle.gerber_sayable.specs.Cut.{is_kept, unbroken}
 use Rattle.gerber_sayable.specs.Sayable.{is_text_byte, is_text, is_nat, is_dec, is_format, is_aperture_number, is_macro_name, is_parameters, is_template, is_block, is_attribute}
@@ -238,12 +238,11 @@ sizes_divided : (sizes : List ℤ) → list_all is_dec sizes ≡ true → 1 ≤ 
 sizes_divided [] h l = absurd (omega arith)
 sizes_divided (v ∷ vs) h l = parts_divided 88 (canonical_dec v) (map canonical_dec vs) refl (lists_weaker is_number (λ b. not (eqb b 88)) number_no_x (map canonical_dec (v ∷ vs)) (sizes_runs (v ∷ vs) h))
 
-sizes_read : (before sizes : List ℤ) → list_all is_dec sizes ≡ true → fold add_size (Ok before) (map canonical_dec sizes) ≡ Ok (before ++ sizes)
-sizes_read before [] h = ap (λ (l : List ℤ). Ok l) (sym (append-nil before))
-sizes_read before (v ∷ vs) h =
+sizes_read : (sizes : List ℤ) → list_all is_dec sizes ≡ true → all_of (map dec_of (map canonical_dec sizes)) ≡ Ok sizes
+sizes_read [] h = refl
+sizes_read (v ∷ vs) h =
     let k = both_true (is_dec v) (list_all is_dec vs) h in
-    (λ i. fold add_size (both (Ok before) ((dec_is v k.0).reads i) >>= λ p. Ok (p.0 ++ p.1 ∷ [])) (map canonical_dec vs))
-    ∙ (sizes_read (before ++ v ∷ []) vs k.1 ∙ ap (λ (l : List ℤ). Ok l) (append_assoc before (v ∷ []) vs))
+    λ i. both ((dec_is v k.0).reads i) (sizes_read vs k.1 i) >>= λ p. Ok (p.0 ∷ p.1)
 
 at_least : (aperture : Standard) (n : ℕ) → leb (least_sizes aperture) n ≡ true → 1 ≤ n
 at_least Circle n h = leb-true 1 n h
@@ -259,8 +258,8 @@ sizes_spelled aperture sizes h =
     let runs = map canonical_dec sizes in
     let len : length runs ≡ length sizes = length-map sizes canonical_dec in
     let fits : are_sizes aperture runs ≡ true = (λ i. sizes_runs sizes k.0 i && (leb (least_sizes aperture) (len i) && leb (len i) (most_sizes aperture))) ∙ k.1 in
-    (λ i. cond (are_sizes aperture (sizes_divided sizes k.0 (at_least aperture (length sizes) l.0) i)) (fold add_size (Ok []) (sizes_divided sizes k.0 (at_least aperture (length sizes) l.0) i)) (Err BadWord))
-    ∙ (ap (λ t. cond t (fold add_size (Ok []) runs) (Err BadWord)) fits ∙ sizes_read [] sizes k.0)
+    (λ i. cond (are_sizes aperture (sizes_divided sizes k.0 (at_least aperture (length sizes) l.0) i)) (all_of (map dec_of (sizes_divided sizes k.0 (at_least aperture (length sizes) l.0) i))) (Err BadWord))
+    ∙ (ap (λ t. cond t (all_of (map dec_of runs)) (Err BadWord)) fits ∙ sizes_read sizes k.0)
 
 -- ---- apertures
 

@@ -1,10 +1,9 @@
 -- What pieces spell is sayable.
-use Rattle.std.proofs.Common.{◌≡◌, ℕ, ◌+◌, ◌-◌, ◌<◌, ◌≤◌, Bool, true, false, cond, not, ◌||◌, ◌&&◌, eqb, leb, ltb, List, [], ◌∷◌, ◌++◌, length, take, drop, ℤ, Option, Some, None, is_some, Result, Ok, Err, refl, sym, ap, subst, ◌∙◌, arith}
+use Rattle.std.proofs.Common.{◌≡◌, ℕ, ◌+◌, ◌-◌, ◌<◌, ◌≤◌, Bool, true, false, cond, not, ◌||◌, ◌&&◌, eqb, leb, ltb, List, [], ◌∷◌, ◌++◌, length, take, drop, map, ℤ, Option, Some, None, is_some, Ok, Err, refl, sym, ap, subst, ◌∙◌, arith}
 use Rattle.std.specs.Prelude.{codes, unwrap_or, decimal}
 use Rattle.std.specs.Option.{option_map}
-use Rattle.std.specs.List.{list_all, list_any, prefix_len, fold, join_with_byte}
+use Rattle.std.specs.List.{list_all, list_any, prefix_len, join_with_byte}
 use Rattle.std.proofs.lemmas.List.{length-append, length-drop, length-take, take-append-drop}
-use Rattle.std.proofs.lemmas.List.Folds.{list_all-append}
 use Rattle.std.proofs.lemmas.List.Splits.{join_with_byte-slice_split}
 use Rattle.std.proofs.lemmas.Bool.{le-leb, leb-true, ltb-true, ltb-false, eqb-true}
 use Rattle.std.proofs.lemmas.Bool.Decides.{nat_tests}
@@ -24,7 +23,7 @@ use Rattle.gerber_rows.specs.declared.command.Template.TheVariants as templates
 use Rattle.gerber_rows.specs.Numbers.{nat_of}
 use Rattle.gerber_rows.specs.Rows.{first_fit, behind, field}
 use Rattle.gerber_rows.specs.Words.{is, is_negative_image}
-use Rattle.gerber_rows.specs.Pieces.{divided, last_byte, before_last, system_row, format, format_fields, format_row, unit_piece_row, is_name, standard, least_sizes, most_sizes, add_size, are_sizes, sizes_of, aperture_number, define_standard, define_named, define_as, before_comma, after_comma, define, definition, define_row, macro_of, macro_text, macro_row, polarity_row, mirror_row, run_behind, turn, scale, transform_row, block_fields, repeat, repeat_fields, repeat_start, repeat_row, file_attribute, attribute, removal, turns_nothing, plain_row, axes_row, negative_row, old_piece_row, block_row, pieces, piece, extended}
+use Rattle.gerber_rows.specs.Pieces.{divided, last_byte, before_last, system_row, format, format_fields, format_row, unit_piece_row, is_name, standard, least_sizes, most_sizes, all_of, are_sizes, sizes_of, aperture_number, define_standard, define_named, define_as, before_comma, after_comma, define, definition, define_row, macro_of, macro_text, macro_row, polarity_row, mirror_row, run_behind, turn, scale, transform_row, block_fields, repeat, repeat_fields, repeat_start, repeat_row, file_attribute, attribute, removal, turns_nothing, plain_row, axes_row, negative_row, old_piece_row, block_row, pieces, piece, extended}
 use Rattle.gerber_rows.proofs.Parts.{parts_all}
 use Rattle.gerber_sayable.specs.Cut.{is_kept}
 use Rattle.gerber_sayable.specs.Sayable.{is_text_byte, is_text, may_be_text, is_nat, is_dec, is_format, is_aperture_number, is_macro_name, is_parameters, is_block, is_attribute, has_fields, is_short, is_sayable}
@@ -236,39 +235,28 @@ number_is digits n e =
     let w : WasNat digits n = subst (WasNat digits) same (was_nat digits b.0 b.1) in
     (and_true (leb 10 n) (is_nat n) (le-leb 10 n (omega (arith, ltb-false b.0 10 r.0, same))) w.range, w.short)
 
-no_sizes_by : (e : Reason) (r : Result ℤ Reason) (runs : List (List ℕ)) (sizes : List ℤ) → ((d : Reason) → fold add_size (Err d) runs ≡ Ok sizes → ⊥) → fold add_size (both (Err e) r >>= λ p. Ok (p.0 ++ p.1 ∷ [])) runs ≡ Ok sizes → ⊥
-no_sizes_by e (Ok v) runs sizes again k = again e k
-no_sizes_by e (Err d) runs sizes again k = again _ k
-
-no_sizes : (e : Reason) (runs : List (List ℕ)) (sizes : List ℤ) → fold add_size (Err e) runs ≡ Ok sizes → ⊥
-no_sizes e [] sizes h = absurd cc
-no_sizes e (run ∷ runs) sizes h = no_sizes_by e (dec_of run) runs sizes (λ d. no_sizes d runs sizes) h
-
 -- parameters that were read are decimals, as many as their runs
-abbrev AreRead : List ℤ → ℕ → List ℤ → Type 0
-AreRead before n sizes = (list_all is_dec sizes ≡ true) × (length sizes ≡ length before + n)
+abbrev AreRead : ℕ → List ℤ → Type 0
+AreRead n sizes = (list_all is_dec sizes ≡ true) × (length sizes ≡ n)
 
-sizes_by : (before : List ℤ) (run : List ℕ) (runs : List (List ℕ)) (sizes : List ℤ) (r : Result ℤ Reason) → list_all is_dec before ≡ true → dec_of run ≡ r → ((more : List ℤ) → list_all is_dec more ≡ true → fold add_size (Ok more) runs ≡ Ok sizes → AreRead more (length runs) sizes)
-    → fold add_size (both (Ok before) r >>= λ p. Ok (p.0 ++ p.1 ∷ [])) runs ≡ Ok sizes → AreRead before (length (run ∷ runs)) sizes
-sizes_by before run runs sizes (Ok v) h d again k =
-    let all : list_all is_dec (before ++ v ∷ []) ≡ true = list_all-append is_dec before (v ∷ []) ∙ and_true (list_all is_dec before) (is_dec v && true) h (and_true (is_dec v) true (was_dec run v d) refl) in
-    let rest = again (before ++ v ∷ []) all k in
-    (rest.0, omega (arith, rest.1, length-append before (v ∷ [])))
-sizes_by before run runs sizes (Err x) h d again k = absurd (no_sizes x runs sizes k)
-
-sizes_are : (before : List ℤ) (runs : List (List ℕ)) (sizes : List ℤ) → list_all is_dec before ≡ true → fold add_size (Ok before) runs ≡ Ok sizes → AreRead before (length runs) sizes
-sizes_are before [] sizes h e = let same : before ≡ sizes = cc in (ap (list_all is_dec) (sym same) ∙ h, omega (arith, ap length same))
-sizes_are before (run ∷ runs) sizes h e = sizes_by before run runs sizes (dec_of run) h refl (λ more all. sizes_are more runs sizes all) e
+sizes_are : (runs : List (List ℕ)) (sizes : List ℤ) → all_of (map dec_of runs) ≡ Ok sizes → AreRead (length runs) sizes
+sizes_are [] sizes e = let same : [] ≡ sizes = cc in (ap (list_all is_dec) (sym same), ap length (sym same))
+sizes_are (run ∷ runs) sizes e =
+    let b = bind_ok (both (dec_of run) (all_of (map dec_of runs))) (λ p. Ok (p.0 ∷ p.1)) sizes e in
+    let o = both_ok (dec_of run) (all_of (map dec_of runs)) b.0 b.1 in
+    let same : b.0.0 ∷ b.0.1 ≡ sizes = let k : Ok (b.0.0 ∷ b.0.1) ≡ Ok sizes = b.2 in cc in
+    let rest = sizes_are runs b.0.1 o.1 in
+    (ap (list_all is_dec) (sym same) ∙ and_true (is_dec b.0.0) (list_all is_dec b.0.1) (was_dec run b.0.0 o.0) rest.0, omega (arith, ap length same, rest.1))
 
 parameters_are : (aperture : Standard) (text : Option (List ℕ)) (sizes : List ℤ) → sizes_of aperture text ≡ Ok sizes → is_parameters aperture sizes ≡ true
 unfolding sizes_of
 parameters_are aperture None sizes e = absurd cc
 parameters_are aperture (Some text) sizes e =
     let runs = divided 88 text in
-    let a = allowed (are_sizes aperture runs) (fold add_size (Ok []) runs) sizes BadWord e in
+    let a = allowed (are_sizes aperture runs) (all_of (map dec_of runs)) sizes BadWord e in
     let few = (both_true (list_all (list_all is_number) runs) (leb (least_sizes aperture) (length runs) && leb (length runs) (most_sizes aperture)) a.0).1 in
-    let s = sizes_are [] runs sizes refl a.1 in
-    let len : length sizes ≡ length runs = omega (arith, s.1) in
+    let s = sizes_are runs sizes a.1 in
+    let len : length sizes ≡ length runs = s.1 in
     and_true (list_all is_dec sizes) (leb (least_sizes aperture) (length sizes) && leb (length sizes) (most_sizes aperture)) s.0 ((λ i. leb (least_sizes aperture) (len i) && leb (len i) (most_sizes aperture)) ∙ few)
 
 standard_sayable : (n : ℕ) (aperture : Standard) (sizes : List ℤ) → is_aperture_number n ≡ true → is_parameters aperture sizes ≡ true → is_sayable (Define n (templates.Standard aperture sizes)) ≡ true

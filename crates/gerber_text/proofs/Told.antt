@@ -1,7 +1,7 @@
 -- A text that is refused is refused for a reason of reading.
 use Rattle.std.proofs.Common.{◌≡◌, ℕ, suc, Bool, true, false, cond, eqb, ltb, List, [], ◌∷◌, length, drop, Option, None, Some, Result, Ok, Err, refl, sym, subst, rules}
-use Rattle.std.specs.Prelude.{ℤ, codes, is_some, unwrap_or, not, ◌&&◌}
-use Rattle.std.specs.List.{AllByRecursion, fold, list_any, prefix_len, take_while}
+use Rattle.std.specs.Prelude.{ℤ, codes, map, is_some, unwrap_or, not, ◌&&◌}
+use Rattle.std.specs.List.{AllByRecursion, list_any, prefix_len, take_while}
 use Rattle.std.specs.Option.{option_map, option_or}
 use Rattle.grid_units.specs.declared.fault.Reason.{Reason}
 use Rattle.grid_units.specs.declared.fault.Fault.{Fault}
@@ -20,7 +20,7 @@ use Rattle.gerber_rows.specs.declared.command.Interpolation.{Interpolation}
 use Rattle.gerber_rows.specs.Numbers.{int_of, nat_of}
 use Rattle.gerber_rows.specs.Rows.{Meaning, Row, first_fit, behind, field}
 use Rattle.gerber_rows.specs.Words.{is, Fields, nothing_row, comment, comment_row, mode_row, quadrant_row, region_row, unit_row, incremental_row, action, alone, prepared, select_row, coordinate, action_with, kind, operands, operate, operation_row, finish_row, old_row, words, word}
-use Rattle.gerber_rows.specs.Pieces.{divided, last_byte, before_last, is_name, standard, are_sizes, before_comma, after_comma, is_several, system_row, format, format_fields, format_row, unit_piece_row, add_size, sizes_of, aperture_number, define_standard, define_named, define_as, define, definition, define_row, macro_of, macro_text, macro_row, polarity_row, mirror_row, turn, scale, transform_row, block_fields, repeat, repeat_fields, repeat_start, repeat_row, file_attribute, attribute, removal, file_row, aperture_row, object_row, removal_row, plain_row, axes_row, negative_row, old_piece_row, block_row, pieces, piece, extended}
+use Rattle.gerber_rows.specs.Pieces.{divided, last_byte, before_last, is_name, standard, are_sizes, before_comma, after_comma, is_several, system_row, format, format_fields, format_row, unit_piece_row, all_of, sizes_of, aperture_number, define_standard, define_named, define_as, define, definition, define_row, macro_of, macro_text, macro_row, polarity_row, mirror_row, turn, scale, transform_row, block_fields, repeat, repeat_fields, repeat_start, repeat_row, file_attribute, attribute, removal, file_row, aperture_row, object_row, removal_row, plain_row, axes_row, negative_row, old_piece_row, block_row, pieces, piece, extended}
 use Rattle.gerber_rows.specs.Meaning.{meaning, front_of}
 use Rattle.gerber_text.specs.Cut.{Mark, has_end}
 use Rattle.gerber_text.specs.Reading.{Entries, spelled, commands_from, behind_end, shown, ended, read_in, Reads, may_follow}
@@ -224,14 +224,14 @@ unit_piece_told : (text : List ℕ) → RowTold (unit_piece_row text)
 unfolding unit_piece_row
 unit_piece_told text = row_is (is text (codes "MOIN")) (Ok (UnitIs Inch ∷ [])) (cond (is text (codes "MOMM")) (Some (Ok (UnitIs Millimetre ∷ []))) None) (told_ok _) (row_is (is text (codes "MOMM")) (Ok (UnitIs Millimetre ∷ [])) None (told_ok _) row_none)
 
-fold_told : (runs : List (List ℕ)) (sizes : Result (List ℤ) Reason) → Told sizes → Told (fold add_size sizes runs)
-fold_told [] sizes h = h
-fold_told (run ∷ runs) sizes h = fold_told runs (add_size sizes run) (told_bind _ _ (told_both _ _ h (dec_told run)) (λ p. told_ok _))
+runs_told : (runs : List (List ℕ)) → Told (all_of (map dec_of runs))
+runs_told [] = told_ok []
+runs_told (run ∷ runs) = told_bind _ _ (told_both _ _ (dec_told run) (runs_told runs)) (λ p. told_ok _)
 
 sizes_told : (aperture : Standard) (parameters : Option (List ℕ)) → Told (sizes_of aperture parameters)
 unfolding sizes_of
 sizes_told aperture None = told_err _ _ tt
-sizes_told aperture (Some text) = told_cond (are_sizes aperture (divided 88 text)) (fold add_size (Ok []) (divided 88 text)) (Err BadWord) (fold_told (divided 88 text) (Ok []) (told_ok [])) (told_err _ BadWord tt)
+sizes_told aperture (Some text) = told_cond (are_sizes aperture (divided 88 text)) (all_of (map dec_of (divided 88 text))) (Err BadWord) (runs_told (divided 88 text)) (told_err _ BadWord tt)
 
 number_told : (digits : List ℕ) → Told (aperture_number digits)
 unfolding aperture_number
