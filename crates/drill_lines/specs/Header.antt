@@ -1,5 +1,5 @@
 -- The lines of a header: units, zeros and formats.
-use Rattle.std.specs.Prelude.{ℕ, Bool, ◌&&◌, ◌==◌, nat_le, List, [], ◌∷◌, length, drop, if◌then◌else◌, Option, Some, None, Result, Ok, Err, codes}
+use Rattle.std.specs.Prelude.{ℕ, ◌-◌, Bool, ◌&&◌, ◌==◌, nat_le, List, [], ◌∷◌, length, drop, if◌then◌else◌, Option, Some, None, Result, Ok, Err, codes}
 use Rattle.std.specs.List.{list_all, prefix_len}
 use Rattle.grid_units.specs.declared.fault.Reason.{Reason}
 use Rattle.grid_units.specs.declared.fault.Reason.TheVariants.{BadLine, BadNumber}
@@ -45,3 +45,16 @@ unit_line unit line =
     if begins (codes ",LZ") line then unit_format unit (Some Leading) (drop 3 line)
     else if begins (codes ",TZ") line then unit_format unit (Some Trailing) (drop 3 line)
     else unit_format unit None line
+
+-- a digit from 1 to 6 (docs/FORMATS.md, Drill coordinates)
+abbrev pub is_size_digit : ℕ → Bool
+is_size_digit b = nat_le 49 b && nat_le b 54
+
+-- i:d (docs/FORMATS.md, Drill coordinates)
+abbrev pub sizes_named : List ℕ → Option Digits
+sizes_named (i ∷ colon ∷ d ∷ []) = if is_size_digit i && ((colon == 58) && is_size_digit d) then Some (record { whole = i - 48; decimals = d - 48 }) else None
+sizes_named _ = None
+
+-- the format that the text of a comment gives: it is exactly `FILE_FORMAT=i:d` (docs/FORMATS.md, Drill coordinates)
+unfoldable pub file_format : List ℕ → Option Digits
+file_format text = if begins (codes "FILE_FORMAT=") text then sizes_named (drop 12 text) else None

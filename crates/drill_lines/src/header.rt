@@ -3,7 +3,7 @@
 ghost use Rattle.std.specs.Prelude.{◌≡◌, ◌≤◌, ◌==◌, length, drop};
 ghost use Rattle.std.specs.List.{list_all, prefix_len};
 ghost use Rattle.grid_units.specs.Numbers.{is_number};
-ghost use Rattle.drill_lines.specs.Header.{is_zero, is_size, sizes, pattern, pattern_from, unit_format, unit_line};
+ghost use Rattle.drill_lines.specs.Header.{is_zero, is_size, sizes, pattern, pattern_from, unit_format, unit_line, is_size_digit, sizes_named, file_format};
 
 use crate::command::{DrillCommand, Format};
 use grid_units::numbers::is_number;
@@ -104,4 +104,31 @@ pub(crate) fn unit_line(unit: Unit, line: &[u8]) -> Result<DrillCommand, Reason>
         return unit_format(unit, Some(Zeros::Trailing), rest);
     }
     unit_format(unit, None, line)
+}
+
+fn is_size_digit(byte: u8) -> bool
+    ensures { result ≡ is_size_digit byte }
+{
+    (b'1'..=b'6').contains(&byte)
+}
+
+/// The format of `i:d`.
+fn sizes_named(text: &[u8]) -> Option<Format>
+    ensures { result ≡ sizes_named text.now }
+{
+    match text {
+        [i, b':', d] if is_size_digit(*i) && is_size_digit(*d) => Format::new(*i - b'0', *d - b'0'),
+        _ => None,
+    }
+}
+
+/// The format that the text of a comment gives: the text is exactly `FILE_FORMAT=i:d`, i and d digits from 1 to 6.
+#[tactic(auto, unfolding(crate::specs::Header::file_format))]
+pub fn file_format(text: &[u8]) -> Option<Format>
+    ensures { result ≡ file_format text.now }
+{
+    match text.strip_prefix(b"FILE_FORMAT=".as_slice()) {
+        Some(rest) => sizes_named(rest),
+        None => None,
+    }
 }

@@ -10,4 +10,5 @@ mod tools;
 
 pub use canonical::{is_sayable, push_canonical};
 pub use command::{Coordinate, Coordinates, DrillCommand, Format, Part, Settings};
+pub use header::file_format;
 pub use line::read_line;

@@ -1,5 +1,5 @@
 -- What the commands before a line say, each word by looking back over the list.
-use Rattle.std.specs.Prelude.{ℕ, ◌-◌, ℤ, Bool, true, false, ◌==◌, ◌&&◌, nat_le, List, [], ◌∷◌, drop, Option, None, Some, unwrap_or, if◌then◌else◌, codes}
+use Rattle.std.specs.Prelude.{ℕ, ℤ, Bool, true, false, ◌==◌, List, [], ◌∷◌, Option, None, Some, unwrap_or, if◌then◌else◌}
 use Rattle.std.specs.List.{list_any, flat_map, filter_map}
 use Rattle.grid_units.specs.Lists.{last_named}
 use Rattle.grid_units.specs.declared.lengths.Unit.{Unit as Units}
@@ -11,7 +11,7 @@ use Rattle.drill_lines.specs.declared.command.Settings.{Settings}
 use Rattle.drill_lines.specs.declared.command.DrillCommand.{DrillCommand}
 use Rattle.drill_lines.specs.declared.command.DrillCommand.TheVariants as command
 use Rattle.drill_lines.specs.Formats.{Digits}
-use Rattle.drill_lines.specs.Lines.{begins}
+use Rattle.drill_lines.specs.Header.{file_format}
 
 -- ---- the part of the file
 
@@ -48,19 +48,6 @@ unit_named _ = None
 abbrev pub zeros_named : DrillCommand → Option Zeros
 zeros_named (command.UnitLine _ zeros _) = zeros
 zeros_named _ = None
-
--- a digit from 1 to 6 (docs/FORMATS.md, Drill coordinates)
-abbrev pub is_size_digit : ℕ → Bool
-is_size_digit b = nat_le 49 b && nat_le b 54
-
--- i:d (docs/FORMATS.md, Drill coordinates)
-abbrev pub sizes_named : List ℕ → Option Digits
-sizes_named (i ∷ colon ∷ d ∷ []) = if is_size_digit i && ((colon == 58) && is_size_digit d) then Some (record { whole = i - 48; decimals = d - 48 }) else None
-sizes_named _ = None
-
--- the format that the text of a comment gives: it is exactly `FILE_FORMAT=i:d` (docs/FORMATS.md, Drill coordinates)
-unfoldable pub file_format : List ℕ → Option Digits
-file_format text = if begins (codes "FILE_FORMAT=") text then sizes_named (drop 12 text) else None
 
 -- the format that a command gives (docs/FORMATS.md, Drill coordinates)
 abbrev pub format_named : DrillCommand → Option Digits

@@ -4,9 +4,8 @@ ghost use Rattle.std.specs.Prelude.{◌≡◌, nat_eq};
 ghost use Rattle.std.specs.Option.{option_and_then};
 ghost use Rattle.indexmap.specs.IndexMap.{get};
 ghost use Rattle.drill_text.specs.Rules.{same_unit, same_zeros, same_format};
-ghost use Rattle.drill_text.specs.Lookback.{is_size_digit, sizes_named, file_format};
 
-use drill_lines::{Coordinate, Coordinates, DrillCommand, Format, Part, Settings};
+use drill_lines::{Coordinate, Coordinates, DrillCommand, Format, Part, Settings, file_format};
 use grid_units::{Dec, Hole, Point, Reason, Stop, Text, Unit, Zeros};
 use indexmap::IndexMap;
 use std::alloc::{AllocError, Global};
@@ -419,31 +418,4 @@ fn same_format(first: Format, second: Format) -> bool
     ensures { result ≡ same_format first second }
 {
     first.whole() == second.whole() && first.decimals() == second.decimals()
-}
-
-fn is_size_digit(byte: u8) -> bool
-    ensures { result ≡ is_size_digit byte }
-{
-    (b'1'..=b'6').contains(&byte)
-}
-
-/// The format of `i:d`.
-fn sizes_named(text: &[u8]) -> Option<Format>
-    ensures { result ≡ sizes_named text.now }
-{
-    match text {
-        [i, b':', d] if is_size_digit(*i) && is_size_digit(*d) => Format::new(*i - b'0', *d - b'0'),
-        _ => None,
-    }
-}
-
-/// The format that a comment gives.
-#[tactic(auto, unfolding(crate::specs::Lookback::file_format))]
-fn file_format(text: &[u8]) -> Option<Format>
-    ensures { result ≡ file_format text.now }
-{
-    match text.strip_prefix(b"FILE_FORMAT=".as_slice()) {
-        Some(rest) => sizes_named(rest),
-        None => None,
-    }
 }

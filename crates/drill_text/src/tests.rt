@@ -44,17 +44,15 @@ fn refused(reason: Reason, place: u64, byte: u64) -> Option<Fail> {
 }
 
 /// Whether a text has this fault, also in pieces.
-fn refuses(alloc: Global, text: &[u8], reason: Reason, place: u64, byte: u64) -> bool {
-    fault_of(alloc, text) == refused(reason, place, byte)
-        && splits_alike(alloc, text)
-        && cuts_alike(alloc, text)
+fn refuses(alloc: Global, text: &str, reason: Reason, place: u64, byte: u64) -> bool {
+    let text = text.as_bytes();
+    fault_of(alloc, text) == refused(reason, place, byte) && pieces_alike(alloc, text)
 }
 
 /// Whether a text drills one round hole of this place, also in pieces.
-fn drills_one(alloc: Global, text: &[u8], x: i64, y: i64, radius: i64) -> bool {
-    drills(alloc, text, &[(x, y, x, y, radius)])
-        && splits_alike(alloc, text)
-        && cuts_alike(alloc, text)
+fn drills_one(alloc: Global, text: &str, x: i64, y: i64, radius: i64) -> bool {
+    let text = text.as_bytes();
+    drills(alloc, text, &[(x, y, x, y, radius)]) && pieces_alike(alloc, text)
 }
 
 /// A read of a text in two pieces.
@@ -127,44 +125,56 @@ fn cuts_alike(alloc: Global, text: &[u8]) -> bool {
     true
 }
 
+/// Whether a text reads in pieces as the whole.
+fn pieces_alike(alloc: Global, text: &[u8]) -> bool {
+    splits_alike(alloc, text) && cuts_alike(alloc, text)
+}
+
 const PLATED: &[u8; 36] = b"M48\nMETRIC\nT1C0.4\n%\nT1\nX0.0Y0.0\nM30\n";
 
 #[test]
 fn zeros(rt: HostRuntime) {
-    let alloc = rt.alloc();
-    let trailing = b"M48\nMETRIC,TZ\nT1C0.4\n%\nT1\nX2540Y0\nM30\n";
-    assert!(rt; drills_one(alloc, trailing, 2_540_000_000, 0, 200_000_000));
-    let leading = b"M48\nMETRIC,LZ\nT1C0.4\n%\nT1\nX00254Y0\nM30\n";
-    assert!(rt; drills_one(alloc, leading, 2_540_000_000, 0, 200_000_000));
-    let pointed = b"M48\nMETRIC\nT1C0.4\n%\nT1\nX2.54Y0.0\nM30\n";
-    assert!(rt; drills_one(alloc, pointed, 2_540_000_000, 0, 200_000_000));
-    let full = b"M48\nMETRIC\nT1C0.4\n%\nT1\nX002540Y000000\nM30\n";
-    assert!(rt; drills_one(alloc, full, 2_540_000_000, 0, 200_000_000));
+    for text in [
+        "M48\nMETRIC,TZ\nT1C0.4\n%\nT1\nX2540Y0\nM30\n",
+        "M48\nMETRIC,LZ\nT1C0.4\n%\nT1\nX00254Y0\nM30\n",
+        "M48\nMETRIC\nT1C0.4\n%\nT1\nX2.54Y0.0\nM30\n",
+        "M48\nMETRIC\nT1C0.4\n%\nT1\nX002540Y000000\nM30\n",
+    ] {
+        assert!(rt;
+            drills_one(rt.alloc(), text, 2_540_000_000, 0, 200_000_000),
+            "{text}"
+        );
+    }
 }
 
 /// The settings are those of the whole header, wherever a comment or a later line names them.
 #[test]
 fn formats(rt: HostRuntime) {
-    let alloc = rt.alloc();
-    let pattern = b"M48\nMETRIC,LZ,00.00\nT1C0.4\n%\nT1\nX0254Y0\nM30\n";
-    assert!(rt; drills_one(alloc, pattern, 2_540_000_000, 0, 200_000_000));
-    let comment = b"M48\n;FILE_FORMAT=2:4\nMETRIC,TZ\nT1C0.4\n%\nT1\nX25400Y0\nM30\n";
-    assert!(rt; drills_one(alloc, comment, 2_540_000_000, 0, 200_000_000));
-    let before = b";FILE_FORMAT=2:4\nM48\nMETRIC,TZ\nT1C0.4\n%\nT1\nX25400Y0\nM30\n";
-    assert!(rt; drills_one(alloc, before, 2_540_000_000, 0, 200_000_000));
-    let behind = b"M48\nMETRIC,TZ\nT1C0.4\n;FILE_FORMAT=2:4\n%\nT1\nX25400Y0\nM30\n";
-    assert!(rt; drills_one(alloc, behind, 2_540_000_000, 0, 200_000_000));
+    for text in [
+        "M48\nMETRIC,LZ,00.00\nT1C0.4\n%\nT1\nX0254Y0\nM30\n",
+        "M48\n;FILE_FORMAT=2:4\nMETRIC,TZ\nT1C0.4\n%\nT1\nX25400Y0\nM30\n",
+        ";FILE_FORMAT=2:4\nM48\nMETRIC,TZ\nT1C0.4\n%\nT1\nX25400Y0\nM30\n",
+        "M48\nMETRIC,TZ\nT1C0.4\n;FILE_FORMAT=2:4\n%\nT1\nX25400Y0\nM30\n",
+    ] {
+        assert!(rt;
+            drills_one(rt.alloc(), text, 2_540_000_000, 0, 200_000_000),
+            "{text}"
+        );
+    }
 }
 
 /// A comment in the body gives no format, and a later line takes nothing back.
 #[test]
 fn the_header_as_a_whole(rt: HostRuntime) {
-    let alloc = rt.alloc();
-    let in_body =
-        b"M48\nMETRIC\nT1C0.4\nMETRIC,TZ,00.0000\nM95\nT1\n;FILE_FORMAT=3:3\nX25400Y0\nM30";
-    assert!(rt; drills_one(alloc, in_body, 2_540_000_000, 0, 200_000_000));
-    let later = b"M48\nM71\nMETRIC,LZ\nMETRIC,000.000\nT01C.4\n%\nT1\nX00254Y0\nM30\n\n \n";
-    assert!(rt; drills_one(alloc, later, 2_540_000_000, 0, 200_000_000));
+    for text in [
+        "M48\nMETRIC\nT1C0.4\nMETRIC,TZ,00.0000\nM95\nT1\n;FILE_FORMAT=3:3\nX25400Y0\nM30",
+        "M48\nM71\nMETRIC,LZ\nMETRIC,000.000\nT01C.4\n%\nT1\nX00254Y0\nM30\n\n \n",
+    ] {
+        assert!(rt;
+            drills_one(rt.alloc(), text, 2_540_000_000, 0, 200_000_000),
+            "{text}"
+        );
+    }
 }
 
 #[test]
@@ -183,10 +193,9 @@ fn slots(rt: HostRuntime) -> Result<(), TestFail> {
         ),
     ];
     assert!(rt; drills(rt.alloc(), text, &wanted));
-    assert!(rt; splits_alike(rt.alloc(), text));
-    assert!(rt; cuts_alike(rt.alloc(), text));
+    assert!(rt; pieces_alike(rt.alloc(), text));
     let routed =
-        b"M48\nMETRIC\nT1C0.5\n%\nT1\nX0.0Y0.0G85X2.0Y0.0\nX0.0Y5.0G85X2.0Y6.0\nX9.0Y9.0G85X9.0Y9.0\nG00X1.0Y1.0\nM30\n";
+        "M48\nMETRIC\nT1C0.5\n%\nT1\nX0.0Y0.0G85X2.0Y0.0\nX0.0Y5.0G85X2.0Y6.0\nX9.0Y9.0G85X9.0Y9.0\nG00X1.0Y1.0\nM30\n";
     assert!(rt; refuses(rt.alloc(), routed, Reason::Routed, 9, 83));
     Ok(())
 }
@@ -213,8 +222,7 @@ fn coordinates_left_out(rt: HostRuntime) -> Result<(), TestFail> {
         (50_800_000_000, 0, 50_800_000_000, 0, 1_270_000_000),
     ];
     assert!(rt; drills(rt.alloc(), text, &wanted));
-    assert!(rt; splits_alike(rt.alloc(), text));
-    assert!(rt; cuts_alike(rt.alloc(), text));
+    assert!(rt; pieces_alike(rt.alloc(), text));
     Ok(())
 }
 
@@ -229,8 +237,7 @@ fn doubled_hits(rt: HostRuntime) -> Result<(), TestFail> {
             &[(0, 0, 0, 0, 200_000_000), (0, 0, 0, 0, 200_000_000)]
         )
     );
-    assert!(rt; splits_alike(rt.alloc(), text));
-    assert!(rt; cuts_alike(rt.alloc(), text));
+    assert!(rt; pieces_alike(rt.alloc(), text));
     Ok(())
 }
 
@@ -249,261 +256,186 @@ fn tools_in_order(rt: HostRuntime) -> Result<(), TestFail> {
     );
     assert_eq!(rt; drill.commands().len(), 7);
     assert!(rt; matches!(drill.commands().last(), Some(DrillCommand::Finish)));
-    assert!(rt; splits_alike(rt.alloc(), text));
-    assert!(rt; cuts_alike(rt.alloc(), text));
+    assert!(rt; pieces_alike(rt.alloc(), text));
     Ok(())
 }
 
 #[test]
 fn refused_coordinates(rt: HostRuntime) {
-    let alloc = rt.alloc();
-    assert!(rt;
-        refuses(
-            alloc,
-            b"M48\nMETRIC\nT1C0.4\n%\nT1\nX2540Y000000\nM30\n",
+    for (text, reason, place, byte) in [
+        (
+            "M48\nMETRIC\nT1C0.4\n%\nT1\nX2540Y000000\nM30\n",
             Reason::NoZeros,
             6,
-            23
-        )
-    );
-    assert!(rt;
-        refuses(
-            alloc,
-            b"M48\nMETRIC\nT1C0.4\n%\nT1\nX10000.00000001Y0.0\nM30\n",
+            23,
+        ),
+        (
+            "M48\nMETRIC\nT1C0.4\n%\nT1\nX10000.00000001Y0.0\nM30\n",
             Reason::TooFar,
             6,
-            23
-        )
-    );
-    assert!(rt;
-        refuses(
-            alloc,
-            b"M48\nMETRIC,TZ\nT1C0.4\n%\nT1\nX1234567Y0\nM30\n",
+            23,
+        ),
+        (
+            "M48\nMETRIC,TZ\nT1C0.4\n%\nT1\nX1234567Y0\nM30\n",
             Reason::TooManyDigits,
             6,
-            26
-        )
-    );
+            26,
+        ),
+    ] {
+        assert!(rt; refuses(rt.alloc(), text, reason, place, byte), "{text}");
+    }
 }
 
 #[test]
 fn refused_digits(rt: HostRuntime) {
-    let alloc = rt.alloc();
-    assert!(rt;
-        refuses(
-            alloc,
-            b"M48\nMETRIC\nT1C0.4\n%\nT1\nX0000001Y0.0\nM30\n",
+    for (text, reason, place, byte) in [
+        (
+            "M48\nMETRIC\nT1C0.4\n%\nT1\nX0000001Y0.0\nM30\n",
             Reason::NoZeros,
             6,
-            23
-        )
-    );
-    assert!(rt;
-        refuses(
-            alloc,
-            b"M48\nMETRIC\nT1C0.4\n%\nT1\nX99999999999999999999.0Y0.0\nM30\n",
+            23,
+        ),
+        (
+            "M48\nMETRIC\nT1C0.4\n%\nT1\nX99999999999999999999.0Y0.0\nM30\n",
             Reason::TooFar,
             6,
-            23
-        )
-    );
-    assert!(rt;
-        refuses(
-            alloc,
-            b"M48\nMETRIC\n%\nX1.123456789Y1000000.0\n",
+            23,
+        ),
+        (
+            "M48\nMETRIC\n%\nX1.123456789Y1000000.0\n",
             Reason::TooFine,
             4,
-            13
-        )
-    );
+            13,
+        ),
+    ] {
+        assert!(rt; refuses(rt.alloc(), text, reason, place, byte), "{text}");
+    }
 }
 
 #[test]
 fn refused_ends(rt: HostRuntime) {
-    let alloc = rt.alloc();
-    assert!(rt;
-        refuses(
-            alloc,
-            b"M48\nMETRIC\nT1C0.4\n%\nT1\nX0.0Y0.0\n",
+    for (text, reason, place, byte) in [
+        (
+            "M48\nMETRIC\nT1C0.4\n%\nT1\nX0.0Y0.0\n",
             Reason::Truncated,
             7,
-            32
-        )
-    );
-    assert!(rt;
-        refuses(
-            alloc,
-            b"M48\nMETRIC\nT1C0.4\n%\nT1\nX0.0Y0.0\nM30\nT1\n",
+            32,
+        ),
+        (
+            "M48\nMETRIC\nT1C0.4\n%\nT1\nX0.0Y0.0\nM30\nT1\n",
             Reason::AfterEnd,
             8,
-            36
-        )
-    );
-    assert!(rt;
-        refuses(
-            alloc,
-            b"M48\nMETRIC\nT1C0.4\n%\nT1\nX0.0Y0.0\nM30\n;x\n",
+            36,
+        ),
+        (
+            "M48\nMETRIC\nT1C0.4\n%\nT1\nX0.0Y0.0\nM30\n;x\n",
             Reason::AfterEnd,
             8,
-            36
-        )
-    );
+            36,
+        ),
+    ] {
+        assert!(rt; refuses(rt.alloc(), text, reason, place, byte), "{text}");
+    }
 }
 
 #[test]
 fn refused_tools(rt: HostRuntime) {
-    let alloc = rt.alloc();
-    assert!(rt;
-        refuses(
-            alloc,
-            b"M48\nMETRIC\nT1C0.4\n%\nT2\nX0.0Y0.0\nM30\n",
+    for (text, reason, place, byte) in [
+        (
+            "M48\nMETRIC\nT1C0.4\n%\nT2\nX0.0Y0.0\nM30\n",
             Reason::UnknownTool,
             5,
-            20
-        )
-    );
-    assert!(rt;
-        refuses(
-            alloc,
-            b"M48\nMETRIC\nT1C0.4\n%\nT0\nX0.0Y0.0\nM30\n",
+            20,
+        ),
+        (
+            "M48\nMETRIC\nT1C0.4\n%\nT0\nX0.0Y0.0\nM30\n",
             Reason::NoTool,
             6,
-            23
-        )
-    );
-    assert!(rt;
-        refuses(
-            alloc,
-            b"M48\nMETRIC\nT1C0.4\n%\nX0.0Y0.0\nM30\n",
+            23,
+        ),
+        (
+            "M48\nMETRIC\nT1C0.4\n%\nX0.0Y0.0\nM30\n",
             Reason::NoTool,
             5,
-            20
-        )
-    );
+            20,
+        ),
+    ] {
+        assert!(rt; refuses(rt.alloc(), text, reason, place, byte), "{text}");
+    }
 }
 
 #[test]
 fn refused_headers(rt: HostRuntime) {
-    let alloc = rt.alloc();
-    assert!(rt; refuses(alloc, b"M48\nMETRIC\nTC0.4\n%\n", Reason::BadNumber, 3, 11));
-    assert!(rt; refuses(alloc, b"M48\nMETRIC\nT1\n%\n", Reason::BadLine, 3, 11));
-    assert!(rt;
-        refuses(
-            alloc,
-            b"M48\nMETRIC\nT1C0.4C0.5\n%\n",
-            Reason::BadLine,
-            3,
-            11
-        )
-    );
-    assert!(rt; refuses(alloc, b"M48\nMETRIC\nT1C4\n%\n", Reason::BadNumber, 3, 11));
-    assert!(rt; refuses(alloc, b"M48\nMETRIC,x\n", Reason::BadLine, 2, 4));
-    assert!(rt; refuses(alloc, b"M48\nMETRIC,\n", Reason::BadNumber, 2, 4));
-}
-
-#[test]
-fn refused_headers_too(rt: HostRuntime) {
-    let alloc = rt.alloc();
-    assert!(rt; refuses(alloc, b"M48\nMETRIC,0000000.0\n", Reason::BadNumber, 2, 4));
-    assert!(rt; refuses(alloc, b"M48\nFMAT,1\n", Reason::OldFormat, 2, 4));
-    assert!(rt; refuses(alloc, b"INCH\nM48\n", Reason::OldFormat, 1, 0));
-    assert!(rt; refuses(alloc, b"M48\nICI,ON\n", Reason::Incremental, 2, 4));
+    for (text, reason, place, byte) in [
+        ("M48\nMETRIC\nTC0.4\n%\n", Reason::BadNumber, 3, 11),
+        ("M48\nMETRIC\nT1\n%\n", Reason::BadLine, 3, 11),
+        ("M48\nMETRIC\nT1C0.4C0.5\n%\n", Reason::BadLine, 3, 11),
+        ("M48\nMETRIC\nT1C4\n%\n", Reason::BadNumber, 3, 11),
+        ("M48\nMETRIC,x\n", Reason::BadLine, 2, 4),
+        ("M48\nMETRIC,\n", Reason::BadNumber, 2, 4),
+        ("M48\nMETRIC,0000000.0\n", Reason::BadNumber, 2, 4),
+        ("M48\nFMAT,1\n", Reason::OldFormat, 2, 4),
+        ("INCH\nM48\n", Reason::OldFormat, 1, 0),
+        ("M48\nICI,ON\n", Reason::Incremental, 2, 4),
+    ] {
+        assert!(rt; refuses(rt.alloc(), text, reason, place, byte), "{text}");
+    }
 }
 
 #[test]
 fn refused_bodies(rt: HostRuntime) {
-    let alloc = rt.alloc();
-    assert!(rt;
-        refuses(
-            alloc,
-            b"M48\nMETRIC\nT1C0.4\n%\nT99999999999\nX0.0Y0.0\nM30\n",
+    for (text, reason, place, byte) in [
+        (
+            "M48\nMETRIC\nT1C0.4\n%\nT99999999999\nX0.0Y0.0\nM30\n",
             Reason::BadNumber,
             5,
-            20
-        )
-    );
-    assert!(rt; refuses(alloc, b"M48\nMETRIC\n%\nR2M01\n", Reason::Repeat, 4, 13));
-    assert!(rt; refuses(alloc, b"M48\nMETRIC\n%\nM15\n", Reason::Routed, 4, 13));
-    assert!(rt; refuses(alloc, b"M48\nMETRIC\n%\nG85X1.0\n", Reason::BadLine, 4, 13));
-    assert!(rt;
-        refuses(
-            alloc,
-            b"M48\nMETRIC\n%\nX1.123456789Y\n",
-            Reason::BadNumber,
-            4,
-            13
-        )
-    );
+            20,
+        ),
+        ("M48\nMETRIC\n%\nR2M01\n", Reason::Repeat, 4, 13),
+        ("M48\nMETRIC\n%\nM15\n", Reason::Routed, 4, 13),
+        ("M48\nMETRIC\n%\nG85X1.0\n", Reason::BadLine, 4, 13),
+        ("M48\nMETRIC\n%\nX1.123456789Y\n", Reason::BadNumber, 4, 13),
+    ] {
+        assert!(rt; refuses(rt.alloc(), text, reason, place, byte), "{text}");
+    }
 }
 
 #[test]
 fn refused_settings(rt: HostRuntime) {
-    let alloc = rt.alloc();
-    assert!(rt;
-        refuses(
-            alloc,
-            b"M48\n;FILE_FORMAT=2:4\nMETRIC,TZ,000.000\nT1C0.4\n%\nT1\nX0.0Y0.0\nM30\n",
+    for (text, reason, place, byte) in [
+        (
+            "M48\n;FILE_FORMAT=2:4\nMETRIC,TZ,000.000\nT1C0.4\n%\nT1\nX0.0Y0.0\nM30\n",
             Reason::FormatConflict,
             3,
-            21
-        )
-    );
-    assert!(rt;
-        refuses(
-            alloc,
-            b";FILE_FORMAT=2:4\n;FILE_FORMAT=3:3\nM48\n",
+            21,
+        ),
+        (
+            ";FILE_FORMAT=2:4\n;FILE_FORMAT=3:3\nM48\n",
             Reason::FormatConflict,
             2,
-            17
-        )
-    );
+            17,
+        ),
+        (
+            "M48\nMETRIC,LZ\nMETRIC,TZ\n%\n",
+            Reason::FormatConflict,
+            3,
+            14,
+        ),
+    ] {
+        assert!(rt; refuses(rt.alloc(), text, reason, place, byte), "{text}");
+    }
 }
 
 #[test]
 fn refused_definitions(rt: HostRuntime) {
-    let alloc = rt.alloc();
-    assert!(rt;
-        refuses(
-            alloc,
-            b"M48\nT1C0.4\n%\nT1\nX0.0Y0.0\nM30\n",
-            Reason::NoUnit,
-            3,
-            11
-        )
-    );
-    assert!(rt;
-        refuses(
-            alloc,
-            b"M48\nMETRIC\nT1C0.4\nT1C0.5\n",
-            Reason::Redefined,
-            4,
-            18
-        )
-    );
-    assert!(rt; refuses(alloc, b"M48\nMETRIC\nT1C0.0\n%\n", Reason::BadSize, 3, 11));
-    assert!(rt;
-        refuses(
-            alloc,
-            b"M48\nMETRIC\nINCH\n%\n",
-            Reason::UnitConflict,
-            3,
-            11
-        )
-    );
-}
-
-#[test]
-fn refused_settings_too(rt: HostRuntime) {
-    let alloc = rt.alloc();
-    assert!(rt;
-        refuses(
-            alloc,
-            b"M48\nMETRIC,LZ\nMETRIC,TZ\n%\n",
-            Reason::FormatConflict,
-            3,
-            14
-        )
-    );
+    for (text, reason, place, byte) in [
+        ("M48\nT1C0.4\n%\nT1\nX0.0Y0.0\nM30\n", Reason::NoUnit, 3, 11),
+        ("M48\nMETRIC\nT1C0.4\nT1C0.5\n", Reason::Redefined, 4, 18),
+        ("M48\nMETRIC\nT1C0.0\n%\n", Reason::BadSize, 3, 11),
+        ("M48\nMETRIC\nINCH\n%\n", Reason::UnitConflict, 3, 11),
+    ] {
+        assert!(rt; refuses(rt.alloc(), text, reason, place, byte), "{text}");
+    }
 }
 
 #[test]
@@ -520,50 +452,55 @@ fn far_coordinates(rt: HostRuntime) -> Result<(), TestFail> {
 }
 
 /// Whether a file cut off behind so many of its bytes has this fault.
-fn cut_refuses(alloc: Global, n: usize, reason: Reason, place: u64, byte: u64) -> bool {
-    n <= 36 && fault_of(alloc, &PLATED[..n]) == refused(reason, place, byte)
+fn cut_refuses(alloc: Global, len: usize, reason: Reason, place: u64, byte: u64) -> bool {
+    len <= 36 && fault_of(alloc, &PLATED[..len]) == refused(reason, place, byte)
 }
 
 #[test]
 fn cut_off(rt: HostRuntime) {
     let alloc = rt.alloc();
-    assert!(rt; cut_refuses(alloc, 0, Reason::Truncated, 1, 0));
-    assert!(rt; cut_refuses(alloc, 2, Reason::OldFormat, 1, 0));
-    assert!(rt; cut_refuses(alloc, 6, Reason::BadLine, 2, 4));
-    assert!(rt; cut_refuses(alloc, 24, Reason::BadNumber, 6, 23));
-    assert!(rt; cut_refuses(alloc, 25, Reason::NoZeros, 6, 23));
-    assert!(rt; cut_refuses(alloc, 26, Reason::Truncated, 7, 26));
-    assert!(rt; cut_refuses(alloc, 32, Reason::Truncated, 7, 32));
-    assert!(rt; cut_refuses(alloc, 34, Reason::BadLine, 7, 32));
+    for (len, reason, place, byte) in [
+        (0, Reason::Truncated, 1, 0),
+        (2, Reason::OldFormat, 1, 0),
+        (6, Reason::BadLine, 2, 4),
+        (24, Reason::BadNumber, 6, 23),
+        (25, Reason::NoZeros, 6, 23),
+        (26, Reason::Truncated, 7, 26),
+        (32, Reason::Truncated, 7, 32),
+        (34, Reason::BadLine, 7, 32),
+    ] {
+        assert!(rt; cut_refuses(alloc, len, reason, place, byte), "{len}");
+    }
     assert_eq!(rt; fault_of(alloc, &PLATED[..35]), None);
     assert_eq!(rt; fault_of(alloc, PLATED), None);
-    assert!(rt; splits_alike(alloc, PLATED));
-    assert!(rt; cuts_alike(alloc, PLATED));
+    assert!(rt; pieces_alike(alloc, PLATED));
 }
 
 /// Lines that end with CR and LF, and one with a CR among its bytes.
 #[test]
 fn carriage_returns(rt: HostRuntime) {
     let alloc = rt.alloc();
-    let text = b"M48\r\nMETRIC\r\nT1C0.4\r\n%\r\nT1\r\nX0.5Y-0.25\r\nM30\r\n";
+    let text = "M48\r\nMETRIC\r\nT1C0.4\r\n%\r\nT1\r\nX0.5Y-0.25\r\nM30\r\n";
     assert!(rt; drills_one(alloc, text, 500_000_000, -250_000_000, 200_000_000));
-    let broken = b"M48\nMETRIC\nT1C0.4\n%\nT1\nX0.5Y-0.25\rX1.0\nM30\n";
+    let broken = "M48\nMETRIC\nT1C0.4\n%\nT1\nX0.5Y-0.25\rX1.0\nM30\n";
     assert!(rt; refuses(alloc, broken, Reason::BadLine, 6, 23));
 }
 
 /// A text that only begins with blanks, or ends with them.
 #[test]
-fn blanks(rt: HostRuntime) -> Result<(), TestFail> {
+fn blanks(rt: HostRuntime) {
     let alloc = rt.alloc();
-    assert!(rt; refuses(alloc, b"M48\nMETRIC\n% ", Reason::Truncated, 4, 13));
-    assert!(rt; refuses(alloc, b"M48\nMETRIC\n%\n ", Reason::Truncated, 5, 14));
-    assert!(rt; refuses(alloc, b" ;x\nM48\n", Reason::OldFormat, 1, 0));
-    assert!(rt; refuses(alloc, b"M48\n ;x\n", Reason::BadLine, 2, 4));
+    for (text, reason, place, byte) in [
+        ("M48\nMETRIC\n% ", Reason::Truncated, 4, 13),
+        ("M48\nMETRIC\n%\n ", Reason::Truncated, 5, 14),
+        (" ;x\nM48\n", Reason::OldFormat, 1, 0),
+        ("M48\n ;x\n", Reason::BadLine, 2, 4),
+    ] {
+        assert!(rt; refuses(alloc, text, reason, place, byte), "{text}");
+    }
     let read = b"M48 \r\nMETRIC\t\r\n%\nM30\r\n \n\r\n";
     assert_eq!(rt; fault_of(alloc, read), None);
-    assert!(rt; splits_alike(alloc, read));
-    assert!(rt; cuts_alike(alloc, read));
-    Ok(())
+    assert!(rt; pieces_alike(alloc, read));
 }
 
 fn is_fault(outcome: &Result<(), Fail>, wanted: Option<Fail>) -> bool {
@@ -699,8 +636,7 @@ fn written_back(rt: HostRuntime) -> Result<(), TestFail> {
     let again = read_drill(rt.alloc(), &written).map_err(|_| "refused")?;
     assert!(rt; again.commands() == drill.commands());
     assert!(rt; again.holes() == drill.holes());
-    assert!(rt; splits_alike(rt.alloc(), text));
-    assert!(rt; cuts_alike(rt.alloc(), text));
+    assert!(rt; pieces_alike(rt.alloc(), text));
     Ok(())
 }
 

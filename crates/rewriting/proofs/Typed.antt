@@ -23,13 +23,13 @@ use Rattle.drill_lines.specs.declared.command.DrillCommand.{DrillCommand}
 use Rattle.drill_lines.specs.declared.command.DrillCommand.TheVariants.{Comment, Start, UnitLine, Tool, HeaderEnd, UnitCode, Pick, Hit, Slot, Finish}
 use Rattle.drill_lines.specs.Formats.{Digits, AreSizes}
 use Rattle.drill_lines.specs.Lines.{trimmed, begins}
-use Rattle.drill_lines.specs.Header.{is_zero, is_size, sizes, pattern_from, pattern, unit_format, unit_line}
+use Rattle.drill_lines.specs.Header.{is_zero, is_size, sizes, pattern_from, pattern, unit_format, unit_line, is_size_digit, sizes_named, file_format}
 use Rattle.drill_lines.specs.Tools.{is_point, is_diameter, is_letter, is_skipped, are_fields, number_from, diameter_of, diameter_run, tool_fields, tool_line, pick_fields, pick_line}
 use Rattle.drill_lines.specs.Drilling.{default_format, format_in, zeros_in, coordinate_of, coordinate, Runs, runs_of, names_one, coordinates, slot_line, drill_from, drill_line}
 use Rattle.drill_lines.specs.Meaning.{one, begins_comment, begins_point, spells_nothing, is_old, is_incremental, ends_header, is_routed, repeats, line_before, common_line, header_line, body_word, body_line, line_in, meaning}
 use Rattle.drill_lines.specs.Writing.{IsDec, AreDecs, IsPoint, IsTyped}
 use Rattle.grid_units.proofs.BoolLemmas.{both_true}
-use Rattle.drill_text.specs.Lookback.{header, format_named, is_size_digit, sizes_named, file_format, settings_after}
+use Rattle.drill_text.specs.Lookback.{header, format_named, settings_after}
 use Rattle.drill_text.specs.Lookback as lookback
 use Rattle.drill_text.specs.Texts.{spelled_behind, SpellsText}
 use Rattle.drill_text.proofs.Splitting.{AllR-append}
