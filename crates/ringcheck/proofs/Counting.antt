@@ -1,6 +1,6 @@
 -- The number of findings that a word names.
 use Rattle.std.proofs.Common.{◌≡◌, ◌≤◌, ◌∙◌, ℕ, List, Result, Ok, length, min, true, ap, sym, refl, arith}
-use Rattle.std.specs.Prelude.{nat_le, Bool, ◌&&◌}
+use Rattle.std.specs.Prelude.{nat_le, ◌&&◌}
 use Rattle.std.proofs.lemmas.Bool.{le-leb}
 use Rattle.grid_units.specs.Numbers.{is_digits, value}
 use Rattle.grid_units.specs.declared.fault.Reason.{Reason}

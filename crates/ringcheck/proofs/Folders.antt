@@ -1,7 +1,6 @@
 -- Files that were loaded one by one, by their names.
 use Rattle.std.proofs.Common.{◌≡◌, ◌≢◌, ◌∙◌, ◌<◌, ◌≤◌, ◌+◌, ◌++◌, ◌&&◌, ℕ, zero, suc, Bool, true, false, List, [], ◌∷◌, length, map, take, get_or, Bor, Option, arith, refl, ap, sym, subst}
 use Rattle.std.specs.List.{list_all}
-use Rattle.std.specs.Io.KnownBytes.{Appends}
 use Rattle.proposals.specs.Proposing.{name_of}
 use Rattle.proposals.specs.declared.outcome.Named.{Named}
 use Rattle.ringcheck.specs.declared.ending.Ended.{Ended}

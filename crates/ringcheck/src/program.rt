@@ -10,6 +10,7 @@ ghost use Rattle.ringcheck.specs.Naming as named;
 ghost use Rattle.ringcheck.specs.Printing.{SaysFileOf, kind_named};
 ghost use Rattle.ringcheck.specs.Reporting.{SaysReportOf};
 ghost use Rattle.ringcheck.specs.Running.{SaysOf};
+ghost use Rattle.ringcheck.specs.Inner.Asking.{SaysRequest};
 
 use crate::ending::{Ended, say, say_line, say_out_of_memory};
 use crate::explaining::explain;
@@ -22,6 +23,54 @@ use crate::{Loader, Status, lines};
 use command_line::{Refusal, Request, VERSION_LINE, parse};
 use std::alloc::Global;
 use std::io::Write;
+
+/// Does what a request asks for, and tells why it ended.
+fn answer<L: Loader, W: Write>(
+    alloc: Global,
+    request: Request,
+    loader: &mut L,
+    out: &mut W,
+) -> Ended
+    ensures says { SaysRequest request.entry (L.has loader.old) (W.contents out.old) (W.contents out.new) (status_after result) }
+    ensures cause { HasCause (L.failed loader.old) (L.failed loader.new) result }
+{
+    match request {
+        Request::Check {
+            ring,
+            gap,
+            manifest,
+        } => check(alloc, ring, gap, manifest, loader, out),
+        Request::Report {
+            ring,
+            gap,
+            most,
+            waive,
+            format,
+            manifest,
+        } => {
+            let asked = ReportWords {
+                ring,
+                gap,
+                most,
+                waive,
+                format,
+            };
+            report(alloc, &asked, manifest, loader, out)
+        }
+        Request::Measure { format, manifest } => measure(alloc, format, manifest, loader, out),
+        Request::Draw {
+            ring,
+            gap,
+            manifest,
+        } => draw(alloc, ring, gap, manifest, loader, out),
+        Request::Show { kind, file } => print(alloc, Task::Show, kind, file, loader, out),
+        Request::Rewrite { kind, file } => print(alloc, Task::Rewrite, kind, file, loader, out),
+        Request::Manifest { why, files } => {
+            print_manifest(alloc, why, files.as_slice(), loader, out)
+        }
+        Request::Explain { word } => explain(alloc, word, out),
+    }
+}
 
 /// Does what the words ask for, and tells why it ended.
 fn run_to_end<L: Loader, W: Write>(
@@ -51,46 +100,7 @@ fn run_to_end<L: Loader, W: Write>(
     ensures cause { HasCause (L.failed loader.old) (L.failed loader.new) result }
 {
     match parse(alloc, words) {
-        Ok(
-            Request::Check {
-                ring,
-                gap,
-                manifest,
-            },
-        ) => check(alloc, ring, gap, manifest, loader, out),
-        Ok(
-            Request::Report {
-                ring,
-                gap,
-                most,
-                waive,
-                format,
-                manifest,
-            },
-        ) => {
-            let asked = ReportWords {
-                ring,
-                gap,
-                most,
-                waive,
-                format,
-            };
-            report(alloc, &asked, manifest, loader, out)
-        }
-        Ok(Request::Measure { format, manifest }) => measure(alloc, format, manifest, loader, out),
-        Ok(
-            Request::Draw {
-                ring,
-                gap,
-                manifest,
-            },
-        ) => draw(alloc, ring, gap, manifest, loader, out),
-        Ok(Request::Show { kind, file }) => print(alloc, Task::Show, kind, file, loader, out),
-        Ok(Request::Rewrite { kind, file }) => print(alloc, Task::Rewrite, kind, file, loader, out),
-        Ok(Request::Manifest { why, files }) => {
-            print_manifest(alloc, why, files.as_slice(), loader, out)
-        }
-        Ok(Request::Explain { word }) => explain(alloc, word, out),
+        Ok(request) => answer(alloc, request, loader, out),
         Err(Refusal::Memory) => say_out_of_memory(out),
         Err(Refusal::Version) => say(out, VERSION_LINE.as_bytes(), Ended::Said(Status::Pass)),
         Err(Refusal::Help(text)) => say(out, text.as_str().as_bytes(), Ended::Said(Status::Pass)),

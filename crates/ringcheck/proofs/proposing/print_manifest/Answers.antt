@@ -1,4 +1,4 @@
-use Rattle.std.proofs.Common.{◌≡◌, ◌∙◌, sym, ap, subst, List, length, arith}
+use Rattle.std.proofs.Common.{◌∙◌, sym, ap, subst, List, length}
 use Rattle.ringcheck.specs.Folders.{HasPairs, pairs}
 use Rattle.ringcheck.specs.declared.proposing.Held.{Held}
 use Rattle.ringcheck.proofs.Folders.{refused, told}

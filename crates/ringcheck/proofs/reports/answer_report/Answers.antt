@@ -1,4 +1,4 @@
-use Rattle.std.proofs.Common.{List, ℕ, subst, sym, ap, map, ◌∙◌, ◌≡◌}
+use Rattle.std.proofs.Common.{List, ℕ, subst, sym, ap, map, ◌∙◌}
 use Rattle.std.specs.Borrow.{Bor}
 use Rattle.std.specs.Io.KnownBytes.{Appends}
 use Rattle.std.specs.List.{count_by}
@@ -6,7 +6,6 @@ use Rattle.manifest.specs.declared.Entry.{Entry}
 use Rattle.package_check.specs.Package.{is_copper}
 use Rattle.telling.specs.Telling.{IsTellingOf}
 use Rattle.waivers.specs.Waiving.{IsWaived}
-use Rattle.waivers.specs.declared.Waiver.{Waiver}
 use Rattle.ringcheck.specs.Reporting.{telling_page, waived_page}
 use Rattle.ringcheck.specs.Running.{sources}
 use Rattle.ringcheck.proofs.Loaded.{names_among}
