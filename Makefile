@@ -5,7 +5,7 @@ PREFIX ?= /usr/local
 VERSION := $(shell cat VERSION)
 root = $(DESTDIR)$(PREFIX)
 installed = bin/ringcheck bin/ringcheck-each share/man/man1/ringcheck.1 share/man/man1/ringcheck-each.1 \
-  share/ringcheck/check-boards.mk share/bash-completion/completions/ringcheck share/zsh/site-functions/_ringcheck \
+  share/ringcheck/check-boards.mk share/ringcheck/junit.jq share/ringcheck/github.jq share/bash-completion/completions/ringcheck share/zsh/site-functions/_ringcheck \
   share/fish/vendor_completions.d/ringcheck.fish
 
 .PHONY: build install uninstall deb test
@@ -20,6 +20,7 @@ install: build
 	sed 's/@VERSION@/$(VERSION)/' packaging/ringcheck-each.1 > "$(root)/share/man/man1/ringcheck-each.1"
 	chmod 644 "$(root)/share/man/man1/ringcheck.1" "$(root)/share/man/man1/ringcheck-each.1"
 	install -m 644 packaging/check-boards.mk "$(root)/share/ringcheck/check-boards.mk"
+	install -m 644 extras/junit.jq extras/github.jq "$(root)/share/ringcheck"
 	install -m 644 packaging/completions/ringcheck.bash "$(root)/share/bash-completion/completions/ringcheck"
 	install -m 644 packaging/completions/_ringcheck "$(root)/share/zsh/site-functions/_ringcheck"
 	install -m 644 packaging/completions/ringcheck.fish "$(root)/share/fish/vendor_completions.d/ringcheck.fish"

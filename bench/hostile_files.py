@@ -20,6 +20,8 @@ DRILL_HEAD = b"M48\nMETRIC\nT1C0.4\n%\nT1\n"
 DRILL = DRILL_HEAD + b"X0.0Y0.0\nM30\n"
 MANIFEST = b"role,name,file\ncopper,top,top.gbr\nplated,pth,pth.drl\n"
 CHECK = "check --ring 0.125 --gap 0.25 m.csv"
+MEASURE = "measure m.csv"
+REPORT = "report --ring 0.125 --gap 0.25 m.csv"
 SHOW, REWRITE = "show --kind layer top.gbr", "rewrite --kind layer top.gbr"
 SHOW_DRILL, REWRITE_DRILL = "show --kind drill pth.drl", "rewrite --kind drill pth.drl"
 DIGITS = "0123456789abcdefghijklmnopqrstuvwxyzABCDEFGHIJKLMNOPQRSTUVWXYZ"
@@ -68,11 +70,11 @@ def sets():
     yield "holes_at_one_place", "1,048,576 holes at one place", lambda: package(pth=drill(b"X0.0Y0.0\n" * 1048576)), all_of_drill
     yield "column_5000", "5,000 holes and pads in one column", lambda: column(5000), (CHECK,)
     yield "column_20000", "20,000 holes and pads in one column", lambda: column(20000), (CHECK,)
-    yield "records_20000", "20,000 layers of one file", lambda: package(m=manifest([f"copper,{it},L" for it in names(20000)] + ["plated,drill,pth.drl"]), L=LAYER), (CHECK,)
-    yield "records", "80,000 layers of one file", lambda: package(m=manifest([f"copper,{it},L" for it in names(80000)] + ["plated,drill,pth.drl"]), L=LAYER), (CHECK,)
+    yield "records_20000", "20,000 layers of one file", lambda: package(m=manifest([f"copper,{it},L" for it in names(20000)] + ["plated,drill,pth.drl"]), L=LAYER), (CHECK, MEASURE, REPORT)
+    yield "records", "80,000 layers of one file", lambda: package(m=manifest([f"copper,{it},L" for it in names(80000)] + ["plated,drill,pth.drl"]), L=LAYER), (CHECK, MEASURE, REPORT)
     yield "one_file_1MB", "60,000 records of one file of 1 MB", lambda: package(m=manifest([f"copper,{it},L" for it in names(60000)] + ["plated,drill,pth.drl"]), L=layer(b"*" * 1000000)), (CHECK,)
-    yield "ring_findings", "1,000 layers without pads, 1,000 holes: 1,000,000 findings", lambda: package(pth=drill(b"".join(b"X%d.0Y0.0\n" % it for it in range(1000))), m=manifest([f"copper,{it},L" for it in names(1000)] + ["plated,drill,pth.drl"]), L=b"%FSLAX46Y46*%%MOMM*%M02*"), (CHECK,)
-    yield "gap_findings", "1,415 holes at one place: 1,000,405 findings", lambda: package(pth=drill(b"X0.0Y0.0\n" * 1415)), (CHECK,)
+    yield "ring_findings", "1,000 layers without pads, 1,000 holes: 1,000,000 findings", lambda: package(pth=drill(b"".join(b"X%d.0Y0.0\n" % it for it in range(1000))), m=manifest([f"copper,{it},L" for it in names(1000)] + ["plated,drill,pth.drl"]), L=b"%FSLAX46Y46*%%MOMM*%M02*"), (CHECK, MEASURE, REPORT)
+    yield "gap_findings", "1,415 holes at one place: 1,000,405 findings", lambda: package(pth=drill(b"X0.0Y0.0\n" * 1415)), (CHECK, MEASURE, REPORT)
     yield "modes", "1,000,000 items `G1D2*`", lambda: package(layer(b"G1D2*" * 1000000)), all_of_layer
     yield "empty_comments", "10,000,000 items `G04*`", lambda: package(layer(b"G04*" * 10000000)), all_of_layer
     yield "empty_words", "40,000,000 items `*`", lambda: package(layer(b"*" * 40000000)), all_of_layer

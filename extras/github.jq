@@ -1,25 +1,40 @@
-# jq -r -f github.jq report.json: the annotations of a GitHub job, one for each finding of a report, a notice where it is waived
+# jq -r -f github.jq FILE.json: the annotations of a GitHub job. Of a report one for each finding, a notice where it is waived; of a
+# measure or of a report without findings one notice; of a refusal one error.
 def data: gsub("%"; "%25") | gsub("\r"; "%0D") | gsub("\n"; "%0A");
 def title: data | gsub(":"; "%3A") | gsub(","; "%2C");
 # a length in pm as millimetres, each digit of it
 def mm:
-  if type != "number" then "none"
-  elif . < 0 then "-" + (- . | mm)
+  if . < 0 then "-" + (- . | mm)
   else ((. / 1e9 | floor) as $whole | "\($whole).\("000000000\(. - $whole * 1e9)"[-9:])" | sub("\\.?0+$"; "")) end;
-def hole: "hole \(.hole) of file \(.drill) at \(.from_pm[0] | mm),\(.from_pm[1] | mm)";
+def place: if .from_pm == .to_pm then "\(.from_pm[0] | mm),\(.from_pm[1] | mm)"
+  else "\(.from_pm[0] | mm),\(.from_pm[1] | mm) to \(.to_pm[0] | mm),\(.to_pm[1] | mm)" end;
+def hole: "hole \(.hole) of file \(.drill) at \(place)";
+# what a finding has and lacks, and why
+def lack:
+  if .has_pm == null then "no ring" else "\(.kind) \(.has_pm | mm) mm, lacks \(.lacks_pm | mm) mm" end
+  + if .cause then ", \(.cause)" else "" end;
+# what a refusal is of: the file by its name, the file of waivers or the manifest
+def refused: if .waivers then "waivers" elif .name then .name else "manifest" end;
+# why a refusal is, and where: only what it tells
+def stopped:
+  refused + if .reason then ": \(.reason)" else "" end
+  + if .place then " at place \(.place)" else "" end + if .byte then ", byte \(.byte)" else "" end;
+def notice($heading; $text): "::notice title=\($heading | title)::\($text | data)";
+def error($heading; $text): "::error title=\($heading | title)::\($text | data)";
 def annotation($heading; $text):
-  if .waived then "::notice title=\($heading | title)::\("\($text), waived: \(.waived)" | data)"
-  else "::error title=\($heading | title)::\($text | data)" end;
+  if .waived != null then notice($heading; "\($text), waived: \(.waived)") else error($heading; $text) end;
 . as $report
-| if .findings == null then
-    annotation("ringcheck \(.result)"; "\(.reason // "") \(if .waivers then "waivers" else .name // "" end) at place \(.place // 0), byte \(.byte // 0)")
+| if .result == "measured" then
+    notice("ringcheck"; "measured")
+  elif .findings == null then
+    error("ringcheck \(.result)"; stopped)
   elif .findings == [] then
-    "::notice title=ringcheck::\(.result)"
+    notice("ringcheck"; .result)
   else
     .findings[]
     | if .kind == "ring" then
-        annotation("ring on \($report.files[.layer - 1].name)"; "\(.at | hole): ring \(.has_pm | mm) mm, lacks \(.lacks_pm | mm) mm, \(.cause)")
+        annotation("ring on \($report.files[.layer - 1].name)"; "\(.at | hole): \(lack)")
       else
-        annotation("gap"; "\(.at | hole), \(.and | hole): gap \(.has_pm | mm) mm, lacks \(.lacks_pm | mm) mm")
+        annotation("gap"; "\(.at | hole), \(.and | hole): \(lack)")
       end
   end

@@ -1,31 +1,47 @@
-# jq -r -f junit.jq report.json: the XML of JUnit, a case for each finding of a report, which is skipped where it is waived
-def xml: gsub("[[:cntrl:]]"; " ") | gsub("&"; "&amp;") | gsub("<"; "&lt;") | gsub(">"; "&gt;") | gsub("\""; "&quot;");
+# jq -r -f junit.jq FILE.json: the XML of JUnit. Of a report it has a case for each finding, skipped where it is waived; of a measure or
+# of a report without findings one case that passes; of a refusal one that fails.
+# text as XML has it: control bytes as blanks, and U+FFFE and U+FFFF, which XML has not, as U+FFFD
+def xml:
+  gsub("[[:cntrl:]]"; " ") | explode | map(if . == 65534 or . == 65535 then 65533 else . end) | implode
+  | gsub("&"; "&amp;") | gsub("<"; "&lt;") | gsub(">"; "&gt;") | gsub("\""; "&quot;");
 # a length in pm as millimetres, each digit of it
 def mm:
-  if type != "number" then "none"
-  elif . < 0 then "-" + (- . | mm)
+  if . < 0 then "-" + (- . | mm)
   else ((. / 1e9 | floor) as $whole | "\($whole).\("000000000\(. - $whole * 1e9)"[-9:])" | sub("\\.?0+$"; "")) end;
-def hole: "hole \(.hole) of file \(.drill) at \(.from_pm[0] | mm),\(.from_pm[1] | mm)";
-def suite($tests; $failures): "<testsuite name=\"ringcheck\" tests=\"\($tests)\" failures=\"\($failures)\">";
+def place: if .from_pm == .to_pm then "\(.from_pm[0] | mm),\(.from_pm[1] | mm)"
+  else "\(.from_pm[0] | mm),\(.from_pm[1] | mm) to \(.to_pm[0] | mm),\(.to_pm[1] | mm)" end;
+def hole: "hole \(.hole) of file \(.drill) at \(place)";
+# what a finding has and lacks, and why
+def lack:
+  if .has_pm == null then "no ring" else "\(.kind) \(.has_pm | mm) mm, lacks \(.lacks_pm | mm) mm" end
+  + if .cause then ", \(.cause)" else "" end;
+# what a refusal is of: the file by its name, the file of waivers or the manifest
+def refused: if .waivers then "waivers" elif .name then .name else "manifest" end;
+# why a refusal is, and where: only what it tells
+def stopped:
+  .result + if .reason then " \(.reason)" else "" end
+  + if .place then " at place \(.place)" else "" end + if .byte then ", byte \(.byte)" else "" end;
+def suite($tests; $failures; $skipped):
+  "<testsuite name=\"ringcheck\" tests=\"\($tests)\" failures=\"\($failures)\" skipped=\"\($skipped)\">";
 def case($name; $inner): "  <testcase classname=\"ringcheck\" name=\"\($name | xml)\">\($inner)</testcase>";
 def failure: "<failure message=\"\(xml)\"/>";
 def skipped: "<skipped message=\"\(xml)\"/>";
 . as $report
-| if .findings == null then
-    suite(1; 1),
-    case(if .waivers then "waivers" else .name // "package" end; "\(.result) \(.reason // "") at place \(.place // 0), byte \(.byte // 0)" | failure)
+| if .result == "measured" then
+    suite(1; 0; 0),
+    case("measured"; "")
+  elif .findings == null then
+    suite(1; 1; 0),
+    case(refused; stopped | failure)
   elif .findings == [] then
-    suite(1; 0),
+    suite(1; 0; 0),
     case("rings and gaps"; "")
   else
-    suite(.findings | length; [.findings[] | select(.waived == null)] | length),
+    ([.findings[] | select(.waived != null)] | length) as $waived
+    | suite(.findings | length; (.findings | length) - $waived; $waived),
     (.findings[]
     | case(
         if .kind == "ring" then "\($report.files[.layer - 1].name): \(.at | hole)" else "\(.at | hole), \(.and | hole)" end;
-        if .waived then
-          "waived: \(.waived)" | skipped
-        else
-          "\(.kind) \(.has_pm | mm) mm, lacks \(.lacks_pm | mm) mm\(if .cause then ", \(.cause)" else "" end)" | failure
-        end))
+        if .waived != null then "\(lack), waived: \(.waived)" | skipped else lack | failure end))
   end,
   "</testsuite>"

@@ -1,10 +1,12 @@
 -- Why a hole lacks its ring on a layer. Lengths are whole picometres.
-use Rattle.std.specs.Prelude.{◌≡◌, ℕ, pos, ◌+◌, ◌<◌, ◌≤◌, ◌-ℤ◌, ◌≤ℤ◌, Bool, true, false, not, Option, Some, None, List, length, get_or, nat_le, if◌then◌else◌}
+use Rattle.std.specs.Prelude.{◌≡◌, ℕ, ℤ, pos, ◌+◌, ◌<◌, ◌≤◌, ◌+ℤ◌, ◌-ℤ◌, ◌≤ℤ◌, Bool, true, false, not, Option, Some, None, List, length, get_or, nat_le, if◌then◌else◌}
+use Rattle.std.specs.Int.{div_ceil}
 use Rattle.std.specs.List.{enumerate_from, filter_map, find}
 use Rattle.std.specs.List.Sorted.{IsPermutation}
-use Rattle.grid_units.specs.Points.{GridPoint, square}
+use Rattle.grid_units.specs.Points.{GridPoint, apart, square}
 use Rattle.grid_units.specs.Holes.{GridHole}
 use Rattle.pad_shapes.specs.Pads.{pad_covers}
+use Rattle.pad_shapes.specs.Shapes.{covers_ends}
 use Rattle.pad_shapes.specs.declared.pad.Pad.{Pad}
 use Rattle.ring_rules.specs.Cores.{range_distance}
 use Rattle.ring_rules.specs.Findings.{is_oblique}
@@ -47,9 +49,21 @@ is_in_hole h p = nat_le (square (range_distance h.from.x h.to.x p.x p.x) + squar
 abbrev pub other_in : List Flash → GridHole → Option Other
 other_in flashes h = find (λ other. is_in_hole h other.at) (others flashes)
 
--- a pad is too small for a hole and its ring: it does not even cover its own middle with the radius and the ring (docs/DEFINITIONS.md, Causes)
+-- half of how far two coordinates are apart, rounded up (docs/DEFINITIONS.md, Causes)
+abbrev pub half_apart : ℤ → ℤ → ℕ
+half_apart a b = div_ceil (apart a b) 2
+
+-- where the lower end of a hole along an axis would stand, if its middle stood at a point: the point itself where it is round (docs/DEFINITIONS.md, Causes)
+abbrev pub lower_end : GridHole → GridPoint → GridPoint
+lower_end h at = record { x = at.x -ℤ pos (half_apart h.from.x h.to.x); y = at.y -ℤ pos (half_apart h.from.y h.to.y) }
+
+-- where its upper end would stand (docs/DEFINITIONS.md, Causes)
+abbrev pub upper_end : GridHole → GridPoint → GridPoint
+upper_end h at = record { x = at.x +ℤ pos (half_apart h.from.x h.to.x); y = at.y +ℤ pos (half_apart h.from.y h.to.y) }
+
+-- a pad is too small for a hole and its ring: it would not cover the ends of the hole with the radius and the ring, even if the middle of the hole stood at its own (docs/DEFINITIONS.md, Causes)
 abbrev pub is_small : ℕ → GridHole → Pad → Bool
-is_small ring h pad = not (pad_covers pad (pad_middle pad) (h.radius + ring))
+is_small ring h pad = not (covers_ends pad_covers pad (lower_end h (pad_middle pad)) (upper_end h (pad_middle pad)) (h.radius + ring))
 
 -- the best pad of a hole on a layer, with the number of its flash, the ring that the hole has in it, and what it lacks of the ring that is asked (docs/DEFINITIONS.md, Causes)
 pub record IsInPad (flashes : List Flash) (asked : ℕ) (h : GridHole) (told : InPad) : Type 0 where

@@ -1,7 +1,9 @@
 //! Why one hole lacks its ring.
 
-ghost use Rattle.std.specs.Prelude.{◌≡◌, unsigned_abs};
-ghost use Rattle.causes.specs.Causes.{is_in_hole, is_small};
+ghost use Rattle.std.specs.Prelude.{◌≡◌, ◌+◌, ◌≤◌, unsigned_abs};
+ghost use Rattle.grid_units.specs.Points.{IsCoordinate, apart, max_coordinate};
+ghost use Rattle.pad_shapes.specs.Pads.{pad_covers};
+ghost use Rattle.causes.specs.Causes.{half_apart, is_in_hole, is_small};
 
 use grid_units::{Hole, Point, Rules, square, square_length};
 use margins::Deep;
@@ -24,9 +26,53 @@ pub(crate) fn is_in_hole(hole: &Hole, at: Point) -> bool
     far <= square(hole.radius().unsigned_abs())
 }
 
-/// Whether a pad is too small for a hole with its ring, wherever it stands.
+/// Half of how far two coordinates are apart, rounded up.
+fn half_apart(a: i64, b: i64) -> u64
+    requires a { IsCoordinate a }
+    requires b { IsCoordinate b }
+    ensures value { result ≡ half_apart a b }
+    ensures in_range { result ≤ max_coordinate }
+{
+    a.abs_diff(b).div_ceil(2)
+}
+
+/// The one of the two coordinates that lie so far from a middle that is nearer to 0.
+fn inner_end(middle: i64, half: u64) -> i64
+    requires middle { IsCoordinate middle }
+    requires half { half ≤ max_coordinate }
+    ensures away { apart result middle ≡ half }
+    ensures in_range { IsCoordinate result }
+{
+    if middle < 0 {
+        middle + half as i64
+    } else {
+        middle - half as i64
+    }
+}
+
+/// Where an end of a hole along an axis would stand, if its middle stood at a point: of the coordinates of its two ends there, those
+/// nearer to 0. The other end may lie beyond the grid.
+fn end_at(hole: &Hole, at: Point) -> Point
+    ensures x { apart result.x at.x ≡ half_apart hole.now.from.x hole.now.to.x }
+    ensures y { apart result.y at.y ≡ half_apart hole.now.from.y hole.now.to.y }
+{
+    let (from, to) = (hole.from(), hole.to());
+    let x = inner_end(at.x(), half_apart(from.x(), to.x()));
+    let y = inner_end(at.y(), half_apart(from.y(), to.y()));
+    Point::new(x, y).unwrap()
+}
+
+/// Whether a pad covers a point with the radius of a hole and the ring.
+fn covers_ring(pad: &Pad, at: Point, hole: &Hole, rules: Rules) -> bool
+    ensures { result ≡ pad_covers pad.now at (hole.now.radius + rules.ring) }
+{
+    pad.covers(at, hole.radius() + rules.ring())
+}
+
+/// Whether a pad is too small for a hole with its ring, wherever it stands. A pad reaches as far on each side of its middle, so it covers
+/// both ends of a hole there where it covers one.
 pub(crate) fn is_small(pad: &Pad, hole: &Hole, rules: Rules) -> bool
     ensures { result ≡ is_small rules.ring hole.now pad.now }
 {
-    !pad.covers(pad.middle(), hole.radius() + rules.ring())
+    !covers_ring(pad, end_at(hole, pad.middle()), hole, rules)
 }

@@ -4,7 +4,7 @@ use super::*;
 use grid_units::{Hole, Point, Rules};
 use layer_image::{Flash, What, Why};
 use margins::best_pads;
-use pad_shapes::{Disc, Pad, Rect};
+use pad_shapes::{Disc, Obround, Pad, Rect};
 use report_text::RingCause;
 use ring_rules::Drilled;
 use std::test::Fail;
@@ -244,5 +244,56 @@ fn a_flash_at_the_left_rim_of_a_slot(rt: HostRuntime) -> Result<(), Fail> {
     let it = told_along_x(rt, &flashes)?;
     assert_eq!(rt; it.0, "macro");
     assert_eq!(rt; it.1, 2);
+    Ok(())
+}
+
+/// What is told of a slot of 0.5 mm from 0,0 to 2,0 that lacks a ring of 0.125 mm in a pad.
+fn told_of_slot_in(rt: HostRuntime, at: Point, pad: Pad) -> Result<(&'static str, i64, i64), Fail> {
+    let slot = Hole::new(point(0, 0)?, point(2_000_000_000, 0)?, 250_000_000).ok_or("hole")?;
+    let flashes = [Flash {
+        at,
+        what: What::Pad(pad),
+    }];
+    let it = told_of(rt, &flashes, slot, 125_000_000)?;
+    Ok((it.0, it.2, it.3))
+}
+
+#[test]
+fn a_slot_in_the_middle_of_a_pad_that_is_too_short(rt: HostRuntime) -> Result<(), Fail> {
+    let at = point(1_000_000_000, 0)?;
+    let pad = Obround::new(at, 1_370_000_000, 375_000_000).ok_or("obround")?;
+    let it = told_of_slot_in(rt, at, Pad::Obround(pad))?;
+    assert_eq!(rt; it.0, "small");
+    assert_eq!(rt; it.1, 120_000_000);
+    assert_eq!(rt; it.2, 5_000_000);
+    Ok(())
+}
+
+#[test]
+fn a_slot_off_the_middle_of_a_large_pad(rt: HostRuntime) -> Result<(), Fail> {
+    let at = point(0, 0)?;
+    let pad = Disc::new(at, 2_000_000_000).ok_or("disc")?;
+    let it = told_of_slot_in(rt, at, Pad::Disc(pad))?;
+    assert_eq!(rt; it.0, "off");
+    assert_eq!(rt; it.1, -250_000_000);
+    assert_eq!(rt; it.2, 375_000_000);
+    Ok(())
+}
+
+#[test]
+fn a_slot_off_a_pad_at_the_rim_of_the_grid(rt: HostRuntime) -> Result<(), Fail> {
+    let from = point(9_998_600_000_000, 0)?;
+    let to = point(9_999_900_000_000, 0)?;
+    let slot = Hole::new(from, to, 250_000_000).ok_or("hole")?;
+    let at = point(10_000_000_000_000, 0)?;
+    let pad = Rect::new(at, 1_500_000_000, 500_000_000).ok_or("rect")?;
+    let flashes = [Flash {
+        at,
+        what: What::Pad(Pad::Rect(pad)),
+    }];
+    let it = told_of(rt, &flashes, slot, 125_000_000)?;
+    assert_eq!(rt; it.0, "off");
+    assert_eq!(rt; it.2, -150_000_000);
+    assert_eq!(rt; it.3, 275_000_000);
     Ok(())
 }

@@ -13,9 +13,8 @@ pub const VERSION: &str = "0.1.0";
 /// What is printed of the version.
 pub const VERSION_LINE: &str = "ringcheck 0.1.0\n";
 
-const STATUSES: &str =
-    "Status: 0 no finding, or done; 1 findings; 2 a file is refused; 3 wrong words;
-4 a file cannot be read, or memory ran out.
+const STATUSES: &str = "Status: 0 no finding, all of them waived, or done; 1 findings; 2 a file is
+refused; 3 wrong words; 4 a file cannot be read, or memory ran out.
 Begin:  ringcheck manifest gerbers/* > board.csv
         ringcheck check --ring 0.125 --gap 0.25 board.csv";
 
@@ -44,9 +43,9 @@ Example:  ringcheck measure board.csv";
 const REPORT_USAGE: &str = "ringcheck report --ring <MM> --gap <MM> [--max <N>] [--waive <FILE>]
                         [--format <text|json|waivers>] <MANIFEST>";
 
-const REPORT: &str = "The findings are those of check, in its order and with its status, but files
-have their names. Lengths are in mm. Below stand the causes that occur, each
-with what to set, and the rules that the package meets.
+const REPORT: &str = "The findings are those of check, in its order, with its status where none is
+waived; files have their names, lengths are in mm. Below stand the causes that
+occur, each with what to set, and the rules that the package meets.
 Example:  ringcheck report --ring 0.125 --gap 0.25 board.csv";
 
 const DRAW: &str = "Each copper layer has a panel, seen from above, with its pads and its holes.

@@ -1,12 +1,15 @@
 -- The box of a board. Lengths are whole picometres.
-use Rattle.std.specs.Prelude.{◌≡◌, ◌^◌, ◌++◌, ◌+ℤ◌, ◌-ℤ◌, ℕ, ℤ, pos, List, Option, None, Some, map}
+use Rattle.std.specs.Prelude.{◌≡◌, ◌*◌, ◌^◌, ◌++◌, ◌+ℤ◌, ◌-ℤ◌, ℕ, ℤ, pos, List, [], get_or, Option, None, Some, map}
 use Rattle.std.specs.Int.{int_min, int_max}
 use Rattle.std.specs.List.{flat_map, fold}
 use Rattle.grid_units.specs.Holes.{GridHole}
 use Rattle.grid_units.specs.Points.{GridPoint}
+use Rattle.layer_image.specs.declared.flash.Flash.{Flash}
 use Rattle.pad_shapes.specs.declared.pad.Pad.{Pad}
 use Rattle.pad_shapes.specs.declared.pad.Pad.TheVariants as pads
 use Rattle.ring_rules.specs.declared.finding.Drilled.{Drilled}
+use Rattle.flashed_boards.specs.Flashed.{FlashedSurvey}
+use Rattle.picture.specs.Scenes.{cross_of}
 use Rattle.picture.specs.declared.frame.Frame.{Frame}
 
 -- how far something reaches along both axes (docs/DEFINITIONS.md, Drawings)
@@ -48,6 +51,24 @@ extents layers holes = flat_map (λ layer. map pad_extent layer) layers ++ map (
 -- the extent of some things together, if there are any (docs/DEFINITIONS.md, Drawings)
 abbrev pub whole_extent : List GridExtent → Option GridExtent
 whole_extent all = fold joined_to None all
+
+-- the extent of a flash that is no pad: half a millimetre round its point; none of a pad (docs/FORMATS.md, Pictures)
+abbrev pub cross_extent : Flash → List GridExtent
+cross_extent flash = map (λ point. extent_round point (5 * 10 ^ 8) (5 * 10 ^ 8)) (cross_of flash)
+
+-- the extents of the flashes of some files that are no pads, by the flashes of all files (docs/DEFINITIONS.md, Drawings)
+abbrev pub cross_extents : List (List Flash) → List ℕ → List GridExtent
+cross_extents flashes files = flat_map (λ file. flat_map cross_extent (get_or flashes file [])) files
+
+-- an extent, or another where there is none (docs/DEFINITIONS.md, Drawings)
+abbrev pub extent_or : Option GridExtent → Option GridExtent → Option GridExtent
+extent_or None other = other
+extent_or (Some extent) other = Some extent
+
+-- the extent of a board: of all its pads and holes; where it has neither, of its other flashes (docs/FORMATS.md, Pictures)
+abbrev pub board_extent : FlashedSurvey → Option GridExtent
+board_extent flashed =
+    extent_or (whole_extent (extents flashed.board.layers flashed.board.holes)) (whole_extent (cross_extents flashed.flashes flashed.board.layer_indexes))
 
 -- a box has this corner at the upper left and these sides (docs/DEFINITIONS.md, Drawings)
 pub record HasSides (f : Frame) (left top width height : ℤ) : Type 0 where

@@ -8,9 +8,9 @@ use Rattle.ring_rules.specs.declared.finding.Drilled.{Drilled}
 use Rattle.ring_rules.specs.declared.finding.Finding.{Finding}
 use Rattle.package_check.specs.Boards.{Survey, board_findings}
 use Rattle.flashed_boards.specs.Flashed.{FlashedSurvey}
-use Rattle.picture.specs.Scenes.{crosses_of, is_crowded, lacks_of, unless_crowded}
+use Rattle.picture.specs.Scenes.{AreInOrder, crosses_of, is_crowded, lacks_of, unless_crowded}
 use Rattle.picture.specs.declared.scene.Scene.{Scene}
-use Rattle.drawing.specs.Boxes.{extents, whole_extent}
+use Rattle.drawing.specs.Boxes.{board_extent}
 use Rattle.drawing.specs.Pages.{page_text}
 use Rattle.drawing.specs.Layouts.{IsLayout, box_left, box_top}
 use Rattle.drawing.specs.declared.draw.Page.{Page}
@@ -26,6 +26,7 @@ found (Some rules) board = board_findings rules board
 pub record IsScene (layer : ℕ) (flashes : List Flash) (drilled : List Drilled) (findings : List Finding) (scene : Scene) : Type 0 where
   pub crowded : scene.crowded ≡ is_crowded flashes drilled
   pub pads : IsPermutation (pads_of (unless_crowded scene.crowded flashes)) scene.pads.items
+  pub order : AreInOrder scene.pads.items
   pub crosses : scene.crosses.items ≡ crosses_of (unless_crowded scene.crowded flashes)
   pub holes : scene.holes.now ≡ unless_crowded scene.crowded drilled
   pub lacks : scene.lacks.items ≡ lacks_of layer drilled findings
@@ -44,7 +45,7 @@ pub record IsPanel (names : List (List ℕ)) (flashed : FlashedSurvey) (findings
 
 -- what the page of a board shows under rules, if there are any, by the names of its files (docs/DEFINITIONS.md, Drawings)
 pub record IsPage (names : List (List ℕ)) (flashed : FlashedSurvey) (asked : Option GridRules) (page : Page) : Type 0 where
-  pub laid : IsLayout (whole_extent (extents flashed.board.layers flashed.board.holes)) (length flashed.board.layer_indexes) asked page.layout
+  pub laid : IsLayout (board_extent flashed) (length flashed.board.layer_indexes) asked page.layout
   pub drawn : AllZip (IsPanel names flashed (found asked flashed.board) page.layout) (enumerate_from 0 flashed.board.layer_indexes) page.panels.items
   pub told : page.count ≡ length (found asked flashed.board)
 

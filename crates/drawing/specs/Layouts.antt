@@ -1,5 +1,5 @@
 -- Where the panels of a board stand on a page. Lengths are whole picometres.
-use Rattle.std.specs.Prelude.{◌≡◌, ◌≤◌, ◌<◌, ◌+◌, ◌*◌, ◌/◌, ◌%◌, ◌^◌, ◌⊎◌, ℕ, min, max, unsigned_abs, Option, None, Some}
+use Rattle.std.specs.Prelude.{◌≡◌, ◌≤◌, ◌<◌, ◌+◌, ◌*◌, ◌/◌, ◌%◌, ◌^◌, ◌⊎◌, ℕ, min, max, unsigned_abs, Option, None, Some, is_some}
 use Rattle.std.specs.Int.{abs_diff, div_ceil}
 use Rattle.grid_units.specs.Holes.{GridRules}
 use Rattle.picture.specs.declared.frame.Frame.{Frame}
@@ -73,6 +73,7 @@ pub record IsLayout (extent : Option GridExtent) (count : ℕ) (asked : Option G
   pub rows : l.rows ≡ div_ceil count l.columns
   pub unit : l.pen.unit ≡ unit_of l.frame count l.columns
   pub ring : l.pen.ring ≡ ring_of asked
+  pub rules : l.pen.asked ≡ is_some asked
   pub bar : IsBar (width_of l.frame) l.bar
 
 -- the width of a column: that of the box, at least 30 units for the words (docs/FORMATS.md, Pictures)

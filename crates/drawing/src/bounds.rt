@@ -2,9 +2,12 @@
 
 ghost use Rattle.std.specs.Prelude.{◌≡◌, map};
 ghost use Rattle.std.specs.List.{flat_map, fold};
-ghost use Rattle.drawing.specs.Boxes.{extents, hole_extent, joined_to, pad_extent, whole_extent};
+ghost use Rattle.drawing.specs.Boxes.{cross_extent, cross_extents, extent_or, extents, hole_extent, joined_to, pad_extent, whole_extent};
 
-use crate::extent::{Extent, hole_extent, joined_to, pad_extent};
+use crate::extent::{Extent, hole_extent, joined_to, pad_extent, point_extent};
+use crate::panels::flashes_of;
+use flashed_boards::FlashedBoard;
+use layer_image::{Flash, What};
 use pad_shapes::Pad;
 use ring_rules::Drilled;
 
@@ -42,8 +45,57 @@ fn with_holes(before: Option<Extent>, holes: &[Drilled]) -> Option<Extent>
 }
 
 /// The extent of all pads of some layers and of some holes, if there are any.
-pub(crate) fn extent_of(layers: &[&[Pad]], holes: &[Drilled]) -> Option<Extent>
+fn extent_of(layers: &[&[Pad]], holes: &[Drilled]) -> Option<Extent>
     ensures { result ≡ whole_extent (extents (map (λ layer. layer.now) layers.now) holes.now) }
 {
     with_holes(with_layers(None, layers), holes)
+}
+
+/// The extent of what there is so far, and of a flash, if it is no pad.
+fn with_flash(before: Option<Extent>, flash: &Flash) -> Option<Extent>
+    ensures { result ≡ fold joined_to before (cross_extent flash.now) }
+{
+    match flash.what {
+        What::Pad(_) => before,
+        What::Other(_) => joined_to(before, point_extent(flash.at)),
+    }
+}
+
+/// The extent of what there is so far, and of the flashes of a file that are no pads.
+fn with_flashes(before: Option<Extent>, flashes: &[Flash]) -> Option<Extent>
+    ensures { result ≡ fold joined_to before (flat_map cross_extent flashes.now) }
+{
+    let mut all = before;
+    for flash in flashes {
+        all = with_flash(all, flash);
+    }
+    all
+}
+
+/// The extent of all flashes of some files that are no pads, if there are any.
+fn crosses_extent(flashed: &FlashedBoard, files: &[usize]) -> Option<Extent>
+    ensures { result ≡ whole_extent (cross_extents flashed.now.flashes files.now) }
+{
+    let mut all = None;
+    for file in files {
+        all = with_flashes(all, flashes_of(flashed, *file));
+    }
+    all
+}
+
+/// An extent, or that of the flashes of a board that are no pads where there is none.
+fn or_crosses(extent: Option<Extent>, flashed: &FlashedBoard) -> Option<Extent>
+    ensures { result ≡ extent_or extent (whole_extent (cross_extents flashed.now.flashes flashed.now.board.layer_indexes)) }
+{
+    match extent {
+        Some(extent) => Some(extent),
+        None => crosses_extent(flashed, flashed.board.layer_indexes()),
+    }
+}
+
+/// The extent of a board, by the pads of its layers: of all pads and holes; where it has neither, of its other flashes.
+pub(crate) fn board_extent(layers: &[&[Pad]], flashed: &FlashedBoard) -> Option<Extent>
+    ensures { result ≡ extent_or (whole_extent (extents (map (λ layer. layer.now) layers.now) flashed.now.board.holes)) (whole_extent (cross_extents flashed.now.flashes flashed.now.board.layer_indexes)) }
+{
+    or_crosses(extent_of(layers, flashed.board.holes()), flashed)
 }

@@ -7,7 +7,7 @@ ghost use Rattle.printing.specs.Parts.{PassesOn};
 ghost use Rattle.drawing.specs.Drawings.{IsDrawn, IsPage, found};
 ghost use Rattle.drawing.specs.Pages.{before_panels, behind_panels, page_text, text_of_panel};
 
-use crate::bounds::extent_of;
+use crate::bounds::board_extent;
 use crate::laying::layout_of;
 use crate::layout::Layout;
 use crate::page::{push_before_panels, push_behind_panels};
@@ -153,7 +153,7 @@ fn page_of<'n, 'h>(
     let board = flashed.board();
     let findings = found(alloc, board, rules)?;
     let layers = board.layers(alloc)?;
-    let extent = extent_of(&layers, board.holes());
+    let extent = board_extent(&layers, flashed);
     let layout = layout_of(extent, board.layer_indexes().len(), rules);
     let panels = panels_of(alloc, &layout, names, flashed, &findings)?;
     Ok(Page {

@@ -1,4 +1,4 @@
-//! How far pads and holes reach.
+//! How far pads, holes and crosses reach.
 
 ghost use Rattle.std.specs.Prelude.{◌≡◌, ◌≤◌, ◌^◌, ◌*◌, ◌+ℤ◌, ◌-ℤ◌, pos, unsigned_abs};
 ghost use Rattle.std.specs.Int.{int_min, int_max};
@@ -7,6 +7,9 @@ ghost use Rattle.drawing.specs.Boxes.{extent_round, hole_extent, joined, joined_
 use grid_units::{Hole, Point};
 use pad_shapes::Pad;
 use std::marker::Model;
+
+/// Half a millimetre in pm.
+const HALF_MILLIMETRE: u64 = 500_000_000;
 
 /// How far something reaches along both axes, in pm.
 #[derive(Clone, Copy)]
@@ -158,6 +161,13 @@ pub(crate) fn hole_extent(hole: &Hole) -> Extent
 {
     let radius = hole.radius().unsigned_abs();
     extent_round(hole.from(), radius, radius).joined(&extent_round(hole.to(), radius, radius))
+}
+
+/// The extent of the point of a flash that is no pad: half a millimetre round it.
+pub(crate) fn point_extent(at: Point) -> Extent
+    ensures { result ≡ extent_round at (5 * 10 ^ 8) (5 * 10 ^ 8) }
+{
+    extent_round(at, HALF_MILLIMETRE, HALF_MILLIMETRE)
 }
 
 /// The extent of what there is so far, and of one thing more.

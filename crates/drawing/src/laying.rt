@@ -74,6 +74,7 @@ pub(crate) fn layout_of(extent: Option<Extent>, count: usize, rules: &Option<Rul
         pen: Pen {
             unit: unit_of(&frame, count, columns),
             ring: ring_of(rules),
+            asked: rules.is_some(),
         },
         columns,
         rows: count.div_ceil(columns),

@@ -32,7 +32,7 @@ fn name_of<'a>(names: &[&'a str], file: usize) -> &'a str
 }
 
 /// The flashes of a file.
-fn flashes_of(flashed: &FlashedBoard, file: usize) -> &[Flash]
+pub(crate) fn flashes_of(flashed: &FlashedBoard, file: usize) -> &[Flash]
     ensures { result.now ≡ get_or flashed.now.flashes file [] }
 {
     match flashed.flashes.get(file) {

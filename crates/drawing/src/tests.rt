@@ -21,6 +21,14 @@ const MANY: &[u8] =
 const NOTHING: &[u8] =
     b"%FSLAX46Y46*%\n%MOMM*%\n%ADD10C,1.0*%\nD10*\nX0Y0D02*\nX1000000Y0D01*\nM02*\n";
 
+/// A flash of a macro at the origin, and no pad.
+const MACRO: &[u8] =
+    b"%FSLAX46Y46*%\n%MOMM*%\n%AMSPOT*1,1,1.0,0,0*%\n%ADD10SPOT*%\nD10*\nX0Y0D03*\nM02*\n";
+
+/// Two flashes of a macro, 9 mm from each other.
+const MACROS: &[u8] =
+    b"%FSLAX46Y46*%\n%MOMM*%\n%AMSPOT*1,1,1.0,0,0*%\n%ADD10SPOT*%\nD10*\nX1000000Y2000000D03*\nX10000000Y2000000D03*\nM02*\n";
+
 /// A hole of 10 mm at the origin.
 const HOLE: &[u8] = b"M48\nMETRIC\nT1C10.0\n%\nT1\nX0.0Y0.0\nM30\n";
 
@@ -117,7 +125,7 @@ fn a_page_has_a_title_a_panel_a_scale_and_a_legend(rt: HostRuntime) -> Result<()
     assert!(rt;
         has(
             &page,
-            "</style>\n<rect width=\"100%\" height=\"100%\" fill=\"#fff\"/>\n<text class=\"title\" transform=\"translate(3 3) scale(1)\">no rules</text>\n<g class=\"layer\" data-file=\"1\" transform=\"translate(40.5 46.5)\">\n<text class=\"name\" transform=\"translate(-37.5 -40) scale(1)\">top</text>\n<text class=\"note\" transform=\"translate(-37.5 -38.3) scale(1)\">1 pads, 0 other, 0 rings lacking</text>\n<rect class=\"board\" x=\"-37.5\" y=\"-37.5\" width=\"75\" height=\"75\"/>\n<path class=\"pad\" d=\"M-37.5 -37.5h75v75h-75z\"/>\n<circle class=\"plated\" cx=\"0\" cy=\"0\" r=\"5\" stroke-width=\"0.1\"/>\n</g>\n<path class=\"scale\" d=\"M3 87h10\"/>\n<text transform=\"translate(14 87.4) scale(1)\">10 mm</text>\n<g class=\"legend\" font-size=\"1.25\" transform=\"translate(4 90) scale(1)\">\n<circle class=\"pad\" r=\".6\"/>\n<text x=\"1.2\" y=\".4\">pad</text>\n"
+            "</style>\n<rect width=\"100%\" height=\"100%\" fill=\"#fff\"/>\n<text class=\"title\" transform=\"translate(3 3) scale(1)\">no rules</text>\n<g class=\"layer\" data-file=\"1\" transform=\"translate(40.5 46.5)\">\n<text class=\"name\" transform=\"translate(-37.5 -40) scale(1)\">top</text>\n<text class=\"note\" transform=\"translate(-37.5 -38.3) scale(1)\">1 pad, 0 other</text>\n<rect class=\"board\" x=\"-37.5\" y=\"-37.5\" width=\"75\" height=\"75\"/>\n<path class=\"pad\" d=\"M-37.5 -37.5h75v75h-75z\"/>\n<circle class=\"plated\" cx=\"0\" cy=\"0\" r=\"5\" stroke-width=\"0.1\"/>\n</g>\n<path class=\"scale\" d=\"M3 87h10\"/>\n<text transform=\"translate(14 87.4) scale(1)\">10 mm</text>\n<g class=\"legend\" font-size=\"1.25\" transform=\"translate(4 90) scale(1)\">\n<circle class=\"pad\" r=\".6\"/>\n<text x=\"1.2\" y=\".4\">pad</text>\n"
         )
     );
     assert!(rt;
@@ -136,7 +144,7 @@ fn panels_stand_below_each_other_on_a_wide_board(rt: HostRuntime) -> Result<(), 
     assert!(rt;
         has(
             &page,
-            "<g class=\"layer\" data-file=\"1\" transform=\"translate(3.5 9.5)\">\n<text class=\"name\" transform=\"translate(-0.5 -3) scale(1)\">a&lt;b&gt;&amp;\"c\"</text>\n<text class=\"note\" transform=\"translate(-0.5 -1.3) scale(1)\">2 pads, 0 other, 1 rings lacking</text>\n"
+            "<g class=\"layer\" data-file=\"1\" transform=\"translate(3.5 9.5)\">\n<text class=\"name\" transform=\"translate(-0.5 -3) scale(1)\">a&lt;b&gt;&amp;\"c\"</text>\n<text class=\"note\" transform=\"translate(-0.5 -1.3) scale(1)\">2 pads, 0 other, 1 ring lacking</text>\n"
         )
     );
     assert!(rt;
@@ -164,8 +172,8 @@ fn panels_stand_below_each_other_on_a_wide_board(rt: HostRuntime) -> Result<(), 
 fn a_ring_is_lacking_in_its_panel_alone(rt: HostRuntime) -> Result<(), Fail> {
     let page = page_of(rt, ("top", SQUARE), ("bottom", WIDE), SMALL, &rules())?;
     assert!(rt; has(&page, ">ring 0.2 mm, gap 0.25 mm: 1 finding</text>"));
-    assert!(rt; has(&page, ">1 pads, 0 other, 0 rings lacking</text>"));
-    assert!(rt; has(&page, ">2 pads, 0 other, 1 rings lacking</text>"));
+    assert!(rt; has(&page, ">1 pad, 0 other, 0 rings lacking</text>"));
+    assert!(rt; has(&page, ">2 pads, 0 other, 1 ring lacking</text>"));
     Ok(())
 }
 
@@ -182,10 +190,10 @@ fn a_crowded_panel_has_its_box_alone(rt: HostRuntime) -> Result<(), Fail> {
     assert!(rt;
         has(
             &page,
-            ">more than 100000 flashes and holes, 0 rings lacking</text>\n<rect class=\"board\" x=\"-0.5\" y=\"-100.5\" width=\"1000\" height=\"101\"/>\n</g>\n"
+            ">more than 100000 flashes and holes</text>\n<rect class=\"board\" x=\"-0.5\" y=\"-100.5\" width=\"1000\" height=\"101\"/>\n</g>\n"
         )
     );
-    assert!(rt; has(&page, ">2 pads, 0 other, 0 rings lacking</text>"));
+    assert!(rt; has(&page, ">2 pads, 0 other</text>"));
     Ok(())
 }
 
@@ -199,5 +207,44 @@ fn where_there_is_nothing_the_box_is_a_square_millimetre(rt: HostRuntime) -> Res
         )
     );
     assert!(rt; has(&page, "h0.2\"/>\n"));
+    Ok(())
+}
+
+#[test]
+fn where_there_are_other_flashes_alone_the_box_is_theirs(rt: HostRuntime) -> Result<(), Fail> {
+    let one = page_of(rt, ("top", NOTHING), ("bottom", MACRO), NO_HOLE, &None)?;
+    assert!(rt;
+        has(
+            &one,
+            "<rect class=\"board\" x=\"-0.5\" y=\"-0.5\" width=\"1\" height=\"1\"/>\n<path class=\"other\""
+        )
+    );
+    let three = page_of(rt, ("top", MACRO), ("bottom", MACROS), NO_HOLE, &None)?;
+    assert!(rt;
+        has(
+            &three,
+            ">0 pads, 1 other</text>\n<rect class=\"board\" x=\"-0.5\" y=\"-2.5\" width=\"11\" height=\"3\"/>\n<path class=\"other\""
+        )
+    );
+    let beside = page_of(rt, ("top", WIDE), ("bottom", MACROS), NO_HOLE, &None)?;
+    assert!(rt;
+        has(
+            &beside,
+            ">0 pads, 2 other</text>\n<rect class=\"board\" x=\"-0.5\" y=\"-0.5\" width=\"75\" height=\"1\"/>\n<path class=\"other\""
+        )
+    );
+    Ok(())
+}
+
+#[test]
+fn characters_that_xml_forbids_are_replaced(rt: HostRuntime) -> Result<(), Fail> {
+    let page = page_of(
+        rt,
+        ("a\u{FFFE}b\u{FFFF}", WIDE),
+        ("bottom", WIDE),
+        NO_HOLE,
+        &None,
+    )?;
+    assert!(rt; has(&page, ">a\u{FFFD}b\u{FFFD}</text>\n"));
     Ok(())
 }

@@ -1,4 +1,5 @@
 pub mod Trimming
+pub mod Rows
 pub mod Runs
 pub mod Words
 pub mod Says

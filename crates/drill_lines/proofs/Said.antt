@@ -1,11 +1,11 @@
 -- What a line spells can be said.
-use Rattle.std.proofs.Common.{◌≡◌, ℕ, suc, ◌≤◌, Bool, true, false, cond, not, ◌||◌, ◌&&◌, eqb, leb, ltb, List, [], ◌∷◌, length, take, drop, ℤ, Option, Some, None, is_some, Result, Ok, Err, refl, sym, ap, subst, ◌∙◌, arith, lit≤}
+use Rattle.std.proofs.Common.{◌≡◌, ℕ, suc, ◌≤◌, Bool, true, false, cond, not, ◌||◌, ◌&&◌, eqb, leb, ltb, List, [], ◌∷◌, length, drop, ℤ, Option, Some, None, is_some, Result, Ok, Err, refl, sym, ap, subst, ◌∙◌, arith, lit≤}
 use Rattle.std.specs.Prelude.{codes, take_while, count_by}
-use Rattle.std.specs.List.{list_all, list_any, prefix_len}
-use Rattle.std.specs.Str.{bytes_eq}
+use Rattle.std.specs.List.{list_all, list_any, prefix_len, AllByRecursion}
+use Rattle.std.specs.Option.{option_map}
 use Rattle.std.proofs.lemmas.Bool.{lt-ltb, eq-eqb, eqb-true}
 use Rattle.grid_units.specs.declared.fault.Reason.{Reason}
-use Rattle.grid_units.specs.declared.fault.Reason.TheVariants.{OldFormat, Incremental, Routed, Repeat, BadLine, BadNumber}
+use Rattle.grid_units.specs.declared.fault.Reason.TheVariants.{OldFormat, BadLine, BadNumber}
 use Rattle.grid_units.specs.declared.lengths.Unit.{Unit as Units}
 use Rattle.grid_units.specs.declared.lengths.Unit.TheVariants.{Inch, Millimetre}
 use Rattle.grid_units.specs.declared.zero_filling.Zeros.{Zeros}
@@ -13,18 +13,20 @@ use Rattle.grid_units.specs.declared.zero_filling.Zeros.TheVariants.{Leading, Tr
 use Rattle.grid_units.specs.Results.{◌>>=◌, both}
 use Rattle.grid_units.specs.Numbers.{is_digit, is_digits, is_number, value}
 use Rattle.grid_units.proofs.Binds.{bind_ok, both_ok}
+use Rattle.grid_units.specs.Rows.{RowOf, first_fit_or, behind, just}
 use Rattle.drill_lines.specs.declared.command.Coordinates.{Coordinates}
 use Rattle.drill_lines.specs.declared.command.Part.{Part}
 use Rattle.drill_lines.specs.declared.command.Part.TheVariants as part
 use Rattle.drill_lines.specs.declared.command.Settings.{Settings}
 use Rattle.drill_lines.specs.declared.command.DrillCommand.{DrillCommand}
-use Rattle.drill_lines.specs.declared.command.DrillCommand.TheVariants.{Comment, Start, UnitLine, Tool, HeaderEnd, UnitCode, Pick, Hit, Slot, Finish}
-use Rattle.drill_lines.specs.Lines.{is_blank, trimmed, begins}
+use Rattle.drill_lines.specs.declared.command.DrillCommand.TheVariants.{Comment, UnitLine, Tool, UnitCode, Pick, Hit, Slot, Finish}
+use Rattle.drill_lines.specs.Lines.{is_blank, trimmed}
 use Rattle.drill_lines.specs.Header.{pattern, unit_format, unit_line}
 use Rattle.drill_lines.specs.Tools.{is_diameter, is_letter, is_skipped, are_fields, number_from, diameter_of, diameter_run, tool_fields, tool_line, pick_fields, pick_line}
 use Rattle.drill_lines.specs.Drilling.{coordinate_of, coordinate, field, Runs, runs_of, names_one, coordinates, slot_line, drill_from, drill_line}
-use Rattle.drill_lines.specs.Meaning.{one, begins_comment, begins_point, spells_nothing, is_old, is_incremental, ends_header, is_routed, repeats, line_before, common_line, header_line, body_word, body_line, line_in, meaning}
+use Rattle.drill_lines.specs.Meaning.{one, lines_before, common_lines, common_rows, header_ends, header_rows, drill_row, body_beginnings, body_rows, begins_comment, line_in, meaning}
 use Rattle.drill_lines.specs.Writing.{can_name_zeros, is_tool_number, names_any, is_comment_text, is_sayable}
+use Rattle.drill_lines.proofs.Rows.{RowHas, first_has, just_has, beginning_has, behind_has}
 use Rattle.grid_units.proofs.BoolLemmas.{and_true, both_true}
 
 -- the command, if it is one, can be said in this part
@@ -63,12 +65,11 @@ format_said unit zeros [] h = h
 format_said unit zeros (b ∷ bs) h = one_cond part.Header (eqb b 44 && list_all is_number bs) (pattern bs >>= λ f. Ok (UnitLine unit zeros (Some f))) (Err BadLine) (λ _. one_bind part.Header (pattern bs) (λ f. Ok (UnitLine unit zeros (Some f))) (λ f e. h)) tt
 
 unit_said : (unit : Units) (line : List ℕ) → Said part.Header (unit_line unit line)
-unfolding unit_line
+unfolding unit_line Said
 unit_said unit line =
-    one_cond part.Header (begins (codes ",LZ") line) (unit_format unit (Some Leading) (drop 3 line)) (cond (begins (codes ",TZ") line) (unit_format unit (Some Trailing) (drop 3 line)) (unit_format unit None line))
-    (λ _. format_said unit (Some Leading) (drop 3 line) refl)
-    (one_cond part.Header (begins (codes ",TZ") line) (unit_format unit (Some Trailing) (drop 3 line)) (unit_format unit None line)
-    (λ _. format_said unit (Some Trailing) (drop 3 line) refl) (format_said unit None line refl))
+    let behind_zeros : (word : List ℕ) (zeros : Option Zeros) → can_name_zeros zeros ≡ true → RowHas (Said part.Header) (option_map (unit_format unit zeros) (behind word line)) = λ word zeros h. behind_has (Said part.Header) word (unit_format unit zeros) line (λ rest. format_said unit zeros rest h) in
+    first_has (Said part.Header) BadLine (option_map (unit_format unit (Some Leading)) (behind (codes ",LZ") line) ∷ option_map (unit_format unit (Some Trailing)) (behind (codes ",TZ") line) ∷ Some (unit_format unit None line) ∷ []) tt
+    (behind_zeros (codes ",LZ") (Some Leading) refl, (behind_zeros (codes ",TZ") (Some Trailing) refl, (format_said unit None line refl, tt)))
 
 -- ---- tools
 
@@ -138,88 +139,66 @@ slot_said s from line h = one_cond part.Body (names_one (runs_of line).0 && eqb 
 drilled_said : (s : Settings) (from : Runs) (rest : List ℕ) → names_one from ≡ true → Said part.Body (drill_from s from rest)
 unfolding drill_from Said
 drilled_said s from rest h =
-    let slot : Result DrillCommand Reason = cond (bytes_eq (take 3 rest) (codes "G85")) (slot_line s from (drop 3 rest)) (Err BadLine) in
-    one_cond part.Body (eqb (length rest) 0) (coordinates s from >>= λ p. Ok (Hit p)) slot
+    let rows : List (RowOf DrillCommand) = option_map (slot_line s from) (behind (codes "G85") rest) ∷ [] in
+    one_cond part.Body (eqb (length rest) 0) (coordinates s from >>= λ p. Ok (Hit p)) (first_fit_or BadLine rows)
     (λ _. one_bind part.Body (coordinates s from) (λ p. Ok (Hit p)) (λ p e. point_named s from p e ∙ h))
-    (one_cond part.Body (bytes_eq (take 3 rest) (codes "G85")) (slot_line s from (drop 3 rest)) (Err BadLine) (λ _. slot_said s from (drop 3 rest) h) tt)
+    (first_has (Said part.Body) BadLine rows tt (behind_has (Said part.Body) (codes "G85") (slot_line s from) rest (λ line. slot_said s from line h), tt))
 
 -- a field of a line that begins with its letter
 found : Bool → ℕ → List ℕ → Option (List ℕ) × List ℕ
 found t b bs = cond t (Some (take_while is_number bs), drop (prefix_len is_number bs) bs) (None, b ∷ bs)
 
-first_named : (b : ℕ) (bs : List ℕ) (t u : Bool) → eqb b 88 ≡ t → eqb b 89 ≡ u → begins_point (b ∷ bs) ≡ true → names_one (runs_of (b ∷ bs)).0 ≡ true
+first_named : (b : ℕ) (bs : List ℕ) (t u : Bool) → eqb b 88 ≡ t → eqb b 89 ≡ u → (t || u) ≡ true → names_one (runs_of (b ∷ bs)).0 ≡ true
 unfolding found
 first_named b bs true u x y h = ap (λ v. is_some (found v b bs).0 || is_some (field 89 (found v b bs).1).0) x
 first_named b bs false true x y h = ap (λ v. is_some (found v b bs).0 || is_some (field 89 (found v b bs).1).0) x ∙ ap (λ v. is_some (found v b bs).0) y
-first_named b bs false false x y h = absurd (let k : false ≡ true = (λ i. ((sym x i && bytes_eq (take 0 bs) []) || (sym y i && bytes_eq (take 0 bs) []))) ∙ h in cc)
-
-point_begins : (line : List ℕ) → begins_point line ≡ true → names_one (runs_of line).0 ≡ true
-point_begins [] h = absurd cc
-point_begins (b ∷ bs) h = first_named b bs (eqb b 88) (eqb b 89) refl refl h
+first_named b bs false false x y h = absurd cc
 
 -- ---- lines
 
-before_chain : (t u : Bool) → AllSaid part.Before (cond t (Ok None) (cond u (Ok (Some Start)) (Err OldFormat)))
-unfolding AllSaid
-before_chain true u = tt
-before_chain false true = refl
-before_chain false false = tt
-
-before_said : (line : List ℕ) → AllSaid part.Before (line_before line)
-unfolding line_before
-before_said line = before_chain (bytes_eq line (codes "%")) (bytes_eq line (codes "M48"))
-
-common_chain : (p : Part) (e f g h i : Bool) → is_sayable p (UnitCode Millimetre) ≡ true → is_sayable p (UnitCode Inch) ≡ true
-    → AllSaid p (cond e (Ok (Some (UnitCode Millimetre))) (cond f (Ok (Some (UnitCode Inch))) (cond g (Ok None) (cond h (Err OldFormat) (cond i (Err Incremental) (Err BadLine))))))
-unfolding AllSaid
-common_chain p true f g h i m n = m
-common_chain p false true g h i m n = n
-common_chain p false false true h i m n = tt
-common_chain p false false false true i m n = tt
-common_chain p false false false false true m n = tt
-common_chain p false false false false false m n = tt
-
-common_said : (p : Part) (line : List ℕ) → is_sayable p (UnitCode Millimetre) ≡ true → is_sayable p (UnitCode Inch) ≡ true → AllSaid p (common_line line)
-unfolding common_line
-common_said p line m n = common_chain p (bytes_eq line (codes "M71")) (bytes_eq line (codes "M72")) (spells_nothing line) (is_old line) (is_incremental line) m n
-
-header_chain : (a b c d : Bool) (inch metric tool : Result DrillCommand Reason) (rest : Result (Option DrillCommand) Reason) → Said part.Header inch → Said part.Header metric → Said part.Header tool → AllSaid part.Header rest
-    → AllSaid part.Header (cond a (Ok (Some HeaderEnd)) (cond b (one inch) (cond c (one metric) (cond d (one tool) rest))))
-unfolding AllSaid
-header_chain true b c d inch metric tool rest x y z w = refl
-header_chain false true c d inch metric tool rest x y z w = all_one part.Header inch x
-header_chain false false true d inch metric tool rest x y z w = all_one part.Header metric y
-header_chain false false false true inch metric tool rest x y z w = all_one part.Header tool z
-header_chain false false false false inch metric tool rest x y z w = w
-
-header_said : (line : List ℕ) → AllSaid part.Header (header_line line)
-unfolding header_line
-header_said line =
-    header_chain (ends_header line) (begins (codes "INCH") line) (begins (codes "METRIC") line) (begins (codes "T") line) (unit_line Inch (drop 4 line)) (unit_line Millimetre (drop 6 line)) (tool_line (drop 1 line)) (common_line line)
-    (unit_said Inch (drop 4 line)) (unit_said Millimetre (drop 6 line)) (tool_said (drop 1 line)) (common_said part.Header line refl refl)
-
-word_chain : (a b c : Bool) (rest : Result (Option DrillCommand) Reason) → AllSaid part.Body rest → AllSaid part.Body (cond a (Ok (Some Finish)) (cond b (Err Routed) (cond c (Err Repeat) rest)))
-unfolding AllSaid
-word_chain true b c rest w = refl
-word_chain false true c rest w = tt
-word_chain false false true rest w = tt
-word_chain false false false rest w = w
-
-word_said : (line : List ℕ) → AllSaid part.Body (body_word line)
-unfolding body_word
-word_said line = word_chain (bytes_eq line (codes "M30")) (is_routed line) (repeats line) (common_line line) (common_said part.Body line refl refl)
-
-point_said : (s : Settings) (line : List ℕ) → begins_point line ≡ true → Said part.Body (drill_line s line)
+drill_said : (s : Settings) (line : List ℕ) → names_one (runs_of line).0 ≡ true → AllSaid part.Body (one (drill_line s line))
 unfolding drill_line
-point_said s line h = drilled_said s (runs_of line).0 (runs_of line).1 (point_begins line h)
+drill_said s line h = all_one part.Body (drill_from s (runs_of line).0 (runs_of line).1) (drilled_said s (runs_of line).0 (runs_of line).1 h)
 
-body_said : (s : Settings) (line : List ℕ) → AllSaid part.Body (body_line s line)
-unfolding body_line
+point_said : (s : Settings) (line : List ℕ) → RowHas (AllSaid part.Body) (drill_row s line)
+point_said s [] = tt
+point_said s (b ∷ bs) = by (eqb b 88) (eqb b 89) refl refl
+  where
+    by : (t u : Bool) → eqb b 88 ≡ t → eqb b 89 ≡ u → RowHas (AllSaid part.Body) (cond (t && true) (Some (one (drill_line s (b ∷ bs)))) (cond (u && true) (Some (one (drill_line s (b ∷ bs)))) None))
+    by true u x y = drill_said s (b ∷ bs) (first_named b bs true u x y refl)
+    by false true x y = drill_said s (b ∷ bs) (first_named b bs false true x y refl)
+    by false false x y = tt
+
+common_said : (p : Part) (line : List ℕ) → is_sayable p (UnitCode Millimetre) ≡ true → is_sayable p (UnitCode Inch) ≡ true → AllByRecursion (RowHas (AllSaid p)) (common_rows line)
+unfolding AllSaid common_lines
+common_said p line m n =
+    (just_has (AllSaid p) common_lines line (m, (n, (tt, (tt, (tt, (tt, (tt, (tt, (tt, (tt, tt)))))))))), (beginning_has (AllSaid p) ((codes "G93", Err OldFormat) ∷ []) line (tt, tt), tt))
+
+before_said : (line : List ℕ) → AllSaid part.Before (first_fit_or OldFormat (just lines_before line ∷ []))
+unfolding AllSaid lines_before
+before_said line = first_has (AllSaid part.Before) OldFormat (just lines_before line ∷ []) tt (just_has (AllSaid part.Before) lines_before line (tt, (refl, tt)), tt)
+
+header_said : (line : List ℕ) → AllSaid part.Header (first_fit_or BadLine (header_rows line))
+unfolding AllSaid header_ends
+header_said line =
+    let read : (word : List ℕ) (f : List ℕ → Result DrillCommand Reason) → ((rest : List ℕ) → Said part.Header (f rest)) → RowHas (AllSaid part.Header) (option_map (λ rest. one (f rest)) (behind word line)) =
+    λ word f h. behind_has (AllSaid part.Header) word (λ rest. one (f rest)) line (λ rest. all_one part.Header (f rest) (h rest)) in
+    first_has (AllSaid part.Header) BadLine (header_rows line) tt
+    (just_has (AllSaid part.Header) header_ends line (refl, (refl, tt)), (read (codes "INCH") (unit_line Inch) (unit_said Inch), (read (codes "METRIC") (unit_line Millimetre) (unit_said Millimetre), (read (codes "T") tool_line tool_said, common_said part.Header line refl refl))))
+
+body_said : (s : Settings) (line : List ℕ) → AllSaid part.Body (first_fit_or BadLine (body_rows s line))
+unfolding AllSaid body_beginnings
 body_said s line =
-    let rest : Result (Option DrillCommand) Reason = cond (begins (codes "T") line) (one (pick_line (drop 1 line))) (body_word line) in
-    all_cond part.Body (begins_point line) (one (drill_line s line)) rest
-    (λ h. all_one part.Body (drill_line s line) (point_said s line h))
-    (all_cond part.Body (begins (codes "T") line) (one (pick_line (drop 1 line))) (body_word line) (λ _. all_one part.Body (pick_line (drop 1 line)) (pick_said (drop 1 line))) (word_said line))
+    first_has (AllSaid part.Body) BadLine (body_rows s line) tt (
+      point_said s line,
+      (
+        behind_has (AllSaid part.Body) (codes "T") (λ rest. one (pick_line rest)) line (λ rest. all_one part.Body (pick_line rest) (pick_said rest)),
+        (
+          just_has (AllSaid part.Body) ((codes "M30", Ok (Some Finish)) ∷ []) line (refl, tt),
+          (beginning_has (AllSaid part.Body) body_beginnings line (tt, (tt, (tt, (tt, (tt, (tt, (tt, (tt, (tt, (tt, (tt, tt))))))))))), common_said part.Body line refl refl),
+        ),
+      ),
+    )
 
 part_said : (p : Part) (s : Settings) (line : List ℕ) → AllSaid p (line_in p s line)
 unfolding line_in AllSaid

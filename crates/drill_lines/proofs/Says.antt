@@ -25,7 +25,7 @@ use Rattle.drill_lines.specs.Formats.{Digits, AreSizes}
 use Rattle.drill_lines.specs.Lines.{is_blank, trimmed}
 use Rattle.drill_lines.specs.Header.{is_zero, is_size, sizes, pattern, pattern_from, unit_format, unit_line}
 use Rattle.drill_lines.specs.Drilling.{drill_line}
-use Rattle.drill_lines.specs.Meaning.{one, begins_comment, line_before, common_line, header_line, body_word, body_line, line_in, meaning}
+use Rattle.drill_lines.specs.Meaning.{one, lines_before, common_lines, header_ends, body_beginnings, begins_comment, line_in, meaning}
 use Rattle.drill_lines.specs.Writing.{unit_word, zeros_word, pattern_word, coordinate_word, point_word, canonical, is_comment_text, can_name_zeros, names_any, is_sayable, AreDecs, IsPoint, IsTyped}
 use Rattle.drill_lines.proofs.Runs.{decimal_digits, pointed_run, pointed_short, is_solid, solid_number, solid_kept, zeros_pass}
 use Rattle.drill_lines.proofs.Words.{tool_spelled, pick_spelled, hit_spelled, slot_spelled}
@@ -96,20 +96,20 @@ means s [] = refl
 means s (b ∷ bs) = refl
 
 hit_head : (s : Settings) (x y : Option ℤ) → (is_some x || is_some y) ≡ true → read_by part.Body s (coordinate_word 88 x ++ coordinate_word 89 y) ≡ one (drill_line s (coordinate_word 88 x ++ coordinate_word 89 y))
-unfolding read_by line_in body_line
+unfolding read_by line_in
 hit_head s (Some v) y h = refl
 hit_head s None (Some v) h = refl
 hit_head s None None h = absurd cc
 
 slot_head : (s : Settings) (x y : Option ℤ) (tail : List ℕ) → (is_some x || is_some y) ≡ true
     → read_by part.Body s ((coordinate_word 88 x ++ coordinate_word 89 y) ++ tail) ≡ one (drill_line s ((coordinate_word 88 x ++ coordinate_word 89 y) ++ tail))
-unfolding read_by line_in body_line
+unfolding read_by line_in
 slot_head s (Some v) y tail h = refl
 slot_head s None (Some v) tail h = refl
 slot_head s None None tail h = absurd cc
 
 in_part : (p : Part) (s : Settings) (c : DrillCommand) → is_sayable p c ≡ true → IsTyped c → read_by p s (canonical c) ≡ Ok (Some c)
-unfolding read_by line_in line_before header_line body_line body_word common_line
+unfolding read_by line_in lines_before common_lines header_ends body_beginnings
 in_part part.Before s Start h t = refl
 in_part part.Before s (Comment text) h t = refl
 in_part part.Header s (Comment text) h t = refl

@@ -1,7 +1,7 @@
 -- The lines that drill: a hit at a point, a slot from one point to another.
-use Rattle.std.specs.Prelude.{ℕ, ℤ, Bool, ◌||◌, ◌&&◌, ◌==◌, List, [], ◌∷◌, length, take, drop, if◌then◌else◌, Option, Some, None, unwrap_or, is_some, Result, Ok, Err, codes, take_while}
+use Rattle.std.specs.Prelude.{ℕ, ℤ, Bool, ◌||◌, ◌&&◌, ◌==◌, List, [], ◌∷◌, length, drop, if◌then◌else◌, Option, Some, None, unwrap_or, is_some, Result, Ok, Err, codes, take_while}
 use Rattle.std.specs.List.{list_any, prefix_len}
-use Rattle.std.specs.Str.{bytes_eq}
+use Rattle.std.specs.Option.{option_map}
 use Rattle.grid_units.specs.declared.fault.Reason.{Reason}
 use Rattle.grid_units.specs.declared.fault.Reason.TheVariants.{BadLine}
 use Rattle.grid_units.specs.declared.lengths.Unit.{Unit as Units}
@@ -10,12 +10,14 @@ use Rattle.grid_units.specs.declared.zero_filling.Zeros.{Zeros}
 use Rattle.grid_units.specs.declared.zero_filling.Zeros.TheVariants.{Full}
 use Rattle.grid_units.specs.Numbers.{is_number, dec_of, zeros_of}
 use Rattle.grid_units.specs.Results.{◌>>=◌, both}
+use Rattle.grid_units.specs.Rows.{first_fit_or, behind}
 use Rattle.drill_lines.specs.declared.command.Coordinates.{Coordinates}
 use Rattle.drill_lines.specs.declared.command.Settings.{Settings}
 use Rattle.drill_lines.specs.declared.command.DrillCommand.{DrillCommand}
 use Rattle.drill_lines.specs.declared.command.DrillCommand.TheVariants.{Hit, Slot}
 use Rattle.drill_lines.specs.Formats.{Digits}
 use Rattle.drill_lines.specs.Tools.{is_point}
+use Rattle.grid_units.specs.Ascii as ascii
 
 -- ---- coordinates
 
@@ -55,7 +57,7 @@ pub record Runs : Type 0 where
 
 -- [`X` run] [`Y` run], and the bytes behind them (docs/FORMATS.md, Drill lines)
 abbrev pub runs_of : List ℕ → Runs × List ℕ
-runs_of line = (record { x = (field 88 line).0; y = (field 89 (field 88 line).1).0 }, (field 89 (field 88 line).1).1)
+runs_of line = (record { x = (field ascii.upper_x line).0; y = (field ascii.upper_y (field ascii.upper_x line).1).0 }, (field ascii.upper_y (field ascii.upper_x line).1).1)
 
 -- at least one of the two stands (docs/FORMATS.md, Drill lines)
 abbrev pub names_one : Runs → Bool
@@ -74,8 +76,7 @@ slot_line settings from line =
 unfoldable pub drill_from : Settings → Runs → List ℕ → Result DrillCommand Reason
 drill_from settings from rest =
     if length rest == 0 then (coordinates settings from >>= λ p. Ok (Hit p))
-    else if bytes_eq (take 3 rest) (codes "G85") then slot_line settings from (drop 3 rest)
-    else Err BadLine
+    else first_fit_or BadLine (option_map (slot_line settings from) (behind (codes "G85") rest) ∷ [])
 
 -- a hit or a slot (docs/FORMATS.md, Drill lines)
 unfoldable pub drill_line : Settings → List ℕ → Result DrillCommand Reason

@@ -1,21 +1,23 @@
 -- The lines of a header: units, zeros and formats.
-use Rattle.std.specs.Prelude.{ℕ, ◌-◌, Bool, ◌&&◌, ◌==◌, nat_le, List, [], ◌∷◌, length, drop, if◌then◌else◌, Option, Some, None, Result, Ok, Err, codes}
+use Rattle.std.specs.Prelude.{ℕ, ◌-◌, Bool, ◌&&◌, ◌==◌, nat_le, List, [], ◌∷◌, length, drop, if◌then◌else◌, Option, Some, None, option_and_then, Result, Ok, Err, codes}
+use Rattle.std.specs.Option.{option_map}
 use Rattle.std.specs.List.{list_all, prefix_len}
 use Rattle.grid_units.specs.declared.fault.Reason.{Reason}
 use Rattle.grid_units.specs.declared.fault.Reason.TheVariants.{BadLine, BadNumber}
 use Rattle.grid_units.specs.Results.{◌>>=◌}
+use Rattle.grid_units.specs.Rows.{first_fit_or, behind}
 use Rattle.grid_units.specs.declared.lengths.Unit.{Unit as Units}
 use Rattle.grid_units.specs.declared.zero_filling.Zeros.{Zeros}
 use Rattle.grid_units.specs.declared.zero_filling.Zeros.TheVariants.{Leading, Trailing}
 use Rattle.drill_lines.specs.declared.command.DrillCommand.{DrillCommand}
 use Rattle.drill_lines.specs.declared.command.DrillCommand.TheVariants.{UnitLine}
 use Rattle.drill_lines.specs.Formats.{Digits}
-use Rattle.drill_lines.specs.Lines.{begins}
 use Rattle.grid_units.specs.Numbers.{is_number}
+use Rattle.grid_units.specs.Ascii as ascii
 
 -- the digit 0 (docs/FORMATS.md, Drill lines)
 abbrev pub is_zero : ℕ → Bool
-is_zero b = b == 48
+is_zero b = b == ascii.digit_zero
 
 -- a number of digits, 1 to 6 (docs/FORMATS.md, Drill coordinates)
 abbrev pub is_size : ℕ → Bool
@@ -28,7 +30,7 @@ sizes whole decimals = if is_size whole && is_size decimals then Ok (record { wh
 -- what stands behind the zeros of a pattern's whole part: a point and zeros (docs/FORMATS.md, Drill lines)
 abbrev pub pattern_from : ℕ → List ℕ → Result Digits Reason
 pattern_from whole [] = Err BadNumber
-pattern_from whole (b ∷ bs) = if (b == 46) && list_all is_zero bs then sizes whole (length bs) else Err BadNumber
+pattern_from whole (b ∷ bs) = if (b == ascii.point) && list_all is_zero bs then sizes whole (length bs) else Err BadNumber
 
 -- the format that a pattern shows: zeros, a point, zeros (docs/FORMATS.md, Drill lines)
 unfoldable pub pattern : List ℕ → Result Digits Reason
@@ -37,24 +39,26 @@ pattern run = pattern_from (prefix_len is_zero run) (drop (prefix_len is_zero ru
 -- [`,` run] behind the unit and the zeros (docs/FORMATS.md, Drill lines)
 unfoldable pub unit_format : Units → Option Zeros → List ℕ → Result DrillCommand Reason
 unit_format unit zeros [] = Ok (UnitLine unit zeros None)
-unit_format unit zeros (b ∷ bs) = if (b == 44) && list_all is_number bs then (pattern bs >>= λ p. Ok (UnitLine unit zeros (Some p))) else Err BadLine
+unit_format unit zeros (b ∷ bs) = if (b == ascii.comma) && list_all is_number bs then (pattern bs >>= λ p. Ok (UnitLine unit zeros (Some p))) else Err BadLine
 
--- [`,LZ` or `,TZ`] [`,` run] behind the unit (docs/FORMATS.md, Drill lines)
+-- [`,LZ` or `,TZ`] [`,` run] behind the unit; the last row fits any line (docs/FORMATS.md, Drill lines)
 unfoldable pub unit_line : Units → List ℕ → Result DrillCommand Reason
 unit_line unit line =
-    if begins (codes ",LZ") line then unit_format unit (Some Leading) (drop 3 line)
-    else if begins (codes ",TZ") line then unit_format unit (Some Trailing) (drop 3 line)
-    else unit_format unit None line
+    first_fit_or BadLine
+    (option_map (unit_format unit (Some Leading)) (behind (codes ",LZ") line)
+    ∷ option_map (unit_format unit (Some Trailing)) (behind (codes ",TZ") line)
+    ∷ Some (unit_format unit None line)
+    ∷ [])
 
 -- a digit from 1 to 6 (docs/FORMATS.md, Drill coordinates)
 abbrev pub is_size_digit : ℕ → Bool
-is_size_digit b = nat_le 49 b && nat_le b 54
+is_size_digit b = nat_le ascii.digit_one b && nat_le b ascii.digit_six
 
 -- i:d (docs/FORMATS.md, Drill coordinates)
 abbrev pub sizes_named : List ℕ → Option Digits
-sizes_named (i ∷ colon ∷ d ∷ []) = if is_size_digit i && ((colon == 58) && is_size_digit d) then Some (record { whole = i - 48; decimals = d - 48 }) else None
+sizes_named (i ∷ colon ∷ d ∷ []) = if is_size_digit i && ((colon == ascii.colon) && is_size_digit d) then Some (record { whole = i - ascii.digit_zero; decimals = d - ascii.digit_zero }) else None
 sizes_named _ = None
 
 -- the format that the text of a comment gives: it is exactly `FILE_FORMAT=i:d` (docs/FORMATS.md, Drill coordinates)
 unfoldable pub file_format : List ℕ → Option Digits
-file_format text = if begins (codes "FILE_FORMAT=") text then sizes_named (drop 12 text) else None
+file_format text = option_and_then sizes_named (behind (codes "FILE_FORMAT=") text)

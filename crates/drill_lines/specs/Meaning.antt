@@ -1,107 +1,107 @@
--- What a line spells, by the part of the file in which it stands.
-use Rattle.std.specs.Prelude.{ℕ, Bool, false, ◌||◌, ◌==◌, List, [], ◌∷◌, drop, if◌then◌else◌, Option, Some, None, Result, Ok, Err, codes}
-use Rattle.std.specs.Str.{bytes_eq}
+-- What a line spells, by the part of the file in which it stands: the rows of the part, of which the first that fits decides.
+use Rattle.std.specs.Prelude.{ℕ, Bool, false, ◌==◌, List, [], ◌∷◌, if◌then◌else◌, Option, Some, None, Result, Ok, Err, codes}
+use Rattle.std.specs.Option.{option_map}
 use Rattle.grid_units.specs.declared.fault.Reason.{Reason}
 use Rattle.grid_units.specs.declared.fault.Reason.TheVariants.{AfterEnd, OldFormat, Incremental, Routed, Repeat, BadLine}
 use Rattle.grid_units.specs.Results.{◌>>=◌}
+use Rattle.grid_units.specs.Rows.{RowOf, first_fit_or, behind, just, beginning}
 use Rattle.grid_units.specs.declared.lengths.Unit.TheVariants.{Inch, Millimetre}
 use Rattle.drill_lines.specs.declared.command.Part.{Part}
 use Rattle.drill_lines.specs.declared.command.Part.TheVariants as part
 use Rattle.drill_lines.specs.declared.command.Settings.{Settings}
 use Rattle.drill_lines.specs.declared.command.DrillCommand.{DrillCommand}
 use Rattle.drill_lines.specs.declared.command.DrillCommand.TheVariants.{Comment, Start, HeaderEnd, UnitCode, Finish}
-use Rattle.drill_lines.specs.Lines.{begins}
 use Rattle.drill_lines.specs.Header.{unit_line}
 use Rattle.drill_lines.specs.Tools.{tool_line, pick_line}
 use Rattle.drill_lines.specs.Drilling.{drill_line}
+use Rattle.grid_units.specs.Ascii as ascii
+
+-- what a line spells: a command, nothing, or the reason why it is refused (docs/FORMATS.md, Drill lines)
+abbrev pub Meaning : Type 0
+Meaning = Result (Option DrillCommand) Reason
+
+-- a row of the table of drill lines (docs/FORMATS.md, Drill lines)
+abbrev pub Row : Type 0
+Row = RowOf (Option DrillCommand)
 
 -- one command (docs/DEFINITIONS.md, Drill lines)
-abbrev pub one : Result DrillCommand Reason → Result (Option DrillCommand) Reason
+abbrev pub one : Result DrillCommand Reason → Meaning
 one read = read >>= λ command. Ok (Some command)
 
--- a line before `M48` (docs/FORMATS.md, Drill lines)
-unfoldable pub line_before : List ℕ → Result (Option DrillCommand) Reason
-line_before line =
-    if bytes_eq line (codes "%") then Ok None
-    else if bytes_eq line (codes "M48") then Ok (Some Start)
-    else Err OldFormat
+-- ---- the part before
 
--- a line that spells nothing, in the header and in the body (docs/FORMATS.md, Drill lines)
-abbrev pub spells_nothing : List ℕ → Bool
-spells_nothing line = bytes_eq line (codes "G90") || (bytes_eq line (codes "G05") || (bytes_eq line (codes "FMAT,2") || (bytes_eq line (codes "VER,1") || bytes_eq line (codes "ICI,OFF"))))
+-- the lines of this part (docs/FORMATS.md, Drill lines)
+unfoldable pub lines_before : List (List ℕ × Meaning)
+lines_before = (codes "%", Ok None) ∷ (codes "M48", Ok (Some Start)) ∷ []
 
--- a line of an older format (docs/FORMATS.md, Drill lines)
-abbrev pub is_old : List ℕ → Bool
-is_old line = bytes_eq line (codes "FMAT,1") || begins (codes "G93") line
+-- ---- the header and the body
 
--- incremental coordinates (docs/FORMATS.md, Drill lines)
-abbrev pub is_incremental : List ℕ → Bool
-is_incremental line = bytes_eq line (codes "G91") || bytes_eq line (codes "ICI,ON")
+-- the lines that are read alike in both (docs/FORMATS.md, Drill lines)
+unfoldable pub common_lines : List (List ℕ × Meaning)
+common_lines =
+    (codes "M71", Ok (Some (UnitCode Millimetre))) ∷ (codes "M72", Ok (Some (UnitCode Inch)))
+    ∷ (codes "G90", Ok None) ∷ (codes "G05", Ok None) ∷ (codes "FMAT,2", Ok None) ∷ (codes "VER,1", Ok None) ∷ (codes "ICI,OFF", Ok None)
+    ∷ (codes "FMAT,1", Err OldFormat)
+    ∷ (codes "G91", Err Incremental) ∷ (codes "ICI,ON", Err Incremental)
+    ∷ []
 
--- a line that may stand in the header and in the body (docs/FORMATS.md, Drill lines)
-unfoldable pub common_line : List ℕ → Result (Option DrillCommand) Reason
-common_line line =
-    if bytes_eq line (codes "M71") then Ok (Some (UnitCode Millimetre))
-    else if bytes_eq line (codes "M72") then Ok (Some (UnitCode Inch))
-    else if spells_nothing line then Ok None
-    else if is_old line then Err OldFormat
-    else if is_incremental line then Err Incremental
-    else Err BadLine
+-- the rows of both (docs/FORMATS.md, Drill lines)
+abbrev pub common_rows : List ℕ → List Row
+common_rows line = just common_lines line ∷ beginning ((codes "G93", Err OldFormat) ∷ []) line ∷ []
 
--- `%` or `M95` (docs/FORMATS.md, Drill lines)
-abbrev pub ends_header : List ℕ → Bool
-ends_header line = bytes_eq line (codes "%") || bytes_eq line (codes "M95")
+-- ---- the header
 
--- a line of the header (docs/FORMATS.md, Drill lines)
-unfoldable pub header_line : List ℕ → Result (Option DrillCommand) Reason
-header_line line =
-    if ends_header line then Ok (Some HeaderEnd)
-    else if begins (codes "INCH") line then one (unit_line Inch (drop 4 line))
-    else if begins (codes "METRIC") line then one (unit_line Millimetre (drop 6 line))
-    else if begins (codes "T") line then one (tool_line (drop 1 line))
-    else common_line line
+-- the lines that end the header (docs/FORMATS.md, Drill lines)
+unfoldable pub header_ends : List (List ℕ × Meaning)
+header_ends = (codes "%", Ok (Some HeaderEnd)) ∷ (codes "M95", Ok (Some HeaderEnd)) ∷ []
 
--- a routed path (docs/FORMATS.md, Drill lines)
-abbrev pub is_routed : List ℕ → Bool
-is_routed line = begins (codes "G00") line || (begins (codes "G01") line || (begins (codes "G02") line || (begins (codes "G03") line || (begins (codes "M15") line || begins (codes "M16") line))))
+-- the rows of the header (docs/FORMATS.md, Drill lines)
+abbrev pub header_rows : List ℕ → List Row
+header_rows line =
+    just header_ends line
+    ∷ option_map (λ rest. one (unit_line Inch rest)) (behind (codes "INCH") line)
+    ∷ option_map (λ rest. one (unit_line Millimetre rest)) (behind (codes "METRIC") line)
+    ∷ option_map (λ rest. one (tool_line rest)) (behind (codes "T") line)
+    ∷ common_rows line
 
--- a repeat code or a pattern (docs/FORMATS.md, Drill lines)
-abbrev pub repeats : List ℕ → Bool
-repeats line = begins (codes "R") line || (begins (codes "M01") line || (begins (codes "M02") line || (begins (codes "M08") line || begins (codes "M25") line)))
+-- ---- the body
 
--- a line of the body that neither drills nor picks a tool (docs/FORMATS.md, Drill lines)
-unfoldable pub body_word : List ℕ → Result (Option DrillCommand) Reason
-body_word line =
-    if bytes_eq line (codes "M30") then Ok (Some Finish)
-    else if is_routed line then Err Routed
-    else if repeats line then Err Repeat
-    else common_line line
+-- a hit or a slot: a line that begins with `X` or `Y` (docs/FORMATS.md, Drill lines)
+abbrev pub drill_row : Settings → List ℕ → Row
+drill_row settings line = beginning ((codes "X", one (drill_line settings line)) ∷ (codes "Y", one (drill_line settings line)) ∷ []) line
 
--- a line begins with `X` or `Y` (docs/FORMATS.md, Drill lines)
-abbrev pub begins_point : List ℕ → Bool
-begins_point line = begins (codes "X") line || begins (codes "Y") line
+-- the beginnings of lines of routed paths, and of repeats and patterns (docs/FORMATS.md, Drill lines)
+unfoldable pub body_beginnings : List (List ℕ × Meaning)
+body_beginnings =
+    (codes "G00", Err Routed) ∷ (codes "G01", Err Routed) ∷ (codes "G02", Err Routed) ∷ (codes "G03", Err Routed) ∷ (codes "M15", Err Routed) ∷ (codes "M16", Err Routed)
+    ∷ (codes "R", Err Repeat) ∷ (codes "M01", Err Repeat) ∷ (codes "M02", Err Repeat) ∷ (codes "M08", Err Repeat) ∷ (codes "M25", Err Repeat)
+    ∷ []
 
--- a line of the body (docs/FORMATS.md, Drill lines)
-unfoldable pub body_line : Settings → List ℕ → Result (Option DrillCommand) Reason
-body_line settings line =
-    if begins_point line then one (drill_line settings line)
-    else if begins (codes "T") line then one (pick_line (drop 1 line))
-    else body_word line
+-- the rows of the body (docs/FORMATS.md, Drill lines)
+abbrev pub body_rows : Settings → List ℕ → List Row
+body_rows settings line =
+    drill_row settings line
+    ∷ option_map (λ rest. one (pick_line rest)) (behind (codes "T") line)
+    ∷ just ((codes "M30", Ok (Some Finish)) ∷ []) line
+    ∷ beginning body_beginnings line
+    ∷ common_rows line
+
+-- ---- every part
 
 -- a line in this part of the file (docs/FORMATS.md, Drill lines)
-unfoldable pub line_in : Part → Settings → List ℕ → Result (Option DrillCommand) Reason
-line_in part.Before settings line = line_before line
-line_in part.Header settings line = header_line line
-line_in part.Body settings line = body_line settings line
+unfoldable pub line_in : Part → Settings → List ℕ → Meaning
+line_in part.Before settings line = first_fit_or OldFormat (just lines_before line ∷ [])
+line_in part.Header settings line = first_fit_or BadLine (header_rows line)
+line_in part.Body settings line = first_fit_or BadLine (body_rows settings line)
 line_in part.After settings line = Err AfterEnd
 
 -- a comment, which may stand anywhere but behind `M30` (docs/FORMATS.md, Drill lines)
 abbrev pub begins_comment : Part → ℕ → Bool
 begins_comment part.After b = false
-begins_comment _ b = b == 59
+begins_comment _ b = b == ascii.semicolon
 
 -- The command that a line without blanks at its end spells, if it spells one, where these settings stand (docs/FORMATS.md, Drill lines).
-unfoldable pub meaning : Settings → List ℕ → Result (Option DrillCommand) Reason
+unfoldable pub meaning : Settings → List ℕ → Meaning
 meaning settings [] = Ok None
 meaning settings (b ∷ bs) =
     if begins_comment settings.part b then Ok (Some (Comment bs))

@@ -7,18 +7,19 @@ use Rattle.grid_units.specs.Numbers.{is_digit, is_number, is_digits, value, dec_
 use Rattle.grid_units.specs.Results.{◌>>=◌, both}
 use Rattle.drill_lines.specs.declared.command.DrillCommand.{DrillCommand}
 use Rattle.drill_lines.specs.declared.command.DrillCommand.TheVariants.{Tool, Pick}
+use Rattle.grid_units.specs.Ascii as ascii
 
 -- `.` (docs/FORMATS.md, Numbers)
 abbrev pub is_point : ℕ → Bool
-is_point b = b == 46
+is_point b = b == ascii.point
 
 -- `C`, the letter of a diameter (docs/FORMATS.md, Drill lines)
 abbrev pub is_diameter : ℕ → Bool
-is_diameter b = b == 67
+is_diameter b = b == ascii.upper_c
 
 -- `F`, `S`, `B`, `H` or `Z`, whose run is not read (docs/FORMATS.md, Drill lines)
 abbrev pub is_skipped : ℕ → Bool
-is_skipped b = (b == 70) || ((b == 83) || ((b == 66) || ((b == 72) || (b == 90))))
+is_skipped b = (b == ascii.upper_f) || ((b == ascii.upper_s) || ((b == ascii.upper_b) || ((b == ascii.upper_h) || (b == ascii.upper_z))))
 
 -- a letter of a tool's definition (docs/FORMATS.md, Drill lines)
 abbrev pub is_letter : ℕ → Bool

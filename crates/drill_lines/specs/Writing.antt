@@ -15,6 +15,7 @@ use Rattle.drill_lines.specs.declared.command.DrillCommand.TheVariants.{Comment,
 use Rattle.drill_lines.specs.Formats.{Digits, AreSizes}
 use Rattle.drill_lines.specs.Lines.{trimmed}
 use Rattle.grid_units.specs.Limits.{line_limit}
+use Rattle.grid_units.specs.Ascii as ascii
 
 -- ---- lines
 
@@ -33,7 +34,7 @@ zeros_word None = []
 -- the pattern, where given (docs/FORMATS.md, Canonical drill text)
 abbrev pub pattern_word : Option Digits → List ℕ
 pattern_word None = []
-pattern_word (Some format) = 44 ∷ (replicate format.whole 48 ++ 46 ∷ replicate format.decimals 48)
+pattern_word (Some format) = ascii.comma ∷ (replicate format.whole ascii.digit_zero ++ ascii.point ∷ replicate format.decimals ascii.digit_zero)
 
 -- `M71` or `M72` (docs/FORMATS.md, Canonical drill text)
 abbrev pub unit_code : Units → List ℕ
@@ -47,17 +48,17 @@ coordinate_word letter (Some v) = letter ∷ pointed v
 
 -- the coordinates of a point (docs/FORMATS.md, Canonical drill text)
 abbrev pub point_word : Coordinates → List ℕ
-point_word p = coordinate_word 88 p.x ++ coordinate_word 89 p.y
+point_word p = coordinate_word ascii.upper_x p.x ++ coordinate_word ascii.upper_y p.y
 
 -- the canonical line of a command, without its LF (docs/FORMATS.md, Canonical drill text)
 abbrev pub canonical : DrillCommand → List ℕ
-canonical (Comment text) = 59 ∷ text
+canonical (Comment text) = ascii.semicolon ∷ text
 canonical Start = codes "M48"
 canonical (UnitLine unit zeros format) = unit_word unit ++ (zeros_word zeros ++ pattern_word format)
-canonical (Tool number diameter) = 84 ∷ (decimal number ++ 67 ∷ pointed diameter)
+canonical (Tool number diameter) = ascii.upper_t ∷ (decimal number ++ ascii.upper_c ∷ pointed diameter)
 canonical HeaderEnd = codes "%"
 canonical (UnitCode unit) = unit_code unit
-canonical (Pick number) = 84 ∷ decimal number
+canonical (Pick number) = ascii.upper_t ∷ decimal number
 canonical (Hit point) = point_word point
 canonical (Slot first second) = point_word first ++ (codes "G85" ++ point_word second)
 canonical Finish = codes "M30"
@@ -66,7 +67,7 @@ canonical Finish = codes "M30"
 
 -- a comment's text: without LF, without a blank at its end, and of a line that is not too long (docs/FORMATS.md, Canonical drill text)
 abbrev pub is_comment_text : List ℕ → Bool
-is_comment_text text = not (list_any (λ b. b == 10) text) && ((length (trimmed text) == length text) && nat_lt (length text) line_limit)
+is_comment_text text = not (list_any (λ b. b == ascii.line_feed) text) && ((length (trimmed text) == length text) && nat_lt (length text) line_limit)
 
 -- zeros that a unit line can name (docs/FORMATS.md, Drill lines)
 abbrev pub can_name_zeros : Option Zeros → Bool

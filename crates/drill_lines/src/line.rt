@@ -1,10 +1,13 @@
 //! A line of a drill file, and what it spells.
 
-ghost use Rattle.std.specs.Prelude.{◌≡◌, ◌≤◌, ◌||◌, ◌==◌, length, take};
+ghost use Rattle.std.specs.Prelude.{◌≡◌, ◌≤◌, ◌∷◌, [], length, take, Ok, Some, codes};
 ghost use Rattle.std.specs.Str.{bytes_eq};
-ghost use Rattle.drill_lines.specs.Lines.{is_blank, trimmed, begins};
+ghost use Rattle.grid_units.specs.declared.fault.Reason.TheVariants.{OldFormat, BadLine};
+ghost use Rattle.grid_units.specs.Rows.{first_fit_or, just, beginning};
 ghost use Rattle.grid_units.specs.Results.{Gives};
-ghost use Rattle.drill_lines.specs.Meaning.{meaning, line_before, line_in, header_line, body_line, body_word, begins_point, common_line, spells_nothing, begins_comment, is_old, is_incremental, is_routed, repeats, ends_header};
+ghost use Rattle.drill_lines.specs.declared.command.DrillCommand.TheVariants.{Finish};
+ghost use Rattle.drill_lines.specs.Lines.{is_blank, trimmed};
+ghost use Rattle.drill_lines.specs.Meaning.{meaning, lines_before, common_lines, common_rows, header_ends, header_rows, body_beginnings, body_rows, line_in, begins_comment};
 
 use crate::command::{DrillCommand, Part, Settings};
 use crate::drilling::drill_line;
@@ -32,16 +35,19 @@ pub(crate) fn trimmed_len(line: &[u8]) -> usize
 }
 
 /// Whether a line begins with these bytes.
-pub(crate) fn begins(word: &[u8], line: &[u8]) -> bool
-    ensures { result ≡ begins word.now line.now }
+fn begins(word: &[u8], line: &[u8]) -> bool
+    ensures { result ≡ bytes_eq (take (length word.now) line.now) word.now }
 {
     line.strip_prefix(word).is_some()
 }
 
+/// A row of the table of drill lines: what a line spells that fits it.
+type Row = Option<Result<Option<DrillCommand>, Reason>>;
+
 /// A line before `M48`.
-#[tactic(auto, unfolding(crate::specs::Meaning::line_before))]
+#[tactic(auto, unfolding(crate::specs::Meaning::lines_before))]
 fn line_before(line: &[u8]) -> Result<Option<DrillCommand>, Reason>
-    ensures { result ≡ line_before line.now }
+    ensures { result ≡ first_fit_or OldFormat (just lines_before line.now ∷ []) }
 {
     if line == b"%".as_slice() {
         Ok(None)
@@ -52,65 +58,62 @@ fn line_before(line: &[u8]) -> Result<Option<DrillCommand>, Reason>
     }
 }
 
-/// Whether a line spells nothing, in the header and in the body.
-fn spells_nothing(line: &[u8]) -> bool
-    ensures { result ≡ spells_nothing line.now }
+/// A line that is just one of those that are read alike in the header and in the body.
+#[tactic(auto, unfolding(crate::specs::Meaning::common_lines))]
+fn common_line(line: &[u8]) -> Row
+    ensures { result ≡ just common_lines line.now }
 {
-    line == b"G90".as_slice()
+    if line == b"M71".as_slice() {
+        Some(Ok(Some(DrillCommand::UnitCode(Unit::Millimetre))))
+    } else if line == b"M72".as_slice() {
+        Some(Ok(Some(DrillCommand::UnitCode(Unit::Inch))))
+    } else if line == b"G90".as_slice()
         || line == b"G05".as_slice()
         || line == b"FMAT,2".as_slice()
         || line == b"VER,1".as_slice()
         || line == b"ICI,OFF".as_slice()
+    {
+        Some(Ok(None))
+    } else if line == b"FMAT,1".as_slice() {
+        Some(Err(Reason::OldFormat))
+    } else if line == b"G91".as_slice() || line == b"ICI,ON".as_slice() {
+        Some(Err(Reason::Incremental))
+    } else {
+        None
+    }
 }
 
-/// Whether a line is of an older format.
-fn is_old(line: &[u8]) -> bool
-    ensures { result ≡ is_old line.now }
+/// A line by the rows that the header and the body share.
+fn common_rows(line: &[u8]) -> Result<Option<DrillCommand>, Reason>
+    ensures { result ≡ first_fit_or BadLine (common_rows line.now) }
 {
-    line == b"FMAT,1".as_slice() || begins(b"G93", line)
-}
-
-/// Whether a line asks for incremental coordinates.
-fn is_incremental(line: &[u8]) -> bool
-    ensures { result ≡ is_incremental line.now }
-{
-    line == b"G91".as_slice() || line == b"ICI,ON".as_slice()
-}
-
-/// A line that may stand in the header and in the body.
-#[tactic(auto, unfolding(crate::specs::Meaning::common_line))]
-fn common_line(line: &[u8]) -> Result<Option<DrillCommand>, Reason>
-    ensures { result ≡ common_line line.now }
-{
-    if line == b"M71".as_slice() {
-        Ok(Some(DrillCommand::UnitCode(Unit::Millimetre)))
-    } else if line == b"M72".as_slice() {
-        Ok(Some(DrillCommand::UnitCode(Unit::Inch)))
-    } else if spells_nothing(line) {
-        Ok(None)
-    } else if is_old(line) {
+    if let Some(answer) = common_line(line) {
+        answer
+    } else if begins(b"G93", line) {
         Err(Reason::OldFormat)
-    } else if is_incremental(line) {
-        Err(Reason::Incremental)
     } else {
         Err(Reason::BadLine)
     }
 }
 
-/// Whether a line ends the header.
-fn ends_header(line: &[u8]) -> bool
-    ensures { result ≡ ends_header line.now }
+/// A line that ends the header.
+#[tactic(auto, unfolding(crate::specs::Meaning::header_ends))]
+fn header_end(line: &[u8]) -> Row
+    ensures { result ≡ just header_ends line.now }
 {
-    line == b"%".as_slice() || line == b"M95".as_slice()
+    if line == b"%".as_slice() || line == b"M95".as_slice() {
+        Some(Ok(Some(DrillCommand::HeaderEnd)))
+    } else {
+        None
+    }
 }
 
 /// A line of the header.
-#[tactic(auto, unfolding(crate::specs::Meaning::header_line))]
 fn header_line(line: &[u8]) -> Result<Option<DrillCommand>, Reason>
-    ensures { result ≡ header_line line.now }
+    ensures { result ≡ first_fit_or BadLine (header_rows line.now) }
 {
-    if ends_header(line) {
-        return Ok(Some(DrillCommand::HeaderEnd));
+    if let Some(answer) = header_end(line) {
+        return answer;
     }
     if let Some(rest) = line.strip_prefix(b"INCH".as_slice()) {
         return Ok(Some(unit_line(Unit::Inch, rest)?));
@@ -121,61 +124,52 @@ fn header_line(line: &[u8]) -> Result<Option<DrillCommand>, Reason>
     if let Some(rest) = line.strip_prefix(b"T".as_slice()) {
         return Ok(Some(tool_line(rest)?));
     }
-    common_line(line)
+    common_rows(line)
 }
 
-/// Whether a line is of a routed path.
-fn is_routed(line: &[u8]) -> bool
-    ensures { result ≡ is_routed line.now }
+/// A line of the body that is refused by how it begins.
+#[tactic(auto, unfolding(crate::specs::Meaning::body_beginnings))]
+fn body_beginning(line: &[u8]) -> Row
+    ensures { result ≡ beginning body_beginnings line.now }
 {
-    begins(b"G00", line)
+    if begins(b"G00", line)
         || begins(b"G01", line)
         || begins(b"G02", line)
         || begins(b"G03", line)
         || begins(b"M15", line)
         || begins(b"M16", line)
-}
-
-/// Whether a line is of a repeat code or a pattern.
-fn repeats(line: &[u8]) -> bool
-    ensures { result ≡ repeats line.now }
-{
-    begins(b"R", line)
+    {
+        Some(Err(Reason::Routed))
+    } else if begins(b"R", line)
         || begins(b"M01", line)
         || begins(b"M02", line)
         || begins(b"M08", line)
         || begins(b"M25", line)
-}
-
-/// A line of the body that neither drills nor picks a tool.
-#[tactic(auto, unfolding(crate::specs::Meaning::body_word))]
-fn body_word(line: &[u8]) -> Result<Option<DrillCommand>, Reason>
-    ensures { result ≡ body_word line.now }
-{
-    if line == b"M30".as_slice() {
-        Ok(Some(DrillCommand::Finish))
-    } else if is_routed(line) {
-        Err(Reason::Routed)
-    } else if repeats(line) {
-        Err(Reason::Repeat)
+    {
+        Some(Err(Reason::Repeat))
     } else {
-        common_line(line)
+        None
     }
 }
 
-/// Whether a line begins with a coordinate.
-fn begins_point(line: &[u8]) -> bool
-    ensures { result ≡ begins_point line.now }
+/// A line of the body that neither drills nor picks a tool.
+fn body_word(line: &[u8]) -> Result<Option<DrillCommand>, Reason>
+    ensures { result ≡ first_fit_or BadLine (just ((codes "M30", Ok (Some Finish)) ∷ []) line.now ∷ beginning body_beginnings line.now ∷ common_rows line.now) }
 {
-    begins(b"X", line) || begins(b"Y", line)
+    if line == b"M30".as_slice() {
+        Ok(Some(DrillCommand::Finish))
+    } else if let Some(answer) = body_beginning(line) {
+        answer
+    } else {
+        common_rows(line)
+    }
 }
 
 /// A line of the body.
-#[tactic(auto, unfolding(crate::specs::Meaning::body_line))]
 fn body_line(settings: Settings, line: &[u8]) -> Result<Option<DrillCommand>, Reason>
-    ensures { result ≡ body_line settings line.now }
+    ensures { result ≡ first_fit_or BadLine (body_rows settings line.now) }
 {
-    if begins_point(line) {
+    if begins(b"X", line) || begins(b"Y", line) {
         return Ok(Some(drill_line(settings, line)?));
     }
     if let Some(rest) = line.strip_prefix(b"T".as_slice()) {

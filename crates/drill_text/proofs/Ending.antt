@@ -19,7 +19,7 @@ use Rattle.drill_text.specs.Keeping.{Met, Leaves, Ends}
 use Rattle.drill_text.specs.Outcome.{DrillFile, commands_in, file_of}
 use Rattle.grid_units.specs.Holes.{GridHole}
 use Rattle.drill_text.specs.Texts.{ReadsHoles}
-use Rattle.drill_text.specs.Standing.{Holds}
+use Rattle.drill_text.specs.Holding.{Holds}
 use Rattle.grid_units.proofs.Binds.{bind_err, guard_err}
 use Rattle.grid_units.specs.Limits.{text_limit}
 

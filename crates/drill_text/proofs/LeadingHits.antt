@@ -8,7 +8,7 @@ use Rattle.grid_units.specs.declared.fault.Reason.{Reason}
 use Rattle.grid_units.specs.Numbers.{is_number}
 use Rattle.grid_units.specs.Results.{◌>>=◌, both}
 use Rattle.drill_lines.specs.Lines.{is_blank, trimmed}
-use Rattle.drill_lines.specs.Meaning.{one, meaning, line_in, body_line, begins_comment}
+use Rattle.drill_lines.specs.Meaning.{one, meaning, line_in, begins_comment}
 use Rattle.drill_lines.specs.declared.command.Part.TheVariants as part
 use Rattle.drill_lines.specs.declared.command.Settings.{Settings}
 use Rattle.drill_lines.specs.declared.command.DrillCommand.TheVariants as command
@@ -40,7 +40,7 @@ spelled_hit s xs ys x y nx ny rx ry =
     first ∙ second ∙ (λ i. (both (rx i >>= some) (ry i >>= some) >>= λ p. Ok (record { x = p.0; y = p.1 })) >>= λ p. Ok (command.Hit p))
 
 in_body : (s : Settings) (bs : List ℕ) → s.part ≡ part.Body → meaning s (88 ∷ bs) ≡ one (drill_line s (88 ∷ bs))
-unfolding meaning line_in body_line
+unfolding meaning line_in
 in_body s bs body = ap (λ p. cond (begins_comment p 88) (Ok (Some (command.Comment bs))) (line_in p s (88 ∷ bs))) body
 
 line_solid : (xs ys : List ℕ) → list_all is_number xs ≡ true → list_all is_number ys ≡ true → list_all is_solid (line_of xs ys) ≡ true

@@ -1,8 +1,8 @@
 -- A drill text has a fault of one of its own reasons.
-use Rattle.std.proofs.Common.{◌≡◌, ◌⊎◌, inl, inr, ℕ, ℤ, Bool, true, false, cond, ◌&&◌, eqb, leb, ltb, List, [], ◌∷◌, ◌++◌, length, take, drop, Option, None, Some, Result, Ok, Err, refl, ap, subst, ◌∙◌}
+use Rattle.std.proofs.Common.{◌≡◌, ◌⊎◌, inl, inr, ℕ, ℤ, Bool, true, false, cond, ◌&&◌, eqb, leb, ltb, List, [], ◌∷◌, ◌++◌, length, drop, Option, None, Some, Result, Ok, Err, refl, ap, subst, ◌∙◌}
 use Rattle.std.specs.Prelude.{codes}
-use Rattle.std.specs.Str.{bytes_eq}
-use Rattle.std.specs.List.{list_all, list_any, find, prefix_len}
+use Rattle.std.specs.List.{list_all, list_any, find, prefix_len, AllByRecursion}
+use Rattle.std.specs.Option.{option_map}
 use Rattle.grid_units.specs.declared.fault.Fault.{Fault}
 use Rattle.grid_units.specs.declared.fault.Reason.{Reason}
 use Rattle.grid_units.specs.declared.fault.Reason.TheVariants as reason
@@ -12,17 +12,19 @@ use Rattle.grid_units.specs.declared.zero_filling.Zeros.{Zeros}
 use Rattle.grid_units.specs.declared.zero_filling.Zeros.TheVariants.{Leading, Trailing, Full}
 use Rattle.grid_units.specs.Reasons.{number_of}
 use Rattle.grid_units.specs.Results.{◌>>=◌, both}
+use Rattle.grid_units.specs.Rows.{first_fit_or, behind, just}
 use Rattle.grid_units.specs.Numbers.{is_digits, is_number, unsigned, is_decimal, is_coarse, fraction, whole, value, all_digits, signed, fine, dec_of, missing, filled, zeros_of}
 use Rattle.drill_lines.specs.declared.command.Part.{Part}
 use Rattle.drill_lines.specs.declared.command.Part.TheVariants as part
 use Rattle.drill_lines.specs.declared.command.Settings.{Settings}
 use Rattle.drill_lines.specs.declared.command.DrillCommand.{DrillCommand}
-use Rattle.drill_lines.specs.declared.command.DrillCommand.TheVariants.{Comment, Start, HeaderEnd, UnitCode, UnitLine, Finish, Tool, Pick, Hit, Slot}
-use Rattle.drill_lines.specs.Lines.{begins, trimmed}
+use Rattle.drill_lines.specs.declared.command.DrillCommand.TheVariants.{Comment, UnitLine, Finish, Tool, Pick, Hit, Slot}
+use Rattle.drill_lines.specs.Lines.{trimmed}
 use Rattle.drill_lines.specs.Header.{is_zero, is_size, sizes, pattern_from, pattern, unit_format, unit_line}
 use Rattle.drill_lines.specs.Tools.{is_point, number_from, diameter_of, tool_fields, tool_line, pick_fields, pick_line}
 use Rattle.drill_lines.specs.Drilling.{format_in, zeros_in, coordinate_of, coordinate, Runs, runs_of, coordinates, slot_line, drill_from, drill_line}
-use Rattle.drill_lines.specs.Meaning.{one, line_before, spells_nothing, is_old, is_incremental, common_line, ends_header, header_line, is_routed, repeats, body_word, begins_point, body_line, line_in, begins_comment, meaning}
+use Rattle.drill_lines.specs.Meaning.{one, lines_before, common_lines, common_rows, header_ends, header_rows, body_beginnings, body_rows, line_in, begins_comment, meaning}
+use Rattle.drill_lines.proofs.Rows.{RowHas, first_has, just_has, beginning_has, behind_has}
 use Rattle.drill_text.specs.Lookback.{settings_after, standing}
 use Rattle.drill_text.specs.Holes.{drilled_at, holes_of}
 use Rattle.drill_text.specs.Rules.{applies, rules, first_broken, broken_rule}
@@ -117,7 +119,7 @@ drill_fair s line =
     let from = (runs_of line).0 in
     let rest = (runs_of line).1 in
     fair_cond (eqb (length rest) 0) _ _ (fair_bind (coordinates s from) (λ p. Ok (Hit p)) (coordinates_fair s from) (λ p. tt))
-    (fair_cond (bytes_eq (take 3 rest) (codes "G85")) (slot_line s from (drop 3 rest)) (Err reason.BadLine) (slot_fair s from (drop 3 rest)) refl)
+    (first_has Fair reason.BadLine (option_map (slot_line s from) (behind (codes "G85") rest) ∷ []) refl (behind_has Fair (codes "G85") (slot_line s from) rest (slot_fair s from), tt))
 
 -- ---- the header
 
@@ -135,10 +137,12 @@ format_fair u z [] = tt
 format_fair u z (b ∷ bs) = fair_cond (eqb b 44 && list_all is_number bs) _ (Err reason.BadLine) (fair_bind (pattern bs) (λ p. Ok (UnitLine u z (Some p))) (pattern_fair bs) (λ p. tt)) refl
 
 unit_fair : (u : Units) (line : List ℕ) → Fair (unit_line u line)
-unfolding unit_line
+unfolding Fair unit_line
 unit_fair u line =
-    fair_cond (begins (codes ",LZ") line) (unit_format u (Some Leading) (drop 3 line)) _ (format_fair u (Some Leading) (drop 3 line))
-    (fair_cond (begins (codes ",TZ") line) (unit_format u (Some Trailing) (drop 3 line)) (unit_format u None line) (format_fair u (Some Trailing) (drop 3 line)) (format_fair u None line))
+    let leading : List ℕ → Result DrillCommand Reason = unit_format u (Some Leading) in
+    let trailing : List ℕ → Result DrillCommand Reason = unit_format u (Some Trailing) in
+    first_has Fair reason.BadLine (option_map leading (behind (codes ",LZ") line) ∷ option_map trailing (behind (codes ",TZ") line) ∷ Some (unit_format u None line) ∷ []) refl
+    (behind_has Fair (codes ",LZ") leading line (format_fair u (Some Leading)), (behind_has Fair (codes ",TZ") trailing line (format_fair u (Some Trailing)), (format_fair u None line, tt)))
 
 -- ---- a line
 
@@ -146,39 +150,38 @@ one_fair : (r : Result DrillCommand Reason) → Fair r → Fair (one r)
 unfolding Fair
 one_fair r h = fair_bind r (λ command. Ok (Some command)) h (λ command. tt)
 
-common_fair : (line : List ℕ) → Fair (common_line line)
-unfolding Fair common_line
+read_fair : (word : List ℕ) (read : List ℕ → Result DrillCommand Reason) (line : List ℕ) → ((rest : List ℕ) → Fair (read rest)) → RowHas Fair (option_map (λ rest. one (read rest)) (behind word line))
+read_fair word read line h = behind_has Fair word (λ rest. one (read rest)) line (λ rest. one_fair (read rest) (h rest))
+
+common_fair : (line : List ℕ) → AllByRecursion (RowHas Fair) (common_rows line)
+unfolding Fair common_lines
 common_fair line =
-    fair_cond (bytes_eq line (codes "M71")) (Ok (Some (UnitCode Millimetre))) _ tt
-    (fair_cond (bytes_eq line (codes "M72")) (Ok (Some (UnitCode Inch))) _ tt
-    (fair_cond (spells_nothing line) (Ok None) _ tt
-    (fair_cond (is_old line) (Err reason.OldFormat) _ refl
-    (fair_cond (is_incremental line) (Err reason.Incremental) (Err reason.BadLine) refl refl))))
+    (just_has Fair common_lines line (tt, (tt, (tt, (tt, (tt, (tt, (tt, (refl, (refl, (refl, tt)))))))))), (beginning_has Fair ((codes "G93", Err reason.OldFormat) ∷ []) line (refl, tt), tt))
 
-header_fair : (line : List ℕ) → Fair (header_line line)
-unfolding Fair header_line
+header_fair : (line : List ℕ) → Fair (first_fit_or reason.BadLine (header_rows line))
+unfolding Fair header_ends
 header_fair line =
-    fair_cond (ends_header line) (Ok (Some HeaderEnd)) _ tt
-    (fair_cond (begins (codes "INCH") line) (one (unit_line Inch (drop 4 line))) _ (one_fair (unit_line Inch (drop 4 line)) (unit_fair Inch (drop 4 line)))
-    (fair_cond (begins (codes "METRIC") line) (one (unit_line Millimetre (drop 6 line))) _ (one_fair (unit_line Millimetre (drop 6 line)) (unit_fair Millimetre (drop 6 line)))
-    (fair_cond (begins (codes "T") line) (one (tool_line (drop 1 line))) (common_line line) (one_fair (tool_line (drop 1 line)) (tool_fair (drop 1 line))) (common_fair line))))
+    first_has Fair reason.BadLine (header_rows line) refl
+    (just_has Fair header_ends line (tt, (tt, tt)), (read_fair (codes "INCH") (unit_line Inch) line (unit_fair Inch), (read_fair (codes "METRIC") (unit_line Millimetre) line (unit_fair Millimetre), (read_fair (codes "T") tool_line line tool_fair, common_fair line))))
 
-word_fair : (line : List ℕ) → Fair (body_word line)
-unfolding Fair body_word
-word_fair line =
-    fair_cond (bytes_eq line (codes "M30")) (Ok (Some Finish)) _ tt
-    (fair_cond (is_routed line) (Err reason.Routed) _ refl
-    (fair_cond (repeats line) (Err reason.Repeat) (common_line line) refl (common_fair line)))
-
-body_fair : (s : Settings) (line : List ℕ) → Fair (body_line s line)
-unfolding body_line
+body_fair : (s : Settings) (line : List ℕ) → Fair (first_fit_or reason.BadLine (body_rows s line))
+unfolding Fair body_beginnings
 body_fair s line =
-    fair_cond (begins_point line) (one (drill_line s line)) _ (one_fair (drill_line s line) (drill_fair s line))
-    (fair_cond (begins (codes "T") line) (one (pick_line (drop 1 line))) (body_word line) (one_fair (pick_line (drop 1 line)) (pick_fair (drop 1 line))) (word_fair line))
+    let drilled : Fair (one (drill_line s line)) = one_fair (drill_line s line) (drill_fair s line) in
+    first_has Fair reason.BadLine (body_rows s line) refl (
+      beginning_has Fair ((codes "X", one (drill_line s line)) ∷ (codes "Y", one (drill_line s line)) ∷ []) line (drilled, (drilled, tt)),
+      (
+        read_fair (codes "T") pick_line line pick_fair,
+        (
+          just_has Fair ((codes "M30", Ok (Some Finish)) ∷ []) line (tt, tt),
+          (beginning_has Fair body_beginnings line (refl, (refl, (refl, (refl, (refl, (refl, (refl, (refl, (refl, (refl, (refl, tt))))))))))), common_fair line),
+        ),
+      ),
+    )
 
 part_fair : (p : Part) (s : Settings) (line : List ℕ) → Fair (line_in p s line)
-unfolding Fair line_in line_before
-part_fair part.Before s line = fair_cond (bytes_eq line (codes "%")) (Ok None) _ tt (fair_cond (bytes_eq line (codes "M48")) (Ok (Some Start)) (Err reason.OldFormat) tt refl)
+unfolding Fair line_in lines_before
+part_fair part.Before s line = first_has Fair reason.OldFormat (just lines_before line ∷ []) refl (just_has Fair lines_before line (tt, (tt, tt)), tt)
 part_fair part.Header s line = header_fair line
 part_fair part.Body s line = body_fair s line
 part_fair part.After s line = refl

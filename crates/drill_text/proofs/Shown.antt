@@ -12,7 +12,7 @@ use Rattle.drill_text.specs.Lines.{bytes_of}
 use Rattle.grid_units.specs.Results.{◌>>=◌, fault}
 use Rattle.grid_units.proofs.Binds.{bind_ok, bind_err, guard_ok, guard_err}
 use Rattle.drill_text.specs.Reading.{step, spelled, commands_from, shown}
-use Rattle.drill_text.specs.Standing.{Holds, HasFault, Advances, Refuses}
+use Rattle.drill_text.specs.Holding.{Holds, HasFault, Advances, Refuses}
 use Rattle.drill_text.proofs.Splitting.{Splits-grow, Splits-close, commands_from-push}
 use Rattle.grid_units.specs.Limits.{line_limit}
 

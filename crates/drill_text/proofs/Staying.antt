@@ -9,7 +9,7 @@ use Rattle.drill_text.specs.Lines.{Splits}
 use Rattle.grid_units.specs.Results.{◌>>=◌, fault}
 use Rattle.grid_units.proofs.Binds.{bind_err, guard_err}
 use Rattle.drill_text.specs.Reading.{shown, Shows, Reads}
-use Rattle.drill_text.specs.Standing.{HasFault}
+use Rattle.drill_text.specs.Holding.{HasFault}
 use Rattle.drill_text.proofs.Shown.{fault_stays}
 use Rattle.drill_text.proofs.Ending.{shows_reads}
 use Rattle.grid_units.specs.Limits.{text_limit}

@@ -12,7 +12,7 @@ use Rattle.drill_text.specs.Lines.{Splits}
 use Rattle.grid_units.specs.Results.{◌>>=◌}
 use Rattle.grid_units.specs.Results.{fault}
 use Rattle.drill_text.specs.Reading.{Shows}
-use Rattle.drill_text.specs.Standing.{Holds, HasFault, Refuses, RefusesText}
+use Rattle.drill_text.specs.Holding.{Holds, HasFault, Refuses, RefusesText}
 use Rattle.grid_units.specs.Limits.{text_limit}
 
 -- behind a text that is too long, its front shows what it shows

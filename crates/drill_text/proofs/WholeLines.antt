@@ -13,7 +13,7 @@ use Rattle.drill_text.specs.Lines.{HasNoBreak, Splits, bytes_of}
 use Rattle.drill_text.specs.Reading.{shown, spelled}
 use Rattle.drill_text.specs.declared.kept.Kept.{Kept}
 use Rattle.drill_text.specs.Keeping.{Met, Leaves}
-use Rattle.drill_text.specs.Standing.{Holds, Refuses}
+use Rattle.drill_text.specs.Holding.{Holds, Refuses}
 use Rattle.drill_text.proofs.Splitting.{Splits-grow, Splits-close, bytes_of-push}
 use Rattle.drill_text.proofs.Shown.{closed}
 

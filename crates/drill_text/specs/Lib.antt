@@ -6,7 +6,7 @@ pub mod Reading
 pub mod Texts
 pub mod Writing
 pub mod Keeping
-pub mod Standing
+pub mod Holding
 pub mod Outcome
 pub mod Faults
 pub mod Inner

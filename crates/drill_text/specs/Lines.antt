@@ -1,10 +1,11 @@
 -- How a drill file is cut into lines.
 use Rattle.std.specs.Prelude.{◌≡◌, ◌≢◌, ℕ, List, [], ◌∷◌, ◌++◌}
 use Rattle.std.specs.List.{flat_map, AllByRecursion}
+use Rattle.grid_units.specs.Ascii as ascii
 
 -- a line and the LF that ends it (docs/FORMATS.md, Drill lines)
 abbrev pub ended_line : List ℕ → List ℕ
-ended_line line = line ++ 10 ∷ []
+ended_line line = line ++ ascii.line_feed ∷ []
 
 -- the bytes of lines that have ended (docs/FORMATS.md, Drill lines)
 abbrev pub bytes_of : List (List ℕ) → List ℕ
@@ -12,7 +13,7 @@ bytes_of lines = flat_map ended_line lines
 
 -- bytes without LF (docs/FORMATS.md, Drill lines)
 abbrev pub HasNoBreak : List ℕ → Type 0
-HasNoBreak bytes = AllByRecursion (λ b. b ≢ 10) bytes
+HasNoBreak bytes = AllByRecursion (λ b. b ≢ ascii.line_feed) bytes
 
 -- A text is its ended lines, each with its LF, and a rest without LF (docs/FORMATS.md, Drill lines).
 pub record Splits (text : List ℕ) (lines : List (List ℕ)) (rest : List ℕ) : Type 0 where

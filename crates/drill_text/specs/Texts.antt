@@ -42,7 +42,11 @@ pub record IsDrillText (text : List ℕ) (commands : List DrillCommand) : Type 0
   pub spells : SpellsText text commands
   pub legal : IsLegal broken_rule commands
 
--- A whole text is a drill text whose commands drill these holes, or has this fault (docs/DEFINITIONS.md, Drill files).
+-- a text is a drill text whose commands drill these holes (docs/DEFINITIONS.md, Drill files)
+abbrev pub DrillsHoles : List ℕ → List GridHole → Type 0
+DrillsHoles text holes = (commands : List DrillCommand) × IsDrillText text commands × (holes ≡ holes_of commands)
+
+-- A whole text drills these holes, or has this fault (docs/DEFINITIONS.md, Drill files).
 abbrev pub ReadsHoles : List ℕ → Result (List GridHole) Fault → Type 0
-ReadsHoles text (Ok holes) = (commands : List DrillCommand) × IsDrillText text commands × (holes ≡ holes_of commands)
+ReadsHoles text (Ok holes) = DrillsHoles text holes
 ReadsHoles text (Err fault) = Reads text (Err fault)

@@ -30,8 +30,8 @@ fn blanks_at_end(bytes: &[u8]) -> Option<usize>
     }
 }
 
-/// The hit that the line in front of the bytes spells in the body, and how many bytes stand before its LF. `None`
-/// says only that this short way does not find one.
+/// The hit that the line at the start of the bytes spells in the body, and how many bytes stand before its LF. `None`
+/// says only that this fast path does not find one.
 pub(crate) fn leading_hit(bytes: &[u8]) -> Option<(Coordinates, usize)>
     ensures { IfSome result (λ hit. LeadsHit hit.0 hit.1 bytes.now) }
 {

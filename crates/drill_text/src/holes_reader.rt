@@ -21,7 +21,7 @@ pub struct HolesReader {
 }
 
 impl HolesReader {
-    ghost use Rattle.drill_text.specs.Standing.{HolesStandAfter, holes_failure};
+    ghost use Rattle.drill_text.specs.Holding.{HolesStandAfter, holes_failure};
 
     /// A reader that has read nothing.
     pub fn new(alloc: Global) -> HolesReader

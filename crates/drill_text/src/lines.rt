@@ -5,9 +5,9 @@ ghost use Rattle.grid_units.specs.Results.{AnswersAlways};
 ghost use Rattle.drill_lines.specs.declared.command.DrillCommand.{DrillCommand as TheCommand};
 ghost use Rattle.drill_text.specs.Writing.{written, bytes_in};
 
-use crate::writer::{TEXT_LIMIT, push_line, too_long};
+use crate::writer::{push_line, too_long};
 use drill_lines::DrillCommand;
-use grid_units::Fail;
+use grid_units::{Fail, TEXT_LIMIT};
 use std::alloc::{AllocError, Global};
 
 /// The canonical lines of some commands, or that they are longer than a text may be. Of lines that are too long none are held.

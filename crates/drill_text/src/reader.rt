@@ -4,6 +4,7 @@ ghost use Rattle.std.specs.Prelude.{◌≡◌, ◌≢◌, ◌≤◌, ◌<◌, �
 ghost use Rattle.drill_lines.specs.declared.command.DrillCommand.{DrillCommand as TheCommand};
 ghost use Rattle.grid_units.specs.declared.fault.Fault.{Fault};
 ghost use Rattle.grid_units.specs.declared.fault.Fail.TheVariants.{Refused};
+ghost use Rattle.grid_units.specs.Limits.{line_limit, text_limit};
 ghost use Rattle.grid_units.specs.Results.{fault, Answers};
 ghost use Rattle.drill_text.specs.Reading.{spelled, Reads, place_behind_count};
 ghost use Rattle.drill_text.specs.Keeping.{Met, Leaves, Ends};
@@ -18,13 +19,12 @@ use crate::hits::leading_hit;
 use crate::judge::Judge;
 use crate::kept::{Keeping, Kept};
 use drill_lines::{Coordinates, DrillCommand, read_line};
-use grid_units::{Fail, Fault, Hole, Reason, Stop};
+use grid_units::{Fail, Fault, Hole, LINE_LIMIT, Reason, Stop};
 use memchr::memchr;
 use std::alloc::Global;
 
-const LINE_LIMIT: usize = 1_048_576;
-
-const TEXT_LIMIT: u64 = 268_435_456;
+/// The longest text, as an offset.
+const TEXT_LIMIT: u64 = grid_units::TEXT_LIMIT as u64;
 
 /// What was read so far, and the line that has not ended.
 #[derive(Drop)]
@@ -37,8 +37,8 @@ pub(crate) struct Progress {
     offset: u64,
     lines: u64,
     ghost counted: { lines ≤ offset },
-    ghost in_text: { offset ≤ 268435456 },
-    ghost in_line: { vec_len line ≤ 1048576 },
+    ghost in_text: { offset ≤ text_limit },
+    ghost in_line: { vec_len line ≤ line_limit },
 }
 
 /// How many bytes stand before the first LF.
@@ -71,7 +71,7 @@ fn keep(
     judge: &mut Judge,
     kept: &mut Kept,
 ) -> Result<(), Fail>
-    ensures leaves { (line : List ℕ) (before : List TheCommand) → length line ≤ 1048576 → meaning judge.old.settings (trimmed line) ≡ Ok (Some command) → Met judge.old kept.old before → Leaves result judge.new kept.new (spelled place byte line before) }
+    ensures leaves { (line : List ℕ) (before : List TheCommand) → length line ≤ line_limit → meaning judge.old.settings (trimmed line) ≡ Ok (Some command) → Met judge.old kept.old before → Leaves result judge.new kept.new (spelled place byte line before) }
     ensures same { kept.new.keeping ≡ kept.old.keeping }
 {
     match judge.step(&command) {
@@ -93,7 +93,7 @@ fn spell(
     judge: &mut Judge,
     kept: &mut Kept,
 ) -> Result<(), Fail>
-    requires short { length line.now ≤ 1048576 }
+    requires short { length line.now ≤ line_limit }
     ensures leaves { (before : List TheCommand) → Met judge.old kept.old before → Leaves result judge.new kept.new (spelled place byte line.now before) }
     ensures same { kept.new.keeping ≡ kept.old.keeping }
 {
@@ -109,7 +109,7 @@ impl Progress {
     ghost use Rattle.std.specs.Prelude.{[], ◌∷◌, ◌++◌, List};
     ghost use Rattle.drill_lines.specs.declared.command.Part.TheVariants as part;
     ghost use Rattle.drill_text.specs.Inner.Hits.{LeadsHit};
-    ghost use Rattle.drill_text.specs.Standing.{Advances, Refuses, RefusesText, Holds};
+    ghost use Rattle.drill_text.specs.Holding.{Advances, Refuses, RefusesText, Holds};
 
     /// Nothing is read.
     pub(crate) fn new(alloc: Global, keeping: Keeping) -> Progress
@@ -130,7 +130,7 @@ impl Progress {
     /// Adds bytes to the line.
     fn extend(&mut self, run: &[u8]) -> Result<(), Fail>
         requires inside { All (λ b. b ≢ 10) run.now }
-        requires room { self.old.offset + length run.now ≤ 268435456 }
+        requires room { self.old.offset + length run.now ≤ text_limit }
         ensures offset { OnOk result (self.new.offset ≡ self.old.offset + length run.now) }
         ensures ok { OnOk result (Advances self.old self.new run.now) }
         ensures keeping { self.new.kept.keeping ≡ self.old.kept.keeping }
@@ -146,7 +146,7 @@ impl Progress {
 
     /// Ends the line with its LF.
     fn close(&mut self) -> Result<(), Fail>
-        requires room { self.old.offset < 268435456 }
+        requires room { self.old.offset < text_limit }
         ensures offset { OnOk result (self.new.offset ≡ self.old.offset + 1) }
         ensures ok { OnOk result (Advances self.old self.new (10 ∷ [])) }
         ensures keeping { self.new.kept.keeping ≡ self.old.kept.keeping }
@@ -171,8 +171,8 @@ impl Progress {
     fn read_whole(&mut self, line: &[u8]) -> Result<(), Fail>
         requires empty { self.old.line.items ≡ [] }
         requires inside { All (λ b. b ≢ 10) line.now }
-        requires short { length line.now ≤ 1048576 }
-        requires room { self.old.offset + length line.now < 268435456 }
+        requires short { length line.now ≤ line_limit }
+        requires room { self.old.offset + length line.now < text_limit }
         ensures offset { OnOk result (self.new.offset ≡ self.old.offset + (length line.now + 1)) }
         ensures ok { OnOk result (Advances self.old self.new (line.now ++ 10 ∷ [])) }
         ensures keeping { self.new.kept.keeping ≡ self.old.kept.keeping }
@@ -197,7 +197,7 @@ impl Progress {
         requires leads { LeadsHit point len bytes.now }
         requires body { self.old.judge.settings.part ≡ part.Body }
         requires empty { self.old.line.items ≡ [] }
-        requires room { self.old.offset + length bytes.now ≤ 268435456 }
+        requires room { self.old.offset + length bytes.now ≤ text_limit }
         ensures offset { OnOk result (self.new.offset ≡ self.old.offset + (len + 1)) }
         ensures ok { OnOk result (Advances self.old self.new (take (len + 1) bytes.now)) }
         ensures keeping { self.new.kept.keeping ≡ self.old.kept.keeping }
@@ -219,7 +219,7 @@ impl Progress {
     /// Adds bytes to the line and ends it with its LF.
     fn take_line(&mut self, run: &[u8]) -> Result<(), Fail>
         requires inside { All (λ b. b ≢ 10) run.now }
-        requires room { self.old.offset + length run.now < 268435456 }
+        requires room { self.old.offset + length run.now < text_limit }
         ensures offset { OnOk result (self.new.offset ≡ self.old.offset + (length run.now + 1)) }
         ensures ok { OnOk result (Advances self.old self.new (run.now ++ 10 ∷ [])) }
         ensures keeping { self.new.kept.keeping ≡ self.old.kept.keeping }
@@ -235,7 +235,7 @@ impl Progress {
     /// Takes some of the bytes, from the first on, and says how many.
     fn take_some(&mut self, bytes: &[u8]) -> Result<usize, Fail>
         requires some { 0 < length bytes.now }
-        requires room { self.old.offset + length bytes.now ≤ 268435456 }
+        requires room { self.old.offset + length bytes.now ≤ text_limit }
         ensures taken { IfOk result (λ n. (0 < n) × (n ≤ length bytes.now) × (self.new.offset ≡ self.old.offset + n)) }
         ensures ok { IfOk result (λ n. Advances self.old self.new (take n bytes.now)) }
         ensures keeping { self.new.kept.keeping ≡ self.old.kept.keeping }
@@ -258,7 +258,7 @@ impl Progress {
 
     /// Takes all of the bytes.
     fn take_all(&mut self, bytes: &[u8]) -> Result<(), Fail>
-        requires room { self.old.offset + length bytes.now ≤ 268435456 }
+        requires room { self.old.offset + length bytes.now ≤ text_limit }
         ensures offset { OnOk result (self.new.offset ≡ self.old.offset + length bytes.now) }
         ensures ok { OnOk result (Advances self.old self.new bytes.now) }
         ensures keeping { self.new.kept.keeping ≡ self.old.kept.keeping }
@@ -364,7 +364,7 @@ impl DrillReader {
     ghost use Rattle.std.specs.Prelude.{List, Some, Ok, Err, [], ◌++◌};
     ghost use Rattle.drill_text.specs.Reading.{Shows};
     ghost use Rattle.grid_units.specs.Results.{Tells};
-    ghost use Rattle.drill_text.specs.Standing.{StandsAfter, failure};
+    ghost use Rattle.drill_text.specs.Holding.{StandsAfter, failure};
 
     /// A reader that has read nothing.
     pub fn new(alloc: Global) -> DrillReader

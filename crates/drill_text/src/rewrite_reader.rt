@@ -21,7 +21,7 @@ pub struct RewriteReader {
 }
 
 impl RewriteReader {
-    ghost use Rattle.drill_text.specs.Standing.{LinesStandAfter, rewrite_failure};
+    ghost use Rattle.drill_text.specs.Holding.{LinesStandAfter, rewrite_failure};
 
     /// A reader that has read nothing.
     pub fn new(alloc: Global) -> RewriteReader

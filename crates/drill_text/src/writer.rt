@@ -9,11 +9,8 @@ ghost use Rattle.drill_text.specs.Texts.{SpellsText};
 ghost use Rattle.drill_text.specs.Writing.{part_behind, is_over, drill_sayable, written, bytes_in};
 
 use drill_lines::{DrillCommand, Part, is_sayable, push_canonical};
-use grid_units::{Fail, Fault, Reason};
+use grid_units::{Fail, Fault, Reason, TEXT_LIMIT};
 use std::alloc::{AllocError, Global};
-
-/// The longest text.
-pub(crate) const TEXT_LIMIT: usize = 268_435_456;
 
 /// The part of a file behind one more command.
 fn part_behind(part: Part, command: &DrillCommand) -> Part

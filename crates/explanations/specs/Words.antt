@@ -7,6 +7,7 @@ use Rattle.grid_units.specs.declared.fault.Reason.TheVariants as reasons
 use Rattle.grid_units.specs.Reasons.{name_of}
 use Rattle.explanations.specs.declared.topic.Topic.{Topic}
 use Rattle.explanations.specs.declared.topic.Topic.TheVariants as topics
+use Rattle.grid_units.specs.Ascii as ascii
 
 -- the word of a topic (docs/FORMATS.md, Explanations)
 abbrev pub topic_word : Topic → List ℕ
@@ -51,7 +52,7 @@ all_words = map name_of all_reasons ++ map topic_word all_topics
 
 -- a colon
 abbrev pub is_colon : ℕ → Bool
-is_colon b = b == 58
+is_colon b = b == ascii.colon
 
 -- a text lists the words: they stand before the colons of its lines, in order, and no line is above 78 columns (docs/FORMATS.md, Explanations)
 abbrev pub ListsWords : List ℕ → Type 0

@@ -7,8 +7,8 @@ use grid_units::Reason;
 
 const TOO_LONG: &str = "\
 TooLong: an item or a line has more than 1,048,576 bytes, or the file is
-above its limit (268,435,456 bytes, a manifest 1,048,576). See that the right
-file was named, and export it again.
+above its limit (268,435,456 bytes; 1,048,576 of a manifest or of a file of
+waivers). See that the right file was named, and export it again.
 ";
 
 const AFTER_END: &str = "\
@@ -235,7 +235,7 @@ panel, or one board.
 
 const BAD_RULE: &str = "\
 BadRule: the ring is below 0, or the gap is not above 0. Give both in
-millimetres, as in --ring 0.125 --gap 0.25.
+millimetres, as in --ring 0.125 --gap 0.25. A picture takes both or neither.
 ";
 
 const BAD_MANIFEST: &str = "\

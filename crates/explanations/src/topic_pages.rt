@@ -65,7 +65,8 @@ none: no pad reaches the centre of the hole. What may be the cause:
 - a plane in which the hole stands without a pad;
 - an unplated hole in a plated drill file;
 - a drill file with another origin or another format of numbers than the
-  layers, which makes nearly every hole a finding.
+  layers, which makes nearly every hole a finding: see the line scale of
+  ringcheck measure.
 ";
 
 const MACRO: &str = "\

@@ -6,12 +6,13 @@ use Rattle.std.specs.Str.{bytes_eq}
 use Rattle.memchr.specs.Find.{matches, rmatches, first_of}
 use Rattle.file_hints.specs.declared.contents.Kind.{Kind}
 use Rattle.file_hints.specs.declared.contents.Kind.TheVariants.{Gerber, Drill, Empty, Neither}
+use Rattle.grid_units.specs.Ascii as ascii
 
 -- ---- lines
 
 -- a space, a tab or CR
 abbrev pub is_blank : ℕ → Bool
-is_blank b = (b == 32) || ((b == 9) || (b == 13))
+is_blank b = (b == ascii.space) || ((b == ascii.tab) || (b == ascii.carriage_return))
 
 -- the line is this word, with nothing but spaces, tabs and CR behind it
 abbrev pub is_line : List ℕ → List ℕ → Bool
@@ -19,7 +20,7 @@ is_line word line = bytes_eq (take (length word) line) word && list_all is_blank
 
 -- what stands before, between and behind the line feeds
 abbrev pub lines : List ℕ → List (List ℕ)
-lines text = slice_split (λ b. b == 10) text
+lines text = slice_split (λ b. b == ascii.line_feed) text
 
 -- some line is this word
 abbrev pub has_line : List ℕ → List ℕ → Bool
@@ -45,7 +46,7 @@ kind_by_end text = if has_line (codes "M30") text then (if list_all is_holeless 
 
 -- what kind of file a text is
 abbrev pub kind_of : List ℕ → Kind
-kind_of text = if is_gerber text then Gerber else (if has_line (codes "M48") text then Drill else kind_by_end text)
+kind_of text = if is_gerber text then Gerber else if has_line (codes "M48") text then Drill else kind_by_end text
 
 -- ---- the file function
 
@@ -55,7 +56,7 @@ function_mark = codes ".FileFunction,"
 
 -- an asterisk, a percent sign, CR or LF, which end a file function
 abbrev pub ends_function : ℕ → Bool
-ends_function b = (b == 42) || ((b == 37) || ((b == 13) || (b == 10)))
+ends_function b = (b == ascii.asterisk) || ((b == ascii.percent) || ((b == ascii.carriage_return) || (b == ascii.line_feed)))
 
 -- the fields of a text's last file function, if it has one
 abbrev pub function_of : List ℕ → Option (List ℕ)
@@ -63,7 +64,7 @@ function_of text = option_map (λ at. before_first ends_function (drop (at + 14)
 
 -- a comma
 abbrev pub is_comma : ℕ → Bool
-is_comma b = b == 44
+is_comma b = b == ascii.comma
 
 -- the field at a place, counted from 0, empty where there is none
 abbrev pub field : ℕ → List ℕ → List ℕ

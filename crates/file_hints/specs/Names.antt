@@ -4,16 +4,17 @@ use Rattle.std.specs.List.{list_any, slice_split, filter, find, before_first, af
 use Rattle.std.specs.Char.{to_ascii_lowercase}
 use Rattle.std.specs.Str.{bytes_eq}
 use Rattle.grid_units.specs.Numbers.{is_digit, is_digits, value}
+use Rattle.grid_units.specs.Ascii as ascii
 
 -- ---- words
 
 -- the name behind its last slash
 abbrev pub short_name : List ℕ → List ℕ
-short_name name = after_last (λ b. b == 47) name
+short_name name = after_last (λ b. b == ascii.slash) name
 
 -- a small letter or a digit
 abbrev pub is_word_byte : ℕ → Bool
-is_word_byte b = is_digit b || (nat_le 97 b && nat_le b 122)
+is_word_byte b = is_digit b || (nat_le ascii.lower_a b && nat_le b ascii.lower_z)
 
 -- the runs of small letters and digits
 abbrev pub runs : List ℕ → List (List ℕ)
@@ -29,7 +30,7 @@ words_of name = runs (lower_name name)
 
 -- a name behind whose last slash a point stands
 abbrev pub has_point : List ℕ → Bool
-has_point name = list_any (λ b. b == 46) (short_name name)
+has_point name = list_any (λ b. b == ascii.point) (short_name name)
 
 -- the last of these words, empty where there is none
 abbrev pub last_of : List (List ℕ) → List ℕ

@@ -4,7 +4,7 @@ use Rattle.layer_image.specs.Layers.{LayerImage, ReadsLayer}
 use Rattle.layer_image.specs.declared.flash.Flash.{Flash}
 use Rattle.package_check.specs.Boards.{IsBoard, Survey}
 use Rattle.package_check.specs.Package.{IsFirstRefused, Source, is_copper}
-use Rattle.package_check.specs.Standing.{HasRefusedNone, PackageStandsAfter, copper_files}
+use Rattle.package_check.specs.Holding.{HasRefusedNone, PackageStandsAfter, copper_files}
 use Rattle.package_check.specs.declared.PackageFault.{PackageFault}
 use Rattle.package_check.specs.declared.PackageFault.TheVariants as stop
 use Rattle.flashed_boards.specs.declared.reader.FlashedReader.{FlashedReader}

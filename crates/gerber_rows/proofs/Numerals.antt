@@ -8,6 +8,7 @@ use Rattle.std.proofs.lemmas.List.Sums.{fold-append}
 use Rattle.std.proofs.lemmas.Bool.{eqb-true, le-ltb}
 use Rattle.grid_units.specs.Numbers.{is_digit, value, unsigned, is_digits, is_negative}
 use Rattle.gerber_rows.specs.Numbers.{significant, int_of}
+use Rattle.grid_units.proofs.Digits.{digit_small}
 
 front_zero : (t : Bool) (b : ℕ) (bs : List ℕ) → eqb b 48 ≡ t → value (drop (prefix_len (λ c. eqb c 48) bs) bs) ≡ value bs → value (drop (cond t (1 + prefix_len (λ c. eqb c 48) bs) 0) (b ∷ bs)) ≡ value (b ∷ bs)
 front_zero true b bs e h =
@@ -44,9 +45,6 @@ bound_more n i d lt le =
     let k : i + 1 ≡ suc i = omega arith in
     let p : 10 ^ (i + 1) ≡ 10 ^ i * 10 = ap (λ j. 10 ^ j) k ∙ pow-suc 10 i in
     omega (arith, p, lt, le)
-
-pub digit_small : (b : ℕ) → is_digit b ≡ true → b - 48 ≤ 9
-digit_small b h = grind arith
 
 -- ---- a run of at most 12 digits
 

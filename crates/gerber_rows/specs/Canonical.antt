@@ -18,6 +18,7 @@ use Rattle.gerber_rows.specs.declared.command.Standard.{Standard}
 use Rattle.gerber_rows.specs.declared.command.Standard.TheVariants.{Circle, Rectangle, Obround, Polygon}
 use Rattle.gerber_rows.specs.declared.command.Template.{Template}
 use Rattle.gerber_rows.specs.declared.command.Template.TheVariants as templates
+use Rattle.grid_units.specs.Ascii as ascii
 
 -- a whole number, with `-` below zero (docs/FORMATS.md, How numbers are written)
 abbrev pub integer : ℤ → List ℕ
@@ -70,13 +71,13 @@ standard_name Polygon = codes "P,"
 
 -- the parameters, joined by `X` (docs/FORMATS.md, The canonical Gerber text)
 abbrev pub sizes_text : List ℤ → List ℕ
-sizes_text sizes = join_with_byte 88 (map canonical_dec sizes)
+sizes_text sizes = join_with_byte ascii.upper_x (map canonical_dec sizes)
 
 -- a template and its parameters (docs/FORMATS.md, The canonical Gerber text)
 abbrev pub template_text : Template → List ℕ
 template_text (templates.Standard aperture sizes) = standard_name aperture ++ sizes_text sizes
 template_text (templates.Named name None) = name
-template_text (templates.Named name (Some text)) = name ++ 44 ∷ text
+template_text (templates.Named name (Some text)) = name ++ ascii.comma ∷ text
 
 -- what an attribute's item begins with (docs/FORMATS.md, The canonical Gerber text)
 abbrev pub attribute_prefix : AttributeKind → List ℕ
@@ -86,7 +87,7 @@ attribute_prefix kinds.Object = codes "%TO"
 
 -- the pieces of a macro, each after a line end (docs/FORMATS.md, The canonical Gerber text)
 abbrev pub pieces_text : List (List ℕ) → List ℕ
-pieces_text pieces = flat_map (λ piece. 10 ∷ (piece ++ codes "*")) pieces
+pieces_text pieces = flat_map (λ piece. ascii.line_feed ∷ (piece ++ codes "*")) pieces
 
 -- The canonical item of a command, without the line end after it (docs/FORMATS.md, The canonical Gerber text).
 unfoldable pub canonical : Command → List ℕ
@@ -100,7 +101,7 @@ canonical (FormatIs format) = codes "%FSLAX" ++ (digits_text format.whole format
 canonical (Define number template) = codes "%ADD" ++ (decimal number ++ (template_text template ++ codes "*%"))
 canonical (Macro name pieces) = codes "%AM" ++ (name ++ (codes "*" ++ (pieces_text pieces ++ codes "%")))
 canonical (Select number) = codes "D" ++ (decimal number ++ codes "*")
-canonical (Operate action x y i j) = coordinate_text 88 x ++ (coordinate_text 89 y ++ (coordinate_text 73 i ++ (coordinate_text 74 j ++ action_code action)))
+canonical (Operate action x y i j) = coordinate_text ascii.upper_x x ++ (coordinate_text ascii.upper_y y ++ (coordinate_text ascii.upper_i i ++ (coordinate_text ascii.upper_j j ++ action_code action)))
 canonical Dark = codes "%LPD*%"
 canonical (Mirror x y) = mirror_item x y
 canonical (Turn degrees) = codes "%LR" ++ (canonical_dec degrees ++ codes "*%")

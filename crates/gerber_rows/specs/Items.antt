@@ -2,24 +2,25 @@
 use Rattle.std.specs.Prelude.{◌≡◌, ◌≢◌, ℕ, Bool, ◌||◌, ◌==◌, List, [], ◌∷◌, ◌++◌, if◌then◌else◌, codes}
 use Rattle.std.specs.List.{AllByRecursion}
 use Rattle.std.specs.Str.{bytes_eq}
+use Rattle.grid_units.specs.Ascii as ascii
 
 -- CR or LF, which are dropped wherever they stand (docs/FORMATS.md, Cutting)
 abbrev pub is_line_break : ℕ → Bool
-is_line_break b = (b == 10) || (b == 13)
+is_line_break b = (b == ascii.line_feed) || (b == ascii.carriage_return)
 
 -- the byte that ends an item which begins so: `%` an extended item, `*` a word (Gerber format, Commands)
 abbrev pub ender : List ℕ → ℕ
-ender [] = 42
-ender (b ∷ bs) = if b == 37 then 37 else 42
+ender [] = ascii.asterisk
+ender (b ∷ bs) = if b == ascii.percent then ascii.percent else ascii.asterisk
 
 -- the bytes after the `%` that begins an extended item; all bytes of a word (Gerber format, Commands)
-abbrev pub behind_mark : List ℕ → List ℕ
-behind_mark [] = []
-behind_mark (b ∷ bs) = if b == 37 then bs else b ∷ bs
+abbrev pub behind_percent : List ℕ → List ℕ
+behind_percent [] = []
+behind_percent (b ∷ bs) = if b == ascii.percent then bs else b ∷ bs
 
 -- the bytes have not come to the end of their item (docs/FORMATS.md, Cutting)
 abbrev pub IsUnfinished : List ℕ → Type 0
-IsUnfinished bytes = AllByRecursion (λ b. b ≢ ender bytes) (behind_mark bytes)
+IsUnfinished bytes = AllByRecursion (λ b. b ≢ ender bytes) (behind_percent bytes)
 
 -- an item: a word and its `*`, or an extended item between its two `%` (docs/FORMATS.md, Cutting)
 pub record IsItem (bytes : List ℕ) : Type 0 where

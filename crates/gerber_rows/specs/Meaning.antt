@@ -4,6 +4,7 @@ use Rattle.grid_units.specs.declared.fault.Reason.TheVariants.{BadWord}
 use Rattle.gerber_rows.specs.Rows.{Meaning}
 use Rattle.gerber_rows.specs.Pieces.{extended}
 use Rattle.gerber_rows.specs.Words.{word}
+use Rattle.grid_units.specs.Ascii as ascii
 
 -- all bytes but the last, which ends the item (docs/FORMATS.md, Cutting)
 abbrev pub front_of : List ℕ → List ℕ
@@ -12,4 +13,4 @@ front_of bytes = take (length bytes - 1) bytes
 -- what an item spells, where the last operation before it was a plot or not (docs/FORMATS.md, How a row fits and is read)
 unfoldable pub meaning : Bool → List ℕ → Meaning
 meaning plotting [] = Err BadWord
-meaning plotting (b ∷ bs) = if b == 37 then extended (front_of bs) else word plotting (front_of (b ∷ bs))
+meaning plotting (b ∷ bs) = if b == ascii.percent then extended (front_of bs) else word plotting (front_of (b ∷ bs))

@@ -4,10 +4,11 @@ use Rattle.std.specs.List.{prefix_len}
 use Rattle.grid_units.specs.declared.fault.Reason.{Reason}
 use Rattle.grid_units.specs.declared.fault.Reason.TheVariants.{BadNumber, TooManyDigits}
 use Rattle.grid_units.specs.Numbers.{is_digits, value, unsigned, signed}
+use Rattle.grid_units.specs.Ascii as ascii
 
 -- the digits from the first that is not `0` (docs/FORMATS.md, The three kinds of number)
 abbrev pub significant : List ℕ → List ℕ
-significant digits = drop (prefix_len (λ b. b == 48) digits) digits
+significant digits = drop (prefix_len (λ b. b == ascii.digit_zero) digits) digits
 
 -- an optional sign and digits, at most 12 from the first that is not `0` (docs/FORMATS.md, The three kinds of number)
 unfoldable pub int_of : List ℕ → Result ℤ Reason

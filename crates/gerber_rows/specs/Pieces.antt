@@ -15,8 +15,10 @@ use Rattle.gerber_rows.specs.declared.command.Standard.{Standard}
 use Rattle.gerber_rows.specs.declared.command.Standard.TheVariants.{Circle, Rectangle, Obround, Polygon}
 use Rattle.gerber_rows.specs.declared.command.Template.TheVariants as templates
 use Rattle.gerber_rows.specs.Numbers.{nat_of}
-use Rattle.gerber_rows.specs.Rows.{Meaning, Row, first_fit, behind, field}
+use Rattle.grid_units.specs.Rows.{behind, just}
+use Rattle.gerber_rows.specs.Rows.{Meaning, Row, first_fit, field}
 use Rattle.gerber_rows.specs.Words.{is, is_negative_image}
+use Rattle.grid_units.specs.Ascii as ascii
 
 -- ---- pieces
 
@@ -41,18 +43,18 @@ before_last text = take (length text - 1) text
 
 -- coordinates without trailing zeros, and incremental ones, which are refused (Gerber format, Format specification FS)
 unfoldable pub system_row : List ℕ → Row
-system_row text = if is_some (behind (codes "FST") text) then Some (Err TrailingZeros) else (if is_some (behind (codes "FSLI") text) then Some (Err Incremental) else None)
+system_row text = if is_some (behind (codes "FST") text) then Some (Err TrailingZeros) else if is_some (behind (codes "FSLI") text) then Some (Err Incremental) else None
 
 -- ---- `FSLAX` i d `Y` i d
 
 -- the format of two digits, for both axes the same (Gerber format, Format specification FS)
 abbrev pub format : ℕ → ℕ → ℕ → ℕ → Meaning
 format i d j e =
-    if (((i == j) && (d == e)) && (nat_le i 54 && nat_le d 54)) && nat_lt 96 (i + d) then Ok (FormatIs (record { whole = i - 48; decimals = d - 48 }) ∷ []) else Err BadNumber
+    if (((i == j) && (d == e)) && (nat_le i ascii.digit_six && nat_le d ascii.digit_six)) && nat_lt (ascii.digit_zero + ascii.digit_zero) (i + d) then Ok (FormatIs (record { whole = i - ascii.digit_zero; decimals = d - ascii.digit_zero }) ∷ []) else Err BadNumber
 
 -- the digits of the two axes, with `Y` between them (Gerber format, Format specification FS)
 abbrev pub format_fields : List ℕ → Row
-format_fields (i ∷ d ∷ y ∷ j ∷ e ∷ []) = if (y == 89) && ((is_digit i && is_digit d) && (is_digit j && is_digit e)) then Some (format i d j e) else None
+format_fields (i ∷ d ∷ y ∷ j ∷ e ∷ []) = if (y == ascii.upper_y) && ((is_digit i && is_digit d) && (is_digit j && is_digit e)) then Some (format i d j e) else None
 format_fields _ = None
 
 -- the digits of coordinates (Gerber format, Format specification FS)
@@ -63,17 +65,17 @@ format_row text = format_fields (unwrap_or (behind (codes "FSLAX") text) [])
 
 -- the unit (Gerber format, Unit MO)
 unfoldable pub unit_piece_row : List ℕ → Row
-unit_piece_row text = if is text (codes "MOIN") then Some (Ok (UnitIs Inch ∷ [])) else (if is text (codes "MOMM") then Some (Ok (UnitIs Millimetre ∷ [])) else None)
+unit_piece_row text = just ((codes "MOIN", Ok (UnitIs Inch ∷ [])) ∷ (codes "MOMM", Ok (UnitIs Millimetre ∷ [])) ∷ []) text
 
 -- ---- `ADD` Nat template [`,` parameters]
 
 -- a letter, `_`, `.` or `$` (Gerber format, Names)
 abbrev pub begins_name : ℕ → Bool
-begins_name b = (nat_le 65 b && nat_le b 90) || ((nat_le 97 b && nat_le b 122) || ((b == 95) || ((b == 46) || (b == 36))))
+begins_name b = (nat_le ascii.upper_a b && nat_le b ascii.upper_z) || ((nat_le ascii.lower_a b && nat_le b ascii.lower_z) || ((b == ascii.underscore) || ((b == ascii.point) || (b == ascii.dollar))))
 
 -- these, a digit or `-` (docs/FORMATS.md, Names, first fields, negative images)
 abbrev pub goes_on_name : ℕ → Bool
-goes_on_name b = begins_name b || (is_digit b || (b == 45))
+goes_on_name b = begins_name b || (is_digit b || (b == ascii.minus))
 
 -- a name of 1 to 127 bytes (Gerber format, Names)
 unfoldable pub is_name : List ℕ → Bool
@@ -84,9 +86,9 @@ is_name (b ∷ bs) = begins_name b && (list_all goes_on_name bs && nat_lt (lengt
 abbrev pub standard : List ℕ → Option Standard
 standard name =
     if is name (codes "C") then Some Circle
-    else (if is name (codes "R") then Some Rectangle
-    else (if is name (codes "O") then Some Obround
-    else (if is name (codes "P") then Some Polygon else None)))
+    else if is name (codes "R") then Some Rectangle
+    else if is name (codes "O") then Some Obround
+    else if is name (codes "P") then Some Polygon else None
 
 -- the least number of its parameters (Gerber format, Standard aperture templates)
 abbrev pub least_sizes : Standard → ℕ
@@ -112,7 +114,7 @@ are_sizes aperture runs = list_all (list_all is_number) runs && (nat_le (least_s
 -- the parameters of a standard aperture, divided by `X` (docs/FORMATS.md, Apertures)
 unfoldable pub sizes_of : Standard → Option (List ℕ) → Result (List ℤ) Reason
 sizes_of aperture None = Err BadWord
-sizes_of aperture (Some text) = if are_sizes aperture (divided 88 text) then all_of (map dec_of (divided 88 text)) else Err BadWord
+sizes_of aperture (Some text) = if are_sizes aperture (divided ascii.upper_x text) then all_of (map dec_of (divided ascii.upper_x text)) else Err BadWord
 
 -- the number of an aperture, at least 10 (Gerber format, Aperture definition AD)
 unfoldable pub aperture_number : List ℕ → Result ℕ Reason
@@ -133,11 +135,11 @@ define_as digits name (Some aperture) parameters = define_standard digits apertu
 
 -- what stands before the first comma (docs/FORMATS.md, Names, first fields, negative images)
 abbrev pub before_comma : List ℕ → List ℕ
-before_comma text = take (prefix_len (λ b. not (b == 44)) text) text
+before_comma text = take (prefix_len (λ b. not (b == ascii.comma)) text) text
 
 -- what stands after the first comma, where there is one (docs/FORMATS.md, Names, first fields, negative images)
 abbrev pub after_comma : List ℕ → Option (List ℕ)
-after_comma text = if nat_lt (prefix_len (λ b. not (b == 44)) text) (length text) then Some (drop (prefix_len (λ b. not (b == 44)) text + 1) text) else None
+after_comma text = if nat_lt (prefix_len (λ b. not (b == ascii.comma)) text) (length text) then Some (drop (prefix_len (λ b. not (b == ascii.comma)) text + 1) text) else None
 
 -- a number's digits, and a template with its parameters (Gerber format, Aperture definition AD)
 unfoldable pub define : List ℕ → List ℕ → Meaning
@@ -160,7 +162,7 @@ macro_of (name ∷ pieces) = if is_name name && not (is_some (standard name)) th
 
 -- the definition of a macro (Gerber format, Aperture macro AM)
 unfoldable pub macro_text : List ℕ → Meaning
-macro_text text = macro_of (divided 42 text)
+macro_text text = macro_of (divided ascii.asterisk text)
 
 -- the definition of a macro (Gerber format, Aperture macro AM)
 abbrev pub macro_row : List ℕ → Row
@@ -170,15 +172,11 @@ macro_row text = option_map macro_text (behind (codes "AM") text)
 
 -- the polarity: clear polarity is refused (Gerber format, Load polarity LP)
 unfoldable pub polarity_row : List ℕ → Row
-polarity_row text = if is text (codes "LPD") then Some (Ok (Dark ∷ [])) else (if is text (codes "LPC") then Some (Err ClearPolarity) else None)
+polarity_row text = just ((codes "LPD", Ok (Dark ∷ [])) ∷ (codes "LPC", Err ClearPolarity) ∷ []) text
 
 -- the axes of mirroring (Gerber format, Load mirroring LM)
 unfoldable pub mirror_row : List ℕ → Row
-mirror_row text =
-    if is text (codes "LMN") then Some (Ok (Mirror false false ∷ []))
-    else (if is text (codes "LMX") then Some (Ok (Mirror true false ∷ []))
-    else (if is text (codes "LMY") then Some (Ok (Mirror false true ∷ []))
-    else (if is text (codes "LMXY") then Some (Ok (Mirror true true ∷ [])) else None)))
+mirror_row text = just ((codes "LMN", Ok (Mirror false false ∷ [])) ∷ (codes "LMX", Ok (Mirror true false ∷ [])) ∷ (codes "LMY", Ok (Mirror false true ∷ [])) ∷ (codes "LMXY", Ok (Mirror true true ∷ [])) ∷ []) text
 
 -- ---- `LR` Dec; `LS` Dec
 
@@ -216,10 +214,10 @@ repeat_fields _ _ _ _ _ = None
 -- the beginning of a block (Gerber format, Step and repeat SR)
 unfoldable pub repeat_start : List ℕ → Row
 repeat_start text =
-    let x = field is_digit 88 text in
-    let y = field is_digit 89 x.1 in
-    let i = field is_number 73 y.1 in
-    let j = field is_number 74 i.1 in
+    let x = field is_digit ascii.upper_x text in
+    let y = field is_digit ascii.upper_y x.1 in
+    let i = field is_number ascii.upper_i y.1 in
+    let j = field is_number ascii.upper_j i.1 in
     repeat_fields x.0 y.0 i.0 j.0 j.1
 
 -- a step and repeat block, or its end (Gerber format, Step and repeat SR)
@@ -275,8 +273,8 @@ turns_nothing text = is_some (behind (codes "IR") text) && may_be (pos 0) (behin
 -- [`A` Dec] [`B` Dec], each of this value (Gerber format, Deprecated commands)
 unfoldable pub axes_are : ℤ → List ℕ → Bool
 axes_are v text =
-    let a = field is_number 65 text in
-    let b = field is_number 66 a.1 in
+    let a = field is_number ascii.upper_a text in
+    let b = field is_number ascii.upper_b a.1 in
     (length b.1 == 0) && (may_be v a.0 && may_be v b.0)
 
 -- this parameter, with this value on both axes where they stand (Gerber format, Deprecated commands)
@@ -299,7 +297,7 @@ axes_row text = if leaves (codes "OF") (pos 0) text || (leaves (codes "MI") (pos
 
 -- `IPNEG` (Gerber format, Deprecated image polarity IP)
 unfoldable pub negative_row : List ℕ → Row
-negative_row text = if is text (codes "IPNEG") then Some (Err NegativeImage) else None
+negative_row text = just ((codes "IPNEG", Err NegativeImage) ∷ []) text
 
 -- the same parameters with an effect, which are refused (Gerber format, Deprecated commands)
 unfoldable pub old_piece_row : List ℕ → Row
@@ -353,7 +351,7 @@ pieces text =
 
 -- there is more than one piece, and no macro is defined (docs/FORMATS.md, Cutting)
 abbrev pub is_several : List ℕ → Bool
-is_several text = list_any (λ b. b == 42) text && not (is_some (behind (codes "AM") text))
+is_several text = list_any (λ b. b == ascii.asterisk) text && not (is_some (behind (codes "AM") text))
 
 -- Pieces without their last `*` (docs/FORMATS.md, Extended items).
 unfoldable pub piece : List ℕ → Meaning

@@ -1,9 +1,9 @@
 -- Rows of the format's table: how one fits, and what stands in its fields.
-use Rattle.std.specs.Prelude.{ℕ, Bool, ◌==◌, List, [], ◌∷◌, length, take, drop, if◌then◌else◌, Option, None, Some, Result, Err}
+use Rattle.std.specs.Prelude.{ℕ, Bool, ◌==◌, List, [], ◌∷◌, drop, if◌then◌else◌, Option, None, Some, Result}
 use Rattle.std.specs.List.{prefix_len, take_while}
-use Rattle.std.specs.Str.{bytes_eq}
 use Rattle.grid_units.specs.declared.fault.Reason.{Reason}
 use Rattle.grid_units.specs.declared.fault.Reason.TheVariants.{BadWord}
+use Rattle.grid_units.specs.Rows.{RowOf, first_fit_or}
 use Rattle.gerber_rows.specs.declared.command.Command.{Command}
 use Rattle.gerber_rows.specs.declared.command.Command.TheVariants.{Mode}
 use Rattle.gerber_rows.specs.declared.command.Interpolation.{Interpolation}
@@ -14,17 +14,11 @@ Meaning = Result (List Command) Reason
 
 -- a row of the table says what a text spells that fits it, and nothing of any other (docs/FORMATS.md, How a row fits and is read)
 abbrev pub Row : Type 0
-Row = Option Meaning
+Row = RowOf (List Command)
 
 -- the first row that fits says what the text spells; where none fits it is refused (docs/FORMATS.md, How a row fits and is read)
 abbrev pub first_fit : List Row → Meaning
-first_fit [] = Err BadWord
-first_fit (None ∷ rows) = first_fit rows
-first_fit (Some meaning ∷ rows) = meaning
-
--- what stands after this prefix, where a text begins so (docs/FORMATS.md, How a row fits and is read)
-abbrev pub behind : List ℕ → List ℕ → Option (List ℕ)
-behind prefix text = if bytes_eq (take (length prefix) text) prefix then Some (drop (length prefix) text) else None
+first_fit rows = first_fit_or BadWord rows
 
 -- the run after this letter, where the letter stands, and the bytes after it (docs/FORMATS.md, Runs)
 abbrev pub field : (ℕ → Bool) → ℕ → List ℕ → Option (List ℕ) × List ℕ

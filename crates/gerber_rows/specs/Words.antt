@@ -15,7 +15,9 @@ use Rattle.gerber_rows.specs.declared.command.Action.{Action}
 use Rattle.gerber_rows.specs.declared.command.Action.TheVariants.{Plot, Move, Flash}
 use Rattle.grid_units.specs.Numbers.{is_digit, is_number}
 use Rattle.gerber_rows.specs.Numbers.{int_of, nat_of}
-use Rattle.gerber_rows.specs.Rows.{Meaning, Row, first_fit, behind, field, modes_of}
+use Rattle.grid_units.specs.Rows.{behind, just}
+use Rattle.gerber_rows.specs.Rows.{Meaning, Row, first_fit, field, modes_of}
+use Rattle.grid_units.specs.Ascii as ascii
 
 -- the bytes are just these (docs/FORMATS.md, How a row fits and is read)
 abbrev pub is : List ℕ → List ℕ → Bool
@@ -31,7 +33,7 @@ nothing_row text = if (length text == 0) || is text (codes "G90") then Some (Ok 
 
 -- what stands before the first comma (Gerber format, Attributes)
 abbrev pub first_field : List ℕ → List ℕ
-first_field text = take_while (λ b. not (b == 44)) text
+first_field text = take_while (λ b. not (b == ascii.comma)) text
 
 -- a file attribute that makes the image negative (Gerber format, .FilePolarity)
 abbrev pub is_negative_image : List ℕ → Bool
@@ -39,7 +41,7 @@ is_negative_image attribute = unwrap_or (option_map (λ value. is (first_field v
 
 -- the text from its first byte on that is no space (docs/FORMATS.md, How a row fits and is read)
 abbrev pub behind_spaces : List ℕ → List ℕ
-behind_spaces text = drop (prefix_len (λ b. b == 32) text) text
+behind_spaces text = drop (prefix_len (λ b. b == ascii.space) text) text
 
 -- a comment that holds such a file attribute (Gerber format, Attributes in comments)
 abbrev pub comments_negative : List ℕ → Bool
@@ -77,25 +79,25 @@ mode_row text = if length (mode_front text).1 == 0 then option_map (λ mode. Ok 
 
 -- how an arc's centre is found (Gerber format, G75 and G74)
 unfoldable pub quadrant_row : List ℕ → Row
-quadrant_row text = if is text (codes "G74") then Some (Ok (Quadrant Single ∷ [])) else (if is text (codes "G75") then Some (Ok (Quadrant Multi ∷ [])) else None)
+quadrant_row text = just ((codes "G74", Ok (Quadrant Single ∷ [])) ∷ (codes "G75", Ok (Quadrant Multi ∷ [])) ∷ []) text
 
 -- the ends of a region (Gerber format, Region statement G36/G37)
 unfoldable pub region_row : List ℕ → Row
-region_row text = if is text (codes "G36") then Some (Ok (RegionStart ∷ [])) else (if is text (codes "G37") then Some (Ok (RegionEnd ∷ [])) else None)
+region_row text = just ((codes "G36", Ok (RegionStart ∷ [])) ∷ (codes "G37", Ok (RegionEnd ∷ [])) ∷ []) text
 
 -- the unit (Gerber format, Deprecated G70 and G71)
 unfoldable pub unit_row : List ℕ → Row
-unit_row text = if is text (codes "G70") then Some (Ok (UnitIs Inch ∷ [])) else (if is text (codes "G71") then Some (Ok (UnitIs Millimetre ∷ [])) else None)
+unit_row text = just ((codes "G70", Ok (UnitIs Inch ∷ [])) ∷ (codes "G71", Ok (UnitIs Millimetre ∷ [])) ∷ []) text
 
 -- incremental coordinates, which are refused (Gerber format, Deprecated G91)
 unfoldable pub incremental_row : List ℕ → Row
-incremental_row text = if is text (codes "G91") then Some (Err Incremental) else None
+incremental_row text = just ((codes "G91", Err Incremental) ∷ []) text
 
 -- ---- `D` Nat; `G54D` Nat
 
 -- the operation of a D code (Gerber format, Operations D01, D02, D03)
 abbrev pub action : ℕ → Result Action Reason
-action n = if n == 1 then Ok Plot else (if n == 2 then Ok Move else (if n == 3 then Ok Flash else Err BadWord))
+action n = if n == 1 then Ok Plot else if n == 2 then Ok Move else if n == 3 then Ok Flash else Err BadWord
 
 -- the run behind this prefix, where the text is the prefix and a digit run (docs/FORMATS.md, How a row fits and is read)
 abbrev pub numbered : List ℕ → List ℕ → Option (List ℕ)
@@ -147,11 +149,11 @@ pub record Fields : Type 0 where
 -- the fields in their order, and what stands after them (docs/FORMATS.md, How a row fits and is read)
 unfoldable pub fields : List ℕ → Fields
 fields text =
-    let x = field is_number 88 text in
-    let y = field is_number 89 x.1 in
-    let i = field is_number 73 y.1 in
-    let j = field is_number 74 i.1 in
-    let d = field is_digit 68 j.1 in
+    let x = field is_number ascii.upper_x text in
+    let y = field is_number ascii.upper_y x.1 in
+    let i = field is_number ascii.upper_i y.1 in
+    let j = field is_number ascii.upper_j i.1 in
+    let d = field is_digit ascii.upper_d j.1 in
     record { x = x.0; y = y.0; i = i.0; j = j.0; d = d.0; rest = d.1 }
 
 -- a D code of 1, 2 or 3 (docs/FORMATS.md, How a row fits and is read)
@@ -211,4 +213,4 @@ words plotting text = nothing_row text ∷ comment_row text ∷ later_words plot
 
 -- A word without its `*`, where the last operation before it was a plot or not (docs/FORMATS.md, Words).
 unfoldable pub word : Bool → List ℕ → Meaning
-word plotting text = if list_any (λ b. b == 37) text then Err BadWord else first_fit (words plotting text)
+word plotting text = if list_any (λ b. b == ascii.percent) text then Err BadWord else first_fit (words plotting text)

@@ -10,8 +10,7 @@ ghost use Rattle.gerber_rows.specs.Pieces.{divided, divided_if, begins_name, goe
 
 use crate::command::{Boxed, Command, Pieces, Sizes, Spelled, Standard, Template};
 use crate::number::read_nat;
-use crate::word::plain_len;
-use grid_units::numbers::{digits_len, is_digit, is_number};
+use grid_units::numbers::{digits_len, is_digit, is_number, run_before};
 use grid_units::{Dec, Reason, Stop, Text, both};
 use std::alloc::{AllocError, Global};
 
@@ -244,7 +243,7 @@ fn define_as(
 fn after_comma(text: &[u8]) -> Option<&[u8]>
     ensures { option_copied result ≡ after_comma text.now }
 {
-    let at = plain_len(text);
+    let at = run_before(b',', text);
     if at < text.len() {
         Some(&text[at + 1..])
     } else {
@@ -256,7 +255,7 @@ fn after_comma(text: &[u8]) -> Option<&[u8]>
 fn before_comma(text: &[u8]) -> &[u8]
     ensures { result.now ≡ before_comma text.now }
 {
-    text.split_at(plain_len(text)).0
+    text.split_at(run_before(b',', text)).0
 }
 
 /// A number's digits, and a template with its parameters.

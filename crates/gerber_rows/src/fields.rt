@@ -3,7 +3,8 @@
 ghost use Rattle.std.specs.Prelude.{◌≡◌, ◌==◌, ◌≤◌, length};
 ghost use Rattle.std.specs.List.{prefix_len};
 ghost use Rattle.std.specs.Option.{option_copied};
-ghost use Rattle.gerber_rows.specs.Rows.{behind, field};
+ghost use Rattle.grid_units.specs.Rows.{behind};
+ghost use Rattle.gerber_rows.specs.Rows.{field};
 ghost use Rattle.gerber_rows.specs.Words.{first_field, behind_spaces};
 ghost use Rattle.grid_units.specs.Numbers.{is_digit, is_number};
 

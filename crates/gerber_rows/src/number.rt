@@ -7,7 +7,7 @@ ghost use Rattle.gerber_rows.specs.Coordinates.{left_out};
 ghost use Rattle.gerber_rows.specs.Numbers.{int_of, nat_of};
 
 use grid_units::Reason;
-use grid_units::numbers::{behind_sign, capped_value, is_digit, is_digits, is_negative};
+use grid_units::numbers::{behind_sign, capped_value, is_digit, is_digits, is_negative, run_of};
 
 /// The number that at most 12 digits spell.
 fn value_of(digits: &[u8]) -> u64
@@ -91,24 +91,6 @@ pub(crate) fn first_digits(bytes: &[u8]) -> (u64, usize)
     }
 }
 
-fn is_zero(byte: u8) -> bool
-    ensures { result ≡ (byte == 48) }
-{
-    byte == b'0'
-}
-
-fn zeros_len(bytes: &[u8]) -> usize
-    ensures within { result ≤ length bytes.now }
-    ensures len { result ≡ prefix_len (λ b. b == 48) bytes.now }
-{
-    for (i, byte) in bytes.iter().enumerate() {
-        if !is_zero(*byte) {
-            return i;
-        }
-    }
-    bytes.len()
-}
-
 /// An optional sign and digits.
 #[tactic(auto, unfolding(crate::specs::Numbers::int_of))]
 pub(crate) fn read_int(run: &[u8]) -> Result<i64, Reason>
@@ -123,7 +105,7 @@ pub(crate) fn read_int(run: &[u8]) -> Result<i64, Reason>
     if !is_digits(digits) {
         return Err(Reason::BadNumber);
     }
-    let significant = &digits[zeros_len(digits)..];
+    let significant = &digits[run_of(b'0', digits)..];
     if significant.len() > 12 {
         return Err(Reason::TooManyDigits);
     }

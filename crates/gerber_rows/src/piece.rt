@@ -7,7 +7,8 @@ ghost use Rattle.grid_units.specs.Results.{both, Gives};
 ghost use Rattle.grid_units.specs.Numbers.{is_number, is_digit, dec_of};
 ghost use Rattle.gerber_rows.specs.Numbers.{nat_of};
 ghost use Rattle.gerber_rows.specs.Words.{is};
-ghost use Rattle.gerber_rows.specs.Rows.{first_fit, behind};
+ghost use Rattle.grid_units.specs.Rows.{behind};
+ghost use Rattle.gerber_rows.specs.Rows.{first_fit};
 ghost use Rattle.gerber_rows.specs.Pieces.{system_row, format, format_fields, format_row, unit_piece_row, polarity_row, mirror_row, run_behind, turn, scale, transform_row, block_fields, repeat, repeat_start, repeat_row, file_attribute, attribute, removal, may_be, turns_nothing, axes_are, leaves, plain_row, axes_row, negative_row, old_piece_row, block_row, older_pieces, pieces_from_attributes, pieces_from_polarity, is_several, last_byte, before_last, pieces, piece, extended};
 
 use crate::aperture::{read_define, read_macro};

@@ -1,4 +1,4 @@
-//! Operations that are spelled as most are, read in one pass over their bytes.
+//! The fast path for operations as `G01X10Y20D01*`, as most are written: one pass over their bytes.
 
 ghost use Rattle.std.specs.Prelude.{◌≡◌, ◌≢◌, ◌++◌, [], ◌∷◌, ◌||◌, not, List, ℕ, Some, is_some, IfSome};
 ghost use Rattle.gerber_rows.specs.declared.command.Command.TheVariants.{Operate};
@@ -98,8 +98,8 @@ fn may_stand(action: Action, i: Option<i64>, j: Option<i64>) -> bool
     is_plot(action) || !(i.is_some() || j.is_some())
 }
 
-/// The operation with which these bytes begin, where it is spelled as most are: `G01`, `G02`, `G03` or at least one of `X` and
-/// `Y`, each coordinate with at most 12 digits, `D01`, `D02` or `D03`, and `*`. Where it is spelled otherwise,
+/// The operation with which these bytes begin, where it is written so: `G01`, `G02`, `G03` or at least one of `X` and
+/// `Y`, each coordinate with at most 12 digits, `D01`, `D02` or `D03`, and `*`. Where it is written otherwise,
 /// [`read_item`](crate::read_item) reads it.
 pub fn plain_operation(bytes: &[u8]) -> Option<PlainOperation>
     ensures { IfSome result (λ found. BeginsWith bytes.now found.len (modes_of found.mode ++ Operate found.action found.x found.y found.i found.j ∷ [])) }

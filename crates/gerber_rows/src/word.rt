@@ -12,7 +12,7 @@ ghost use Rattle.gerber_rows.specs.Inner.Runs.{fields_of};
 use crate::command::{Action, Command, Coordinate, Interpolation, QuadrantMode, Spelled};
 use crate::fields::{behind, digits_field, number_field};
 use crate::number::{read_int, read_nat};
-use grid_units::numbers::are_all_digits;
+use grid_units::numbers::{are_all_digits, run_before, run_of};
 use grid_units::{Reason, Stop, Text, Unit, both};
 use std::alloc::Global;
 
@@ -30,30 +30,11 @@ fn read_nothing(text: &[u8]) -> Row
     }
 }
 
-fn is_plain(byte: u8) -> bool
-    ensures { result ≡ not (byte == 44) }
-{
-    byte != b','
-}
-
-/// How many bytes stand before the first comma.
-pub(crate) fn plain_len(text: &[u8]) -> usize
-    ensures within { result ≤ length text.now }
-    ensures len { result ≡ prefix_len (λ b. not (b == 44)) text.now }
-{
-    for (i, byte) in text.iter().enumerate() {
-        if !is_plain(*byte) {
-            return i;
-        }
-    }
-    text.len()
-}
-
 /// What stands before the first comma.
 pub(crate) fn first_field(text: &[u8]) -> &[u8]
     ensures { result.now ≡ first_field text.now }
 {
-    text.split_at(plain_len(text)).0
+    text.split_at(run_before(b',', text)).0
 }
 
 /// Whether the text of a file attribute makes the image negative (Gerber format, .FilePolarity).
@@ -66,30 +47,11 @@ pub fn is_negative_image(attribute: &[u8]) -> bool
     }
 }
 
-fn is_space(byte: u8) -> bool
-    ensures { result ≡ (byte == 32) }
-{
-    byte == b' '
-}
-
-/// How many spaces stand in front.
-fn spaces_len(text: &[u8]) -> usize
-    ensures within { result ≤ length text.now }
-    ensures len { result ≡ prefix_len (λ b. b == 32) text.now }
-{
-    for (i, byte) in text.iter().enumerate() {
-        if !is_space(*byte) {
-            return i;
-        }
-    }
-    text.len()
-}
-
 /// The text from its first byte on that is no space.
 fn behind_spaces(text: &[u8]) -> &[u8]
     ensures { result.now ≡ behind_spaces text.now }
 {
-    text.split_at(spaces_len(text)).1
+    text.split_at(run_of(b' ', text)).1
 }
 
 /// Whether the text of a comment holds such a file attribute.

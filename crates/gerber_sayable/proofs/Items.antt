@@ -6,9 +6,10 @@ use Rattle.std.proofs.lemmas.List.{length-append, take_at, drop_at}
 use Rattle.std.proofs.lemmas.Bool.{false≢true}
 use Rattle.std.proofs.lemmas.Bool.Decides.{nat_tests}
 use Rattle.gerber_rows.specs.declared.command.Command.{Command}
-use Rattle.gerber_rows.specs.Items.{ender, behind_mark, IsItem}
+use Rattle.gerber_rows.specs.Items.{ender, behind_percent, IsItem}
 use Rattle.grid_units.specs.declared.fault.Reason.TheVariants.{BadWord, SeveralInOne}
-use Rattle.gerber_rows.specs.Rows.{first_fit, behind}
+use Rattle.grid_units.specs.Rows.{behind}
+use Rattle.gerber_rows.specs.Rows.{first_fit}
 use Rattle.gerber_rows.specs.Words.{is, word}
 use Rattle.gerber_rows.specs.Pieces.{last_byte, before_last, is_several, pieces, piece, extended}
 use Rattle.gerber_rows.specs.Meaning.{front_of, meaning}
@@ -79,10 +80,10 @@ word_is_item (b ∷ bs) h =
     let k = both_true (is_text_byte b) (list_all is_text_byte bs) h in
     let no = text_no_percent b k.0 in
     let end : ender (b ∷ bs) ≡ 42 = ap (λ t. cond t 37 42) no in
-    let behind : behind_mark (b ∷ bs) ≡ b ∷ bs = ap (λ t. cond t bs (b ∷ bs)) no in
+    let behind : behind_percent (b ∷ bs) ≡ b ∷ bs = ap (λ t. cond t bs (b ∷ bs)) no in
     record {
       front = b ∷ bs;
-      unfinished = subst (λ (n : ℕ). AllByRecursion (λ c. c ≢ n) (behind_mark (b ∷ bs))) (sym end) (subst (AllByRecursion (λ c. c ≢ 42)) (sym behind) (no_star_all (b ∷ bs) h));
+      unfinished = subst (λ (n : ℕ). AllByRecursion (λ c. c ≢ n) (behind_percent (b ∷ bs))) (sym end) (subst (AllByRecursion (λ c. c ≢ 42)) (sym behind) (no_star_all (b ∷ bs) h));
       whole = ap (λ (n : ℕ). (b ∷ bs) ++ n ∷ []) (sym end);
     }
 

@@ -16,14 +16,12 @@ use Rattle.gerber_rows.specs.Canonical.{integer}
 use Rattle.gerber_sayable.specs.Sayable.{is_text_byte, is_text, is_nat, is_int, is_dec}
 use Rattle.grid_units.proofs.BoolLemmas.{and_true, both_true, not_empty}
 use Rattle.grid_units.proofs.ListLemmas.{all_weaker, all_append}
+use Rattle.grid_units.proofs.Fronts.{digits_numbers}
 
 -- ---- bytes
 
 pub number_text : (b : ℕ) → is_number b ≡ true → is_text_byte b ≡ true
 number_text b h = grind (arith, nat_tests)
-
-pub digits_numbers : (ds : List ℕ) → list_all is_digit ds ≡ true → list_all is_number ds ≡ true
-digits_numbers ds h = all_weaker is_digit is_number digit_number ds h
 
 pub numbers_text : (xs : List ℕ) → list_all is_number xs ≡ true → is_text xs ≡ true
 numbers_text xs h = all_weaker is_number is_text_byte number_text xs h

@@ -30,7 +30,8 @@ use Rattle.gerber_sayable.specs.Sayable.{is_text_byte, is_text, is_nat, is_dec, 
 use Rattle.gerber_sayable.proofs.Runs.{kept_whole, prefix_alone}
 use Rattle.gerber_sayable.proofs.Items.{is_inner, text_inner, text_kept, piece_item}
 use Rattle.gerber_sayable.proofs.Words.{behind_all}
-use Rattle.gerber_sayable.proofs.Numerals.{number_text, numbers_text, digits_numbers, nat_is, dec_is}
+use Rattle.gerber_sayable.proofs.Numerals.{number_text, numbers_text, nat_is, dec_is}
+use Rattle.grid_units.proofs.Fronts.{digits_numbers}
 use Rattle.grid_units.proofs.BoolLemmas.{and_true, both_true, not_true, and_false}
 use Rattle.grid_units.proofs.ListLemmas.{all_weaker, all_append, prefix_run, run_in_front, rest_behind, run_alone, rest_alone}
 

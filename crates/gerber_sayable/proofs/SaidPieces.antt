@@ -21,7 +21,8 @@ use Rattle.gerber_rows.specs.declared.command.AttributeKind.TheVariants as kinds
 use Rattle.gerber_rows.specs.declared.command.Standard.{Standard}
 use Rattle.gerber_rows.specs.declared.command.Template.TheVariants as templates
 use Rattle.gerber_rows.specs.Numbers.{nat_of}
-use Rattle.gerber_rows.specs.Rows.{first_fit, behind, field}
+use Rattle.grid_units.specs.Rows.{behind}
+use Rattle.gerber_rows.specs.Rows.{first_fit, field}
 use Rattle.gerber_rows.specs.Words.{is, is_negative_image}
 use Rattle.gerber_rows.specs.Pieces.{divided, last_byte, before_last, system_row, format, format_fields, format_row, unit_piece_row, is_name, standard, least_sizes, most_sizes, all_of, are_sizes, sizes_of, aperture_number, define_standard, define_named, define_as, before_comma, after_comma, define, definition, define_row, macro_of, macro_text, macro_row, polarity_row, mirror_row, run_behind, turn, scale, transform_row, block_fields, repeat, repeat_fields, repeat_start, repeat_row, file_attribute, attribute, removal, turns_nothing, plain_row, axes_row, negative_row, old_piece_row, block_row, pieces, piece, extended}
 use Rattle.gerber_rows.proofs.Parts.{parts_all}

@@ -18,7 +18,8 @@ use Rattle.gerber_rows.specs.declared.command.QuadrantMode.TheVariants.{Single, 
 use Rattle.gerber_rows.specs.declared.command.Action.{Action}
 use Rattle.gerber_rows.specs.declared.command.Action.TheVariants.{Plot, Move, Flash}
 use Rattle.gerber_rows.specs.Numbers.{nat_of}
-use Rattle.gerber_rows.specs.Rows.{Meaning, Row, first_fit, behind, modes_of}
+use Rattle.grid_units.specs.Rows.{behind}
+use Rattle.gerber_rows.specs.Rows.{Meaning, Row, first_fit, modes_of}
 use Rattle.gerber_rows.specs.Words.{is, nothing_row, comments_negative, comment, comment_row, mode_front, mode_row, quadrant_row, region_row, unit_row, incremental_row, action, numbered, alone, prepared, select_row, coordinate, kind, Fields, fields, is_operation, has_offsets, operands, operate, operation_row, finish_row, old_row, words, word, is_plot}
 use Rattle.grid_units.specs.Limits.{item_limit}
 use Rattle.gerber_sayable.specs.Sayable.{is_text_byte, is_text, is_nat, is_operation as has_operands, has_fields, is_short, is_sayable, is_finish}

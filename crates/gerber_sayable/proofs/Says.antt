@@ -16,7 +16,8 @@ use Rattle.gerber_rows.specs.Canonical.{canonical}
 use Rattle.gerber_sayable.specs.Cut.{unbroken, Spells}
 use Rattle.gerber_sayable.specs.Sayable.{is_text, is_attribute, is_nat, has_fields, is_short, is_sayable}
 use Rattle.gerber_sayable.proofs.Items.{word_spells, pieces_spell, piece_spells}
-use Rattle.gerber_sayable.proofs.Numerals.{numbers_text, digits_numbers, nat_is, dec_is}
+use Rattle.gerber_sayable.proofs.Numerals.{numbers_text, nat_is, dec_is}
+use Rattle.grid_units.proofs.Fronts.{digits_numbers}
 use Rattle.gerber_sayable.proofs.Words.{comment_word, select_word, operation_text, operation_word, operation_bytes, operation_whole}
 use Rattle.gerber_sayable.proofs.Pieces.{turn_piece, scale_piece, attribute_text, attribute_piece, removal_piece, format_text, format_piece, format_whole, format_bytes, block_text, block_piece, block_whole, block_bytes, define_text, define_piece, define_whole, define_bytes, macro_piece_text, macro_piece, macro_single, macro_inner, macro_whole}
 use Rattle.grid_units.specs.Limits.{item_limit}

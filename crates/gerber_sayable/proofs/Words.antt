@@ -18,7 +18,8 @@ use Rattle.gerber_rows.proofs.Beginnings.{fits_operation}
 use Rattle.gerber_sayable.specs.Sayable.{is_text_byte, is_text, is_nat, may_be_int, is_aperture_number, is_operation as has_operands}
 use Rattle.gerber_sayable.proofs.Runs.{none_passes}
 use Rattle.gerber_sayable.proofs.Items.{text_no_percent}
-use Rattle.gerber_sayable.proofs.Numerals.{numbers_text, digits_numbers, nat_is, int_is}
+use Rattle.gerber_sayable.proofs.Numerals.{numbers_text, nat_is, int_is}
+use Rattle.grid_units.proofs.Fronts.{digits_numbers}
 use Rattle.grid_units.proofs.BoolLemmas.{and_true, both_true, not_true}
 use Rattle.grid_units.proofs.ListLemmas.{all_append, run_in_front, rest_behind}
 

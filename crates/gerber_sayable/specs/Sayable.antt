@@ -19,12 +19,13 @@ use Rattle.gerber_rows.specs.Pieces.{is_name, standard, least_sizes, most_sizes}
 use Rattle.gerber_rows.specs.Canonical.{canonical}
 use Rattle.gerber_sayable.specs.Cut.{unbroken}
 use Rattle.grid_units.specs.Limits.{item_limit}
+use Rattle.grid_units.specs.Ascii as ascii
 
 -- ---- fields
 
 -- neither `*` nor `%`, which end items, nor CR nor LF, which are dropped (docs/FORMATS.md, How a row fits and is read)
 abbrev pub is_text_byte : ℕ → Bool
-is_text_byte b = not ((b == 42) || ((b == 37) || is_line_break b))
+is_text_byte b = not ((b == ascii.asterisk) || ((b == ascii.percent) || is_line_break b))
 
 -- a text in an item (docs/FORMATS.md, How a row fits and is read)
 abbrev pub is_text : List ℕ → Bool

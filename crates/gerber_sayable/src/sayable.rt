@@ -12,11 +12,8 @@ use crate::fields::{
     is_operation, is_template, is_text,
 };
 use gerber_rows::{Command, Template, comments_negative};
-use grid_units::Text;
+use grid_units::{ITEM_LIMIT, Text};
 use itoa::Buffer;
-
-/// The longest item, in bytes.
-const ITEM_LIMIT: usize = 1_048_576;
 
 /// Whether the fields of a command are those that some item spells.
 #[tactic(auto, unfolding(crate::specs::Sayable::has_fields))]

@@ -20,7 +20,7 @@ use Rattle.gerber_sayable.specs.Cut.{is_kept}
 use Rattle.gerber_sayable.specs.Sayable.{is_sayable, is_finish}
 use Rattle.gerber_sayable.proofs.Said.{item_says, end_means, finish_sayable}
 use Rattle.gerber_text.specs.declared.placed.Placed.{Placed}
-use Rattle.gerber_text.specs.Cut.{Mark, marks, bytes_of, first_offset, has_end, AreItems}
+use Rattle.gerber_text.specs.Cut.{OffsetByte, offset_bytes, bytes_of, first_offset, has_end, AreItems}
 use Rattle.gerber_text.specs.Reading.{Entries, is_plotting, placed, spelled, commands_from, Reads, SpellsText, entries_of}
 use Rattle.gerber_text.specs.Writing.{without_places, sayable}
 use Rattle.gerber_text.proofs.Spelling.{reads_spells}
@@ -46,7 +46,7 @@ sayable_behind (c ∷ cs) ds p k =
 
 -- ---- bytes of items
 
-all_map : (ms : List Mark) → list_all is_kept (bytes_of ms) ≡ list_all (λ m. is_kept m.1) ms
+all_map : (ms : List OffsetByte) → list_all is_kept (bytes_of ms) ≡ list_all (λ m. is_kept m.1) ms
 all_map [] = refl
 all_map (m ∷ ms) = ap (λ t. is_kept m.1 && t) (all_map ms)
 
@@ -59,17 +59,17 @@ filter_all p (x ∷ xs) = by (p x) refl (filter_all p xs)
     by false e h = h
 
 -- no item has line breaks
-AreKept : List (List Mark) → Type 0
+AreKept : List (List OffsetByte) → Type 0
 AreKept items = AllByRecursion (λ item. list_all is_kept (bytes_of item) ≡ true) items
 
-items_kept : (items : List (List Mark)) (rest : List Mark) → list_all (λ m. is_kept m.1) (flat_map (λ (i : List Mark). i) items ++ rest) ≡ true → AreKept items
+items_kept : (items : List (List OffsetByte)) (rest : List OffsetByte) → list_all (λ m. is_kept m.1) (flat_map (λ (i : List OffsetByte). i) items ++ rest) ≡ true → AreKept items
 unfolding AreKept
 items_kept [] rest h = tt
 items_kept (item ∷ items) rest h =
-    let whole : (item ++ flat_map (λ (i : List Mark). i) items) ++ rest ≡ item ++ (flat_map (λ (i : List Mark). i) items ++ rest) = append_assoc item (flat_map (λ (i : List Mark). i) items) rest in
-    let all : (list_all (λ m. is_kept m.1) item && list_all (λ m. is_kept m.1) (flat_map (λ (i : List Mark). i) items ++ rest)) ≡ true =
-    sym (list_all-append (λ (m : Mark). is_kept m.1) item (flat_map (λ (i : List Mark). i) items ++ rest)) ∙ (ap (list_all (λ m. is_kept m.1)) (sym whole) ∙ h) in
-    let k = both_true (list_all (λ m. is_kept m.1) item) (list_all (λ m. is_kept m.1) (flat_map (λ (i : List Mark). i) items ++ rest)) all in
+    let whole : (item ++ flat_map (λ (i : List OffsetByte). i) items) ++ rest ≡ item ++ (flat_map (λ (i : List OffsetByte). i) items ++ rest) = append_assoc item (flat_map (λ (i : List OffsetByte). i) items) rest in
+    let all : (list_all (λ m. is_kept m.1) item && list_all (λ m. is_kept m.1) (flat_map (λ (i : List OffsetByte). i) items ++ rest)) ≡ true =
+    sym (list_all-append (λ (m : OffsetByte). is_kept m.1) item (flat_map (λ (i : List OffsetByte). i) items ++ rest)) ∙ (ap (list_all (λ m. is_kept m.1)) (sym whole) ∙ h) in
+    let k = both_true (list_all (λ m. is_kept m.1) item) (list_all (λ m. is_kept m.1) (flat_map (λ (i : List OffsetByte). i) items ++ rest)) all in
     (all_map item ∙ k.0, items_kept items rest k.1)
 
 -- ---- what an item adds
@@ -113,9 +113,9 @@ record AddSayable (before after : Entries) : Type 0 where
   said : sayable (without_places more) ≡ true
 
 -- the last item, which is the end of the text
-last_adds : (place : ℕ) (item : List Mark) (items : List (List Mark)) (before middle after : Entries) → is_end (bytes_of item) ≡ true → items ≡ [] → Added place (first_offset item) (bytes_of item) before middle → commands_from (suc place) items middle ≡ Ok after → AddSayable before after
+last_adds : (place : ℕ) (item : List OffsetByte) (items : List (List OffsetByte)) (before middle after : Entries) → is_end (bytes_of item) ≡ true → items ≡ [] → Added place (first_offset item) (bytes_of item) before middle → commands_from (suc place) items middle ≡ Ok after → AddSayable before after
 last_adds place item items before middle after e none a h =
-    let same : middle ≡ after = let o : (let r : Result Entries Fault = Ok middle in r ≡ Ok after) = ap (λ (l : List (List Mark)). commands_from (suc place) l middle) (sym none) ∙ h in cc in
+    let same : middle ≡ after = let o : (let r : Result Entries Fault = Ok middle in r ≡ Ok after) = ap (λ (l : List (List OffsetByte)). commands_from (suc place) l middle) (sym none) ∙ h in cc in
     let commands : Finish ∷ [] ≡ a.commands = let o : (let r : Result (List Command) Reason = Ok (Finish ∷ []) in r ≡ Ok a.commands) = sym (end_means (is_plotting before) (bytes_of item) e) ∙ a.spells in cc in
     record {
       more = placed place (first_offset item) a.commands;
@@ -124,7 +124,7 @@ last_adds place item items before middle after e none a h =
     }
 
 -- an item before it
-next_adds : (place : ℕ) (item : List Mark) (before middle after : Entries) → IsItem (bytes_of item) → list_all is_kept (bytes_of item) ≡ true → is_end (bytes_of item) ≡ false → Added place (first_offset item) (bytes_of item) before middle → AddSayable middle after → AddSayable before after
+next_adds : (place : ℕ) (item : List OffsetByte) (before middle after : Entries) → IsItem (bytes_of item) → list_all is_kept (bytes_of item) ≡ true → is_end (bytes_of item) ≡ false → Added place (first_offset item) (bytes_of item) before middle → AddSayable middle after → AddSayable before after
 next_adds place item before middle after one kept e a rest =
     let now = placed place (first_offset item) a.commands in
     let s = item_says (is_plotting before) (bytes_of item) a.commands (record { one = one; kept = kept; short = a.short }) a.spells in
@@ -134,7 +134,7 @@ next_adds place item before middle after one kept e a rest =
       said = ap sayable (bare_append now rest.more ∙ ap (λ (l : List Command). l ++ without_places rest.more) (bare place (first_offset item) a.commands)) ∙ sayable_behind a.commands (without_places rest.more) (s.sayable, s.ends ∙ e) rest.said;
     }
 
-items_add : (place : ℕ) (items : List (List Mark)) (before after : Entries) → AreItems items → AreKept items → has_end items ≡ true → commands_from place items before ≡ Ok after → AddSayable before after
+items_add : (place : ℕ) (items : List (List OffsetByte)) (before after : Entries) → AreItems items → AreKept items → has_end items ≡ true → commands_from place items before ≡ Ok after → AddSayable before after
 unfolding AreKept
 items_add place [] before after h k e c = absurd (false≢true e)
 items_add place (item ∷ items) before after h k e c =
@@ -148,7 +148,7 @@ items_add place (item ∷ items) before after h k e c =
 
 pub text_said : (text : List ℕ) (cs : Entries) → SpellsText text cs → sayable (without_places cs) ≡ true
 text_said text cs s =
-    let kept : list_all (λ m. is_kept m.1) (marks text) ≡ true = filter_all (λ (m : Mark). is_kept m.1) (enumerate_from 0 text) in
+    let kept : list_all (λ m. is_kept m.1) (offset_bytes text) ≡ true = filter_all (λ (m : OffsetByte). is_kept m.1) (enumerate_from 0 text) in
     let a = items_add 1 s.items [] cs s.splits.each (items_kept s.items s.tail (ap (list_all (λ m. is_kept m.1)) (sym s.splits.whole) ∙ kept)) s.ends s.spelled in
     ap (λ (x : Entries). sayable (without_places x)) a.whole ∙ a.said
 

@@ -7,9 +7,9 @@ use Rattle.std.proofs.lemmas.List.FromFn.{length-enumerate_from}
 use Rattle.gerber_rows.specs.declared.command.Command.{Command}
 use Rattle.gerber_rows.specs.Items.{is_line_break, ender, IsUnfinished, IsItem, is_end}
 use Rattle.gerber_rows.specs.Meaning.{meaning}
-use Rattle.gerber_text.specs.Cut.{Mark, marks, bytes_of, first_offset, has_end, Splits}
+use Rattle.gerber_text.specs.Cut.{OffsetByte, offset_bytes, bytes_of, first_offset, has_end, Splits}
 use Rattle.gerber_text.specs.Reading.{Entries, is_plotting, placed, spelled, shown}
-use Rattle.gerber_text.proofs.Marks.{marks-append, marks_from-kept, bytes_of-enumerate}
+use Rattle.gerber_text.proofs.OffsetBytes.{offset_bytes-append, offset_bytes_from-kept, bytes_of-enumerate}
 use Rattle.gerber_text.proofs.Splitting.{Splits-grow}
 use Rattle.gerber_text.proofs.Shown.{running_ok, show_ok}
 use Rattle.gerber_text.proofs.Steps.{closes}
@@ -27,32 +27,32 @@ starts_at : (n k b : ℕ) (front : List ℕ) → k ≡ n + length front → n �
 starts_at n k b [] e = omega (arith, e)
 starts_at n k b (x ∷ front) e = refl
 
-pub record Taken (text item : List ℕ) (items : List (List Mark)) (place : ℕ) (cs : Entries) : Type 0 where
-  pub last : List Mark
-  pub splits : Splits (marks (text ++ item)) (items ++ last ∷ []) []
+pub record Taken (text item : List ℕ) (items : List (List OffsetByte)) (place : ℕ) (cs : Entries) : Type 0 where
+  pub last : List OffsetByte
+  pub splits : Splits (offset_bytes (text ++ item)) (items ++ last ∷ []) []
   pub shows : shown (items ++ last ∷ []) [] ≡ spelled place (length text) item cs
   pub ends : has_end (items ++ last ∷ []) ≡ is_end item
   pub count : length (items ++ last ∷ []) ≡ length items + 1
 
 -- an item without line breaks behind items that have ended
-pub takes : (text item : List ℕ) (items : List (List Mark)) (rest : List Mark) (place : ℕ) (cs : Entries) → Splits (marks text) items rest → rest ≡ [] → has_end items ≡ false → shown items rest ≡ Ok cs → IsItem item → AllByRecursion (λ b. is_line_break b ≡ false) item → length item ≤ item_limit → place ≡ suc (length items)
+pub takes : (text item : List ℕ) (items : List (List OffsetByte)) (rest : List OffsetByte) (place : ℕ) (cs : Entries) → Splits (offset_bytes text) items rest → rest ≡ [] → has_end items ≡ false → shown items rest ≡ Ok cs → IsItem item → AllByRecursion (λ b. is_line_break b ≡ false) item → length item ≤ item_limit → place ≡ suc (length items)
     → Taken text item items place cs
 takes text item items rest place cs s none running e one kept short place-is =
     let front = one.front in
     let last = ender front in
-    let more : List Mark = enumerate_from (length text) front in
+    let more : List OffsetByte = enumerate_from (length text) front in
     let bytes : bytes_of more ≡ front = bytes_of-enumerate (length text) front in
     let front_kept = all-front (λ b. is_line_break b ≡ false) front (last ∷ []) (subst (AllByRecursion (λ b. is_line_break b ≡ false)) one.whole kept) in
-    let grown = Splits-grow (marks text) items [] more (subst (Splits (marks text) items) none s) (λ _. subst IsUnfinished (sym bytes) one.unfinished) in
-    let splits : Splits (marks (text ++ front)) items more = subst (λ (ms : List Mark). Splits ms items more) (sym (marks-append text front ∙ ap (λ (x : List Mark). marks text ++ x) (marks_from-kept (length text) front front_kept))) grown in
+    let grown = Splits-grow (offset_bytes text) items [] more (subst (Splits (offset_bytes text) items) none s) (λ _. subst IsUnfinished (sym bytes) one.unfinished) in
+    let splits : Splits (offset_bytes (text ++ front)) items more = subst (λ (ms : List OffsetByte). Splits ms items more) (sym (offset_bytes-append text front ∙ ap (λ (x : List OffsetByte). offset_bytes text ++ x) (offset_bytes_from-kept (length text) front front_kept))) grown in
     let size : length more ≤ item_limit = omega (arith, length-enumerate_from (length text) front, ap length one.whole, length-append front (last ∷ []), short) in
     let shows = show_ok items more cs running (running_ok items rest cs running e).0 size in
     let joined : (text ++ front) ++ last ∷ [] ≡ text ++ item = append_assoc text front (last ∷ []) ∙ ap (λ (x : List ℕ). text ++ x) (sym one.whole) in
-    let m : Mark = (length (text ++ front), last) in
+    let m : OffsetByte = (length (text ++ front), last) in
     let k = closes (text ++ front) items more item last place (length text) cs splits running shows (ap ender (sym bytes)) place-is (starts_at (length text) (length (text ++ front)) last front (length-append text front)) (one.whole ∙ ap (λ (x : List ℕ). x ++ last ∷ []) (sym bytes)) in
     record {
       last = more ++ m ∷ [];
-      splits = subst (λ (t : List ℕ). Splits (marks t) (items ++ (more ++ m ∷ []) ∷ []) []) joined k.splits;
+      splits = subst (λ (t : List ℕ). Splits (offset_bytes t) (items ++ (more ++ m ∷ []) ∷ []) []) joined k.splits;
       shows = k.shows;
       ends = k.ends;
       count = k.count;

@@ -3,7 +3,7 @@ pub mod Fronts
 pub mod Items
 pub mod AllSaid
 pub mod Longer
-pub mod Marks
+pub mod OffsetBytes
 pub mod RoundTrip
 pub mod Shown
 pub mod Some

@@ -9,10 +9,10 @@ use Rattle.grid_units.specs.declared.fault.Fail.TheVariants as fails
 use Rattle.grid_units.specs.declared.fault.Reason.TheVariants.{TooLong}
 use Rattle.grid_units.specs.Results.{◌>>=◌, fault}
 use Rattle.grid_units.proofs.Binds.{bind_err, guard_err}
-use Rattle.gerber_text.specs.Cut.{Mark, marks, marks_from, Splits}
+use Rattle.gerber_text.specs.Cut.{OffsetByte, offset_bytes, offset_bytes_from, Splits}
 use Rattle.gerber_text.specs.Reading.{Entries, commands_from, shown, Shows, KeptOf, KeptBefore}
-use Rattle.gerber_text.specs.Standing.{Stops, FailsWith}
-use Rattle.gerber_text.proofs.Marks.{marks-append}
+use Rattle.gerber_text.specs.Holding.{Stops, FailsWith}
+use Rattle.gerber_text.proofs.OffsetBytes.{offset_bytes-append}
 use Rattle.gerber_text.proofs.Shown.{stops_stay}
 use Rattle.gerber_text.proofs.Unique.{same_items}
 use Rattle.gerber_text.proofs.Whole.{fails_by}
@@ -20,8 +20,8 @@ use Rattle.grid_units.specs.Limits.{text_limit}
 
 -- ---- a text above the limit: its first bytes are those of the longer one
 
-same_front : (text more : List ℕ) (items : List (List Mark)) (rest : List Mark) → text_limit < length text → Splits (marks (take text_limit text)) items rest → Splits (marks (take text_limit (text ++ more))) items rest
-same_front text more items rest lt s = subst (λ (t : List ℕ). Splits (marks t) items rest) (sym (take-append-le text_limit text more (omega arith))) s
+same_front : (text more : List ℕ) (items : List (List OffsetByte)) (rest : List OffsetByte) → text_limit < length text → Splits (offset_bytes (take text_limit text)) items rest → Splits (offset_bytes (take text_limit (text ++ more))) items rest
+same_front text more items rest lt s = subst (λ (t : List ℕ). Splits (offset_bytes t) items rest) (sym (take-append-le text_limit text more (omega arith))) s
 
 shows_beyond : (text more : List ℕ) (answer : Result Entries Fault) → text_limit < length text → Shows text answer → Shows (text ++ more) answer
 shows_beyond text more answer lt s =
@@ -40,7 +40,7 @@ fails_beyond : (text more : List ℕ) (cs : Entries) (e : Fail) → text_limit <
 fails_beyond text more cs fails.Memory lt h = record { told = tt; kept = (h.kept.0, kept_beyond text more h.kept.0 cs lt h.kept.1) }
 fails_beyond text more cs (fails.Refused f) lt h = record { told = shows_beyond text more (Err f) lt h.told; kept = (h.kept.0, h.kept.1, kept_beyond text more h.kept.0 cs lt h.kept.2) }
 
--- ---- a text within the limit: its marks stop a reader
+-- ---- a text within the limit: its bytes stop a reader
 
 shown_within : (text : List ℕ) (f : Fault) → length text ≤ text_limit → (s : Shows text (Err f)) → shown s.items s.rest ≡ Err f
 shown_within text f le s =
@@ -50,21 +50,21 @@ shown_within text f le s =
       | inr h ↦ absurd (false≢true (sym (le-ltb text_limit (length text) le) ∙ (guard_err (ltb text_limit (length text)) (fault place text_limit TooLong) f h.0 h.2).0))
     ]
 
-stops_within : (text : List ℕ) (cs : Entries) (e : Fail) → length text ≤ text_limit → FailsWith text cs e → Stops (marks (take text_limit text)) cs e
+stops_within : (text : List ℕ) (cs : Entries) (e : Fail) → length text ≤ text_limit → FailsWith text cs e → Stops (offset_bytes (take text_limit text)) cs e
 stops_within text cs fails.Memory le h =
     let k = h.kept.1 in
     record { items = k.items; rest = k.rest; splits = k.splits; kept = h.kept.0; within = k.within; spelled = k.spelled; told = tt }
 stops_within text cs (fails.Refused f) le h =
     let s = h.told in
     let k = h.kept.2 in
-    let same = same_items (marks (take text_limit text)) s.items k.items s.rest k.rest s.splits k.splits in
+    let same = same_items (offset_bytes (take text_limit text)) s.items k.items s.rest k.rest s.splits k.splits in
     record {
       items = s.items;
       rest = s.rest;
       splits = s.splits;
       kept = h.kept.0;
-      within = subst (λ (x : List (List Mark)). h.kept.0 ≤ length x) (sym same.0) k.within;
-      spelled = ap (λ (x : List (List Mark)). commands_from 1 (take h.kept.0 x) []) same.0 ∙ k.spelled;
+      within = subst (λ (x : List (List OffsetByte)). h.kept.0 ≤ length x) (sym same.0) k.within;
+      spelled = ap (λ (x : List (List OffsetByte)). commands_from 1 (take h.kept.0 x) []) same.0 ∙ k.spelled;
       told = (shown_within text f le s, h.kept.1);
     }
 
@@ -73,8 +73,8 @@ fails_within text more cs e le h =
     let n = text_limit - length text in
     let sum : length text + n ≡ text_limit = omega (arith, le) in
     let front : text ++ take n more ≡ take text_limit (text ++ more) = sym (take-append-add text more n) ∙ ap (λ (m : ℕ). take m (text ++ more)) sum in
-    let here : Stops (marks text) cs e = subst (λ (t : List ℕ). Stops (marks t) cs e) (take_all text_limit text le) (stops_within text cs e le h) in
-    let on : Stops (marks (text ++ take n more)) cs e = subst (λ (x : List Mark). Stops x cs e) (sym (marks-append text (take n more))) (stops_stay (marks text) (marks_from (length text) (take n more)) cs e here) in
+    let here : Stops (offset_bytes text) cs e = subst (λ (t : List ℕ). Stops (offset_bytes t) cs e) (take_all text_limit text le) (stops_within text cs e le h) in
+    let on : Stops (offset_bytes (text ++ take n more)) cs e = subst (λ (x : List OffsetByte). Stops x cs e) (sym (offset_bytes-append text (take n more))) (stops_stay (offset_bytes text) (offset_bytes_from (length text) (take n more)) cs e here) in
     fails_by (text ++ more) (text ++ take n more) cs e front on
 
 by_length : (t : Bool) (text more : List ℕ) (cs : Entries) (e : Fail) → ltb text_limit (length text) ≡ t → FailsWith text cs e → FailsWith (text ++ more) cs e

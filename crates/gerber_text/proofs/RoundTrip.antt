@@ -7,28 +7,24 @@ use Rattle.grid_units.specs.Results.{◌>>=◌}
 use Rattle.gerber_rows.specs.declared.command.Command.{Command}
 use Rattle.gerber_rows.specs.Items.{is_line_break, is_end, IsItem}
 use Rattle.gerber_rows.specs.Canonical.{canonical}
-use Rattle.gerber_text.specs.Cut.{Mark, marks_from, marks, bytes_of, first_offset, has_end, AreItems, Splits}
+use Rattle.gerber_text.specs.Cut.{OffsetByte, offset_bytes_from, offset_bytes, bytes_of, first_offset, has_end, AreItems, Splits}
 use Rattle.gerber_text.specs.Reading.{Entries, is_plotting, spelled, commands_from, placed}
 use Rattle.gerber_sayable.specs.Cut.{unbroken, Spells}
 use Rattle.gerber_sayable.specs.Sayable.{is_sayable, is_finish}
 use Rattle.gerber_sayable.proofs.Says.{says as canonical_spells}
 use Rattle.gerber_sayable.proofs.Said.{canonical_ends}
 use Rattle.gerber_text.specs.Writing.{lines, sayable, without_places, ReadsAs}
-use Rattle.gerber_text.proofs.Marks.{marks_from-append}
+use Rattle.gerber_text.proofs.OffsetBytes.{offset_bytes_from-append}
 use Rattle.gerber_text.proofs.Shown.{shown_ended}
 use Rattle.gerber_text.proofs.Whole.{reads_ok}
 use Rattle.grid_units.specs.Limits.{text_limit}
-use Rattle.grid_units.proofs.BoolLemmas.{both_true}
+use Rattle.grid_units.proofs.BoolLemmas.{both_true, not_true}
 
 -- each command is one that its canonical item spells, and the end of the text is the last and no other
 abbrev IsSayable : List Command → Type 0
 IsSayable [] = ⊥
 IsSayable (c ∷ []) = Spells (canonical c) c × (is_end (unbroken (canonical c)) ≡ true)
 IsSayable (c ∷ d ∷ cs) = Spells (canonical c) c × (is_end (unbroken (canonical c)) ≡ false) × IsSayable (d ∷ cs)
-
-not_true : (a : Bool) → not a ≡ true → a ≡ false
-not_true true h = absurd (false≢true h)
-not_true false h = refl
 
 -- a list is sayable by its test
 are_spelled : (cs : List Command) → sayable cs ≡ true → IsSayable cs
@@ -39,47 +35,47 @@ are_spelled (c ∷ d ∷ cs) h =
     let l = both_true (not (is_finish c)) (sayable (d ∷ cs)) k.1 in
     (canonical_spells c k.0, canonical_ends c k.0 ∙ not_true (is_finish c) l.0, are_spelled (d ∷ cs) l.1)
 
--- the bytes of marks are those that are no line breaks
-bytes_of_marks : (n : ℕ) (text : List ℕ) → bytes_of (marks_from n text) ≡ unbroken text
+-- the bytes without their offsets are those that are no line breaks
+bytes_of_marks : (n : ℕ) (text : List ℕ) → bytes_of (offset_bytes_from n text) ≡ unbroken text
 bytes_of_marks n [] = refl
 bytes_of_marks n (b ∷ bs) = by (is_line_break b) (bytes_of_marks (n + 1) bs)
   where
-    by : (t : Bool) → bytes_of (marks_from (n + 1) bs) ≡ unbroken bs → bytes_of (cond (not t) ((n, b) ∷ marks_from (n + 1) bs) (marks_from (n + 1) bs)) ≡ cond (not t) (b ∷ unbroken bs) (unbroken bs)
+    by : (t : Bool) → bytes_of (offset_bytes_from (n + 1) bs) ≡ unbroken bs → bytes_of (cond (not t) ((n, b) ∷ offset_bytes_from (n + 1) bs) (offset_bytes_from (n + 1) bs)) ≡ cond (not t) (b ∷ unbroken bs) (unbroken bs)
     by true h = h
     by false h = ap (λ (x : List ℕ). b ∷ x) h
 
--- the marks of each canonical item, the first at this offset
-marked : ℕ → List Command → List (List Mark)
-marked n [] = []
-marked n (c ∷ cs) = marks_from n (canonical c) ∷ marked (n + length (canonical c) + 1) cs
+-- the bytes with their offsets of each canonical item, the first at this offset
+items_of_lines : ℕ → List Command → List (List OffsetByte)
+items_of_lines n [] = []
+items_of_lines n (c ∷ cs) = offset_bytes_from n (canonical c) ∷ items_of_lines (n + length (canonical c) + 1) cs
 
 record Found (n place : ℕ) (cs : List Command) (before : Entries) : Type 0 where
   more : Entries
-  whole : marks_from n (lines cs) ≡ flat_map (λ (i : List Mark). i) (marked n cs)
-  each : AreItems (marked n cs)
-  ends : has_end (marked n cs) ≡ true
-  commands : commands_from place (marked n cs) before ≡ Ok (before ++ more)
+  whole : offset_bytes_from n (lines cs) ≡ flat_map (λ (i : List OffsetByte). i) (items_of_lines n cs)
+  each : AreItems (items_of_lines n cs)
+  ends : has_end (items_of_lines n cs) ≡ true
+  commands : commands_from place (items_of_lines n cs) before ≡ Ok (before ++ more)
   same : without_places more ≡ cs
 
-says : (place n : ℕ) (c : Command) (before : Entries) → Spells (canonical c) c → spelled place (first_offset (marks_from n (canonical c))) (bytes_of (marks_from n (canonical c))) before ≡ Ok (before ++ placed place (first_offset (marks_from n (canonical c))) (c ∷ []))
+says : (place n : ℕ) (c : Command) (before : Entries) → Spells (canonical c) c → spelled place (first_offset (offset_bytes_from n (canonical c))) (bytes_of (offset_bytes_from n (canonical c))) before ≡ Ok (before ++ placed place (first_offset (offset_bytes_from n (canonical c))) (c ∷ []))
 unfolding spelled
 says place n c before s = rw (bytes_of_marks n (canonical c), le-ltb _ _ s.short, s.says (is_plotting before)) refl
 
--- an item and its line end leave the item's marks
-one_line : (n : ℕ) (text rest : List ℕ) → marks_from n ((text ++ 10 ∷ []) ++ rest) ≡ marks_from n text ++ marks_from (n + length text + 1) rest
+-- an item and its line end leave the item's bytes with their offsets
+one_line : (n : ℕ) (text rest : List ℕ) → offset_bytes_from n ((text ++ 10 ∷ []) ++ rest) ≡ offset_bytes_from n text ++ offset_bytes_from (n + length text + 1) rest
 one_line n text rest =
     let at : n + length (text ++ 10 ∷ []) ≡ n + length text + 1 = omega (arith, length-append text (10 ∷ [])) in
-    let front : marks_from n (text ++ 10 ∷ []) ≡ marks_from n text = marks_from-append n text (10 ∷ []) ∙ append-nil (marks_from n text) in
-    marks_from-append n (text ++ 10 ∷ []) rest ∙ (ap (λ (x : List Mark). x ++ marks_from (n + length (text ++ 10 ∷ [])) rest) front ∙ ap (λ k. marks_from n text ++ marks_from k rest) at)
+    let front : offset_bytes_from n (text ++ 10 ∷ []) ≡ offset_bytes_from n text = offset_bytes_from-append n text (10 ∷ []) ∙ append-nil (offset_bytes_from n text) in
+    offset_bytes_from-append n (text ++ 10 ∷ []) rest ∙ (ap (λ (x : List OffsetByte). x ++ offset_bytes_from (n + length (text ++ 10 ∷ [])) rest) front ∙ ap (λ k. offset_bytes_from n text ++ offset_bytes_from k rest) at)
 
-is_one : (n : ℕ) (c : Command) → Spells (canonical c) c → IsItem (bytes_of (marks_from n (canonical c)))
+is_one : (n : ℕ) (c : Command) → Spells (canonical c) c → IsItem (bytes_of (offset_bytes_from n (canonical c)))
 is_one n c s = subst IsItem (sym (bytes_of_marks n (canonical c))) s.one
 
 found : (n place : ℕ) (cs : List Command) (before : Entries) → IsSayable cs → Found n place cs before
-unfolding marked
+unfolding items_of_lines
 found n place [] before h = absurd h
 found n place (c ∷ []) before h =
-    let first = first_offset (marks_from n (canonical c)) in
+    let first = first_offset (offset_bytes_from n (canonical c)) in
     record {
       more = placed place first (c ∷ []);
       whole = one_line n (canonical c) [];
@@ -89,24 +85,24 @@ found n place (c ∷ []) before h =
       same = refl;
     }
 found n place (c ∷ d ∷ cs) before h =
-    let first = first_offset (marks_from n (canonical c)) in
+    let first = first_offset (offset_bytes_from n (canonical c)) in
     let now = placed place first (c ∷ []) in
     let rest = found (n + length (canonical c) + 1) (suc place) (d ∷ cs) (before ++ now) h.2 in
-    let not_end : is_end (bytes_of (marks_from n (canonical c))) ≡ false = ap is_end (bytes_of_marks n (canonical c)) ∙ h.1 in
+    let not_end : is_end (bytes_of (offset_bytes_from n (canonical c))) ≡ false = ap is_end (bytes_of_marks n (canonical c)) ∙ h.1 in
     record {
       more = now ++ rest.more;
-      whole = one_line n (canonical c) (lines (d ∷ cs)) ∙ ap (λ (x : List Mark). marks_from n (canonical c) ++ x) rest.whole;
+      whole = one_line n (canonical c) (lines (d ∷ cs)) ∙ ap (λ (x : List OffsetByte). offset_bytes_from n (canonical c) ++ x) rest.whole;
       each = (is_one n c h.0, λ e. absurd (false≢true (sym not_end ∙ e)), rest.each);
-      ends = ap (λ t. t || has_end (marked (n + length (canonical c) + 1) (d ∷ cs))) not_end ∙ rest.ends;
-      commands = ap (λ r. r >>= commands_from (suc place) (marked (n + length (canonical c) + 1) (d ∷ cs))) (says place n c before h.0) ∙ (rest.commands ∙ ap (λ (x : Entries). Ok x) (append_assoc before now rest.more));
+      ends = ap (λ t. t || has_end (items_of_lines (n + length (canonical c) + 1) (d ∷ cs))) not_end ∙ rest.ends;
+      commands = ap (λ r. r >>= commands_from (suc place) (items_of_lines (n + length (canonical c) + 1) (d ∷ cs))) (says place n c before h.0) ∙ (rest.commands ∙ ap (λ (x : Entries). Ok x) (append_assoc before now rest.more));
       same = ap (λ (x : List Command). c ∷ x) rest.same;
     }
 
 pub reads_as : (cs : List Command) (text : List ℕ) → text ≡ lines cs → length text ≤ text_limit → sayable cs ≡ true → ReadsAs text cs
 reads_as cs text is le h =
     let f = found 0 1 cs [] (are_spelled cs h) in
-    let all = marked 0 cs in
-    let splits : Splits (marks (lines cs)) all [] = record { whole = f.whole ∙ sym (append-nil (flat_map (λ (i : List Mark). i) all)); each = f.each; partial = λ none. absurd (false≢true (sym none ∙ f.ends)) } in
+    let all = items_of_lines 0 cs in
+    let splits : Splits (offset_bytes (lines cs)) all [] = record { whole = f.whole ∙ sym (append-nil (flat_map (λ (i : List OffsetByte). i) all)); each = f.each; partial = λ none. absurd (false≢true (sym none ∙ f.ends)) } in
     let short : length (lines cs) ≤ text_limit = subst (λ (t : List ℕ). length t ≤ text_limit) is le in
     let whole : ReadsAs (lines cs) cs = record { entries = f.more; reads = reads_ok (lines cs) all [] f.more splits (shown_ended all [] f.more f.ends f.commands) f.ends short; same = f.same } in
     subst (λ (t : List ℕ). ReadsAs t cs) (sym is) whole

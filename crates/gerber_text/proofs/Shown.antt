@@ -9,13 +9,13 @@ use Rattle.grid_units.specs.declared.fault.Fail.TheVariants as fails
 use Rattle.grid_units.specs.declared.fault.Reason.TheVariants.{TooLong, AfterEnd}
 use Rattle.gerber_text.specs.declared.reader.Progress.{Progress}
 use Rattle.gerber_rows.specs.Items.{is_line_break, ender, IsUnfinished}
-use Rattle.gerber_text.specs.Cut.{Mark, marks_from, marks, bytes_of, first_offset, has_end, Splits}
+use Rattle.gerber_text.specs.Cut.{OffsetByte, offset_bytes_from, offset_bytes, bytes_of, first_offset, has_end, Splits}
 use Rattle.gerber_text.specs.Inner.Bytes.{follows_or_drops}
 use Rattle.grid_units.specs.Results.{◌>>=◌, fault, Tells}
 use Rattle.gerber_text.specs.Reading.{Entries, spelled, commands_from, may_follow, behind_end, shown}
-use Rattle.gerber_text.specs.Standing.{Holds, Stops, Advances, Refuses}
+use Rattle.gerber_text.specs.Holding.{Holds, Stops, Advances, Refuses}
 use Rattle.grid_units.proofs.Binds.{bind_ok, bind_err, guard_ok, guard_err}
-use Rattle.gerber_text.proofs.Marks.{marks-append, first_offset-append}
+use Rattle.gerber_text.proofs.OffsetBytes.{offset_bytes-append, first_offset-append}
 use Rattle.gerber_text.proofs.Splitting.{Splits-grow, Splits-close, IsUnfinished-push, bytes_of-push, commands_from-push}
 use Rattle.grid_units.specs.Limits.{item_limit}
 
@@ -25,7 +25,7 @@ split_first : {A : Type 0} (t : Bool) (x y : A) (d z : A) → cond t x y ≡ z �
 split_first true x y d z e = inl (refl, e)
 split_first false x y d z e = inr (refl, e)
 
-pub behind_end_ok : (place : ℕ) (cs ds : Entries) (rest : List Mark) → behind_end place cs rest ≡ Ok ds → (cs ≡ ds) × ((more : List Mark) → behind_end place cs (rest ++ more) ≡ behind_end place cs more)
+pub behind_end_ok : (place : ℕ) (cs ds : Entries) (rest : List OffsetByte) → behind_end place cs rest ≡ Ok ds → (cs ≡ ds) × ((more : List OffsetByte) → behind_end place cs (rest ++ more) ≡ behind_end place cs more)
 behind_end_ok place cs ds [] e = (cc, λ more. refl)
 behind_end_ok place cs ds (m ∷ ms) e =
     elim (split_first (may_follow m.1) (behind_end place cs ms) (Err (fault place m.0 AfterEnd)) (Ok ds) (Ok ds) e) [
@@ -33,7 +33,7 @@ behind_end_ok place cs ds (m ∷ ms) e =
       | inr h ↦ absurd cc
     ]
 
-behind_end_err : (place : ℕ) (cs : Entries) (rest more : List Mark) (f : Fault) → behind_end place cs rest ≡ Err f → behind_end place cs (rest ++ more) ≡ Err f
+behind_end_err : (place : ℕ) (cs : Entries) (rest more : List OffsetByte) (f : Fault) → behind_end place cs rest ≡ Err f → behind_end place cs (rest ++ more) ≡ Err f
 behind_end_err place cs [] more f e = absurd cc
 behind_end_err place cs (m ∷ ms) more f e =
     elim (split_first (may_follow m.1) (behind_end place cs ms) (Err (fault place m.0 AfterEnd)) (Err f) (Err f) e) [
@@ -41,45 +41,45 @@ behind_end_err place cs (m ∷ ms) more f e =
       | inr h ↦ ap (λ t. cond t (behind_end place cs (ms ++ more)) (Err (fault place m.0 AfterEnd))) h.0 ∙ h.1
     ]
 
-passes : (t : Bool) (n b place : ℕ) (cs : Entries) (ms : List Mark) → (t || may_follow b) ≡ true → behind_end place cs (cond (not t) ((n, b) ∷ ms) ms) ≡ behind_end place cs ms
+passes : (t : Bool) (n b place : ℕ) (cs : Entries) (ms : List OffsetByte) → (t || may_follow b) ≡ true → behind_end place cs (cond (not t) ((n, b) ∷ ms) ms) ≡ behind_end place cs ms
 passes true n b place cs ms h = refl
 passes false n b place cs ms h = ap (λ u. cond u (behind_end place cs ms) (Err (fault place n AfterEnd))) h
 
-stops : (t : Bool) (n b place : ℕ) (cs : Entries) (ms : List Mark) → (t || may_follow b) ≡ false → behind_end place cs (cond (not t) ((n, b) ∷ ms) ms) ≡ Err (fault place n AfterEnd)
+stops : (t : Bool) (n b place : ℕ) (cs : Entries) (ms : List OffsetByte) → (t || may_follow b) ≡ false → behind_end place cs (cond (not t) ((n, b) ∷ ms) ms) ≡ Err (fault place n AfterEnd)
 stops true n b place cs ms h = absurd (false≢true (sym h))
 stops false n b place cs ms h = ap (λ u. cond u (behind_end place cs ms) (Err (fault place n AfterEnd))) h
 
-pub all_follow : (n place : ℕ) (cs : Entries) (bytes : List ℕ) → AllByRecursion (λ b. follows_or_drops b ≡ true) bytes → behind_end place cs (marks_from n bytes) ≡ Ok cs
+pub all_follow : (n place : ℕ) (cs : Entries) (bytes : List ℕ) → AllByRecursion (λ b. follows_or_drops b ≡ true) bytes → behind_end place cs (offset_bytes_from n bytes) ≡ Ok cs
 all_follow n place cs [] h = refl
-all_follow n place cs (b ∷ bytes) h = passes (is_line_break b) n b place cs (marks_from (n + 1) bytes) h.0 ∙ all_follow (n + 1) place cs bytes h.1
+all_follow n place cs (b ∷ bytes) h = passes (is_line_break b) n b place cs (offset_bytes_from (n + 1) bytes) h.0 ∙ all_follow (n + 1) place cs bytes h.1
 
-pub stray : (n place : ℕ) (cs : Entries) (bytes : List ℕ) (i : ℕ) → i < length bytes → AllByRecursion (λ b. follows_or_drops b ≡ true) (take i bytes) → follows_or_drops (get_or bytes i 0) ≡ false → behind_end place cs (marks_from n bytes) ≡ Err (fault place (n + i) AfterEnd)
+pub stray : (n place : ℕ) (cs : Entries) (bytes : List ℕ) (i : ℕ) → i < length bytes → AllByRecursion (λ b. follows_or_drops b ≡ true) (take i bytes) → follows_or_drops (get_or bytes i 0) ≡ false → behind_end place cs (offset_bytes_from n bytes) ≡ Err (fault place (n + i) AfterEnd)
 stray n place cs [] i lt h k = absurd (omega arith)
 stray n place cs (b ∷ bytes) zero lt h k =
     let j : n ≡ n + 0 = omega arith in
-    stops (is_line_break b) n b place cs (marks_from (n + 1) bytes) k ∙ ap (λ at. Err (fault place at AfterEnd)) j
+    stops (is_line_break b) n b place cs (offset_bytes_from (n + 1) bytes) k ∙ ap (λ at. Err (fault place at AfterEnd)) j
 stray n place cs (b ∷ bytes) (suc i) lt h k =
     let j : (n + 1) + i ≡ n + suc i = omega arith in
-    passes (is_line_break b) n b place cs (marks_from (n + 1) bytes) h.0 ∙ (stray (n + 1) place cs bytes i (omega arith) h.1 k ∙ ap (λ at. Err (fault place at AfterEnd)) j)
+    passes (is_line_break b) n b place cs (offset_bytes_from (n + 1) bytes) h.0 ∙ (stray (n + 1) place cs bytes i (omega arith) h.1 k ∙ ap (λ at. Err (fault place at AfterEnd)) j)
 
 -- ---- what is shown
 
-pub running_ok : (items : List (List Mark)) (rest : List Mark) (cs : Entries) → has_end items ≡ false → shown items rest ≡ Ok cs → (commands_from 1 items [] ≡ Ok cs) × (length rest ≤ item_limit)
+pub running_ok : (items : List (List OffsetByte)) (rest : List OffsetByte) (cs : Entries) → has_end items ≡ false → shown items rest ≡ Ok cs → (commands_from 1 items [] ≡ Ok cs) × (length rest ≤ item_limit)
 running_ok items rest cs none e =
     let b = bind_ok (commands_from 1 items []) (λ commands. cond (has_end items) (behind_end (suc (length items)) commands rest) (cond (ltb item_limit (length rest)) (Err (fault (suc (length items)) (first_offset rest) TooLong)) (Ok commands))) cs e in
     let g = guard_ok (ltb item_limit (length rest)) (fault (suc (length items)) (first_offset rest) TooLong) b.0 cs (sym (ap (λ t. cond t (behind_end (suc (length items)) b.0 rest) (cond (ltb item_limit (length rest)) (Err (fault (suc (length items)) (first_offset rest) TooLong)) (Ok b.0))) none) ∙ b.2) in
     (b.1 ∙ ap (λ (x : Entries). Ok x) g.1, ltb-false _ _ g.0)
 
-pub show_ok : (items : List (List Mark)) (rest : List Mark) (cs : Entries) → has_end items ≡ false → commands_from 1 items [] ≡ Ok cs → length rest ≤ item_limit → shown items rest ≡ Ok cs
+pub show_ok : (items : List (List OffsetByte)) (rest : List OffsetByte) (cs : Entries) → has_end items ≡ false → commands_from 1 items [] ≡ Ok cs → length rest ≤ item_limit → shown items rest ≡ Ok cs
 show_ok items rest cs none e le = rw (e, none, le-ltb _ _ le) refl
 
-pub show_long : (items : List (List Mark)) (rest : List Mark) (cs : Entries) → has_end items ≡ false → commands_from 1 items [] ≡ Ok cs → item_limit < length rest → shown items rest ≡ Err (fault (suc (length items)) (first_offset rest) TooLong)
+pub show_long : (items : List (List OffsetByte)) (rest : List OffsetByte) (cs : Entries) → has_end items ≡ false → commands_from 1 items [] ≡ Ok cs → item_limit < length rest → shown items rest ≡ Err (fault (suc (length items)) (first_offset rest) TooLong)
 show_long items rest cs none e lt = rw (e, none, lt-ltb _ _ lt) refl
 
-pub shown_ended : (items : List (List Mark)) (rest : List Mark) (cs : Entries) → has_end items ≡ true → commands_from 1 items [] ≡ Ok cs → shown items rest ≡ behind_end (suc (length items)) cs rest
+pub shown_ended : (items : List (List OffsetByte)) (rest : List OffsetByte) (cs : Entries) → has_end items ≡ true → commands_from 1 items [] ≡ Ok cs → shown items rest ≡ behind_end (suc (length items)) cs rest
 shown_ended items rest cs some e = rw (e, some) refl
 
-pub ended_more : (items : List (List Mark)) (rest more : List Mark) (cs : Entries) → has_end items ≡ true → shown items rest ≡ Ok cs → shown items (rest ++ more) ≡ behind_end (suc (length items)) cs more
+pub ended_more : (items : List (List OffsetByte)) (rest more : List OffsetByte) (cs : Entries) → has_end items ≡ true → shown items rest ≡ Ok cs → shown items (rest ++ more) ≡ behind_end (suc (length items)) cs more
 ended_more items rest more cs some e =
     let b = bind_ok (commands_from 1 items []) (λ commands. cond (has_end items) (behind_end (suc (length items)) commands rest) (cond (ltb item_limit (length rest)) (Err (fault (suc (length items)) (first_offset rest) TooLong)) (Ok commands))) cs e in
     let r = behind_end_ok (suc (length items)) b.0 cs rest (sym (ap (λ t. cond t (behind_end (suc (length items)) b.0 rest) (cond (ltb item_limit (length rest)) (Err (fault (suc (length items)) (first_offset rest) TooLong)) (Ok b.0))) some) ∙ b.2) in
@@ -91,7 +91,7 @@ rest_shows false place (Ok x) = refl
 rest_shows t place (Err x) = refl
 
 -- the items with one more, behind which nothing stands
-pub show_push : (items : List (List Mark)) (item : List Mark) (cs : Entries) → commands_from 1 items [] ≡ Ok cs → shown (items ++ item ∷ []) [] ≡ spelled (suc (length items)) (first_offset item) (bytes_of item) cs
+pub show_push : (items : List (List OffsetByte)) (item : List OffsetByte) (cs : Entries) → commands_from 1 items [] ≡ Ok cs → shown (items ++ item ∷ []) [] ≡ spelled (suc (length items)) (first_offset item) (bytes_of item) cs
 show_push items item cs e =
     let k : 1 + length items ≡ suc (length items) = omega arith in
     let cmds : commands_from 1 (items ++ item ∷ []) [] ≡ spelled (suc (length items)) (first_offset item) (bytes_of item) cs = commands_from-push 1 items item [] ∙ (ap (λ r. r >>= spelled (1 + length items) (first_offset item) (bytes_of item)) e ∙ ap (λ p. spelled p (first_offset item) (bytes_of item) cs) k) in
@@ -99,15 +99,15 @@ show_push items item cs e =
 
 -- ---- a fault stays, and the items before it
 
--- the same marks with one more: other items behind the same first ones, and the same fault
-pub record Pushed (ms : List Mark) (m : Mark) (items : List (List Mark)) (rest : List Mark) : Type 0 where
-  pub more : List (List Mark)
-  pub left : List Mark
+-- the same bytes with their offsets with one more: other items behind the same first ones, and the same fault
+pub record Pushed (ms : List OffsetByte) (m : OffsetByte) (items : List (List OffsetByte)) (rest : List OffsetByte) : Type 0 where
+  pub more : List (List OffsetByte)
+  pub left : List OffsetByte
   pub splits : Splits (ms ++ m ∷ []) more left
   pub front : (n : ℕ) → n ≤ length items → (n ≤ length more) × (take n more ≡ take n items)
   pub stays : (f : Fault) → shown items rest ≡ Err f → shown more left ≡ Err f
 
-pushed_ended : (ms : List Mark) (m : Mark) (items : List (List Mark)) (rest : List Mark) → has_end items ≡ true → Splits ms items rest → Pushed ms m items rest
+pushed_ended : (ms : List OffsetByte) (m : OffsetByte) (items : List (List OffsetByte)) (rest : List OffsetByte) → has_end items ≡ true → Splits ms items rest → Pushed ms m items rest
 pushed_ended ms m items rest some s =
     let place = suc (length items) in
     record {
@@ -124,7 +124,7 @@ pushed_ended ms m items rest some s =
     }
 
 -- where the text has not ended, the fault is that of an item, or the rest is too long
-running_err : (items : List (List Mark)) (rest : List Mark) (f : Fault) → has_end items ≡ false → shown items rest ≡ Err f
+running_err : (items : List (List OffsetByte)) (rest : List OffsetByte) (f : Fault) → has_end items ≡ false → shown items rest ≡ Err f
     → (commands_from 1 items [] ≡ Err f) ⊎ ((cs : Entries) × (commands_from 1 items [] ≡ Ok cs) × (item_limit < length rest) × (fault (suc (length items)) (first_offset rest) TooLong ≡ f))
 running_err items rest f none e =
     let place = suc (length items) in
@@ -134,10 +134,10 @@ running_err items rest f none e =
       | inr h ↦ (let g = guard_err (ltb item_limit (length rest)) (fault place (first_offset rest) TooLong) f h.0 h.2 in inr (h.0, h.1, ltb-true _ _ g.0, g.1))
     ]
 
-first_err : (items : List (List Mark)) (rest : List Mark) (f : Fault) → commands_from 1 items [] ≡ Err f → shown items rest ≡ Err f
+first_err : (items : List (List OffsetByte)) (rest : List OffsetByte) (f : Fault) → commands_from 1 items [] ≡ Err f → shown items rest ≡ Err f
 first_err items rest f e = rw e refl
 
-pushed_inside : (ms : List Mark) (m : Mark) (items : List (List Mark)) (rest : List Mark) → has_end items ≡ false → m.1 ≢ ender (bytes_of rest) → Splits ms items rest → Pushed ms m items rest
+pushed_inside : (ms : List OffsetByte) (m : OffsetByte) (items : List (List OffsetByte)) (rest : List OffsetByte) → has_end items ≡ false → m.1 ≢ ender (bytes_of rest) → Splits ms items rest → Pushed ms m items rest
 pushed_inside ms m items rest none inside s = record {
   more = items;
   left = rest ++ m ∷ [];
@@ -155,15 +155,15 @@ pub too_long : (place byte : ℕ) (bytes : List ℕ) (before : Entries) → item
 unfolding spelled
 too_long place byte bytes before lt = rw (lt-ltb _ _ lt) refl
 
-show_push_err : (items : List (List Mark)) (item : List Mark) (f : Fault) → commands_from 1 items [] ≡ Err f → shown (items ++ item ∷ []) [] ≡ Err f
+show_push_err : (items : List (List OffsetByte)) (item : List OffsetByte) (f : Fault) → commands_from 1 items [] ≡ Err f → shown (items ++ item ∷ []) [] ≡ Err f
 show_push_err items item f e =
     let cmds : commands_from 1 (items ++ item ∷ []) [] ≡ Err f = commands_from-push 1 items item [] ∙ ap (λ r. r >>= spelled (1 + length items) (first_offset item) (bytes_of item)) e in
     first_err (items ++ item ∷ []) [] f cmds
 
-pub front_of_push : (items : List (List Mark)) (item : List Mark) (n : ℕ) → n ≤ length items → (n ≤ length (items ++ item ∷ [])) × (take n (items ++ item ∷ []) ≡ take n items)
+pub front_of_push : (items : List (List OffsetByte)) (item : List OffsetByte) (n : ℕ) → n ≤ length items → (n ≤ length (items ++ item ∷ [])) × (take n (items ++ item ∷ []) ≡ take n items)
 front_of_push items item n h = (omega (arith, length-append items (item ∷ [])), rw take-append-le refl)
 
-pushed_last : (ms : List Mark) (m : Mark) (items : List (List Mark)) (rest : List Mark) → has_end items ≡ false → m.1 ≡ ender (bytes_of rest) → Splits ms items rest → Pushed ms m items rest
+pushed_last : (ms : List OffsetByte) (m : OffsetByte) (items : List (List OffsetByte)) (rest : List OffsetByte) → has_end items ≡ false → m.1 ≡ ender (bytes_of rest) → Splits ms items rest → Pushed ms m items rest
 pushed_last ms m items rest none last s = record {
   more = items ++ (rest ++ m ∷ []) ∷ [];
   left = [];
@@ -172,20 +172,20 @@ pushed_last ms m items rest none last s = record {
   stays = λ f e. elim (running_err items rest f none e) [
     | inl h ↦ show_push_err items (rest ++ m ∷ []) f h
     | inr h ↦ (let long : 0 < length rest = omega (arith, h.2) in
-        show_push items (rest ++ m ∷ []) h.0 h.1 ∙ (too_long (suc (length items)) (first_offset (rest ++ m ∷ [])) (bytes_of (rest ++ m ∷ [])) h.0 (omega (arith, h.2, length-append rest (m ∷ []), length-map (rest ++ m ∷ []) (λ (x : Mark). x.1))) ∙ (ap (λ at. Err (fault (suc (length items)) at TooLong)) (first_offset-append rest (m ∷ []) long) ∙ ap (λ (g : Fault). Err g) h.3)))
+        show_push items (rest ++ m ∷ []) h.0 h.1 ∙ (too_long (suc (length items)) (first_offset (rest ++ m ∷ [])) (bytes_of (rest ++ m ∷ [])) h.0 (omega (arith, h.2, length-append rest (m ∷ []), length-map (rest ++ m ∷ []) (λ (x : OffsetByte). x.1))) ∙ (ap (λ at. Err (fault (suc (length items)) at TooLong)) (first_offset-append rest (m ∷ []) long) ∙ ap (λ (g : Fault). Err g) h.3)))
   ];
 }
 
-pub by_end : (t u : Bool) (ms : List Mark) (m : Mark) (items : List (List Mark)) (rest : List Mark) → has_end items ≡ t → eqb m.1 (ender (bytes_of rest)) ≡ u → Splits ms items rest → Pushed ms m items rest
+pub by_end : (t u : Bool) (ms : List OffsetByte) (m : OffsetByte) (items : List (List OffsetByte)) (rest : List OffsetByte) → has_end items ≡ t → eqb m.1 (ender (bytes_of rest)) ≡ u → Splits ms items rest → Pushed ms m items rest
 by_end true u ms m items rest h k s = pushed_ended ms m items rest h s
 by_end false true ms m items rest h k s = pushed_last ms m items rest h (eqb-true _ _ k) s
 by_end false false ms m items rest h k s = pushed_inside ms m items rest h (eqb-false _ _ k) s
 
-told_stays : (items more : List (List Mark)) (rest left : List Mark) (kept : ℕ) (e : Fail) → ((f : Fault) → shown items rest ≡ Err f → shown more left ≡ Err f) → Tells (λ f. (shown items rest ≡ Err f) × (f.place ≡ suc kept)) e → Tells (λ f. (shown more left ≡ Err f) × (f.place ≡ suc kept)) e
+told_stays : (items more : List (List OffsetByte)) (rest left : List OffsetByte) (kept : ℕ) (e : Fail) → ((f : Fault) → shown items rest ≡ Err f → shown more left ≡ Err f) → Tells (λ f. (shown items rest ≡ Err f) × (f.place ≡ suc kept)) e → Tells (λ f. (shown more left ≡ Err f) × (f.place ≡ suc kept)) e
 told_stays items more rest left kept fails.Memory stays h = tt
 told_stays items more rest left kept (fails.Refused f) stays h = (stays f h.0, h.1)
 
-stops_push : (ms : List Mark) (m : Mark) (cs : Entries) (e : Fail) → Stops ms cs e → Stops (ms ++ m ∷ []) cs e
+stops_push : (ms : List OffsetByte) (m : OffsetByte) (cs : Entries) (e : Fail) → Stops ms cs e → Stops (ms ++ m ∷ []) cs e
 stops_push ms m cs e h =
     let p = by_end (has_end h.items) (eqb m.1 (ender (bytes_of h.rest))) ms m h.items h.rest refl refl h.splits in
     let f = p.front h.kept h.within in
@@ -195,18 +195,18 @@ stops_push ms m cs e h =
       splits = p.splits;
       kept = h.kept;
       within = f.0;
-      spelled = ap (λ (x : List (List Mark)). commands_from 1 x []) f.1 ∙ h.spelled;
+      spelled = ap (λ (x : List (List OffsetByte)). commands_from 1 x []) f.1 ∙ h.spelled;
       told = told_stays h.items p.more h.rest p.left h.kept e p.stays h.told;
     }
 
-pub stops_stay : (ms more : List Mark) (cs : Entries) (e : Fail) → Stops ms cs e → Stops (ms ++ more) cs e
-stops_stay ms [] cs e h = subst (λ (x : List Mark). Stops x cs e) (sym (append-nil ms)) h
+pub stops_stay : (ms more : List OffsetByte) (cs : Entries) (e : Fail) → Stops ms cs e → Stops (ms ++ more) cs e
+stops_stay ms [] cs e h = subst (λ (x : List OffsetByte). Stops x cs e) (sym (append-nil ms)) h
 stops_stay ms (m ∷ more) cs e h =
-    subst (λ (x : List Mark). Stops x cs e) (append_assoc ms (m ∷ []) more) (stops_stay (ms ++ m ∷ []) more cs e (stops_push ms m cs e h))
+    subst (λ (x : List OffsetByte). Stops x cs e) (append_assoc ms (m ∷ []) more) (stops_stay (ms ++ m ∷ []) more cs e (stops_push ms m cs e h))
 
 -- ---- readers
 
-shown_spelled_by : (t : Bool) (items : List (List Mark)) (rest : List Mark) (cs : Entries) → has_end items ≡ t → shown items rest ≡ Ok cs → commands_from 1 items [] ≡ Ok cs
+shown_spelled_by : (t : Bool) (items : List (List OffsetByte)) (rest : List OffsetByte) (cs : Entries) → has_end items ≡ t → shown items rest ≡ Ok cs → commands_from 1 items [] ≡ Ok cs
 shown_spelled_by false items rest cs none e = (running_ok items rest cs none e).0
 shown_spelled_by true items rest cs some e =
     let b = bind_ok (commands_from 1 items []) (λ commands. cond (has_end items) (behind_end (suc (length items)) commands rest) (cond (ltb item_limit (length rest)) (Err (fault (suc (length items)) (first_offset rest) TooLong)) (Ok commands))) cs e in
@@ -214,19 +214,19 @@ shown_spelled_by true items rest cs some e =
     b.1 ∙ ap (λ (x : Entries). Ok x) r.0
 
 -- where no fault is shown, the items alone spell the commands
-pub shown_spelled : (items : List (List Mark)) (rest : List Mark) (cs : Entries) → shown items rest ≡ Ok cs → commands_from 1 items [] ≡ Ok cs
+pub shown_spelled : (items : List (List OffsetByte)) (rest : List OffsetByte) (cs : Entries) → shown items rest ≡ Ok cs → commands_from 1 items [] ≡ Ok cs
 shown_spelled items rest cs e = shown_spelled_by (has_end items) items rest cs refl e
 
 pub kept_all : (r : Progress) (gone : Entries) (text : List ℕ) (h : Holds r gone text) → commands_from 1 (take (length h.items) h.items) [] ≡ Ok (gone ++ r.commands.items)
-kept_all r gone text h = ap (λ (x : List (List Mark)). commands_from 1 x []) (take_all (length h.items) h.items (omega arith)) ∙ shown_spelled h.items h.rest (gone ++ r.commands.items) h.commands
+kept_all r gone text h = ap (λ (x : List (List OffsetByte)). commands_from 1 x []) (take_all (length h.items) h.items (omega arith)) ∙ shown_spelled h.items h.rest (gone ++ r.commands.items) h.commands
 
-pub kept_pushed : (r : Progress) (gone : Entries) (text : List ℕ) (h : Holds r gone text) (item : List Mark) → commands_from 1 (take (length h.items) (h.items ++ item ∷ [])) [] ≡ Ok (gone ++ r.commands.items)
-kept_pushed r gone text h item = ap (λ (x : List (List Mark)). commands_from 1 x []) (front_of_push h.items item (length h.items) (omega arith)).1 ∙ kept_all r gone text h
+pub kept_pushed : (r : Progress) (gone : Entries) (text : List ℕ) (h : Holds r gone text) (item : List OffsetByte) → commands_from 1 (take (length h.items) (h.items ++ item ∷ [])) [] ≡ Ok (gone ++ r.commands.items)
+kept_pushed r gone text h item = ap (λ (x : List (List OffsetByte)). commands_from 1 x []) (front_of_push h.items item (length h.items) (omega arith)).1 ∙ kept_all r gone text h
 
 -- running out of memory stops a reader anywhere, with the commands that it has
 pub out_of_memory : (old : Progress) (left : Entries) (bytes : List ℕ) → left ≡ old.commands.items → Refuses old left bytes fails.Memory
 out_of_memory old left bytes same = λ gone text h.
-    let here : Stops (marks text) (gone ++ left) fails.Memory = record {
+    let here : Stops (offset_bytes text) (gone ++ left) fails.Memory = record {
       items = h.items;
       rest = h.rest;
       splits = h.splits;
@@ -235,18 +235,18 @@ out_of_memory old left bytes same = λ gone text h.
       spelled = kept_all old gone text h ∙ ap (λ (x : Entries). Ok (gone ++ x)) (sym same);
       told = tt;
     } in
-    subst (λ (x : List Mark). Stops x (gone ++ left) fails.Memory) (sym (marks-append text bytes)) (stops_stay (marks text) (marks_from (length text) bytes) (gone ++ left) fails.Memory here)
+    subst (λ (x : List OffsetByte). Stops x (gone ++ left) fails.Memory) (sym (offset_bytes-append text bytes)) (stops_stay (offset_bytes text) (offset_bytes_from (length text) bytes) (gone ++ left) fails.Memory here)
 
 pub Refuses-longer : (old : Progress) (left : Entries) (xs ys : List ℕ) (e : Fail) → Refuses old left xs e → Refuses old left (xs ++ ys) e
 Refuses-longer old left xs ys e h = λ gone text holds.
-    let joined : marks (text ++ (xs ++ ys)) ≡ marks (text ++ xs) ++ marks_from (length (text ++ xs)) ys = ap marks (sym (append_assoc text xs ys)) ∙ marks-append (text ++ xs) ys in
-    subst (λ (x : List Mark). Stops x (gone ++ left) e) (sym joined) (stops_stay (marks (text ++ xs)) (marks_from (length (text ++ xs)) ys) (gone ++ left) e (h gone text holds))
+    let joined : offset_bytes (text ++ (xs ++ ys)) ≡ offset_bytes (text ++ xs) ++ offset_bytes_from (length (text ++ xs)) ys = ap offset_bytes (sym (append_assoc text xs ys)) ∙ offset_bytes-append (text ++ xs) ys in
+    subst (λ (x : List OffsetByte). Stops x (gone ++ left) e) (sym joined) (stops_stay (offset_bytes (text ++ xs)) (offset_bytes_from (length (text ++ xs)) ys) (gone ++ left) e (h gone text holds))
 
 pub Advances-then : (a b c : Progress) (xs ys : List ℕ) → Advances a b xs → Advances b c ys → Advances a c (xs ++ ys)
 Advances-then a b c xs ys h k = λ gone text holds. subst (Holds c gone) (append_assoc text xs ys) (k gone (text ++ xs) (h gone text holds))
 
 pub Refuses-then : (a b : Progress) (left : Entries) (xs ys : List ℕ) (e : Fail) → Advances a b xs → Refuses b left ys e → Refuses a left (xs ++ ys) e
-Refuses-then a b left xs ys e h k = λ gone text holds. subst (λ (x : List ℕ). Stops (marks x) (gone ++ left) e) (append_assoc text xs ys) (k gone (text ++ xs) (h gone text holds))
+Refuses-then a b left xs ys e h k = λ gone text holds. subst (λ (x : List ℕ). Stops (offset_bytes x) (gone ++ left) e) (append_assoc text xs ys) (k gone (text ++ xs) (h gone text holds))
 
 pub Refuses-first : (old : Progress) (left : Entries) (bytes : List ℕ) (e : Fail) → 0 < length bytes → Refuses old left (get_or bytes 0 0 ∷ []) e → Refuses old left bytes e
 Refuses-first old left [] e some h = absurd (omega arith)

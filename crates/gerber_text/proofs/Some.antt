@@ -3,27 +3,27 @@ use Rattle.std.proofs.Common.{◌≡◌, ◌↔◌, ℕ, List, [], ◌∷◌, �
 use Rattle.std.proofs.lemmas.List.{append-nil}
 use Rattle.grid_units.specs.declared.fault.Fault.{Fault}
 use Rattle.gerber_rows.specs.Items.{ender}
-use Rattle.gerber_text.specs.Cut.{Mark, marks, bytes_of, has_end, Splits}
+use Rattle.gerber_text.specs.Cut.{OffsetByte, offset_bytes, bytes_of, has_end, Splits}
 use Rattle.gerber_text.specs.Reading.{Entries, read_in, Reads, SpellsText}
 use Rattle.gerber_text.proofs.Shown.{by_end}
 use Rattle.gerber_text.proofs.Spelling.{reads_spells, spells_reads}
 use Rattle.grid_units.specs.Limits.{text_limit}
 
-abbrev IsCutUp : List Mark → Type 0
-IsCutUp ms = (items : List (List Mark)) × (rest : List Mark) × Splits ms items rest
+abbrev IsCutUp : List OffsetByte → Type 0
+IsCutUp ms = (items : List (List OffsetByte)) × (rest : List OffsetByte) × Splits ms items rest
 
-cut_on : (done todo : List Mark) (items : List (List Mark)) (rest : List Mark) → Splits done items rest → IsCutUp (done ++ todo)
-cut_on done [] items rest s = (items, rest, subst (λ (ms : List Mark). Splits ms items rest) (sym (append-nil done)) s)
+cut_on : (done todo : List OffsetByte) (items : List (List OffsetByte)) (rest : List OffsetByte) → Splits done items rest → IsCutUp (done ++ todo)
+cut_on done [] items rest s = (items, rest, subst (λ (ms : List OffsetByte). Splits ms items rest) (sym (append-nil done)) s)
 cut_on done (m ∷ ms) items rest s =
     let p = by_end (has_end items) (eqb m.1 (ender (bytes_of rest))) done m items rest refl refl s in
     subst IsCutUp (append_assoc done (m ∷ []) ms) (cut_on (done ++ m ∷ []) ms p.more p.left p.splits)
 
-cut_up : (ms : List Mark) → IsCutUp ms
+cut_up : (ms : List OffsetByte) → IsCutUp ms
 cut_up ms = cut_on [] ms [] [] (record { whole = refl; each = tt; partial = λ _. tt })
 
 pub some_reading : (text : List ℕ) → (answer : Result Entries Fault) × Reads text answer
 some_reading text =
-    let c = cut_up (marks (take text_limit text)) in
+    let c = cut_up (offset_bytes (take text_limit text)) in
     (read_in (length text) c.0 c.1, record { items = c.0; rest = c.1; splits = c.2; answer_is = refl })
 
 pub spelled_reading : (text : List ℕ) (commands : Entries) → SpellsText text commands ↔ Reads text (Ok commands)

@@ -13,22 +13,22 @@ use Rattle.gerber_rows.specs.declared.command.Command.{Command}
 use Rattle.gerber_text.specs.declared.placed.Placed.{Placed}
 use Rattle.grid_units.specs.Results.{fault, Answers, AnswersAlways}
 use Rattle.grid_units.proofs.Binds.{bind_ok}
-use Rattle.gerber_text.specs.Cut.{Mark, marks, bytes_of, first_offset, has_end, Splits}
+use Rattle.gerber_text.specs.Cut.{OffsetByte, offset_bytes, bytes_of, first_offset, has_end, Splits}
 use Rattle.gerber_text.specs.Reading.{Entries, shown, ended, Reads, is_blank, may_follow, behind_end, SpellsText, entries_of}
 use Rattle.gerber_text.proofs.Shown.{shown_spelled, shown_ended}
 use Rattle.gerber_text.proofs.Unique.{one_read}
 use Rattle.gerber_text.proofs.Whole.{reads_ok}
 use Rattle.grid_units.specs.Limits.{text_limit}
 
-follow_by : (t : Bool) (m : Mark) (ms : List Mark) (place : ℕ) (cs ds : Entries) → may_follow m.1 ≡ t → behind_end place cs (m ∷ ms) ≡ Ok ds → (may_follow m.1 ≡ true) × (behind_end place cs ms ≡ Ok ds)
+follow_by : (t : Bool) (m : OffsetByte) (ms : List OffsetByte) (place : ℕ) (cs ds : Entries) → may_follow m.1 ≡ t → behind_end place cs (m ∷ ms) ≡ Ok ds → (may_follow m.1 ≡ true) × (behind_end place cs ms ≡ Ok ds)
 follow_by true m ms place cs ds h e = (h, sym (ap (λ t. cond t (behind_end place cs ms) (Err (fault place m.0 AfterEnd))) h) ∙ e)
 follow_by false m ms place cs ds h e = let no : Err (fault place m.0 AfterEnd) ≡ Ok ds = sym (ap (λ t. cond t (behind_end place cs ms) (Err (fault place m.0 AfterEnd))) h) ∙ e in absurd cc
 
-tail_follows : (place : ℕ) (cs ds : Entries) (rest : List Mark) → behind_end place cs rest ≡ Ok ds → AllByRecursion (λ m. may_follow m.1 ≡ true) rest
+tail_follows : (place : ℕ) (cs ds : Entries) (rest : List OffsetByte) → behind_end place cs rest ≡ Ok ds → AllByRecursion (λ m. may_follow m.1 ≡ true) rest
 tail_follows place cs ds [] e = tt
 tail_follows place cs ds (m ∷ ms) e = let r = follow_by (may_follow m.1) m ms place cs ds refl e in (r.0, tail_follows place cs ds ms r.1)
 
-follows_tail : (place : ℕ) (cs : Entries) (rest : List Mark) → AllByRecursion (λ m. may_follow m.1 ≡ true) rest → behind_end place cs rest ≡ Ok cs
+follows_tail : (place : ℕ) (cs : Entries) (rest : List OffsetByte) → AllByRecursion (λ m. may_follow m.1 ≡ true) rest → behind_end place cs rest ≡ Ok cs
 follows_tail place cs [] h = refl
 follows_tail place cs (m ∷ ms) h = ap (λ t. cond t (behind_end place cs ms) (Err (fault place m.0 AfterEnd))) h.0 ∙ follows_tail place cs ms h.1
 
@@ -41,11 +41,11 @@ last_ok false false d f x y e = absurd cc
 ok_same : (r : Result Entries Fault) (x y : Entries) → r ≡ Ok x → r ≡ Ok y → x ≡ y
 ok_same r x y p q = cc
 
-final : ℕ → List (List Mark) → List Mark → Entries → Result Entries Fault
+final : ℕ → List (List OffsetByte) → List OffsetByte → Entries → Result Entries Fault
 final len items rest commands = cond (ltb text_limit len) (Err (fault (suc (length items)) text_limit TooLong)) (ended len items rest commands)
 
 -- what stands when the items and what follows them gave a value
-read_ends : (len : ℕ) (items : List (List Mark)) (rest : List Mark) (cs ds : Entries) → final len items rest cs ≡ Ok ds → (ltb text_limit len ≡ false) × (has_end items ≡ true) × (cs ≡ ds)
+read_ends : (len : ℕ) (items : List (List OffsetByte)) (rest : List OffsetByte) (cs ds : Entries) → final len items rest cs ≡ Ok ds → (ltb text_limit len ≡ false) × (has_end items ≡ true) × (cs ≡ ds)
 unfolding final
 read_ends len items rest cs ds e =
     let byte = cond (list_all is_blank (bytes_of rest)) len (first_offset rest) in
@@ -64,7 +64,7 @@ reads_spells text cs r =
     record {
       items = r.items;
       tail = r.rest;
-      splits = subst (λ (t : List ℕ). Splits (marks t) r.items r.rest) (take_all text_limit text short) r.splits;
+      splits = subst (λ (t : List ℕ). Splits (offset_bytes t) r.items r.rest) (take_all text_limit text short) r.splits;
       ends = g.1;
       spelled = spelled;
       follows = tail_follows (suc (length r.items)) cs cs r.rest (sym (shown_ended r.items r.rest cs g.1 spelled) ∙ shows);

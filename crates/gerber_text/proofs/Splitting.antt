@@ -5,11 +5,11 @@ use Rattle.std.proofs.lemmas.List.{append-nil, map-append}
 use Rattle.std.proofs.lemmas.List.Concat.{flat_map-append}
 use Rattle.std.proofs.lemmas.List.Folds.{list_any-append}
 use Rattle.std.proofs.lemmas.Bool.{false≢true}
-use Rattle.gerber_rows.specs.Items.{ender, behind_mark, IsUnfinished, IsItem, is_end}
-use Rattle.gerber_text.specs.Cut.{Mark, bytes_of, first_offset, has_end, AreItems, Splits}
+use Rattle.gerber_rows.specs.Items.{ender, behind_percent, IsUnfinished, IsItem, is_end}
+use Rattle.gerber_text.specs.Cut.{OffsetByte, bytes_of, first_offset, has_end, AreItems, Splits}
 use Rattle.grid_units.specs.Results.{◌>>=◌}
 use Rattle.gerber_text.specs.Reading.{Entries, spelled, commands_from}
-use Rattle.gerber_text.proofs.Marks.{AllR-append}
+use Rattle.gerber_text.proofs.OffsetBytes.{AllR-append}
 use Rattle.grid_units.proofs.Binds.{bind_same, bind_Ok}
 
 -- ---- unfinished items
@@ -22,7 +22,7 @@ cond-append false b bs run = refl
 pub IsUnfinished-append : (a run : List ℕ) → 0 < length a → IsUnfinished a → AllByRecursion (λ b. b ≢ ender a) run → IsUnfinished (a ++ run)
 IsUnfinished-append [] run long h k = absurd (omega arith)
 IsUnfinished-append (b ∷ bs) run long h k =
-    subst (λ (x : List ℕ). AllByRecursion (λ y. y ≢ ender (b ∷ bs)) x) (sym (cond-append (eqb b 37) b bs run)) (AllR-append (λ y. y ≢ ender (b ∷ bs)) (behind_mark (b ∷ bs)) run h k)
+    subst (λ (x : List ℕ). AllByRecursion (λ y. y ≢ ender (b ∷ bs)) x) (sym (cond-append (eqb b 37) b bs run)) (AllR-append (λ y. y ≢ ender (b ∷ bs)) (behind_percent (b ∷ bs)) run h k)
 
 begins : (t : Bool) (b : ℕ) → eqb b 37 ≡ t → b ≢ 42 → AllByRecursion (λ y. y ≢ cond t 37 42) (cond t [] (b ∷ []))
 begins true b e h = tt
@@ -47,11 +47,11 @@ or_right : (a : Bool) → (a || false) ≡ a
 or_right true = refl
 or_right false = refl
 
-pub has_end-push : (items : List (List Mark)) (item : List Mark) → has_end items ≡ false → has_end (items ++ item ∷ []) ≡ is_end (bytes_of item)
+pub has_end-push : (items : List (List OffsetByte)) (item : List OffsetByte) → has_end items ≡ false → has_end (items ++ item ∷ []) ≡ is_end (bytes_of item)
 has_end-push items item h =
-    list_any-append (λ (i : List Mark). is_end (bytes_of i)) items (item ∷ []) ∙ (ap (λ t. t || (is_end (bytes_of item) || false)) h ∙ or_right (is_end (bytes_of item)))
+    list_any-append (λ (i : List OffsetByte). is_end (bytes_of i)) items (item ∷ []) ∙ (ap (λ t. t || (is_end (bytes_of item) || false)) h ∙ or_right (is_end (bytes_of item)))
 
-AreItems-push : (items : List (List Mark)) (item : List Mark) → AreItems items → has_end items ≡ false → IsItem (bytes_of item) → AreItems (items ++ item ∷ [])
+AreItems-push : (items : List (List OffsetByte)) (item : List OffsetByte) → AreItems items → has_end items ≡ false → IsItem (bytes_of item) → AreItems (items ++ item ∷ [])
 AreItems-push [] item h none i = (i, λ _. refl, tt)
 AreItems-push (x ∷ items) item h none i =
     let e = or_false (is_end (bytes_of x)) (has_end items) none in
@@ -59,22 +59,22 @@ AreItems-push (x ∷ items) item h none i =
 
 -- ---- splitting a text that goes on
 
-pub Splits-grow : (ms : List Mark) (items : List (List Mark)) (rest more : List Mark) → Splits ms items rest → (has_end items ≡ false → IsUnfinished (bytes_of (rest ++ more))) → Splits (ms ++ more) items (rest ++ more)
+pub Splits-grow : (ms : List OffsetByte) (items : List (List OffsetByte)) (rest more : List OffsetByte) → Splits ms items rest → (has_end items ≡ false → IsUnfinished (bytes_of (rest ++ more))) → Splits (ms ++ more) items (rest ++ more)
 Splits-grow ms items rest more s h = record {
-  whole = ap (λ (x : List Mark). x ++ more) s.whole ∙ append_assoc (flat_map (λ (i : List Mark). i) items) rest more;
+  whole = ap (λ (x : List OffsetByte). x ++ more) s.whole ∙ append_assoc (flat_map (λ (i : List OffsetByte). i) items) rest more;
   each = s.each;
   partial = h;
 }
 
-pub bytes_of-push : (rest : List Mark) (m : Mark) → bytes_of (rest ++ m ∷ []) ≡ bytes_of rest ++ m.1 ∷ []
-bytes_of-push rest m = map-append (λ (x : Mark). x.1) rest (m ∷ [])
+pub bytes_of-push : (rest : List OffsetByte) (m : OffsetByte) → bytes_of (rest ++ m ∷ []) ≡ bytes_of rest ++ m.1 ∷ []
+bytes_of-push rest m = map-append (λ (x : OffsetByte). x.1) rest (m ∷ [])
 
-pub Splits-close : (ms : List Mark) (items : List (List Mark)) (rest : List Mark) (m : Mark) → Splits ms items rest → has_end items ≡ false → m.1 ≡ ender (bytes_of rest) → Splits (ms ++ m ∷ []) (items ++ (rest ++ m ∷ []) ∷ []) []
+pub Splits-close : (ms : List OffsetByte) (items : List (List OffsetByte)) (rest : List OffsetByte) (m : OffsetByte) → Splits ms items rest → has_end items ≡ false → m.1 ≡ ender (bytes_of rest) → Splits (ms ++ m ∷ []) (items ++ (rest ++ m ∷ []) ∷ []) []
 Splits-close ms items rest m s none e =
     let item : IsItem (bytes_of (rest ++ m ∷ [])) = record { front = bytes_of rest; unfinished = s.partial none; whole = bytes_of-push rest m ∙ ap (λ b. bytes_of rest ++ b ∷ []) e } in
-    let joined : flat_map (λ (i : List Mark). i) (items ++ (rest ++ m ∷ []) ∷ []) ≡ flat_map (λ (i : List Mark). i) items ++ (rest ++ m ∷ []) = flat_map-append (λ (i : List Mark). i) items ((rest ++ m ∷ []) ∷ []) ∙ ap (λ (x : List Mark). flat_map (λ (i : List Mark). i) items ++ x) (append-nil (rest ++ m ∷ [])) in
+    let joined : flat_map (λ (i : List OffsetByte). i) (items ++ (rest ++ m ∷ []) ∷ []) ≡ flat_map (λ (i : List OffsetByte). i) items ++ (rest ++ m ∷ []) = flat_map-append (λ (i : List OffsetByte). i) items ((rest ++ m ∷ []) ∷ []) ∙ ap (λ (x : List OffsetByte). flat_map (λ (i : List OffsetByte). i) items ++ x) (append-nil (rest ++ m ∷ [])) in
     record {
-      whole = ap (λ (x : List Mark). x ++ m ∷ []) s.whole ∙ (append_assoc (flat_map (λ (i : List Mark). i) items) rest (m ∷ []) ∙ (sym joined ∙ sym (append-nil (flat_map (λ (i : List Mark). i) (items ++ (rest ++ m ∷ []) ∷ [])))));
+      whole = ap (λ (x : List OffsetByte). x ++ m ∷ []) s.whole ∙ (append_assoc (flat_map (λ (i : List OffsetByte). i) items) rest (m ∷ []) ∙ (sym joined ∙ sym (append-nil (flat_map (λ (i : List OffsetByte). i) (items ++ (rest ++ m ∷ []) ∷ [])))));
       each = AreItems-push items (rest ++ m ∷ []) s.each none item;
       partial = λ _. tt;
     }
@@ -85,7 +85,7 @@ bind_assoc : {A B C E : Type 0} (r : Result A E) (f : A → Result B E) (g : B �
 bind_assoc (Ok x) f g = refl
 bind_assoc (Err e) f g = refl
 
-pub commands_from-push : (place : ℕ) (items : List (List Mark)) (item : List Mark) (before : Entries) → commands_from place (items ++ item ∷ []) before ≡ (commands_from place items before >>= spelled (place + length items) (first_offset item) (bytes_of item))
+pub commands_from-push : (place : ℕ) (items : List (List OffsetByte)) (item : List OffsetByte) (before : Entries) → commands_from place (items ++ item ∷ []) before ≡ (commands_from place items before >>= spelled (place + length items) (first_offset item) (bytes_of item))
 commands_from-push place [] item before =
     let k : place + 0 ≡ place = omega arith in
     bind_Ok (spelled place (first_offset item) (bytes_of item) before) ∙ sym (ap (λ p. spelled p (first_offset item) (bytes_of item) before) k)

@@ -9,9 +9,9 @@ use Rattle.grid_units.specs.declared.fault.Reason.{Reason}
 use Rattle.grid_units.specs.declared.fault.Fault.{Fault}
 use Rattle.gerber_text.specs.Inner.Bytes.{IsInside}
 use Rattle.gerber_rows.specs.Items.{is_line_break, ender, IsUnfinished, is_end}
-use Rattle.gerber_text.specs.Cut.{Mark, marks, bytes_of, first_offset, has_end, Splits}
+use Rattle.gerber_text.specs.Cut.{OffsetByte, offset_bytes, bytes_of, first_offset, has_end, Splits}
 use Rattle.gerber_text.specs.Reading.{Entries, spelled, shown}
-use Rattle.gerber_text.proofs.Marks.{marks-append, marks_from-kept, bytes_of-enumerate, AllR-weaker}
+use Rattle.gerber_text.proofs.OffsetBytes.{offset_bytes-append, offset_bytes_from-kept, bytes_of-enumerate, AllR-weaker}
 use Rattle.gerber_text.proofs.Splitting.{Splits-grow, Splits-close, IsUnfinished-append, bytes_of-push, has_end-push}
 use Rattle.gerber_text.proofs.Shown.{running_ok, show_push}
 
@@ -24,31 +24,31 @@ pub ender_stays : (bytes : List ℕ) → is_line_break (ender bytes) ≡ false
 ender_stays [] = refl
 ender_stays (b ∷ bs) = end_stays (eqb b 37)
 
-pub marks-push : (text : List ℕ) (b : ℕ) → is_line_break b ≡ false → marks (text ++ b ∷ []) ≡ marks text ++ (length text, b) ∷ []
-marks-push text b h = marks-append text (b ∷ []) ∙ ap (λ (x : List Mark). marks text ++ x) (marks_from-kept (length text) (b ∷ []) (h, tt))
+pub offset_bytes-push : (text : List ℕ) (b : ℕ) → is_line_break b ≡ false → offset_bytes (text ++ b ∷ []) ≡ offset_bytes text ++ (length text, b) ∷ []
+offset_bytes-push text b h = offset_bytes-append text (b ∷ []) ∙ ap (λ (x : List OffsetByte). offset_bytes text ++ x) (offset_bytes_from-kept (length text) (b ∷ []) (h, tt))
 
-pub first_is : (rest : List Mark) (m : Mark) (byte : ℕ) → (length rest ≡ 0 → byte ≡ m.0) → (0 < length rest → byte ≡ first_offset rest) → byte ≡ first_offset (rest ++ m ∷ [])
+pub first_is : (rest : List OffsetByte) (m : OffsetByte) (byte : ℕ) → (length rest ≡ 0 → byte ≡ m.0) → (0 < length rest → byte ≡ first_offset rest) → byte ≡ first_offset (rest ++ m ∷ [])
 first_is [] m byte h k = h refl
 first_is (x ∷ rest) m byte h k = k (omega arith)
 
-pub length-bytes_of : (rest : List Mark) → length (bytes_of rest) ≡ length rest
-length-bytes_of rest = length-map rest (λ (x : Mark). x.1)
+pub length-bytes_of : (rest : List OffsetByte) → length (bytes_of rest) ≡ length rest
+length-bytes_of rest = length-map rest (λ (x : OffsetByte). x.1)
 
 -- ---- a run inside an item
 
-pub record Longer (text : List ℕ) (items : List (List Mark)) (rest : List Mark) (run : List ℕ) : Type 0 where
-  pub more : List Mark
-  pub splits : Splits (marks (text ++ run)) items (rest ++ more)
+pub record Longer (text : List ℕ) (items : List (List OffsetByte)) (rest : List OffsetByte) (run : List ℕ) : Type 0 where
+  pub more : List OffsetByte
+  pub splits : Splits (offset_bytes (text ++ run)) items (rest ++ more)
   pub bytes : bytes_of (rest ++ more) ≡ bytes_of rest ++ run
   pub long : length (rest ++ more) ≡ length rest + length run
 
-pub lengthens : (text : List ℕ) (items : List (List Mark)) (rest : List Mark) (run : List ℕ) → Splits (marks text) items rest → IsUnfinished (bytes_of rest ++ run) → AllByRecursion (λ b. is_line_break b ≡ false) run → Longer text items rest run
+pub lengthens : (text : List ℕ) (items : List (List OffsetByte)) (rest : List OffsetByte) (run : List ℕ) → Splits (offset_bytes text) items rest → IsUnfinished (bytes_of rest ++ run) → AllByRecursion (λ b. is_line_break b ≡ false) run → Longer text items rest run
 lengthens text items rest run s unfinished kept =
-    let more : List Mark = enumerate_from (length text) run in
-    let bytes : bytes_of (rest ++ more) ≡ bytes_of rest ++ run = map-append (λ (x : Mark). x.1) rest more ∙ ap (λ (x : List ℕ). bytes_of rest ++ x) (bytes_of-enumerate (length text) run) in
+    let more : List OffsetByte = enumerate_from (length text) run in
+    let bytes : bytes_of (rest ++ more) ≡ bytes_of rest ++ run = map-append (λ (x : OffsetByte). x.1) rest more ∙ ap (λ (x : List ℕ). bytes_of rest ++ x) (bytes_of-enumerate (length text) run) in
     record {
       more = more;
-      splits = subst (λ (ms : List Mark). Splits ms items (rest ++ more)) (sym (marks-append text run ∙ ap (λ (x : List Mark). marks text ++ x) (marks_from-kept (length text) run kept))) (Splits-grow (marks text) items rest more s (λ _. subst IsUnfinished (sym bytes) unfinished));
+      splits = subst (λ (ms : List OffsetByte). Splits ms items (rest ++ more)) (sym (offset_bytes-append text run ∙ ap (λ (x : List OffsetByte). offset_bytes text ++ x) (offset_bytes_from-kept (length text) run kept))) (Splits-grow (offset_bytes text) items rest more s (λ _. subst IsUnfinished (sym bytes) unfinished));
       bytes = bytes;
       long = omega (arith, length-append rest more, length-enumerate_from (length text) run);
     }
@@ -61,21 +61,21 @@ run_kept e run k = AllR-weaker (IsInside e) (λ b. is_line_break b ≡ false) (�
 
 -- ---- the last byte of an item
 
-pub record Closed (text : List ℕ) (items : List (List Mark)) (item : List Mark) (bytes : List ℕ) (last place byte : ℕ) (cs : Entries) : Type 0 where
-  pub splits : Splits (marks (text ++ last ∷ [])) (items ++ item ∷ []) []
+pub record Closed (text : List ℕ) (items : List (List OffsetByte)) (item : List OffsetByte) (bytes : List ℕ) (last place byte : ℕ) (cs : Entries) : Type 0 where
+  pub splits : Splits (offset_bytes (text ++ last ∷ [])) (items ++ item ∷ []) []
   pub shows : shown (items ++ item ∷ []) [] ≡ spelled place byte bytes cs
   pub ends : has_end (items ++ item ∷ []) ≡ is_end bytes
   pub count : length (items ++ item ∷ []) ≡ length items + 1
 
-pub closes : (text : List ℕ) (items : List (List Mark)) (rest : List Mark) (bytes : List ℕ) (last place byte : ℕ) (cs : Entries) → Splits (marks text) items rest → has_end items ≡ false → shown items rest ≡ Ok cs
+pub closes : (text : List ℕ) (items : List (List OffsetByte)) (rest : List OffsetByte) (bytes : List ℕ) (last place byte : ℕ) (cs : Entries) → Splits (offset_bytes text) items rest → has_end items ≡ false → shown items rest ≡ Ok cs
     → last ≡ ender (bytes_of rest) → place ≡ suc (length items) → byte ≡ first_offset (rest ++ (length text, last) ∷ []) → bytes ≡ bytes_of rest ++ last ∷ [] → Closed text items (rest ++ (length text, last) ∷ []) bytes last place byte cs
 closes text items rest bytes last place byte cs s none e last-is place-is byte-is bytes-are =
-    let m : Mark = (length text, last) in
-    let item : List Mark = rest ++ m ∷ [] in
+    let m : OffsetByte = (length text, last) in
+    let item : List OffsetByte = rest ++ m ∷ [] in
     let stays : is_line_break last ≡ false = ap is_line_break last-is ∙ ender_stays (bytes_of rest) in
     let same : bytes_of item ≡ bytes = bytes_of-push rest m ∙ sym bytes-are in
     record {
-      splits = subst (λ (ms : List Mark). Splits ms (items ++ item ∷ []) []) (sym (marks-push text last stays)) (Splits-close (marks text) items rest m s none last-is);
+      splits = subst (λ (ms : List OffsetByte). Splits ms (items ++ item ∷ []) []) (sym (offset_bytes-push text last stays)) (Splits-close (offset_bytes text) items rest m s none last-is);
       shows = show_push items item cs (running_ok items rest cs none e).0 ∙ (ap (λ p. spelled p (first_offset item) (bytes_of item) cs) (sym place-is) ∙ (ap (λ b. spelled place b (bytes_of item) cs) (sym byte-is) ∙ ap (λ (b : List ℕ). spelled place byte b cs) same));
       ends = has_end-push items item none ∙ ap is_end same;
       count = length-append items (item ∷ []);

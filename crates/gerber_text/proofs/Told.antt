@@ -18,11 +18,12 @@ use Rattle.gerber_rows.specs.declared.command.Standard.{Standard}
 use Rattle.gerber_rows.specs.declared.command.AttributeKind.{AttributeKind}
 use Rattle.gerber_rows.specs.declared.command.Interpolation.{Interpolation}
 use Rattle.gerber_rows.specs.Numbers.{int_of, nat_of}
-use Rattle.gerber_rows.specs.Rows.{Meaning, Row, first_fit, behind, field}
+use Rattle.grid_units.specs.Rows.{behind}
+use Rattle.gerber_rows.specs.Rows.{Meaning, Row, first_fit, field}
 use Rattle.gerber_rows.specs.Words.{is, Fields, nothing_row, comment, comment_row, mode_row, quadrant_row, region_row, unit_row, incremental_row, action, alone, prepared, select_row, coordinate, action_with, kind, operands, operate, operation_row, finish_row, old_row, words, word}
 use Rattle.gerber_rows.specs.Pieces.{divided, last_byte, before_last, is_name, standard, are_sizes, before_comma, after_comma, is_several, system_row, format, format_fields, format_row, unit_piece_row, all_of, sizes_of, aperture_number, define_standard, define_named, define_as, define, definition, define_row, macro_of, macro_text, macro_row, polarity_row, mirror_row, turn, scale, transform_row, block_fields, repeat, repeat_fields, repeat_start, repeat_row, file_attribute, attribute, removal, file_row, aperture_row, object_row, removal_row, plain_row, axes_row, negative_row, old_piece_row, block_row, pieces, piece, extended}
 use Rattle.gerber_rows.specs.Meaning.{meaning, front_of}
-use Rattle.gerber_text.specs.Cut.{Mark, has_end}
+use Rattle.gerber_text.specs.Cut.{OffsetByte, has_end}
 use Rattle.gerber_text.specs.Reading.{Entries, spelled, commands_from, behind_end, shown, ended, read_in, Reads, may_follow}
 use Rattle.gerber_text.specs.Reasons.{IsReasonOfReading}
 
@@ -386,18 +387,18 @@ spelled_told : (place byte : ℕ) (item : List ℕ) (before : Entries) → Fault
 unfolding spelled
 spelled_told place byte item before = at_told place byte _ (told_cond _ _ _ (told_err _ _ tt) (told_bind _ _ (meaning_told _ item) (λ x. told_ok _)))
 
-from_told : (place : ℕ) (items : List (List Mark)) (before : Entries) → FaultTold (commands_from place items before)
+from_told : (place : ℕ) (items : List (List OffsetByte)) (before : Entries) → FaultTold (commands_from place items before)
 from_told place [] before = fault_ok _
 from_told place (item ∷ items) before = fault_bind _ _ (spelled_told place _ _ before) (from_told (suc place) items)
 
-behind_told : (place : ℕ) (commands : Entries) (rest : List Mark) → FaultTold (behind_end place commands rest)
+behind_told : (place : ℕ) (commands : Entries) (rest : List OffsetByte) → FaultTold (behind_end place commands rest)
 behind_told place commands [] = fault_ok _
 behind_told place commands (m ∷ ms) = fault_cond _ _ _ (behind_told place commands ms) (fault_err _ tt)
 
-shown_told : (items : List (List Mark)) (rest : List Mark) → FaultTold (shown items rest)
+shown_told : (items : List (List OffsetByte)) (rest : List OffsetByte) → FaultTold (shown items rest)
 shown_told items rest = fault_bind _ _ (from_told 1 items []) (λ commands. fault_cond _ _ _ (behind_told _ commands rest) (fault_cond _ _ _ (fault_err _ tt) (fault_ok _)))
 
-read_told : (len : ℕ) (items : List (List Mark)) (rest : List Mark) → FaultTold (read_in len items rest)
+read_told : (len : ℕ) (items : List (List OffsetByte)) (rest : List OffsetByte) → FaultTold (read_in len items rest)
 read_told len items rest = fault_bind _ _ (shown_told items rest) (λ commands. fault_cond _ _ _ (fault_err _ tt) (fault_cond _ _ _ (fault_ok _) (fault_err _ tt)))
 
 err_told : (f : Fault) → FaultTold (Err f) → IsReasonOfReading f.reason

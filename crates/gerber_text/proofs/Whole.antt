@@ -8,20 +8,20 @@ use Rattle.grid_units.specs.declared.fault.Fail.{Fail}
 use Rattle.grid_units.specs.declared.fault.Fail.TheVariants as fails
 use Rattle.grid_units.specs.declared.fault.Reason.TheVariants.{TooLong, Truncated}
 use Rattle.gerber_text.specs.declared.reader.Progress.{Progress}
-use Rattle.gerber_text.specs.Cut.{Mark, marks, bytes_of, first_offset, has_end, Splits}
+use Rattle.gerber_text.specs.Cut.{OffsetByte, offset_bytes, bytes_of, first_offset, has_end, Splits}
 use Rattle.grid_units.specs.Results.{◌>>=◌, fault, Answers, AnswersAlways}
 use Rattle.gerber_text.specs.Reading.{Entries, commands_from, shown, Shows, ended, Reads, is_blank, KeptOf, KeptBefore, Keeps, entries_of, entries_behind}
-use Rattle.gerber_text.specs.Standing.{Holds, Stops, Refuses, FailsWith, RefusesText, Ends}
+use Rattle.gerber_text.specs.Holding.{Holds, Stops, Refuses, FailsWith, RefusesText, Ends}
 use Rattle.grid_units.proofs.Binds.{bind_err, guard_err}
 use Rattle.gerber_text.proofs.Shown.{kept_all}
 use Rattle.grid_units.specs.Limits.{text_limit}
 
 -- behind a text that is too long, its front shows what it shows
-checks_len : ℕ → List (List Mark) → Entries → Result Entries Fault
+checks_len : ℕ → List (List OffsetByte) → Entries → Result Entries Fault
 checks_len len items commands = cond (ltb text_limit len) (Err (fault (suc (length items)) text_limit TooLong)) (Ok commands)
 
 -- a fault of a text, or of its first bytes where it is too long
-fault_shown : (text : List ℕ) (items : List (List Mark)) (rest : List Mark) (f : Fault) → Splits (marks (take text_limit text)) items rest → shown items rest ≡ Err f → Shows text (Err f)
+fault_shown : (text : List ℕ) (items : List (List OffsetByte)) (rest : List OffsetByte) (f : Fault) → Splits (offset_bytes (take text_limit text)) items rest → shown items rest ≡ Err f → Shows text (Err f)
 unfolding checks_len
 fault_shown text items rest f s e = record {
   items = items;
@@ -30,22 +30,22 @@ fault_shown text items rest f s e = record {
   answer_is = sym (ap (λ r. r >>= checks_len (length text) items) e);
 }
 
-kept_of : (text : List ℕ) (kept : ℕ) (items : List (List Mark)) (rest : List Mark) (cs : Entries) → Splits (marks (take text_limit text)) items rest → kept ≤ length items → commands_from 1 (take kept items) [] ≡ Ok cs → KeptOf text kept cs
+kept_of : (text : List ℕ) (kept : ℕ) (items : List (List OffsetByte)) (rest : List OffsetByte) (cs : Entries) → Splits (offset_bytes (take text_limit text)) items rest → kept ≤ length items → commands_from 1 (take kept items) [] ≡ Ok cs → KeptOf text kept cs
 kept_of text kept items rest cs s le e = record { items = items; rest = rest; splits = s; within = le; spelled = e }
 
 -- what a reader holds of a text is kept before the next place
 pub kept_before : (r : Progress) (gone : Entries) (text : List ℕ) (h : Holds r gone text) → length text ≤ text_limit → (byte : ℕ) → KeptBefore text (fails.Refused (fault (r.items + 1) byte Truncated)) (gone ++ r.commands.items)
 kept_before r gone text h le byte =
     let place : r.items + 1 ≡ suc (length h.items) = omega (arith, h.count) in
-    (length h.items, place, kept_of text (length h.items) h.items h.rest (gone ++ r.commands.items) (subst (λ (t : List ℕ). Splits (marks t) h.items h.rest) (sym (take_all text_limit text le)) h.splits) (omega arith) (kept_all r gone text h))
+    (length h.items, place, kept_of text (length h.items) h.items h.rest (gone ++ r.commands.items) (subst (λ (t : List ℕ). Splits (offset_bytes t) h.items h.rest) (sym (take_all text_limit text le)) h.splits) (omega arith) (kept_all r gone text h))
 
 -- a failure within the first bytes of a text
-pub fails_by : (text front : List ℕ) (cs : Entries) (e : Fail) → front ≡ take text_limit text → Stops (marks front) cs e → FailsWith text cs e
+pub fails_by : (text front : List ℕ) (cs : Entries) (e : Fail) → front ≡ take text_limit text → Stops (offset_bytes front) cs e → FailsWith text cs e
 fails_by text front cs fails.Memory same h =
-    let s = subst (λ (t : List ℕ). Splits (marks t) h.items h.rest) same h.splits in
+    let s = subst (λ (t : List ℕ). Splits (offset_bytes t) h.items h.rest) same h.splits in
     record { told = tt; kept = (h.kept, kept_of text h.kept h.items h.rest cs s h.within h.spelled) }
 fails_by text front cs (fails.Refused f) same h =
-    let s = subst (λ (t : List ℕ). Splits (marks t) h.items h.rest) same h.splits in
+    let s = subst (λ (t : List ℕ). Splits (offset_bytes t) h.items h.rest) same h.splits in
     record { told = fault_shown text h.items h.rest f s h.told.0; kept = (h.kept, h.told.1, kept_of text h.kept h.items h.rest cs s h.within h.spelled) }
 
 pub too_long_text : (r : Progress) (gone : Entries) (front more : List ℕ) → length front ≡ text_limit → 0 < length more → Holds r gone front → FailsWith (front ++ more) (gone ++ r.commands.items) (fails.Refused (fault (r.items + 1) text_limit TooLong))
@@ -53,7 +53,7 @@ unfolding checks_len
 too_long_text r gone front more e some h =
     let long : text_limit < length (front ++ more) = omega (arith, length-append front more) in
     let place : suc (length h.items) ≡ r.items + 1 = omega (arith, h.count) in
-    let s = subst (λ (t : List ℕ). Splits (marks t) h.items h.rest) (sym (take_at front more text_limit e)) h.splits in
+    let s = subst (λ (t : List ℕ). Splits (offset_bytes t) h.items h.rest) (sym (take_at front more text_limit e)) h.splits in
     record {
       told = record {
         items = h.items;
@@ -75,29 +75,29 @@ refuses_beyond old left front more e len h = λ gone text holds.
 
 -- ---- the end of the text
 
-ends_with : ℕ → List (List Mark) → List Mark → Entries → Result Entries Fault
+ends_with : ℕ → List (List OffsetByte) → List OffsetByte → Entries → Result Entries Fault
 ends_with len items rest commands = cond (ltb text_limit len) (Err (fault (suc (length items)) text_limit TooLong)) (ended len items rest commands)
 
-pub reads_ok : (text : List ℕ) (items : List (List Mark)) (rest : List Mark) (cs : Entries) → Splits (marks text) items rest → shown items rest ≡ Ok cs → has_end items ≡ true → length text ≤ text_limit → Reads text (Ok cs)
+pub reads_ok : (text : List ℕ) (items : List (List OffsetByte)) (rest : List OffsetByte) (cs : Entries) → Splits (offset_bytes text) items rest → shown items rest ≡ Ok cs → has_end items ≡ true → length text ≤ text_limit → Reads text (Ok cs)
 unfolding ends_with
 reads_ok text items rest cs s e some le = record {
   items = items;
   rest = rest;
-  splits = subst (λ (t : List ℕ). Splits (marks t) items rest) (sym (take_all text_limit text le)) s;
+  splits = subst (λ (t : List ℕ). Splits (offset_bytes t) items rest) (sym (take_all text_limit text le)) s;
   answer_is = sym (ap (λ r. r >>= ends_with (length text) items rest) e ∙ (ap (λ t. cond t (Err (fault (suc (length items)) text_limit TooLong)) (ended (length text) items rest cs)) (le-ltb text_limit (length text) le) ∙ ap (λ t. cond t (Ok cs) (Err (fault (suc (length items)) (cond (list_all is_blank (bytes_of rest)) (length text) (first_offset rest)) Truncated))) some));
 }
 
-pub reads_truncated : (text : List ℕ) (items : List (List Mark)) (rest : List Mark) (cs : Entries) (place byte : ℕ) → Splits (marks text) items rest → shown items rest ≡ Ok cs → has_end items ≡ false → length text ≤ text_limit
+pub reads_truncated : (text : List ℕ) (items : List (List OffsetByte)) (rest : List OffsetByte) (cs : Entries) (place byte : ℕ) → Splits (offset_bytes text) items rest → shown items rest ≡ Ok cs → has_end items ≡ false → length text ≤ text_limit
     → suc (length items) ≡ place → cond (list_all is_blank (bytes_of rest)) (length text) (first_offset rest) ≡ byte → Reads text (Err (fault place byte Truncated))
 unfolding ends_with
 reads_truncated text items rest cs place byte s e none le place-is byte-is = record {
   items = items;
   rest = rest;
-  splits = subst (λ (t : List ℕ). Splits (marks t) items rest) (sym (take_all text_limit text le)) s;
+  splits = subst (λ (t : List ℕ). Splits (offset_bytes t) items rest) (sym (take_all text_limit text le)) s;
   answer_is = sym (ap (λ r. r >>= ends_with (length text) items rest) e ∙ (ap (λ t. cond t (Err (fault (suc (length items)) text_limit TooLong)) (ended (length text) items rest cs)) (le-ltb text_limit (length text) le) ∙ (ap (λ t. cond t (Ok cs) (Err (fault (suc (length items)) (cond (list_all is_blank (bytes_of rest)) (length text) (first_offset rest)) Truncated))) none ∙ (ap (λ b. Err (fault (suc (length items)) b Truncated)) byte-is ∙ ap (λ p. Err (fault p byte Truncated)) place-is))));
 }
 
-pub stops_at : (t : Bool) (rest : List Mark) (n offset start : ℕ) → list_all is_blank (bytes_of rest) ≡ t → offset ≡ n → (0 < length rest → start ≡ first_offset rest) → cond t n (first_offset rest) ≡ cond t offset start
+pub stops_at : (t : Bool) (rest : List OffsetByte) (n offset start : ℕ) → list_all is_blank (bytes_of rest) ≡ t → offset ≡ n → (0 < length rest → start ≡ first_offset rest) → cond t n (first_offset rest) ≡ cond t offset start
 stops_at true rest n offset start h e k = sym e
 stops_at false [] n offset start h e k = absurd (false≢true (sym h))
 stops_at false (m ∷ rest) n offset start h e k = sym (k (omega arith))
@@ -145,6 +145,6 @@ holds_shows r gone text cs same le h =
     record {
       items = h.items;
       rest = h.rest;
-      splits = subst (λ (t : List ℕ). Splits (marks t) h.items h.rest) (sym (take_all text_limit text short)) h.splits;
+      splits = subst (λ (t : List ℕ). Splits (offset_bytes t) h.items h.rest) (sym (take_all text_limit text short)) h.splits;
       answer_is = sym (ap (λ s. s >>= checks_len (length text) h.items) h.commands ∙ (ap (λ t. cond t (Err (fault (suc (length h.items)) text_limit TooLong)) (Ok (gone ++ r.commands.items))) (le-ltb text_limit (length text) short) ∙ ap (λ (x : Entries). Ok x) (sym same)));
     }

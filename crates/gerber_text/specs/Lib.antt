@@ -1,6 +1,6 @@
 pub mod Cut
 pub mod Reading
 pub mod Reasons
-pub mod Standing
+pub mod Holding
 pub mod Writing
 pub mod Inner

@@ -12,9 +12,10 @@ use Rattle.gerber_rows.specs.declared.command.Command.{Command}
 use Rattle.gerber_rows.specs.declared.command.Command.TheVariants.{Operate}
 use Rattle.gerber_rows.specs.Meaning.{meaning}
 use Rattle.gerber_text.specs.declared.placed.Placed.{Placed}
-use Rattle.gerber_text.specs.Cut.{Mark, marks, bytes_of, first_offset, has_end, Splits}
+use Rattle.gerber_text.specs.Cut.{OffsetByte, offset_bytes, bytes_of, first_offset, has_end, Splits}
 use Rattle.grid_units.specs.Limits.{text_limit, item_limit}
 use Rattle.gerber_rows.specs.Words.{is_plot}
+use Rattle.grid_units.specs.Ascii as ascii
 
 -- commands with their places (docs/FORMATS.md, Cutting)
 abbrev pub Entries : Type 0
@@ -44,63 +45,63 @@ Leaves (Err fails.Memory) new read = Unit {0}
 Leaves (Err (fails.Refused f)) new read = read ≡ Err f
 
 -- these commands and those of the items, from this place on; or the fault of the first item that has one (docs/FORMATS.md, How a row fits and is read)
-abbrev pub commands_from : ℕ → List (List Mark) → Entries → Result Entries Fault
+abbrev pub commands_from : ℕ → List (List OffsetByte) → Entries → Result Entries Fault
 commands_from place [] before = Ok before
 commands_from place (item ∷ items) before = spelled place (first_offset item) (bytes_of item) before >>= commands_from (suc place) items
 
 -- a space, a tab or `*`, which may stand after the end of the text (docs/FORMATS.md, Cutting)
 abbrev pub may_follow : ℕ → Bool
-may_follow b = (b == 32) || ((b == 9) || (b == 42))
+may_follow b = (b == ascii.space) || ((b == ascii.tab) || (b == ascii.asterisk))
 
 -- after the end of the text, the first byte that may not stand there is a fault (docs/FORMATS.md, Cutting)
-abbrev pub behind_end : ℕ → Entries → List Mark → Result Entries Fault
+abbrev pub behind_end : ℕ → Entries → List OffsetByte → Result Entries Fault
 behind_end place commands [] = Ok commands
 behind_end place commands (m ∷ ms) = if may_follow m.1 then behind_end place commands ms else Err (fault place m.0 AfterEnd)
 
 -- the commands, or the first fault that these items and this rest show, whatever follows (docs/FORMATS.md, Cutting)
-abbrev pub shown : List (List Mark) → List Mark → Result Entries Fault
+abbrev pub shown : List (List OffsetByte) → List OffsetByte → Result Entries Fault
 shown items rest = commands_from 1 items [] >>= λ commands.
     if has_end items then behind_end (suc (length items)) commands rest
-    else (if nat_lt item_limit (length rest) then Err (fault (suc (length items)) (first_offset rest) TooLong) else Ok commands)
+    else if nat_lt item_limit (length rest) then Err (fault (suc (length items)) (first_offset rest) TooLong) else Ok commands
 
 -- the same of a text of this length, which is too long above the limit (docs/FORMATS.md, Limits)
-abbrev pub shown_in : ℕ → List (List Mark) → List Mark → Result Entries Fault
+abbrev pub shown_in : ℕ → List (List OffsetByte) → List OffsetByte → Result Entries Fault
 shown_in len items rest = shown items rest >>= λ commands. if nat_lt text_limit len then Err (fault (suc (length items)) text_limit TooLong) else Ok commands
 
 -- A text shows these commands or this fault, whatever follows it (docs/DEFINITIONS.md, Reading in pieces).
 pub record Shows (text : List ℕ) (answer : Result Entries Fault) : Type 0 where
-  pub items : List (List Mark)
-  pub rest : List Mark
-  pub splits : Splits (marks (take text_limit text)) items rest
+  pub items : List (List OffsetByte)
+  pub rest : List OffsetByte
+  pub splits : Splits (offset_bytes (take text_limit text)) items rest
   pub answer_is : answer ≡ shown_in (length text) items rest
 
 -- a space or a tab (docs/FORMATS.md, Cutting)
 abbrev pub is_blank : ℕ → Bool
-is_blank b = (b == 32) || (b == 9)
+is_blank b = (b == ascii.space) || (b == ascii.tab)
 
 -- the text ends here: the commands, or that the end is missing (docs/FORMATS.md, Cutting)
-abbrev pub ended : ℕ → List (List Mark) → List Mark → Entries → Result Entries Fault
+abbrev pub ended : ℕ → List (List OffsetByte) → List OffsetByte → Entries → Result Entries Fault
 ended len items rest commands =
     if has_end items then Ok commands
     else Err (fault (suc (length items)) (if list_all is_blank (bytes_of rest) then len else first_offset rest) Truncated)
 
 -- the commands of a text that ends here, or its fault (docs/FORMATS.md, Cutting)
-abbrev pub read_in : ℕ → List (List Mark) → List Mark → Result Entries Fault
+abbrev pub read_in : ℕ → List (List OffsetByte) → List OffsetByte → Result Entries Fault
 read_in len items rest = shown items rest >>= λ commands. if nat_lt text_limit len then Err (fault (suc (length items)) text_limit TooLong) else ended len items rest commands
 
 -- A whole text spells these commands, or has this fault (docs/DEFINITIONS.md, Reading a Gerber text).
 pub record Reads (text : List ℕ) (answer : Result Entries Fault) : Type 0 where
-  pub items : List (List Mark)
-  pub rest : List Mark
-  pub splits : Splits (marks (take text_limit text)) items rest
+  pub items : List (List OffsetByte)
+  pub rest : List OffsetByte
+  pub splits : Splits (offset_bytes (take text_limit text)) items rest
   pub answer_is : answer ≡ read_in (length text) items rest
 
 -- A text spells these commands: its items spell them in order, the last one is the end of the text, and only spaces, tabs
 -- and `*` stand after it (docs/FORMATS.md, Cutting).
 pub record SpellsText (text : List ℕ) (commands : Entries) : Type 0 where
-  pub items : List (List Mark)
-  pub tail : List Mark
-  pub splits : Splits (marks text) items tail
+  pub items : List (List OffsetByte)
+  pub tail : List OffsetByte
+  pub splits : Splits (offset_bytes text) items tail
   pub ends : has_end items ≡ true
   pub spelled : commands_from 1 items [] ≡ Ok commands
   pub follows : AllByRecursion (λ m. may_follow m.1 ≡ true) tail
@@ -108,9 +109,9 @@ pub record SpellsText (text : List ℕ) (commands : Entries) : Type 0 where
 
 -- The first items of a text, as many as this, spell these commands (docs/DEFINITIONS.md, Reading a Gerber text).
 pub record KeptOf (text : List ℕ) (kept : ℕ) (commands : Entries) : Type 0 where
-  pub items : List (List Mark)
-  pub rest : List Mark
-  pub splits : Splits (marks (take text_limit text)) items rest
+  pub items : List (List OffsetByte)
+  pub rest : List OffsetByte
+  pub splits : Splits (offset_bytes (take text_limit text)) items rest
   pub within : kept ≤ length items
   pub spelled : commands_from 1 (take kept items) [] ≡ Ok commands
 

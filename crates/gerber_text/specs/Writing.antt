@@ -10,10 +10,11 @@ use Rattle.gerber_rows.specs.Canonical.{canonical}
 use Rattle.gerber_sayable.specs.Sayable.{is_sayable, is_finish}
 use Rattle.gerber_text.specs.Reading.{Entries, Reads}
 use Rattle.grid_units.specs.Limits.{text_limit}
+use Rattle.grid_units.specs.Ascii as ascii
 
 -- each command's canonical item, and a line end after it (docs/FORMATS.md, The canonical Gerber text)
 abbrev pub lines : List Command → List ℕ
-lines commands = flat_map (λ command. canonical command ++ 10 ∷ []) commands
+lines commands = flat_map (λ command. canonical command ++ ascii.line_feed ∷ []) commands
 
 -- a text within the limit of length, or the refusal of one beyond it (docs/FORMATS.md, The canonical Gerber text)
 abbrev pub limited : List ℕ → Result (List ℕ) Fault

@@ -12,6 +12,7 @@ pub use gerber_rows::{
     Action, AttributeKind, Block, Boxed, Command, Coordinate, Format, Interpolation, Pieces,
     QuadrantMode, Sizes, Standard, Template,
 };
+pub use laws::{one_reading, sayable_texts};
 pub use placed::Placed;
 pub use reader::{Kept, WordReader, read_kept, read_words};
 pub use sayable_lists::sayable;

@@ -17,14 +17,13 @@ use gerber_rows::{
     Command, Interpolation, PlainOperation, Spelled, end_of, is_plot, is_text_end, plain_operation,
     read_item,
 };
-use grid_units::{Fail, Fault, Reason, Stop};
+use grid_units::{Fail, Fault, ITEM_LIMIT, Reason, Stop};
 use memchr::memchr3;
 use std::alloc::{AllocError, Global};
 use std::mem::replace;
 
-const ITEM_LIMIT: usize = 1_048_576;
-
-const TEXT_LIMIT: u64 = 268_435_456;
+/// The longest text, as an offset.
+const TEXT_LIMIT: u64 = grid_units::TEXT_LIMIT as u64;
 
 /// What was read so far, and the item that has not ended.
 #[derive(Debug, Drop)]
@@ -235,7 +234,7 @@ impl Progress {
     ghost use Rattle.gerber_rows.specs.Items.{is_line_break, ender};
     ghost use Rattle.gerber_rows.specs.Plain.{BeginsWith};
     ghost use Rattle.gerber_rows.specs.declared.command.Command.TheVariants.{Operate};
-    ghost use Rattle.gerber_text.specs.Standing.{Advances, Refuses, RefusesText, Holds, Ends};
+    ghost use Rattle.gerber_text.specs.Holding.{Advances, Refuses, RefusesText, Holds, Ends};
     ghost use Rattle.grid_units.specs.Results.{AnswersAlways};
 
     /// The refusal of the item that comes next.
@@ -566,7 +565,7 @@ impl WordReader {
     ghost use Rattle.grid_units.specs.declared.fault.Fail.{Fail as TheFail};
     ghost use Rattle.grid_units.specs.Results.{AnswersAlways};
     ghost use Rattle.gerber_text.specs.Reading.{Shows, Reads, Keeps};
-    ghost use Rattle.gerber_text.specs.Standing.{StandsAfter, StandsBehind, HasFailed, FailedBehind, failure, held};
+    ghost use Rattle.gerber_text.specs.Holding.{StandsAfter, StandsBehind, HasFailed, FailedBehind, failure, held};
 
     /// A reader that has read nothing.
     pub fn new(alloc: Global) -> WordReader

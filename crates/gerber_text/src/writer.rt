@@ -7,11 +7,8 @@ ghost use Rattle.gerber_rows.specs.Canonical.{canonical};
 
 use crate::placed::Placed;
 use gerber_rows::{Command, write_item};
-use grid_units::{Fail, Fault, Reason};
+use grid_units::{Fail, Fault, Reason, TEXT_LIMIT};
 use std::alloc::{AllocError, Global};
-
-/// The longest text, in bytes.
-const TEXT_LIMIT: usize = 268_435_456;
 
 /// Appends the canonical item of a command, and a line end.
 fn put_line(out: &mut Vec<u8>, command: &Command) -> Result<(), AllocError>

@@ -81,7 +81,7 @@ signed_product false m k = pos-*ℤ-pos m k
 pub signed_equation : (text : List ℕ) (v n k m : ℕ) → v * k ≡ n * m → signed text v *ℤ pos k ≡ signed text (n * m)
 signed_equation text v n k m e = signed_product (is_negative text) v k ∙ ap (signed text) e
 
-digit_small : (b : ℕ) → is_digit b ≡ true → b - 48 ≤ 9
+pub digit_small : (b : ℕ) → is_digit b ≡ true → b - 48 ≤ 9
 digit_small b h = grind (arith, nat_tests)
 
 front : (d p v : ℕ) → d ≤ 9 → v < p → d * p + v < 10 * p

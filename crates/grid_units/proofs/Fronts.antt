@@ -68,7 +68,7 @@ positive_body : (ds fs : List ℕ) → list_all is_digit ds ≡ true → is_nega
 positive_body [] fs h = refl
 positive_body (d ∷ ds) fs h = no_minus d (both_true (is_digit d) (list_all is_digit ds) h).0
 
-digits_numbers : (ds : List ℕ) → list_all is_digit ds ≡ true → list_all is_number ds ≡ true
+pub digits_numbers : (ds : List ℕ) → list_all is_digit ds ≡ true → list_all is_number ds ≡ true
 digits_numbers [] h = refl
 digits_numbers (d ∷ ds) h =
     let b = both_true (is_digit d) (list_all is_digit ds) h in

@@ -2,6 +2,7 @@
 use Rattle.std.specs.Prelude.{◌≡◌, ◌≤◌, ℕ, ℤ, true, ◌==◌, List, ◌++◌, length, Ok}
 use Rattle.std.specs.List.{list_all, list_any, prefix_len}
 use Rattle.grid_units.specs.Numbers.{is_number, dec_of}
+use Rattle.grid_units.specs.Ascii as ascii
 
 -- The run of number characters in front of the rest has a point and spells this decimal (docs/FORMATS.md, Numbers).
 pub record IsInFront (v : ℤ) (rest bytes : List ℕ) : Type 0 where
@@ -9,6 +10,6 @@ pub record IsInFront (v : ℤ) (rest bytes : List ℕ) : Type 0 where
   pub whole : bytes ≡ run ++ rest
   pub numbers : list_all is_number run ≡ true
   pub ends : prefix_len is_number rest ≡ 0
-  pub point : list_any (λ b. b == 46) run ≡ true
+  pub point : list_any (λ b. b == ascii.point) run ≡ true
   pub reads : dec_of run ≡ Ok v
   pub short : length run ≤ 16

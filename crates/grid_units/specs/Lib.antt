@@ -1,3 +1,4 @@
+pub mod Ascii
 pub mod Reasons
 pub mod Results
 pub mod Limits
@@ -6,6 +7,7 @@ pub mod Points
 pub mod Holes
 pub mod Spans
 pub mod Numbers
+pub mod Rows
 pub mod Spellings
 pub mod Fronts
 pub mod Laws

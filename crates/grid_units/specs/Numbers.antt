@@ -9,16 +9,17 @@ use Rattle.grid_units.specs.declared.zero_filling.Zeros.{Zeros}
 use Rattle.grid_units.specs.declared.zero_filling.Zeros.TheVariants.{Leading, Trailing, Full}
 use Rattle.grid_units.specs.Points.{max_coordinate}
 use Rattle.grid_units.specs.Results.{◌>>=◌}
+use Rattle.grid_units.specs.Ascii as ascii
 
 -- ---- digits
 
 -- `0` to `9` (docs/FORMATS.md, Numbers)
 abbrev pub is_digit : ℕ → Bool
-is_digit b = nat_le 48 b && nat_le b 57
+is_digit b = nat_le ascii.digit_zero b && nat_le b ascii.digit_nine
 
 -- a digit, a sign or a point (docs/FORMATS.md, Numbers)
 abbrev pub is_number : ℕ → Bool
-is_number b = is_digit b || ((b == 43) || ((b == 45) || (b == 46)))
+is_number b = is_digit b || ((b == ascii.plus) || ((b == ascii.minus) || (b == ascii.point)))
 
 -- one or more digits (docs/FORMATS.md, Numbers)
 abbrev pub is_digits : List ℕ → Bool
@@ -26,17 +27,17 @@ is_digits bs = not (length bs == 0) && list_all is_digit bs
 
 -- the number that decimal digits spell (docs/FORMATS.md, Numbers)
 abbrev pub value : List ℕ → ℕ
-value digits = fold (λ n b. n * 10 + (b - 48)) 0 digits
+value digits = fold (λ n b. n * 10 + (b - ascii.digit_zero)) 0 digits
 
 -- what stands behind an optional sign (docs/FORMATS.md, Numbers)
 abbrev pub unsigned : List ℕ → List ℕ
 unsigned [] = []
-unsigned (b ∷ bs) = if (b == 43) || (b == 45) then bs else b ∷ bs
+unsigned (b ∷ bs) = if (b == ascii.plus) || (b == ascii.minus) then bs else b ∷ bs
 
 -- the sign is a minus (docs/FORMATS.md, Numbers)
 abbrev pub is_negative : List ℕ → Bool
 is_negative [] = false
-is_negative (b ∷ bs) = b == 45
+is_negative (b ∷ bs) = b == ascii.minus
 
 -- a number with the sign of a text (docs/FORMATS.md, Numbers)
 abbrev pub signed : List ℕ → ℕ → ℤ
@@ -50,11 +51,11 @@ fine n k = n * 10 ^ 8 / 10 ^ k
 
 -- the digits before the point (docs/FORMATS.md, Numbers)
 abbrev pub whole : List ℕ → List ℕ
-whole text = before_first (λ b. b == 46) (unsigned text)
+whole text = before_first (λ b. b == ascii.point) (unsigned text)
 
 -- the digits behind the point (docs/FORMATS.md, Numbers)
 abbrev pub fraction : List ℕ → List ℕ
-fraction text = after_first (λ b. b == 46) (unsigned text)
+fraction text = after_first (λ b. b == ascii.point) (unsigned text)
 
 -- an optional sign, and one or more digits with at most one point among them (docs/FORMATS.md, Numbers)
 abbrev pub is_decimal : List ℕ → Bool
@@ -62,7 +63,7 @@ is_decimal text = (list_all is_digit (whole text) && list_all is_digit (fraction
 
 -- the decimals behind the eighth are zeros (docs/FORMATS.md, Numbers)
 abbrev pub is_coarse : List ℕ → Bool
-is_coarse decimals = list_all (λ b. b == 48) (drop 8 decimals)
+is_coarse decimals = list_all (λ b. b == ascii.digit_zero) (drop 8 decimals)
 
 -- the number that all the digits spell (docs/FORMATS.md, Numbers)
 abbrev pub all_digits : List ℕ → ℕ
@@ -110,7 +111,7 @@ missing Full places n = if n == places then Ok 0 else Err NoZeros
 
 -- the number of a coordinate's digits, with so many zeros filled in behind them (docs/FORMATS.md, Coordinates of a drill file)
 abbrev pub filled : List ℕ → ℕ → ℕ
-filled digits zeros = value (digits ++ replicate zeros 48)
+filled digits zeros = value (digits ++ replicate zeros ascii.digit_zero)
 
 -- A coordinate without a point in the format i:d, in units of 10^-8 (docs/FORMATS.md, Coordinates of a drill file).
 unfoldable pub zeros_of : List ℕ → ℕ → ℕ → Zeros → Result ℤ Reason

@@ -1,20 +1,21 @@
 -- How numbers are written.
 use Rattle.std.specs.Prelude.{ℕ, zero, suc, ◌+◌, ◌/◌, ◌%◌, ◌^◌, ◌&&◌, ◌==◌, List, [], ◌∷◌, ◌++◌, length, decimal, if◌then◌else◌, ℤ, pos, negsuc, unsigned_abs}
+use Rattle.grid_units.specs.Ascii as ascii
 
 -- the last so many digits of a number (docs/FORMATS.md, Numbers)
 unfoldable pub places : ℕ → ℕ → List ℕ
 places zero n = []
-places (suc w) n = places w (n / 10) ++ (48 + n % 10) ∷ []
+places (suc w) n = places w (n / 10) ++ (ascii.digit_zero + n % 10) ∷ []
 
 -- digits without the zeros at their end (docs/FORMATS.md, Numbers)
 unfoldable pub trimmed : List ℕ → List ℕ
 trimmed [] = []
-trimmed (d ∷ ds) = if (d == 48) && (length (trimmed ds) == 0) then [] else d ∷ trimmed ds
+trimmed (d ∷ ds) = if (d == ascii.digit_zero) && (length (trimmed ds) == 0) then [] else d ∷ trimmed ds
 
 -- `-` below zero (docs/FORMATS.md, Numbers)
 abbrev pub minus : ℤ → List ℕ
 minus (pos n) = []
-minus (negsuc n) = 45 ∷ []
+minus (negsuc n) = ascii.minus ∷ []
 
 -- the decimals of a number of 10^-8, without the zeros at their end (docs/FORMATS.md, Numbers)
 abbrev pub decimals : ℕ → List ℕ
@@ -23,12 +24,12 @@ decimals units = trimmed (places 8 (units % 10 ^ 8))
 -- `.` and the decimals, nothing where there are none (docs/FORMATS.md, Numbers)
 abbrev pub behind_point : List ℕ → List ℕ
 behind_point [] = []
-behind_point (d ∷ ds) = 46 ∷ d ∷ ds
+behind_point (d ∷ ds) = ascii.point ∷ d ∷ ds
 
 -- `.` and the decimals, `.0` where there are none (docs/FORMATS.md, Numbers)
 abbrev pub behind_any_point : List ℕ → List ℕ
-behind_any_point [] = 46 ∷ 48 ∷ []
-behind_any_point (d ∷ ds) = 46 ∷ d ∷ ds
+behind_any_point [] = ascii.point ∷ ascii.digit_zero ∷ []
+behind_any_point (d ∷ ds) = ascii.point ∷ d ∷ ds
 
 -- the sign and the whole part, `0` for none, of a number in units of which so many are one (docs/FORMATS.md, Numbers)
 abbrev pub signed_whole : ℕ → ℤ → List ℕ
@@ -44,4 +45,4 @@ pointed v = signed_whole (10 ^ 8) v ++ behind_any_point (decimals (unsigned_abs 
 
 -- a length in pm as millimetres with nine decimals (docs/FORMATS.md, Numbers)
 unfoldable pub millimetres : ℤ → List ℕ
-millimetres p = signed_whole (10 ^ 9) p ++ 46 ∷ places 9 (unsigned_abs p % 10 ^ 9)
+millimetres p = signed_whole (10 ^ 9) p ++ ascii.point ∷ places 9 (unsigned_abs p % 10 ^ 9)

@@ -1,4 +1,4 @@
-//! Decimals that stand in front of other bytes, by a short way: most coordinates are of this kind.
+//! The fast path for a decimal at the start of a text: most coordinates are of this kind.
 
 ghost use Rattle.std.specs.Prelude.{◌≡◌, ◌≤◌, ◌<◌, ◌+◌, ◌-◌, ◌*◌, ◌^◌, true, not, ◌==◌, length, take, IfSome};
 ghost use Rattle.std.specs.List.{list_all, prefix_len};
@@ -48,8 +48,8 @@ fn units_of(whole: u64, decimals: u64, places: usize) -> u64
 }
 
 impl Dec {
-    /// The decimal with a point in front of these bytes, and what stands behind it. `None` says only that this short
-    /// way does not find one: it knows up to six digits before the point and up to eight behind it.
+    /// The decimal with a point at the start of these bytes, and what stands behind it. `None` says only that this fast
+    /// path does not find one: it knows up to six digits before the point and up to eight behind it.
     pub fn in_front(bytes: &[u8]) -> (Option<Dec>, &[u8])
         ensures { IfSome result.0 (λ found. IsInFront found result.1.now bytes.now) }
     {

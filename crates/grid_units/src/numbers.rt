@@ -1,6 +1,6 @@
 //! Runs of digits, and the numbers that they spell.
 
-ghost use Rattle.std.specs.Prelude.{◌≡◌, ◌≤◌, ◌<◌, ◌^◌, min, length, All, true};
+ghost use Rattle.std.specs.Prelude.{◌≡◌, ◌≤◌, ◌<◌, ◌^◌, ◌==◌, not, min, length, All, true};
 ghost use Rattle.std.specs.List.{list_all, prefix_len};
 ghost use Rattle.grid_units.specs.Numbers.{is_digit, is_number, is_digits, value, unsigned, is_negative};
 
@@ -16,6 +16,32 @@ pub fn is_number(byte: u8) -> bool
     ensures { result ≡ is_number byte }
 {
     is_digit(byte) || byte == b'+' || byte == b'-' || byte == b'.'
+}
+
+/// How many bytes at the start of a text are this one.
+pub fn run_of(sought: u8, text: &[u8]) -> usize
+    ensures within { result ≤ length text.now }
+    ensures len { result ≡ prefix_len (λ b. b == sought) text.now }
+{
+    for (i, byte) in text.iter().enumerate() {
+        if *byte != sought {
+            return i;
+        }
+    }
+    text.len()
+}
+
+/// How many bytes stand before the first of this kind, all of them where there is none.
+pub fn run_before(sought: u8, text: &[u8]) -> usize
+    ensures within { result ≤ length text.now }
+    ensures len { result ≡ prefix_len (λ b. not (b == sought)) text.now }
+{
+    for (i, byte) in text.iter().enumerate() {
+        if *byte == sought {
+            return i;
+        }
+    }
+    text.len()
 }
 
 /// How many digits stand in front: the length of the digit run.

@@ -11,14 +11,15 @@ use Rattle.grid_units.specs.declared.fault.Reason.{Reason}
 use Rattle.grid_units.proofs.Binds.{bind_ok, bind_err}
 use Rattle.gerber_rows.specs.declared.command.Command.{Command}
 use Rattle.gerber_text.specs.declared.placed.Placed.{Placed}
-use Rattle.gerber_text.specs.Cut.{Mark, bytes_of, first_offset, has_end}
+use Rattle.gerber_text.specs.Cut.{OffsetByte, bytes_of, first_offset, has_end}
 use Rattle.gerber_text.specs.Reading.{Entries, KeptOf, Reads, commands_from, is_blank, read_in, shown, spelled}
 use Rattle.gerber_text.proofs.Some.{some_reading}
 use Rattle.layer_image.specs.Faults.{fault_of, IsFirstFault}
 use Rattle.layer_image.specs.Layers.{EachTextAnswers, LayerImage, ReadsLayer, image_of}
 use Rattle.layer_image.specs.Rules.{broken_rule}
 use Rattle.layer_image.proofs.Reading.{by_both, kept_all}
-use Rattle.layer_image.proofs.Unique.{spelled_place, rest_place, ended_place}
+use Rattle.layer_image.proofs.Unique.{rest_place, ended_place}
+use Rattle.gerber_text.proofs.Steps.{spelled_place}
 use Rattle.grid_units.specs.Limits.{text_limit, item_limit}
 use Rattle.gerber_text.specs.Writing.{without_places}
 
@@ -54,7 +55,7 @@ first_or_legal entries = by (breaks fault_of entries) refl
 
 -- ---- the items before the place of a fault spell commands
 
-stops_within : (place : ℕ) (items : List (List Mark)) (before : Entries) (f : Fault) → commands_from place items before ≡ Err f
+stops_within : (place : ℕ) (items : List (List OffsetByte)) (before : Entries) (f : Fault) → commands_from place items before ≡ Err f
     → (kept : ℕ) × (cs : Entries) × (f.place ≡ place + kept) × (kept ≤ length items) × (commands_from place (take kept items) before ≡ Ok cs)
 stops_within place [] before f h = absurd cc
 stops_within place (item ∷ items) before f h = elim (bind_err (spelled place (first_offset item) (bytes_of item) before) (commands_from (suc place) items) f h) [
@@ -64,13 +65,13 @@ stops_within place (item ∷ items) before f h = elim (bind_err (spelled place (
       (suc r.0, r.1, omega (arith, r.2), omega (arith, r.3), ap (λ (o : Result Entries Fault). o >>= commands_from (suc place) (take r.0 items)) there.1 ∙ r.4)
 ]
 
-shown_stop : (items : List (List Mark)) (rest : List Mark) (f : Fault) → shown items rest ≡ Err f → (commands_from 1 items [] ≡ Err f) ⊎ ((cs : Entries) × (commands_from 1 items [] ≡ Ok cs) × (f.place ≡ suc (length items)))
+shown_stop : (items : List (List OffsetByte)) (rest : List OffsetByte) (f : Fault) → shown items rest ≡ Err f → (commands_from 1 items [] ≡ Err f) ⊎ ((cs : Entries) × (commands_from 1 items [] ≡ Ok cs) × (f.place ≡ suc (length items)))
 shown_stop items rest f h = elim (bind_err (commands_from 1 items []) _ f h) [
   | inl e ↦ inl e
   | inr there ↦ inr (there.0, there.1, rest_place (has_end items) (nat_lt item_limit (length rest)) (suc (length items)) (first_offset rest) there.0 rest f there.2)
 ]
 
-read_stop : (len : ℕ) (items : List (List Mark)) (rest : List Mark) (f : Fault) → read_in len items rest ≡ Err f → (commands_from 1 items [] ≡ Err f) ⊎ ((cs : Entries) × (commands_from 1 items [] ≡ Ok cs) × (f.place ≡ suc (length items)))
+read_stop : (len : ℕ) (items : List (List OffsetByte)) (rest : List OffsetByte) (f : Fault) → read_in len items rest ≡ Err f → (commands_from 1 items [] ≡ Err f) ⊎ ((cs : Entries) × (commands_from 1 items [] ≡ Ok cs) × (f.place ≡ suc (length items)))
 read_stop len items rest f h = elim (bind_err (shown items rest) _ f h) [
   | inl e ↦ shown_stop items rest f e
   | inr there ↦
@@ -87,7 +88,7 @@ kept_before_fault text f r = elim (read_stop (length text) r.items r.rest f (sym
     e.0,
     length r.items,
     e.2,
-    record { items = r.items; rest = r.rest; splits = r.splits; within = omega arith; spelled = ap (λ (x : List (List Mark)). commands_from 1 x []) (take-length r.items) ∙ e.1 },
+    record { items = r.items; rest = r.rest; splits = r.splits; within = omega arith; spelled = ap (λ (x : List (List OffsetByte)). commands_from 1 x []) (take-length r.items) ∙ e.1 },
   )
 ]
 

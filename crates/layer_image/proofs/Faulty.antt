@@ -13,7 +13,7 @@ use Rattle.grid_units.specs.declared.stop.Stop.{Stop}
 use Rattle.layer_image.specs.Inner.Knows.{Judges}
 use Rattle.grid_units.specs.declared.stop.Stop.TheVariants as stop
 use Rattle.layer_image.specs.declared.scan.Scan.{Scan}
-use Rattle.layer_image.specs.Standing.{Meets}
+use Rattle.layer_image.specs.Holding.{Meets}
 use Rattle.layer_image.specs.Faults.{fault_of, fail_at, IsFirstFault}
 use Rattle.gerber_text.specs.Writing.{without_places}
 

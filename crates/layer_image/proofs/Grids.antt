@@ -12,6 +12,7 @@ use Rattle.layer_image.specs.Rules.{is_far_point}
 use Rattle.layer_image.specs.declared.grid.Grid.{Grid}
 use Rattle.grid_units.specs.Points.{GridPoint, max_coordinate}
 use mir.Syntax.{w128, w64}
+use Rattle.grid_units.proofs.Exactness.{back_128}
 
 pub fits_sum : (a b : ℤ) → unsigned_abs a ≤ 2 ^ 98 → unsigned_abs b ≤ 2 ^ 103 → FitsSigned w128 (a +ℤ b)
 fits_sum a b x y = omega (arith, ints)
@@ -138,10 +139,6 @@ near_copy grid u v none below_columns below_rows = by (is_far x) (is_far y) refl
     by true b p q = absurd (true≢false (sym (some (ap (λ c. c || is_far y) p)) ∙ none))
     by false true p q = absurd (true≢false (sym (some (λ i. p i || q i)) ∙ none))
     by false false p q = (near x p, near y q)
-
--- what is within 2 ^ 98 comes back from 128 bits
-pub back_128 : (z : ℤ) → unsigned_abs z ≤ 2 ^ 98 → to_z w128 (of_z w128 z) ≡ z
-back_128 z h = to_z-of_z w128 z (omega (arith, ints))
 
 -- no copies where there are no columns, or no rows
 pub no_columns : (grid : Grid) → grid.columns ≡ 0 → list_any is_far_point (copies grid) ≡ false

@@ -7,9 +7,9 @@ use Rattle.grid_units.specs.declared.fault.Fail.{Fail}
 use Rattle.grid_units.specs.declared.fault.Fail.TheVariants as fails
 use Rattle.grid_units.proofs.Binds.{bind_ok}
 use Rattle.gerber_text.specs.declared.reader.WordReader.{WordReader}
-use Rattle.gerber_text.specs.Cut.{Mark}
+use Rattle.gerber_text.specs.Cut.{OffsetByte}
 use Rattle.gerber_text.specs.Reading.{Entries, commands_from, shown, Shows, Reads, KeptOf, KeptBefore, entries_behind}
-use Rattle.gerber_text.specs.Standing.{StandsBehind, FailedBehind, FailsWith}
+use Rattle.gerber_text.specs.Holding.{StandsBehind, FailedBehind, FailsWith}
 use Rattle.gerber_text.proofs.Shown.{shown_spelled}
 use Rattle.gerber_text.proofs.Whole.{shows_reads}
 use Rattle.gerber_text.proofs.Longer.{fails_longer}
@@ -18,7 +18,7 @@ use Rattle.layer_image.specs.declared.flashes.Keep.{Keep}
 use Rattle.layer_image.specs.Faults.{IsFirstFault}
 use Rattle.layer_image.specs.Layers.{LayerImage, ReadsLayer}
 use Rattle.grid_units.specs.Lists.{IsLegal}
-use Rattle.layer_image.specs.Standing.{ShowsLayerFault, CoreEnds, FlashImage, ReadsFlashSum, ReadsFlashes, SumImage, ReadsSum}
+use Rattle.layer_image.specs.Holding.{ShowsLayerFault, CoreEnds, FlashImage, ReadsFlashSum, ReadsFlashes, SumImage, ReadsSum}
 use Rattle.grid_units.specs.Limits.{text_limit}
 use Rattle.gerber_text.specs.Writing.{without_places}
 use Rattle.layer_image.specs.Rules.{broken_rule}
@@ -38,7 +38,7 @@ shows_kept text cs s =
         rest = s.rest;
         splits = s.splits;
         within = omega arith;
-        spelled = ap (λ (x : List (List Mark)). commands_from 1 x []) (take-length s.items) ∙ shown_spelled s.items s.rest first.0 first.1 ∙ ap (λ (x : Entries). Ok x) same;
+        spelled = ap (λ (x : List (List OffsetByte)). commands_from 1 x []) (take-length s.items) ∙ shown_spelled s.items s.rest first.0 first.1 ∙ ap (λ (x : Entries). Ok x) same;
       },
     )
 

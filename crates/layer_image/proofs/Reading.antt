@@ -6,7 +6,7 @@ use Rattle.grid_units.specs.declared.fault.Fault.{Fault}
 use Rattle.grid_units.specs.declared.fault.Fail.{Fail}
 use Rattle.grid_units.specs.declared.fault.Fail.TheVariants as fails
 use Rattle.grid_units.proofs.Binds.{bind_ok}
-use Rattle.gerber_text.specs.Cut.{Mark, has_end}
+use Rattle.gerber_text.specs.Cut.{OffsetByte, has_end}
 use Rattle.gerber_text.specs.Reading.{Entries, commands_from, shown, Reads, KeptOf, Keeps}
 use Rattle.gerber_text.proofs.Shown.{shown_spelled}
 use Rattle.gerber_text.proofs.Spelling.{reads_spells}
@@ -33,7 +33,7 @@ kept_all text cs r =
         rest = r.rest;
         splits = r.splits;
         within = omega arith;
-        spelled = ap (λ (x : List (List Mark)). commands_from 1 x []) (take-length r.items) ∙ shown_spelled r.items r.rest first.0 first.1 ∙ ap (λ (x : Entries). Ok x) same;
+        spelled = ap (λ (x : List (List OffsetByte)). commands_from 1 x []) (take-length r.items) ∙ shown_spelled r.items r.rest first.0 first.1 ∙ ap (λ (x : Entries). Ok x) same;
       },
       refl,
     )

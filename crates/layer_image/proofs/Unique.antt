@@ -14,7 +14,7 @@ use Rattle.grid_units.proofs.Lookbacks.{breaks-append}
 use Rattle.gerber_rows.specs.declared.command.Command.{Command}
 use Rattle.gerber_rows.specs.Meaning.{meaning}
 use Rattle.gerber_text.specs.declared.placed.Placed.{Placed}
-use Rattle.gerber_text.specs.Cut.{Mark, marks, bytes_of, first_offset, has_end}
+use Rattle.gerber_text.specs.Cut.{OffsetByte, offset_bytes, bytes_of, first_offset, has_end}
 use Rattle.gerber_text.specs.Reading.{Entries, KeptOf, Reads, behind_end, commands_from, is_blank, is_plotting, may_follow, placed, read_in, shown, spelled}
 use Rattle.gerber_text.proofs.Spelling.{spells_reads}
 use Rattle.gerber_text.proofs.Unique.{one_read, same_items}
@@ -24,6 +24,7 @@ use Rattle.layer_image.specs.Rules.{broken_rule}
 use Rattle.layer_image.proofs.Reading.{kept_all}
 use Rattle.grid_units.specs.Limits.{text_limit, item_limit}
 use Rattle.gerber_text.specs.Writing.{without_places}
+use Rattle.gerber_text.proofs.Steps.{spelled_place}
 
 -- ---- legal lists have no fault
 
@@ -102,12 +103,8 @@ spelled_ok : (place byte : ℕ) (bytes : List ℕ) (before cs : Entries) → spe
 unfolding spelled
 spelled_ok place byte bytes before cs h = within_ok (nat_lt item_limit (length bytes)) (meaning (is_plotting before) bytes) TooLong place byte before cs (at_ok place byte _ cs h)
 
-pub spelled_place : (place byte : ℕ) (bytes : List ℕ) (before : Entries) (f : Fault) → spelled place byte bytes before ≡ Err f → f.place ≡ place
-unfolding spelled
-spelled_place place byte bytes before f h = at_err place byte _ f h
-
 -- items add their commands behind those before them
-grows : (place : ℕ) (items : List (List Mark)) (before cs : Entries) → commands_from place items before ≡ Ok cs → (ds : Entries) × (cs ≡ before ++ ds)
+grows : (place : ℕ) (items : List (List OffsetByte)) (before cs : Entries) → commands_from place items before ≡ Ok cs → (ds : Entries) × (cs ≡ before ++ ds)
 grows place [] before cs h = let same : before ≡ cs = cc in ([], sym same ∙ sym (append-nil before))
 grows place (item ∷ items) before cs h =
     let some = bind_ok (spelled place (first_offset item) (bytes_of item) before) (commands_from (suc place) items) cs h in
@@ -116,7 +113,7 @@ grows place (item ∷ items) before cs h =
     (one.0 ++ rest.0, rest.1 ∙ (ap (λ (l : Entries). l ++ rest.0) one.1 ∙ append_assoc before one.0 rest.0))
 
 -- what the first items spell comes first in what all spell
-first_items : (place : ℕ) (xs ys : List (List Mark)) (before cs es : Entries) → commands_from place (xs ++ ys) before ≡ Ok cs → commands_from place xs before ≡ Ok es → (ds : Entries) × (cs ≡ es ++ ds)
+first_items : (place : ℕ) (xs ys : List (List OffsetByte)) (before cs es : Entries) → commands_from place (xs ++ ys) before ≡ Ok cs → commands_from place xs before ≡ Ok es → (ds : Entries) × (cs ≡ es ++ ds)
 first_items place [] ys before cs es h k =
     let same : before ≡ es = cc in
     let more = grows place ys before cs h in
@@ -129,7 +126,7 @@ first_items place (x ∷ xs) ys before cs es h k =
     first_items (suc place) xs ys a.0 cs es a.2 (subst (λ (m : Entries). commands_from (suc place) xs m ≡ Ok es) same b.2)
 
 -- a fault of items stands at one of them
-later : (place : ℕ) (items : List (List Mark)) (before : Entries) (f : Fault) → commands_from place items before ≡ Err f → place ≤ f.place
+later : (place : ℕ) (items : List (List OffsetByte)) (before : Entries) (f : Fault) → commands_from place items before ≡ Err f → place ≤ f.place
 later place [] before f h = absurd cc
 later place (item ∷ items) before f h = elim (bind_err (spelled place (first_offset item) (bytes_of item) before) (commands_from (suc place) items) f h) [
   | inl here ↦ omega (arith, spelled_place place (first_offset item) (bytes_of item) before f here)
@@ -137,7 +134,7 @@ later place (item ∷ items) before f h = elim (bind_err (spelled place (first_o
 ]
 
 -- where the first items have no fault, it stands behind them
-behind_first : (place : ℕ) (xs ys : List (List Mark)) (before es : Entries) (f : Fault) → commands_from place (xs ++ ys) before ≡ Err f → commands_from place xs before ≡ Ok es → place + length xs ≤ f.place
+behind_first : (place : ℕ) (xs ys : List (List OffsetByte)) (before es : Entries) (f : Fault) → commands_from place (xs ++ ys) before ≡ Err f → commands_from place xs before ≡ Ok es → place + length xs ≤ f.place
 behind_first place [] ys before es f h k = omega (arith, later place ys before f h)
 behind_first place (x ∷ xs) ys before es f h k =
     let r = spelled place (first_offset x) (bytes_of x) before in
@@ -155,11 +152,11 @@ stray_place : (t : Bool) (place byte : ℕ) (r : Result Entries Fault) (f : Faul
 stray_place true place byte r f k e = k e
 stray_place false place byte r f k e = let same : fault place byte AfterEnd ≡ f = cc in sym (ap (λ (g : Fault). g.place) same)
 
-behind_end_place : (place : ℕ) (cs : Entries) (rest : List Mark) (f : Fault) → behind_end place cs rest ≡ Err f → f.place ≡ place
+behind_end_place : (place : ℕ) (cs : Entries) (rest : List OffsetByte) (f : Fault) → behind_end place cs rest ≡ Err f → f.place ≡ place
 behind_end_place place cs [] f e = absurd cc
 behind_end_place place cs (m ∷ ms) f e = stray_place (may_follow m.1) place m.0 (behind_end place cs ms) f (behind_end_place place cs ms f) e
 
-pub rest_place : (t u : Bool) (place byte : ℕ) (cs : Entries) (rest : List Mark) (f : Fault) → cond t (behind_end place cs rest) (cond u (Err (fault place byte TooLong)) (Ok cs)) ≡ Err f → f.place ≡ place
+pub rest_place : (t u : Bool) (place byte : ℕ) (cs : Entries) (rest : List OffsetByte) (f : Fault) → cond t (behind_end place cs rest) (cond u (Err (fault place byte TooLong)) (Ok cs)) ≡ Err f → f.place ≡ place
 rest_place true u place byte cs rest f e = behind_end_place place cs rest f e
 rest_place false true place byte cs rest f e = let same : fault place byte TooLong ≡ f = cc in sym (ap (λ (g : Fault). g.place) same)
 rest_place false false place byte cs rest f e = absurd cc
@@ -169,14 +166,14 @@ ended_place true u place byte other cs f e = let same : fault place byte TooLong
 ended_place false true place byte other cs f e = absurd cc
 ended_place false false place byte other cs f e = let same : fault place other Truncated ≡ f = cc in sym (ap (λ (g : Fault). g.place) same)
 
-shown_place : (items : List (List Mark)) (rest : List Mark) (f : Fault) → shown items rest ≡ Err f → (commands_from 1 items [] ≡ Err f) ⊎ (f.place ≡ suc (length items))
+shown_place : (items : List (List OffsetByte)) (rest : List OffsetByte) (f : Fault) → shown items rest ≡ Err f → (commands_from 1 items [] ≡ Err f) ⊎ (f.place ≡ suc (length items))
 shown_place items rest f h = elim (bind_err (commands_from 1 items []) _ f h) [
   | inl e ↦ inl e
   | inr there ↦ inr (rest_place (has_end items) (nat_lt item_limit (length rest)) (suc (length items)) (first_offset rest) there.0 rest f there.2)
 ]
 
 -- a fault of reading is that of an item, or stands behind all of them
-read_place : (len : ℕ) (items : List (List Mark)) (rest : List Mark) (f : Fault) → read_in len items rest ≡ Err f → (commands_from 1 items [] ≡ Err f) ⊎ (f.place ≡ suc (length items))
+read_place : (len : ℕ) (items : List (List OffsetByte)) (rest : List OffsetByte) (f : Fault) → read_in len items rest ≡ Err f → (commands_from 1 items [] ≡ Err f) ⊎ (f.place ≡ suc (length items))
 read_place len items rest f h = elim (bind_err (shown items rest) _ f h) [
   | inl e ↦ shown_place items rest f e
   | inr there ↦ inr (ended_place (nat_lt text_limit len) (has_end items) (suc (length items)) text_limit (cond (list_all is_blank (bytes_of rest)) len (first_offset rest)) there.0 f there.2)
@@ -185,32 +182,32 @@ read_place len items rest f h = elim (bind_err (shown items rest) _ f h) [
 -- ---- a text reads as one thing
 
 module _ (text : List ℕ) where
-  parts_of : {n : ℕ} {cs : Entries} → KeptOf text n cs → List (List Mark)
+  parts_of : {n : ℕ} {cs : Entries} → KeptOf text n cs → List (List OffsetByte)
   parts_of k = k.items
 
   -- of two lists of first commands the shorter one comes first in the other
   among : (n m : ℕ) (cs ds : Entries) → KeptOf text n cs → KeptOf text m ds → n ≤ m → (es : Entries) × (ds ≡ cs ++ es)
   among n m cs ds h k le =
-      let same = (same_items (marks (take text_limit text)) h.items k.items h.rest k.rest h.splits k.splits).0 in
+      let same = (same_items (offset_bytes (take text_limit text)) h.items k.items h.rest k.rest h.splits k.splits).0 in
       let whole : take n k.items ++ drop n (take m k.items) ≡ take m k.items = fewer n m k.items le in
-      let shorter : commands_from 1 (take n k.items) [] ≡ Ok cs = ap (λ (items : List (List Mark)). commands_from 1 (take n items) []) (sym same) ∙ h.spelled in
-      first_items 1 (take n k.items) (drop n (take m k.items)) [] ds cs (ap (λ (items : List (List Mark)). commands_from 1 items []) whole ∙ k.spelled) shorter
+      let shorter : commands_from 1 (take n k.items) [] ≡ Ok cs = ap (λ (items : List (List OffsetByte)). commands_from 1 (take n items) []) (sym same) ∙ h.spelled in
+      first_items 1 (take n k.items) (drop n (take m k.items)) [] ds cs (ap (λ (items : List (List OffsetByte)). commands_from 1 items []) whole ∙ k.spelled) shorter
     where
-      fewer : (i j : ℕ) (l : List (List Mark)) → i ≤ j → take i l ++ drop i (take j l) ≡ take j l
+      fewer : (i j : ℕ) (l : List (List OffsetByte)) → i ≤ j → take i l ++ drop i (take j l) ≡ take j l
       fewer zero j l h = refl
       fewer (suc i) zero l h = absurd (omega arith)
       fewer (suc i) (suc j) [] h = refl
-      fewer (suc i) (suc j) (x ∷ l) h = ap (λ (r : List (List Mark)). x ∷ r) (fewer i j l (omega arith))
+      fewer (suc i) (suc j) (x ∷ l) h = ap (λ (r : List (List OffsetByte)). x ∷ r) (fewer i j l (omega arith))
 
   -- the fault of reading stands behind the items that are kept
   kept_before : (n : ℕ) (cs : Entries) (f : Fault) → KeptOf text n cs → Reads text (Err f) → suc n ≤ f.place
   kept_before n cs f h r =
-      let same = (same_items (marks (take text_limit text)) h.items r.items h.rest r.rest h.splits r.splits).0 in
-      let within : n ≤ length r.items = subst (λ (items : List (List Mark)). n ≤ length items) same h.within in
-      let shorter : commands_from 1 (take n r.items) [] ≡ Ok cs = ap (λ (items : List (List Mark)). commands_from 1 (take n items) []) (sym same) ∙ h.spelled in
+      let same = (same_items (offset_bytes (take text_limit text)) h.items r.items h.rest r.rest h.splits r.splits).0 in
+      let within : n ≤ length r.items = subst (λ (items : List (List OffsetByte)). n ≤ length items) same h.within in
+      let shorter : commands_from 1 (take n r.items) [] ≡ Ok cs = ap (λ (items : List (List OffsetByte)). commands_from 1 (take n items) []) (sym same) ∙ h.spelled in
       elim (read_place (length text) r.items r.rest f (sym r.answer_is)) [
         | inl e ↦
-            let all : commands_from 1 (take n r.items ++ drop n r.items) [] ≡ Err f = ap (λ (items : List (List Mark)). commands_from 1 items []) (take-append-drop n r.items) ∙ e in
+            let all : commands_from 1 (take n r.items ++ drop n r.items) [] ≡ Err f = ap (λ (items : List (List OffsetByte)). commands_from 1 items []) (take-append-drop n r.items) ∙ e in
             omega (arith, behind_first 1 (take n r.items) (drop n r.items) [] cs f all shorter, length-take-le n r.items within)
         | inr e ↦ omega (arith, e, within)
       ]
@@ -233,8 +230,8 @@ module _ (text : List ℕ) where
   not_both : (image : LayerImage) (f : Fault) → ReadsLayer text (Ok image) → ReadsLayer text (Err f) → ⊥
   not_both image f h (inl k) =
       let all = kept_all text image.commands (computed h) in
-      let same = (same_items (marks (take text_limit text)) k.2.items all.1.items k.2.rest all.1.rest k.2.splits all.1.splits).0 in
-      let within : k.0 ≤ length all.1.items = subst (λ (items : List (List Mark)). k.0 ≤ length items) same k.2.within in
+      let same = (same_items (offset_bytes (take text_limit text)) k.2.items all.1.items k.2.rest all.1.rest k.2.splits all.1.splits).0 in
+      let within : k.0 ≤ length all.1.items = subst (λ (items : List (List OffsetByte)). k.0 ≤ length items) same k.2.within in
       no_early_fault k.0 all.0 k.1 image.commands f k.2 all.1 (omega (arith, within, all.2)) h.0.legal k.3
   not_both image f h (inr k) = differ (one_read text (Err f) (Ok image.commands) k.1 (computed h))
 

@@ -4,15 +4,16 @@ use Rattle.std.specs.Option.{option_and_then}
 use Rattle.std.specs.List.{before_first, after_first}
 use Rattle.std.specs.Str.{bytes_eq}
 use Rattle.grid_units.specs.Lists.{last_named}
-use Rattle.gerber_rows.specs.Rows.{behind}
+use Rattle.grid_units.specs.Rows.{behind}
 use Rattle.gerber_rows.specs.Words.{behind_spaces}
 use Rattle.gerber_rows.specs.declared.command.AttributeKind.TheVariants as kinds
 use Rattle.gerber_rows.specs.declared.command.Command.{Command}
 use Rattle.gerber_rows.specs.declared.command.Command.TheVariants as command
+use Rattle.grid_units.specs.Ascii as ascii
 
 -- the byte between the fields of an attribute (Gerber format, Attributes)
 abbrev pub is_comma : ℕ → Bool
-is_comma b = b == 44
+is_comma b = b == ascii.comma
 
 -- what stands behind the name `.FileFunction` and its comma: nothing where no comma stands there (Gerber format, .FileFunction)
 abbrev pub function_in : List ℕ → Option (List ℕ)

@@ -19,7 +19,7 @@ use Rattle.layer_image.specs.declared.flash.What.{What}
 use Rattle.layer_image.specs.Lookback.{Standing, aperture_in}
 use Rattle.layer_image.specs.Flashes.{keeps_from_pad, why_order, what_at, unit_in_force, flashes_at}
 use Rattle.layer_image.specs.Moved.{origin}
-use Rattle.layer_image.specs.Rules.{first_broken, is_far_side, sides}
+use Rattle.layer_image.specs.Rules.{first_broken, is_far_side, max_flashes, sides}
 
 -- the pm of a step in the unit and the format that are named, and a number that is neither too long nor too far
 -- (docs/DEFINITIONS.md, Legal lists)
@@ -72,4 +72,4 @@ changes_force _ = false
 pub record IsFlashOf (s : Standing) (count : ℕ) (c : Command) (flash : Flash) : Type 0 where
   pub legal : first_broken s count c ≡ None
   pub flashes : flashes_at s c ≡ flash ∷ []
-  pub few : count < 4194304
+  pub few : count < max_flashes

@@ -34,11 +34,14 @@ pub record IsLayerText (text : List ℕ) (commands : Entries) : Type 0 where
   pub spells : SpellsText text commands
   pub legal : IsLegal broken_rule (without_places commands)
 
--- A text reads as a layer: it is the text of the layer's commands, and the rest follows from them. Or it has this fault:
--- some first items of it spell commands of which this one is the first to break a rule; or it is the fault of reading,
--- and the commands before it are legal (docs/DEFINITIONS.md, Layers).
+-- a text is that of a layer: of the layer's commands, and the rest follows from them (docs/DEFINITIONS.md, Layers)
+abbrev pub IsLayer : List ℕ → LayerImage → Type 0
+IsLayer text image = IsLayerText text image.commands × (image ≡ image_of image.commands)
+
+-- A text reads as the layer whose text it is. Or it has this fault: some first items of it spell commands of which this one
+-- is the first to break a rule; or it is the fault of reading, and the commands before it are legal (docs/DEFINITIONS.md, Layers).
 abbrev pub ReadsLayer : List ℕ → Result LayerImage Fault → Type 0
-ReadsLayer text (Ok image) = IsLayerText text image.commands × (image ≡ image_of image.commands)
+ReadsLayer text (Ok image) = IsLayer text image
 ReadsLayer text (Err f) =
     ((kept : ℕ) × (entries : Entries) × KeptOf text kept entries × IsFirstFault entries f)
     ⊎ ((entries : Entries) × Reads text (Err f) × KeptBefore text (fails.Refused f) entries × IsLegal broken_rule (without_places entries))

@@ -10,5 +10,5 @@ pub mod InForce
 pub mod Faults
 pub mod Functions
 pub mod Layers
-pub mod Standing
+pub mod Holding
 pub mod Inner

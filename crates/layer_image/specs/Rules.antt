@@ -188,9 +188,13 @@ abbrev pub reaches_too_far : Standing → Command → Bool
 reaches_too_far s (command.Operate action x y i j) = (is_far_in s x || is_far_in s y) || (is_flash action && flashes_too_far s x y)
 reaches_too_far s _ = false
 
+-- the most flashes of a layer (docs/FORMATS.md, Limits)
+abbrev pub max_flashes : ℕ
+max_flashes = 4194304
+
 -- a flash whose copies make too many, where there are so many flashes before it (docs/FORMATS.md, Limits)
 abbrev pub flashes_too_many : Standing → ℕ → Command → Bool
-flashes_too_many s count (command.Operate action x y i j) = is_flash action && nat_lt 4194304 (count + length (copies_at s x y))
+flashes_too_many s count (command.Operate action x y i j) = is_flash action && nat_lt max_flashes (count + length (copies_at s x y))
 flashes_too_many s count _ = false
 
 -- ---- the table

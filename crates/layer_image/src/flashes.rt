@@ -4,7 +4,7 @@ ghost use Rattle.std.specs.Prelude.{◌≡◌, ◌+◌, ◌<◌, ◌≤◌, ◌+
 ghost use Rattle.std.specs.List.{list_any};
 ghost use Rattle.layer_image.specs.Flashes.{copies, pads_of, others_in};
 ghost use Rattle.layer_image.specs.Moved.{flash_moved, flash_laid};
-ghost use Rattle.layer_image.specs.Rules.{is_far_point};
+ghost use Rattle.layer_image.specs.Rules.{is_far_point, max_flashes};
 ghost use Rattle.layer_image.specs.Grids.{IsBounded};
 
 use crate::flash::{Flash, What};
@@ -62,7 +62,7 @@ pub(crate) struct Flashes {
     pub(crate) pads: Vec<Pad>,
     pub(crate) count: u64,
     pub(crate) others: u64,
-    ghost few: { count ≤ 4194304 },
+    ghost few: { count ≤ max_flashes },
     ghost fewer: { others ≤ count },
 }
 
@@ -85,14 +85,14 @@ impl Flashes {
     /// How many flashes there were.
     pub(crate) fn count(&self) -> u128
         ensures value { result ≡ flash_count self.now }
-        ensures small { result ≤ 4194304 }
+        ensures small { result ≤ max_flashes }
     {
         u128::from(self.count)
     }
 
     /// Whether there is no room for one more.
     pub(crate) fn is_full(&self) -> bool
-        ensures { result ≡ nat_le 4194304 (flash_count self.now) }
+        ensures { result ≡ nat_le max_flashes (flash_count self.now) }
     {
         self.count >= 4_194_304
     }
@@ -103,7 +103,7 @@ impl Flashes {
     ///
     /// An `AllocError` where there is no memory for it or its pad.
     pub(crate) fn add(&mut self, flash: &Flash) -> Result<(), AllocError>
-        requires { flash_count self.old < 4194304 }
+        requires { flash_count self.old < max_flashes }
         ensures { OnOk result (Adds self.old (flash.now ∷ []) self.new) }
     {
         if self.keep.flashes() {
@@ -141,7 +141,7 @@ impl Flashes {
     pub(crate) fn lay(&mut self, grid: &Grid, flash: &Flash) -> Result<(), AllocError>
         requires bounded { IsBounded grid.now }
         requires near { list_any is_far_point (copies grid.now) ≡ false }
-        requires few { flash_count self.old + length (copies grid.now) ≤ 4194304 }
+        requires few { flash_count self.old + length (copies grid.now) ≤ max_flashes }
         ensures { OnOk result (Adds self.old (map (flash_laid flash.now) (copies grid.now)) self.new) }
     {
         self.lay_all(grid, flash)?;
@@ -187,7 +187,7 @@ impl Flashes {
 
     /// Counts the flashes, and those that are no pads.
     fn tally(&mut self, grid: &Grid, what: &What)
-        requires few { flash_count self.old + length (copies grid.now) ≤ 4194304 }
+        requires few { flash_count self.old + length (copies grid.now) ≤ max_flashes }
         ensures same { self.new.keep ≡ self.old.keep }
         ensures all { self.new.all ≡ self.old.all }
         ensures pads { self.new.pads ≡ self.old.pads }

@@ -10,7 +10,7 @@ ghost use Rattle.layer_image.specs.declared.flashes.Keep.{Keep as TheKeep};
 ghost use Rattle.grid_units.specs.declared.stop.Stop.TheVariants.{Memory};
 ghost use Rattle.layer_image.specs.Lookback.{aperture_in, single};
 ghost use Rattle.layer_image.specs.Flashes.{copies_at, flashed, is_flash};
-ghost use Rattle.layer_image.specs.Rules.{first_broken, flashes_too_far, is_badly_sized, is_far_pad, is_far_point};
+ghost use Rattle.layer_image.specs.Rules.{first_broken, flashes_too_far, is_badly_sized, is_far_pad, is_far_point, max_flashes};
 ghost use Rattle.layer_image.specs.Keeping.{Adds, flash_count};
 ghost use Rattle.layer_image.specs.Inner.Knows.{Knows, Takes, Judges, IfRefused, told, after};
 
@@ -132,7 +132,7 @@ impl Judge {
     ) -> Result<(), AllocError>
         requires points { list_any is_far_point (copies_at (told self.old) x y) ≡ false }
         requires pad { is_far_pad (told self.old) aperture.now ≡ false }
-        requires few { flash_count self.old.flashes + length (copies_at (told self.old) x y) ≤ 4194304 }
+        requires few { flash_count self.old.flashes + length (copies_at (told self.old) x y) ≤ max_flashes }
         ensures told { told self.new ≡ told self.old }
         ensures flashes { OnOk result (Adds self.old.flashes (flashed (told self.old) x y aperture.now) self.new.flashes) }
     {
@@ -145,7 +145,7 @@ impl Judge {
     fn flash_selected(&mut self, x: Option<i64>, y: Option<i64>) -> Result<(), AllocError>
         requires points { list_any is_far_point (copies_at (told self.old) x y) ≡ false }
         requires pad { option_map_or (is_far_pad (told self.old)) (aperture_in (told self.old)) false ≡ false }
-        requires few { flash_count self.old.flashes + length (copies_at (told self.old) x y) ≤ 4194304 }
+        requires few { flash_count self.old.flashes + length (copies_at (told self.old) x y) ≤ max_flashes }
         ensures told { told self.new ≡ told self.old }
         ensures flashes { OnOk result (Adds self.old.flashes (option_map_or (flashed (told self.old) x y) (aperture_in (told self.old)) []) self.new.flashes) }
     {
@@ -158,7 +158,7 @@ impl Judge {
     /// Takes in an operation.
     fn operate(&mut self, action: Action, x: Option<i64>, y: Option<i64>) -> Result<(), AllocError>
         requires near { is_flash action ≡ true → flashes_too_far (told self.old) x y ≡ false }
-        requires few { is_flash action ≡ true → nat_lt 4194304 (flash_count self.old.flashes + length (copies_at (told self.old) x y)) ≡ false }
+        requires few { is_flash action ≡ true → nat_lt max_flashes (flash_count self.old.flashes + length (copies_at (told self.old) x y)) ≡ false }
         ensures { OnOk result ((i j : Option ℤ) → Takes self.old (command.Operate action x y i j) self.new) }
     {
         if is_flash(action) {
@@ -175,7 +175,7 @@ impl Judge {
         x: Option<i64>,
         y: Option<i64>,
     ) -> Result<(), AllocError>
-        requires { flash_count self.old.flashes < 4194304 }
+        requires { flash_count self.old.flashes < max_flashes }
         ensures told { (action : TheAction) (i j : Option ℤ) → told self.new ≡ after (command.Operate action x y i j) (told self.old) }
         ensures flashes { OnOk result (Adds self.old.flashes (flash.now ∷ []) self.new.flashes) }
     {

@@ -3,7 +3,7 @@
 ghost use Rattle.std.specs.Prelude.{◌++◌, ℕ, List, Err};
 ghost use Rattle.grid_units.specs.declared.fault.Fault.{Fault};
 ghost use Rattle.layer_image.specs.Layers.{EachTextAnswers, EqualCommands, LayerReasons, LayerTexts, LayersOfTexts, OneReading, ReadsLayer};
-ghost use Rattle.layer_image.specs.Standing.{ShowsLayerFault};
+ghost use Rattle.layer_image.specs.Holding.{ShowsLayerFault};
 
 /// The fault that a text shows is shown by each longer text too, and is the one that the text has.
 pub fn shown_faults()

@@ -29,9 +29,9 @@ pub(crate) struct Core {
 impl Core {
     ghost use Rattle.layer_image.specs.Layers.{ReadsLayer};
     ghost use Rattle.gerber_text.specs.Reading.{Entries};
-    ghost use Rattle.gerber_text.specs.Standing.{StandsBehind, held};
+    ghost use Rattle.gerber_text.specs.Holding.{StandsBehind, held};
     ghost use Rattle.layer_image.specs.Keeping.{keeps_commands};
-    ghost use Rattle.layer_image.specs.Standing.{CoreStands, CoreAdvances, CoreEnds, ShowsLayerFault, Scanned};
+    ghost use Rattle.layer_image.specs.Holding.{CoreStands, CoreAdvances, CoreEnds, ShowsLayerFault, Scanned};
 
     pub(crate) fn new(alloc: Global, keep: Keep) -> Core
         ensures stands { CoreStands result [] }
@@ -145,7 +145,7 @@ pub struct LayerReader {
 
 impl LayerReader {
     ghost use Rattle.layer_image.specs.Layers.{ReadsLayer};
-    ghost use Rattle.layer_image.specs.Standing.{LayerStandsAfter, ShowsLayerFault, layer_failure};
+    ghost use Rattle.layer_image.specs.Holding.{LayerStandsAfter, ShowsLayerFault, layer_failure};
 
     /// A reader that has read nothing.
     pub fn new(alloc: Global) -> LayerReader
@@ -206,7 +206,7 @@ pub struct FlashReader {
 }
 
 impl FlashReader {
-    ghost use Rattle.layer_image.specs.Standing.{FlashesStandAfter, ReadsFlashSum, ReadsFlashes, ShowsLayerFault, flash_failure, flash_view};
+    ghost use Rattle.layer_image.specs.Holding.{FlashesStandAfter, ReadsFlashSum, ReadsFlashes, ShowsLayerFault, flash_failure, flash_view};
 
     /// A reader that has read nothing.
     pub fn new(alloc: Global) -> FlashReader
@@ -286,7 +286,7 @@ pub struct SumReader {
 }
 
 impl SumReader {
-    ghost use Rattle.layer_image.specs.Standing.{SumStandsAfter, ReadsSum, sum_view, ShowsLayerFault, sum_failure};
+    ghost use Rattle.layer_image.specs.Holding.{SumStandsAfter, ReadsSum, sum_view, ShowsLayerFault, sum_failure};
 
     /// A reader that has read nothing.
     pub fn new(alloc: Global) -> SumReader

@@ -6,7 +6,7 @@ ghost use Rattle.std.specs.List.{find};
 ghost use Rattle.gerber_rows.specs.declared.command.Command.TheVariants as command;
 ghost use Rattle.layer_image.specs.Lookback.{aperture_in};
 ghost use Rattle.layer_image.specs.Flashes.{is_flash, copies_at};
-ghost use Rattle.layer_image.specs.Rules.{applies, later_rules, first_broken, differs_in_unit, differs_in_format, lacks_macro, needs_aperture, flashes_too_far, is_far_in, is_far_pad, is_long_by, repeats_badly, is_bad_count, is_not_positive, may_stand_in_region};
+ghost use Rattle.layer_image.specs.Rules.{applies, later_rules, first_broken, differs_in_unit, differs_in_format, lacks_macro, needs_aperture, flashes_too_far, is_far_in, is_far_pad, is_long_by, repeats_badly, is_bad_count, is_not_positive, max_flashes, may_stand_in_region};
 ghost use Rattle.layer_image.specs.Keeping.{flash_count};
 ghost use Rattle.layer_image.specs.Inner.Knows.{told};
 
@@ -185,7 +185,7 @@ impl Judge {
     }
 
     fn flashes_too_many(&self, action: Action, x: Option<i64>, y: Option<i64>) -> bool
-        ensures { result ≡ (is_flash action && nat_lt 4194304 (flash_count self.now.flashes + length (copies_at (told self.now) x y))) }
+        ensures { result ≡ (is_flash action && nat_lt max_flashes (flash_count self.now.flashes + length (copies_at (told self.now) x y))) }
     {
         is_flash(action) && self.flashes.count() + u128::from(self.grid(x, y).count()) > MAX_FLASHES
     }

@@ -24,7 +24,7 @@ pub(crate) struct Scan {
 }
 
 impl Scan {
-    ghost use Rattle.layer_image.specs.Standing.{Met, Meets, Scanned};
+    ghost use Rattle.layer_image.specs.Holding.{Met, Meets, Scanned};
 
     /// A scan that has met no command.
     pub(crate) fn new(alloc: Global, keep: Keep) -> Self

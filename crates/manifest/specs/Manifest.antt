@@ -16,6 +16,7 @@ use Rattle.grid_units.specs.declared.fault.Fault.{Fault}
 use Rattle.manifest.specs.declared.Role.{Role}
 use Rattle.manifest.specs.declared.Role.TheVariants.{Copper, Plated, Unplated}
 use Rattle.manifest.specs.declared.Entry.{Entry}
+use Rattle.grid_units.specs.Ascii as ascii
 
 -- ---- records
 
@@ -35,7 +36,7 @@ field k row = get_or row k []
 
 -- a byte below 0x20, or 0x7F (docs/FORMATS.md, Judging)
 abbrev pub is_control : ℕ → Bool
-is_control b = nat_lt b 32 || (b == 127)
+is_control b = nat_lt b ascii.space || (b == ascii.delete)
 
 -- UTF-8 without a control byte (docs/FORMATS.md, Judging)
 abbrev pub is_plain_text : List ℕ → Bool
@@ -59,7 +60,7 @@ is_span_heading row = (length row == 5) && (names_files row && names_spans row)
 
 -- How many fields each record has, as the first one says. Version 1 has three, and version 2 five (docs/FORMATS.md, Judging).
 abbrev pub width_of : Row → Option ℕ
-width_of first = if is_heading first then Some 3 else (if is_span_heading first then Some 5 else None)
+width_of first = if is_heading first then Some 3 else if is_span_heading first then Some 5 else None
 
 -- so many fields of plain text (docs/FORMATS.md, Judging)
 abbrev pub is_well_formed : ℕ → Row → Bool
@@ -69,7 +70,7 @@ is_well_formed width row = (length row == width) && list_all is_plain_text row
 abbrev pub role_named : List ℕ → Option Role
 role_named word =
     if bytes_eq word (codes "copper") then Some Copper
-    else (if bytes_eq word (codes "plated") then Some Plated else (if bytes_eq word (codes "unplated") then Some Unplated else None))
+    else if bytes_eq word (codes "plated") then Some Plated else if bytes_eq word (codes "unplated") then Some Unplated else None
 
 -- one to nine digits (docs/FORMATS.md, Judging)
 abbrev pub is_layer_number : List ℕ → Bool
@@ -108,10 +109,10 @@ is_repeated name earlier = list_any (λ entry. bytes_eq entry.name name) earlier
 abbrev pub broken_rule : ℕ → Bool → Row → Option Reason
 broken_rule width repeated row =
     if not (is_well_formed width row) then Some BadManifest
-    else (if not (is_some (role_named (field 0 row))) then Some BadRole
-    else (if (length (field 1 row) == 0) || (length (field 2 row) == 0) then Some EmptyName
-    else (if repeated then Some RepeatedName
-    else (if is_bad_span (entry_of row).role (field 3 row) (field 4 row) then Some BadSpan else None))))
+    else if not (is_some (role_named (field 0 row))) then Some BadRole
+    else if (length (field 1 row) == 0) || (length (field 2 row) == 0) then Some EmptyName
+    else if repeated then Some RepeatedName
+    else if is_bad_span (entry_of row).role (field 3 row) (field 4 row) then Some BadSpan else None
 
 -- ---- all records
 
@@ -122,7 +123,7 @@ is_copper entry = is_layer entry.role
 -- which of the roles that a package needs its files lack (docs/FORMATS.md, Judging)
 abbrev pub missing_role : List Entry → Option Reason
 missing_role entries =
-    if not (list_any is_copper entries) then Some NoCopper else (if not (list_any (λ entry. not (is_copper entry)) entries) then Some NoDrill else None)
+    if not (list_any is_copper entries) then Some NoCopper else if not (list_any (λ entry. not (is_copper entry)) entries) then Some NoDrill else None
 
 -- the span ends above the last of so many layers (docs/FORMATS.md, Judging)
 abbrev pub ends_beyond : ℕ → Option LayerSpan → Bool

@@ -12,6 +12,7 @@ use Rattle.margin_text.specs.declared.LeastRing.{LeastRing}
 use Rattle.margin_text.specs.declared.Meets.{Meets}
 use Rattle.margin_text.specs.declared.RingLine.{RingLine}
 use Rattle.margin_text.specs.declared.ScaleLine.{ScaleLine}
+use Rattle.grid_units.specs.Ascii as ascii
 
 -- the least ring and the first hole that has it, or that each hole is bare (docs/FORMATS.md, Measure)
 abbrev pub least_words : Option LeastRing → List ℕ
@@ -29,7 +30,7 @@ ring_counts holes bare = codes " holes=" ++ (decimal holes ++ (codes " bare=" ++
 -- the line of the rings of one layer, drill file and diameter (docs/FORMATS.md, Measure)
 unfoldable pub ring_line : RingLine → List ℕ
 ring_line line =
-    ring_files (line.layer + 1) (line.drill + 1) ++ (millimetres line.diameter ++ (ring_counts line.holes line.bare ++ (least_words line.least ++ 10 ∷ [])))
+    ring_files (line.layer + 1) (line.drill + 1) ++ (millimetres line.diameter ++ (ring_counts line.holes line.bare ++ (least_words line.least ++ ascii.line_feed ∷ [])))
 
 -- how a factor is written (docs/FORMATS.md, Measure)
 abbrev pub factor_word : Factor → List ℕ
@@ -41,7 +42,7 @@ factor_word factors.PerInch = codes "1/25.4"
 -- the line of a drill file, by its number, its bare holes, the word of a factor, and the holes that would be bare by it (docs/FORMATS.md, Measure)
 abbrev pub scale_words : ℕ → ℕ → List ℕ → ℕ → List ℕ
 scale_words drill bare factor then =
-    codes "scale drill=" ++ (decimal drill ++ (codes " bare=" ++ (decimal bare ++ (codes " factor=" ++ (factor ++ (codes " then=" ++ (decimal then ++ 10 ∷ [])))))))
+    codes "scale drill=" ++ (decimal drill ++ (codes " bare=" ++ (decimal bare ++ (codes " factor=" ++ (factor ++ (codes " then=" ++ (decimal then ++ ascii.line_feed ∷ [])))))))
 
 -- the line of a drill file whose coordinates seem to be off by a factor (docs/FORMATS.md, Measure)
 unfoldable pub scale_line : ScaleLine → List ℕ
@@ -53,7 +54,7 @@ hole_words place = codes " drill=" ++ (decimal (place.drill + 1) ++ (codes " hol
 
 -- the line of the least gap (docs/FORMATS.md, Measure)
 unfoldable pub gap_line : GapLine → List ℕ
-gap_line line = codes "gap least=" ++ (millimetres line.gap ++ (hole_words line.first ++ (hole_words line.second ++ 10 ∷ [])))
+gap_line line = codes "gap least=" ++ (millimetres line.gap ++ (hole_words line.first ++ (hole_words line.second ++ ascii.line_feed ∷ [])))
 
 -- the rules that are met: those up to a length, all or none (docs/FORMATS.md, Measure)
 abbrev pub met_words : Met → List ℕ
@@ -63,7 +64,7 @@ met_words mets.None = codes "none"
 
 -- the last line (docs/FORMATS.md, Measure)
 unfoldable pub meets_line : Meets → List ℕ
-meets_line meets = codes "meets ring=" ++ (met_words meets.ring ++ (codes " gap=" ++ (met_words meets.gap ++ (codes " held=" ++ (met_words meets.held ++ 10 ∷ [])))))
+meets_line meets = codes "meets ring=" ++ (met_words meets.ring ++ (codes " gap=" ++ (met_words meets.gap ++ (codes " held=" ++ (met_words meets.held ++ ascii.line_feed ∷ [])))))
 
 -- the line of the least gap, where there are two holes (docs/FORMATS.md, Measure)
 abbrev pub gap_lines : Option GapLine → List ℕ

@@ -7,7 +7,7 @@
 mod lines;
 mod measures;
 
-pub use lines::{push_gap, push_meets, push_ring, push_scale};
+pub use lines::{factor_word, push_gap, push_meets, push_ring, push_scale};
 pub use margins::Met;
 pub use measures::{print_measure, write_measure};
 pub use printing::{Cut, buffer};

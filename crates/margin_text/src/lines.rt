@@ -68,7 +68,7 @@ fn push_hole(text: &mut String, hole: usize) -> Result<(), AllocError>
 }
 
 /// A factor as it is written.
-fn factor_word(factor: Factor) -> &'static str
+pub fn factor_word(factor: Factor) -> &'static str
     ensures { result.now ≡ factor_word factor }
 {
     match factor {

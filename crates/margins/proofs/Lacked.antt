@@ -3,7 +3,7 @@ use Rattle.std.proofs.Common.{◌≡◌, ℕ, ◌<◌, Bool, Option, None, List,
 use Rattle.std.specs.Prelude.{◌&&◌}
 use Rattle.std.proofs.lemmas.List.{get_or_default}
 use Rattle.grid_units.specs.Points.{GridPoint}
-use Rattle.ring_rules.specs.Findings.{is_wanting}
+use Rattle.ring_rules.specs.Findings.{is_ring_finding}
 use Rattle.ring_rules.specs.Meeting.{hole_at}
 use Rattle.ring_rules.specs.Places.{nowhere}
 use Rattle.ring_rules.specs.declared.finding.Drilled.{Drilled}
@@ -17,8 +17,8 @@ use Rattle.margins.proofs.Meeting.{ring_of_best}
 use Rattle.margins.proofs.Passing.{short_lacks}
 
 module _ {S : Type 0} (covers : S → GridPoint → ℕ → Bool) (less : CoversLess covers) (pads : List S) (holes : List Drilled) (bests : List (Option Best)) (are : AreBest covers pads holes bests) where
-  -- the hole at a place is wanting just where it falls short by the best pad there
-  pub short_wants : (layer q k : ℕ) (d : Drilled) (best : Option Best) → k < length holes → d ≡ get_or holes k d → best ≡ get_or bests k best → falls_short q layer d best ≡ is_wanting covers q layer pads d
+  -- the hole at a place is lacking just where it falls short by the best pad there
+  pub short_wants : (layer q k : ℕ) (d : Drilled) (best : Option Best) → k < length holes → d ≡ get_or holes k d → best ≡ get_or bests k best → falls_short q layer d best ≡ is_ring_finding covers q layer pads d
   short_wants layer q k d best inside at there = ap (λ b. asks_ring layer d && b) (short_lacks covers pads d.hole q less (ring_by best d.hole) (ring_of_best covers pads d.hole best is))
     where
       hole_is : get_or holes k nowhere ≡ d

@@ -17,9 +17,7 @@ use Rattle.margins.specs.declared.best.Best.{Best}
 use Rattle.margins.specs.declared.met.Met.{Met}
 use Rattle.margins.specs.declared.met.RingsMet.{RingsMet}
 use Rattle.margins.specs.declared.met.Met.TheVariants as mets
-
-by_order : {P : Type 0} (a b : ℤ) → (a ≤ℤ b → P) → (b ≤ℤ a → P) → P
-by_order a b f g = by_lt_z a b (λ h. f (omega (arith, ints))) g
+use Rattle.ring_rules.proofs.CoreLemmas.{by_order}
 
 -- one pair more
 abbrev pub Or : (ℕ → ℕ → Type 0) → ℕ → ℕ → ℕ → ℕ → Type 0

@@ -13,7 +13,7 @@ use Rattle.grid_units.specs.Holes.{GridHole}
 use Rattle.ring_rules.specs.Cores.{square_of_cores, are_clear}
 use Rattle.ring_rules.specs.Places.{nowhere}
 use Rattle.ring_rules.specs.Meeting.{hole_at}
-use Rattle.ring_rules.specs.Findings.{is_oblique, covers_hole, lacks_ring, is_wanting, finding_of, layer_findings, ring_findings, hole_findings, gap_findings}
+use Rattle.ring_rules.specs.Findings.{is_oblique, covers_hole, lacks_ring, is_ring_finding, finding_of, layer_findings, ring_findings, hole_findings, gap_findings}
 use Rattle.ring_rules.specs.declared.finding.Drilled.{Drilled}
 use Rattle.ring_rules.specs.declared.finding.Finding.TheVariants.{Gap}
 use Rattle.margins.specs.Depths.{CoversLess}
@@ -24,6 +24,7 @@ use Rattle.margins.specs.Inner.Lacking.{is_short}
 use Rattle.margins.specs.declared.met.Met.TheVariants as mets
 use Rattle.grid_units.proofs.BoolLemmas.{both_true, neither, not_false, then_not}
 use Rattle.grid_units.proofs.ListLemmas.{no_map, none_at, fails_at, passing}
+use Rattle.ring_rules.proofs.Passed.{fails_placed, none_placed}
 
 -- ---- lists in which nothing is found
 
@@ -41,16 +42,6 @@ all_fail p (x ∷ xs) h =
 -- an element with its place
 pub placed : {X : Type 0} (xs : List X) (k : ℕ) (d : ℕ × X) → k < length xs → get_or (enumerate_from 0 xs) k d ≡ (k, get_or xs k d.1)
 placed xs k d h = let z : 0 + k ≡ k = omega arith in get_or-enumerate_from 0 xs k d h ∙ ap (λ n. (n, get_or xs k d.1)) z
-
-fails_placed : {X : Type 0} (p : ℕ × X → Bool) (xs : List X) → filter p (enumerate_from 0 xs) ≡ [] → (k : ℕ) (d : X) → k < length xs → p (k, get_or xs k d) ≡ false
-fails_placed p xs e k d h =
-    let inside : k < length (enumerate_from 0 xs) = omega (arith, length-enumerate_from 0 xs) in
-    sym (ap p (placed xs k (k, d) h)) ∙ fails_at p (enumerate_from 0 xs) e k (k, d) inside
-
-none_placed : {X Y : Type 0} (f : ℕ × X → List Y) (xs : List X) → flat_map f (enumerate_from 0 xs) ≡ [] → (k : ℕ) (d : X) → k < length xs → f (k, get_or xs k d) ≡ []
-none_placed f xs e k d h =
-    let inside : k < length (enumerate_from 0 xs) = omega (arith, length-enumerate_from 0 xs) in
-    sym (ap f (placed xs k (k, d) h)) ∙ none_at f (enumerate_from 0 xs) e k (k, d) inside
 
 all_fail_placed : {X : Type 0} (p : ℕ × X → Bool) (xs : List X) → ((k : ℕ) (d : X) → k < length xs → p (k, get_or xs k d) ≡ false) → filter p (enumerate_from 0 xs) ≡ []
 all_fail_placed p xs h = all_fail p (enumerate_from 0 xs) (λ k d l.
@@ -131,34 +122,34 @@ module _ {S : Type 0} (covers : S → GridPoint → ℕ → Bool) (pads : List S
 -- ---- all rings
 
 module _ {S : Type 0} (covers : S → GridPoint → ℕ → Bool) (q : ℕ) (layers : List (List S)) (holes : List Drilled) where
-  wanting_none : ring_findings covers q layers holes ≡ [] → (l k : ℕ) → l < length layers → k < length holes → is_wanting covers q l (get_or layers l []) (get_or holes k nowhere) ≡ false
-  wanting_none none l k in_layers in_holes =
+  lacking_none : ring_findings covers q layers holes ≡ [] → (l k : ℕ) → l < length layers → k < length holes → is_ring_finding covers q l (get_or layers l []) (get_or holes k nowhere) ≡ false
+  lacking_none none l k in_layers in_holes =
       let at_layer : layer_findings covers q holes l (get_or layers l []) ≡ [] = none_placed (λ layer. layer_findings covers q holes layer.0 layer.1) layers none l [] in_layers in
-      fails_placed (λ hole. is_wanting covers q l (get_or layers l []) hole.1) holes (no_map (finding_of l) _ at_layer) k nowhere in_holes
+      fails_placed (λ hole. is_ring_finding covers q l (get_or layers l []) hole.1) holes (no_map (finding_of l) _ at_layer) k nowhere in_holes
 
-  none_wanting : ((l k : ℕ) → l < length layers → k < length holes → is_wanting covers q l (get_or layers l []) (get_or holes k nowhere) ≡ false) → ring_findings covers q layers holes ≡ []
-  none_wanting none = all_none_placed (λ layer. layer_findings covers q holes layer.0 layer.1) layers (λ l d in_layers.
+  none_lacking : ((l k : ℕ) → l < length layers → k < length holes → is_ring_finding covers q l (get_or layers l []) (get_or holes k nowhere) ≡ false) → ring_findings covers q layers holes ≡ []
+  none_lacking none = all_none_placed (λ layer. layer_findings covers q holes layer.0 layer.1) layers (λ l d in_layers.
       ap (λ pads. layer_findings covers q holes l pads) (get_or_default layers l d [] in_layers)
-      ∙ ap (map (finding_of l)) (all_fail_placed (λ hole. is_wanting covers q l (get_or layers l []) hole.1) holes (λ k e in_holes.
-      ap (is_wanting covers q l (get_or layers l [])) (get_or_default holes k e nowhere in_holes) ∙ none l k in_layers in_holes)))
+      ∙ ap (map (finding_of l)) (all_fail_placed (λ hole. is_ring_finding covers q l (get_or layers l []) hole.1) holes (λ k e in_holes.
+      ap (is_ring_finding covers q l (get_or layers l [])) (get_or_default holes k e nowhere in_holes) ∙ none l k in_layers in_holes)))
 
 pub rings_pass : {S : Type 0} (covers : S → GridPoint → ℕ → Bool) → CoversLess covers → RingsPassExactly covers
 rings_pass covers less layers holes mets.Any so q = (
   λ e. tt,
-  λ u. none_wanting covers q layers holes (λ l k in_layers in_holes.
+  λ u. none_lacking covers q layers holes (λ l k in_layers in_holes.
       unless (asks_ring l (get_or holes k nowhere)) (lacks_ring covers q (get_or layers l []) (hole_at holes k)) (λ asks. absurd (so l k (record { in_layers = in_layers; in_holes = in_holes; asks = asks })))),
 )
 rings_pass covers less layers holes (mets.Most m) so q = (
   λ e. covers_ring covers (get_or layers so.i []) (hole_at holes so.j) q m so.reached
-      (then_not (asks_ring so.i (get_or holes so.j nowhere)) (lacks_ring covers q (get_or layers so.i []) (hole_at holes so.j)) so.there.asks (wanting_none covers q layers holes e so.i so.j so.there.in_layers so.there.in_holes)),
-  λ le. none_wanting covers q layers holes (λ l k in_layers in_holes.
+      (then_not (asks_ring so.i (get_or holes so.j nowhere)) (lacks_ring covers q (get_or layers so.i []) (hole_at holes so.j)) so.there.asks (lacking_none covers q layers holes e so.i so.j so.there.in_layers so.there.in_holes)),
+  λ le. none_lacking covers q layers holes (λ l k in_layers in_holes.
       unless (asks_ring l (get_or holes k nowhere)) (lacks_ring covers q (get_or layers l []) (hole_at holes k)) (λ asks.
       let w = so.least l k (record { in_layers = in_layers; in_holes = in_holes; asks = asks }) in
       ring_covers covers (get_or layers l []) (hole_at holes k) q less w.0 w.1 (let n : m ≤ℤ w.0 = w.2 in omega (arith, ints, le, n)))),
 )
 rings_pass covers less layers holes mets.None so q = (
   λ e. bare_lacks covers (get_or layers so.i []) (hole_at holes so.j) q so.nothing
-      (then_not (asks_ring so.i (get_or holes so.j nowhere)) (lacks_ring covers q (get_or layers so.i []) (hole_at holes so.j)) so.there.asks (wanting_none covers q layers holes e so.i so.j so.there.in_layers so.there.in_holes)),
+      (then_not (asks_ring so.i (get_or holes so.j nowhere)) (lacks_ring covers q (get_or layers so.i []) (hole_at holes so.j)) so.there.asks (lacking_none covers q layers holes e so.i so.j so.there.in_layers so.there.in_holes)),
   λ h. absurd h,
 )
 

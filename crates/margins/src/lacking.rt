@@ -1,7 +1,7 @@
 //! What is found of rings, by the best pads of the holes.
 
 ghost use Rattle.std.specs.Prelude.{◌≡◌, ◌<◌, [], length, map, get_or, IfOk};
-ghost use Rattle.ring_rules.specs.Findings.{is_wanting, ring_findings};
+ghost use Rattle.ring_rules.specs.Findings.{is_ring_finding, ring_findings};
 ghost use Rattle.margins.specs.Bests.{AreBest, AreBestOn};
 ghost use Rattle.margins.specs.Inner.Lacking.{is_short, falls_short};
 
@@ -31,7 +31,7 @@ fn falls_short(layer: usize, drilled: &Drilled, best: Option<Best>, rules: Rules
 }
 
 /// Whether each hole lacks its ring on a layer, by the best pads of the holes there.
-fn wanting_by<S: Deep>(
+fn lacking_by<S: Deep>(
     alloc: Global,
     layers: &[&[S]],
     layer: usize,
@@ -40,13 +40,13 @@ fn wanting_by<S: Deep>(
     rules: Rules,
 ) -> Result<Vec<bool>, AllocError>
     requires { AreBest S.covers (get_or (map (λ pads. pads.now) layers.now) layer []) holes.now bests.now }
-    ensures { IfOk result (λ wanting. wanting.items ≡ map (is_wanting S.covers rules.ring layer (get_or (map (λ pads. pads.now) layers.now) layer [])) holes.now) }
+    ensures { IfOk result (λ lacking. lacking.items ≡ map (is_ring_finding S.covers rules.ring layer (get_or (map (λ pads. pads.now) layers.now) layer [])) holes.now) }
 {
-    let mut wanting = Vec::new(alloc);
+    let mut lacking = Vec::new(alloc);
     for (hole, drilled) in holes.iter().enumerate() {
-        wanting.push(falls_short(layer, drilled, bests[hole], rules))?;
+        lacking.push(falls_short(layer, drilled, bests[hole], rules))?;
     }
-    Ok(wanting)
+    Ok(lacking)
 }
 
 /// What [`ring_rules::ring_findings`] finds, by the best pads of the holes on each layer: no pad is looked at again.
@@ -66,8 +66,8 @@ pub fn ring_findings_by<S: Deep>(
 {
     let mut findings = Vec::new(alloc);
     for (layer, its) in bests.iter().enumerate() {
-        let wanting = wanting_by(alloc, layers, layer, its, holes, rules)?;
-        layer_findings(&mut findings, layer, holes, &wanting)?;
+        let lacking = lacking_by(alloc, layers, layer, its, holes, rules)?;
+        layer_findings(&mut findings, layer, holes, &lacking)?;
     }
     Ok(findings)
 }

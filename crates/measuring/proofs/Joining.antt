@@ -7,9 +7,6 @@ use Rattle.std.proofs.lemmas.Bool.{cases_lt}
 use Rattle.margin_text.specs.declared.RingLine.{RingLine}
 use Rattle.package_check.specs.Boards.{Survey}
 use Rattle.measuring.specs.Rows.{AreRowLines, IsBefore, IsRowLine, RowKey, places_of}
-use Rattle.measuring.specs.declared.rows.Stretch.{Stretch}
-use Rattle.measuring.specs.Inner.Tables.{IsIn}
-use Rattle.measuring.proofs.Tabling.{no_file}
 
 module _ {X : Type 0} (xs ys : List X) where
   first_of : (i : ℕ) (d : X) → i < length xs → get_or (xs ++ ys) i d ≡ get_or xs i d
@@ -87,54 +84,3 @@ module _ (board : Survey) where
           | inr one ↦ Contains-append_right x.keys y.keys key (y.all key one h)
         ];
       }
-
--- the rows of the layers before one, and those of its first so many files
-abbrev pub IsUpTo : ℕ → ℕ → RowKey → Type 0
-IsUpTo layer file key = (key.layer < layer) ⊎ ((key.layer ≡ layer) × (key.drill < file))
-
-module _ (board : Survey) (layer : ℕ) where
-  pub first_file : (lines : List RingLine) → AreRowLines board (λ key. key.layer < layer) lines → AreRowLines board (IsUpTo layer 0) lines
-  first_file lines = renamed board (λ key. key.layer < layer) (IsUpTo layer 0) lines (λ key a. inl a) (λ key a some. back key a)
-    where
-      back : (key : RowKey) → IsUpTo layer 0 key → key.layer < layer
-      back key (inl a) = a
-      back key (inr a) = absurd (omega (arith, a.1))
-
-  pub next_file : (file : ℕ) (stretch : Stretch) (old its all : List RingLine) → stretch.layer ≡ layer → stretch.drill ≡ file → all ≡ old ++ its → AreRowLines board (IsUpTo layer file) old → AreRowLines board (IsIn stretch) its
-      → AreRowLines board (IsUpTo layer (file + 1)) all
-  next_file file stretch old its all on in_it is x y =
-      subst (AreRowLines board (IsUpTo layer (file + 1))) (sym is) (join board (IsUpTo layer file) (IsIn stretch) (IsUpTo layer (file + 1)) old its before first last split x y)
-    where
-      before : (a b : RowKey) → IsUpTo layer file a → IsIn stretch b → IsBefore a b
-      before a b (inl less) k = inl (omega (arith, less, k.0, on))
-      before a b (inr same) k = inr (same.0 ∙ sym (k.0 ∙ on), inl (omega (arith, same.1, k.1, in_it)))
-
-      first : (key : RowKey) → IsUpTo layer file key → IsUpTo layer (file + 1) key
-      first key (inl less) = inl less
-      first key (inr same) = inr (same.0, omega (arith, same.1))
-
-      last : (key : RowKey) → IsIn stretch key → IsUpTo layer (file + 1) key
-      last key k = inr (k.0 ∙ on, omega (arith, k.1, in_it))
-
-      split : (key : RowKey) → IsUpTo layer (file + 1) key → IsUpTo layer file key ⊎ IsIn stretch key
-      split key (inl less) = inl (inl less)
-      split key (inr same) = elim (cases_lt key.drill file) [
-        | inl low ↦ inl (inr (same.0, low))
-        | inr high ↦ inr (same.0 ∙ sym on, omega (arith, high, same.1, in_it))
-      ]
-
-  pub last_file : (file : ℕ) (lines : List RingLine) → length board.files ≤ file → AreRowLines board (IsUpTo layer file) lines → AreRowLines board (λ key. key.layer < layer + 1) lines
-  last_file file lines past = renamed board (IsUpTo layer file) (λ key. key.layer < layer + 1) lines to back
-    where
-      to : (key : RowKey) → IsUpTo layer file key → key.layer < layer + 1
-      to key (inl less) = omega (arith, less)
-      to key (inr same) = omega (arith, same.0)
-
-      back : (key : RowKey) → key.layer < layer + 1 → 0 < length (places_of board key) → IsUpTo layer file key
-      back key less some = elim (cases_lt key.layer layer) [
-        | inl low ↦ inl low
-        | inr high ↦ elim (cases_lt key.drill file) [
-          | inl there ↦ inr (omega (arith, less, high), there)
-          | inr far ↦ absurd (no_file board key (omega (arith, past, far)) some)
-        ]
-      ]

@@ -5,3 +5,5 @@ pub mod Tabling
 pub mod Lining
 pub mod Scaled
 pub mod Kept
+pub mod Filled
+pub mod Layered

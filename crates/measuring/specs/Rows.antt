@@ -1,6 +1,6 @@
 -- The lines of a measure that tell of rings and of the least gap. Lengths are whole picometres.
 use Rattle.std.specs.Prelude.{◌≡◌, ◌⊎◌, ◌&&◌, ◌==◌, ℕ, pos, ◌+◌, ◌-◌, ◌*◌, ◌<◌, Bool, Option, Some, None, List, [], length, take, get_or, ⊤}
-use Rattle.std.specs.List.{AllPairs, Contains, filter, sum_by, range_with_len}
+use Rattle.std.specs.List.{All, AllPairs, Contains, filter, sum_by, range_with_len}
 use Rattle.pad_shapes.specs.Pads.{pad_covers}
 use Rattle.ring_rules.specs.Meeting.{hole_at}
 use Rattle.ring_rules.specs.Places.{nowhere}
@@ -16,8 +16,9 @@ use Rattle.margin_text.specs.declared.GapLine.{GapLine}
 use Rattle.margin_text.specs.declared.HolePlace.{HolePlace}
 use Rattle.margin_text.specs.declared.LeastRing as line
 use Rattle.margin_text.specs.declared.RingLine.{RingLine}
-use Rattle.package_check.specs.Boards.{Survey, hole_count}
+use Rattle.package_check.specs.Boards.{Survey, TellAllHoles, hole_count}
 use Rattle.package_check.specs.declared.FileSum.{FileSum}
+use Rattle.measuring.specs.declared.places.FileHoles.{FileHoles}
 
 -- how many holes the files before one have, by its index (docs/DEFINITIONS.md, Lines of a measure)
 abbrev pub holes_before : List FileSum → ℕ → ℕ
@@ -28,6 +29,23 @@ pub record IsPlace (files : List FileSum) (hole : ℕ) (place : HolePlace) : Typ
   pub at : holes_before files place.drill + place.hole ≡ hole + 1
   pub from_one : 0 < place.hole
   pub inside : hole < holes_before files (place.drill + 1)
+
+-- the holes of a drill file that has some: where they begin and where they end in the list of all holes (docs/DEFINITIONS.md, Lines of a measure)
+pub record IsFileHoles (files : List FileSum) (file : FileHoles) : Type 0 where
+  pub starts : file.start ≡ holes_before files file.drill
+  pub ends : file.end ≡ holes_before files (file.drill + 1)
+  pub some : file.start < file.end
+
+-- all of the first so many files that have holes, in the order of files (docs/DEFINITIONS.md, Lines of a measure)
+pub record AreFileHoles (files : List FileSum) (count : ℕ) (filled : List FileHoles) : Type 0 where
+  pub each : All (λ file. (file.drill < count) × IsFileHoles files file) filled
+  pub sorted : AllPairs (λ a b. a.drill < b.drill) filled
+  pub all : (file : FileHoles) → file.drill < count → IsFileHoles files file → Contains filled file
+
+-- the drill files of a board that have holes: together they have all its holes (docs/DEFINITIONS.md, Lines of a measure)
+pub record AreFilledFiles (board : Survey) (filled : List FileHoles) : Type 0 where
+  pub are : AreFileHoles board.files (length board.files) filled
+  pub told : TellAllHoles board.files board.holes
 
 -- a row: the layer of its rings, its drill file and the radius of its holes (docs/DEFINITIONS.md, Lines of a measure)
 pub record RowKey : Type 0 where

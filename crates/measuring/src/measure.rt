@@ -12,7 +12,7 @@ ghost use Rattle.measuring.specs.Rows.{AreRingLines};
 ghost use Rattle.measuring.specs.Scaling.{AreScaleLines};
 
 use crate::laws::measured_passes;
-use crate::places::gap_line;
+use crate::places::{filled_files, gap_line};
 use crate::rows::push_layer;
 use crate::scaling::scale_lines;
 use margin_text::{GapLine, Meets, RingLine, ScaleLine};
@@ -63,13 +63,14 @@ fn keep(
 }
 
 /// The rings of a board, and its scales. The best pads of each layer are looked for once, and kept only where that is asked, since those of
-/// all layers take memory.
+/// all layers take memory. The drill files that have holes are listed once for all layers.
 fn rings_on(alloc: Global, board: &Board, keeps: bool) -> Result<Rings, AllocError>
     ensures met { IfOk result (λ rings. MeetsOn pad_covers board.now.layers board.now.holes (length board.now.layers) rings.met) }
     ensures lines { IfOk result (λ rings. AreRingLines board.now rings.lines.items) }
     ensures scales { IfOk result (λ rings. AreScaleLines board.now (length board.now.files) rings.scales.items) }
     ensures bests { keeps ≡ true → IfOk result (λ rings. AreLayerBests board.now (length board.now.layers) (map (λ bests. bests.items) rings.bests.items)) }
 {
+    let files = filled_files(alloc, board)?;
     let layers = board.layers(alloc)?;
     let holes = board.holes();
     let mut met = met_by_none(&layers, holes);
@@ -82,7 +83,7 @@ fn rings_on(alloc: Global, board: &Board, keeps: bool) -> Result<Rings, AllocErr
             scales = scale_lines(alloc, board, layers[layer], &bests)?;
         }
         met = met_with(&layers, layer, &bests, holes, met);
-        push_layer(alloc, board, &bests, layer, &mut lines)?;
+        push_layer(alloc, board, &files, &bests, layer, &mut lines)?;
         keep(keeps, bests, &mut kept)?;
     }
     Ok(Rings {

@@ -1,12 +1,26 @@
 //! Where the holes of a package stand: in which drill file, and as the one of which number.
 
-ghost use Rattle.std.specs.Prelude.{◌≡◌, ◌+◌, ◌<◌, ◌≤◌, length};
+ghost use Rattle.std.specs.Prelude.{◌≡◌, ◌++◌, ◌∷◌, ◌+◌, ◌<◌, ◌≤◌, [], length, IfOk, OnOk};
+ghost use Rattle.std.specs.List.{Contains};
 ghost use Rattle.margins.specs.Nearness.{IsNearest, IsNearestOf, IsPair};
-ghost use Rattle.measuring.specs.Rows.{holes_before, IsPlace, IsGapLine, IsLeastGap};
+ghost use Rattle.package_check.specs.Boards.{Survey};
+ghost use Rattle.measuring.specs.Rows.{AreFilledFiles, holes_before, IsPlace, IsGapLine, IsLeastGap};
 
 use margin_text::{GapLine, HolePlace};
 use margins::Nearest;
 use package_check::{Board, hole_count};
+use std::alloc::{AllocError, Global};
+
+/// The holes of a drill file that has some, in the list of all holes of a board.
+#[derive(Clone, Copy)]
+pub struct FileHoles {
+    /// The index of the drill file.
+    pub drill: usize,
+    /// The place of its first hole.
+    pub start: usize,
+    /// The place behind its last hole.
+    pub end: usize,
+}
 
 /// Where the holes of a file end in the list of all holes, by where they begin.
 pub(crate) fn end_of(board: &Board, drill: usize, start: usize) -> usize
@@ -21,7 +35,8 @@ pub(crate) fn end_of(board: &Board, drill: usize, start: usize) -> usize
     start + hole_count(&files[drill], rest)
 }
 
-/// Where a hole of a board stands, by its place in the list of all its holes, from 0: in which drill file, and as the one of which number.
+/// Where a hole of a board stands, by its place in the list of all its holes, from 0: in which drill file, and as the one of which number. It takes
+/// as long as a walk over the files: [`place_among`] is for many holes.
 pub fn place_of(board: &Board, hole: usize) -> HolePlace
     requires { hole < length board.now.holes }
     ensures { IsPlace board.now.files hole result }
@@ -39,6 +54,60 @@ pub fn place_of(board: &Board, hole: usize) -> HolePlace
         start = end;
     }
     unreachable!()
+}
+
+/// Adds a drill file behind those before it, if it has holes.
+fn push_filled(filled: &mut Vec<FileHoles>, file: FileHoles) -> Result<(), AllocError>
+    ensures some { file.start < file.end → OnOk result (filled.new.items ≡ filled.old.items ++ file ∷ []) }
+    ensures none { file.end ≤ file.start → OnOk result (filled.new.items ≡ filled.old.items) }
+{
+    if file.start < file.end {
+        filled.push(file)?;
+    }
+    Ok(())
+}
+
+/// The drill files of a board that have holes, in their order: a list for many questions about the same board.
+///
+/// # Errors
+///
+/// Where there is no memory.
+pub fn filled_files(alloc: Global, board: &Board) -> Result<Vec<FileHoles>, AllocError>
+    ensures { IfOk result (λ filled. AreFilledFiles board.now filled.items) }
+{
+    let files = board.files();
+    let mut filled = Vec::new(alloc);
+    let mut start = 0;
+    for drill in 0..files.len() {
+        let end = end_of(board, drill, start);
+        push_filled(&mut filled, FileHoles { drill, start, end })?;
+        start = end;
+    }
+    Ok(filled)
+}
+
+/// The drill file in which a hole stands, of those that have holes.
+fn file_of(files: &[FileHoles], hole: usize) -> FileHoles
+    requires { (board : Survey) × AreFilledFiles board files.now × (hole < length board.holes) }
+    ensures among { Contains files.now result }
+    ensures starts { result.start ≤ hole }
+    ensures ends { hole < result.end }
+{
+    let index = files.partition_point(|file| file.end <= hole);
+    files[index]
+}
+
+/// Where a hole of a board stands, as [`place_of`] says, by the drill files of the board that have holes. It takes as long as a binary search among
+/// these files.
+pub fn place_among(files: &[FileHoles], hole: usize) -> HolePlace
+    requires { (board : Survey) × AreFilledFiles board files.now × (hole < length board.holes) }
+    ensures { (board : Survey) → AreFilledFiles board files.now → IsPlace board.files hole result }
+{
+    let file = file_of(files, hole);
+    HolePlace {
+        drill: file.drill,
+        hole: hole - file.start + 1,
+    }
 }
 
 /// The line of the gap between the nearest holes.

@@ -5,10 +5,10 @@ ghost use Rattle.std.specs.List.{All};
 ghost use Rattle.pad_shapes.specs.Pads.{pad_covers};
 ghost use Rattle.margins.specs.Bests.{AreBest};
 ghost use Rattle.margins.specs.Meets.{asks_ring};
-ghost use Rattle.measuring.specs.Rows.{AreRowLines, IsRowLine, places_of};
+ghost use Rattle.measuring.specs.Rows.{AreFilledFiles, AreRowLines, IsRowLine, places_of};
 ghost use Rattle.measuring.specs.Inner.Tables.{IsIn, IsStretch, IsTableOf, IsTold, IsToldBy, has_radius, items_at, row_of};
 
-use crate::places::end_of;
+use crate::places::FileHoles;
 use margin_text::{LeastRing, RingLine};
 use margins::{Best, RingRow, asks_ring, ring_row};
 use package_check::Board;
@@ -154,31 +154,29 @@ fn file_lines(
     lines_by(alloc, board, bests, stretch, &table)
 }
 
-/// Appends the lines of a layer, by the best pads of the holes there.
+/// Appends the lines of a layer, by the drill files that have holes and the best pads of the holes there.
 pub(crate) fn push_layer(
     alloc: Global,
     board: &Board,
+    files: &[FileHoles],
     bests: &[Option<Best>],
     layer: usize,
     lines: &mut Vec<RingLine>,
 ) -> Result<(), AllocError>
+    requires files { AreFilledFiles board.now files.now }
     requires bests { AreBest pad_covers (get_or board.now.layers layer []) board.now.holes bests.now }
     requires so_far { AreRowLines board.now (λ key. key.layer < layer) lines.old.items }
     ensures { OnOk result (AreRowLines board.now (λ key. key.layer < layer + 1) lines.new.items) }
 {
-    let files = board.files();
-    let mut start = 0;
-    for drill in 0..files.len() {
-        let end = end_of(board, drill, start);
+    for file in files {
         let stretch = Stretch {
             layer,
-            drill,
-            start,
-            end,
+            drill: file.drill,
+            start: file.start,
+            end: file.end,
         };
         let its = file_lines(alloc, board, bests, &stretch)?;
         lines.extend_from_slice(&its)?;
-        start = end;
     }
     Ok(())
 }

@@ -1,6 +1,8 @@
 //! What small packages meet, in pm; and that their check agrees.
 
-use crate::{measure_bytes, measure_with_bests};
+mod made;
+
+use crate::{filled_files, measure_bytes, measure_with_bests, place_among, place_of};
 use grid_units::{Fault, Reason, Rules};
 use margin_text::{Factor, GapLine, HolePlace, LeastRing, RingLine, ScaleLine};
 use margins::{Best, Met};
@@ -278,25 +280,36 @@ fn lines_of_rings(rt: HostRuntime) -> Result<(), Failure> {
     Ok(())
 }
 
-/// The lines go by layer, then by drill file, then by diameter; unplated holes have none.
-#[test]
-fn lines_in_their_order(rt: HostRuntime) -> Result<(), Failure> {
-    let files = [
+/// Three layers and four drill files, of which one has no holes and one is unplated.
+fn seven_files<'a>() -> [File<'a>; 7] {
+    [
         file(Role::Plated, "first", TWO_TOOLS),
         file(Role::Copper, "top", TWO),
+        file(Role::Plated, "empty", NO_HIT),
+        file(Role::Copper, "inner", DISC),
         file(Role::Plated, "second", HIT),
         file(Role::Copper, "bottom", FOUR),
         file(Role::Unplated, "third", FAR),
-    ];
-    let measure = measure_bytes(rt.alloc(), &files).ok().ok_or("no measure")?;
+    ]
+}
+
+/// The lines go by layer, then by drill file, then by diameter; unplated holes have none.
+#[test]
+fn lines_in_their_order(rt: HostRuntime) -> Result<(), Failure> {
+    let measure = measure_bytes(rt.alloc(), &seven_files())
+        .ok()
+        .ok_or("no measure")?;
     let mut lines = measure.rings.iter();
     for (layer, drill, diameter, ring, hole) in [
         (1, 0, 300_000_000, 750_000_000, 2),
         (1, 0, 400_000_000, 800_000_000, 1),
-        (1, 2, 400_000_000, 800_000_000, 1),
-        (3, 0, 300_000_000, 1_750_000_000, 2),
-        (3, 0, 400_000_000, 1_800_000_000, 1),
-        (3, 2, 400_000_000, 1_800_000_000, 1),
+        (1, 4, 400_000_000, 800_000_000, 1),
+        (3, 0, 300_000_000, 75_000_000, 2),
+        (3, 0, 400_000_000, 125_000_000, 1),
+        (3, 4, 400_000_000, 125_000_000, 1),
+        (5, 0, 300_000_000, 1_750_000_000, 2),
+        (5, 0, 400_000_000, 1_800_000_000, 1),
+        (5, 4, 400_000_000, 1_800_000_000, 1),
     ] {
         let line = lines.next().ok_or("a line is missing")?;
         assert_eq!(rt;
@@ -305,7 +318,29 @@ fn lines_in_their_order(rt: HostRuntime) -> Result<(), Failure> {
         );
         assert_eq!(rt; line.least, Some(LeastRing { ring, hole }));
     }
-    assert_eq!(rt; measure.rings.len(), 6);
+    assert_eq!(rt; measure.rings.len(), 9);
+    assert_eq!(rt; measure.gap, Some(gap_line(-400_000_000, (0, 1), (4, 1))));
+    Ok(())
+}
+
+/// Each hole stands in the same file by the files that have holes as by a walk over all of them.
+#[test]
+fn places_of_holes(rt: HostRuntime) -> Result<(), Failure> {
+    let board = read_package(rt.alloc(), &seven_files())
+        .ok()
+        .ok_or("no board")?;
+    let filled = filled_files(rt.alloc(), &board)?;
+    let places = [(0, 1), (0, 2), (4, 1), (6, 1), (6, 2)];
+    assert_eq!(rt; (filled.len(), board.holes().len()), (3, 5));
+    for hole in 0..board.holes().len() {
+        let (drill, number) = places.get(hole).copied().unwrap_or((0, 0));
+        let place = HolePlace {
+            drill,
+            hole: number,
+        };
+        assert_eq!(rt; place_of(&board, hole), place);
+        assert_eq!(rt; place_among(&filled, hole), place);
+    }
     Ok(())
 }
 

@@ -18,7 +18,7 @@ use Rattle.package_check.specs.declared.contents.Content.{Content}
 use Rattle.package_check.specs.Package.{Source, Reads, ReadsCopper, ReadsUnless, bad_span, is_copper, nameless, report_on}
 use Rattle.package_check.specs.Alike.{OneAnswer}
 use Rattle.package_check.specs.Boards.{IsBoard, Survey}
-use Rattle.package_check.specs.Standing.{HasRefusedNone, PackageStandsAfter, Said}
+use Rattle.package_check.specs.Holding.{HasRefusedNone, PackageStandsAfter, Said}
 use Rattle.package_check.specs.declared.package_reader.PackageReader.{PackageReader}
 
 -- the pads of flashes and of more flashes

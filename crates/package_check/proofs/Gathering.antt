@@ -17,6 +17,7 @@ use Rattle.manifest.specs.declared.Role.{Role}
 use Rattle.package_check.specs.declared.contents.Content.{Content}
 use Rattle.package_check.specs.Reports.{Account}
 use Rattle.package_check.specs.Package.{Source, Reads, ReadsUnless, is_bad_span, nameless, AreRead, IsReport, layer_count, source_of, sources_of, file_holes, sum_of}
+use Rattle.package_check.proofs.Saying.{said_of}
 
 -- what one more element gives
 pub placed_more : {X Y : Type 0} (f : ℕ × X → List Y) (out ys : List Y) (xs : List X) (i : ℕ) (x : X) → i < length xs → x ≡ get_or xs i x → f (i, x) ≡ ys
@@ -41,7 +42,7 @@ flat_more f out ys xs i x lt is value was =
 
 pub read_more : (sources : List Source) (contents : List Content) (source : Source) (one : Content) → AreRead sources contents → Reads source (Ok one)
     → AreRead (sources ++ source ∷ []) (contents ++ one ∷ [])
-read_more [] [] source one h r = (r, tt)
+read_more [] [] source one h r = (said_of source one r, tt)
 read_more [] (c ∷ cs) source one h r = absurd h
 read_more (s ∷ ss) [] source one h r = absurd h
 read_more (s ∷ ss) (c ∷ cs) source one h r = (h.0, read_more ss cs source one h.1 r)

@@ -10,7 +10,7 @@ use Rattle.grid_units.specs.declared.fault.Fail.TheVariants as fails
 use Rattle.grid_units.specs.Results.{Answers, Tells}
 use Rattle.drill_text.specs.Reading.{Shows, Reads}
 use Rattle.layer_image.specs.Layers.{ReadsLayer}
-use Rattle.layer_image.specs.Standing.{ReadsFlashSum, ReadsSum, ShowsLayerFault, flash_view, sum_view}
+use Rattle.layer_image.specs.Holding.{ReadsFlashSum, ReadsSum, ShowsLayerFault, flash_view, sum_view}
 use Rattle.package_check.specs.Readers.{ReadsDrill}
 
 -- ---- joining

@@ -1,3 +1,4 @@
+pub mod Saying
 pub mod Gathering
 pub mod Boarding
 pub mod Passing

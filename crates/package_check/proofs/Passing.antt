@@ -6,7 +6,7 @@ use Rattle.std.proofs.lemmas.List.Concat.{flat_map-cons}
 use Rattle.std.proofs.lemmas.List.Elements.{Contains-append_left, Contains-append_right}
 use Rattle.grid_units.specs.Holes.{GridHole}
 use Rattle.pad_shapes.specs.Pads.{IsInPad, pad_covers}
-use Rattle.ring_rules.specs.Passing.{HoldsWhenNoneWant, HoldsSlotsWhenNoneWant, StraightWhenNoneWant, ApartWhenNoneClash, AreAllApart}
+use Rattle.ring_rules.specs.Passing.{RingsHoldWithoutFindings, SlotsHoldWithoutFindings, StraightWithoutFindings, ApartWhenNoneClash, AreAllApart}
 use Rattle.grid_units.specs.Spans.{LayerSpan}
 use Rattle.std.specs.Prelude.{Option}
 use Rattle.ring_rules.specs.Findings.{ring_findings, gap_findings}
@@ -16,28 +16,11 @@ use Rattle.package_check.specs.declared.contents.Content.{Content}
 use Rattle.package_check.specs.declared.contents.Content.TheVariants as content
 use Rattle.package_check.specs.Package.{drilled, holes_of, layers}
 use Rattle.package_check.specs.Soundness.{PassingIsSound, IsPlatedThrough, drilled_in}
-
-no_left : {X : Type 0} (xs ys : List X) → xs ++ ys ≡ [] → xs ≡ []
-no_left [] ys e = refl
-no_left (x ∷ xs) ys e = absurd cc
-
-no_right : {X : Type 0} (xs ys : List X) → xs ++ ys ≡ [] → ys ≡ []
-no_right [] ys e = e
-no_right (x ∷ xs) ys e = absurd cc
-
-flat_at : {X Y : Type 0} (f : X → List Y) (xs : List X) (x : X) (y : Y) (k : ℕ) → k < length xs → get_or xs k x ≡ x → Contains (f x) y → Contains (flat_map f xs) y
-flat_at f [] x y k lt e g = absurd (omega arith)
-flat_at {X} {Y} f (z ∷ zs) x y zero lt e g =
-    subst (λ (ys : List Y). Contains ys y) (sym (flat_map-cons f z zs)) (Contains-append_left (f z) (flat_map f zs) y (subst (λ (w : X). Contains (f w) y) (sym e) g))
-flat_at {X} {Y} f (z ∷ zs) x y (suc k) lt e g =
-    subst (λ (ys : List Y). Contains ys y) (sym (flat_map-cons f z zs)) (Contains-append_right (f z) (flat_map f zs) y (flat_at f zs x y k (omega arith) e g))
+use Rattle.grid_units.proofs.ListLemmas.{no_left, no_right, map_among, flat_at}
 
 -- what an element gives is among what all give
 flat_among : {X Y : Type 0} (f : X → List Y) (xs : List X) (x : X) (y : Y) → Contains xs x → Contains (f x) y → Contains (flat_map f xs) y
 flat_among f xs x y h g = flat_at f xs x y h.0 h.1 h.2 g
-
-map_among : {X Y : Type 0} (f : X → Y) (xs : List X) (x : X) → Contains xs x → Contains (map f xs) (f x)
-map_among f xs x h = let lt = h.1 in (h.0, omega (arith, lt, length-map xs f), get_or-map f xs h.0 x (f x) lt ∙ ap f h.2)
 
 -- numbers aside, the holes are those of the files
 unnumbered : (file : ℕ) (plated : Bool) (span : Option LayerSpan) (n : ℕ) (holes : List GridHole)
@@ -68,7 +51,7 @@ among_all contents layer hole h =
     subst (λ (ds : List Drilled). Contains ds one) (sym (all_drilled contents))
     (flat_among drilled_in contents (content.Drill true h.span h.holes) one h.file (map_among (λ (g : GridHole). let d : Drilled = record { hole = g; plated = true; span = h.span } in d) h.holes hole h.drilled))
 
-pub passing_is_sound : HoldsWhenNoneWant IsInPad pad_covers → HoldsSlotsWhenNoneWant IsInPad pad_covers → StraightWhenNoneWant pad_covers → ApartWhenNoneClash → PassingIsSound
+pub passing_is_sound : RingsHoldWithoutFindings IsInPad pad_covers → SlotsHoldWithoutFindings IsInPad pad_covers → StraightWithoutFindings pad_covers → ApartWhenNoneClash → PassingIsSound
 passing_is_sound held slots_held straight apart sources rules report is passes =
     let none = sym (ap (λ r. r.findings) is.is) ∙ passes in
     let rings = ring_findings pad_covers rules.ring (layers is.contents) (drilled is.contents) in

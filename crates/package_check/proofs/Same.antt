@@ -6,6 +6,7 @@ use Rattle.package_check.specs.declared.contents.Content.{Content}
 use Rattle.package_check.specs.Reports.{Account}
 use Rattle.package_check.specs.Package.{Source, Reads, AreRead, IsAnswer}
 use Rattle.package_check.specs.Alike.{AllSayTheSame, AnswersTheSame}
+use Rattle.package_check.proofs.Saying.{said_of, reads_of}
 
 other_way : (xs ys : List Source) → AllSayTheSame xs ys → AllSayTheSame ys xs
 other_way [] [] h = tt
@@ -37,7 +38,7 @@ same_contents [] [] contents h r = r
 same_contents [] (y ∷ ys) contents h r = absurd h
 same_contents (x ∷ xs) [] contents h r = absurd h
 same_contents (x ∷ xs) (y ∷ ys) [] h r = absurd r
-same_contents (x ∷ xs) (y ∷ ys) (c ∷ cs) h r = ((h.0 (Ok c)).0 r.0, same_contents xs ys cs h.1 r.1)
+same_contents (x ∷ xs) (y ∷ ys) (c ∷ cs) h r = (said_of y c ((h.0 (Ok c)).0 (reads_of x c r.0)), same_contents xs ys cs h.1 r.1)
 
 one_way : (xs ys : List Source) (rules : GridRules) (answer : Result Account (ℕ × Fault)) → AllSayTheSame xs ys → IsAnswer xs rules answer → IsAnswer ys rules answer
 one_way xs ys rules (Ok report) h r = record { contents = r.contents; read = same_contents xs ys r.contents h r.read; is = r.is }

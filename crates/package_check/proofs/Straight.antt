@@ -14,17 +14,12 @@ use Rattle.package_check.specs.declared.PackageFault.{PackageFault}
 use Rattle.package_check.specs.declared.contents.Content.{Content}
 use Rattle.package_check.specs.declared.contents.Content.TheVariants as content
 use Rattle.package_check.specs.Alike.{OneReading}
-use Rattle.package_check.specs.Package.{Source, AnswersPackage, AreRead, Reads, ReadsBytes, ReadsUnless, bad_span, is_bad_span, is_copper, layers, pads_of}
+use Rattle.package_check.specs.Package.{Source, AnswersPackage, AreRead, Says, SaysBytes, is_bad_span, is_copper, layers, pads_of}
 use Rattle.package_check.specs.Reports.{Account}
 use Rattle.package_check.specs.Soundness.{AreStraight, IsPlatedThrough, IsSound, PassingIsSound}
 use Rattle.package_check.proofs.Unique.{same_contents}
 
--- a file that says something has no bad span
-good_span : (t : Bool) (s : Source) (c : Content) → ReadsUnless t s (Ok c) → (t ≡ false) × ReadsBytes s (Ok c)
-good_span true s c h = absurd (let e : (let x : Result Content Fault = Ok c in let y : Result Content Fault = Err bad_span in x ≡ y) = h in cc)
-good_span false s c h = (refl, h)
-
-bytes_layer : (q : Role) (name : List ℕ) (span : Option LayerSpan) (bytes : List ℕ) (n : ℕ) (c : Content) → ReadsBytes (record { role = q; name = name; span = span; bytes = bytes; layers = n }) (Ok c)
+bytes_layer : (q : Role) (name : List ℕ) (span : Option LayerSpan) (bytes : List ℕ) (n : ℕ) (c : Content) → SaysBytes (record { role = q; name = name; span = span; bytes = bytes; layers = n }) c
     → length (pads_of c) ≡ cond (is_copper q) 1 0
 bytes_layer role.Copper name span bytes n (content.Layer image) h = refl
 bytes_layer role.Copper name span bytes n (content.Drill plated through holes) h = absurd h
@@ -34,11 +29,11 @@ bytes_layer role.Unplated name span bytes n (content.Layer image) h = absurd h
 bytes_layer role.Unplated name span bytes n (content.Drill plated through holes) h = refl
 
 -- a copper file gives one layer, another none
-one_layer : (s : Source) (c : Content) → Reads s (Ok c) → length (pads_of c) ≡ cond (is_copper s.role) 1 0
-one_layer s c h = bytes_layer s.role s.name s.span s.bytes s.layers c (good_span (is_bad_span s.role s.span s.layers) s c h).1
+one_layer : (s : Source) (c : Content) → Says s c → length (pads_of c) ≡ cond (is_copper s.role) 1 0
+one_layer s c h = bytes_layer s.role s.name s.span s.bytes s.layers c h.1
 
 through_is : (q : Role) (name : List ℕ) (span : Option LayerSpan) (bytes : List ℕ) (n : ℕ) (plated : Bool) (through : Option LayerSpan) (holes : List GridHole)
-    → ReadsBytes (record { role = q; name = name; span = span; bytes = bytes; layers = n }) (Ok (content.Drill plated through holes)) → through ≡ span
+    → SaysBytes (record { role = q; name = name; span = span; bytes = bytes; layers = n }) (content.Drill plated through holes) → through ≡ span
 through_is role.Copper name span bytes n plated through holes h = absurd h
 through_is role.Plated name span bytes n plated through holes h = h.2
 through_is role.Unplated name span bytes n plated through holes h = h.2
@@ -70,11 +65,11 @@ module _ {X : Type 0} (seen : X → Source) (role_of : X → Role) (n : ℕ) (sa
       ∙ (length-append (pads_of c) (layers cs)
       ∙ ((λ i. (one_layer (seen x) c r.0 ∙ ap (λ q. cond (is_copper q) 1 0) (same x)) i + counted xs cs r.1 i) ∙ sym (sum_by-cons (λ y. cond (is_copper (role_of y)) 1 0) x xs)))
 
-  file_of : (xs : List X) (cs : List Content) (k : ℕ) (c : Content) → AreRead (map seen xs) cs → k < length cs → get_or cs k c ≡ c → (x : X) × Reads (seen x) (Ok c)
+  file_of : (xs : List X) (cs : List Content) (k : ℕ) (c : Content) → AreRead (map seen xs) cs → k < length cs → get_or cs k c ≡ c → (x : X) × Says (seen x) c
   file_of [] [] k c r lt e = absurd (omega arith)
   file_of [] (d ∷ ds) k c r lt e = absurd r
   file_of (x ∷ xs) [] k c r lt e = absurd r
-  file_of (x ∷ xs) (d ∷ ds) zero c r lt e = (x, subst (λ (y : Content). Reads (seen x) (Ok y)) e r.0)
+  file_of (x ∷ xs) (d ∷ ds) zero c r lt e = (x, subst (λ (y : Content). Says (seen x) y) e r.0)
   file_of (x ∷ xs) (d ∷ ds) (suc k) c r lt e = file_of xs ds k c r.1 (omega arith) e
 
   straight : OneReading → (rules : GridRules) (xs : List X) → IsSound (map seen xs) rules → n ≡ count_by (λ x. is_copper (role_of x)) xs → 0 < n → AreStraight (map seen xs)
@@ -83,9 +78,8 @@ module _ {X : Type 0} (seen : X → Source) (role_of : X → Role) (n : ℕ) (sa
       let c : Content = content.Drill true plated.span plated.holes in
       let file = file_of xs contents plated.file.0 c read plated.file.1 plated.file.2 in
       let s = seen file.0 in
-      let good = good_span (is_bad_span s.role s.span s.layers) s c file.1 in
-      let through : plated.span ≡ s.span = through_is s.role s.name s.span s.bytes s.layers true plated.span plated.holes good.1 in
-      let layer = some_layer s.role s.span s.layers (subst (λ m. 0 < m) (sym (all file.0)) some) good.0 in
+      let through : plated.span ≡ s.span = through_is s.role s.name s.span s.bytes s.layers true plated.span plated.holes file.1.1 in
+      let layer = some_layer s.role s.span s.layers (subst (λ m. 0 < m) (sym (all file.0)) some) file.1.0 in
       let inside : layer.0 < length (layers contents) = omega (arith, layer.1, all file.0, counts, counted xs contents read) in
       sound.straight layer.0 hole (subst (λ (cs : List Content). layer.0 < length (layers cs)) (sym same_read) inside)
       (subst (λ (cs : List Content). IsPlatedThrough cs layer.0 hole) (sym same_read)

@@ -13,7 +13,7 @@ use Rattle.grid_units.specs.declared.fault.Fail.TheVariants as fails
 use Rattle.manifest.specs.declared.Role.{Role}
 use Rattle.package_check.specs.declared.contents.Content.{Content}
 use Rattle.package_check.specs.Package.{Source, AreRead, IsFirstRefused, Reads, nameless}
-use Rattle.package_check.specs.Standing.{ReadsNext, Said}
+use Rattle.package_check.specs.Holding.{ReadsNext, Said}
 use Rattle.package_check.proofs.Gathering.{any_name, read_length, read_more, source_at, same_length}
 
 -- the first file that is refused stays it

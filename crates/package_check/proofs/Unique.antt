@@ -5,6 +5,7 @@ use Rattle.grid_units.specs.declared.fault.Fault.{Fault}
 use Rattle.package_check.specs.declared.contents.Content.{Content}
 use Rattle.package_check.specs.Package.{Source, Reads, AreRead, IsFirstRefused, report_on}
 use Rattle.package_check.specs.Alike.{OneReading, OneAnswer}
+use Rattle.package_check.proofs.Saying.{reads_of}
 
 abbrev content_of : Content → Result Content Fault → Content
 content_of d (Ok c) = c
@@ -22,7 +23,7 @@ module _ (one : OneReading) where
   same_contents (s ∷ ss) [] ds h k = absurd h
   same_contents (s ∷ ss) (c ∷ cs) [] h k = absurd k
   same_contents (s ∷ ss) (c ∷ cs) (d ∷ ds) h k =
-      let first : c ≡ d = ap (content_of c) (one s (Ok c) (Ok d) h.0 k.0) in
+      let first : c ≡ d = ap (content_of c) (one s (Ok c) (Ok d) (reads_of s c h.0) (reads_of s d k.0)) in
       let rest : cs ≡ ds = same_contents ss cs ds h.1 k.1 in
       ap (λ (x : Content). x ∷ cs) first ∙ ap (λ (xs : List Content). d ∷ xs) rest
 
@@ -31,13 +32,13 @@ module _ (one : OneReading) where
   read_at [] cs n i d h before inside = absurd (omega arith)
   read_at (s ∷ ss) cs zero i d h before inside = absurd (omega arith)
   read_at (s ∷ ss) [] (suc n) i d h before inside = absurd h
-  read_at (s ∷ ss) (c ∷ cs) (suc n) zero d h before inside = (c, h.0)
+  read_at (s ∷ ss) (c ∷ cs) (suc n) zero d h before inside = (c, reads_of s c h.0)
   read_at (s ∷ ss) (c ∷ cs) (suc n) (suc i) d h before inside = read_at ss cs n i d h.1 (omega arith) (omega arith)
 
   read_in : (sources : List Source) (cs : List Content) (i : ℕ) (d : Source) → AreRead sources cs → i < length sources → (c : Content) × Reads (get_or sources i d) (Ok c)
   read_in [] cs i d h inside = absurd (omega arith)
   read_in (s ∷ ss) [] i d h inside = absurd h
-  read_in (s ∷ ss) (c ∷ cs) zero d h inside = (c, h.0)
+  read_in (s ∷ ss) (c ∷ cs) zero d h inside = (c, reads_of s c h.0)
   read_in (s ∷ ss) (c ∷ cs) (suc i) d h inside = read_in ss cs i d h.1 (omega arith)
 
   some_source : (sources : List Source) (i : ℕ) → i < length sources → Source

@@ -8,4 +8,4 @@ pub mod Soundness
 pub mod Texts
 pub mod Rewriting
 pub mod Pieces
-pub mod Standing
+pub mod Holding

@@ -11,7 +11,8 @@ use Rattle.ring_rules.specs.Passing.{NamesPlaces}
 use Rattle.ring_rules.specs.declared.finding.Drilled.{Drilled}
 use Rattle.ring_rules.specs.declared.finding.Finding.{Finding}
 use Rattle.package_check.specs.Images.{Image}
-use Rattle.package_check.specs.Readers.{ReadsLayer, ReadsDrill}
+use Rattle.drill_text.specs.Texts.{DrillsHoles}
+use Rattle.package_check.specs.Readers.{SaysLayer, ReadsLayer, ReadsDrill}
 use Rattle.package_check.specs.Reports.{Account}
 use Rattle.grid_units.specs.declared.fault.Fault.{Fault}
 use Rattle.package_check.specs.declared.File.{File}
@@ -69,16 +70,43 @@ bad_span = record { place = 0; byte = 0; reason = reason.BadSpan }
 abbrev pub not_copper : Fault
 not_copper = record { place = 0; byte = 0; reason = reason.NotCopper }
 
+-- the bytes of a copper file are the text of a layer of copper (docs/DEFINITIONS.md, Packages)
+abbrev pub SaysCopper : List ℕ → Content → Type 0
+SaysCopper bytes (content.Layer image) = SaysLayer bytes image × (image.is_copper ≡ true)
+SaysCopper bytes (content.Drill plated span holes) = ⊥
+
+-- the bytes of a drill file are the text of these holes, which are plated or not, in the span that is named (docs/DEFINITIONS.md, Packages)
+abbrev pub SaysHoles : Bool → Option LayerSpan → List ℕ → Content → Type 0
+SaysHoles plated span bytes (content.Layer image) = ⊥
+SaysHoles plated span bytes (content.Drill has through holes) = DrillsHoles bytes holes × (has ≡ plated) × (through ≡ span)
+
+-- the bytes of a file say this, by its role (docs/DEFINITIONS.md, Packages)
+abbrev pub SaysBytes : Source → Content → Type 0
+SaysBytes source content = elim source.role [
+  | role.Copper ↦ SaysCopper source.bytes content
+  | role.Plated ↦ SaysHoles true source.span source.bytes content
+  | role.Unplated ↦ SaysHoles false source.span source.bytes content
+]
+
+-- a file says this: its span is no bad one, and its bytes say it (docs/DEFINITIONS.md, Packages)
+abbrev pub Says : Source → Content → Type 0
+Says source content = (is_bad_span source.role source.span source.layers ≡ false) × SaysBytes source content
+
+-- the files say these contents, one by one (docs/DEFINITIONS.md, Packages)
+abbrev pub AreRead : List Source → List Content → Type 0
+AreRead [] [] = ⊤
+AreRead [] (content ∷ contents) = ⊥
+AreRead (source ∷ sources) [] = ⊥
+AreRead (source ∷ sources) (content ∷ contents) = Says source content × AreRead sources contents
+
 -- a copper file says a layer of copper; its text is refused, or what it says is no copper (docs/DEFINITIONS.md, Packages)
 abbrev pub ReadsCopper : List ℕ → Result Content Fault → Type 0
-ReadsCopper bytes (Ok (content.Layer image)) = ReadsLayer bytes (Ok image) × (image.is_copper ≡ true)
-ReadsCopper bytes (Ok (content.Drill plated span holes)) = ⊥
+ReadsCopper bytes (Ok content) = SaysCopper bytes content
 ReadsCopper bytes (Err fault) = ReadsLayer bytes (Err fault) ⊎ ((image : Image) × ReadsLayer bytes (Ok image) × (image.is_copper ≡ false) × (fault ≡ not_copper))
 
 -- a drill file says holes, or its text is refused (docs/DEFINITIONS.md, Packages)
 abbrev pub ReadsHoles : Bool → Option LayerSpan → List ℕ → Result Content Fault → Type 0
-ReadsHoles plated span bytes (Ok (content.Layer image)) = ⊥
-ReadsHoles plated span bytes (Ok (content.Drill has through holes)) = ReadsDrill bytes (Ok holes) × (has ≡ plated) × (through ≡ span)
+ReadsHoles plated span bytes (Ok content) = SaysHoles plated span bytes content
 ReadsHoles plated span bytes (Err fault) = ReadsDrill bytes (Err fault)
 
 -- the bytes of a file say this, or have this fault (docs/DEFINITIONS.md, Packages)
@@ -97,13 +125,6 @@ ReadsUnless false source answer = ReadsBytes source answer
 -- a file says this, or has this fault (docs/DEFINITIONS.md, Packages)
 abbrev pub Reads : Source → Result Content Fault → Type 0
 Reads source answer = ReadsUnless (is_bad_span source.role source.span source.layers) source answer
-
--- the files say these contents, one by one (docs/DEFINITIONS.md, Packages)
-abbrev pub AreRead : List Source → List Content → Type 0
-AreRead [] [] = ⊤
-AreRead [] (content ∷ contents) = ⊥
-AreRead (source ∷ sources) [] = ⊥
-AreRead (source ∷ sources) (content ∷ contents) = Reads source (Ok content) × AreRead sources contents
 
 -- how much a file holds (docs/DEFINITIONS.md, Packages)
 abbrev pub sum_of : Content → FileSum

@@ -9,11 +9,12 @@ use Rattle.layer_image.specs.Flashes.{others_in}
 use Rattle.layer_image.specs.Layers as layers
 use Rattle.layer_image.specs.Layers.{LayerImage}
 use Rattle.package_check.specs.Images.{Image}
+use Rattle.grid_units.specs.Ascii as ascii
 
 -- the first field of a file function is `Copper`; a layer without one is taken for copper (docs/FORMATS.md, File function)
 abbrev pub is_copper_function : Option (List ℕ) → Bool
 is_copper_function None = true
-is_copper_function (Some text) = bytes_eq (take_while (λ b. not (b == 44)) text) (codes "Copper")
+is_copper_function (Some text) = bytes_eq (take_while (λ b. not (b == ascii.comma)) text) (codes "Copper")
 
 -- what the check takes of a layer (docs/DEFINITIONS.md, Packages)
 abbrev pub seen_in : LayerImage → Image
@@ -23,9 +24,13 @@ seen_in layer = record {
   is_copper = is_copper_function layer.file_function;
 }
 
--- the bytes are a layer text, of which the check takes this, or they have this fault (docs/DEFINITIONS.md, Packages)
+-- the bytes are a layer's text, of which the check takes this (docs/DEFINITIONS.md, Packages)
+abbrev pub SaysLayer : List ℕ → Image → Type 0
+SaysLayer bytes image = (layer : LayerImage) × layers.IsLayer bytes layer × (image ≡ seen_in layer)
+
+-- the bytes are a layer's text, of which the check takes this, or they have this fault (docs/DEFINITIONS.md, Packages)
 abbrev pub ReadsLayer : List ℕ → Result Image Fault → Type 0
-ReadsLayer bytes (Ok image) = (layer : LayerImage) × layers.ReadsLayer bytes (Ok layer) × (image ≡ seen_in layer)
+ReadsLayer bytes (Ok image) = SaysLayer bytes image
 ReadsLayer bytes (Err fault) = layers.ReadsLayer bytes (Err fault)
 
 -- the bytes are a drill text of commands that drill these holes, or they have this fault (docs/DEFINITIONS.md, Packages)

@@ -11,10 +11,11 @@ use Rattle.package_check.specs.declared.FileSum.TheVariants as sum
 use Rattle.package_check.specs.declared.Numbered.{Numbered}
 use Rattle.package_check.specs.Reports.{Account}
 use Rattle.package_check.specs.Package.{Source}
+use Rattle.grid_units.specs.Ascii as ascii
 
 -- the first line, of two lengths (docs/FORMATS.md, Report)
 abbrev pub rules_words : List ℕ → List ℕ → List ℕ
-rules_words ring gap = codes "rules ring=" ++ (ring ++ (codes " gap=" ++ (gap ++ 10 ∷ [])))
+rules_words ring gap = codes "rules ring=" ++ (ring ++ (codes " gap=" ++ (gap ++ ascii.line_feed ∷ [])))
 
 -- the first line: the rules (docs/FORMATS.md, Report)
 abbrev pub rules_line : GridRules → List ℕ
@@ -36,12 +37,12 @@ span_words (Some span) = codes " span=" ++ (decimal span.first ++ (codes "-" ++ 
 
 -- the name of a file, at the end of its line (docs/FORMATS.md, Report)
 abbrev pub name_words : List ℕ → List ℕ
-name_words name = codes " name=" ++ (name ++ 10 ∷ [])
+name_words name = codes " name=" ++ (name ++ ascii.line_feed ∷ [])
 
 -- the line of a file, by its number from 1, its name and its sum (docs/FORMATS.md, Report)
 abbrev pub file_line : ℕ → List ℕ → FileSum → List ℕ
 file_line n name (sum.Layer pads other) =
-    codes "file " ++ (decimal n ++ (codes " layer pads=" ++ (decimal pads ++ (codes " other=" ++ (decimal other ++ (codes " name=" ++ (name ++ 10 ∷ [])))))))
+    codes "file " ++ (decimal n ++ (codes " layer pads=" ++ (decimal pads ++ (codes " other=" ++ (decimal other ++ (codes " name=" ++ (name ++ ascii.line_feed ∷ [])))))))
 file_line n name (sum.Drill plated span round slots) = (drill_words n (answer_word plated) round slots ++ span_words span) ++ name_words name
 
 -- the lines of the files, numbered from n on (docs/FORMATS.md, Report)
@@ -56,12 +57,12 @@ place_words kind layer drill number = kind ++ (codes " layer=" ++ (decimal layer
 
 -- the lengths of a ring that is lacking (docs/FORMATS.md, Report)
 unfoldable pub length_words : List ℕ → List ℕ → List ℕ → List ℕ
-length_words x y diameter = codes " x=" ++ (x ++ (codes " y=" ++ (y ++ (codes " diameter=" ++ (diameter ++ 10 ∷ [])))))
+length_words x y diameter = codes " x=" ++ (x ++ (codes " y=" ++ (y ++ (codes " diameter=" ++ (diameter ++ ascii.line_feed ∷ [])))))
 
 -- the lengths of a slot
 unfoldable pub slot_words : List ℕ → List ℕ → List ℕ → List ℕ → List ℕ → List ℕ
 slot_words x1 y1 x2 y2 diameter =
-    codes " x1=" ++ (x1 ++ (codes " y1=" ++ (y1 ++ (codes " x2=" ++ (x2 ++ (codes " y2=" ++ (y2 ++ (codes " diameter=" ++ (diameter ++ 10 ∷ [])))))))))
+    codes " x1=" ++ (x1 ++ (codes " y1=" ++ (y1 ++ (codes " x2=" ++ (x2 ++ (codes " y2=" ++ (y2 ++ (codes " diameter=" ++ (diameter ++ ascii.line_feed ∷ [])))))))))
 
 -- the centre of a round hole or the ends of a slot, and the diameter (docs/FORMATS.md, Report)
 abbrev pub lengths_of : GridHole → List ℕ
@@ -78,7 +79,7 @@ hole_line kind layer hole =
 abbrev pub gap_line : Numbered → Numbered → List ℕ
 gap_line first second =
     codes "GAP drill=" ++ (decimal (first.file + 1) ++ (codes " hole=" ++ (decimal first.number
-    ++ (codes " drill=" ++ (decimal (second.file + 1) ++ (codes " hole=" ++ (decimal second.number ++ 10 ∷ [])))))))
+    ++ (codes " drill=" ++ (decimal (second.file + 1) ++ (codes " hole=" ++ (decimal second.number ++ ascii.line_feed ∷ [])))))))
 
 -- the line of what both look-ups give, if they give something (docs/FORMATS.md, Report)
 abbrev pub line_of : {A B : Type 0} → (A → B → List ℕ) → Option A → Option B → List ℕ
@@ -94,7 +95,7 @@ finding_line layers holes (Gap first second) = line_of gap_line (slice_get holes
 
 -- the last line (docs/FORMATS.md, Report)
 abbrev pub last_line : ℕ → List ℕ
-last_line findings = if findings == 0 then codes "PASS\n" else codes "FINDINGS " ++ (decimal findings ++ 10 ∷ [])
+last_line findings = if findings == 0 then codes "PASS\n" else codes "FINDINGS " ++ (decimal findings ++ ascii.line_feed ∷ [])
 
 -- the text of a report on files of these names (docs/FORMATS.md, Report)
 abbrev pub text_of : List (List ℕ) → Account → List ℕ

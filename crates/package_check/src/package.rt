@@ -5,7 +5,7 @@ ghost use Rattle.package_check.specs.Boards.{AnswersBoard};
 ghost use Rattle.package_check.specs.Package.{AnswersJust, AnswersPackage, IsAnswer, NamesItsPlaces, layer_count, sources_of};
 ghost use Rattle.package_check.specs.Reports.{Account};
 ghost use Rattle.package_check.specs.Soundness.{AreStraight, IsSound};
-ghost use Rattle.package_check.specs.Standing.{PackageStandsAfter};
+ghost use Rattle.package_check.specs.Holding.{PackageStandsAfter};
 
 use crate::contents::is_copper;
 use crate::laws::{findings_name_their_places, one_answer, one_reading, passing_is_sound};

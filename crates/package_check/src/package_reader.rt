@@ -3,12 +3,12 @@
 ghost use Rattle.std.specs.Prelude.{◌≡◌, ◌++◌, ◌∷◌, ℕ, List, [], true, Ok, Err, Result, IfOk, OnOk, OnErr, alloc_error, is_some, map};
 ghost use Rattle.std.specs.List.{concat};
 ghost use Rattle.grid_units.specs.declared.fault.Fault.{Fault as TheFault};
-ghost use Rattle.layer_image.specs.Standing.{ReadsFlashes};
+ghost use Rattle.layer_image.specs.Holding.{ReadsFlashes};
 ghost use Rattle.package_check.specs.Boards.{AnswersBoard};
 ghost use Rattle.package_check.specs.Package.{AnswersJust, AnswersPackage, IsAnswer, NamesItsPlaces, Source, is_copper, nameless};
 ghost use Rattle.package_check.specs.Reports.{Account};
 ghost use Rattle.package_check.specs.Soundness.{IsSound};
-ghost use Rattle.package_check.specs.Standing.{ReadsNext};
+ghost use Rattle.package_check.specs.Holding.{ReadsNext};
 
 use crate::board::board_on;
 use crate::contents::{Content, read_file, read_file_with_flashes};
@@ -31,7 +31,7 @@ pub struct PackageReader {
 }
 
 impl PackageReader {
-    ghost use Rattle.package_check.specs.Standing.{HasNoMemory, HasRefusedNone, PackageStandsAfter, copper_files};
+    ghost use Rattle.package_check.specs.Holding.{HasNoMemory, HasRefusedNone, PackageStandsAfter, copper_files};
 
     /// A reader that has taken no file, of a package with so many copper files.
     pub fn new(alloc: Global, layers: usize) -> PackageReader

@@ -4,11 +4,12 @@ ghost use Rattle.std.specs.Prelude.{◌≡◌, ◌≤◌, ◌++◌, ◌∷◌, [
 ghost use Rattle.std.specs.List.{concat, prefix_len, take_while};
 ghost use Rattle.grid_units.specs.Results.{Answers, Tells};
 ghost use Rattle.layer_image.specs.Flashes.{pads_of};
-ghost use Rattle.layer_image.specs.Standing.{FlashesStandAfter, ReadsFlashSum, ReadsFlashes, ReadsSum, ShowsLayerFault, SumStandsAfter, flash_view, sum_view};
+ghost use Rattle.layer_image.specs.Holding.{FlashesStandAfter, ReadsFlashSum, ReadsFlashes, ReadsSum, ShowsLayerFault, SumStandsAfter, flash_view, sum_view};
 ghost use Rattle.package_check.specs.Readers.{ReadsLayer, ReadsDrill, is_copper_function};
 
 use drill_text::HolesReader;
 use drill_text::laws::faults_stay;
+use grid_units::numbers::run_before;
 use grid_units::{Fail, Hole, Text};
 use layer_image::{Flash, FlashReader, FlashSum, LayerSum, SumReader, What, shown_faults};
 use pad_shapes::Pad;
@@ -91,26 +92,7 @@ fn is_copper_function(function: &Option<Text>) -> bool
 fn first_field(text: &[u8]) -> &[u8]
     ensures { result.now ≡ take_while (λ b. not (b == 44)) text.now }
 {
-    &text[..comma_at(text)]
-}
-
-fn is_no_comma(byte: u8) -> bool
-    ensures { result ≡ not (byte == 44) }
-{
-    byte != b','
-}
-
-/// Where the first comma stands, or the length where there is none.
-fn comma_at(text: &[u8]) -> usize
-    ensures within { result ≤ length text.now }
-    ensures len { result ≡ prefix_len (λ b. not (b == 44)) text.now }
-{
-    for (i, byte) in text.iter().enumerate() {
-        if !is_no_comma(*byte) {
-            return i;
-        }
-    }
-    text.len()
+    &text[..run_before(b',', text)]
 }
 
 /// Takes a piece of a layer, some bytes at a time.

@@ -37,7 +37,7 @@ obround_deep d c reach r less e =
     let y : apart c.y d.centre.y - (d.half_y - end_radius d) ≤ end_radius d - r = other_side-le (apart c.x d.centre.x - (d.half_x - end_radius d)) _ _ t.1 in
     record { x = omega (arith, t.0, x, less); y = omega (arith, t.0, y, less) }
 
-squares-le : (a b : ℕ) → a ≤ b → a * a ≤ b * b
+pub squares-le : (a b : ℕ) → a ≤ b → a * a ≤ b * b
 squares-le a b h = mul-le a a b b h h
 
 -- a test of two sides no longer than those of a step that is short enough

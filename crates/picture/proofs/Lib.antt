@@ -1,3 +1,4 @@
 pub mod Escaping
 pub mod Gathered
 pub mod Padding
+pub mod Sizes

@@ -1,5 +1,5 @@
 -- The text of a panel: its elements, in their order.
-use Rattle.std.specs.Prelude.{ℕ, ℤ, pos, neg_ℤ, ◌*◌, ◌/◌, ◌+ℤ◌, Bool, true, false, List, ◌++◌, length, take, count_by, codes, decimal, None, if◌then◌else◌}
+use Rattle.std.specs.Prelude.{ℕ, ℤ, pos, neg_ℤ, ◌*◌, ◌/◌, ◌+ℤ◌, ◌==◌, Bool, true, false, List, [], ◌++◌, length, take, count_by, codes, decimal, None, if◌then◌else◌}
 use Rattle.std.specs.List.{flat_map}
 use Rattle.grid_units.specs.Points.{GridPoint}
 use Rattle.pad_shapes.specs.declared.pad.Pad.{Pad}
@@ -48,19 +48,30 @@ is_ring (Gap n a b) = false
 abbrev pub ring_count : List Lack → ℕ
 ring_count lacks = count_by is_ring lacks
 
--- how many pads and other flashes stand in a panel, or that they are too many (docs/FORMATS.md, Pictures)
+-- a number of things, by the words for one and for more of them (docs/FORMATS.md, Pictures)
+abbrev pub amount : ℕ → List ℕ → List ℕ → List ℕ
+amount count one more = decimal count ++ (if count == 1 then one else more)
+
+-- how many pads and other flashes stand in a panel (docs/FORMATS.md, Pictures)
+abbrev pub flash_words : ℕ → ℕ → List ℕ
+flash_words pads other = amount pads (codes " pad, ") (codes " pads, ") ++ (decimal other ++ codes " other")
+
+-- the same of a scene, or that they are too many (docs/FORMATS.md, Pictures)
 abbrev pub drawn_words : Scene → List ℕ
 drawn_words scene =
-    if scene.crowded then codes "more than 100000 flashes and holes, "
-    else decimal (length scene.pads.items) ++ (codes " pads, " ++ (decimal (length scene.crosses.items) ++ codes " other, "))
+    if scene.crowded then codes "more than 100000 flashes and holes" else flash_words (length scene.pads.items) (length scene.crosses.items)
+
+-- how many rings are lacking; no word where there are no rules (docs/FORMATS.md, Pictures)
+abbrev pub lacking_words : Pen → ℕ → List ℕ
+lacking_words pen count = if pen.asked then codes ", " ++ amount count (codes " ring lacking") (codes " rings lacking") else []
 
 -- the note of a panel, and its end (docs/FORMATS.md, Pictures)
-unfoldable pub note : Scene → List ℕ
-note scene = drawn_words scene ++ (decimal (ring_count scene.lacks.items) ++ codes " rings lacking</text>\n")
+unfoldable pub note : Pen → Scene → List ℕ
+note pen scene = drawn_words scene ++ (lacking_words pen (ring_count scene.lacks.items) ++ codes "</text>\n")
 
 -- what stands behind the name of a panel: its end, the note and the box (docs/FORMATS.md, Pictures)
 abbrev pub behind_name : Pen → Frame → Scene → List ℕ
-behind_name pen f scene = codes "</text>\n" ++ (note_start pen f ++ (note scene ++ board_box f))
+behind_name pen f scene = codes "</text>\n" ++ (note_start pen f ++ (note pen scene ++ board_box f))
 
 -- the findings that are marked and numbered: the first hundred (docs/FORMATS.md, Pictures)
 abbrev pub marked : List Lack → List Lack

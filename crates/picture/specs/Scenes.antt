@@ -1,13 +1,18 @@
 -- What stands in the panel of a layer: its pads, its other flashes, the holes, and what is found there.
-use Rattle.std.specs.Prelude.{ℕ, ◌+◌, ◌==◌, nat_lt, Bool, List, [], ◌∷◌, length, Option, Some, None, slice_get, if◌then◌else◌}
+use Rattle.std.specs.Prelude.{◌≡◌, ℕ, ◌+◌, ◌≤◌, ◌<◌, ◌==◌, nat_lt, Bool, true, List, [], ◌∷◌, length, get_or, Option, Some, None, slice_get, if◌then◌else◌}
 use Rattle.std.specs.List.{cons_option, flat_map, enumerate_from}
+use Rattle.std.specs.List.Sorted.{IsSortedByKey}
+use Rattle.std.specs.Ordering.{nat_cmp, ordering_then}
+use Rattle.std.specs.declared.cmp.Ordering.{Ordering}
 use Rattle.grid_units.specs.Points.{GridPoint}
 use Rattle.layer_image.specs.Flashes.{is_other, pad_in}
 use Rattle.layer_image.specs.declared.flash.Flash.{Flash}
 use Rattle.pad_shapes.specs.declared.pad.Pad.{Pad}
+use Rattle.pad_shapes.specs.declared.pad.Pad.TheVariants as pads
 use Rattle.ring_rules.specs.declared.finding.Drilled.{Drilled}
 use Rattle.ring_rules.specs.declared.finding.Finding.{Finding}
 use Rattle.ring_rules.specs.declared.finding.Finding.TheVariants as finding
+use Rattle.picture.specs.Elements.{are_alike}
 use Rattle.picture.specs.declared.scene.Lack.{Lack}
 use Rattle.picture.specs.declared.scene.Lack.TheVariants.{Ring, Gap}
 
@@ -22,6 +27,26 @@ unless_crowded crowded xs = if crowded then [] else xs
 -- the pad of a flash, if it is one (docs/DEFINITIONS.md, Pictures)
 abbrev pub pad_of : Flash → List Pad
 pad_of flash = cons_option (pad_in flash.what) []
+
+-- the kind of a pad, in the order disc, rectangle, obround, and its half sides (docs/DEFINITIONS.md, Pictures)
+abbrev pub kind_of : Pad → ℕ × ℕ × ℕ
+kind_of (pads.Disc d) = (0, d.radius, d.radius)
+kind_of (pads.Rect r) = (1, r.half_x, r.half_y)
+kind_of (pads.Obround o) = (2, o.half_x, o.half_y)
+
+-- the order of kinds, of one kind by the half sides along x and then along y (docs/DEFINITIONS.md, Pictures)
+abbrev pub kind_order : ℕ × ℕ × ℕ → ℕ × ℕ × ℕ → Ordering
+kind_order a b = ordering_then (ordering_then (nat_cmp a.0 b.0) (nat_cmp a.1 b.1)) (nat_cmp a.2 b.2)
+
+-- pads in order of kind and size, so that those of one kind and size stand behind one another (docs/DEFINITIONS.md, Pictures)
+abbrev pub AreInOrder : List Pad → Type 0
+AreInOrder pads = IsSortedByKey kind_of kind_order pads
+
+-- each kind and size is one path: between two pads of one kind and size no new path begins (docs/DEFINITIONS.md, Pictures)
+abbrev pub IsOnePathEach : List Pad → Type 0
+IsOnePathEach pads =
+    (i j k : ℕ) (d : Pad) → i ≤ j → j < k → k < length pads → are_alike (get_or pads i d) (get_or pads k d) ≡ true
+    → are_alike (get_or pads j d) (get_or pads (j + 1) d) ≡ true
 
 -- the point of a flash that is no pad (docs/DEFINITIONS.md, Pictures)
 abbrev pub cross_of : Flash → List GridPoint

@@ -1,9 +1,11 @@
 //! What holds of all pictures.
 
 ghost use Rattle.std.specs.Prelude.{◌≤◌, ◌*◌, ℕ, List, length};
+ghost use Rattle.pad_shapes.specs.declared.pad.Pad.{Pad};
 ghost use Rattle.picture.specs.Escapes.{IsEscaped, escaped};
+ghost use Rattle.picture.specs.Scenes.{AreInOrder, IsOnePathEach};
 
-/// A name as it is written has no `<`, and `&` only where an entity begins.
+/// A name as it is written has no `<`, no U+FFFE and no U+FFFF, and `&` only where an entity begins.
 pub fn escaped_names()
     ensures { (name : List ℕ) → IsEscaped (escaped name) }
 {}
@@ -11,4 +13,9 @@ pub fn escaped_names()
 /// A name as it is written is at most five times as long.
 pub fn escaped_lengths()
     ensures { (name : List ℕ) → length (escaped name) ≤ 5 * length name }
+{}
+
+/// Of pads in order of kind and size each kind and size is one path.
+pub fn paths_of_kinds()
+    ensures { (pads : List Pad) → AreInOrder pads → IsOnePathEach pads }
 {}

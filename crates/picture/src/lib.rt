@@ -17,7 +17,7 @@ mod scene;
 mod widths;
 
 pub use frame::Frame;
-pub use laws::{escaped_lengths, escaped_names};
+pub use laws::{escaped_lengths, escaped_names, paths_of_kinds};
 pub use names::{escape, name_room};
 pub use panel::{Place, print_panel};
 pub use pen::Pen;

@@ -1,14 +1,24 @@
 //! Names in a picture.
 
 ghost use Rattle.std.specs.Prelude.{◌≡◌, ◌++◌, [], IfOk, OnOk};
-ghost use Rattle.picture.specs.Escapes.{escaped, escaped_byte};
+ghost use Rattle.picture.specs.Escapes.{ends_forbidden, escaped, escaped_byte, written_byte};
 
 use std::alloc::{AllocError, Global};
 
 /// How many bytes a byte of a name takes in a picture at the most: those of `&amp;`.
 const MOST_BYTES: usize = 5;
 
-/// Appends a byte of a name.
+/// The last byte of U+FFFD, whose first two are those of U+FFFE and U+FFFF.
+const LAST_OF_REPLACEMENT: u8 = 0xBD;
+
+/// Whether a byte is the last of U+FFFE or U+FFFF, by the two before it.
+fn ends_forbidden(first: u8, second: u8, byte: u8) -> bool
+    ensures { result ≡ ends_forbidden first second byte }
+{
+    second == 0xBF && first == 0xEF && (byte == 0xBE || byte == 0xBF)
+}
+
+/// Appends a byte of a name without regard to those before it.
 fn push_escaped(text: &mut Vec<u8>, byte: u8) -> Result<(), AllocError>
     ensures { OnOk result (text.new.items ≡ text.old.items ++ escaped_byte byte) }
 {
@@ -21,6 +31,17 @@ fn push_escaped(text: &mut Vec<u8>, byte: u8) -> Result<(), AllocError>
             Ok(())
         }
     }
+}
+
+/// Appends a byte of a name, by the two before it.
+fn push_byte(text: &mut Vec<u8>, first: u8, second: u8, byte: u8) -> Result<(), AllocError>
+    ensures { OnOk result (text.new.items ≡ text.old.items ++ written_byte first second byte) }
+{
+    if ends_forbidden(first, second, byte) {
+        text.push(LAST_OF_REPLACEMENT)?;
+        return Ok(());
+    }
+    push_escaped(text, byte)
 }
 
 /// How many bytes the longest name has.
@@ -43,8 +64,8 @@ pub fn name_room(alloc: Global, names: &[&str]) -> Result<Vec<u8>, AllocError>
     Vec::with_capacity(alloc, longest(names).saturating_mul(MOST_BYTES))
 }
 
-/// Puts the bytes of a name as they stand in a picture in place of what `text` holds: `&`, `<` and `>` are written as entities. No
-/// memory is taken where there is room for them.
+/// Puts the bytes of a name as they stand in a picture in place of what `text` holds: `&`, `<` and `>` are written as entities, U+FFFE
+/// and U+FFFF as U+FFFD. No memory is taken where there is room for them.
 ///
 /// # Errors
 ///
@@ -53,8 +74,11 @@ pub fn escape(text: &mut Vec<u8>, name: &[u8]) -> Result<(), AllocError>
     ensures { OnOk result (text.new.items ≡ escaped name.now) }
 {
     text.clear();
+    let (mut first, mut second) = (0, 0);
     for byte in name {
-        push_escaped(text, *byte)?;
+        push_byte(text, first, second, *byte)?;
+        first = second;
+        second = *byte;
     }
     Ok(())
 }

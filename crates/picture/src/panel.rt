@@ -1,11 +1,11 @@
 //! The text of a panel, printed part by part.
 
-ghost use Rattle.std.specs.Prelude.{◌≡◌, ◌++◌, ◌≤◌, ◌^◌, ◌+ℤ◌, neg_ℤ, pos, OnOk, None, string_bytes};
+ghost use Rattle.std.specs.Prelude.{◌≡◌, ◌++◌, ◌≤◌, ◌^◌, ◌+ℤ◌, ◌==◌, neg_ℤ, pos, OnOk, None, string_bytes, if◌then◌else◌};
 ghost use Rattle.std.specs.List.{flat_map};
 ghost use Rattle.std.specs.Io.KnownBytes.{Appends};
 ghost use Rattle.printing.specs.Parts.{PassesOn};
 ghost use Rattle.picture.specs.Elements.{cross, crosses, crosses_start, last_end, outline, pads_behind, path_end, turn};
-ghost use Rattle.picture.specs.Panels.{behind_name, board_box, board_rect, drawn_words, lacks_text, marked, marks_text, name_start, note, note_start, panel_start, panel_text, ring_count, scene_text, translated};
+ghost use Rattle.picture.specs.Panels.{behind_name, board_box, board_rect, amount, drawn_words, flash_words, lacking_words, lacks_text, marked, marks_text, name_start, note, note_start, panel_start, panel_text, ring_count, scene_text, translated};
 ghost use Rattle.picture.specs.Escapes.{escaped};
 
 use crate::drawn::{Crosses, Form, Holes, Lacks, Marks, Numbers};
@@ -21,7 +21,6 @@ use pad_shapes::Pad;
 use printing::{Cut, make_room, pass_on, push_words};
 use ring_rules::Drilled;
 use std::alloc::AllocError;
-use std::fmt::Write as Format;
 use std::io::Write;
 
 /// How many findings of a panel are marked and numbered at the most.
@@ -125,26 +124,56 @@ fn ring_count(lacks: &[Lack]) -> usize
         .count()
 }
 
+/// The words for one thing or for more, by how many there are.
+fn words_for<'a>(count: usize, one: &'a str, more: &'a str) -> &'a str
+    ensures { result.now ≡ (if count == 1 then one.now else more.now) }
+{
+    if count == 1 { one } else { more }
+}
+
+/// Appends a number of things, by the words for one and for more of them.
+fn push_amount(text: &mut String, count: usize, one: &str, more: &str) -> Result<(), AllocError>
+    ensures { OnOk result (string_bytes text.new ≡ string_bytes text.old ++ amount count one.now more.now) }
+{
+    push_digits(text, count, words_for(count, one, more))
+}
+
+/// Appends how many pads and other flashes stand in a panel.
+fn push_flashes(text: &mut String, pads: usize, other: usize) -> Result<(), AllocError>
+    ensures { OnOk result (string_bytes text.new ≡ string_bytes text.old ++ flash_words pads other) }
+{
+    push_amount(text, pads, " pad, ", " pads, ")?;
+    push_digits(text, other, " other")
+}
+
 /// Appends how many pads and other flashes stand in a panel, or that they are too many.
 fn push_drawn(text: &mut String, scene: &Scene) -> Result<(), AllocError>
     ensures { OnOk result (string_bytes text.new ≡ string_bytes text.old ++ drawn_words scene.now) }
 {
     if scene.crowded {
-        return push_words(text, "more than 100000 flashes and holes, ");
+        return push_words(text, "more than 100000 flashes and holes");
     }
-    let (pads, other) = (scene.pads.len(), scene.crosses.len());
-    match write!(text, "{pads} pads, {other} other, ") {
-        Ok(()) => Ok(()),
-        Err(e) => Err(e),
+    push_flashes(text, scene.pads.len(), scene.crosses.len())
+}
+
+/// Appends how many rings are lacking, where there are rules.
+fn push_lacking(text: &mut String, pen: &Pen, count: usize) -> Result<(), AllocError>
+    ensures { OnOk result (string_bytes text.new ≡ string_bytes text.old ++ lacking_words pen.now count) }
+{
+    if !pen.asked {
+        return Ok(());
     }
+    push_words(text, ", ")?;
+    push_amount(text, count, " ring lacking", " rings lacking")
 }
 
 /// Appends a note and its end.
-fn push_note(text: &mut String, scene: &Scene) -> Result<(), AllocError>
-    ensures { OnOk result (string_bytes text.new ≡ string_bytes text.old ++ note scene.now) }
+fn push_note(text: &mut String, pen: &Pen, scene: &Scene) -> Result<(), AllocError>
+    ensures { OnOk result (string_bytes text.new ≡ string_bytes text.old ++ note pen.now scene.now) }
 {
     push_drawn(text, scene)?;
-    push_digits(text, ring_count(&scene.lacks), " rings lacking</text>\n")
+    push_lacking(text, pen, ring_count(&scene.lacks))?;
+    push_words(text, "</text>\n")
 }
 
 /// Appends what stands behind the name of a panel.
@@ -158,7 +187,7 @@ fn push_behind_name(
 {
     push_words(text, "</text>\n")?;
     push_note_start(text, pen, frame)?;
-    push_note(text, scene)?;
+    push_note(text, pen, scene)?;
     push_board_box(text, frame)
 }
 

@@ -2,7 +2,7 @@
 
 ghost use Rattle.std.specs.Prelude.{◌≡◌, ◌<◌, ◌^◌, ◌++◌, slice_get, IfOk, IsPermutation, OnOk};
 ghost use Rattle.layer_image.specs.Flashes.{pads_of};
-ghost use Rattle.picture.specs.Scenes.{cross_of, crosses_of, gap_lack, is_crowded, lack_of, lacks_of, pad_of, ring_lack, unless_crowded};
+ghost use Rattle.picture.specs.Scenes.{AreInOrder, cross_of, crosses_of, gap_lack, is_crowded, kind_of, lack_of, lacks_of, pad_of, ring_lack, unless_crowded};
 
 use grid_units::{Hole, Point};
 use layer_image::{Flash, What};
@@ -39,7 +39,7 @@ pub enum Lack {
 pub struct Scene<'a> {
     /// Whether there are more than 100,000 flashes and holes: then none of them is drawn.
     pub crowded: bool,
-    /// The pads, those of one kind and size behind one another.
+    /// The pads in order of kind and size, so that those of one kind and size stand behind one another.
     pub pads: Vec<Pad>,
     /// The points of the flashes that are no pads.
     pub crosses: Vec<Point>,
@@ -73,12 +73,25 @@ fn drawn_holes(crowded: bool, holes: &[Drilled]) -> &[Drilled]
     if crowded { &[] } else { holes }
 }
 
-/// The kind and the size of a pad.
-fn kind_of(pad: &Pad) -> (u8, i64, i64) {
+/// The kind of a pad, and its half sides in pm.
+fn kind_of(pad: &Pad) -> (u8, u64, u64)
+    ensures { result ≡ kind_of pad.now }
+{
     match pad {
-        Pad::Disc(disc) => (0, disc.radius(), disc.radius()),
-        Pad::Rect(rect) => (1, rect.half_x(), rect.half_y()),
-        Pad::Obround(obround) => (2, obround.half_x(), obround.half_y()),
+        Pad::Disc(disc) => {
+            let radius = disc.radius().unsigned_abs();
+            (0, radius, radius)
+        }
+        Pad::Rect(rect) => (
+            1,
+            rect.half_x().unsigned_abs(),
+            rect.half_y().unsigned_abs(),
+        ),
+        Pad::Obround(obround) => (
+            2,
+            obround.half_x().unsigned_abs(),
+            obround.half_y().unsigned_abs(),
+        ),
     }
 }
 
@@ -113,12 +126,13 @@ fn pads_of(alloc: Global, flashes: &[Flash]) -> Result<Vec<Pad>, AllocError>
     Ok(pads)
 }
 
-/// The pads of some flashes, those of one kind and size behind one another.
+/// The pads of some flashes, in order of kind and size.
 fn sorted_pads(alloc: Global, flashes: &[Flash]) -> Result<Vec<Pad>, AllocError>
-    ensures { IfOk result (λ pads. IsPermutation (pads_of flashes.now) pads.items) }
+    ensures all { IfOk result (λ pads. IsPermutation (pads_of flashes.now) pads.items) }
+    ensures order { IfOk result (λ pads. AreInOrder pads.items) }
 {
     let mut pads = pads_of(alloc, flashes)?;
-    pads.sort_by_key(kind_of)?;
+    pads.sort_by_key(|pad| kind_of(pad))?;
     Ok(pads)
 }
 
@@ -216,8 +230,8 @@ fn lacks_of(
     Ok(lacks)
 }
 
-/// What stands in the panel of a layer, by its place among the copper files from 0: its pads, the other flashes and all holes, or none
-/// of them where they are more than 100,000; and what the findings show there, numbered from 1 in their order. A layer or a hole that a
+/// What stands in the panel of a layer, by its place among the copper files from 0: its pads in order of kind and size, the other
+/// flashes and all holes, or none of them where they are more than 100,000; and what the findings show there, numbered from 1 in their order. A layer or a hole that a
 /// finding names is its place in the lists that were judged.
 ///
 /// # Errors
@@ -232,6 +246,7 @@ pub fn scene_of<'a>(
 ) -> Result<Scene<'a>, AllocError>
     ensures crowded { IfOk result (λ scene. scene.crowded ≡ is_crowded flashes.now holes.now) }
     ensures pads { IfOk result (λ scene. IsPermutation (pads_of (unless_crowded scene.crowded flashes.now)) scene.pads.items) }
+    ensures order { IfOk result (λ scene. AreInOrder scene.pads.items) }
     ensures crosses { IfOk result (λ scene. scene.crosses.items ≡ crosses_of (unless_crowded scene.crowded flashes.now)) }
     ensures holes { IfOk result (λ scene. scene.holes.now ≡ unless_crowded scene.crowded holes.now) }
     ensures lacks { IfOk result (λ scene. scene.lacks.items ≡ lacks_of layer holes.now findings.now) }

@@ -25,6 +25,7 @@ fn pen() -> Pen {
     Pen {
         unit: 425_600_000,
         ring: 100_000_000,
+        asked: true,
     }
 }
 
@@ -153,6 +154,14 @@ fn names_have_entities(rt: HostRuntime) -> Result<(), Fail> {
     let mut name = name_room(rt.alloc(), &["&", "12345678"])?;
     escape(&mut name, b"a<b>&\"c\"")?;
     assert_eq!(rt; name.as_slice(), b"a&lt;b&gt;&amp;\"c\"".as_slice());
+    escape(
+        &mut name,
+        b"\xEF\xBF\xBE\xEF\xBF\xBF\xEF\xBF\xBD\xEF\xBF\xBF\xBF",
+    )?;
+    assert_eq!(rt;
+        name.as_slice(),
+        b"\xEF\xBF\xBD\xEF\xBF\xBD\xEF\xBF\xBD\xEF\xBF\xBD\xBF".as_slice()
+    );
     escape(&mut name, b"&&&&&&&&")?;
     assert_eq!(rt;
         name.as_slice(),
@@ -215,5 +224,18 @@ fn rings_stand_in_their_panel_and_gaps_in_each(rt: HostRuntime) -> Result<(), Fa
     assert_eq!(rt; counts(rt, 0, first, second)?, (2, 1, 2, 2));
     assert_eq!(rt; counts(rt, 1, first, second)?, (2, 1, 2, 2));
     assert_eq!(rt; counts(rt, 2, first, second)?, (2, 1, 2, 1));
+    Ok(())
+}
+
+#[test]
+fn pads_stand_by_kind_and_size(rt: HostRuntime) -> Result<(), Fail> {
+    let scene = scene_of(rt.alloc(), 0, &flashes()?, &[], &[])?;
+    assert!(rt;
+        have_paths(
+            rt,
+            &scene.pads,
+            "<path class=\"line\" stroke-width=\"0.6\" d=\"M2 0h0\"/>\n<path class=\"pad\" d=\"M-0.325 -0.325h0.65v0.65h-0.65z\"/>\n"
+        )?
+    );
     Ok(())
 }

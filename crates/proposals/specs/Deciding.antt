@@ -34,8 +34,8 @@ span_of function = layers_named (number_of 9 (field 1 function)) (number_of 9 (f
 abbrev pub drill_by_function : List ℕ → Option Decision
 drill_by_function function =
     if bytes_eq (field 0 function) (codes "Plated") then Some (Plated (span_of function), because.FileFunction (field 0 function))
-    else (if bytes_eq (field 0 function) (codes "NonPlated") then Some (Unplated (span_of function), because.FileFunction (field 0 function))
-    else (if bytes_eq (field 0 function) (codes "MixedPlating") then Some (Undecided, because.MixedHoles) else None))
+    else if bytes_eq (field 0 function) (codes "NonPlated") then Some (Unplated (span_of function), because.FileFunction (field 0 function))
+    else if bytes_eq (field 0 function) (codes "MixedPlating") then Some (Undecided, because.MixedHoles) else None
 
 -- what a drill file's lines say, where they say that holes are plated or that they are not
 abbrev pub drill_by_lines : Bool → Bool → Option Decision
@@ -72,7 +72,7 @@ is_drill_function first = bytes_eq first (codes "Plated") || (bytes_eq first (co
 abbrev pub gerber_by_function : List ℕ → Decision
 gerber_by_function function =
     if bytes_eq (field 0 function) (codes "Copper") then (Copper (stack_place (field 1 function)), because.FileFunction (field 0 function))
-    else (if is_drill_function (field 0 function) then (Undecided, because.DrillInGerber) else (LeftOut, because.FileFunction (field 0 function)))
+    else if is_drill_function (field 0 function) then (Undecided, because.DrillInGerber) else (LeftOut, because.FileFunction (field 0 function))
 
 -- copper at a place, by the name
 abbrev pub copper_at : Place → Option Decision
@@ -94,9 +94,9 @@ is_other_end end = is_among end other_ends || is_some (numbered numbered_other_e
 abbrev pub gerber_by_end : List ℕ → Option Decision
 gerber_by_end end =
     if is_some (numbered plane_ends end) then Some (Undecided, because.Plane)
-    else (if is_other_end end then no_copper
-    else (if is_among end top_ends then copper_at (Numbered 0)
-    else (if is_among end bottom_ends then copper_at Bottom else inner_copper (numbered inner_ends end))))
+    else if is_other_end end then no_copper
+    else if is_among end top_ends then copper_at (Numbered 0)
+    else if is_among end bottom_ends then copper_at Bottom else inner_copper (numbered inner_ends end)
 
 -- a word of a top layer, where a word for copper was dropped behind it or none was
 abbrev pub is_top_word : Bool → List ℕ → Bool
@@ -111,9 +111,9 @@ is_bottom_word dropped word = is_among word bottom_words || (dropped && bytes_eq
 abbrev pub gerber_by_word : Bool → List ℕ → Option Decision
 gerber_by_word dropped word =
     if not dropped && is_among word other_words then no_copper
-    else (if is_top_word dropped word then copper_at (Numbered 0)
-    else (if is_bottom_word dropped word then copper_at Bottom
-    else option_or (inner_copper (numbered inner_words word)) (if dropped then copper_at Unknown else None)))
+    else if is_top_word dropped word then copper_at (Numbered 0)
+    else if is_bottom_word dropped word then copper_at Bottom
+    else option_or (inner_copper (numbered inner_words word)) (if dropped then copper_at Unknown else None)
 
 -- what the stem of a Gerber file's name says: its last word
 abbrev pub gerber_by_stem : List (List ℕ) → Option Decision

@@ -28,10 +28,11 @@ use Rattle.report_text.specs.declared.RingCause.TheVariants as causes
 use Rattle.report_text.specs.declared.RingLack.{RingLack}
 use Rattle.report_text.specs.Texts.{lack_of}
 use Rattle.ring_rules.specs.declared.finding.Drilled.{Drilled}
+use Rattle.grid_units.specs.Ascii as ascii
 
 -- the text of a value: one line (docs/DEFINITIONS.md, JSON)
 abbrev pub json_text : Json → List ℕ
-json_text value = print (json_tokens value) ++ 10 ∷ []
+json_text value = print (json_tokens value) ++ ascii.line_feed ∷ []
 
 -- members by their names, in order (docs/DEFINITIONS.md, JSON)
 abbrev pub members_of : List (List ℕ × Json) → Members

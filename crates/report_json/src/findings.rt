@@ -10,7 +10,7 @@ use crate::members::{put_begin, put_count_there, put_end, put_length, put_length
 use crate::values::put_hole;
 use json::Writer;
 use layer_image::Why;
-use report_text::{GapLack, LayerHead, RingCause, RingLack};
+use report_text::{GapLack, LayerHead, RingCause, RingLack, lack_of};
 use std::alloc::AllocError;
 
 /// The word for why a flash is no pad.
@@ -45,16 +45,6 @@ fn ring_of(cause: &RingCause) -> Option<i64>
 {
     match cause {
         RingCause::Small(place) | RingCause::Off(place) => Some(place.ring),
-        RingCause::Other { .. } | RingCause::Nothing | RingCause::Oblique => None,
-    }
-}
-
-/// What a ring lacks, where the hole lies in a pad.
-fn lack_of(cause: &RingCause) -> Option<i64>
-    ensures { result ≡ lack_of cause.now }
-{
-    match cause {
-        RingCause::Small(place) | RingCause::Off(place) => Some(place.lack),
         RingCause::Other { .. } | RingCause::Nothing | RingCause::Oblique => None,
     }
 }

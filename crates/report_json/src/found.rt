@@ -13,12 +13,14 @@ ghost use Rattle.report_json.specs.Packages.{gap_values, opening, result_word, r
 ghost use Rattle.report_json.specs.Values.{json_text, meets_value, rules_value};
 
 use crate::members::{put_array, put_opening};
-use crate::parts::{Part, buffer, end, gather_gaps, gather_lists, gather_rings, longest_why};
+use crate::parts::{Part, buffer, end, gather_gaps, gather_lists, gather_rings};
 use crate::values::{put_meets, put_rules};
 use json::Writer;
 use package_check::FileSum;
 use printing::Cut;
-use report_text::{GapLack, LayerHead, PrintFault, RingLack, Telling, Whys, count_waived};
+use report_text::{
+    GapLack, LayerHead, PrintFault, RingLack, Telling, Whys, count_waived, longest_why,
+};
 use std::alloc::{AllocError, Global};
 use std::io::Write;
 

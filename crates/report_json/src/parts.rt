@@ -21,7 +21,7 @@ use json::Writer;
 use margin_text::{RingLine, ScaleLine};
 use package_check::FileSum;
 use printing::Cut;
-use report_text::{GapLack, LayerHead, RingLack};
+use report_text::{GapLack, LayerHead, RingLack, name_of, why_of};
 use std::alloc::{AllocError, Global};
 use std::io::Write;
 
@@ -36,17 +36,6 @@ fn longest(names: &[&str]) -> usize {
     let mut longest = 0;
     for name in names {
         longest = longest.max(name.len());
-    }
-    longest
-}
-
-/// How many bytes the longest reason has.
-pub(crate) fn longest_why(whys: &[Option<&str>]) -> usize {
-    let mut longest = 0;
-    for why in whys {
-        if let Some(why) = why {
-            longest = longest.max(why.len());
-        }
     }
     longest
 }
@@ -228,16 +217,6 @@ pub(crate) fn gather_all<T, F: Form<T>, W: Write>(
     Ok(left)
 }
 
-/// The name of a file of the package; empty where it has none.
-fn name_of<'a>(names: &[&'a str], file: usize) -> &'a str
-    ensures { result.now ≡ name_of (map (λ name. name.now) names.now) file }
-{
-    match names.get(file) {
-        Some(name) => *name,
-        None => "",
-    }
-}
-
 /// Gathers a file, by its index.
 fn gather_file<W: Write>(
     part: Part,
@@ -271,16 +250,6 @@ fn gather_files<W: Write>(
         left = gather_file(left, names, file, &files[file], out)?;
     }
     Ok(left)
-}
-
-/// Why the finding at a place is accepted.
-fn why_of<'a>(whys: &[Option<&'a str>], place: usize) -> Option<&'a str>
-    ensures { result ≡ why_at whys.now place }
-{
-    match whys.get(place) {
-        Some(why) => *why,
-        None => None,
-    }
 }
 
 /// Gathers a ring that is lacking, by its place.

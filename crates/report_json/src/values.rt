@@ -12,7 +12,7 @@ use crate::members::{
 };
 use grid_units::{Hole, Point, Rules};
 use json::Writer;
-use margin_text::{Factor, Meets, RingLine, ScaleLine};
+use margin_text::{Factor, Meets, RingLine, ScaleLine, factor_word};
 use package_check::FileSum;
 use report_text::HoleAt;
 use std::alloc::AllocError;
@@ -244,18 +244,6 @@ pub(crate) fn write_file(
             slots,
             ..
         } => write_drill(to, number, name, *plated, *round, *slots),
-    }
-}
-
-/// A factor as it is written.
-fn factor_word(factor: Factor) -> &'static str
-    ensures { result.now ≡ factor_word factor }
-{
-    match factor {
-        Factor::Ten => "10",
-        Factor::Tenth => "0.1",
-        Factor::Inch => "25.4",
-        Factor::PerInch => "1/25.4",
     }
 }
 

@@ -1,3 +1,4 @@
 pub mod Extent
 pub mod Passing
 pub mod Showing
+pub mod Standing

@@ -1,5 +1,5 @@
 -- The text of a report for people. Findings are counted over the whole report: those of rings first, then those of gaps.
-use Rattle.std.specs.Prelude.{ℕ, ℤ, pos, ◌+◌, ◌-◌, ◌*◌, ◌==◌, ◌-ℤ◌, ◌++◌, Bool, true, false, not, nat_lt, List, [], ◌∷◌, length, map, take, codes, decimal, Option, Some, None, is_some, get_or, if◌then◌else◌}
+use Rattle.std.specs.Prelude.{ℕ, ℤ, pos, ◌+◌, ◌-◌, ◌*◌, ◌==◌, ◌+ℤ◌, ◌-ℤ◌, ◌++◌, Bool, true, false, not, nat_lt, List, [], ◌∷◌, length, map, max, take, codes, decimal, Option, Some, None, is_some, get_or, int_div, if◌then◌else◌}
 use Rattle.std.specs.Borrow.{Bor}
 use Rattle.std.specs.Int.{int_min, int_max}
 use Rattle.std.specs.List.{count_by, enumerate_from, filter, filter_map, flat_map, fold}
@@ -8,6 +8,7 @@ use Rattle.grid_units.specs.Holes.{GridHole, GridRules, is_round}
 use Rattle.grid_units.specs.Points.{GridPoint}
 use Rattle.pad_shapes.specs.declared.pad.Pad.{Pad}
 use Rattle.pad_shapes.specs.declared.pad.Pad.TheVariants as pads
+use Rattle.margins.specs.Depths.{pad_middle}
 use Rattle.margins.specs.declared.met.Met.{Met}
 use Rattle.margins.specs.declared.met.Met.TheVariants as mets
 use Rattle.margin_text.specs.declared.Meets.{Meets}
@@ -26,6 +27,7 @@ use Rattle.report_text.specs.declared.Whys.{Whys}
 use Rattle.report_text.specs.declared.kind.Kind.{Kind}
 use Rattle.report_text.specs.Causes.{all_kinds, flash_kind, hint, is_of_kind, kind_words}
 use Rattle.report_text.specs.declared.kind.Kind.TheVariants as kinds
+use Rattle.grid_units.specs.Ascii as ascii
 
 -- the name of a file of the package, by its index; empty where it has none (docs/FORMATS.md, Report for people)
 abbrev pub name_of : List (List ℕ) → ℕ → List ℕ
@@ -81,23 +83,25 @@ height_of (pads.Disc disc) = 2 * disc.radius
 height_of (pads.Rect rect) = 2 * rect.half_y
 height_of (pads.Obround obround) = 2 * obround.half_y
 
--- the centre of a pad (docs/FORMATS.md, Report for people)
-abbrev pub centre_of : Pad → GridPoint
-centre_of (pads.Disc disc) = disc.centre
-centre_of (pads.Rect rect) = rect.centre
-centre_of (pads.Obround obround) = obround.centre
+-- halfway between two coordinates, rounded towards 0 (docs/FORMATS.md, Report for people)
+abbrev pub halfway : ℤ → ℤ → ℤ
+halfway a b = int_div (a +ℤ b) (pos 2)
+
+-- the middle of a hole, halfway between its ends: its centre where it is round (docs/FORMATS.md, Report for people)
+abbrev pub hole_middle : GridHole → GridPoint
+hole_middle hole = record { x = halfway hole.from.x hole.to.x; y = halfway hole.from.y hole.to.y }
 
 -- the shape and the sides of a pad (docs/FORMATS.md, Report for people)
 abbrev pub pad_words : Pad → List ℕ
 pad_words pad = shape_word pad ++ two_lengths (pos (width_of pad)) (codes "x") (pos (height_of pad))
 
--- how far the centre of a hole, of a slot its first end, is from the centre of a pad (docs/FORMATS.md, Report for people)
+-- how far the middle of a hole is from the middle of a pad (docs/FORMATS.md, Report for people)
 abbrev pub off_words : GridPoint → GridPoint → List ℕ
-off_words at centre = told_words (codes ", hole off by ") (at.x -ℤ centre.x) (codes ",") (at.y -ℤ centre.y)
+off_words at middle = told_words (codes ", hole off by ") (at.x -ℤ middle.x) (codes ",") (at.y -ℤ middle.y)
 
--- a pad, and how far a hole is from its centre (docs/FORMATS.md, Report for people)
+-- a pad, and how far the middle of a hole is from its own (docs/FORMATS.md, Report for people)
 abbrev pub place_words : GridHole → Pad → List ℕ
-place_words hole pad = pad_words pad ++ off_words hole.from (centre_of pad)
+place_words hole pad = pad_words pad ++ off_words (hole_middle hole) (pad_middle pad)
 
 -- why the ring in a pad is too little, and the number of the pad's flash (docs/FORMATS.md, Report for people)
 unfoldable pub flash_words : List ℕ → ℕ → List ℕ
@@ -132,6 +136,15 @@ why_at whys place = get_or whys place None
 abbrev pub is_waived : List (Option (Bor (List ℕ))) → ℕ → Bool
 is_waived whys place = is_some (why_at whys place)
 
+-- how many bytes a reason has, 0 where there is none (docs/FORMATS.md, Report for people)
+abbrev pub why_length : Option (Bor (List ℕ)) → ℕ
+why_length None = 0
+why_length (Some why) = length why.now
+
+-- how many bytes the longest of some reasons has, 0 where there is none (docs/FORMATS.md, Report for people)
+abbrev pub longest_why : List (Option (Bor (List ℕ))) → ℕ
+longest_why whys = fold (λ (longest : ℕ) why. max longest (why_length why)) 0 whys
+
 -- how many of so many findings are waived (docs/FORMATS.md, Report for people)
 abbrev pub waived_of : List (Option (Bor (List ℕ))) → ℕ → ℕ
 waived_of whys findings = count_by is_some (take findings whys)
@@ -151,7 +164,7 @@ ring_words names lack = codes "  " ++ (hole_words names lack.at ++ (codes ": " +
 
 -- the line of a hole that lacks its ring, and why that is accepted (docs/FORMATS.md, Report for people)
 unfoldable pub ring_line : List (List ℕ) → RingLack → Option (Bor (List ℕ)) → List ℕ
-ring_line names lack why = ring_words names lack ++ (why_words why ++ 10 ∷ [])
+ring_line names lack why = ring_words names lack ++ (why_words why ++ ascii.line_feed ∷ [])
 
 -- two holes (docs/FORMATS.md, Report for people)
 abbrev pub pair_words : List (List ℕ) → HoleAt → HoleAt → List ℕ
@@ -167,7 +180,7 @@ near_words names lack = pair_words names lack.first lack.second ++ gap_words lac
 
 -- the line of two holes that lack their gap, and why that is accepted (docs/FORMATS.md, Report for people)
 unfoldable pub gap_line : List (List ℕ) → GapLack → Option (Bor (List ℕ)) → List ℕ
-gap_line names lack why = near_words names lack ++ (why_words why ++ 10 ∷ [])
+gap_line names lack why = near_words names lack ++ (why_words why ++ ascii.line_feed ∷ [])
 
 -- a finding at this position of the whole report is shown: each where there is no limit, else those below it (docs/FORMATS.md, Report for people)
 abbrev pub is_shown : Option ℕ → ℕ → Bool
@@ -190,7 +203,7 @@ layer_words name lacking asked = name ++ (codes ": " ++ (decimal lacking ++ (cod
 
 -- the line of a layer: how many of the holes that ask a ring there lack it, and of how many that is waived (docs/FORMATS.md, Report for people)
 abbrev pub layer_line : List ℕ → ℕ → ℕ → ℕ → List ℕ
-layer_line name lacking asked waived = layer_words name lacking asked ++ (waived_words waived ++ 10 ∷ [])
+layer_line name lacking asked waived = layer_words name lacking asked ++ (waived_words waived ++ ascii.line_feed ∷ [])
 
 -- the rings that are lacking on a layer, with their places among all rings (docs/FORMATS.md, Report for people)
 abbrev pub rings_on : ℕ → List RingLack → List (ℕ × RingLack)
@@ -212,7 +225,7 @@ gaps_words lacking = decimal lacking ++ codes " gaps lacking"
 
 -- the line of the gaps: how many are lacking, and how many of them are waived (docs/FORMATS.md, Report for people)
 abbrev pub gaps_line : ℕ → ℕ → List ℕ
-gaps_line lacking waived = gaps_words lacking ++ (waived_words waived ++ 10 ∷ [])
+gaps_line lacking waived = gaps_words lacking ++ (waived_words waived ++ ascii.line_feed ∷ [])
 
 -- the gaps that are lacking, behind so many rings (docs/FORMATS.md, Report for people)
 abbrev pub gaps_text : List (List ℕ) → Option ℕ → ℕ → List GapLack → List (Option (Bor (List ℕ))) → List ℕ
@@ -222,7 +235,7 @@ gaps_text names most rings gaps whys =
 
 -- how many rings are lacking, why, and what is said of it (docs/FORMATS.md, Report for people)
 abbrev pub counted_words : ℕ → List ℕ → List ℕ → List ℕ
-counted_words count words hint = decimal count ++ (codes " " ++ (words ++ (codes ": " ++ (hint ++ 10 ∷ []))))
+counted_words count words hint = decimal count ++ (codes " " ++ (words ++ (codes ": " ++ (hint ++ ascii.line_feed ∷ []))))
 
 -- the line of a kind, by how many rings are lacking by it: none where there is none (docs/FORMATS.md, Report for people)
 abbrev pub count_line : Kind → ℕ → List ℕ
@@ -248,7 +261,7 @@ least_and_greatest (first ∷ rest) = Some (fold int_min first rest, fold int_ma
 -- the line of the least and the greatest lack, where there is one (docs/FORMATS.md, Report for people)
 abbrev pub lacks_line : List ℕ → Option (ℤ × ℤ) → List ℕ
 lacks_line word None = []
-lacks_line word (Some lacks) = word ++ (two_lengths lacks.0 (codes " to ") lacks.1 ++ 10 ∷ [])
+lacks_line word (Some lacks) = word ++ (two_lengths lacks.0 (codes " to ") lacks.1 ++ ascii.line_feed ∷ [])
 
 -- the line of a drill file by its name: how many holes are bare, and how many would be with their coordinates times a factor (docs/FORMATS.md, Report for people)
 unfoldable pub scale_words : List ℕ → ℕ → List ℕ → ℕ → List ℕ
@@ -290,11 +303,11 @@ both_words ring gap = codes "this board meets ring " ++ (met_words ring ++ (code
 
 -- the line of the rules that the package meets (docs/FORMATS.md, Report for people)
 unfoldable pub meets_line : Meets → List ℕ
-meets_line meets = both_words meets.ring meets.gap ++ (held_words meets.ring meets.held ++ 10 ∷ [])
+meets_line meets = both_words meets.ring meets.gap ++ (held_words meets.ring meets.held ++ ascii.line_feed ∷ [])
 
 -- the first line: the rules that are asked (docs/FORMATS.md, Report for people)
 unfoldable pub rules_line : GridRules → List ℕ
-rules_line rules = codes "ring " ++ (two_lengths (pos rules.ring) (codes ", gap ") (pos rules.gap) ++ 10 ∷ [])
+rules_line rules = codes "ring " ++ (two_lengths (pos rules.ring) (codes ", gap ") (pos rules.gap) ++ ascii.line_feed ∷ [])
 
 -- the line of a waiver that waives nothing, by the number of its record (docs/FORMATS.md, Report for people)
 abbrev pub idle_line : ℕ → List ℕ
@@ -304,8 +317,8 @@ idle_line number = codes "waiver " ++ (decimal number ++ codes " waives nothing\
 abbrev pub last_line : ℕ → ℕ → List ℕ
 last_line findings waived =
     if findings == 0 then codes "PASS\n"
-    else if waived == findings then codes "WAIVED " ++ (decimal findings ++ 10 ∷ [])
-    else codes "FINDINGS " ++ (decimal (findings - waived) ++ 10 ∷ [])
+    else if waived == findings then codes "WAIVED " ++ (decimal findings ++ ascii.line_feed ∷ [])
+    else codes "FINDINGS " ++ (decimal (findings - waived) ++ ascii.line_feed ∷ [])
 
 -- the lines of the least and the greatest lacks, of rings and of gaps (docs/FORMATS.md, Report for people)
 abbrev pub lacks_text : List RingLack → List GapLack → List ℕ

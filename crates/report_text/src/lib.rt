@@ -6,6 +6,7 @@
 mod kind;
 mod lines;
 mod report;
+mod runs;
 mod tallies;
 mod waived;
 mod words;
@@ -15,7 +16,8 @@ use layer_image::Why;
 use margin_text::{Meets, ScaleLine};
 use pad_shapes::Pad;
 pub use report::{PrintFault, print_telling, print_waived, write_telling};
-pub use waived::count_waived;
+pub use tallies::lack_of;
+pub use waived::{count_waived, longest_why, why_of};
 pub use words::{name_of, push_drilled};
 
 /// The pad in which a hole lies deepest, and the ring that it has there.

@@ -1,14 +1,13 @@
 //! The lines of a report, one by one.
 
 ghost use Rattle.std.specs.Prelude.{◌≡◌, ◌≤◌, ◌++◌, ◌∷◌, [], codes, decimal, map, OnOk, string_bytes};
-ghost use Rattle.margin_text.specs.Lines.{factor_word};
 ghost use Rattle.report_text.specs.Texts.{are_same, both_words, count_line, counted_words, gap_line, gap_words, gaps_line, gaps_words, held_ring, held_words, idle_line, lacks_line, last_line, layer_line, layer_words, meets_line, met_words, more_line, named_met, near_words, pair_words, ring_line, ring_words, rules_line, scale_line, scale_words, waived_words, why_words};
 
 use crate::kind::{Kind, hint, kind_words};
 use crate::words::{name_of, push_cause, push_hole, push_measured, push_two};
 use crate::{GapLack, HoleAt, RingLack};
 use grid_units::Rules;
-use margin_text::{Factor, Meets, Met, ScaleLine};
+use margin_text::{Meets, Met, ScaleLine, factor_word};
 use printing::{push_short_mm, push_words};
 use std::alloc::AllocError;
 use std::fmt::Write;
@@ -235,18 +234,6 @@ fn push_factor(
     ) {
         Ok(()) => Ok(()),
         Err(e) => Err(e),
-    }
-}
-
-/// A factor as it is written.
-fn factor_word(factor: Factor) -> &'static str
-    ensures { result.now ≡ factor_word factor }
-{
-    match factor {
-        Factor::Ten => "10",
-        Factor::Tenth => "0.1",
-        Factor::Inch => "25.4",
-        Factor::PerInch => "1/25.4",
     }
 }
 

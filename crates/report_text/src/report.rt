@@ -5,6 +5,7 @@ ghost use Rattle.std.specs.List.{count_by, enumerate_from, filter, flat_map};
 ghost use Rattle.std.specs.Io.KnownBytes.{Appends};
 ghost use Rattle.printing.specs.Parts.{PassesOn};
 ghost use Rattle.report_text.specs.Causes.{all_kinds};
+ghost use Rattle.report_text.specs.Inner.{AreRuns, IsRun};
 ghost use Rattle.report_text.specs.Texts.{causes_text, findings_text, gap_line, gaps_line, gaps_text, idle_line, is_shown, kind_line, lacks_text, last_line, last_lines, layer_line, layer_text, meets_line, more_line, name_of, ring_line, rings_on, rules_line, scale_line, telling_text, waived_in, waived_of, waived_on, waived_text, why_at};
 
 use crate::kind::{KINDS, Kind};
@@ -12,10 +13,11 @@ use crate::lines::{
     push_count, push_gap, push_gaps, push_idle, push_lacks, push_last, push_layer, push_meets,
     push_more, push_ring, push_rules, push_scale,
 };
+use crate::runs::{Run, runs_of};
 use crate::tallies::{
     gap_lacks, gaps_left, is_shown, is_shown_on, ring_lacks, rings_by, rings_left, rings_on,
 };
-use crate::waived::{count_waived, waived_of, waived_on, why_of};
+use crate::waived::{count_waived, longest_why, waived_of, waived_on, why_of};
 use crate::words::name_of;
 use crate::{GapLack, LayerHead, RingLack, Telling, Whys};
 use grid_units::Rules;
@@ -47,36 +49,38 @@ fn gather_rules<W: Write>(text: &mut String, rules: &Rules, out: &mut W) -> Resu
     }
 }
 
-/// Appends the line of a layer, by its place and its head.
+/// Appends the line of a layer, by its run and its head.
 fn push_head(
     text: &mut String,
     names: &[&str],
     rings: &[RingLack],
     whys: &[Option<&str>],
-    place: usize,
+    run: Run,
     head: &LayerHead,
 ) -> Result<(), AllocError>
-    ensures { OnOk result (string_bytes text.new ≡ string_bytes text.old ++ layer_line (name_of (map (λ name. name.now) names.now) head.now.file) (count_by (λ lack. lack.layer == place) rings.now) head.now.asked (waived_on whys.now place rings.now)) }
+    requires { IsRun rings.now (length rings.now) run.layer run }
+    ensures { OnOk result (string_bytes text.new ≡ string_bytes text.old ++ layer_line (name_of (map (λ name. name.now) names.now) head.now.file) (count_by (λ lack. lack.layer == run.layer) rings.now) head.now.asked (waived_on whys.now run.layer rings.now)) }
 {
-    let lacking = rings_on(rings, place);
-    let waived = waived_on(whys, place, rings);
+    let lacking = rings_on(rings, run);
+    let waived = waived_on(whys, run, rings);
     push_layer(text, name_of(names, head.file), lacking, head.asked, waived)
 }
 
-/// Gathers the line of a layer, by its place and its head.
+/// Gathers the line of a layer, by its run and its head.
 fn gather_head<W: Write>(
     text: &mut String,
     names: &[&str],
     rings: &[RingLack],
     whys: &[Option<&str>],
-    place: usize,
+    run: Run,
     head: &LayerHead,
     out: &mut W,
 ) -> Result<(), Cut>
-    ensures { OnOk result (PassesOn (W.contents out.old) (string_bytes text.old) (W.contents out.new) (string_bytes text.new) (layer_line (name_of (map (λ name. name.now) names.now) head.now.file) (count_by (λ lack. lack.layer == place) rings.now) head.now.asked (waived_on whys.now place rings.now))) }
+    requires { IsRun rings.now (length rings.now) run.layer run }
+    ensures { OnOk result (PassesOn (W.contents out.old) (string_bytes text.old) (W.contents out.new) (string_bytes text.new) (layer_line (name_of (map (λ name. name.now) names.now) head.now.file) (count_by (λ lack. lack.layer == run.layer) rings.now) head.now.asked (waived_on whys.now run.layer rings.now))) }
 {
     make_room(text, out)?;
-    match push_head(text, names, rings, whys, place, head) {
+    match push_head(text, names, rings, whys, run, head) {
         Ok(()) => Ok(()),
         Err(_) => Err(Cut),
     }
@@ -103,74 +107,80 @@ fn gather_ring<W: Write>(
     }
 }
 
-/// Gathers the lines of the rings on a layer that are shown.
+/// Gathers the lines of the rings on the layer of a run that are shown.
 fn gather_rings<W: Write>(
     text: &mut String,
     names: &[&str],
     rings: &[RingLack],
     whys: &[Option<&str>],
-    layer: usize,
+    run: Run,
     most: Option<usize>,
     out: &mut W,
 ) -> Result<(), Cut>
-    ensures { OnOk result (PassesOn (W.contents out.old) (string_bytes text.old) (W.contents out.new) (string_bytes text.new) (flat_map (λ finding. ring_line (map (λ name. name.now) names.now) finding.1 (why_at whys.now finding.0)) (filter (λ finding. is_shown most finding.0) (rings_on layer rings.now)))) }
+    requires { IsRun rings.now (length rings.now) run.layer run }
+    ensures { OnOk result (PassesOn (W.contents out.old) (string_bytes text.old) (W.contents out.new) (string_bytes text.new) (flat_map (λ finding. ring_line (map (λ name. name.now) names.now) finding.1 (why_at whys.now finding.0)) (filter (λ finding. is_shown most finding.0) (rings_on run.layer rings.now)))) }
 {
-    for i in 0..rings.len() {
-        let shown = is_shown_on(&rings[i], layer, most, i as u128);
+    for i in run.first..run.behind {
+        let shown = is_shown_on(&rings[i], run.layer, most, i as u128);
         gather_ring(text, names, &rings[i], why_of(whys, i), shown, out)?;
     }
     Ok(())
 }
 
-/// Gathers how many of the rings that are lacking on a layer are not shown.
+/// Gathers how many of the rings that are lacking on the layer of a run are not shown.
 fn gather_rings_left<W: Write>(
     text: &mut String,
     rings: &[RingLack],
-    layer: usize,
+    run: Run,
     most: Option<usize>,
     out: &mut W,
 ) -> Result<(), Cut>
-    ensures { OnOk result (PassesOn (W.contents out.old) (string_bytes text.old) (W.contents out.new) (string_bytes text.new) (more_line (count_by (λ finding. not (is_shown most finding.0)) (filter (λ finding. finding.1.layer == layer) (enumerate_from 0 rings.now))))) }
+    requires { IsRun rings.now (length rings.now) run.layer run }
+    ensures { OnOk result (PassesOn (W.contents out.old) (string_bytes text.old) (W.contents out.new) (string_bytes text.new) (more_line (count_by (λ finding. not (is_shown most finding.0)) (filter (λ finding. finding.1.layer == run.layer) (enumerate_from 0 rings.now))))) }
 {
     make_room(text, out)?;
-    match push_more(text, rings_left(rings, layer, most)) {
+    match push_more(text, rings_left(rings, run, most)) {
         Ok(()) => Ok(()),
         Err(_) => Err(Cut),
     }
 }
 
-/// Gathers a layer, by its place and its head.
+/// Gathers a layer, by its run and its head.
 fn gather_layer<W: Write>(
     text: &mut String,
     names: &[&str],
     rings: &[RingLack],
     whys: &[Option<&str>],
-    place: usize,
+    run: Run,
     head: &LayerHead,
     most: Option<usize>,
     out: &mut W,
 ) -> Result<(), Cut>
-    ensures { OnOk result (PassesOn (W.contents out.old) (string_bytes text.old) (W.contents out.new) (string_bytes text.new) (layer_text (map (λ name. name.now) names.now) most rings.now whys.now (place, head.now))) }
+    requires { IsRun rings.now (length rings.now) run.layer run }
+    ensures { OnOk result (PassesOn (W.contents out.old) (string_bytes text.old) (W.contents out.new) (string_bytes text.new) (layer_text (map (λ name. name.now) names.now) most rings.now whys.now (run.layer, head.now))) }
 {
-    gather_head(text, names, rings, whys, place, head, out)?;
-    gather_rings(text, names, rings, whys, place, most, out)?;
-    gather_rings_left(text, rings, place, most, out)
+    gather_head(text, names, rings, whys, run, head, out)?;
+    gather_rings(text, names, rings, whys, run, most, out)?;
+    gather_rings_left(text, rings, run, most, out)
 }
 
-/// Gathers the layers.
+/// Gathers the layers, by their runs and their heads.
 fn gather_layers<W: Write>(
     text: &mut String,
     names: &[&str],
     layers: &[LayerHead],
+    runs: &[Run],
     rings: &[RingLack],
     whys: &[Option<&str>],
     most: Option<usize>,
     out: &mut W,
 ) -> Result<(), Cut>
+    requires length { length runs.now ≡ length layers.now }
+    requires runs { AreRuns rings.now (length rings.now) runs.now }
     ensures { OnOk result (PassesOn (W.contents out.old) (string_bytes text.old) (W.contents out.new) (string_bytes text.new) (flat_map (layer_text (map (λ name. name.now) names.now) most rings.now whys.now) (enumerate_from 0 layers.now))) }
 {
     for i in 0..layers.len() {
-        gather_layer(text, names, rings, whys, i, &layers[i], most, out)?;
+        gather_layer(text, names, rings, whys, runs[i], &layers[i], most, out)?;
     }
     Ok(())
 }
@@ -277,20 +287,32 @@ fn gather_all_gaps<W: Write>(
     gather_gaps_left(text, gaps, rings, most, out)
 }
 
-/// Gathers the rules and the findings.
+/// Gathers the rules and the findings, by the runs of the layers.
 fn gather_findings<W: Write>(
     text: &mut String,
     names: &[&str],
     telling: &Telling,
+    runs: &[Run],
     most: Option<usize>,
     whys: &Whys,
     out: &mut W,
 ) -> Result<(), Cut>
+    requires length { length runs.now ≡ length telling.now.layers.items }
+    requires runs { AreRuns telling.now.rings.items (length telling.now.rings.items) runs.now }
     ensures { OnOk result (PassesOn (W.contents out.old) (string_bytes text.old) (W.contents out.new) (string_bytes text.new) (findings_text (map (λ name. name.now) names.now) telling.now most whys.now.rings.now whys.now.gaps.now)) }
 {
     let rings = telling.rings.as_slice();
     gather_rules(text, &telling.rules, out)?;
-    gather_layers(text, names, &telling.layers, rings, whys.rings, most, out)?;
+    gather_layers(
+        text,
+        names,
+        &telling.layers,
+        runs,
+        rings,
+        whys.rings,
+        most,
+        out,
+    )?;
     gather_all_gaps(
         text,
         names,
@@ -467,18 +489,21 @@ fn print_last<W: Write>(
     end(text, telling, whys, out)
 }
 
-/// Prints what `text` holds, and the text of a report behind it.
+/// Prints what `text` holds, and the text of a report behind it, by the runs of the layers.
 fn print_lines<W: Write>(
     text: &mut String,
     names: &[&str],
     telling: &Telling,
+    runs: &[Run],
     most: Option<usize>,
     whys: &Whys,
     out: &mut W,
 ) -> Result<(), Cut>
+    requires length { length runs.now ≡ length telling.now.layers.items }
+    requires runs { AreRuns telling.now.rings.items (length telling.now.rings.items) runs.now }
     ensures { OnOk result (Appends (W.contents out.old) (W.contents out.new) (string_bytes text.old ++ waived_text (map (λ name. name.now) names.now) telling.now most whys.now)) }
 {
-    gather_findings(text, names, telling, most, whys, out)?;
+    gather_findings(text, names, telling, runs, most, whys, out)?;
     gather_causes(text, names, telling, out)?;
     print_last(text, telling, whys, out)
 }
@@ -488,17 +513,6 @@ fn longest(names: &[&str]) -> usize {
     let mut longest = 0;
     for name in names {
         longest = longest.max(name.len());
-    }
-    longest
-}
-
-/// How many bytes the longest reason has.
-fn longest_why(whys: &[Option<&str>]) -> usize {
-    let mut longest = 0;
-    for why in whys {
-        if let Some(why) = why {
-            longest = longest.max(why.len());
-        }
     }
     longest
 }
@@ -522,7 +536,8 @@ fn room(alloc: Global, names: &[&str], whys: &Whys) -> Result<String, AllocError
 /// Prints the text of a report for people, by the names of the files of the package, with at most so many findings, and with the
 /// reasons why findings are accepted. A finding that has a reason is told with it, and is not counted in the last line; it is
 /// `WAIVED` where each finding has one. The report is written in parts: what they are gathered in is taken before the first of them
-/// is written, with room for the longest reason, so no more memory is taken for a long report than for a short one.
+/// is written, with room for the longest reason, and a place for each layer, so no more memory is taken for a long report than for a
+/// short one. The rings may stand in any order; of a layer only those from its first to its last one are gone over.
 ///
 /// # Errors
 ///
@@ -541,15 +556,18 @@ pub fn print_waived<W: Write>(
     let Ok(mut text) = room(alloc, names, whys) else {
         return Err(PrintFault::Memory);
     };
-    match print_lines(&mut text, names, telling, most, whys, out) {
+    let Ok(runs) = runs_of(alloc, telling.layers.len(), &telling.rings) else {
+        return Err(PrintFault::Memory);
+    };
+    match print_lines(&mut text, names, telling, &runs, most, whys, out) {
         Ok(()) => Ok(()),
         Err(_) => Err(PrintFault::Cut),
     }
 }
 
 /// Prints the text of a report for people, by the names of the files of the package, with at most so many findings. It is written
-/// in parts: what they are gathered in is taken before the first of them is written, so no more memory is taken for a long report
-/// than for a short one.
+/// in parts: what they are gathered in is taken before the first of them is written, with a place for each layer, so no more memory
+/// is taken for a long report than for a short one.
 ///
 /// # Errors
 ///

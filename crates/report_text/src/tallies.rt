@@ -1,12 +1,13 @@
 //! How many findings there are, which of them are shown, and how much they lack.
 
-ghost use Rattle.std.specs.Prelude.{◌≡◌, ◌≤◌, ◌==◌, ◌&&◌, if◌then◌else◌, map, not};
+ghost use Rattle.std.specs.Prelude.{◌≡◌, ◌≤◌, ◌==◌, ◌&&◌, if◌then◌else◌, length, map, not};
 ghost use Rattle.std.specs.List.{count_by, enumerate_from, filter, filter_map};
 ghost use Rattle.report_text.specs.Causes.{is_of_kind};
-ghost use Rattle.report_text.specs.Inner.{widened};
+ghost use Rattle.report_text.specs.Inner.{IsRun, widened};
 ghost use Rattle.report_text.specs.Texts.{is_shown, lack_of, least_and_greatest};
 
 use crate::kind::{Kind, is_of_kind};
+use crate::runs::Run;
 use crate::{GapLack, RingCause, RingLack};
 
 /// Whether a finding at this position of the whole report is shown.
@@ -19,11 +20,19 @@ pub(crate) fn is_shown(most: Option<usize>, position: u128) -> bool
     }
 }
 
-/// How many rings are lacking on a layer.
-pub(crate) fn rings_on(rings: &[RingLack], layer: usize) -> usize
+/// How many of some rings are lacking on a layer.
+fn rings_among(rings: &[RingLack], layer: usize) -> usize
     ensures { result ≡ count_by (λ lack. lack.layer == layer) rings.now }
 {
     rings.iter().filter(|lack| lack.layer == layer).count()
+}
+
+/// How many rings are lacking on the layer of a run.
+pub(crate) fn rings_on(rings: &[RingLack], run: Run) -> usize
+    requires { IsRun rings.now (length rings.now) run.layer run }
+    ensures { result ≡ count_by (λ lack. lack.layer == run.layer) rings.now }
+{
+    rings_among(&rings[run.first..run.behind], run.layer)
 }
 
 /// How many rings are lacking by a kind.
@@ -63,13 +72,14 @@ pub(crate) fn one_if(passes: bool) -> usize
     if passes { 1 } else { 0 }
 }
 
-/// How many of the rings that are lacking on a layer are not shown.
-pub(crate) fn rings_left(rings: &[RingLack], layer: usize, most: Option<usize>) -> usize
-    ensures { result ≡ count_by (λ finding. not (is_shown most finding.0)) (filter (λ finding. finding.1.layer == layer) (enumerate_from 0 rings.now)) }
+/// How many of the rings that are lacking on the layer of a run are not shown.
+pub(crate) fn rings_left(rings: &[RingLack], run: Run, most: Option<usize>) -> usize
+    requires { IsRun rings.now (length rings.now) run.layer run }
+    ensures { result ≡ count_by (λ finding. not (is_shown most finding.0)) (filter (λ finding. finding.1.layer == run.layer) (enumerate_from 0 rings.now)) }
 {
     let mut left = 0;
-    for i in 0..rings.len() {
-        left += one_if(is_left_on(&rings[i], layer, most, i as u128));
+    for i in run.first..run.behind {
+        left += one_if(is_left_on(&rings[i], run.layer, most, i as u128));
     }
     left
 }
@@ -85,8 +95,8 @@ pub(crate) fn gaps_left(gaps: &[GapLack], rings: usize, most: Option<usize>) -> 
     left
 }
 
-/// What a ring lacks, where its hole lies in a pad.
-fn lack_of(cause: &RingCause) -> Option<i64>
+/// What a ring lacks, in pm, where its hole lies in a pad.
+pub fn lack_of(cause: &RingCause) -> Option<i64>
     ensures { result ≡ lack_of cause.now }
 {
     match cause {

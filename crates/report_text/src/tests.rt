@@ -3,7 +3,7 @@
 use super::*;
 use grid_units::Point;
 use margin_text::{Factor, Met};
-use pad_shapes::{Disc, Rect};
+use pad_shapes::{Disc, Obround, Rect};
 use std::alloc::Global;
 use std::test::Fail;
 
@@ -226,6 +226,121 @@ fn a_slot_is_told_by_both_ends(rt: HostRuntime) -> Result<(), Fail> {
     Ok(())
 }
 
+/// A slot of 0.5 mm from 0,0 to 2,0.
+fn slot_at() -> Result<HoleAt, Fail> {
+    let hole = Hole::new(point(0, 0)?, point(2_000_000_000, 0)?, 250_000_000).ok_or("hole")?;
+    Ok(HoleAt {
+        drill: 1,
+        number: 1,
+        hole,
+    })
+}
+
+/// What this slot lacks, by its cause.
+fn slot_lack(cause: RingCause) -> Result<RingLack, Fail> {
+    Ok(RingLack {
+        layer: 0,
+        at: slot_at()?,
+        cause,
+    })
+}
+
+#[test]
+fn a_slot_is_told_off_by_its_middle(rt: HostRuntime) -> Result<(), Fail> {
+    let short = Obround::new(point(1_000_000_000, 0)?, 1_370_000_000, 375_000_000);
+    let small = slot_lack(RingCause::Small(InPad {
+        flash: 1,
+        pad: Pad::Obround(short.ok_or("obround")?),
+        ring: 120_000_000,
+        lack: 5_000_000,
+    }))?;
+    let text =
+        "  hole 1 of pth, 0.5 at 0,0 to 2,0: ring 0.12, lacks 0.005, pad too small: flash 1, obround 2.74x0.75, hole off by 0,0\n";
+    assert!(rt; is_ring_line(rt, "pth", &small, text)?);
+    let place = in_disc(1, (0, 0), 2_000_000_000, -250_000_000, 375_000_000)?;
+    let off = slot_lack(RingCause::Off(place))?;
+    let text =
+        "  hole 1 of pth, 0.5 at 0,0 to 2,0: ring -0.25, lacks 0.375, off centre: flash 1, disc 4x4, hole off by 1,0\n";
+    assert!(rt; is_ring_line(rt, "pth", &off, text)?);
+    Ok(())
+}
+
+/// Whether the line of a slot in a flash that is no pad is this one.
+fn is_other_line(rt: HostRuntime, why: Why, text: &str) -> Result<bool, Fail> {
+    let lack = RingLack {
+        layer: 0,
+        at: slot_at()?,
+        cause: RingCause::Other { why, flash: 7 },
+    };
+    is_ring_line(rt, "pth", &lack, text)
+}
+
+#[test]
+fn flashes_that_are_no_pads_are_told(rt: HostRuntime) -> Result<(), Fail> {
+    let text = "  hole 1 of pth, 0.5 at 0,0 to 2,0: no ring, only a polygon flash: flash 7\n";
+    assert!(rt; is_other_line(rt, Why::Polygon, text)?);
+    let text = "  hole 1 of pth, 0.5 at 0,0 to 2,0: no ring, only a holed flash: flash 7\n";
+    assert!(rt; is_other_line(rt, Why::Holed, text)?);
+    let text = "  hole 1 of pth, 0.5 at 0,0 to 2,0: no ring, only a scaled flash: flash 7\n";
+    assert!(rt; is_other_line(rt, Why::Scaled, text)?);
+    let text = "  hole 1 of pth, 0.5 at 0,0 to 2,0: no ring, only a turned flash: flash 7\n";
+    assert!(rt; is_other_line(rt, Why::Turned, text)?);
+    Ok(())
+}
+
+/// Whether the line of a drill file whose coordinates are off by a factor is this one.
+fn is_scale_line(rt: HostRuntime, factor: Factor, text: &str) -> Result<bool, Fail> {
+    let line = ScaleLine { factor, ..TENTH };
+    let mut written = String::new(rt.alloc());
+    lines::push_scale(&mut written, &["top", "pth"], &line)?;
+    Ok(written.as_str() == text)
+}
+
+#[test]
+fn factors_are_told(rt: HostRuntime) -> Result<(), Fail> {
+    let text = "pth: 3 holes have no pad; at 0.1 times their coordinates 0 would have none\n";
+    assert!(rt; is_scale_line(rt, Factor::Tenth, text)?);
+    let text = "pth: 3 holes have no pad; at 25.4 times their coordinates 0 would have none\n";
+    assert!(rt; is_scale_line(rt, Factor::Inch, text)?);
+    let text = "pth: 3 holes have no pad; at 1/25.4 times their coordinates 0 would have none\n";
+    assert!(rt; is_scale_line(rt, Factor::PerInch, text)?);
+    Ok(())
+}
+
+/// Two layers of which each other ring is on the second.
+fn mixed_layers(alloc: Global) -> Result<Telling, Fail> {
+    let mut telling = nothing(alloc, 100_000_000, 250_000_000, meets(0, 250_000_000))?;
+    telling.layers.push(LayerHead { file: 0, asked: 9 })?;
+    telling.layers.push(LayerHead { file: 1, asked: 8 })?;
+    for number in 1..6 {
+        telling.rings.push(RingLack {
+            layer: number % 2,
+            at: hole_at(3, number, (0, 0), 300_000_000)?,
+            cause: RingCause::Nothing,
+        })?;
+    }
+    Ok(telling)
+}
+
+#[test]
+fn mixed_layers_are_told_one_by_one(rt: HostRuntime) -> Result<(), Fail> {
+    let telling = mixed_layers(rt.alloc())?;
+    let text = "ring 0.1, gap 0.25\n\
+        F_Cu: 2 of 9 rings lacking\n  \
+        hole 2 of StickHub-PTH, 0.3 at 0,0: no ring, no pad\n  \
+        hole 4 of StickHub-PTH, 0.3 at 0,0: no ring, no pad\n\
+        B_Cu: 3 of 8 rings lacking\n  \
+        hole 1 of StickHub-PTH, 0.3 at 0,0: no ring, no pad\n  \
+        hole 3 of StickHub-PTH, 0.3 at 0,0: no ring, no pad\n  \
+        and 1 more\n\
+        0 gaps lacking\n\
+        5 no pad: no pad reaches the hole's centre: removed or painted pad, plane, other origin or format: see `ringcheck explain none`\n\
+        this board meets ring 0, gap 0.25\n\
+        FINDINGS 5\n";
+    assert!(rt; is_told(rt, &STICK, &telling, Some(4), text)?);
+    Ok(())
+}
+
 #[test]
 fn a_hole_hit_twice_is_told(rt: HostRuntime) -> Result<(), Fail> {
     let mut telling = nothing(
@@ -428,6 +543,30 @@ fn a_finding_that_is_not_waived_is_counted(rt: HostRuntime) -> Result<(), Fail> 
         waiver 9 waives nothing\n\
         FINDINGS 1\n";
     assert!(rt; is_waived_told(rt, &telling, Some(2), &whys, text)?);
+    Ok(())
+}
+
+#[test]
+fn a_limit_cuts_among_the_gaps(rt: HostRuntime) -> Result<(), Fail> {
+    let telling = three_of_each(rt.alloc())?;
+    let whys = Whys {
+        rings: &RINGS,
+        gaps: &[],
+        idle: &[],
+    };
+    let text = "ring 0.1, gap 0.25\n\
+        top_layer: 3 of 245 rings lacking, 3 waived\n  \
+        hole 1 of pth, 0.4 at 0,0: no ring, no pad, waived: milled\n  \
+        hole 2 of pth, 0.4 at 0,0: no ring, no pad, waived: milled\n  \
+        hole 3 of pth, 0.4 at 0,0: no ring, no pad, waived: by hand\n\
+        3 gaps lacking\n  \
+        hole 1 of pth, 0.4 at 0,0, and hole 1 of pth, 0.4 at 0,0: gap -0.4, lacks 0.65\n  \
+        and 2 more\n\
+        3 no pad: no pad reaches the hole's centre: removed or painted pad, plane, other origin or format: see `ringcheck explain none`\n\
+        gaps lack 0.65 to 0.65\n\
+        this board meets ring 0.1, gap -0.4\n\
+        FINDINGS 3\n";
+    assert!(rt; is_waived_told(rt, &telling, Some(4), &whys, text)?);
     Ok(())
 }
 

@@ -1,19 +1,42 @@
 //! Which findings are waived, and why.
 
 ghost use Rattle.std.specs.Prelude.{◌≡◌, ◌≤◌, ◌==◌, ◌&&◌, ◌+◌, length};
-ghost use Rattle.report_text.specs.Texts.{is_waived, waived_in, waived_of, waived_on, why_at};
+ghost use Rattle.report_text.specs.Inner.{IsRun};
+ghost use Rattle.report_text.specs.Texts.{is_waived, longest_why, waived_in, waived_of, waived_on, why_at, why_length};
 
+use crate::runs::Run;
 use crate::tallies::one_if;
 use crate::{RingLack, Telling, Whys};
 
-/// Why the finding at a place is accepted.
-pub(crate) fn why_of<'a>(whys: &[Option<&'a str>], place: usize) -> Option<&'a str>
+/// Why the finding at a place, from 0, among the rings or among the gaps is accepted, or `None`.
+pub fn why_of<'a>(whys: &[Option<&'a str>], place: usize) -> Option<&'a str>
     ensures { result ≡ why_at whys.now place }
 {
     match whys.get(place) {
         Some(why) => *why,
         None => None,
     }
+}
+
+/// How many bytes a reason has, 0 where there is none.
+fn why_length(why: Option<&str>) -> usize
+    ensures { result ≡ why_length why.entry }
+{
+    match why {
+        Some(why) => why.len(),
+        None => 0,
+    }
+}
+
+/// How many bytes the longest reason has, 0 where there is none.
+pub fn longest_why(whys: &[Option<&str>]) -> usize
+    ensures { result ≡ longest_why whys.now }
+{
+    let mut longest = 0;
+    for why in whys {
+        longest = longest.max(why_length(*why));
+    }
+    longest
 }
 
 /// Whether the finding at a place is waived.
@@ -41,13 +64,14 @@ fn is_waived_on(lack: &RingLack, layer: usize, whys: &[Option<&str>], place: usi
     lack.layer == layer && is_waived(whys, place)
 }
 
-/// How many of the rings that are lacking on a layer are waived.
-pub(crate) fn waived_on(whys: &[Option<&str>], layer: usize, rings: &[RingLack]) -> usize
-    ensures { result ≡ waived_on whys.now layer rings.now }
+/// How many of the rings that are lacking on the layer of a run are waived.
+pub(crate) fn waived_on(whys: &[Option<&str>], run: Run, rings: &[RingLack]) -> usize
+    requires { IsRun rings.now (length rings.now) run.layer run }
+    ensures { result ≡ waived_on whys.now run.layer rings.now }
 {
     let mut waived = 0;
-    for i in 0..rings.len() {
-        waived += one_if(is_waived_on(&rings[i], layer, whys, i));
+    for i in run.first..run.behind {
+        waived += one_if(is_waived_on(&rings[i], run.layer, whys, i));
     }
     waived
 }

@@ -1,11 +1,13 @@
 //! The words of holes, pads and causes.
 
 ghost use Rattle.std.specs.Prelude.{◌≡◌, ◌*◌, ◌-ℤ◌, ◌++◌, pos, codes, map, OnOk, string_bytes};
-ghost use Rattle.report_text.specs.Texts.{bare_words, cause_words, centre_of, drilled_words, ends_words, flash_words, height_of, hole_words, in_pad_words, measured_words, name_of, number_words, off_words, other_words, pad_words, place_words, point_words, shape_word, told_words, two_lengths, width_of};
+ghost use Rattle.grid_units.specs.Points.{IsCoordinate};
+ghost use Rattle.report_text.specs.Texts.{bare_words, cause_words, drilled_words, ends_words, flash_words, halfway, height_of, hole_middle, hole_words, in_pad_words, measured_words, name_of, number_words, off_words, other_words, pad_words, place_words, point_words, shape_word, told_words, two_lengths, width_of};
 
 use crate::kind::{Kind, flash_kind, kind_words};
 use crate::{HoleAt, InPad, RingCause};
 use grid_units::{Hole, Point};
+use margins::Deep;
 use pad_shapes::Pad;
 use printing::{push_short_mm, push_words};
 use std::alloc::AllocError;
@@ -154,17 +156,6 @@ fn height_of(pad: &Pad) -> i64
     }
 }
 
-/// The centre of a pad.
-fn centre_of(pad: &Pad) -> Point
-    ensures { result ≡ centre_of pad.now }
-{
-    match pad {
-        Pad::Disc(disc) => disc.centre(),
-        Pad::Rect(rect) => rect.centre(),
-        Pad::Obround(obround) => obround.centre(),
-    }
-}
-
 /// Appends the shape and the sides of a pad.
 fn push_pad(text: &mut String, pad: &Pad) -> Result<(), AllocError>
     ensures { OnOk result (string_bytes text.new ≡ string_bytes text.old ++ pad_words pad.now) }
@@ -173,34 +164,52 @@ fn push_pad(text: &mut String, pad: &Pad) -> Result<(), AllocError>
     push_two(text, width_of(pad), "x", height_of(pad))
 }
 
-/// How far the centre of a hole is from the centre of a pad, along x.
-fn off_x(at: Point, centre: Point) -> i64
-    ensures { result ≡ at.x -ℤ centre.x }
+/// Halfway between two coordinates, rounded towards 0.
+fn halfway(a: i64, b: i64) -> i64
+    requires a { IsCoordinate a }
+    requires b { IsCoordinate b }
+    ensures value { result ≡ halfway a b }
+    ensures in_range { IsCoordinate result }
 {
-    at.x() - centre.x()
+    (a + b) / 2
 }
 
-/// How far the centre of a hole is from the centre of a pad, along y.
-fn off_y(at: Point, centre: Point) -> i64
-    ensures { result ≡ at.y -ℤ centre.y }
+/// The middle of a hole.
+fn hole_middle(hole: &Hole) -> Point
+    ensures { result ≡ hole_middle hole.now }
 {
-    at.y() - centre.y()
+    let (from, to) = (hole.from(), hole.to());
+    Point::new(halfway(from.x(), to.x()), halfway(from.y(), to.y())).unwrap()
 }
 
-/// Appends how far the centre of a hole is from the centre of a pad.
-fn push_off(text: &mut String, at: Point, centre: Point) -> Result<(), AllocError>
-    ensures { OnOk result (string_bytes text.new ≡ string_bytes text.old ++ off_words at centre) }
+/// How far the middle of a hole is from the middle of a pad, along x.
+fn off_x(at: Point, middle: Point) -> i64
+    ensures { result ≡ at.x -ℤ middle.x }
 {
-    let (x, y) = (off_x(at, centre), off_y(at, centre));
+    at.x() - middle.x()
+}
+
+/// How far the middle of a hole is from the middle of a pad, along y.
+fn off_y(at: Point, middle: Point) -> i64
+    ensures { result ≡ at.y -ℤ middle.y }
+{
+    at.y() - middle.y()
+}
+
+/// Appends how far the middle of a hole is from the middle of a pad.
+fn push_off(text: &mut String, at: Point, middle: Point) -> Result<(), AllocError>
+    ensures { OnOk result (string_bytes text.new ≡ string_bytes text.old ++ off_words at middle) }
+{
+    let (x, y) = (off_x(at, middle), off_y(at, middle));
     push_told(text, ", hole off by ", x, ",", y)
 }
 
-/// Appends a pad, and how far a hole is from its centre.
+/// Appends a pad, and how far the middle of a hole is from its own.
 fn push_place(text: &mut String, hole: &Hole, pad: &Pad) -> Result<(), AllocError>
     ensures { OnOk result (string_bytes text.new ≡ string_bytes text.old ++ place_words hole.now pad.now) }
 {
     push_pad(text, pad)?;
-    push_off(text, hole.from(), centre_of(pad))
+    push_off(text, hole_middle(hole), pad.middle())
 }
 
 /// Appends why a hole in a pad lacks its ring, and the number of the pad's flash.

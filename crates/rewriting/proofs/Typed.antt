@@ -1,18 +1,18 @@
 -- The commands that a drill text spells have numbers in the ranges of their types.
-use Rattle.std.proofs.Common.{◌≡◌, ℕ, ◌-◌, ◌≤◌, Bool, true, false, cond, ◌&&◌, eqb, leb, List, [], ◌∷◌, ◌++◌, length, take, drop, ℤ, Option, Some, None, unwrap_or, Result, Ok, Err, refl, sym, ap, subst, ◌∙◌, arith, append-nil, append_assoc}
-use Rattle.std.specs.Prelude.{codes, take_while, count_by}
+use Rattle.std.proofs.Common.{◌≡◌, ℕ, ◌-◌, ◌≤◌, Bool, true, false, cond, ◌&&◌, eqb, leb, List, [], ◌∷◌, ◌++◌, length, drop, ℤ, Option, Some, None, unwrap_or, Result, Ok, Err, refl, sym, ap, subst, ◌∙◌, arith, append-nil, append_assoc}
+use Rattle.std.specs.Prelude.{codes, option_and_then, take_while, count_by}
 use Rattle.std.specs.List.{list_all, list_any, prefix_len, AllByRecursion}
-use Rattle.std.specs.Option.{option_or, option_to_list}
-use Rattle.std.specs.Str.{bytes_eq}
+use Rattle.std.specs.Option.{option_map, option_or, option_to_list}
 use Rattle.std.proofs.lemmas.Bool.{leb-true}
 use Rattle.grid_units.specs.Lists.{last_named}
 use Rattle.grid_units.specs.declared.fault.Reason.{Reason}
-use Rattle.grid_units.specs.declared.fault.Reason.TheVariants.{OldFormat, Incremental, Routed, Repeat, BadLine, BadNumber}
+use Rattle.grid_units.specs.declared.fault.Reason.TheVariants.{OldFormat, BadLine, BadNumber}
 use Rattle.grid_units.specs.declared.lengths.Unit.{Unit as Units}
 use Rattle.grid_units.specs.declared.lengths.Unit.TheVariants.{Inch, Millimetre}
 use Rattle.grid_units.specs.declared.zero_filling.Zeros.{Zeros}
 use Rattle.grid_units.specs.declared.zero_filling.Zeros.TheVariants.{Leading, Trailing}
 use Rattle.grid_units.specs.Results.{◌>>=◌, both}
+use Rattle.grid_units.specs.Rows.{RowOf, first_fit_or, behind, just}
 use Rattle.grid_units.specs.Numbers.{is_digit, is_number, dec_of, zeros_of}
 use Rattle.grid_units.proofs.Binds.{bind_ok, both_ok}
 use Rattle.drill_lines.specs.declared.command.Coordinates.{Coordinates}
@@ -22,12 +22,13 @@ use Rattle.drill_lines.specs.declared.command.Settings.{Settings}
 use Rattle.drill_lines.specs.declared.command.DrillCommand.{DrillCommand}
 use Rattle.drill_lines.specs.declared.command.DrillCommand.TheVariants.{Comment, Start, UnitLine, Tool, HeaderEnd, UnitCode, Pick, Hit, Slot, Finish}
 use Rattle.drill_lines.specs.Formats.{Digits, AreSizes}
-use Rattle.drill_lines.specs.Lines.{trimmed, begins}
+use Rattle.drill_lines.specs.Lines.{trimmed}
 use Rattle.drill_lines.specs.Header.{is_zero, is_size, sizes, pattern_from, pattern, unit_format, unit_line, is_size_digit, sizes_named, file_format}
 use Rattle.drill_lines.specs.Tools.{is_point, is_diameter, is_letter, is_skipped, are_fields, number_from, diameter_of, diameter_run, tool_fields, tool_line, pick_fields, pick_line}
 use Rattle.drill_lines.specs.Drilling.{default_format, format_in, zeros_in, coordinate_of, coordinate, Runs, runs_of, names_one, coordinates, slot_line, drill_from, drill_line}
-use Rattle.drill_lines.specs.Meaning.{one, begins_comment, begins_point, spells_nothing, is_old, is_incremental, ends_header, is_routed, repeats, line_before, common_line, header_line, body_word, body_line, line_in, meaning}
+use Rattle.drill_lines.specs.Meaning.{one, lines_before, common_lines, common_rows, header_ends, header_rows, body_beginnings, body_rows, begins_comment, line_in, meaning}
 use Rattle.drill_lines.specs.Writing.{IsDec, AreDecs, IsPoint, IsTyped}
+use Rattle.drill_lines.proofs.Rows.{RowHas, first_has, just_has, beginning_has, behind_has}
 use Rattle.grid_units.proofs.BoolLemmas.{both_true}
 use Rattle.drill_text.specs.Lookback.{header, format_named, settings_after}
 use Rattle.drill_text.specs.Lookback as lookback
@@ -104,12 +105,12 @@ format_typed unit zeros [] = tt
 format_typed unit zeros (b ∷ bs) = one_cond (eqb b 44 && list_all is_number bs) (pattern bs >>= λ f. Ok (UnitLine unit zeros (Some f))) (Err BadLine) (one_bind (pattern bs) (λ f. Ok (UnitLine unit zeros (Some f))) (λ f e. pattern_format bs f e)) tt
 
 unit_typed : (unit : Units) (line : List ℕ) → Typed (unit_line unit line)
-unfolding unit_line
+unfolding unit_line Typed
 unit_typed unit line =
-    one_cond (begins (codes ",LZ") line) (unit_format unit (Some Leading) (drop 3 line)) (cond (begins (codes ",TZ") line) (unit_format unit (Some Trailing) (drop 3 line)) (unit_format unit None line))
-    (format_typed unit (Some Leading) (drop 3 line))
-    (one_cond (begins (codes ",TZ") line) (unit_format unit (Some Trailing) (drop 3 line)) (unit_format unit None line)
-    (format_typed unit (Some Trailing) (drop 3 line)) (format_typed unit None line))
+    let leading : List ℕ → Result DrillCommand Reason = unit_format unit (Some Leading) in
+    let trailing : List ℕ → Result DrillCommand Reason = unit_format unit (Some Trailing) in
+    first_has Typed BadLine (option_map leading (behind (codes ",LZ") line) ∷ option_map trailing (behind (codes ",TZ") line) ∷ Some (unit_format unit None line) ∷ []) tt
+    (behind_has Typed (codes ",LZ") leading line (format_typed unit (Some Leading)), (behind_has Typed (codes ",TZ") trailing line (format_typed unit (Some Trailing)), (format_typed unit None line, tt)))
 
 diameter_small : (run : List ℕ) (v : ℤ) → diameter_of run ≡ Ok v → IsDec v
 unfolding diameter_of
@@ -195,10 +196,10 @@ slot_typed s from line h = one_cond (names_one (runs_of line).0 && eqb (length (
 drilled_typed : (s : Settings) (from : Runs) (rest : List ℕ) → HasFormat s → Typed (drill_from s from rest)
 unfolding drill_from Typed
 drilled_typed s from rest h =
-    let slot : Result DrillCommand Reason = cond (bytes_eq (take 3 rest) (codes "G85")) (slot_line s from (drop 3 rest)) (Err BadLine) in
-    one_cond (eqb (length rest) 0) (coordinates s from >>= λ p. Ok (Hit p)) slot
+    let rows : List (RowOf DrillCommand) = option_map (slot_line s from) (behind (codes "G85") rest) ∷ [] in
+    one_cond (eqb (length rest) 0) (coordinates s from >>= λ p. Ok (Hit p)) (first_fit_or BadLine rows)
     (one_bind (coordinates s from) (λ p. Ok (Hit p)) (λ p e. point_typed s from p h e))
-    (one_cond (bytes_eq (take 3 rest) (codes "G85")) (slot_line s from (drop 3 rest)) (Err BadLine) (slot_typed s from (drop 3 rest) h) tt)
+    (first_has Typed BadLine rows tt (behind_has Typed (codes "G85") (slot_line s from) rest (λ line. slot_typed s from line h), tt))
 
 drill_typed : (s : Settings) (line : List ℕ) → HasFormat s → Typed (drill_line s line)
 unfolding drill_line
@@ -206,59 +207,38 @@ drill_typed s line h = drilled_typed s (runs_of line).0 (runs_of line).1 h
 
 -- ---- all lines
 
-before_typed : (line : List ℕ) → AllTyped (line_before line)
-unfolding line_before AllTyped
-before_typed line = all_cond (bytes_eq line (codes "%")) (Ok None) (cond (bytes_eq line (codes "M48")) (Ok (Some Start)) (Err OldFormat)) tt (all_cond (bytes_eq line (codes "M48")) (Ok (Some Start)) (Err OldFormat) tt tt)
+read_typed : (word : List ℕ) (read : List ℕ → Result DrillCommand Reason) (line : List ℕ) → ((rest : List ℕ) → Typed (read rest)) → RowHas AllTyped (option_map (λ rest. one (read rest)) (behind word line))
+read_typed word read line h = behind_has AllTyped word (λ rest. one (read rest)) line (λ rest. all_one (read rest) (h rest))
 
-common_chain : (e f g h i : Bool) → AllTyped (cond e (Ok (Some (UnitCode Millimetre))) (cond f (Ok (Some (UnitCode Inch))) (cond g (Ok None) (cond h (Err OldFormat) (cond i (Err Incremental) (Err BadLine))))))
-unfolding AllTyped
-common_chain true f g h i = tt
-common_chain false true g h i = tt
-common_chain false false true h i = tt
-common_chain false false false true i = tt
-common_chain false false false false true = tt
-common_chain false false false false false = tt
+common_typed : (line : List ℕ) → AllByRecursion (RowHas AllTyped) (common_rows line)
+unfolding AllTyped common_lines
+common_typed line =
+    (just_has AllTyped common_lines line (tt, (tt, (tt, (tt, (tt, (tt, (tt, (tt, (tt, (tt, tt)))))))))), (beginning_has AllTyped ((codes "G93", Err OldFormat) ∷ []) line (tt, tt), tt))
 
-common_typed : (line : List ℕ) → AllTyped (common_line line)
-unfolding common_line
-common_typed line = common_chain (bytes_eq line (codes "M71")) (bytes_eq line (codes "M72")) (spells_nothing line) (is_old line) (is_incremental line)
-
-header_chain : (a b c d : Bool) (inch metric tool : Result DrillCommand Reason) (rest : Result (Option DrillCommand) Reason) → Typed inch → Typed metric → Typed tool → AllTyped rest
-    → AllTyped (cond a (Ok (Some HeaderEnd)) (cond b (one inch) (cond c (one metric) (cond d (one tool) rest))))
-unfolding AllTyped
-header_chain true b c d inch metric tool rest x y z w = tt
-header_chain false true c d inch metric tool rest x y z w = all_one inch x
-header_chain false false true d inch metric tool rest x y z w = all_one metric y
-header_chain false false false true inch metric tool rest x y z w = all_one tool z
-header_chain false false false false inch metric tool rest x y z w = w
-
-header_typed : (line : List ℕ) → AllTyped (header_line line)
-unfolding header_line
+header_typed : (line : List ℕ) → AllTyped (first_fit_or BadLine (header_rows line))
+unfolding AllTyped header_ends
 header_typed line =
-    header_chain (ends_header line) (begins (codes "INCH") line) (begins (codes "METRIC") line) (begins (codes "T") line) (unit_line Inch (drop 4 line)) (unit_line Millimetre (drop 6 line)) (tool_line (drop 1 line)) (common_line line)
-    (unit_typed Inch (drop 4 line)) (unit_typed Millimetre (drop 6 line)) (tool_typed (drop 1 line)) (common_typed line)
+    first_has AllTyped BadLine (header_rows line) tt
+    (just_has AllTyped header_ends line (tt, (tt, tt)), (read_typed (codes "INCH") (unit_line Inch) line (unit_typed Inch), (read_typed (codes "METRIC") (unit_line Millimetre) line (unit_typed Millimetre), (read_typed (codes "T") tool_line line tool_typed, common_typed line))))
 
-word_chain : (a b c : Bool) (rest : Result (Option DrillCommand) Reason) → AllTyped rest → AllTyped (cond a (Ok (Some Finish)) (cond b (Err Routed) (cond c (Err Repeat) rest)))
-unfolding AllTyped
-word_chain true b c rest w = tt
-word_chain false true c rest w = tt
-word_chain false false true rest w = tt
-word_chain false false false rest w = w
-
-word_typed : (line : List ℕ) → AllTyped (body_word line)
-unfolding body_word
-word_typed line = word_chain (bytes_eq line (codes "M30")) (is_routed line) (repeats line) (common_line line) (common_typed line)
-
-body_typed : (s : Settings) (line : List ℕ) → HasFormat s → AllTyped (body_line s line)
-unfolding body_line
+body_typed : (s : Settings) (line : List ℕ) → HasFormat s → AllTyped (first_fit_or BadLine (body_rows s line))
+unfolding AllTyped body_beginnings
 body_typed s line h =
-    let rest : Result (Option DrillCommand) Reason = cond (begins (codes "T") line) (one (pick_line (drop 1 line))) (body_word line) in
-    all_cond (begins_point line) (one (drill_line s line)) rest (all_one (drill_line s line) (drill_typed s line h))
-    (all_cond (begins (codes "T") line) (one (pick_line (drop 1 line))) (body_word line) (all_one (pick_line (drop 1 line)) (pick_typed (drop 1 line))) (word_typed line))
+    let drilled : AllTyped (one (drill_line s line)) = all_one (drill_line s line) (drill_typed s line h) in
+    first_has AllTyped BadLine (body_rows s line) tt (
+      beginning_has AllTyped ((codes "X", one (drill_line s line)) ∷ (codes "Y", one (drill_line s line)) ∷ []) line (drilled, (drilled, tt)),
+      (
+        read_typed (codes "T") pick_line line pick_typed,
+        (
+          just_has AllTyped ((codes "M30", Ok (Some Finish)) ∷ []) line (tt, tt),
+          (beginning_has AllTyped body_beginnings line (tt, (tt, (tt, (tt, (tt, (tt, (tt, (tt, (tt, (tt, (tt, tt))))))))))), common_typed line),
+        ),
+      ),
+    )
 
 part_typed : (p : Part) (s : Settings) (line : List ℕ) → HasFormat s → AllTyped (line_in p s line)
-unfolding line_in AllTyped
-part_typed part.Before s line h = before_typed line
+unfolding line_in AllTyped lines_before
+part_typed part.Before s line h = first_has AllTyped OldFormat (just lines_before line ∷ []) tt (just_has AllTyped lines_before line (tt, (tt, tt)), tt)
 part_typed part.Header s line h = header_typed line
 part_typed part.Body s line h = body_typed s line h
 part_typed part.After s line h = tt
@@ -298,11 +278,11 @@ named_are (i ∷ colon ∷ d ∷ []) f e = by (is_size_digit i && (eqb colon 58 
 
 comment_are : (text : List ℕ) (f : Digits) → file_format text ≡ Some f → AreFormat f
 unfolding file_format
-comment_are text f e = by (begins (codes "FILE_FORMAT=") text) e
+comment_are text f e = by (behind (codes "FILE_FORMAT=") text) e
   where
-    by : (t : Bool) → cond t (sizes_named (drop 12 text)) None ≡ Some f → AreFormat f
-    by true k = named_are (drop 12 text) f k
-    by false k = absurd cc
+    by : (rest : Option (List ℕ)) → option_and_then sizes_named rest ≡ Some f → AreFormat f
+    by (Some rest) k = named_are rest f k
+    by None k = absurd cc
 
 given_are : (c : DrillCommand) (f : Digits) → IsTyped c → format_named c ≡ Some f → AreFormat f
 given_are (Comment text) f h e = comment_are text f e

@@ -8,14 +8,14 @@ use Rattle.grid_units.specs.Results.{Answers, AnswersAlways, Tells}
 use Rattle.drill_text.specs.Reading as drills
 use Rattle.drill_text.specs.Writing.{ReadsWritten}
 use Rattle.gerber_text.specs.Reading.{Entries, Shows, Reads, entries_behind}
-use Rattle.gerber_text.specs.Standing.{FailsWith}
+use Rattle.gerber_text.specs.Holding.{FailsWith}
 use Rattle.gerber_text.specs.Writing.{canonical_text, without_places}
 use Rattle.gerber_text.proofs.Spelling.{spells_reads}
 use Rattle.gerber_text.proofs.Unique.{one_read}
 use Rattle.gerber_text.proofs.Whole.{shows_reads}
 use Rattle.gerber_text.proofs.Longer.{fails_longer}
 use Rattle.layer_image.specs.Layers.{LayerImage, ReadsLayer}
-use Rattle.layer_image.specs.Standing.{ShowsLayerFault, ReadsSum, sum_view}
+use Rattle.layer_image.specs.Holding.{ShowsLayerFault, ReadsSum, sum_view}
 use Rattle.rewriting.specs.Rewriting.{RewritesLayer}
 use Rattle.rewriting.specs.Inner.Writing.{StopsIn}
 

@@ -6,11 +6,8 @@ ghost use Rattle.gerber_text.specs.Reading.{Entries};
 ghost use Rattle.gerber_text.specs.Writing.{canonical_text, without_places, bytes_of_vector};
 
 use gerber_text::{Command, Placed, write_placed};
-use grid_units::{Fail, Fault, Reason};
+use grid_units::{Fail, Fault, Reason, TEXT_LIMIT};
 use std::alloc::{AllocError, Global};
-
-/// The longest text, in bytes.
-const TEXT_LIMIT: usize = 268_435_456;
 
 /// The canonical lines of some commands, or that they are longer than a text may be. Of lines that are too long none are held.
 #[derive(Drop)]

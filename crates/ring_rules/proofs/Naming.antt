@@ -4,7 +4,7 @@ use Rattle.std.specs.List.{All, filter, enumerate_from}
 use Rattle.std.proofs.lemmas.List.Elements.{All-map, All-filter, All-weaker}
 use Rattle.std.proofs.lemmas.List.Sorted.{IsPermutation-refl}
 use Rattle.grid_units.specs.Points.{GridPoint}
-use Rattle.ring_rules.specs.Findings.{is_oblique, is_wanting, finding_of, layer_findings}
+use Rattle.ring_rules.specs.Findings.{is_oblique, is_ring_finding, finding_of, layer_findings}
 use Rattle.ring_rules.specs.Passing.{NamesPlaces, RingsNamePlaces, GapsNamePlaces}
 use Rattle.ring_rules.specs.declared.finding.Drilled.{Drilled}
 use Rattle.ring_rules.specs.declared.finding.Finding.TheVariants.{Gap}
@@ -23,8 +23,8 @@ rings_name_places {S} covers ring layers holes =
     let placed : All (IsPlaced holes) (enumerate_from 0 holes) = placed_right holes (enumerate_from 0 holes) (IsPermutation-refl (enumerate_from 0 holes)) in
     all_flat_map (NamesPlaces (length layers) (length holes)) (λ (layer : ℕ × List S). layer_findings covers ring holes layer.0 layer.1) (enumerate_from 0 layers)
     (All-weaker (λ (layer : ℕ × List S). (layer.0 < length layers) × ((d : List S) → layer.1 ≡ get_or layers layer.0 d)) (λ (layer : ℕ × List S). All (NamesPlaces (length layers) (length holes)) (layer_findings covers ring holes layer.0 layer.1))
-    (λ layer here. All-map (NamesPlaces (length layers) (length holes)) (finding_of layer.0) (filter (λ (hole : ℕ × Drilled). is_wanting covers ring layer.0 layer.1 hole.1) (enumerate_from 0 holes))
-    (λ k d h. finding_names (length layers) (length holes) layer.0 (get_or (filter (λ (hole : ℕ × Drilled). is_wanting covers ring layer.0 layer.1 hole.1) (enumerate_from 0 holes)) k d) here.0 (All-filter (λ (hole : ℕ × Drilled). is_wanting covers ring layer.0 layer.1 hole.1) (IsPlaced holes) (enumerate_from 0 holes) placed k d h).0))
+    (λ layer here. All-map (NamesPlaces (length layers) (length holes)) (finding_of layer.0) (filter (λ (hole : ℕ × Drilled). is_ring_finding covers ring layer.0 layer.1 hole.1) (enumerate_from 0 holes))
+    (λ k d h. finding_names (length layers) (length holes) layer.0 (get_or (filter (λ (hole : ℕ × Drilled). is_ring_finding covers ring layer.0 layer.1 hole.1) (enumerate_from 0 holes)) k d) here.0 (All-filter (λ (hole : ℕ × Drilled). is_ring_finding covers ring layer.0 layer.1 hole.1) (IsPlaced holes) (enumerate_from 0 holes) placed k d h).0))
     (enumerate_from 0 layers) (placed_right layers (enumerate_from 0 layers) (IsPermutation-refl (enumerate_from 0 layers))))
 
 pub gaps_name_places : GapsNamePlaces

@@ -11,9 +11,7 @@ use mir.Syntax.{w64}
 use mir.Val.{to_z, of_z}
 use Rattle.ring_rules.specs.Cores.{positive_part, range_distance, square_of_cores, are_clear}
 use Rattle.ring_rules.proofs.CoreLemmas.{positive_part_is}
-
-squares-le : (a b : ℕ) → a ≤ b → a * a ≤ b * b
-squares-le a b h = mul-le a a b b h h
+use Rattle.pad_shapes.proofs.Zoning.{squares-le}
 
 below_square : (a b n : ℕ) → square a + square b < square n → a < n
 below_square a b n h = elim (cases_lt a n) [

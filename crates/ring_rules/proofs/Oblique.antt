@@ -2,7 +2,7 @@
 use Rattle.std.proofs.Common.{◌≡◌, ℕ, ◌<◌, zero, suc, Bool, true, false, cond, List, [], ◌∷◌, length, get_or, refl, sym, ap, subst, ◌∙◌, arith}
 use Rattle.std.specs.List.{filter, enumerate_from, Contains}
 use Rattle.grid_units.specs.Points.{GridPoint}
-use Rattle.ring_rules.specs.Findings.{is_wanting, finding_of, layer_findings}
+use Rattle.ring_rules.specs.Findings.{is_ring_finding, finding_of, layer_findings}
 use Rattle.ring_rules.specs.Passing.{FindsOblique}
 use Rattle.ring_rules.specs.declared.finding.Drilled.{Drilled}
 use Rattle.ring_rules.specs.declared.finding.Finding.{Finding}
@@ -30,13 +30,13 @@ pub oblique_found : {S : Type 0} (covers : S → GridPoint → ℕ → Bool) →
 oblique_found {S} covers ring layers holes l h d in_layers in_holes plated through oblique =
     let pads : List S = get_or layers l [] in
     let hole : ℕ × Drilled = (h, get_or holes h d) in
-    let wants : is_wanting covers ring l (get_or layers l []) (get_or holes h d) ≡ true = rw (plated, through, oblique) refl in
+    let wants : is_ring_finding covers ring l (get_or layers l []) (get_or holes h d) ≡ true = rw (plated, through, oblique) refl in
     let placed : Contains (enumerate_from 0 holes) (h, get_or holes h d) = enumerated_at holes h d in_holes in
-    let kept : Contains (filter (λ (hole : ℕ × Drilled). is_wanting covers ring l (get_or layers l []) hole.1) (enumerate_from 0 holes)) (h, get_or holes h d) =
-    filter_at (λ (hole : ℕ × Drilled). is_wanting covers ring l (get_or layers l []) hole.1) (enumerate_from 0 holes) (h, get_or holes h d) placed.0 placed.1 placed.2 wants in
+    let kept : Contains (filter (λ (hole : ℕ × Drilled). is_ring_finding covers ring l (get_or layers l []) hole.1) (enumerate_from 0 holes)) (h, get_or holes h d) =
+    filter_at (λ (hole : ℕ × Drilled). is_ring_finding covers ring l (get_or layers l []) hole.1) (enumerate_from 0 holes) (h, get_or holes h d) placed.0 placed.1 placed.2 wants in
     let kind : finding_of l (h, get_or holes h d) ≡ Oblique l h = rw oblique refl in
     let found : Contains (layer_findings covers ring holes l (get_or layers l [])) (Oblique l h) =
     subst (λ (f : Finding). Contains (layer_findings covers ring holes l (get_or layers l [])) f) kind
-    (map_among (finding_of l) (filter (λ (hole : ℕ × Drilled). is_wanting covers ring l (get_or layers l []) hole.1) (enumerate_from 0 holes)) (h, get_or holes h d) kept) in
+    (map_among (finding_of l) (filter (λ (hole : ℕ × Drilled). is_ring_finding covers ring l (get_or layers l []) hole.1) (enumerate_from 0 holes)) (h, get_or holes h d) kept) in
     let at : Contains (enumerate_from 0 layers) (l, get_or layers l []) = enumerated_at layers l [] in_layers in
     flat_at (λ (layer : ℕ × List S). layer_findings covers ring holes layer.0 layer.1) (enumerate_from 0 layers) (l, get_or layers l []) (Oblique l h) at.0 at.1 at.2 found

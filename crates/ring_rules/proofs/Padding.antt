@@ -5,21 +5,21 @@ use Rattle.std.specs.List.{list_any}
 use Rattle.std.proofs.lemmas.List.{get_or_default, get_or-map, length-map, same_lists}
 use Rattle.grid_units.specs.Points.{GridPoint}
 use Rattle.grid_units.specs.Spans.{is_in_span}
-use Rattle.ring_rules.specs.Findings.{is_wanting}
+use Rattle.ring_rules.specs.Findings.{is_ring_finding}
 use Rattle.ring_rules.specs.Places.{nowhere}
 use Rattle.ring_rules.specs.Inner.Marks.{is_marked, gives_ring}
 use Rattle.ring_rules.specs.declared.finding.Drilled.{Drilled}
 use Rattle.ring_rules.proofs.Giving.{given_by_none}
 
 -- the marks that want a ring, less those of the holes that a pad gives their ring, are those of the holes that lack it
-pub wanting_marks : {S : Type 0} (covers : S → GridPoint → ℕ → Bool) (ring layer : ℕ) (pads : List S) (holes : List Drilled) (first left : List Bool) → first ≡ map (λ d. d.plated && is_in_span layer d.span) holes → length left ≡ length holes
+pub lacking_marks : {S : Type 0} (covers : S → GridPoint → ℕ → Bool) (ring layer : ℕ) (pads : List S) (holes : List Drilled) (first left : List Bool) → first ≡ map (λ d. d.plated && is_in_span layer d.span) holes → length left ≡ length holes
     → ((k : ℕ) → k < length holes → is_marked left k ≡ (is_marked first k && not (list_any (gives_ring covers ring (get_or holes k nowhere).hole) pads)))
-    → left ≡ map (is_wanting covers ring layer pads) holes
-wanting_marks {S} covers ring layer pads holes first left is size marked =
-    same_lists left (map (is_wanting covers ring layer pads) holes) (size ∙ sym (length-map holes (is_wanting covers ring layer pads))) (λ k d h.
+    → left ≡ map (is_ring_finding covers ring layer pads) holes
+lacking_marks {S} covers ring layer pads holes first left is size marked =
+    same_lists left (map (is_ring_finding covers ring layer pads) holes) (size ∙ sym (length-map holes (is_ring_finding covers ring layer pads))) (λ k d h.
     let inside : k < length holes = omega (arith, h, size) in
     get_or_default left k d false h
     ∙ (marked k inside
     ∙ (ap (λ (m : Bool). m && not (list_any (gives_ring covers ring (get_or holes k nowhere).hole) pads)) (ap (λ (ms : List Bool). get_or ms k false) is ∙ get_or-map (λ (e : Drilled). e.plated && is_in_span layer e.span) holes k nowhere false inside)
     ∙ (ap (λ (b : Bool). ((get_or holes k nowhere).plated && is_in_span layer (get_or holes k nowhere).span) && b) (given_by_none covers ring (get_or holes k nowhere).hole pads)
-    ∙ sym (get_or-map (is_wanting covers ring layer pads) holes k nowhere d inside)))))
+    ∙ sym (get_or-map (is_ring_finding covers ring layer pads) holes k nowhere d inside)))))

@@ -9,22 +9,22 @@ use Rattle.grid_units.specs.Points.{GridPoint}
 use Rattle.grid_units.specs.Holes.{GridHole, AreClear}
 use Rattle.pad_shapes.specs.Shapes.{IsAlongAxis, HoldsWhatItCovers, HoldsSlots}
 use Rattle.ring_rules.specs.Cores.{are_clear}
-use Rattle.ring_rules.specs.Findings.{is_oblique, covers_hole, lacks_ring, is_wanting, ring_findings, layer_findings, hole_findings}
+use Rattle.ring_rules.specs.Findings.{is_oblique, covers_hole, lacks_ring, is_ring_finding, ring_findings, layer_findings, hole_findings}
 use Rattle.grid_units.specs.Spans.{is_in_span}
-use Rattle.ring_rules.specs.Passing.{HoldsWhenNoneWant, HoldsSlotsWhenNoneWant, StraightWhenNoneWant, ApartWhenNoneClash}
+use Rattle.ring_rules.specs.Passing.{RingsHoldWithoutFindings, SlotsHoldWithoutFindings, StraightWithoutFindings, ApartWhenNoneClash}
 use Rattle.ring_rules.specs.declared.finding.Drilled.{Drilled}
 use Rattle.ring_rules.proofs.CoreLemmas.{clear_from_test, clear_holes_are_apart}
 use Rattle.grid_units.proofs.ListLemmas.{no_map, none_at, fails_at, passing}
 use Rattle.grid_units.proofs.BoolLemmas.{not_false, neither, then_not}
 
 -- a test of the elements with their places, at one of them
-fails_placed : {X : Type 0} (p : ℕ × X → Bool) (xs : List X) → filter p (enumerate_from 0 xs) ≡ [] → (k : ℕ) (d : X) → k < length xs → p (k, get_or xs k d) ≡ false
+pub fails_placed : {X : Type 0} (p : ℕ × X → Bool) (xs : List X) → filter p (enumerate_from 0 xs) ≡ [] → (k : ℕ) (d : X) → k < length xs → p (k, get_or xs k d) ≡ false
 fails_placed p xs e k d h =
     let inside : k < length (enumerate_from 0 xs) = omega (arith, length-enumerate_from 0 xs) in
     let z : 0 + k ≡ k = omega arith in
     sym (ap p (get_or-enumerate_from 0 xs k (k, d) h ∙ ap (λ n. (n, get_or xs k d)) z)) ∙ fails_at p (enumerate_from 0 xs) e k (k, d) inside
 
-none_placed : {X Y : Type 0} (f : ℕ × X → List Y) (xs : List X) → flat_map f (enumerate_from 0 xs) ≡ [] → (k : ℕ) (d : X) → k < length xs → f (k, get_or xs k d) ≡ []
+pub none_placed : {X Y : Type 0} (f : ℕ × X → List Y) (xs : List X) → flat_map f (enumerate_from 0 xs) ≡ [] → (k : ℕ) (d : X) → k < length xs → f (k, get_or xs k d) ≡ []
 none_placed f xs e k d h =
     let inside : k < length (enumerate_from 0 xs) = omega (arith, length-enumerate_from 0 xs) in
     let z : 0 + k ≡ k = omega arith in
@@ -70,25 +70,25 @@ both_so true true s t = refl
 both_so true false s t = absurd cc
 both_so false b s t = absurd cc
 
--- a plated hole that goes through the layer and is not wanting is not oblique, and is covered
+-- a plated hole that goes through the layer and is not lacking is not oblique, and is covered
 module _ {S : Type 0} (covers : S → GridPoint → ℕ → Bool) (ring : ℕ) (layers : List (List S)) (holes : List Drilled) where
   not_lacking : (l : ℕ) (d : Drilled) → ring_findings covers ring layers holes ≡ [] → l < length layers → Contains holes d → d.plated ≡ true → is_in_span l d.span ≡ true
       → (is_oblique d.hole ≡ false) × (not (list_any (covers_hole covers ring d.hole) (get_or layers l [])) ≡ false)
   not_lacking l d none in_layers in_holes plated through =
       let at_layer : layer_findings covers ring holes l (get_or layers l []) ≡ [] =
       none_placed (λ layer. layer_findings covers ring holes layer.0 layer.1) layers none l [] in_layers in
-      let tests : filter (λ hole. is_wanting covers ring l (get_or layers l []) hole.1) (enumerate_from 0 holes) ≡ [] = no_map _ _ at_layer in
-      let fails : is_wanting covers ring l (get_or layers l []) (get_or holes in_holes.0 d) ≡ false =
-      fails_placed (λ hole. is_wanting covers ring l (get_or layers l []) hole.1) holes tests in_holes.0 d in_holes.1 in
-      let here : is_wanting covers ring l (get_or layers l []) d ≡ false = ap (is_wanting covers ring l (get_or layers l [])) (sym in_holes.2) ∙ fails in
+      let tests : filter (λ hole. is_ring_finding covers ring l (get_or layers l []) hole.1) (enumerate_from 0 holes) ≡ [] = no_map _ _ at_layer in
+      let fails : is_ring_finding covers ring l (get_or layers l []) (get_or holes in_holes.0 d) ≡ false =
+      fails_placed (λ hole. is_ring_finding covers ring l (get_or layers l []) hole.1) holes tests in_holes.0 d in_holes.1 in
+      let here : is_ring_finding covers ring l (get_or layers l []) d ≡ false = ap (is_ring_finding covers ring l (get_or layers l [])) (sym in_holes.2) ∙ fails in
       neither (is_oblique d.hole) (not (list_any (covers_hole covers ring d.hole) (get_or layers l [])))
       (then_not (d.plated && is_in_span l d.span) (lacks_ring covers ring (get_or layers l []) d.hole) (both_so d.plated (is_in_span l d.span) plated through) here)
 
-pub straight : {S : Type 0} (covers : S → GridPoint → ℕ → Bool) → StraightWhenNoneWant covers
+pub straight : {S : Type 0} (covers : S → GridPoint → ℕ → Bool) → StraightWithoutFindings covers
 straight covers ring layers holes none l d in_layers in_holes plated through =
     not_oblique_along d.hole (not_lacking covers ring layers holes l d none in_layers in_holes plated through).0
 
-pub slots_held : {S : Type 0} (points : S → GridPoint → Type 0) (covers : S → GridPoint → ℕ → Bool) → HoldsSlots points covers → HoldsSlotsWhenNoneWant points covers
+pub slots_held : {S : Type 0} (points : S → GridPoint → Type 0) (covers : S → GridPoint → ℕ → Bool) → HoldsSlots points covers → SlotsHoldWithoutFindings points covers
 slots_held points covers holds ring layers holes none l d in_layers in_holes plated through along =
     let t = not_lacking covers ring layers holes l d none in_layers in_holes plated through in
     let found = passing (covers_hole covers ring d.hole) (get_or layers l []) (not_false _ t.1) in
@@ -98,7 +98,7 @@ first_so : (a b : Bool) → (a && b) ≡ true → a ≡ true
 first_so true b e = refl
 first_so false b e = absurd cc
 
-pub held : {S : Type 0} (points : S → GridPoint → Type 0) (covers : S → GridPoint → ℕ → Bool) → HoldsWhatItCovers points covers → HoldsWhenNoneWant points covers
+pub held : {S : Type 0} (points : S → GridPoint → Type 0) (covers : S → GridPoint → ℕ → Bool) → HoldsWhatItCovers points covers → RingsHoldWithoutFindings points covers
 held points covers holds ring layers holes none l d in_layers in_holes plated through round =
     let t = not_lacking covers ring layers holes l d none in_layers in_holes plated through in
     let found = passing (covers_hole covers ring d.hole) (get_or layers l []) (not_false _ t.1) in

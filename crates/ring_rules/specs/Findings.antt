@@ -24,8 +24,8 @@ abbrev pub lacks_ring : {S : Type 0} → (S → GridPoint → ℕ → Bool) → 
 lacks_ring covers ring pads h = is_oblique h || not (list_any (covers_hole covers ring h) pads)
 
 -- a plated hole that goes through the layer and lacks its ring among the pads (docs/DEFINITIONS.md, Findings)
-abbrev pub is_wanting : {S : Type 0} → (S → GridPoint → ℕ → Bool) → ℕ → ℕ → List S → Drilled → Bool
-is_wanting covers ring layer pads d = (d.plated && is_in_span layer d.span) && lacks_ring covers ring pads d.hole
+abbrev pub is_ring_finding : {S : Type 0} → (S → GridPoint → ℕ → Bool) → ℕ → ℕ → List S → Drilled → Bool
+is_ring_finding covers ring layer pads d = (d.plated && is_in_span layer d.span) && lacks_ring covers ring pads d.hole
 
 -- what is found on a layer at a hole that lacks its ring there (docs/DEFINITIONS.md, Findings)
 abbrev pub finding_of : ℕ → ℕ × Drilled → Finding
@@ -34,7 +34,7 @@ finding_of layer hole = if is_oblique hole.1.hole then Oblique layer hole.0 else
 -- the findings on one layer, by hole (docs/DEFINITIONS.md, Findings)
 abbrev pub layer_findings : {S : Type 0} → (S → GridPoint → ℕ → Bool) → ℕ → List Drilled → ℕ → List S → List Finding
 layer_findings covers ring holes layer pads =
-    map (finding_of layer) (filter (λ hole. is_wanting covers ring layer pads hole.1) (enumerate_from 0 holes))
+    map (finding_of layer) (filter (λ hole. is_ring_finding covers ring layer pads hole.1) (enumerate_from 0 holes))
 
 -- the findings on all layers, by layer and then by hole (docs/DEFINITIONS.md, Findings)
 abbrev pub ring_findings : {S : Type 0} → (S → GridPoint → ℕ → Bool) → ℕ → List (List S) → List Drilled → List Finding

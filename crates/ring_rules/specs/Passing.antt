@@ -42,19 +42,19 @@ abbrev pub AreAllApart : ℕ → List Drilled → Type 0
 AreAllApart gap holes =
     (i j : ℕ) (d : Drilled) → i < j → j < length holes → AreClear gap (get_or holes i d).hole (get_or holes j d).hole × AreApart gap (get_or holes i d).hole (get_or holes j d).hole
 
--- where no ring is found wanting, each plated round hole is held (docs/DEFINITIONS.md, Held and apart)
-abbrev pub HoldsWhenNoneWant : {S : Type 0} → (S → GridPoint → Type 0) → (S → GridPoint → ℕ → Bool) → Type 0
-HoldsWhenNoneWant {S} points covers =
+-- where no hole lacks its ring, each plated round hole is held (docs/DEFINITIONS.md, Held and apart)
+abbrev pub RingsHoldWithoutFindings : {S : Type 0} → (S → GridPoint → Type 0) → (S → GridPoint → ℕ → Bool) → Type 0
+RingsHoldWithoutFindings {S} points covers =
     (ring : ℕ) (layers : List (List S)) (holes : List Drilled) → ring_findings covers ring layers holes ≡ [] → AreHeld points ring layers holes
 
--- where no ring is found wanting, each plated slot along an axis is held (docs/DEFINITIONS.md, Held and apart)
-abbrev pub HoldsSlotsWhenNoneWant : {S : Type 0} → (S → GridPoint → Type 0) → (S → GridPoint → ℕ → Bool) → Type 0
-HoldsSlotsWhenNoneWant {S} points covers =
+-- where no hole lacks its ring, each plated slot along an axis is held (docs/DEFINITIONS.md, Held and apart)
+abbrev pub SlotsHoldWithoutFindings : {S : Type 0} → (S → GridPoint → Type 0) → (S → GridPoint → ℕ → Bool) → Type 0
+SlotsHoldWithoutFindings {S} points covers =
     (ring : ℕ) (layers : List (List S)) (holes : List Drilled) → ring_findings covers ring layers holes ≡ [] → AreSlotsHeld points ring layers holes
 
--- where no ring is found wanting, no plated slot is oblique (docs/DEFINITIONS.md, Held and apart)
-abbrev pub StraightWhenNoneWant : {S : Type 0} → (S → GridPoint → ℕ → Bool) → Type 0
-StraightWhenNoneWant {S} covers =
+-- where no hole lacks its ring, no plated slot is oblique (docs/DEFINITIONS.md, Held and apart)
+abbrev pub StraightWithoutFindings : {S : Type 0} → (S → GridPoint → ℕ → Bool) → Type 0
+StraightWithoutFindings {S} covers =
     (ring : ℕ) (layers : List (List S)) (holes : List Drilled) → ring_findings covers ring layers holes ≡ [] → AreAlongAxes layers holes
 
 -- an oblique plated slot is a finding of its own kind on each layer of its span (docs/DEFINITIONS.md, Findings)
@@ -64,7 +64,7 @@ FindsOblique {S} covers =
     → (get_or holes h d).plated ≡ true → is_in_span l (get_or holes h d).span ≡ true → is_oblique (get_or holes h d).hole ≡ true
     → Contains (ring_findings covers ring layers holes) (Oblique l h)
 
--- where no gap is found wanting, the holes at each two places are clear, and apart (docs/DEFINITIONS.md, Held and apart)
+-- where no two holes lack their gap, the holes at each two places are clear, and apart (docs/DEFINITIONS.md, Held and apart)
 abbrev pub ApartWhenNoneClash : Type 0
 ApartWhenNoneClash = (gap : ℕ) (holes : List Drilled) → gap_findings gap holes ≡ [] → AreAllApart gap holes
 

@@ -1,7 +1,7 @@
 //! Laws of what the rules find. A call of one does nothing, and gives its clause.
 
 ghost use Rattle.ring_rules.specs.Cores.{ClearHolesAreApart};
-ghost use Rattle.ring_rules.specs.Passing.{HoldsWhenNoneWant, HoldsSlotsWhenNoneWant, StraightWhenNoneWant, FindsOblique, ApartWhenNoneClash, RingsNamePlaces, GapsNamePlaces};
+ghost use Rattle.ring_rules.specs.Passing.{RingsHoldWithoutFindings, SlotsHoldWithoutFindings, StraightWithoutFindings, FindsOblique, ApartWhenNoneClash, RingsNamePlaces, GapsNamePlaces};
 
 use pad_shapes::PadShape;
 
@@ -10,12 +10,12 @@ pub fn clear_holes_are_apart()
     ensures { ClearHolesAreApart }
 {}
 
-/// Where no ring is found wanting, on each layer of its span one pad holds each plated round hole and each plated
+/// Where no hole lacks its ring, on each layer of its span one pad holds each plated round hole and each plated
 /// slot along an axis with the ring round it, and no plated slot is oblique.
 pub fn rings_hold<S: PadShape>()
-    ensures rounds { HoldsWhenNoneWant S.points S.covers }
-    ensures slots { HoldsSlotsWhenNoneWant S.points S.covers }
-    ensures straight { StraightWhenNoneWant S.covers }
+    ensures rounds { RingsHoldWithoutFindings S.points S.covers }
+    ensures slots { SlotsHoldWithoutFindings S.points S.covers }
+    ensures straight { StraightWithoutFindings S.covers }
 {}
 
 /// An oblique plated slot is a finding of a kind of its own on each layer of its span.
@@ -23,7 +23,7 @@ pub fn oblique_slots_are_found<S: PadShape>()
     ensures { FindsOblique S.covers }
 {}
 
-/// Where no gap is found wanting, each two places in the list of holes have holes that are clear, hence apart.
+/// Where no two holes lack their gap, each two places in the list of holes have holes that are clear, hence apart.
 pub fn gaps_hold()
     ensures { ApartWhenNoneClash }
 {}

@@ -4,7 +4,7 @@ ghost use Rattle.std.specs.Prelude.{◌≡◌, ℕ, ◌+◌, ◌<◌, ◌≤◌,
 ghost use Rattle.std.specs.List.{All, list_any};
 ghost use Rattle.grid_units.specs.Points.{GridPoint};
 ghost use Rattle.grid_units.specs.Spans.{is_in_span};
-ghost use Rattle.ring_rules.specs.Findings.{is_wanting};
+ghost use Rattle.ring_rules.specs.Findings.{is_ring_finding};
 ghost use Rattle.ring_rules.specs.Places.{nowhere};
 ghost use Rattle.ring_rules.specs.Cells.{place_of};
 ghost use Rattle.ring_rules.specs.Inner.Marks.{gives_ring, gives_ring_at, is_marked, TakesBack};
@@ -244,7 +244,7 @@ fn try_pads<S: PadShape>(
 }
 
 /// Whether each hole lacks its ring on a layer of these pads.
-pub(crate) fn wanting<S: PadShape>(
+pub(crate) fn lacking<S: PadShape>(
     alloc: Global,
     layer: usize,
     pads: &[S],
@@ -256,7 +256,7 @@ pub(crate) fn wanting<S: PadShape>(
     requires blocks { All (IsBlock board.now.cells.x board.now.cells.y) board.now.blocks.items }
     requires whole { (p : GridPoint) → IsInSome board.now.cells.x board.now.cells.y board.now.blocks.items p }
     requires least { board.now.least ≤ 15000000000000 }
-    ensures { IfOk result (λ wanting. wanting.items ≡ map (is_wanting S.covers rules.ring layer pads.now) holes.now) }
+    ensures { IfOk result (λ lacking. lacking.items ≡ map (is_ring_finding S.covers rules.ring layer pads.now) holes.now) }
 {
     let mut marks = first_marks(alloc, layer, holes)?;
     let mut opens = vec![in alloc; true; board.blocks.len()]?;

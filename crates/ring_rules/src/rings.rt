@@ -7,10 +7,10 @@ ghost use Rattle.ring_rules.specs.declared.finding.Drilled.{Drilled};
 
 use crate::board::lay_out;
 use crate::finding::{Drilled, Finding, is_oblique};
-use crate::pads::wanting;
+use crate::pads::lacking;
 use crate::shape::drawn;
 use grid_units::Rules;
-use pad_shapes::PadShape;
+use pad_shapes::{PadShape, Zone};
 use std::alloc::{AllocError, Global};
 
 /// What is found at a hole that lacks its ring.
@@ -33,17 +33,25 @@ pub fn layer_findings(
     findings: &mut Vec<Finding>,
     layer: usize,
     holes: &[Drilled],
-    wanting: &[bool],
+    lacking: &[bool],
 ) -> Result<(), AllocError>
-    requires { length wanting.now ≡ length holes.now }
-    ensures { OnOk result ((test : Drilled → Bool) → wanting.now ≡ map test holes.now → findings.new.items ≡ findings.old.items ++ map (finding_of layer) (filter (λ hole. test hole.1) (enumerate_from 0 holes.now))) }
+    requires { length lacking.now ≡ length holes.now }
+    ensures { OnOk result ((test : Drilled → Bool) → lacking.now ≡ map test holes.now → findings.new.items ≡ findings.old.items ++ map (finding_of layer) (filter (λ hole. test hole.1) (enumerate_from 0 holes.now))) }
 {
     for (hole, drilled) in holes.iter().enumerate() {
-        if wanting[hole] {
+        if lacking[hole] {
             findings.push(finding_of(layer, hole, drilled))?;
         }
     }
     Ok(())
+}
+
+/// The zone of the pad at a place, where there is one.
+fn zone_at<S: PadShape>(pads: &[S], place: usize) -> Option<Zone> {
+    match pads.get(place) {
+        Some(pad) => pad.zone(0),
+        None => None,
+    }
 }
 
 /// How wide and how high the zones of the pads are in the middle, of a sample, in pm. Any answer is right: an index of holes is only
@@ -54,12 +62,10 @@ pub fn usual_zone<S: PadShape>(layers: &[&[S]]) -> (u64, u64) {
     let mut count: u64 = 0;
     for pads in layers {
         for draw in 0..(pads.len() as u64).min(256) {
-            if let Some(pad) = pads.get(drawn(draw, pads.len())) {
-                if let Some(zone) = pad.zone(0) {
-                    width = width.saturating_add(zone.left.abs_diff(zone.right));
-                    height = height.saturating_add(zone.bottom.abs_diff(zone.top));
-                    count = count.saturating_add(1);
-                }
+            if let Some(zone) = zone_at(pads, drawn(draw, pads.len())) {
+                width = width.saturating_add(zone.left.abs_diff(zone.right));
+                height = height.saturating_add(zone.bottom.abs_diff(zone.top));
+                count = count.saturating_add(1);
             }
         }
     }
@@ -84,8 +90,8 @@ pub fn ring_findings<S: PadShape>(
     let board = lay_out(alloc, holes, rules, width, height)?;
     let mut findings = Vec::new(alloc);
     for (layer, pads) in layers.iter().enumerate() {
-        let wanting = wanting(alloc, layer, pads, holes, &board, rules)?;
-        layer_findings(&mut findings, layer, holes, &wanting)?;
+        let lacking = lacking(alloc, layer, pads, holes, &board, rules)?;
+        layer_findings(&mut findings, layer, holes, &lacking)?;
     }
     Ok(findings)
 }

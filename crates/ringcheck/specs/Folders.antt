@@ -4,6 +4,7 @@ use Rattle.std.specs.Borrow.{Bor}
 use Rattle.std.specs.List.{list_all, list_any}
 use Rattle.std.specs.Io.KnownBytes.{Appends}
 use Rattle.command_line.specs.declared.commands.TheConstants.{VERSION_LINE}
+use Rattle.manifest.specs.Manifest.{is_control}
 use Rattle.explanations.specs.Words.{FitsScreen, Heads, IsWord, ListsWords}
 use Rattle.proposals.specs.Manifests.{IsManifestOf, reasons_text}
 use Rattle.proposals.specs.Proposing.{name_of, proposals}
@@ -60,10 +61,6 @@ pairs (name ∷ names) [] = []
 pairs (name ∷ names) (one ∷ all) = (name.now, held_as one) ∷ pairs names all
 
 -- ---- a manifest
-
--- a byte that may not stand in a manifest (docs/FORMATS.md, Judging)
-abbrev pub is_control : ℕ → Bool
-is_control b = nat_lt b 32 || (b == 127)
 
 -- a name that may stand in a manifest: it is not empty, and has no control byte (docs/FORMATS.md, Judging)
 abbrev pub can_stand : List ℕ → Bool

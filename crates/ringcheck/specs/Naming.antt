@@ -41,15 +41,15 @@ most_named (Some word) = count_named word >>= λ n. Ok (Some n)
 -- the format that a word names: text where there is none (docs/FORMATS.md, The program)
 unfoldable pub format_named : Option (List ℕ) → Result Format Reason
 format_named None = Ok format.Text
-format_named (Some word) = if bytes_eq word (codes "text") then Ok format.Text else (if bytes_eq word (codes "json") then Ok format.Json else Err BadRole)
+format_named (Some word) = if bytes_eq word (codes "text") then Ok format.Text else if bytes_eq word (codes "json") then Ok format.Json else Err BadRole
 
 -- the format of a report that a word names: text where there is none; it prints no waivers where it is given some (docs/FORMATS.md, The program)
 unfoldable pub report_format_named : Bool → Option (List ℕ) → Result ReportFormat Reason
 report_format_named waives None = Ok told.Text
 report_format_named waives (Some word) =
     if bytes_eq word (codes "text") then Ok told.Text
-    else (if bytes_eq word (codes "json") then Ok told.Json
-    else (if bytes_eq word (codes "waivers") && not waives then Ok told.Waivers else Err BadRole))
+    else if bytes_eq word (codes "json") then Ok told.Json
+    else if bytes_eq word (codes "waivers") && not waives then Ok told.Waivers else Err BadRole
 
 -- the rules of a report, how many findings it tells at most, and its format, or the first refusal in this order; a file of waivers may be given (docs/FORMATS.md, The program)
 unfoldable pub report_named : List ℕ → List ℕ → Option (List ℕ) → Option (List ℕ) → Option (List ℕ) → Result (GridRules × Option ℕ × ReportFormat) Reason

@@ -17,10 +17,11 @@ use Rattle.ringcheck.specs.declared.ending.Ended.TheVariants as ended
 use Rattle.ringcheck.specs.declared.single_files.Task.{Task}
 use Rattle.ringcheck.specs.declared.single_files.Task.TheVariants as task
 use Rattle.ringcheck.specs.Running.{Relation, file_limit, within}
+use Rattle.grid_units.specs.Ascii as ascii
 
 -- the kind that a word names (docs/FORMATS.md, The program)
 abbrev pub kind_named : List ℕ → Option Kind
-kind_named word = if bytes_eq word (codes "layer") then Some kind.Layer else (if bytes_eq word (codes "drill") then Some kind.Drill else None)
+kind_named word = if bytes_eq word (codes "layer") then Some kind.Layer else if bytes_eq word (codes "drill") then Some kind.Drill else None
 
 -- the bytes, read as a file of this kind, have this table or this fault (docs/DEFINITIONS.md, Tables)
 abbrev pub Shows : Kind → List ℕ → Result (List ℕ) Fault → Type 0
@@ -35,7 +36,7 @@ Prints task.Rewrite kind bytes answer = Rewrites kind bytes answer
 -- the line of a file that is refused (docs/FORMATS.md, The program)
 abbrev pub refusal : Fault → List ℕ
 refusal why =
-    codes "refused place=" ++ (decimal why.place ++ (codes " byte=" ++ (decimal why.byte ++ (codes " reason=" ++ (name_of why.reason ++ 10 ∷ [])))))
+    codes "refused place=" ++ (decimal why.place ++ (codes " byte=" ++ (decimal why.byte ++ (codes " reason=" ++ (name_of why.reason ++ ascii.line_feed ∷ [])))))
 
 -- bytes that the loader has within the limit, whose table or text the writer got (docs/DEFINITIONS.md, Runs)
 pub record Printed (what : Task) (kind : Kind) (has : Relation) (name : List ℕ) (before after : Option (List ℕ)) : Type 0 where

@@ -30,7 +30,7 @@ pub use tables::{show_drill, show_layer};
 /// How a run ended: the exit statuses are 0, 1, 2, 3 and 4.
 #[derive(Clone, Copy, Debug, PartialEq, Eq)]
 pub enum Status {
-    /// Nothing was found, or help was asked for.
+    /// Nothing was found, all that was found is waived, or a command that finds nothing is done.
     Pass,
     /// Some ring or gap is lacking.
     Findings,

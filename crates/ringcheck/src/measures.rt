@@ -2,7 +2,7 @@
 
 ghost use Rattle.std.specs.Prelude.{◌≡◌, ◌≢◌, ◌++◌, ℕ, List, map, length, string_bytes};
 ghost use Rattle.std.specs.Io.KnownBytes.{Appends};
-ghost use Rattle.package_check.specs.Standing.{PackageStandsAfter};
+ghost use Rattle.package_check.specs.Holding.{PackageStandsAfter};
 ghost use Rattle.report_json.specs.Packages.{measure_value};
 ghost use Rattle.report_json.specs.Values.{json_text};
 ghost use Rattle.ringcheck.specs.Measuring.{AnsweredMeasure, board_text, lines_of, measure_page};

@@ -4,7 +4,7 @@ ghost use Rattle.std.specs.Prelude.{◌≡◌, ◌≢◌, ℕ, List, IfOk, map, 
 ghost use Rattle.std.specs.Io.KnownBytes.{Appends};
 ghost use Rattle.ringcheck.specs.Endings.{HasCause, status_after};
 ghost use Rattle.ringcheck.specs.Naming as named;
-ghost use Rattle.package_check.specs.Standing.{PackageStandsAfter};
+ghost use Rattle.package_check.specs.Holding.{PackageStandsAfter};
 ghost use Rattle.package_check.specs.Texts.{text_of};
 ghost use Rattle.ringcheck.specs.Measuring.{SaysMeasureOf};
 ghost use Rattle.ringcheck.specs.Running.{SaysOf, sources};

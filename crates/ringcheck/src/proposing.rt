@@ -2,6 +2,7 @@
 
 ghost use Rattle.std.specs.Prelude.{◌≡◌, ◌↔◌, ℕ, List, IfOk, length, map};
 ghost use Rattle.std.specs.List.{list_all, list_any};
+ghost use Rattle.manifest.specs.Manifest.{is_control};
 ghost use Rattle.ringcheck.specs.Endings.{HasCause, status_after};
 ghost use Rattle.ringcheck.specs.Folders as folders;
 ghost use Rattle.ringcheck.specs.Folders.{HasKnown, HasPairs, IsTextOf, SaysManifest, TellsFolder, held_as, pair_of, pairs};
@@ -24,7 +25,7 @@ pub(crate) enum Held {
 
 /// Whether some byte may not stand in a manifest.
 fn has_control(name: &[u8]) -> bool
-    ensures { result ≡ list_any folders.is_control name.now }
+    ensures { result ≡ list_any is_control name.now }
 {
     name.iter().any(|byte| *byte < 0x20 || *byte == 0x7F)
 }

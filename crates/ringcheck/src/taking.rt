@@ -2,7 +2,7 @@
 
 ghost use Rattle.std.specs.Prelude.{◌≡◌, ◌++◌, ◌∷◌, [], ℕ, List, OnOk};
 ghost use Rattle.package_check.specs.Package.{Source};
-ghost use Rattle.package_check.specs.Standing.{PackageStandsAfter, copper_files};
+ghost use Rattle.package_check.specs.Holding.{PackageStandsAfter, copper_files};
 ghost use Rattle.flashed_boards.specs.Flashed.{FlashedStandsAfter, copper_count};
 
 use crate::{Entry, PackageReader};

@@ -11,7 +11,7 @@ use Rattle.drill_text.specs.Reading as drills
 use Rattle.drill_text.specs.Texts.{ReadsHoles}
 use Rattle.layer_image.specs.declared.flash.Flash.{Flash}
 use Rattle.layer_image.specs.Layers.{ReadsLayer}
-use Rattle.layer_image.specs.Standing.{ShowsLayerFault, ReadsFlashes}
+use Rattle.layer_image.specs.Holding.{ShowsLayerFault, ReadsFlashes}
 use Rattle.tables.specs.Tables.{ShowsDrill, ShowsLayer}
 
 -- the fault that a layer shows so far is that of the whole text

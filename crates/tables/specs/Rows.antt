@@ -2,11 +2,12 @@
 use Rattle.std.specs.Prelude.{◌≡◌, ◌+◌, ℕ, false, List, [], ◌∷◌, ◌++◌}
 use Rattle.std.specs.List.{flat_map, AllByRecursion}
 use Rattle.csv.specs.Writing.{default_writer, needs_quotes}
+use Rattle.grid_units.specs.Ascii as ascii
 
 -- the fields of a row with a comma between each two, and LF (docs/FORMATS.md, The report and the tables)
 abbrev pub row : List (List ℕ) → List ℕ
-row [] = 10 ∷ []
-row (field ∷ fields) = field ++ (flat_map (λ next. 44 ∷ next) fields ++ 10 ∷ [])
+row [] = ascii.line_feed ∷ []
+row (field ∷ fields) = field ++ (flat_map (λ next. ascii.comma ∷ next) fields ++ ascii.line_feed ∷ [])
 
 -- the rows of these elements, numbered from n on (docs/FORMATS.md, The report and the tables)
 unfoldable pub rows_from : {A : Type 0} → (ℕ → A → List (List ℕ)) → ℕ → List A → List ℕ

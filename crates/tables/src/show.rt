@@ -3,7 +3,7 @@
 ghost use Rattle.std.specs.Prelude.{◌≡◌, IfOk};
 ghost use Rattle.grid_units.specs.Results.{Answers};
 ghost use Rattle.drill_text.specs.Texts.{ReadsHoles};
-ghost use Rattle.layer_image.specs.Standing.{ReadsFlashes};
+ghost use Rattle.layer_image.specs.Holding.{ReadsFlashes};
 ghost use Rattle.tables.specs.Tables.{ShowsDrill, ShowsLayer, drill_header, drill_table, layer_header, layer_table};
 
 use crate::fields::{with_flash, with_hole};

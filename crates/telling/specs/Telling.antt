@@ -13,6 +13,7 @@ use Rattle.package_check.specs.Boards.{Survey, board_findings}
 use Rattle.package_check.specs.Package.{IsFirstRefused, IsReport, Source}
 use Rattle.package_check.specs.Reports.{Account}
 use Rattle.package_check.specs.Soundness.{IsSound}
+use Rattle.package_check.specs.declared.FileSum.{FileSum}
 use Rattle.package_check.specs.declared.PackageFault.{PackageFault}
 use Rattle.package_check.specs.declared.PackageFault.TheVariants as stop
 use Rattle.measuring.specs.Measures.{IsMeasure}
@@ -93,9 +94,27 @@ AnswersTelling sources asked (Ok told) = IsTellingOf sources asked told
 AnswersTelling sources asked (Err stop.Memory) = ⊤
 AnswersTelling sources asked (Err (stop.File index fault)) = IsFirstRefused sources index fault
 
--- what is told of a package is as its check: the check reports on it, by just as many findings, and a package of which none is told is sound (docs/DEFINITIONS.md, Reports)
+-- what is told of a hole is of the one at a place of the list of all holes: by its file and its number there (docs/DEFINITIONS.md, Reports)
+abbrev pub IsOfHole : List FileSum → ℕ → HoleAt → Type 0
+IsOfHole files hole at = IsPlace files hole (record { drill = at.drill; hole = at.number })
+
+-- what is told is of this finding of a ring: of its layer and of its hole (docs/DEFINITIONS.md, Reports)
+abbrev pub IsOfRing : List FileSum → Finding → RingLack → Type 0
+IsOfRing files (Ring layer hole) told = (told.layer ≡ layer) × IsOfHole files hole told.at
+IsOfRing files (Oblique layer hole) told = (told.layer ≡ layer) × IsOfHole files hole told.at
+IsOfRing files (Gap first second) told = ⊥
+
+-- what is told is of this finding of a gap: of its two holes (docs/DEFINITIONS.md, Reports)
+abbrev pub IsOfGap : List FileSum → Finding → GapLack → Type 0
+IsOfGap files (Ring layer hole) told = ⊥
+IsOfGap files (Oblique layer hole) told = ⊥
+IsOfGap files (Gap first second) told = IsOfHole files first told.first × IsOfHole files second told.second
+
+-- what is told of a package is as its check: the check reports on it; each of its findings is told, in its order, rings and gaps by themselves, and nothing else; so there are just as many; and a package of which none is told is sound (docs/DEFINITIONS.md, Reports)
 pub record IsAsCheck (sources : List Source) (asked : GridRules) (told : Telling) : Type 0 where
   pub reported : (report : Account) × IsReport sources asked report
+  pub rings : (report : Account) → IsReport sources asked report → AllZip (IsOfRing report.files) (filter (λ finding. not (is_gap finding)) report.findings) told.rings.items
+  pub gaps : (report : Account) → IsReport sources asked report → AllZip (IsOfGap report.files) (filter is_gap report.findings) told.gaps.items
   pub count : (report : Account) → IsReport sources asked report → length report.findings ≡ length told.rings.items + length told.gaps.items
   pub sound : told.rings.items ≡ [] → told.gaps.items ≡ [] → IsSound sources asked
 

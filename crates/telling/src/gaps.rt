@@ -3,12 +3,14 @@
 ghost use Rattle.std.specs.Prelude.{◌≡◌, ◌<◌, ◌≤ℤ◌, ◌-ℤ◌, IfOk, OnOk, length, neg_ℤ, pos};
 ghost use Rattle.std.specs.List.{All, AllZip, filter};
 ghost use Rattle.ring_rules.specs.Passing.{NamesPlaces};
+ghost use Rattle.measuring.specs.Rows.{AreFilledFiles};
 ghost use Rattle.telling.specs.Inner.Adding.{Adds};
 ghost use Rattle.telling.specs.Telling.{TellsGap, TellsGapOf, is_gap};
 
 use crate::places::hole_at;
 use grid_units::Rules;
 use margins::gap_between;
+use measuring::FileHoles;
 use package_check::Board;
 use report_text::GapLack;
 use ring_rules::Finding;
@@ -24,13 +26,20 @@ fn lack_of(rules: Rules, gap: i64) -> i64
 }
 
 /// What is told of two holes that lack their gap.
-fn gap_lack(board: &Board, first: usize, second: usize, rules: Rules) -> GapLack
+fn gap_lack(
+    board: &Board,
+    files: &[FileHoles],
+    first: usize,
+    second: usize,
+    rules: Rules,
+) -> GapLack
+    requires files { AreFilledFiles board.now files.now }
     requires first { first < length board.now.holes }
     requires second { second < length board.now.holes }
     ensures { TellsGapOf board.now rules.gap first second result }
 {
-    let first = hole_at(board, first);
-    let second = hole_at(board, second);
+    let first = hole_at(board, files, first);
+    let second = hole_at(board, files, second);
     let gap = gap_between(&first.hole, &second.hole);
     GapLack {
         first,
@@ -43,16 +52,18 @@ fn gap_lack(board: &Board, first: usize, second: usize, rules: Rules) -> GapLack
 /// Tells of a finding, behind the others, if it is one of a gap.
 fn push(
     board: &Board,
+    files: &[FileHoles],
     finding: Finding,
     rules: Rules,
     told: &mut Vec<GapLack>,
 ) -> Result<(), AllocError>
-    requires { NamesPlaces (length board.now.layers) (length board.now.holes) finding }
+    requires files { AreFilledFiles board.now files.now }
+    requires places { NamesPlaces (length board.now.layers) (length board.now.holes) finding }
     ensures { OnOk result (Adds (is_gap finding) (TellsGap board.now rules.gap) finding told.old.items told.new.items) }
 {
     match finding {
         Finding::Gap { first, second } => {
-            told.push(gap_lack(board, first, second, rules))?;
+            told.push(gap_lack(board, files, first, second, rules))?;
             Ok(())
         }
         Finding::Ring { .. } | Finding::Oblique { .. } => Ok(()),
@@ -63,15 +74,17 @@ fn push(
 pub(crate) fn tell_gaps(
     alloc: Global,
     board: &Board,
+    files: &[FileHoles],
     findings: &[Finding],
     rules: Rules,
 ) -> Result<Vec<GapLack>, AllocError>
-    requires { All (NamesPlaces (length board.now.layers) (length board.now.holes)) findings.now }
+    requires files { AreFilledFiles board.now files.now }
+    requires places { All (NamesPlaces (length board.now.layers) (length board.now.holes)) findings.now }
     ensures { IfOk result (λ told. AllZip (TellsGap board.now rules.gap) (filter is_gap findings.now) told.items) }
 {
     let mut told = Vec::new(alloc);
     for finding in findings {
-        push(board, *finding, rules, &mut told)?;
+        push(board, files, *finding, rules, &mut told)?;
     }
     Ok(told)
 }

@@ -4,7 +4,7 @@ ghost use Rattle.telling.specs.Telling.{TellsAsChecks};
 
 use package_check::laws::{one_answer, passing_is_sound};
 
-/// What is told of a package has as many findings as its check, and where it has none the package is sound.
+/// What is told of a package are the findings of its check, each in its order, and where there is none the package is sound.
 pub fn tells_as_checks()
     ensures { TellsAsChecks }
 {

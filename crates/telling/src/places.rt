@@ -1,18 +1,20 @@
 //! Where the holes of a board stand.
 
 ghost use Rattle.std.specs.Prelude.{◌<◌, length};
+ghost use Rattle.measuring.specs.Rows.{AreFilledFiles};
 ghost use Rattle.telling.specs.Telling.{IsHoleAt};
 
-use measuring::place_of;
+use measuring::{FileHoles, place_among};
 use package_check::Board;
 use report_text::HoleAt;
 
 /// A hole of a board, by its place in the list of all holes, with its drill file and its number there.
-pub(crate) fn hole_at(board: &Board, place: usize) -> HoleAt
-    requires { place < length board.now.holes }
+pub(crate) fn hole_at(board: &Board, files: &[FileHoles], place: usize) -> HoleAt
+    requires files { AreFilledFiles board.now files.now }
+    requires place { place < length board.now.holes }
     ensures { IsHoleAt board.now place result }
 {
-    let stands = place_of(board, place);
+    let stands = place_among(files, place);
     HoleAt {
         drill: stands.drill,
         number: stands.hole,

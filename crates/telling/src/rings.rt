@@ -3,8 +3,9 @@
 ghost use Rattle.std.specs.Prelude.{◌≡◌, ◌<◌, ◌++◌, ◌∷◌, [], IfOk, IfSome, OnOk, length, not};
 ghost use Rattle.std.specs.List.{All, AllZip, filter};
 ghost use Rattle.ring_rules.specs.Passing.{NamesPlaces};
+ghost use Rattle.measuring.specs.Rows.{AreFilledFiles};
 ghost use Rattle.causes.specs.Causes.{IsKnown};
-ghost use Rattle.telling.specs.Inner.Adding.{Adds, AreBoardBests, IsKnownAt};
+ghost use Rattle.telling.specs.Inner.Adding.{Adds, AreBoardBests, IsKnownAt, IsPrepared};
 ghost use Rattle.telling.specs.Telling.{TellsRing, TellsRingAt, is_gap, layer_flashes};
 
 use crate::places::hole_at;
@@ -13,9 +14,22 @@ use flashed_boards::FlashedBoard;
 use grid_units::Rules;
 use layer_image::Flash;
 use margins::Best;
+use measuring::FileHoles;
+use pad_shapes::Pad;
 use report_text::RingLack;
 use ring_rules::Finding;
 use std::alloc::{AllocError, Global};
+
+/// What is made once of a board, for all that is told of its rings.
+#[derive(Drop)]
+pub(crate) struct Prepared<'a> {
+    /// The pads of each layer.
+    pub(crate) layers: &'a [&'a [Pad]],
+    /// The best of these for each hole.
+    pub(crate) bests: &'a [Vec<Option<Best>>],
+    /// The drill files that have holes.
+    pub(crate) files: &'a [FileHoles],
+}
 
 /// What is known of one layer.
 #[derive(Drop)]
@@ -39,20 +53,19 @@ fn layer_flashes(flashed: &FlashedBoard, layer: usize) -> &[Flash]
     }
 }
 
-/// The causes of a layer, by the best pads of the layers of the board.
+/// The causes of a layer, by its pads and the best of them for each hole.
 fn causes_on(
     alloc: Global,
     flashed: &FlashedBoard,
-    bests: &[Vec<Option<Best>>],
+    prepared: &Prepared,
     layer: usize,
 ) -> Result<LayerCauses, AllocError>
-    requires { AreBoardBests flashed.now.board bests.now }
+    requires { IsPrepared flashed.now.board prepared.now }
     ensures { IfOk result (IsKnown (layer_flashes flashed.now layer) flashed.now.board.holes) }
 {
     let flashes = layer_flashes(flashed, layer);
     let holes = flashed.board.holes();
-    let layers = flashed.board.layers(alloc)?;
-    match (layers.get(layer), bests.get(layer)) {
+    match (prepared.layers.get(layer), prepared.bests.get(layer)) {
         (Some(pads), Some(bests)) => LayerCauses::with_bests(alloc, flashes, holes, pads, bests),
         _ => LayerCauses::new(alloc, flashes, holes),
     }
@@ -62,14 +75,14 @@ fn causes_on(
 fn known_on(
     alloc: Global,
     flashed: &FlashedBoard,
-    bests: &[Vec<Option<Best>>],
+    prepared: &Prepared,
     layer: usize,
 ) -> Result<Known, AllocError>
-    requires { AreBoardBests flashed.now.board bests.now }
+    requires { IsPrepared flashed.now.board prepared.now }
     ensures known { IfOk result (IsKnownAt flashed.now) }
     ensures layer { IfOk result (λ known. known.layer ≡ layer) }
 {
-    let causes = causes_on(alloc, flashed, bests, layer)?;
+    let causes = causes_on(alloc, flashed, prepared, layer)?;
     Ok(Known { layer, causes })
 }
 
@@ -77,11 +90,11 @@ fn known_on(
 fn turned_to(
     alloc: Global,
     flashed: &FlashedBoard,
-    bests: &[Vec<Option<Best>>],
+    prepared: &Prepared,
     known: Option<Known>,
     layer: usize,
 ) -> Result<Known, AllocError>
-    requires bests { AreBoardBests flashed.now.board bests.now }
+    requires prepared { IsPrepared flashed.now.board prepared.now }
     requires known { IfSome known (IsKnownAt flashed.now) }
     ensures known { IfOk result (IsKnownAt flashed.now) }
     ensures layer { IfOk result (λ known. known.layer ≡ layer) }
@@ -91,15 +104,22 @@ fn turned_to(
             if known.layer == layer {
                 Ok(known)
             } else {
-                known_on(alloc, flashed, bests, layer)
+                known_on(alloc, flashed, prepared, layer)
             }
         }
-        None => known_on(alloc, flashed, bests, layer),
+        None => known_on(alloc, flashed, prepared, layer),
     }
 }
 
 /// What is told of a hole that lacks its ring on a layer, of which it is known what must be.
-fn ring_lack(flashed: &FlashedBoard, known: &Known, hole: usize, rules: Rules) -> RingLack
+fn ring_lack(
+    flashed: &FlashedBoard,
+    files: &[FileHoles],
+    known: &Known,
+    hole: usize,
+    rules: Rules,
+) -> RingLack
+    requires files { AreFilledFiles flashed.now.board files.now }
     requires known { IsKnownAt flashed.now known.now }
     requires hole { hole < length flashed.now.board.holes }
     ensures { TellsRingAt flashed.now rules.ring known.now.layer hole result }
@@ -107,7 +127,7 @@ fn ring_lack(flashed: &FlashedBoard, known: &Known, hole: usize, rules: Rules) -
     let flashes = layer_flashes(flashed, known.layer);
     RingLack {
         layer: known.layer,
-        at: hole_at(&flashed.board, hole),
+        at: hole_at(&flashed.board, files, hole),
         cause: known
             .causes
             .cause(flashes, flashed.board.holes(), hole, rules),
@@ -125,37 +145,39 @@ fn add<T: Copy>(all: &mut Vec<T>, item: T) -> Result<(), AllocError>
 /// Tells of a hole that lacks its ring on a layer of which it is known what must be, behind the others.
 fn push_known(
     flashed: &FlashedBoard,
+    files: &[FileHoles],
     known: &Known,
     hole: usize,
     rules: Rules,
     told: &mut Vec<RingLack>,
 ) -> Result<(), AllocError>
+    requires files { AreFilledFiles flashed.now.board files.now }
     requires known { IsKnownAt flashed.now known.now }
     requires hole { hole < length flashed.now.board.holes }
     ensures { OnOk result ((lack : RingLack) × TellsRingAt flashed.now rules.ring known.now.layer hole lack × (told.new.items ≡ told.old.items ++ lack ∷ [])) }
 {
-    add(told, ring_lack(flashed, known, hole, rules))
+    add(told, ring_lack(flashed, files, known, hole, rules))
 }
 
 /// Tells of a hole that lacks its ring on a layer, behind the others.
 fn push_at(
     alloc: Global,
     flashed: &FlashedBoard,
-    bests: &[Vec<Option<Best>>],
+    prepared: &Prepared,
     known: Option<Known>,
     layer: usize,
     hole: usize,
     rules: Rules,
     told: &mut Vec<RingLack>,
 ) -> Result<Option<Known>, AllocError>
-    requires bests { AreBoardBests flashed.now.board bests.now }
+    requires prepared { IsPrepared flashed.now.board prepared.now }
     requires known { IfSome known (IsKnownAt flashed.now) }
     requires hole { hole < length flashed.now.board.holes }
     ensures known { IfOk result (λ some. IfSome some (IsKnownAt flashed.now)) }
     ensures adds { OnOk result ((lack : RingLack) × TellsRingAt flashed.now rules.ring layer hole lack × (told.new.items ≡ told.old.items ++ lack ∷ [])) }
 {
-    let known = turned_to(alloc, flashed, bests, known, layer)?;
-    push_known(flashed, &known, hole, rules, told)?;
+    let known = turned_to(alloc, flashed, prepared, known, layer)?;
+    push_known(flashed, prepared.files, &known, hole, rules, told)?;
     Ok(Some(known))
 }
 
@@ -163,13 +185,13 @@ fn push_at(
 fn push(
     alloc: Global,
     flashed: &FlashedBoard,
-    bests: &[Vec<Option<Best>>],
+    prepared: &Prepared,
     known: Option<Known>,
     finding: Finding,
     rules: Rules,
     told: &mut Vec<RingLack>,
 ) -> Result<Option<Known>, AllocError>
-    requires bests { AreBoardBests flashed.now.board bests.now }
+    requires prepared { IsPrepared flashed.now.board prepared.now }
     requires known { IfSome known (IsKnownAt flashed.now) }
     requires places { NamesPlaces (length flashed.now.board.layers) (length flashed.now.board.holes) finding }
     ensures known { IfOk result (λ some. IfSome some (IsKnownAt flashed.now)) }
@@ -177,29 +199,51 @@ fn push(
 {
     match finding {
         Finding::Ring { layer, hole } | Finding::Oblique { layer, hole } => {
-            push_at(alloc, flashed, bests, known, layer, hole, rules, told)
+            push_at(alloc, flashed, prepared, known, layer, hole, rules, told)
         }
         Finding::Gap { .. } => Ok(known),
     }
 }
 
-/// What is told of those findings that are of rings, in their order, by the best pads of each layer. What is known of a layer is kept until
-/// the next one is told of.
-pub(crate) fn tell_rings(
+/// What is told of those findings that are of rings, in their order. What is known of a layer is kept until the next one is told of.
+fn tell_each(
     alloc: Global,
     flashed: &FlashedBoard,
-    bests: &[Vec<Option<Best>>],
+    prepared: &Prepared,
     findings: &[Finding],
     rules: Rules,
 ) -> Result<Vec<RingLack>, AllocError>
-    requires bests { AreBoardBests flashed.now.board bests.now }
+    requires prepared { IsPrepared flashed.now.board prepared.now }
     requires places { All (NamesPlaces (length flashed.now.board.layers) (length flashed.now.board.holes)) findings.now }
     ensures { IfOk result (λ told. AllZip (TellsRing flashed.now rules.ring) (filter (λ finding. not (is_gap finding)) findings.now) told.items) }
 {
     let mut told = Vec::new(alloc);
     let mut known = None;
     for finding in findings {
-        known = push(alloc, flashed, bests, known, *finding, rules, &mut told)?;
+        known = push(alloc, flashed, prepared, known, *finding, rules, &mut told)?;
     }
     Ok(told)
+}
+
+/// What is told of those findings that are of rings, in their order, by the best pads of each layer and the drill files that have holes.
+pub(crate) fn tell_rings(
+    alloc: Global,
+    flashed: &FlashedBoard,
+    bests: &[Vec<Option<Best>>],
+    files: &[FileHoles],
+    findings: &[Finding],
+    rules: Rules,
+) -> Result<Vec<RingLack>, AllocError>
+    requires bests { AreBoardBests flashed.now.board bests.now }
+    requires files { AreFilledFiles flashed.now.board files.now }
+    requires places { All (NamesPlaces (length flashed.now.board.layers) (length flashed.now.board.holes)) findings.now }
+    ensures { IfOk result (λ told. AllZip (TellsRing flashed.now rules.ring) (filter (λ finding. not (is_gap finding)) findings.now) told.items) }
+{
+    let layers = flashed.board.layers(alloc)?;
+    let prepared = Prepared {
+        layers: &layers,
+        bests,
+        files,
+    };
+    tell_each(alloc, flashed, &prepared, findings, rules)
 }

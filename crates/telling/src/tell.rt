@@ -15,7 +15,7 @@ use crate::rings::tell_rings;
 use flashed_boards::{FlashedBoard, read_flashed};
 use grid_units::Rules;
 use margins::{Best, ring_findings_by};
-use measuring::measure_with_bests;
+use measuring::{filled_files, measure_with_bests};
 use package_check::{Board, File, PackageFault};
 use pad_shapes::Pad;
 use report_text::Telling;
@@ -71,11 +71,12 @@ pub fn tell_board(
     let board = flashed.board();
     let (measure, bests) = measure_with_bests(alloc, board)?;
     let findings = findings_on(alloc, board, &bests, rules)?;
+    let files = filled_files(alloc, board)?;
     Ok(Telling {
         rules,
         layers: heads(alloc, board)?,
-        rings: tell_rings(alloc, flashed, &bests, &findings, rules)?,
-        gaps: tell_gaps(alloc, board, &findings, rules)?,
+        rings: tell_rings(alloc, flashed, &bests, &files, &findings, rules)?,
+        gaps: tell_gaps(alloc, board, &files, &findings, rules)?,
         scales: measure.scales,
         meets: measure.meets,
     })

@@ -19,25 +19,24 @@ const DISC: &[u8] = b"%FSLAX46Y46*%\n%MOMM*%\n%ADD10C,0.65*%\nD10*\nX0Y0D03*\nM0
 /// A hole of 0.4 mm at the origin.
 const HIT: &[u8] = b"M48\nMETRIC\nT1C0.4\n%\nT1\nX0.0Y0.0\nM30\n";
 
+/// No hole.
+const NO_HIT: &[u8] = b"M48\nMETRIC\nT1C0.4\n%\nT1\nM30\n";
+
 /// The same hole twice.
 const TWICE: &[u8] = b"M48\nMETRIC\nT1C0.4\n%\nT1\nX0.0Y0.0\nX0.0Y0.0\nM30\n";
 
+fn file<'a>(role: Role, bytes: &'a [u8]) -> File<'a> {
+    File {
+        role,
+        name: "file",
+        span: None,
+        bytes,
+    }
+}
+
 /// What is told of a layer and a plated drill file under a ring in pm and a gap of 0.25 mm.
 fn told_of(rt: HostRuntime, layer: &[u8], drill: &[u8], ring: i64) -> Result<Telling, Fail> {
-    let files = [
-        File {
-            role: Role::Copper,
-            name: "top",
-            span: None,
-            bytes: layer,
-        },
-        File {
-            role: Role::Plated,
-            name: "pth",
-            span: None,
-            bytes: drill,
-        },
-    ];
+    let files = [file(Role::Copper, layer), file(Role::Plated, drill)];
     let Ok(rules) = Rules::new(ring, 250_000_000) else {
         return Err(Fail::from("rules"));
     };
@@ -113,5 +112,37 @@ fn a_hole_that_is_hit_twice_is_told(rt: HostRuntime) -> Result<(), Fail> {
     assert_eq!(rt; gap.1, -400_000_000);
     assert_eq!(rt; gap.2, 650_000_000);
     assert_eq!(rt; first_ring(&told).0, 0);
+    Ok(())
+}
+
+/// What is told of three layers and of three drill files, of which one has no holes: no disc leaves the ring that is asked, and each
+/// pair of holes is told.
+#[test]
+fn three_layers_and_three_drill_files_are_told(rt: HostRuntime) -> Result<(), Fail> {
+    let files = [
+        file(Role::Copper, DISC),
+        file(Role::Plated, HIT),
+        file(Role::Copper, DISC),
+        file(Role::Plated, NO_HIT),
+        file(Role::Plated, TWICE),
+        file(Role::Copper, DISC),
+    ];
+    let rules = Rules::new(150_000_000, 1).ok().ok_or("rules")?;
+    let told = tell_bytes(rt.alloc(), &files, rules).ok().ok_or("refused")?;
+    let mut rings = told.rings.iter();
+    for layer in 0..3 {
+        for (drill, number) in [(1, 1), (4, 1), (4, 2)] {
+            let lack = rings.next().ok_or("a ring is missing")?;
+            assert_eq!(rt;
+                (lack.layer, lack.at.drill, lack.at.number),
+                (layer, drill, number)
+            );
+            assert_eq!(rt;
+                cause_words(lack.cause),
+                ("small", 1, 125_000_000, 25_000_000)
+            );
+        }
+    }
+    assert_eq!(rt; (told.rings.len(), told.gaps.len()), (9, 3));
     Ok(())
 }

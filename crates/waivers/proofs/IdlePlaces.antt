@@ -1,50 +1,151 @@
--- The waivers that waive nothing, one place after another.
-use Rattle.std.proofs.Common.{◌≡◌, ◌∙◌, ◌+◌, ◌++◌, ◌||◌, ℕ, zero, suc, List, [], ◌∷◌, Bool, true, false, not, cond, map, arith, refl, ap, sym}
+-- The waivers that waive nothing: their numbers one after another, and that the first waiver alike tells of each.
+use Rattle.std.proofs.Common.{◌≡◌, ◌∙◌, ◌+◌, ◌++◌, ◌<◌, ◌||◌, ℕ, zero, suc, List, [], ◌∷◌, Bool, true, false, not, cond, Option, Some, None, is_some, length, take, get_or, map, arith, refl, ap, sym, subst}
 use Rattle.std.specs.Prelude.{if◌then◌else◌}
-use Rattle.std.specs.List.{filter, list_any, range_with_len}
-use Rattle.std.proofs.lemmas.List.{map-append}
+use Rattle.std.specs.BTreeSet.{BTreeSet}
+use Rattle.std.specs.Bool.{Decides}
+use Rattle.std.specs.List.{All, enumerate_from, filter, list_any, position_from}
+use Rattle.std.proofs.lemmas.Bool.Decides.{Decides-eqb, same_from_decides}
+use Rattle.std.proofs.lemmas.Iterator.Adapters.{position_from-zero}
+use Rattle.std.proofs.lemmas.List.{length-take-le, map-append, take_more}
+use Rattle.std.proofs.lemmas.List.Elements.{All-head, All-tail}
+use Rattle.std.proofs.lemmas.List.Folds.{list_any-append}
+use Rattle.std.proofs.lemmas.List.Quantifiers.{position-Some}
+use Rattle.std.proofs.lemmas.Slice.Eq.{bytes_eq-Decides, slice_eq-Decides}
+use Rattle.manifest.specs.Manifest.{Row}
+use Rattle.report_text.specs.declared.Telling.{Telling}
+use Rattle.waivers.specs.Findings.{gap_fields, ring_fields}
+use Rattle.waivers.specs.Inner.{has_first, has_place, unused_numbers}
+use Rattle.waivers.specs.Waiving.{IsWaived, compared, fields_told, idle_numbers, is_by, is_by_that, is_used, numbers_where, waived_by, waives, waives_nothing}
+use Rattle.waivers.specs.declared.Waiver.{Waiver}
 use Rattle.waivers.specs.declared.waiving.Waived.{Waived}
-use Rattle.waivers.specs.Waiving.{idle_of, is_by, is_used}
 
--- one more number of a range, if it passes
-more_of : (p : ℕ → Bool) (a n : ℕ) → filter p (range_with_len a (n + 1)) ≡ filter p (range_with_len a n) ++ (if p (a + n) then (a + n) ∷ [] else [])
-more_of p a zero = let same : a + 0 ≡ a = omega arith in rw same (by (p a))
-  where
-    by : (b : Bool) → cond b (a ∷ []) [] ≡ (if b then a ∷ [] else [])
-    by true = refl
-    by false = refl
-more_of p a (suc n) =
-    let grown : suc n + 1 ≡ suc (n + 1) = omega arith in
-    let same : a + suc n ≡ a + 1 + n = omega arith in
-    rw (grown, same) (by (p a) (more_of p (a + 1) n))
-  where
-    by : (b : Bool) → filter p (range_with_len (a + 1) (n + 1)) ≡ filter p (range_with_len (a + 1) n) ++ (if p (a + 1 + n) then (a + 1 + n) ∷ [] else [])
-        → cond b (a ∷ filter p (range_with_len (a + 1) (n + 1))) (filter p (range_with_len (a + 1) (n + 1))) ≡ cond b (a ∷ filter p (range_with_len (a + 1) n)) (filter p (range_with_len (a + 1) n)) ++ (if p (a + 1 + n) then (a + 1 + n) ∷ [] else [])
-    by true e = ap (λ xs. a ∷ xs) e
-    by false e = e
+module _ {X : Type 0} (p : X → Bool) where
+  -- the elements that pass, each with its number from one on
+  abbrev kept_from : ℕ → List X → List (ℕ × X)
+  kept_from n xs = filter (λ (one : ℕ × X). p one.1) (enumerate_from n xs)
 
--- the waivers that waive nothing, of one more
-pub idle_more : (waived : Waived) (place : ℕ) (before after : List ℕ) (none had used : Bool) → none ≡ false → had ≡ (none || list_any (is_by place) waived.rings.items) → used ≡ (had || list_any (is_by place) waived.gaps.items)
-    → before ≡ idle_of waived place → after ≡ before ++ (if used then [] else place ∷ []) → after ≡ idle_of waived (place + 1)
-idle_more waived place before after none had used empty rings gaps was is =
-    let here : used ≡ is_used waived place = gaps ∙ ap (λ b. b || list_any (is_by place) waived.gaps.items) (rings ∙ ap (λ b. b || list_any (is_by place) waived.rings.items) empty) in
-    let first : 0 + place ≡ place = omega arith in
-    is ∙ ((λ i. was i ++ (if here i then [] else place ∷ [])) ∙ (ap (λ xs. idle_of waived place ++ xs) (turned (is_used waived place))
-    ∙ sym (more_of (λ n. not (is_used waived n)) 0 place ∙ ap (λ (n : ℕ). idle_of waived place ++ (if not (is_used waived n) then n ∷ [] else [])) first)))
-  where
-    turned : (b : Bool) → (if b then [] else place ∷ []) ≡ (if not b then place ∷ [] else [])
-    turned true = refl
-    turned false = refl
+  -- their numbers
+  abbrev pub numbers_from : ℕ → List X → List ℕ
+  numbers_from n xs = map (λ (one : ℕ × X). one.0) (kept_from n xs)
 
--- their numbers, of one more
-pub numbers_more : (waived : Waived) (place : ℕ) (before after : List ℕ) (none had used : Bool) → none ≡ false → had ≡ (none || list_any (is_by place) waived.rings.items) → used ≡ (had || list_any (is_by place) waived.gaps.items)
-    → before ≡ map (λ (n : ℕ). n + 2) (idle_of waived place) → after ≡ before ++ (if used then [] else (place + 2) ∷ []) → after ≡ map (λ (n : ℕ). n + 2) (idle_of waived (place + 1))
-numbers_more waived place before after none had used empty rings gaps was is =
-    let number = λ (n : ℕ). n + 2 in
-    let more : List ℕ = if used then [] else place ∷ [] in
-    let places = idle_more waived place (idle_of waived place) (idle_of waived place ++ more) none had used empty rings gaps refl refl in
-    is ∙ ((λ i. was i ++ numbered used i) ∙ (sym (map-append number (idle_of waived place) more) ∙ ap (map number) places))
+  more_from : (n : ℕ) (xs : List X) (x : X) → numbers_from n (xs ++ x ∷ []) ≡ numbers_from n xs ++ (if p x then (n + length xs) ∷ [] else [])
+  more_from n [] x = let same : n + 0 ≡ n = omega arith in rw same (by (p x))
+    where
+      by : (b : Bool) → map (λ (one : ℕ × X). one.0) (cond b ((n, x) ∷ []) []) ≡ (if b then n ∷ [] else [])
+      by true = refl
+      by false = refl
+  more_from n (y ∷ ys) x = let same : n + length (y ∷ ys) ≡ n + 1 + length ys = omega arith in rw same (by (p y) (more_from (n + 1) ys x))
+    where
+      by : (b : Bool) → numbers_from (n + 1) (ys ++ x ∷ []) ≡ numbers_from (n + 1) ys ++ (if p x then (n + 1 + length ys) ∷ [] else [])
+          → map (λ (one : ℕ × X). one.0) (cond b ((n, y) ∷ kept_from (n + 1) (ys ++ x ∷ [])) (kept_from (n + 1) (ys ++ x ∷ [])))
+          ≡ map (λ (one : ℕ × X). one.0) (cond b ((n, y) ∷ kept_from (n + 1) ys) (kept_from (n + 1) ys)) ++ (if p x then (n + 1 + length ys) ∷ [] else [])
+      by true e = ap (λ (ns : List ℕ). n ∷ ns) e
+      by false e = e
+
+  -- the numbers of the elements so far and of one more
+  pub numbers_more : (n : ℕ) (xs : List X) (i number : ℕ) (d : X) (before after : List ℕ) → i < length xs → number ≡ n + i → before ≡ numbers_from n (take i xs)
+      → after ≡ before ++ (if p (get_or xs i d) then number ∷ [] else []) → after ≡ numbers_from n (take (i + 1) xs)
+  numbers_more n xs i number d before after lt place was grown =
+      let count : length (take i xs) ≡ i = length-take-le i xs (omega arith) in
+      let here : number ≡ n + length (take i xs) = omega (arith, place, count) in
+      grown ∙ ((λ j. was j ++ (if p (get_or xs i d) then here j ∷ [] else [])) ∙ sym (ap (numbers_from n) (take_more xs i d lt) ∙ more_from n (take i xs) (get_or xs i d)))
+
+module _ {A B : Type 0} (g : A → B) (p : B → Bool) (q : A → Bool) where
+  -- the numbers of images that pass are those of the elements that do
+  numbers_same : (n : ℕ) (xs : List A) → All (λ x. p (g x) ≡ q x) xs → numbers_from p n (map g xs) ≡ numbers_from q n xs
+  numbers_same n [] same = refl
+  numbers_same n (x ∷ xs) same = rw (All-head (λ y. p (g y) ≡ q y) x xs same) (by (q x) (numbers_same (n + 1) xs (All-tail (λ y. p (g y) ≡ q y) x xs same)))
+    where
+      by : (b : Bool) → numbers_from p (n + 1) (map g xs) ≡ numbers_from q (n + 1) xs
+          → map (λ (one : ℕ × B). one.0) (cond b ((n, g x) ∷ kept_from p (n + 1) (map g xs)) (kept_from p (n + 1) (map g xs)))
+          ≡ map (λ (one : ℕ × A). one.0) (cond b ((n, x) ∷ kept_from q (n + 1) xs) (kept_from q (n + 1) xs))
+      by true e = ap (λ (ns : List ℕ). n ∷ ns) e
+      by false e = e
+
+-- there is a first place where some element passes
+some_from : {X : Type 0} (p : X → Bool) (n : ℕ) (xs : List X) (k : ℕ) (d : X) → k < length xs → p (get_or xs k d) ≡ true → is_some (position_from p n xs) ≡ true
+some_from p n [] k d lt e = absurd (omega arith)
+some_from p n (x ∷ xs) zero d lt e = rw e refl
+some_from p n (x ∷ xs) (suc k) d lt e = by (p x) (some_from p (n + 1) xs k d (omega arith) e)
   where
-    numbered : (b : Bool) → (if b then [] else (place + 2) ∷ []) ≡ map (λ (n : ℕ). n + 2) (if b then [] else place ∷ [])
-    numbered true = refl
-    numbered false = refl
+    by : (b : Bool) → is_some (position_from p (n + 1) xs) ≡ true → is_some (cond b (Some n) (position_from p (n + 1) xs)) ≡ true
+    by true h = refl
+    by false h = h
+
+-- a place is among others
+shared : (used : BTreeSet ℕ) (places : List (Option ℕ)) → ((place : ℕ) → has_place used place ≡ list_any (is_by place) places) → (o : Option ℕ) → has_first used o ≡ list_any (is_by_that o) places
+shared used places are None = none places
+  where
+    none : (os : List (Option ℕ)) → false ≡ list_any (is_by_that None) os
+    none [] = refl
+    none (o ∷ os) = none os
+shared used places are (Some place) = are place
+
+module _ (all : List Waiver) where
+  -- a waiver waives a finding just where its fields are those of the finding
+  waives_is : (finding : Row) (waiver : Waiver) → Decides (waives finding waiver) (compared waiver ≡ finding)
+  waives_is finding waiver = slice_eq-Decides bytes_eq-Decides (compared waiver) finding (waives finding waiver) refl
+
+  -- the first waiver that is like another waives a finding just where that other does
+  first_tells : (finding : Row) (waiver : Waiver) → is_some (waived_by all (compared waiver)) ≡ true → is_by_that (waived_by all (compared waiver)) (waived_by all finding) ≡ waives finding waiver
+  first_tells finding waiver some =
+      same_from_decides {P = compared waiver ≡ finding} (is_by_that (waived_by all (compared waiver)) (waived_by all finding)) (waives finding waiver)
+      (to (waived_by all (compared waiver)) (waived_by all finding) refl refl, λ e. subst (λ (fields : Row). is_by_that (waived_by all (compared waiver)) (waived_by all fields) ≡ true) e (from (waived_by all (compared waiver)) some))
+      (waives_is finding waiver)
+    where
+      from : (o : Option ℕ) → is_some o ≡ true → is_by_that o o ≡ true
+      from None e = absurd cc
+      from (Some place) e = (Decides-eqb place place).1 refl
+
+      to : (o other : Option ℕ) → o ≡ waived_by all (compared waiver) → other ≡ waived_by all finding → is_by_that o other ≡ true → compared waiver ≡ finding
+      to None other e f h = absurd cc
+      to (Some place) None e f h = absurd cc
+      to (Some place) (Some by) e f h =
+          let first = position-Some (waives (compared waiver)) all place waiver (sym e) in
+          let second = position-Some (waives finding) all by waiver (sym f) in
+          let place_is : by ≡ place = (Decides-eqb by place).0 h in
+          let alike = (waives_is (compared waiver) (get_or all place waiver)).0 first.1 in
+          let waived = (waives_is finding (get_or all by waiver)).0 second.1 in
+          sym alike ∙ (ap (λ (n : ℕ). compared (get_or all n waiver)) (sym place_is) ∙ waived)
+
+  -- the same of all findings
+  first_tells_all : (waiver : Waiver) → is_some (waived_by all (compared waiver)) ≡ true → (findings : List Row)
+      → list_any (is_by_that (waived_by all (compared waiver))) (map (waived_by all) findings) ≡ list_any (λ finding. waives finding waiver) findings
+  first_tells_all waiver some [] = refl
+  first_tells_all waiver some (finding ∷ findings) = λ i. first_tells finding waiver some i || first_tells_all waiver some findings i
+
+  -- each waiver has a first one alike
+  has_alike : All (λ waiver. is_some (waived_by all (compared waiver)) ≡ true) all
+  has_alike k d lt =
+      let waiver = get_or all k d in
+      ap is_some (position_from-zero (waives (compared waiver)) all) ∙ some_from (waives (compared waiver)) 0 all k d lt ((waives_is (compared waiver) waiver).1 refl)
+
+  -- the waivers whose first ones alike a set has not are those that are told to waive nothing
+  pub unused_is_idle : (used : BTreeSet ℕ) (waived : Waived) (firsts : List (Option ℕ)) (numbers : List ℕ)
+      → ((place : ℕ) → has_place used place ≡ (list_any (is_by place) waived.rings.items || list_any (is_by place) waived.gaps.items))
+      → firsts ≡ map (λ waiver. waived_by all (compared waiver)) all → numbers ≡ unused_numbers used firsts → numbers ≡ idle_numbers all waived
+  unused_is_idle used waived firsts numbers are alike is =
+      let both = λ (place : ℕ). are place ∙ sym (list_any-append (is_by place) waived.rings.items waived.gaps.items) in
+      is ∙ (ap (unused_numbers used) alike
+      ∙ numbers_same (λ waiver. waived_by all (compared waiver)) (λ first. not (has_first used first)) (λ waiver. not (is_used all waived waiver)) 2 all
+      (λ k d lt. ap not (shared used (waived.rings.items ++ waived.gaps.items) both (waived_by all (compared (get_or all k d))))))
+
+  map_twice : {A B C : Type 0} (f : A → B) (g : B → C) (xs : List A) → map (λ x. g (f x)) xs ≡ map g (map f xs)
+  map_twice f g [] = refl
+  map_twice f g (x ∷ xs) = ap (λ rest. g (f x) ∷ rest) (map_twice f g xs)
+
+  -- the places of the findings of rings and of gaps are those of all findings
+  pub places_told : (names : List (List ℕ)) (told : Telling) (waived : Waived) → IsWaived all names told waived → waived.rings.items ++ waived.gaps.items ≡ map (waived_by all) (fields_told names told)
+  places_told names told waived is =
+      (λ i. is.rings i ++ is.gaps i)
+      ∙ ((λ i. map_twice (ring_fields names told.layers.items) (waived_by all) told.rings.items i ++ map_twice (gap_fields names) (waived_by all) told.gaps.items i)
+      ∙ sym (map-append (waived_by all) (map (ring_fields names told.layers.items) told.rings.items) (map (gap_fields names) told.gaps.items)))
+
+  -- the waivers that are told to waive nothing are those whose fields no finding has
+  pub idle_is_none : (names : List (List ℕ)) (told : Telling) (waived : Waived) → IsWaived all names told waived → idle_numbers all waived ≡ numbers_where (waives_nothing (fields_told names told)) all
+  idle_is_none names told waived is =
+      let first = λ (waiver : Waiver). waived_by all (compared waiver) in
+      let test = λ (place : Option ℕ). not (list_any (is_by_that place) (waived.rings.items ++ waived.gaps.items)) in
+      sym (numbers_same first test (λ waiver. not (is_used all waived waiver)) 2 all (λ k d lt. refl))
+      ∙ numbers_same first test (waives_nothing (fields_told names told)) 2 all
+      (λ k d lt. ap not (ap (list_any (is_by_that (first (get_or all k d)))) (places_told names told waived is) ∙ first_tells_all (get_or all k d) (has_alike k d lt) (fields_told names told)))

@@ -1,9 +1,10 @@
 -- Words between the public ones and those of single steps.
-use Rattle.std.specs.Prelude.{ℕ, Bool, List, Option, Some, None, Result, Ok, Err}
+use Rattle.std.specs.Prelude.{ℕ, Bool, false, not, List, map, Option, Some, None, Result, Ok, Err}
 use Rattle.std.specs.Borrow.{Bor}
 use Rattle.std.specs.BTreeMap.{BTreeMap, get_by}
 use Rattle.std.specs.BTreeSet.{BTreeSet, contains}
 use Rattle.std.specs.Cmp.Lexicographic.{slice_cmp}
+use Rattle.std.specs.List.{enumerate_from, filter}
 use Rattle.std.specs.Ordering.{nat_cmp}
 use Rattle.csv.specs.Writing.{default_writer, row_text}
 use Rattle.grid_units.specs.declared.fault.Reason.{Reason}
@@ -31,3 +32,12 @@ place_at table key = get_by (λ k. slice_cmp nat_cmp key k.now) table
 -- a set has a place (docs/FORMATS.md, Waivers)
 abbrev pub has_place : BTreeSet ℕ → ℕ → Bool
 has_place places place = contains nat_cmp places place
+
+-- a set has the place that there is (docs/FORMATS.md, Waivers)
+abbrev pub has_first : BTreeSet ℕ → Option ℕ → Bool
+has_first used None = false
+has_first used (Some place) = has_place used place
+
+-- the numbers from 2 of the waivers whose first ones alike a set has not (docs/FORMATS.md, Waivers)
+abbrev pub unused_numbers : BTreeSet ℕ → List (Option ℕ) → List ℕ
+unused_numbers used firsts = map (λ one. one.0) (filter (λ one. not (has_first used one.1)) (enumerate_from 2 firsts))

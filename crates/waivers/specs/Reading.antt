@@ -29,8 +29,8 @@ is_kind word = bytes_eq word (codes "ring") || bytes_eq word (codes "gap")
 abbrev pub broken_rule : Row → Option Reason
 broken_rule row =
     if not (is_well_formed 6 row) then Some BadManifest
-    else (if not (is_kind (field 0 row)) then Some BadRole
-    else (if length (field 5 row) == 0 then Some EmptyName else None))
+    else if not (is_kind (field 0 row)) then Some BadRole
+    else if length (field 5 row) == 0 then Some EmptyName else None
 
 -- the waiver that a record is (docs/FORMATS.md, Waivers)
 abbrev pub waiver_of : Row → Waiver

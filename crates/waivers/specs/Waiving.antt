@@ -1,7 +1,7 @@
 -- Which waiver waives a finding, and which waive nothing.
-use Rattle.std.specs.Prelude.{◌≡◌, ◌+◌, ◌||◌, ◌&&◌, ◌==◌, ℕ, Bool, false, not, List, [], ◌∷◌, length, map, slice_get, Option, Some, None, is_some, option_map}
+use Rattle.std.specs.Prelude.{◌≡◌, ◌==◌, ◌++◌, ◌&&◌, ℕ, Bool, false, not, List, [], ◌∷◌, map, slice_get, Option, Some, None, is_some, option_map}
 use Rattle.std.specs.Cmp.Lexicographic.{pointwise}
-use Rattle.std.specs.List.{filter, list_all, list_any, position, range_with_len}
+use Rattle.std.specs.List.{enumerate_from, filter, list_all, list_any, position}
 use Rattle.std.specs.Str.{bytes_eq}
 use Rattle.manifest.specs.Manifest.{Row}
 use Rattle.report_text.specs.declared.Telling.{Telling}
@@ -32,26 +32,40 @@ abbrev pub reason_at : List Waiver → Option ℕ → Option (List ℕ)
 reason_at all None = None
 reason_at all (Some place) = option_map (λ waiver. waiver.why) (slice_get all place)
 
+-- each finding is waived (docs/FORMATS.md, Waivers)
+abbrev pub are_all_waived : Waived → Bool
+are_all_waived waived = list_all is_some waived.rings.items && list_all is_some waived.gaps.items
+
+-- the five fields of each finding of a report, those of rings first (docs/FORMATS.md, Waivers)
+abbrev pub fields_told : List (List ℕ) → Telling → List Row
+fields_told names told = map (λ lack. ring_fields names told.layers.items lack) told.rings.items ++ map (λ lack. gap_fields names lack) told.gaps.items
+
+-- a waiver waives nothing: none of these findings has its first five fields (docs/FORMATS.md, Waivers)
+abbrev pub waives_nothing : List Row → Waiver → Bool
+waives_nothing findings waiver = not (list_any (λ finding. waives finding waiver) findings)
+
+-- the numbers of the records of waivers that pass a test, in order; the first has the number 2, behind the head (docs/FORMATS.md, Waivers)
+abbrev pub numbers_where : (Waiver → Bool) → List Waiver → List ℕ
+numbers_where test all = map (λ one. one.0) (filter (λ one. test one.1) (enumerate_from 2 all))
+
 -- a finding is waived by the waiver at a place (docs/FORMATS.md, Waivers)
 abbrev pub is_by : ℕ → Option ℕ → Bool
 is_by place None = false
 is_by place (Some by) = by == place
 
--- the waiver at a place waives some finding (docs/FORMATS.md, Waivers)
-abbrev pub is_used : Waived → ℕ → Bool
-is_used waived place = list_any (is_by place) waived.rings.items || list_any (is_by place) waived.gaps.items
+-- there is a place, and a finding is waived by the waiver there (docs/FORMATS.md, Waivers)
+abbrev pub is_by_that : Option ℕ → Option ℕ → Bool
+is_by_that None by = false
+is_by_that (Some place) by = is_by place by
 
--- each finding is waived (docs/FORMATS.md, Waivers)
-abbrev pub are_all_waived : Waived → Bool
-are_all_waived waived = list_all is_some waived.rings.items && list_all is_some waived.gaps.items
+-- a waiver waives some finding: the first with its five fields is the one by which a finding is waived (docs/FORMATS.md, Waivers)
+abbrev pub is_used : List Waiver → Waived → Waiver → Bool
+is_used all waived waiver = list_any (is_by_that (waived_by all (compared waiver))) (waived.rings.items ++ waived.gaps.items)
 
--- the places below a number of the waivers that waive nothing, in order (docs/FORMATS.md, Waivers)
-abbrev pub idle_of : Waived → ℕ → List ℕ
-idle_of waived count = filter (λ place. not (is_used waived place)) (range_with_len 0 count)
-
--- the numbers of the records of the waivers that waive nothing, the head being 1 (docs/FORMATS.md, Waivers)
+-- The numbers of the records of the waivers that waive nothing. Of a report whose findings are waived so they are those of the waivers
+-- whose first five fields no finding has: the law `idle_waive_nothing` (docs/FORMATS.md, Waivers).
 abbrev pub idle_numbers : List Waiver → Waived → List ℕ
-idle_numbers all waived = map (λ place. place + 2) (idle_of waived (length all))
+idle_numbers all waived = numbers_where (λ waiver. not (is_used all waived waiver)) all
 
 -- what a report tells of waivers: the reason of each finding that is waived, and the waivers that waive nothing (docs/FORMATS.md, Waivers)
 pub record AreReasons (all : List Waiver) (waived : Waived) (whys : Whys) : Type 0 where

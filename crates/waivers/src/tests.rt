@@ -349,7 +349,33 @@ fn the_first_waiver_of_a_finding_is_told(rt: HostRuntime) -> Result<(), Failed> 
     assert!(rt; waived.gaps.as_slice() == [Some(6)].as_slice());
     assert!(rt; waived.all());
     let idle = idle(rt.alloc(), &waived, read.as_slice())?;
-    assert!(rt; idle.as_slice() == [9, 10].as_slice());
+    assert!(rt; idle.as_slice() == [9].as_slice());
+    Ok(())
+}
+
+#[test]
+fn a_file_of_findings_that_are_alike_has_no_idle_waiver(rt: HostRuntime) -> Result<(), Failed> {
+    let mut told = no_findings(rt)?;
+    for _ in 0..2 {
+        tell_bare(&mut told, 0, hole_at(2, (0, 0), 750_000_000)?)?;
+        tell_gap(&mut told)?;
+    }
+    let records = "kind,layer,hole,and,has,why\n\
+        ring,top_layer,\"pic_programmer-PTH, 0.75 at 0,0\",,none,first\n\
+        ring,top_layer,\"pic_programmer-PTH, 0.75 at 0,0\",,none,second\n\
+        ring,top_layer,\"pic_programmer-PTH, 0.75 at 0,0\",,0,stale\n\
+        gap,,\"drill, 0.6096 at 50.546,67.31\",\"drill, 0.6096 at 51.181,66.548\",0.382301708,third\n\
+        gap,,\"drill, 0.6096 at 50.546,67.31\",\"drill, 0.6096 at 51.181,66.548\",0.382301708,third\n\
+        ring,top_layer,\"pic_programmer-PTH, 0.75 at 0,0\",,0,stale\n";
+    let Ok(read) = read_waivers(rt.alloc(), records.as_bytes()) else {
+        return Err("refused".into());
+    };
+    let waived = waive(rt.alloc(), &NAMES, &told, read.as_slice())?;
+    assert!(rt; waived.all());
+    assert!(rt; waived.rings.as_slice() == [Some(0), Some(0)].as_slice());
+    assert!(rt; waived.gaps.as_slice() == [Some(3), Some(3)].as_slice());
+    let idle = idle(rt.alloc(), &waived, read.as_slice())?;
+    assert!(rt; idle.as_slice() == [4, 7].as_slice());
     Ok(())
 }
 

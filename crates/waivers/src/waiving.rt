@@ -1,11 +1,12 @@
 //! Which findings are waived, and which waivers waive nothing.
 
-ghost use Rattle.std.specs.Prelude.{◌≡◌, ◌+◌, ◌||◌, ◌++◌, ◌∷◌, [], ℕ, IfOk, OnOk, map, is_some, option_map, if◌then◌else◌};
+ghost use Rattle.std.specs.Prelude.{◌≡◌, ◌||◌, ◌++◌, ◌∷◌, [], ℕ, IfOk, OnOk, map, not, is_some, option_map, if◌then◌else◌};
 ghost use Rattle.std.specs.List.{list_all, list_any};
 ghost use Rattle.waivers.specs.Findings.{gap_fields, ring_fields};
-ghost use Rattle.waivers.specs.Inner.{has_place};
+ghost use Rattle.waivers.specs.Inner as inner;
+ghost use Rattle.waivers.specs.Inner.{has_place, unused_numbers};
 ghost use Rattle.waivers.specs.Waiving as naming;
-ghost use Rattle.waivers.specs.Waiving.{are_all_waived, idle_numbers, is_by, waived_by};
+ghost use Rattle.waivers.specs.Waiving.{are_all_waived, compared, idle_numbers, is_by, waived_by};
 
 use crate::Waiver;
 use crate::keys::{first_places, gap_keys, places_of, ring_keys, waiver_keys};
@@ -90,6 +91,15 @@ pub fn waive(
     })
 }
 
+/// The index of the first waiver with the same first five fields, of each waiver.
+fn firsts_alike(alloc: Global, waivers: &[Waiver]) -> Result<Vec<Option<usize>>, AllocError>
+    ensures { IfOk result (λ firsts. firsts.items ≡ map (λ waiver. waived_by waivers.now (compared waiver)) waivers.now) }
+{
+    let keys = waiver_keys(alloc, waivers)?;
+    let table = first_places(alloc, keys.as_slice())?;
+    places_of(alloc, &table, keys.as_slice())
+}
+
 /// Adds the waivers that some findings have.
 fn add_used(used: &mut BTreeSet<usize>, places: &[Option<usize>]) -> Result<(), AllocError>
     ensures { OnOk result ((place : ℕ) → has_place used.new place ≡ (has_place used.old place || list_any (is_by place) places.now)) }
@@ -102,36 +112,69 @@ fn add_used(used: &mut BTreeSet<usize>, places: &[Option<usize>]) -> Result<(), 
     Ok(())
 }
 
-/// Adds the number of the record of a waiver that waives nothing.
+/// The waivers that are the first of some finding.
+fn used_by(alloc: Global, waived: &Waived) -> Result<BTreeSet<usize>, AllocError>
+    ensures { IfOk result (λ used. (place : ℕ) → has_place used place ≡ (list_any (is_by place) waived.now.rings.items || list_any (is_by place) waived.now.gaps.items)) }
+{
+    let mut used = BTreeSet::new(alloc);
+    add_used(&mut used, waived.rings.as_slice())?;
+    add_used(&mut used, waived.gaps.as_slice())?;
+    Ok(used)
+}
+
+/// Whether a set has the place that there is.
+fn has_first(used: &BTreeSet<usize>, first: Option<usize>) -> bool
+    ensures { result ≡ inner.has_first used.now first }
+{
+    match first {
+        Some(place) => used.contains(&place),
+        None => false,
+    }
+}
+
+/// Adds the number of the record of a waiver whose first one alike is not used.
 fn push_idle(
     idle: &mut Vec<usize>,
     used: &BTreeSet<usize>,
-    place: usize,
+    first: Option<usize>,
     number: usize,
 ) -> Result<(), AllocError>
-    ensures { OnOk result (idle.new.items ≡ idle.old.items ++ (if has_place used.now place then [] else number ∷ [])) }
+    ensures { OnOk result (idle.new.items ≡ idle.old.items ++ (if not (inner.has_first used.now first) then number ∷ [] else [])) }
 {
-    if used.contains(&place) {
+    if has_first(used, first) {
         return Ok(());
     }
     idle.push(number)?;
     Ok(())
 }
 
-/// The numbers of the records of the waivers that waive nothing, in order; the head of their file is the record 1.
+/// The numbers of the records of the waivers whose first ones alike are not used; the head of their file is the record 1.
+fn unused(
+    alloc: Global,
+    used: &BTreeSet<usize>,
+    firsts: &[Option<usize>],
+) -> Result<Vec<usize>, AllocError>
+    ensures { IfOk result (λ numbers. numbers.items ≡ unused_numbers used.now firsts.now) }
+{
+    let mut idle = Vec::new(alloc);
+    for place in 0..firsts.len() {
+        push_idle(&mut idle, used, firsts[place], place + 2)?;
+    }
+    Ok(idle)
+}
+
+/// The numbers of the records of the waivers that waive nothing, in order: no finding of the report whose findings are waived so has
+/// their first five fields (the law [`idle_waive_nothing`]). The head of their file is the record 1.
 ///
 /// # Errors
 ///
 /// An `AllocError` where there is no memory.
+///
+/// [`idle_waive_nothing`]: crate::laws::idle_waive_nothing
 pub fn idle(alloc: Global, waived: &Waived, waivers: &[Waiver]) -> Result<Vec<usize>, AllocError>
     ensures { IfOk result (λ numbers. numbers.items ≡ idle_numbers waivers.now waived.now) }
 {
-    let mut used = BTreeSet::new(alloc);
-    add_used(&mut used, waived.rings.as_slice())?;
-    add_used(&mut used, waived.gaps.as_slice())?;
-    let mut idle = Vec::new(alloc);
-    for place in 0..waivers.len() {
-        push_idle(&mut idle, &used, place, place + 2)?;
-    }
-    Ok(idle)
+    let firsts = firsts_alike(alloc, waivers)?;
+    let used = used_by(alloc, waived)?;
+    unused(alloc, &used, firsts.as_slice())
 }

@@ -8,6 +8,7 @@ use Rattle.drill_lines.specs.declared.command.Coordinates.{Coordinates}
 use Rattle.drill_lines.specs.declared.command.Part.TheVariants as part
 use Rattle.drill_lines.specs.declared.command.Settings.{Settings}
 use Rattle.drill_lines.specs.declared.command.DrillCommand.TheVariants as command
+use Rattle.grid_units.specs.Ascii as ascii
 
 -- The bytes are this letter, a decimal with a point, and the rest (docs/FORMATS.md, Drill lines).
 pub record NamesDecimal (letter : ℕ) (v : ℤ) (rest bytes : List ℕ) : Type 0 where
@@ -19,9 +20,9 @@ pub record NamesDecimal (letter : ℕ) (v : ℤ) (rest bytes : List ℕ) : Type 
 pub record EndsLine (n : ℕ) (bytes : List ℕ) : Type 0 where
   pub blanks : List ℕ
   pub more : List ℕ
-  pub whole : bytes ≡ blanks ++ 10 ∷ more
+  pub whole : bytes ≡ blanks ++ ascii.line_feed ∷ more
   pub all_blank : list_all is_blank blanks ≡ true
-  pub no_break : list_all (λ b. not (b == 10)) blanks ≡ true
+  pub no_break : list_all (λ b. not (b == ascii.line_feed)) blanks ≡ true
   pub count : length blanks ≡ n
   pub short : n ≤ 1
 
@@ -29,8 +30,8 @@ pub record EndsLine (n : ℕ) (bytes : List ℕ) : Type 0 where
 pub record LeadsHit (point : Coordinates) (len : ℕ) (bytes : List ℕ) : Type 0 where
   pub line : List ℕ
   pub more : List ℕ
-  pub whole : bytes ≡ line ++ 10 ∷ more
+  pub whole : bytes ≡ line ++ ascii.line_feed ∷ more
   pub count : length line ≡ len
   pub short : len ≤ 64
-  pub inside : list_all (λ b. not (b == 10)) line ≡ true
+  pub inside : list_all (λ b. not (b == ascii.line_feed)) line ≡ true
   pub spells : (settings : Settings) → settings.part ≡ part.Body → meaning settings (trimmed line) ≡ Ok (Some (command.Hit point))

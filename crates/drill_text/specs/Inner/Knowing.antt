@@ -103,7 +103,7 @@ width_in s = coordinate_in (unit_or s.settings.unit) (option_and_then s.diameter
 
 -- the same, unless it breaks a rule (docs/DEFINITIONS.md, The judge of a drill file)
 abbrev pub width_of : Standing → Result ℤ Reason
-width_of s = if has_no_tool s then Err NoTool else (if int_le (width_in s) (pos 0) then Err BadSize else within_limit (width_in s))
+width_of s = if has_no_tool s then Err NoTool else if int_le (width_in s) (pos 0) then Err BadSize else within_limit (width_in s)
 
 -- the diameter of a hole in pm (docs/DEFINITIONS.md, The judge of a drill file)
 abbrev pub IsWidth : ℤ → Type 0

@@ -3,7 +3,7 @@ use Rattle.std.specs.Prelude.{◌≡◌, ℕ, ◌<◌, ◌≤◌, true, false, L
 use Rattle.grid_units.specs.declared.fault.Fault.{Fault}
 use Rattle.grid_units.specs.declared.fault.Fail.TheVariants as fails
 use Rattle.gerber_text.specs.Reading.{Entries}
-use Rattle.gerber_text.specs.Standing.{StandsBehind, FailsWith}
+use Rattle.gerber_text.specs.Holding.{StandsBehind, FailsWith}
 use Rattle.gerber_text.specs.Writing.{lines, without_places}
 use Rattle.rewriting.specs.declared.lines.Lines.{Lines}
 use Rattle.rewriting.specs.declared.layer_writer.LayerWriter.{LayerWriter}

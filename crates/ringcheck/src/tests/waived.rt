@@ -45,6 +45,9 @@ fn says<'x>(
 
 const WAIVE: [&str; 2] = ["--waive", "w.csv"];
 
+/// A manifest without its first record.
+const WRONG: &str = "copper,top,top.gbr\n";
+
 /// The hole of a drill file twice.
 const TWICE: &str = "M48\nMETRIC\nT1C0.4\n%\nT1\nX0.0Y0.0\nX0.0Y0.0\nM30\n";
 
@@ -156,16 +159,17 @@ fn waived_findings_are_told_as_json(rt: HostRuntime) {
     );
 }
 
-/// A refusal, whose text begins so: a page stands below the line of a report for people.
+/// A refusal under a manifest and a file of waivers, whose text begins so: a page stands below the line of a report for people.
 fn is_refused<'x>(
     alloc: Global,
     options: &[&str],
+    manifest: &'x str,
     waivers: &'x str,
     status: Status,
     text: &str,
 ) -> Result<bool, AllocError> {
     let files = [
-        ("m.csv", MANIFEST),
+        ("m.csv", manifest),
         ("top.gbr", BARE),
         ("pth.drl", DRILL),
         ("w.csv", waivers),
@@ -195,16 +199,18 @@ fn files_of_waivers_are_refused_first(rt: HostRuntime) -> Result<(), AllocError>
         ),
     ] {
         assert!(rt;
-            is_refused(alloc, &WAIVE, text, Status::Refused, line)?,
+            is_refused(alloc, &WAIVE, WRONG, text, Status::Refused, line)?,
             "{line}"
         );
     }
     let json = ["--waive", "w.csv", "--format", "json"];
     let object =
         "{\"format\":\"ringcheck\",\"version\":1,\"result\":\"refused\",\"waivers\":true,\"place\":2,\"reason\":\"EmptyName\"}\n";
-    assert!(rt; is_refused(alloc, &json, FINDINGS, Status::Refused, object)?);
+    assert!(rt; is_refused(alloc, &json, WRONG, FINDINGS, Status::Refused, object)?);
+    let line = "refused manifest place=1 reason=BadManifest\n  BadManifest: ";
+    assert!(rt; is_refused(alloc, &WAIVE, WRONG, ACCEPTED, Status::Refused, line)?);
     let line = "refused file=1 place=1 byte=0 reason=NoFormat name=top\n  NoFormat: ";
-    assert!(rt; is_refused(alloc, &WAIVE, ACCEPTED, Status::Refused, line)?);
+    assert!(rt; is_refused(alloc, &WAIVE, MANIFEST, ACCEPTED, Status::Refused, line)?);
     Ok(())
 }
 
@@ -212,11 +218,11 @@ fn files_of_waivers_are_refused_first(rt: HostRuntime) -> Result<(), AllocError>
 fn files_of_waivers_that_cannot_be_read_are_told(rt: HostRuntime) -> Result<(), AllocError> {
     let alloc = rt.alloc();
     let absent = ["--waive", "v.csv"];
-    assert!(rt; is_refused(alloc, &absent, "", Status::Device, "device\n")?);
+    assert!(rt; is_refused(alloc, &absent, WRONG, "", Status::Device, "device\n")?);
     let json = ["--waive", "v.csv", "--format", "json"];
     let object =
         "{\"format\":\"ringcheck\",\"version\":1,\"result\":\"device\",\"waivers\":true}\n";
-    assert!(rt; is_refused(alloc, &json, "", Status::Device, object)?);
+    assert!(rt; is_refused(alloc, &json, WRONG, "", Status::Device, object)?);
     Ok(())
 }
 
@@ -266,7 +272,7 @@ fn no_waivers_are_taken_to_print_some(rt: HostRuntime) -> Result<(), AllocError>
         ),
     ] {
         assert!(rt;
-            is_refused(alloc, &options, "", Status::Usage, line)?,
+            is_refused(alloc, &options, WRONG, "", Status::Usage, line)?,
             "{line}"
         );
     }

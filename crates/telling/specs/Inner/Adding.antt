@@ -5,10 +5,12 @@ use Rattle.ring_rules.specs.declared.finding.Finding.{Finding}
 use Rattle.margins.specs.declared.best.Best.{Best}
 use Rattle.package_check.specs.Boards.{Survey}
 use Rattle.measuring.specs.Measures.{AreLayerBests}
+use Rattle.measuring.specs.Rows.{AreFilledFiles}
 use Rattle.flashed_boards.specs.Flashed.{FlashedSurvey}
 use Rattle.causes.specs.Causes.{IsKnown}
 use Rattle.telling.specs.Telling.{layer_flashes}
 use Rattle.telling.specs.declared.rings.Known.{Known}
+use Rattle.telling.specs.declared.rings.Prepared.{Prepared}
 
 -- what is known of a layer is that of its flashes and the holes of the board (docs/DEFINITIONS.md, Reports)
 abbrev pub IsKnownAt : FlashedSurvey → Known → Type 0
@@ -17,6 +19,12 @@ IsKnownAt flashed known = IsKnown (layer_flashes flashed known.layer) flashed.bo
 -- the best pads of each layer of a board, for each of its holes (docs/DEFINITIONS.md, Reports)
 abbrev pub AreBoardBests : Survey → List (Vec (Option Best)) → Type 0
 AreBoardBests board bests = AreLayerBests board (length board.layers) (map (λ its. its.items) bests)
+
+-- what is made once of a board: the pads of its layers, the best of these for each hole, and its drill files that have holes (docs/DEFINITIONS.md, Reports)
+pub record IsPrepared (board : Survey) (prepared : Prepared) : Type 0 where
+  pub layers : map (λ pads. pads.now) prepared.layers.now ≡ board.layers
+  pub bests : AreBoardBests board prepared.bests.now
+  pub files : AreFilledFiles board prepared.files.now
 
 -- a finding that is asked is told behind the others, and another is passed over (docs/DEFINITIONS.md, Reports)
 abbrev pub Adds : {T : Type 0} → Bool → (Finding → T → Type 0) → Finding → List T → List T → Type 0

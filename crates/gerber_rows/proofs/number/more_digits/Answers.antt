@@ -2,7 +2,8 @@ use Rattle.std.proofs.Common.{◌≡◌, ◌+◌, ◌*◌, ◌≤◌, ◌<◌, �
 use Rattle.std.proofs.Math.Nat.{pow-le-pow_right}
 use Rattle.std.proofs.lemmas.List.Elements.{All-more}
 use Rattle.grid_units.specs.Numbers.{is_digit}
-use Rattle.gerber_rows.proofs.Numerals.{value_more, bound_more, digit_small}
+use Rattle.gerber_rows.proofs.Numerals.{value_more, bound_more}
+use Rattle.grid_units.proofs.Digits.{digit_small}
 use Rattle.gerber_rows.proofs.number.more_digits.Goals as goal
 
 pub returns-then-not-is_digit-clause-bound : goal.returns-then-not-is_digit-clause-bound

@@ -22,6 +22,6 @@ pub returns-clause-value : goal.returns-clause-value
 returns-clause-value c =
     let run = c.args.run.now in
     let n = c.value_of.result in
-    let read = read_ok run c.behind_sign-digits.result.now c.zeros_len.result n c.behind_sign-digits.ensures (sym c.is_digits.ensures ∙ c.if-not-is_digits.false) c.zeros_len.ensures.len c.if-significant-gt12.false c.value_of.ensures.value in
+    let read = read_ok run c.behind_sign-digits.result.now c.run_of.result n c.behind_sign-digits.ensures (sym c.is_digits.ensures ∙ c.if-not-is_digits.false) c.run_of.ensures.len c.if-significant-gt12.false c.value_of.ensures.value in
     let fits : to_z w64 (of_z w64 c.signed-2.result) ≡ c.signed-2.result = search (rules, to_z-of_z) in
     ap (λ (z : ℤ). Ok z) (fits ∙ (c.signed-2.ensures.value ∙ ap (λ t. cond t (neg_ℤ (pos n)) (pos n)) c.is_negative-2.ensures)) ∙ sym read

@@ -2,7 +2,7 @@ use Rattle.std.proofs.Common.{ℕ, List, [], Result, Ok, Err}
 use Rattle.std.specs.Prelude.{OnOk, IfErr}
 use Rattle.grid_units.specs.declared.fault.Fail.{Fail}
 use Rattle.gerber_text.specs.declared.reader.WordReader.{WordReader}
-use Rattle.gerber_text.specs.Standing.{StandsAfter, HasFailed}
+use Rattle.gerber_text.specs.Holding.{StandsAfter, HasFailed}
 use Rattle.gerber_text.proofs.reader.read_kept.Goals as goal
 
 -- a reader that was fed stands after the text or has failed

@@ -43,7 +43,7 @@ loop-layer-preserved c = record {
       ∙ ap (λ (layers : List (List Pad)). get_or layers c.loop-layer.layer []) c.in_ok-layers.ensures) c.in_ok-bests.ensures));
 }
 
-all_layers_seen : (c : goal.After-drop-layers-2) → c.loop-layer.layer ≡ length c.args.board.now.layers
+all_layers_seen : (c : goal.After-drop-files-2) → c.loop-layer.layer ≡ length c.args.board.now.layers
 all_layers_seen c =
     let size : c.len-layer-end.result ≡ length c.in_ok-layers.layers.items = search rules in
     let mapped = length-map c.in_ok-layers.layers.items (λ pads. pads.now) in

@@ -1,24 +1,24 @@
-use Rattle.std.proofs.Common.{◌≤◌, ◌++◌, List, length, refl, subst, ap, ◌∙◌, arith}
-use Rattle.package_check.specs.declared.FileSum.{FileSum}
+use Rattle.std.proofs.Common.{◌++◌, List, get_or, refl, ap, ◌∙◌}
+use Rattle.std.proofs.lemmas.List.{get_or_default}
 use Rattle.margin_text.specs.declared.RingLine.{RingLine}
+use Rattle.measuring.specs.declared.places.FileHoles.{FileHoles}
 use Rattle.measuring.specs.declared.rows.Stretch.{Stretch}
-use Rattle.measuring.proofs.Joining.{first_file, last_file, next_file}
+use Rattle.measuring.proofs.Layered.{first_file, last_file, next_file}
 use Rattle.measuring.proofs.rows.push_layer.Goals as goal
 
-pub loop-drill-init : goal.loop-drill-init
-loop-drill-init c = record {
-  start = omega arith;
-  lines = first_file c.args.board.now c.args.layer c.args.lines.now.items c.requires.so_far;
-}
+pub loop-file-init : goal.loop-file-init
+loop-file-init c = first_file c.args.board.now c.args.files.now c.requires.files c.args.layer c.args.lines.now.items c.requires.so_far
 
-pub loop-drill-preserved : goal.loop-drill-preserved
-loop-drill-preserved c =
-    let stretch : Stretch = record { layer = c.args.layer; drill = c.loop-drill.drill; start = c.loop-drill.start; end = c.end_of-end.result } in
-    record {
-      start = c.end_of-end.ensures.ends;
-      lines = next_file c.args.board.now c.args.layer c.loop-drill.drill stretch c.loop-drill.lines.items c.in_ok-its.its.items c.extend_from_slice.new.self.items refl refl
-          (c.in_ok-extend_from_slice.ensures.items ∙ ap (λ (xs : List RingLine). c.loop-drill.lines.items ++ xs) c.deref.ensures.value) c.loop-drill.invariant.lines c.in_ok-its.ensures;
-    }
+pub loop-file-preserved : goal.loop-file-preserved
+loop-file-preserved c =
+    let files = c.args.files.now in
+    let i = c.loop-file.file-index in
+    let none : FileHoles = record { drill = 0; start = 0; end = 0 } in
+    let file = get_or files i none in
+    let stretch : Stretch = record { layer = c.args.layer; drill = file.drill; start = file.start; end = file.end } in
+    next_file c.args.board.now files c.requires.files c.args.layer i stretch c.loop-file.lines.items c.in_ok-its.its.items c.extend_from_slice.new.self.items c.loop-file-test.true refl
+    (λ (d : FileHoles). ap (λ (f : FileHoles). f.drill) (get_or_default files i d none c.loop-file-test.true))
+    (c.in_ok-extend_from_slice.ensures.items ∙ ap (λ (xs : List RingLine). c.loop-file.lines.items ++ xs) c.deref.ensures.value) c.loop-file.invariant c.in_ok-its.ensures
 
 pub returns : goal.returns
-returns c = last_file c.args.board.now c.args.layer c.loop-drill.drill c.loop-drill.lines.items (subst (λ (fs : List FileSum). length fs ≤ c.loop-drill.drill) c.files-files.ensures.sums c.loop-drill-test.false) c.loop-drill.invariant.lines
+returns c = last_file c.args.board.now c.args.files.now c.requires.files c.args.layer c.loop-file.file-index c.loop-file.lines.items c.loop-file-test.false c.loop-file.invariant

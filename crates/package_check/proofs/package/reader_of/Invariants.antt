@@ -1,6 +1,6 @@
 use Rattle.std.proofs.Common.{◌≡◌, map, take}
 use Rattle.package_check.specs.Package.{layer_count, source_of}
-use Rattle.package_check.specs.Standing.{PackageStandsAfter, copper_files}
+use Rattle.package_check.specs.Holding.{PackageStandsAfter, copper_files}
 use Rattle.package_check.proofs.package.reader_of.Given as goal
 
 abbrev pub invariant-loop-file : goal.invariant-loop-file

@@ -1,6 +1,6 @@
 use Rattle.std.proofs.Common.{◌≡◌, ℕ, List, ◌++◌}
 use Rattle.std.specs.Slice.Iter.{chunks_rest, chunks_size}
-use Rattle.layer_image.specs.Standing.{FlashesStandAfter}
+use Rattle.layer_image.specs.Holding.{FlashesStandAfter}
 use Rattle.package_check.proofs.readers.feed_flashes.Given as goal
 
 abbrev pub invariant-loop-bytes : goal.invariant-loop-bytes

@@ -1,7 +1,7 @@
 use Rattle.std.proofs.Common.{◌≡◌, ◌++◌, ℕ, List, [], ap, rules, subst, sym, ◌∙◌, append_assoc, append-nil}
 use Rattle.std.proofs.lemmas.Result.{err_from_is_err_and}
 use Rattle.std.specs.Slice.Iter.{chunks_rest}
-use Rattle.layer_image.specs.Standing.{SumStandsAfter}
+use Rattle.layer_image.specs.Holding.{SumStandsAfter}
 use Rattle.package_check.proofs.Joining.{told_longer}
 use Rattle.package_check.proofs.readers.feed_layer.Goals as goal
 

@@ -1,6 +1,6 @@
 use Rattle.std.proofs.Common.{◌≡◌, ℕ, List, ◌++◌}
 use Rattle.std.specs.Slice.Iter.{chunks_rest, chunks_size}
-use Rattle.layer_image.specs.Standing.{SumStandsAfter}
+use Rattle.layer_image.specs.Holding.{SumStandsAfter}
 use Rattle.package_check.proofs.readers.feed_layer.Given as goal
 
 abbrev pub invariant-loop-chunk : goal.invariant-loop-chunk

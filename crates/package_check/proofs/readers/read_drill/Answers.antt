@@ -3,7 +3,7 @@ use Rattle.std.proofs.lemmas.List.{take_all}
 use Rattle.std.proofs.lemmas.Result.{err_from_is_err_and}
 use Rattle.std.specs.Global.{Vec}
 use Rattle.grid_units.specs.Holes.{GridHole}
-use Rattle.drill_text.specs.Standing.{HolesStandAfter}
+use Rattle.drill_text.specs.Holding.{HolesStandAfter}
 use Rattle.package_check.proofs.Joining.{drill_joined, joined, joined_all, joined_more, no_piece}
 use Rattle.package_check.proofs.readers.read_drill.Goals as goal
 

@@ -1,6 +1,6 @@
 use Rattle.std.proofs.Common.{map, take}
 use Rattle.std.specs.List.{concat}
-use Rattle.drill_text.specs.Standing.{HolesStandAfter}
+use Rattle.drill_text.specs.Holding.{HolesStandAfter}
 use Rattle.package_check.proofs.readers.read_drill.Given as goal
 
 abbrev pub invariant-loop-piece : goal.invariant-loop-piece

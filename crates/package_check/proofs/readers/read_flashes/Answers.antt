@@ -1,7 +1,7 @@
 use Rattle.std.proofs.Common.{◌+◌, ◌++◌, List, ℕ, Bor, get_or, drop, subst, take}
 use Rattle.std.proofs.lemmas.List.{take_all}
 use Rattle.std.proofs.lemmas.Result.{err_from_is_err_and}
-use Rattle.layer_image.specs.Standing.{FlashesStandAfter}
+use Rattle.layer_image.specs.Holding.{FlashesStandAfter}
 use Rattle.package_check.proofs.Joining.{flashes_joined, joined, joined_all, joined_more, no_piece}
 use Rattle.package_check.proofs.readers.read_flashes.Goals as goal
 

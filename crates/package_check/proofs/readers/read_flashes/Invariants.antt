@@ -1,6 +1,6 @@
 use Rattle.std.proofs.Common.{map, take}
 use Rattle.std.specs.List.{concat}
-use Rattle.layer_image.specs.Standing.{FlashesStandAfter}
+use Rattle.layer_image.specs.Holding.{FlashesStandAfter}
 use Rattle.package_check.proofs.readers.read_flashes.Given as goal
 
 abbrev pub invariant-loop-piece : goal.invariant-loop-piece

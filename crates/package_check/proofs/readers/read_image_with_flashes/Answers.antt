@@ -1,6 +1,6 @@
 use Rattle.std.proofs.Common.{◌≡◌, ap, ◌∙◌}
 use Rattle.layer_image.specs.Flashes.{pads_of}
-use Rattle.layer_image.specs.Standing.{FlashImage}
+use Rattle.layer_image.specs.Holding.{FlashImage}
 use Rattle.package_check.specs.Readers.{is_copper_function}
 use Rattle.package_check.proofs.Flashing.{pads_are}
 use Rattle.package_check.proofs.Joining.{joined}

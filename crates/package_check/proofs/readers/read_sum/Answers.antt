@@ -1,7 +1,7 @@
 use Rattle.std.proofs.Common.{◌+◌, ◌++◌, List, ℕ, Bor, get_or, drop, subst, take}
 use Rattle.std.proofs.lemmas.List.{take_all}
 use Rattle.std.proofs.lemmas.Result.{err_from_is_err_and}
-use Rattle.layer_image.specs.Standing.{SumStandsAfter}
+use Rattle.layer_image.specs.Holding.{SumStandsAfter}
 use Rattle.package_check.proofs.Joining.{joined, joined_all, joined_more, no_piece, sum_joined}
 use Rattle.package_check.proofs.readers.read_sum.Goals as goal
 

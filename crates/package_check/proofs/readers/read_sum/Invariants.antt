@@ -1,6 +1,6 @@
 use Rattle.std.proofs.Common.{map, take}
 use Rattle.std.specs.List.{concat}
-use Rattle.layer_image.specs.Standing.{SumStandsAfter}
+use Rattle.layer_image.specs.Holding.{SumStandsAfter}
 use Rattle.package_check.proofs.readers.read_sum.Given as goal
 
 abbrev pub invariant-loop-piece : goal.invariant-loop-piece

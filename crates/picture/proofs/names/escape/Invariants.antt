@@ -1,7 +1,7 @@
-use Rattle.std.proofs.Common.{◌≡◌, take}
-use Rattle.std.specs.List.{flat_map}
-use Rattle.picture.specs.Escapes.{escaped_byte}
+use Rattle.std.proofs.Common.{◌≡◌, ◌++◌, drop}
+use Rattle.picture.specs.Escapes.{escaped, escaped_behind}
 use Rattle.picture.proofs.names.escape.Given as goal
 
+-- what is written, and what is left to write behind it, are the whole
 abbrev pub invariant-loop-byte : goal.invariant-loop-byte
-invariant-loop-byte l = l.text.items ≡ flat_map escaped_byte (take l.byte-index l.name)
+invariant-loop-byte l = l.text.items ++ escaped_behind l.first l.second (drop l.byte-index l.name) ≡ escaped l.name

@@ -12,8 +12,8 @@ returns c =
     let s2 = string_bytes c.push_note_start.new.text in
     let s3 = string_bytes c.push_note.new.text in
     let r3 : List ℕ = board_box c.args.frame.now in
-    let r2 = note c.args.scene.now ++ r3 in
+    let r2 = note c.args.pen.now c.args.scene.now ++ r3 in
     let r1 = note_start c.args.pen.now c.args.frame.now ++ r2 in
     on_ok_weaker c.push_board_box.result
-    (λ e. e ∙ sym (pushed s0 s1 (codes "</text>\n") r1 c.in_ok-push_words.ensures ∙ pushed s1 s2 (note_start c.args.pen.now c.args.frame.now) r2 c.in_ok-push_note_start.ensures ∙ pushed s2 s3 (note c.args.scene.now) r3 c.in_ok-push_note.ensures))
+    (λ e. e ∙ sym (pushed s0 s1 (codes "</text>\n") r1 c.in_ok-push_words.ensures ∙ pushed s1 s2 (note_start c.args.pen.now c.args.frame.now) r2 c.in_ok-push_note_start.ensures ∙ pushed s2 s3 (note c.args.pen.now c.args.scene.now) r3 c.in_ok-push_note.ensures))
     c.push_board_box.ensures

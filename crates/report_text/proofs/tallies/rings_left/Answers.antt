@@ -1,21 +1,31 @@
 use Rattle.std.proofs.Common.{◌∙◌, ◌+◌, ℕ, Bool, ap, ap₂, arith, sym}
 use Rattle.std.specs.Prelude.{◌==◌, ◌&&◌, not, if◌then◌else◌}
+use Rattle.std.specs.List.{count_by}
 use Rattle.report_text.specs.declared.RingLack.{RingLack}
 use Rattle.report_text.specs.Texts.{is_shown}
-use Rattle.report_text.proofs.Showing.{marks_all, rings_counted, rings_counted_more}
+use Rattle.report_text.proofs.Showing.{rings_counted_more}
+use Rattle.report_text.proofs.Standing.{all_behind, none_before}
 use Rattle.report_text.proofs.tallies.rings_left.Goals as goal
+
+pub loop-i-init : goal.loop-i-init
+loop-i-init c = record {
+  within = omega arith;
+  counted = sym (ap (count_by (λ (finding : ℕ × RingLack). not (is_shown c.args.most finding.0))) (none_before c.args.rings.now c.args.run.layer c.args.run c.requires));
+}
 
 pub loop-i-preserved : goal.loop-i-preserved
 loop-i-preserved c =
     let i = c.loop-i.i in
     let most = c.args.most in
-    let layer = c.args.layer in
+    let layer = c.args.run.layer in
     let left = c.is_left_on.ensures ∙ ap (λ (x : RingLack). (x.layer == layer) && not (is_shown most i)) c.index-rings-i.is in
     record {
       within = omega (arith, c.loop-i.invariant.within, c.one_if-left.ensures.within);
       counted = ap₂ (λ (a b : ℕ). a + b) c.loop-i.invariant.counted (c.one_if-left.ensures.value ∙ ap (λ (b : Bool). if b then 1 else 0) left)
-          ∙ sym (rings_counted_more (λ (n : ℕ). not (is_shown most n)) layer c.args.rings.now i c.index-rings-i.result c.loop-i-test.true);
+          ∙ sym (rings_counted_more (λ (n : ℕ). not (is_shown most n)) layer c.args.rings.now i c.index-rings-i.result (omega (arith, c.loop-i-test.true, c.requires.inside)));
     }
 
 pub returns : goal.returns
-returns c = c.loop-i.invariant.counted ∙ ap (rings_counted (λ (n : ℕ). not (is_shown c.args.most n)) c.args.layer) (marks_all 0 c.args.rings.now c.loop-i.i c.loop-i-test.false)
+returns c =
+    c.loop-i.invariant.counted
+    ∙ ap (count_by (λ (finding : ℕ × RingLack). not (is_shown c.args.most finding.0))) (all_behind c.args.rings.now c.args.run.layer c.args.run c.loop-i.i c.requires c.loop-i-test.false)

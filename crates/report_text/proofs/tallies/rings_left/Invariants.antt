@@ -7,5 +7,5 @@ use Rattle.report_text.proofs.tallies.rings_left.Given as goal
 abbrev pub invariant-loop-i : goal.invariant-loop-i
 invariant-loop-i l = record {
   within : l.left ≤ l.i;
-  counted : l.left ≡ count_by (λ finding. not (is_shown l.most finding.0)) (filter (λ finding. finding.1.layer == l.layer) (take l.i (enumerate_from 0 l.rings)));
+  counted : l.left ≡ count_by (λ finding. not (is_shown l.most finding.0)) (filter (λ finding. finding.1.layer == l.run.layer) (take l.i (enumerate_from 0 l.rings)));
 }

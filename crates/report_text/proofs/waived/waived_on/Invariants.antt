@@ -7,5 +7,5 @@ use Rattle.report_text.proofs.waived.waived_on.Given as goal
 abbrev pub invariant-loop-i : goal.invariant-loop-i
 invariant-loop-i l = record {
   within : l.waived ≤ l.i;
-  counted : l.waived ≡ count_by (λ finding. is_waived l.whys finding.0) (filter (λ finding. finding.1.layer == l.layer) (take l.i (enumerate_from 0 l.rings)));
+  counted : l.waived ≡ count_by (λ finding. is_waived l.whys finding.0) (filter (λ finding. finding.1.layer == l.run.layer) (take l.i (enumerate_from 0 l.rings)));
 }

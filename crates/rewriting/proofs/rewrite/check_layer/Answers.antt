@@ -1,7 +1,7 @@
-use Rattle.std.proofs.Common.{◌≡◌, ◌++◌, ℕ, List, [], ap, rules, subst, sym, ◌∙◌, append_assoc, append-nil}
+use Rattle.std.proofs.Common.{◌++◌, ℕ, List, [], ap, rules, subst, sym, ◌∙◌, append_assoc}
 use Rattle.std.proofs.lemmas.Result.{err_from_is_err_and}
 use Rattle.std.specs.Slice.Iter.{chunks_rest}
-use Rattle.layer_image.specs.Standing.{SumStandsAfter}
+use Rattle.layer_image.specs.Holding.{SumStandsAfter}
 use Rattle.rewriting.proofs.Written.{joined, sum_refused}
 use Rattle.rewriting.proofs.rewrite.check_layer.Goals as goal
 use Rattle.grid_units.proofs.ListLemmas.{done_all}

@@ -1,6 +1,6 @@
 use Rattle.std.proofs.Common.{◌≡◌, ℕ, List, ◌++◌}
 use Rattle.std.specs.Slice.Iter.{chunks_rest, chunks_size}
-use Rattle.layer_image.specs.Standing.{SumStandsAfter}
+use Rattle.layer_image.specs.Holding.{SumStandsAfter}
 use Rattle.rewriting.proofs.rewrite.check_layer.Given as goal
 
 abbrev pub invariant-loop-piece : goal.invariant-loop-piece

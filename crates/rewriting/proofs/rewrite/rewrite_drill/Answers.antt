@@ -1,4 +1,4 @@
-use Rattle.std.proofs.Common.{[], ◌++◌, refl}
+use Rattle.std.proofs.Common.{[], refl}
 use Rattle.std.proofs.lemmas.Result.{err_from_is_err_and}
 use Rattle.rewriting.proofs.Written.{drill_refused}
 use Rattle.rewriting.proofs.rewrite.rewrite_drill.Goals as goal

@@ -5,22 +5,22 @@ use Rattle.ring_rules.specs.declared.finding.Drilled.{Drilled}
 use Rattle.ring_rules.specs.declared.finding.Finding.{Finding}
 use Rattle.ring_rules.proofs.Listing.{listed, listed_more, listed_more_none, enumerated_all}
 use Rattle.ring_rules.proofs.rings.layer_findings.Goals as goal
-use Rattle.ring_rules.proofs.rings.layer_findings.Goals.{then-wanting-hole+in_ok-push, else-wanting-hole}
+use Rattle.ring_rules.proofs.rings.layer_findings.Goals.{then-lacking-hole+in_ok-push, else-lacking-hole}
 
 pub loop-hole-preserved : goal.loop-hole-preserved
 loop-hole-preserved c =
     let k = c.loop-hole.hole in
     let d = c.index-holes-hole.result in
     let at : get_or c.args.holes.now k d ≡ d = sym c.index-holes-hole.is in
-    let mark : (test : Drilled → Bool) → c.args.wanting.now ≡ map test c.args.holes.now → (b : Bool) → get_or c.args.wanting.now k false ≡ b → test (get_or c.args.holes.now k d) ≡ b =
+    let mark : (test : Drilled → Bool) → c.args.lacking.now ≡ map test c.args.holes.now → (b : Bool) → get_or c.args.lacking.now k false ≡ b → test (get_or c.args.holes.now k d) ≡ b =
     λ test e b is. sym (get_or-map test c.args.holes.now k d false c.loop-hole-test.true) ∙ (ap (λ (bs : List Bool). get_or bs k false) (sym e) ∙ is) in
-    elim c.if-wanting-hole.branch [
-      | then-wanting-hole+in_ok-push w ↦ λ test e.
+    elim c.if-lacking-hole.branch [
+      | then-lacking-hole+in_ok-push w ↦ λ test e.
           ap (λ v. v.items) w.findings-is
           ∙ (w.in_ok-push.ensures.items
           ∙ (ap (λ (f : Finding). c.loop-hole.findings.items ++ f ∷ []) (w.finding_of.ensures ∙ ap (λ (x : Drilled). finding_of c.args.layer (k, x)) (sym at))
-          ∙ listed_more (finding_of c.args.layer) (λ (hole : ℕ × Drilled). test hole.1) true _ _ c.args.holes.now k d c.loop-hole-test.true (mark test e true w.if-wanting-hole.true) (c.loop-hole.invariant test e)))
-      | else-wanting-hole w ↦ λ test e. ap (λ v. v.items) w.findings-is ∙ listed_more_none (finding_of c.args.layer) (λ (hole : ℕ × Drilled). test hole.1) _ _ c.args.holes.now k d c.loop-hole-test.true (mark test e false w.if-wanting-hole.false) (c.loop-hole.invariant test e)
+          ∙ listed_more (finding_of c.args.layer) (λ (hole : ℕ × Drilled). test hole.1) true _ _ c.args.holes.now k d c.loop-hole-test.true (mark test e true w.if-lacking-hole.true) (c.loop-hole.invariant test e)))
+      | else-lacking-hole w ↦ λ test e. ap (λ v. v.items) w.findings-is ∙ listed_more_none (finding_of c.args.layer) (λ (hole : ℕ × Drilled). test hole.1) _ _ c.args.holes.now k d c.loop-hole-test.true (mark test e false w.if-lacking-hole.false) (c.loop-hole.invariant test e)
     ]
 
 pub returns : goal.returns

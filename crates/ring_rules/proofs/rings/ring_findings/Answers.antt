@@ -1,7 +1,7 @@
 use Rattle.std.proofs.Common.{◌≡◌, Bool, ◌<◌, List, length, map, get_or, ◌++◌, Bor, ap, sym, ◌∙◌, arith}
 use Rattle.std.proofs.lemmas.List.{length-map, get_or-map}
 use Rattle.std.specs.List.{flat_map}
-use Rattle.ring_rules.specs.Findings.{layer_findings, is_wanting}
+use Rattle.ring_rules.specs.Findings.{layer_findings, is_ring_finding}
 use Rattle.ring_rules.specs.declared.finding.Drilled.{Drilled}
 use Rattle.ring_rules.proofs.Listing.{flat_listed_more, enumerated_all}
 use Rattle.ring_rules.proofs.rings.ring_findings.Goals as goal
@@ -14,8 +14,8 @@ loop-layer-preserved g c =
     get_or-map (λ (pads : Bor (List g.row.S.Denot)). pads.now) c.args.layers.now c.loop-layer.layer c.index-layers-layer.result c.index-layers-layer.result.now c.loop-layer-test.true
     ∙ ap (λ (pads : Bor (List g.row.S.Denot)). pads.now) (sym c.index-layers-layer.is) in
     let pads = c.index-layers-layer.result.now in
-    let test : Drilled → Bool = is_wanting g.S.PadShape.covers c.args.rules.ring c.loop-layer.layer pads in
-    let marks : c.deref.result.now ≡ map test c.args.holes.now = c.deref.ensures.value ∙ c.in_ok-wanting.ensures in
+    let test : Drilled → Bool = is_ring_finding g.S.PadShape.covers c.args.rules.ring c.loop-layer.layer pads in
+    let marks : c.deref.result.now ≡ map test c.args.holes.now = c.deref.ensures.value ∙ c.in_ok-lacking.ensures in
     c.in_ok-layer_findings.ensures test marks
     ∙ (ap (λ pads. c.loop-layer.findings.items ++ layer_findings g.S.PadShape.covers c.args.rules.ring c.args.holes.now c.loop-layer.layer pads) (sym read)
     ∙ flat_listed_more (λ layer. layer_findings g.S.PadShape.covers c.args.rules.ring c.args.holes.now layer.0 layer.1) c.loop-layer.findings.items (map (λ (pads : Bor (List g.row.S.Denot)). pads.now) c.args.layers.now) c.loop-layer.layer c.index-layers-layer.result.now inside c.loop-layer.invariant)

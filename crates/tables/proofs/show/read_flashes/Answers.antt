@@ -3,7 +3,7 @@ use Rattle.std.proofs.lemmas.Result.{err_from_is_err_and}
 use Rattle.std.specs.Global.{Vec}
 use Rattle.std.specs.Slice.Iter.{chunks_rest}
 use Rattle.layer_image.specs.declared.flash.Flash.{Flash}
-use Rattle.layer_image.specs.Standing.{FlashesStandAfter}
+use Rattle.layer_image.specs.Holding.{FlashesStandAfter}
 use Rattle.tables.proofs.Pieces.{flashes_joined}
 use Rattle.tables.proofs.show.read_flashes.Goals as goal
 use Rattle.grid_units.proofs.ListLemmas.{done_all}

@@ -1,18 +1,13 @@
-use Rattle.std.proofs.Common.{List, take, subst, sym}
-use Rattle.std.specs.Prelude.{not}
-use Rattle.std.specs.List.{AllZip, filter}
-use Rattle.std.proofs.lemmas.List.{take_more}
-use Rattle.ring_rules.specs.declared.finding.Finding.{Finding}
-use Rattle.telling.specs.Telling.{TellsRing, is_gap}
-use Rattle.telling.proofs.Added.{added}
+use Rattle.std.proofs.Common.{◌≡◌, Bor, List, ap, map, ◌∙◌, rules}
+use Rattle.pad_shapes.specs.declared.pad.Pad.{Pad}
+use Rattle.package_check.specs.Boards.{Survey}
 use Rattle.telling.proofs.rings.tell_rings.Goals as goal
 
-pub loop-finding-preserved : goal.loop-finding-preserved
-loop-finding-preserved c =
-    let i = c.loop-finding.finding-index in
-    let all = c.args.findings.now in
+pub tell_each-requires-clause-prepared : goal.tell_each-requires-clause-prepared
+tell_each-requires-clause-prepared c =
+    let seen : c.flashed.inside.board ≡ c.args.flashed.now.board = search rules in
     record {
-      known = c.in_ok-known.ensures.known;
-      told = subst (λ (xs : List Finding). AllZip (TellsRing c.args.flashed.now c.args.rules.ring) (filter (λ finding. not (is_gap finding)) xs) c.push.new.told.items) (sym (take_more all i _ c.loop-finding-test.true))
-          (added (TellsRing c.args.flashed.now c.args.rules.ring) (λ finding. not (is_gap finding)) (take i all) _ c.loop-finding.told.items c.push.new.told.items c.loop-finding.invariant.told c.in_ok-known.ensures.adds);
+      layers = ap (map (λ (pads : Bor (List Pad)). pads.now)) c.deref.ensures.value ∙ (c.in_ok-layers.ensures ∙ ap (λ (board : Survey). board.layers) seen);
+      bests = c.requires.bests;
+      files = c.requires.files;
     }

@@ -16,9 +16,9 @@ returns c =
     record {
       rules = refl;
       layers = c.in_ok-heads.ensures ∙ ap (λ (s : Survey). map (head_of s.holes) (enumerate_from 0 s.layer_indexes)) board;
-      rings = subst (λ (fs : List Finding). AllZip (TellsRing flashed asked.ring) (filter (λ finding. not (is_gap finding)) fs) c.in_ok-tell_rings.field-0.items) (c.deref-3.ensures.value ∙ found) c.in_ok-tell_rings.ensures;
-      gaps = subst (λ (fs : List Finding). AllZip (TellsGap flashed.board asked.gap) (filter is_gap fs) c.in_ok-tell_gaps.field-0.items) (c.deref-4.ensures.value ∙ found)
-          (subst (λ (s : Survey). AllZip (TellsGap s asked.gap) (filter is_gap c.deref-4.result.now) c.in_ok-tell_gaps.field-0.items) board c.in_ok-tell_gaps.ensures);
+      rings = subst (λ (fs : List Finding). AllZip (TellsRing flashed asked.ring) (filter (λ finding. not (is_gap finding)) fs) c.in_ok-tell_rings.field-0.items) (c.deref-4.ensures.value ∙ found) c.in_ok-tell_rings.ensures;
+      gaps = subst (λ (fs : List Finding). AllZip (TellsGap flashed.board asked.gap) (filter is_gap fs) c.in_ok-tell_gaps.field-0.items) (c.deref-6.ensures.value ∙ found)
+          (subst (λ (s : Survey). AllZip (TellsGap s asked.gap) (filter is_gap c.deref-6.result.now) c.in_ok-tell_gaps.field-0.items) board c.in_ok-tell_gaps.ensures);
       measure = c.in_ok-measure.measure;
       measured = subst (λ (s : Survey). IsMeasure s c.in_ok-measure.measure) board c.in_ok-measure.ensures.exact;
       scales = refl;

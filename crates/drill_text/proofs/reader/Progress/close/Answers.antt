@@ -10,7 +10,7 @@ use Rattle.drill_text.specs.Lines.{Splits, bytes_of}
 use Rattle.drill_text.specs.Reading.{spelled, shown}
 use Rattle.drill_text.specs.declared.kept.Kept.{Kept}
 use Rattle.drill_text.specs.Keeping.{Met, Leaves}
-use Rattle.drill_text.specs.Standing.{Refuses}
+use Rattle.drill_text.specs.Holding.{Refuses}
 use Rattle.drill_text.proofs.Splitting.{Splits-close, bytes_of-push}
 use Rattle.drill_text.proofs.Shown.{closed}
 use Rattle.drill_text.proofs.reader.Progress.close.Goals as goal

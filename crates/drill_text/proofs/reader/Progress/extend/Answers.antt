@@ -5,7 +5,7 @@ use Rattle.grid_units.specs.declared.fault.Reason.TheVariants.{TooLong}
 use Rattle.drill_text.specs.Lines.{Splits}
 use Rattle.grid_units.specs.Results.{fault}
 use Rattle.drill_text.specs.Reading.{shown}
-use Rattle.drill_text.specs.Standing.{Refuses}
+use Rattle.drill_text.specs.Holding.{Refuses}
 use Rattle.drill_text.proofs.Splitting.{Splits-grow}
 use Rattle.drill_text.proofs.Shown.{shown_ok, show_ok, show_long}
 use Rattle.drill_text.proofs.reader.Progress.extend.Goals as goal

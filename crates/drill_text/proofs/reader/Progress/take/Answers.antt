@@ -4,7 +4,7 @@ use Rattle.std.proofs.lemmas.Result.{err_from_is_err_and, IfErr-weaker}
 use Rattle.grid_units.specs.Results.{fault}
 use Rattle.drill_text.specs.Reading.{Shows}
 use Rattle.grid_units.specs.declared.fault.Reason.TheVariants.{TooLong}
-use Rattle.drill_text.specs.Standing.{Refuses, RefusesText}
+use Rattle.drill_text.specs.Holding.{Refuses, RefusesText}
 use Rattle.grid_units.specs.Results.{Tells}
 use Rattle.drill_text.proofs.Whole.{refuses_within, refuses_beyond, too_long_text}
 use Rattle.drill_text.proofs.reader.Progress.take.Goals as goal

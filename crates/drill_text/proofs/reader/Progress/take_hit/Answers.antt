@@ -3,7 +3,7 @@ use Rattle.std.proofs.lemmas.List.{length-append, take_at}
 use Rattle.std.proofs.lemmas.Result.{err_from_is_err_and}
 use Rattle.drill_lines.specs.declared.command.Coordinates.{Coordinates}
 use Rattle.drill_text.specs.Inner.Hits.{LeadsHit}
-use Rattle.drill_text.specs.Standing.{Refuses}
+use Rattle.drill_text.specs.Holding.{Refuses}
 use Rattle.drill_text.proofs.Shown.{Refuses-front}
 use Rattle.drill_text.proofs.WholeLines.{no_break, whole_taken, whole_refused}
 use Rattle.drill_text.proofs.reader.Progress.take_hit.Goals as goal

@@ -2,28 +2,28 @@ use Rattle.std.proofs.Common.{◌≡◌, ℕ, List, [], ◌∷◌, ◌++◌, len
 use Rattle.std.proofs.lemmas.Bool.{eqb-false}
 use Rattle.std.proofs.lemmas.List.{length-append, nil_from_length}
 use Rattle.gerber_rows.specs.Items.{IsUnfinished}
-use Rattle.gerber_text.specs.Cut.{Mark, Splits, marks, bytes_of}
+use Rattle.gerber_text.specs.Cut.{OffsetByte, Splits, offset_bytes, bytes_of}
 use Rattle.gerber_text.proofs.Shown.{running_ok, show_ok, out_of_memory}
 use Rattle.std.proofs.lemmas.Result.{err_from_is_err_and}
 use Rattle.gerber_text.proofs.Splitting.{Splits-grow, IsUnfinished-one}
-use Rattle.gerber_text.proofs.Steps.{marks-push, length-bytes_of}
+use Rattle.gerber_text.proofs.Steps.{offset_bytes-push, length-bytes_of}
 use Rattle.gerber_text.proofs.reader.Progress.begin.Goals as goal
 
 pub returns-clause-ok : goal.returns-clause-ok
 returns-clause-ok c gone text h =
     let b = c.args.byte in
-    let m : Mark = (length text, b) in
+    let m : OffsetByte = (length text, b) in
     let none = sym h.ended ∙ c.requires.running in
     let is = h.pending none in
     let item_empty : c.args.self.now.item.items ≡ [] = nil_from_length _ (omega (arith, c.args.self.now.item.ok.0, c.requires.fresh)) in
     let rest_empty : h.rest ≡ [] = nil_from_length h.rest (sym (length-bytes_of h.rest) ∙ (ap length (sym is) ∙ ap length item_empty)) in
-    let one : h.rest ++ m ∷ [] ≡ m ∷ [] = ap (λ (r : List Mark). r ++ m ∷ []) rest_empty in
+    let one : h.rest ++ m ∷ [] ≡ m ∷ [] = ap (λ (r : List OffsetByte). r ++ m ∷ []) rest_empty in
     let before = running_ok h.items h.rest _ none h.commands in
-    let grown = Splits-grow (marks text) h.items h.rest (m ∷ []) h.splits (λ _. subst (λ (r : List Mark). IsUnfinished (bytes_of r)) (sym one) (IsUnfinished-one b (eqb-false b 42 c.requires.inside.0))) in
+    let grown = Splits-grow (offset_bytes text) h.items h.rest (m ∷ []) h.splits (λ _. subst (λ (r : List OffsetByte). IsUnfinished (bytes_of r)) (sym one) (IsUnfinished-one b (eqb-false b 42 c.requires.inside.0))) in
     record {
       items = h.items;
       rest = m ∷ [];
-      splits = subst (λ (r : List Mark). Splits (marks (text ++ b ∷ [])) h.items r) one (subst (λ (ms : List Mark). Splits ms h.items (h.rest ++ m ∷ [])) (sym (marks-push text b c.requires.inside.1)) grown);
+      splits = subst (λ (r : List OffsetByte). Splits (offset_bytes (text ++ b ∷ [])) h.items r) one (subst (λ (ms : List OffsetByte). Splits ms h.items (h.rest ++ m ∷ [])) (sym (offset_bytes-push text b c.requires.inside.1)) grown);
       commands = show_ok h.items (m ∷ []) _ none before.0 (omega arith);
       plotting = h.plotting;
       count = h.count;

@@ -2,13 +2,13 @@ use Rattle.std.proofs.Common.{refl, ◌≡◌, ◌+◌, ◌<◌, false, ℕ, Lis
 use Rattle.std.proofs.lemmas.List.{length-append}
 use Rattle.gerber_text.specs.declared.reader.Progress.{Progress}
 use Rattle.gerber_rows.specs.Items.{ender, is_end}
-use Rattle.gerber_text.specs.Cut.{Mark, first_offset}
+use Rattle.gerber_text.specs.Cut.{OffsetByte, first_offset}
 use Rattle.std.proofs.lemmas.Result.{err_from_is_err_and}
 use Rattle.grid_units.specs.declared.fault.Fault.{Fault}
 use Rattle.grid_units.specs.declared.fault.Fail.{Fail}
 use Rattle.grid_units.specs.declared.fault.Fail.TheVariants.{Memory, Refused}
 use Rattle.gerber_text.specs.Reading.{Entries, spelled, Leaves}
-use Rattle.gerber_text.specs.Standing.{Refuses, Holds}
+use Rattle.gerber_text.specs.Holding.{Refuses, Holds}
 use Rattle.gerber_text.proofs.Shown.{too_long, out_of_memory, kept_pushed, front_of_push}
 use Rattle.gerber_text.proofs.Steps.{Closed, closes, first_is, length-bytes_of, spelled_place}
 use Rattle.gerber_text.proofs.reader.Progress.close.Goals as goal
@@ -28,7 +28,7 @@ refused : (old : Progress) (last byte : ℕ) → old.ended ≡ false → last �
     → (left : Entries) → left ≡ old.commands.items → (f : Fault) → ((gone : Entries) (text : List ℕ) → Holds old gone text → spelled (old.items + 1) byte (old.item.items ++ last ∷ []) (gone ++ old.commands.items) ≡ Err f) → Refuses old left (last ∷ []) (Refused f)
 refused old last byte running last-is fresh begun left same f err = λ gone text h.
     let k = closed old last byte gone text h running last-is fresh begun in
-    let item : List Mark = h.rest ++ (length text, last) ∷ [] in
+    let item : List OffsetByte = h.rest ++ (length text, last) ∷ [] in
     let e = err gone text h in
     record {
       items = h.items ++ item ∷ [];

@@ -2,7 +2,7 @@ use Rattle.std.proofs.Common.{◌≡◌, ◌++◌, ◌+◌, ◌≤◌, Err, cond
 use Rattle.std.specs.List.{list_all}
 use Rattle.gerber_text.specs.Cut.{bytes_of, first_offset}
 use Rattle.gerber_text.specs.Reading.{is_blank}
-use Rattle.gerber_text.specs.Standing.{Ends}
+use Rattle.gerber_text.specs.Holding.{Ends}
 use Rattle.gerber_text.proofs.Whole.{reads_ok, reads_truncated, stops_at, kept_before}
 use Rattle.gerber_text.proofs.reader.Progress.end.Goals as goal
 

@@ -5,17 +5,17 @@ use Rattle.std.proofs.lemmas.List.Elements.{recursion_from_All}
 use Rattle.grid_units.specs.declared.fault.Reason.TheVariants.{TooLong}
 use Rattle.gerber_text.specs.Inner.Bytes.{IsInside}
 use Rattle.gerber_rows.specs.Items.{ender, IsUnfinished}
-use Rattle.gerber_text.specs.Cut.{Mark, Splits, marks, bytes_of, has_end}
+use Rattle.gerber_text.specs.Cut.{OffsetByte, Splits, offset_bytes, bytes_of, has_end}
 use Rattle.grid_units.specs.Results.{fault}
-use Rattle.gerber_text.specs.Standing.{Refuses}
-use Rattle.gerber_text.proofs.Marks.{first_offset-append}
+use Rattle.gerber_text.specs.Holding.{Refuses}
+use Rattle.gerber_text.proofs.OffsetBytes.{first_offset-append}
 use Rattle.gerber_text.proofs.Shown.{running_ok, show_ok, show_long, kept_all, out_of_memory}
 use Rattle.std.proofs.lemmas.Result.{err_from_is_err_and}
 use Rattle.gerber_text.proofs.Steps.{Longer, lengthens, run_inside, run_kept, length-bytes_of}
 use Rattle.gerber_text.proofs.reader.Progress.extend.Goals as goal
 
 -- a reader inside an item, and a run that stays inside
-longer : (item run text : List ℕ) (items : List (List Mark)) (rest : List Mark) → Splits (marks text) items rest → has_end items ≡ false → item ≡ bytes_of rest → 0 < length item → AllByRecursion (IsInside (ender item)) run → Longer text items rest run
+longer : (item run text : List ℕ) (items : List (List OffsetByte)) (rest : List OffsetByte) → Splits (offset_bytes text) items rest → has_end items ≡ false → item ≡ bytes_of rest → 0 < length item → AllByRecursion (IsInside (ender item)) run → Longer text items rest run
 longer item run text items rest s none is long inside =
     lengthens text items rest run s (subst (λ (x : List ℕ). IsUnfinished (x ++ run)) is (run_inside item run long (subst IsUnfinished (sym is) (s.partial none)) inside)) (run_kept (ender item) run inside)
 

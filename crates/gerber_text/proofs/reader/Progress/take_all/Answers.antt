@@ -2,7 +2,7 @@ use Rattle.std.proofs.Common.{sym, ◌-◌, ℕ, List, length, take, drop, subst
 use Rattle.std.proofs.lemmas.List.{length-drop, length-take, take-append-drop, take_rest}
 use Rattle.std.proofs.Math.Seq.{take-add}
 use Rattle.std.proofs.lemmas.Result.{err_from_is_err_and}
-use Rattle.gerber_text.specs.Standing.{Advances, Refuses}
+use Rattle.gerber_text.specs.Holding.{Advances, Refuses}
 use Rattle.gerber_text.proofs.Shown.{Advances-then, Refuses-then}
 use Rattle.gerber_text.proofs.reader.Progress.take_all.Goals as goal
 

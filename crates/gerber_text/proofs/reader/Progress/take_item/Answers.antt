@@ -8,7 +8,7 @@ use Rattle.gerber_rows.specs.Items.{is_end}
 use Rattle.gerber_text.specs.declared.reader.Progress.{Progress}
 use Rattle.gerber_text.specs.Inner.Bytes.{IsFront}
 use Rattle.gerber_text.specs.Reading.{Entries, spelled, Leaves}
-use Rattle.gerber_text.specs.Standing.{Refuses, Holds}
+use Rattle.gerber_text.specs.Holding.{Refuses, Holds}
 use Rattle.gerber_text.proofs.Shown.{out_of_memory, kept_pushed, front_of_push}
 use Rattle.gerber_text.proofs.Steps.{length-bytes_of, spelled_place}
 use Rattle.gerber_text.proofs.Items.{Taken, takes}

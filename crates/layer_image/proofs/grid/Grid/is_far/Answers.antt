@@ -1,7 +1,8 @@
 -- A copy is far just where one at the ends is.
 use Rattle.std.proofs.Common.{◌∙◌, ◌||◌, sym, arith, ◌-◌}
 use Rattle.grid_units.specs.Numbers.{is_far}
-use Rattle.layer_image.proofs.Grids.{far_copies, no_columns, no_rows, back_128, back_steps}
+use Rattle.layer_image.proofs.Grids.{far_copies, no_columns, no_rows, back_steps}
+use Rattle.grid_units.proofs.Exactness.{back_128}
 use Rattle.layer_image.proofs.grid.Grid.is_far.Goals as goal
 use Rattle.layer_image.proofs.grid.Grid.is_far.Goals.{then-self-eq0-via-then-self-eq0, then-self-eq0-via-else-self-eq0+then-self-eq0-2}
 

@@ -5,7 +5,7 @@ use mir.Syntax.{w128, w64}
 use Rattle.grid_units.specs.declared.lengths.Unit.{Unit as Units}
 use Rattle.grid_units.specs.Numbers.{picometres}
 use Rattle.layer_image.specs.Numbers.{fine_length}
-use Rattle.layer_image.proofs.Grids.{back_128}
+use Rattle.grid_units.proofs.Exactness.{back_128}
 use Rattle.layer_image.proofs.judge.Judge.grid.Goals as goal
 
 -- a length that was computed of a number in 64 bits

@@ -2,9 +2,9 @@
 use Rattle.std.proofs.Common.{◌++◌, sym, ap, subst, ◌∙◌}
 use Rattle.std.proofs.lemmas.Result.{err_from_is_err_and}
 use Rattle.gerber_text.specs.Reading.{Entries}
-use Rattle.gerber_text.specs.Standing.{held}
+use Rattle.gerber_text.specs.Holding.{held}
 use Rattle.layer_image.specs.Keeping.{keeps_commands}
-use Rattle.layer_image.specs.Standing.{Scanned}
+use Rattle.layer_image.specs.Holding.{Scanned}
 use Rattle.layer_image.proofs.Pieces.{rule_shown, words_shown}
 use Rattle.layer_image.proofs.reader.Core.advance.Goals as goal
 

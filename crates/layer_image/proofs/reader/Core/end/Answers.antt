@@ -2,7 +2,7 @@
 use Rattle.std.proofs.Common.{◌≡◌, ◌++◌, Ok, ap, subst, ◌∙◌, append-nil}
 use Rattle.std.proofs.lemmas.Result.{err_from_is_err_and}
 use Rattle.gerber_text.specs.Reading.{Entries, Reads, KeptBefore}
-use Rattle.gerber_text.specs.Standing.{held}
+use Rattle.gerber_text.specs.Holding.{held}
 use Rattle.layer_image.proofs.Pieces.{end_err}
 use Rattle.layer_image.proofs.reader.Core.end.Goals as goal
 

@@ -3,7 +3,7 @@ use Rattle.std.proofs.Common.{refl, ap, ◌∙◌}
 use Rattle.std.proofs.lemmas.Result.{err_from_is_err_and}
 use Rattle.layer_image.specs.Keeping.{keeps_flashes}
 use Rattle.layer_image.specs.Layers.{image_of}
-use Rattle.layer_image.specs.Standing.{flash_view}
+use Rattle.layer_image.specs.Holding.{flash_view}
 use Rattle.layer_image.proofs.Reading.{by_both}
 use Rattle.layer_image.proofs.Pieces.{ends_flash_sum}
 use Rattle.layer_image.proofs.reader.FlashReader.finish_whole.Goals as goal

@@ -3,7 +3,7 @@ use Rattle.std.proofs.Common.{refl, ap, ◌∙◌}
 use Rattle.std.proofs.lemmas.Result.{err_from_is_err_and}
 use Rattle.layer_image.specs.Keeping.{keeps_pads}
 use Rattle.layer_image.specs.Layers.{image_of}
-use Rattle.layer_image.specs.Standing.{sum_view}
+use Rattle.layer_image.specs.Holding.{sum_view}
 use Rattle.layer_image.proofs.Reading.{by_both}
 use Rattle.layer_image.proofs.Pieces.{ends_sum}
 use Rattle.layer_image.proofs.reader.SumReader.finish.Goals as goal

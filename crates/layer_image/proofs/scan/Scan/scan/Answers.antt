@@ -8,7 +8,7 @@ use Rattle.std.specs.Option.{option_map}
 use Rattle.gerber_rows.specs.declared.command.Command.{Command}
 use Rattle.gerber_text.specs.declared.placed.Placed.{Placed}
 use Rattle.gerber_text.specs.Reading.{Entries}
-use Rattle.layer_image.specs.Standing.{Met, Scanned}
+use Rattle.layer_image.specs.Holding.{Met, Scanned}
 use Rattle.layer_image.specs.Rules.{broken_rule}
 use Rattle.layer_image.specs.Faults.{fault_of, fail_at, IsFirstFault}
 use Rattle.layer_image.proofs.Faulty.{stopped}

@@ -1,7 +1,7 @@
 use Rattle.std.proofs.Common.{◌++◌, take}
 use Rattle.gerber_text.specs.Reading.{Entries}
 use Rattle.layer_image.specs.declared.flashes.Keep.{Keep}
-use Rattle.layer_image.specs.Standing.{Scanned}
+use Rattle.layer_image.specs.Holding.{Scanned}
 use Rattle.layer_image.proofs.scan.Scan.scan.Given as goal
 
 abbrev pub invariant-loop-entry : goal.invariant-loop-entry

@@ -1,7 +1,7 @@
 use Rattle.std.proofs.Common.{◌++◌, ◌∷◌, [], Option, OnOk, sym, subst, ◌∙◌}
 use Rattle.grid_units.specs.declared.fault.Fail.{Fail}
 use Rattle.package_check.specs.Package.{Source}
-use Rattle.package_check.specs.Standing.{Said}
+use Rattle.package_check.specs.Holding.{Said}
 use Rattle.package_check.proofs.Joining.{joined}
 use Rattle.package_check.proofs.Taking.{next_said, none_of, some_of, still_said}
 use Rattle.package_check.proofs.package_reader.PackageReader.take.Goals as goal

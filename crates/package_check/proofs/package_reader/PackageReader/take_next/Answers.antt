@@ -1,8 +1,8 @@
 use Rattle.std.proofs.Common.{◌++◌, ◌∷◌, [], Ok, Option, OnOk, sym, subst, ◌∙◌}
 use Rattle.grid_units.specs.declared.fault.Fail.{Fail}
-use Rattle.layer_image.specs.Standing.{ReadsFlashes}
+use Rattle.layer_image.specs.Holding.{ReadsFlashes}
 use Rattle.package_check.specs.Package.{Source}
-use Rattle.package_check.specs.Standing.{Said}
+use Rattle.package_check.specs.Holding.{Said}
 use Rattle.package_check.proofs.Joining.{joined}
 use Rattle.package_check.proofs.Taking.{next_said, none_of, ok_where_none, some_of, still_said}
 use Rattle.package_check.proofs.package_reader.PackageReader.take_next.Goals as goal

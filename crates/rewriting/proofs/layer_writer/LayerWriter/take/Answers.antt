@@ -1,7 +1,7 @@
 use Rattle.std.proofs.Common.{◌++◌, subst}
 use Rattle.std.proofs.lemmas.Result.{err_from_is_err_and}
 use Rattle.gerber_text.specs.Reading.{Entries}
-use Rattle.gerber_text.specs.Standing.{held}
+use Rattle.gerber_text.specs.Holding.{held}
 use Rattle.rewriting.specs.Inner.Writing.{HoldsLines}
 use Rattle.rewriting.proofs.Written.{stops}
 use Rattle.rewriting.proofs.layer_writer.LayerWriter.take.Goals as goal

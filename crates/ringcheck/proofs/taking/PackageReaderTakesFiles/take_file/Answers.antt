@@ -2,7 +2,7 @@ use Rattle.std.proofs.Common.{◌++◌, ◌∷◌, [], List, ℕ, subst}
 use Rattle.std.specs.Result.{OnOk}
 use Rattle.std.proofs.lemmas.List.{append-nil}
 use Rattle.package_check.specs.Package.{Source}
-use Rattle.package_check.specs.Standing.{PackageStandsAfter, copper_files}
+use Rattle.package_check.specs.Holding.{PackageStandsAfter, copper_files}
 use Rattle.ringcheck.proofs.taking.PackageReaderTakesFiles.take_file.Goals as goal
 
 pub returns-clause-stands : goal.returns-clause-stands

@@ -1,0 +1,72 @@
+//! Where the rings of each layer stand in the list of all rings.
+
+ghost use Rattle.std.specs.Prelude.{◌≡◌, ◌+◌, ◌<◌, ◌^◌, ℕ, IfOk, List, length};
+ghost use Rattle.report_text.specs.Inner.{AreRuns, IsRun};
+
+use crate::RingLack;
+use std::alloc::{AllocError, Global};
+
+/// A layer, and the places in the list of rings among which all of its rings stand.
+#[derive(Clone, Copy)]
+pub(crate) struct Run {
+    /// The place of the layer among the copper files, from 0.
+    pub(crate) layer: usize,
+    /// The first of the places.
+    pub(crate) first: usize,
+    /// The place behind the last of them.
+    pub(crate) behind: usize,
+}
+
+/// A run of each of so many layers, without a ring: behind all rings.
+fn empty_runs(alloc: Global, layers: usize, rings: &[RingLack]) -> Result<Vec<Run>, AllocError>
+    ensures { IfOk result (λ runs. (length runs.items ≡ layers) × AreRuns rings.now 0 runs.items) }
+{
+    let mut runs = Vec::new(alloc);
+    for layer in 0..layers {
+        runs.push(Run {
+            layer,
+            first: rings.len(),
+            behind: rings.len(),
+        })?;
+    }
+    Ok(runs)
+}
+
+/// The run of a layer among the rings before a place, and of one more that stands there.
+fn longer(run: Run, place: usize) -> Run
+    requires { place + 1 < 2 ^ 64 }
+    ensures { (rings : List RingLack) (layer : ℕ) → place < length rings → IsRun rings place layer run → IsRun rings (place + 1) layer result }
+{
+    Run {
+        layer: run.layer,
+        first: run.first.min(place),
+        behind: place + 1,
+    }
+}
+
+/// Takes one more ring into the run of its layer, where there is one.
+fn note(runs: &mut [Run], rings: &[RingLack], place: usize)
+    requires { place < length rings.now }
+    ensures length { length runs.new ≡ length runs.old }
+    ensures noted { AreRuns rings.now place runs.old → AreRuns rings.now (place + 1) runs.new }
+{
+    let layer = rings[place].layer;
+    if layer < runs.len() {
+        runs[layer] = longer(runs[layer], place);
+    }
+}
+
+/// The runs of so many layers.
+pub(crate) fn runs_of(
+    alloc: Global,
+    layers: usize,
+    rings: &[RingLack],
+) -> Result<Vec<Run>, AllocError>
+    ensures { IfOk result (λ runs. (length runs.items ≡ layers) × AreRuns rings.now (length rings.now) runs.items) }
+{
+    let mut runs = empty_runs(alloc, layers, rings)?;
+    for i in 0..rings.len() {
+        note(&mut runs, rings, i);
+    }
+    Ok(runs)
+}
