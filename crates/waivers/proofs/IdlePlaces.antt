@@ -14,8 +14,8 @@ use Rattle.std.proofs.lemmas.Slice.Eq.{bytes_eq-Decides, slice_eq-Decides}
 use Rattle.manifest.specs.Manifest.{Row}
 use Rattle.report_text.specs.declared.Telling.{Telling}
 use Rattle.waivers.specs.Findings.{gap_fields, ring_fields}
-use Rattle.waivers.specs.Inner.{has_first, has_place, unused_numbers}
-use Rattle.waivers.specs.Waiving.{IsWaived, compared, fields_told, idle_numbers, is_by, is_by_that, is_used, numbers_where, waived_by, waives, waives_nothing}
+use Rattle.waivers.specs.Inner.{has_first, has_place, is_by, is_by_that, is_used, unused_numbers, unused_records}
+use Rattle.waivers.specs.Waiving.{IsWaived, compared, fields_told, idle_numbers, waived_by, waives, waives_nothing}
 use Rattle.waivers.specs.declared.Waiver.{Waiver}
 use Rattle.waivers.specs.declared.waiving.Waived.{Waived}
 
@@ -120,11 +120,11 @@ module _ (all : List Waiver) where
       let waiver = get_or all k d in
       ap is_some (position_from-zero (waives (compared waiver)) all) ∙ some_from (waives (compared waiver)) 0 all k d lt ((waives_is (compared waiver) waiver).1 refl)
 
-  -- the waivers whose first ones alike a set has not are those that are told to waive nothing
-  pub unused_is_idle : (used : BTreeSet ℕ) (waived : Waived) (firsts : List (Option ℕ)) (numbers : List ℕ)
+  -- the waivers whose first ones alike a set has not are those that are not used
+  unused_is : (used : BTreeSet ℕ) (waived : Waived) (firsts : List (Option ℕ)) (numbers : List ℕ)
       → ((place : ℕ) → has_place used place ≡ (list_any (is_by place) waived.rings.items || list_any (is_by place) waived.gaps.items))
-      → firsts ≡ map (λ waiver. waived_by all (compared waiver)) all → numbers ≡ unused_numbers used firsts → numbers ≡ idle_numbers all waived
-  unused_is_idle used waived firsts numbers are alike is =
+      → firsts ≡ map (λ waiver. waived_by all (compared waiver)) all → numbers ≡ unused_numbers used firsts → numbers ≡ unused_records all waived
+  unused_is used waived firsts numbers are alike is =
       let both = λ (place : ℕ). are place ∙ sym (list_any-append (is_by place) waived.rings.items waived.gaps.items) in
       is ∙ (ap (unused_numbers used) alike
       ∙ numbers_same (λ waiver. waived_by all (compared waiver)) (λ first. not (has_first used first)) (λ waiver. not (is_used all waived waiver)) 2 all
@@ -141,11 +141,19 @@ module _ (all : List Waiver) where
       ∙ ((λ i. map_twice (ring_fields names told.layers.items) (waived_by all) told.rings.items i ++ map_twice (gap_fields names) (waived_by all) told.gaps.items i)
       ∙ sym (map-append (waived_by all) (map (ring_fields names told.layers.items) told.rings.items) (map (gap_fields names) told.gaps.items)))
 
-  -- the waivers that are told to waive nothing are those whose fields no finding has
-  pub idle_is_none : (names : List (List ℕ)) (told : Telling) (waived : Waived) → IsWaived all names told waived → idle_numbers all waived ≡ numbers_where (waives_nothing (fields_told names told)) all
-  idle_is_none names told waived is =
+  -- the waivers that are not used are those whose fields no finding has
+  unused_is_none : (names : List (List ℕ)) (told : Telling) (waived : Waived) → IsWaived all names told waived → unused_records all waived ≡ idle_numbers all (fields_told names told)
+  unused_is_none names told waived is =
       let first = λ (waiver : Waiver). waived_by all (compared waiver) in
       let test = λ (place : Option ℕ). not (list_any (is_by_that place) (waived.rings.items ++ waived.gaps.items)) in
       sym (numbers_same first test (λ waiver. not (is_used all waived waiver)) 2 all (λ k d lt. refl))
       ∙ numbers_same first test (waives_nothing (fields_told names told)) 2 all
       (λ k d lt. ap not (ap (list_any (is_by_that (first (get_or all k d)))) (places_told names told waived is) ∙ first_tells_all (get_or all k d) (has_alike k d lt) (fields_told names told)))
+
+  -- so the waivers whose first ones alike a set has not waive nothing
+  pub unused_is_idle : (used : BTreeSet ℕ) (waived : Waived) (firsts : List (Option ℕ)) (numbers : List ℕ)
+      → ((place : ℕ) → has_place used place ≡ (list_any (is_by place) waived.rings.items || list_any (is_by place) waived.gaps.items))
+      → firsts ≡ map (λ waiver. waived_by all (compared waiver)) all → numbers ≡ unused_numbers used firsts
+      → (names : List (List ℕ)) (told : Telling) → IsWaived all names told waived → numbers ≡ idle_numbers all (fields_told names told)
+  unused_is_idle used waived firsts numbers are alike is names told waives_so =
+      unused_is used waived firsts numbers are alike is ∙ unused_is_none names told waived waives_so

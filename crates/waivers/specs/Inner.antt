@@ -1,16 +1,18 @@
 -- Words between the public ones and those of single steps.
-use Rattle.std.specs.Prelude.{ℕ, Bool, false, not, List, map, Option, Some, None, Result, Ok, Err}
+use Rattle.std.specs.Prelude.{◌==◌, ◌++◌, ℕ, Bool, false, not, List, map, Option, Some, None, Result, Ok, Err}
 use Rattle.std.specs.Borrow.{Bor}
 use Rattle.std.specs.BTreeMap.{BTreeMap, get_by}
 use Rattle.std.specs.BTreeSet.{BTreeSet, contains}
 use Rattle.std.specs.Cmp.Lexicographic.{slice_cmp}
-use Rattle.std.specs.List.{enumerate_from, filter}
+use Rattle.std.specs.List.{enumerate_from, filter, list_any}
 use Rattle.std.specs.Ordering.{nat_cmp}
 use Rattle.csv.specs.Writing.{default_writer, row_text}
 use Rattle.grid_units.specs.declared.fault.Reason.{Reason}
 use Rattle.manifest.specs.Manifest.{Row}
 use Rattle.waivers.specs.declared.Waiver.{Waiver}
+use Rattle.waivers.specs.declared.waiving.Waived.{Waived}
 use Rattle.waivers.specs.Reading.{broken_rule, waiver_of}
+use Rattle.waivers.specs.Waiving.{compared, numbers_where, waived_by}
 
 -- a waiver, if no rule is broken (docs/FORMATS.md, Waivers)
 abbrev pub unless_broken : Option Reason → Waiver → Result Waiver Reason
@@ -41,3 +43,21 @@ has_first used (Some place) = has_place used place
 -- the numbers from 2 of the waivers whose first ones alike a set has not (docs/FORMATS.md, Waivers)
 abbrev pub unused_numbers : BTreeSet ℕ → List (Option ℕ) → List ℕ
 unused_numbers used firsts = map (λ one. one.0) (filter (λ one. not (has_first used one.1)) (enumerate_from 2 firsts))
+
+-- a finding is waived by the waiver at a place (docs/FORMATS.md, Waivers)
+abbrev pub is_by : ℕ → Option ℕ → Bool
+is_by place None = false
+is_by place (Some by) = by == place
+
+-- there is a place, and a finding is waived by the waiver there (docs/FORMATS.md, Waivers)
+abbrev pub is_by_that : Option ℕ → Option ℕ → Bool
+is_by_that None by = false
+is_by_that (Some place) by = is_by place by
+
+-- the first waiver with the five fields of this one is that by which some finding is waived (docs/FORMATS.md, Waivers)
+abbrev pub is_used : List Waiver → Waived → Waiver → Bool
+is_used all waived waiver = list_any (is_by_that (waived_by all (compared waiver))) (waived.rings.items ++ waived.gaps.items)
+
+-- the numbers of the records of the waivers that are not used so (docs/FORMATS.md, Waivers)
+abbrev pub unused_records : List Waiver → Waived → List ℕ
+unused_records all waived = numbers_where (λ waiver. not (is_used all waived waiver)) all

@@ -1,5 +1,5 @@
 -- Which waiver waives a finding, and which waive nothing.
-use Rattle.std.specs.Prelude.{◌≡◌, ◌==◌, ◌++◌, ◌&&◌, ℕ, Bool, false, not, List, [], ◌∷◌, map, slice_get, Option, Some, None, is_some, option_map}
+use Rattle.std.specs.Prelude.{◌≡◌, ◌++◌, ◌&&◌, ℕ, Bool, not, List, [], ◌∷◌, map, slice_get, Option, Some, None, is_some, option_map}
 use Rattle.std.specs.Cmp.Lexicographic.{pointwise}
 use Rattle.std.specs.List.{enumerate_from, filter, list_all, list_any, position}
 use Rattle.std.specs.Str.{bytes_eq}
@@ -48,27 +48,13 @@ waives_nothing findings waiver = not (list_any (λ finding. waives finding waive
 abbrev pub numbers_where : (Waiver → Bool) → List Waiver → List ℕ
 numbers_where test all = map (λ one. one.0) (filter (λ one. test one.1) (enumerate_from 2 all))
 
--- a finding is waived by the waiver at a place (docs/FORMATS.md, Waivers)
-abbrev pub is_by : ℕ → Option ℕ → Bool
-is_by place None = false
-is_by place (Some by) = by == place
+-- the numbers of the records of the waivers that waive none of these findings (docs/FORMATS.md, Waivers)
+abbrev pub idle_numbers : List Waiver → List Row → List ℕ
+idle_numbers all findings = numbers_where (waives_nothing findings) all
 
--- there is a place, and a finding is waived by the waiver there (docs/FORMATS.md, Waivers)
-abbrev pub is_by_that : Option ℕ → Option ℕ → Bool
-is_by_that None by = false
-is_by_that (Some place) by = is_by place by
-
--- a waiver waives some finding: the first with its five fields is the one by which a finding is waived (docs/FORMATS.md, Waivers)
-abbrev pub is_used : List Waiver → Waived → Waiver → Bool
-is_used all waived waiver = list_any (is_by_that (waived_by all (compared waiver))) (waived.rings.items ++ waived.gaps.items)
-
--- The numbers of the records of the waivers that waive nothing. Of a report whose findings are waived so they are those of the waivers
--- whose first five fields no finding has: the law `idle_waive_nothing` (docs/FORMATS.md, Waivers).
-abbrev pub idle_numbers : List Waiver → Waived → List ℕ
-idle_numbers all waived = numbers_where (λ waiver. not (is_used all waived waiver)) all
-
--- what a report tells of waivers: the reason of each finding that is waived, and the waivers that waive nothing (docs/FORMATS.md, Waivers)
+-- What a report tells of waivers: the reason of each finding that is waived; and of each report whose findings are waived so, the waivers
+-- that waive none of them (docs/FORMATS.md, Waivers).
 pub record AreReasons (all : List Waiver) (waived : Waived) (whys : Whys) : Type 0 where
   pub rings : map (option_map (λ why. why.now)) whys.rings.now ≡ map (reason_at all) waived.rings.items
   pub gaps : map (option_map (λ why. why.now)) whys.gaps.now ≡ map (reason_at all) waived.gaps.items
-  pub idle : whys.idle.now ≡ idle_numbers all waived
+  pub idle : (names : List (List ℕ)) (told : Telling) → IsWaived all names told waived → whys.idle.now ≡ idle_numbers all (fields_told names told)

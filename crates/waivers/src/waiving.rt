@@ -4,9 +4,10 @@ ghost use Rattle.std.specs.Prelude.{◌≡◌, ◌||◌, ◌++◌, ◌∷◌, []
 ghost use Rattle.std.specs.List.{list_all, list_any};
 ghost use Rattle.waivers.specs.Findings.{gap_fields, ring_fields};
 ghost use Rattle.waivers.specs.Inner as inner;
-ghost use Rattle.waivers.specs.Inner.{has_place, unused_numbers};
+ghost use Rattle.waivers.specs.Inner.{has_place, is_by, unused_numbers};
 ghost use Rattle.waivers.specs.Waiving as naming;
-ghost use Rattle.waivers.specs.Waiving.{are_all_waived, compared, idle_numbers, is_by, waived_by};
+ghost use Rattle.report_text.specs.declared.Telling.{Telling as Told};
+ghost use Rattle.waivers.specs.Waiving.{IsWaived, are_all_waived, compared, fields_told, idle_numbers, waived_by};
 
 use crate::Waiver;
 use crate::keys::{first_places, gap_keys, places_of, ring_keys, waiver_keys};
@@ -163,16 +164,14 @@ fn unused(
     Ok(idle)
 }
 
-/// The numbers of the records of the waivers that waive nothing, in order: no finding of the report whose findings are waived so has
-/// their first five fields (the law [`idle_waive_nothing`]). The head of their file is the record 1.
+/// The numbers of the records of the waivers that waive nothing, in order: no finding of a report whose findings are waived so has
+/// their first five fields. The head of their file is the record 1.
 ///
 /// # Errors
 ///
 /// An `AllocError` where there is no memory.
-///
-/// [`idle_waive_nothing`]: crate::laws::idle_waive_nothing
 pub fn idle(alloc: Global, waived: &Waived, waivers: &[Waiver]) -> Result<Vec<usize>, AllocError>
-    ensures { IfOk result (λ numbers. numbers.items ≡ idle_numbers waivers.now waived.now) }
+    ensures { IfOk result (λ numbers. (names : List (List ℕ)) (told : Told) → IsWaived waivers.now names told waived.now → numbers.items ≡ idle_numbers waivers.now (fields_told names told)) }
 {
     let firsts = firsts_alike(alloc, waivers)?;
     let used = used_by(alloc, waived)?;

@@ -1,7 +1,9 @@
-use Rattle.std.proofs.Common.{◌≡◌, ◌∙◌}
+use Rattle.std.specs.Prelude.{◌≡◌, ℕ, List}
+use Rattle.std.proofs.Common.{◌∙◌}
 use Rattle.std.proofs.lemmas.Result.{IfOk-weaker}
+use Rattle.report_text.specs.declared.Telling.{Telling}
 use Rattle.waivers.specs.Inner.{unused_numbers}
-use Rattle.waivers.specs.Waiving.{idle_numbers}
+use Rattle.waivers.specs.Waiving.{IsWaived, fields_told, idle_numbers}
 use Rattle.waivers.proofs.IdlePlaces.{unused_is_idle}
 use Rattle.waivers.proofs.waiving.idle.Goals as goal
 
@@ -11,6 +13,7 @@ returns c =
     let waived = c.args.waived.now in
     let used = c.in_ok-used.used in
     let firsts = c.as_slice.result.now in
-    IfOk-weaker c.unused.result (λ numbers. numbers.items ≡ unused_numbers used firsts) (λ numbers. numbers.items ≡ idle_numbers all waived)
+    IfOk-weaker c.unused.result (λ numbers. numbers.items ≡ unused_numbers used firsts)
+    (λ numbers. (names : List (List ℕ)) (told : Telling) → IsWaived all names told waived → numbers.items ≡ idle_numbers all (fields_told names told))
     (λ numbers is. unused_is_idle all used waived firsts numbers.items c.in_ok-used.ensures (c.as_slice.ensures.value ∙ c.in_ok-firsts.ensures) is)
     c.unused.ensures
