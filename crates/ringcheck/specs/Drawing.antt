@@ -1,24 +1,28 @@
 -- What a run says of the picture of a package.
-use Rattle.std.specs.Prelude.{◌≡◌, ◌⊎◌, ℕ, List, map, Option, Result, Ok, Err}
+use Rattle.std.specs.Prelude.{◌≡◌, ◌⊎◌, ℕ, List, [], map, Option, Some, Result, Ok, Err}
 use Rattle.std.specs.Io.KnownBytes.{Appends}
 use Rattle.grid_units.specs.Holes.{GridRules}
 use Rattle.grid_units.specs.declared.fault.Reason.{Reason}
 use Rattle.drawing.specs.Drawings.{IsDrawn}
 use Rattle.flashed_boards.specs.Flashed.{FlashedSurvey, IsFlashed}
+use Rattle.package_check.specs.Boards.{board_findings}
 use Rattle.package_check.specs.Package.{Source}
+use Rattle.package_check.specs.Soundness.{IsSound}
 use Rattle.ringcheck.specs.declared.Status.{Status}
 use Rattle.ringcheck.specs.declared.Status.TheVariants as status
 use Rattle.ringcheck.specs.declared.ending.Ended.{Ended}
 use Rattle.ringcheck.specs.Doing.{AnsweredDone, SaysDone}
 use Rattle.ringcheck.specs.Running.{Relation}
 
--- The writer got the page of the board of files, with what is found under the rules, if there are any (docs/DEFINITIONS.md, Runs).
+-- The writer got the page of the board of files, with what is found under the rules, if there are any. Where nothing is found, so that the
+-- page says PASS, the files are sound (docs/DEFINITIONS.md, Runs).
 pub record Draws (all : List Source) (rules : Option GridRules) (before after : Option (List ℕ)) : Type 0 where
   pub flashed : FlashedSurvey
   pub read : IsFlashed all flashed
   pub text : List ℕ
   pub is : IsDrawn (map (λ source. source.name) all) flashed rules text
   pub written : Appends before after text
+  pub sound : (asked : GridRules) → rules ≡ Some asked → board_findings asked flashed.board ≡ [] → IsSound all asked
 
 -- what a status says of the picture of a package (docs/DEFINITIONS.md, Runs)
 abbrev pub SaysDraw : Relation → List ℕ → Option GridRules → Option (List ℕ) → Option (List ℕ) → Status → Type 0

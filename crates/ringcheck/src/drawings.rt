@@ -11,6 +11,7 @@ use crate::{Entry, Status};
 use drawing::{PrintFault, print_drawing};
 use flashed_boards::FlashedBoard;
 use grid_units::Rules;
+use package_check::laws::passing_is_sound;
 use std::alloc::Global;
 use std::io::Write;
 
@@ -25,6 +26,7 @@ pub(crate) fn answer_draw<W: Write>(
     ensures { (files : List (List ℕ)) → length entries.now ≡ length files → IsFlashed (sources entries.now files) board.now
         → AnsweredDraw (sources entries.now files) rules (W.contents out.old) (W.contents out.new) result }
 {
+    passing_is_sound();
     let Ok(names) = names_of(alloc, entries) else {
         return say_out_of_memory(out);
     };
