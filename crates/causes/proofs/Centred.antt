@@ -9,7 +9,7 @@ use Rattle.pad_shapes.specs.Shapes.{covers_ends, end_radius}
 use Rattle.pad_shapes.specs.declared.pad.Pad.{Pad}
 use Rattle.pad_shapes.specs.declared.pad.Pad.TheVariants.{Disc, Rect, Obround}
 use Rattle.margins.specs.Depths.{pad_middle}
-use Rattle.causes.specs.Causes.{half_apart, lower_end, upper_end}
+use Rattle.causes.specs.Causes.{half_apart, lower_end_at, upper_end_at}
 
 -- a pad covers two points alike that are as far from its middle along each axis
 covers_alike : (pad : Pad) (a b : GridPoint) (reach : ℕ) → apart a.x (pad_middle pad).x ≡ apart b.x (pad_middle pad).x → apart a.y (pad_middle pad).y ≡ apart b.y (pad_middle pad).y
@@ -27,11 +27,11 @@ above z n = first_of (omega arith, grind arith)
 
 -- where one end of a hole would stand at the middle of a pad decides for both
 pub ends_alike : (pad : Pad) (h : GridHole) (at : GridPoint) (reach : ℕ) → apart at.x (pad_middle pad).x ≡ half_apart h.from.x h.to.x → apart at.y (pad_middle pad).y ≡ half_apart h.from.y h.to.y
-    → pad_covers pad at reach ≡ covers_ends pad_covers pad (lower_end h (pad_middle pad)) (upper_end h (pad_middle pad)) reach
+    → pad_covers pad at reach ≡ covers_ends pad_covers pad (lower_end_at h (pad_middle pad)) (upper_end_at h (pad_middle pad)) reach
 ends_alike pad h at reach along_x along_y =
     let middle = pad_middle pad in
     let x = half_apart h.from.x h.to.x in
     let y = half_apart h.from.y h.to.y in
-    let lower = covers_alike pad at (lower_end h middle) reach (along_x ∙ sym (below middle.x x)) (along_y ∙ sym (below middle.y y)) in
-    let upper = covers_alike pad at (upper_end h middle) reach (along_x ∙ sym (above middle.x x)) (along_y ∙ sym (above middle.y y)) in
+    let lower = covers_alike pad at (lower_end_at h middle) reach (along_x ∙ sym (below middle.x x)) (along_y ∙ sym (below middle.y y)) in
+    let upper = covers_alike pad at (upper_end_at h middle) reach (along_x ∙ sym (above middle.x x)) (along_y ∙ sym (above middle.y y)) in
     sym (and_self (pad_covers pad at reach)) ∙ ap₂ (λ (a b : Bool). a && b) lower upper

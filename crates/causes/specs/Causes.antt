@@ -54,16 +54,16 @@ abbrev pub half_apart : ℤ → ℤ → ℕ
 half_apart a b = div_ceil (apart a b) 2
 
 -- where the lower end of a hole along an axis would stand, if its middle stood at a point: the point itself where it is round (docs/DEFINITIONS.md, Causes)
-abbrev pub lower_end : GridHole → GridPoint → GridPoint
-lower_end h at = record { x = at.x -ℤ pos (half_apart h.from.x h.to.x); y = at.y -ℤ pos (half_apart h.from.y h.to.y) }
+abbrev pub lower_end_at : GridHole → GridPoint → GridPoint
+lower_end_at h at = record { x = at.x -ℤ pos (half_apart h.from.x h.to.x); y = at.y -ℤ pos (half_apart h.from.y h.to.y) }
 
 -- where its upper end would stand (docs/DEFINITIONS.md, Causes)
-abbrev pub upper_end : GridHole → GridPoint → GridPoint
-upper_end h at = record { x = at.x +ℤ pos (half_apart h.from.x h.to.x); y = at.y +ℤ pos (half_apart h.from.y h.to.y) }
+abbrev pub upper_end_at : GridHole → GridPoint → GridPoint
+upper_end_at h at = record { x = at.x +ℤ pos (half_apart h.from.x h.to.x); y = at.y +ℤ pos (half_apart h.from.y h.to.y) }
 
 -- a pad is too small for a hole and its ring: it would not cover the ends of the hole with the radius and the ring, even if the middle of the hole stood at its own (docs/DEFINITIONS.md, Causes)
 abbrev pub is_small : ℕ → GridHole → Pad → Bool
-is_small ring h pad = not (covers_ends pad_covers pad (lower_end h (pad_middle pad)) (upper_end h (pad_middle pad)) (h.radius + ring))
+is_small ring h pad = not (covers_ends pad_covers pad (lower_end_at h (pad_middle pad)) (upper_end_at h (pad_middle pad)) (h.radius + ring))
 
 -- the best pad of a hole on a layer, with the number of its flash, the ring that the hole has in it, and what it lacks of the ring that is asked (docs/DEFINITIONS.md, Causes)
 pub record IsInPad (flashes : List Flash) (asked : ℕ) (h : GridHole) (told : InPad) : Type 0 where

@@ -3,7 +3,7 @@
 ghost use Rattle.std.specs.Prelude.{◌≡◌, ◌<◌, ◌+◌, ◌-ℤ◌, ◌≤ℤ◌, ℕ, List, pos, neg_ℤ, false, true, IfOk, length, get_or};
 ghost use Rattle.pad_shapes.specs.Pads.{pad_covers};
 ghost use Rattle.ring_rules.specs.Findings.{is_oblique};
-ghost use Rattle.ring_rules.specs.Meeting.{hole_at};
+ghost use Rattle.ring_rules.specs.Places.{hole_at};
 ghost use Rattle.layer_image.specs.Flashes.{pad_in, pads_of};
 ghost use Rattle.margins.specs.Bests.{AreBest, IsBestPad, IsBest};
 ghost use Rattle.causes.specs.Causes.{HasNoPad, IsCause, IsInPad, IsKnown, IsKnownOf, pad_place, pad_places};

@@ -8,7 +8,7 @@ use Rattle.layer_image.specs.declared.flash.Why.{Why}
 use Rattle.layer_image.specs.declared.flash.What.TheVariants as what
 use Rattle.layer_image.specs.declared.flashes.Flashes.{Flashes}
 use Rattle.layer_image.specs.Flashes.{pads_of, is_other, others_in}
-use Rattle.layer_image.specs.Moved.{flash_moved, pad_laid}
+use Rattle.layer_image.specs.Inner.Moved.{flash_moved, pad_laid}
 use Rattle.layer_image.specs.Keeping.{Adds}
 
 pub adds_none : (kept : Flashes) → Adds kept [] kept

@@ -26,11 +26,11 @@ use Rattle.layer_image.specs.declared.flash.What.{What}
 use Rattle.layer_image.specs.declared.grid.Grid.{Grid}
 use Rattle.layer_image.specs.Lookback.{Standing, aperture_in}
 use Rattle.layer_image.specs.Flashes.{numbers_below, copies, copies_at, copy_at, grid_at, is_flash, flashed, flash_at, flashes_at, unit_in_force, decimals_in_force, what_at}
-use Rattle.layer_image.specs.Moved.{moved, origin}
+use Rattle.layer_image.specs.Inner.Moved.{moved, origin}
 use Rattle.layer_image.specs.Rules.{first_broken, needs_aperture, names_too_many_digits, reaches_too_far, flashes_too_many, flashes_too_far, is_long_by, is_far_in, is_far_pad, is_far_point}
 use Rattle.layer_image.specs.Keeping.{Adds, flash_count}
 use Rattle.layer_image.specs.Inner.Knows.{Knows, Takes, Judges, after, told}
-use Rattle.layer_image.specs.InForce.{AreLengths, IsLoneWhat, IsFastPath, IsFlashOf, changes_force, is_far_what, is_within, point_of}
+use Rattle.layer_image.specs.Inner.InForce.{AreLengths, IsLoneWhat, IsFastPath, IsFlashOf, changes_force, is_far_what, is_within, point_of}
 use Rattle.layer_image.proofs.Adding.{adds_none}
 use Rattle.layer_image.proofs.Grids.{no_multiple, not_far}
 use Rattle.layer_image.proofs.Knowing.{knows_more, same_rule}

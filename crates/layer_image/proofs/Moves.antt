@@ -11,7 +11,7 @@ use Rattle.layer_image.specs.declared.flash.Why.{Why}
 use Rattle.layer_image.specs.declared.flash.What.TheVariants as what
 use Rattle.layer_image.specs.Lookback.{Standing}
 use Rattle.layer_image.specs.Flashes.{what_at, shape_at, rect_at, obround_at, exchanges_sides, keeps_from_pad, why_order, unit_in_force, flash_at}
-use Rattle.layer_image.specs.Moved.{moved, origin, flash_moved}
+use Rattle.layer_image.specs.Inner.Moved.{moved, origin, flash_moved}
 
 shape_moved : (p : GridPoint) (unit : Units) (turn : ℤ) (shape : Aperture) → moved p (shape_at origin unit turn shape) ≡ shape_at p unit turn shape
 shape_moved p unit turn (aperture.Circle diameter holed) = refl

@@ -1,1 +1,4 @@
+pub mod Grids
+pub mod Moved
+pub mod InForce
 pub mod Knows

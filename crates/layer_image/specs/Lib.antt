@@ -1,12 +1,9 @@
 pub mod Lookback
-pub mod Grids
 pub mod Numbers
-pub mod Moved
 pub mod Flashes
 pub mod Rules
 pub mod Tables
 pub mod Keeping
-pub mod InForce
 pub mod Faults
 pub mod Functions
 pub mod Layers

@@ -4,7 +4,7 @@ ghost use Rattle.std.specs.Prelude.{◌≡◌, [], List, IfSome, None, true, fal
 ghost use Rattle.gerber_rows.specs.declared.command.Command.{Command};
 ghost use Rattle.gerber_rows.specs.declared.command.Command.TheVariants as command;
 ghost use Rattle.layer_image.specs.declared.flashes.Keep.{Keep as TheKeep};
-ghost use Rattle.layer_image.specs.InForce.{IsFastPath, changes_force};
+ghost use Rattle.layer_image.specs.Inner.InForce.{IsFastPath, changes_force};
 ghost use Rattle.layer_image.specs.Flashes.{is_flash};
 ghost use Rattle.layer_image.specs.Rules.{first_broken};
 ghost use Rattle.layer_image.specs.Keeping.{flash_count};
@@ -28,7 +28,7 @@ pub(crate) struct FastJudge {
 }
 
 impl FastJudge {
-    ghost use Rattle.layer_image.specs.InForce.{IsFlashOf};
+    ghost use Rattle.layer_image.specs.Inner.InForce.{IsFlashOf};
 
     /// A judge that has met no command.
     pub(crate) fn new(alloc: Global, keep: Keep) -> FastJudge

@@ -2,7 +2,7 @@
 
 ghost use Rattle.std.specs.Prelude.{◌≡◌};
 ghost use Rattle.grid_units.specs.Points.{GridPoint};
-ghost use Rattle.layer_image.specs.Moved.{moved, moved_pad, flash_laid, pad_laid};
+ghost use Rattle.layer_image.specs.Inner.Moved.{moved, moved_pad, flash_laid, pad_laid};
 
 use grid_units::Point;
 use pad_shapes::{Disc, Obround, Pad, Rect};

@@ -3,9 +3,9 @@
 ghost use Rattle.std.specs.Prelude.{◌≡◌, ◌+◌, ◌<◌, ◌≤◌, ◌++◌, [], ◌∷◌, nat_le, length, map, true, false, OnOk};
 ghost use Rattle.std.specs.List.{list_any};
 ghost use Rattle.layer_image.specs.Flashes.{copies, pads_of, others_in};
-ghost use Rattle.layer_image.specs.Moved.{flash_moved, flash_laid};
+ghost use Rattle.layer_image.specs.Inner.Moved.{flash_moved, flash_laid};
 ghost use Rattle.layer_image.specs.Rules.{is_far_point, max_flashes};
-ghost use Rattle.layer_image.specs.Grids.{IsBounded};
+ghost use Rattle.layer_image.specs.Inner.Grids.{IsBounded};
 
 use crate::flash::{Flash, What};
 use crate::grid::Grid;

@@ -4,11 +4,11 @@ ghost use Rattle.std.specs.Prelude.{◌≡◌, ◌≤◌, IfSome, false};
 ghost use Rattle.std.specs.List.{find, list_any};
 ghost use Rattle.layer_image.specs.Lookback.{aperture_in};
 ghost use Rattle.layer_image.specs.Flashes.{unit_in_force, decimals_in_force, grid_at, keeps_from_pad, why_order, what_at, shape_at, exchanges_sides, disc_at, rect_at, obround_at};
-ghost use Rattle.layer_image.specs.Moved.{origin};
+ghost use Rattle.layer_image.specs.Inner.Moved.{origin};
 ghost use Rattle.layer_image.specs.Rules.{is_far_pad, is_far_side, sides};
-ghost use Rattle.layer_image.specs.Grids.{IsBounded};
+ghost use Rattle.layer_image.specs.Inner.Grids.{IsBounded};
 ghost use Rattle.layer_image.specs.Inner.Knows.{told};
-ghost use Rattle.layer_image.specs.InForce.{IsLoneWhat};
+ghost use Rattle.layer_image.specs.Inner.InForce.{IsLoneWhat};
 
 use crate::aperture::Aperture;
 use crate::flash::{What, Why};

@@ -6,7 +6,7 @@ ghost use Rattle.grid_units.specs.Numbers.{is_far};
 ghost use Rattle.grid_units.specs.Points.{max_coordinate};
 ghost use Rattle.layer_image.specs.Flashes.{copies, copy_at};
 ghost use Rattle.layer_image.specs.Rules.{is_far_point};
-ghost use Rattle.layer_image.specs.Grids.{IsBounded};
+ghost use Rattle.layer_image.specs.Inner.Grids.{IsBounded};
 
 use crate::flash::Lay;
 use grid_units::{Point, is_far};

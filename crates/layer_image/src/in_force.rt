@@ -21,7 +21,7 @@ pub(crate) struct Lengths {
 }
 
 impl Lengths {
-    ghost use Rattle.layer_image.specs.InForce.{AreLengths, is_within, point_of};
+    ghost use Rattle.layer_image.specs.Inner.InForce.{AreLengths, is_within, point_of};
 
     /// The lengths in a unit and a format of at most twelve digits.
     fn of(unit: Option<Unit>, format: Option<Format>) -> Option<Lengths>
@@ -98,7 +98,7 @@ pub(crate) struct FastPath {
 
 impl FastPath {
     ghost use Rattle.layer_image.specs.Inner.Knows.{told};
-    ghost use Rattle.layer_image.specs.InForce.{IsFastPath};
+    ghost use Rattle.layer_image.specs.Inner.InForce.{IsFastPath};
 
     /// What is in force after the commands that a judge has taken in.
     pub(crate) fn of(judge: &Judge) -> FastPath

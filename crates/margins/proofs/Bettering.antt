@@ -11,8 +11,7 @@ use Rattle.pad_shapes.specs.Shapes.{covers_ends}
 use Rattle.pad_shapes.specs.Zones.{IsInZone, CoversNone}
 use Rattle.pad_shapes.specs.declared.zone.Zone.{Zone}
 use Rattle.ring_rules.specs.Findings.{is_oblique}
-use Rattle.ring_rules.specs.Meeting.{hole_at}
-use Rattle.ring_rules.specs.Places.{point_at}
+use Rattle.ring_rules.specs.Places.{hole_at, point_at}
 use Rattle.ring_rules.specs.declared.finding.Drilled.{Drilled}
 use Rattle.margins.specs.Depths.{CoversLess}
 use Rattle.margins.specs.Bests.{IsBest, IsBestOf, IsBestPad}

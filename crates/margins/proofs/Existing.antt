@@ -5,7 +5,7 @@ use Rattle.grid_units.specs.Points.{square}
 use Rattle.grid_units.specs.Holes.{GridHole}
 use Rattle.grid_units.proofs.Steps.{square-le, le_from_squares}
 use Rattle.ring_rules.specs.Cores.{square_of_cores}
-use Rattle.ring_rules.specs.Meeting.{hole_at}
+use Rattle.ring_rules.specs.Places.{hole_at}
 use Rattle.ring_rules.specs.declared.finding.Drilled.{Drilled}
 use Rattle.margins.specs.Gaps.{IsGap}
 use Rattle.margins.specs.Nearness.{IsPair, IsNearest}

@@ -7,7 +7,7 @@ use Rattle.grid_units.specs.Holes.{GridHole}
 use Rattle.grid_units.proofs.BoolLemmas.{both_true}
 use Rattle.pad_shapes.specs.Shapes.{covers_ends}
 use Rattle.ring_rules.specs.Findings.{is_oblique}
-use Rattle.ring_rules.specs.Meeting.{hole_at}
+use Rattle.ring_rules.specs.Places.{hole_at}
 use Rattle.ring_rules.specs.declared.finding.Drilled.{Drilled}
 use Rattle.margins.specs.Depths.{CoversLess}
 use Rattle.margins.specs.Bests.{IsBare, IsBestPad, AreBest, AreBare}

@@ -4,8 +4,7 @@ use Rattle.std.specs.Prelude.{◌&&◌}
 use Rattle.std.proofs.lemmas.List.{get_or_default}
 use Rattle.grid_units.specs.Points.{GridPoint}
 use Rattle.ring_rules.specs.Findings.{is_ring_finding}
-use Rattle.ring_rules.specs.Meeting.{hole_at}
-use Rattle.ring_rules.specs.Places.{nowhere}
+use Rattle.ring_rules.specs.Places.{hole_at, nowhere}
 use Rattle.ring_rules.specs.declared.finding.Drilled.{Drilled}
 use Rattle.margins.specs.Bests.{AreBest, IsBestPad}
 use Rattle.margins.specs.Depths.{CoversLess}

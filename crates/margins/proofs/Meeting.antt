@@ -6,8 +6,7 @@ use Rattle.std.proofs.lemmas.Bool.{cases_lt}
 use Rattle.std.proofs.lemmas.List.{get_or_default}
 use Rattle.grid_units.specs.Points.{GridPoint}
 use Rattle.grid_units.specs.Holes.{GridHole}
-use Rattle.ring_rules.specs.Places.{nowhere}
-use Rattle.ring_rules.specs.Meeting.{hole_at}
+use Rattle.ring_rules.specs.Places.{nowhere, hole_at}
 use Rattle.ring_rules.specs.declared.finding.Drilled.{Drilled}
 use Rattle.margins.specs.Meets.{HasLeast, IsLeast, LacksAll, HasLeastHeld, IsLeastHeld, AreLeast, AsksRing, HasRing, IsRingOf, asks_ring}
 use Rattle.margins.specs.Rows.{ring_by}

@@ -5,8 +5,7 @@ use Rattle.std.proofs.lemmas.Int.{ints}
 use Rattle.std.proofs.lemmas.Bool.{cases_lt}
 use Rattle.std.proofs.lemmas.List.{get_or_default}
 use Rattle.grid_units.specs.Holes.{GridHole}
-use Rattle.ring_rules.specs.Places.{nowhere}
-use Rattle.ring_rules.specs.Meeting.{hole_at}
+use Rattle.ring_rules.specs.Places.{nowhere, hole_at}
 use Rattle.ring_rules.specs.declared.finding.Drilled.{Drilled}
 use Rattle.margins.specs.Gaps.{IsGap}
 use Rattle.margins.specs.Nearness.{IsPair, IsNoFurther, IsNearest, IsNearestOf}

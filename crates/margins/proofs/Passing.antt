@@ -11,8 +11,7 @@ use Rattle.std.proofs.lemmas.List.Folds.{list_any_at}
 use Rattle.grid_units.specs.Points.{GridPoint, square}
 use Rattle.grid_units.specs.Holes.{GridHole}
 use Rattle.ring_rules.specs.Cores.{square_of_cores, are_clear}
-use Rattle.ring_rules.specs.Places.{nowhere}
-use Rattle.ring_rules.specs.Meeting.{hole_at}
+use Rattle.ring_rules.specs.Places.{nowhere, hole_at}
 use Rattle.ring_rules.specs.Findings.{is_oblique, covers_hole, lacks_ring, is_ring_finding, finding_of, layer_findings, ring_findings, hole_findings, gap_findings}
 use Rattle.ring_rules.specs.declared.finding.Drilled.{Drilled}
 use Rattle.ring_rules.specs.declared.finding.Finding.TheVariants.{Gap}

@@ -1,6 +1,6 @@
 -- Pairs of holes that are tried one by one.
 use Rattle.std.proofs.Common.{◌≡◌, ℕ, ℤ, ◌<◌, List, length, refl, sym, subst, ◌∙◌, arith}
-use Rattle.ring_rules.specs.Meeting.{hole_at}
+use Rattle.ring_rules.specs.Places.{hole_at}
 use Rattle.ring_rules.specs.declared.finding.Drilled.{Drilled}
 use Rattle.ring_rules.specs.declared.finding.Finding.{Finding}
 use Rattle.ring_rules.specs.declared.finding.Finding.TheVariants.{Gap}

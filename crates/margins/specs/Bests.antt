@@ -4,7 +4,7 @@ use Rattle.grid_units.specs.Points.{GridPoint}
 use Rattle.grid_units.specs.Holes.{GridHole}
 use Rattle.pad_shapes.specs.Shapes.{max_half_side, covers_ends}
 use Rattle.ring_rules.specs.Findings.{is_oblique}
-use Rattle.ring_rules.specs.Meeting.{hole_at}
+use Rattle.ring_rules.specs.Places.{hole_at}
 use Rattle.ring_rules.specs.declared.finding.Drilled.{Drilled}
 use Rattle.margins.specs.declared.best.Best.{Best}
 

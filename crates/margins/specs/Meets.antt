@@ -3,9 +3,8 @@ use Rattle.std.specs.Prelude.{◌≡◌, ◌↔◌, ℕ, ℤ, pos, ◌<◌, ◌-
 use Rattle.grid_units.specs.Points.{GridPoint}
 use Rattle.grid_units.specs.Holes.{GridHole}
 use Rattle.grid_units.specs.Spans.{is_in_span}
-use Rattle.ring_rules.specs.Places.{nowhere}
+use Rattle.ring_rules.specs.Places.{nowhere, hole_at}
 use Rattle.ring_rules.specs.Findings.{is_oblique, ring_findings, gap_findings}
-use Rattle.ring_rules.specs.Meeting.{hole_at}
 use Rattle.ring_rules.specs.declared.finding.Drilled.{Drilled}
 use Rattle.margins.specs.Gaps.{IsGap}
 use Rattle.margins.specs.Bests.{IsBest, IsBare}

@@ -1,6 +1,6 @@
 -- The two holes of a list that are nearest to each other. Lengths are whole picometres.
 use Rattle.std.specs.Prelude.{◌≡◌, ℕ, ℤ, ◌<◌, ◌≤◌, ◌≤ℤ◌, Option, Some, None, List, length}
-use Rattle.ring_rules.specs.Meeting.{hole_at}
+use Rattle.ring_rules.specs.Places.{hole_at}
 use Rattle.ring_rules.specs.declared.finding.Drilled.{Drilled}
 use Rattle.margins.specs.Gaps.{IsGap}
 use Rattle.margins.specs.declared.nearest.Nearest.{Nearest}

@@ -2,7 +2,7 @@
 use Rattle.std.specs.Prelude.{◌≡◌, ℕ, ℤ, pos, ◌<◌, ◌-ℤ◌, ◌≤ℤ◌, ◌<ℤ◌, Bool, true, false, Option, Some, None, List, length, get_or, count_by}
 use Rattle.grid_units.specs.Points.{GridPoint}
 use Rattle.grid_units.specs.Holes.{GridHole}
-use Rattle.ring_rules.specs.Meeting.{hole_at}
+use Rattle.ring_rules.specs.Places.{hole_at}
 use Rattle.ring_rules.specs.declared.finding.Drilled.{Drilled}
 use Rattle.margins.specs.Bests.{AreBest}
 use Rattle.margins.specs.Meets.{IsRingOf}

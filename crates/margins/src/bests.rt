@@ -6,8 +6,7 @@ ghost use Rattle.pad_shapes.specs.Shapes.{covers_ends, IsAlongAxis, IsReach};
 ghost use Rattle.pad_shapes.specs.Zones.{IsInZone, BoundsCentres};
 ghost use Rattle.ring_rules.specs.Findings.{is_oblique};
 ghost use Rattle.ring_rules.specs.Index.{IsIndexOf};
-ghost use Rattle.ring_rules.specs.Meeting.{hole_at};
-ghost use Rattle.ring_rules.specs.Places.{point_at};
+ghost use Rattle.ring_rules.specs.Places.{hole_at, point_at};
 ghost use Rattle.margins.specs.Bests.{IsBestPad, AreBest};
 ghost use Rattle.margins.specs.Inner.Bests.{asked, IsBetter, IsStep, IsTriedNear, IsTriedIn, IsTriedAll, IsInSome, AsksFor, AskFor, AreBounds, IsDivision};
 

@@ -5,7 +5,7 @@
 //! holes stand on a grid: they are left out where the nearest pair so far is the first of all.
 
 ghost use Rattle.std.specs.Prelude.{◌≡◌, ◌+◌, ◌<◌, ◌⊎◌, ℤ, pos, length, true, false, IfOk, IfSome};
-ghost use Rattle.ring_rules.specs.Meeting.{hole_at};
+ghost use Rattle.ring_rules.specs.Places.{hole_at};
 ghost use Rattle.margins.specs.Gaps.{IsGap};
 ghost use Rattle.margins.specs.Nearness.{IsNoFurther, IsNearestOf, IsPair};
 ghost use Rattle.margins.specs.Inner.Nearness.{IsNearer, IsPairBefore, IsPairAt, IsHeld, IsTried, IsTriedAt, AreTried, IsStart, IsFirstPair, IsEnough};

@@ -19,8 +19,7 @@ use Rattle.std.proofs.lemmas.Map.Keys.{below_from_sorted}
 use Rattle.std.proofs.lemmas.Bool.{cases_lt, eqb-true}
 use Rattle.std.proofs.lemmas.Bool.Decides.{eqb_tells}
 use Rattle.std.specs.Ordering.{is_eq}
-use Rattle.ring_rules.specs.Meeting.{hole_at}
-use Rattle.ring_rules.specs.Places.{nowhere}
+use Rattle.ring_rules.specs.Places.{hole_at, nowhere}
 use Rattle.margins.specs.Meets.{asks_ring}
 use Rattle.margins.specs.Rows.{IsLeastRingOf, IsRow}
 use Rattle.margins.specs.declared.best.Best.{Best}

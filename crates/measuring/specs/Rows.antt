@@ -2,8 +2,7 @@
 use Rattle.std.specs.Prelude.{◌≡◌, ◌⊎◌, ◌&&◌, ◌==◌, ℕ, pos, ◌+◌, ◌-◌, ◌*◌, ◌<◌, Bool, Option, Some, None, List, [], length, take, get_or, ⊤}
 use Rattle.std.specs.List.{All, AllPairs, Contains, filter, sum_by, range_with_len}
 use Rattle.pad_shapes.specs.Pads.{pad_covers}
-use Rattle.ring_rules.specs.Meeting.{hole_at}
-use Rattle.ring_rules.specs.Places.{nowhere}
+use Rattle.ring_rules.specs.Places.{hole_at, nowhere}
 use Rattle.margins.specs.Bests.{AreBest}
 use Rattle.margins.specs.Meets.{asks_ring}
 use Rattle.margins.specs.Nearness.{IsNearest, IsPair}

@@ -5,8 +5,8 @@ use Rattle.std.proofs.lemmas.List.{get_or_default}
 use Rattle.std.proofs.lemmas.List.Elements.{Contains-append_left}
 use Rattle.std.proofs.lemmas.Bool.{cases_lt}
 use Rattle.ring_rules.specs.Cores.{are_clear}
-use Rattle.ring_rules.specs.Places.{nowhere}
-use Rattle.ring_rules.specs.Meeting.{in_order, hole_at, size_of, IsClash, AddsClashes, IsFound}
+use Rattle.ring_rules.specs.Places.{nowhere, hole_at}
+use Rattle.ring_rules.specs.Inner.Meeting.{in_order, size_of, IsClash, AddsClashes, IsFound}
 use Rattle.ring_rules.specs.declared.finding.Drilled.{Drilled}
 use Rattle.ring_rules.proofs.Clashing.{clash_of, clear_flips}
 

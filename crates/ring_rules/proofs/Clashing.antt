@@ -17,7 +17,7 @@ use Rattle.grid_units.specs.Points.{square}
 use Rattle.grid_units.specs.Holes.{GridHole}
 use Rattle.ring_rules.specs.Cores.{positive_part, range_distance, square_of_cores, are_clear}
 use Rattle.ring_rules.specs.Findings.{hole_findings, gap_findings}
-use Rattle.ring_rules.specs.Meeting.{in_order, IsClash, Before}
+use Rattle.ring_rules.specs.Inner.Meeting.{in_order, IsClash, Before}
 use Rattle.ring_rules.specs.declared.finding.Drilled.{Drilled}
 use Rattle.ring_rules.specs.declared.finding.Finding.TheVariants.{Gap}
 use Rattle.ring_rules.proofs.Rising.{pairs_none, pairs_append, pairs_map, pairs_weaker, contains_cases, contains_first, contains_later, same_rising}

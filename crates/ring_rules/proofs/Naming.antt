@@ -8,7 +8,7 @@ use Rattle.ring_rules.specs.Findings.{is_oblique, is_ring_finding, finding_of, l
 use Rattle.ring_rules.specs.Passing.{NamesPlaces, RingsNamePlaces, GapsNamePlaces}
 use Rattle.ring_rules.specs.declared.finding.Drilled.{Drilled}
 use Rattle.ring_rules.specs.declared.finding.Finding.TheVariants.{Gap}
-use Rattle.ring_rules.specs.Meeting.{IsClash}
+use Rattle.ring_rules.specs.Inner.Meeting.{IsClash}
 use Rattle.ring_rules.proofs.Clashing.{IsPlaced, placed_right, all_flat_map, gap_pairs, gap_pairs_listed, gap_pairs_clash}
 
 -- what is found at a hole names it and the layer, whatever its kind

@@ -1,4 +1,5 @@
 pub mod Asking
 pub mod Blocks
 pub mod Marks
+pub mod Meeting
 pub mod Regions

@@ -1,5 +1,6 @@
 -- Places along an axis, the cells of a grid, and chains of the holes in each cell.
 use Rattle.std.specs.Prelude.{◌≡◌, None, ℕ, ℤ, pos, ◌+◌, ◌/◌, ◌^◌, ◌<◌, ◌-ℤ◌, false, List, length, get_or}
+use Rattle.grid_units.specs.Holes.{GridHole}
 use Rattle.grid_units.specs.Points.{GridPoint}
 use Rattle.ring_rules.specs.Cores.{positive_part}
 use Rattle.ring_rules.specs.declared.finding.Drilled.{Drilled}
@@ -11,6 +12,10 @@ steps_above low shift v = positive_part (v -ℤ low) / 2 ^ shift
 -- a hole at no place of a list
 abbrev pub nowhere : Drilled
 nowhere = record { hole = record { from = record { x = pos 0; y = pos 0 }; to = record { x = pos 0; y = pos 0 }; radius = 1 }; plated = false; span = None }
+
+-- the hole at a place of the list
+abbrev pub hole_at : List Drilled → ℕ → GridHole
+hole_at holes k = (get_or holes k nowhere).hole
 
 -- the hole at a place of the list goes in here
 abbrev pub point_at : List Drilled → ℕ → GridPoint

@@ -2,7 +2,7 @@
 
 ghost use Rattle.std.specs.Prelude.{◌≡◌, ℕ, ◌<◌, length, OnOk};
 ghost use Rattle.std.specs.List.{All, Contains};
-ghost use Rattle.ring_rules.specs.Meeting.{in_order, AddsClashes, IsFound};
+ghost use Rattle.ring_rules.specs.Inner.Meeting.{in_order, AddsClashes, IsFound};
 
 use crate::cores::are_clear;
 use crate::finding::Drilled;

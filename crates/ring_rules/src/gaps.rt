@@ -5,7 +5,7 @@ ghost use Rattle.std.specs.List.{AllPairs, Contains};
 ghost use Rattle.std.specs.List.Sorted.{IsPermutation, IsSorted};
 ghost use Rattle.std.specs.Ordering.{nat_cmp, ordering_then};
 ghost use Rattle.ring_rules.specs.Findings.{gap_findings};
-ghost use Rattle.ring_rules.specs.Meeting.{Before};
+ghost use Rattle.ring_rules.specs.Inner.Meeting.{Before};
 
 use crate::finding::{Drilled, Finding};
 use crate::near::clashes;

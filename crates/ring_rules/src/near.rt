@@ -7,7 +7,8 @@ ghost use Rattle.grid_units.specs.Holes.{GridHole};
 ghost use Rattle.pad_shapes.specs.Zones.{IsInZone};
 ghost use Rattle.ring_rules.specs.Cores.{are_clear};
 ghost use Rattle.ring_rules.specs.Index.{IsIndexOf};
-ghost use Rattle.ring_rules.specs.Meeting.{hole_at, length_of, size_of, AddsClashes, IsClash, IsFound};
+ghost use Rattle.ring_rules.specs.Places.{hole_at};
+ghost use Rattle.ring_rules.specs.Inner.Meeting.{length_of, size_of, AddsClashes, IsClash, IsFound};
 
 use crate::clashes::add_pairs;
 use crate::finding::Drilled;

@@ -10,7 +10,7 @@ use Rattle.ringcheck.specs.declared.Status.{Status}
 use Rattle.ringcheck.specs.declared.Status.TheVariants as status
 use Rattle.ringcheck.specs.declared.ending.Ended.{Ended}
 use Rattle.ringcheck.specs.declared.ending.Ended.TheVariants as ended
-use Rattle.ringcheck.specs.Endings.{HasCause, HasRisen, status_after}
+use Rattle.ringcheck.specs.Inner.Endings.{HasCause, HasRisen, status_after}
 use Rattle.ringcheck.specs.declared.loading_files.Stop.{Stop}
 use Rattle.ringcheck.specs.declared.loading_files.Stop.TheVariants as stop
 use Rattle.package_check.specs.Reports.{Account}

@@ -10,7 +10,7 @@ use Rattle.ringcheck.specs.declared.ending.Ended.{Ended}
 use Rattle.ringcheck.specs.declared.ending.Ended.TheVariants as ended
 use Rattle.ringcheck.specs.declared.loading_files.Stop.{Stop}
 use Rattle.ringcheck.specs.Doing.{AnsweredDone, SaysDone}
-use Rattle.ringcheck.specs.Endings.{HasCause, status_after}
+use Rattle.ringcheck.specs.Inner.Endings.{HasCause, status_after}
 use Rattle.ringcheck.specs.Running.{HasFiles, Says, bad_file, file_limit, manifest_limit, sources, within}
 use Rattle.ringcheck.specs.Inner.Stopping.{StopsFiles, StopsManifest, TellsOf}
 use Rattle.ringcheck.proofs.Checking as checking

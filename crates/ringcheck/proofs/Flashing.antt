@@ -11,7 +11,7 @@ use Rattle.ringcheck.specs.declared.loading_files.Stop.{Stop}
 use Rattle.ringcheck.specs.declared.flashed.FlashedWork.{FlashedWork}
 use Rattle.ringcheck.specs.declared.flashed.FlashedWork.TheVariants as flashed
 use Rattle.ringcheck.specs.Drawing.{Draws}
-use Rattle.ringcheck.specs.Endings.{HasCause, status_after}
+use Rattle.ringcheck.specs.Inner.Endings.{HasCause, status_after}
 use Rattle.ringcheck.specs.Running.{HasFiles, file_limit, manifest_limit, sources, within}
 use Rattle.ringcheck.specs.Inner.Stopping.{StopsFiles, StopsManifest, TellsOf}
 use Rattle.ringcheck.specs.Inner.Working.{AnsweredFlashed, SaysFlashed, given}

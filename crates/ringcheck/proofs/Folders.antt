@@ -7,7 +7,7 @@ use Rattle.ringcheck.specs.declared.ending.Ended.{Ended}
 use Rattle.ringcheck.specs.declared.ending.Ended.TheVariants as ended
 use Rattle.ringcheck.specs.declared.Status.TheVariants as status
 use Rattle.ringcheck.specs.declared.proposing.Held.{Held}
-use Rattle.ringcheck.specs.Endings.{status_after}
+use Rattle.ringcheck.specs.Inner.Endings.{status_after}
 use Rattle.ringcheck.specs.Folders.{HasKnown, HasPairs, Known, bytes, unread, long, SaysManifest, TellsFolder, can_stand, held_as, pair_of, pairs}
 
 -- the names

@@ -7,7 +7,7 @@ use Rattle.ringcheck.specs.declared.Status.TheVariants as status
 use Rattle.ringcheck.specs.declared.ending.Ended.{Ended}
 use Rattle.ringcheck.specs.declared.ending.Ended.TheVariants as ended
 use Rattle.ringcheck.specs.declared.single_files.Task.{Task}
-use Rattle.ringcheck.specs.Endings.{status_after}
+use Rattle.ringcheck.specs.Inner.Endings.{status_after}
 use Rattle.ringcheck.specs.Printing.{Prints, PrintsBytes, SaysFile, refusal, too_long}
 use Rattle.ringcheck.specs.Running.{file_limit}
 

@@ -16,7 +16,7 @@ use Rattle.ringcheck.specs.declared.ending.Ended.TheVariants as ended
 use Rattle.ringcheck.specs.declared.loading_files.Stop.{Stop}
 use Rattle.ringcheck.specs.declared.loading_files.Stop.TheVariants as stop
 use Rattle.ringcheck.specs.declared.naming.ReportFormat.{ReportFormat}
-use Rattle.ringcheck.specs.Endings.{HasCause, status_after}
+use Rattle.ringcheck.specs.Inner.Endings.{HasCause, status_after}
 use Rattle.ringcheck.specs.Reporting.{AnsweredReport, SaysReport, SaysWaiving, Tells, TellsAccepted, telling_status, waived_status}
 use Rattle.ringcheck.specs.Running.{HasFiles, HasPackage, RefusedIn, Says, bad_file, bad_manifest, file_limit, long_file, long_manifest, manifest_limit, sources, within}
 use Rattle.ringcheck.specs.Inner.Stopping.{IsRefusal, StopsFiles, StopsManifest, StopsWaivers, TellsOf}

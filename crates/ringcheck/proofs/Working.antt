@@ -11,7 +11,7 @@ use Rattle.ringcheck.specs.declared.loading_files.Stop.{Stop}
 use Rattle.ringcheck.specs.declared.packages.Work.{Work}
 use Rattle.ringcheck.specs.declared.packages.Work.TheVariants as work
 use Rattle.ringcheck.specs.declared.naming.Format.{Format}
-use Rattle.ringcheck.specs.Endings.{HasCause, status_after}
+use Rattle.ringcheck.specs.Inner.Endings.{HasCause, status_after}
 use Rattle.ringcheck.specs.Measuring.{AnsweredMeasure, Measures}
 use Rattle.ringcheck.specs.Running.{HasFiles, file_limit, manifest_limit, sources, within}
 use Rattle.ringcheck.specs.Inner.Stopping.{StopsFiles, StopsManifest, TellsOf}

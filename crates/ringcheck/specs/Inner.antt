@@ -1,3 +1,4 @@
 pub mod Asking
+pub mod Endings
 pub mod Stopping
 pub mod Working

@@ -1,4 +1,3 @@
-pub mod Endings
 pub mod Naming
 pub mod Printing
 pub mod Running

@@ -3,7 +3,7 @@
 ghost use Rattle.std.specs.Prelude.{◌≡◌, ◌≢◌, MatchResult};
 ghost use Rattle.std.specs.String.{string_bytes};
 ghost use Rattle.std.specs.Io.KnownBytes.{Appends};
-ghost use Rattle.ringcheck.specs.Endings.{status_after};
+ghost use Rattle.ringcheck.specs.Inner.Endings.{status_after};
 
 use crate::Status;
 use std::alloc::AllocError;

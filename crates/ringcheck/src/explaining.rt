@@ -1,7 +1,7 @@
 //! Prints the page of a word, or the words that have one.
 
 ghost use Rattle.std.specs.Prelude.{ℕ, Some, option_map};
-ghost use Rattle.ringcheck.specs.Endings.{HasCause};
+ghost use Rattle.ringcheck.specs.Inner.Endings.{HasCause};
 ghost use Rattle.ringcheck.specs.Folders.{TellsPage};
 
 use crate::ending::{Ended, say, say_line};

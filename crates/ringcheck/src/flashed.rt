@@ -3,7 +3,7 @@
 ghost use Rattle.std.specs.Prelude.{◌≡◌, ℕ, List, None, Some, length, option_map};
 ghost use Rattle.flashed_boards.specs.Flashed.{FlashedStandsAfter, IsFlashed};
 ghost use Rattle.ringcheck.specs.Drawing.{SaysDrawOf};
-ghost use Rattle.ringcheck.specs.Endings.{HasCause, status_after};
+ghost use Rattle.ringcheck.specs.Inner.Endings.{HasCause, status_after};
 ghost use Rattle.ringcheck.specs.Naming as named;
 ghost use Rattle.ringcheck.specs.Reporting.{SaysReport, SaysReportOf, SaysWaiving};
 ghost use Rattle.ringcheck.specs.Running.{sources};

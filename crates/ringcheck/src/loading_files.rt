@@ -4,7 +4,7 @@ ghost use Rattle.std.specs.Prelude.{◌≡◌, ◌≤◌, ◌++◌, ◌∷◌, [
 ghost use Rattle.std.specs.List.{count_by};
 ghost use Rattle.manifest.specs.Manifest.{manifest};
 ghost use Rattle.package_check.specs.Package.{Source, is_copper};
-ghost use Rattle.ringcheck.specs.Endings.{HasRisen};
+ghost use Rattle.ringcheck.specs.Inner.Endings.{HasRisen};
 ghost use Rattle.ringcheck.specs.Running.{HasFiles, file_limit, manifest_limit, sources, within};
 ghost use Rattle.ringcheck.specs.Inner.Stopping.{IsUnread, StopsManifest, StopsFiles, StopsWaivers};
 ghost use Rattle.ringcheck.specs.Waiving.{HasWaivers};

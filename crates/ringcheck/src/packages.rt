@@ -2,7 +2,7 @@
 
 ghost use Rattle.std.specs.Prelude.{◌≡◌, ◌≢◌, ℕ, List, IfOk, map, length, option_map};
 ghost use Rattle.std.specs.Io.KnownBytes.{Appends};
-ghost use Rattle.ringcheck.specs.Endings.{HasCause, status_after};
+ghost use Rattle.ringcheck.specs.Inner.Endings.{HasCause, status_after};
 ghost use Rattle.ringcheck.specs.Naming as named;
 ghost use Rattle.package_check.specs.Holding.{PackageStandsAfter};
 ghost use Rattle.package_check.specs.Texts.{text_of};

@@ -3,7 +3,7 @@
 ghost use Rattle.std.specs.Prelude.{◌≡◌, ◌∷◌, [], map, true, ℕ, Bool, List, Option, Some, None, codes, option_map};
 ghost use Rattle.command_line.specs.Line.{are_plain_rules, are_plain_words, check_words, draw_words, explain_words, file_words, is_plain_if_some, is_plain_word, manifest_words, measure_words, report_words};
 ghost use Rattle.ringcheck.specs.Drawing.{SaysDrawOf};
-ghost use Rattle.ringcheck.specs.Endings.{HasCause, status_after};
+ghost use Rattle.ringcheck.specs.Inner.Endings.{HasCause, status_after};
 ghost use Rattle.ringcheck.specs.Folders.{SaysManifest, SaysPage, SaysVersion};
 ghost use Rattle.ringcheck.specs.Measuring.{SaysMeasureOf};
 ghost use Rattle.ringcheck.specs.Naming as named;

@@ -3,7 +3,7 @@
 ghost use Rattle.std.specs.Prelude.{◌≡◌, ◌↔◌, ℕ, List, IfOk, length, map};
 ghost use Rattle.std.specs.List.{list_all, list_any};
 ghost use Rattle.manifest.specs.Manifest.{is_control};
-ghost use Rattle.ringcheck.specs.Endings.{HasCause, status_after};
+ghost use Rattle.ringcheck.specs.Inner.Endings.{HasCause, status_after};
 ghost use Rattle.ringcheck.specs.Folders as folders;
 ghost use Rattle.ringcheck.specs.Folders.{HasKnown, HasPairs, IsTextOf, SaysManifest, TellsFolder, held_as, pair_of, pairs};
 

@@ -2,7 +2,7 @@
 
 ghost use Rattle.std.specs.Prelude.{◌≡◌, ℕ, List};
 ghost use Rattle.grid_units.specs.Results.{Answers};
-ghost use Rattle.ringcheck.specs.Endings.{HasCause, status_after};
+ghost use Rattle.ringcheck.specs.Inner.Endings.{HasCause, status_after};
 ghost use Rattle.ringcheck.specs.Printing.{Prints, PrintsBytes, SaysFileOf, Shows};
 ghost use Rattle.ringcheck.specs.Printing as printing;
 

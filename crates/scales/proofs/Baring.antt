@@ -13,8 +13,7 @@ use Rattle.pad_shapes.specs.Shapes.{covers_ends}
 use Rattle.pad_shapes.specs.declared.pad.Pad.{Pad}
 use Rattle.pad_shapes.specs.declared.pad.Pad.TheVariants.{Disc}
 use Rattle.ring_rules.specs.Findings.{is_oblique}
-use Rattle.ring_rules.specs.Meeting.{hole_at}
-use Rattle.ring_rules.specs.Places.{nowhere}
+use Rattle.ring_rules.specs.Places.{hole_at, nowhere}
 use Rattle.ring_rules.specs.declared.finding.Drilled.{Drilled}
 use Rattle.margins.specs.Bests.{AreBest, AreBare, AreShallow, IsBare, IsBestPad}
 use Rattle.margins.specs.Inner.DepthLaws.{pad_covers_less}

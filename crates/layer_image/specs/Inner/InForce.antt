@@ -18,7 +18,7 @@ use Rattle.layer_image.specs.declared.flash.Flash.{Flash}
 use Rattle.layer_image.specs.declared.flash.What.{What}
 use Rattle.layer_image.specs.Lookback.{Standing, aperture_in}
 use Rattle.layer_image.specs.Flashes.{keeps_from_pad, why_order, what_at, unit_in_force, flashes_at}
-use Rattle.layer_image.specs.Moved.{origin}
+use Rattle.layer_image.specs.Inner.Moved.{origin}
 use Rattle.layer_image.specs.Rules.{first_broken, is_far_side, max_flashes, sides}
 
 -- the pm of a step in the unit and the format that are named, and a number that is neither too long nor too far

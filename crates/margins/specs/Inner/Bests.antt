@@ -6,8 +6,7 @@ use Rattle.pad_shapes.specs.Shapes.{max_half_side, covers_ends}
 use Rattle.pad_shapes.specs.Zones.{IsInZone}
 use Rattle.pad_shapes.specs.declared.zone.Zone.{Zone}
 use Rattle.ring_rules.specs.Findings.{is_oblique}
-use Rattle.ring_rules.specs.Meeting.{hole_at}
-use Rattle.ring_rules.specs.Places.{point_at}
+use Rattle.ring_rules.specs.Places.{hole_at, point_at}
 use Rattle.ring_rules.specs.declared.finding.Drilled.{Drilled}
 use Rattle.margins.specs.Bests.{IsBestOf}
 use Rattle.margins.specs.declared.best.Best.{Best}

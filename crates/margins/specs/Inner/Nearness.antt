@@ -1,6 +1,6 @@
 -- The two nearest holes of a list, pair by pair.
 use Rattle.std.specs.Prelude.{◌≡◌, ℕ, ℤ, pos, ◌<◌, ◌<ℤ◌, ◌≤ℤ◌, ◌⊎◌, Option, Some, None, List, length, get_or}
-use Rattle.ring_rules.specs.Meeting.{hole_at}
+use Rattle.ring_rules.specs.Places.{hole_at}
 use Rattle.ring_rules.specs.declared.finding.Drilled.{Drilled}
 use Rattle.ring_rules.specs.declared.finding.Finding.{Finding}
 use Rattle.ring_rules.specs.declared.finding.Finding.TheVariants.{Gap}

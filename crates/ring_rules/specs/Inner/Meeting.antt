@@ -4,16 +4,12 @@ use Rattle.std.specs.List.{Contains}
 use Rattle.grid_units.specs.Points.{apart}
 use Rattle.grid_units.specs.Holes.{GridHole}
 use Rattle.ring_rules.specs.Cores.{are_clear}
-use Rattle.ring_rules.specs.Places.{nowhere}
+use Rattle.ring_rules.specs.Places.{hole_at}
 use Rattle.ring_rules.specs.declared.finding.Drilled.{Drilled}
 
 -- the lesser of two places, and the greater (docs/DEFINITIONS.md, The pairs)
 abbrev pub in_order : ℕ → ℕ → ℕ × ℕ
 in_order a b = (min a b, max a b)
-
--- the hole at a place of the list
-abbrev pub hole_at : List Drilled → ℕ → GridHole
-hole_at holes k = (get_or holes k nowhere).hole
 
 -- the longer side of a hole's core (docs/DEFINITIONS.md, The pairs)
 abbrev pub length_of : GridHole → ℕ

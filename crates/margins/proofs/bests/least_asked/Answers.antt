@@ -2,8 +2,7 @@ use Rattle.std.proofs.Common.{◌≡◌, ℕ, ◌<◌, ◌≤◌, inl, inr, None
 use Rattle.std.proofs.lemmas.Bool.{cases_lt}
 use Rattle.std.proofs.lemmas.List.{get_or_default}
 use Rattle.std.proofs.lemmas.List.Elements.{All-get_or}
-use Rattle.ring_rules.specs.Meeting.{hole_at}
-use Rattle.ring_rules.specs.Places.{nowhere}
+use Rattle.ring_rules.specs.Places.{hole_at, nowhere}
 use Rattle.ring_rules.specs.declared.finding.Drilled.{Drilled}
 use Rattle.margins.specs.Inner.Bests.{asked, AsksFor}
 use Rattle.margins.specs.declared.best.Best.{Best}

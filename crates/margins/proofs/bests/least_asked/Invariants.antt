@@ -1,5 +1,5 @@
 use Rattle.std.proofs.Common.{ℕ, ◌<◌, None, get_or}
-use Rattle.ring_rules.specs.Meeting.{hole_at}
+use Rattle.ring_rules.specs.Places.{hole_at}
 use Rattle.margins.specs.Inner.Bests.{AsksFor}
 use Rattle.margins.proofs.bests.least_asked.Given as goal
 

@@ -1,7 +1,7 @@
 use Rattle.std.proofs.Common.{◌≡◌, ℕ, None, length, get_or, sym, subst, ◌∙◌, arith}
 use Rattle.std.proofs.lemmas.List.{get_or_default}
 use Rattle.pad_shapes.specs.Zones.{IsInZone}
-use Rattle.ring_rules.specs.Meeting.{hole_at}
+use Rattle.ring_rules.specs.Places.{hole_at}
 use Rattle.margins.specs.Inner.Bests.{IsBestSoFar}
 use Rattle.margins.proofs.Bettering.{none_so_far, next_so_far, best_of_all, asks_none}
 use Rattle.margins.proofs.bests.try_pads.Goals as goal

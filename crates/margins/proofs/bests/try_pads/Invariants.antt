@@ -1,6 +1,6 @@
 use Rattle.std.proofs.Common.{◌≡◌, ℕ, ◌<◌, None, length, get_or}
 use Rattle.pad_shapes.specs.Zones.{IsInZone}
-use Rattle.ring_rules.specs.Meeting.{hole_at}
+use Rattle.ring_rules.specs.Places.{hole_at}
 use Rattle.margins.specs.Inner.Bests.{IsBestSoFar, AskFor, AreBounds}
 use Rattle.margins.proofs.bests.try_pads.Given as goal
 

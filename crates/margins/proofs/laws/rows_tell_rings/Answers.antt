@@ -1,5 +1,5 @@
 use Rattle.std.proofs.Common.{None, get_or}
-use Rattle.ring_rules.specs.Meeting.{hole_at}
+use Rattle.ring_rules.specs.Places.{hole_at}
 use Rattle.margins.proofs.Meeting.{ring_of_best}
 use Rattle.margins.proofs.laws.rows_tell_rings.Goals as goal
 

@@ -1,5 +1,5 @@
 use Rattle.std.proofs.Common.{◌≡◌, ℕ, ◌<◌, length, refl, subst, arith, w64, to_z, of_z}
-use Rattle.ring_rules.specs.Meeting.{hole_at}
+use Rattle.ring_rules.specs.Places.{hole_at}
 use Rattle.margins.specs.Gaps.{IsGap}
 use Rattle.margins.specs.Nearness.{IsNearestOf}
 use Rattle.margins.specs.Inner.Nearness.{IsPairBefore}

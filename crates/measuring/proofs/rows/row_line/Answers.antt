@@ -3,8 +3,7 @@ use Rattle.ring_rules.specs.declared.finding.Drilled.{Drilled}
 use Rattle.margins.specs.Rows.{IsRow}
 use Rattle.measuring.specs.Inner.Tables.{row_of}
 use Rattle.std.proofs.lemmas.List.{get_or_default}
-use Rattle.ring_rules.specs.Meeting.{hole_at}
-use Rattle.ring_rules.specs.Places.{nowhere}
+use Rattle.ring_rules.specs.Places.{hole_at, nowhere}
 use Rattle.measuring.proofs.Lining.{doubled, least_inside, least_told, radius_of}
 use Rattle.measuring.proofs.rows.row_line.Goals as goal
 

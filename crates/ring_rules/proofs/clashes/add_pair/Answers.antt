@@ -1,5 +1,5 @@
 use Rattle.std.proofs.Common.{ℕ, List, sym, subst, ◌∙◌}
-use Rattle.ring_rules.specs.Meeting.{IsClash, AddsClashes}
+use Rattle.ring_rules.specs.Inner.Meeting.{IsClash, AddsClashes}
 use Rattle.ring_rules.proofs.Adding.{adds_one, clash_at}
 use Rattle.ring_rules.proofs.clashes.add_pair.Goals as goal
 

@@ -1,6 +1,6 @@
 use Rattle.std.proofs.Common.{ℕ, ◌<◌, List, length, subst, ◌∙◌, arith}
 use Rattle.std.proofs.lemmas.List.{get_or_default}
-use Rattle.ring_rules.specs.Meeting.{IsFound}
+use Rattle.ring_rules.specs.Inner.Meeting.{IsFound}
 use Rattle.ring_rules.proofs.Adding.{adds_both, found_more}
 use Rattle.ring_rules.proofs.clashes.add_pairs.Goals as goal
 

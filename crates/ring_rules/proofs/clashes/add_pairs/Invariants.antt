@@ -1,5 +1,5 @@
 use Rattle.std.proofs.Common.{ℕ, ◌<◌, get_or}
-use Rattle.ring_rules.specs.Meeting.{AddsClashes, IsFound}
+use Rattle.ring_rules.specs.Inner.Meeting.{AddsClashes, IsFound}
 use Rattle.ring_rules.proofs.clashes.add_pairs.Given as goal
 
 -- the pairs with the places so far are there

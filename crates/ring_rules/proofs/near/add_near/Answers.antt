@@ -3,8 +3,8 @@ use Rattle.std.specs.List.{Contains}
 use Rattle.std.proofs.lemmas.List.{get_or_default}
 use Rattle.ring_rules.specs.declared.finding.Drilled.{Drilled}
 use Rattle.ring_rules.specs.Cores.{are_clear}
-use Rattle.ring_rules.specs.Places.{nowhere}
-use Rattle.ring_rules.specs.Meeting.{hole_at, size_of}
+use Rattle.ring_rules.specs.Places.{nowhere, hole_at}
+use Rattle.ring_rules.specs.Inner.Meeting.{size_of}
 use Rattle.ring_rules.proofs.near.add_near.Goals as goal
 
 pub returns-clause-found : goal.returns-clause-found

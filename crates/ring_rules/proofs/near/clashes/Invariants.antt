@@ -1,6 +1,7 @@
 use Rattle.std.proofs.Common.{ℕ, ◌<◌, ◌≤◌, length}
 use Rattle.std.specs.List.{Contains}
-use Rattle.ring_rules.specs.Meeting.{hole_at, size_of, IsClash, IsFound}
+use Rattle.ring_rules.specs.Places.{hole_at}
+use Rattle.ring_rules.specs.Inner.Meeting.{size_of, IsClash, IsFound}
 use Rattle.ring_rules.proofs.near.clashes.Given as goal
 
 -- the pairs of the holes so far with all that are no larger are there

@@ -1,5 +1,6 @@
 use Rattle.std.proofs.Common.{ℕ, ◌<◌, ◌≤◌}
-use Rattle.ring_rules.specs.Meeting.{hole_at, length_of}
+use Rattle.ring_rules.specs.Places.{hole_at}
+use Rattle.ring_rules.specs.Inner.Meeting.{length_of}
 use Rattle.ring_rules.proofs.near.longest.Given as goal
 
 -- no hole so far exceeds the length

@@ -1,7 +1,7 @@
 use Rattle.std.proofs.Common.{inr, Some}
 use Rattle.ringcheck.proofs.Checking.{cause_since, stopped_cause}
 use Rattle.ringcheck.proofs.Reporting.{report_along, stopped_waivers}
-use Rattle.ringcheck.specs.Endings.{status_after}
+use Rattle.ringcheck.specs.Inner.Endings.{status_after}
 use Rattle.ringcheck.proofs.flashed.report_waived.Goals as goal
 
 pub returns-in-Err : goal.returns-in-Err

@@ -3,7 +3,7 @@ use mir.Val.{to_z, of_z}
 use Rattle.std.proofs.lemmas.Int.{to_z-of_z}
 use Rattle.grid_units.specs.Holes.{GridHole}
 use Rattle.margins.specs.Gaps.{IsGap}
-use Rattle.ring_rules.specs.Meeting.{hole_at}
+use Rattle.ring_rules.specs.Places.{hole_at}
 use Rattle.telling.proofs.gaps.gap_lack.Goals as goal
 
 pub returns : goal.returns

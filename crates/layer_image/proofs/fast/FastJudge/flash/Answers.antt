@@ -3,10 +3,10 @@ use Rattle.std.proofs.Common.{rules, ◌≡◌, ℤ, Option, unwrap_or, FitsSign
 use Rattle.std.proofs.lemmas.Int.{to_z-of_z}
 use mir.Syntax.{w64}
 use Rattle.grid_units.specs.Points.{GridPoint}
-use Rattle.layer_image.specs.InForce.{point_of}
+use Rattle.layer_image.specs.Inner.InForce.{point_of}
 use Rattle.layer_image.specs.Keeping.{flash_count}
 use Rattle.layer_image.specs.Inner.Knows.{told}
-use Rattle.layer_image.specs.Moved.{moved}
+use Rattle.layer_image.specs.Inner.Moved.{moved}
 use Rattle.layer_image.proofs.InForce.{flash_is}
 use Rattle.layer_image.proofs.fast.FastJudge.flash.Goals as goal
 

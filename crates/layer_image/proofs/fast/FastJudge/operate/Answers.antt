@@ -1,7 +1,7 @@
 -- An operation on the fast path breaks no rule, and leaves what is in force.
 use Rattle.std.proofs.Common.{sym, subst}
 use Rattle.gerber_rows.specs.declared.command.Command.TheVariants as command
-use Rattle.layer_image.specs.InForce.{IsFastPath, IsFlashOf}
+use Rattle.layer_image.specs.Inner.InForce.{IsFastPath, IsFlashOf}
 use Rattle.layer_image.specs.Keeping.{flash_count}
 use Rattle.layer_image.specs.Inner.Knows.{told}
 use Rattle.layer_image.proofs.InForce.{judged, moved_takes, flash_takes}

@@ -1,7 +1,7 @@
 -- A command that was taken in and changes nothing of it leaves what is in force.
 use Rattle.std.proofs.Common.{◌≡◌, false, Result, Ok, Err, OnOk, sym, subst, ◌∙◌}
 use Rattle.std.specs.Result.{is_err}
-use Rattle.layer_image.specs.InForce.{IsFastPath}
+use Rattle.layer_image.specs.Inner.InForce.{IsFastPath}
 use Rattle.grid_units.specs.declared.stop.Stop.{Stop}
 use Rattle.layer_image.specs.Inner.Knows.{Takes, told}
 use Rattle.layer_image.proofs.InForce.{keeps_fast}

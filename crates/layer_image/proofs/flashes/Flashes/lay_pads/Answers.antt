@@ -3,7 +3,7 @@ use Rattle.std.proofs.Common.{◌≡◌, ◌∙◌, ◌++◌, List, [], map, sym
 use Rattle.pad_shapes.specs.declared.pad.Pad.{Pad}
 use Rattle.layer_image.specs.declared.flash.What.{What}
 use Rattle.layer_image.specs.Flashes.{copies, pads_of}
-use Rattle.layer_image.specs.Moved.{flash_moved, pad_laid}
+use Rattle.layer_image.specs.Inner.Moved.{flash_moved, pad_laid}
 use Rattle.layer_image.proofs.Adding.{pads_laid, no_pads}
 use Rattle.layer_image.proofs.flashes.Flashes.lay_pads.Goals as goal
 

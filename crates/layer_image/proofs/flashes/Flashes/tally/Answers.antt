@@ -2,7 +2,7 @@
 use Rattle.std.proofs.Common.{◌≡◌, ◌∙◌, map, ap, length, arith}
 use Rattle.layer_image.specs.declared.flash.What.{What}
 use Rattle.layer_image.specs.Flashes.{copies, others_in}
-use Rattle.layer_image.specs.Moved.{flash_moved}
+use Rattle.layer_image.specs.Inner.Moved.{flash_moved}
 use Rattle.layer_image.proofs.Adding.{no_others, all_others}
 use Rattle.layer_image.proofs.flashes.Flashes.tally.Goals as goal
 

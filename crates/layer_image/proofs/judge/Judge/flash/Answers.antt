@@ -2,7 +2,7 @@
 use Rattle.std.proofs.Common.{◌≡◌, ◌∙◌, List, map, subst, OnOk}
 use Rattle.layer_image.specs.declared.flash.Flash.{Flash}
 use Rattle.layer_image.specs.Flashes.{copies, copies_at, flashed}
-use Rattle.layer_image.specs.Moved.{flash_moved}
+use Rattle.layer_image.specs.Inner.Moved.{flash_moved}
 use Rattle.layer_image.specs.Keeping.{Adds}
 use Rattle.layer_image.specs.Inner.Knows.{told}
 use Rattle.layer_image.proofs.Moves.{flashes_moved}
