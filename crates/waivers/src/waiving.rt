@@ -1,6 +1,6 @@
 //! Which findings are waived, and which waivers waive nothing.
 
-ghost use Rattle.std.specs.Prelude.{◌≡◌, ◌||◌, ◌++◌, ◌∷◌, [], ℕ, IfOk, OnOk, map, not, is_some, option_map, if◌then◌else◌};
+ghost use Rattle.std.specs.Prelude.{◌≡◌, ◌||◌, ◌++◌, ◌∷◌, [], ℕ, List, IfOk, OnOk, map, not, is_some, option_map, if◌then◌else◌};
 ghost use Rattle.std.specs.List.{list_all, list_any};
 ghost use Rattle.waivers.specs.Findings.{gap_fields, ring_fields};
 ghost use Rattle.waivers.specs.Inner as inner;

@@ -1,7 +1,6 @@
 use Rattle.std.proofs.Common.{◌≡◌, ◌||◌, ℕ, take}
 use Rattle.std.specs.List.{list_any}
-use Rattle.waivers.specs.Inner.{has_place}
-use Rattle.waivers.specs.Waiving.{is_by}
+use Rattle.waivers.specs.Inner.{has_place, is_by}
 use Rattle.waivers.proofs.waiving.add_used.Given as goal
 
 abbrev pub invariant-loop-by : goal.invariant-loop-by
