@@ -1,0 +1,562 @@
+#!/usr/bin/env python3
+"""Holds the wrong bodies to the prover: each turns the meaning of a function, and the prover must refuse it by a goal of that function.
+
+    ./try_planted [--jobs N] [CRATE..]              tries the bodies that have no line in planted/TRIED.csv, or an old one
+    ./try_planted --all [--resume] [--jobs N] [..]  tries all; with --resume not those that were tried today as they stand
+    scripts/check_planted                           fails where a body has no line or an old one; it tries nothing
+    scripts/check_planted --afresh [CRATE..]        tries some bodies from nothing: those that the commit's hash picks
+
+A body is a file planted/CRATE/NAME.edit (or crates/CRATE/must-fail/NAME.edit, which `rt ci` tries too): lines `file: src/X.rt`, then
+pairs `old: TEXT` and `new: TEXT`, each TEXT one line that stands just once in that file. A line `# SENTENCE` says what the body turns;
+`# caller: PATH` names the function that must be refused where the text is in no function, or in a contract that another one needs.
+
+What counts as refused. The prover prints of each function whether it is proved, and if not which of its goals it did not prove. A body
+is refused only by an unproved goal of the function that it edits (or of its caller): not by a function that "calls .., which is not
+proved", not by a proof file that names what the edit took away, and not by a text that does not compile. So one check tries many
+bodies at once: those that change the inside of functions, each of another one. The proof of a function rests on its own body and on the
+contracts of what it calls, which such bodies leave as they are, so none of them changes what is said of another. A body that changes
+anything else (a constant, a contract, a definition) is tried alone. Where a check does not compile, its bodies are tried by halves.
+
+What is kept. A line of planted/TRIED.csv: crate, body, day, kit, the function and its goal that failed, and a digest of all that the
+answer depends on: the body's text, its crate's `src` (without tests and comments), `specs` and `proofs`, HANDLES, and the crate's line of
+crates.txt; and of each library below it the same but for two things. The bodies of its functions are left out, and so are the files
+of proofs that belong to one function (Invariants, Answers, Proof): a check reads of a library its public interface, which has no code,
+its contracts, and what `specs` and the lemmas of `proofs` define; a function's code and proof are private to it. The bodies of `const`
+functions and of a trait's own methods are kept. With the same digest and the same kit the prover gives the same answer, since it reads
+the same. Another kit than a line's is said, and is no failure; `--all` is for that.
+
+What this cannot see is a line written by hand. So `--afresh`, after the gate, tries some bodies over libraries that the gate has just
+proved and with nothing kept of their own crate: a false line is found with some chance in each run, and for certain by `--all`.
+"""
+import argparse
+import concurrent.futures
+import contextlib
+import csv
+import datetime
+import fcntl
+import glob
+import hashlib
+import os
+import re
+import shutil
+import subprocess
+import sys
+import tempfile
+import time
+
+sys.dont_write_bytecode = True
+TOP = os.path.dirname(os.path.dirname(os.path.realpath(__file__)))
+sys.path.insert(0, os.path.join(TOP, "scripts"))
+import sources  # noqa: E402
+
+TRIED = "planted/TRIED.csv"
+COLUMNS = ["crate", "body", "day", "kit", "function", "goal", "digest"]
+OF_ONE_FUNCTION = ("Invariants.antt", "Answers.antt", "Proof.antt")
+# What a proof file says that names what the edit took away, or that cites such a proof.
+NAMES_ALONE = re.compile(r"has no field|is not in scope|has no `|was not admitted|is no name")
+REFUSED, MISSED, BAD = "refused", "not refused", "BAD"
+# How many bodies, and of how many crates, a run tries from nothing.
+AFRESH_CRATES, AFRESH_BODIES = 2, 4
+# The most bodies in must-fail/, and the most crates that have some.
+GATE_BODIES, GATE_CRATES = 12, 5
+
+
+def text_of(path):
+    with open(path, encoding="utf-8") as it:
+        return it.read()
+
+
+class BadEdit(Exception):
+    """An edit that cannot be tried, and why."""
+
+
+class Body:
+    """A wrong body: its crate, its name, what it turns, who must be refused, and its changes as (file, old, new)."""
+
+    def __init__(self, path):
+        parts = path.split("/")
+        self.path, self.crate, self.name = path, parts[1], parts[-1][: -len(".edit")]
+        self.turns, self.callers, self.changes, file, old = "", [], [], "", None
+        for line in text_of(os.path.join(TOP, path)).split("\n"):
+            key, _, rest = line.partition(" ")
+            if line.startswith("# caller: "):
+                self.callers.append(line[len("# caller: ") :].strip())
+            elif key == "#":
+                self.turns = f"{self.turns} {rest.strip()}".strip()
+            elif key == "file:":
+                file = rest.strip()
+            elif key == "old:":
+                old = rest
+            elif key == "new:" and file and old:
+                self.changes.append((file, old, rest))
+                old = None
+
+    def key(self):
+        return self.crate, self.name
+
+    def text(self):
+        """What of the edit an answer depends on."""
+        return repr((self.crate, self.changes, self.callers))
+
+
+def bodies_of(crate=None):
+    """The wrong bodies of a crate or of all, in order."""
+    found = glob.glob(os.path.join(TOP, f"planted/{crate or '*'}/*.edit")) + glob.glob(os.path.join(TOP, f"crates/{crate or '*'}/must-fail/*.edit"))
+    return sorted((Body(os.path.relpath(it, TOP)) for it in found), key=Body.key)
+
+
+# The repository.
+
+
+def lines_of_crates():
+    """The line of each crate in crates.txt, without its comment."""
+    lines = (re.sub(r"\s*#.*", "", it).strip() for it in text_of(os.path.join(TOP, "crates.txt")).split("\n"))
+    return {re.match(r"\w+", it)[0]: it for it in lines if it}
+
+
+def libraries_below(crate, lines):
+    """The libraries of the repository that a crate stands on, each after those below it."""
+    found = []
+    for word in lines[crate].partition(":")[2].split():
+        if word in lines:
+            found += [it for it in [*libraries_below(word, lines), word] if it not in found]
+    return found
+
+
+def files_of(crate, part, ending):
+    folder = os.path.join(TOP, "crates", crate)
+    found = glob.glob(f"{folder}/{part}/**/*{ending}", recursive=True)
+    return sorted(os.path.relpath(it, folder) for it in found)
+
+
+def source_files(crate):
+    """The texts of a crate's `src` by their path, without its tests."""
+    texts = {it: text_of(os.path.join(TOP, "crates", crate, it)) for it in files_of(crate, "src", ".rt")}
+    tests = [f"{os.path.dirname(path)}/{name}" for path, text in texts.items() for name in sources.TESTS.findall(text)]
+    kept = {it: text for it, text in texts.items() if not any(it == f"{test}.rt" or it.startswith(f"{test}/") for test in tests)}
+    return {it: sources.TESTS.sub("", text) for it, text in kept.items()}
+
+
+def sum_of(*parts):
+    return hashlib.sha256(repr(parts).encode()).hexdigest()
+
+
+class Digests:
+    """The digest of each body, with what several have in common read once."""
+
+    def __init__(self):
+        self.lines, self.seen = lines_of_crates(), {}
+
+    def of(self, body):
+        return sum_of(body.text(), self.of_crate(body.crate), self.handles())[:32]
+
+    def handles(self):
+        path = os.path.join(TOP, "HANDLES")
+        return text_of(path) if os.path.isfile(path) else ""
+
+    def once(self, key, make):
+        if key not in self.seen:
+            self.seen[key] = make()
+        return self.seen[key]
+
+    def of_crate(self, crate):
+        """The sum of what a check of the crate reads: its own files, and what the libraries below it state."""
+        return self.once((crate, "own"), lambda: sum_of(self.own(crate), [self.stated(it) for it in libraries_below(crate, self.lines)]))
+
+    def antt(self, crate, leaves_out=()):
+        found = files_of(crate, "specs", ".antt") + [it for it in files_of(crate, "proofs", ".antt") if os.path.basename(it) not in leaves_out]
+        return [(it, text_of(os.path.join(TOP, "crates", crate, it))) for it in found]
+
+    def own(self, crate):
+        sources_of = [(it, sources.plain(text)) for it, text in source_files(crate).items()]
+        return self.lines[crate], sources_of, self.antt(crate)
+
+    def stated(self, crate):
+        """The sum of what a crate above can read of a library."""
+        said = lambda: [(it, sources.stated(text)) for it, text in source_files(crate).items()]
+        return self.once((crate, "stated"), lambda: sum_of(self.lines[crate], said(), self.antt(crate, OF_ONE_FUNCTION)))
+
+
+def kit():
+    return subprocess.run(["rt", "version"], stdout=subprocess.PIPE, text=True, check=True).stdout.strip()
+
+
+# The lines of what was tried.
+
+
+def lines_tried():
+    """The lines of planted/TRIED.csv by crate and body."""
+    path = os.path.join(TOP, TRIED)
+    if not os.path.isfile(path):
+        return {}
+    with open(path, encoding="utf-8", newline="") as it:
+        return {(row["crate"], row["body"]): row for row in csv.DictReader(it)}
+
+
+@contextlib.contextmanager
+def alone(name):
+    """Held by one run at a time on this machine, for this checkout."""
+    os.makedirs(room_of_runs(), exist_ok=True)
+    with open(os.path.join(room_of_runs(), f"{name}.lock"), "w", encoding="utf-8") as it:
+        fcntl.flock(it, fcntl.LOCK_EX)
+        yield
+
+
+def write_lines(tried, gone):
+    """Puts lines into planted/TRIED.csv, takes those of `gone` out, and those whose body is no longer there."""
+    with alone("lines"):
+        rows = {**{key: row for key, row in lines_tried().items() if key not in gone}, **tried}
+        there = {it.key() for it in bodies_of()}
+        path = os.path.join(TOP, TRIED)
+        with open(f"{path}.new", "w", encoding="utf-8", newline="") as it:
+            writer = csv.DictWriter(it, COLUMNS, lineterminator="\n", extrasaction="ignore")
+            writer.writeheader()
+            writer.writerows(rows[key] for key in sorted(rows) if key in there)
+        os.replace(f"{path}.new", path)
+
+
+# What an edit changes.
+
+
+def changed_texts(bodies):
+    """The texts of the files that the bodies of one crate change, by path, and for each body the functions that it stands in (None: in none)."""
+    texts, places = {}, {}
+    for body in bodies:
+        if not body.changes:
+            raise BadEdit(f"{body.path} has no pair of lines 'old: ' and 'new: '")
+        for path, old, new in body.changes:
+            file = os.path.join(TOP, "crates", body.crate, path)
+            if path not in texts and not os.path.isfile(file):
+                raise BadEdit(f"{body.path}: its file {path} does not exist")
+            text = texts.setdefault(path, text_of(file))
+            if text.count(old) != 1:
+                raise BadEdit(f"{body.path}: its text \"{old[:70]}\" stands {text.count(old)} times in {path}, and not once")
+            at = text.index(old)
+            places.setdefault(body.key(), []).append(place_of(path, text, at, at + len(old)))
+            texts[path] = text[:at] + new + text[at + len(old) :]
+    return texts, places
+
+
+def place_of(path, text, start, end):
+    """The function that a stretch of a file stands in, and whether inside its body, as (pattern, is_inside, module)."""
+    module = sources.module_of(path)
+    found = sources.around(sources.functions_in(text, module), start, end) if path.endswith(".rt") else None
+    return (found.pattern, start > found.body, module) if found else None
+
+
+class Trial:
+    """A body with the patterns of the names of the functions of which one must be refused."""
+
+    def __init__(self, body):
+        self.body, places = body, changed_texts([body])[1][body.key()]
+        self.owners = [re.escape(it) for it in body.callers] or list(dict.fromkeys(it[0] for it in places if it))
+        self.is_inside = not body.callers and all(it and it[1] for it in places)
+        self.modules = {it.rpartition("::")[0] for it in body.callers} or {it[2] for it in places if it}
+        if not self.owners:
+            raise BadEdit(f"{body.path} stands in no function: name the one that must be refused in a line '# caller: PATH'")
+
+    def owns(self, name):
+        """Whether a name that the prover printed is that of the function, or of a closure in it."""
+        name = re.sub(r"\bfn::", "", name)
+        return any(re.match(rf"(?:\w+::)*?{it}(?:::|$)", name) for it in self.owners)
+
+
+def groups_of(trials):
+    """The trials in as few checks as may be: of those in one check, each changes the inside of other functions."""
+    groups = []
+    for trial in trials:
+        for group in groups:
+            if trial.is_inside and all(it.is_inside and not {*it.owners} & {*trial.owners} for it in group) and go_together([*group, trial]):
+                group.append(trial)
+                break
+        else:
+            groups.append([trial])
+    return groups
+
+
+def go_together(trials):
+    try:
+        changed_texts([it.body for it in trials])
+        return True
+    except BadEdit:
+        return False
+
+
+# A check.
+
+
+def run(words, folder):
+    how = {"stdin": subprocess.DEVNULL, "stdout": subprocess.PIPE, "stderr": subprocess.STDOUT, "errors": "replace", "check": False}
+    return subprocess.run(words, cwd=folder, **how)
+
+
+def room_of_runs():
+    return os.path.join(tempfile.gettempdir(), f"planted-{os.getuid()}-{hashlib.sha256(TOP.encode()).hexdigest()[:12]}")
+
+
+class Room:
+    """A scratch copy of a crate and the libraries below it, in which checks of it run."""
+
+    def __init__(self, crate, is_afresh):
+        self.crate, self.is_afresh, self.lines = crate, is_afresh, lines_of_crates()
+        self.below = libraries_below(crate, self.lines)
+        self.top = os.path.join(room_of_runs(), f"{crate}{'.afresh' if is_afresh else ''}")
+        self.folder = os.path.join(self.top, "crates", crate)
+
+    def __enter__(self):
+        shutil.rmtree(self.top, ignore_errors=True)
+        os.makedirs(self.top)
+        if os.path.isfile(os.path.join(TOP, "HANDLES")):
+            shutil.copy(os.path.join(TOP, "HANDLES"), self.top)
+        self.copy(self.below)
+        if self.is_afresh and self.below:
+            self.prove_libraries()
+        self.copy([self.crate])
+        return self
+
+    def __exit__(self, *_):
+        shutil.rmtree(self.top, ignore_errors=True)
+
+    def copy(self, crates):
+        """Adds crates to the copy, with their lines of crates.txt."""
+        for crate in crates:
+            for part in ("src", "specs", "proofs"):
+                if os.path.isdir(os.path.join(TOP, "crates", crate, part)):
+                    shutil.copytree(os.path.join(TOP, "crates", crate, part), os.path.join(self.top, "crates", crate, part))
+        with open(os.path.join(self.top, "crates.txt"), "a", encoding="utf-8") as it:
+            it.writelines(f"{self.lines[crate]}\n" for crate in crates)
+
+    def prove_libraries(self):
+        """Has the gate prove the libraries below, of which it takes what it proved before: it leaves their statements in out/."""
+        ran = run(["rt", "ci"], self.top)
+        if ran.returncode:
+            raise BadEdit(f"the libraries below {self.crate} are not proved: {ran.stdout.strip()[-300:]}")
+
+    def check(self, texts, modules):
+        """What a check says of the crate with these texts in place of its own, of the functions of these modules and what they call."""
+        for path, text in texts.items():
+            with open(os.path.join(self.folder, path), "w", encoding="utf-8") as it:
+                it.write(text)
+        only = [word for it in sorted(modules) for word in ("--only", it)] if "" not in modules else []
+        words = ["rt", "check", *only] if not self.is_afresh else [*self.plain_words(), *only]
+        said = run(words, self.folder).stdout
+        for path in texts:
+            shutil.copyfile(os.path.join(TOP, "crates", self.crate, path), os.path.join(self.folder, path))
+        return said
+
+    def plain_words(self):
+        """The prover's own command, over the libraries as the gate left them and with nothing kept of the crate."""
+        top = os.path.dirname(os.path.dirname(os.path.realpath(shutil.which("rt"))))
+        words = [f"{top}/bin/rattle", "check", "--crate-name", self.crate, "src/lib.rt", "-L", f"dependency={top}/rlibs"]
+        for name in ["std", *self.lines[self.crate].partition(":")[2].split()]:
+            words += ["--extern", f"{name}={self.rlib(name) if name in self.lines else f'{top}/rlibs/{name}.rlib'}"]
+        for name in self.below:
+            words += ["-L", f"dependency={os.path.dirname(self.rlib(name))}"]
+        words += ["--antt-project", f"{top}/rattle/logic/antt-project.json", "--logic-built", f"{top}/logic_built"]
+        return [*words, "--links", f"{self.crate}=", "--jobs", "1"]
+
+    def rlib(self, name):
+        return os.path.join(self.top, "crates", name, "out/rlib", f"{name}.rlib")
+
+
+# What a check said.
+
+
+def goals_of(said):
+    """Of each function that is not proved, by the name that is printed below the crate, its unproved goals: '' where only a proof file names what is gone."""
+    found = {}
+    for name, rest in re.findall(r"^fn \w+::(\S+): (.*)$", said, re.M):
+        if rest == "proved":
+            found[name] = None
+        elif rest.startswith("no proof"):
+            unproved = re.search(r"did not prove ((?:`[^`]*`(?:, )?)+)", rest)
+            found[name] = unproved[1].replace("`", "") if unproved else ""
+        else:
+            found[name] = refuted_in(said, name)
+    return found
+
+
+def refuted_in(said, name):
+    """The goals of a function whose answers its proof files give, and which the prover refused."""
+    place = rf"^(?:\./)?proofs/{re.escape(name.replace('::', '/'))}/\w+\.antt:\d+:\d+: error: `([^`]*)`: (.*)$"
+    goals = [goal for goal, why in re.findall(place, said, re.M) if not NAMES_ALONE.search(why)]
+    return ", ".join(dict.fromkeys(goals))
+
+
+def compiles(said):
+    """Whether the text reached the prover, which then ended."""
+    return re.search(r"^(?:logic=|only=)", said, re.M) is not None
+
+
+def first_errors(said):
+    lines = [it for it in said.split("\n") if re.search(r"\berror\b|no verdict", it) and not it.startswith("so far: ")]
+    return " | ".join(it[:200] for it in lines[:3]) or said.strip()[-300:]
+
+
+def outcome(trial, said):
+    """What a check says of one body: (kind, function, goal or why)."""
+    own = {name: goal for name, goal in goals_of(said).items() if trial.owns(name)}
+    for name, goal in own.items():
+        if goal:
+            return REFUSED, name, goal
+    if not own:
+        return BAD, "", f"the check names no function {' or '.join(trial.owners)}: {first_errors(said)}"
+    name = next((it for it, goal in own.items() if goal is not None), None)
+    if name is None:
+        return MISSED, next(iter(own)), "it is still proved"
+    line = re.search(rf"^fn \w+::{re.escape(name)}: (.*)$", said, re.M)[1]
+    return BAD, name, f"no goal of its own is unproved: {line[:200]} {first_errors(said)}"
+
+
+def try_together(room, trials):
+    """What a check of all these bodies says of each; by halves where they do not compile together. One of which the check does not name
+    a goal is tried again alone: the proof file of a function is not read to its end where it cites another one that is refused."""
+    texts, _ = changed_texts([it.body for it in trials])
+    said = room.check(texts, set().union(*(it.modules for it in trials)))
+    if compiles(said):
+        found = {it.body.key(): outcome(it, said) for it in trials}
+        unclear = [it for it in trials if found[it.body.key()][0] == BAD] if len(trials) > 1 else []
+        return {**found, **{key: came for it in unclear for key, came in try_together(room, [it]).items()}}
+    if len(trials) == 1:
+        return {trials[0].body.key(): (BAD, "", f"it does not compile, or the check did not end: {first_errors(said)}")}
+    half = len(trials) // 2
+    return {**try_together(room, trials[:half]), **try_together(room, trials[half:])}
+
+
+def try_crate(crate, bodies, is_afresh=False):
+    """Tries bodies of one crate, and returns what came of each, by its key."""
+    trials, found = [], {}
+    for body in bodies:
+        try:
+            trials.append(Trial(body))
+        except BadEdit as why:
+            found[body.key()] = BAD, "", str(why)
+    try:
+        with alone(crate), Room(crate, is_afresh) as room:
+            for group in groups_of(trials):
+                found.update(try_together(room, group))
+    except BadEdit as why:
+        found.update({it.key(): (BAD, "", str(why)) for it in bodies if it.key() not in found})
+    return found
+
+
+# The commands.
+
+
+def is_current(row, digest):
+    return row is not None and row["digest"] == digest
+
+
+def note(crate, bodies, found, digests, version, started):
+    """Writes the lines of what was refused, and says what was not."""
+    today, rows, gone = datetime.date.today().isoformat(), {}, set()
+    for body in bodies:
+        kind, function, goal = found[body.key()]
+        if kind == REFUSED:
+            rows[body.key()] = dict(zip(COLUMNS, [body.crate, body.name, today, version, function, goal, digests.of(body)]))
+        else:
+            gone.add(body.key())
+            print(f"{kind}: {body.crate}/{body.name}{f' ({function})' if function else ''}: {goal}", flush=True)
+    write_lines(rows, gone)
+    print(f"{crate}: {len(rows)} of {len(bodies)} refused, {time.time() - started:.0f} s", flush=True)
+    return len(gone)
+
+
+def try_planted(words):
+    """Tries bodies and writes their lines. Status 0 where each that was tried is refused."""
+    parser = argparse.ArgumentParser(prog="./try_planted", usage="./try_planted [--all [--resume]] [--jobs N] [CRATE..]")
+    parser.add_argument("crates", nargs="*")
+    parser.add_argument("--all", action="store_true")
+    parser.add_argument("--resume", action="store_true")
+    parser.add_argument("--jobs", type=int, default=1)
+    asked = parser.parse_args(words)
+    digests, lines, version, today = Digests(), lines_tried(), kit(), datetime.date.today().isoformat()
+    wanted = {}
+    for body in bodies_of():
+        row = lines.get(body.key())
+        stands = is_current(row, digests.of(body)) and (not asked.all or asked.resume and (row["day"], row["kit"]) == (today, version))
+        if not stands and (not asked.crates or body.crate in asked.crates):
+            wanted.setdefault(body.crate, []).append(body)
+
+    def one(crate):
+        started = time.time()
+        return note(crate, wanted[crate], try_crate(crate, wanted[crate]), digests, version, started)
+
+    with concurrent.futures.ThreadPoolExecutor(asked.jobs) as pool:
+        lost = sum(pool.map(one, [it for it in lines_of_crates() if it in wanted]))
+    print(f"{sum(map(len, wanted.values()))} tried, {lost} not refused")
+    return 1 if lost else 0
+
+
+def picked(bodies, crates):
+    """The bodies to be tried from nothing: some of each crate named, or of those that the commit's hash picks."""
+    ran = subprocess.run(["git", "rev-parse", "HEAD"], cwd=TOP, stdout=subprocess.PIPE, stderr=subprocess.DEVNULL, text=True, check=False)
+    seed = ran.stdout.strip() or sum_of([it.text() for it in bodies])
+    by_hash = lambda it: sum_of(seed, it)
+    crates = crates or sorted({it.crate for it in bodies}, key=by_hash)[:AFRESH_CRATES]
+    return {crate: sorted((it for it in bodies if it.crate == crate), key=lambda it: by_hash(it.key()))[:AFRESH_BODIES] for crate in crates}
+
+
+def try_afresh(crates):
+    """Tries some bodies from nothing. Status 0 where each is refused by the function that its line names."""
+    lines, wrong = lines_tried(), 0
+    for crate, bodies in picked(bodies_of(), crates).items():
+        started, found = time.time(), try_crate(crate, bodies, is_afresh=True)
+        for body in bodies:
+            kind, function, goal = found[body.key()]
+            row = lines.get(body.key(), {"function": "none"})
+            if kind != REFUSED or function != row["function"]:
+                wrong += 1
+                print(f"mend: {crate}/{body.name}: {kind} ({function}: {goal}), and {TRIED} names {row['function']}", flush=True)
+        print(f"planted: of {crate} from nothing: {', '.join(it.name for it in bodies)}: {time.time() - started:.0f} s", flush=True)
+    return 1 if wrong else 0
+
+
+def check_bodies(bodies):
+    """What is to be mended of the bodies themselves: each says what it turns, has a name of its own in its crate, and can be tried."""
+    wrong, seen, lines = [], set(), lines_of_crates()
+    for body in bodies:
+        if body.key() in seen:
+            wrong.append(f"{body.path}: {body.crate} has another body of that name")
+        seen.add(body.key())
+        if not body.turns:
+            wrong.append(f"{body.path} has no line '# SENTENCE' that says what it turns")
+        try:
+            if body.crate not in lines:
+                raise BadEdit(f"{body.path}: crates.txt has no crate {body.crate}")
+            Trial(body)
+        except BadEdit as why:
+            wrong.append(str(why))
+    gate = [it for it in bodies if it.path.startswith("crates/")]
+    if len(gate) > GATE_BODIES or len({it.crate for it in gate}) > GATE_CRATES:
+        wrong.append(f"must-fail/ has more than {GATE_BODIES} bodies, or in more than {GATE_CRATES} crates, each of which the gate proves once more: move some to planted/")
+    return wrong
+
+
+def check_lines():
+    """Says which bodies are to be mended, have no line or an old one, and which lines have no body. Status 0 where there is none of these."""
+    digests, lines, bodies = Digests(), lines_tried(), bodies_of()
+    kits = sorted({row["kit"] for row in lines.values()} - {kit()})
+    wrong = check_bodies(bodies)
+    for body in bodies:
+        row = lines.pop(body.key(), None)
+        if body.crate in digests.lines and not is_current(row, digests.of(body)):
+            wrong.append(f"{body.path} {'has an old line' if row else 'has no line'} in {TRIED}: ./try_planted {body.crate}")
+    wrong += [f"{TRIED} has a line for {crate}/{name}, which is not there: ./try_planted takes it out" for crate, name in sorted(lines)]
+    for it in wrong:
+        print(f"mend: {it}")
+    for it in kits:
+        print(f"note: some lines of {TRIED} are of the kit {it}: ./try_planted --all tries all with this one")
+    print(f"planted: {len(bodies)} wrong bodies, {len(wrong)} places to mend")
+    return 1 if wrong else 0
+
+
+def check_planted(words):
+    if words[:1] == ["--afresh"]:
+        return try_afresh(words[1:])
+    return check_lines()
+
+
+if __name__ == "__main__":
+    command = {"try": try_planted, "check": check_planted}[sys.argv[1]]
+    sys.exit(command(sys.argv[2:]))

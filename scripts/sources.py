@@ -1,0 +1,145 @@
+"""Reads Rattle sources as far as the wrong bodies need it: where each function stands, and what of a source a check can depend on.
+
+A text is read with its comments, strings and characters blanked, so that a brace or a keyword in one of them counts for nothing.
+"""
+import bisect
+import functools
+import re
+
+LITERAL = re.compile(r"""//[^\n]*|(?<![\w'])b?r?"(?:\\.|[^"\\])*"|(?<![\w'])b?'(?:\\[^']+|[^'\\\n])'""", re.S)
+TOKEN = re.compile(r"\bfn\s+\w+|\b(?:impl|trait|mod)\b|[{}]")
+CLAUSE = re.compile(r"\b(?:requires|ensures|ghost)\b")
+TESTS = re.compile(r"#\[cfg\(test\)\]\s*mod (\w+);")
+PAIRS = {"{": "}", "(": ")", "[": "]"}
+
+
+class Function:
+    """A function of a file: where its item and its body stand, and a pattern of the name that the prover prints for it."""
+
+    def __init__(self, start, body, end, pattern, is_opaque):
+        self.start, self.body, self.end, self.pattern, self.is_opaque = start, body, end, pattern, is_opaque
+
+
+def blanked(text):
+    """The text with a blank for each character of a comment, a string or a character, and its line breaks kept."""
+    return LITERAL.sub(lambda it: re.sub(r"[^\n]", " ", it[0]), text)
+
+
+def plain(text):
+    """The text without comments, and with one blank for each stretch of blanks that stands in no string."""
+    text = LITERAL.sub(lambda it: " " if it[0].startswith("//") else it[0], text)
+    kept, at = [], 0
+    for found in LITERAL.finditer(text):
+        kept += [re.sub(r"\s+", " ", text[at : found.start()]), found[0]]
+        at = found.end()
+    return "".join([*kept, re.sub(r"\s+", " ", text[at:])]).strip()
+
+
+def group_end(text, at):
+    """The place right after the bracket that closes the one at `at`."""
+    opens, closes, depth = text[at], PAIRS[text[at]], 0
+    for found in re.compile(f"[{re.escape(opens + closes)}]").finditer(text, at):
+        depth += 1 if found[0] == opens else -1
+        if not depth:
+            return found.end()
+    raise ValueError(f"a bracket {opens} is not closed")
+
+
+def body_of(text, at):
+    """Where the body of the function whose name ends at `at` begins, and where the item ends; of one without a body, the end twice."""
+    segment = at
+    while True:
+        found = re.compile(r"[{;(\[]").search(text, at)
+        if not found or found[0] == ";":
+            end = found.end() if found else len(text)
+            return end, end
+        at = group_end(text, found.start())
+        if found[0] != "{":
+            continue
+        if not CLAUSE.search(text, segment, found.start()):
+            return found.start(), at
+        segment = at
+
+
+def words_of_type(text, parameters):
+    """The words of a type as the prover joins them: `From<AllocFailed<T>>` is FromAllocFailed."""
+    text = re.sub(r"'\w+", " ", text).replace("&", " Ref ")
+    words = [it for it in re.findall(r"\w+(?!\w*::)", text) if it not in parameters and it not in ("mut", "dyn")]
+    return "".join(it[:1].upper() + it[1:] for it in words)
+
+
+def name_of_impl(header):
+    """A pattern of the name that the prover gives an impl with these words before its brace."""
+    parameters = []
+    if header.startswith("<"):
+        depth, at = 0, 0
+        for at, it in enumerate(header):
+            depth += (it == "<") - (it == ">" and header[at - 1] != "-")
+            if not depth:
+                break
+        parameters = re.findall(r"(?:^|,)\s*(\w+)", header[1:at])
+        header = header[at + 1 :]
+    header = re.split(r"\bwhere\b", header)[0]
+    given = re.search(r"\bas (\w+)\s*$", header)
+    if given:
+        return re.escape(given[1])
+    trait, _, of = header.rpartition(" for ")
+    own = re.search(r"(?:\w+::)*(\w+)", of)[1]
+    return re.escape(own + words_of_type(trait, parameters)) + (r"\w*" if trait else "")
+
+
+@functools.lru_cache(maxsize=None)
+def functions_in(text, module):
+    """The functions of a file, in order; `module` is the file's path in the crate, as `a::b`, and of a crate's root the empty text."""
+    text, found = blanked(text), []
+    read_items(text, 0, len(text), [re.escape(it) for it in module.split("::") if it], False, found)
+    return found
+
+
+def read_items(text, at, end, path, is_trait, found):
+    """Adds the functions between two places to `found`; `path` has the patterns of the modules and the type around them."""
+    while True:
+        token = TOKEN.search(text, at, end)
+        if not token:
+            return
+        at = token.end()
+        if token[0] == "{":
+            at = group_end(text, token.start())
+        elif token[0].startswith("fn"):
+            body, at = body_of(text, token.end())
+            line = text[text.rfind("\n", 0, token.start()) + 1 : token.start()]
+            name = "::".join([*path, token[0][2:].strip()])
+            found.append(Function(token.start(), body, at, name, is_trait or "const" in line.split()))
+        elif token[0] != "}":
+            opens = re.compile(r"[{;]").search(text, at, end)
+            header = text[at : opens.start()].strip() if opens else ""
+            if opens and opens[0] == "{":
+                after = group_end(text, opens.start())
+                name = name_of_impl(header) if token[0] == "impl" else re.match(r"\w+", header)[0]
+                read_items(text, opens.end(), after - 1, [*path, name], token[0] == "trait", found)
+                at = after
+            else:
+                at = opens.end() if opens else end
+
+
+def around(functions, start, end):
+    """The function in whose item the text between two places stands, or None."""
+    at = bisect.bisect_right([it.start for it in functions], start) - 1
+    return functions[at] if at >= 0 and end <= functions[at].end else None
+
+
+def module_of(path):
+    """The module of a file: `src/a/b.rt` is a::b, and `src/lib.rt` the empty text."""
+    inside = re.sub(r"^src/|\.rt$", "", path)
+    return "" if inside in ("lib", "main") else re.sub(r"/mod$", "", inside).replace("/", "::")
+
+
+def stated(text):
+    """What a crate above can read of a source: all but the comments and the bodies of functions. The body of a `const` function, which a
+    constant may need, and one that a trait gives stay."""
+    kept, at = [], 0
+    for it in functions_in(text, ""):
+        if not it.is_opaque and it.body < it.end:
+            kept += [text[at : it.body], "{ }"]
+            at = it.end
+    return plain("".join([*kept, text[at:]]))
