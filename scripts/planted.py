@@ -12,7 +12,8 @@ pairs `old: TEXT` and `new: TEXT`, each TEXT one line that stands just once in t
 
 What counts as refused. The prover prints of each function whether it is proved, and if not which of its goals it did not prove. A body
 is refused only by an unproved goal of the function that it edits (or of its caller): not by a function that "calls .., which is not
-proved", not by a proof file that names what the edit took away, and not by a text that does not compile. So one check tries many
+proved", not by a proof file that names what the edit took away, and not by a text that does not compile. Where a body changes a definition
+of `specs` that a law states, a refused lemma that the law's proof cites counts too. So one check tries many
 bodies at once: those that change the inside of functions, each of another one. The proof of a function rests on its own body and on the
 contracts of what it calls, which such bodies leave as they are, so none of them changes what is said of another. A body that changes
 anything else (a constant, a contract, a definition) is tried alone. Where a check does not compile, its bodies are tried by halves.
@@ -53,7 +54,7 @@ TRIED = "planted/TRIED.csv"
 COLUMNS = ["crate", "body", "day", "kit", "function", "goal", "digest"]
 OF_ONE_FUNCTION = ("Invariants.antt", "Answers.antt", "Proof.antt")
 # What a proof file says that names what the edit took away, or that cites such a proof.
-NAMES_ALONE = re.compile(r"has no field|is not in scope|has no `|was not admitted|is no name")
+NAMES_ALONE = re.compile(r"has no field|is not in scope|has no `|was not admitted|is no name|: module `")
 REFUSED, MISSED, BAD = "refused", "not refused", "BAD"
 # How many bodies, and of how many crates, a run tries from nothing.
 AFRESH_CRATES, AFRESH_BODIES = 2, 4
@@ -251,6 +252,7 @@ class Trial:
         self.body, places = body, changed_texts([body])[1][body.key()]
         self.owners = [re.escape(it) for it in body.callers] or list(dict.fromkeys(it[0] for it in places if it))
         self.is_inside = not body.callers and all(it and it[1] for it in places)
+        self.is_law = all(path.startswith("specs/") for path, _, _ in body.changes)
         self.modules = {it.rpartition("::")[0] for it in body.callers} or {it[2] for it in places if it}
         if not self.owners:
             raise BadEdit(f"{body.path} stands in no function: name the one that must be refused in a line '# caller: PATH'")
@@ -363,24 +365,32 @@ class Room:
 
 
 def goals_of(said):
-    """Of each function that is not proved, by the name that is printed below the crate, its unproved goals: '' where only a proof file names what is gone."""
-    found = {}
-    for name, rest in re.findall(r"^fn \w+::(\S+): (.*)$", said, re.M):
-        if rest == "proved":
-            found[name] = None
-        elif rest.startswith("no proof"):
-            unproved = re.search(r"did not prove ((?:`[^`]*`(?:, )?)+)", rest)
-            found[name] = unproved[1].replace("`", "") if unproved else ""
-        else:
-            found[name] = refuted_in(said, name)
+    """Of each function, by the name that is printed below the crate, None if it is proved, or else its goals that count as unproved ('': none).
+    The notes of a function stand right above its line."""
+    found, at = {}, 0
+    for line in re.finditer(r"^fn \w+::(\S+): (.*)$", said, re.M):
+        name, rest = line.groups()
+        refuted = re.findall(r"^note: src/.*\(`([^`]*)`\); the facts known there allow values at which this goal is false", said[at : line.start()], re.M)
+        unproved = re.search(r"did not prove ((?:`[^`]*`(?:, )?)+)", rest)
+        goals = [*(re.findall(r"`([^`]*)`", unproved[1]) if unproved else []), *refuted_in(said, name), *refuted]
+        found[name], at = None if rest == "proved" else ", ".join(dict.fromkeys(goals)), line.end()
     return found
 
 
 def refuted_in(said, name):
     """The goals of a function whose answers its proof files give, and which the prover refused."""
     place = rf"^(?:\./)?proofs/{re.escape(name.replace('::', '/'))}/\w+\.antt:\d+:\d+: error: `([^`]*)`: (.*)$"
-    goals = [goal for goal, why in re.findall(place, said, re.M) if not NAMES_ALONE.search(why)]
-    return ", ".join(dict.fromkeys(goals))
+    return [goal for goal, why in re.findall(place, said, re.M) if not NAMES_ALONE.search(why)]
+
+
+def refuted_lemma(said, name):
+    """The lemma that the proof file of a law cites and the prover refused: the body of a law is empty, and its proof a lemma of the crate."""
+    cited = rf"^(?:\./)?proofs/{re.escape(name.replace('::', '/'))}/.*depends? on `([^`]*)`, which was not admitted"
+    for lemma in re.findall(cited, said, re.M):
+        why = re.search(rf"^(?:\./)?proofs/\w+\.antt:\d+:\d+: error: `{re.escape(lemma)}`: (.*)$", said, re.M)
+        if why and not NAMES_ALONE.search(why[1]):
+            return f"lemma {lemma}"
+    return ""
 
 
 def compiles(said):
@@ -396,6 +406,7 @@ def first_errors(said):
 def outcome(trial, said):
     """What a check says of one body: (kind, function, goal or why)."""
     own = {name: goal for name, goal in goals_of(said).items() if trial.owns(name)}
+    own = {name: refuted_lemma(said, name) if goal == "" and trial.is_law else goal for name, goal in own.items()}
     for name, goal in own.items():
         if goal:
             return REFUSED, name, goal
