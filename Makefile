@@ -1,11 +1,11 @@
 # make install PREFIX=/usr/local [DESTDIR=..]: puts the program under the name `ringcheck`, where it is proved from the sources as they
-# stand, with its manual, its completions and the scripts for many boards. The launcher ends with status 5 where it is not
+# stand, with its manual, its completions and the script for many boards. The launcher ends with status 5 where it is not
 # proved, and then nothing is installed. make uninstall takes all of it away; make deb makes a Debian package of it.
 PREFIX ?= /usr/local
 VERSION := $(shell cat VERSION)
 root = $(DESTDIR)$(PREFIX)
 installed = bin/ringcheck bin/ringcheck-each share/man/man1/ringcheck.1 share/man/man1/ringcheck-each.1 \
-  share/ringcheck/check-boards.mk share/ringcheck/junit.jq share/ringcheck/github.jq share/bash-completion/completions/ringcheck share/zsh/site-functions/_ringcheck \
+  share/ringcheck/junit.jq share/ringcheck/github.jq share/bash-completion/completions/ringcheck share/zsh/site-functions/_ringcheck \
   share/fish/vendor_completions.d/ringcheck.fish
 
 .PHONY: build install uninstall deb test
@@ -19,7 +19,6 @@ install: build
 	sed 's/@VERSION@/$(VERSION)/' packaging/ringcheck.1 > "$(root)/share/man/man1/ringcheck.1"
 	sed 's/@VERSION@/$(VERSION)/' packaging/ringcheck-each.1 > "$(root)/share/man/man1/ringcheck-each.1"
 	chmod 644 "$(root)/share/man/man1/ringcheck.1" "$(root)/share/man/man1/ringcheck-each.1"
-	install -m 644 packaging/check-boards.mk "$(root)/share/ringcheck/check-boards.mk"
 	install -m 644 extras/junit.jq extras/github.jq "$(root)/share/ringcheck"
 	install -m 644 packaging/completions/ringcheck.bash "$(root)/share/bash-completion/completions/ringcheck"
 	install -m 644 packaging/completions/_ringcheck "$(root)/share/zsh/site-functions/_ringcheck"
