@@ -1,10 +1,11 @@
 # make install PREFIX=/usr/local [DESTDIR=..]: puts the program under the name `ringcheck`, where it is proved from the sources as they
-# stand, with its manual, its completions and the script for many boards. The launcher ends with status 5 where it is not
-# proved, and then nothing is installed. make uninstall takes all of it away; make deb makes a Debian package of it.
+# stand, with its manual, its completions, the stamp of its proof and the script for many boards. The launcher ends with status 5 where it is
+# not proved, and then nothing is installed; nor is a program that is not the one of the stamp. make uninstall takes all of it away; make deb
+# makes a Debian package of it.
 PREFIX ?= /usr/local
 VERSION := $(shell cat VERSION)
 root = $(DESTDIR)$(PREFIX)
-installed = bin/ringcheck bin/ringcheck-each share/man/man1/ringcheck.1 share/man/man1/ringcheck-each.1 \
+installed = bin/ringcheck bin/ringcheck-each share/doc/ringcheck/proved share/man/man1/ringcheck.1 share/man/man1/ringcheck-each.1 \
   share/ringcheck/junit.jq share/ringcheck/github.jq share/bash-completion/completions/ringcheck share/zsh/site-functions/_ringcheck \
   share/fish/vendor_completions.d/ringcheck.fish
 
@@ -13,8 +14,8 @@ build:
 	./ringcheck --help > /dev/null
 
 install: build
-	install -d $(foreach it,$(dir $(installed)),"$(root)/$(it)")
-	install -m 755 crates/ringcheck_program/out/ringcheck_program "$(root)/bin/ringcheck"
+	packaging/install_program "$(root)"
+	install -d $(foreach it,$(sort $(dir $(installed))),"$(root)/$(it)")
 	install -m 755 packaging/ringcheck-each "$(root)/bin/ringcheck-each"
 	sed 's/@VERSION@/$(VERSION)/' packaging/ringcheck.1 > "$(root)/share/man/man1/ringcheck.1"
 	sed 's/@VERSION@/$(VERSION)/' packaging/ringcheck-each.1 > "$(root)/share/man/man1/ringcheck-each.1"
@@ -26,7 +27,7 @@ install: build
 
 uninstall:
 	rm -f $(foreach it,$(installed),"$(root)/$(it)")
-	-rmdir "$(root)/share/ringcheck"
+	-rmdir "$(root)/share/ringcheck" "$(root)/share/doc/ringcheck"
 
 deb: build
 	packaging/make_deb out
