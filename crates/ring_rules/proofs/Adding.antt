@@ -75,16 +75,5 @@ clash_found gap holes pairs p clash found = elim (cases_lt (size_of (hole_at hol
   most' : max p.1 p.0 ≡ p.1
   most' = omega (arith, clash.ordered)
 
-pub found_place : (gap : ℕ) (holes : List Drilled) (place : ℕ) (a b : List (ℕ × ℕ)) → AddsClashes gap holes a b
-    → ((k : ℕ) → k < place → (o : ℕ) → o < length holes → size_of (hole_at holes o) ≤ size_of (hole_at holes k) → IsFound gap holes k o a)
-    → ((o : ℕ) → o < length holes → size_of (hole_at holes o) ≤ size_of (hole_at holes place) → IsFound gap holes place o b)
-    → (k : ℕ) → k < place + 1 → (o : ℕ) → o < length holes → size_of (hole_at holes o) ≤ size_of (hole_at holes k) → IsFound gap holes k o b
-found_place gap holes place a b adds before here k h o l size = elim (cases_lt k place) [
-  | inl less ↦ found_still gap holes k o a b adds (before k less o l size)
-  | inr more ↦
-      let is : k ≡ place = omega (arith, h, more) in
-      subst (λ (n : ℕ). IsFound gap holes n o b) (sym is) (here o l (subst (λ (n : ℕ). size_of (hole_at holes o) ≤ size_of (hole_at holes n)) is size))
-]
-
 pub sound_still : (gap : ℕ) (holes : List Drilled) (a b : List (ℕ × ℕ)) → AddsClashes gap holes a b → ((p : ℕ × ℕ) → Contains a p → IsClash gap holes p) → (p : ℕ × ℕ) → Contains b p → IsClash gap holes p
 sound_still gap holes a b adds sound p h = elim (adds.sound p h) [ inl early ↦ sound p early | inr clash ↦ clash ]

@@ -4,19 +4,30 @@ ghost use Rattle.std.specs.Prelude.{◌≡◌, ℕ, ◌+◌, ◌<◌, ◌≤◌,
 ghost use Rattle.std.specs.Int.{int_min, int_max};
 ghost use Rattle.std.specs.List.{Contains};
 ghost use Rattle.grid_units.specs.Holes.{GridHole};
+ghost use Rattle.grid_units.specs.Points.{apart};
 ghost use Rattle.pad_shapes.specs.Zones.{IsInZone};
+ghost use Rattle.ring_rules.specs.Cells.{cell_at};
 ghost use Rattle.ring_rules.specs.Cores.{are_clear};
 ghost use Rattle.ring_rules.specs.Index.{IsIndexOf};
 ghost use Rattle.ring_rules.specs.Places.{hole_at};
-ghost use Rattle.ring_rules.specs.Inner.Meeting.{length_of, size_of, AddsClashes, IsClash, IsFound};
+ghost use Rattle.ring_rules.specs.Inner.Meeting.{length_of, size_of, AreLimits, AddsClashes, IsClash, AreFound};
 
 use crate::clashes::add_pairs;
 use crate::finding::Drilled;
 use crate::index::HoleIndex;
+use crate::marks::link_at;
 use crate::shape::drawn;
 use grid_units::{Hole, Rules};
 use pad_shapes::Zone;
 use std::alloc::{AllocError, Global};
+
+/// Lengths that no hole of a list exceeds, in pm: by its radius, and by its core along each axis.
+#[derive(Clone, Copy)]
+pub(crate) struct Limits {
+    radius: u64,
+    x: u64,
+    y: u64,
+}
 
 /// The longer side of a hole's core.
 fn length_of(hole: &Hole) -> u64
@@ -26,6 +37,22 @@ fn length_of(hole: &Hole) -> u64
     let x = hole.from().x().abs_diff(hole.to().x());
     let y = hole.from().y().abs_diff(hole.to().y());
     x.max(y)
+}
+
+/// How long a hole's core is along x.
+fn length_x(hole: &Hole) -> u64
+    ensures value { result ≡ apart hole.now.from.x hole.now.to.x }
+    ensures in_range { result ≤ 20000000000000 }
+{
+    hole.from().x().abs_diff(hole.to().x())
+}
+
+/// How long a hole's core is along y.
+fn length_y(hole: &Hole) -> u64
+    ensures value { result ≡ apart hole.now.from.y hole.now.to.y }
+    ensures in_range { result ≤ 20000000000000 }
+{
+    hole.from().y().abs_diff(hole.to().y())
 }
 
 /// The radius of a hole, or the longer side of its core where that is more.
@@ -47,24 +74,48 @@ fn widest(holes: &[Drilled]) -> u64
     widest
 }
 
-/// A length that the core of no hole exceeds.
-fn longest(holes: &[Drilled]) -> u64
-    ensures all { (k : ℕ) → k < length holes.now → length_of (hole_at holes.now k) ≤ result }
+/// A length along x that the core of no hole exceeds.
+fn longest_x(holes: &[Drilled]) -> u64
+    ensures all { (k : ℕ) → k < length holes.now → apart (hole_at holes.now k).from.x (hole_at holes.now k).to.x ≤ result }
     ensures in_range { result ≤ 20000000000000 }
 {
     let mut longest = 0;
     for drilled in holes {
-        longest = length_of(&drilled.hole).max(longest);
+        longest = length_x(&drilled.hole).max(longest);
     }
     longest
 }
 
-/// How far round the core of a hole another one may go in that is not clear of it and no larger.
+/// A length along y that the core of no hole exceeds.
+fn longest_y(holes: &[Drilled]) -> u64
+    ensures all { (k : ℕ) → k < length holes.now → apart (hole_at holes.now k).from.y (hole_at holes.now k).to.y ≤ result }
+    ensures in_range { result ≤ 20000000000000 }
+{
+    let mut longest = 0;
+    for drilled in holes {
+        longest = length_y(&drilled.hole).max(longest);
+    }
+    longest
+}
+
+/// Lengths that no hole exceeds.
+fn limits_of(holes: &[Drilled]) -> Limits
+    ensures { AreLimits holes.now result }
+{
+    Limits {
+        radius: widest(holes),
+        x: longest_x(holes),
+        y: longest_y(holes),
+    }
+}
+
+/// How far from the core of a hole along an axis another one may go in that is not clear of it and no larger, where no core is
+/// longer than this along the axis.
 fn margin(hole: &Hole, rules: Rules, widest: u64, longest: u64) -> u64
     requires widest { widest ≤ 5000000000000 }
     requires longest { longest ≤ 20000000000000 }
     ensures bound { result ≤ 50000000000000 }
-    ensures value { (o : GridHole) → o.radius ≤ widest → length_of o ≤ longest → size_of o ≤ size_of hole.now → o.radius + hole.now.radius + rules.gap + length_of o ≤ result }
+    ensures value { (o : GridHole) (n : ℕ) → o.radius ≤ widest → n ≤ longest → n ≤ length_of o → size_of o ≤ size_of hole.now → o.radius + hole.now.radius + rules.gap + n ≤ result }
 {
     let size = size_of(hole);
     let radii = hole.radius().unsigned_abs() + size.min(widest);
@@ -104,17 +155,19 @@ fn above(hole: &Hole, margin: u64) -> i64
 }
 
 /// Where holes go in that are not clear of a hole and no larger.
-fn near_zone(hole: &Hole, rules: Rules, widest: u64, longest: u64) -> Zone
-    requires widest { widest ≤ 5000000000000 }
-    requires longest { longest ≤ 20000000000000 }
-    ensures { (o : GridHole) → o.radius ≤ widest → length_of o ≤ longest → size_of o ≤ size_of hole.now → are_clear rules.gap o hole.now ≡ false → IsInZone result o.from }
+fn near_zone(hole: &Hole, rules: Rules, limits: Limits) -> Zone
+    requires radius { limits.radius ≤ 5000000000000 }
+    requires x { limits.x ≤ 20000000000000 }
+    requires y { limits.y ≤ 20000000000000 }
+    ensures { (o : GridHole) → o.radius ≤ limits.radius → apart o.from.x o.to.x ≤ limits.x → apart o.from.y o.to.y ≤ limits.y → size_of o ≤ size_of hole.now → are_clear rules.gap o hole.now ≡ false → IsInZone result o.from }
 {
-    let margin = margin(hole, rules, widest, longest);
+    let margin_x = margin(hole, rules, limits.radius, limits.x);
+    let margin_y = margin(hole, rules, limits.radius, limits.y);
     Zone {
-        left: left_of(hole, margin),
-        right: right_of(hole, margin),
-        bottom: below(hole, margin),
-        top: above(hole, margin),
+        left: left_of(hole, margin_x),
+        right: right_of(hole, margin_x),
+        bottom: below(hole, margin_y),
+        top: above(hole, margin_y),
     }
 }
 
@@ -123,24 +176,65 @@ fn add_near(
     index: &HoleIndex,
     holes: &[Drilled],
     rules: Rules,
-    widest: u64,
-    longest: u64,
+    limits: Limits,
     place: usize,
     near: &mut Vec<usize>,
     pairs: &mut Vec<(usize, usize)>,
 ) -> Result<(), AllocError>
     requires index { IsIndexOf holes.now index.now }
+    requires limits { AreLimits holes.now limits }
     requires place { place < length holes.now }
-    requires widest { (k : ℕ) → k < length holes.now → (hole_at holes.now k).radius ≤ widest }
-    requires longest { (k : ℕ) → k < length holes.now → length_of (hole_at holes.now k) ≤ longest }
-    requires widest_in_range { widest ≤ 5000000000000 }
-    requires longest_in_range { longest ≤ 20000000000000 }
     ensures adds { OnOk result (AddsClashes rules.gap holes.now pairs.old.items pairs.new.items) }
-    ensures found { OnOk result ((o : ℕ) → o < length holes.now → size_of (hole_at holes.now o) ≤ size_of (hole_at holes.now place) → IsFound rules.gap holes.now place o pairs.new.items) }
+    ensures found { OnOk result (AreFound rules.gap holes.now place pairs.new.items) }
 {
-    let zone = near_zone(&holes[place].hole, rules, widest, longest);
+    let zone = near_zone(&holes[place].hole, rules, limits);
     index.find(holes, &zone, near)?;
     add_pairs(holes, rules, place, near, pairs)?;
+    Ok(())
+}
+
+/// Appends the pairs of the holes of a cell with those that are no larger.
+fn add_cell_pairs(
+    index: &HoleIndex,
+    holes: &[Drilled],
+    rules: Rules,
+    limits: Limits,
+    cell: usize,
+    near: &mut Vec<usize>,
+    pairs: &mut Vec<(usize, usize)>,
+) -> Result<(), AllocError>
+    requires index { IsIndexOf holes.now index.now }
+    requires limits { AreLimits holes.now limits }
+    ensures adds { OnOk result (AddsClashes rules.gap holes.now pairs.old.items pairs.new.items) }
+    ensures found { OnOk result ((k : ℕ) → k < length holes.now → cell_at index.now.cells.x index.now.cells.y holes.now k ≡ cell → AreFound rules.gap holes.now k pairs.new.items) }
+{
+    let mut link = link_at(&index.cells.head, cell);
+    while link > 0 {
+        let place = link - 1;
+        add_near(index, holes, rules, limits, place, near, pairs)?;
+        link = link_at(&index.cells.next, place);
+    }
+    Ok(())
+}
+
+/// Appends the pairs of all holes with those that are no larger, cell by cell: so holes that are near each other are looked for one
+/// after the other.
+fn add_all_pairs(
+    index: &HoleIndex,
+    holes: &[Drilled],
+    rules: Rules,
+    limits: Limits,
+    near: &mut Vec<usize>,
+    pairs: &mut Vec<(usize, usize)>,
+) -> Result<(), AllocError>
+    requires index { IsIndexOf holes.now index.now }
+    requires limits { AreLimits holes.now limits }
+    ensures adds { OnOk result (AddsClashes rules.gap holes.now pairs.old.items pairs.new.items) }
+    ensures found { OnOk result ((k : ℕ) → k < length holes.now → AreFound rules.gap holes.now k pairs.new.items) }
+{
+    for cell in 0..index.cells.head.len() {
+        add_cell_pairs(index, holes, rules, limits, cell, near, pairs)?;
+    }
     Ok(())
 }
 
@@ -168,15 +262,12 @@ pub(crate) fn clashes(
     ensures sound { IfOk result (λ v. (p : ℕ × ℕ) → Contains v.items p → IsClash rules.gap holes.now p) }
     ensures complete { IfOk result (λ v. (p : ℕ × ℕ) → IsClash rules.gap holes.now p → Contains v.items p) }
 {
-    let (widest, longest) = (widest(holes), longest(holes));
-    let width = asked(holes, rules, widest, longest);
-    let index = HoleIndex::new(alloc, holes, width, width)?;
+    let limits = limits_of(holes);
+    let width = asked(holes, rules, limits.radius, limits.x);
+    let height = asked(holes, rules, limits.radius, limits.y);
+    let index = HoleIndex::new(alloc, holes, width, height)?;
     let mut near = Vec::new(alloc);
     let mut pairs = Vec::new(alloc);
-    for place in 0..holes.len() {
-        add_near(
-            &index, holes, rules, widest, longest, place, &mut near, &mut pairs,
-        )?;
-    }
+    add_all_pairs(&index, holes, rules, limits, &mut near, &mut pairs)?;
     Ok(pairs)
 }

@@ -11,6 +11,6 @@ pub returns-clause-found : goal.returns-clause-found
 returns-clause-found c o h size = record {
   there = λ differ near.
       let is : get_or c.args.holes.now c.args.place c.index-holes-place.result ≡ get_or c.args.holes.now c.args.place nowhere = get_or_default c.args.holes.now c.args.place c.index-holes-place.result nowhere c.requires.place in
-      let z = c.near_zone-zone.ensures (hole_at c.args.holes.now o) (c.requires.widest o h) (c.requires.longest o h) (subst (λ (d : Drilled). size_of (hole_at c.args.holes.now o) ≤ size_of d.hole) (sym is) size) (subst (λ (d : Drilled). are_clear c.args.rules.gap (hole_at c.args.holes.now o) d.hole ≡ false) (sym is) near) in
+      let z = c.near_zone-zone.ensures (hole_at c.args.holes.now o) (c.requires.limits.radius o h) (c.requires.limits.x o h) (c.requires.limits.y o h) (subst (λ (d : Drilled). size_of (hole_at c.args.holes.now o) ≤ size_of d.hole) (sym is) size) (subst (λ (d : Drilled). are_clear c.args.rules.gap (hole_at c.args.holes.now o) d.hole ≡ false) (sym is) near) in
       (c.in_ok-add_pairs.ensures.found o (subst (λ (xs : List ℕ). Contains xs o) (sym c.deref.ensures.value) (c.in_ok-find.ensures.all o h z))).there differ near;
 }

@@ -1,16 +1,13 @@
-use Rattle.std.proofs.Common.{ℕ, ◌≤◌, List, length, arith}
-use Rattle.ring_rules.proofs.Adding.{clash_found, found_place, sound_still}
+use Rattle.std.proofs.Common.{ℕ, List, [], subst, arith}
+use Rattle.ring_rules.specs.Inner.Meeting.{AddsClashes}
+use Rattle.ring_rules.proofs.Adding.{clash_found, sound_still}
 use Rattle.ring_rules.proofs.near.clashes.Goals as goal
 
-pub loop-place-preserved : goal.loop-place-preserved
-loop-place-preserved c =
-    let now : List (ℕ × ℕ) = c.add_near.new.pairs.items in
-    record {
-      sound = sound_still c.args.rules.gap c.args.holes.now c.loop-place.pairs.items now c.in_ok-add_near.ensures.adds c.loop-place.invariant.sound;
-      found = found_place c.args.rules.gap c.args.holes.now c.loop-place.place c.loop-place.pairs.items now c.in_ok-add_near.ensures.adds c.loop-place.invariant.found c.in_ok-add_near.ensures.found;
-    }
+pub returns-clause-sound : goal.returns-clause-sound
+returns-clause-sound c =
+    let now : List (ℕ × ℕ) = c.add_all_pairs.new.pairs.items in
+    let adds = subst (λ (xs : List (ℕ × ℕ)). AddsClashes c.args.rules.gap c.args.holes.now xs now) c.new-pairs.ensures.items c.in_ok-add_all_pairs.ensures.adds in
+    sound_still c.args.rules.gap c.args.holes.now [] now adds (λ p none. absurd (let l = none.1 in omega (arith, l)))
 
 pub returns-clause-complete : goal.returns-clause-complete
-returns-clause-complete c p clash =
-    let ended : length c.args.holes.now ≤ c.loop-place.place = omega (arith, c.loop-place-test.false) in
-    clash_found c.args.rules.gap c.args.holes.now c.loop-place.pairs.items p clash (λ k h. c.loop-place.invariant.found k (omega (arith, h, ended)))
+returns-clause-complete c p clash = clash_found c.args.rules.gap c.args.holes.now c.add_all_pairs.new.pairs.items p clash c.in_ok-add_all_pairs.ensures.found
