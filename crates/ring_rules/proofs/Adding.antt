@@ -6,7 +6,8 @@ use Rattle.std.proofs.lemmas.List.Elements.{Contains-append_left}
 use Rattle.std.proofs.lemmas.Bool.{cases_lt}
 use Rattle.ring_rules.specs.Cores.{are_clear}
 use Rattle.ring_rules.specs.Places.{nowhere, hole_at}
-use Rattle.ring_rules.specs.Inner.Meeting.{in_order, size_of, IsClash, AddsClashes, IsFound}
+use Rattle.ring_rules.specs.Near.{size_of}
+use Rattle.ring_rules.specs.Inner.Meeting.{in_order, IsClash, AddsClashes, IsFound}
 use Rattle.ring_rules.specs.declared.finding.Drilled.{Drilled}
 use Rattle.ring_rules.proofs.Clashing.{clash_of, clear_flips}
 

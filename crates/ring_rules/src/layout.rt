@@ -30,7 +30,7 @@ fn joined(zone: Zone, at: Point) -> Zone
 }
 
 /// A zone without points.
-fn no_zone() -> Zone {
+pub(crate) fn no_zone() -> Zone {
     Zone {
         left: i64::MAX,
         right: i64::MIN,

@@ -15,6 +15,7 @@ mod gaps;
 mod index;
 pub mod laws;
 mod layout;
+mod limits;
 mod marks;
 mod near;
 mod pads;
@@ -30,6 +31,8 @@ pub use finding::{Drilled, Finding, is_oblique};
 pub use gaps::gap_findings;
 pub use grid_units::Span;
 pub use index::HoleIndex;
+pub use limits::Limits;
+pub use near::{limits_of, near_zone};
 pub use rings::{layer_findings, ring_findings, usual_zone};
 
 #[cfg(test)]

@@ -1,33 +1,27 @@
 //! Where holes may stand that are not clear of a hole.
 
-ghost use Rattle.std.specs.Prelude.{◌≡◌, ℕ, ◌+◌, ◌<◌, ◌≤◌, ◌+ℤ◌, ◌-ℤ◌, pos, false, length, IfOk, OnOk};
+ghost use Rattle.std.specs.Prelude.{◌≡◌, ℕ, ◌+◌, ◌<◌, ◌≤◌, ◌+ℤ◌, ◌-ℤ◌, ◌≤ℤ◌, pos, length, IfOk, OnOk};
 ghost use Rattle.std.specs.Int.{int_min, int_max};
 ghost use Rattle.std.specs.List.{Contains};
 ghost use Rattle.grid_units.specs.Holes.{GridHole};
 ghost use Rattle.grid_units.specs.Points.{apart};
 ghost use Rattle.pad_shapes.specs.Zones.{IsInZone};
 ghost use Rattle.ring_rules.specs.Cells.{cell_at};
-ghost use Rattle.ring_rules.specs.Cores.{are_clear};
 ghost use Rattle.ring_rules.specs.Index.{IsIndexOf};
 ghost use Rattle.ring_rules.specs.Places.{hole_at};
-ghost use Rattle.ring_rules.specs.Inner.Meeting.{length_of, size_of, AreLimits, AddsClashes, IsClash, AreFound};
+ghost use Rattle.ring_rules.specs.Near.{length_of, size_of, IsUnder, AreLimits, IsGapBound, AreNearer, AreWithin};
+ghost use Rattle.ring_rules.specs.Inner.Meeting.{AddsClashes, IsClash, AreFound};
 
 use crate::clashes::add_pairs;
 use crate::finding::Drilled;
 use crate::index::HoleIndex;
+use crate::layout::no_zone;
+use crate::limits::Limits;
 use crate::marks::link_at;
 use crate::shape::drawn;
 use grid_units::{Hole, Rules};
 use pad_shapes::Zone;
 use std::alloc::{AllocError, Global};
-
-/// Lengths that no hole of a list exceeds, in pm: by its radius, and by its core along each axis.
-#[derive(Clone, Copy)]
-pub(crate) struct Limits {
-    radius: u64,
-    x: u64,
-    y: u64,
-}
 
 /// The longer side of a hole's core.
 fn length_of(hole: &Hole) -> u64
@@ -98,8 +92,8 @@ fn longest_y(holes: &[Drilled]) -> u64
     longest
 }
 
-/// Lengths that no hole exceeds.
-fn limits_of(holes: &[Drilled]) -> Limits
+/// Lengths that no hole of a list exceeds.
+pub fn limits_of(holes: &[Drilled]) -> Limits
     ensures { AreLimits holes.now result }
 {
     Limits {
@@ -109,22 +103,33 @@ fn limits_of(holes: &[Drilled]) -> Limits
     }
 }
 
-/// How far from the core of a hole along an axis another one may go in that is not clear of it and no larger, where no core is
-/// longer than this along the axis.
-fn margin(hole: &Hole, rules: Rules, widest: u64, longest: u64) -> u64
+/// How far the core of a hole may be at most from that of one that is no larger and has less than a gap from it. Where it is 0 or less
+/// there is no such hole.
+fn farthest(hole: &Hole, gap: i64, widest: u64) -> i64
+    requires gap { IsGapBound gap }
     requires widest { widest ≤ 5000000000000 }
-    requires longest { longest ≤ 20000000000000 }
-    ensures bound { result ≤ 50000000000000 }
-    ensures value { (o : GridHole) (n : ℕ) → o.radius ≤ widest → n ≤ longest → n ≤ length_of o → size_of o ≤ size_of hole.now → o.radius + hole.now.radius + rules.gap + n ≤ result }
+    ensures in_range { result ≤ℤ pos 50000000000000 }
+    ensures value { (o : GridHole) → o.radius ≤ widest → size_of o ≤ size_of hole.now → (pos (o.radius + hole.now.radius) +ℤ gap) ≤ℤ result }
 {
     let size = size_of(hole);
     let radii = hole.radius().unsigned_abs() + size.min(widest);
-    radii + rules.gap().unsigned_abs() + size.min(longest)
+    radii as i64 + gap
+}
+
+/// How far from the core of a hole along an axis such a one may go in, where its core is so far off and none is longer than this along the
+/// axis.
+fn margin(hole: &Hole, far: u64, longest: u64) -> u64
+    requires far { far ≤ 50000000000000 }
+    requires longest { longest ≤ 20000000000000 }
+    ensures bound { result ≤ 70000000000000 }
+    ensures value { (o : GridHole) (n : ℕ) → n ≤ longest → n ≤ length_of o → size_of o ≤ size_of hole.now → far + n ≤ result }
+{
+    far + size_of(hole).min(longest)
 }
 
 /// So far left of the core of a hole.
 fn left_of(hole: &Hole, margin: u64) -> i64
-    requires { margin ≤ 50000000000000 }
+    requires { margin ≤ 70000000000000 }
     ensures { result ≡ int_min hole.now.from.x hole.now.to.x -ℤ pos margin }
 {
     hole.from().x().min(hole.to().x()) - margin as i64
@@ -132,7 +137,7 @@ fn left_of(hole: &Hole, margin: u64) -> i64
 
 /// So far right of the core of a hole.
 fn right_of(hole: &Hole, margin: u64) -> i64
-    requires { margin ≤ 50000000000000 }
+    requires { margin ≤ 70000000000000 }
     ensures { result ≡ int_max hole.now.from.x hole.now.to.x +ℤ pos margin }
 {
     hole.from().x().max(hole.to().x()) + margin as i64
@@ -140,7 +145,7 @@ fn right_of(hole: &Hole, margin: u64) -> i64
 
 /// So far below the core of a hole.
 fn below(hole: &Hole, margin: u64) -> i64
-    requires { margin ≤ 50000000000000 }
+    requires { margin ≤ 70000000000000 }
     ensures { result ≡ int_min hole.now.from.y hole.now.to.y -ℤ pos margin }
 {
     hole.from().y().min(hole.to().y()) - margin as i64
@@ -148,27 +153,37 @@ fn below(hole: &Hole, margin: u64) -> i64
 
 /// So far above the core of a hole.
 fn above(hole: &Hole, margin: u64) -> i64
-    requires { margin ≤ 50000000000000 }
+    requires { margin ≤ 70000000000000 }
     ensures { result ≡ int_max hole.now.from.y hole.now.to.y +ℤ pos margin }
 {
     hole.from().y().max(hole.to().y()) + margin as i64
 }
 
-/// Where holes go in that are not clear of a hole and no larger.
-fn near_zone(hole: &Hole, rules: Rules, limits: Limits) -> Zone
-    requires radius { limits.radius ≤ 5000000000000 }
-    requires x { limits.x ≤ 20000000000000 }
-    requires y { limits.y ≤ 20000000000000 }
-    ensures { (o : GridHole) → o.radius ≤ limits.radius → apart o.from.x o.to.x ≤ limits.x → apart o.from.y o.to.y ≤ limits.y → size_of o ≤ size_of hole.now → are_clear rules.gap o hole.now ≡ false → IsInZone result o.from }
+/// A zone of where holes go in whose cores are so far at most from that of a hole and that are no larger.
+fn zone_round(hole: &Hole, far: u64, limits: Limits) -> Zone
+    requires { far ≤ 50000000000000 }
+    ensures { (o : GridHole) → IsUnder limits o → size_of o ≤ size_of hole.now → AreWithin far o hole.now → IsInZone result o.from }
 {
-    let margin_x = margin(hole, rules, limits.radius, limits.x);
-    let margin_y = margin(hole, rules, limits.radius, limits.y);
+    let margin_x = margin(hole, far, limits.x);
+    let margin_y = margin(hole, far, limits.y);
     Zone {
         left: left_of(hole, margin_x),
         right: right_of(hole, margin_x),
         bottom: below(hole, margin_y),
         top: above(hole, margin_y),
     }
+}
+
+/// Where those holes go in that are no larger than a hole and have less than a gap from it, in pm. Holes with a gap below 0 overlap.
+pub fn near_zone(hole: &Hole, gap: i64, limits: Limits) -> Zone
+    requires { IsGapBound gap }
+    ensures { (o : GridHole) → IsUnder limits o → size_of o ≤ size_of hole.now → AreNearer gap o hole.now → IsInZone result o.from }
+{
+    let far = farthest(hole, gap, limits.radius);
+    if far <= 0 {
+        return no_zone();
+    }
+    zone_round(hole, far.unsigned_abs(), limits)
 }
 
 /// Appends the pairs of a hole with those that are no larger.
@@ -187,7 +202,7 @@ fn add_near(
     ensures adds { OnOk result (AddsClashes rules.gap holes.now pairs.old.items pairs.new.items) }
     ensures found { OnOk result (AreFound rules.gap holes.now place pairs.new.items) }
 {
-    let zone = near_zone(&holes[place].hole, rules, limits);
+    let zone = near_zone(&holes[place].hole, rules.gap(), limits);
     index.find(holes, &zone, near)?;
     add_pairs(holes, rules, place, near, pairs)?;
     Ok(())

@@ -1,33 +1,14 @@
 -- Pairs of holes that are not clear, as each hole looks for those that are no larger.
 use Rattle.std.specs.Prelude.{◌≡◌, ℕ, ◌<◌, ◌≤◌, ◌⊎◌, min, max, false, List, length, get_or}
 use Rattle.std.specs.List.{Contains}
-use Rattle.grid_units.specs.Points.{apart}
-use Rattle.grid_units.specs.Holes.{GridHole}
 use Rattle.ring_rules.specs.Cores.{are_clear}
+use Rattle.ring_rules.specs.Near.{size_of}
 use Rattle.ring_rules.specs.Places.{hole_at}
 use Rattle.ring_rules.specs.declared.finding.Drilled.{Drilled}
-use Rattle.ring_rules.specs.declared.near.Limits.{Limits}
 
 -- the lesser of two places, and the greater (docs/DEFINITIONS.md, The pairs)
 abbrev pub in_order : ℕ → ℕ → ℕ × ℕ
 in_order a b = (min a b, max a b)
-
--- the longer side of a hole's core (docs/DEFINITIONS.md, The pairs)
-abbrev pub length_of : GridHole → ℕ
-length_of h = max (apart h.from.x h.to.x) (apart h.from.y h.to.y)
-
--- the radius of a hole, or the longer side of its core where that is more (docs/DEFINITIONS.md, The pairs)
-abbrev pub size_of : GridHole → ℕ
-size_of h = max h.radius (length_of h)
-
--- lengths that no hole of a list exceeds: by its radius, and by its core along each axis (docs/DEFINITIONS.md, The pairs)
-pub record AreLimits (holes : List Drilled) (limits : Limits) : Type 0 where
-  pub radius : (k : ℕ) → k < length holes → (hole_at holes k).radius ≤ limits.radius
-  pub x : (k : ℕ) → k < length holes → apart (hole_at holes k).from.x (hole_at holes k).to.x ≤ limits.x
-  pub y : (k : ℕ) → k < length holes → apart (hole_at holes k).from.y (hole_at holes k).to.y ≤ limits.y
-  pub radius_in_range : limits.radius ≤ 5000000000000
-  pub x_in_range : limits.x ≤ 20000000000000
-  pub y_in_range : limits.y ≤ 20000000000000
 
 -- two places of the list in their order, with holes that are not clear (docs/DEFINITIONS.md, The pairs)
 pub record IsClash (gap : ℕ) (holes : List Drilled) (p : ℕ × ℕ) : Type 0 where
