@@ -1,9 +1,12 @@
 -- Gaps from roots that are rounded down.
-use Rattle.std.proofs.Common.{◌≡◌, ◌↔◌, ℕ, pos, ◌+◌, ◌≤◌, ◌+ℤ◌, ◌-ℤ◌, ◌≤ℤ◌, true, subst, arith}
+use Rattle.std.proofs.Common.{◌≡◌, ◌↔◌, ℕ, ℤ, pos, ◌+◌, ◌≤◌, ◌+ℤ◌, ◌-ℤ◌, ◌≤ℤ◌, true, subst, arith}
 use Rattle.std.specs.Prelude.{nat_le}
 use Rattle.std.proofs.lemmas.Int.{ints}
 use Rattle.std.proofs.lemmas.Bool.Decides.{nat_tests}
 use Rattle.grid_units.specs.Points.{square}
+use Rattle.grid_units.specs.Holes.{GridHole}
+use Rattle.ring_rules.specs.Cores.{square_of_cores}
+use Rattle.margins.specs.Gaps.{IsGap}
 
 -- the lengths that are no longer than the distance of the cores are those up to the gap and both radii
 pub gap_exact : (radii far root t : ℕ) → (square t ≤ far) ↔ (t ≤ root) → (square t ≤ far) ↔ (pos t ≤ℤ ((pos root -ℤ pos radii) +ℤ pos radii))
@@ -24,3 +27,14 @@ pub root_of : (dx dy a b root : ℕ) → dx ≡ a → dy ≡ b → ((t : ℕ) �
 root_of dx dy a b root x y exact =
     subst (λ (k : ℕ). (t : ℕ) → (square t ≤ square a + square k) ↔ (t ≤ root)) y
     (subst (λ (k : ℕ). (t : ℕ) → (square t ≤ square k + square dy) ↔ (t ≤ root)) x exact)
+
+-- two holes have at least a gap that their radii make up for
+pub gap_of_none : (a b : GridHole) (z g : ℤ) → (z +ℤ pos (a.radius + b.radius)) ≤ℤ pos 0 → IsGap a b g → z ≤ℤ g
+gap_of_none a b z g none gap = let low : pos 0 ≤ℤ (g +ℤ pos (a.radius + b.radius)) = (gap 0).0 (omega arith) in omega (arith, ints, low, none)
+
+-- and one that is no longer, with the radii, than their cores are apart
+pub gap_of_far : (a b : GridHole) (z g : ℤ) (n : ℕ) → pos n ≡ z +ℤ pos (a.radius + b.radius) → nat_le (square n) (square_of_cores a b) ≡ true → IsGap a b g → z ≤ℤ g
+gap_of_far a b z g n is test gap =
+    let far : square n ≤ square_of_cores a b = grind (arith, nat_tests) in
+    let low : pos n ≤ℤ (g +ℤ pos (a.radius + b.radius)) = (gap n).0 far in
+    omega (arith, ints, low, is)

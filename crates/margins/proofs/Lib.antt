@@ -5,7 +5,7 @@ pub mod Nearing
 pub mod Meeting
 pub mod Passing
 pub mod Existing
-pub mod Listed
+pub mod Asking
 pub mod Trying
 pub mod Bettering
 pub mod Rowing

@@ -22,7 +22,7 @@ use Rattle.margins.specs.Meets.{asks_ring, IsRing, IsRingOf, RingsPassExactly, G
 use Rattle.margins.specs.Inner.Lacking.{is_short}
 use Rattle.margins.specs.declared.met.Met.TheVariants as mets
 use Rattle.grid_units.proofs.BoolLemmas.{both_true, neither, not_false, then_not}
-use Rattle.grid_units.proofs.ListLemmas.{no_map, none_at, fails_at, passing}
+use Rattle.grid_units.proofs.ListLemmas.{no_map, passing}
 use Rattle.ring_rules.proofs.Passed.{fails_placed, none_placed}
 
 -- ---- lists in which nothing is found

@@ -1,12 +1,10 @@
 -- Pairs of holes that are tried one by one.
-use Rattle.std.proofs.Common.{◌≡◌, ℕ, ℤ, ◌<◌, List, length, refl, sym, subst, ◌∙◌, arith}
+use Rattle.std.proofs.Common.{◌≡◌, ℕ, ℤ, ◌<◌, List, length, sym, subst, arith}
 use Rattle.ring_rules.specs.Places.{hole_at}
 use Rattle.ring_rules.specs.declared.finding.Drilled.{Drilled}
-use Rattle.ring_rules.specs.declared.finding.Finding.{Finding}
-use Rattle.ring_rules.specs.declared.finding.Finding.TheVariants.{Gap}
 use Rattle.margins.specs.Gaps.{IsGap}
-use Rattle.margins.specs.Nearness.{IsPair, IsNoFurther}
-use Rattle.margins.specs.Inner.Nearness.{IsPairAt, IsHeld, IsTried, IsTriedAt}
+use Rattle.margins.specs.Nearness.{IsNoFurther}
+use Rattle.margins.specs.Inner.Nearness.{IsPairAt, IsHeld, IsTried}
 use Rattle.margins.specs.declared.nearest.Nearest.{Nearest}
 use Rattle.margins.proofs.Nearing.{no_further_self, no_further_same, one_gap}
 
@@ -27,24 +25,11 @@ tried_new holes first second best next less inside at nearer =
       held = record {
         listed = record { ordered = omega (arith, x, y, less); inside = omega (arith, y, inside) };
         gap = subst (λ (n : ℕ). IsGap (hole_at holes n) (hole_at holes next.second) next.gap) (sym x) (subst (λ (n : ℕ). IsGap (hole_at holes first) (hole_at holes n) next.gap) (sym y) at.gap);
+        possible = at.possible;
       };
       back = nearer;
       new = λ g pair gap. no_further_same next next.first next.second first second next.gap g (sym x) (sym y) (one_gap (hole_at holes first) (hole_at holes second) g next.gap gap at.gap) (no_further_self next);
     }
-
--- the pair that a finding names
-pub tried_gap : (holes : List Drilled) (finding : Finding) (first second : ℕ) (best result : Nearest) → finding ≡ Gap first second → IsTried holes first second best result → IsTriedAt holes finding best result
-tried_gap holes finding first second best result is so = record {
-  held = so.held;
-  back = so.back;
-  new = λ i j g named pair gap.
-      let same : Gap first second ≡ Gap i j = sym is ∙ named in
-      let x : i ≡ first = cc in
-      let y : j ≡ second = cc in
-      no_further_same result first second i j g g x y refl
-      (so.new g (subst (λ (n : ℕ). IsPair holes n second) x (subst (λ (n : ℕ). IsPair holes i n) y pair))
-      (subst (λ (n : ℕ). IsGap (hole_at holes n) (hole_at holes second) g) x (subst (λ (n : ℕ). IsGap (hole_at holes i) (hole_at holes n) g) y gap)));
-}
 
 -- the pair so far stays, as the next one is no nearer
 pub tried_far : (holes : List Drilled) (first second : ℕ) (best : Nearest) → IsHeld holes best → ((gap : ℤ) → IsGap (hole_at holes first) (hole_at holes second) gap → IsNoFurther best first second gap) → IsTried holes first second best best

@@ -1,18 +1,19 @@
 //! The two holes of a board that are nearest to each other.
 //!
-//! Some pairs are tried first, two for each hole. If these are as good as chance, the pairs that are nearer than the nearest of
-//! them are fewer than the holes. They are looked up as the findings of a gap. Those at the same gap may be many, as on a board whose
-//! holes stand on a grid: they are left out where the nearest pair so far is the first of all.
+//! Each hole is tried with those that are no larger and go in so near to it that they may be nearer than the nearest pair so far, which an
+//! index tells. As that pair becomes nearer, fewer are tried. Pairs at its own gap may be very many, as of holes at one point. They are
+//! asked for only where they may come before it: by holes up to its first one; and by later ones among the holes up to that one alone,
+//! of which there is an index too, once all others were tried.
 
-ghost use Rattle.std.specs.Prelude.{◌≡◌, ◌+◌, ◌<◌, ◌⊎◌, ℤ, pos, length, true, false, IfOk, IfSome};
+ghost use Rattle.std.specs.Prelude.{◌≡◌, ◌+◌, ◌<◌, ◌≤◌, ◌+ℤ◌, ◌<ℤ◌, ◌≤ℤ◌, ◌⊎◌, ℤ, pos, length, true, false, IfOk};
+ghost use Rattle.ring_rules.specs.Near.{IsGapBound};
 ghost use Rattle.ring_rules.specs.Places.{hole_at};
 ghost use Rattle.margins.specs.Gaps.{IsGap};
 ghost use Rattle.margins.specs.Nearness.{IsNoFurther, IsNearestOf, IsPair};
-ghost use Rattle.margins.specs.Inner.Nearness.{IsNearer, IsPairBefore, IsPairAt, IsHeld, IsTried, IsTriedAt, AreTried, IsStart, IsFirstPair, IsEnough};
+ghost use Rattle.margins.specs.Inner.Nearness.{IsPossible, IsPairAt, IsHeld, IsTried, AreTried, IsPrefix, IsAsked, AreAsked, AreAskedLater};
 
-use crate::gap::gap_between;
-use grid_units::Rules;
-use ring_rules::{Drilled, Finding, clear_of, gap_findings};
+use crate::gap::{gap_between, has_gap};
+use ring_rules::{Drilled, HoleIndex, Limits, limits_of, near_zone};
 use std::alloc::{AllocError, Global};
 
 /// Two holes that are nearest to each other, by their places in the list, from 0.
@@ -24,6 +25,14 @@ pub struct Nearest {
     pub second: usize,
     /// The gap between them, in pm; below 0 where they overlap.
     pub gap: i64,
+}
+
+/// The first holes of a list, so many of them: an index of these, and lengths that none of them exceeds.
+#[derive(Drop)]
+struct Prefix {
+    count: usize,
+    index: HoleIndex,
+    limits: Limits,
 }
 
 /// Whether a pair is no further than another one: by the gap, then by the first hole, then by the second.
@@ -50,40 +59,28 @@ fn pair_at(holes: &[Drilled], first: usize, second: usize) -> Nearest
     Nearest { first, second, gap }
 }
 
-/// By how much the gap of a rule exceeds that of a pair: by nothing where no pair comes before it, as it is that of the first two holes.
-fn excess(pair: &Nearest) -> i64
-    ensures { (result ≡ pos 1) ⊎ ((result ≡ pos 0) × IsFirstPair pair.now) }
+/// The gap with which the holes at two places are no nearer than a pair: its own where it comes before them.
+fn enough(pair: &Nearest, first: usize, second: usize) -> i64
+    requires { IsPossible pair.now.gap }
+    ensures enough { (gap : ℤ) → result ≤ℤ gap → IsNoFurther pair.now first second gap }
+    ensures in_range { IsGapBound result }
 {
-    if pair.first == 0 && pair.second == 1 {
-        0
+    if pair.first < first || pair.first == first && pair.second <= second {
+        pair.gap
     } else {
-        1
+        pair.gap + 1
     }
 }
 
-/// Rules such that two holes that are clear are no nearer than a pair, if there are any.
-fn rules_above(pair: &Nearest) -> Option<Rules>
-    ensures { IfSome result (λ rules. IsEnough pair.now rules.gap) }
-{
-    if pair.gap < 1 {
-        Rules::new(0, 1).ok()
-    } else if pair.gap < 10_000_000_000_000 {
-        Rules::new(0, pair.gap + excess(pair)).ok()
-    } else {
-        None
-    }
-}
-
-/// Whether the holes at two places are clear by so much that they are no nearer than a pair. No root is taken.
+/// Whether the holes at two places are no nearer than a pair. No root is taken.
 fn is_further(holes: &[Drilled], first: usize, second: usize, pair: &Nearest) -> bool
     requires ordered { first < second }
     requires inside { second < length holes.now }
+    requires possible { IsPossible pair.now.gap }
     ensures { result ≡ true → (gap : ℤ) → IsGap (hole_at holes.now first) (hole_at holes.now second) gap → IsNoFurther pair.now first second gap }
 {
-    match rules_above(pair) {
-        Some(rules) => clear_of(&holes[first].hole, &holes[second].hole, rules),
-        None => false,
-    }
+    let gap = enough(pair, first, second);
+    has_gap(&holes[first].hole, &holes[second].hole, gap)
 }
 
 /// The nearer of the nearest pair so far and the holes at two places, where these are two of the list in their order.
@@ -105,85 +102,105 @@ fn tried(holes: &[Drilled], first: usize, second: usize, best: Nearest) -> Neare
     }
 }
 
-/// A place in a list of so many that a draw takes: the draws are spread evenly, and follow no period. Any answer is right.
-fn drawn(draw: usize, count: usize) -> usize {
-    let part = (draw as u64).wrapping_mul(0x9E37_79B9_7F4A_7C15);
-    ((u128::from(part) * count as u128) >> 64) as usize
-}
-
-/// A near pair: the nearest of as many as there are holes, some beside each other in the list and some drawn from all. There is none
-/// where there are fewer than two holes.
-fn start_of(holes: &[Drilled]) -> Option<Nearest>
-    ensures { IsStart holes.now result }
-{
-    if holes.len() < 2 {
-        return None;
-    }
-    let mut best = pair_at(holes, 0, 1);
-    for draw in 1..holes.len() {
-        let other = drawn(draw, holes.len());
-        best = tried(holes, draw - 1, draw, best);
-        best = tried(holes, draw.min(other), draw.max(other), best);
-    }
-    Some(best)
-}
-
-/// The nearer of the nearest pair so far and the holes of a finding of a gap.
-fn tried_at(holes: &[Drilled], finding: &Finding, best: Nearest) -> Nearest
+/// The nearest of a pair and of those of a hole with the holes at some places.
+fn nearest_among(holes: &[Drilled], place: usize, near: &[usize], best: Nearest) -> Nearest
     requires { IsHeld holes.now best }
-    ensures { IsTriedAt holes.now finding.now best result }
+    ensures { AreTried holes.now place near.now (length near.now) best result }
 {
-    match finding {
-        Finding::Gap { first, second } => tried(holes, *first, *second, best),
-        _ => best,
+    let mut nearest = best;
+    for other in near {
+        nearest = tried(holes, place.min(*other), place.max(*other), nearest);
+    }
+    nearest
+}
+
+/// The first holes of a list, so many of them.
+fn prefix_of(alloc: Global, holes: &[Drilled], count: usize) -> Result<Prefix, AllocError>
+    requires { count ≤ length holes.now }
+    ensures prefix { IfOk result (IsPrefix holes.now) }
+    ensures count { IfOk result (λ prefix. prefix.count ≡ count) }
+{
+    let first = &holes[..count];
+    let index = HoleIndex::new(alloc, first, 0, 0)?;
+    let limits = limits_of(first);
+    Ok(Prefix {
+        count,
+        index,
+        limits,
+    })
+}
+
+/// The nearest of a pair and of those of a hole with the first holes, as far as they are no larger than it and have less than a gap.
+fn asked(
+    prefix: &Prefix,
+    holes: &[Drilled],
+    place: usize,
+    gap: i64,
+    near: &mut Vec<usize>,
+    best: Nearest,
+) -> Result<Nearest, AllocError>
+    requires prefix { IsPrefix holes.now prefix.now }
+    requires place { place < length holes.now }
+    requires gap { IsGapBound gap }
+    requires held { IsHeld holes.now best }
+    ensures { IfOk result (IsAsked holes.now prefix.now.count place gap best) }
+{
+    let zone = near_zone(&holes[place].hole, gap, prefix.limits);
+    prefix.index.find(&holes[..prefix.count], &zone, near)?;
+    Ok(nearest_among(holes, place, near, best))
+}
+
+/// Below which gap a hole asks for pairs, when all before it have asked: one more than that of the nearest pair so far, and just that
+/// where the hole comes later than the first of the pair.
+fn gap_below(pair: &Nearest, place: usize) -> i64
+    requires { IsPossible pair.now.gap }
+    ensures rest { (gap : ℤ) → result ≤ℤ gap → (pair.now.gap <ℤ gap) ⊎ ((pair.now.gap ≤ℤ gap) × (pair.now.first < place)) }
+    ensures in_range { IsGapBound result }
+{
+    if place <= pair.first {
+        pair.gap + 1
+    } else {
+        pair.gap
     }
 }
 
-/// The nearest of a first pair and of the holes that some findings name.
-fn nearest_found(holes: &[Drilled], findings: &[Finding], start: Nearest) -> Nearest
-    requires { IsHeld holes.now start }
-    ensures { AreTried holes.now findings.now (length findings.now) start result }
+/// The nearest of a pair and of those of each hole with those that are no larger. Where the first hole of the answer comes before the
+/// larger one of a pair, that may come before the answer at the same gap.
+fn all_asked(
+    prefix: &Prefix,
+    holes: &[Drilled],
+    near: &mut Vec<usize>,
+    best: Nearest,
+) -> Result<Nearest, AllocError>
+    requires prefix { IsPrefix holes.now prefix.now }
+    requires all { prefix.now.count ≡ length holes.now }
+    requires held { IsHeld holes.now best }
+    ensures { IfOk result (AreAsked holes.now (length holes.now)) }
 {
-    let mut best = start;
-    for finding in findings {
-        best = tried_at(holes, finding, best);
+    let mut nearest = best;
+    for place in 0..holes.len() {
+        let gap = gap_below(&nearest, place);
+        nearest = asked(prefix, holes, place, gap, near, nearest)?;
     }
-    best
+    Ok(nearest)
 }
 
-/// The nearer of the nearest pair so far and the next one.
-fn nearer(best: Option<Nearest>, next: Nearest) -> Option<Nearest>
-    ensures { IsNearer best next result }
+/// The nearest of a pair and of those of each hole behind the first ones with these, as far as they are no larger and no further apart.
+fn later_asked(
+    prefix: &Prefix,
+    holes: &[Drilled],
+    near: &mut Vec<usize>,
+    best: Nearest,
+) -> Result<Nearest, AllocError>
+    requires prefix { IsPrefix holes.now prefix.now }
+    requires held { IsHeld holes.now best }
+    ensures { IfOk result (AreAskedLater holes.now prefix.now.count (length holes.now) best) }
 {
-    match best {
-        Some(held) if is_no_further(&held, &next) => best,
-        _ => Some(next),
+    let mut nearest = best;
+    for place in prefix.count..holes.len() {
+        nearest = asked(prefix, holes, place, best.gap + 1, near, nearest)?;
     }
-}
-
-/// The nearest pair so far, and those of one more hole with the holes before it.
-fn nearest_before(holes: &[Drilled], second: usize, best: Option<Nearest>) -> Option<Nearest>
-    requires inside { second < length holes.now }
-    requires so_far { IsNearestOf holes.now (IsPairBefore second 0) best }
-    ensures { IsNearestOf holes.now (IsPairBefore (second + 1) 0) result }
-{
-    let mut best = best;
-    for first in 0..second {
-        let gap = gap_between(&holes[first].hole, &holes[second].hole);
-        best = nearer(best, Nearest { first, second, gap });
-    }
-    best
-}
-
-/// The nearest of all pairs, by trying each of them.
-fn nearest_of_all(holes: &[Drilled]) -> Option<Nearest>
-    ensures { IsNearestOf holes.now (IsPair holes.now) result }
-{
-    let mut best = None;
-    for second in 0..holes.len() {
-        best = nearest_before(holes, second, best);
-    }
-    best
+    Ok(nearest)
 }
 
 /// The two holes with the least gap, by the first and then by the second of them among equals. There are none where there are
@@ -195,14 +212,13 @@ fn nearest_of_all(holes: &[Drilled]) -> Option<Nearest>
 pub fn nearest_holes(alloc: Global, holes: &[Drilled]) -> Result<Option<Nearest>, AllocError>
     ensures { IfOk result (IsNearestOf holes.now (IsPair holes.now)) }
 {
-    let Some(start) = start_of(holes) else {
+    if holes.len() < 2 {
         return Ok(None);
-    };
-    match rules_above(&start) {
-        Some(rules) => {
-            let findings = gap_findings(alloc, holes, rules)?;
-            Ok(Some(nearest_found(holes, &findings, start)))
-        }
-        None => Ok(nearest_of_all(holes)),
     }
+    let mut near = Vec::new(alloc);
+    let all = prefix_of(alloc, holes, holes.len())?;
+    let nearest = all_asked(&all, holes, &mut near, pair_at(holes, 0, 1))?;
+    let early = prefix_of(alloc, holes, nearest.first + 1)?;
+    let nearest = later_asked(&early, holes, &mut near, nearest)?;
+    Ok(Some(nearest))
 }
