@@ -58,6 +58,8 @@ NAMES_ALONE = re.compile(r"has no field|is not in scope|has no `|was not admitte
 REFUSED, MISSED, BAD = "refused", "not refused", "BAD"
 # How many bodies, and of how many crates, a run tries from nothing.
 AFRESH_CRATES, AFRESH_BODIES = 2, 4
+# How often those of which a check names no goal are tried again together.
+ROUNDS = 3
 # The most bodies in must-fail/, and the most crates that have some.
 GATE_BODIES, GATE_CRATES = 12, 5
 
@@ -245,13 +247,23 @@ def place_of(path, text, start, end):
     return (found.pattern, start > found.body, module) if found else None
 
 
+def same_functions(body, texts):
+    """Whether the files of a body have the same functions in the same order with its changes as without."""
+    names = lambda path, text: [it.pattern for it in sources.functions_in(text, sources.module_of(path))]
+    try:
+        return all(names(path, text) == names(path, text_of(os.path.join(TOP, "crates", body.crate, path))) for path, text in texts.items())
+    except ValueError:
+        return False
+
+
 class Trial:
     """A body with the patterns of the names of the functions of which one must be refused."""
 
     def __init__(self, body):
-        self.body, places = body, changed_texts([body])[1][body.key()]
+        texts, found = changed_texts([body])
+        self.body, places = body, found[body.key()]
         self.owners = [re.escape(it) for it in body.callers] or list(dict.fromkeys(it[0] for it in places if it))
-        self.is_inside = not body.callers and all(it and it[1] for it in places)
+        self.is_inside = not body.callers and all(it and it[1] for it in places) and same_functions(body, texts)
         self.is_law = all(path.startswith("specs/") for path, _, _ in body.changes)
         self.modules = {it.rpartition("::")[0] for it in body.callers} or {it[2] for it in places if it}
         if not self.owners:
@@ -259,8 +271,14 @@ class Trial:
 
     def owns(self, name):
         """Whether a name that the prover printed is that of the function, or of a closure in it."""
-        name = re.sub(r"\bfn::", "", name)
-        return any(re.match(rf"(?:\w+::)*?{it}(?:::|$)", name) for it in self.owners)
+        return any(re.match(rf"(?:\w+::)*?{it}(?:::|$)", re.sub(r"\bfn::", "", name)) for it in self.owners)
+
+    def own(self, names):
+        """Of the names that the prover printed those that the body must be refused by, the function before its closures. Of types of
+        one name in several modules it is the one of the body's own module."""
+        found = sorted((it for it in names if self.owns(it)), key=lambda it: ("fn::" in it, it))
+        near = [it for it in found if any(it.startswith(f"{module}::") for module in self.modules)]
+        return near or found
 
 
 def groups_of(trials):
@@ -303,7 +321,7 @@ class Room:
         self.crate, self.is_afresh, self.lines = crate, is_afresh, lines_of_crates()
         self.below = libraries_below(crate, self.lines)
         self.top = os.path.join(room_of_runs(), f"{crate}{'.afresh' if is_afresh else ''}")
-        self.folder = os.path.join(self.top, "crates", crate)
+        self.folder, self.checks, self.said = os.path.join(self.top, "crates", crate), 0, ""
 
     def __enter__(self):
         shutil.rmtree(self.top, ignore_errors=True)
@@ -342,9 +360,14 @@ class Room:
         only = [word for it in sorted(modules) for word in ("--only", it)] if "" not in modules else []
         words = ["rt", "check", *only] if not self.is_afresh else [*self.plain_words(), *only]
         said = run(words, self.folder).stdout
+        self.checks += 1
+        self.said = f"{self.top}.{self.checks}.said"
+        with open(self.said, "w", encoding="utf-8") as it:
+            it.write(said)
         for path in texts:
             shutil.copyfile(os.path.join(TOP, "crates", self.crate, path), os.path.join(self.folder, path))
-        return said
+        # (a message goes on in lines that begin with blanks)
+        return re.sub(r"\n  +", " ", said)
 
     def plain_words(self):
         """The prover's own command, over the libraries as the gate left them and with nothing kept of the crate."""
@@ -384,13 +407,25 @@ def refuted_in(said, name):
 
 
 def refuted_lemma(said, name):
-    """The lemma that the proof file of a law cites and the prover refused: the body of a law is empty, and its proof a lemma of the crate."""
-    cited = rf"^(?:\./)?proofs/{re.escape(name.replace('::', '/'))}/.*depends? on `([^`]*)`, which was not admitted"
-    for lemma in re.findall(cited, said, re.M):
-        why = re.search(rf"^(?:\./)?proofs/\w+\.antt:\d+:\d+: error: `{re.escape(lemma)}`: (.*)$", said, re.M)
-        if why and not NAMES_ALONE.search(why[1]):
-            return f"lemma {lemma}"
-    return ""
+    """The lemma that the prover refused and on which the proof of a law rests: the body of a law is empty, and its proof cites the crate's lemmas."""
+    cites = re.search(rf"^(?:\./)?proofs/{re.escape(name.replace('::', '/'))}/.*depends? on `[^`]*`, which was (?:not admitted|rejected)", said, re.M)
+    lemmas = re.findall(r"^(?:\./)?proofs/\w+\.antt:\d+:\d+: error: `([^`]*)`: (.*)$", said, re.M) if cites else []
+    return next((f"lemma {lemma}" for lemma, why in lemmas if not NAMES_ALONE.search(why)), "")
+
+
+def renamed(said, trial, text_of_proof):
+    """The proof files of a body's functions with the names that the edit took away in the prover's own next spelling, as `gt9` for `gt10`,
+    by their path. A proof is no part of what a body means, so a body that is refused with one is refused for its meaning."""
+    found = {}
+    lines = re.findall(r"^(?:\./)?(proofs/(\S+)/\w+\.antt):\d+:\d+: error: (.*)$", said, re.M)
+    for path, function, why in lines:
+        if not trial.owns(function.replace("/", "::")):
+            continue
+        gone = re.search(r"has no field `([^`]+)` \(nearest: \.([^\s,)]+)", why) or re.search(r"has no `([^`]+)` that can be named from here \(names in it that begin alike: `([^`]+)`", why)
+        text = found.get(path) or text_of_proof(path)
+        if gone and not re.search(rf"^pub {re.escape(gone[2])} :", text, re.M):
+            found[path] = re.sub(rf"(?<![\w-]){re.escape(gone[1])}(?![\w-])", gone[2], text)
+    return {path: text for path, text in found.items() if text != text_of_proof(path)}
 
 
 def compiles(said):
@@ -405,8 +440,8 @@ def first_errors(said):
 
 def outcome(trial, said):
     """What a check says of one body: (kind, function, goal or why)."""
-    own = {name: goal for name, goal in goals_of(said).items() if trial.owns(name)}
-    own = {name: refuted_lemma(said, name) if goal == "" and trial.is_law else goal for name, goal in own.items()}
+    goals = goals_of(said)
+    own = {name: refuted_lemma(said, name) if goals[name] == "" and trial.is_law else goals[name] for name in trial.own(goals)}
     for name, goal in own.items():
         if goal:
             return REFUSED, name, goal
@@ -419,19 +454,29 @@ def outcome(trial, said):
     return BAD, name, f"no goal of its own is unproved: {line[:200]} {first_errors(said)}"
 
 
-def try_together(room, trials):
-    """What a check of all these bodies says of each; by halves where they do not compile together. One of which the check does not name
-    a goal is tried again alone: the proof file of a function is not read to its end where it cites another one that is refused."""
-    texts, _ = changed_texts([it.body for it in trials])
+def try_together(room, trials, proofs=None, rounds=ROUNDS):
+    """What a check of all these bodies says of each; by halves where they do not compile together. Those of which it names no goal are tried
+    again, with the names in `proofs` in their proof files, and last alone: a proof file is not read to its end where it cites a function
+    that is refused."""
+    texts, proofs = {**changed_texts([it.body for it in trials])[0], **(proofs or {})}, proofs or {}
     said = room.check(texts, set().union(*(it.modules for it in trials)))
-    if compiles(said):
-        found = {it.body.key(): outcome(it, said) for it in trials}
-        unclear = [it for it in trials if found[it.body.key()][0] == BAD] if len(trials) > 1 else []
-        return {**found, **{key: came for it in unclear for key, came in try_together(room, [it]).items()}}
-    if len(trials) == 1:
-        return {trials[0].body.key(): (BAD, "", f"it does not compile, or the check did not end: {first_errors(said)}")}
-    half = len(trials) // 2
-    return {**try_together(room, trials[:half]), **try_together(room, trials[half:])}
+    print(f"  {room.crate}: a check of {len(trials)}: {room.said}", flush=True)
+    if not compiles(said):
+        if len(trials) == 1:
+            return {trials[0].body.key(): (BAD, "", f"it does not compile, or the check did not end: {first_errors(said)}")}
+        half = len(trials) // 2
+        return {key: came for part in (trials[:half], trials[half:]) for key, came in try_together(room, part, proofs, rounds).items()}
+    found = {it.body.key(): outcome(it, said) for it in trials}
+    left, more = [it for it in trials if found[it.body.key()][0] == BAD], dict(proofs)
+    for it in left:
+        more.update(renamed(said, it, lambda path: more.get(path) or text_of(os.path.join(TOP, "crates", room.crate, path))))
+    if left and rounds and (len(left) < len(trials) or more != proofs):
+        found.update(try_together(room, left, more, rounds - 1))
+    elif len(left) > 1:
+        for it in left:
+            if "it calls" in found[it.body.key()][2]:
+                found.update(try_together(room, [it], more, 0))
+    return found
 
 
 def try_crate(crate, bodies, is_afresh=False):

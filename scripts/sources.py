@@ -14,10 +14,11 @@ PAIRS = {"{": "}", "(": ")", "[": "]"}
 
 
 class Function:
-    """A function of a file: where its item and its body stand, and a pattern of the name that the prover prints for it."""
+    """A function of a file: where its item and its body stand, a pattern of the name that the prover prints for it, and whether what stands
+    above it can need its body, as that of a `const` function. A method is printed below the module of its type, which may be another file's."""
 
-    def __init__(self, start, body, end, pattern, is_opaque):
-        self.start, self.body, self.end, self.pattern, self.is_opaque = start, body, end, pattern, is_opaque
+    def __init__(self, start, body, end, pattern, is_needed):
+        self.start, self.body, self.end, self.pattern, self.is_needed = start, body, end, pattern, is_needed
 
 
 def blanked(text):
@@ -92,12 +93,13 @@ def name_of_impl(header):
 def functions_in(text, module):
     """The functions of a file, in order; `module` is the file's path in the crate, as `a::b`, and of a crate's root the empty text."""
     text, found = blanked(text), []
-    read_items(text, 0, len(text), [re.escape(it) for it in module.split("::") if it], False, found)
+    read_items(text, 0, len(text), [it for it in module.split("::") if it], "", found)
     return found
 
 
-def read_items(text, at, end, path, is_trait, found):
-    """Adds the functions between two places to `found`; `path` has the patterns of the modules and the type around them."""
+def read_items(text, at, end, path, around_them, found):
+    """Adds the functions between two places to `found`; `path` has the patterns of the modules or the type around them, and `around_them`
+    is `impl` or `trait` in one of these."""
     while True:
         token = TOKEN.search(text, at, end)
         if not token:
@@ -109,14 +111,14 @@ def read_items(text, at, end, path, is_trait, found):
             body, at = body_of(text, token.end())
             line = text[text.rfind("\n", 0, token.start()) + 1 : token.start()]
             name = "::".join([*path, token[0][2:].strip()])
-            found.append(Function(token.start(), body, at, name, is_trait or "const" in line.split()))
+            found.append(Function(token.start(), body, at, name, around_them == "trait" or "const" in line.split()))
         elif token[0] != "}":
             opens = re.compile(r"[{;]").search(text, at, end)
             header = text[at : opens.start()].strip() if opens else ""
             if opens and opens[0] == "{":
                 after = group_end(text, opens.start())
-                name = name_of_impl(header) if token[0] == "impl" else re.match(r"\w+", header)[0]
-                read_items(text, opens.end(), after - 1, [*path, name], token[0] == "trait", found)
+                inside = [r"(?:\w+::)*" + name_of_impl(header)] if token[0] == "impl" else [*path, re.match(r"\w+", header)[0]]
+                read_items(text, opens.end(), after - 1, inside, token[0].replace("mod", ""), found)
                 at = after
             else:
                 at = opens.end() if opens else end
@@ -139,7 +141,7 @@ def stated(text):
     constant may need, and one that a trait gives stay."""
     kept, at = [], 0
     for it in functions_in(text, ""):
-        if not it.is_opaque and it.body < it.end:
+        if not it.is_needed and it.body < it.end:
             kept += [text[at : it.body], "{ }"]
             at = it.end
     return plain("".join([*kept, text[at:]]))
