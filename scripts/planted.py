@@ -314,43 +314,80 @@ def room_of_runs():
     return os.path.join(tempfile.gettempdir(), f"planted-{os.getuid()}-{hashlib.sha256(TOP.encode()).hexdigest()[:12]}")
 
 
-class Room:
-    """A scratch copy of a crate and the libraries below it, in which checks of it run."""
+def copy_crates(crates, to):
+    """Copies what a check reads of these crates to a folder, with HANDLES and their lines of crates.txt added to those that are there."""
+    os.makedirs(to, exist_ok=True)
+    if os.path.isfile(os.path.join(TOP, "HANDLES")):
+        shutil.copy(os.path.join(TOP, "HANDLES"), to)
+    lines = lines_of_crates()
+    for crate in crates:
+        for part in ("src", "specs", "proofs"):
+            if os.path.isdir(os.path.join(TOP, "crates", crate, part)):
+                shutil.copytree(os.path.join(TOP, "crates", crate, part), os.path.join(to, "crates", crate, part))
+    with open(os.path.join(to, "crates.txt"), "a", encoding="utf-8") as it:
+        it.writelines(f"{lines[crate]}\n" for crate in crates)
 
-    def __init__(self, crate, is_afresh):
-        self.crate, self.is_afresh, self.lines = crate, is_afresh, lines_of_crates()
-        self.below = libraries_below(crate, self.lines)
-        self.top = os.path.join(room_of_runs(), f"{crate}{'.afresh' if is_afresh else ''}")
-        self.folder, self.checks, self.said = os.path.join(self.top, "crates", crate), 0, ""
+
+def link_or_copy(one, other):
+    """Gives a built file a second name: rt removes such a file before it makes it anew, and never writes into it."""
+    try:
+        os.link(one, other)
+    except OSError:
+        shutil.copy2(one, other)
+
+
+class Libraries:
+    """A scratch copy in which `rt lib` builds what the crates stand on, once for a run, over what other checks on this machine kept."""
+
+    def __init__(self):
+        self.top, self.lines = os.path.join(room_of_runs(), "libraries"), lines_of_crates()
 
     def __enter__(self):
         shutil.rmtree(self.top, ignore_errors=True)
-        os.makedirs(self.top)
-        if os.path.isfile(os.path.join(TOP, "HANDLES")):
-            shutil.copy(os.path.join(TOP, "HANDLES"), self.top)
-        self.copy(self.below)
-        if self.is_afresh and self.below:
-            self.prove_libraries()
-        self.copy([self.crate])
+        copy_crates(self.lines, self.top)
         return self
 
     def __exit__(self, *_):
         shutil.rmtree(self.top, ignore_errors=True)
 
-    def copy(self, crates):
-        """Adds crates to the copy, with their lines of crates.txt."""
-        for crate in crates:
-            for part in ("src", "specs", "proofs"):
-                if os.path.isdir(os.path.join(TOP, "crates", crate, part)):
-                    shutil.copytree(os.path.join(TOP, "crates", crate, part), os.path.join(self.top, "crates", crate, part))
-        with open(os.path.join(self.top, "crates.txt"), "a", encoding="utf-8") as it:
-            it.writelines(f"{self.lines[crate]}\n" for crate in crates)
+    def give(self, crate, to):
+        """Puts the libraries below a crate, as built, into a copy of them."""
+        for word in self.lines[crate].partition(":")[2].split():
+            if word in self.lines:
+                stop_unless_proved(run(["rt", "lib"], os.path.join(self.top, "crates", word)), word)
+        for name in libraries_below(crate, self.lines):
+            built = os.path.join("crates", name, "out/rlib")
+            shutil.copytree(os.path.join(self.top, built), os.path.join(to, built), copy_function=link_or_copy)
 
-    def prove_libraries(self):
-        """Has the gate prove the libraries below, of which it takes what it proved before: it leaves their statements in out/."""
-        ran = run(["rt", "ci"], self.top)
-        if ran.returncode:
-            raise BadEdit(f"the libraries below {self.crate} are not proved: {ran.stdout.strip()[-300:]}")
+
+def stop_unless_proved(ran, what):
+    if ran.returncode:
+        raise BadEdit(f"not tried, since {what} is not proved: {first_errors(ran.stdout)}")
+
+
+class Room:
+    """A scratch copy of a crate and the libraries below it, in which checks of it run: over what other checks on this machine kept, or, with
+    no libraries given, over those that the gate proved and with nothing kept of the crate."""
+
+    def __init__(self, crate, libraries):
+        self.crate, self.libraries, self.lines = crate, libraries, lines_of_crates()
+        self.below = libraries_below(crate, self.lines)
+        self.top = os.path.join(room_of_runs(), crate if libraries else f"{crate}.afresh")
+        self.folder, self.checks, self.said = os.path.join(self.top, "crates", crate), 0, ""
+
+    def __enter__(self):
+        shutil.rmtree(self.top, ignore_errors=True)
+        copy_crates(self.below, self.top)
+        if self.libraries:
+            self.libraries.give(self.crate, self.top)
+        elif self.below:
+            # (the gate takes what it proved before, and leaves the libraries' statements in out/)
+            stop_unless_proved(run(["rt", "ci"], self.top), f"a library below {self.crate}")
+        copy_crates([self.crate], self.top)
+        return self
+
+    def __exit__(self, *_):
+        shutil.rmtree(self.top, ignore_errors=True)
 
     def check(self, texts, modules):
         """What a check says of the crate with these texts in place of its own, of the functions of these modules and what they call."""
@@ -358,10 +395,11 @@ class Room:
             with open(os.path.join(self.folder, path), "w", encoding="utf-8") as it:
                 it.write(text)
         only = [word for it in sorted(modules) for word in ("--only", it)] if "" not in modules else []
-        words = ["rt", "check", *only] if not self.is_afresh else [*self.plain_words(), *only]
-        said = run(words, self.folder).stdout
+        words = ["rt", "check", *only] if self.libraries else [*self.plain_words(), *only]
+        started, said = time.time(), run(words, self.folder).stdout
         self.checks += 1
         self.said = f"{self.top}.{self.checks}.said"
+        print(f"  {self.crate}: a check of {time.time() - started:.0f} s: {self.said}", flush=True)
         with open(self.said, "w", encoding="utf-8") as it:
             it.write(said)
         for path in texts:
@@ -460,7 +498,6 @@ def try_together(room, trials, proofs=None, rounds=ROUNDS):
     that is refused."""
     texts, proofs = {**changed_texts([it.body for it in trials])[0], **(proofs or {})}, proofs or {}
     said = room.check(texts, set().union(*(it.modules for it in trials)))
-    print(f"  {room.crate}: a check of {len(trials)}: {room.said}", flush=True)
     if not compiles(said):
         if len(trials) == 1:
             return {trials[0].body.key(): (BAD, "", f"it does not compile, or the check did not end: {first_errors(said)}")}
@@ -479,7 +516,7 @@ def try_together(room, trials, proofs=None, rounds=ROUNDS):
     return found
 
 
-def try_crate(crate, bodies, is_afresh=False):
+def try_crate(crate, bodies, libraries):
     """Tries bodies of one crate, and returns what came of each, by its key."""
     trials, found = [], {}
     for body in bodies:
@@ -488,7 +525,7 @@ def try_crate(crate, bodies, is_afresh=False):
         except BadEdit as why:
             found[body.key()] = BAD, "", str(why)
     try:
-        with alone(crate), Room(crate, is_afresh) as room:
+        with alone(crate), Room(crate, libraries) as room:
             for group in groups_of(trials):
                 found.update(try_together(room, group))
     except BadEdit as why:
@@ -499,23 +536,33 @@ def try_crate(crate, bodies, is_afresh=False):
 # The commands.
 
 
-def is_current(row, digest):
-    return row is not None and row["digest"] == digest
-
-
-def note(crate, bodies, found, digests, version, started):
-    """Writes the lines of what was refused, and says what was not."""
-    today, rows, gone = datetime.date.today().isoformat(), {}, set()
+def note(crate, bodies, found, before, version, started):
+    """Writes the lines of what was refused, says what was not, and returns how many."""
+    today, rows, gone, after = datetime.date.today().isoformat(), {}, set(), Digests()
     for body in bodies:
         kind, function, goal = found[body.key()]
+        if kind == REFUSED and before.of(body) != after.of(body):
+            kind, goal = BAD, "a file changed while it was tried"
         if kind == REFUSED:
-            rows[body.key()] = dict(zip(COLUMNS, [body.crate, body.name, today, version, function, goal, digests.of(body)]))
+            rows[body.key()] = dict(zip(COLUMNS, [body.crate, body.name, today, version, function, goal, after.of(body)]))
         else:
             gone.add(body.key())
             print(f"{kind}: {body.crate}/{body.name}{f' ({function})' if function else ''}: {goal}", flush=True)
     write_lines(rows, gone)
     print(f"{crate}: {len(rows)} of {len(bodies)} refused, {time.time() - started:.0f} s", flush=True)
     return len(gone)
+
+
+def wanted(asked, digests, version):
+    """The bodies that are to be tried, by crate."""
+    lines, today, found = lines_tried(), datetime.date.today().isoformat(), {}
+    for body in bodies_of():
+        row = lines.get(body.key())
+        is_old = row is None or row["digest"] != digests.of(body)
+        is_of_today = row is not None and (row["day"], row["kit"]) == (today, version)
+        if (is_old or asked.all and not (asked.resume and is_of_today)) and (not asked.crates or body.crate in asked.crates):
+            found.setdefault(body.crate, []).append(body)
+    return found
 
 
 def try_planted(words):
@@ -525,22 +572,16 @@ def try_planted(words):
     parser.add_argument("--all", action="store_true")
     parser.add_argument("--resume", action="store_true")
     parser.add_argument("--jobs", type=int, default=1)
-    asked = parser.parse_args(words)
-    digests, lines, version, today = Digests(), lines_tried(), kit(), datetime.date.today().isoformat()
-    wanted = {}
-    for body in bodies_of():
-        row = lines.get(body.key())
-        stands = is_current(row, digests.of(body)) and (not asked.all or asked.resume and (row["day"], row["kit"]) == (today, version))
-        if not stands and (not asked.crates or body.crate in asked.crates):
-            wanted.setdefault(body.crate, []).append(body)
+    asked, digests, version = parser.parse_args(words), Digests(), kit()
+    bodies = wanted(asked, digests, version)
 
     def one(crate):
         started = time.time()
-        return note(crate, wanted[crate], try_crate(crate, wanted[crate]), digests, version, started)
+        return note(crate, bodies[crate], try_crate(crate, bodies[crate], libraries), digests, version, started)
 
-    with concurrent.futures.ThreadPoolExecutor(asked.jobs) as pool:
-        lost = sum(pool.map(one, [it for it in lines_of_crates() if it in wanted]))
-    print(f"{sum(map(len, wanted.values()))} tried, {lost} not refused")
+    with alone("run"), Libraries() as libraries, concurrent.futures.ThreadPoolExecutor(asked.jobs) as pool:
+        lost = sum(pool.map(one, [it for it in lines_of_crates() if it in bodies]))
+    print(f"{sum(map(len, bodies.values()))} tried, {lost} not refused")
     return 1 if lost else 0
 
 
@@ -557,7 +598,7 @@ def try_afresh(crates):
     """Tries some bodies from nothing. Status 0 where each is refused by the function that its line names."""
     lines, wrong = lines_tried(), 0
     for crate, bodies in picked(bodies_of(), crates).items():
-        started, found = time.time(), try_crate(crate, bodies, is_afresh=True)
+        started, found = time.time(), try_crate(crate, bodies, None)
         for body in bodies:
             kind, function, goal = found[body.key()]
             row = lines.get(body.key(), {"function": "none"})
@@ -596,7 +637,7 @@ def check_lines():
     wrong = check_bodies(bodies)
     for body in bodies:
         row = lines.pop(body.key(), None)
-        if body.crate in digests.lines and not is_current(row, digests.of(body)):
+        if body.crate in digests.lines and (row is None or row["digest"] != digests.of(body)):
             wrong.append(f"{body.path} {'has an old line' if row else 'has no line'} in {TRIED}: ./try_planted {body.crate}")
     wrong += [f"{TRIED} has a line for {crate}/{name}, which is not there: ./try_planted takes it out" for crate, name in sorted(lines)]
     for it in wrong:
