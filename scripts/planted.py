@@ -55,7 +55,7 @@ COLUMNS = ["crate", "body", "day", "kit", "function", "goal", "digest"]
 OF_ONE_FUNCTION = ("Invariants.antt", "Answers.antt", "Proof.antt")
 # What a proof file says that names what the edit took away, or that cites such a proof.
 NAMES_ALONE = re.compile(r"has no field|is not in scope|has no `|was not admitted|is no name|: module `")
-REFUSED, MISSED, BAD = "refused", "not refused", "BAD"
+REFUSED, MISSED, BAD, UNKNOWN = "refused", "not refused", "BAD", "not tried"
 # How many bodies, and of how many crates, a run tries from nothing.
 AFRESH_CRATES, AFRESH_BODIES = 2, 4
 # How often those of which a check names no goal are tried again together.
@@ -71,6 +71,10 @@ def text_of(path):
 
 class BadEdit(Exception):
     """An edit that cannot be tried, and why."""
+
+
+class Unknown(Exception):
+    """Why nothing is known of the bodies of a check: it was killed, or a library is not proved."""
 
 
 class Body:
@@ -151,7 +155,7 @@ class Digests:
         self.lines, self.seen = lines_of_crates(), {}
 
     def of(self, body):
-        return sum_of(body.text(), self.of_crate(body.crate), self.handles())[:32]
+        return sum_of(body.text(), self.of_crate(body.crate), self.handles())[:32] if body.crate in self.lines else ""
 
     def handles(self):
         path = os.path.join(TOP, "HANDLES")
@@ -188,12 +192,18 @@ def kit():
 
 
 def lines_tried():
-    """The lines of planted/TRIED.csv by crate and body."""
-    path = os.path.join(TOP, TRIED)
-    if not os.path.isfile(path):
-        return {}
-    with open(path, encoding="utf-8", newline="") as it:
-        return {(row["crate"], row["body"]): row for row in csv.DictReader(it)}
+    """The lines of planted/TRIED.csv by crate and body: a merge may leave two of one body, of which the one that stands counts."""
+    path, found = os.path.join(TOP, TRIED), {}
+    if os.path.isfile(path):
+        with open(path, encoding="utf-8", newline="") as it:
+            for row in csv.DictReader(it):
+                found.setdefault((row["crate"], row["body"]), []).append(row)
+    return found
+
+
+def line_of(rows, digest):
+    """Of the lines of one body the one with its digest, or None."""
+    return next((row for row in rows or [] if row["digest"] == digest), None)
 
 
 @contextlib.contextmanager
@@ -205,16 +215,16 @@ def alone(name):
         yield
 
 
-def write_lines(tried, gone):
+def write_lines(tried, gone, digests):
     """Puts lines into planted/TRIED.csv, takes those of `gone` out, and those whose body is no longer there."""
     with alone("lines"):
-        rows = {**{key: row for key, row in lines_tried().items() if key not in gone}, **tried}
-        there = {it.key() for it in bodies_of()}
+        rows = {**lines_tried(), **{key: [row] for key, row in tried.items()}}
+        kept = [(it, rows[it.key()]) for it in bodies_of() if it.key() in rows and it.key() not in gone]
         path = os.path.join(TOP, TRIED)
         with open(f"{path}.new", "w", encoding="utf-8", newline="") as it:
             writer = csv.DictWriter(it, COLUMNS, lineterminator="\n", extrasaction="ignore")
             writer.writeheader()
-            writer.writerows(rows[key] for key in sorted(rows) if key in there)
+            writer.writerows(line_of(of, digests.of(body)) or of[-1] for body, of in kept)
         os.replace(f"{path}.new", path)
 
 
@@ -362,7 +372,7 @@ class Libraries:
 
 def stop_unless_proved(ran, what):
     if ran.returncode:
-        raise BadEdit(f"not tried, since {what} is not proved: {first_errors(ran.stdout)}")
+        raise Unknown(f"{what} is not proved: {first_errors(ran.stdout)}")
 
 
 class Room:
@@ -459,9 +469,9 @@ def renamed(said, trial, text_of_proof):
     for path, function, why in lines:
         if not trial.owns(function.replace("/", "::")):
             continue
-        gone = re.search(r"has no field `([^`]+)` \(nearest: \.([^\s,)]+)", why) or re.search(r"has no `([^`]+)` that can be named from here \(names in it that begin alike: `([^`]+)`", why)
+        gone = re.search(r"has no (?:field )?`([^`]+)`.*?\((?:nearest: \.|names in it that begin alike: `|did you mean `)([^\s,`)]+)", why)
         text = found.get(path) or text_of_proof(path)
-        if gone and not re.search(rf"^pub {re.escape(gone[2])} :", text, re.M):
+        if gone and not re.search(rf"^(?:abbrev )?(?:pub )?{re.escape(gone[2])} :", text, re.M):
             found[path] = re.sub(rf"(?<![\w-]){re.escape(gone[1])}(?![\w-])", gone[2], text)
     return {path: text for path, text in found.items() if text != text_of_proof(path)}
 
@@ -498,9 +508,11 @@ def try_together(room, trials, proofs=None, rounds=ROUNDS):
     that is refused."""
     texts, proofs = {**changed_texts([it.body for it in trials])[0], **(proofs or {})}, proofs or {}
     said = room.check(texts, set().union(*(it.modules for it in trials)))
+    if not compiles(said) and not re.search(r"\berror\b", said):
+        return {it.body.key(): (UNKNOWN, "", f"its check was killed, or came to no end: {room.said}") for it in trials}
     if not compiles(said):
         if len(trials) == 1:
-            return {trials[0].body.key(): (BAD, "", f"it does not compile, or the check did not end: {first_errors(said)}")}
+            return {trials[0].body.key(): (BAD, "", f"it does not compile: {first_errors(said)}")}
         half = len(trials) // 2
         return {key: came for part in (trials[:half], trials[half:]) for key, came in try_together(room, part, proofs, rounds).items()}
     found = {it.body.key(): outcome(it, said) for it in trials}
@@ -528,8 +540,8 @@ def try_crate(crate, bodies, libraries):
         with alone(crate), Room(crate, libraries) as room:
             for group in groups_of(trials):
                 found.update(try_together(room, group))
-    except BadEdit as why:
-        found.update({it.key(): (BAD, "", str(why)) for it in bodies if it.key() not in found})
+    except Unknown as why:
+        found.update({it.key(): (UNKNOWN, "", str(why)) for it in bodies if it.key() not in found})
     return found
 
 
@@ -541,26 +553,25 @@ def note(crate, bodies, found, before, version, started):
     today, rows, gone, after = datetime.date.today().isoformat(), {}, set(), Digests()
     for body in bodies:
         kind, function, goal = found[body.key()]
-        if kind == REFUSED and before.of(body) != after.of(body):
-            kind, goal = BAD, "a file changed while it was tried"
+        if before.of(body) != after.of(body):
+            kind, goal = UNKNOWN, "a file changed while it was tried"
         if kind == REFUSED:
             rows[body.key()] = dict(zip(COLUMNS, [body.crate, body.name, today, version, function, goal, after.of(body)]))
         else:
-            gone.add(body.key())
+            gone |= {body.key()} if kind != UNKNOWN else set()
             print(f"{kind}: {body.crate}/{body.name}{f' ({function})' if function else ''}: {goal}", flush=True)
-    write_lines(rows, gone)
+    write_lines(rows, gone, after)
     print(f"{crate}: {len(rows)} of {len(bodies)} refused, {time.time() - started:.0f} s", flush=True)
-    return len(gone)
+    return len(bodies) - len(rows)
 
 
 def wanted(asked, digests, version):
     """The bodies that are to be tried, by crate."""
     lines, today, found = lines_tried(), datetime.date.today().isoformat(), {}
     for body in bodies_of():
-        row = lines.get(body.key())
-        is_old = row is None or row["digest"] != digests.of(body)
+        row = line_of(lines.get(body.key()), digests.of(body))
         is_of_today = row is not None and (row["day"], row["kit"]) == (today, version)
-        if (is_old or asked.all and not (asked.resume and is_of_today)) and (not asked.crates or body.crate in asked.crates):
+        if (row is None or asked.all and not (asked.resume and is_of_today)) and (not asked.crates or body.crate in asked.crates):
             found.setdefault(body.crate, []).append(body)
     return found
 
@@ -596,12 +607,12 @@ def picked(bodies, crates):
 
 def try_afresh(crates):
     """Tries some bodies from nothing. Status 0 where each is refused by the function that its line names."""
-    lines, wrong = lines_tried(), 0
+    lines, digests, wrong = lines_tried(), Digests(), 0
     for crate, bodies in picked(bodies_of(), crates).items():
         started, found = time.time(), try_crate(crate, bodies, None)
         for body in bodies:
             kind, function, goal = found[body.key()]
-            row = lines.get(body.key(), {"function": "none"})
+            row = line_of(lines.get(body.key()), digests.of(body)) or {"function": "none"}
             if kind != REFUSED or function != row["function"]:
                 wrong += 1
                 print(f"mend: {crate}/{body.name}: {kind} ({function}: {goal}), and {TRIED} names {row['function']}", flush=True)
@@ -633,12 +644,12 @@ def check_bodies(bodies):
 def check_lines():
     """Says which bodies are to be mended, have no line or an old one, and which lines have no body. Status 0 where there is none of these."""
     digests, lines, bodies = Digests(), lines_tried(), bodies_of()
-    kits = sorted({row["kit"] for row in lines.values()} - {kit()})
+    kits = sorted({row["kit"] for rows in lines.values() for row in rows} - {kit()})
     wrong = check_bodies(bodies)
     for body in bodies:
-        row = lines.pop(body.key(), None)
-        if body.crate in digests.lines and (row is None or row["digest"] != digests.of(body)):
-            wrong.append(f"{body.path} {'has an old line' if row else 'has no line'} in {TRIED}: ./try_planted {body.crate}")
+        rows = lines.pop(body.key(), [])
+        if body.crate in digests.lines and not line_of(rows, digests.of(body)):
+            wrong.append(f"{body.path} {'has an old line' if rows else 'has no line'} in {TRIED}: ./try_planted {body.crate}")
     wrong += [f"{TRIED} has a line for {crate}/{name}, which is not there: ./try_planted takes it out" for crate, name in sorted(lines)]
     for it in wrong:
         print(f"mend: {it}")
