@@ -508,7 +508,7 @@ def try_together(room, trials, proofs=None, rounds=ROUNDS):
     that is refused."""
     texts, proofs = {**changed_texts([it.body for it in trials])[0], **(proofs or {})}, proofs or {}
     said = room.check(texts, set().union(*(it.modules for it in trials)))
-    if not compiles(said) and not re.search(r"\berror\b", said):
+    if not compiles(said) and not re.search(r"^(?!so far: ).*\berror\[[\w-]+\]|^rattle: error", said, re.M):
         return {it.body.key(): (UNKNOWN, "", f"its check was killed, or came to no end: {room.said}") for it in trials}
     if not compiles(said):
         if len(trials) == 1:
