@@ -1,134 +1,126 @@
--- The first flash in a hole, among flashes that stand by the x of their points.
-use Rattle.std.proofs.Common.{◌≡◌, ◌<◌, ◌≤◌, ◌+◌, ◌≤ℤ◌, ◌<ℤ◌, ◌+ℤ◌, ◌-ℤ◌, ◌++◌, ◌∷◌, ℕ, ℤ, pos, Bool, true, false, cond, List, [], Option, Some, None, length, get_or, take, drop, refl, ap, subst, sym, ◌∙◌, ◌⊎◌, inl, inr, arith}
-use Rattle.std.specs.Prelude.{int_le, int_lt, nat_le, nat_lt, if◌then◌else◌}
+-- The first flash in a hole, among flashes that stand in groups.
+use Rattle.std.proofs.Common.{◌≡◌, ◌<◌, ◌≤◌, ◌+◌, ◌≤ℤ◌, ◌-ℤ◌, ◌++◌, ◌∷◌, ℕ, ℤ, Bool, true, false, cond, List, [], Option, Some, None, length, get_or, take, drop, refl, ap, subst, sym, ◌∙◌, ◌⊎◌, inl, inr, arith}
+use Rattle.std.specs.Prelude.{◌-◌, max, nat_le, nat_lt, if◌then◌else◌}
 use Rattle.std.specs.Int.{int_max, int_min}
 use Rattle.std.specs.List.{All, AllPairs, Contains, cons_option, enumerate_from, filter_map, find, slice_range}
-use Rattle.std.specs.List.Sorted.{IsPartitionedBy, IsPartitionPoint, IsPermutation, IsSortedByKey}
+use Rattle.std.specs.List.Sorted.{IsPermutation}
 use Rattle.std.specs.Option.{option_map_or, IfSome}
-use Rattle.std.specs.Ordering.{int_cmp, is_lt}
-use Rattle.std.specs.declared.cmp.Ordering.TheVariants.{Less, Equal, Greater}
-use Rattle.std.specs.Cmp.{int_cmp_total}
 use Rattle.std.proofs.lemmas.Bool.{cases_lt, false≢true}
 use Rattle.std.proofs.lemmas.Bool.Decides.{nat_tests}
 use Rattle.std.proofs.lemmas.Int.{clamps, ints}
-use Rattle.std.proofs.lemmas.List.{get_or-drop, get_or-take, length-drop, length-take-le, take-append-drop}
-use Rattle.std.proofs.lemmas.List.Elements.{All-append, All-cons, All-contains, All-head, All-nil, All-tail, All-weaker, Contains-append_left, Contains-append_right}
-use Rattle.std.proofs.lemmas.List.Folds.{drop_split}
+use Rattle.std.proofs.lemmas.List.{get_or-drop, get_or-take, get_or_append_left, length-append, length-drop, length-take-le, take_more}
+use Rattle.std.proofs.lemmas.List.Elements.{All-append, All-cons, All-contains, All-head, All-nil, All-tail, All-weaker, Contains-append_cases, Contains-append_left, Contains-append_right}
+use Rattle.std.proofs.Math.Seq.{get_or-append_seam, take-add}
 use Rattle.std.proofs.lemmas.List.Kept.{AllPairs-cons}
-use Rattle.std.proofs.lemmas.List.Sorted.{All-permutation, Contains-permutation, IsPermutation-sym, ranks_by, sorted_far}
+use Rattle.std.proofs.lemmas.List.Sorted.{All-permutation, Contains-permutation, IsPermutation-sym}
 use Rattle.grid_units.specs.Holes.{GridHole}
 use Rattle.grid_units.specs.Points.{GridPoint, square}
 use Rattle.layer_image.specs.declared.flash.Flash.{Flash}
 use Rattle.layer_image.specs.declared.flash.What.{What}
 use Rattle.layer_image.specs.declared.flash.What.TheVariants as what
 use Rattle.ring_rules.specs.Cores.{positive_part, range_distance}
-use Rattle.grid_units.proofs.Steps.{le_from_squares}
+use Rattle.grid_units.proofs.Steps.{square-le}
 use Rattle.ring_rules.proofs.CoreLemmas.{positive_part_is}
 use Rattle.ring_rules.proofs.Rising.{contains_cases, contains_first, pairs_head, pairs_tail}
 use Rattle.causes.proofs.Placed.{in_front}
-use Rattle.causes.specs.Causes.{AreByX, RiseByX, is_in_hole, other_flash, other_in, others}
-use Rattle.causes.specs.Inner.Finding.{IsFirstIn, IsNear}
+use Rattle.causes.specs.Causes.{IsGroup, IsWithin, is_in_hole, other_flash, other_in, others}
+use Rattle.causes.specs.Inner.Finding.{HasPassed, IsFirstIn}
+use Rattle.causes.specs.declared.bounds.Bounds.{Bounds}
+use Rattle.causes.specs.declared.groups.Group.{Group}
+use Rattle.causes.specs.declared.groups.Search.{Search}
 use Rattle.causes.specs.declared.other.Other.{Other}
 
--- ---- the order of a sort
+-- ---- how far a hole is from a box
 
-not_less_at : (a b : ℤ) (t : Bool) → int_lt a b ≡ t → is_lt (cond t Less (cond (int_lt b a) Greater Equal)) ≡ false → b ≤ℤ a
-not_less_at a b true h e = cc
-not_less_at a b false h e = omega (arith, ints)
+less_part : (z w : ℤ) → z ≤ℤ w → positive_part z ≤ positive_part w
+less_part z w h = omega (arith, ints, positive_part_is z, positive_part_is w)
 
-pub rise_from_sort : (all : List Other) → IsSortedByKey (λ other. other.at.x) int_cmp all → RiseByX all
-rise_from_sort all up i j d h k =
-    let key : Other → ℤ = λ other. other.at.x in
-    let last : is_lt (int_cmp (get_or all j d).at.x (get_or all i d).at.x) ≡ false = sorted_far (λ x y. is_lt (int_cmp (key x) (key y))) (ranks_by int_cmp_total key) all up i j d h k in
-    not_less_at (get_or all j d).at.x (get_or all i d).at.x (int_lt (get_or all j d).at.x (get_or all i d).at.x) refl last
+max_less : (a b c d : ℕ) → a ≤ c → b ≤ d → max a b ≤ max c d
+max_less a b c d h k = omega arith
 
--- ---- those that are near a hole
+-- a range is no further than a number in it
+nearer : (a b l x g : ℤ) → l ≤ℤ x → x ≤ℤ g → range_distance a b l g ≤ range_distance a b x x
+nearer a b l x g low high =
+    max_less (positive_part (int_min l g -ℤ int_max a b)) (positive_part (int_min a b -ℤ int_max l g)) (positive_part (int_min x x -ℤ int_max a b)) (positive_part (int_min a b -ℤ int_max x x))
+    (less_part (int_min l g -ℤ int_max a b) (int_min x x -ℤ int_max a b) (omega (arith, ints, clamps)))
+    (less_part (int_min a b -ℤ int_max l g) (int_min a b -ℤ int_max x x) (omega (arith, ints, clamps)))
 
-at_most : (a b : ℤ) → int_le a b ≡ true → a ≤ℤ b
-at_most a b e = omega (arith, ints)
+-- one of its ends is as far as a number in it
+further : (a b l x g : ℤ) → l ≤ℤ x → x ≤ℤ g → range_distance a b x x ≤ max (range_distance a b l l) (range_distance a b g g)
+further a b l x g low high =
+    let right = less_part (int_min x x -ℤ int_max a b) (int_min g g -ℤ int_max a b) (omega (arith, ints, clamps)) in
+    let left = less_part (int_min a b -ℤ int_max x x) (int_min a b -ℤ int_max l l) (omega (arith, ints, clamps)) in
+    omega (arith, left, right)
 
-above : (a b : ℤ) → int_le a b ≡ false → b <ℤ a
-above a b e = omega (arith, ints)
+sums_rise : (a b c d : ℕ) → a ≤ c → b ≤ d → square a + square b ≤ square c + square d
+sums_rise a b c d h k = omega (arith, square-le a c h, square-le b d k)
 
-less : (a b : ℤ) → int_lt a b ≡ true → a <ℤ b
-less a b e = omega (arith, ints)
+-- the square of how far a hole is from a box
+abbrev pub box_distance : GridHole → Bounds → ℕ
+box_distance h b = square (range_distance h.from.x h.to.x b.least.x b.greatest.x) + square (range_distance h.from.y h.to.y b.least.y b.greatest.y)
 
-not_below : (a b : ℤ) → int_lt a b ≡ false → b ≤ℤ a
-not_below a b e = omega (arith, ints)
+-- and of how far it is from the corner that is furthest
+abbrev pub corner_distance : GridHole → Bounds → ℕ
+corner_distance h b =
+    square (max (range_distance h.from.x h.to.x b.least.x b.least.x) (range_distance h.from.x h.to.x b.greatest.x b.greatest.x))
+    + square (max (range_distance h.from.y h.to.y b.least.y b.least.y) (range_distance h.from.y h.to.y b.greatest.y b.greatest.y))
 
-tested : (a b : ℤ) → a ≤ℤ b → int_le a b ≡ true
-tested a b h = by_test (int_le a b) refl where
-  by_test : (t : Bool) → int_le a b ≡ t → t ≡ true
-  by_test true e = refl
-  by_test false e = absurd (omega (arith, ints))
+abbrev pub point_distance : GridHole → GridPoint → ℕ
+point_distance h p = square (range_distance h.from.x h.to.x p.x p.x) + square (range_distance h.from.y h.to.y p.y p.y)
 
-tested_less : (a b : ℤ) → a <ℤ b → int_lt a b ≡ true
-tested_less a b h = by_test (int_lt a b) refl where
-  by_test : (t : Bool) → int_lt a b ≡ t → t ≡ true
-  by_test true e = refl
-  by_test false e = absurd (omega (arith, ints))
-
-pub parted_by_left : (all : List Other) (v : ℤ) → RiseByX all → IsPartitionedBy (λ other. int_lt other.at.x v) all
-parted_by_left all v rises i j d h k e = tested_less (get_or all i d).at.x v (let low = rises i j d h k in let high = less (get_or all j d).at.x v e in omega (arith, ints, low, high))
-
-pub parted_by_right : (all : List Other) (v : ℤ) → RiseByX all → IsPartitionedBy (λ other. int_le other.at.x v) all
-parted_by_right all v rises i j d h k e = tested (get_or all i d).at.x v (let low = rises i j d h k in let high = at_most (get_or all j d).at.x v e in omega (arith, ints, low, high))
-
--- the range of x begins before it ends
-pub in_order : (all : List Other) (left right : ℤ) (start end : ℕ) → left ≤ℤ right → start ≤ length all → IsPartitionPoint (λ other. int_lt other.at.x left ≡ true) (λ other. int_lt other.at.x left ≡ false) all start
-    → IsPartitionPoint (λ other. int_le other.at.x right ≡ true) (λ other. int_le other.at.x right ≡ false) all end → start ≤ end
-in_order [] left right start end wide inside low high = omega (arith, inside)
-in_order (o ∷ os) left right start end wide inside low high = elim (cases_lt end start) [
-  | inl crossed ↦ absurd (
-      let first = less (get_or (o ∷ os) end o).at.x left (low.0 end o (omega arith) crossed) in
-      let last = above (get_or (o ∷ os) end o).at.x right (high.1 end o (omega arith) (omega (arith, crossed, inside))) in
-      omega (arith, ints, first, last, wide))
-  | inr fine ↦ fine
-]
-
-far_out : (x y r : ℕ) → r < x → nat_le (square x + y) (square r) ≡ false
-far_out x y r h = by_test (nat_le (square x + y) (square r)) refl
+tests_above : (m n : ℕ) → n < m → nat_le m n ≡ false
+tests_above m n h = by_test (nat_le m n) refl
   where
-    by_test : (t : Bool) → nat_le (square x + y) (square r) ≡ t → t ≡ false
-    by_test true e = absurd (let small : square x + y ≤ square r = grind (arith, nat_tests) in let near = le_from_squares x r (omega (arith, small)) in omega (arith, near, h))
+    by_test : (t : Bool) → nat_le m n ≡ t → t ≡ false
+    by_test true e = absurd (grind (arith, nat_tests))
     by_test false e = refl
 
-left_far : (a b x : ℤ) (r : ℕ) → x <ℤ (int_min a b -ℤ pos r) → r < range_distance a b x x
-left_far a b x r h = (let far : r < positive_part (int_min a b -ℤ int_max x x) = omega (arith, ints, clamps, positive_part_is (int_min a b -ℤ int_max x x)) in omega (arith, far))
+tests_within : (m n : ℕ) → m ≤ n → nat_le m n ≡ true
+tests_within m n h = by_test (nat_le m n) refl
+  where
+    by_test : (t : Bool) → nat_le m n ≡ t → t ≡ true
+    by_test true e = refl
+    by_test false e = absurd (grind (arith, nat_tests))
 
-right_far : (a b x : ℤ) (r : ℕ) → (int_max a b +ℤ pos r) <ℤ x → r < range_distance a b x x
-right_far a b x r h = (let far : r < positive_part (int_min x x -ℤ int_max a b) = omega (arith, ints, clamps, positive_part_is (int_min x x -ℤ int_max a b)) in omega (arith, far))
+-- no point of a box that is apart is in the hole
+pub apart_out : (h : GridHole) (b : Bounds) (o : Other) → square h.radius < box_distance h b → IsWithin b o → is_in_hole h o.at ≡ false
+apart_out h b o far w =
+    let sum = sums_rise _ _ _ _ (nearer h.from.x h.to.x b.least.x o.at.x b.greatest.x w.left w.right) (nearer h.from.y h.to.y b.least.y o.at.y b.greatest.y w.low w.high) in
+    tests_above (point_distance h o.at) (square h.radius) (omega (arith, sum, far))
 
-abbrev pub left_end : GridHole → ℤ
-left_end h = int_min h.from.x h.to.x -ℤ pos h.radius
+-- each point of a box whose corners are in the hole is in it
+pub inside_in : (h : GridHole) (b : Bounds) (o : Other) → corner_distance h b ≤ square h.radius → IsWithin b o → is_in_hole h o.at ≡ true
+inside_in h b o near w =
+    let sum = sums_rise _ _ _ _ (further h.from.x h.to.x b.least.x o.at.x b.greatest.x w.left w.right) (further h.from.y h.to.y b.least.y o.at.y b.greatest.y w.low w.high) in
+    tests_within (point_distance h o.at) (square h.radius) (omega (arith, sum, near))
 
-abbrev pub right_end : GridHole → ℤ
-right_end h = int_max h.from.x h.to.x +ℤ pos h.radius
+-- what the tests say
+pub above_of : (m n : ℕ) → nat_le m n ≡ false → n < m
+above_of m n e = grind (arith, nat_tests)
 
-pub is_wide : (h : GridHole) → left_end h ≤ℤ right_end h
-is_wide h = omega (arith, ints, clamps)
+pub within_of : (m n : ℕ) → nat_le m n ≡ true → m ≤ n
+within_of m n e = grind (arith, nat_tests)
 
-left_out : (h : GridHole) (p : GridPoint) → p.x <ℤ left_end h → is_in_hole h p ≡ false
-left_out h p l = far_out (range_distance h.from.x h.to.x p.x p.x) (square (range_distance h.from.y h.to.y p.y p.y)) h.radius (left_far h.from.x h.to.x p.x h.radius l)
+-- what is in a box is in a wider one
+pub widened : (b wide : Bounds) (o held : Other) → wide.least.x ≡ int_min b.least.x o.at.x → wide.least.y ≡ int_min b.least.y o.at.y → wide.greatest.x ≡ int_max b.greatest.x o.at.x → wide.greatest.y ≡ int_max b.greatest.y o.at.y
+    → wide.first.place ≤ b.first.place → IsWithin b held → IsWithin wide held
+widened b wide o held lx ly gx gy first w = record {
+  left = (let low = w.left in omega (arith, ints, clamps, lx, low));
+  right = (let high = w.right in omega (arith, ints, clamps, gx, high));
+  low = (let low = w.low in omega (arith, ints, clamps, ly, low));
+  high = (let high = w.high in omega (arith, ints, clamps, gy, high));
+  later = (let later = w.later in omega (arith, first, later));
+}
 
-right_out : (h : GridHole) (p : GridPoint) → right_end h <ℤ p.x → is_in_hole h p ≡ false
-right_out h p l = far_out (range_distance h.from.x h.to.x p.x p.x) (square (range_distance h.from.y h.to.y p.y p.y)) h.radius (right_far h.from.x h.to.x p.x h.radius l)
-
--- those that are not before the first place and not behind the last one are near
-pub is_near : (all : List Other) (h : GridHole) (start end : ℕ) → start ≤ end → end ≤ length all → IsPartitionPoint (λ other. int_lt other.at.x (left_end h) ≡ true) (λ other. int_lt other.at.x (left_end h) ≡ false) all start
-    → IsPartitionPoint (λ other. int_le other.at.x (right_end h) ≡ true) (λ other. int_le other.at.x (right_end h) ≡ false) all end → IsNear all h (slice_range all start end)
-is_near all h start end ordered inside low high = record {
-  front = take start all;
-  end = drop end all;
-  is = sym (take-append-drop start all) ∙ ap (λ (xs : List Other). take start all ++ xs) (drop_split all start end ordered);
-  front_out = λ k d l.
-      (let size = length-take-le start all (omega (arith, ordered, inside)) in
-      let below : k < start = omega (arith, l, size) in
-      subst (λ (o : Other). is_in_hole h o.at ≡ false) (sym (get_or-take start all k d below)) (left_out h (get_or all k d).at (less (get_or all k d).at.x (left_end h) (low.0 k d (omega arith) below))));
-  end_out = λ k d l.
-      (let size = length-drop end all in
-      subst (λ (o : Other). is_in_hole h o.at ≡ false) (sym (get_or-drop end all k d))
-      (right_out h (get_or all (end + k) d).at (above (get_or all (end + k) d).at.x (right_end h) (high.1 (end + k) d (omega arith) (omega (arith, l, size, inside))))));
+-- the point that a box is widened for is in it
+pub holds_new : (b wide : Bounds) (o : Other) → wide.least.x ≡ int_min b.least.x o.at.x → wide.least.y ≡ int_min b.least.y o.at.y → wide.greatest.x ≡ int_max b.greatest.x o.at.x → wide.greatest.y ≡ int_max b.greatest.y o.at.y
+    → wide.first.place ≤ o.place → IsWithin wide o
+holds_new b wide o lx ly gx gy first = record {
+  left = omega (arith, ints, clamps, lx);
+  right = omega (arith, ints, clamps, gx);
+  low = omega (arith, ints, clamps, ly);
+  high = omega (arith, ints, clamps, gy);
+  later = first;
 }
 
 -- ---- the first one so far
@@ -167,18 +159,114 @@ lesser_is h seen (Some first) other inside is = by (nat_lt other.place first.pla
     by true e = comes_first h seen first other inside e is
     by false e = not_before h seen first other e is
 
--- ---- from those that are near to all
+-- a box that is widened for the next one of some flashes holds all of them
+pub one_more : (all : List Other) (i : ℕ) (item : Other) (b wide : Bounds) → i < length all → item ≡ get_or all i item → IsWithin wide item → ((held : Other) → IsWithin b held → IsWithin wide held) → All (IsWithin b) (take i all)
+    → All (IsWithin wide) (take (i + 1) all)
+one_more all i item b wide there is new keeps was =
+    subst (All (IsWithin wide)) (sym (take_more all i item there ∙ ap (λ (o : Other). take i all ++ o ∷ []) (sym is)))
+    (pushed (IsWithin wide) (take i all) item (All-weaker (IsWithin b) (IsWithin wide) keeps (take i all) was) new)
 
-from_near : (all near : List Other) (h : GridHole) (first : Option Other) → IsNear all h near → IsFirstIn near h first → IsFirstIn all h first
-from_near all near h None is out =
-    subst (All (λ o. is_in_hole h o.at ≡ false)) (sym is.is) (All-append (λ o. is_in_hole h o.at ≡ false) is.front (near ++ is.end) is.front_out (All-append (λ o. is_in_hole h o.at ≡ false) near is.end out is.end_out))
-from_near all near h (Some first) is found = (
-  subst (λ (xs : List Other). Contains xs first) (sym is.is) (Contains-append_right is.front (near ++ is.end) first (Contains-append_left near is.end first found.0)),
-  found.1,
-  subst (All (λ o. is_in_hole h o.at ≡ true → first.place ≤ o.place)) (sym is.is)
-      (All-append (λ o. is_in_hole h o.at ≡ true → first.place ≤ o.place) is.front (near ++ is.end) (out_of h (λ o. first.place ≤ o.place) is.front is.front_out)
-      (All-append (λ o. is_in_hole h o.at ≡ true → first.place ≤ o.place) near is.end found.2 (out_of h (λ o. first.place ≤ o.place) is.end is.end_out))),
-)
+-- and its first one is among them
+pub one_first : (all : List Other) (i : ℕ) (item : Other) (b wide : Bounds) → i < length all → item ≡ get_or all i item → (wide.first ≡ b.first) ⊎ (wide.first ≡ item) → Contains all b.first → Contains all wide.first
+one_first all i item b wide there is (inl same) among = subst (Contains all) (sym same) among
+one_first all i item b wide there is (inr same) among = subst (Contains all) (sym same) (i, there, sym is)
+
+-- ---- from the flashes that are passed to those up to the end of a group
+
+module _ (xs : List Other) (s p e : ℕ) (starts : s ≤ p) (ends : p ≤ e) (inside : e ≤ length xs) where
+  all_to : (P : Other → Type 0) → All P (take p xs) → All P (slice_range xs s e) → All P (take e xs)
+  all_to P front group = λ k d lt. by k d (omega (arith, lt, length-take-le e xs inside)) (cases_lt k p)
+    where
+      by : (k : ℕ) (d : Other) → k < e → (k < p) ⊎ (p ≤ k) → P (get_or (take e xs) k d)
+      by k d lt (inl low) =
+          let here = front k d (omega (arith, low, length-take-le p xs (omega (arith, ends, inside)))) in
+          subst P (get_or-take p xs k d low ∙ sym (get_or-take e xs k d lt)) here
+      by k d lt (inr high) =
+          let size = length-take-le (e - s) (drop s xs) (omega (arith, length-drop s xs, inside)) in
+          let here = group (k - s) d (omega (arith, size, starts, high, lt)) in
+          let same : s + (k - s) ≡ k = omega (arith, starts, high) in
+          subst P (get_or-take (e - s) (drop s xs) (k - s) d (omega (arith, starts, high, lt)) ∙ (get_or-drop s xs (k - s) d ∙ (ap (λ (n : ℕ). get_or xs n d) same ∙ sym (get_or-take e xs k d lt)))) here
+
+  front_to : (x : Other) → Contains (take p xs) x → Contains (take e xs) x
+  front_to x there =
+      let low : there.0 < p = omega (arith, there.1, length-take-le p xs (omega (arith, ends, inside))) in
+      let lt : there.0 < e = omega (arith, low, ends) in
+      (there.0, omega (arith, lt, length-take-le e xs inside), get_or-take e xs there.0 x lt ∙ (sym (get_or-take p xs there.0 x low) ∙ there.2))
+
+  group_to : (x : Other) → Contains (slice_range xs s e) x → Contains (take e xs) x
+  group_to x there =
+      let size = length-take-le (e - s) (drop s xs) (omega (arith, length-drop s xs, inside)) in
+      let low : there.0 < e - s = omega (arith, there.1, size) in
+      let lt : s + there.0 < e = omega (arith, low) in
+      (s + there.0, omega (arith, lt, length-take-le e xs inside), get_or-take e xs (s + there.0) x lt ∙ (sym (get_or-drop s xs there.0 x) ∙ (sym (get_or-take (e - s) (drop s xs) there.0 x low) ∙ there.2)))
+
+all_left : (P : Other → Type 0) (xs ys : List Other) → All P (xs ++ ys) → All P xs
+all_left P xs ys both = λ k d lt. subst P (get_or_append_left xs ys d k lt) (both k d (let size = length-append xs ys in omega (arith, size, lt)))
+
+one : (x y : Other) → Contains (x ∷ []) y → x ≡ y
+one x y among = elim (contains_cases x [] y among) [
+  | inl same ↦ same
+  | inr none ↦ absurd (let some = none.1 in omega (arith, some))
+]
+
+module _ (all : List Other) (h : GridHole) (g : Group) (is : IsGroup all g) (p : ℕ) (starts : g.start ≤ p) (ends : p ≤ g.end) where
+  abbrev pub own : List Other
+  own = slice_range all g.start g.end
+
+  -- nothing of a group is in the hole
+  pub passed_out : (first : Option Other) → All (λ other. is_in_hole h other.at ≡ false) own → IsFirstIn (take p all) h first → IsFirstIn (take g.end all) h first
+  passed_out None out was = all_to all g.start p g.end starts ends is.inside (λ other. is_in_hole h other.at ≡ false) was out
+  passed_out (Some first) out was = (
+    front_to all g.start p g.end starts ends is.inside first was.0,
+    was.1,
+    all_to all g.start p g.end starts ends is.inside (λ other. is_in_hole h other.at ≡ true → first.place ≤ other.place) was.2 (out_of h (λ other. first.place ≤ other.place) own out),
+  )
+
+  -- all of a group come behind the first so far
+  pub passed_later : (first : Other) → first.place ≤ g.bounds.first.place → IsFirstIn (take p all) h (Some first) → IsFirstIn (take g.end all) h (Some first)
+  passed_later first before was = (
+    front_to all g.start p g.end starts ends is.inside first was.0,
+    was.1,
+    all_to all g.start p g.end starts ends is.inside (λ other. is_in_hole h other.at ≡ true → first.place ≤ other.place) was.2
+        (All-weaker (IsWithin g.bounds) (λ other. is_in_hole h other.at ≡ true → first.place ≤ other.place) (λ other w here. (let later = w.later in omega (arith, before, later))) own is.bounds.within),
+  )
+
+  -- all of a group are in the hole
+  pub passed_inside : (first : Option Other) → ((other : Other) → IsWithin g.bounds other → is_in_hole h other.at ≡ true) → IsFirstIn (take p all) h first
+      → IsFirstIn (take g.end all) h (Some (option_map_or (λ held. if nat_lt g.bounds.first.place held.place then g.bounds.first else held) first g.bounds.first))
+  passed_inside first all_in was =
+      with_least (option_map_or (λ held. if nat_lt g.bounds.first.place held.place then g.bounds.first else held) first g.bounds.first) (lesser_is h (take p all) first g.bounds.first here was)
+    where
+      here : is_in_hole h g.bounds.first.at ≡ true
+      here = all_in g.bounds.first (All-contains (IsWithin g.bounds) own g.bounds.first is.bounds.within is.bounds.first)
+
+      there : (x : Other) → Contains (take p all ++ g.bounds.first ∷ []) x → Contains (take g.end all) x
+      there x among = elim (Contains-append_cases (take p all) (g.bounds.first ∷ []) x among) [
+        | inl front ↦ front_to all g.start p g.end starts ends is.inside x front
+        | inr last ↦ subst (Contains (take g.end all)) (one g.bounds.first x last) (group_to all g.start p g.end starts ends is.inside g.bounds.first is.bounds.first)
+      ]
+
+      with_least : (least : Other) → IsFirstIn (take p all ++ g.bounds.first ∷ []) h (Some least) → IsFirstIn (take g.end all) h (Some least)
+      with_least least found =
+          let P = λ (other : Other). is_in_hole h other.at ≡ true → least.place ≤ other.place in
+          let last = found.2 (length (take p all)) g.bounds.first (let size = length-append (take p all) (g.bounds.first ∷ []) in omega (arith, size)) in
+          let bound = subst P (get_or-append_seam (take p all) g.bounds.first [] g.bounds.first) last here in (
+            there least found.0,
+            found.1,
+            all_to all g.start p g.end starts ends is.inside P (all_left P (take p all) (g.bounds.first ∷ []) found.2)
+                (All-weaker (IsWithin g.bounds) P (λ other w inside. (let later = w.later in omega (arith, bound, later))) own is.bounds.within),
+          )
+
+-- those up to the end of a group, with those that are looked at one by one
+pub joined_to : (xs : List Other) (p e : ℕ) → p ≤ e → take p xs ++ slice_range xs p e ≡ take e xs
+joined_to xs p e h = sym (take-add p (e - p) xs) ∙ ap (λ (n : ℕ). take n xs) (let same : p + (e - p) ≡ e = omega (arith, h) in same)
+
+-- a search that ends where these are passed
+pub has_passed : (all : List Other) (h : GridHole) (e : ℕ) (first : Option Other) (s : Search) → s.passed ≡ e → s.first ≡ first → e ≤ length all → IsFirstIn (take e all) h first → HasPassed all h s
+has_passed all h e first s ends is inside found = record {
+  inside = omega (arith, ends, inside);
+  first = subst (λ (n : ℕ). IsFirstIn (take n all) h s.first) (sym ends) (subst (IsFirstIn (take e all) h) (sym is) found);
+}
 
 -- ---- the flashes of a layer stand by their places
 
@@ -227,13 +315,10 @@ find_least p (x ∷ xs) first up among inside least =
     by false e (inl same) rest = absurd (false≢true (sym e ∙ ap p same ∙ inside))
     by false e (inr later) rest = rest later
 
-first_is_found : (flashes : List Flash) (all : List Other) (h : GridHole) (first : Option Other) → IsPermutation (others flashes) all → IsFirstIn all h first → first ≡ other_in flashes h
+-- the first of all, in whatever order they stand, is the first of the layer
+pub first_is_found : (flashes : List Flash) (all : List Other) (h : GridHole) (first : Option Other) → IsPermutation (others flashes) all → IsFirstIn all h first → first ≡ other_in flashes h
 first_is_found flashes all h None moved out = sym (find_none (λ other. is_in_hole h other.at) (others flashes) (All-permutation (λ other. is_in_hole h other.at ≡ false) all (others flashes) (IsPermutation-sym (others flashes) all moved) out))
 first_is_found flashes all h (Some first) moved is =
     (let back = IsPermutation-sym (others flashes) all moved in
     sym (find_least (λ other. is_in_hole h other.at) (others flashes) first (places_rise_from 0 flashes) (Contains-permutation all (others flashes) first back is.0) is.1
     (All-permutation (λ other. is_in_hole h other.at ≡ true → first.place ≤ other.place) all (others flashes) back is.2)))
-
--- the first of those that are near is the first of the layer
-pub found_near : (flashes : List Flash) (all near : List Other) (h : GridHole) (first : Option Other) → IsNear all h near → IsFirstIn near h first → AreByX flashes all → first ≡ other_in flashes h
-found_near flashes all near h first is found known = first_is_found flashes all h first known.all (from_near all near h first is found)

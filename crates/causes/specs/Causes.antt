@@ -1,7 +1,7 @@
 -- Why a hole lacks its ring on a layer. Lengths are whole picometres.
-use Rattle.std.specs.Prelude.{◌≡◌, ℕ, ℤ, pos, ◌+◌, ◌<◌, ◌≤◌, ◌+ℤ◌, ◌-ℤ◌, ◌≤ℤ◌, Bool, true, false, not, Option, Some, None, List, length, get_or, nat_le, if◌then◌else◌}
+use Rattle.std.specs.Prelude.{◌≡◌, ℕ, ℤ, pos, ◌+◌, ◌≤◌, ◌+ℤ◌, ◌-ℤ◌, ◌≤ℤ◌, Bool, true, false, not, Option, Some, None, List, length, get_or, nat_le, if◌then◌else◌}
 use Rattle.std.specs.Int.{div_ceil}
-use Rattle.std.specs.List.{enumerate_from, filter_map, find}
+use Rattle.std.specs.List.{All, Contains, enumerate_from, filter_map, find, slice_range}
 use Rattle.std.specs.List.Sorted.{IsPermutation}
 use Rattle.grid_units.specs.Points.{GridPoint, apart, square}
 use Rattle.grid_units.specs.Holes.{GridHole}
@@ -15,6 +15,8 @@ use Rattle.layer_image.specs.Flashes.{is_other, pads_of}
 use Rattle.layer_image.specs.declared.flash.Flash.{Flash}
 use Rattle.layer_image.specs.declared.flash.What.{What}
 use Rattle.layer_image.specs.declared.flash.What.TheVariants as what
+use Rattle.causes.specs.declared.bounds.Bounds.{Bounds}
+use Rattle.causes.specs.declared.groups.Group.{Group}
 use Rattle.causes.specs.declared.layer.LayerCauses.{LayerCauses}
 use Rattle.causes.specs.declared.other.Other.{Other}
 use Rattle.margins.specs.Bests.{AreBest, AreShallow, IsBest}
@@ -87,20 +89,35 @@ IsCause flashes ring h (cause.Other why flash) = HasNoPad flashes h × ((other :
 IsCause flashes ring h cause.Nothing = HasNoPad flashes h × (other_in flashes h ≡ None)
 IsCause flashes ring h cause.Oblique = is_oblique h ≡ true
 
--- no flash has a greater x than a later one (docs/DEFINITIONS.md, Causes)
-abbrev pub RiseByX : List Other → Type 0
-RiseByX all = (i j : ℕ) (d : Other) → i ≤ j → j < length all → (get_or all i d).at.x ≤ℤ (get_or all j d).at.x
+-- a flash is no earlier than the first one of a box, and its point is in the box (docs/DEFINITIONS.md, Causes)
+pub record IsWithin (bounds : Bounds) (other : Other) : Type 0 where
+  pub left : bounds.least.x ≤ℤ other.at.x
+  pub right : other.at.x ≤ℤ bounds.greatest.x
+  pub low : bounds.least.y ≤ℤ other.at.y
+  pub high : other.at.y ≤ℤ bounds.greatest.y
+  pub later : bounds.first.place ≤ other.place
 
--- the flashes of a layer that are no pads, by the x of their points (docs/DEFINITIONS.md, Causes)
-pub record AreByX (flashes : List Flash) (found : List Other) : Type 0 where
-  pub all : IsPermutation (others flashes) found
-  pub rise : RiseByX found
+-- a box holds the points of some flashes, and has the first of them by its place (docs/DEFINITIONS.md, Causes)
+pub record IsBounds (all : List Other) (bounds : Bounds) : Type 0 where
+  pub within : All (IsWithin bounds) all
+  pub first : Contains all bounds.first
 
--- what is known of a layer: its pads, the places of their flashes, and its other flashes by x (docs/DEFINITIONS.md, Causes)
+-- a group of some flashes of a list: those from one place to another, and their box (docs/DEFINITIONS.md, Causes)
+pub record IsGroup (all : List Other) (group : Group) : Type 0 where
+  pub ordered : group.start ≤ group.end
+  pub inside : group.end ≤ length all
+  pub bounds : IsBounds (slice_range all group.start group.end) group.bounds
+
+-- each of these is a group of some flashes of a list (docs/DEFINITIONS.md, Causes)
+abbrev pub AreGroups : List Other → List Group → Type 0
+AreGroups all groups = All (IsGroup all) groups
+
+-- what is known of a layer: its pads, the places of their flashes, its other flashes in any order, and groups of them (docs/DEFINITIONS.md, Causes)
 pub record IsKnownOf (flashes : List Flash) (layer : LayerCauses) : Type 0 where
   pub pads : layer.pads.items ≡ pads_of flashes
   pub places : layer.places.items ≡ pad_places flashes
-  pub others : AreByX flashes layer.others.items
+  pub others : IsPermutation (others flashes) layer.others.items
+  pub groups : AreGroups layer.others.items layer.groups.items
 
 -- and for each hole the pad in which it lies deepest (docs/DEFINITIONS.md, Causes)
 pub record IsKnown (flashes : List Flash) (holes : List Drilled) (layer : LayerCauses) : Type 0 where

@@ -9,7 +9,8 @@ ghost use Rattle.margins.specs.Bests.{AreBest, IsBestPad, IsBest};
 ghost use Rattle.causes.specs.Causes.{HasNoPad, IsCause, IsInPad, IsKnown, IsKnownOf, pad_place, pad_places};
 
 use crate::cause::is_small;
-use crate::other::{Other, first_in, others};
+use crate::groups::{Group, first_in, groups_of};
+use crate::other::{Other, others};
 use grid_units::{Hole, Rules};
 use layer_image::{Flash, What};
 use margins::{Best, best_pads};
@@ -24,6 +25,7 @@ pub struct LayerCauses {
     pads: Vec<Pad>,
     places: Vec<usize>,
     others: Vec<Other>,
+    groups: Vec<Group>,
     bests: Vec<Option<Best>>,
 }
 
@@ -118,9 +120,11 @@ impl LayerCauses {
         requires { pads.items ≡ pads_of flashes.now }
         ensures { (holes : List Drilled) → AreBest pad_covers (pads_of flashes.now) holes bests.items → IfOk result (IsKnown flashes.now holes) }
     {
+        let others = others(alloc, flashes)?;
         Ok(LayerCauses {
             places: pad_places(alloc, flashes)?,
-            others: others(alloc, flashes)?,
+            groups: groups_of(alloc, &others)?,
+            others,
             pads,
             bests,
         })
@@ -208,7 +212,7 @@ impl LayerCauses {
         requires none { HasNoPad flashes.now hole.now }
         ensures { (ring : ℕ) → IsCause flashes.now ring hole.now result }
     {
-        match first_in(&self.others, hole) {
+        match first_in(&self.others, &self.groups, hole) {
             Some(other) => RingCause::Other {
                 why: other.why,
                 flash: other.place + 1,

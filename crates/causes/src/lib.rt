@@ -3,11 +3,10 @@
 //! All lengths are whole picometres (pm).
 #![tactic(auto)]
 
+mod bounds;
 mod cause;
+mod groups;
 mod layer;
 mod other;
 
 pub use layer::LayerCauses;
-
-#[cfg(test)]
-mod tests;

@@ -1,16 +1,16 @@
 //! The flashes of a layer that are no pads, and those of them in which holes lie.
 
-ghost use Rattle.std.specs.Prelude.{◌≡◌, ◌++◌, ◌∷◌, [], ◌≤◌, List, length, nat_lt, pos, ◌+ℤ◌, ◌-ℤ◌, IfOk, if◌then◌else◌};
-ghost use Rattle.std.specs.Int.{int_max, int_min};
-ghost use Rattle.std.specs.List.{slice_range};
+ghost use Rattle.std.specs.Prelude.{◌≡◌, ◌++◌, ◌∷◌, [], List, nat_lt, IfOk, if◌then◌else◌};
+ghost use Rattle.std.specs.List.Sorted.{IsPermutation};
 ghost use Rattle.std.specs.Option.{option_map_or};
-ghost use Rattle.causes.specs.Causes.{AreByX, RiseByX, other_flash, other_in, others};
-ghost use Rattle.causes.specs.Inner.Finding.{IsFirstIn, IsNear};
+ghost use Rattle.causes.specs.Causes.{other_flash, others};
+ghost use Rattle.causes.specs.Inner.Finding.{IsFirstIn};
 
 use crate::cause::is_in_hole;
 use grid_units::{Hole, Point};
 use layer_image::{Flash, What, Why};
 use std::alloc::{AllocError, Global};
+use std::cmp::Ordering;
 
 /// A flash that is no pad.
 #[derive(Clone, Copy, Debug, PartialEq, Eq)]
@@ -48,45 +48,35 @@ fn in_order(alloc: Global, flashes: &[Flash]) -> Result<Vec<Other>, AllocError>
         .collect(alloc)
 }
 
-/// The flashes that are no pads, in rising order of the x of their points.
+/// How far a coordinate is from the least of all numbers, so that the bits of two coordinates can be compared.
+fn from_least(coordinate: i64) -> u64 {
+    coordinate.abs_diff(i64::MIN)
+}
+
+/// How two points stand along a curve through ever smaller squares, on which points that are near each other mostly stand together: by the
+/// coordinates that differ in the higher bit. What is found does not depend on it, so no clause speaks of it.
+fn along_curve(a: Point, b: Point) -> Ordering {
+    let (ax, bx) = (from_least(a.x()), from_least(b.x()));
+    let (ay, by) = (from_least(a.y()), from_least(b.y()));
+    let (x, y) = (ax ^ bx, ay ^ by);
+    if x < y && x < x ^ y {
+        ay.cmp(&by)
+    } else {
+        ax.cmp(&bx)
+    }
+}
+
+/// The flashes that are no pads, such that those that are near each other mostly stand together.
 pub(crate) fn others(alloc: Global, flashes: &[Flash]) -> Result<Vec<Other>, AllocError>
-    ensures { IfOk result (λ found. AreByX flashes.now found.items) }
+    ensures { IfOk result (λ found. IsPermutation (others flashes.now) found.items) }
 {
     let mut found = in_order(alloc, flashes)?;
-    found.sort_by_key(|other| other.at.x())?;
+    found.sort_by(|a, b| along_curve(a.at, b.at))?;
     Ok(found)
 }
 
-/// The least x of a point in a hole.
-fn left_of(hole: &Hole) -> i64
-    ensures { result ≡ int_min hole.now.from.x hole.now.to.x -ℤ pos hole.now.radius }
-{
-    hole.from().x().min(hole.to().x()) - hole.radius()
-}
-
-/// The greatest x of a point in a hole.
-fn right_of(hole: &Hole) -> i64
-    ensures { result ≡ int_max hole.now.from.x hole.now.to.x +ℤ pos hole.now.radius }
-{
-    hole.from().x().max(hole.to().x()) + hole.radius()
-}
-
-/// Where those flashes begin and end whose points may lie in a hole by their x.
-fn near(others: &[Other], hole: &Hole) -> (usize, usize)
-    requires { RiseByX others.now }
-    ensures ordered { result.0 ≤ result.1 }
-    ensures inside { result.1 ≤ length others.now }
-    ensures near { IsNear others.now hole.now (slice_range others.now result.0 result.1) }
-{
-    let left = left_of(hole);
-    let right = right_of(hole);
-    let start = others.partition_point(|other| other.at.x() < left);
-    let end = others.partition_point(|other| other.at.x() <= right);
-    (start, end)
-}
-
 /// The first of two flashes by their places, where there is one so far.
-fn lesser(first: Option<Other>, other: Other) -> Other
+pub(crate) fn lesser(first: Option<Other>, other: Other) -> Other
     ensures { result ≡ option_map_or (λ held. if nat_lt other.place held.place then other else held) first other }
 {
     match first {
@@ -111,22 +101,13 @@ fn earlier(first: Option<Other>, other: Other, hole: &Hole) -> Option<Other>
     Some(lesser(first, other))
 }
 
-/// The first of some flashes, by its place, whose point lies in a hole.
-fn first_of(others: &[Other], hole: &Hole) -> Option<Other>
-    ensures { IsFirstIn others.now hole.now result }
+/// The first flash of those so far and some more, by its place, whose point lies in a hole.
+pub(crate) fn first_of(first: Option<Other>, others: &[Other], hole: &Hole) -> Option<Other>
+    ensures { (seen : List Other) → IsFirstIn seen hole.now first → IsFirstIn (seen ++ others.now) hole.now result }
 {
-    let mut first = None;
+    let mut first = first;
     for other in others {
         first = earlier(first, *other, hole);
     }
     first
-}
-
-/// The first of the flashes of a layer that are no pads, by its place there, whose point lies in a hole.
-pub(crate) fn first_in(others: &[Other], hole: &Hole) -> Option<Other>
-    requires { RiseByX others.now }
-    ensures { (flashes : List Flash) → AreByX flashes others.now → result ≡ other_in flashes hole.now }
-{
-    let (start, end) = near(others, hole);
-    first_of(&others[start..end], hole)
 }

@@ -2,7 +2,8 @@
 
 ghost use Rattle.std.specs.Prelude.{◌≡◌, IfOk, codes, false};
 ghost use Rattle.clap.specs.Words.{app_of, new_app, rule_of};
-ghost use Rattle.command_line.specs.Line.{check_app, draw_app, explain_app, file_app, manifest_app, maybe, maybe_option, measure_app, option, positional, report_app, ringcheck_app, several, switch};
+ghost use Rattle.command_line.specs.Line.{check_app, draw_app, explain_app, file_app, manifest_app, maybe, maybe_option, measure_app, option, positional, program_app, report_app, ringcheck_app, several, switch};
+ghost use Rattle.command_line.specs.Inner.Building.{file_commands_of, package_commands_of, report_args_of};
 
 use clap::{Arg, ArgAction, Command};
 use std::alloc::{AllocError, Global};
@@ -69,15 +70,15 @@ const REWRITE: &str = "Example:  ringcheck rewrite --kind layer top.gbr";
 pub(crate) fn ringcheck<'a>(alloc: Global) -> Result<Command<'a>, AllocError>
     ensures { IfOk result (λ c. app_of c ≡ ringcheck_app) }
 {
-    let check = check(alloc)?;
-    let report = report(alloc)?;
-    let measure = measure(alloc)?;
-    let draw = draw(alloc)?;
-    let manifest = manifest(alloc)?;
-    let explain = explain(alloc)?;
-    let show = show(alloc)?;
-    let rewrite = rewrite(alloc)?;
-    let bare = described(
+    let with_packages = with_package_commands(alloc, program(alloc))?;
+    with_file_commands(alloc, with_packages)
+}
+
+/// The program without its commands.
+fn program<'a>(alloc: Global) -> Command<'a>
+    ensures { app_of result ≡ program_app }
+{
+    described(
         alloc,
         "ringcheck",
         "Check copper rings and drill gaps of a board's Gerber and drill files, exactly",
@@ -86,15 +87,30 @@ pub(crate) fn ringcheck<'a>(alloc: Global) -> Result<Command<'a>, AllocError>
     )
     .version(VERSION)
     .no_binary_name(true)
-    .subcommand_required(true);
-    bare.subcommand(check)?
-        .subcommand(report)?
-        .subcommand(measure)?
-        .subcommand(draw)?
-        .subcommand(manifest)?
-        .subcommand(explain)?
-        .subcommand(show)?
-        .subcommand(rewrite)
+    .subcommand_required(true)
+}
+
+/// A program with the commands on the package of a manifest too.
+// Each command is made where it is added, so that one of them is held at a time.
+fn with_package_commands<'a>(alloc: Global, program: Command<'a>) -> Result<Command<'a>, AllocError>
+    ensures { IfOk result (λ c. app_of c ≡ package_commands_of (app_of program.entry)) }
+{
+    program
+        .subcommand(check(alloc)?)?
+        .subcommand(report(alloc)?)?
+        .subcommand(measure(alloc)?)?
+        .subcommand(draw(alloc)?)
+}
+
+/// A program with the commands on files and on words too.
+fn with_file_commands<'a>(alloc: Global, program: Command<'a>) -> Result<Command<'a>, AllocError>
+    ensures { IfOk result (λ c. app_of c ≡ file_commands_of (app_of program.entry)) }
+{
+    program
+        .subcommand(manifest(alloc)?)?
+        .subcommand(explain(alloc)?)?
+        .subcommand(show(alloc)?)?
+        .subcommand(rewrite(alloc)?)
 }
 
 /// `check --ring MM --gap MM MANIFEST`
@@ -142,7 +158,7 @@ fn measure<'a>(alloc: Global) -> Result<Command<'a>, AllocError>
 fn report<'a>(alloc: Global) -> Result<Command<'a>, AllocError>
     ensures { IfOk result (λ c. app_of c ≡ report_app) }
 {
-    described(
+    let under_rules = described(
         alloc,
         "report",
         "Tell of each finding by how much, and why",
@@ -150,26 +166,34 @@ fn report<'a>(alloc: Global) -> Result<Command<'a>, AllocError>
         REPORT,
     )
     .arg(ring_of(alloc))?
-    .arg(gap_of(alloc))?
-    .arg(maybe_option_of(
-        alloc,
-        "max",
-        "N",
-        "Findings told at most; all where it is not there",
-    ))?
-    .arg(maybe_option_of(
-        alloc,
-        "waive",
-        "FILE",
-        "File of waivers: findings that are accepted",
-    ))?
-    .arg(maybe_option_of(alloc, "format", "NAME", REPORT_FORMAT))?
-    .arg(value_of(
-        alloc,
-        "manifest",
-        "MANIFEST",
-        "Manifest of the package, a CSV file as for check",
-    ))
+    .arg(gap_of(alloc))?;
+    as_report(alloc, under_rules)
+}
+
+/// A command that takes `[--max N] [--waive FILE] [--format text|json|waivers] MANIFEST` too.
+fn as_report<'a>(alloc: Global, command: Command<'a>) -> Result<Command<'a>, AllocError>
+    ensures { IfOk result (λ c. app_of c ≡ report_args_of (app_of command.entry)) }
+{
+    command
+        .arg(maybe_option_of(
+            alloc,
+            "max",
+            "N",
+            "Findings told at most; all where it is not there",
+        ))?
+        .arg(maybe_option_of(
+            alloc,
+            "waive",
+            "FILE",
+            "File of waivers: findings that are accepted",
+        ))?
+        .arg(maybe_option_of(alloc, "format", "NAME", REPORT_FORMAT))?
+        .arg(value_of(
+            alloc,
+            "manifest",
+            "MANIFEST",
+            "Manifest of the package, a CSV file as for check",
+        ))
 }
 
 /// `draw [--ring MM --gap MM] MANIFEST`

@@ -18,8 +18,6 @@ ghost use Rattle.command_line.specs.Line.{AnswersAs, AnswersCheck, AnswersLine, 
 ghost use Rattle.command_line.specs.Inner.Steps.{HasCheckRows, IsCheckIfSome, IsRefusalFor};
 
 mod commands;
-#[cfg(test)]
-mod tests;
 
 use clap::error::ErrorKind;
 use clap::{ArgMatches, Error};

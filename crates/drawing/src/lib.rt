@@ -16,6 +16,3 @@ mod scale;
 mod words;
 
 pub use draw::{PrintFault, print_drawing};
-
-#[cfg(test)]
-mod tests;

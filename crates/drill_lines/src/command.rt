@@ -3,6 +3,7 @@
 ghost use Rattle.std.specs.Prelude.{◌≡◌, ◌≤◌, ◌↔◌, IsSome, IfSome};
 
 use grid_units::{Dec, Text, Unit, Zeros};
+use std::fmt;
 use std::marker::Model;
 
 /// How many digits a coordinate without a point has before its point and behind it: 1 to 6 each.
@@ -129,7 +130,7 @@ impl Coordinates {
 }
 
 /// What a line of a drill file commands.
-#[derive(Debug, PartialEq, Eq, Drop)]
+#[derive(PartialEq, Eq, Drop)]
 pub enum DrillCommand {
     /// `;` and a text.
     Comment(Text),
@@ -151,6 +152,24 @@ pub enum DrillCommand {
     Slot(Coordinates, Coordinates),
     /// `M30`: the file ends.
     Finish,
+}
+
+impl fmt::Debug for DrillCommand {
+    /// The name of its kind alone.
+    fn fmt<W: fmt::Write>(&self, f: &mut fmt::Formatter<W>) -> fmt::Result {
+        f.write_str(match self {
+            DrillCommand::Comment(..) => "Comment",
+            DrillCommand::Start => "Start",
+            DrillCommand::UnitLine(..) => "UnitLine",
+            DrillCommand::Tool(..) => "Tool",
+            DrillCommand::HeaderEnd => "HeaderEnd",
+            DrillCommand::UnitCode(..) => "UnitCode",
+            DrillCommand::Pick(..) => "Pick",
+            DrillCommand::Hit(..) => "Hit",
+            DrillCommand::Slot(..) => "Slot",
+            DrillCommand::Finish => "Finish",
+        })
+    }
 }
 
 /// The part of a file in which a line stands.

@@ -21,8 +21,3 @@ pub use laws::{
 pub use reader::{DrillReader, read_drill};
 pub use rewrite_reader::RewriteReader;
 pub use writer::{drill_sayable, write_drill};
-
-#[cfg(test)]
-mod tests;
-#[cfg(test)]
-mod writing_tests;

@@ -30,6 +30,3 @@ pub fn explanation(word: &str) -> Option<&'static str>
         None => None,
     }
 }
-
-#[cfg(test)]
-mod tests;

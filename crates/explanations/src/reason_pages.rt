@@ -9,6 +9,8 @@ const TOO_LONG: &str = "\
 TooLong: an item or a line has more than 1,048,576 bytes, or the file is
 above its limit (268,435,456 bytes; 1,048,576 of a manifest or of a file of
 waivers). See that the right file was named, and export it again.
+In a file of waivers, at a place above 0: the reason of that record has more
+than 1,000 bytes. Write a shorter one.
 ";
 
 const AFTER_END: &str = "\

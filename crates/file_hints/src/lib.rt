@@ -9,6 +9,3 @@ pub use names::{
     end_of, ends_in_copper, has_point, is_among, last_word, layer_number, lower_name,
     names_unplated, numbered, runs, short_name, stem_of,
 };
-
-#[cfg(test)]
-mod tests;

@@ -1,5 +1,5 @@
 -- The flashes of the files of a package.
-use Rattle.std.specs.Prelude.{◌≡◌, ℕ, ◌<◌, true, List, [], length, get_or, map, Result, Ok, Err, ⊤}
+use Rattle.std.specs.Prelude.{◌≡◌, ℕ, ◌<◌, true, false, List, [], length, get_or, map, Result, Ok, Err, ⊤}
 use Rattle.layer_image.specs.Layers.{LayerImage, ReadsLayer}
 use Rattle.layer_image.specs.declared.flash.Flash.{Flash}
 use Rattle.package_check.specs.Boards.{IsBoard, Survey}
@@ -38,7 +38,12 @@ AnswersFlashed sources (Err (stop.File index fault)) = IsFirstRefused sources in
 abbrev pub copper_count : FlashedReader → ℕ
 copper_count reader = copper_files reader.taken
 
+-- memory ran out for the reader (docs/DEFINITIONS.md, Boards with their flashes)
+abbrev pub HasNoMemory : FlashedReader → Type 0
+HasNoMemory reader = reader.has_failed ≡ true
+
 -- the reader has taken just these files, and has their flashes where it has refused none of them (docs/DEFINITIONS.md, Boards with their flashes)
 pub record FlashedStandsAfter (reader : FlashedReader) (sources : List Source) : Type 0 where
+  pub lasts : reader.has_failed ≡ false
   pub taken : PackageStandsAfter reader.taken sources
   pub flashes : HasRefusedNone reader.taken → AreFlashes sources (map (λ flashes. flashes.items) reader.flashes.items)

@@ -4,6 +4,3 @@
 mod reader;
 
 pub use reader::{FlashedBoard, FlashedReader, read_flashed};
-
-#[cfg(test)]
-mod tests;

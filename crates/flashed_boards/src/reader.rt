@@ -1,9 +1,10 @@
 //! A package whose files are taken one after the other, and the flashes of whose copper files are kept.
 
-ghost use Rattle.std.specs.Prelude.{◌≡◌, ◌++◌, ◌∷◌, ℕ, List, [], IfOk, OnOk, map};
+ghost use Rattle.std.specs.Prelude.{◌≡◌, ◌++◌, ◌∷◌, ℕ, List, [], Err, IfOk, OnErr, OnOk, alloc_error, map};
 ghost use Rattle.std.specs.List.{concat};
 ghost use Rattle.package_check.specs.Package.{Source, sources_of};
 ghost use Rattle.flashed_boards.specs.Flashed.{AnswersFlashed, FlashedStandsAfter};
+ghost use Rattle.package_check.specs.declared.PackageFault.TheVariants as stop;
 
 use layer_image::{Flash, one_reading};
 use package_check::laws::one_answer;
@@ -43,10 +44,11 @@ impl FlashedBoard {
 pub struct FlashedReader {
     taken: PackageReader,
     flashes: Vec<Vec<Flash>>,
+    has_failed: bool,
 }
 
 impl FlashedReader {
-    ghost use Rattle.flashed_boards.specs.Flashed.{FlashedStandsAfter, copper_count};
+    ghost use Rattle.flashed_boards.specs.Flashed.{FlashedStandsAfter, HasNoMemory, copper_count};
 
     /// A reader that has taken no file, of a package with so many copper files.
     pub fn new(alloc: Global, layers: usize) -> FlashedReader
@@ -56,6 +58,7 @@ impl FlashedReader {
         FlashedReader {
             taken: PackageReader::new(alloc, layers),
             flashes: Vec::new(alloc),
+            has_failed: false,
         }
     }
 
@@ -64,8 +67,30 @@ impl FlashedReader {
     ///
     /// # Errors
     ///
-    /// An `AllocError` where there is no memory.
+    /// An `AllocError` where there is no memory. A reader that has failed so fails again, and so does its
+    /// [`FlashedReader::finish`].
     pub fn take(
+        &mut self,
+        role: Role,
+        span: &Option<Span>,
+        pieces: &[&[u8]],
+    ) -> Result<(), AllocError>
+        ensures stands { (sources : List Source) (name : List ℕ) → FlashedStandsAfter self.old sources → OnOk result (FlashedStandsAfter self.new (sources
+            ++ record { role = role; name = name; span = span.now; bytes = concat (map (λ piece. piece.now) pieces.now); layers = copper_count self.old } ∷ [])) }
+        ensures layers { copper_count self.new ≡ copper_count self.old }
+        ensures failed { HasNoMemory self.old → result ≡ Err alloc_error }
+        ensures fails { OnErr result (HasNoMemory self.new) }
+    {
+        if self.has_failed {
+            return Err(AllocError);
+        }
+        let taken = self.take_next(role, span, pieces);
+        self.has_failed = taken.is_err();
+        taken
+    }
+
+    /// Takes the next file, where no memory was lacking so far.
+    fn take_next(
         &mut self,
         role: Role,
         span: &Option<Span>,
@@ -84,12 +109,20 @@ impl FlashedReader {
     ///
     /// # Errors
     ///
-    /// The first file that is refused, by its index, with its fault; `Memory` where there is no memory.
+    /// The first file that is refused, by its index, with its fault; `Memory` where there is no memory, or was none for a file.
     pub fn finish(self) -> Result<FlashedBoard, PackageFault>
-        ensures { (sources : List Source) → FlashedStandsAfter self sources → AnswersFlashed sources result }
+        ensures exact { (sources : List Source) → FlashedStandsAfter self sources → AnswersFlashed sources result }
+        ensures failed { HasNoMemory self → result ≡ Err stop.Memory }
     {
         one_answer();
-        let FlashedReader { taken, flashes } = self;
+        let FlashedReader {
+            taken,
+            flashes,
+            has_failed,
+        } = self;
+        if has_failed {
+            return Err(PackageFault::Memory);
+        }
         let board = taken.board()?;
         Ok(FlashedBoard { board, flashes })
     }

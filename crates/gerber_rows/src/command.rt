@@ -5,6 +5,7 @@ ghost use Rattle.gerber_rows.specs.Coordinates.{left_out};
 
 use grid_units::{Dec, Text, Unit};
 use std::alloc::{AllocError, Global};
+use std::fmt;
 use std::marker::Model;
 
 /// The digits of a coordinate before and after its decimal point.
@@ -255,7 +256,7 @@ pub struct Block {
 }
 
 /// What an item of a Gerber text commands. The fields are those of the format's table.
-#[derive(Debug, Drop)]
+#[derive(Drop)]
 pub enum Command {
     /// `G04` and a text.
     Comment(Text),
@@ -309,6 +310,34 @@ pub enum Command {
     Remove(Text),
     /// `M02`: the end of the text.
     Finish,
+}
+
+impl fmt::Debug for Command {
+    /// The name of its kind alone.
+    fn fmt<W: fmt::Write>(&self, f: &mut fmt::Formatter<W>) -> fmt::Result {
+        f.write_str(match self {
+            Command::Comment(..) => "Comment",
+            Command::Mode(..) => "Mode",
+            Command::Quadrant(..) => "Quadrant",
+            Command::RegionStart => "RegionStart",
+            Command::RegionEnd => "RegionEnd",
+            Command::UnitIs(..) => "UnitIs",
+            Command::FormatIs(..) => "FormatIs",
+            Command::Define { .. } => "Define",
+            Command::Macro(..) => "Macro",
+            Command::Select(..) => "Select",
+            Command::Operate { .. } => "Operate",
+            Command::Dark => "Dark",
+            Command::Mirror { .. } => "Mirror",
+            Command::Turn(..) => "Turn",
+            Command::Scale(..) => "Scale",
+            Command::Repeat(..) => "Repeat",
+            Command::RepeatEnd => "RepeatEnd",
+            Command::Attribute(..) => "Attribute",
+            Command::Remove(..) => "Remove",
+            Command::Finish => "Finish",
+        })
+    }
 }
 
 /// What one item spells: an interpolation, another command, both or nothing. Contracts see the list of

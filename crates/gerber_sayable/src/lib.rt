@@ -7,6 +7,3 @@ mod sayable;
 
 pub use laws::{canonical_items, spelled_commands};
 pub use sayable::is_sayable;
-
-#[cfg(test)]
-mod tests;

@@ -17,8 +17,3 @@ pub use placed::Placed;
 pub use reader::{Kept, WordReader, read_kept, read_words};
 pub use sayable_lists::sayable;
 pub use writer::{write_commands, write_placed};
-
-#[cfg(test)]
-mod sayable_tests;
-#[cfg(test)]
-mod tests;

@@ -5,10 +5,11 @@ ghost use Rattle.grid_units.specs.Results.{both, first_reason};
 ghost use Rattle.grid_units.specs.declared.fault.Fail.TheVariants.{Memory};
 
 use std::alloc::{AllocError, AllocFailed};
+use std::fmt;
 
 /// Why an item, a line, a file, a number or a rule is refused. The numbers are names only; the orders
 /// in which reasons are looked for stand in `docs/FORMATS.md`.
-#[derive(Clone, Copy, Debug, PartialEq, Eq)]
+#[derive(Clone, Copy, PartialEq, Eq)]
 pub enum Reason {
     /// An item, a line, a manifest or a file is above its limit of bytes.
     TooLong = 1,
@@ -170,6 +171,12 @@ impl Reason {
         ensures { result.now ≡ name_of self }
     {
         NAMES[usize::from(self.number()) - 1]
+    }
+}
+
+impl fmt::Debug for Reason {
+    fn fmt<W: fmt::Write>(&self, f: &mut fmt::Formatter<W>) -> fmt::Result {
+        f.write_str(self.name())
     }
 }
 

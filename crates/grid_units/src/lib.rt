@@ -31,6 +31,3 @@ pub use spelling::write_mm;
 pub use stop::Stop;
 pub use text::Text;
 pub use zero_filling::{Zeros, from_zeros};
-
-#[cfg(test)]
-mod tests;

@@ -8,27 +8,64 @@ use std::io;
 
 /// Makes the calls over the input of this number. Past the last one nothing is made, and nothing printed.
 pub(crate) fn run(rt: &HostRuntime, number: usize) -> io::Result<()> {
-    if let Some(text) = LAYERS.get(number) {
-        return on_text(rt, text, &ON_LAYERS);
+    const DRILLS_BEGIN: usize = LAYERS.len();
+    const MANIFESTS_BEGIN: usize = DRILLS_BEGIN + DRILLS.len();
+    const BOARDS_BEGIN: usize = MANIFESTS_BEGIN + MANIFESTS.len();
+    const FOLDERS_BEGIN: usize = BOARDS_BEGIN + BOARDS.len();
+    const LINES_BEGIN: usize = FOLDERS_BEGIN + FOLDERS.len();
+    if number < DRILLS_BEGIN {
+        on_layer(rt, number)
+    } else if number < MANIFESTS_BEGIN {
+        on_drill(rt, number - DRILLS_BEGIN)
+    } else if number < BOARDS_BEGIN {
+        on_manifest(rt, number - MANIFESTS_BEGIN)
+    } else if number < FOLDERS_BEGIN {
+        on_board(rt, number - BOARDS_BEGIN)
+    } else if number < LINES_BEGIN {
+        on_folder(rt, number - FOLDERS_BEGIN)
+    } else {
+        on_words(rt, number - LINES_BEGIN)
     }
-    let number = number.saturating_sub(LAYERS.len());
-    if let Some(text) = DRILLS.get(number) {
-        return on_text(rt, text, &ON_DRILLS);
+}
+
+fn on_layer(rt: &HostRuntime, number: usize) -> io::Result<()> {
+    match LAYERS.get(number) {
+        Some(text) => on_text(rt, text, &ON_LAYERS),
+        None => Ok(()),
     }
-    let number = number.saturating_sub(DRILLS.len());
-    if let Some(text) = MANIFESTS.get(number) {
-        return on_text(rt, text, &ON_MANIFESTS);
+}
+
+fn on_drill(rt: &HostRuntime, number: usize) -> io::Result<()> {
+    match DRILLS.get(number) {
+        Some(text) => on_text(rt, text, &ON_DRILLS),
+        None => Ok(()),
     }
-    let number = number.saturating_sub(MANIFESTS.len());
-    if let Some(board) = BOARDS.get(number) {
-        return on_board(rt, board);
+}
+
+fn on_manifest(rt: &HostRuntime, number: usize) -> io::Result<()> {
+    match MANIFESTS.get(number) {
+        Some(text) => on_text(rt, text, &ON_MANIFESTS),
+        None => Ok(()),
     }
-    let number = number.saturating_sub(BOARDS.len());
-    if let Some(files) = FOLDERS.get(number) {
-        return on_folder(rt, files);
+}
+
+fn on_board(rt: &HostRuntime, number: usize) -> io::Result<()> {
+    match BOARDS.get(number) {
+        Some(board) => ask_of_board(rt, board),
+        None => Ok(()),
     }
-    match LINES.get(number.saturating_sub(FOLDERS.len())) {
-        Some(words) => on_words(rt, words),
+}
+
+fn on_folder(rt: &HostRuntime, number: usize) -> io::Result<()> {
+    match FOLDERS.get(number) {
+        Some(files) => ask_of_folder(rt, files),
+        None => Ok(()),
+    }
+}
+
+fn on_words(rt: &HostRuntime, number: usize) -> io::Result<()> {
+    match LINES.get(number) {
+        Some(words) => ask_of_words(rt, words),
         None => Ok(()),
     }
 }
@@ -42,7 +79,7 @@ fn on_text(rt: &HostRuntime, text: &str, all: &[Call]) -> io::Result<()> {
     Ok(())
 }
 
-fn on_board(rt: &HostRuntime, board: &Board) -> io::Result<()> {
+fn ask_of_board(rt: &HostRuntime, board: &Board) -> io::Result<()> {
     for call in ON_BOARDS {
         let first = boards::ask(call, rt.alloc(), board);
         let again = boards::ask(call, rt.alloc(), board);
@@ -51,7 +88,7 @@ fn on_board(rt: &HostRuntime, board: &Board) -> io::Result<()> {
     Ok(())
 }
 
-fn on_folder(rt: &HostRuntime, files: &[Held]) -> io::Result<()> {
+fn ask_of_folder(rt: &HostRuntime, files: &[Held]) -> io::Result<()> {
     for call in ON_FOLDERS {
         let first = small::proposed(call, rt.alloc(), files);
         let again = small::proposed(call, rt.alloc(), files);
@@ -60,7 +97,7 @@ fn on_folder(rt: &HostRuntime, files: &[Held]) -> io::Result<()> {
     Ok(())
 }
 
-fn on_words(rt: &HostRuntime, words: &[&str]) -> io::Result<()> {
+fn ask_of_words(rt: &HostRuntime, words: &[&str]) -> io::Result<()> {
     let first = small::asked(rt.alloc(), words);
     let again = small::asked(rt.alloc(), words);
     println!(rt; "Words: {first}; again {again}")

@@ -23,6 +23,3 @@ pub use flash::{Flash, What, Why};
 pub use laws::{equal_commands, layer_reasons, layer_texts, one_reading, shown_faults};
 pub use layer::{Layer, read_layer};
 pub use reader::{FlashReader, FlashSum, LayerReader, LayerSum, SumReader};
-
-#[cfg(test)]
-mod tests;

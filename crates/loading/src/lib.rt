@@ -3,8 +3,7 @@
 
 mod loader;
 mod reading;
-#[cfg(test)]
-mod tests;
+mod reads;
 
 pub use loader::{LoadFault, Loader};
 pub use reading::{MAX_LIMIT, ReadFail, read_all};

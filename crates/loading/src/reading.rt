@@ -1,12 +1,14 @@
 //! All bytes of a reader, within a limit.
 
-ghost use Rattle.std.specs.Prelude.{◌≡◌, ◌<◌, ◌≤◌, ◌+◌, ◌++◌, length, OnOk, IfOk, IfErr, vec_len, vec_capacity, max, ◌/◌};
+ghost use Rattle.std.specs.Prelude.{◌≡◌, ◌≢◌, ◌<◌, ◌≤◌, ◌+◌, ◌++◌, length, OnOk, IfOk, IfErr, vec_len, vec_capacity, max, ◌/◌};
 ghost use Rattle.std.specs.Io.KnownBytes.{IsAtEnd};
+ghost use Rattle.loading.specs.Inner.{HasCause, IsUnread, spare_reads};
 ghost use Rattle.loading.specs.Reading.{ReadsAll, max_limit};
 ghost use Rattle.loading.specs.declared.reading.ReadFail.TheVariants as fails;
 
+use crate::reads::Reads;
 use std::alloc::{AllocError, Global};
-use std::io::{ErrorKind, Read};
+use std::io::Read;
 use thiserror::Error;
 
 /// Why the bytes of a reader are not to be had.
@@ -34,8 +36,8 @@ impl From<AllocError> for ReadFail {
 /// The greatest limit of [`read_all`], in bytes.
 pub const MAX_LIMIT: u64 = 268_435_456;
 
-/// How many calls of read may come on top of one for each byte.
-const SPARE_CALLS: u64 = 65_536;
+/// How many reads may come on top of one for each byte.
+const SPARE_READS: u64 = 65_536;
 
 /// How many bytes are asked for at once. The block for them is no local, as a stack may be as small as that.
 const BLOCK: usize = 65_536;
@@ -53,7 +55,8 @@ pub fn read_all<R: Read>(alloc: Global, reader: &mut R, limit: u64) -> Result<Ve
     ensures end { OnOk result (IsAtEnd (R.remaining reader.new)) }
 {
     let mut block = zeros(alloc, BLOCK)?;
-    read_by(alloc, reader, block.as_mut_slice(), limit)
+    let mut reads = Reads::new();
+    read_by(alloc, reader, &mut reads, block.as_mut_slice(), limit)
 }
 
 /// So many zeros.
@@ -63,25 +66,29 @@ fn zeros(alloc: Global, count: usize) -> Result<Vec<u8>, AllocError>
     vec![in alloc; 0u8; count]
 }
 
-/// All that a reader has left, as `read_all` says, where each read is into a block.
+/// All that a reader has left, as `read_all` says, where each read is into a block and is counted.
 fn read_by<R: Read>(
     alloc: Global,
     reader: &mut R,
+    reads: &mut Reads,
     block: &mut [u8],
     limit: u64,
 ) -> Result<Vec<u8>, ReadFail>
     requires limit { limit ≤ max_limit }
     requires block { 0 < length block.old }
+    requires unread { IsUnread reads.old }
     ensures exact { ReadsAll (R.remaining reader.old) limit result }
     ensures end { OnOk result (IsAtEnd (R.remaining reader.new)) }
+    ensures made { reads.new.made ≤ limit + spare_reads }
+    ensures fault { IfErr result (HasCause reads.new limit) }
 {
     let mut bytes = Vec::new(alloc);
-    for _ in 0..limit + SPARE_CALLS {
-        match reader.read(block) {
-            Ok(0) => return Ok(bytes),
-            Ok(count) => append(&mut bytes, &block[..count], limit)?,
-            Err(error) if error.kind() == ErrorKind::Interrupted => {}
-            Err(_) => return Err(ReadFail::ReadFault),
+    while reads.made() < limit + SPARE_READS {
+        match reads.read(reader, block) {
+            Ok(Some(0)) => return Ok(bytes),
+            Ok(Some(count)) => append(&mut bytes, &block[..count], limit)?,
+            Ok(None) => {}
+            Err(fail) => return Err(fail),
         }
     }
     Err(ReadFail::ReadFault)
@@ -92,6 +99,7 @@ fn append(bytes: &mut Vec<u8>, more: &[u8], limit: u64) -> Result<(), ReadFail>
     requires { vec_len bytes.old ≤ limit }
     ensures ok { OnOk result ((bytes.new.items ≡ bytes.old.items ++ more.now) × (vec_len bytes.new ≤ limit)) }
     ensures long { IfErr result (λ e. e ≡ ReadFail.TooLong → limit < vec_len bytes.old + length more.now) }
+    ensures no_fault { IfErr result (λ e. e ≢ ReadFail.ReadFault) }
 {
     if more.len() as u64 > limit - bytes.len() as u64 {
         return Err(ReadFail::TooLong);

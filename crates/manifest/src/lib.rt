@@ -13,8 +13,6 @@ pub mod laws;
 mod names;
 pub mod rows;
 pub mod table;
-#[cfg(test)]
-mod tests;
 
 use grid_units::{Fail, Span};
 pub use names::Name;

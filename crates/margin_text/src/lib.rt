@@ -92,6 +92,3 @@ pub struct Meets {
     /// The rings that all holes that ask one and are not bare have.
     pub held: Met,
 }
-
-#[cfg(test)]
-mod tests;

@@ -1,17 +1,20 @@
 -- What the best pads among shapes in which nothing lies deep tell of the shapes.
-use Rattle.std.proofs.Common.{◌≡◌, ◌↔◌, ℕ, ◌<◌, inl, inr, Bool, true, false, Option, Some, None, List, [], ◌∷◌, length, map, get_or, refl, sym, ap, ◌∙◌, arith}
+use Rattle.std.proofs.Common.{◌≡◌, ◌↔◌, ℕ, ◌<◌, ◌+◌, inl, inr, Bool, true, false, Option, Some, None, List, [], ◌∷◌, length, map, get_or, replicate, refl, sym, subst, ap, ◌∙◌, arith}
 use Rattle.std.specs.Prelude.{◌&&◌, nat_le}
-use Rattle.std.proofs.lemmas.List.{get_or-map, length-map}
+use Rattle.std.proofs.lemmas.Bool.{cases_lt}
+use Rattle.std.proofs.lemmas.List.{get_or-map, length-map, get_or-replicate, length-replicate}
 use Rattle.grid_units.specs.Points.{GridPoint}
 use Rattle.grid_units.specs.Holes.{GridHole}
 use Rattle.grid_units.proofs.BoolLemmas.{both_true}
 use Rattle.pad_shapes.specs.Shapes.{covers_ends}
 use Rattle.ring_rules.specs.Findings.{is_oblique}
-use Rattle.ring_rules.specs.Places.{hole_at}
+use Rattle.pad_shapes.specs.Zones.{IsInZone, CoversNone}
+use Rattle.pad_shapes.specs.declared.zone.Zone.{Zone}
+use Rattle.ring_rules.specs.Places.{hole_at, point_at}
 use Rattle.ring_rules.specs.declared.finding.Drilled.{Drilled}
 use Rattle.margins.specs.Depths.{CoversLess}
 use Rattle.margins.specs.Bests.{IsBare, IsBestPad, AreBest, AreBare}
-use Rattle.margins.specs.Inner.Flats.{flat_covers}
+use Rattle.margins.specs.Inner.Flats.{CoverNone, flat_covers}
 use Rattle.margins.specs.Rows.{has_none}
 use Rattle.margins.specs.declared.best.Best.{Best}
 
@@ -79,3 +82,26 @@ module _ {S T : Type 0} (covers : S → GridPoint → ℕ → Bool) (shrinks : C
         let tells = told pads (hole_at holes k) (get_or bests k None) (all.each k h) in
         (λ e. tells.0 (sym is ∙ e), λ bare. is ∙ tells.1 bare);
   }
+
+-- a pad more that covers nothing of a zone
+pub none_more : {S : Type 0} (covers : S → GridPoint → ℕ → Bool) (pads : List S) (count : ℕ) (pad : S) (zone : Zone) → ((s : S) → get_or pads count s ≡ pad) → CoverNone covers pads count zone → CoversNone covers pad 0 zone → CoverNone covers pads (count + 1) zone
+none_more covers pads count pad zone is none next s k h = elim (cases_lt k count) [
+  | inl less ↦ none s k less
+  | inr more ↦
+      let last : k ≡ count = omega (arith, h, more) in
+      subst (λ x. CoversNone covers x 0 zone) (sym (ap (λ (n : ℕ). get_or pads n s) last ∙ is s)) next
+]
+
+-- holes of a zone of which no pad covers a point
+pub bare_none : {S : Type 0} (covers : S → GridPoint → ℕ → Bool) (pads : List S) (holes : List Drilled) (zone : Zone) (bare : List Bool) → ((k : ℕ) → k < length holes → IsInZone zone (point_at holes k)) → CoverNone covers pads (length pads) zone
+    → bare ≡ replicate (length holes) true → AreBare covers pads holes bare
+bare_none covers pads holes zone bare within none is = record {
+  size = ap length is ∙ length-replicate (length holes) true;
+  each = λ k h. (
+    λ e. inr (λ p j reach inside. refused (covers_ends covers (get_or pads j p) (hole_at holes k).from (hole_at holes k).to reach) (λ t.
+        never (covers (get_or pads j p) (point_at holes k) reach)
+        (both_true (covers (get_or pads j p) (hole_at holes k).from reach) (covers (get_or pads j p) (hole_at holes k).to reach) t).0
+        (none p j inside (point_at holes k) reach (omega arith) (within k h)))),
+    λ lacks. ap (λ (bs : List Bool). get_or bs k false) is ∙ get_or-replicate (length holes) k true false h,
+  );
+}

@@ -4,6 +4,7 @@ ghost use Rattle.std.specs.Prelude.{◌≡◌, ◌<◌, ◌≤◌, None, Some, t
 ghost use Rattle.std.specs.List.{All, Contains};
 ghost use Rattle.pad_shapes.specs.Shapes.{covers_ends, IsAlongAxis, IsReach};
 ghost use Rattle.pad_shapes.specs.Zones.{IsInZone, BoundsCentres};
+ghost use Rattle.pad_shapes.specs.declared.zone.Zone.{Zone};
 ghost use Rattle.ring_rules.specs.Findings.{is_oblique};
 ghost use Rattle.ring_rules.specs.Index.{IsIndexOf};
 ghost use Rattle.ring_rules.specs.Places.{hole_at, point_at};
@@ -206,6 +207,46 @@ fn try_zone<S: Deep>(
     )
 }
 
+/// Tries a pad at the holes of the zone at a place, where it may be better at one of them, and says what these ask at least from now on.
+fn try_zone_at<S: Deep>(
+    index: &HoleIndex,
+    pad: &S,
+    place: usize,
+    holes: &[Drilled],
+    division: &Division,
+    i: usize,
+    bound: u64,
+    part_bounds: &mut [u64],
+    near: &mut Vec<usize>,
+    bests: &mut [Option<Best>],
+) -> Result<u64, AllocError>
+    requires index { IsIndexOf holes.now index.now }
+    requires size { length bests.old ≡ length holes.now }
+    requires division { IsDivision holes.now division.now }
+    requires listed { i < length division.now.zones.items }
+    requires bound { (zone : Zone) → get_or division.now.zones.items i zone ≡ zone → AskFor holes.now bests.old (IsInZone zone) bound }
+    requires parts { length part_bounds.old ≡ length division.now.parts.items }
+    requires part_bounds { AreBounds holes.now bests.old division.now.parts.items part_bounds.old }
+    ensures tried { OnOk result ((zone : Zone) → get_or division.now.zones.items i zone ≡ zone → IsTriedIn S.covers pad.now place holes.now (IsInZone zone) bests.old bests.new) }
+    ensures part_bounds { OnOk result (AreBounds holes.now bests.new division.now.parts.items part_bounds.new) }
+    ensures bound { IfOk result (λ bound. (zone : Zone) → get_or division.now.zones.items i zone ≡ zone → AskFor holes.now bests.new (IsInZone zone) bound) }
+{
+    try_zone(
+        index,
+        pad,
+        place,
+        holes,
+        &division.zones[i],
+        bound,
+        &division.parts,
+        division.starts[i],
+        division.starts[i + 1],
+        part_bounds,
+        near,
+        bests,
+    )
+}
+
 /// Tries a pad at the holes of all zones, each with what its holes ask at least, and says what all holes ask at least from now on.
 fn try_zones<S: Deep>(
     index: &HoleIndex,
@@ -232,16 +273,14 @@ fn try_zones<S: Deep>(
 {
     let mut least = u64::MAX;
     for i in 0..division.zones.len() {
-        let bound = try_zone(
+        let bound = try_zone_at(
             index,
             pad,
             place,
             holes,
-            &division.zones[i],
+            division,
+            i,
             zone_bounds[i],
-            &division.parts,
-            division.starts[i],
-            division.starts[i + 1],
             part_bounds,
             near,
             bests,
@@ -252,15 +291,13 @@ fn try_zones<S: Deep>(
     Ok(least)
 }
 
-/// Tries a pad at the holes of the board, zone by zone, where it may be better at one of them, and says what these ask at least from now
-/// on.
+/// Tries a pad at the holes of the board, zone by zone, and says what these ask at least from now on.
 fn try_all<S: Deep>(
     index: &HoleIndex,
     pad: &S,
     place: usize,
     holes: &[Drilled],
     division: &Division,
-    least: u64,
     zone_bounds: &mut [u64],
     part_bounds: &mut [u64],
     near: &mut Vec<usize>,
@@ -269,7 +306,6 @@ fn try_all<S: Deep>(
     requires index { IsIndexOf holes.now index.now }
     requires size { length bests.old ≡ length holes.now }
     requires division { IsDivision holes.now division.now }
-    requires least { AskFor holes.now bests.old (IsInZone division.now.whole) least }
     requires zones { length zone_bounds.old ≡ length division.now.zones.items }
     requires zone_bounds { AreBounds holes.now bests.old division.now.zones.items zone_bounds.old }
     requires parts { length part_bounds.old ≡ length division.now.parts.items }
@@ -279,9 +315,6 @@ fn try_all<S: Deep>(
     ensures part_bounds { OnOk result (AreBounds holes.now bests.new division.now.parts.items part_bounds.new) }
     ensures least { IfOk result (AskFor holes.now bests.new (IsInZone division.now.whole)) }
 {
-    if !pad.may_cover(&division.whole, least) {
-        return Ok(least);
-    }
     try_zones(
         index,
         pad,
@@ -307,8 +340,27 @@ fn small_zone<S: Deep>(index: &HoleIndex, pad: &S, most: usize) -> Option<Zone>
     }
 }
 
-/// Tries a pad at the holes that it may cover: at those of its zone where it is small, else zone by zone of the board. Says what the holes
-/// of the board ask at least from now on.
+/// Tries a pad at the holes of a zone.
+fn try_within<S: Deep>(
+    index: &HoleIndex,
+    pad: &S,
+    place: usize,
+    holes: &[Drilled],
+    zone: &Zone,
+    near: &mut Vec<usize>,
+    bests: &mut [Option<Best>],
+) -> Result<(), AllocError>
+    requires index { IsIndexOf holes.now index.now }
+    requires size { length bests.old ≡ length holes.now }
+    ensures { OnOk result (IsTriedIn S.covers pad.now place holes.now (IsInZone zone.now) bests.old bests.new) }
+{
+    index.find(holes, zone, near)?;
+    try_near(pad, place, holes, near, bests);
+    Ok(())
+}
+
+/// Tries a pad at the holes that it may cover, where it may be better at one of the board: at those of its zone where it is small, else zone
+/// by zone of the board. Says what the holes of the board ask at least from now on.
 fn try_pad<S: Deep>(
     index: &HoleIndex,
     pad: &S,
@@ -334,10 +386,12 @@ fn try_pad<S: Deep>(
     ensures part_bounds { OnOk result (AreBounds holes.now bests.new division.now.parts.items part_bounds.new) }
     ensures least { IfOk result (AskFor holes.now bests.new (IsInZone division.now.whole)) }
 {
+    if !pad.may_cover(&division.whole, least) {
+        return Ok(least);
+    }
     match small_zone(index, pad, division.zones.len()) {
         Some(zone) => {
-            index.find(holes, &zone, near)?;
-            try_near(pad, place, holes, near, bests);
+            try_within(index, pad, place, holes, &zone, near, bests)?;
             Ok(least)
         }
         None => try_all(
@@ -346,7 +400,6 @@ fn try_pad<S: Deep>(
             place,
             holes,
             division,
-            least,
             zone_bounds,
             part_bounds,
             near,
@@ -395,6 +448,66 @@ fn try_pads<S: Deep>(
     Ok(())
 }
 
+/// Tries all pads in their order, at holes that have none yet, of which nothing is known.
+fn try_anew<S: Deep>(
+    alloc: Global,
+    index: &HoleIndex,
+    pads: &[S],
+    holes: &[Drilled],
+    division: &Division,
+    bests: &mut [Option<Best>],
+) -> Result<(), AllocError>
+    requires index { IsIndexOf holes.now index.now }
+    requires size { length bests.old ≡ length holes.now }
+    requires division { IsDivision holes.now division.now }
+    requires none { (k : ℕ) → k < length holes.now → get_or bests.old k None ≡ None }
+    ensures { OnOk result ((k : ℕ) → k < length holes.now → IsBestPad S.covers pads.now (hole_at holes.now k) (get_or bests.new k None)) }
+{
+    let mut zone_bounds = vec![in alloc; 0; division.zones.len()]?;
+    let mut part_bounds = vec![in alloc; 0; division.parts.len()]?;
+    try_pads(
+        alloc,
+        index,
+        pads,
+        holes,
+        division,
+        &mut zone_bounds,
+        &mut part_bounds,
+        bests,
+    )
+}
+
+/// The best pad of each hole of an index and of a division.
+fn best_of_division<S: Deep>(
+    alloc: Global,
+    index: &HoleIndex,
+    pads: &[S],
+    holes: &[Drilled],
+    division: &Division,
+) -> Result<Vec<Option<Best>>, AllocError>
+    requires index { IsIndexOf holes.now index.now }
+    requires division { IsDivision holes.now division.now }
+    ensures { IfOk result (λ bests. AreBest S.covers pads.now holes.now bests.items) }
+{
+    let mut bests = vec![in alloc; None; holes.len()]?;
+    try_anew(alloc, index, pads, holes, division, &mut bests)?;
+    Ok(bests)
+}
+
+/// The best pad of each hole of an index.
+fn best_of_index<S: Deep>(
+    alloc: Global,
+    index: &HoleIndex,
+    pads: &[S],
+    holes: &[Drilled],
+) -> Result<Vec<Option<Best>>, AllocError>
+    requires { IsIndexOf holes.now index.now }
+    ensures { IfOk result (λ bests. AreBest S.covers pads.now holes.now bests.items) }
+{
+    let division = divided(alloc, index, holes)?;
+    best_of_division(alloc, index, pads, holes, &division)
+}
+
 /// The best pad of each hole, in the order of the holes.
 ///
 /// # Errors
@@ -409,19 +522,5 @@ pub fn best_pads<S: Deep>(
 {
     let (width, height) = usual_zone(&[pads]);
     let index = HoleIndex::new(alloc, holes, width, height)?;
-    let division = divided(alloc, &index, holes)?;
-    let mut zone_bounds = vec![in alloc; 0; division.zones.len()]?;
-    let mut part_bounds = vec![in alloc; 0; division.parts.len()]?;
-    let mut bests = vec![in alloc; None; holes.len()]?;
-    try_pads(
-        alloc,
-        &index,
-        pads,
-        holes,
-        &division,
-        &mut zone_bounds,
-        &mut part_bounds,
-        &mut bests,
-    )?;
-    Ok(bests)
+    best_of_index(alloc, &index, pads, holes)
 }

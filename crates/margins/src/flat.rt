@@ -1,13 +1,16 @@
 //! Which holes are bare.
 
-ghost use Rattle.std.specs.Prelude.{◌≡◌, map, IfOk};
+ghost use Rattle.std.specs.Prelude.{◌≡◌, ℕ, ◌<◌, false, length, map, IfOk};
+ghost use Rattle.pad_shapes.specs.Zones.{IsInZone};
+ghost use Rattle.ring_rules.specs.Places.{point_at};
 ghost use Rattle.margins.specs.Bests.{AreBare};
 ghost use Rattle.margins.specs.Rows.{has_none};
-ghost use Rattle.margins.specs.Inner.Flats.{flat_covers, flat_holds, flat_holds_slots, flat_between, flat_covers_less};
+ghost use Rattle.margins.specs.Inner.Flats.{CoverNone, flat_covers, flat_holds, flat_holds_slots, flat_between, flat_covers_less};
 
 use crate::best::Best;
 use crate::bests::best_pads;
 use crate::deep::Deep;
+use crate::parts::zone_of_all;
 use grid_units::Point;
 use pad_shapes::{PadShape, Zone};
 use ring_rules::Drilled;
@@ -85,8 +88,47 @@ fn nones(alloc: Global, bests: &[Option<Best>]) -> Result<Vec<bool>, AllocError>
     bests.iter().map(|best| best.is_none()).collect(alloc)
 }
 
+/// Whether a pad of some may cover a point of a zone. `true` says nothing.
+fn may_cover_one<S: Deep>(pads: &[S], zone: &Zone) -> bool
+    ensures { result ≡ false → CoverNone S.covers pads.now (length pads.now) zone.now }
+{
+    for pad in pads {
+        if pad.may_cover(zone, 0) {
+            return true;
+        }
+    }
+    false
+}
+
+/// That each of some holes is bare, where no pad covers a point of a zone that holds them.
+fn all_bare<S: Deep>(
+    alloc: Global,
+    pads: &[S],
+    holes: &[Drilled],
+    zone: &Zone,
+) -> Result<Vec<bool>, AllocError>
+    requires holds { (k : ℕ) → k < length holes.now → IsInZone zone.now (point_at holes.now k) }
+    requires none { CoverNone S.covers pads.now (length pads.now) zone.now }
+    ensures { IfOk result (λ bare. AreBare S.covers pads.now holes.now bare.items) }
+{
+    vec![in alloc; true; holes.len()]
+}
+
+/// Whether each of some holes is bare, by the shapes in which nothing lies deep.
+fn bare_by_flats<S: Deep + Copy>(
+    alloc: Global,
+    pads: &[S],
+    holes: &[Drilled],
+) -> Result<Vec<bool>, AllocError>
+    ensures { IfOk result (λ bare. AreBare S.covers pads.now holes.now bare.items) }
+{
+    let flats = flats(alloc, pads)?;
+    let bests = best_pads(alloc, &flats, holes)?;
+    nones(alloc, &bests)
+}
+
 /// Whether each of some holes is bare, in their order: an oblique slot, or covered by no pad at both ends with any reach. That is what
-/// `best_pads` tells too; here nothing is asked of a hole again once a pad covers it.
+/// `best_pads` tells too; here nothing is asked of a hole again once a pad covers it, and no shape is copied where none is near.
 ///
 /// # Errors
 ///
@@ -98,7 +140,10 @@ pub fn bare_holes<S: Deep + Copy>(
 ) -> Result<Vec<bool>, AllocError>
     ensures { IfOk result (λ bare. AreBare S.covers pads.now holes.now bare.items) }
 {
-    let flats = flats(alloc, pads)?;
-    let bests = best_pads(alloc, &flats, holes)?;
-    nones(alloc, &bests)
+    let zone = zone_of_all(holes);
+    if may_cover_one(pads, &zone) {
+        bare_by_flats(alloc, pads, holes)
+    } else {
+        all_bare(alloc, pads, holes, &zone)
+    }
 }

@@ -1,7 +1,7 @@
 //! What is found of rings, by the best pads of the holes.
 
-ghost use Rattle.std.specs.Prelude.{◌≡◌, ◌<◌, [], length, map, get_or, IfOk};
-ghost use Rattle.ring_rules.specs.Findings.{is_ring_finding, ring_findings};
+ghost use Rattle.std.specs.Prelude.{◌≡◌, ◌<◌, ◌++◌, [], length, map, get_or, IfOk, OnOk};
+ghost use Rattle.ring_rules.specs.Findings.{is_ring_finding, layer_findings, ring_findings};
 ghost use Rattle.margins.specs.Bests.{AreBest, AreBestOn};
 ghost use Rattle.margins.specs.Inner.Lacking.{is_short, falls_short};
 
@@ -49,6 +49,23 @@ fn lacking_by<S: Deep>(
     Ok(lacking)
 }
 
+/// Appends what is found on a layer, by the best pads of the holes there.
+fn add_lacking<S: Deep>(
+    alloc: Global,
+    findings: &mut Vec<Finding>,
+    layers: &[&[S]],
+    layer: usize,
+    bests: &[Option<Best>],
+    holes: &[Drilled],
+    rules: Rules,
+) -> Result<(), AllocError>
+    requires { AreBest S.covers (get_or (map (λ pads. pads.now) layers.now) layer []) holes.now bests.now }
+    ensures { OnOk result (findings.new.items ≡ findings.old.items ++ layer_findings S.covers rules.ring holes.now layer (get_or (map (λ pads. pads.now) layers.now) layer [])) }
+{
+    let lacking = lacking_by(alloc, layers, layer, bests, holes, rules)?;
+    layer_findings(findings, layer, holes, &lacking)
+}
+
 /// What [`ring_rules::ring_findings`] finds, by the best pads of the holes on each layer: no pad is looked at again.
 ///
 /// # Errors
@@ -66,8 +83,7 @@ pub fn ring_findings_by<S: Deep>(
 {
     let mut findings = Vec::new(alloc);
     for (layer, its) in bests.iter().enumerate() {
-        let lacking = lacking_by(alloc, layers, layer, its, holes, rules)?;
-        layer_findings(&mut findings, layer, holes, &lacking)?;
+        add_lacking(alloc, &mut findings, layers, layer, its, holes, rules)?;
     }
     Ok(findings)
 }

@@ -30,6 +30,3 @@ pub use met::{
 };
 pub use nearest::{Nearest, nearest_holes};
 pub use row::{LeastRing, RingRow, ring_row};
-
-#[cfg(test)]
-mod tests;

@@ -9,7 +9,7 @@ ghost use Rattle.std.specs.Prelude.{◌≡◌, ◌+◌, ◌<◌, ◌≤◌, ◌+
 ghost use Rattle.ring_rules.specs.Near.{IsGapBound};
 ghost use Rattle.ring_rules.specs.Places.{hole_at};
 ghost use Rattle.margins.specs.Gaps.{IsGap};
-ghost use Rattle.margins.specs.Nearness.{IsNoFurther, IsNearestOf, IsPair};
+ghost use Rattle.margins.specs.Nearness.{IsNoFurther, IsNearest, IsNearestOf, IsPair};
 ghost use Rattle.margins.specs.Inner.Nearness.{IsPossible, IsPairAt, IsHeld, IsTried, AreTried, IsPrefix, IsAsked, AreAsked, AreAskedLater};
 
 use crate::gap::{gap_between, has_gap};
@@ -203,6 +203,26 @@ fn later_asked(
     Ok(nearest)
 }
 
+/// One of the nearest pairs of a list. Others at the same gap may come before it.
+fn one_nearest(alloc: Global, holes: &[Drilled]) -> Result<Nearest, AllocError>
+    requires { 2 ≤ length holes.now }
+    ensures { IfOk result (AreAsked holes.now (length holes.now)) }
+{
+    let mut near = Vec::new(alloc);
+    let all = prefix_of(alloc, holes, holes.len())?;
+    all_asked(&all, holes, &mut near, pair_at(holes, 0, 1))
+}
+
+/// The first of the nearest pairs of a list, by one of them.
+fn first_nearest(alloc: Global, holes: &[Drilled], nearest: Nearest) -> Result<Nearest, AllocError>
+    requires { AreAsked holes.now (length holes.now) nearest }
+    ensures { IfOk result (IsNearest holes.now (IsPair holes.now)) }
+{
+    let mut near = Vec::new(alloc);
+    let early = prefix_of(alloc, holes, nearest.first + 1)?;
+    later_asked(&early, holes, &mut near, nearest)
+}
+
 /// The two holes with the least gap, by the first and then by the second of them among equals. There are none where there are
 /// fewer than two holes.
 ///
@@ -215,10 +235,6 @@ pub fn nearest_holes(alloc: Global, holes: &[Drilled]) -> Result<Option<Nearest>
     if holes.len() < 2 {
         return Ok(None);
     }
-    let mut near = Vec::new(alloc);
-    let all = prefix_of(alloc, holes, holes.len())?;
-    let nearest = all_asked(&all, holes, &mut near, pair_at(holes, 0, 1))?;
-    let early = prefix_of(alloc, holes, nearest.first + 1)?;
-    let nearest = later_asked(&early, holes, &mut near, nearest)?;
-    Ok(Some(nearest))
+    let nearest = one_nearest(alloc, holes)?;
+    Ok(Some(first_nearest(alloc, holes, nearest)?))
 }

@@ -1,6 +1,6 @@
 //! The zones in which the holes of a board go in, each cut into parts of few holes.
 
-ghost use Rattle.std.specs.Prelude.{◌≡◌, ℕ, ◌≤◌, ◌<◌, length, get_or, IfOk, OnOk};
+ghost use Rattle.std.specs.Prelude.{◌≡◌, ℕ, ◌≤◌, ◌<◌, [], ◌∷◌, ◌++◌, length, get_or, IfOk, OnOk};
 ghost use Rattle.std.specs.List.{All};
 ghost use Rattle.grid_units.specs.Points.{GridPoint};
 ghost use Rattle.pad_shapes.specs.Zones.{IsInZone};
@@ -75,6 +75,17 @@ fn hull_of(zones: &[Zone]) -> Zone
     whole
 }
 
+/// A zone that holds where each hole goes in.
+pub(crate) fn zone_of_all(holes: &[Drilled]) -> Zone
+    ensures { (k : ℕ) → k < length holes.now → IsInZone result (point_at holes.now k) }
+{
+    let mut whole = no_zone();
+    for drilled in holes {
+        whole = hull(whole, zone_of(drilled.hole.from()));
+    }
+    whole
+}
+
 /// A zone that holds where those holes go in whose places stand in a list from one place to below another.
 fn part_of(holes: &[Drilled], near: &[usize], start: usize, end: usize) -> Zone
     requires near { All (λ k. k < length holes.now) near.now }
@@ -113,28 +124,48 @@ fn add_parts(holes: &[Drilled], near: &[usize], parts: &mut Vec<Zone>) -> Result
     Ok(())
 }
 
-/// Zones that hold where the holes of an index go in, with their parts.
+/// Appends the parts of a zone, and where they end.
+fn add_cut(
+    alloc: Global,
+    index: &HoleIndex,
+    holes: &[Drilled],
+    zone: &Zone,
+    starts: &mut Vec<usize>,
+    parts: &mut Vec<Zone>,
+) -> Result<(), AllocError>
+    requires { IsIndexOf holes.now index.now }
+    ensures starts { OnOk result (starts.new.items ≡ starts.old.items ++ length parts.new.items ∷ []) }
+    ensures longer { OnOk result (length parts.old.items ≤ length parts.new.items) }
+    ensures kept { OnOk result ((first last : ℕ) (p : GridPoint) → IsInSome parts.old.items first last p → IsInSome parts.new.items first last p) }
+    ensures holds { OnOk result ((k : ℕ) → k < length holes.now → IsInZone zone.now (point_at holes.now k) → IsInSome parts.new.items (length parts.old.items) (length parts.new.items) (point_at holes.now k)) }
+{
+    let mut near = Vec::new(alloc);
+    index.find(holes, zone, &mut near)?;
+    add_parts(holes, &near, parts)?;
+    starts.push(parts.len())?;
+    Ok(())
+}
+
+/// Zones that hold where the holes of an index go in, with their parts and a zone that holds all of them.
 fn cut(
     alloc: Global,
     index: &HoleIndex,
     holes: &[Drilled],
+    whole: Zone,
     zones: Vec<Zone>,
 ) -> Result<Division, AllocError>
     requires index { IsIndexOf holes.now index.now }
+    requires whole { (p : GridPoint) → IsInOneOf zones.items p → IsInZone whole p }
     requires zones { (k : ℕ) → k < length holes.now → IsInOneOf zones.items (point_at holes.now k) }
     ensures { IfOk result (IsDivision holes.now) }
 {
-    let mut near = Vec::new(alloc);
     let mut parts = Vec::new(alloc);
-    let mut starts = Vec::new(alloc);
-    starts.push(0)?;
+    let mut starts = vec![in alloc; 0]?;
     for zone in &zones {
-        index.find(holes, zone, &mut near)?;
-        add_parts(holes, &near, &mut parts)?;
-        starts.push(parts.len())?;
+        add_cut(alloc, index, holes, zone, &mut starts, &mut parts)?;
     }
     Ok(Division {
-        whole: hull_of(&zones),
+        whole,
         zones,
         starts,
         parts,
@@ -151,5 +182,5 @@ pub(crate) fn divided(
     ensures { IfOk result (IsDivision holes.now) }
 {
     let zones = index.zones(alloc, holes)?;
-    cut(alloc, index, holes, zones)
+    cut(alloc, index, holes, hull_of(&zones), zones)
 }

@@ -1,43 +1,108 @@
 -- The lines of drill files whose coordinates seem to be off by a factor.
-use Rattle.std.proofs.Common.{◌≡◌, ℕ, ◌+◌, ◌-◌, ◌<◌, ◌≤◌, inl, inr, true, Option, Some, None, List, [], ◌∷◌, ◌++◌, length, get_or, refl, sym, subst, ap, ◌∙◌, arith}
+use Rattle.std.proofs.Common.{◌≡◌, ℕ, ◌+◌, ◌-◌, ◌<◌, ◌≤◌, inl, inr, Bool, true, false, Option, Some, None, List, [], ◌∷◌, ◌++◌, length, take, drop, get_or, refl, sym, subst, ap, ◌∙◌, arith}
+use Rattle.std.specs.Prelude.{if◌then◌else◌}
 use Rattle.std.specs.List.{slice_range}
-use Rattle.std.proofs.lemmas.Bool.{cases_lt}
-use Rattle.std.proofs.lemmas.List.{append-nil, get_or_append_left, get_or-append_right, length-append}
+use Rattle.std.proofs.lemmas.Bool.{cases_lt, false≢true}
+use Rattle.std.proofs.lemmas.List.{append-nil, get_or_append_left, get_or_default, get_or-append_right, length-append}
 use Rattle.std.proofs.lemmas.List.Elements.{Contains-append_left, Contains-append_right}
 use Rattle.pad_shapes.specs.declared.pad.Pad.{Pad}
 use Rattle.ring_rules.specs.declared.finding.Drilled.{Drilled}
 use Rattle.margin_text.specs.declared.ScaleLine.{ScaleLine}
-use Rattle.scales.specs.Scales.{IsScale, IsScaleLine}
+use Rattle.scales.specs.Scales.{AreFileStretches, IsScale, IsScaleLine, bare_count}
+use Rattle.scales.specs.Scales as scales
+use Rattle.scales.specs.declared.line.FileStretch.{FileStretch}
 use Rattle.scales.proofs.Choosing.{one_scale}
 use Rattle.package_check.specs.Boards.{Survey}
 use Rattle.package_check.specs.declared.FileSum.{FileSum}
+use Rattle.package_check.specs.declared.FileSum.TheVariants as sum
 use Rattle.measuring.specs.Rows.{holes_before}
 use Rattle.measuring.specs.Scaling.{AreScaleLines, IsScaleOf, first_pads, holes_in, is_plated}
-use Rattle.measuring.specs.Inner.Tables.{IsScaleLineOf, IsStretch, listed}
-use Rattle.measuring.specs.declared.rows.Stretch.{Stretch}
+use Rattle.measuring.specs.Inner.Tables.{AreAsked, AreFound, IsAsked, IsScaleLineOf, listed}
 use Rattle.measuring.proofs.Joining.{pairs_join}
 
 module _ (board : Survey) where
-  -- the line of the scale of the holes of a plated drill file is its line
-  pub plated_line : (stretch : Stretch) (file : FileSum) (pads : List Pad) (line : Option ScaleLine) → IsStretch board stretch → stretch.drill < length board.files → 0 < length board.layers
-      → ((d : FileSum) → get_or board.files stretch.drill d ≡ file) → is_plated file ≡ true → pads ≡ first_pads board → IsScaleLine pads (slice_range board.holes stretch.start stretch.end) stretch.drill line → IsScaleLineOf board stretch.drill line
-  plated_line stretch file pads line is inside layer at plated first scale =
-      by line (subst (λ (ps : List Pad). IsScaleLine ps (holes_in board stretch.drill) stretch.drill line) first (subst (λ (hs : List Drilled). IsScaleLine pads hs stretch.drill line) here scale))
+  -- the line of the holes of a plated drill file is its line, and another file has none
+  pub found_line : (drill : ℕ) (asked : FileStretch) (pads : List Pad) (line : Option ScaleLine) → IsAsked board drill asked → drill < length board.files → 0 < length board.layers → pads ≡ first_pads board
+      → IsScaleLine pads (slice_range board.holes asked.start asked.end) asked.drill line → IsScaleLineOf board drill line
+  found_line drill asked pads line is inside layer first scale =
+      by (is_plated (get_or board.files drill nothing)) refl line
+      (subst (λ (ps : List Pad). IsScaleLine ps (slice_range board.holes asked.start asked.end) drill line) first (subst (λ (n : ℕ). IsScaleLine pads (slice_range board.holes asked.start asked.end) n line) is.file scale))
     where
-      here : slice_range board.holes stretch.start stretch.end ≡ holes_in board stretch.drill
-      here = ap (λ (n : ℕ). slice_range board.holes n stretch.end) is.starts ∙ ap (slice_range board.holes (holes_before board.files stretch.drill)) is.ends
+      nothing : FileSum
+      nothing = sum.Layer 0 0
 
-      by : (l : Option ScaleLine) → IsScaleLine (first_pads board) (holes_in board stretch.drill) stretch.drill l → IsScaleLineOf board stretch.drill l
-      by None none = λ line at scale. none line (subst (λ (n : ℕ). IsScale (first_pads board) (holes_in board n) line) at scale.scale)
-      by (Some line) told = (
+      own : is_plated (get_or board.files drill nothing) ≡ true → slice_range board.holes asked.start asked.end ≡ holes_in board drill
+      own plated =
+          let ends : asked.end ≡ holes_before board.files (drill + 1) = is.ends nothing ∙ ap (λ (t : Bool). if t then holes_before board.files (drill + 1) else asked.start) plated in
+          λ k. slice_range board.holes (is.starts k) (ends k)
+
+      empty : is_plated (get_or board.files drill nothing) ≡ false → slice_range board.holes asked.start asked.end ≡ []
+      empty other =
+          let ends : asked.end ≡ asked.start = is.ends nothing ∙ ap (λ (t : Bool). if t then holes_before board.files (drill + 1) else asked.start) other in
+          ap (λ (n : ℕ). take n (drop asked.start board.holes)) (let none : asked.end - asked.start ≡ 0 = omega (arith, ends) in none)
+
+      by : (t : Bool) → is_plated (get_or board.files drill nothing) ≡ t → (l : Option ScaleLine) → IsScaleLine (first_pads board) (slice_range board.holes asked.start asked.end) drill l → IsScaleLineOf board drill l
+      by true plated None none = λ line at scale.
+          none line (subst (λ (hs : List Drilled). IsScale (first_pads board) hs line) (sym (own plated)) (subst (λ (n : ℕ). IsScale (first_pads board) (holes_in board n) line) at scale.scale))
+      by true plated (Some line) told = (
         record {
           layer = layer;
           inside = subst (λ (n : ℕ). n < length board.files) (sym told.1) inside;
-          plated = λ d. ap is_plated (ap (λ (n : ℕ). get_or board.files n d) told.1 ∙ at d) ∙ plated;
-          scale = subst (λ (n : ℕ). IsScale (first_pads board) (holes_in board n) line) (sym told.1) told.0;
+          plated = λ d. ap is_plated (ap (λ (n : ℕ). get_or board.files n d) told.1 ∙ get_or_default board.files drill d nothing inside) ∙ plated;
+          scale = subst (λ (n : ℕ). IsScale (first_pads board) (holes_in board n) line) (sym told.1) (subst (λ (hs : List Drilled). IsScale (first_pads board) hs line) (own plated) told.0);
         },
         told.1,
       )
+      by false other None none = λ line at scale. false≢true (sym other ∙ (get_is line at ∙ scale.plated nothing))
+        where
+          get_is : (line : ScaleLine) → line.drill ≡ drill → is_plated (get_or board.files drill nothing) ≡ is_plated (get_or board.files line.drill nothing)
+          get_is line at = ap (λ (n : ℕ). is_plated (get_or board.files n nothing)) (sym at)
+      by false other (Some line) told = absurd (
+          let scale = subst (λ (hs : List Drilled). IsScale (first_pads board) hs line) (empty other) told.0 in
+          let most = scale.most in
+          let bare = scale.bare in
+          let none : bare_count (first_pads board) [] ≡ 0 = refl in
+          omega (arith, most, bare, none))
+
+  -- the holes of the files that are asked stand in the list
+  pub asked_fit : (asked : List FileStretch) → AreAsked board (length board.files) asked → AreFileStretches board.holes asked
+  asked_fit asked are = λ k d l. (let size = are.size in let is = are.each k d (omega (arith, l, size)) in (is.ordered, is.inside))
+
+  -- each file has its line, or none
+  pub all_found : (asked : List FileStretch) (pads : List Pad) (found : List (Option ScaleLine)) → AreAsked board (length board.files) asked → 0 < length board.layers → pads ≡ first_pads board
+      → scales.AreScaleLines pads board.holes asked found → AreFound board found
+  all_found asked pads found are layer first is = record {
+    size = is.size ∙ are.size;
+    each = λ k d l. (let size = are.size in found_line k (get_or asked k nothing) pads (get_or found k d) (are.each k nothing l) l layer first (is.each k nothing d (omega (arith, l, size))));
+  }
+    where
+      nothing : FileStretch
+      nothing = record { drill = 0; start = 0; end = 0 }
+
+  -- one more file whose scale is asked
+  pub asked_more : (count : ℕ) (old all : List FileStretch) (asked : FileStretch) → all ≡ old ++ asked ∷ [] → IsAsked board count asked → AreAsked board count old → AreAsked board (count + 1) all
+  asked_more count old all asked is more was = subst (AreAsked board (count + 1)) (sym is) (record {
+    size = (let size = length-append old (asked ∷ []) in let few = was.size in omega (arith, size, few));
+    each = λ k d l. elim (cases_lt k count) [
+      | inl low ↦ subst (IsAsked board k) (sym (get_or_append_left old (asked ∷ []) d k (let few = was.size in omega (arith, low, few)))) (was.each k d low)
+      | inr high ↦ subst (IsAsked board k) (sym (last k d high l)) (subst (λ (n : ℕ). IsAsked board n asked) (let here : count ≡ k = omega (arith, high, l) in here) more)
+    ];
+  })
+    where
+      last : (k : ℕ) (d : FileStretch) → count ≤ k → k < count + 1 → get_or (old ++ asked ∷ []) k d ≡ asked
+      last k d high l =
+          let few = was.size in
+          let far : length old ≤ k = omega (arith, high, few) in
+          let first : k - length old ≡ 0 = omega (arith, l, few) in
+          get_or-append_right old (asked ∷ []) (length old) k d refl far ∙ ap (λ (n : ℕ). get_or (asked ∷ []) n d) first
+
+  -- the lines of all files
+  pub all_files : (count : ℕ) (lines : List ScaleLine) → length board.files ≤ count → AreScaleLines board count lines → AreScaleLines board (length board.files) lines
+  all_files count lines past is = record {
+    each = λ i d l. (let e = is.each i d l in (e.1.inside, e.1));
+    sorted = is.sorted;
+    all = λ line l scale. is.all line (omega (arith, l, past)) scale;
+  }
 
   pub no_file_yet : AreScaleLines board 0 []
   no_file_yet = record {

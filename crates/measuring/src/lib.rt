@@ -13,6 +13,3 @@ mod scaling;
 
 pub use measure::{Measure, measure_board, measure_bytes, measure_with_bests};
 pub use places::{FileHoles, filled_files, place_among, place_of};
-
-#[cfg(test)]
-mod tests;

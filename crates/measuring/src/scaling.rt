@@ -4,7 +4,7 @@ ghost use Rattle.std.specs.Prelude.{◌≡◌, ◌++◌, ◌<◌, length, IfOk, 
 ghost use Rattle.pad_shapes.specs.Pads.{pad_covers};
 ghost use Rattle.margins.specs.Bests.{AreBest};
 ghost use Rattle.measuring.specs.Scaling.{AreScaleLines, first_pads, is_plated};
-ghost use Rattle.measuring.specs.Inner.Tables.{IsScaleLineOf, IsStretch, listed};
+ghost use Rattle.measuring.specs.Inner.Tables.{AreAsked, AreFound, IsAsked, IsStretch, listed};
 
 use crate::places::end_of;
 use crate::rows::Stretch;
@@ -12,7 +12,7 @@ use margin_text::ScaleLine;
 use margins::Best;
 use package_check::{Board, FileSum};
 use pad_shapes::Pad;
-use scales::scale_line;
+use scales::FileStretch;
 use std::alloc::{AllocError, Global};
 
 /// Whether a file is a drill file of plated holes.
@@ -22,31 +22,43 @@ fn is_plated(file: &FileSum) -> bool
     matches!(file, FileSum::Drill { plated: true, .. })
 }
 
-/// The line of a drill file, by the pads of the first layer and the best of them for each hole of the board.
-fn line_of(
-    alloc: Global,
-    board: &Board,
-    pads: &[Pad],
-    bests: &[Option<Best>],
-    stretch: &Stretch,
-) -> Result<Option<ScaleLine>, AllocError>
-    requires stretch { IsStretch board.now stretch.now }
-    requires bests { AreBest pad_covers pads.now board.now.holes bests.now }
-    requires pads { pads.now ≡ first_pads board.now }
-    requires layer { 0 < length board.now.layers }
+/// Where the holes of a file stand in the list of all holes, where they are plated; of another file none.
+fn asked_of(board: &Board, stretch: &Stretch) -> FileStretch
     requires inside { stretch.now.drill < length board.now.files }
-    ensures { IfOk result (IsScaleLineOf board.now stretch.now.drill) }
+    requires stretch { IsStretch board.now stretch.now }
+    ensures { IsAsked board.now stretch.now.drill result }
 {
-    if !is_plated(&board.files()[stretch.drill]) {
-        return Ok(None);
+    let end = if is_plated(&board.files()[stretch.drill]) {
+        stretch.end
+    } else {
+        stretch.start
+    };
+    FileStretch {
+        drill: stretch.drill,
+        start: stretch.start,
+        end,
     }
-    scale_line(
-        alloc,
-        stretch.drill,
-        pads,
-        &board.holes()[stretch.start..stretch.end],
-        &bests[stretch.start..stretch.end],
-    )
+}
+
+/// Where the holes of each file stand whose scale is asked.
+fn all_asked(alloc: Global, board: &Board) -> Result<Vec<FileStretch>, AllocError>
+    ensures { IfOk result (λ asked. AreAsked board.now (length board.now.files) asked.items) }
+{
+    let files = board.files();
+    let mut asked = Vec::new(alloc);
+    let mut start = 0;
+    for drill in 0..files.len() {
+        let end = end_of(board, drill, start);
+        let stretch = Stretch {
+            layer: 0,
+            drill,
+            start,
+            end,
+        };
+        asked.push(asked_of(board, &stretch))?;
+        start = end;
+    }
+    Ok(asked)
 }
 
 /// Appends a line, if there is one.
@@ -57,6 +69,22 @@ fn push_line(lines: &mut Vec<ScaleLine>, line: Option<ScaleLine>) -> Result<(), 
         lines.push(line)?;
     }
     Ok(())
+}
+
+/// Those of these lines that there are, in their order.
+fn all_listed(
+    alloc: Global,
+    board: &Board,
+    found: &[Option<ScaleLine>],
+) -> Result<Vec<ScaleLine>, AllocError>
+    requires { AreFound board.now found.now }
+    ensures { IfOk result (λ lines. AreScaleLines board.now (length board.now.files) lines.items) }
+{
+    let mut lines = Vec::new(alloc);
+    for line in found {
+        push_line(&mut lines, *line)?;
+    }
+    Ok(lines)
 }
 
 /// The lines of scales of a board, by the pads of its first layer and the best of these for each hole.
@@ -71,20 +99,7 @@ pub(crate) fn scale_lines(
     requires layer { 0 < length board.now.layers }
     ensures { IfOk result (λ lines. AreScaleLines board.now (length board.now.files) lines.items) }
 {
-    let files = board.files();
-    let mut lines = Vec::new(alloc);
-    let mut start = 0;
-    for drill in 0..files.len() {
-        let end = end_of(board, drill, start);
-        let stretch = Stretch {
-            layer: 0,
-            drill,
-            start,
-            end,
-        };
-        let line = line_of(alloc, board, pads, bests, &stretch)?;
-        push_line(&mut lines, line)?;
-        start = end;
-    }
-    Ok(lines)
+    let asked = all_asked(alloc, board)?;
+    let found = scales::scale_lines(alloc, pads, board.holes(), bests, &asked)?;
+    all_listed(alloc, board, &found)
 }

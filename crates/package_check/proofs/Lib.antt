@@ -5,10 +5,10 @@ pub mod Passing
 pub mod Places
 pub mod Same
 pub mod Unique
+pub mod Existence
 pub mod Once
 pub mod Answering
 pub mod Lining
-pub mod Rewritten
 pub mod Joining
 pub mod Straight
 pub mod Taking

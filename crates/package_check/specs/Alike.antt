@@ -21,10 +21,18 @@ AllSayTheSame (x ∷ xs) (y ∷ ys) = SayTheSame x y × AllSayTheSame xs ys
 abbrev pub AnswersTheSame : Type 0
 AnswersTheSame = (xs ys : List Source) (rules : GridRules) (answer : Result Account (ℕ × Fault)) → AllSayTheSame xs ys → IsAnswer xs rules answer ↔ IsAnswer ys rules answer
 
--- a file says one thing, or has one fault (docs/DEFINITIONS.md, Packages)
+-- a file says at most one thing, or has at most one fault, and not both (docs/DEFINITIONS.md, Packages)
 abbrev pub OneReading : Type 0
 OneReading = (source : Source) (a b : Result Content Fault) → Reads source a → Reads source b → a ≡ b
 
--- a package has one answer (docs/DEFINITIONS.md, Packages)
+-- a file says something, or has a fault (docs/DEFINITIONS.md, Packages)
+abbrev pub SomeReading : Type 0
+SomeReading = (source : Source) → (answer : Result Content Fault) × Reads source answer
+
+-- a package has an answer (docs/DEFINITIONS.md, Packages)
+abbrev pub SomeAnswer : Type 0
+SomeAnswer = (sources : List Source) (rules : GridRules) → (answer : Result Account (ℕ × Fault)) × IsAnswer sources rules answer
+
+-- a package has at most one answer (docs/DEFINITIONS.md, Packages)
 abbrev pub OneAnswer : Type 0
 OneAnswer = (sources : List Source) (rules : GridRules) (a b : Result Account (ℕ × Fault)) → IsAnswer sources rules a → IsAnswer sources rules b → a ≡ b

@@ -6,6 +6,5 @@ pub mod Readers
 pub mod Reports
 pub mod Soundness
 pub mod Texts
-pub mod Rewriting
 pub mod Pieces
 pub mod Holding

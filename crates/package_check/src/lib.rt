@@ -77,6 +77,3 @@ pub struct Numbered {
     pub number: usize,
     pub drilled: Drilled,
 }
-
-#[cfg(test)]
-mod tests;

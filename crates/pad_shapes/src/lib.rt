@@ -18,6 +18,3 @@ pub use pad::Pad;
 pub use rect::Rect;
 pub use shape::{MAX_HALF_SIDE, PadShape};
 pub use zone::Zone;
-
-#[cfg(test)]
-mod tests;

@@ -9,6 +9,3 @@ mod parts;
 
 pub use lengths::{push_mm, push_short_mm, push_words};
 pub use parts::{Cut, buffer, make_room, pass_on};
-
-#[cfg(test)]
-mod tests;

@@ -11,8 +11,11 @@ use Rattle.std.proofs.lemmas.Slice.Eq.{bytes_eq-Decides}
 use Rattle.grid_units.specs.Lists.{positions_after}
 use Rattle.proposals.specs.declared.outcome.Named.{Named}
 use Rattle.proposals.specs.declared.outcome.Proposal.{Proposal}
-use Rattle.proposals.specs.Manifests.{is_kept}
-use Rattle.proposals.specs.Proposing.{is_named, name_of, once, proposal, proposals, unless_named}
+use Rattle.proposals.specs.Manifests.{is_copper, is_kept, span_in}
+use Rattle.proposals.specs.Proposing.{by_itself, is_named, name_of, once, proposal, proposals, unless_named}
+use Rattle.proposals.specs.Stack.{are_clear, is_stack, settled}
+use Rattle.proposals.specs.declared.outcome.Proposed.TheVariants.{Undecided}
+use Rattle.proposals.specs.declared.outcome.Because.TheVariants as because
 use Rattle.proposals.proofs.Counts.{count_filter, count_hit, count_miss, count_of_map}
 use Rattle.proposals.proofs.Labels.{IsOnce, has_name}
 
@@ -58,8 +61,17 @@ at_most name first (file ∷ files) = by (at_most name (first ++ file ∷ []) fi
     by more false true k = omega (arith, count_hit (asks name) file (after (first ++ file ∷ []) files) k, absent name (first ++ file ∷ []) files (joined name first file k))
     by more false false k = omega (arith, count_miss (asks name) file (after (first ++ file ∷ []) files) k, more)
 
+same_file : (ps : List Proposal) (p : Proposal) → (settled ps p).file ≡ p.file
+same_file ps p = by (are_clear (is_stack ps) (count_by is_copper ps) (span_in p.role))
+  where
+    by : (b : Bool) → (if b then p else record { file = p.file; role = Undecided; because = because.UnclearLayers }).file ≡ p.file
+    by true = refl
+    by false = refl
+
 -- the files of a manifest in its order
 pub names_once : (files : List Named) (entries : List Proposal) → IsPermutation (filter is_kept (proposals files)) entries → IsOnce entries
 names_once files entries same name =
-    let all : count_by (has_name name) (proposals files) ≡ count_by (asks name) (once files) = count_of_map proposal (has_name name) (once files) in
-    omega (arith, all, at_most name [] files, count_filter (has_name name) is_kept (proposals files), sum_by-IsPermutation (λ (p : Proposal). cond (has_name name p) 1 0) (filter is_kept (proposals files)) entries same)
+    let same_names : count_by (has_name name) (proposals files) ≡ count_by (has_name name) (by_itself files) =
+    count_of_map (settled (by_itself files)) (has_name name) (by_itself files) ∙ ap (λ (t : Proposal → Bool). count_by t (by_itself files)) (λ i p. bytes_eq (same_file (by_itself files) p i) name) in
+    let all : count_by (has_name name) (by_itself files) ≡ count_by (asks name) (once files) = count_of_map proposal (has_name name) (once files) in
+    omega (arith, same_names, all, at_most name [] files, count_filter (has_name name) is_kept (proposals files), sum_by-IsPermutation (λ (p : Proposal). cond (has_name name p) 1 0) (filter is_kept (proposals files)) entries same)

@@ -1,11 +1,12 @@
 -- What is not left out.
 use Rattle.std.proofs.Common.{◌≡◌, ◌∙◌, ◌||◌, ◌&&◌, ℕ, Bool, true, false, not, List, Option, Some, None, unwrap_or, refl, ap}
 use Rattle.std.specs.Prelude.{if◌then◌else◌}
+use Rattle.std.specs.List.{count_by}
 use Rattle.std.specs.Option.{option_or, option_map}
 use Rattle.file_hints.specs.declared.contents.Kind.{Kind}
 use Rattle.file_hints.specs.declared.contents.Kind.TheVariants.{Gerber, Drill}
 use Rattle.proposals.specs.declared.outcome.Place.{Place}
-use Rattle.proposals.specs.declared.outcome.Place.TheVariants.{Numbered, Unknown, Bottom}
+use Rattle.proposals.specs.declared.outcome.Place.TheVariants.{Top, Unknown, Bottom}
 use Rattle.proposals.specs.declared.outcome.Layers.{Layers}
 use Rattle.proposals.specs.declared.outcome.Proposed.TheVariants.{Copper, Plated, Unplated, Undecided, LeftOut}
 use Rattle.proposals.specs.declared.outcome.Because.TheVariants as because
@@ -13,7 +14,9 @@ use Rattle.file_hints.specs.Contents.{field, function_of, kind_of, has_line, pla
 use Rattle.file_hints.specs.Names.{end_of, has_point, stem_of, words_of, numbered, inner_ends, inner_words, last_word, ends_in_copper, names_unplated}
 use Rattle.proposals.specs.Deciding.{Decision, by_kind, copper_at, decision, drill_by_function, drill_by_lines, drill_by_name, gerber_by_function, gerber_by_words, inner_copper, no_copper, said, span_of, stack_place}
 use Rattle.proposals.specs.Keeping.{are_other_words, is_other_function, names_no_copper}
-use Rattle.proposals.specs.Manifests.{stands}
+use Rattle.proposals.specs.Manifests.{is_copper, span_in, stands}
+use Rattle.proposals.specs.Stack.{are_clear, is_stack, settled}
+use Rattle.proposals.specs.declared.outcome.Proposal.{Proposal}
 
 -- ---- drill files
 
@@ -63,8 +66,8 @@ function_kept false true p f = refl
 function_kept false false p f = refl
 
 words_kept : (p o t b : Bool) (n : Option ℕ) (x u v : Bool) (m : Option ℕ) (d : Bool)
-    → (stands (unwrap_or (option_or (if p then Some (let y : Decision = (Undecided, because.Plane) in y) else (if o then no_copper else (if t then copper_at (Numbered 0) else (if b then copper_at Bottom else inner_copper n))))
-    (if x then no_copper else (if u then copper_at (Numbered 0) else (if v then copper_at Bottom else option_or (inner_copper m) (if d then copper_at Unknown else None))))) (Undecided, because.NothingSays)).0 || (o || x)) ≡ true
+    → (stands (unwrap_or (option_or (if p then Some (let y : Decision = (Undecided, because.Plane) in y) else (if o then no_copper else (if t then copper_at Top else (if b then copper_at Bottom else inner_copper n))))
+    (if x then no_copper else (if u then copper_at Top else (if v then copper_at Bottom else option_or (inner_copper m) (if d then copper_at Unknown else None))))) (Undecided, because.NothingSays)).0 || (o || x)) ≡ true
 words_kept true o t b n x u v m d = refl
 words_kept false true t b n x u v m d = refl
 words_kept false false true b n x u v m d = refl
@@ -84,3 +87,12 @@ gerber_kept name text e = ap (λ (k : Kind). stands (by_kind k name text).0 || n
         → (stands (unwrap_or (option_map gerber_by_function o) (gerber_by_words point words)).0 || unwrap_or (option_map is_other_function o) (are_other_words point words)) ≡ true
     by None point words = words_kept _ _ _ _ (numbered inner_ends (end_of point words)) _ _ _ (numbered inner_words (last_word (stem_of point words))) (ends_in_copper (stem_of point words))
     by (Some f) point words = function_kept _ _ (stack_place (field 1 f)) (field 0 f)
+
+-- ---- among others
+
+pub others_kept : (ps : List Proposal) (p : Proposal) → stands p.role ≡ true → stands (settled ps p).role ≡ true
+others_kept ps p h = by (are_clear (is_stack ps) (count_by is_copper ps) (span_in p.role))
+  where
+    by : (b : Bool) → stands (if b then p else record { file = p.file; role = Undecided; because = because.UnclearLayers }).role ≡ true
+    by true = h
+    by false = refl

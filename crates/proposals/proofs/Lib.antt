@@ -9,3 +9,9 @@ pub mod Lawful
 pub mod ReadsBack
 pub mod Shorts
 pub mod EachOnce
+pub mod Shared
+pub mod Counted
+pub mod Cases
+pub mod Stacks
+pub mod Printable
+pub mod Settling

@@ -12,7 +12,7 @@ use Rattle.grid_units.specs.Lists.{positions}
 use Rattle.grid_units.proofs.Lookbacks.{positions-append}
 use Rattle.proposals.specs.declared.outcome.Named.{Named}
 use Rattle.proposals.specs.declared.outcome.Content.TheVariants as content
-use Rattle.proposals.specs.Proposing.{is_named, name_of, once, proposal, proposals, unless_named}
+use Rattle.proposals.specs.Proposing.{by_itself, is_named, name_of, once, proposal, unless_named}
 use Rattle.grid_units.proofs.BoolLemmas.{twice_not}
 
 -- a file that stands for none
@@ -59,15 +59,15 @@ module _ (files : List Named) (i : ℕ) (lt : i < length files) where
   grown : take (i + 1) files ≡ take i files ++ file ∷ []
   grown = take_more files i nothing lt
 
-  by : (b : Bool) → is_named (name_of file) (take i files) ≡ b → proposals (take (i + 1) files) ≡ proposals (take i files) ++ map proposal (cons_option (if b then None else Some file) [])
+  by : (b : Bool) → is_named (name_of file) (take i files) ≡ b → by_itself (take (i + 1) files) ≡ by_itself (take i files) ++ map proposal (cons_option (if b then None else Some file) [])
   by b e =
-      ap proposals grown ∙ ap (map proposal) (once_more (take i files) file) ∙ map-append proposal (once (take i files)) (cons_option (unless_named (take i files, file)) [])
-      ∙ ap (λ (k : Bool). proposals (take i files) ++ map proposal (cons_option (if k then None else Some file) [])) e
+      ap by_itself grown ∙ ap (map proposal) (once_more (take i files) file) ∙ map-append proposal (once (take i files)) (cons_option (unless_named (take i files, file)) [])
+      ∙ ap (λ (k : Bool). by_itself (take i files) ++ map proposal (cons_option (if k then None else Some file) [])) e
 
   -- a file with a new name
-  pub one_more : is_named (name_of file) (take i files) ≡ false → proposals (take (i + 1) files) ≡ proposals (take i files) ++ proposal file ∷ []
+  pub one_more : is_named (name_of file) (take i files) ≡ false → by_itself (take (i + 1) files) ≡ by_itself (take i files) ++ proposal file ∷ []
   one_more e = by false e
 
   -- a file with a name that was there
-  pub no_more : is_named (name_of file) (take i files) ≡ true → proposals (take (i + 1) files) ≡ proposals (take i files)
-  no_more e = by true e ∙ append-nil (proposals (take i files))
+  pub no_more : is_named (name_of file) (take i files) ≡ true → by_itself (take (i + 1) files) ≡ by_itself (take i files)
+  no_more e = by true e ∙ append-nil (by_itself (take i files))

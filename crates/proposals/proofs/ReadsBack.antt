@@ -21,13 +21,14 @@ use Rattle.proposals.specs.declared.outcome.Proposed.{Proposed}
 use Rattle.proposals.specs.declared.outcome.Proposed.TheVariants.{Copper, Plated, Unplated, Undecided, LeftOut}
 use Rattle.proposals.specs.declared.outcome.Proposal.{Proposal}
 use Rattle.proposals.specs.Manifests.{has_spans, is_copper, is_layer, label, manifest_text, span_in}
-use Rattle.proposals.specs.ReadingBack.{AreDecided, are_among, as_span, entry_in, is_decided, may_stand, role_of}
+use Rattle.proposals.specs.ReadingBack.{AreDecided, as_span, entry_in, is_decided, may_stand, role_of}
+use Rattle.proposals.specs.Stack.{are_among}
 use Rattle.proposals.proofs.Counts.{all_at, any_of_map, count_of_map, nowhere}
 use Rattle.proposals.proofs.Labels.{IsOnce, label_stands, not_repeated}
 use Rattle.proposals.proofs.Lawful.{CanBeNamed, entry_is, fields_of, no_rule_broken, width}
 use Rattle.proposals.proofs.Rereading.{read_all, texts}
 use Rattle.proposals.proofs.Rows.{rows_of}
-use Rattle.proposals.proofs.Shorts.{is_short, names_short}
+use Rattle.proposals.proofs.Shorts.{is_short, names_short, span_short}
 use Rattle.grid_units.proofs.BoolLemmas.{both_true}
 
 -- ---- lists
@@ -120,7 +121,8 @@ same_copper (Unplated span) = refl
 same_copper Undecided = refl
 same_copper LeftOut = refl
 
-module _ (entries : List Proposal) (once : IsOnce entries) (short : list_all names_short entries ≡ true) (decided : AreDecided entries) where
+module _ (entries : List Proposal) (once : IsOnce entries) (short : list_all names_short entries ≡ true) (layers : list_all (λ p. are_among (count_by is_copper entries) (span_in p.role)) entries ≡ true)
+    (decided : AreDecided entries) where
   abbrev spans : Bool
   spans = has_spans entries
 
@@ -138,10 +140,10 @@ module _ (entries : List Proposal) (once : IsOnce entries) (short : list_all nam
     file_stands = all_at (λ (q : Proposal). may_stand q.file) before p after (ap (list_all (λ (q : Proposal). may_stand q.file)) (sym split) ∙ decided.names)
 
     among : are_among count (span_in p.role) ≡ true
-    among = all_at (λ (q : Proposal). are_among count (span_in q.role)) before p after (ap (list_all (λ (q : Proposal). are_among count (span_in q.role))) (sym split) ∙ decided.layers)
+    among = all_at (λ (q : Proposal). are_among count (span_in q.role)) before p after (ap (list_all (λ (q : Proposal). are_among count (span_in q.role))) (sym split) ∙ layers)
 
     named : CanBeNamed (span_in p.role)
-    named = can_be_named count (span_in p.role) among (all_at names_short before p after (ap (list_all names_short) (sym split) ∙ short))
+    named = can_be_named count (span_in p.role) among (span_short p.role (all_at names_short before p after (ap (list_all names_short) (sym split) ∙ short)))
 
     new_name : is_repeated (label entries p) (map entry_of (map (row_in spans entries) before)) ≡ false
     new_name =

@@ -7,7 +7,7 @@ use Rattle.file_hints.specs.Names.{bottom_ends, bottom_words, end_of, ends_in_co
 use Rattle.file_hints.specs.declared.contents.Kind.{Kind}
 use Rattle.file_hints.specs.declared.contents.Kind.TheVariants.{Gerber, Drill, Empty, Neither}
 use Rattle.proposals.specs.declared.outcome.Place.{Place}
-use Rattle.proposals.specs.declared.outcome.Place.TheVariants.{Numbered, Unknown, Bottom}
+use Rattle.proposals.specs.declared.outcome.Place.TheVariants.{Numbered, Top, Inner, Unknown, Bottom}
 use Rattle.proposals.specs.declared.outcome.Layers.{Layers}
 use Rattle.proposals.specs.declared.outcome.Proposed.{Proposed}
 use Rattle.proposals.specs.declared.outcome.Proposed.TheVariants.{Copper, Plated, Unplated, Undecided, LeftOut}
@@ -82,9 +82,9 @@ copper_at place = Some (Copper place, because.ByName)
 abbrev pub no_copper : Option Decision
 no_copper = Some (LeftOut, because.ByName)
 
--- copper at the place of a number, by the name, if there is a number
+-- an inner layer, by the number in the name, if there is one
 abbrev pub inner_copper : Option ℕ → Option Decision
-inner_copper number = option_map (λ n. (Copper (Numbered n), because.ByName)) number
+inner_copper number = option_map (λ n. (Copper (Inner n), because.ByName)) number
 
 -- the end of a name of a layer without copper
 abbrev pub is_other_end : List ℕ → Bool
@@ -95,7 +95,7 @@ abbrev pub gerber_by_end : List ℕ → Option Decision
 gerber_by_end end =
     if is_some (numbered plane_ends end) then Some (Undecided, because.Plane)
     else if is_other_end end then no_copper
-    else if is_among end top_ends then copper_at (Numbered 0)
+    else if is_among end top_ends then copper_at Top
     else if is_among end bottom_ends then copper_at Bottom else inner_copper (numbered inner_ends end)
 
 -- a word of a top layer, where a word for copper was dropped behind it or none was
@@ -111,7 +111,7 @@ is_bottom_word dropped word = is_among word bottom_words || (dropped && bytes_eq
 abbrev pub gerber_by_word : Bool → List ℕ → Option Decision
 gerber_by_word dropped word =
     if not dropped && is_among word other_words then no_copper
-    else if is_top_word dropped word then copper_at (Numbered 0)
+    else if is_top_word dropped word then copper_at Top
     else if is_bottom_word dropped word then copper_at Bottom
     else option_or (inner_copper (numbered inner_words word)) (if dropped then copper_at Unknown else None)
 

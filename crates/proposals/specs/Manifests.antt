@@ -1,13 +1,14 @@
 -- The manifest of proposals, and the table of why.
-use Rattle.std.specs.Prelude.{◌≡◌, ℕ, Bool, true, false, not, ◌&&◌, ◌||◌, ◌==◌, nat_lt, decimal, List, [], ◌∷◌, ◌++◌, length, codes, Option, Some, None, if◌then◌else◌}
+use Rattle.std.specs.Prelude.{◌≡◌, ℕ, ◌+◌, ◌-◌, ◌/◌, ◌%◌, Bool, true, false, not, ◌&&◌, ◌||◌, ◌==◌, nat_le, nat_lt, decimal, List, [], ◌∷◌, ◌++◌, length, codes, Option, Some, None, if◌then◌else◌}
 use Rattle.std.specs.List.{flat_map, filter, list_any, count_by}
 use Rattle.std.specs.List.Sorted.{IsPermutation, IsNonDecreasingBy, IsStableByKey}
 use Rattle.std.specs.Ordering.{nat_cmp}
 use Rattle.std.specs.Str.{bytes_eq}
 use Rattle.csv.specs.Writing.{default_writer, row_text}
+use Rattle.grid_units.specs.Ascii as ascii
 use Rattle.file_hints.specs.Names.{short_name}
 use Rattle.proposals.specs.declared.outcome.Place.{Place}
-use Rattle.proposals.specs.declared.outcome.Place.TheVariants.{Numbered, Unknown, Bottom}
+use Rattle.proposals.specs.declared.outcome.Place.TheVariants.{Numbered, Top, Inner, Unknown, Bottom}
 use Rattle.proposals.specs.declared.outcome.Layers.{Layers}
 use Rattle.proposals.specs.declared.outcome.Proposed.{Proposed}
 use Rattle.proposals.specs.declared.outcome.Proposed.TheVariants.{Copper, Plated, Unplated, Undecided, LeftOut}
@@ -38,6 +39,7 @@ reason_words because.DrillByDefault = codes "a drill file is taken as plated"
 reason_words because.DrillInGerber = codes "a drill file in Gerber: export Excellon"
 reason_words because.Plane = codes "a plane that may be negative"
 reason_words because.NothingSays = codes "nothing says what it is"
+reason_words because.UnclearLayers = codes "its layers are not clear from the copper files"
 reason_words because.NotRead = codes "it cannot be read"
 reason_words because.TooLong = codes "it is too long"
 
@@ -54,12 +56,33 @@ named_function because.DrillByDefault = []
 named_function because.DrillInGerber = []
 named_function because.Plane = []
 named_function because.NothingSays = []
+named_function because.UnclearLayers = []
 named_function because.NotRead = []
 named_function because.TooLong = []
 
--- the text of a reason
+-- `b'\\'`
+abbrev pub backslash : ℕ
+backslash = 92
+
+-- `b'x'`
+abbrev pub lower_x : ℕ
+lower_x = 120
+
+-- printable ASCII, but for the backslash
+abbrev pub is_printed : ℕ → Bool
+is_printed b = nat_le ascii.space b && (nat_lt b ascii.delete && not (b == backslash))
+
+-- a digit of base 16, in lower case
+abbrev pub hex_digit : ℕ → ℕ
+hex_digit n = if nat_lt n 10 then ascii.digit_zero + n else ascii.lower_a + (n - 10)
+
+-- how a byte of a file is printed: as it is, or as `\xNN`
+abbrev pub byte_text : ℕ → List ℕ
+byte_text b = if is_printed b then b ∷ [] else backslash ∷ lower_x ∷ hex_digit (b / 16) ∷ hex_digit (b % 16) ∷ []
+
+-- the text of a reason: no byte of a file reaches a terminal but as printable ASCII
 abbrev pub because_text : Because → List ℕ
-because_text why = reason_words why ++ named_function why
+because_text why = reason_words why ++ flat_map byte_text (named_function why)
 
 -- ---- the table of why
 
@@ -77,9 +100,12 @@ reasons_text proposals = reasons_heading ++ flat_map reason_row proposals
 
 -- ---- the order of a manifest
 
--- the copper layers by their place: those with a number, which is below 2^32, by it, then those at an unknown place, then bottom layers
+-- the copper layers by their place: those with a number, which is below 2^32, by it (the top is 1, and the inner layer N the layer
+-- N + 1), then those at an unknown place, then bottom layers
 abbrev pub place_rank : Place → ℕ
 place_rank (Numbered n) = n
+place_rank Top = 1
+place_rank (Inner n) = n + 1
 place_rank Unknown = 4294967296
 place_rank Bottom = 4294967297
 
@@ -157,9 +183,13 @@ abbrev pub span_fields : Option Layers → List (List ℕ)
 span_fields None = [] ∷ [] ∷ []
 span_fields (Some span) = decimal span.first ∷ decimal span.last ∷ []
 
--- the row of a file, with its layers or without
+-- the row of a file under a name, with its layers or without
+abbrev pub named_row : Bool → List ℕ → Proposal → List ℕ
+named_row spans name p = row_text default_writer (role_word p.role ∷ name ∷ p.file ∷ (if spans then span_fields (span_in p.role) else []))
+
+-- the row of a file among others
 abbrev pub entry_row : Bool → List Proposal → Proposal → List ℕ
-entry_row spans entries p = row_text default_writer (role_word p.role ∷ label entries p ∷ p.file ∷ (if spans then span_fields (span_in p.role) else []))
+entry_row spans entries p = named_row spans (label entries p) p
 
 -- the first row
 abbrev pub heading : Bool → List ℕ

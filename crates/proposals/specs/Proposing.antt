@@ -4,6 +4,7 @@ use Rattle.std.specs.List.{list_any, filter_map}
 use Rattle.std.specs.Str.{bytes_eq}
 use Rattle.grid_units.specs.Lists.{positions}
 use Rattle.proposals.specs.Deciding.{Decision, decision}
+use Rattle.proposals.specs.Stack.{settled}
 use Rattle.proposals.specs.declared.outcome.Proposed.TheVariants.{Undecided}
 use Rattle.proposals.specs.declared.outcome.Because.TheVariants as because
 use Rattle.proposals.specs.declared.outcome.Proposal.{Proposal}
@@ -21,7 +22,7 @@ decided name content.TooLong = (Undecided, because.TooLong)
 abbrev pub name_of : Named → List ℕ
 name_of file = file.name.now
 
--- the proposal for a file
+-- the proposal for a file by itself
 abbrev pub proposal : Named → Proposal
 proposal file = record { file = name_of file; role = (decided (name_of file) file.content).0; because = (decided (name_of file) file.content).1 }
 
@@ -37,6 +38,10 @@ unless_named p = if is_named (name_of p.1) p.0 then None else Some p.1
 abbrev pub once : List Named → List Named
 once files = filter_map unless_named (positions files)
 
--- the proposals for the files, each name once
+-- what each file is by itself, each name once
+abbrev pub by_itself : List Named → List Proposal
+by_itself files = map proposal (once files)
+
+-- the proposals for the files, each name once: a drill file that names layers is undecided where these are not clear among the others
 abbrev pub proposals : List Named → List Proposal
-proposals files = map proposal (once files)
+proposals files = map (settled (by_itself files)) (by_itself files)

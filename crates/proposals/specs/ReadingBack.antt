@@ -41,16 +41,9 @@ is_decided LeftOut = false
 abbrev pub may_stand : List ℕ → Bool
 may_stand name = is_plain_text name && not (length name == 0)
 
--- the layers are a first one, from 1, and a last one, among so many
-abbrev pub are_among : ℕ → Option Layers → Bool
-are_among count None = true
-are_among count (Some layers) = nat_le 1 layers.first && (nat_le layers.first layers.last && nat_le layers.last count)
-
--- nothing is left to decide: no role is, some file is copper and some is not, each name may stand, and each file goes through
--- layers that the package has
+-- nothing is left to decide: no role is, some file is copper and some is not, and each name may stand
 pub record AreDecided (entries : List Proposal) : Type 0 where
   pub roles : list_all (λ p. is_decided p.role) entries ≡ true
   pub copper : list_any is_copper entries ≡ true
   pub drill : list_any (λ p. not (is_copper p)) entries ≡ true
   pub names : list_all (λ p. may_stand p.file) entries ≡ true
-  pub layers : list_all (λ p. are_among (count_by is_copper entries) (span_in p.role)) entries ≡ true

@@ -138,12 +138,12 @@ fn gerber_by_function(alloc: Global, function: &[u8]) -> Result<Decision, AllocE
     Ok((Proposed::LeftOut, by_function(alloc, fields.first)?))
 }
 
-/// Copper at the place of a number, by the name, if there is a number.
+/// An inner layer, by the number in the name, if there is one.
 fn inner_copper(number: Option<u32>) -> Option<Decision>
     ensures { result ≡ says.inner_copper number }
 {
     match number {
-        Some(n) => Some((Proposed::Copper(Place::Numbered(n)), Because::ByName)),
+        Some(n) => Some((Proposed::Copper(Place::Inner(n)), Because::ByName)),
         None => None,
     }
 }
@@ -179,7 +179,7 @@ fn gerber_by_end(end: &[u8]) -> Option<Decision>
         return Some((Proposed::LeftOut, Because::ByName));
     }
     if is_among(end, &["gtl", "cmp", "top"]) {
-        return copper_at(Place::Numbered(0));
+        return copper_at(Place::Top);
     }
     if is_among(end, &["gbl", "sol", "bot"]) {
         return copper_at(Place::Bottom);
@@ -261,7 +261,7 @@ fn gerber_by_word(dropped: bool, word: &[u8]) -> Option<Decision>
         return Some((Proposed::LeftOut, Because::ByName));
     }
     if is_top_word(dropped, word) {
-        return copper_at(Place::Numbered(0));
+        return copper_at(Place::Top);
     }
     if is_bottom_word(dropped, word) {
         return copper_at(Place::Bottom);

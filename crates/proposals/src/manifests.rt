@@ -3,19 +3,18 @@
 ghost use Rattle.std.specs.Prelude.{◌≡◌, ◌++◌, ◌∷◌, [], ◌==◌, nat_lt, decimal, true, false, length, IfOk, map};
 ghost use Rattle.std.specs.List.{count_by, list_any};
 ghost use Rattle.csv.specs.Writing.{default_writer, row_text};
-ghost use Rattle.file_hints.specs.Names as naming;
 ghost use Rattle.proposals.specs.Manifests as says;
 ghost use Rattle.proposals.specs.Manifests.{IsManifestOf};
 
+use crate::naming::{label, shared_names};
 use crate::order::in_order;
 use crate::outcome::{Layers, Proposal, Proposed};
 use crate::reasons::role_word;
-use file_hints::short_name;
 use itoa::Buffer;
 use manifest::table::Table;
 use std::alloc::{AllocError, Global};
 
-fn is_copper(file: &Proposal) -> bool
+pub(crate) fn is_copper(file: &Proposal) -> bool
     ensures { result ≡ says.is_copper file.now }
 {
     matches!(file.role, Proposed::Copper(_))
@@ -29,7 +28,7 @@ fn layers(entries: &[&Proposal]) -> usize
 }
 
 /// The layers that a file names, if it names any.
-fn span_in(role: Proposed) -> Option<Layers>
+pub(crate) fn span_in(role: Proposed) -> Option<Layers>
     ensures { result ≡ says.span_in role }
 {
     match role {
@@ -56,32 +55,6 @@ fn has_spans(entries: &[&Proposal]) -> bool
     entries
         .iter()
         .any(|entry| is_partial(layers, span_in(entry.role)))
-}
-
-/// The name of a file behind its last slash.
-fn short(file: &Proposal) -> &[u8]
-    ensures { result.now ≡ naming.short_name file.now.file }
-{
-    short_name(file.file.as_str().as_bytes())
-}
-
-/// How many files have this name behind their last slash.
-fn named_so(entries: &[&Proposal], name: &[u8]) -> usize
-    ensures { result ≡ says.named_so (map (λ entry. entry.now) entries.now) name.now }
-{
-    entries.iter().filter(|entry| short(entry) == name).count()
-}
-
-/// The name that reports print.
-fn label<'e>(entries: &[&Proposal], file: &'e Proposal) -> &'e [u8]
-    ensures { result.now ≡ says.label (map (λ entry. entry.now) entries.now) file.now }
-{
-    let name = short(file);
-    if name.is_empty() || named_so(entries, name) > 1 {
-        file.file.as_str().as_bytes()
-    } else {
-        name
-    }
 }
 
 /// The table with a row of three fields.
@@ -131,17 +104,16 @@ fn with_span<'f>(
     }
 }
 
-/// The table with the row of a file.
-fn with_entry(
+/// The table with the row of a file under a name.
+fn with_entry<'f>(
     table: Table,
     spans: bool,
-    entries: &[&Proposal],
-    file: &Proposal,
+    name: &'f [u8],
+    file: &'f Proposal,
 ) -> Result<Table, AllocError>
-    ensures { IfOk result (λ more. more ≡ table ++ says.entry_row spans (map (λ entry. entry.now) entries.now) file.now) }
+    ensures { IfOk result (λ more. more ≡ table ++ says.named_row spans name.now file.now) }
 {
     let role = role_word(file.role).as_bytes();
-    let name = label(entries, file);
     let path = file.file.as_str().as_bytes();
     if spans {
         with_span(table, role, name, path, span_in(file.role))
@@ -167,9 +139,10 @@ fn manifest_text(alloc: Global, entries: &[&Proposal]) -> Result<Vec<u8>, AllocE
     ensures { IfOk result (λ text. text.items ≡ says.manifest_text (map (λ entry. entry.now) entries.now)) }
 {
     let spans = has_spans(entries);
+    let shared = shared_names(alloc, entries)?;
     let mut table = heading(alloc, spans)?;
     for entry in entries {
-        table = with_entry(table, spans, entries, entry)?;
+        table = with_entry(table, spans, label(&shared, *entry), *entry)?;
     }
     table.into_bytes()
 }

@@ -13,6 +13,8 @@ fn place_rank(place: Place) -> u64
 {
     match place {
         Place::Numbered(n) => n as u64,
+        Place::Top => 1,
+        Place::Inner(n) => n as u64 + 1,
         Place::Unknown => 4_294_967_296,
         Place::Bottom => 4_294_967_297,
     }

@@ -24,10 +24,15 @@ pub struct Named<'a> {
 /// Where a copper layer stands in the stack.
 #[derive(Clone, Copy, Debug, PartialEq, Eq)]
 pub enum Place {
-    /// By its number, at most 999,999,999. The top layer has the number 0, or 1 where its file function says so.
+    /// By the number that its file function gives it, from 1 at the top; at most 999,999,999.
     Numbered(u32),
-    /// Behind the layers with a number and before the bottom layer.
+    /// The top layer, by its name.
+    Top,
+    /// An inner layer, by the number in its name, at most 99: the first of them is the second layer.
+    Inner(u32),
+    /// After the layers with a number and before the bottom layer.
     Unknown,
+    /// The bottom layer, by its name.
     Bottom,
 }
 
@@ -79,6 +84,8 @@ pub enum Because {
     Plane,
     /// A Gerber file of which nothing says what it is.
     NothingSays,
+    /// A drill file that names layers, and the copper files do not make clear which these are.
+    UnclearLayers,
     /// The file cannot be read.
     NotRead,
     /// The file is too long.

@@ -2,10 +2,11 @@
 
 ghost use Rattle.std.specs.Prelude.{◌≡◌, IfOk};
 ghost use Rattle.proposals.specs.Proposing as says;
-ghost use Rattle.proposals.specs.Proposing.{name_of, proposals};
+ghost use Rattle.proposals.specs.Proposing.{by_itself, name_of, proposals};
 
 use crate::deciding::decision;
 use crate::outcome::{Because, Content, Named, Proposal, Proposed};
+use crate::stack::settle_all;
 use manifest::Name;
 use std::alloc::{AllocError, Global};
 use std::collections::BTreeSet;
@@ -33,13 +34,9 @@ fn proposal(alloc: Global, file: &Named<'_>) -> Result<Proposal, AllocError>
     })
 }
 
-/// The proposals for these files, in their order. A file whose name stood before is passed over.
-///
-/// # Errors
-///
-/// An `AllocError` where there is no memory.
-pub fn propose(alloc: Global, files: &[Named<'_>]) -> Result<Vec<Proposal>, AllocError>
-    ensures exact { IfOk result (λ list. list.items ≡ proposals files.now) }
+/// What each file is by itself, in their order. A file whose name stood before is passed over.
+fn propose_each(alloc: Global, files: &[Named<'_>]) -> Result<Vec<Proposal>, AllocError>
+    ensures { IfOk result (λ list. list.items ≡ by_itself files.now) }
 {
     let mut names = BTreeSet::new(alloc);
     let mut list = Vec::new(alloc);
@@ -50,5 +47,19 @@ pub fn propose(alloc: Global, files: &[Named<'_>]) -> Result<Vec<Proposal>, Allo
         }
         list.push(proposal(alloc, file)?)?;
     }
+    Ok(list)
+}
+
+/// The proposals for these files, in their order. A file whose name stood before is passed over. A drill file that names layers is
+/// undecided, unless the copper files are the layers 1 to their number, each once, and those that it names are among them.
+///
+/// # Errors
+///
+/// An `AllocError` where there is no memory.
+pub fn propose(alloc: Global, files: &[Named<'_>]) -> Result<Vec<Proposal>, AllocError>
+    ensures exact { IfOk result (λ list. list.items ≡ proposals files.now) }
+{
+    let mut list = propose_each(alloc, files)?;
+    settle_all(alloc, &mut list)?;
     Ok(list)
 }

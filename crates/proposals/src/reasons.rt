@@ -1,6 +1,6 @@
 //! The table of why.
 
-ghost use Rattle.std.specs.Prelude.{◌≡◌, ◌++◌, ◌∷◌, [], IfOk};
+ghost use Rattle.std.specs.Prelude.{◌≡◌, ◌<◌, ◌++◌, ◌∷◌, [], IfOk, OnOk};
 ghost use Rattle.csv.specs.Writing.{default_writer, row_text};
 ghost use Rattle.proposals.specs.Manifests as says;
 
@@ -37,6 +37,7 @@ fn reason_words(because: &Because) -> &'static str
         Because::DrillInGerber => "a drill file in Gerber: export Excellon",
         Because::Plane => "a plane that may be negative",
         Because::NothingSays => "nothing says what it is",
+        Because::UnclearLayers => "its layers are not clear from the copper files",
         Because::NotRead => "it cannot be read",
         Because::TooLong => "it is too long",
     }
@@ -52,12 +53,45 @@ fn named_function(because: &Because) -> &[u8]
     }
 }
 
-/// The text of a reason.
+/// Whether a byte is printed as it is: printable ASCII, but for the backslash.
+fn is_printed(byte: u8) -> bool
+    ensures { result ≡ says.is_printed byte }
+{
+    b' ' <= byte && byte < 0x7F && byte != b'\\'
+}
+
+/// A digit of base 16, in lower case.
+fn hex_digit(value: u8) -> u8
+    requires { value < 16 }
+    ensures { result ≡ says.hex_digit value }
+{
+    if value < 10 {
+        b'0' + value
+    } else {
+        b'a' + (value - 10)
+    }
+}
+
+/// Appends a byte of a file: what is not printed as it is as `\xNN`.
+fn push_byte(text: &mut Vec<u8>, byte: u8) -> Result<(), AllocError>
+    ensures { OnOk result (text.new.items ≡ text.old.items ++ says.byte_text byte) }
+{
+    if is_printed(byte) {
+        text.push(byte)?;
+        return Ok(());
+    }
+    let escape = [b'\\', b'x', hex_digit(byte / 16), hex_digit(byte % 16)];
+    text.extend_from_slice(&escape)
+}
+
+/// The text of a reason. The bytes of a file stand in it as printable ASCII, so that none of them reaches a terminal.
 fn because_text(alloc: Global, because: &Because) -> Result<Vec<u8>, AllocError>
     ensures { IfOk result (λ text. text.items ≡ says.because_text because.now) }
 {
     let mut text = Vec::from_slice(alloc, reason_words(because).as_bytes())?;
-    text.extend_from_slice(named_function(because))?;
+    for byte in named_function(because) {
+        push_byte(&mut text, *byte)?;
+    }
     Ok(text)
 }
 
@@ -95,7 +129,8 @@ fn heading(alloc: Global) -> Result<Table, AllocError>
 }
 
 /// The table of why: a first row `file,role,because`, and a row for each file in the order of the proposals, as `csv` writes
-/// them. The role of a file that is left out is `-`.
+/// them. The role of a file that is left out is `-`. Of what a file function has, a byte that is no printable ASCII, and a
+/// backslash, stands as `\xNN`; the names of files stand as they are.
 ///
 /// # Errors
 ///

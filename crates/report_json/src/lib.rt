@@ -15,6 +15,3 @@ pub use found::{print_telling_json, print_waived_json, write_telling_json};
 pub use measured::{print_measure_json, write_measure_json};
 pub use refused::{Stop, refusal_json};
 pub use report_text::PrintFault;
-
-#[cfg(test)]
-mod tests;

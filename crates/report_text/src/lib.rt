@@ -124,6 +124,3 @@ pub struct Whys<'a> {
     /// The numbers of the records of the file of waivers that waive nothing, in order.
     pub idle: &'a [usize],
 }
-
-#[cfg(test)]
-mod tests;

@@ -3,3 +3,4 @@ pub mod Typed
 pub mod Again
 pub mod Once
 pub mod Written
+pub mod Packages

@@ -1,2 +1,3 @@
+pub mod Packages
 pub mod Rewriting
 pub mod Inner

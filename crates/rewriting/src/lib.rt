@@ -16,6 +16,3 @@ pub enum Kind {
     /// An Excellon drill file.
     Drill,
 }
-
-#[cfg(test)]
-mod tests;

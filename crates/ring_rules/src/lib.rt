@@ -34,6 +34,3 @@ pub use index::HoleIndex;
 pub use limits::Limits;
 pub use near::{limits_of, near_zone};
 pub use rings::{layer_findings, ring_findings, usual_zone};
-
-#[cfg(test)]
-mod tests;

@@ -1,24 +1,26 @@
 -- What the parts of a check say together.
-use Rattle.std.proofs.Common.{◌≡◌, ◌≢◌, ◌<◌, ◌≤◌, ℕ, List, [], ◌∷◌, Option, Ok, Err, length, ◌⊎◌, inl, inr, arith, refl}
+use Rattle.std.proofs.Common.{◌≡◌, ◌≢◌, ◌<◌, ◌≤◌, ℕ, List, [], ◌∷◌, Option, Ok, length, ◌⊎◌, inl, inr, arith, refl}
 use Rattle.std.specs.Io.KnownBytes.{Appends}
 use Rattle.grid_units.specs.Holes.{GridRules}
-use Rattle.grid_units.specs.declared.fault.Fault.{Fault}
 use Rattle.manifest.specs.declared.Entry.{Entry}
 use Rattle.manifest.specs.Manifest.{manifest}
 use Rattle.ring_rules.specs.declared.finding.Finding.{Finding}
-use Rattle.ringcheck.specs.declared.Status.{Status}
-use Rattle.ringcheck.specs.declared.Status.TheVariants as status
-use Rattle.ringcheck.specs.declared.ending.Ended.{Ended}
-use Rattle.ringcheck.specs.declared.ending.Ended.TheVariants as ended
-use Rattle.ringcheck.specs.Inner.Endings.{HasCause, HasRisen, status_after}
+use Rattle.ringcheck_files.specs.declared.Status.{Status}
+use Rattle.ringcheck_files.specs.declared.Status.TheVariants as status
+use Rattle.ringcheck_files.specs.declared.ending.Ended.{Ended}
+use Rattle.ringcheck_files.specs.declared.ending.Ended.TheVariants as ended
+use Rattle.ringcheck_files.specs.Endings.{HasCause, HasRisen, status_after}
 use Rattle.ringcheck.specs.declared.loading_files.Stop.{Stop}
-use Rattle.ringcheck.specs.declared.loading_files.Stop.TheVariants as stop
+use Rattle.ringcheck.specs.declared.refusing.Style.TheVariants as style
 use Rattle.package_check.specs.Reports.{Account}
 use Rattle.package_check.specs.Package.{Source, IsAnswer}
 use Rattle.package_check.specs.Soundness.{IsSound}
 use Rattle.package_check.specs.Texts.{report_text}
-use Rattle.ringcheck.specs.Running.{HasFiles, file_limit, manifest_limit, within, RefusedIn, Says, long_manifest, bad_manifest, long_file, bad_file, sources}
-use Rattle.ringcheck.specs.Inner.Stopping.{Answered, IsRefusal, IsUnread, RefusedManifest, StopsFiles, StopsManifest, TellsOf, status_of}
+use Rattle.ringcheck.specs.Refusing.{of_file}
+use Rattle.ringcheck_files.specs.Loading.{file_limit, within}
+use Rattle.ringcheck.specs.Running.{HasFiles, Says, manifest_limit, sources}
+use Rattle.ringcheck.specs.Inner.Stopping.{Answered, StopsFiles, StopsManifest, TellsOf, status_of}
+use Rattle.ringcheck.proofs.Refused.{by_stop, file_refusal, files_refusal, manifest_refusal}
 
 passed : (fs : List Finding) → ended.Said status.Pass ≡ ended.Said (status_of fs) → fs ≡ []
 passed [] e = refl
@@ -49,18 +51,6 @@ reported all rules before after report ended.LoaderFailed answer sound h = cc (h
 reported all rules before after report ended.OutOfMemory answer sound h = tt
 reported all rules before after report ended.WriterFailed answer sound h = tt
 
--- a file is refused
-pub refused_file : (all : List Source) (rules : GridRules) (before after : Option (List ℕ)) (fault : ℕ × Fault) (e : Ended) → IsAnswer all rules (Err fault)
-    → (e ≢ ended.WriterFailed → e ≢ ended.OutOfMemory → e ≡ ended.Said status.Refused) → Answered all rules before after e
-refused_file all rules before after fault (ended.Said status.Pass) a h = cc (h (λ x. cc x) (λ x. cc x))
-refused_file all rules before after fault (ended.Said status.Findings) a h = cc (h (λ x. cc x) (λ x. cc x))
-refused_file all rules before after fault (ended.Said status.Refused) a h = (fault, a)
-refused_file all rules before after fault (ended.Said status.Usage) a h = cc (h (λ x. cc x) (λ x. cc x))
-refused_file all rules before after fault (ended.Said status.Device) a h = cc (h (λ x. cc x) (λ x. cc x))
-refused_file all rules before after fault ended.LoaderFailed a h = cc (h (λ x. cc x) (λ x. cc x))
-refused_file all rules before after fault ended.OutOfMemory a h = tt
-refused_file all rules before after fault ended.WriterFailed a h = tt
-
 -- what is said of files at hand does not end by the loader
 pub answered_cause : (all : List Source) (rules : GridRules) (before after : Option (List ℕ)) (e : Ended) (old new : ℕ) → Answered all rules before after e → HasCause old new e
 answered_cause all rules before after (ended.Said status.Pass) old new a = tt
@@ -71,17 +61,6 @@ answered_cause all rules before after (ended.Said status.Device) old new a = abs
 answered_cause all rules before after ended.LoaderFailed old new a = absurd a
 answered_cause all rules before after ended.OutOfMemory old new a = tt
 answered_cause all rules before after ended.WriterFailed old new a = tt
-
--- a stop whose file can't be read has its cause
-pub stopped_cause : (s : Stop) (e : Ended) (old new : ℕ) → TellsOf s e → (IsUnread s → HasRisen old new) → HasCause old new e
-stopped_cause s (ended.Said status.Pass) old new t h = tt
-stopped_cause s (ended.Said status.Findings) old new t h = tt
-stopped_cause s (ended.Said status.Refused) old new t h = tt
-stopped_cause s (ended.Said status.Usage) old new t h = tt
-stopped_cause s (ended.Said status.Device) old new t h = absurd t
-stopped_cause s ended.LoaderFailed old new t h = h t
-stopped_cause s ended.OutOfMemory old new t h = tt
-stopped_cause s ended.WriterFailed old new t h = tt
 
 -- a count that rose since a later time rose since an earlier one
 pub risen_since : (old middle new : ℕ) → old ≤ middle → HasRisen middle new → HasRisen old new
@@ -100,56 +79,24 @@ cause_since old middle new ended.OutOfMemory le h = tt
 cause_since old middle new ended.WriterFailed le h = tt
 
 module _ (has : List ℕ → List ℕ → Type 0) (name : List ℕ) (rules : GridRules) (before after : Option (List ℕ)) where
-  of_manifest : RefusedManifest has name → RefusedIn has name rules
-  of_manifest h = elim h.2 [
-    | inl long ↦ long_manifest h.0 h.1 long
-    | inr bad ↦ bad_manifest h.0 bad.0 h.1 bad.1
-  ]
-
-  manifest_refusal : (s : Stop) → StopsManifest has name s → IsRefusal s → RefusedIn has name rules
-  manifest_refusal (stop.Manifest place reason) h i = of_manifest h
-  manifest_refusal (stop.LongFile index) h i = absurd h
-  manifest_refusal stop.Memory h i = absurd i
-  manifest_refusal stop.Device h i = absurd i
-  manifest_refusal (stop.DeviceFile index) h i = absurd i
-  manifest_refusal (stop.Waivers place reason) h i = absurd h
-  manifest_refusal stop.DeviceWaivers h i = absurd i
-
-  pub stopped_manifest : (s : Stop) (e : Ended) → StopsManifest has name s → TellsOf s e → Says has name rules before after (status_after e)
-  stopped_manifest s (ended.Said status.Pass) h i = absurd i
-  stopped_manifest s (ended.Said status.Findings) h i = absurd i
-  stopped_manifest s (ended.Said status.Refused) h i = manifest_refusal s h i
-  stopped_manifest s (ended.Said status.Usage) h i = absurd i
-  stopped_manifest s (ended.Said status.Device) h i = absurd i
-  stopped_manifest s ended.LoaderFailed h i = tt
-  stopped_manifest s ended.OutOfMemory h i = tt
-  stopped_manifest s ended.WriterFailed h i = tt
+  pub stopped_manifest : (entries : List Entry) (s : Stop) (e : Ended) → StopsManifest has name s → TellsOf style.Line entries s before after e → Says has name rules before after (status_after e)
+  stopped_manifest entries s e h t = by_stop (λ e. Says has name rules before after (status_after e)) style.Line entries s before after tt tt tt
+      (λ why is told. record { why = why; refused = manifest_refusal has name rules entries s why h is; told = told }) e t
 
   module _ (text : List ℕ) (entries : List Entry) (held : has name text) (names : manifest text ≡ Ok entries) where
-    file_refusal : (later : List ℕ → List ℕ → Type 0) → ((n b : List ℕ) → later n b → has n b) → (s : Stop) → StopsFiles later entries s → IsRefusal s → RefusedIn has name rules
-    file_refusal later to (stop.Manifest place reason) h i = absurd h
-    file_refusal later to (stop.LongFile index) h i = long_file text entries h.0 h.2 held names h.1 (to h.0.file h.2 h.3) h.4
-    file_refusal later to stop.Memory h i = absurd i
-    file_refusal later to stop.Device h i = absurd i
-    file_refusal later to (stop.DeviceFile index) h i = absurd i
-    file_refusal later to (stop.Waivers place reason) h i = absurd h
-    file_refusal later to stop.DeviceWaivers h i = absurd i
-
     pub stopped_files : (later : List ℕ → List ℕ → Type 0) → ((n b : List ℕ) → later n b → has n b) → (s : Stop) (e : Ended)
-        → StopsFiles later entries s → TellsOf s e → Says has name rules before after (status_after e)
-    stopped_files later to s (ended.Said status.Pass) h i = absurd i
-    stopped_files later to s (ended.Said status.Findings) h i = absurd i
-    stopped_files later to s (ended.Said status.Refused) h i = file_refusal later to s h i
-    stopped_files later to s (ended.Said status.Usage) h i = absurd i
-    stopped_files later to s (ended.Said status.Device) h i = absurd i
-    stopped_files later to s ended.LoaderFailed h i = tt
-    stopped_files later to s ended.OutOfMemory h i = tt
-    stopped_files later to s ended.WriterFailed h i = tt
+        → StopsFiles later entries s → TellsOf style.Line entries s before after e → Says has name rules before after (status_after e)
+    stopped_files later to s e h t = by_stop (λ e. Says has name rules before after (status_after e)) style.Line entries s before after tt tt tt
+        (λ why is told. record { why = why; refused = file_refusal has name rules text entries held names later to s why h is; told = told }) e t
 
     pub said : length text ≤ manifest_limit → (files : List (List ℕ)) (e : Ended) → HasFiles (within file_limit has) entries files → Answered (sources entries files) rules before after e → Says has name rules before after (status_after e)
     said short files (ended.Said status.Pass) h a = record { report = a.0; reported = record { entries = entries; files = files; held = record { text = text; held = held; names = names; short = short; loaded = h }; answer = a.1; written = a.2 }; passes = a.3; sound = a.4 }
     said short files (ended.Said status.Findings) h a = (a.0, record { entries = entries; files = files; held = record { text = text; held = held; names = names; short = short; loaded = h }; answer = a.1; written = a.2 }, a.3)
-    said short files (ended.Said status.Refused) h a = bad_file entries files a.0 (record { text = text; held = held; names = names; short = short; loaded = h }) a.1
+    said short files (ended.Said status.Refused) h a = record {
+      why = of_file a.index a.source.name a.fault;
+      refused = files_refusal has name rules entries files style.Line before after (record { text = text; held = held; names = names; short = short; loaded = h }) a;
+      told = a.told;
+    }
     said short files (ended.Said status.Usage) h a = absurd a
     said short files (ended.Said status.Device) h a = absurd a
     said short files ended.LoaderFailed h a = absurd a

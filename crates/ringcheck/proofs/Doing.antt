@@ -1,30 +1,24 @@
 -- What the parts of a work that looks for no findings say together.
-use Rattle.std.proofs.Common.{◌≡◌, ◌≢◌, ◌≤◌, ℕ, List, Option, Ok, length, subst, sym}
-use Rattle.grid_units.specs.Holes.{GridRules}
-use Rattle.grid_units.specs.declared.fault.Fault.{Fault}
+use Rattle.std.proofs.Common.{◌≡◌, ◌≢◌, ◌≤◌, ℕ, List, Option, Ok, length}
 use Rattle.manifest.specs.declared.Entry.{Entry}
 use Rattle.manifest.specs.Manifest.{manifest}
-use Rattle.package_check.specs.Package.{Source, IsFirstRefused}
-use Rattle.ringcheck.specs.declared.Status.TheVariants as status
-use Rattle.ringcheck.specs.declared.ending.Ended.{Ended}
-use Rattle.ringcheck.specs.declared.ending.Ended.TheVariants as ended
+use Rattle.package_check.specs.Package.{Source}
+use Rattle.ringcheck_files.specs.declared.Status.TheVariants as status
+use Rattle.ringcheck_files.specs.declared.ending.Ended.{Ended}
+use Rattle.ringcheck_files.specs.declared.ending.Ended.TheVariants as ended
 use Rattle.ringcheck.specs.declared.loading_files.Stop.{Stop}
+use Rattle.ringcheck.specs.declared.refusing.Style.{Style}
 use Rattle.ringcheck.specs.Doing.{AnsweredDone, SaysDone}
-use Rattle.ringcheck.specs.Inner.Endings.{HasCause, status_after}
-use Rattle.ringcheck.specs.Running.{HasFiles, Says, bad_file, file_limit, manifest_limit, sources, within}
+use Rattle.ringcheck_files.specs.Endings.{HasCause, status_after}
 use Rattle.ringcheck.specs.Inner.Stopping.{StopsFiles, StopsManifest, TellsOf}
-use Rattle.ringcheck.proofs.Checking as checking
+use Rattle.ringcheck.specs.Refusing.{of_file}
+use Rattle.ringcheck_files.specs.Loading.{file_limit, within}
+use Rattle.ringcheck.specs.Running.{HasFiles, manifest_limit, sources}
+use Rattle.ringcheck.proofs.Refused.{by_stop, file_refusal, files_refusal, manifest_refusal}
 
--- what holds of a refusal, and where memory or the writer failed, holds of an end that is else a refusal
-pub refused_by : (P : Ended → Type 0) → P (ended.Said status.Refused) → P ended.OutOfMemory → P ended.WriterFailed → (e : Ended) → (e ≢ ended.WriterFailed → e ≢ ended.OutOfMemory → e ≡ ended.Said status.Refused) → P e
-refused_by P refused memory writer (ended.Said s) h = subst P (sym (h (λ x. cc x) (λ x. cc x))) refused
-refused_by P refused memory writer ended.LoaderFailed h = subst P (sym (h (λ x. cc x) (λ x. cc x))) refused
-refused_by P refused memory writer ended.OutOfMemory h = memory
-refused_by P refused memory writer ended.WriterFailed h = writer
-
-module _ (Done : List Source → Type 0) where
+module _ (Done : List Source → Type 0) (in_style : Style) (before after : Option (List ℕ)) where
   -- it was done
-  pub done : (all : List Source) (e : Ended) → (e ≢ ended.WriterFailed → e ≢ ended.OutOfMemory → (e ≡ ended.Said status.Pass) × Done all) → AnsweredDone all Done e
+  pub done : (all : List Source) (e : Ended) → (e ≢ ended.WriterFailed → e ≢ ended.OutOfMemory → (e ≡ ended.Said status.Pass) × Done all) → AnsweredDone all Done in_style before after e
   done all (ended.Said status.Pass) h = (h (λ x. cc x) (λ x. cc x)).1
   done all (ended.Said status.Findings) h = cc (h (λ x. cc x) (λ x. cc x)).0
   done all (ended.Said status.Refused) h = cc (h (λ x. cc x) (λ x. cc x)).0
@@ -34,12 +28,8 @@ module _ (Done : List Source → Type 0) where
   done all ended.OutOfMemory h = tt
   done all ended.WriterFailed h = tt
 
-  -- a file is refused
-  pub refused_file : (all : List Source) (fault : ℕ × Fault) (e : Ended) → IsFirstRefused all fault.0 fault.1 → (e ≢ ended.WriterFailed → e ≢ ended.OutOfMemory → e ≡ ended.Said status.Refused) → AnsweredDone all Done e
-  refused_file all fault e a h = refused_by (AnsweredDone all Done) (fault, a) tt tt e h
-
   -- what is said of files at hand does not end by the loader
-  pub cause : (all : List Source) (e : Ended) (old new : ℕ) → AnsweredDone all Done e → HasCause old new e
+  pub cause : (all : List Source) (e : Ended) (old new : ℕ) → AnsweredDone all Done in_style before after e → HasCause old new e
   cause all (ended.Said status.Pass) old new a = tt
   cause all (ended.Said status.Findings) old new a = tt
   cause all (ended.Said status.Refused) old new a = tt
@@ -51,28 +41,25 @@ module _ (Done : List Source → Type 0) where
 
   module _ (has : List ℕ → List ℕ → Type 0) (name : List ℕ) where
     -- what is refused under any rules is not done
-    stopped : (before after : Option (List ℕ)) (s : Stop) (e : Ended) → TellsOf s e → ((rules : GridRules) → Says has name rules before after (status_after e)) → SaysDone has name Done (status_after e)
-    stopped before after s (ended.Said status.Pass) i h = absurd i
-    stopped before after s (ended.Said status.Findings) i h = absurd i
-    stopped before after s (ended.Said status.Refused) i h = h
-    stopped before after s (ended.Said status.Usage) i h = absurd i
-    stopped before after s (ended.Said status.Device) i h = absurd i
-    stopped before after s ended.LoaderFailed i h = tt
-    stopped before after s ended.OutOfMemory i h = tt
-    stopped before after s ended.WriterFailed i h = tt
-
-    pub stopped_manifest : (before after : Option (List ℕ)) (s : Stop) (e : Ended) → StopsManifest has name s → TellsOf s e → SaysDone has name Done (status_after e)
-    stopped_manifest before after s e h i = stopped before after s e i (λ rules. checking.stopped_manifest has name rules before after s e h i)
+    pub stopped_manifest : (entries : List Entry) (s : Stop) (e : Ended) → StopsManifest has name s → TellsOf in_style entries s before after e → SaysDone has name Done in_style before after (status_after e)
+    stopped_manifest entries s e h t = by_stop (λ e. SaysDone has name Done in_style before after (status_after e)) in_style entries s before after tt tt tt
+        (λ why is told. record { why = why; refused = λ rules. manifest_refusal has name rules entries s why h is; told = told }) e t
 
     module _ (text : List ℕ) (entries : List Entry) (held : has name text) (names : manifest text ≡ Ok entries) where
-      pub stopped_files : (before after : Option (List ℕ)) (later : List ℕ → List ℕ → Type 0) → ((n b : List ℕ) → later n b → has n b) → (s : Stop) (e : Ended)
-          → StopsFiles later entries s → TellsOf s e → SaysDone has name Done (status_after e)
-      stopped_files before after later to s e h i = stopped before after s e i (λ rules. checking.stopped_files has name rules before after text entries held names later to s e h i)
+      pub stopped_files : (later : List ℕ → List ℕ → Type 0) → ((n b : List ℕ) → later n b → has n b) → (s : Stop) (e : Ended)
+          → StopsFiles later entries s → TellsOf in_style entries s before after e → SaysDone has name Done in_style before after (status_after e)
+      stopped_files later to s e h t = by_stop (λ e. SaysDone has name Done in_style before after (status_after e)) in_style entries s before after tt tt tt
+          (λ why is told. record { why = why; refused = λ rules. file_refusal has name rules text entries held names later to s why h is; told = told }) e t
 
-      pub said : length text ≤ manifest_limit → (files : List (List ℕ)) (e : Ended) → HasFiles (within file_limit has) entries files → AnsweredDone (sources entries files) Done e → SaysDone has name Done (status_after e)
+      pub said : length text ≤ manifest_limit → (files : List (List ℕ)) (e : Ended) → HasFiles (within file_limit has) entries files → AnsweredDone (sources entries files) Done in_style before after e
+          → SaysDone has name Done in_style before after (status_after e)
       said short files (ended.Said status.Pass) h a = record { entries = entries; files = files; held = record { text = text; held = held; names = names; short = short; loaded = h }; holds = a }
       said short files (ended.Said status.Findings) h a = absurd a
-      said short files (ended.Said status.Refused) h a = λ rules. bad_file entries files a.0 (record { text = text; held = held; names = names; short = short; loaded = h }) a.1
+      said short files (ended.Said status.Refused) h a = record {
+        why = of_file a.index a.source.name a.fault;
+        refused = λ rules. files_refusal has name rules entries files in_style before after (record { text = text; held = held; names = names; short = short; loaded = h }) a;
+        told = a.told;
+      }
       said short files (ended.Said status.Usage) h a = absurd a
       said short files (ended.Said status.Device) h a = absurd a
       said short files ended.LoaderFailed h a = absurd a

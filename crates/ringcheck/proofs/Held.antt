@@ -1,5 +1,5 @@
 -- What a check or a report that passes, or a measure, says of three files at hand.
-use Rattle.std.proofs.Common.{◌≡◌, ◌⊎◌, inl, inr, ℕ, zero, suc, List, [], ◌∷◌, Option, None, Result, Ok, Err, length, codes, ap, sym, subst, refl, arith}
+use Rattle.std.proofs.Common.{◌≡◌, inl, inr, ℕ, zero, suc, List, [], ◌∷◌, Option, None, Result, Ok, Err, length, codes, ap, sym, subst, refl, arith}
 use Rattle.std.specs.List.{Contains}
 use Rattle.grid_units.specs.Holes.{GridRules}
 use Rattle.grid_units.specs.declared.fault.Reason.{Reason}
@@ -8,13 +8,15 @@ use Rattle.manifest.specs.Manifest.{manifest}
 use Rattle.measuring.specs.Measures.{PackagePasses}
 use Rattle.measuring.specs.declared.measure.Measure.{Measure}
 use Rattle.package_check.specs.Soundness.{IsSound}
-use Rattle.ringcheck.specs.declared.Status.{Status}
-use Rattle.ringcheck.specs.declared.Status.TheVariants as status
+use Rattle.ringcheck_files.specs.declared.Status.{Status}
+use Rattle.ringcheck_files.specs.declared.Status.TheVariants as status
 use Rattle.ringcheck.specs.declared.naming.Format.{Format}
 use Rattle.ringcheck.specs.declared.naming.ReportFormat.{ReportFormat}
 use Rattle.ringcheck.specs.Measuring.{SaysMeasureOf}
+use Rattle.ringcheck_files.specs.Loading.{file_limit, within}
+use Rattle.ringcheck_files.specs.Words.{SaysUsage}
 use Rattle.ringcheck.specs.Reporting.{SaysReportOf}
-use Rattle.ringcheck.specs.Running.{HasFiles, SaysOf, file_limit, sources, within}
+use Rattle.ringcheck.specs.Running.{HasFiles, SaysOf, sources}
 use Rattle.ringcheck.proofs.Loaded.{along}
 
 -- a manifest, a layer and a drill file under their names
@@ -33,14 +35,14 @@ first_held m l d text (suc zero, lt, is) = absurd (other_length (codes "top.gbr"
 first_held m l d text (suc (suc zero), lt, is) = absurd (other_length (codes "pth.drl") (codes "m.csv") refl refl (ap (λ (p : List ℕ × List ℕ). p.0) is))
 first_held m l d text (suc (suc (suc k)), lt, is) = absurd (omega (arith, lt))
 
-never : (s : Status) → (s ≡ status.Usage) ⊎ (s ≡ status.Device) → s ≡ status.Pass → ⊥
-never s (inl u) p = cc
-never s (inr d) p = cc
+never : (why : Reason) (before after : Option (List ℕ)) (s : Status) → SaysUsage why before after s → s ≡ status.Pass → ⊥
+never why before after s (inl u) p = let e = u.0 in cc
+never why before after s (inr d) p = cc
 
 -- the files that the manifest names are sound
 pub sound_as_held : (m l d : List ℕ) (r : Result GridRules Reason) (before after : Option (List ℕ)) (s : Status) → SaysOf (lies m l d) (codes "m.csv") r before after s → s ≡ status.Pass
     → (rules : GridRules) × (r ≡ Ok rules) × (entries : List Entry) × (manifest m ≡ Ok entries) × (files : List (List ℕ)) × HasFiles (lies m l d) entries files × IsSound (sources entries files) rules
-sound_as_held m l d (Err why) before after s says is = absurd (never s says is)
+sound_as_held m l d (Err why) before after s says is = absurd (never why before after s says is)
 sound_as_held m l d (Ok rules) before after status.Pass says is =
     let held = says.reported.held in (
       rules,
@@ -60,7 +62,7 @@ sound_as_held m l d (Ok rules) before after status.Device says is = cc
 pub met_as_held : (m l d : List ℕ) (r : Result Format Reason) (before after : Option (List ℕ)) (s : Status) → SaysMeasureOf (lies m l d) (codes "m.csv") r before after s → s ≡ status.Pass
     → (entries : List Entry) × (manifest m ≡ Ok entries) × (files : List (List ℕ)) × HasFiles (lies m l d) entries files
     × (measure : Measure) × PackagePasses (sources entries files) measure.meets.ring measure.meets.gap
-met_as_held m l d (Err why) before after s says is = absurd (never s says is)
+met_as_held m l d (Err why) before after s says is = absurd (never why before after s says is)
 met_as_held m l d (Ok form) before after status.Pass says is =
     let held = says.held in (
       says.entries,
@@ -78,7 +80,7 @@ met_as_held m l d (Ok form) before after status.Device says is = cc
 -- the files that the manifest names are sound, where a report tells of no finding
 pub told_as_held : (m l d : List ℕ) (r : Result (GridRules × Option ℕ × ReportFormat) Reason) (before after : Option (List ℕ)) (s : Status) → SaysReportOf (lies m l d) (codes "m.csv") r None before after s → s ≡ status.Pass
     → (asked : GridRules × Option ℕ × ReportFormat) × (r ≡ Ok asked) × (entries : List Entry) × (manifest m ≡ Ok entries) × (files : List (List ℕ)) × HasFiles (lies m l d) entries files × IsSound (sources entries files) asked.0
-told_as_held m l d (Err why) before after s says is = absurd (never s says is)
+told_as_held m l d (Err why) before after s says is = absurd (never why before after s says is)
 told_as_held m l d (Ok (rules, most, form)) before after status.Pass says is =
     let held = says.held in (
       (rules, most, form),

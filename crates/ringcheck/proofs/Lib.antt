@@ -1,8 +1,7 @@
 pub mod Loaded
+pub mod Refused
 pub mod Checking
-pub mod Refusals
 pub mod Held
-pub mod Folders
 pub mod Working
 pub mod Reporting
 pub mod Doing

@@ -24,7 +24,7 @@ along has before to [] (b ∷ bs) h = absurd h
 along has before to (e ∷ es) [] h = absurd h
 along has before to (e ∷ es) (b ∷ bs) h = (to e.file b h.0, along has before to es bs h.1)
 
-abbrev source : ℕ → Entry → List ℕ → Source
+abbrev pub source : ℕ → Entry → List ℕ → Source
 source n e bytes = record { role = e.role; name = e.name; span = e.span; bytes = bytes; layers = n }
 
 -- the files of a package and one more

@@ -1,32 +1,33 @@
 -- What the parts of a report for people say together.
-use Rattle.std.proofs.Common.{◌≡◌, ◌≢◌, ◌<◌, ◌≤◌, ◌+◌, ℕ, Bool, true, false, List, [], ◌∷◌, Option, Some, None, Ok, length, ◌⊎◌, inl, inr, arith, refl}
+use Rattle.std.proofs.Common.{◌≡◌, ◌≢◌, ◌<◌, ◌≤◌, ◌+◌, ℕ, Bool, true, false, List, [], ◌∷◌, Option, Some, None, Ok, length, ◌⊎◌, inl, inr, arith, refl, subst}
 use Rattle.std.specs.Prelude.{if◌then◌else◌}
 use Rattle.grid_units.specs.Holes.{GridRules}
 use Rattle.grid_units.specs.declared.fault.Fault.{Fault}
 use Rattle.manifest.specs.declared.Entry.{Entry}
 use Rattle.manifest.specs.Manifest.{manifest}
-use Rattle.package_check.specs.Package.{Source, IsFirstRefused}
+use Rattle.package_check.specs.Package.{Source}
 use Rattle.report_text.specs.declared.GapLack.{GapLack}
 use Rattle.report_text.specs.declared.RingLack.{RingLack}
 use Rattle.report_text.specs.declared.Telling.{Telling}
-use Rattle.ringcheck.specs.declared.Status.{Status}
-use Rattle.ringcheck.specs.declared.Status.TheVariants as status
-use Rattle.ringcheck.specs.declared.ending.Ended.{Ended}
-use Rattle.ringcheck.specs.declared.ending.Ended.TheVariants as ended
+use Rattle.ringcheck_files.specs.declared.Status.{Status}
+use Rattle.ringcheck_files.specs.declared.Status.TheVariants as status
+use Rattle.ringcheck_files.specs.declared.ending.Ended.{Ended}
+use Rattle.ringcheck_files.specs.declared.ending.Ended.TheVariants as ended
 use Rattle.ringcheck.specs.declared.loading_files.Stop.{Stop}
 use Rattle.ringcheck.specs.declared.loading_files.Stop.TheVariants as stop
 use Rattle.ringcheck.specs.declared.naming.ReportFormat.{ReportFormat}
-use Rattle.ringcheck.specs.Inner.Endings.{HasCause, status_after}
-use Rattle.ringcheck.specs.Reporting.{AnsweredReport, SaysReport, SaysWaiving, Tells, TellsAccepted, telling_status, waived_status}
-use Rattle.ringcheck.specs.Running.{HasFiles, HasPackage, RefusedIn, Says, bad_file, bad_manifest, file_limit, long_file, long_manifest, manifest_limit, sources, within}
+use Rattle.ringcheck_files.specs.Endings.{HasCause, status_after}
+use Rattle.ringcheck.specs.Refusing.{Refusal, TellsRefusal, of_file, of_waivers}
+use Rattle.ringcheck_files.specs.Loading.{file_limit, within}
+use Rattle.ringcheck.specs.Reporting.{AnsweredReport, SaysReport, SaysWaiving, Tells, TellsAccepted, report_style, telling_status, waived_status}
+use Rattle.ringcheck.specs.Running.{HasFiles, HasPackage, RefusedIn, bad_file, bad_manifest, long_file, long_manifest, manifest_limit, sources}
 use Rattle.ringcheck.specs.Inner.Stopping.{IsRefusal, StopsFiles, StopsManifest, StopsWaivers, TellsOf}
 use Rattle.ringcheck.specs.Waiving.{RefusedWaivers}
 use Rattle.waivers.specs.Waiving.{are_all_waived}
 use Rattle.waivers.specs.declared.Waiver.{Waiver}
 use Rattle.waivers.specs.declared.waiving.Waived.{Waived}
-use Rattle.ringcheck.proofs.Checking as checking
-use Rattle.ringcheck.proofs.Doing.{refused_by}
 use Rattle.ringcheck.proofs.Loaded.{along}
+use Rattle.ringcheck.proofs.Refused.{by_stop, file_refusal, files_refusal, long_along, manifest_refusal}
 
 passed : (rs : List RingLack) (gs : List GapLack) → ended.Said status.Pass ≡ ended.Said (telling_status rs gs) → (rs ≡ []) × (gs ≡ [])
 passed [] [] e = (refl, refl)
@@ -96,10 +97,6 @@ module _ (all : List Source) (rules : GridRules) (most : Option ℕ) (form : Rep
   waived_told waivers t ended.WriterFailed h = tt
 
 module _ (all : List Source) (rules : GridRules) (most : Option ℕ) (form : ReportFormat) (waivers : Option (List Waiver)) (before after : Option (List ℕ)) where
-  -- a file is refused
-  pub refused_file : (fault : ℕ × Fault) (e : Ended) → IsFirstRefused all fault.0 fault.1 → (e ≢ ended.WriterFailed → e ≢ ended.OutOfMemory → e ≡ ended.Said status.Refused) → AnsweredReport all rules most form waivers before after e
-  refused_file fault e a h = refused_by (AnsweredReport all rules most form waivers before after) (fault, a) tt tt e h
-
   -- what is said of files at hand does not end by the loader
   pub answered_cause : (e : Ended) (old new : ℕ) → AnsweredReport all rules most form waivers before after e → HasCause old new e
   answered_cause (ended.Said status.Pass) old new a = tt
@@ -112,30 +109,25 @@ module _ (all : List Source) (rules : GridRules) (most : Option ℕ) (form : Rep
   answered_cause ended.WriterFailed old new a = tt
 
 module _ (has : List ℕ → List ℕ → Type 0) (name : List ℕ) (rules : GridRules) (most : Option ℕ) (form : ReportFormat) (waivers : Option (List Waiver)) (before after : Option (List ℕ)) where
-  -- what a check refuses is refused here
-  stopped : (s : Stop) (e : Ended) → TellsOf s e → Says has name rules before after (status_after e) → SaysReport has name rules most form waivers before after (status_after e)
-  stopped s (ended.Said status.Pass) i h = absurd i
-  stopped s (ended.Said status.Findings) i h = absurd i
-  stopped s (ended.Said status.Refused) i h = h
-  stopped s (ended.Said status.Usage) i h = absurd i
-  stopped s (ended.Said status.Device) i h = absurd i
-  stopped s ended.LoaderFailed i h = tt
-  stopped s ended.OutOfMemory i h = tt
-  stopped s ended.WriterFailed i h = tt
-
-  pub stopped_manifest : (s : Stop) (e : Ended) → StopsManifest has name s → TellsOf s e → SaysReport has name rules most form waivers before after (status_after e)
-  stopped_manifest s e h i = stopped s e i (checking.stopped_manifest has name rules before after s e h i)
+  pub stopped_manifest : (all : List Entry) (s : Stop) (e : Ended) → StopsManifest has name s → TellsOf (report_style form) all s before after e → SaysReport has name rules most form waivers before after (status_after e)
+  stopped_manifest all s e h t = by_stop (λ e. SaysReport has name rules most form waivers before after (status_after e)) (report_style form) all s before after tt tt tt
+      (λ why is told. record { why = why; refused = manifest_refusal has name rules all s why h is; told = told }) e t
 
   module _ (text : List ℕ) (entries : List Entry) (held : has name text) (names : manifest text ≡ Ok entries) where
     pub stopped_files : (later : List ℕ → List ℕ → Type 0) → ((n b : List ℕ) → later n b → has n b) → (s : Stop) (e : Ended)
-        → StopsFiles later entries s → TellsOf s e → SaysReport has name rules most form waivers before after (status_after e)
-    stopped_files later to s e h i = stopped s e i (checking.stopped_files has name rules before after text entries held names later to s e h i)
+        → StopsFiles later entries s → TellsOf (report_style form) entries s before after e → SaysReport has name rules most form waivers before after (status_after e)
+    stopped_files later to s e h t = by_stop (λ e. SaysReport has name rules most form waivers before after (status_after e)) (report_style form) entries s before after tt tt tt
+        (λ why is told. record { why = why; refused = file_refusal has name rules text entries held names later to s why h is; told = told }) e t
 
     pub said : length text ≤ manifest_limit → (files : List (List ℕ)) (e : Ended) → HasFiles (within file_limit has) entries files → AnsweredReport (sources entries files) rules most form waivers before after e
         → SaysReport has name rules most form waivers before after (status_after e)
     said short files (ended.Said status.Pass) h a = record { entries = entries; files = files; held = record { text = text; held = held; names = names; short = short; loaded = h }; holds = a }
     said short files (ended.Said status.Findings) h a = record { entries = entries; files = files; held = record { text = text; held = held; names = names; short = short; loaded = h }; holds = a }
-    said short files (ended.Said status.Refused) h a = bad_file entries files a.0 (record { text = text; held = held; names = names; short = short; loaded = h }) a.1
+    said short files (ended.Said status.Refused) h a = record {
+      why = of_file a.index a.source.name a.fault;
+      refused = files_refusal has name rules entries files (report_style form) before after (record { text = text; held = held; names = names; short = short; loaded = h }) a;
+      told = a.told;
+    }
     said short files (ended.Said status.Usage) h a = absurd a
     said short files (ended.Said status.Device) h a = absurd a
     said short files ended.LoaderFailed h a = absurd a
@@ -153,37 +145,35 @@ module _ (later has : List ℕ → List ℕ → Type 0) (to : (n b : List ℕ) �
     loaded = along (within file_limit later) (within file_limit has) (λ n b w. (to n b w.0, w.1)) entries files h.loaded;
   }
 
-  refused_along : (rules : GridRules) → RefusedIn later name rules → RefusedIn has name rules
-  refused_along rules (long_manifest text held long) = long_manifest text (to name text held) long
-  refused_along rules (bad_manifest text fault held bad) = bad_manifest text fault (to name text held) bad
-  refused_along rules (long_file text entries entry bytes held names lies loaded long) = long_file text entries entry bytes (to name text held) names lies (to entry.file bytes loaded) long
-  refused_along rules (bad_file entries files fault held answer) = bad_file entries files fault (package_along entries files held) answer
+  refused_along : (rules : GridRules) (why : Refusal) → RefusedIn later name rules why → RefusedIn has name rules why
+  refused_along rules why (long_manifest text held long is) = long_manifest text (to name text held) long is
+  refused_along rules why (bad_manifest text fault held bad is) = bad_manifest text fault (to name text held) bad is
+  refused_along rules why (long_file text entries index entry held names long is) = long_file text entries index entry (to name text held) names (long_along later has to entries index entry long) is
+  refused_along rules why (bad_file entries files index fault source held first at is) = bad_file entries files index fault source (package_along entries files held) first at is
 
   pub report_along : (rules : GridRules) (most : Option ℕ) (form : ReportFormat) (waivers : Option (List Waiver)) (before after : Option (List ℕ)) (s : Status)
       → SaysReport later name rules most form waivers before after s → SaysReport has name rules most form waivers before after s
   report_along rules most form waivers before after status.Pass h = record { entries = h.entries; files = h.files; held = package_along h.entries h.files h.held; holds = h.holds }
   report_along rules most form waivers before after status.Findings h = record { entries = h.entries; files = h.files; held = package_along h.entries h.files h.held; holds = h.holds }
-  report_along rules most form waivers before after status.Refused h = refused_along rules h
+  report_along rules most form waivers before after status.Refused h = record { why = h.why; refused = refused_along rules h.why h.refused; told = h.told }
   report_along rules most form waivers before after status.Usage h = h
   report_along rules most form waivers before after status.Device h = tt
 
 -- there are no waivers
 module _ (has : List ℕ → List ℕ → Type 0) (name file : List ℕ) (rules : GridRules) (most : Option ℕ) (form : ReportFormat) (before after : Option (List ℕ)) where
-  waivers_refusal : (s : Stop) → StopsWaivers has file s → IsRefusal s → RefusedWaivers has file
-  waivers_refusal (stop.Waivers place reason) h i = h
-  waivers_refusal (stop.Manifest place reason) h i = absurd h
-  waivers_refusal (stop.LongFile index) h i = absurd h
-  waivers_refusal stop.Memory h i = absurd i
-  waivers_refusal stop.Device h i = absurd i
-  waivers_refusal stop.DeviceWaivers h i = absurd i
-  waivers_refusal (stop.DeviceFile index) h i = absurd i
+  -- its file is refused
+  waivers_refusal : (entries : List Entry) (s : Stop) (why : Refusal) → StopsWaivers has file s → IsRefusal entries s why → (fault : Fault) × RefusedWaivers has file fault × (why ≡ of_waivers fault)
+  waivers_refusal entries (stop.Waivers fault) why h i = (fault, h, i)
+  waivers_refusal entries (stop.Manifest fault) why h i = absurd h
+  waivers_refusal entries (stop.LongFile index) why h i = absurd h
+  waivers_refusal entries stop.Memory why h i = absurd i
+  waivers_refusal entries stop.Device why h i = absurd i
+  waivers_refusal entries stop.DeviceWaivers why h i = absurd i
+  waivers_refusal entries (stop.DeviceFile index) why h i = absurd i
 
-  pub stopped_waivers : (s : Stop) (e : Ended) → StopsWaivers has file s → TellsOf s e → SaysWaiving has name rules most form (Some file) before after (status_after e)
-  stopped_waivers s (ended.Said status.Pass) h i = absurd i
-  stopped_waivers s (ended.Said status.Findings) h i = absurd i
-  stopped_waivers s (ended.Said status.Refused) h i = inl (refl, waivers_refusal s h i)
-  stopped_waivers s (ended.Said status.Usage) h i = absurd i
-  stopped_waivers s (ended.Said status.Device) h i = absurd i
-  stopped_waivers s ended.LoaderFailed h i = inr (inl refl)
-  stopped_waivers s ended.OutOfMemory h i = inr (inl refl)
-  stopped_waivers s ended.WriterFailed h i = inr (inl refl)
+  pub stopped_waivers : (entries : List Entry) (s : Stop) (e : Ended) → StopsWaivers has file s → TellsOf (report_style form) entries s before after e → SaysWaiving has name rules most form (Some file) before after (status_after e)
+  stopped_waivers entries s e h t = by_stop (λ e. SaysWaiving has name rules most form (Some file) before after (status_after e)) (report_style form) entries s before after
+      (inr (inl refl)) (inr (inl refl)) (inr (inl refl))
+      (λ why is told.
+      let (fault, refused, same) = waivers_refusal entries s why h is in
+      inl (refl, (fault, refused, subst (λ (w : Refusal). TellsRefusal (report_style form) w before after) same told))) e t

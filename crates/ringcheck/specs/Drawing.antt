@@ -1,5 +1,5 @@
 -- What a run says of the picture of a package.
-use Rattle.std.specs.Prelude.{◌≡◌, ◌⊎◌, ℕ, List, [], map, Option, Some, Result, Ok, Err}
+use Rattle.std.specs.Prelude.{◌≡◌, ℕ, List, [], map, Option, Some, Result, Ok, Err}
 use Rattle.std.specs.Io.KnownBytes.{Appends}
 use Rattle.grid_units.specs.Holes.{GridRules}
 use Rattle.grid_units.specs.declared.fault.Reason.{Reason}
@@ -8,11 +8,12 @@ use Rattle.flashed_boards.specs.Flashed.{FlashedSurvey, IsFlashed}
 use Rattle.package_check.specs.Boards.{board_findings}
 use Rattle.package_check.specs.Package.{Source}
 use Rattle.package_check.specs.Soundness.{IsSound}
-use Rattle.ringcheck.specs.declared.Status.{Status}
-use Rattle.ringcheck.specs.declared.Status.TheVariants as status
-use Rattle.ringcheck.specs.declared.ending.Ended.{Ended}
+use Rattle.ringcheck_files.specs.declared.Status.{Status}
+use Rattle.ringcheck_files.specs.declared.ending.Ended.{Ended}
+use Rattle.ringcheck.specs.declared.refusing.Style.TheVariants as style
 use Rattle.ringcheck.specs.Doing.{AnsweredDone, SaysDone}
-use Rattle.ringcheck.specs.Running.{Relation}
+use Rattle.ringcheck_files.specs.Loading.{Relation}
+use Rattle.ringcheck_files.specs.Words.{SaysUsage}
 
 -- The writer got the page of the board of files, with what is found under the rules, if there are any. Where nothing is found, so that the
 -- page says PASS, the files are sound (docs/DEFINITIONS.md, Runs).
@@ -26,13 +27,13 @@ pub record Draws (all : List Source) (rules : Option GridRules) (before after : 
 
 -- what a status says of the picture of a package (docs/DEFINITIONS.md, Runs)
 abbrev pub SaysDraw : Relation → List ℕ → Option GridRules → Option (List ℕ) → Option (List ℕ) → Status → Type 0
-SaysDraw has name rules before after s = SaysDone has name (λ all. Draws all rules before after) s
+SaysDraw has name rules before after s = SaysDone has name (λ all. Draws all rules before after) style.Line before after s
 
 -- the same, of rules that words name, or that they do not name (docs/DEFINITIONS.md, Runs)
 abbrev pub SaysDrawOf : Relation → List ℕ → Result (Option GridRules) Reason → Option (List ℕ) → Option (List ℕ) → Status → Type 0
 SaysDrawOf has name (Ok rules) before after s = SaysDraw has name rules before after s
-SaysDrawOf has name (Err why) before after s = (s ≡ status.Usage) ⊎ (s ≡ status.Device)
+SaysDrawOf has name (Err why) before after s = SaysUsage why before after s
 
 -- what an end says of the picture of files that are at hand (docs/DEFINITIONS.md, Runs)
 abbrev pub AnsweredDraw : List Source → Option GridRules → Option (List ℕ) → Option (List ℕ) → Ended → Type 0
-AnsweredDraw all rules before after e = AnsweredDone all (λ all. Draws all rules before after) e
+AnsweredDraw all rules before after e = AnsweredDone all (λ all. Draws all rules before after) style.Line before after e

@@ -1,4 +1,2 @@
-pub mod Asking
-pub mod Endings
 pub mod Stopping
 pub mod Working

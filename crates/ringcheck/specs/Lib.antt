@@ -1,8 +1,8 @@
+pub mod Asking
 pub mod Naming
-pub mod Printing
+pub mod Refusing
 pub mod Running
 pub mod Waiving
-pub mod Folders
 pub mod Measuring
 pub mod Reporting
 pub mod Doing

@@ -1,5 +1,5 @@
 -- What a run says of the measure of a package.
-use Rattle.std.specs.Prelude.{◌≡◌, ◌⊎◌, ◌++◌, ℕ, List, map, Option, Result, Ok, Err}
+use Rattle.std.specs.Prelude.{◌++◌, ℕ, List, map, Option, Result, Ok, Err}
 use Rattle.std.specs.Io.KnownBytes.{Appends}
 use Rattle.grid_units.specs.declared.fault.Reason.{Reason}
 use Rattle.margin_text.specs.Lines.{measure_text}
@@ -10,13 +10,15 @@ use Rattle.package_check.specs.Package.{Source}
 use Rattle.package_check.specs.Texts.{file_lines}
 use Rattle.report_json.specs.Packages.{measure_value}
 use Rattle.report_json.specs.Values.{json_text}
-use Rattle.ringcheck.specs.declared.Status.{Status}
-use Rattle.ringcheck.specs.declared.Status.TheVariants as status
-use Rattle.ringcheck.specs.declared.ending.Ended.{Ended}
+use Rattle.ringcheck_files.specs.declared.Status.{Status}
+use Rattle.ringcheck_files.specs.declared.ending.Ended.{Ended}
 use Rattle.ringcheck.specs.declared.naming.Format.{Format}
 use Rattle.ringcheck.specs.declared.naming.Format.TheVariants as format
+use Rattle.ringcheck.specs.declared.refusing.Style.{Style}
+use Rattle.ringcheck.specs.declared.refusing.Style.TheVariants as style
 use Rattle.ringcheck.specs.Doing.{AnsweredDone, SaysDone}
-use Rattle.ringcheck.specs.Running.{Relation}
+use Rattle.ringcheck_files.specs.Loading.{Relation}
+use Rattle.ringcheck_files.specs.Words.{SaysUsage}
 
 -- the lines of a measure (docs/FORMATS.md, Measure)
 abbrev pub lines_of : Measure → List ℕ
@@ -41,15 +43,20 @@ pub record Measures (all : List Source) (form : Format) (before after : Option (
   pub written : Appends before after (measure_page form (map (λ source. source.name) all) board measure)
   pub passes : PackagePasses all measure.meets.ring measure.meets.gap
 
+-- how it is told why there is no measure: by a line, or as JSON (docs/FORMATS.md, Measure; JSON)
+abbrev pub style_of : Format → Style
+style_of format.Text = style.Line
+style_of format.Json = style.Json
+
 -- what a status says of the measure of a package (docs/DEFINITIONS.md, Runs)
 abbrev pub SaysMeasure : Relation → List ℕ → Format → Option (List ℕ) → Option (List ℕ) → Status → Type 0
-SaysMeasure has name form before after s = SaysDone has name (λ all. Measures all form before after) s
+SaysMeasure has name form before after s = SaysDone has name (λ all. Measures all form before after) (style_of form) before after s
 
 -- the same, in a format that a word names, or that it does not name (docs/DEFINITIONS.md, Runs)
 abbrev pub SaysMeasureOf : Relation → List ℕ → Result Format Reason → Option (List ℕ) → Option (List ℕ) → Status → Type 0
 SaysMeasureOf has name (Ok form) before after s = SaysMeasure has name form before after s
-SaysMeasureOf has name (Err why) before after s = (s ≡ status.Usage) ⊎ (s ≡ status.Device)
+SaysMeasureOf has name (Err why) before after s = SaysUsage why before after s
 
 -- what an end says of the measure of files that are at hand (docs/DEFINITIONS.md, Runs)
 abbrev pub AnsweredMeasure : List Source → Format → Option (List ℕ) → Option (List ℕ) → Ended → Type 0
-AnsweredMeasure all form before after e = AnsweredDone all (λ all. Measures all form before after) e
+AnsweredMeasure all form before after e = AnsweredDone all (λ all. Measures all form before after) (style_of form) before after e

@@ -4,7 +4,7 @@ use Rattle.std.specs.Io.KnownBytes.{Appends}
 use Rattle.grid_units.specs.Holes.{GridRules}
 use Rattle.grid_units.specs.declared.fault.Fault.{Fault}
 use Rattle.grid_units.specs.declared.fault.Reason.{Reason}
-use Rattle.package_check.specs.Package.{Source, IsFirstRefused}
+use Rattle.package_check.specs.Package.{Source}
 use Rattle.package_check.specs.Soundness.{IsSound}
 use Rattle.package_check.specs.declared.FileSum.{FileSum}
 use Rattle.report_json.specs.Packages.{telling_value, waived_value}
@@ -15,13 +15,19 @@ use Rattle.report_text.specs.declared.RingLack.{RingLack}
 use Rattle.report_text.specs.declared.Telling.{Telling}
 use Rattle.report_text.specs.declared.Whys.{Whys}
 use Rattle.telling.specs.Telling.{IsAsCheck, IsTellingOf}
-use Rattle.ringcheck.specs.declared.Status.{Status}
-use Rattle.ringcheck.specs.declared.Status.TheVariants as status
-use Rattle.ringcheck.specs.declared.ending.Ended.{Ended}
-use Rattle.ringcheck.specs.declared.ending.Ended.TheVariants as ended
+use Rattle.ringcheck_files.specs.declared.Status.{Status}
+use Rattle.ringcheck_files.specs.declared.Status.TheVariants as status
+use Rattle.ringcheck_files.specs.declared.ending.Ended.{Ended}
+use Rattle.ringcheck_files.specs.declared.ending.Ended.TheVariants as ended
 use Rattle.ringcheck.specs.declared.naming.ReportFormat.{ReportFormat}
 use Rattle.ringcheck.specs.declared.naming.ReportFormat.TheVariants as format
-use Rattle.ringcheck.specs.Running.{OfPackage, Relation, RefusedIn}
+use Rattle.ringcheck.specs.declared.refusing.Style.{Style}
+use Rattle.ringcheck.specs.declared.refusing.Style.TheVariants as style
+use Rattle.ringcheck.specs.Doing.{RefusesFiles}
+use Rattle.ringcheck.specs.Refusing.{TellsRefusal, of_waivers}
+use Rattle.ringcheck_files.specs.Loading.{Relation}
+use Rattle.ringcheck_files.specs.Words.{SaysUsage}
+use Rattle.ringcheck.specs.Running.{OfPackage, RefusesPackage}
 use Rattle.ringcheck.specs.Waiving.{HasWaivers, RefusedWaivers}
 use Rattle.waivers.specs.Findings.{findings_text}
 use Rattle.waivers.specs.Waiving.{AreReasons, IsWaived, are_all_waived}
@@ -104,11 +110,21 @@ abbrev pub TellsLacks : List Source → GridRules → Option ℕ → ReportForma
 TellsLacks all rules most form None before after = TellsFindings all rules most form before after
 TellsLacks all rules most form (Some waivers) before after = TellsUnwaived all rules most form waivers before after
 
+-- how it is told why there is no report: by a line and its page, as JSON, or by a line alone (docs/FORMATS.md, Report; JSON; Waivers)
+abbrev pub report_style : ReportFormat → Style
+report_style format.Text = style.Page
+report_style format.Json = style.Json
+report_style format.Waivers = style.Line
+
+-- a file of waivers that is refused, of which the writer got just the text of the refusal (docs/DEFINITIONS.md, Runs)
+abbrev pub RefusesWaivers : Relation → List ℕ → Style → Option (List ℕ) → Option (List ℕ) → Type 0
+RefusesWaivers has file in_style before after = (why : Fault) × RefusedWaivers has file why × TellsRefusal in_style (of_waivers why) before after
+
 -- What a status says of the report for people of a package. It is refused just where the check is (docs/DEFINITIONS.md, Runs).
 abbrev pub SaysReport : Relation → List ℕ → GridRules → Option ℕ → ReportFormat → Option (List Waiver) → Option (List ℕ) → Option (List ℕ) → Status → Type 0
 SaysReport has name rules most form waivers before after status.Pass = OfPackage has name (λ all. TellsPass all rules most form waivers before after)
 SaysReport has name rules most form waivers before after status.Findings = OfPackage has name (λ all. TellsLacks all rules most form waivers before after)
-SaysReport has name rules most form waivers before after status.Refused = RefusedIn has name rules
+SaysReport has name rules most form waivers before after status.Refused = RefusesPackage has name rules (report_style form) before after
 SaysReport has name rules most form waivers before after status.Usage = ⊥
 SaysReport has name rules most form waivers before after status.Device = ⊤
 
@@ -117,18 +133,18 @@ SaysReport has name rules most form waivers before after status.Device = ⊤
 abbrev pub SaysWaiving : Relation → List ℕ → GridRules → Option ℕ → ReportFormat → Option (List ℕ) → Option (List ℕ) → Option (List ℕ) → Status → Type 0
 SaysWaiving has name rules most form None before after s = SaysReport has name rules most form None before after s
 SaysWaiving has name rules most form (Some file) before after s =
-    ((s ≡ status.Refused) × RefusedWaivers has file) ⊎ ((s ≡ status.Device) ⊎ ((waivers : List Waiver) × HasWaivers has file waivers × SaysReport has name rules most form (Some waivers) before after s))
+    ((s ≡ status.Refused) × RefusesWaivers has file (report_style form) before after) ⊎ ((s ≡ status.Device) ⊎ ((waivers : List Waiver) × HasWaivers has file waivers × SaysReport has name rules most form (Some waivers) before after s))
 
 -- the same, of rules, a count and a format that words name, or that they do not name (docs/DEFINITIONS.md, Runs)
 abbrev pub SaysReportOf : Relation → List ℕ → Result (GridRules × Option ℕ × ReportFormat) Reason → Option (List ℕ) → Option (List ℕ) → Option (List ℕ) → Status → Type 0
 SaysReportOf has name (Ok (rules, most, form)) waive before after s = SaysWaiving has name rules most form waive before after s
-SaysReportOf has name (Err why) waive before after s = (s ≡ status.Usage) ⊎ (s ≡ status.Device)
+SaysReportOf has name (Err why) waive before after s = SaysUsage why before after s
 
 -- what an end says of the report of files that are at hand (docs/DEFINITIONS.md, Runs)
 abbrev pub AnsweredReport : List Source → GridRules → Option ℕ → ReportFormat → Option (List Waiver) → Option (List ℕ) → Option (List ℕ) → Ended → Type 0
 AnsweredReport all rules most form waivers before after (ended.Said status.Pass) = TellsPass all rules most form waivers before after
 AnsweredReport all rules most form waivers before after (ended.Said status.Findings) = TellsLacks all rules most form waivers before after
-AnsweredReport all rules most form waivers before after (ended.Said status.Refused) = (fault : ℕ × Fault) × IsFirstRefused all fault.0 fault.1
+AnsweredReport all rules most form waivers before after (ended.Said status.Refused) = RefusesFiles all (report_style form) before after
 AnsweredReport all rules most form waivers before after (ended.Said status.Usage) = ⊥
 AnsweredReport all rules most form waivers before after (ended.Said status.Device) = ⊥
 AnsweredReport all rules most form waivers before after ended.LoaderFailed = ⊥

@@ -1,22 +1,23 @@
 -- What a loader has under names, and what a run says over it.
-use Rattle.std.specs.Prelude.{◌≡◌, ◌<◌, ◌≤◌, ◌⊎◌, ℕ, List, [], ◌∷◌, length, Result, Ok, Err, ⊤, Option}
-use Rattle.std.specs.List.{Contains, count_by}
+use Rattle.std.specs.Prelude.{◌≡◌, ◌<◌, ◌≤◌, ℕ, List, [], ◌∷◌, length, take, slice_get, Result, Ok, Err, ⊤, Option, Some}
+use Rattle.std.specs.List.{count_by}
 use Rattle.std.specs.Io.KnownBytes.{Appends}
 use Rattle.grid_units.specs.Holes.{GridRules}
 use Rattle.grid_units.specs.declared.fault.Fault.{Fault}
 use Rattle.grid_units.specs.declared.fault.Reason.{Reason}
 use Rattle.manifest.specs.declared.Entry.{Entry}
 use Rattle.manifest.specs.Manifest.{manifest}
-use Rattle.ringcheck.specs.declared.Status.{Status}
-use Rattle.ringcheck.specs.declared.Status.TheVariants as status
+use Rattle.ringcheck_files.specs.declared.Status.{Status}
+use Rattle.ringcheck_files.specs.declared.Status.TheVariants as status
+use Rattle.ringcheck.specs.declared.refusing.Style.{Style}
+use Rattle.ringcheck.specs.declared.refusing.Style.TheVariants as style
+use Rattle.ringcheck.specs.Refusing.{Refusal, TellsRefusal, of_file, of_manifest}
+use Rattle.ringcheck_files.specs.Loading.{Relation, file_limit, too_long, within}
+use Rattle.ringcheck_files.specs.Words.{SaysUsage}
 use Rattle.package_check.specs.Reports.{Account}
 use Rattle.package_check.specs.Package.{Source, IsAnswer, is_copper}
 use Rattle.package_check.specs.Soundness.{IsSound}
 use Rattle.package_check.specs.Texts.{report_text}
-
--- the bytes that a loader may have under a name (docs/DEFINITIONS.md, Runs)
-abbrev pub Relation : Type 1
-Relation = List ℕ → List ℕ → Type 0
 
 -- the files that entries and their bytes make, in a package of so many copper files (docs/DEFINITIONS.md, Runs)
 abbrev pub sources_among : ℕ → List Entry → List (List ℕ) → List Source
@@ -36,17 +37,9 @@ HasFiles has [] (bytes ∷ rest) = ⊥
 HasFiles has (entry ∷ entries) [] = ⊥
 HasFiles has (entry ∷ entries) (bytes ∷ rest) = has entry.file bytes × HasFiles has entries rest
 
--- the most bytes of a file (docs/FORMATS.md, Limits)
-abbrev pub file_limit : ℕ
-file_limit = 268435456
-
 -- the most bytes of a manifest (docs/FORMATS.md, Limits)
 abbrev pub manifest_limit : ℕ
 manifest_limit = 1048576
-
--- the bytes that a loader may have under a name, as far as they are within a limit (docs/DEFINITIONS.md, Runs)
-abbrev pub within : ℕ → Relation → Relation
-within limit has name bytes = has name bytes × (length bytes ≤ limit)
 
 -- the manifest and the files of a package, as the loader has them, none above its limit (docs/DEFINITIONS.md, Runs)
 pub record HasPackage (has : Relation) (name : List ℕ) (entries : List Entry) (files : List (List ℕ)) : Type 0 where
@@ -78,25 +71,41 @@ pub record Passed (has : Relation) (name : List ℕ) (rules : GridRules) (before
   pub passes : report.findings ≡ []
   pub sound : IsSound (sources reported.entries reported.files) rules
 
--- Bytes that the loader has are refused: those of the manifest for their length or their records, those of a file for
+-- a file of a package is above its limit: so many bytes the loader has for the entry at this index, and bytes within the limit for each before it (docs/DEFINITIONS.md, Runs)
+pub record LongFile (has : Relation) (entries : List Entry) (index : ℕ) (entry : Entry) : Type 0 where
+  pub files : List (List ℕ)
+  pub before : HasFiles (within file_limit has) (take index entries) files
+  pub at : slice_get entries index ≡ Some entry
+  pub bytes : List ℕ
+  pub loaded : has entry.file bytes
+  pub long : file_limit < length bytes
+
+-- Bytes that the loader has are refused, and why: those of the manifest for their length or their records, those of a file for
 -- their length, or the package for a file (docs/DEFINITIONS.md, Runs).
-pub data RefusedIn (has : Relation) (name : List ℕ) (rules : GridRules) : Type 0 where
-  long_manifest : (text : List ℕ) → has name text → manifest_limit < length text → RefusedIn has name rules
-  bad_manifest : (text : List ℕ) (fault : Fault) → has name text → manifest text ≡ Err fault → RefusedIn has name rules
-  long_file : (text : List ℕ) (entries : List Entry) (entry : Entry) (bytes : List ℕ) → has name text → manifest text ≡ Ok entries
-      → Contains entries entry → has entry.file bytes → file_limit < length bytes → RefusedIn has name rules
-  bad_file : (entries : List Entry) (files : List (List ℕ)) (fault : ℕ × Fault) → HasPackage has name entries files
-      → IsAnswer (sources entries files) rules (Err fault) → RefusedIn has name rules
+pub data RefusedIn (has : Relation) (name : List ℕ) (rules : GridRules) (why : Refusal) : Type 0 where
+  long_manifest : (text : List ℕ) → has name text → manifest_limit < length text → why ≡ of_manifest too_long → RefusedIn has name rules why
+  bad_manifest : (text : List ℕ) (fault : Fault) → has name text → manifest text ≡ Err fault → why ≡ of_manifest fault → RefusedIn has name rules why
+  long_file : (text : List ℕ) (entries : List Entry) (index : ℕ) (entry : Entry) → has name text → manifest text ≡ Ok entries
+      → LongFile has entries index entry → why ≡ of_file index entry.name too_long → RefusedIn has name rules why
+  bad_file : (entries : List Entry) (files : List (List ℕ)) (index : ℕ) (fault : Fault) (source : Source) → HasPackage has name entries files
+      → IsAnswer (sources entries files) rules (Err (index, fault)) → slice_get (sources entries files) index ≡ Some source
+      → why ≡ of_file index source.name fault → RefusedIn has name rules why
+
+-- such bytes, of which the writer got just the text of the refusal (docs/DEFINITIONS.md, Runs)
+pub record RefusesPackage (has : Relation) (name : List ℕ) (rules : GridRules) (in_style : Style) (before after : Option (List ℕ)) : Type 0 where
+  pub why : Refusal
+  pub refused : RefusedIn has name rules why
+  pub told : TellsRefusal in_style why before after
 
 -- what a status says of a check under rules that were named (docs/DEFINITIONS.md, Runs)
 abbrev pub Says : Relation → List ℕ → GridRules → Option (List ℕ) → Option (List ℕ) → Status → Type 0
 Says has name rules before after status.Pass = Passed has name rules before after
 Says has name rules before after status.Findings = (report : Account) × Reported has name rules before after report × (0 < length report.findings)
-Says has name rules before after status.Refused = RefusedIn has name rules
+Says has name rules before after status.Refused = RefusesPackage has name rules style.Line before after
 Says has name rules before after status.Usage = ⊥
 Says has name rules before after status.Device = ⊤
 
 -- the same, of rules that two words name, or that they do not name (docs/DEFINITIONS.md, Runs)
 abbrev pub SaysOf : Relation → List ℕ → Result GridRules Reason → Option (List ℕ) → Option (List ℕ) → Status → Type 0
 SaysOf has name (Ok rules) before after s = Says has name rules before after s
-SaysOf has name (Err why) before after s = (s ≡ status.Usage) ⊎ (s ≡ status.Device)
+SaysOf has name (Err why) before after s = SaysUsage why before after s

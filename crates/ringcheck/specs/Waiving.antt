@@ -1,7 +1,8 @@
 -- The waivers that a loader has under a name, and why there are none.
 use Rattle.std.specs.Prelude.{◌≡◌, ◌<◌, ◌≤◌, ◌⊎◌, ℕ, List, length, Ok, Err}
 use Rattle.grid_units.specs.declared.fault.Fault.{Fault}
-use Rattle.ringcheck.specs.Running.{Relation, manifest_limit}
+use Rattle.ringcheck_files.specs.Loading.{Relation, too_long}
+use Rattle.ringcheck.specs.Running.{manifest_limit}
 use Rattle.waivers.specs.Reading.{waivers}
 use Rattle.waivers.specs.declared.Waiver.{Waiver}
 
@@ -9,6 +10,6 @@ use Rattle.waivers.specs.declared.Waiver.{Waiver}
 abbrev pub HasWaivers : Relation → List ℕ → List Waiver → Type 0
 HasWaivers has name all = (text : List ℕ) × has name text × (length text ≤ manifest_limit) × (waivers text ≡ Ok all)
 
--- a file of waivers that is refused: for its length, or for its records (docs/DEFINITIONS.md, Runs)
-abbrev pub RefusedWaivers : Relation → List ℕ → Type 0
-RefusedWaivers has name = (text : List ℕ) × has name text × ((manifest_limit < length text) ⊎ ((fault : Fault) × (waivers text ≡ Err fault)))
+-- a file of waivers that is refused, for its length, or for its records, and its fault (docs/DEFINITIONS.md, Runs)
+abbrev pub RefusedWaivers : Relation → List ℕ → Fault → Type 0
+RefusedWaivers has name why = (text : List ℕ) × has name text × (((manifest_limit < length text) × (why ≡ too_long)) ⊎ (waivers text ≡ Err why))

@@ -5,13 +5,13 @@ ghost use Rattle.flashed_boards.specs.Flashed.{IsFlashed};
 ghost use Rattle.ringcheck.specs.Drawing.{AnsweredDraw};
 ghost use Rattle.ringcheck.specs.Running.{sources};
 
-use crate::ending::{Ended, say_out_of_memory};
+use crate::Entry;
 use crate::packages::names_of;
-use crate::{Entry, Status};
 use drawing::{PrintFault, print_drawing};
 use flashed_boards::FlashedBoard;
 use grid_units::Rules;
 use package_check::laws::passing_is_sound;
+use ringcheck_files::{Ended, Status, say_out_of_memory};
 use std::alloc::Global;
 use std::io::Write;
 

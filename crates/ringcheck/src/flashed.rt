@@ -3,21 +3,21 @@
 ghost use Rattle.std.specs.Prelude.{◌≡◌, ℕ, List, None, Some, length, option_map};
 ghost use Rattle.flashed_boards.specs.Flashed.{FlashedStandsAfter, IsFlashed};
 ghost use Rattle.ringcheck.specs.Drawing.{SaysDrawOf};
-ghost use Rattle.ringcheck.specs.Inner.Endings.{HasCause, status_after};
+ghost use Rattle.ringcheck_files.specs.Endings.{HasCause, status_after};
 ghost use Rattle.ringcheck.specs.Naming as named;
-ghost use Rattle.ringcheck.specs.Reporting.{SaysReport, SaysReportOf, SaysWaiving};
+ghost use Rattle.ringcheck.specs.Reporting.{SaysReport, SaysReportOf, SaysWaiving, report_style};
 ghost use Rattle.ringcheck.specs.Running.{sources};
-ghost use Rattle.ringcheck.specs.Inner.Working.{AnsweredFlashed, SaysFlashed};
+ghost use Rattle.ringcheck.specs.Inner.Working.{AnsweredFlashed, SaysFlashed, flashed_style};
 
 use crate::drawings::answer_draw;
-use crate::ending::{Ended, say_line, say_out_of_memory};
 use crate::loading_files::{load_manifest, load_waivers, take_files};
 use crate::naming::{ReportFormat, ReportWords, draw_named, report_named};
 use crate::refusing::{Style, say_refused, tell};
 use crate::reports::answer_report;
-use crate::{Entry, Loader, PackageFault, Status, lines};
+use crate::{Entry, Loader, PackageFault};
 use flashed_boards::{FlashedBoard, FlashedReader};
 use grid_units::Rules;
+use ringcheck_files::{Ended, say_out_of_memory, say_refused_word};
 use std::alloc::Global;
 use std::io::Write;
 use waivers::Waiver;
@@ -35,7 +35,9 @@ pub(crate) struct ReportOrder {
 }
 
 /// How it is told why there is no report.
-fn style_of(format: ReportFormat) -> Style {
+fn style_of(format: ReportFormat) -> Style
+    ensures { result ≡ report_style format }
+{
     match format {
         ReportFormat::Text => Style::Page,
         ReportFormat::Json => Style::Json,
@@ -54,7 +56,9 @@ pub(crate) enum FlashedWork {
 
 impl FlashedWork {
     /// How it is told why it was not done.
-    fn style(&self) -> Style {
+    fn style(&self) -> Style
+        ensures { result ≡ flashed_style self.now }
+    {
         match self {
             FlashedWork::Report(order) => style_of(order.format),
             FlashedWork::Draw(_) => Style::Line,
@@ -183,9 +187,7 @@ pub(crate) fn report<L: Loader, W: Write>(
 {
     let (rules, most, format) = match report_named(asked) {
         Ok(named) => named,
-        Err(reason) => {
-            return say_line(out, lines::usage(alloc, reason), Ended::Said(Status::Usage));
-        }
+        Err(reason) => return say_refused_word(alloc, reason, out),
     };
     match asked.waive {
         None => report_plain(alloc, rules, most, format, name, loader, out),
@@ -207,6 +209,6 @@ pub(crate) fn draw<L: Loader, W: Write>(
 {
     match draw_named(ring, gap) {
         Ok(rules) => work_on(alloc, &FlashedWork::Draw(rules), name, loader, out),
-        Err(reason) => say_line(out, lines::usage(alloc, reason), Ended::Said(Status::Usage)),
+        Err(reason) => say_refused_word(alloc, reason, out),
     }
 }

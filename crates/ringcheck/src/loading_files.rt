@@ -4,19 +4,18 @@ ghost use Rattle.std.specs.Prelude.{◌≡◌, ◌≤◌, ◌++◌, ◌∷◌, [
 ghost use Rattle.std.specs.List.{count_by};
 ghost use Rattle.manifest.specs.Manifest.{manifest};
 ghost use Rattle.package_check.specs.Package.{Source, is_copper};
-ghost use Rattle.ringcheck.specs.Inner.Endings.{HasRisen};
-ghost use Rattle.ringcheck.specs.Running.{HasFiles, file_limit, manifest_limit, sources, within};
+ghost use Rattle.ringcheck_files.specs.Endings.{HasRisen};
+ghost use Rattle.ringcheck.specs.Running.{HasFiles, manifest_limit, sources};
+ghost use Rattle.ringcheck_files.specs.Loading.{file_limit, within};
 ghost use Rattle.ringcheck.specs.Inner.Stopping.{IsUnread, StopsManifest, StopsFiles, StopsWaivers};
 ghost use Rattle.ringcheck.specs.Waiving.{HasWaivers};
 
 use crate::taking::TakesFiles;
 use crate::{Entry, LoadFault, Loader, Role, read_manifest};
-use grid_units::{Fail, Reason};
+use grid_units::{Fail, Fault};
+use ringcheck_files::{ABOVE_LIMIT, FILE_LIMIT};
 use std::alloc::Global;
 use waivers::{Waiver, read_waivers};
-
-/// The most bytes of a file.
-pub(crate) const FILE_LIMIT: u64 = 268_435_456;
 
 /// The most bytes of a manifest, and of a file of waivers.
 const MANIFEST_LIMIT: u64 = 1_048_576;
@@ -30,11 +29,11 @@ pub(crate) enum Stop {
     /// The file of this entry can't be read.
     DeviceFile(usize),
     /// The manifest is refused.
-    Manifest { place: u64, reason: Reason },
+    Manifest(Fault),
     /// The file of this entry is above the limit.
     LongFile(usize),
     /// The file of waivers is refused.
-    Waivers { place: u64, reason: Reason },
+    Waivers(Fault),
     /// The file of waivers can't be read.
     DeviceWaivers,
 }
@@ -55,17 +54,11 @@ pub(crate) fn load_manifest<L: Loader>(
         Ok(bytes) => match read_manifest(alloc, bytes.as_slice()) {
             Ok(entries) => Ok(entries),
             Err(Fail::Memory) => Err(Stop::Memory),
-            Err(Fail::Refused(fault)) => Err(Stop::Manifest {
-                place: fault.place,
-                reason: fault.reason,
-            }),
+            Err(Fail::Refused(fault)) => Err(Stop::Manifest(fault)),
         },
         Err(LoadFault::Device) => Err(Stop::Device),
         Err(LoadFault::Memory) => Err(Stop::Memory),
-        Err(LoadFault::TooLong) => Err(Stop::Manifest {
-            place: 0,
-            reason: Reason::TooLong,
-        }),
+        Err(LoadFault::TooLong) => Err(Stop::Manifest(ABOVE_LIMIT)),
     }
 }
 
@@ -85,17 +78,11 @@ pub(crate) fn load_waivers<L: Loader>(
         Ok(bytes) => match read_waivers(alloc, bytes.as_slice()) {
             Ok(waivers) => Ok(waivers),
             Err(Fail::Memory) => Err(Stop::Memory),
-            Err(Fail::Refused(fault)) => Err(Stop::Waivers {
-                place: fault.place,
-                reason: fault.reason,
-            }),
+            Err(Fail::Refused(fault)) => Err(Stop::Waivers(fault)),
         },
         Err(LoadFault::Device) => Err(Stop::DeviceWaivers),
         Err(LoadFault::Memory) => Err(Stop::Memory),
-        Err(LoadFault::TooLong) => Err(Stop::Waivers {
-            place: 0,
-            reason: Reason::TooLong,
-        }),
+        Err(LoadFault::TooLong) => Err(Stop::Waivers(ABOVE_LIMIT)),
     }
 }
 

@@ -6,18 +6,19 @@ ghost use Rattle.package_check.specs.Holding.{PackageStandsAfter};
 ghost use Rattle.report_json.specs.Packages.{measure_value};
 ghost use Rattle.report_json.specs.Values.{json_text};
 ghost use Rattle.ringcheck.specs.Measuring.{AnsweredMeasure, board_text, lines_of, measure_page};
+ghost use Rattle.ringcheck.specs.Measuring as saying;
 ghost use Rattle.ringcheck.specs.Running.{sources};
 
-use crate::ending::{Ended, say_out_of_memory};
 use crate::naming::Format;
 use crate::packages::names_of;
 use crate::refusing::{Style, say_refused};
-use crate::{Entry, PackageFault, PackageReader, PrintFault, Status};
+use crate::{Entry, PackageFault, PackageReader, PrintFault};
 use margin_text::{buffer, print_measure};
 use measuring::laws::measured_passes;
 use measuring::{Measure, measure_board};
 use package_check::{Board, print_files};
 use report_json::print_measure_json;
+use ringcheck_files::{Ended, Status, say_out_of_memory};
 use std::alloc::Global;
 use std::io::Write;
 
@@ -100,7 +101,9 @@ fn print<W: Write>(
 }
 
 /// How it is told why there is no measure.
-pub(crate) fn style_of(format: Format) -> Style {
+pub(crate) fn style_of(format: Format) -> Style
+    ensures { result ≡ saying.style_of format }
+{
     match format {
         Format::Text => Style::Line,
         Format::Json => Style::Json,

@@ -33,7 +33,7 @@ pub(crate) fn rules_named(ring: &str, gap: &str) -> Result<Rules, Reason>
 
 /// How a measure or a report is printed.
 #[derive(Clone, Copy, Debug, PartialEq, Eq)]
-pub(crate) enum Format {
+pub enum Format {
     /// Lines for people.
     Text,
     /// One object of JSON on one line.
@@ -54,7 +54,7 @@ pub(crate) fn format_named(word: Option<&str>) -> Result<Format, Reason>
 
 /// How a report is printed.
 #[derive(Clone, Copy, Debug, PartialEq, Eq)]
-pub(crate) enum ReportFormat {
+pub enum ReportFormat {
     /// Lines for people.
     Text,
     /// One object of JSON on one line.

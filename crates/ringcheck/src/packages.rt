@@ -2,25 +2,23 @@
 
 ghost use Rattle.std.specs.Prelude.{◌≡◌, ◌≢◌, ℕ, List, IfOk, map, length, option_map};
 ghost use Rattle.std.specs.Io.KnownBytes.{Appends};
-ghost use Rattle.ringcheck.specs.Inner.Endings.{HasCause, status_after};
+ghost use Rattle.ringcheck_files.specs.Endings.{HasCause, status_after};
 ghost use Rattle.ringcheck.specs.Naming as named;
 ghost use Rattle.package_check.specs.Holding.{PackageStandsAfter};
 ghost use Rattle.package_check.specs.Texts.{text_of};
 ghost use Rattle.ringcheck.specs.Measuring.{SaysMeasureOf};
 ghost use Rattle.ringcheck.specs.Running.{SaysOf, sources};
 ghost use Rattle.ringcheck.specs.Inner.Stopping.{Answered};
-ghost use Rattle.ringcheck.specs.Inner.Working.{AnsweredBy, SaysBy};
+ghost use Rattle.ringcheck.specs.Inner.Working.{AnsweredBy, SaysBy, work_style};
 ghost use Rattle.ringcheck.specs.Inner.Stopping as stopping;
 
-use crate::ending::{Ended, say_line, say_out_of_memory};
 use crate::loading_files::{load_manifest, take_files};
 use crate::measures::{answer_measure, style_of};
 use crate::naming::{Format, format_named, rules_named};
 use crate::refusing::{Style, say_refused, tell};
-use crate::{
-    Entry, Loader, PackageFault, PackageReader, PrintFault, Report, Status, lines, print_report,
-};
+use crate::{Entry, Loader, PackageFault, PackageReader, PrintFault, Report, print_report};
 use grid_units::Rules;
+use ringcheck_files::{Ended, Status, say_out_of_memory, say_refused_word};
 use std::alloc::{AllocError, Global};
 use std::io::Write;
 
@@ -35,7 +33,9 @@ pub(crate) enum Work {
 
 impl Work {
     /// How it is told why it was not done.
-    fn style(self) -> Style {
+    fn style(self) -> Style
+        ensures { result ≡ work_style self }
+    {
         match self {
             Work::Check(_) => Style::Line,
             Work::Measure(format) => style_of(format),
@@ -150,7 +150,7 @@ pub(crate) fn check<L: Loader, W: Write>(
 {
     match rules_named(ring, gap) {
         Ok(rules) => work_on(alloc, Work::Check(rules), name, loader, out),
-        Err(reason) => say_line(out, lines::usage(alloc, reason), Ended::Said(Status::Usage)),
+        Err(reason) => say_refused_word(alloc, reason, out),
     }
 }
 
@@ -167,6 +167,6 @@ pub(crate) fn measure<L: Loader, W: Write>(
 {
     match format_named(format) {
         Ok(format) => work_on(alloc, Work::Measure(format), name, loader, out),
-        Err(reason) => say_line(out, lines::usage(alloc, reason), Ended::Said(Status::Usage)),
+        Err(reason) => say_refused_word(alloc, reason, out),
     }
 }

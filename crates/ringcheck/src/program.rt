@@ -1,37 +1,37 @@
 //! The whole program, over a loader and a writer.
 
-ghost use Rattle.std.specs.Prelude.{◌≡◌, ◌∷◌, [], map, true, ℕ, Bool, List, Option, Some, None, codes, option_map};
+ghost use Rattle.std.specs.Prelude.{◌≡◌, ◌≢◌, ◌++◌, ◌∷◌, [], map, true, ℕ, Bool, List, Option, Some, None, codes, option_map};
+ghost use Rattle.std.specs.Io.KnownBytes.{Appends};
 ghost use Rattle.command_line.specs.Line.{are_plain_rules, are_plain_words, check_words, draw_words, explain_words, file_words, is_plain_if_some, is_plain_word, manifest_words, measure_words, report_words};
+ghost use Rattle.ringcheck.specs.Asking.{SaysLine, SaysRequest};
 ghost use Rattle.ringcheck.specs.Drawing.{SaysDrawOf};
-ghost use Rattle.ringcheck.specs.Inner.Endings.{HasCause, status_after};
-ghost use Rattle.ringcheck.specs.Folders.{SaysManifest, SaysPage, SaysVersion};
+ghost use Rattle.ringcheck_files.specs.Endings.{HasCause, status_after};
+ghost use Rattle.ringcheck_files.specs.Folders.{SaysManifest, SaysPage, SaysVersion};
 ghost use Rattle.ringcheck.specs.Measuring.{SaysMeasureOf};
 ghost use Rattle.ringcheck.specs.Naming as named;
-ghost use Rattle.ringcheck.specs.Printing.{SaysFileOf, kind_named};
+ghost use Rattle.ringcheck_files.specs.Printing.{SaysFileOf, kind_named};
 ghost use Rattle.ringcheck.specs.Reporting.{SaysReportOf};
 ghost use Rattle.ringcheck.specs.Running.{SaysOf};
-ghost use Rattle.ringcheck.specs.Inner.Asking.{SaysRequest};
 
-use crate::ending::{Ended, say, say_line, say_out_of_memory};
-use crate::explaining::explain;
 use crate::flashed::{draw, report};
 use crate::naming::ReportWords;
 use crate::packages::{check, measure};
-use crate::proposing::print_manifest;
-use crate::single_files::{Task, print};
-use crate::{Loader, Status, lines};
+use crate::{Loader, lines};
 use command_line::{Refusal, Request, VERSION_LINE, parse};
+use ringcheck_files::{
+    Ended, Status, Task, explain, print, print_manifest, say, say_line, say_out_of_memory,
+};
 use std::alloc::Global;
 use std::io::Write;
 
 /// Does what a request asks for, and tells why it ended.
 fn answer<L: Loader, W: Write>(
     alloc: Global,
-    request: Request,
+    request: &Request,
     loader: &mut L,
     out: &mut W,
 ) -> Ended
-    ensures says { SaysRequest request.entry (L.has loader.old) (W.contents out.old) (W.contents out.new) (status_after result) }
+    ensures says { SaysRequest request.now (L.has loader.old) (L.failed loader.old) (L.failed loader.new) (W.contents out.old) (W.contents out.new) (status_after result) }
     ensures cause { HasCause (L.failed loader.old) (L.failed loader.new) result }
 {
     match request {
@@ -51,25 +51,37 @@ fn answer<L: Loader, W: Write>(
             let asked = ReportWords {
                 ring,
                 gap,
-                most,
-                waive,
-                format,
+                most: *most,
+                waive: *waive,
+                format: *format,
             };
             report(alloc, &asked, manifest, loader, out)
         }
-        Request::Measure { format, manifest } => measure(alloc, format, manifest, loader, out),
+        Request::Measure { format, manifest } => measure(alloc, *format, manifest, loader, out),
         Request::Draw {
             ring,
             gap,
             manifest,
-        } => draw(alloc, ring, gap, manifest, loader, out),
+        } => draw(alloc, *ring, *gap, manifest, loader, out),
         Request::Show { kind, file } => print(alloc, Task::Show, kind, file, loader, out),
         Request::Rewrite { kind, file } => print(alloc, Task::Rewrite, kind, file, loader, out),
         Request::Manifest { why, files } => {
-            print_manifest(alloc, why, files.as_slice(), loader, out)
+            print_manifest(alloc, *why, files.as_slice(), loader, out)
         }
-        Request::Explain { word } => explain(alloc, word, out),
+        Request::Explain { word } => explain(alloc, *word, out),
     }
+}
+
+/// Says that the words are no command, and what is wrong with them.
+fn say_usage<W: Write>(alloc: Global, text: &str, out: &mut W) -> Ended
+    ensures ends { result ≢ Ended.WriterFailed → result ≢ Ended.OutOfMemory → result ≡ Ended.Said Status.Usage }
+    ensures tells { result ≢ Ended.WriterFailed → result ≢ Ended.OutOfMemory → Appends (W.contents out.old) (W.contents out.new) (codes "usage\n" ++ text.now) }
+{
+    say_line(
+        out,
+        lines::usage_with(alloc, text),
+        Ended::Said(Status::Usage),
+    )
 }
 
 /// Does what the words ask for, and tells why it ended.
@@ -92,22 +104,20 @@ fn run_to_end<L: Loader, W: Write>(
     ensures rewrite { (k f : List ℕ) → map (λ w. w.now) words.now ≡ file_words (codes "rewrite") k f → is_plain_word k ≡ true → is_plain_word f ≡ true
         → SaysFileOf Task.Rewrite (kind_named k) (L.has loader.old) f (W.contents out.old) (W.contents out.new) (status_after result) }
     ensures manifest { (why : Bool) (fs : List (List ℕ)) → map (λ w. w.now) words.now ≡ manifest_words why fs → are_plain_words fs ≡ true
-        → SaysManifest why (L.has loader.old) fs (W.contents out.old) (W.contents out.new) (status_after result) }
+        → SaysManifest why (L.has loader.old) (L.failed loader.old) (L.failed loader.new) fs (W.contents out.old) (W.contents out.new) (status_after result) }
     ensures list { map (λ w. w.now) words.now ≡ explain_words None → SaysPage None (W.contents out.old) (W.contents out.new) (status_after result) }
     ensures explain { (w : List ℕ) → map (λ w. w.now) words.now ≡ explain_words (Some w) → is_plain_word w ≡ true
         → SaysPage (Some w) (W.contents out.old) (W.contents out.new) (status_after result) }
     ensures version { map (λ w. w.now) words.now ≡ codes "--version" ∷ [] → SaysVersion (W.contents out.old) (W.contents out.new) (status_after result) }
+    ensures line { SaysLine (map (λ w. w.now) words.now) (L.has loader.old) (L.failed loader.old) (L.failed loader.new) (W.contents out.old) (W.contents out.new) (status_after result) }
     ensures cause { HasCause (L.failed loader.old) (L.failed loader.new) result }
 {
     match parse(alloc, words) {
-        Ok(request) => answer(alloc, request, loader, out),
+        Ok(request) => answer(alloc, &request, loader, out),
         Err(Refusal::Memory) => say_out_of_memory(out),
         Err(Refusal::Version) => say(out, VERSION_LINE.as_bytes(), Ended::Said(Status::Pass)),
         Err(Refusal::Help(text)) => say(out, text.as_str().as_bytes(), Ended::Said(Status::Pass)),
-        Err(Refusal::Usage(text)) => {
-            let line = lines::usage_with(alloc, text.as_str());
-            say_line(out, line, Ended::Said(Status::Usage))
-        }
+        Err(Refusal::Usage(text)) => say_usage(alloc, text.as_str(), out),
     }
 }
 
@@ -132,11 +142,12 @@ pub fn run<L: Loader, W: Write>(
     ensures rewrite { (k f : List ℕ) → map (λ w. w.now) words.now ≡ file_words (codes "rewrite") k f → is_plain_word k ≡ true → is_plain_word f ≡ true
         → SaysFileOf Task.Rewrite (kind_named k) (L.has loader.old) f (W.contents out.old) (W.contents out.new) result }
     ensures manifest { (why : Bool) (fs : List (List ℕ)) → map (λ w. w.now) words.now ≡ manifest_words why fs → are_plain_words fs ≡ true
-        → SaysManifest why (L.has loader.old) fs (W.contents out.old) (W.contents out.new) result }
+        → SaysManifest why (L.has loader.old) (L.failed loader.old) (L.failed loader.new) fs (W.contents out.old) (W.contents out.new) result }
     ensures list { map (λ w. w.now) words.now ≡ explain_words None → SaysPage None (W.contents out.old) (W.contents out.new) result }
     ensures explain { (w : List ℕ) → map (λ w. w.now) words.now ≡ explain_words (Some w) → is_plain_word w ≡ true
         → SaysPage (Some w) (W.contents out.old) (W.contents out.new) result }
     ensures version { map (λ w. w.now) words.now ≡ codes "--version" ∷ [] → SaysVersion (W.contents out.old) (W.contents out.new) result }
+    ensures line { SaysLine (map (λ w. w.now) words.now) (L.has loader.old) (L.failed loader.old) (L.failed loader.new) (W.contents out.old) (W.contents out.new) result }
 {
     run_to_end(alloc, words, loader, out).status()
 }

@@ -1,13 +1,15 @@
 //! Tells why nothing was done with a package.
 
-ghost use Rattle.std.specs.Prelude.{◌≡◌, ◌≢◌};
-ghost use Rattle.ringcheck.specs.Inner.Stopping.{TellsOf};
+ghost use Rattle.std.specs.Prelude.{◌≡◌, ◌≢◌, ℕ, List, IfOk};
+ghost use Rattle.std.specs.String.{string_bytes};
+ghost use Rattle.ringcheck.specs.Inner.Stopping.{EndsAsRefused, IsNameAt, TellsOf};
+ghost use Rattle.ringcheck.specs.Refusing.{IsRefusalText, Refusal, of_file, of_manifest, of_waivers};
 
-use crate::ending::{Ended, say, say_line, say_out_of_memory};
 use crate::loading_files::Stop;
-use crate::{Entry, Status, lines};
-use grid_units::{Fault, Reason};
+use crate::{Entry, lines};
+use grid_units::Fault;
 use report_json::refusal_json;
+use ringcheck_files::{ABOVE_LIMIT, Ended, Status, say, say_line, say_out_of_memory};
 use std::alloc::{AllocError, Global};
 use std::io::Write;
 
@@ -22,14 +24,10 @@ pub(crate) enum Style {
     Json,
 }
 
-/// The fault of a text that is above its limit.
-pub(crate) const ABOVE_LIMIT: Fault = Fault {
-    place: 0,
-    byte: 0,
-    reason: Reason::TooLong,
-};
-
-fn name_at(entries: &[Entry], index: usize) -> &str {
+/// The name of the entry at an index.
+fn name_at(entries: &[Entry], index: usize) -> &str
+    ensures { IsNameAt entries.now index result.now }
+{
     match entries.get(index) {
         Some(entry) => entry.name.as_str(),
         None => "",
@@ -43,7 +41,9 @@ fn refused(
     index: usize,
     fault: Fault,
     name: &str,
-) -> Result<String, AllocError> {
+) -> Result<String, AllocError>
+    ensures { IfOk result (λ text. IsRefusalText style (of_file index name.now fault) (string_bytes text)) }
+{
     match style {
         Style::Line => lines::refused(alloc, index, fault, name),
         Style::Page => lines::with_page(lines::refused(alloc, index, fault, name), fault.reason),
@@ -52,29 +52,25 @@ fn refused(
 }
 
 /// What is said of a manifest that is refused.
-fn refused_manifest(
-    alloc: Global,
-    style: Style,
-    place: u64,
-    reason: Reason,
-) -> Result<String, AllocError> {
+fn refused_manifest(alloc: Global, style: Style, fault: Fault) -> Result<String, AllocError>
+    ensures { IfOk result (λ text. IsRefusalText style (of_manifest fault) (string_bytes text)) }
+{
+    let Fault { place, reason, .. } = fault;
     match style {
-        Style::Line => lines::refused_manifest(alloc, place, reason),
-        Style::Page => lines::with_page(lines::refused_manifest(alloc, place, reason), reason),
+        Style::Line => lines::refused_manifest(alloc, fault),
+        Style::Page => lines::with_page(lines::refused_manifest(alloc, fault), reason),
         Style::Json => refusal_json(alloc, &report_json::Stop::RefusedManifest { place, reason }),
     }
 }
 
 /// What is said of a file of waivers that is refused.
-fn refused_waivers(
-    alloc: Global,
-    style: Style,
-    place: u64,
-    reason: Reason,
-) -> Result<String, AllocError> {
+fn refused_waivers(alloc: Global, style: Style, fault: Fault) -> Result<String, AllocError>
+    ensures { IfOk result (λ text. IsRefusalText style (of_waivers fault) (string_bytes text)) }
+{
+    let Fault { place, reason, .. } = fault;
     match style {
-        Style::Line => lines::refused_waivers(alloc, place, reason),
-        Style::Page => lines::with_page(lines::refused_waivers(alloc, place, reason), reason),
+        Style::Line => lines::refused_waivers(alloc, fault),
+        Style::Page => lines::with_page(lines::refused_waivers(alloc, fault), reason),
         Style::Json => refusal_json(alloc, &report_json::Stop::RefusedWaivers { place, reason }),
     }
 }
@@ -97,6 +93,14 @@ fn say_unread<W: Write>(alloc: Global, style: Style, stop: &report_json::Stop, o
     }
 }
 
+/// Writes the text of a refusal.
+fn say_text<W: Write>(out: &mut W, text: Result<String, AllocError>) -> Ended
+    ensures { (style : Style) (why : Refusal) → IfOk text (λ text. IsRefusalText style why (string_bytes text))
+        → EndsAsRefused style why (W.contents out.old) (W.contents out.new) result }
+{
+    say_line(out, text, Ended::Said(Status::Refused))
+}
+
 /// Says why a file is refused.
 pub(crate) fn say_refused<W: Write>(
     alloc: Global,
@@ -106,10 +110,10 @@ pub(crate) fn say_refused<W: Write>(
     fault: Fault,
     out: &mut W,
 ) -> Ended
-    ensures { result ≢ Ended.WriterFailed → result ≢ Ended.OutOfMemory → result ≡ Ended.Said Status.Refused }
+    ensures { (name : List ℕ) × IsNameAt entries.now index name × EndsAsRefused style (of_file index name fault) (W.contents out.old) (W.contents out.new) result }
 {
     let text = refused(alloc, style, index, fault, name_at(entries, index));
-    say_line(out, text, Ended::Said(Status::Refused))
+    say_text(out, text)
 }
 
 /// Tells why nothing was done.
@@ -120,7 +124,7 @@ pub(crate) fn tell<W: Write>(
     stop: Stop,
     out: &mut W,
 ) -> Ended
-    ensures { TellsOf stop result }
+    ensures { TellsOf style entries.now stop (W.contents out.old) (W.contents out.new) result }
 {
     match stop {
         Stop::Memory => say_out_of_memory(out),
@@ -130,14 +134,8 @@ pub(crate) fn tell<W: Write>(
             let text = unread(alloc, style, index, name_at(entries, index));
             say_line(out, text, Ended::LoaderFailed)
         }
-        Stop::Manifest { place, reason } => {
-            let text = refused_manifest(alloc, style, place, reason);
-            say_line(out, text, Ended::Said(Status::Refused))
-        }
-        Stop::Waivers { place, reason } => {
-            let text = refused_waivers(alloc, style, place, reason);
-            say_line(out, text, Ended::Said(Status::Refused))
-        }
+        Stop::Manifest(fault) => say_text(out, refused_manifest(alloc, style, fault)),
+        Stop::Waivers(fault) => say_text(out, refused_waivers(alloc, style, fault)),
         Stop::LongFile(index) => say_refused(alloc, style, entries, index, ABOVE_LIMIT, out),
     }
 }

@@ -11,15 +11,15 @@ ghost use Rattle.ringcheck.specs.Inner.Working.{given};
 ghost use Rattle.waivers.specs.Waiving.{AreReasons, IsWaived};
 ghost use Rattle.waivers.specs.declared.waiving.Waived.{Waived as WaivedBy};
 
-use crate::ending::{Ended, say_out_of_memory};
+use crate::Entry;
 use crate::flashed::ReportOrder;
 use crate::naming::ReportFormat;
 use crate::packages::names_of;
-use crate::{Entry, Status};
 use flashed_boards::FlashedBoard;
 use package_check::FileSum;
 use report_json::{print_telling_json, print_waived_json};
 use report_text::{PrintFault, Telling, Whys, print_telling, print_waived};
+use ringcheck_files::{Ended, Status, say_out_of_memory};
 use std::alloc::Global;
 use std::io::Write;
 use telling::laws::tells_as_checks;

@@ -1,7 +1,10 @@
 //! `ringcheck` over the files of the working directory.
 #![tactic(auto)]
 
-ghost use Rattle.std.specs.Prelude.{◌≡◌, ℕ, List};
+ghost use Rattle.std.specs.Prelude.{◌≡◌, ℕ, List, IfOk, drop, map};
+ghost use Rattle.std.specs.Process.{exit_status};
+ghost use Rattle.std.specs.String.{string_bytes};
+ghost use Rattle.ringcheck_files.specs.Statuses.{code_of};
 
 use ringcheck::{LoadFault, Loader, MAX_LIMIT, ReadFail, Status, read_all, run};
 use std::alloc::{AllocError, Global};
@@ -44,24 +47,39 @@ impl<R: Files> Loader for Disk<'_, R> {
     }
 }
 
-/// The exit status of a run.
-fn exit_status(status: Status) -> u8 {
-    match status {
-        Status::Pass => 0,
-        Status::Findings => 1,
-        Status::Refused => 2,
-        Status::Usage => 3,
-        Status::Device => 4,
+/// The exit code of a run that ended with this status.
+fn exit_code(status: Status) -> ExitCode
+    ensures { exit_status result ≡ code_of status }
+{
+    ExitCode::from(status.code())
+}
+
+/// The arguments without the first, which is the program's name.
+fn without_name(arguments: &[String]) -> &[String]
+    ensures { result.now ≡ drop 1 arguments.now }
+{
+    match arguments.split_first() {
+        Some((_name, rest)) => rest,
+        None => &[],
     }
 }
 
-/// The words behind the program's name.
-fn words_of(alloc: Global, arguments: &[String]) -> Result<Vec<&str>, AllocError> {
-    let mut words = Vec::new(alloc);
-    for argument in arguments.iter().skip(1) {
-        words.push(argument.as_str())?;
+/// The texts of these arguments.
+fn texts_of(alloc: Global, arguments: &[String]) -> Result<Vec<&str>, AllocError>
+    ensures { IfOk result (λ texts. map (λ text. text.now) texts.items ≡ map string_bytes arguments.now) }
+{
+    let mut texts = Vec::new(alloc);
+    for argument in arguments {
+        texts.push(argument.as_str())?;
     }
-    Ok(words)
+    Ok(texts)
+}
+
+/// The words after the program's name.
+fn words_of(alloc: Global, arguments: &[String]) -> Result<Vec<&str>, AllocError>
+    ensures { IfOk result (λ words. map (λ word. word.now) words.items ≡ map string_bytes (drop 1 arguments.now)) }
+{
+    texts_of(alloc, without_name(arguments))
 }
 
 /// Runs the words of the command line. InvalidData where one of them is no text.
@@ -73,10 +91,17 @@ fn run_words(rt: &HostRuntime) -> io::Result<Status> {
     Ok(run(alloc, words.as_slice(), &mut loader, &mut io::writer(rt)))
 }
 
+/// What is printed where a word is not UTF-8.
+const NO_TEXT: &str = "usage
+error: a word of the command line is not UTF-8
+
+For more information, try '--help'.
+";
+
 /// Tells why there are no words: one of them is no text, or memory ran out.
 fn without_words(rt: &HostRuntime, error: &io::Error) -> Status {
     let (line, status) = match error.kind() {
-        io::ErrorKind::InvalidData => ("usage\n", Status::Usage),
+        io::ErrorKind::InvalidData => (NO_TEXT, Status::Usage),
         _ => ("memory\n", Status::Device),
     };
     match io::writer(rt).write_all(line.as_bytes()) {
@@ -90,5 +115,5 @@ fn main(rt: HostRuntime) -> ExitCode {
         Ok(status) => status,
         Err(error) => without_words(&rt, &error),
     };
-    ExitCode::from(exit_status(status))
+    exit_code(status)
 }

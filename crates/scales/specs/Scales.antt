@@ -1,7 +1,7 @@
 -- Whether the coordinates of a drill file's holes are off by a factor. Lengths are whole picometres.
 use Rattle.std.specs.Prelude.{◌≡◌, ◌↔◌, ℕ, ℤ, pos, ◌*◌, ◌<◌, ◌≤◌, ◌*ℤ◌, ◌≤ℤ◌, Bool, true, not, ◌&&◌, ◌||◌, nat_le, unsigned_abs, Option, Some, None, List, [], ◌∷◌, length, get_or, count_by}
 use Rattle.std.specs.Int.{int_div_euclid}
-use Rattle.std.specs.List.{list_any}
+use Rattle.std.specs.List.{All, list_any, slice_range}
 use Rattle.grid_units.specs.Points.{GridPoint, max_coordinate}
 use Rattle.grid_units.specs.Holes.{GridHole, is_round}
 use Rattle.pad_shapes.specs.Pads.{pad_covers}
@@ -11,6 +11,7 @@ use Rattle.margins.specs.Bests.{IsBare}
 use Rattle.margin_text.specs.declared.Factor.{Factor}
 use Rattle.margin_text.specs.declared.Factor.TheVariants as kind
 use Rattle.margin_text.specs.declared.ScaleLine.{ScaleLine}
+use Rattle.scales.specs.declared.line.FileStretch.{FileStretch}
 
 -- a factor as a fraction: the number above (docs/DEFINITIONS.md, Scales)
 abbrev pub multiplier : Factor → ℕ
@@ -95,3 +96,16 @@ pub record IsScale (pads : List Pad) (holes : List Drilled) (line : ScaleLine) :
 abbrev pub IsScaleLine : List Pad → List Drilled → ℕ → Option ScaleLine → Type 0
 IsScaleLine pads holes drill None = (line : ScaleLine) → IsScale pads holes line → ⊥
 IsScaleLine pads holes drill (Some line) = IsScale pads holes line × (line.drill ≡ drill)
+
+-- the holes of a drill file, of a list of all holes (docs/DEFINITIONS.md, Scales)
+abbrev pub holes_in : List Drilled → FileStretch → List Drilled
+holes_in holes file = slice_range holes file.start file.end
+
+-- the holes of each of these files stand in the list (docs/DEFINITIONS.md, Scales)
+abbrev pub AreFileStretches : List Drilled → List FileStretch → Type 0
+AreFileStretches holes files = All (λ file. (file.start ≤ file.end) × (file.end ≤ length holes)) files
+
+-- the line of each of some drill files, or none where nothing is told of its holes, in their order (docs/DEFINITIONS.md, Scales)
+pub record AreScaleLines (pads : List Pad) (holes : List Drilled) (files : List FileStretch) (lines : List (Option ScaleLine)) : Type 0 where
+  pub size : length lines ≡ length files
+  pub each : (k : ℕ) (file : FileStretch) (line : Option ScaleLine) → k < length files → IsScaleLine pads (holes_in holes (get_or files k file)) (get_or files k file).drill (get_or lines k line)

@@ -6,14 +6,13 @@ ghost use Rattle.pad_shapes.specs.Pads.{pad_covers};
 ghost use Rattle.pad_shapes.specs.declared.pad.Pad.{Pad as ThePad};
 ghost use Rattle.margins.specs.Bests.{AreBest, AreBare};
 ghost use Rattle.margins.specs.Rows.{has_none};
-ghost use Rattle.scales.specs.Scales.{bare_count, bare_count_by, round_count};
+ghost use Rattle.scales.specs.Scales.{bare_count, round_count};
 ghost use Rattle.scales.specs.Inner.Counting.{AreMoved, IsMoved};
 
 use crate::scaled::scaled_point;
 use grid_units::{Hole, Point};
 use margin_text::Factor;
-use margins::{Best, bare_holes};
-use pad_shapes::Pad;
+use margins::Best;
 use ring_rules::Drilled;
 use std::alloc::{AllocError, Global};
 
@@ -57,7 +56,7 @@ fn is_told(drilled: &Drilled, is_bare: bool) -> bool
 }
 
 /// How many of some holes are round and bare, by whether each of them is bare.
-fn bare_in(bare: &[bool], holes: &[Drilled]) -> usize
+pub(crate) fn bare_in(bare: &[bool], holes: &[Drilled]) -> usize
     requires { length bare.now ≡ length holes.now }
     ensures exact { (pads : List ThePad) → AreBare pad_covers pads holes.now bare.now → result ≡ bare_count pads holes.now }
     ensures few { result ≤ length holes.now }
@@ -97,7 +96,11 @@ fn moved(drilled: &Drilled, factor: Factor) -> Option<Drilled>
 }
 
 /// Those of the round holes that have a place with their coordinates times a factor, at these.
-fn all_moved(alloc: Global, holes: &[Drilled], factor: Factor) -> Result<Vec<Drilled>, AllocError>
+pub(crate) fn all_moved(
+    alloc: Global,
+    holes: &[Drilled],
+    factor: Factor,
+) -> Result<Vec<Drilled>, AllocError>
     ensures { IfOk result (λ moved. AreMoved factor holes.now moved.items) }
 {
     let mut all = Vec::new(alloc);
@@ -107,24 +110,4 @@ fn all_moved(alloc: Global, holes: &[Drilled], factor: Factor) -> Result<Vec<Dri
         }
     }
     Ok(all)
-}
-
-/// How many of some holes are round and would be bare among the pads with their coordinates times a factor, rounded down. A place beyond
-/// ten metres is bare.
-///
-/// # Errors
-///
-/// Where there is no memory.
-pub fn bare_by(
-    alloc: Global,
-    pads: &[Pad],
-    holes: &[Drilled],
-    factor: Factor,
-) -> Result<usize, AllocError>
-    ensures { IfOk result (λ count. count ≡ bare_count_by pads.now holes.now factor) }
-{
-    let moved = all_moved(alloc, holes, factor)?;
-    let beyond = round_among(holes) - moved.len();
-    let bare = bare_holes(alloc, pads, &moved)?;
-    Ok(beyond + bare_in(&bare, &moved))
 }

@@ -1,11 +1,14 @@
 //! The factor by which the fewest holes would be bare.
 
-ghost use Rattle.std.specs.Prelude.{◌≡◌, ◌++◌, ◌∷◌, [], ℕ, List, IfOk};
+ghost use Rattle.std.specs.Prelude.{◌≡◌, ◌<◌, ◌++◌, ◌∷◌, [], ℕ, List, length, get_or, IfOk};
+ghost use Rattle.pad_shapes.specs.declared.pad.Pad.{Pad as ThePad};
+ghost use Rattle.ring_rules.specs.declared.finding.Drilled.{Drilled as TheDrilled};
 ghost use Rattle.margin_text.specs.declared.Factor.{Factor as TheFactor};
 ghost use Rattle.scales.specs.Scales.{bare_count_by, factors};
-ghost use Rattle.scales.specs.Inner.Counting.{IsFewest};
+ghost use Rattle.scales.specs.Inner.Counting.{AreAllCounted, AreStretches, IsFewest, holes_of};
+ghost use Rattle.scales.specs.declared.counts.Stretch.{Stretch as TheStretch};
 
-use crate::bare::bare_by;
+use crate::counts::{Stretch, counts_by};
 use margin_text::Factor;
 use pad_shapes::Pad;
 use ring_rules::Drilled;
@@ -18,17 +21,31 @@ pub(crate) struct Fewest {
     pub(crate) bare: usize,
 }
 
-/// How many holes would be bare by a factor.
-fn counted(
+/// How many holes of each of some stretches would be bare, factor by factor.
+#[derive(Drop)]
+pub(crate) struct Counts {
+    ten: Vec<usize>,
+    tenth: Vec<usize>,
+    inch: Vec<usize>,
+    per_inch: Vec<usize>,
+}
+
+/// How many holes of each stretch would be bare by each factor.
+pub(crate) fn counts_of(
     alloc: Global,
     pads: &[Pad],
     holes: &[Drilled],
-    factor: Factor,
-) -> Result<Fewest, AllocError>
-    ensures { IfOk result (λ fewest. (fewest.factor ≡ factor) × (fewest.bare ≡ bare_count_by pads.now holes.now factor)) }
+    stretches: &[Stretch],
+) -> Result<Counts, AllocError>
+    requires { AreStretches holes.now stretches.now }
+    ensures { IfOk result (AreAllCounted pads.now holes.now stretches.now) }
 {
-    let bare = bare_by(alloc, pads, holes, factor)?;
-    Ok(Fewest { factor, bare })
+    Ok(Counts {
+        ten: counts_by(alloc, pads, holes, stretches, Factor::Ten)?,
+        tenth: counts_by(alloc, pads, holes, stretches, Factor::Tenth)?,
+        inch: counts_by(alloc, pads, holes, stretches, Factor::Inch)?,
+        per_inch: counts_by(alloc, pads, holes, stretches, Factor::PerInch)?,
+    })
 }
 
 /// The factor with the fewest so far, or the next one where it has fewer.
@@ -42,17 +59,42 @@ fn lesser(fewest: Fewest, next: Fewest) -> Fewest
     }
 }
 
-/// The first of the factors by which the fewest holes would be bare.
-pub(crate) fn fewest_by(
-    alloc: Global,
-    pads: &[Pad],
-    holes: &[Drilled],
-) -> Result<Fewest, AllocError>
-    ensures { IfOk result (IsFewest (bare_count_by pads.now holes.now) factors) }
+/// The first of the factors with the fewest, by how many there are of each.
+fn fewest_of(ten: usize, tenth: usize, inch: usize, per_inch: usize) -> Fewest
+    ensures { (count : TheFactor → ℕ) → ten ≡ count Factor.Ten → tenth ≡ count Factor.Tenth → inch ≡ count Factor.Inch → per_inch ≡ count Factor.PerInch → IsFewest count factors result }
 {
-    let ten = counted(alloc, pads, holes, Factor::Ten)?;
-    let tenth = counted(alloc, pads, holes, Factor::Tenth)?;
-    let inch = counted(alloc, pads, holes, Factor::Inch)?;
-    let per_inch = counted(alloc, pads, holes, Factor::PerInch)?;
-    Ok(lesser(lesser(lesser(ten, tenth), inch), per_inch))
+    let ten = Fewest {
+        factor: Factor::Ten,
+        bare: ten,
+    };
+    let tenth = Fewest {
+        factor: Factor::Tenth,
+        bare: tenth,
+    };
+    let inch = Fewest {
+        factor: Factor::Inch,
+        bare: inch,
+    };
+    let per_inch = Fewest {
+        factor: Factor::PerInch,
+        bare: per_inch,
+    };
+    lesser(lesser(lesser(ten, tenth), inch), per_inch)
+}
+
+impl Counts {
+    /// The first of the factors by which the fewest holes of the stretch at a place would be bare.
+    pub(crate) fn fewest(&self, stretches: &[Stretch], place: usize) -> Fewest
+        requires counted { (pads : List ThePad) × (holes : List TheDrilled) × AreAllCounted pads holes stretches.now self.now }
+        requires place { place < length stretches.now }
+        ensures { (pads : List ThePad) (holes : List TheDrilled) (d : TheStretch) → AreAllCounted pads holes stretches.now self.now
+            → IsFewest (bare_count_by pads (holes_of holes (get_or stretches.now place d))) factors result }
+    {
+        fewest_of(
+            self.ten[place],
+            self.tenth[place],
+            self.inch[place],
+            self.per_inch[place],
+        )
+    }
 }

@@ -5,14 +5,13 @@
 #![tactic(auto)]
 
 mod bare;
+mod counts;
 mod fewest;
 pub mod laws;
 mod line;
 mod scaled;
 
-pub use bare::{bare_among, bare_by};
-pub use line::scale_line;
+pub use bare::bare_among;
+pub use counts::bare_by;
+pub use line::{FileStretch, scale_line, scale_lines};
 pub use scaled::scaled_point;
-
-#[cfg(test)]
-mod tests;

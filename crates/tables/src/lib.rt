@@ -6,6 +6,3 @@ mod show;
 mod table;
 
 pub use show::{show_drill, show_layer};
-
-#[cfg(test)]
-mod tests;

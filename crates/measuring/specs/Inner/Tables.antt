@@ -1,5 +1,5 @@
 -- The holes of a drill file on a layer, by their radius, and its line.
-use Rattle.std.specs.Prelude.{◌≡◌, ℕ, ◌+◌, ◌≤◌, ◌<◌, Bool, true, false, Option, Some, None, is_some, List, [], ◌∷◌, length, ⊤}
+use Rattle.std.specs.Prelude.{◌≡◌, ℕ, ◌+◌, ◌≤◌, ◌<◌, Bool, true, false, Option, Some, None, is_some, List, [], ◌∷◌, length, get_or, if◌then◌else◌, ⊤}
 use Rattle.std.specs.Global.{Vec}
 use Rattle.std.specs.Option.{option_map_or}
 use Rattle.std.specs.Ordering.{nat_cmp}
@@ -8,9 +8,11 @@ use Rattle.margins.specs.declared.row.LeastRing.{LeastRing}
 use Rattle.margins.specs.declared.row.RingRow.{RingRow}
 use Rattle.margin_text.specs.declared.LeastRing as told
 use Rattle.margin_text.specs.declared.ScaleLine.{ScaleLine}
+use Rattle.scales.specs.declared.line.FileStretch.{FileStretch}
 use Rattle.package_check.specs.Boards.{Survey}
+use Rattle.package_check.specs.declared.FileSum.{FileSum}
 use Rattle.measuring.specs.Rows.{RowKey, holes_before, places_of}
-use Rattle.measuring.specs.Scaling.{IsScaleOf}
+use Rattle.measuring.specs.Scaling.{IsScaleOf, is_plated}
 use Rattle.measuring.specs.declared.rows.Stretch.{Stretch}
 
 -- the row of a radius in a stretch (docs/DEFINITIONS.md, Lines of a measure)
@@ -61,6 +63,24 @@ IsTold (Some least) start (Some told) = (told.ring ≡ least.ring) × (start + t
 abbrev pub IsScaleLineOf : Survey → ℕ → Option ScaleLine → Type 0
 IsScaleLineOf board drill None = (line : ScaleLine) → line.drill ≡ drill → IsScaleOf board line → ⊥
 IsScaleLineOf board drill (Some line) = IsScaleOf board line × (line.drill ≡ drill)
+
+-- where the holes of a file stand whose scale is asked: those of a plated drill file, and none of another file (docs/DEFINITIONS.md, Lines of a measure)
+pub record IsAsked (board : Survey) (drill : ℕ) (asked : FileStretch) : Type 0 where
+  pub file : asked.drill ≡ drill
+  pub ordered : asked.start ≤ asked.end
+  pub inside : asked.end ≤ length board.holes
+  pub starts : asked.start ≡ holes_before board.files drill
+  pub ends : (file : FileSum) → asked.end ≡ (if is_plated (get_or board.files drill file) then holes_before board.files (drill + 1) else asked.start)
+
+-- those of the first so many files (docs/DEFINITIONS.md, Lines of a measure)
+pub record AreAsked (board : Survey) (count : ℕ) (asked : List FileStretch) : Type 0 where
+  pub size : length asked ≡ count
+  pub each : (k : ℕ) (d : FileStretch) → k < count → IsAsked board k (get_or asked k d)
+
+-- the line of the scale of each file, or none where it has none (docs/DEFINITIONS.md, Lines of a measure)
+pub record AreFound (board : Survey) (found : List (Option ScaleLine)) : Type 0 where
+  pub size : length found ≡ length board.files
+  pub each : (k : ℕ) (d : Option ScaleLine) → k < length board.files → IsScaleLineOf board k (get_or found k d)
 
 -- a line that there is, as a list (docs/DEFINITIONS.md, Lines of a measure)
 abbrev pub listed : Option ScaleLine → List ScaleLine

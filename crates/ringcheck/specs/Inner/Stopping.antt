@@ -1,47 +1,47 @@
 -- Why a package was not loaded or not checked, and the end that tells of it.
-use Rattle.std.specs.Prelude.{◌≡◌, ◌<◌, ◌⊎◌, ℕ, List, [], ◌∷◌, length, Ok, Err, ⊤, Option}
-use Rattle.std.specs.List.{Contains}
+use Rattle.std.specs.Prelude.{◌≡◌, ◌≢◌, ◌<◌, ◌⊎◌, ℕ, List, [], ◌∷◌, length, slice_get, Ok, Err, ⊤, Option, Some}
 use Rattle.std.specs.Io.KnownBytes.{Appends}
 use Rattle.grid_units.specs.Holes.{GridRules}
 use Rattle.grid_units.specs.declared.fault.Fault.{Fault}
 use Rattle.manifest.specs.declared.Entry.{Entry}
 use Rattle.manifest.specs.Manifest.{manifest}
 use Rattle.ring_rules.specs.declared.finding.Finding.{Finding}
-use Rattle.ringcheck.specs.declared.Status.{Status}
-use Rattle.ringcheck.specs.declared.Status.TheVariants as status
-use Rattle.ringcheck.specs.declared.ending.Ended.{Ended}
-use Rattle.ringcheck.specs.declared.ending.Ended.TheVariants as ended
+use Rattle.ringcheck_files.specs.declared.Status.{Status}
+use Rattle.ringcheck_files.specs.declared.Status.TheVariants as status
+use Rattle.ringcheck_files.specs.declared.ending.Ended.{Ended}
+use Rattle.ringcheck_files.specs.declared.ending.Ended.TheVariants as ended
 use Rattle.ringcheck.specs.declared.loading_files.Stop.{Stop}
 use Rattle.ringcheck.specs.declared.loading_files.Stop.TheVariants as stop
 use Rattle.package_check.specs.Reports.{Account}
 use Rattle.package_check.specs.Package.{Source, IsAnswer}
 use Rattle.package_check.specs.Soundness.{IsSound}
 use Rattle.package_check.specs.Texts.{report_text}
-use Rattle.ringcheck.specs.Running.{Relation, manifest_limit, file_limit}
+use Rattle.ringcheck.specs.declared.refusing.Style.{Style}
+use Rattle.ringcheck.specs.declared.refusing.Style.TheVariants as style
+use Rattle.ringcheck.specs.Doing.{RefusesFiles}
+use Rattle.ringcheck.specs.Refusing.{Refusal, TellsRefusal, of_file, of_manifest, of_waivers}
+use Rattle.ringcheck_files.specs.Loading.{Relation, too_long}
+use Rattle.ringcheck.specs.Running.{LongFile, manifest_limit}
 use Rattle.ringcheck.specs.Waiving.{RefusedWaivers}
 
--- bytes of a manifest that are refused (docs/DEFINITIONS.md, Runs)
-abbrev pub RefusedManifest : Relation → List ℕ → Type 0
-RefusedManifest has name = (text : List ℕ) × has name text × ((manifest_limit < length text) ⊎ ((fault : Fault) × (manifest text ≡ Err fault)))
-
--- a file above its limit (docs/DEFINITIONS.md, Runs)
-abbrev pub LongFile : Relation → List Entry → Type 0
-LongFile has entries = (entry : Entry) × Contains entries entry × (bytes : List ℕ) × has entry.file bytes × (file_limit < length bytes)
+-- bytes of a manifest that are refused, and their fault (docs/DEFINITIONS.md, Runs)
+abbrev pub RefusedManifest : Relation → List ℕ → Fault → Type 0
+RefusedManifest has name why = (text : List ℕ) × has name text × (((manifest_limit < length text) × (why ≡ too_long)) ⊎ (manifest text ≡ Err why))
 
 -- what a stop says of the bytes that the loader has for a manifest (docs/DEFINITIONS.md, Runs)
 abbrev pub StopsManifest : Relation → List ℕ → Stop → Type 0
-StopsManifest has name (stop.Manifest place reason) = RefusedManifest has name
+StopsManifest has name (stop.Manifest fault) = RefusedManifest has name fault
 StopsManifest has name (stop.LongFile index) = ⊥
 StopsManifest has name stop.Memory = ⊤
 StopsManifest has name stop.Device = ⊤
 StopsManifest has name (stop.DeviceFile index) = ⊤
-StopsManifest has name (stop.Waivers place reason) = ⊥
+StopsManifest has name (stop.Waivers fault) = ⊥
 StopsManifest has name stop.DeviceWaivers = ⊤
 
 -- what a stop says of the bytes that the loader has for a file of waivers (docs/DEFINITIONS.md, Runs)
 abbrev pub StopsWaivers : Relation → List ℕ → Stop → Type 0
-StopsWaivers has name (stop.Waivers place reason) = RefusedWaivers has name
-StopsWaivers has name (stop.Manifest place reason) = ⊥
+StopsWaivers has name (stop.Waivers fault) = RefusedWaivers has name fault
+StopsWaivers has name (stop.Manifest fault) = ⊥
 StopsWaivers has name (stop.LongFile index) = ⊥
 StopsWaivers has name stop.Memory = ⊤
 StopsWaivers has name stop.Device = ⊤
@@ -50,44 +50,52 @@ StopsWaivers has name (stop.DeviceFile index) = ⊤
 
 -- and for the files of its entries (docs/DEFINITIONS.md, Runs)
 abbrev pub StopsFiles : Relation → List Entry → Stop → Type 0
-StopsFiles has entries (stop.LongFile index) = LongFile has entries
-StopsFiles has entries (stop.Manifest place reason) = ⊥
+StopsFiles has entries (stop.LongFile index) = (entry : Entry) × LongFile has entries index entry
+StopsFiles has entries (stop.Manifest fault) = ⊥
 StopsFiles has entries stop.Memory = ⊤
 StopsFiles has entries stop.Device = ⊤
 StopsFiles has entries (stop.DeviceFile index) = ⊤
-StopsFiles has entries (stop.Waivers place reason) = ⊥
+StopsFiles has entries (stop.Waivers fault) = ⊥
 StopsFiles has entries stop.DeviceWaivers = ⊤
 
--- a stop that is a refusal (docs/DEFINITIONS.md, Runs)
-abbrev pub IsRefusal : Stop → Type 0
-IsRefusal (stop.Manifest place reason) = ⊤
-IsRefusal (stop.LongFile index) = ⊤
-IsRefusal stop.Memory = ⊥
-IsRefusal stop.Device = ⊥
-IsRefusal (stop.DeviceFile index) = ⊥
-IsRefusal (stop.Waivers place reason) = ⊤
-IsRefusal stop.DeviceWaivers = ⊥
+-- the name of the entry at this index, where there is one (docs/DEFINITIONS.md, Runs)
+abbrev pub IsNameAt : List Entry → ℕ → List ℕ → Type 0
+IsNameAt entries index name = (entry : Entry) → slice_get entries index ≡ Some entry → name ≡ entry.name
+
+-- a stop that is this refusal of files of these entries (docs/DEFINITIONS.md, Runs)
+abbrev pub IsRefusal : List Entry → Stop → Refusal → Type 0
+IsRefusal entries (stop.Manifest fault) why = why ≡ of_manifest fault
+IsRefusal entries (stop.LongFile index) why = (name : List ℕ) × IsNameAt entries index name × (why ≡ of_file index name too_long)
+IsRefusal entries stop.Memory why = ⊥
+IsRefusal entries stop.Device why = ⊥
+IsRefusal entries (stop.DeviceFile index) why = ⊥
+IsRefusal entries (stop.Waivers fault) why = why ≡ of_waivers fault
+IsRefusal entries stop.DeviceWaivers why = ⊥
 
 -- a stop at a manifest, a file of waivers or a file that can't be read (docs/DEFINITIONS.md, Runs)
 abbrev pub IsUnread : Stop → Type 0
-IsUnread (stop.Manifest place reason) = ⊥
+IsUnread (stop.Manifest fault) = ⊥
 IsUnread (stop.LongFile index) = ⊥
 IsUnread stop.Memory = ⊥
 IsUnread stop.Device = ⊤
 IsUnread (stop.DeviceFile index) = ⊤
-IsUnread (stop.Waivers place reason) = ⊥
+IsUnread (stop.Waivers fault) = ⊥
 IsUnread stop.DeviceWaivers = ⊤
 
--- the end that tells of a stop (docs/DEFINITIONS.md, Runs)
-abbrev pub TellsOf : Stop → Ended → Type 0
-TellsOf s (ended.Said status.Pass) = ⊥
-TellsOf s (ended.Said status.Findings) = ⊥
-TellsOf s (ended.Said status.Refused) = IsRefusal s
-TellsOf s (ended.Said status.Usage) = ⊥
-TellsOf s (ended.Said status.Device) = ⊥
-TellsOf s ended.LoaderFailed = IsUnread s
-TellsOf s ended.OutOfMemory = ⊤
-TellsOf s ended.WriterFailed = ⊤
+-- a refusal was told in this style, or memory ran out for it or the writer failed (docs/DEFINITIONS.md, Runs)
+abbrev pub EndsAsRefused : Style → Refusal → Option (List ℕ) → Option (List ℕ) → Ended → Type 0
+EndsAsRefused in_style why before after e = e ≢ ended.WriterFailed → e ≢ ended.OutOfMemory → (e ≡ ended.Said status.Refused) × TellsRefusal in_style why before after
+
+-- the end that tells of a stop at files of these entries, in this style (docs/DEFINITIONS.md, Runs)
+abbrev pub TellsOf : Style → List Entry → Stop → Option (List ℕ) → Option (List ℕ) → Ended → Type 0
+TellsOf in_style entries s before after (ended.Said status.Pass) = ⊥
+TellsOf in_style entries s before after (ended.Said status.Findings) = ⊥
+TellsOf in_style entries s before after (ended.Said status.Refused) = (why : Refusal) × IsRefusal entries s why × TellsRefusal in_style why before after
+TellsOf in_style entries s before after (ended.Said status.Usage) = ⊥
+TellsOf in_style entries s before after (ended.Said status.Device) = ⊥
+TellsOf in_style entries s before after ended.LoaderFailed = IsUnread s
+TellsOf in_style entries s before after ended.OutOfMemory = ⊤
+TellsOf in_style entries s before after ended.WriterFailed = ⊤
 
 -- the status of a report (docs/DEFINITIONS.md, Runs)
 abbrev pub status_of : List Finding → Status
@@ -100,7 +108,7 @@ Answered all rules before after (ended.Said status.Pass) =
     (report : Account) × IsAnswer all rules (Ok report) × Appends before after (report_text all report) × (report.findings ≡ []) × IsSound all rules
 Answered all rules before after (ended.Said status.Findings) =
     (report : Account) × IsAnswer all rules (Ok report) × Appends before after (report_text all report) × (0 < length report.findings)
-Answered all rules before after (ended.Said status.Refused) = (fault : ℕ × Fault) × IsAnswer all rules (Err fault)
+Answered all rules before after (ended.Said status.Refused) = RefusesFiles all style.Line before after
 Answered all rules before after (ended.Said status.Usage) = ⊥
 Answered all rules before after (ended.Said status.Device) = ⊥
 Answered all rules before after ended.LoaderFailed = ⊥

@@ -2,18 +2,26 @@
 use Rattle.std.specs.Prelude.{ℕ, List, Option, option_map}
 use Rattle.std.specs.Global.{Vec}
 use Rattle.package_check.specs.Package.{Source}
-use Rattle.ringcheck.specs.declared.Status.{Status}
-use Rattle.ringcheck.specs.declared.ending.Ended.{Ended}
+use Rattle.ringcheck_files.specs.declared.Status.{Status}
+use Rattle.ringcheck_files.specs.declared.ending.Ended.{Ended}
 use Rattle.ringcheck.specs.declared.packages.Work.{Work}
 use Rattle.ringcheck.specs.declared.packages.Work.TheVariants as work
 use Rattle.ringcheck.specs.declared.flashed.FlashedWork.{FlashedWork}
 use Rattle.ringcheck.specs.declared.flashed.FlashedWork.TheVariants as flashed
 use Rattle.ringcheck.specs.Drawing.{AnsweredDraw, SaysDraw}
-use Rattle.ringcheck.specs.Measuring.{AnsweredMeasure, SaysMeasure}
-use Rattle.ringcheck.specs.Reporting.{AnsweredReport, SaysReport}
-use Rattle.ringcheck.specs.Running.{Relation, Says}
+use Rattle.ringcheck.specs.declared.refusing.Style.{Style}
+use Rattle.ringcheck.specs.declared.refusing.Style.TheVariants as style
+use Rattle.ringcheck.specs.Measuring.{AnsweredMeasure, SaysMeasure, style_of}
+use Rattle.ringcheck.specs.Reporting.{AnsweredReport, SaysReport, report_style}
+use Rattle.ringcheck.specs.Running.{Says}
+use Rattle.ringcheck_files.specs.Loading.{Relation}
 use Rattle.ringcheck.specs.Inner.Stopping.{Answered}
 use Rattle.waivers.specs.declared.Waiver.{Waiver}
+
+-- how it is told why a work was not done (docs/DEFINITIONS.md, Runs)
+abbrev pub work_style : Work → Style
+work_style (work.Check rules) = style.Line
+work_style (work.Measure form) = style_of form
 
 -- what a status says of a work (docs/DEFINITIONS.md, Runs)
 abbrev pub SaysBy : Work → Relation → List ℕ → Option (List ℕ) → Option (List ℕ) → Status → Type 0
@@ -28,6 +36,11 @@ AnsweredBy (work.Measure form) all before after e = AnsweredMeasure all form bef
 -- the waivers that a report is given, if it is given some (docs/DEFINITIONS.md, Runs)
 abbrev pub given : Option (Vec Waiver) → Option (List Waiver)
 given waivers = option_map (λ all. all.items) waivers
+
+-- how it is told why a work that wants the flashes was not done (docs/DEFINITIONS.md, Runs)
+abbrev pub flashed_style : FlashedWork → Style
+flashed_style (flashed.Report order) = report_style order.format
+flashed_style (flashed.Draw rules) = style.Line
 
 -- what a status says of a work that wants the flashes (docs/DEFINITIONS.md, Runs)
 abbrev pub SaysFlashed : FlashedWork → Relation → List ℕ → Option (List ℕ) → Option (List ℕ) → Status → Type 0

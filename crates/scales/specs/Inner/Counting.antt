@@ -1,12 +1,20 @@
 -- Bare holes, counted.
-use Rattle.std.specs.Prelude.{◌≡◌, ℕ, ◌+◌, ◌≤◌, ◌&&◌, true, false, Option, Some, None, List, length}
+use Rattle.std.specs.Prelude.{◌≡◌, ℕ, ◌+◌, ◌*◌, ◌<◌, ◌≤◌, ◌++◌, ◌⊎◌, ◌&&◌, true, false, Option, Some, None, List, [], ◌∷◌, length, get_or}
+use Rattle.std.specs.List.{All, slice_range}
 use Rattle.grid_units.specs.Points.{GridPoint}
 use Rattle.grid_units.specs.Holes.{is_round}
 use Rattle.pad_shapes.specs.declared.pad.Pad.{Pad}
 use Rattle.ring_rules.specs.declared.finding.Drilled.{Drilled}
 use Rattle.margin_text.specs.declared.Factor.{Factor}
+use Rattle.margin_text.specs.declared.Factor.TheVariants as kind
+use Rattle.margin_text.specs.declared.ScaleLine.{ScaleLine}
+use Rattle.scales.specs.declared.counts.Gathered.{Gathered}
+use Rattle.scales.specs.declared.counts.Stretch.{Stretch}
+use Rattle.scales.specs.declared.fewest.Counts.{Counts}
 use Rattle.scales.specs.declared.fewest.Fewest.{Fewest}
-use Rattle.scales.specs.Scales.{IsFirstFewest, bare_count, bare_count_by, is_place, round_count, scaled_point}
+use Rattle.scales.specs.declared.line.Doubt.{Doubt}
+use Rattle.scales.specs.declared.line.FileStretch.{FileStretch}
+use Rattle.scales.specs.Scales.{IsFirstFewest, IsScale, bare_count, bare_count_by, holes_in, is_place, round_count, scaled_point}
 
 -- a point with its coordinates times a factor, or none where it would be beyond ten metres (docs/DEFINITIONS.md, Scales)
 abbrev pub IsPlaced : Factor → GridPoint → Option GridPoint → Type 0
@@ -27,3 +35,65 @@ pub record AreMoved (factor : Factor) (holes moved : List Drilled) : Type 0 wher
 pub record IsFewest (count : Factor → ℕ) (tried : List Factor) (fewest : Fewest) : Type 0 where
   pub bare : fewest.bare ≡ count fewest.factor
   pub first : IsFirstFewest count tried fewest.factor
+
+-- the holes of a stretch of a list (docs/DEFINITIONS.md, Scales)
+abbrev pub holes_of : List Drilled → Stretch → List Drilled
+holes_of holes stretch = slice_range holes stretch.start stretch.end
+
+-- each of these stretches is in the list (docs/DEFINITIONS.md, Scales)
+abbrev pub AreStretches : List Drilled → List Stretch → Type 0
+AreStretches holes stretches = All (λ stretch. (stretch.start ≤ stretch.end) × (stretch.end ≤ length holes)) stretches
+
+-- the round holes of one more stretch with their coordinates times a factor stand behind those of the others, with their end (docs/DEFINITIONS.md, Scales)
+pub record IsMore (factor : Factor) (own : List Drilled) (old new : Gathered) : Type 0 where
+  pub moved : List Drilled
+  pub are : AreMoved factor own moved
+  pub holes : new.holes.items ≡ old.holes.items ++ moved
+  pub bounds : new.bounds.items ≡ old.bounds.items ++ length new.holes.items ∷ []
+
+-- those of the stretch at a place stand between its bound and the next one (docs/DEFINITIONS.md, Scales)
+pub record IsGatheredAt (factor : Factor) (own moved : List Drilled) (from to : ℕ) : Type 0 where
+  pub ordered : from ≤ to
+  pub inside : to ≤ length moved
+  pub are : AreMoved factor own (slice_range moved from to)
+
+-- the round holes of all stretches with their coordinates times a factor (docs/DEFINITIONS.md, Scales)
+pub record IsGathered (factor : Factor) (holes : List Drilled) (stretches : List Stretch) (all : Gathered) : Type 0 where
+  pub size : length all.bounds.items ≡ length stretches + 1
+  pub last : get_or all.bounds.items (length stretches) 0 ≡ length all.holes.items
+  pub each : (k : ℕ) (d : Stretch) → k < length stretches → IsGatheredAt factor (holes_of holes (get_or stretches k d)) all.holes.items (get_or all.bounds.items k 0) (get_or all.bounds.items (k + 1) 0)
+
+-- how many holes of each stretch would be bare by a factor (docs/DEFINITIONS.md, Scales)
+pub record AreCounted (pads : List Pad) (holes : List Drilled) (stretches : List Stretch) (factor : Factor) (counts : List ℕ) : Type 0 where
+  pub size : length counts ≡ length stretches
+  pub each : (k : ℕ) (s : Stretch) (n : ℕ) → k < length stretches → get_or counts k n ≡ bare_count_by pads (holes_of holes (get_or stretches k s)) factor
+
+-- how many holes of each stretch would be bare by each factor (docs/DEFINITIONS.md, Scales)
+pub record AreAllCounted (pads : List Pad) (holes : List Drilled) (stretches : List Stretch) (counts : Counts) : Type 0 where
+  pub ten : AreCounted pads holes stretches kind.Ten counts.ten.items
+  pub tenth : AreCounted pads holes stretches kind.Tenth counts.tenth.items
+  pub inch : AreCounted pads holes stretches kind.Inch counts.inch.items
+  pub per_inch : AreCounted pads holes stretches kind.PerInch counts.per_inch.items
+
+-- more than half of the round holes of a file are bare, and all holes are to be tried elsewhere; or its holes have no line, and none is to be tried (docs/DEFINITIONS.md, Scales)
+pub record IsDoubted (pads : List Pad) (own : List Drilled) (file : FileStretch) (doubt : Doubt) : Type 0 where
+  pub start : doubt.stretch.start ≡ file.start
+  pub end : doubt.stretch.end ≡ file.end
+  pub bare : doubt.bare ≡ bare_count pads own
+  pub most : round_count own < 2 * doubt.bare
+
+-- nothing is told of these holes, so none of them is to be tried (docs/DEFINITIONS.md, Scales)
+pub record IsUndoubted (pads : List Pad) (own : List Drilled) (doubt : Doubt) : Type 0 where
+  pub bare : doubt.bare ≡ 0
+  pub none : (line : ScaleLine) → IsScale pads own line → ⊥
+
+-- which holes of a file are to be tried elsewhere; they are in the list (docs/DEFINITIONS.md, Scales)
+pub record IsDoubt (pads : List Pad) (holes : List Drilled) (file : FileStretch) (doubt : Doubt) : Type 0 where
+  pub ordered : doubt.stretch.start ≤ doubt.stretch.end
+  pub inside : doubt.stretch.end ≤ length holes
+  pub either : IsDoubted pads (holes_in holes file) file doubt ⊎ IsUndoubted pads (holes_in holes file) doubt
+
+-- which holes of each file are to be tried elsewhere (docs/DEFINITIONS.md, Scales)
+pub record AreDoubts (pads : List Pad) (holes : List Drilled) (files : List FileStretch) (doubts : List Doubt) : Type 0 where
+  pub size : length doubts ≡ length files
+  pub each : (k : ℕ) (f : FileStretch) (d : Doubt) → k < length files → IsDoubt pads holes (get_or files k f) (get_or doubts k d)

@@ -1,13 +1,11 @@
-use Rattle.std.proofs.Common.{◌∙◌, ap₂}
+use Rattle.std.proofs.Common.{◌∙◌, ap, ap₂}
 use Rattle.std.proofs.lemmas.Result.{IfOk-weaker}
 use Rattle.clap.specs.Words.{with_rule}
+use Rattle.command_line.specs.Inner.Building.{report_args_of}
 use Rattle.command_line.proofs.commands.report.Goals as goal
 
 pub returns : goal.returns
 returns c =
     let ring = c.in_ok-arg.ensures.shape c.ring_of.ensures.global ∙ ap₂ with_rule c.described.ensures c.ring_of.ensures.rule in
-    let gap = c.in_ok-arg-2.ensures.shape c.gap_of.ensures.global ∙ ap₂ with_rule ring c.gap_of.ensures.rule in
-    let most = c.in_ok-arg-3.ensures.shape c.maybe_option_of.ensures.global ∙ ap₂ with_rule gap c.maybe_option_of.ensures.rule in
-    let waive = c.in_ok-arg-4.ensures.shape c.maybe_option_of-2.ensures.global ∙ ap₂ with_rule most c.maybe_option_of-2.ensures.rule in
-    let format = c.in_ok-arg-5.ensures.shape c.maybe_option_of-3.ensures.global ∙ ap₂ with_rule waive c.maybe_option_of-3.ensures.rule in
-    IfOk-weaker c.arg-6.result _ _ (λ x h. h.shape c.value_of.ensures.global ∙ ap₂ with_rule format c.value_of.ensures.rule) c.arg-6.ensures
+    let gap = c.in_ok-under_rules.ensures.shape c.gap_of.ensures.global ∙ ap₂ with_rule ring c.gap_of.ensures.rule in
+    IfOk-weaker c.as_report.result _ _ (λ x h. h ∙ ap report_args_of gap) c.as_report.ensures

@@ -1,16 +1,15 @@
-use Rattle.std.proofs.Common.{◌≡◌, ◌<◌, ◌≤◌, Bool, Option, Bor, List, [], get_or, length, map, sym, subst, ap, ◌∙◌, arith}
+use Rattle.std.proofs.Common.{◌≡◌, ◌<◌, ◌≤◌, Option, Bor, List, [], get_or, length, map, sym, subst, ap, ◌∙◌, arith}
 use Rattle.std.specs.Global.{Vec}
 use Rattle.std.specs.List.{flat_map}
 use Rattle.std.proofs.lemmas.List.{get_or-map, length-map}
-use Rattle.ring_rules.specs.Findings.{is_ring_finding, layer_findings}
-use Rattle.ring_rules.specs.declared.finding.Drilled.{Drilled}
+use Rattle.ring_rules.specs.Findings.{layer_findings}
 use Rattle.ring_rules.proofs.Listing.{enumerated_all, flat_listed_more}
 use Rattle.margins.specs.Bests.{AreBest}
 use Rattle.margins.specs.declared.best.Best.{Best}
 use Rattle.margins.proofs.lacking.ring_findings_by.Goals as goal
 
-pub lacking_by-requires : goal.lacking_by-requires
-lacking_by-requires g c =
+pub add_lacking-requires : goal.add_lacking-requires
+add_lacking-requires g c =
     let pads = map (λ (pads : Bor (List g.row.S.Denot)). pads.now) c.args.layers.now in
     let bests = c.args.bests.now in
     let layer = c.loop-layer.layer in
@@ -29,9 +28,7 @@ loop-layer-preserved g c =
     let size = c.requires.size in
     let more = length-map c.args.bests.now (λ (its : Vec (Option Best)). its.items) in
     let inside : layer < length pads = omega (arith, size, more, c.loop-layer-test.true) in
-    let test : Drilled → Bool = is_ring_finding g.S.PadShape.covers c.args.rules.ring layer (get_or pads layer []) in
-    let marks : c.deref-in-loop-layer.result.now ≡ map test c.args.holes.now = c.deref-in-loop-layer.ensures.value ∙ c.in_ok-lacking.ensures in
-    c.in_ok-layer_findings.ensures test marks
+    c.in_ok-add_lacking.ensures
     ∙ flat_listed_more (λ layer. layer_findings g.S.PadShape.covers c.args.rules.ring c.args.holes.now layer.0 layer.1) c.loop-layer.findings.items pads layer [] inside c.loop-layer.invariant
 
 pub returns : goal.returns

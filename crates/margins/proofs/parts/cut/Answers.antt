@@ -1,11 +1,8 @@
-use Rattle.std.proofs.Common.{◌≡◌, ◌<◌, ℕ, ◌+◌, pos, List, [], ◌∷◌, ◌++◌, length, get_or, sym, subst, ap, ◌∙◌, rules}
-use Rattle.std.specs.List.{Contains}
+use Rattle.std.proofs.Common.{◌≡◌, ◌<◌, ℕ, ◌+◌, pos, List, [], ◌∷◌, length, get_or, sym, subst, ap, ◌∙◌, rules}
 use Rattle.std.proofs.lemmas.List.{get_or_default}
 use Rattle.pad_shapes.specs.Zones.{IsInZone}
 use Rattle.pad_shapes.specs.declared.zone.Zone.{Zone}
-use Rattle.ring_rules.specs.Index.{IsInOneOf}
 use Rattle.ring_rules.specs.Places.{point_at}
-use Rattle.margins.specs.Inner.Bests.{IsInSome}
 use Rattle.margins.proofs.Parting.{AreCut, cut_none, cut_more, cut_all}
 use Rattle.margins.proofs.parts.cut.Goals as goal
 
@@ -14,29 +11,22 @@ no_zone = record { left = pos 0; right = pos 0; bottom = pos 0; top = pos 0 }
 
 pub loop-zone-init : goal.loop-zone-init
 loop-zone-init c =
-    let starts : c.push.new.self.items ≡ 0 ∷ [] = c.in_ok-push.ensures.items ∙ ap (λ (ss : List ℕ). ss ++ 0 ∷ []) c.new-starts.ensures.items in
-    subst (λ (ss : List ℕ). AreCut c.args.holes.now c.args.zones.items ss c.new-parts.result.items 0) (sym starts)
+    subst (λ (ss : List ℕ). AreCut c.args.holes.now c.args.zones.items ss c.new-parts.result.items 0) (sym c.in_ok-starts.ensures.items)
     (subst (λ (ps : List Zone). AreCut c.args.holes.now c.args.zones.items (0 ∷ []) ps 0) (sym c.new-parts.ensures.items) (cut_none c.args.holes.now c.args.zones.items))
 
 pub loop-zone-preserved : goal.loop-zone-preserved
 loop-zone-preserved c =
-    let holes = c.args.holes.now in
-    let now : List Zone = c.add_parts.new.parts.items in
-    let size : c.len.result ≡ length c.add_parts.new.parts.items = search rules in
     let listed : c.loop-zone.zone-index < length c.args.zones.items = search rules in
-    subst (λ (ss : List ℕ). AreCut c.args.holes.now c.args.zones.items ss c.add_parts.new.parts.items (c.loop-zone.zone-index + 1))
-    (sym (c.in_ok-push-2.ensures.items ∙ ap (λ (n : ℕ). c.loop-zone.starts.items ++ n ∷ []) size))
-    (cut_more c.args.holes.now c.args.zones.items c.loop-zone.starts.items c.loop-zone.parts.items now c.loop-zone.zone-index c.in_ok-add_parts.ensures.longer c.in_ok-add_parts.ensures.kept
+    subst (λ (ss : List ℕ). AreCut c.args.holes.now c.args.zones.items ss c.add_cut.new.parts.items (c.loop-zone.zone-index + 1))
+    (sym c.in_ok-add_cut.ensures.starts)
+    (cut_more c.args.holes.now c.args.zones.items c.loop-zone.starts.items c.loop-zone.parts.items c.add_cut.new.parts.items c.loop-zone.zone-index c.in_ok-add_cut.ensures.longer c.in_ok-add_cut.ensures.kept
     (λ zone is k inside within.
     let here : zone ≡ get_or c.args.zones.items c.loop-zone.zone-index no_zone = sym is ∙ get_or_default c.args.zones.items c.loop-zone.zone-index zone no_zone listed in
     let item : zone ≡ get_or c.deref-zone-items.result.now c.loop-zone.zone-index no_zone = here ∙ ap (λ (zs : List Zone). get_or zs c.loop-zone.zone-index no_zone) (sym c.deref-zone-items.ensures.value) in
-    let found : Contains c.deref.result.now k = subst (λ (ns : List ℕ). Contains ns k) (sym c.deref.ensures.value) (c.in_ok-find.ensures.all k inside (subst (λ (z : Zone). IsInZone z (point_at c.args.holes.now k)) item within)) in
-    subst (λ (n : ℕ). IsInSome c.add_parts.new.parts.items (length c.loop-zone.parts.items) (length c.add_parts.new.parts.items) (point_at c.args.holes.now n)) (get_or_default c.deref.result.now found.0 0 k found.1 ∙ found.2)
-    (c.in_ok-add_parts.ensures.holds found.0 found.1)) c.loop-zone.invariant)
+    c.in_ok-add_cut.ensures.holds k inside (subst (λ (z : Zone). IsInZone z (point_at c.args.holes.now k)) item within)) c.loop-zone.invariant)
 
 pub returns : goal.returns
 returns c =
     let ended : c.loop-zone.zone-index ≡ length c.args.zones.items = search rules in
-    cut_all c.args.holes.now (record { whole = c.hull_of.result; zones = c.args.zones; starts = c.loop-zone.starts; parts = c.loop-zone.parts }) c.requires.zones
-    (λ p some. c.hull_of.ensures p (subst (λ (zs : List Zone). IsInOneOf zs p) (sym c.deref-2.ensures.value) some))
+    cut_all c.args.holes.now (record { whole = c.args.whole; zones = c.args.zones; starts = c.loop-zone.starts; parts = c.loop-zone.parts }) c.requires.zones c.requires.whole
     (subst (λ (n : ℕ). AreCut c.args.holes.now c.args.zones.items c.loop-zone.starts.items c.loop-zone.parts.items n) ended c.loop-zone.invariant)

@@ -1,6 +1,10 @@
-use Rattle.ringcheck.proofs.Checking.{risen_since, stopped_cause}
+use Rattle.std.proofs.Common.{[]}
+use Rattle.ringcheck.proofs.Checking.{risen_since}
+use Rattle.ringcheck.proofs.Refused.{stopped_cause}
+use Rattle.ringcheck_files.specs.Loading.{file_limit, within}
 use Rattle.ringcheck.proofs.Flashing.{answered_cause, said, stopped_files, stopped_manifest}
-use Rattle.ringcheck.specs.Running.{file_limit, sources, within}
+use Rattle.ringcheck.specs.Inner.Working.{flashed_style}
+use Rattle.ringcheck.specs.Running.{sources}
 use Rattle.ringcheck.proofs.Loaded.{along, same_length}
 use Rattle.ringcheck.proofs.flashed.work_on.Goals as goal
 
@@ -9,9 +13,10 @@ returns-in-Err g c =
     let has = g.L.Loader.has c.args.loader.now in
     let told = g.W.Write.contents in
     let after = told c.tell.new.out in
+    let tells = rw c.style.ensures at c.tell.ensures in
     record {
-      says = stopped_manifest has c.args.name.now c.args.work.now (told c.args.out.now) after c.in-Err.stop c.tell.result c.in-Err.ensures.err c.tell.ensures;
-      cause = stopped_cause c.in-Err.stop c.tell.result _ _ c.tell.ensures c.in-Err.ensures.unread;
+      says = stopped_manifest has c.args.name.now c.args.work.now (told c.args.out.now) after [] c.in-Err.stop c.tell.result c.in-Err.ensures.err tells;
+      cause = stopped_cause (flashed_style c.args.work.now) [] c.in-Err.stop (told c.args.out.now) after c.tell.result _ _ tells c.in-Err.ensures.unread;
     }
 
 pub returns-in-Ok-take_files : goal.returns-in-Ok-take_files
@@ -35,10 +40,11 @@ returns g c =
     let told = g.W.Write.contents in
     let after = told c.tell-in-Err-take_files.new.out in
     let (text, held, names, short) = c.in-Ok.ensures.ok in
+    let tells = rw (c.style-in-Err-take_files.ensures, c.as_slice-in-Err-take_files.ensures.value) at c.tell-in-Err-take_files.ensures in
     record {
       says = stopped_files has c.args.name.now c.args.work.now (told c.args.out.now) after text c.in-Ok.entries.items held names
           (g.L.Loader.has c.load_manifest.new.loader) (λ n b. (c.in-Ok.ensures.keeps n b).0) c.in-Err-take_files.stop c.tell-in-Err-take_files.result
-          (rw c.as_slice.ensures.value at c.in-Err-take_files.ensures.err) c.tell-in-Err-take_files.ensures;
-      cause = stopped_cause c.in-Err-take_files.stop c.tell-in-Err-take_files.result _ _ c.tell-in-Err-take_files.ensures
+          (rw c.as_slice.ensures.value at c.in-Err-take_files.ensures.err) tells;
+      cause = stopped_cause (flashed_style c.args.work.now) c.in-Ok.entries.items c.in-Err-take_files.stop (told c.args.out.now) after c.tell-in-Err-take_files.result _ _ tells
           (λ u. risen_since _ _ _ c.in-Ok.ensures.counts (c.in-Err-take_files.ensures.unread u));
     }

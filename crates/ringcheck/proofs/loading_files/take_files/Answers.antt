@@ -4,7 +4,8 @@ use Rattle.std.proofs.lemmas.List.{take_all, take_more}
 use Rattle.manifest.specs.declared.Entry.{Entry}
 use Rattle.package_check.specs.Package.{Source, is_copper}
 use Rattle.ringcheck.proofs.Loaded.{has_more, same_length, sources_more}
-use Rattle.ringcheck.specs.Running.{HasFiles, file_limit, sources_among, within}
+use Rattle.ringcheck.specs.Running.{HasFiles, sources_among}
+use Rattle.ringcheck_files.specs.Loading.{file_limit, within}
 use Rattle.ringcheck.proofs.loading_files.take_files.Goals as goal
 
 pub loop-index-preserved : goal.loop-index-preserved

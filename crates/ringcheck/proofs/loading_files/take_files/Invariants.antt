@@ -1,7 +1,8 @@
 use Rattle.std.proofs.Common.{◌≡◌, ◌↔◌, ◌≤◌, ℕ, List, take}
 use Rattle.std.specs.List.{count_by}
 use Rattle.package_check.specs.Package.{is_copper}
-use Rattle.ringcheck.specs.Running.{HasFiles, file_limit, sources_among, within}
+use Rattle.ringcheck.specs.Running.{HasFiles, sources_among}
+use Rattle.ringcheck_files.specs.Loading.{file_limit, within}
 use Rattle.ringcheck.proofs.loading_files.take_files.Given as goal
 
 abbrev pub invariant-loop-index : goal.invariant-loop-index

@@ -3,16 +3,18 @@ use Rattle.std.specs.Io.KnownBytes.{Appends}
 use Rattle.std.specs.List.{count_by}
 use Rattle.manifest.specs.declared.Entry.{Entry}
 use Rattle.package_check.specs.Package.{is_copper}
-use Rattle.ringcheck.specs.Measuring.{measure_page}
+use Rattle.ringcheck.specs.Measuring.{AnsweredMeasure, measure_page, style_of}
 use Rattle.ringcheck.specs.Running.{sources}
 use Rattle.ringcheck.proofs.Loaded.{names_among}
-use Rattle.ringcheck.proofs.Working.{measured, refused_file}
+use Rattle.ringcheck.proofs.Refused.{by_files}
+use Rattle.ringcheck.proofs.Working.{measured}
 use Rattle.ringcheck.proofs.measures.answer_measure.Goals as goal
 
 pub returns-in-Err-File : goal.returns-in-Err-File
 returns-in-Err-File g c files same stands =
     let all = sources c.args.entries.now files in
-    refused_file _ _ c.args.format all (c.in-Err-File.index, c.in-Err-File.fault) c.say_refused.result (rw c.in-Err-File.field-0-is at (c.in-Err-File.ensures all stands)) c.say_refused.ensures
+    by_files (AnsweredMeasure all c.args.format _ _) (style_of c.args.format) c.args.entries.now files c.in-Err-File.index c.in-Err-File.fault _ _ same
+    (rw c.in-Err-File.field-0-is at (c.in-Err-File.ensures all stands)) tt tt (λ h. h) c.say_refused.result (rw c.style_of.ensures at c.say_refused.ensures)
 
 pub returns-in-Ok-measure_board : goal.returns-in-Ok-measure_board
 returns-in-Ok-measure_board g c files same stands =

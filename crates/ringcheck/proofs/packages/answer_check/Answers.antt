@@ -5,14 +5,18 @@ use Rattle.manifest.specs.declared.Entry.{Entry}
 use Rattle.package_check.specs.Package.{is_copper}
 use Rattle.package_check.specs.Texts.{text_of}
 use Rattle.ringcheck.specs.Running.{sources}
-use Rattle.ringcheck.proofs.Checking.{refused_file, reported}
+use Rattle.ringcheck.specs.declared.refusing.Style.TheVariants as style
+use Rattle.ringcheck.specs.Inner.Stopping.{Answered}
+use Rattle.ringcheck.proofs.Checking.{reported}
+use Rattle.ringcheck.proofs.Refused.{by_files}
 use Rattle.ringcheck.proofs.Loaded.{names_among}
 use Rattle.ringcheck.proofs.packages.answer_check.Goals as goal
 
 pub returns-in-Err-File : goal.returns-in-Err-File
 returns-in-Err-File g c files same stands =
     let all = sources c.args.entries.now files in
-    refused_file all c.args.rules _ _ (c.in-Err-File.index, c.in-Err-File.fault) c.say_refused.result (rw c.in-Err-File.field-0-is at (c.in-Err-File.ensures.exact all stands)) c.say_refused.ensures
+    by_files (Answered all c.args.rules _ _) style.Line c.args.entries.now files c.in-Err-File.index c.in-Err-File.fault _ _ same
+    (rw c.in-Err-File.field-0-is at (c.in-Err-File.ensures.exact all stands)) tt tt (λ h. h) c.say_refused.result c.say_refused.ensures
 
 pub returns-in-Ok : goal.returns-in-Ok
 returns-in-Ok g c files same stands =

@@ -1,5 +1,5 @@
 use Rattle.std.proofs.Common.{ap}
-use Rattle.ringcheck.specs.declared.ending.Ended.TheVariants as ended
+use Rattle.ringcheck_files.specs.declared.ending.Ended.TheVariants as ended
 use Rattle.ringcheck.proofs.reports.answer_waived.Goals as goal
 
 pub returns-in-Ok-print_reasons : goal.returns-in-Ok-print_reasons

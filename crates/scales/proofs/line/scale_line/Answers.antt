@@ -1,21 +1,14 @@
-use Rattle.std.proofs.Common.{refl, arith}
-use Rattle.scales.proofs.Choosing.{too_many}
+use Rattle.std.proofs.Common.{List, get_or, sym, subst, arith}
+use Rattle.ring_rules.specs.declared.finding.Drilled.{Drilled}
+use Rattle.scales.specs.Scales.{IsScaleLine}
+use Rattle.scales.proofs.Slices.{slice_whole}
 use Rattle.scales.proofs.line.scale_line.Goals as goal
 
-pub returns-then-not-is_twice_below : goal.returns-then-not-is_twice_below
-returns-then-not-is_twice_below c =
-    too_many c.args.pads.now c.args.holes.now c.bare_among-bare.result (c.bare_among-bare.ensures.exact c.args.pads.now c.requires) c.in_ok-fewest.fewest c.in_ok-fewest.ensures c.is_twice_below.result c.is_twice_below.ensures c.if-not-is_twice_below.true
-
 pub returns : goal.returns
-returns c = (
-  let most = c.is_twice_above.ensures.0 c.if-not-is_twice_above.false in
-      let few = c.is_twice_below.ensures.0 c.if-not-is_twice_below.false in
-      record {
-        bare = c.bare_among-bare.ensures.exact c.args.pads.now c.requires;
-        most = omega (arith, most, c.round_among.ensures);
-        first = c.in_ok-fewest.ensures.first;
-        then = c.in_ok-fewest.ensures.bare;
-        few = few;
-      },
-  refl,
-)
+returns c =
+    let all = c.in_ok-lines.ensures in
+    let lines = c.in_ok-lines.lines.items in
+    let line = c.index.result.now in
+    subst (IsScaleLine c.args.pads.now c.args.holes.now c.args.drill) (sym c.index.ensures)
+    (subst (λ (hs : List Drilled). IsScaleLine c.args.pads.now hs c.args.drill (get_or c.in_ok-lines.lines.items 0 c.index.result.now)) (slice_whole c.args.holes.now)
+    (all.each 0 (record { drill = 0; start = 0; end = 0 }) line (omega arith)))

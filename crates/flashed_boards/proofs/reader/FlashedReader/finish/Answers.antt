@@ -1,8 +1,8 @@
 use Rattle.package_check.proofs.Flashing.{none_refused}
 use Rattle.flashed_boards.proofs.reader.FlashedReader.finish.Goals as goal
 
-pub returns : goal.returns
-returns c = λ sources stands.
+pub returns-clause-exact : goal.returns-clause-exact
+returns-clause-exact c = λ sources stands.
     let board = c.in_ok-board.ensures sources stands.taken in
     record {
       board = board;

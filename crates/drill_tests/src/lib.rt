@@ -1,0 +1,7 @@
+//! Tests of the crates that read and write drill files.
+#![tactic(auto)]
+
+#[cfg(test)]
+mod drill_text_calls;
+#[cfg(test)]
+mod drill_writing;

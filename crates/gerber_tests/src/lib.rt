@@ -1,0 +1,11 @@
+//! Tests of the crates that read and write Gerber texts.
+#![tactic(auto)]
+
+#[cfg(test)]
+mod gerber_sayable_calls;
+#[cfg(test)]
+mod gerber_text_calls;
+#[cfg(test)]
+mod layer_image_calls;
+#[cfg(test)]
+mod sayable_lists;

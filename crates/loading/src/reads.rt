@@ -1,0 +1,57 @@
+//! Reads that are counted.
+
+ghost use Rattle.std.specs.Prelude.{◌≡◌, ◌<◌, ◌+◌, ◌-◌, ◌^◌, true, false, OnOk, IfErr, length};
+ghost use Rattle.loading.specs.Inner.{Gives, IsUnread};
+
+use crate::ReadFail;
+use std::io::{ErrorKind, Read};
+
+/// The reads of a reader so far: how many there were, and whether one of them failed.
+#[derive(Drop)]
+pub(crate) struct Reads {
+    made: u64,
+    has_failed: bool,
+}
+
+impl Reads {
+    /// No read so far.
+    pub(crate) fn new() -> Reads
+        ensures { IsUnread result }
+    {
+        Reads {
+            made: 0,
+            has_failed: false,
+        }
+    }
+
+    /// How many reads there were.
+    pub(crate) fn made(&self) -> u64
+        ensures { result ≡ self.now.made }
+    {
+        self.made
+    }
+
+    /// Reads once more, and counts it: how many bytes were given, or none where the read was interrupted. This body alone says what
+    /// is a failed read, as no clause of `Read` speaks of failures.
+    pub(crate) fn read<R: Read>(
+        &mut self,
+        reader: &mut R,
+        block: &mut [u8],
+    ) -> Result<Option<usize>, ReadFail>
+        requires { self.old.made < 2 ^ 64 - 1 }
+        ensures gives { Gives (R.remaining reader.old) (R.remaining reader.new) block.new result }
+        ensures made { self.new.made ≡ self.old.made + 1 }
+        ensures goes_on { OnOk result (self.new.has_failed ≡ self.old.has_failed) }
+        ensures fails { IfErr result (λ e. e ≡ ReadFail.ReadFault → self.new.has_failed ≡ true) }
+    {
+        self.made += 1;
+        match reader.read(block) {
+            Ok(count) => Ok(Some(count)),
+            Err(error) if error.kind() == ErrorKind::Interrupted => Ok(None),
+            Err(_) => {
+                self.has_failed = true;
+                Err(ReadFail::ReadFault)
+            }
+        }
+    }
+}

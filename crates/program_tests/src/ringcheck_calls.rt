@@ -1,0 +1,196 @@
+ghost use Rattle.std.specs.Prelude.{◌≡◌, ◌≢◌, ◌≤◌, ◌<◌, List, ℕ, IfSome, IfOk, IfErr, map, length};
+ghost use Rattle.std.specs.List.{Contains};
+
+use ringcheck::*;
+use std::alloc::{AllocError, Global};
+
+mod checking;
+mod commands;
+mod devices;
+mod drawn;
+mod formats;
+mod met;
+mod one_file;
+mod refusals;
+mod told;
+mod waived;
+mod words;
+
+const WORDS: [&str; 6] = ["check", "--ring", "0.125", "--gap", "0.25", "m.csv"];
+
+const MEASURE: [&str; 2] = ["measure", "m.csv"];
+
+const MANIFEST: &str = "role,name,file\ncopper,top,top.gbr\nplated,pth,pth.drl\n";
+
+const LAYER: &str = "%FSLAX46Y46*%\n%MOMM*%\n%ADD10C,0.65*%\nD10*\nX0Y0D03*\nM02*\n";
+
+/// The layer with its flash a nanometre aside.
+const MOVED: &str = "%FSLAX46Y46*%\n%MOMM*%\n%ADD10C,0.65*%\nD10*\nX1Y0D03*\nM02*\n";
+
+const DRILL: &str = "M48\nMETRIC\nT1C0.4\n%\nT1\nX0.0Y0.0\nM30\n";
+
+const REPORT: &str = "rules ring=0.125000000 gap=0.250000000
+file 1 layer pads=1 other=0 name=top
+file 2 drill plated=yes round=1 slots=0 name=pth
+PASS
+";
+
+const MEASURED: &str = "file 1 layer pads=1 other=0 name=top
+file 2 drill plated=yes round=1 slots=0 name=pth
+ring layer=1 drill=2 diameter=0.400000000 holes=1 bare=0 least=0.125000000 hole=1
+meets ring=0.125000000 gap=any held=0.125000000
+";
+
+/// Files at hand by their names. The call by the number `fails_at` fails.
+#[derive(Drop)]
+struct Shelf<'a> {
+    files: &'a [(&'a str, &'a str)],
+    calls: u64,
+    fails_at: u64,
+    failures: u64,
+}
+
+impl<'a> Shelf<'a> {
+    fn new(files: &'a [(&'a str, &'a str)]) -> Self
+        ensures { result.files.now ≡ files.entry.now }
+    {
+        Shelf {
+            files,
+            calls: 0,
+            fails_at: 0,
+            failures: 0,
+        }
+    }
+
+    /// The text under a name, if there is one.
+    fn text_of(&self, name: &str) -> Option<&'a str>
+        ensures { IfSome result (λ text. Contains {X = List ℕ × List ℕ} (map (λ f. (f.0.now, f.1.now)) self.now.files.now) (name.now, text.now)) }
+    {
+        for (held, text) in self.files {
+            if *held == name {
+                return Some(*text);
+            }
+        }
+        None
+    }
+}
+
+impl Loader for Shelf<'_> {
+    ghost use Rattle.std.specs.Prelude.{List, ℕ, map};
+    ghost use Rattle.std.specs.List.{Contains};
+
+    // the file is on the shelf
+    ghost has = { λ s n b. Contains {X = List ℕ × List ℕ} (map (λ f. (f.0.now, f.1.now)) s.files.now) (n, b) };
+
+    ghost failed = { λ s. s.failures };
+
+    fn load(&mut self, alloc: Global, name: &str, limit: u64) -> Result<Vec<u8>, LoadFault> {
+        self.calls = self.calls.saturating_add(1);
+        match self.text_of(name) {
+            Some(text) if self.calls != self.fails_at => copied(alloc, text.as_bytes(), limit),
+            _ => {
+                self.failures = self.failures.saturating_add(1);
+                Err(LoadFault::Device)
+            }
+        }
+    }
+
+    fn failures(&self) -> u64 {
+        self.failures
+    }
+}
+
+fn copied(alloc: Global, bytes: &[u8], limit: u64) -> Result<Vec<u8>, LoadFault>
+    ensures gives { IfOk result (λ v. (v.items ≡ bytes.now) × (length bytes.now ≤ limit)) }
+    ensures fails { IfErr result (λ e. e ≢ LoadFault.Device) }
+    ensures too_long { IfErr result (λ e. e ≡ LoadFault.TooLong → limit < length bytes.now) }
+{
+    if bytes.len() as u64 > limit {
+        return Err(LoadFault::TooLong);
+    }
+    Vec::from_slice(alloc, bytes).map_err(|_| LoadFault::Memory)
+}
+
+/// Files at hand, and under one name any text of this length.
+#[derive(Drop)]
+struct LongShelf<'a> {
+    shelf: Shelf<'a>,
+    name: &'a str,
+    length: u64,
+}
+
+impl Loader for LongShelf<'_> {
+    ghost use Rattle.std.specs.Prelude.{◌≡◌, ◌⊎◌, List, ℕ, map, length};
+    ghost use Rattle.std.specs.List.{Contains};
+
+    ghost has = { λ s n b. Contains {X = List ℕ × List ℕ} (map (λ f. (f.0.now, f.1.now)) s.shelf.files.now) (n, b) ⊎ (length b ≡ s.length) };
+
+    ghost failed = { λ s. s.shelf.failures };
+
+    fn load(&mut self, alloc: Global, name: &str, limit: u64) -> Result<Vec<u8>, LoadFault> {
+        if name == self.name && self.length > limit {
+            return Err(LoadFault::TooLong);
+        }
+        self.shelf.load(alloc, name, limit)
+    }
+
+    fn failures(&self) -> u64 {
+        self.shelf.failures
+    }
+}
+
+/// Whether a run over a loader ends so and prints just this.
+fn prints<L: Loader>(
+    alloc: Global,
+    loader: &mut L,
+    words: &[&str],
+    status: Status,
+    text: &str,
+) -> bool {
+    let mut out: Vec<u8> = Vec::new(alloc);
+    run(alloc, words, loader, &mut out) == status && out.as_slice() == text.as_bytes()
+}
+
+/// A layer of one aperture.
+fn layer_text(alloc: Global, define: &str, flashes: &str) -> Result<String, AllocError> {
+    format!(in alloc; "%FSLAX46Y46*%\n%MOMM*%\n{define}\nD10*\n{flashes}\nM02*\n")
+}
+
+/// A drill file of one tool.
+fn drill_text(alloc: Global, tool: &str, hits: &str) -> Result<String, AllocError> {
+    format!(in alloc; "M48\nMETRIC\n{tool}\n%\nT1\n{hits}\nM30\n")
+}
+
+/// Whether the check of a layer and a drill file ends so and prints just this.
+fn checks<'x>(alloc: Global, layer: &'x str, drill: &'x str, status: Status, text: &str) -> bool {
+    let files = [("m.csv", MANIFEST), ("top.gbr", layer), ("pth.drl", drill)];
+    prints(alloc, &mut Shelf::new(&files), &WORDS, status, text)
+}
+
+/// Whether a run with these words ends so and prints first just this.
+fn begins(alloc: Global, words: &[&str], status: Status, text: &str) -> bool {
+    let files = [("m.csv", MANIFEST), ("top.gbr", LAYER), ("pth.drl", DRILL)];
+    let mut out: Vec<u8> = Vec::new(alloc);
+    run(alloc, words, &mut Shelf::new(&files), &mut out) == status
+        && out.as_slice().starts_with(text.as_bytes())
+}
+
+const MACRO: &str = "%TF.FileFunction,Copper,L1,Top*%
+%FSLAX46Y46*%
+%MOMM*%
+G04 made by an exporter*
+%AMRoundRect*
+0 Rectangle with rounded corners*
+21,1,$1,$2,0,0,0*%
+%TA.AperFunction,SMDPad,CuDef*%
+%ADD10RoundRect,1.0X1.0*%
+%TD*%
+D10*
+X0Y0D03*
+M02*
+";
+
+const THREE: &str = "role,name,file\ncopper,top,top.gbr\ncopper,bot,bot.gbr\nplated,pth,pth.drl\n";
+
+/// A layer without a format, which is refused.
+const BARE: &str = "M02*\n";

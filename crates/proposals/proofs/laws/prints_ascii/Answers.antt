@@ -1,0 +1,5 @@
+use Rattle.proposals.proofs.Printable.{all_printable}
+use Rattle.proposals.proofs.laws.prints_ascii.Goals as goal
+
+pub returns : goal.returns
+returns c = all_printable

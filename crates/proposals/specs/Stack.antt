@@ -1,0 +1,113 @@
+-- Which layers the copper files of some proposals are, and which drill files name layers that they do not make clear.
+use Rattle.std.specs.Prelude.{◌≡◌, ℕ, zero, suc, ◌+◌, Bool, true, false, not, ◌&&◌, ◌||◌, ◌==◌, nat_le, nat_lt, List, [], ◌∷◌, length, map, Option, Some, None, is_some, if◌then◌else◌}
+use Rattle.std.specs.List.{list_all, list_any, filter, count_by}
+use Rattle.proposals.specs.declared.outcome.Place.{Place}
+use Rattle.proposals.specs.declared.outcome.Place.TheVariants.{Numbered, Top, Inner, Unknown, Bottom}
+use Rattle.proposals.specs.declared.outcome.Layers.{Layers}
+use Rattle.proposals.specs.declared.outcome.Proposed.{Proposed}
+use Rattle.proposals.specs.declared.outcome.Proposed.TheVariants.{Copper, Plated, Unplated, Undecided, LeftOut}
+use Rattle.proposals.specs.declared.outcome.Because.{Because}
+use Rattle.proposals.specs.declared.outcome.Because.TheVariants as because
+use Rattle.proposals.specs.declared.outcome.Proposal.{Proposal}
+use Rattle.proposals.specs.Manifests.{is_copper, span_in}
+
+-- ---- the layers of copper files
+
+-- of a file that is undecided for this reason it is not known whether it is a copper layer
+abbrev pub may_be_copper : Because → Bool
+may_be_copper because.NoKind = false
+may_be_copper because.NoHoles = false
+may_be_copper (because.FileFunction function) = false
+may_be_copper because.MixedHoles = false
+may_be_copper because.PlatedType = false
+may_be_copper because.UnplatedType = false
+may_be_copper because.ByName = false
+may_be_copper because.DrillByDefault = false
+may_be_copper because.DrillInGerber = false
+may_be_copper because.Plane = true
+may_be_copper because.NothingSays = true
+may_be_copper because.UnclearLayers = false
+may_be_copper because.NotRead = true
+may_be_copper because.TooLong = true
+
+-- holes that go through a layer beyond so many
+abbrev pub goes_beyond : ℕ → Option Layers → Bool
+goes_beyond count None = false
+goes_beyond count (Some span) = nat_lt count span.last
+
+-- a sign that a layer is lacking among so many copper files: a file that may be one more, or holes that go through one beyond them
+abbrev pub is_sign : ℕ → Proposal → Bool
+is_sign count p = may_be_copper p.because || goes_beyond count (span_in p.role)
+
+-- no file is such a sign, so that names say which layers the copper files are
+abbrev pub are_all_here : List Proposal → Bool
+are_all_here ps = not (list_any (is_sign (count_by is_copper ps)) ps)
+
+-- The layer at a place, from 1 at the top, among so many copper files that are all here or not; 0 where it is not known. The
+-- inner layer N by its name is the layer N + 1, since the top is the first.
+abbrev pub layer_at : Bool → ℕ → Place → ℕ
+layer_at here count (Numbered n) = n
+layer_at here count Top = 1
+layer_at here count (Inner n) = if here then n + 1 else 0
+layer_at here count Unknown = 0
+layer_at here count Bottom = if here then count else 0
+
+-- the layer that a file is, 0 where it is no copper file
+abbrev pub layer_of : Bool → ℕ → Proposed → ℕ
+layer_of here count (Copper place) = layer_at here count place
+layer_of here count (Plated span) = 0
+layer_of here count (Unplated span) = 0
+layer_of here count Undecided = 0
+layer_of here count LeftOut = 0
+
+-- the layers that the copper files are
+abbrev pub copper_layers : List Proposal → List ℕ
+copper_layers ps = map (λ p. layer_of (are_all_here ps) (count_by is_copper ps) p.role) (filter is_copper ps)
+
+-- one of the numbers from 1 to how many there are, which stands among them once
+abbrev pub has_its_own : List ℕ → ℕ → Bool
+has_its_own ns n = nat_le 1 n && (nat_le n (length ns) && (count_by (λ m. m == n) ns == 1))
+
+-- just the numbers from 1 to how many there are, each once
+abbrev pub are_counted : List ℕ → Bool
+are_counted ns = list_all (has_its_own ns) ns
+
+-- the copper files are the layers 1 to their number, each once
+abbrev pub is_stack : List Proposal → Bool
+is_stack ps = are_counted (copper_layers ps)
+
+-- ---- the layers of drill files
+
+-- the layers are a first one, from 1, and a last one, among so many
+abbrev pub are_among : ℕ → Option Layers → Bool
+are_among count None = true
+are_among count (Some layers) = nat_le 1 layers.first && (nat_le layers.first layers.last && nat_le layers.last count)
+
+-- no layers are named, or just some of those that the copper files are, if these are a stack
+abbrev pub are_clear : Bool → ℕ → Option Layers → Bool
+are_clear stack count None = true
+are_clear stack count (Some layers) = stack && are_among count (Some layers)
+
+-- a proposal, undecided where it names layers that are not clear
+abbrev pub settled_in : Bool → ℕ → Proposal → Proposal
+settled_in stack count p = if are_clear stack count (span_in p.role) then p else record { file = p.file; role = Undecided; because = because.UnclearLayers }
+
+-- the same among the proposals of which it is one
+abbrev pub settled : List Proposal → Proposal → Proposal
+settled ps p = settled_in (is_stack ps) (count_by is_copper ps) p
+
+-- ---- the layers of a manifest
+
+-- so many numbers that count up from a first one
+abbrev pub numbers_from : ℕ → ℕ → List ℕ
+numbers_from first zero = []
+numbers_from first (suc more) = first ∷ numbers_from (first + 1) more
+
+-- The copper files of a manifest are the layers 1, 2 and so on, in their order: so the layers that it gives a drill file are those
+-- that the drill file names.
+abbrev pub AreInPlace : List Proposal → Type 0
+AreInPlace entries = map (λ p. layer_of true (count_by is_copper entries) p.role) (filter is_copper entries) ≡ numbers_from 1 (count_by is_copper entries)
+
+-- a file that names layers
+abbrev pub names_layers : Proposal → Bool
+names_layers p = is_some (span_in p.role)

@@ -1,0 +1,52 @@
+//! The names that a manifest gives its files.
+
+ghost use Rattle.std.specs.Prelude.{◌≡◌, ◌==◌, ◌||◌, IfOk, List, length, map, nat_lt, ℕ, if◌then◌else◌};
+ghost use Rattle.std.specs.BTreeSet.{contains_by};
+ghost use Rattle.std.specs.Cmp.Lexicographic.{slice_cmp};
+ghost use Rattle.std.specs.Ordering.{nat_cmp};
+ghost use Rattle.file_hints.specs.Names as naming;
+ghost use Rattle.proposals.specs.Manifests as says;
+
+use crate::outcome::Proposal;
+use file_hints::short_name;
+use std::alloc::{AllocError, Global};
+use std::collections::BTreeSet;
+
+/// The name of a file after its last slash.
+fn short(file: &Proposal) -> &[u8]
+    ensures { result.now ≡ naming.short_name file.now.file }
+{
+    short_name(file.file.as_str().as_bytes())
+}
+
+/// The names after the last slash that two of these files have, or more. They are ordered, so that many files are no square.
+pub(crate) fn shared_names<'e>(
+    alloc: Global,
+    entries: &[&'e Proposal],
+) -> Result<BTreeSet<&'e [u8]>, AllocError>
+    ensures { IfOk result (λ shared. (name : List ℕ) → contains_by (λ key. slice_cmp nat_cmp name key.now) shared ≡ nat_lt 1 (says.named_so (map (λ entry. entry.now) entries.now) name)) }
+{
+    let mut seen = BTreeSet::new(alloc);
+    let mut shared = BTreeSet::new(alloc);
+    for entry in entries {
+        let name = short(*entry);
+        let is_new = seen.insert(name)?;
+        if is_new {
+            continue;
+        }
+        shared.insert(name)?;
+    }
+    Ok(shared)
+}
+
+/// The name that reports print, where these names are those of two files or more.
+pub(crate) fn label<'e>(shared: &BTreeSet<&'e [u8]>, file: &'e Proposal) -> &'e [u8]
+    ensures { result.now ≡ (if (length (naming.short_name file.now.file) == 0) || contains_by (λ key. slice_cmp nat_cmp (naming.short_name file.now.file) key.now) shared.now then file.now.file else naming.short_name file.now.file) }
+{
+    let name = short(file);
+    if name.is_empty() || shared.contains(&name) {
+        file.file.as_str().as_bytes()
+    } else {
+        name
+    }
+}

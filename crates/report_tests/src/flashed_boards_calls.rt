@@ -1,0 +1,40 @@
+//! Flashes of the files of a package.
+
+use flashed_boards::read_flashed;
+use package_check::{File, PackageFault, Role};
+use std::test::Fail as Failure;
+
+const TWO: &[u8] =
+    b"%FSLAX46Y46*%\n%MOMM*%\n%ADD10C,0.75*%\nD10*\nX0Y0D03*\nX2000000Y0D03*\nM02*\n";
+
+const DRILL: &[u8] = b"M48\nMETRIC\nT1C0.4\n%\nT1\nX0.0Y0.0\nM30\n";
+
+fn file<'a>(role: Role, bytes: &'a [u8]) -> File<'a> {
+    File {
+        role,
+        name: "file",
+        span: None,
+        bytes,
+    }
+}
+
+#[test]
+fn flashes_stand_in_the_order_of_the_files(rt: HostRuntime) -> Result<(), Failure> {
+    let files = [file(Role::Plated, DRILL), file(Role::Copper, TWO)];
+    let flashed = read_flashed(rt.alloc(), &files).ok().ok_or("no board")?;
+    let counts: Vec<usize> = flashed
+        .flashes
+        .iter()
+        .map(|flashes| flashes.len())
+        .collect(rt.alloc())?;
+    assert_eq!(rt; counts.as_slice(), [0, 2].as_slice());
+    assert_eq!(rt; flashed.board.layers(rt.alloc())?.len(), 1);
+    Ok(())
+}
+
+#[test]
+fn a_refused_file_has_no_flashes(rt: HostRuntime) {
+    let files = [file(Role::Plated, TWO), file(Role::Copper, TWO)];
+    let refused = read_flashed(rt.alloc(), &files).err();
+    assert!(rt; matches!(refused, Some(PackageFault::File { index: 0, .. })));
+}

@@ -1,0 +1,420 @@
+//! What small packages meet, in pm; and that their check agrees.
+
+mod made;
+
+use grid_units::{Fault, Reason, Rules};
+use margin_text::{Factor, GapLine, HolePlace, LeastRing, RingLine, ScaleLine};
+use margins::{Best, Met};
+use measuring::{filled_files, measure_bytes, measure_with_bests, place_among, place_of};
+use package_check::{File, PackageFault, Role, check_bytes, read_package};
+use std::alloc::Global;
+use std::test::Fail as Failure;
+
+/// A layer in millimetres with six decimals.
+const SQUARE: &[u8] = b"%FSLAX46Y46*%\n%MOMM*%\n%ADD10R,0.65X0.65*%\nD10*\nX0Y0D03*\nM02*\n";
+
+const MOVED: &[u8] = b"%FSLAX46Y46*%\n%MOMM*%\n%ADD10R,0.65X0.65*%\nD10*\nX1Y0D03*\nM02*\n";
+
+const SMALL: &[u8] = b"%FSLAX46Y46*%\n%MOMM*%\n%ADD10C,0.3*%\nD10*\nX0Y0D03*\nM02*\n";
+
+const NO_FLASH: &[u8] = b"%FSLAX46Y46*%\n%MOMM*%\n%ADD10C,0.3*%\nD10*\nM02*\n";
+
+const DISC: &[u8] = b"%FSLAX46Y46*%\n%MOMM*%\n%ADD10C,0.65*%\nD10*\nX0Y0D03*\nM02*\n";
+
+const TWO: &[u8] = b"%FSLAX46Y46*%\n%MOMM*%\n%ADD10C,2*%\nD10*\nX0Y0D03*\nM02*\n";
+
+const FOUR: &[u8] = b"%FSLAX46Y46*%\n%MOMM*%\n%ADD10C,4*%\nD10*\nX0Y0D03*\nM02*\n";
+
+const HIT: &[u8] = b"M48\nMETRIC\nT1C0.4\n%\nT1\nX0.0Y0.0\nM30\n";
+
+const NO_HIT: &[u8] = b"M48\nMETRIC\nT1C0.4\n%\nT1\nM30\n";
+
+const TWICE: &[u8] = b"M48\nMETRIC\nT1C0.4\n%\nT1\nX0.0Y0.0\nX0.0Y0.0\nM30\n";
+
+const NEAR: &[u8] = b"M48\nMETRIC\nT1C0.4\n%\nT1\nX0.0Y0.0\nX0.3Y0.4\nM30\n";
+
+const FAR: &[u8] = b"M48\nMETRIC\nT1C0.4\n%\nT1\nX0.0Y0.0\nX1.0Y1.0\nM30\n";
+
+const WIDE: &[u8] = b"%FSLAX46Y46*%\n%MOMM*%\n%ADD10C,1.65*%\nD10*\nX0Y0D03*\nM02*\n";
+
+const BESIDE: &[u8] = b"M48\nMETRIC\nT1C0.4\n%\nT1\nX0.300001Y0.4\nM30\n";
+
+const PAIR: &[u8] =
+    b"%FSLAX46Y46*%\n%MOMM*%\n%ADD10C,0.6*%\nD10*\nX100000Y0D03*\nX-100000Y0D03*\nM02*\n";
+
+const TWO_TOOLS: &[u8] = b"M48\nMETRIC\nT1C0.4\nT2C0.3\n%\nT1\nX0.0Y0.0\nT2\nX0.1Y0.0\nM30\n";
+
+const DISCS: &[u8] =
+    b"%FSLAX46Y46*%\n%MOMM*%\n%ADD10C,0.6*%\nD10*\nX10000000Y0D03*\nX20000000Y0D03*\nX30000000Y10000000D03*\nM02*\n";
+
+const TENTHS: &[u8] = b"M48\nMETRIC\nT1C0.4\n%\nT1\nX1.0Y0.0\nX2.0Y0.0\nX3.0Y1.0\nM30\n";
+
+const ONE_BARE: &[u8] = b"M48\nMETRIC\nT1C0.4\n%\nT1\nX0.0Y0.0\nX9.0Y9.0\nM30\n";
+
+const SLOT: &[u8] = b"M48\nMETRIC\nT1C0.5\n%\nT1\nX0.0Y0.0G85X2.0Y0.0\nX1.0Y0.75\nM30\n";
+
+fn file<'a>(role: Role, name: &'a str, bytes: &'a [u8]) -> File<'a> {
+    File {
+        role,
+        name,
+        span: None,
+        bytes,
+    }
+}
+
+/// A layer, and a drill file of this role.
+fn files_as<'a>(role: Role, layer: &'a [u8], holes: &'a [u8]) -> [File<'a>; 2] {
+    [file(Role::Copper, "top", layer), file(role, "pth", holes)]
+}
+
+fn files<'a>(layer: &'a [u8], holes: &'a [u8]) -> [File<'a>; 2] {
+    files_as(Role::Plated, layer, holes)
+}
+
+/// Whether the check of the files finds nothing.
+fn passes(alloc: Global, files: &[File], ring: i64, gap: i64) -> Option<bool> {
+    let rules = Rules::new(ring, gap).ok()?;
+    let report = check_bytes(alloc, files, rules).ok()?;
+    Some(report.findings().is_empty())
+}
+
+/// Whether the check agrees with what is met of rings: it passes at the greatest one, and not 1 pm above.
+fn agrees_on_rings(alloc: Global, files: &[File], ring: Met) -> Option<bool> {
+    match ring {
+        Met::Any => passes(alloc, files, 5_000_000_000_000, 1),
+        Met::Most(most) if most < 0 => Some(!passes(alloc, files, 0, 1)?),
+        Met::Most(most) => {
+            let above = passes(alloc, files, most.saturating_add(1), 1)?;
+            Some(passes(alloc, files, most, 1)? && !above)
+        }
+        Met::None => Some(!passes(alloc, files, 0, 1)?),
+    }
+}
+
+#[test]
+fn rings_of_one_hole(rt: HostRuntime) -> Result<(), Failure> {
+    let alloc = rt.alloc();
+    for (layer, drill, ring) in [
+        (SQUARE, HIT, Met::Most(125_000_000)),
+        (MOVED, HIT, Met::Most(124_999_000)),
+        (SMALL, HIT, Met::Most(-50_000_000)),
+        (NO_FLASH, HIT, Met::None),
+        (SQUARE, NO_HIT, Met::Any),
+    ] {
+        let files = files(layer, drill);
+        let measure = measure_bytes(alloc, &files).ok().ok_or("no measure")?;
+        assert_eq!(rt; (measure.meets.ring, measure.meets.gap), (ring, Met::Any));
+        assert_eq!(rt; agrees_on_rings(alloc, &files, ring), Some(true));
+    }
+    Ok(())
+}
+
+#[test]
+fn gaps_of_two_holes(rt: HostRuntime) -> Result<(), Failure> {
+    let alloc = rt.alloc();
+    for (layer, drill, ring, gap) in [
+        (DISC, TWICE, 125_000_000, -400_000_000),
+        (TWO, NEAR, 300_000_000, 100_000_000),
+        (FOUR, FAR, 385_786_437, 1_014_213_562),
+    ] {
+        let files = files(layer, drill);
+        let measure = measure_bytes(alloc, &files).ok().ok_or("no measure")?;
+        let meets = measure.meets;
+        assert_eq!(rt; (meets.ring, meets.gap), (Met::Most(ring), Met::Most(gap)));
+        assert_eq!(rt; passes(alloc, &files, ring, gap.max(1)), Some(gap > 0));
+        assert_eq!(rt;
+            passes(alloc, &files, ring, gap.max(0).saturating_add(1)),
+            Some(false)
+        );
+        assert_eq!(rt;
+            passes(alloc, &files, ring.saturating_add(1), gap.max(1)),
+            Some(false)
+        );
+    }
+    Ok(())
+}
+
+fn gap_line(gap: i64, first: (usize, usize), second: (usize, usize)) -> GapLine {
+    GapLine {
+        gap,
+        first: HolePlace {
+            drill: first.0,
+            hole: first.1,
+        },
+        second: HolePlace {
+            drill: second.0,
+            hole: second.1,
+        },
+    }
+}
+
+#[test]
+fn lines_of_gaps(rt: HostRuntime) -> Result<(), Failure> {
+    let alloc = rt.alloc();
+    for (layer, drill, gap) in [
+        (DISC, TWICE, -400_000_000),
+        (TWO, NEAR, 100_000_000),
+        (FOUR, FAR, 1_014_213_562),
+        (FOUR, SLOT, 250_000_000),
+        (DISCS, TENTHS, 600_000_000),
+    ] {
+        let measure = measure_bytes(alloc, &files(layer, drill))
+            .ok()
+            .ok_or("no measure")?;
+        assert_eq!(rt; measure.gap, Some(gap_line(gap, (1, 1), (1, 2))));
+    }
+    let measure = measure_bytes(alloc, &files(SQUARE, HIT))
+        .ok()
+        .ok_or("no measure")?;
+    assert_eq!(rt; measure.gap, None);
+    Ok(())
+}
+
+/// The first scale of a package of two layers with a drill file between them.
+fn scale_of(
+    rt: HostRuntime,
+    first: &[u8],
+    role: Role,
+    second: &[u8],
+) -> Result<Option<ScaleLine>, Failure> {
+    let files = [
+        file(Role::Copper, "first", first),
+        file(role, "drill", TENTHS),
+        file(Role::Copper, "second", second),
+    ];
+    let measure = measure_bytes(rt.alloc(), &files).ok().ok_or("no measure")?;
+    Ok(measure.scales.first().copied())
+}
+
+/// The scale of a plated file is told by the pads of the first layer.
+#[test]
+fn a_scale(rt: HostRuntime) -> Result<(), Failure> {
+    let tenth = ScaleLine {
+        drill: 1,
+        bare: 3,
+        factor: Factor::Ten,
+        then: 0,
+    };
+    assert_eq!(rt; scale_of(rt, DISCS, Role::Plated, NO_FLASH)?, Some(tenth));
+    assert_eq!(rt; scale_of(rt, DISCS, Role::Unplated, NO_FLASH)?, None);
+    assert_eq!(rt; scale_of(rt, NO_FLASH, Role::Plated, DISCS)?, None);
+    Ok(())
+}
+
+/// Four plated records of one drill file in doubt, an unplated one, and a file without holes: each of the four has its line.
+#[test]
+fn scales_of_many_records(rt: HostRuntime) -> Result<(), Failure> {
+    let files = [
+        file(Role::Plated, "one", TENTHS),
+        file(Role::Plated, "two", TENTHS),
+        file(Role::Copper, "top", DISCS),
+        file(Role::Unplated, "three", TENTHS),
+        file(Role::Plated, "four", TENTHS),
+        file(Role::Plated, "none", NO_HIT),
+        file(Role::Plated, "five", TENTHS),
+    ];
+    let measure = measure_bytes(rt.alloc(), &files).ok().ok_or("no measure")?;
+    let mut scales = measure.scales.iter();
+    for drill in [0, 1, 4, 6] {
+        let scale = ScaleLine {
+            drill,
+            bare: 3,
+            factor: Factor::Ten,
+            then: 0,
+        };
+        assert_eq!(rt; scales.next().copied(), Some(scale));
+    }
+    assert_eq!(rt; measure.scales.len(), 4);
+    Ok(())
+}
+
+/// The nearest holes stand in two files, and neither is the first of its own.
+#[test]
+fn a_gap_between_files(rt: HostRuntime) -> Result<(), Failure> {
+    let two = b"M48\nMETRIC\nT1C0.2\n%\nT1\nX9.0Y9.0\nX1.0Y1.5\nM30\n";
+    let files = [
+        file(Role::Plated, "first", FAR),
+        file(Role::Copper, "top", FOUR),
+        file(Role::Unplated, "second", two),
+    ];
+    let measure = measure_bytes(rt.alloc(), &files).ok().ok_or("no measure")?;
+    assert_eq!(rt; measure.gap, Some(gap_line(200_000_000, (0, 2), (2, 2))));
+    Ok(())
+}
+
+/// What the holes meet that are not bare.
+#[test]
+fn rings_that_are_held(rt: HostRuntime) -> Result<(), Failure> {
+    let alloc = rt.alloc();
+    for (layer, drill, ring, held) in [
+        (FOUR, FAR, Met::Most(385_786_437), Met::Most(385_786_437)),
+        (FOUR, ONE_BARE, Met::None, Met::Most(1_800_000_000)),
+        (DISCS, TENTHS, Met::None, Met::None),
+        (SQUARE, NO_HIT, Met::Any, Met::Any),
+    ] {
+        let measure = measure_bytes(alloc, &files(layer, drill))
+            .ok()
+            .ok_or("no measure")?;
+        assert_eq!(rt; (measure.meets.ring, measure.meets.held), (ring, held));
+    }
+    Ok(())
+}
+
+fn ring_line(diameter: i64, holes: usize, bare: usize, least: Option<(i64, usize)>) -> RingLine {
+    let least = match least {
+        Some((ring, hole)) => Some(LeastRing { ring, hole }),
+        None => None,
+    };
+    RingLine {
+        layer: 0,
+        drill: 1,
+        diameter,
+        holes,
+        bare,
+        least,
+    }
+}
+
+#[test]
+fn lines_of_rings(rt: HostRuntime) -> Result<(), Failure> {
+    let alloc = rt.alloc();
+    for (layer, drill, holes, bare, least) in [
+        (SQUARE, HIT, 1, 0, Some((125_000_000, 1))),
+        (MOVED, HIT, 1, 0, Some((124_999_000, 1))),
+        (SMALL, HIT, 1, 0, Some((-50_000_000, 1))),
+        (WIDE, BESIDE, 1, 0, Some((124_999_399, 1))),
+        (PAIR, HIT, 1, 0, Some((0, 1))),
+        (NO_FLASH, HIT, 1, 1, None),
+        (DISC, TWICE, 2, 0, Some((125_000_000, 1))),
+        (TWO, NEAR, 2, 0, Some((300_000_000, 2))),
+        (FOUR, FAR, 2, 0, Some((385_786_437, 2))),
+        (FOUR, ONE_BARE, 2, 1, Some((1_800_000_000, 1))),
+        (DISCS, TENTHS, 3, 3, None),
+    ] {
+        let measure = measure_bytes(alloc, &files(layer, drill))
+            .ok()
+            .ok_or("no measure")?;
+        let line = ring_line(400_000_000, holes, bare, least);
+        assert_eq!(rt;
+            (measure.rings.len(), measure.rings.first().copied()),
+            (1, Some(line))
+        );
+    }
+    let measure = measure_bytes(alloc, &files(SQUARE, NO_HIT))
+        .ok()
+        .ok_or("no measure")?;
+    assert_eq!(rt; measure.rings.len(), 0);
+    Ok(())
+}
+
+/// Three layers and four drill files, of which one has no holes and one is unplated.
+fn seven_files<'a>() -> [File<'a>; 7] {
+    [
+        file(Role::Plated, "first", TWO_TOOLS),
+        file(Role::Copper, "top", TWO),
+        file(Role::Plated, "empty", NO_HIT),
+        file(Role::Copper, "inner", DISC),
+        file(Role::Plated, "second", HIT),
+        file(Role::Copper, "bottom", FOUR),
+        file(Role::Unplated, "third", FAR),
+    ]
+}
+
+/// The lines go by layer, then by drill file, then by diameter; unplated holes have none.
+#[test]
+fn lines_in_their_order(rt: HostRuntime) -> Result<(), Failure> {
+    let measure = measure_bytes(rt.alloc(), &seven_files())
+        .ok()
+        .ok_or("no measure")?;
+    let mut lines = measure.rings.iter();
+    for (layer, drill, diameter, ring, hole) in [
+        (1, 0, 300_000_000, 750_000_000, 2),
+        (1, 0, 400_000_000, 800_000_000, 1),
+        (1, 4, 400_000_000, 800_000_000, 1),
+        (3, 0, 300_000_000, 75_000_000, 2),
+        (3, 0, 400_000_000, 125_000_000, 1),
+        (3, 4, 400_000_000, 125_000_000, 1),
+        (5, 0, 300_000_000, 1_750_000_000, 2),
+        (5, 0, 400_000_000, 1_800_000_000, 1),
+        (5, 4, 400_000_000, 1_800_000_000, 1),
+    ] {
+        let line = lines.next().ok_or("a line is missing")?;
+        assert_eq!(rt;
+            (line.layer, line.drill, line.diameter),
+            (layer, drill, diameter)
+        );
+        assert_eq!(rt; line.least, Some(LeastRing { ring, hole }));
+    }
+    assert_eq!(rt; measure.rings.len(), 9);
+    assert_eq!(rt; measure.gap, Some(gap_line(-400_000_000, (0, 1), (4, 1))));
+    Ok(())
+}
+
+/// Each hole stands in the same file by the files that have holes as by a walk over all of them.
+#[test]
+fn places_of_holes(rt: HostRuntime) -> Result<(), Failure> {
+    let board = read_package(rt.alloc(), &seven_files())
+        .ok()
+        .ok_or("no board")?;
+    let filled = filled_files(rt.alloc(), &board)?;
+    let places = [(0, 1), (0, 2), (4, 1), (6, 1), (6, 2)];
+    assert_eq!(rt; (filled.len(), board.holes().len()), (3, 5));
+    for hole in 0..board.holes().len() {
+        let (drill, number) = places.get(hole).copied().unwrap_or((0, 0));
+        let place = HolePlace {
+            drill,
+            hole: number,
+        };
+        assert_eq!(rt; place_of(&board, hole), place);
+        assert_eq!(rt; place_among(&filled, hole), place);
+    }
+    Ok(())
+}
+
+/// Unplated holes ask no ring, and keep a gap like all others.
+#[test]
+fn unplated_holes(rt: HostRuntime) -> Result<(), Failure> {
+    let files = files_as(Role::Unplated, SMALL, FAR);
+    let measure = measure_bytes(rt.alloc(), &files).ok().ok_or("no measure")?;
+    let meets = measure.meets;
+    assert_eq!(rt;
+        (meets.ring, meets.gap),
+        (Met::Any, Met::Most(1_014_213_562))
+    );
+    Ok(())
+}
+
+#[test]
+fn what_is_refused_has_no_measure(rt: HostRuntime) {
+    let refused = measure_bytes(rt.alloc(), &files(b"", HIT)).err();
+    let fault = Fault {
+        place: 1,
+        byte: 0,
+        reason: Reason::Truncated,
+    };
+    assert_eq!(rt; refused, Some(PackageFault::File { index: 0, fault }));
+}
+
+/// How deep the first hole lies in the best pad of a layer, by the place of the layer.
+fn first_depth(bests: &[Vec<Option<Best>>], layer: usize) -> Option<u64> {
+    let best = *bests.get(layer)?.first()?;
+    Some(best?.depth)
+}
+
+#[test]
+fn best_pads_of_each_layer(rt: HostRuntime) -> Result<(), Failure> {
+    let alloc = rt.alloc();
+    let files = [
+        file(Role::Copper, "top", SQUARE),
+        file(Role::Copper, "inner", NO_FLASH),
+        file(Role::Plated, "pth", HIT),
+        file(Role::Copper, "bottom", TWO),
+    ];
+    let board = read_package(alloc, &files).ok().ok_or("no board")?;
+    let (measure, bests) = measure_with_bests(alloc, &board)?;
+    assert_eq!(rt; (measure.rings.len(), bests.len()), (3, 3));
+    assert_eq!(rt; first_depth(&bests, 0), Some(325_000_000));
+    assert_eq!(rt; first_depth(&bests, 1), None);
+    assert_eq!(rt; first_depth(&bests, 2), Some(1_000_000_000));
+    Ok(())
+}

@@ -1,0 +1,429 @@
+//! The JSON of worked examples.
+
+use grid_units::{Fault, Hole, Point, Reason, Rules};
+use layer_image::Why;
+use margin_text::{Meets, Met};
+use measuring::measure_board;
+use package_check::{File, FileSum, Role, read_package};
+use pad_shapes::{Disc, Pad};
+use report_json::*;
+use report_text::{GapLack, HoleAt, InPad, LayerHead, RingCause, RingLack, Telling, Whys};
+use std::alloc::Global;
+use std::test::Fail;
+
+/// Whether a refusal has this text.
+fn is_refused(rt: HostRuntime, stop: &Stop, text: &str) -> Result<bool, Fail> {
+    Ok(refusal_json(rt.alloc(), stop)?.as_str() == text)
+}
+
+#[test]
+fn refusals_are_told(rt: HostRuntime) -> Result<(), Fail> {
+    let refused = Stop::Refused {
+        index: 0,
+        name: "top",
+        fault: Fault {
+            place: 11,
+            byte: 100,
+            reason: Reason::BadWord,
+        },
+    };
+    let manifest = Stop::RefusedManifest {
+        place: 3,
+        reason: Reason::BadRole,
+    };
+    let device = Stop::Device {
+        index: 1,
+        name: "pth",
+    };
+    for (stop, text) in [
+        (
+            refused,
+            "{\"format\":\"ringcheck\",\"version\":1,\"result\":\"refused\",\"file\":1,\"name\":\"top\",\"place\":11,\"byte\":100,\"reason\":\"BadWord\"}\n",
+        ),
+        (
+            manifest,
+            "{\"format\":\"ringcheck\",\"version\":1,\"result\":\"refused\",\"place\":3,\"reason\":\"BadRole\"}\n",
+        ),
+        (
+            device,
+            "{\"format\":\"ringcheck\",\"version\":1,\"result\":\"device\",\"file\":2,\"name\":\"pth\"}\n",
+        ),
+        (
+            Stop::ManifestDevice,
+            "{\"format\":\"ringcheck\",\"version\":1,\"result\":\"device\"}\n",
+        ),
+    ] {
+        assert!(rt; is_refused(rt, &stop, text)?, "{text}");
+    }
+    Ok(())
+}
+
+#[test]
+fn files_of_waivers_are_told(rt: HostRuntime) -> Result<(), Fail> {
+    let refused = Stop::RefusedWaivers {
+        place: 2,
+        reason: Reason::EmptyName,
+    };
+    assert!(rt;
+        is_refused(
+            rt,
+            &refused,
+            "{\"format\":\"ringcheck\",\"version\":1,\"result\":\"refused\",\"waivers\":true,\"place\":2,\"reason\":\"EmptyName\"}\n"
+        )?
+    );
+    assert!(rt;
+        is_refused(
+            rt,
+            &Stop::WaiversDevice,
+            "{\"format\":\"ringcheck\",\"version\":1,\"result\":\"device\",\"waivers\":true}\n"
+        )?
+    );
+    Ok(())
+}
+
+#[test]
+fn names_are_escaped(rt: HostRuntime) -> Result<(), Fail> {
+    for (name, escaped) in [
+        ("a\"b", "a\\\"b"),
+        ("a\\b", "a\\\\b"),
+        ("\u{1}\n\t\u{1f}", "\\u0001\\n\\t\\u001f"),
+        ("Lötstopp/€", "Lötstopp/€"),
+        ("", ""),
+    ] {
+        let device = Stop::Device { index: 0, name };
+        let text = format!(in rt.alloc();
+            "{{\"format\":\"ringcheck\",\"version\":1,\"result\":\"device\",\"file\":1,\"name\":\"{escaped}\"}}\n"
+        )?;
+        assert!(rt; is_refused(rt, &device, text.as_str())?);
+    }
+    Ok(())
+}
+
+const SQUARE: &[u8] = b"%FSLAX46Y46*%\n%MOMM*%\n%ADD10R,0.65X0.65*%\nD10*\nX0Y0D03*\nM02*\n";
+
+const DISC: &[u8] = b"%FSLAX46Y46*%\n%MOMM*%\n%ADD10C,0.65*%\nD10*\nX0Y0D03*\nM02*\n";
+
+const PAIR: &[u8] =
+    b"%FSLAX46Y46*%\n%MOMM*%\n%ADD10C,0.6*%\nD10*\nX100000Y0D03*\nX-100000Y0D03*\nM02*\n";
+
+const DISCS: &[u8] =
+    b"%FSLAX46Y46*%\n%MOMM*%\n%ADD10C,0.6*%\nD10*\nX10000000Y0D03*\nX20000000Y0D03*\nX30000000Y10000000D03*\nM02*\n";
+
+const HIT: &[u8] = b"M48\nMETRIC\nT1C0.4\n%\nT1\nX0.0Y0.0\nM30\n";
+
+const NO_HIT: &[u8] = b"M48\nMETRIC\nT1C0.4\n%\nT1\nM30\n";
+
+const TWICE: &[u8] = b"M48\nMETRIC\nT1C0.4\n%\nT1\nX0.0Y0.0\nX0.0Y0.0\nM30\n";
+
+const TENTHS: &[u8] = b"M48\nMETRIC\nT1C0.4\n%\nT1\nX1.0Y0.0\nX2.0Y0.0\nX3.0Y1.0\nM30\n";
+
+fn file<'a>(role: Role, name: &'a str, bytes: &'a [u8]) -> File<'a> {
+    File {
+        role,
+        name,
+        span: None,
+        bytes,
+    }
+}
+
+/// Whether the measure of a layer and a plated drill file has this JSON behind its first members.
+fn is_measured(rt: HostRuntime, layer: &[u8], holes: &[u8], text: &str) -> Result<bool, Fail> {
+    let alloc = rt.alloc();
+    let files = [
+        file(Role::Copper, "top", layer),
+        file(Role::Plated, "pth", holes),
+    ];
+    let board = read_package(alloc, &files).ok().ok_or("no board")?;
+    let measure = measure_board(alloc, &board)?;
+    let written = write_measure_json(alloc, &["top", "pth"], &board, &measure)?;
+    let wanted = format!(in alloc;
+        "{{\"format\":\"ringcheck\",\"version\":1,\"result\":\"measured\",{text}}}\n"
+    )?;
+    Ok(written.as_slice() == wanted.as_bytes())
+}
+
+#[test]
+fn measures_are_told(rt: HostRuntime) -> Result<(), Fail> {
+    for (layer, holes, text) in [
+        (
+            SQUARE,
+            HIT,
+            "\"meets\":{\"ring_pm\":125000000,\"gap_pm\":\"any\",\"held_pm\":125000000},\"files\":[{\"number\":1,\"role\":\"copper\",\"name\":\"top\",\"pads\":1,\"other\":0},{\"number\":2,\"role\":\"plated\",\"name\":\"pth\",\"round\":1,\"slots\":0}],\"scales\":[],\"rings\":[{\"layer\":1,\"drill\":2,\"diameter_pm\":400000000,\"holes\":1,\"bare\":0,\"least_pm\":125000000,\"hole\":1}],\"gap\":null",
+        ),
+        (
+            SQUARE,
+            NO_HIT,
+            "\"meets\":{\"ring_pm\":\"any\",\"gap_pm\":\"any\",\"held_pm\":\"any\"},\"files\":[{\"number\":1,\"role\":\"copper\",\"name\":\"top\",\"pads\":1,\"other\":0},{\"number\":2,\"role\":\"plated\",\"name\":\"pth\",\"round\":0,\"slots\":0}],\"scales\":[],\"rings\":[],\"gap\":null",
+        ),
+        (
+            PAIR,
+            HIT,
+            "\"meets\":{\"ring_pm\":0,\"gap_pm\":\"any\",\"held_pm\":0},\"files\":[{\"number\":1,\"role\":\"copper\",\"name\":\"top\",\"pads\":2,\"other\":0},{\"number\":2,\"role\":\"plated\",\"name\":\"pth\",\"round\":1,\"slots\":0}],\"scales\":[],\"rings\":[{\"layer\":1,\"drill\":2,\"diameter_pm\":400000000,\"holes\":1,\"bare\":0,\"least_pm\":0,\"hole\":1}],\"gap\":null",
+        ),
+        (
+            DISC,
+            TWICE,
+            "\"meets\":{\"ring_pm\":125000000,\"gap_pm\":-400000000,\"held_pm\":125000000},\"files\":[{\"number\":1,\"role\":\"copper\",\"name\":\"top\",\"pads\":1,\"other\":0},{\"number\":2,\"role\":\"plated\",\"name\":\"pth\",\"round\":2,\"slots\":0}],\"scales\":[],\"rings\":[{\"layer\":1,\"drill\":2,\"diameter_pm\":400000000,\"holes\":2,\"bare\":0,\"least_pm\":125000000,\"hole\":1}],\"gap\":{\"least_pm\":-400000000,\"at\":{\"drill\":2,\"hole\":1,\"from_pm\":[0,0],\"to_pm\":[0,0],\"diameter_pm\":400000000},\"and\":{\"drill\":2,\"hole\":2,\"from_pm\":[0,0],\"to_pm\":[0,0],\"diameter_pm\":400000000}}",
+        ),
+        (
+            DISCS,
+            TENTHS,
+            "\"meets\":{\"ring_pm\":\"none\",\"gap_pm\":600000000,\"held_pm\":\"none\"},\"files\":[{\"number\":1,\"role\":\"copper\",\"name\":\"top\",\"pads\":3,\"other\":0},{\"number\":2,\"role\":\"plated\",\"name\":\"pth\",\"round\":3,\"slots\":0}],\"scales\":[{\"drill\":2,\"bare\":3,\"factor\":\"10\",\"then\":0}],\"rings\":[{\"layer\":1,\"drill\":2,\"diameter_pm\":400000000,\"holes\":3,\"bare\":3,\"least_pm\":null,\"hole\":null}],\"gap\":{\"least_pm\":600000000,\"at\":{\"drill\":2,\"hole\":1,\"from_pm\":[1000000000,0],\"to_pm\":[1000000000,0],\"diameter_pm\":400000000},\"and\":{\"drill\":2,\"hole\":2,\"from_pm\":[2000000000,0],\"to_pm\":[2000000000,0],\"diameter_pm\":400000000}}",
+        ),
+    ] {
+        assert!(rt; is_measured(rt, layer, holes, text)?);
+    }
+    Ok(())
+}
+
+fn point(x: i64, y: i64) -> Result<Point, Fail> {
+    Ok(Point::new(x, y).ok_or("point")?)
+}
+
+/// A hole of a drill file.
+fn hole_at(
+    drill: usize,
+    number: usize,
+    from: (i64, i64),
+    to: (i64, i64),
+    diameter: i64,
+) -> Result<HoleAt, Fail> {
+    let hole = Hole::new(point(from.0, from.1)?, point(to.0, to.1)?, diameter / 2).ok_or("hole")?;
+    Ok(HoleAt {
+        drill,
+        number,
+        hole,
+    })
+}
+
+/// What a package of one layer that meets these rules is told.
+fn nothing(alloc: Global, ring: i64, gap: i64, meets: Meets) -> Result<Telling, Fail> {
+    let mut layers = Vec::new(alloc);
+    layers.push(LayerHead { file: 0, asked: 1 })?;
+    Ok(Telling {
+        rules: Rules::new(ring, gap)?,
+        layers,
+        rings: Vec::new(alloc),
+        gaps: Vec::new(alloc),
+        scales: Vec::new(alloc),
+        meets,
+    })
+}
+
+const NO_RING: Meets = Meets {
+    ring: Met::None,
+    gap: Met::Most(1_046_051_224),
+    held: Met::Most(275_000_000),
+};
+
+/// The head of a report under a ring of 0.1 and a gap of 0.25 on a board whose holes are bare.
+const HEAD: &str =
+    "\"rules\":{\"ring_pm\":100000000,\"gap_pm\":250000000},\"meets\":{\"ring_pm\":\"none\",\"gap_pm\":1046051224,\"held_pm\":275000000},\"files\":[{\"number\":1,\"role\":\"copper\",\"name\":\"top_layer\",\"pads\":242,\"other\":3}],\"scales\":[],\"findings\":[";
+
+/// Whether the report has this JSON: the result, and the findings behind the head.
+fn is_told(rt: HostRuntime, telling: &Telling, word: &str, findings: &str) -> Result<bool, Fail> {
+    let alloc = rt.alloc();
+    let files = [FileSum::Layer {
+        pads: 242,
+        other: 3,
+    }];
+    let written = write_telling_json(alloc, &["top_layer"], &files, telling)?;
+    let wanted = format!(in alloc;
+        "{{\"format\":\"ringcheck\",\"version\":1,\"result\":\"{word}\",{HEAD}{findings}]}}\n"
+    )?;
+    Ok(written.as_slice() == wanted.as_bytes())
+}
+
+/// Tells of a bare hole, in which a macro is flashed.
+fn tell_in_macro(telling: &mut Telling) -> Result<(), Fail> {
+    let at = (142_240_000_000, -97_790_000_000);
+    telling.rings.push(RingLack {
+        layer: 0,
+        at: hole_at(3, 7, at, at, 750_000_000)?,
+        cause: RingCause::Other {
+            why: Why::Macro,
+            flash: 156,
+        },
+    })?;
+    Ok(())
+}
+
+const IN_MACRO: &str =
+    "{\"kind\":\"ring\",\"layer\":1,\"at\":{\"drill\":4,\"hole\":7,\"from_pm\":[142240000000,-97790000000],\"to_pm\":[142240000000,-97790000000],\"diameter_pm\":750000000},\"has_pm\":null,\"lacks_pm\":null,\"cause\":\"macro\",\"flash\":156,\"waived\":null}";
+
+#[test]
+fn reports_are_told(rt: HostRuntime) -> Result<(), Fail> {
+    let mut telling = nothing(rt.alloc(), 100_000_000, 250_000_000, NO_RING)?;
+    assert!(rt; is_told(rt, &telling, "pass", "")?);
+    tell_in_macro(&mut telling)?;
+    assert!(rt; is_told(rt, &telling, "findings", IN_MACRO)?);
+    Ok(())
+}
+
+/// A disc at the origin in which a hole has no ring at all, to 1 pm.
+fn in_disc() -> Result<InPad, Fail> {
+    let disc = Disc::new(point(0, 0)?, 200_000_000).ok_or("disc")?;
+    Ok(InPad {
+        flash: 1,
+        pad: Pad::Disc(disc),
+        ring: 0,
+        lack: 100_000_000,
+    })
+}
+
+#[test]
+fn nothing_is_no_zero(rt: HostRuntime) -> Result<(), Fail> {
+    let round = hole_at(1, 1, (0, 0), (0, 0), 400_000_000)?;
+    let slot = hole_at(1, 2, (0, 0), (1_000_000, 2_000_000), 400_000_000)?;
+    for (at, cause, text) in [
+        (
+            round,
+            RingCause::Small(in_disc()?),
+            "\"from_pm\":[0,0],\"to_pm\":[0,0],\"diameter_pm\":400000000},\"has_pm\":0,\"lacks_pm\":100000000,\"cause\":\"small\",\"flash\":1",
+        ),
+        (
+            round,
+            RingCause::Off(in_disc()?),
+            "\"from_pm\":[0,0],\"to_pm\":[0,0],\"diameter_pm\":400000000},\"has_pm\":0,\"lacks_pm\":100000000,\"cause\":\"off\",\"flash\":1",
+        ),
+        (
+            round,
+            RingCause::Nothing,
+            "\"from_pm\":[0,0],\"to_pm\":[0,0],\"diameter_pm\":400000000},\"has_pm\":null,\"lacks_pm\":null,\"cause\":\"none\",\"flash\":null",
+        ),
+        (
+            slot,
+            RingCause::Oblique,
+            "\"from_pm\":[0,0],\"to_pm\":[1000000,2000000],\"diameter_pm\":400000000},\"has_pm\":null,\"lacks_pm\":null,\"cause\":\"oblique\",\"flash\":null",
+        ),
+    ] {
+        let mut telling = nothing(rt.alloc(), 100_000_000, 250_000_000, NO_RING)?;
+        telling.rings.push(RingLack {
+            layer: 0,
+            at,
+            cause,
+        })?;
+        let number = at.number;
+        let finding = format!(in rt.alloc();
+            "{{\"kind\":\"ring\",\"layer\":1,\"at\":{{\"drill\":2,\"hole\":{number},{text},\"waived\":null}}"
+        )?;
+        assert!(rt; is_told(rt, &telling, "findings", finding.as_str())?);
+    }
+    Ok(())
+}
+
+#[test]
+fn a_long_report_is_told(rt: HostRuntime) -> Result<(), Fail> {
+    let alloc = rt.alloc();
+    let mut telling = nothing(alloc, 100_000_000, 250_000_000, NO_RING)?;
+    let mut findings = String::new(alloc);
+    for _ in 0..40 {
+        tell_in_macro(&mut telling)?;
+        findings.push_str(IN_MACRO)?;
+        findings.push_str(",")?;
+    }
+    let (here, there) = (
+        (50_546_000_000, 67_310_000_000),
+        (51_181_000_000, 66_548_000_000),
+    );
+    telling.gaps.push(GapLack {
+        first: hole_at(2, 213, here, here, 609_600_000)?,
+        second: hole_at(2, 214, there, there, 609_600_000)?,
+        gap: 382_301_708,
+        lack: 1,
+    })?;
+    findings.push_str(
+        "{\"kind\":\"gap\",\"at\":{\"drill\":3,\"hole\":213,\"from_pm\":[50546000000,67310000000],\"to_pm\":[50546000000,67310000000],\"diameter_pm\":609600000},\"and\":{\"drill\":3,\"hole\":214,\"from_pm\":[51181000000,66548000000],\"to_pm\":[51181000000,66548000000],\"diameter_pm\":609600000},\"has_pm\":382301708,\"lacks_pm\":1,\"waived\":null}",
+    )?;
+    assert!(rt; is_told(rt, &telling, "findings", findings.as_str())?);
+    Ok(())
+}
+
+/// Two holes that lack their gap.
+fn close_pair() -> Result<GapLack, Fail> {
+    Ok(GapLack {
+        first: hole_at(1, 1, (0, 0), (0, 0), 400_000_000)?,
+        second: hole_at(1, 2, (0, 0), (0, 0), 400_000_000)?,
+        gap: -400_000_000,
+        lack: 650_000_000,
+    })
+}
+
+/// A ring and a gap that are lacking, as JSON up to the reasons.
+const RING: &str =
+    "{\"kind\":\"ring\",\"layer\":1,\"at\":{\"drill\":4,\"hole\":7,\"from_pm\":[142240000000,-97790000000],\"to_pm\":[142240000000,-97790000000],\"diameter_pm\":750000000},\"has_pm\":null,\"lacks_pm\":null,\"cause\":\"macro\",\"flash\":156,\"waived\":";
+
+const GAP: &str =
+    "{\"kind\":\"gap\",\"at\":{\"drill\":2,\"hole\":1,\"from_pm\":[0,0],\"to_pm\":[0,0],\"diameter_pm\":400000000},\"and\":{\"drill\":2,\"hole\":2,\"from_pm\":[0,0],\"to_pm\":[0,0],\"diameter_pm\":400000000},\"has_pm\":-400000000,\"lacks_pm\":650000000,\"waived\":";
+
+/// Whether a report with waivers has this JSON: the result, and the findings behind the head.
+fn is_waived_told(
+    rt: HostRuntime,
+    telling: &Telling,
+    whys: &Whys,
+    word: &str,
+    findings: &str,
+) -> Result<bool, Fail> {
+    let alloc = rt.alloc();
+    let files = [FileSum::Layer {
+        pads: 242,
+        other: 3,
+    }];
+    let mut written: Vec<u8> = Vec::new(alloc);
+    let answer = print_waived_json(alloc, &["top_layer"], &files, telling, whys, &mut written);
+    let wanted = format!(in alloc;
+        "{{\"format\":\"ringcheck\",\"version\":1,\"result\":\"{word}\",{HEAD}{findings}]}}\n"
+    )?;
+    Ok(answer.is_ok() && written.as_slice() == wanted.as_bytes())
+}
+
+#[test]
+fn a_waiver_of_nothing_leaves_a_pass(rt: HostRuntime) -> Result<(), Fail> {
+    let telling = nothing(rt.alloc(), 100_000_000, 250_000_000, NO_RING)?;
+    let whys = Whys {
+        rings: &[Some("milled \"by hand\"")],
+        gaps: &[Some("slot")],
+        idle: &[8],
+    };
+    assert!(rt; is_waived_told(rt, &telling, &whys, "pass", "")?);
+    Ok(())
+}
+
+#[test]
+fn waivers_are_told(rt: HostRuntime) -> Result<(), Fail> {
+    let mut telling = nothing(rt.alloc(), 100_000_000, 250_000_000, NO_RING)?;
+    tell_in_macro(&mut telling)?;
+    telling.gaps.push(close_pair()?)?;
+    let milled = Some("milled \"by hand\"");
+    for (rings, gaps, idle, word, ring, gap) in [
+        (
+            [milled].as_slice(),
+            [Some("slot")].as_slice(),
+            [8].as_slice(),
+            "waived",
+            "\"milled \\\"by hand\\\"\"",
+            "\"slot\"",
+        ),
+        (
+            [milled].as_slice(),
+            &[],
+            &[],
+            "findings",
+            "\"milled \\\"by hand\\\"\"",
+            "null",
+        ),
+        (
+            [None, Some("more than there are")].as_slice(),
+            [Some("slot")].as_slice(),
+            &[],
+            "findings",
+            "null",
+            "\"slot\"",
+        ),
+    ] {
+        let findings = format!(in rt.alloc(); "{RING}{ring}}},{GAP}{gap}}}")?;
+        let whys = Whys { rings, gaps, idle };
+        assert!(rt; is_waived_told(rt, &telling, &whys, word, findings.as_str())?);
+    }
+    Ok(())
+}

@@ -1,0 +1,670 @@
+//! Reports with the figures of the worked examples.
+
+use grid_units::{Hole, Point, Rules};
+use layer_image::Why;
+use margin_text::{Factor, Meets, Met, ScaleLine};
+use pad_shapes::{Disc, Obround, Pad, Rect};
+use report_text::*;
+use std::alloc::Global;
+use std::test::Fail;
+
+fn point(x: i64, y: i64) -> Result<Point, Fail> {
+    Ok(Point::new(x, y).ok_or("point")?)
+}
+
+/// A round hole of a drill file.
+fn hole_at(drill: usize, number: usize, at: (i64, i64), diameter: i64) -> Result<HoleAt, Fail> {
+    let centre = point(at.0, at.1)?;
+    let hole = Hole::new(centre, centre, diameter / 2).ok_or("hole")?;
+    Ok(HoleAt {
+        drill,
+        number,
+        hole,
+    })
+}
+
+/// What a hole has in a disc.
+fn in_disc(
+    flash: usize,
+    centre: (i64, i64),
+    radius: i64,
+    ring: i64,
+    lack: i64,
+) -> Result<InPad, Fail> {
+    let disc = Disc::new(point(centre.0, centre.1)?, radius).ok_or("disc")?;
+    Ok(InPad {
+        flash,
+        pad: Pad::Disc(disc),
+        ring,
+        lack,
+    })
+}
+
+/// What a package of no layers that meets these rules is told.
+fn nothing(alloc: Global, ring: i64, gap: i64, meets: Meets) -> Result<Telling, Fail> {
+    Ok(Telling {
+        rules: Rules::new(ring, gap)?,
+        layers: Vec::new(alloc),
+        rings: Vec::new(alloc),
+        gaps: Vec::new(alloc),
+        scales: Vec::new(alloc),
+        meets,
+    })
+}
+
+/// A package that meets a ring and a gap.
+fn meets(ring: i64, gap: i64) -> Meets {
+    Meets {
+        ring: Met::Most(ring),
+        gap: Met::Most(gap),
+        held: Met::Most(ring),
+    }
+}
+
+/// Whether a report of files of these names has this text.
+fn is_told(
+    rt: HostRuntime,
+    names: &[&str],
+    telling: &Telling,
+    most: Option<usize>,
+    text: &str,
+) -> Result<bool, Fail> {
+    let written = write_telling(rt.alloc(), names, telling, most)?;
+    Ok(written.as_slice() == text.as_bytes())
+}
+
+const STICK: [&str; 4] = ["F_Cu", "B_Cu", "StickHub-NPTH", "StickHub-PTH"];
+
+/// The figures of a hole of 0.3 that lacks its ring, off the centre of a disc of 0.5.
+#[derive(Clone, Copy)]
+struct Figures {
+    number: usize,
+    at: (i64, i64),
+    flash: usize,
+    centre: (i64, i64),
+    ring: i64,
+    lack: i64,
+}
+
+/// The figures of one of the 24 holes of a layer: the first two of the worked example, the least lack, and the greatest.
+fn figures_of(index: usize) -> Figures {
+    let greatest = Figures {
+        number: 24,
+        at: (0, 0),
+        flash: 2,
+        centre: (0, 0),
+        ring: 99_394_596,
+        lack: 605_404,
+    };
+    match index {
+        0 => Figures {
+            number: 10,
+            at: (143_745_000_000, -99_547_000_000),
+            flash: 150,
+            centre: (143_745_010_000, -99_546_626_000),
+            ring: 99_625_866,
+            lack: 374_134,
+        },
+        1 => Figures {
+            number: 22,
+            at: (146_180_000_000, -93_072_000_000),
+            flash: 121,
+            centre: (146_180_031_000, -93_072_237_000),
+            ring: 99_760_981,
+            lack: 239_019,
+        },
+        2 => Figures {
+            ring: 99_998_585,
+            lack: 1_415,
+            ..greatest
+        },
+        _ => greatest,
+    }
+}
+
+#[test]
+fn a_limited_report_is_told(rt: HostRuntime) -> Result<(), Fail> {
+    let board = meets(99_394_596, 300_000_000);
+    let mut telling = nothing(rt.alloc(), 100_000_000, 250_000_000, board)?;
+    telling.layers.push(LayerHead { file: 0, asked: 87 })?;
+    telling.layers.push(LayerHead { file: 1, asked: 87 })?;
+    for index in 0..48 {
+        let it = figures_of(index % 24);
+        let place = in_disc(it.flash, it.centre, 250_000_000, it.ring, it.lack)?;
+        telling.rings.push(RingLack {
+            layer: index / 24,
+            at: hole_at(3, it.number, it.at, 300_000_000)?,
+            cause: RingCause::Off(place),
+        })?;
+    }
+    let text = "ring 0.1, gap 0.25\n\
+        F_Cu: 24 of 87 rings lacking\n  \
+        hole 10 of StickHub-PTH, 0.3 at 143.745,-99.547: ring 0.099625866, lacks 0.000374134, off centre: flash 150, disc 0.5x0.5, hole off by -0.00001,-0.000374\n  \
+        hole 22 of StickHub-PTH, 0.3 at 146.18,-93.072: ring 0.099760981, lacks 0.000239019, off centre: flash 121, disc 0.5x0.5, hole off by -0.000031,0.000237\n  \
+        and 22 more\n\
+        B_Cu: 24 of 87 rings lacking\n  \
+        and 24 more\n\
+        0 gaps lacking\n\
+        48 off centre: the pad is large enough for a hole at its centre; drill files are rounded: see `ringcheck explain ring`\n\
+        rings lack 0.000001415 to 0.000605404\n\
+        this board meets ring 0.099394596, gap 0.3\n\
+        FINDINGS 48\n";
+    assert!(rt; is_told(rt, &STICK, &telling, Some(2), text)?);
+    Ok(())
+}
+
+/// Whether a report of files of these names begins with these lines.
+fn begins_with(
+    rt: HostRuntime,
+    names: &[&str],
+    telling: &Telling,
+    lines: &[&str],
+) -> Result<bool, Fail> {
+    let mut front: Vec<u8> = Vec::new(rt.alloc());
+    for line in lines {
+        front.extend_from_slice(line.as_bytes())?;
+    }
+    let written = write_telling(rt.alloc(), names, telling, None)?;
+    Ok(written.as_slice().starts_with(front.as_slice()))
+}
+
+/// Whether the line of a hole that lacks its ring is this one.
+fn is_ring_line(rt: HostRuntime, drill: &str, lack: &RingLack, text: &str) -> Result<bool, Fail> {
+    let mut telling = nothing(rt.alloc(), 0, 1, meets(0, 1))?;
+    telling.layers.push(LayerHead { file: 0, asked: 1 })?;
+    telling.rings.push(*lack)?;
+    begins_with(
+        rt,
+        &["top", drill],
+        &telling,
+        &["ring 0, gap 0.000000001\ntop: 1 of 1 rings lacking\n", text],
+    )
+}
+
+#[test]
+fn a_pad_that_is_too_small_is_told(rt: HostRuntime) -> Result<(), Fail> {
+    let at = (50_546_000_000, 67_310_000_000);
+    let small = RingLack {
+        layer: 0,
+        at: hole_at(1, 213, at, 609_600_000)?,
+        cause: RingCause::Small(in_disc(947, at, 203_200_000, -101_600_000, 201_600_000)?),
+    };
+    let text =
+        "  hole 213 of drill, 0.6096 at 50.546,67.31: ring -0.1016, lacks 0.2016, pad too small: flash 947, disc 0.4064x0.4064, hole off by 0,0\n";
+    assert!(rt; is_ring_line(rt, "drill", &small, text)?);
+    Ok(())
+}
+
+#[test]
+fn a_hole_in_a_macro_flash_is_told(rt: HostRuntime) -> Result<(), Fail> {
+    let bare = RingLack {
+        layer: 0,
+        at: hole_at(1, 7, (142_240_000_000, -97_790_000_000), 750_000_000)?,
+        cause: RingCause::Other {
+            why: Why::Macro,
+            flash: 156,
+        },
+    };
+    let text =
+        "  hole 7 of pic_programmer-PTH, 0.75 at 142.24,-97.79: no ring, only a macro flash: flash 156\n";
+    assert!(rt; is_ring_line(rt, "pic_programmer-PTH", &bare, text)?);
+    Ok(())
+}
+
+#[test]
+fn a_hole_off_a_centre_is_told(rt: HostRuntime) -> Result<(), Fail> {
+    let square = Rect::new(point(1_000, 0)?, 325_000_000, 325_000_000).ok_or("rect")?;
+    let moved = RingLack {
+        layer: 0,
+        at: hole_at(1, 1, (0, 0), 400_000_000)?,
+        cause: RingCause::Off(InPad {
+            flash: 1,
+            pad: Pad::Rect(square),
+            ring: 124_999_000,
+            lack: 1_000,
+        }),
+    };
+    let text =
+        "  hole 1 of pth, 0.4 at 0,0: ring 0.124999, lacks 0.000001, off centre: flash 1, rect 0.65x0.65, hole off by -0.000001,0\n";
+    assert!(rt; is_ring_line(rt, "pth", &moved, text)?);
+    Ok(())
+}
+
+#[test]
+fn a_slot_is_told_by_both_ends(rt: HostRuntime) -> Result<(), Fail> {
+    let to = point(2_000_000_000, 1_000_000_000)?;
+    let hole = Hole::new(point(0, 0)?, to, 250_000_000).ok_or("hole")?;
+    let at = HoleAt {
+        drill: 1,
+        number: 3,
+        hole,
+    };
+    for (cause, text) in [
+        (
+            RingCause::Oblique,
+            "  hole 3 of pth, 0.5 at 0,0 to 2,1: no ring, oblique slot\n",
+        ),
+        (
+            RingCause::Nothing,
+            "  hole 3 of pth, 0.5 at 0,0 to 2,1: no ring, no pad\n",
+        ),
+    ] {
+        let lack = RingLack {
+            layer: 0,
+            at,
+            cause,
+        };
+        assert!(rt; is_ring_line(rt, "pth", &lack, text)?, "{text}");
+    }
+    Ok(())
+}
+
+/// A slot of 0.5 mm from 0,0 to 2,0.
+fn slot_at() -> Result<HoleAt, Fail> {
+    let hole = Hole::new(point(0, 0)?, point(2_000_000_000, 0)?, 250_000_000).ok_or("hole")?;
+    Ok(HoleAt {
+        drill: 1,
+        number: 1,
+        hole,
+    })
+}
+
+/// What this slot lacks, by its cause.
+fn slot_lack(cause: RingCause) -> Result<RingLack, Fail> {
+    Ok(RingLack {
+        layer: 0,
+        at: slot_at()?,
+        cause,
+    })
+}
+
+#[test]
+fn a_slot_in_a_short_obround_is_told(rt: HostRuntime) -> Result<(), Fail> {
+    let short = Obround::new(point(1_000_000_000, 0)?, 1_370_000_000, 375_000_000);
+    let small = slot_lack(RingCause::Small(InPad {
+        flash: 1,
+        pad: Pad::Obround(short.ok_or("obround")?),
+        ring: 120_000_000,
+        lack: 5_000_000,
+    }))?;
+    let text =
+        "  hole 1 of pth, 0.5 at 0,0 to 2,0: ring 0.12, lacks 0.005, pad too small: flash 1, obround 2.74x0.75, hole off by 0,0\n";
+    assert!(rt; is_ring_line(rt, "pth", &small, text)?);
+    Ok(())
+}
+
+#[test]
+fn a_slot_is_told_off_by_its_middle(rt: HostRuntime) -> Result<(), Fail> {
+    let place = in_disc(1, (0, 0), 2_000_000_000, -250_000_000, 375_000_000)?;
+    let off = slot_lack(RingCause::Off(place))?;
+    let text =
+        "  hole 1 of pth, 0.5 at 0,0 to 2,0: ring -0.25, lacks 0.375, off centre: flash 1, disc 4x4, hole off by 1,0\n";
+    assert!(rt; is_ring_line(rt, "pth", &off, text)?);
+    Ok(())
+}
+
+#[test]
+fn flashes_that_are_no_pads_are_told(rt: HostRuntime) -> Result<(), Fail> {
+    for (why, text) in [
+        (
+            Why::Polygon,
+            "  hole 1 of pth, 0.5 at 0,0 to 2,0: no ring, only a polygon flash: flash 7\n",
+        ),
+        (
+            Why::Holed,
+            "  hole 1 of pth, 0.5 at 0,0 to 2,0: no ring, only a holed flash: flash 7\n",
+        ),
+        (
+            Why::Scaled,
+            "  hole 1 of pth, 0.5 at 0,0 to 2,0: no ring, only a scaled flash: flash 7\n",
+        ),
+        (
+            Why::Turned,
+            "  hole 1 of pth, 0.5 at 0,0 to 2,0: no ring, only a turned flash: flash 7\n",
+        ),
+    ] {
+        let lack = slot_lack(RingCause::Other { why, flash: 7 })?;
+        assert!(rt; is_ring_line(rt, "pth", &lack, text)?, "{text}");
+    }
+    Ok(())
+}
+
+/// Whether the line of a drill file whose coordinates are off by a factor is this one.
+fn is_scale_line(rt: HostRuntime, factor: Factor, text: &str) -> Result<bool, Fail> {
+    let line = ScaleLine { factor, ..TENTH };
+    let mut telling = nothing(rt.alloc(), 0, 1, meets(0, 1))?;
+    telling.scales.push(line)?;
+    begins_with(
+        rt,
+        &["top", "pth"],
+        &telling,
+        &["ring 0, gap 0.000000001\n0 gaps lacking\n", text],
+    )
+}
+
+#[test]
+fn factors_are_told(rt: HostRuntime) -> Result<(), Fail> {
+    for (factor, text) in [
+        (
+            Factor::Tenth,
+            "pth: 3 holes have no pad; at 0.1 times their coordinates 0 would have none\n",
+        ),
+        (
+            Factor::Inch,
+            "pth: 3 holes have no pad; at 25.4 times their coordinates 0 would have none\n",
+        ),
+        (
+            Factor::PerInch,
+            "pth: 3 holes have no pad; at 1/25.4 times their coordinates 0 would have none\n",
+        ),
+    ] {
+        assert!(rt; is_scale_line(rt, factor, text)?, "{text}");
+    }
+    Ok(())
+}
+
+/// Two layers of which each other ring is on the second.
+fn mixed_layers(alloc: Global) -> Result<Telling, Fail> {
+    let mut telling = nothing(alloc, 100_000_000, 250_000_000, meets(0, 250_000_000))?;
+    telling.layers.push(LayerHead { file: 0, asked: 9 })?;
+    telling.layers.push(LayerHead { file: 1, asked: 8 })?;
+    for number in 1..6 {
+        telling.rings.push(RingLack {
+            layer: number % 2,
+            at: hole_at(3, number, (0, 0), 300_000_000)?,
+            cause: RingCause::Nothing,
+        })?;
+    }
+    Ok(telling)
+}
+
+#[test]
+fn mixed_layers_are_told_one_by_one(rt: HostRuntime) -> Result<(), Fail> {
+    let telling = mixed_layers(rt.alloc())?;
+    let text = "ring 0.1, gap 0.25\n\
+        F_Cu: 2 of 9 rings lacking\n  \
+        hole 2 of StickHub-PTH, 0.3 at 0,0: no ring, no pad\n  \
+        hole 4 of StickHub-PTH, 0.3 at 0,0: no ring, no pad\n\
+        B_Cu: 3 of 8 rings lacking\n  \
+        hole 1 of StickHub-PTH, 0.3 at 0,0: no ring, no pad\n  \
+        hole 3 of StickHub-PTH, 0.3 at 0,0: no ring, no pad\n  \
+        and 1 more\n\
+        0 gaps lacking\n\
+        5 no pad: no pad reaches the hole's centre: removed or painted pad, plane, other origin or format: see `ringcheck explain none`\n\
+        this board meets ring 0, gap 0.25\n\
+        FINDINGS 5\n";
+    assert!(rt; is_told(rt, &STICK, &telling, Some(4), text)?);
+    Ok(())
+}
+
+#[test]
+fn a_hole_hit_twice_is_told(rt: HostRuntime) -> Result<(), Fail> {
+    let mut telling = nothing(
+        rt.alloc(),
+        125_000_000,
+        250_000_000,
+        meets(125_000_000, -400_000_000),
+    )?;
+    telling.layers.push(LayerHead { file: 0, asked: 2 })?;
+    telling.gaps.push(GapLack {
+        first: hole_at(1, 1, (0, 0), 400_000_000)?,
+        second: hole_at(1, 2, (0, 0), 400_000_000)?,
+        gap: -400_000_000,
+        lack: 650_000_000,
+    })?;
+    let text = "ring 0.125, gap 0.25\n\
+        top: 0 of 2 rings lacking\n\
+        1 gaps lacking\n  \
+        hole 1 of pth, 0.4 at 0,0, and hole 2 of pth, 0.4 at 0,0: gap -0.4, lacks 0.65\n\
+        gaps lack 0.65 to 0.65\n\
+        this board meets ring 0.125, gap -0.4\n\
+        FINDINGS 1\n";
+    assert!(rt; is_told(rt, &["top", "pth"], &telling, None, text)?);
+    Ok(())
+}
+
+#[test]
+fn a_package_that_passes_is_told(rt: HostRuntime) -> Result<(), Fail> {
+    let any = Meets {
+        ring: Met::Any,
+        gap: Met::Any,
+        held: Met::Any,
+    };
+    let telling = nothing(rt.alloc(), 0, 1, any)?;
+    let text =
+        "ring 0, gap 0.000000001\n0 gaps lacking\nthis board meets ring any, gap any\nPASS\n";
+    assert!(rt; is_told(rt, &[], &telling, Some(0), text)?);
+    Ok(())
+}
+
+/// A hole that lacks its ring on a layer that has no head.
+fn unseen(cause: RingCause) -> Result<RingLack, Fail> {
+    Ok(RingLack {
+        layer: 9,
+        at: hole_at(1, 1, (0, 0), 400_000_000)?,
+        cause,
+    })
+}
+
+/// A drill file at a tenth of its size.
+const TENTH: ScaleLine = ScaleLine {
+    drill: 1,
+    bare: 3,
+    factor: Factor::Ten,
+    then: 0,
+};
+
+/// Tells of a hole for each cause, and of two in a macro flash.
+fn tell_each_cause(telling: &mut Telling) -> Result<(), Fail> {
+    for why in [
+        Why::Turned,
+        Why::Scaled,
+        Why::Holed,
+        Why::Polygon,
+        Why::Macro,
+        Why::Macro,
+    ] {
+        telling
+            .rings
+            .push(unseen(RingCause::Other { why, flash: 1 })?)?;
+    }
+    for cause in [
+        RingCause::Oblique,
+        RingCause::Nothing,
+        RingCause::Off(in_disc(1, (0, 0), 250_000_000, 100_000_000, 50_000_000)?),
+        RingCause::Small(in_disc(1, (0, 0), 250_000_000, 99_394_596, 50_605_404)?),
+    ] {
+        telling.rings.push(unseen(cause)?)?;
+    }
+    Ok(())
+}
+
+#[test]
+fn causes_and_scales_are_told(rt: HostRuntime) -> Result<(), Fail> {
+    let board = Meets {
+        ring: Met::None,
+        gap: Met::Most(1_046_051_224),
+        held: Met::Most(275_000_000),
+    };
+    let mut telling = nothing(rt.alloc(), 150_000_000, 250_000_000, board)?;
+    tell_each_cause(&mut telling)?;
+    telling.scales.push(TENTH)?;
+    let text = "ring 0.15, gap 0.25\n\
+        0 gaps lacking\n\
+        1 pad too small: the pad's own radius or half side is less than the hole's radius and the ring\n\
+        1 off centre: the pad is large enough for a hole at its centre; drill files are rounded: see `ringcheck explain ring`\n\
+        2 only a macro flash: flashes by a macro are not judged: choose circle, oval or rectangle: see `ringcheck explain macro`\n\
+        1 only a polygon flash: polygon flashes are not judged\n\
+        1 only a holed flash: flashes with a hole are not judged\n\
+        1 only a scaled flash: scaled flashes are not judged\n\
+        1 only a turned flash: flashes turned by other than quarters are not judged\n\
+        1 no pad: no pad reaches the hole's centre: removed or painted pad, plane, other origin or format: see `ringcheck explain none`\n\
+        1 oblique slot: plated slots that lie along no axis are not judged\n\
+        rings lack 0.05 to 0.050605404\n\
+        pth: 3 holes have no pad; at 10 times their coordinates 0 would have none\n\
+        this board meets ring none, gap 1.046051224; where a pad is, ring 0.275\n\
+        FINDINGS 10\n";
+    assert!(rt; is_told(rt, &["top", "pth"], &telling, None, text)?);
+    Ok(())
+}
+
+const HOLED: [&str; 2] = ["top_layer", "pth"];
+
+/// The reasons of the rings and of the gaps of a board of three of each.
+const RINGS: [Option<&str>; 3] = [Some("milled"), Some("milled"), Some("by hand")];
+
+const GAPS: [Option<&str>; 3] = [Some("drilled \"twice\""), Some("x"), Some("y")];
+
+/// Tells of a hole that lies in no pad, and that is hit twice.
+fn tell_twice_hit(telling: &mut Telling, number: usize) -> Result<(), Fail> {
+    telling.rings.push(RingLack {
+        layer: 0,
+        at: hole_at(1, number, (0, 0), 400_000_000)?,
+        cause: RingCause::Nothing,
+    })?;
+    telling.gaps.push(GapLack {
+        first: hole_at(1, number, (0, 0), 400_000_000)?,
+        second: hole_at(1, number, (0, 0), 400_000_000)?,
+        gap: -400_000_000,
+        lack: 650_000_000,
+    })?;
+    Ok(())
+}
+
+/// Three holes that lack their ring and three pairs that lack their gap.
+fn three_of_each(alloc: Global) -> Result<Telling, Fail> {
+    let board = meets(100_000_000, -400_000_000);
+    let mut telling = nothing(alloc, 100_000_000, 250_000_000, board)?;
+    telling.layers.push(LayerHead {
+        file: 0,
+        asked: 245,
+    })?;
+    for number in 1..4 {
+        tell_twice_hit(&mut telling, number)?;
+    }
+    Ok(telling)
+}
+
+/// Whether a report with waivers has this text.
+fn is_waived_told(
+    rt: HostRuntime,
+    telling: &Telling,
+    most: Option<usize>,
+    whys: &Whys,
+    text: &str,
+) -> Result<bool, Fail> {
+    let mut written: Vec<u8> = Vec::new(rt.alloc());
+    let answer = print_waived(rt.alloc(), &HOLED, telling, most, whys, &mut written);
+    Ok(answer.is_ok() && written.as_slice() == text.as_bytes())
+}
+
+#[test]
+fn a_board_whose_findings_are_waived_is_told(rt: HostRuntime) -> Result<(), Fail> {
+    let telling = three_of_each(rt.alloc())?;
+    let whys = Whys {
+        rings: &RINGS,
+        gaps: &GAPS,
+        idle: &[8],
+    };
+    let text = "ring 0.1, gap 0.25\n\
+        top_layer: 3 of 245 rings lacking, 3 waived\n  \
+        hole 1 of pth, 0.4 at 0,0: no ring, no pad, waived: milled\n  \
+        hole 2 of pth, 0.4 at 0,0: no ring, no pad, waived: milled\n  \
+        hole 3 of pth, 0.4 at 0,0: no ring, no pad, waived: by hand\n\
+        3 gaps lacking, 3 waived\n  \
+        hole 1 of pth, 0.4 at 0,0, and hole 1 of pth, 0.4 at 0,0: gap -0.4, lacks 0.65, waived: drilled \"twice\"\n  \
+        hole 2 of pth, 0.4 at 0,0, and hole 2 of pth, 0.4 at 0,0: gap -0.4, lacks 0.65, waived: x\n  \
+        hole 3 of pth, 0.4 at 0,0, and hole 3 of pth, 0.4 at 0,0: gap -0.4, lacks 0.65, waived: y\n\
+        3 no pad: no pad reaches the hole's centre: removed or painted pad, plane, other origin or format: see `ringcheck explain none`\n\
+        gaps lack 0.65 to 0.65\n\
+        this board meets ring 0.1, gap -0.4\n\
+        waiver 8 waives nothing\n\
+        WAIVED 6\n";
+    assert!(rt; is_waived_told(rt, &telling, None, &whys, text)?);
+    assert_eq!(rt; count_waived(&telling, &whys), 6);
+    Ok(())
+}
+
+#[test]
+fn a_finding_that_is_not_waived_is_counted(rt: HostRuntime) -> Result<(), Fail> {
+    let telling = three_of_each(rt.alloc())?;
+    let whys = Whys {
+        rings: &[Some("milled"), None, Some("by hand")],
+        gaps: &GAPS,
+        idle: &[2, 9],
+    };
+    let text = "ring 0.1, gap 0.25\n\
+        top_layer: 3 of 245 rings lacking, 2 waived\n  \
+        hole 1 of pth, 0.4 at 0,0: no ring, no pad, waived: milled\n  \
+        hole 2 of pth, 0.4 at 0,0: no ring, no pad\n  \
+        and 1 more\n\
+        3 gaps lacking, 3 waived\n  \
+        and 3 more\n\
+        3 no pad: no pad reaches the hole's centre: removed or painted pad, plane, other origin or format: see `ringcheck explain none`\n\
+        gaps lack 0.65 to 0.65\n\
+        this board meets ring 0.1, gap -0.4\n\
+        waiver 2 waives nothing\n\
+        waiver 9 waives nothing\n\
+        FINDINGS 1\n";
+    assert!(rt; is_waived_told(rt, &telling, Some(2), &whys, text)?);
+    Ok(())
+}
+
+#[test]
+fn a_limit_cuts_among_the_gaps(rt: HostRuntime) -> Result<(), Fail> {
+    let telling = three_of_each(rt.alloc())?;
+    let whys = Whys {
+        rings: &RINGS,
+        gaps: &[],
+        idle: &[],
+    };
+    let text = "ring 0.1, gap 0.25\n\
+        top_layer: 3 of 245 rings lacking, 3 waived\n  \
+        hole 1 of pth, 0.4 at 0,0: no ring, no pad, waived: milled\n  \
+        hole 2 of pth, 0.4 at 0,0: no ring, no pad, waived: milled\n  \
+        hole 3 of pth, 0.4 at 0,0: no ring, no pad, waived: by hand\n\
+        3 gaps lacking\n  \
+        hole 1 of pth, 0.4 at 0,0, and hole 1 of pth, 0.4 at 0,0: gap -0.4, lacks 0.65\n  \
+        and 2 more\n\
+        3 no pad: no pad reaches the hole's centre: removed or painted pad, plane, other origin or format: see `ringcheck explain none`\n\
+        gaps lack 0.65 to 0.65\n\
+        this board meets ring 0.1, gap -0.4\n\
+        FINDINGS 3\n";
+    assert!(rt; is_waived_told(rt, &telling, Some(4), &whys, text)?);
+    Ok(())
+}
+
+#[test]
+fn a_shorter_list_waives_no_more(rt: HostRuntime) -> Result<(), Fail> {
+    let telling = three_of_each(rt.alloc())?;
+    let whys = Whys {
+        rings: &[],
+        gaps: &[None, Some("milled")],
+        idle: &[],
+    };
+    let text = "ring 0.1, gap 0.25\n\
+        top_layer: 3 of 245 rings lacking\n  \
+        and 3 more\n\
+        3 gaps lacking, 1 waived\n  \
+        and 3 more\n\
+        3 no pad: no pad reaches the hole's centre: removed or painted pad, plane, other origin or format: see `ringcheck explain none`\n\
+        gaps lack 0.65 to 0.65\n\
+        this board meets ring 0.1, gap -0.4\n\
+        FINDINGS 5\n";
+    assert!(rt; is_waived_told(rt, &telling, Some(0), &whys, text)?);
+    Ok(())
+}
+
+#[test]
+fn a_waiver_that_waives_nothing_leaves_a_pass(rt: HostRuntime) -> Result<(), Fail> {
+    let telling = nothing(rt.alloc(), 0, 1, meets(0, 1))?;
+    let whys = Whys {
+        rings: &RINGS,
+        gaps: &[],
+        idle: &[2],
+    };
+    let text =
+        "ring 0, gap 0.000000001\n0 gaps lacking\nthis board meets ring 0, gap 0.000000001\nwaiver 2 waives nothing\nPASS\n";
+    assert!(rt; is_waived_told(rt, &telling, None, &whys, text)?);
+    Ok(())
+}

@@ -1,0 +1,478 @@
+//! Files of waivers, and findings with the figures of the worked examples.
+
+use grid_units::{Fail, Hole, Point, Reason, Rules};
+use manifest::Name;
+use manifest::rows::all_rows;
+use margin_text::{Meets, Met};
+use pad_shapes::{Disc, Pad};
+use report_text::{GapLack, HoleAt, InPad, LayerHead, RingCause, RingLack, Telling};
+use std::alloc::{AllocError, Global};
+use std::test::Fail as Failed;
+use waivers::*;
+
+/// The place, the byte and the reason of a refusal.
+fn refusal(rt: HostRuntime, text: &[u8]) -> Option<(u64, u64, Reason)> {
+    match read_waivers(rt.alloc(), text) {
+        Err(Fail::Refused(fault)) => Some((fault.place, fault.byte, fault.reason)),
+        _ => None,
+    }
+}
+
+/// Whether a waiver has these fields.
+fn is_waiver(waiver: &Waiver, fields: [&str; 6]) -> bool {
+    waiver.kind.as_str() == fields[0]
+        && waiver.layer.as_str() == fields[1]
+        && waiver.hole.as_str() == fields[2]
+        && waiver.and.as_str() == fields[3]
+        && waiver.has.as_str() == fields[4]
+        && waiver.why.as_str() == fields[5]
+}
+
+#[test]
+fn waivers_are_read_in_order(rt: HostRuntime) -> Result<(), Failed> {
+    let text = "kind,layer,hole,and,has,why\n\
+        ring,top_layer,\"pic_programmer-PTH, 0.75 at 142.24,-97.79\",,none,rounded pin 1; seen by eye\n\
+        gap,,\"drill, 0.6096 at 50.546,67.31\",\"drill, 0.6096 at 51.181,66.548\",0.382301708,as drawn\n";
+    let Ok(read) = read_waivers(rt.alloc(), text.as_bytes()) else {
+        return Err("refused".into());
+    };
+    assert_eq!(rt; read.len(), 2);
+    let ring = [
+        "ring",
+        "top_layer",
+        "pic_programmer-PTH, 0.75 at 142.24,-97.79",
+        "",
+        "none",
+        "rounded pin 1; seen by eye",
+    ];
+    let gap = [
+        "gap",
+        "",
+        "drill, 0.6096 at 50.546,67.31",
+        "drill, 0.6096 at 51.181,66.548",
+        "0.382301708",
+        "as drawn",
+    ];
+    assert!(rt; is_waiver(&read[0], ring));
+    assert!(rt; is_waiver(&read[1], gap));
+    Ok(())
+}
+
+#[test]
+fn files_that_break_a_rule_are_refused(rt: HostRuntime) {
+    for (text, place, reason) in [
+        ("", 1, Reason::BadManifest),
+        ("\u{FEFF}", 1, Reason::BadManifest),
+        ("kind,layer,hole,and,has\n", 1, Reason::BadManifest),
+        ("kind,layer,hole,and,has,why,\n", 1, Reason::BadManifest),
+        ("kind,layer,hole,has,and,why\n", 1, Reason::BadManifest),
+        ("Kind,layer,hole,and,has,why\n", 1, Reason::BadManifest),
+        ("ring,top,h,,none,seen\n", 1, Reason::BadManifest),
+    ] {
+        assert_eq!(rt;
+            refusal(rt, text.as_bytes()),
+            Some((place, 0, reason)),
+            "of {text}"
+        );
+    }
+    for (record, reason) in [
+        ("ring,top,h,,none", Reason::BadManifest),
+        ("ring,top,h,,none,seen,", Reason::BadManifest),
+        ("\"\"", Reason::BadManifest),
+        ("ring,top,h,,none,see\tn", Reason::BadManifest),
+        ("ring,top,h,,none,\"see\nn\"", Reason::BadManifest),
+        ("ring,top,h\u{7F},,none,seen", Reason::BadManifest),
+        ("hole,\u{1},h,,none,", Reason::BadManifest),
+        ("hole,top,h,,none,", Reason::BadRole),
+        ("Ring,top,h,,none,seen", Reason::BadRole),
+        (",top,h,,none,seen", Reason::BadRole),
+        ("ring,top,h,,none,", Reason::EmptyName),
+        ("gap,,h,i,0.1,\"\"", Reason::EmptyName),
+    ] {
+        let Ok(text) = format!(in rt.alloc(); "kind,layer,hole,and,has,why\n{record}\n") else {
+            continue;
+        };
+        assert_eq!(rt;
+            refusal(rt, text.as_bytes()),
+            Some((2, 0, reason)),
+            "of {record}"
+        );
+    }
+    let bytes = b"kind,layer,hole,and,has,why\nring,top,h\xFF,,none,seen\n";
+    assert_eq!(rt; refusal(rt, bytes), Some((2, 0, Reason::BadManifest)));
+}
+
+/// Two records, of which the second has so many of these letters as its reason, in quotes.
+fn with_letters(rt: HostRuntime, letter: &str, count: usize) -> Result<String, AllocError> {
+    let reason = letter.repeat(rt.alloc(), count)?;
+    let mut text = String::from_str(rt.alloc(), "kind,layer,hole,and,has,why\n")?;
+    text.push_str("ring,top,h,,none,seen\nring,top,h,,none,\"")?;
+    text.push_str(reason.as_str())?;
+    text.push_str("\"\n")?;
+    Ok(text)
+}
+
+#[test]
+fn reasons_have_at_most_1000_bytes(rt: HostRuntime) -> Result<(), Failed> {
+    let long = Some((3, 0, Reason::TooLong));
+    for (letter, count, answer) in [
+        ("a", 1_000, None),
+        ("a", 1_001, long),
+        ("\u{E9}", 500, None),
+        ("\u{E9}", 501, long),
+        ("\"\"", 1_000, None),
+        ("\"\"", 1_001, long),
+        ("a", 100_000, long),
+    ] {
+        let text = with_letters(rt, letter, count)?;
+        assert_eq!(rt; refusal(rt, text.as_bytes()), answer, "of {count}");
+    }
+    Ok(())
+}
+
+/// Six records, of which one, from 0, has no reason.
+fn six_records(rt: HostRuntime, wrong: usize) -> Result<String, AllocError> {
+    let mut text = String::from_str(rt.alloc(), "kind,layer,hole,and,has,why\n\n")?;
+    for index in 0..6 {
+        text.push_str("ring,top,h,,none,")?;
+        text.push_str(if index < wrong { "seen\n" } else { "\n" })?;
+    }
+    Ok(text)
+}
+
+#[test]
+fn a_refusal_has_the_number_of_its_record(rt: HostRuntime) -> Result<(), Failed> {
+    for (wrong, place) in [(0, 2), (1, 3), (2, 4), (3, 5), (4, 6), (5, 7)] {
+        let text = six_records(rt, wrong)?;
+        assert_eq!(rt;
+            refusal(rt, text.as_bytes()),
+            Some((place, 0, Reason::EmptyName))
+        );
+    }
+    let text = six_records(rt, 6)?;
+    assert_eq!(rt; refusal(rt, text.as_bytes()), None);
+    assert_eq!(rt; count_read(rt, text.as_bytes()), Some(6));
+    Ok(())
+}
+
+/// How many waivers a text has.
+fn count_read(rt: HostRuntime, text: &[u8]) -> Option<usize> {
+    match read_waivers(rt.alloc(), text) {
+        Ok(read) => Some(read.len()),
+        Err(_) => None,
+    }
+}
+
+#[test]
+fn files_are_read_as_manifests_are(rt: HostRuntime) {
+    for (text, count) in [
+        ("kind,layer,hole,and,has,why", 0),
+        ("\u{FEFF}kind,layer,hole,and,has,why\r\ngap,,a,b,0,x\r\n", 1),
+        (
+            "\n\nkind,layer,hole,and,has,why\r\n\ngap,,a,b,0,x\rgap,,a,b,0, ",
+            2,
+        ),
+        (
+            "\"kind\",layer,hole,and,has,why\nring,,a,\"b\"\"c\",\"0,1\",x",
+            1,
+        ),
+    ] {
+        assert_eq!(rt; count_read(rt, text.as_bytes()), Some(count), "of {text}");
+    }
+}
+
+fn point(x: i64, y: i64) -> Result<Point, Failed> {
+    Ok(Point::new(x, y).ok_or("point")?)
+}
+
+/// A round hole of a drill file.
+fn hole_at(drill: usize, at: (i64, i64), diameter: i64) -> Result<HoleAt, Failed> {
+    let centre = point(at.0, at.1)?;
+    let hole = Hole::new(centre, centre, diameter / 2).ok_or("hole")?;
+    Ok(HoleAt {
+        drill,
+        number: 1,
+        hole,
+    })
+}
+
+/// Tells of a hole that lies in no pad of a layer.
+fn tell_bare(told: &mut Telling, layer: usize, at: HoleAt) -> Result<(), Failed> {
+    told.rings.push(RingLack {
+        layer,
+        at,
+        cause: RingCause::Nothing,
+    })?;
+    Ok(())
+}
+
+/// Tells of a hole that has this ring in a disc.
+fn tell_in_disc(told: &mut Telling, layer: usize, at: HoleAt, ring: i64) -> Result<(), Failed> {
+    let disc = Disc::new(at.hole.from(), 250_000_000).ok_or("disc")?;
+    let place = InPad {
+        flash: 1,
+        pad: Pad::Disc(disc),
+        ring,
+        lack: 1,
+    };
+    told.rings.push(RingLack {
+        layer,
+        at,
+        cause: RingCause::Off(place),
+    })?;
+    Ok(())
+}
+
+/// Tells of three rings on a layer.
+fn tell_layer(told: &mut Telling, layer: usize) -> Result<(), Failed> {
+    let first = hole_at(2, (142_240_000_000, -97_790_000_000), 750_000_000)?;
+    tell_bare(told, layer, first)?;
+    let second = hole_at(2, (0, 0), 1_000_000_000)?;
+    tell_in_disc(told, layer, second, 99_625_866)?;
+    let third = hole_at(3, (1, -1), 609_600_000)?;
+    tell_in_disc(told, layer, third, -101_600_000)
+}
+
+/// Tells of two holes that lack their gap.
+fn tell_gap(told: &mut Telling) -> Result<(), Failed> {
+    told.gaps.push(GapLack {
+        first: hole_at(3, (50_546_000_000, 67_310_000_000), 609_600_000)?,
+        second: hole_at(3, (51_181_000_000, 66_548_000_000), 609_600_000)?,
+        gap: 382_301_708,
+        lack: 1,
+    })?;
+    Ok(())
+}
+
+const NAMES: [&str; 4] = ["top_layer", "bottom_layer", "pic_programmer-PTH", "drill"];
+
+/// A report of two layers without findings.
+fn no_findings(rt: HostRuntime) -> Result<Telling, Failed> {
+    let mut told = Telling {
+        rules: Rules::new(100_000_000, 250_000_000)?,
+        layers: Vec::new(rt.alloc()),
+        rings: Vec::new(rt.alloc()),
+        gaps: Vec::new(rt.alloc()),
+        scales: Vec::new(rt.alloc()),
+        meets: Meets {
+            ring: Met::None,
+            gap: Met::Any,
+            held: Met::Any,
+        },
+    };
+    told.layers.push(LayerHead {
+        file: 0,
+        asked: 245,
+    })?;
+    told.layers.push(LayerHead {
+        file: 1,
+        asked: 245,
+    })?;
+    Ok(told)
+}
+
+/// A report of six rings on two layers and of one gap.
+fn seven_findings(rt: HostRuntime) -> Result<Telling, Failed> {
+    let mut told = no_findings(rt)?;
+    tell_layer(&mut told, 0)?;
+    tell_layer(&mut told, 1)?;
+    tell_gap(&mut told)?;
+    Ok(told)
+}
+
+/// The text of the findings of a report.
+fn printed(rt: HostRuntime, names: &[&str], told: &Telling) -> Result<Vec<u8>, Failed> {
+    let mut text = Vec::new(rt.alloc());
+    print_waivers(rt.alloc(), names, told, &mut text)?;
+    Ok(text)
+}
+
+const SEVEN: &str = "kind,layer,hole,and,has,why
+ring,top_layer,\"pic_programmer-PTH, 0.75 at 142.24,-97.79\",,none,
+ring,top_layer,\"pic_programmer-PTH, 1 at 0,0\",,0.099625866,
+ring,top_layer,\"drill, 0.6096 at 0.000000001,-0.000000001\",,-0.1016,
+ring,bottom_layer,\"pic_programmer-PTH, 0.75 at 142.24,-97.79\",,none,
+ring,bottom_layer,\"pic_programmer-PTH, 1 at 0,0\",,0.099625866,
+ring,bottom_layer,\"drill, 0.6096 at 0.000000001,-0.000000001\",,-0.1016,
+gap,,\"drill, 0.6096 at 50.546,67.31\",\"drill, 0.6096 at 51.181,66.548\",0.382301708,
+";
+
+#[test]
+fn findings_are_printed_with_empty_reasons(rt: HostRuntime) -> Result<(), Failed> {
+    let told = seven_findings(rt)?;
+    let text = printed(rt, &NAMES, &told)?;
+    assert!(rt; text.as_slice() == SEVEN.as_bytes());
+    assert_eq!(rt;
+        refusal(rt, text.as_slice()),
+        Some((2, 0, Reason::EmptyName))
+    );
+    let text = printed(rt, &[], &no_findings(rt)?)?;
+    assert!(rt; text.as_slice() == b"kind,layer,hole,and,has,why\n".as_slice());
+    Ok(())
+}
+
+#[test]
+fn a_writer_without_room_cuts_the_text(rt: HostRuntime) -> Result<(), Failed> {
+    let mut room = [0; 40];
+    let mut out = room.as_mut_slice();
+    let cut = print_waivers(rt.alloc(), &NAMES, &seven_findings(rt)?, &mut out);
+    assert_eq!(rt; cut, Err(PrintFault::Cut));
+    Ok(())
+}
+
+#[test]
+fn slots_and_names_are_printed_as_they_are(rt: HostRuntime) -> Result<(), Failed> {
+    let mut told = no_findings(rt)?;
+    let slot = Hole::new(
+        point(0, 0)?,
+        point(2_000_000_000, 1_000_000_000)?,
+        250_000_000,
+    );
+    let at = HoleAt {
+        drill: 1,
+        number: 3,
+        hole: slot.ok_or("hole")?,
+    };
+    told.rings.push(RingLack {
+        layer: 0,
+        at,
+        cause: RingCause::Oblique,
+    })?;
+    tell_bare(&mut told, 9, hole_at(9, (0, 0), 400_000_000)?)?;
+    let text = printed(rt, &["\"top\"", "p,th"], &told)?;
+    let expected = "kind,layer,hole,and,has,why\n\
+        ring,\"\"\"top\"\"\",\"p,th, 0.5 at 0,0 to 2,1\",,none,\n\
+        ring,,\", 0.4 at 0,0\",,none,\n";
+    assert!(rt; text.as_slice() == expected.as_bytes());
+    Ok(())
+}
+
+/// The text of the seven findings, each with a reason, and records behind them.
+fn with_reasons(rt: HostRuntime, behind: &str) -> Result<String, AllocError> {
+    let mut text = String::new(rt.alloc());
+    for (index, line) in SEVEN.lines().enumerate() {
+        text.push_str(line)?;
+        text.push_str(if index > 0 { "seen by eye\n" } else { "\n" })?;
+    }
+    text.push_str(behind)?;
+    Ok(text)
+}
+
+/// The waivers of a file, and which of them waive the findings of a report.
+fn waived_in(rt: HostRuntime, told: &Telling, text: &str) -> Result<(Vec<Waiver>, Waived), Failed> {
+    let Ok(read) = read_waivers(rt.alloc(), text.as_bytes()) else {
+        return Err("refused".into());
+    };
+    let waived = waive(rt.alloc(), &NAMES, told, read.as_slice())?;
+    Ok((read, waived))
+}
+
+/// The same of the seven findings.
+fn waived_by(rt: HostRuntime, text: &str) -> Result<(Vec<Waiver>, Waived), Failed> {
+    waived_in(rt, &seven_findings(rt)?, text)
+}
+
+/// Whether these are the numbers of the waivers of the rings and of the gaps, and these of those that waive nothing.
+fn is_waived_so(
+    rt: HostRuntime,
+    read: &[Waiver],
+    waived: &Waived,
+    rings: &[Option<usize>],
+    gaps: &[Option<usize>],
+    idles: &[usize],
+) -> Result<bool, AllocError> {
+    let found = idle(rt.alloc(), waived, read)?;
+    Ok(
+        waived.rings.as_slice() == rings
+            && waived.gaps.as_slice() == gaps
+            && found.as_slice() == idles,
+    )
+}
+
+#[test]
+fn the_first_waiver_of_a_finding_is_told(rt: HostRuntime) -> Result<(), Failed> {
+    let stale = "ring,top_layer,\"pic_programmer-PTH, 0.75 at 142.24,-97.79\",,0.05,seen\n\
+        gap,,\"drill, 0.6096 at 50.546,67.31\",\"drill, 0.6096 at 51.181,66.548\",0.382301708,again\n";
+    let text = with_reasons(rt, stale)?;
+    let (read, waived) = waived_by(rt, text.as_str())?;
+    let rings = [Some(0), Some(1), Some(2), Some(3), Some(4), Some(5)];
+    assert!(rt; waived.all());
+    assert!(rt; is_waived_so(rt, &read, &waived, &rings, &[Some(6)], &[9])?);
+    Ok(())
+}
+
+/// A report of two rings and two gaps that are alike.
+fn two_of_each(rt: HostRuntime) -> Result<Telling, Failed> {
+    let mut told = no_findings(rt)?;
+    for _ in 0..2 {
+        tell_bare(&mut told, 0, hole_at(2, (0, 0), 750_000_000)?)?;
+        tell_gap(&mut told)?;
+    }
+    Ok(told)
+}
+
+#[test]
+fn a_file_of_findings_that_are_alike_has_no_idle_waiver(rt: HostRuntime) -> Result<(), Failed> {
+    let records = "kind,layer,hole,and,has,why\n\
+        ring,top_layer,\"pic_programmer-PTH, 0.75 at 0,0\",,none,first\n\
+        ring,top_layer,\"pic_programmer-PTH, 0.75 at 0,0\",,none,second\n\
+        ring,top_layer,\"pic_programmer-PTH, 0.75 at 0,0\",,0,stale\n\
+        gap,,\"drill, 0.6096 at 50.546,67.31\",\"drill, 0.6096 at 51.181,66.548\",0.382301708,third\n\
+        gap,,\"drill, 0.6096 at 50.546,67.31\",\"drill, 0.6096 at 51.181,66.548\",0.382301708,third\n\
+        ring,top_layer,\"pic_programmer-PTH, 0.75 at 0,0\",,0,stale\n";
+    let (read, waived) = waived_in(rt, &two_of_each(rt)?, records)?;
+    assert!(rt; waived.all());
+    assert!(rt;
+        is_waived_so(
+            rt,
+            &read,
+            &waived,
+            &[Some(0), Some(0)],
+            &[Some(3), Some(3)],
+            &[4, 7]
+        )?
+    );
+    Ok(())
+}
+
+#[test]
+fn a_finding_has_the_reason_of_its_waiver(rt: HostRuntime) -> Result<(), Failed> {
+    let records = "kind,layer,hole,and,has,why\n\
+        gap,,\"drill, 0.6096 at 50.546,67.31\",\"drill, 0.6096 at 51.181,66.548\",0.382301708,as drawn\n\
+        ring,top_layer,\"pic_programmer-PTH, 0.75 at 142.24,-97.79\",,none,rounded pin 1; seen by eye\n";
+    let (read, waived) = waived_by(rt, records)?;
+    let rings = reasons(rt.alloc(), read.as_slice(), waived.rings.as_slice())?;
+    let gaps = reasons(rt.alloc(), read.as_slice(), waived.gaps.as_slice())?;
+    let first = Some("rounded pin 1; seen by eye");
+    assert!(rt; rings.as_slice() == [first, None, None, None, None, None].as_slice());
+    assert!(rt; gaps.as_slice() == [Some("as drawn")].as_slice());
+    Ok(())
+}
+
+#[test]
+fn every_field_but_the_reason_is_compared(rt: HostRuntime) -> Result<(), Failed> {
+    for record in [
+        "gap,top_layer,\"pic_programmer-PTH, 0.75 at 142.24,-97.79\",,none,seen\n",
+        "ring,bottom,\"pic_programmer-PTH, 0.75 at 142.24,-97.79\",,none,seen\n",
+        "ring,top_layer,\"pic_programmer-PTH, 0.750 at 142.24,-97.79\",,none,seen\n",
+        "ring,top_layer,\"pic_programmer-PTH, 0.75 at 142.24,-97.79\",-,none,seen\n",
+        "ring,top_layer,\"pic_programmer-PTH, 0.75 at 142.24,-97.79\",,0,seen\n",
+    ] {
+        let text = format!(in rt.alloc(); "kind,layer,hole,and,has,why\n{record}")?;
+        let (read, waived) = waived_by(rt, text.as_str())?;
+        assert!(rt; !waived.all(), "of {record}");
+        assert!(rt;
+            is_waived_so(rt, &read, &waived, &[None; 6], &[None], &[2])?,
+            "of {record}"
+        );
+    }
+    Ok(())
+}
+
+#[test]
+fn a_report_without_findings_is_waived(rt: HostRuntime) -> Result<(), Failed> {
+    let waived = waive(rt.alloc(), &NAMES, &no_findings(rt)?, &[])?;
+    assert!(rt; waived.all());
+    assert_eq!(rt; idle(rt.alloc(), &waived, &[])?.len(), 0);
+    Ok(())
+}

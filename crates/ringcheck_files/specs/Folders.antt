@@ -1,0 +1,153 @@
+-- What a loader has of files that a manifest is made of, and what a run says of them and of explanations.
+use Rattle.std.specs.Prelude.{◌≡◌, ◌<◌, ◌≤◌, ◌+◌, ◌-◌, ◌^◌, ◌⊎◌, ◌==◌, ◌&&◌, ℕ, Bool, true, false, not, List, [], ◌∷◌, length, map, Option, Some, None, ⊤}
+use Rattle.std.specs.Borrow.{Bor}
+use Rattle.std.specs.List.{count_by, list_all, list_any}
+use Rattle.std.specs.Io.KnownBytes.{Appends}
+use Rattle.command_line.specs.declared.commands.TheConstants.{VERSION_LINE}
+use Rattle.grid_units.specs.declared.fault.Reason.TheVariants.{BadManifest, BadRole}
+use Rattle.manifest.specs.Manifest.{is_control}
+use Rattle.explanations.specs.Words.{FitsScreen, Heads, IsWord, ListsWords}
+use Rattle.proposals.specs.Manifests.{IsManifestOf, reasons_text}
+use Rattle.proposals.specs.Proposing.{name_of, proposals}
+use Rattle.proposals.specs.declared.outcome.Content.{Content}
+use Rattle.proposals.specs.declared.outcome.Content.TheVariants as content
+use Rattle.proposals.specs.declared.outcome.Named.{Named}
+use Rattle.ringcheck_files.specs.declared.Status.{Status}
+use Rattle.ringcheck_files.specs.declared.Status.TheVariants as status
+use Rattle.ringcheck_files.specs.declared.ending.Ended.{Ended}
+use Rattle.ringcheck_files.specs.declared.ending.Ended.TheVariants as ended
+use Rattle.ringcheck_files.specs.declared.proposing.Held.{Held}
+use Rattle.ringcheck_files.specs.declared.proposing.Held.TheVariants as held
+use Rattle.ringcheck_files.specs.Loading.{Relation, file_limit, within}
+use Rattle.ringcheck_files.specs.Words.{usage_line}
+
+-- ---- files by their names
+
+-- what is known of the bytes of a file (docs/DEFINITIONS.md, Runs)
+pub data Known : Type 0 where
+  bytes : List ℕ → Known
+  unread : Known
+  long : Known
+
+-- what a file says of its bytes (docs/DEFINITIONS.md, Runs)
+abbrev pub known_of : Content → Known
+known_of (content.Bytes text) = bytes text.now
+known_of content.NotRead = unread
+known_of content.TooLong = long
+
+-- the same of what was loaded (docs/DEFINITIONS.md, Runs)
+abbrev pub held_as : Held → Known
+held_as (held.Bytes text) = bytes text.items
+held_as held.NotRead = unread
+held_as held.TooLong = long
+
+-- the loader has these bytes under the name, or bytes above the limit; of what cannot be read only the loader's failures tell (docs/DEFINITIONS.md, Runs)
+abbrev pub HasKnown : Relation → List ℕ → Known → Type 0
+HasKnown has name (bytes text) = within file_limit has name text
+HasKnown has name unread = ⊤
+HasKnown has name long = (text : List ℕ) × has name text × (file_limit < length text)
+
+-- the same of each name (docs/DEFINITIONS.md, Runs)
+abbrev pub HasPairs : Relation → List (List ℕ × Known) → Type 0
+HasPairs has [] = ⊤
+HasPairs has (p ∷ ps) = HasKnown has p.0 p.1 × HasPairs has ps
+
+-- a file by its name, and what is known of its bytes (docs/DEFINITIONS.md, Runs)
+abbrev pub pair_of : Named → List ℕ × Known
+pair_of file = (name_of file, known_of file.content)
+
+-- a file that cannot be read (docs/DEFINITIONS.md, Runs)
+abbrev pub is_unread : Known → Bool
+is_unread (bytes text) = false
+is_unread unread = true
+is_unread long = false
+
+-- how many of the files cannot be read (docs/DEFINITIONS.md, Runs)
+abbrev pub count_unread : List (List ℕ × Known) → ℕ
+count_unread all = count_by (λ p. is_unread p.1) all
+
+-- a count of failures rose by at least so many, or stands at its last value (docs/DEFINITIONS.md, Runs)
+abbrev pub RoseBy : ℕ → ℕ → ℕ → Type 0
+RoseBy many before after = (before + many ≤ after) ⊎ (2 ^ 64 - 1 ≤ after)
+
+-- names with what was loaded under them (docs/DEFINITIONS.md, Runs)
+abbrev pub pairs : List (Bor (List ℕ)) → List Held → List (List ℕ × Known)
+pairs [] all = []
+pairs (name ∷ names) [] = []
+pairs (name ∷ names) (one ∷ all) = (name.now, held_as one) ∷ pairs names all
+
+-- ---- a manifest
+
+-- a name that may stand in a manifest: it is not empty, and has no control byte (docs/FORMATS.md, Judging)
+abbrev pub can_stand : List ℕ → Bool
+can_stand name = not (length name == 0) && not (list_any is_control name)
+
+-- the table of what the files are, and why, or a manifest of them (docs/FORMATS.md, Proposals)
+abbrev pub IsTextOf : Bool → List Named → List ℕ → Type 0
+IsTextOf true files text = text ≡ reasons_text (proposals files)
+IsTextOf false files text = IsManifestOf (proposals files) text
+
+-- Files with these names, as the loader has them, whose manifest or table the writer got. For each that cannot be read a load failed: the
+-- loader had failed so often before and so often after (docs/DEFINITIONS.md, Runs).
+pub record Proposed (why : Bool) (has : Relation) (failed_before failed_after : ℕ) (names : List (List ℕ)) (before after : Option (List ℕ)) : Type 0 where
+  pub files : List Named
+  pub named : map name_of files ≡ names
+  pub held : HasPairs has (map pair_of files)
+  pub failed : RoseBy (count_unread (map pair_of files)) failed_before failed_after
+  pub text : List ℕ
+  pub is : IsTextOf why files text
+  pub written : Appends before after text
+
+-- what a status says of a manifest of files with these names, by a loader that had failed so often before and so often after (docs/DEFINITIONS.md, Runs)
+abbrev pub SaysManifest : Bool → Relation → ℕ → ℕ → List (List ℕ) → Option (List ℕ) → Option (List ℕ) → Status → Type 0
+SaysManifest why has failed_before failed_after names before after status.Pass = (list_all can_stand names ≡ true) × Proposed why has failed_before failed_after names before after
+SaysManifest why has failed_before failed_after names before after status.Findings = ⊥
+SaysManifest why has failed_before failed_after names before after status.Refused = ⊥
+SaysManifest why has failed_before failed_after names before after status.Usage = (list_all can_stand names ≡ false) × Appends before after (usage_line BadManifest)
+SaysManifest why has failed_before failed_after names before after status.Device = ⊤
+
+-- what an end says of files that are at hand (docs/DEFINITIONS.md, Runs)
+abbrev pub TellsFolder : Bool → List (List ℕ × Known) → Option (List ℕ) → Option (List ℕ) → Ended → Type 0
+TellsFolder why all before after (ended.Said status.Pass) = (files : List Named) × (map pair_of files ≡ all) × (text : List ℕ) × IsTextOf why files text × Appends before after text
+TellsFolder why all before after (ended.Said status.Findings) = ⊥
+TellsFolder why all before after (ended.Said status.Refused) = ⊥
+TellsFolder why all before after (ended.Said status.Usage) = ⊥
+TellsFolder why all before after (ended.Said status.Device) = ⊥
+TellsFolder why all before after ended.LoaderFailed = ⊥
+TellsFolder why all before after ended.OutOfMemory = ⊤
+TellsFolder why all before after ended.WriterFailed = ⊤
+
+-- ---- explanations
+
+-- the writer got the page of a word (docs/FORMATS.md, Explanations)
+pub record Explained (word : List ℕ) (before after : Option (List ℕ)) : Type 0 where
+  pub known : IsWord word
+  pub page : List ℕ
+  pub headed : Heads word page
+  pub fits : FitsScreen page
+  pub written : Appends before after page
+
+-- what a status says of the page of a word, or of the list of the words that have one (docs/DEFINITIONS.md, Runs)
+abbrev pub SaysPage : Option (List ℕ) → Option (List ℕ) → Option (List ℕ) → Status → Type 0
+SaysPage (Some word) before after status.Pass = Explained word before after
+SaysPage None before after status.Pass = (list : List ℕ) × ListsWords list × Appends before after list
+SaysPage word before after status.Findings = ⊥
+SaysPage word before after status.Refused = ⊥
+SaysPage (Some word) before after status.Usage = (¬ IsWord word) × Appends before after (usage_line BadRole)
+SaysPage None before after status.Usage = ⊥
+SaysPage word before after status.Device = ⊤
+
+-- the same of an end (docs/DEFINITIONS.md, Runs)
+abbrev pub TellsPage : Option (List ℕ) → Option (List ℕ) → Option (List ℕ) → Ended → Type 0
+TellsPage word before after (ended.Said s) = SaysPage word before after s
+TellsPage word before after ended.LoaderFailed = ⊥
+TellsPage word before after ended.OutOfMemory = ⊤
+TellsPage word before after ended.WriterFailed = ⊤
+
+-- what a status says of the version: just its line was written, or nothing is said (docs/FORMATS.md, The program)
+abbrev pub SaysVersion : Option (List ℕ) → Option (List ℕ) → Status → Type 0
+SaysVersion before after status.Pass = Appends before after VERSION_LINE.now
+SaysVersion before after status.Findings = ⊥
+SaysVersion before after status.Refused = ⊥
+SaysVersion before after status.Usage = ⊥
+SaysVersion before after status.Device = ⊤

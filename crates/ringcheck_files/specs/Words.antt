@@ -1,0 +1,16 @@
+-- What is told of words that are no command.
+use Rattle.std.specs.Prelude.{◌≡◌, ◌++◌, ◌∷◌, ◌⊎◌, [], ℕ, List, Option, codes}
+use Rattle.std.specs.Io.KnownBytes.{Appends}
+use Rattle.grid_units.specs.Ascii as ascii
+use Rattle.grid_units.specs.Reasons.{name_of}
+use Rattle.grid_units.specs.declared.fault.Reason.{Reason}
+use Rattle.ringcheck_files.specs.declared.Status.{Status}
+use Rattle.ringcheck_files.specs.declared.Status.TheVariants as status
+
+-- the line of a word that is refused (docs/FORMATS.md, The program)
+abbrev pub usage_line : Reason → List ℕ
+usage_line why = codes "usage reason=" ++ (name_of why ++ ascii.line_feed ∷ [])
+
+-- what is said where a word is refused: the writer got just its line, or it can't be written or memory ran out (docs/DEFINITIONS.md, Runs)
+abbrev pub SaysUsage : Reason → Option (List ℕ) → Option (List ℕ) → Status → Type 0
+SaysUsage why before after s = ((s ≡ status.Usage) × Appends before after (usage_line why)) ⊎ (s ≡ status.Device)

@@ -1,0 +1,48 @@
+//! What the program does with single files and with words, and how a run ends.
+#![tactic(auto)]
+
+ghost use Rattle.std.specs.Prelude.{◌≡◌};
+ghost use Rattle.ringcheck_files.specs.Statuses.{code_of};
+
+mod ending;
+mod explaining;
+mod limits;
+mod lines;
+mod proposing;
+mod single_files;
+
+pub use ending::{Ended, say, say_line, say_out_of_memory, say_refused_word};
+pub use explaining::explain;
+pub use limits::{ABOVE_LIMIT, FILE_LIMIT};
+pub use proposing::print_manifest;
+pub use single_files::{Task, print};
+
+/// How a run ended.
+#[derive(Clone, Copy, Debug, PartialEq, Eq)]
+pub enum Status {
+    /// Nothing was found, all that was found is waived, or a command that finds nothing is done.
+    Pass,
+    /// Some ring or gap is lacking.
+    Findings,
+    /// The manifest or a file is refused.
+    Refused,
+    /// The words are no command.
+    Usage,
+    /// Something can't be read or written, or memory ran out.
+    Device,
+}
+
+impl Status {
+    /// The exit status of the program: 0 for `Pass`, 1 for `Findings`, 2 for `Refused`, 3 for `Usage` and 4 for `Device`.
+    pub fn code(self) -> u8
+        ensures { result ≡ code_of self }
+    {
+        match self {
+            Status::Pass => 0,
+            Status::Findings => 1,
+            Status::Refused => 2,
+            Status::Usage => 3,
+            Status::Device => 4,
+        }
+    }
+}

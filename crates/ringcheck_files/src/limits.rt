@@ -1,0 +1,13 @@
+//! The limit of a file, and its fault.
+
+use grid_units::{Fault, Reason};
+
+/// The most bytes of a file.
+pub const FILE_LIMIT: u64 = 268_435_456;
+
+/// The fault of a text that is above its limit.
+pub const ABOVE_LIMIT: Fault = Fault {
+    place: 0,
+    byte: 0,
+    reason: Reason::TooLong,
+};

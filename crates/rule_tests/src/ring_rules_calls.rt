@@ -1,0 +1,574 @@
+//! The findings of small boards, and how often pads are asked.
+
+ghost use Rattle.std.specs.Prelude.{◌≡◌, pos, ◌+ℤ◌, ◌-ℤ◌};
+ghost use Rattle.pad_shapes.specs.Shapes.{IsInDisc, disc_covers};
+ghost use Rattle.pad_shapes.specs.Inner.ShapeLaws.{disc_holds, disc_holds_slots, disc_between, disc_extent};
+
+use grid_units::{Hole, Point, Rules};
+use pad_shapes::{Disc, Obround, Pad, PadShape, Rect, Zone};
+use ring_rules::*;
+use std::alloc::{AllocError, Global};
+use std::cell::Cell;
+use std::rc::Rc;
+use std::test::Fail;
+
+/// A millimetre in pm.
+const MM: i64 = 1_000_000_000;
+
+/// A disc that counts how often it is asked.
+#[derive(Drop)]
+struct Counted {
+    disc: Disc,
+    calls: Rc<Cell<u64>>,
+}
+
+impl PadShape for Counted {
+    ghost points = { λ s. IsInDisc s.disc };
+
+    ghost covers = { λ s. disc_covers s.disc };
+
+    ghost left = { λ s. s.disc.centre.x -ℤ pos s.disc.radius };
+
+    ghost right = { λ s. s.disc.centre.x +ℤ pos s.disc.radius };
+
+    ghost holds = { λ s. disc_holds s.disc };
+
+    ghost holds_slots = { λ s. disc_holds_slots s.disc };
+
+    ghost between = { λ s. disc_between s.disc };
+
+    ghost extent = { λ s. disc_extent s.disc };
+
+    fn covers(&self, hole: Point, reach: i64) -> bool {
+        self.calls.set(self.calls.get().saturating_add(1));
+        self.disc.covers(hole, reach)
+    }
+
+    fn left(&self) -> i64 {
+        self.disc.left()
+    }
+
+    fn right(&self) -> i64 {
+        self.disc.right()
+    }
+}
+
+/// A ring of 0.125 mm and a gap of 0.25 mm.
+fn usual_rules() -> Result<Rules, Fail> {
+    Ok(Rules::new(125_000_000, 250_000_000).ok().ok_or("rules")?)
+}
+
+/// A plated hole between two points, all in pm.
+fn slot(from: (i64, i64), to: (i64, i64), radius: i64) -> Result<Drilled, Fail> {
+    let from = Point::new(from.0, from.1).ok_or("from")?;
+    let to = Point::new(to.0, to.1).ok_or("to")?;
+    let hole = Hole::new(from, to, radius).ok_or("hole")?;
+    Ok(Drilled {
+        hole,
+        plated: true,
+        span: None,
+    })
+}
+
+/// A plated round hole.
+fn round(x: i64, y: i64, radius: i64) -> Result<Drilled, Fail> {
+    slot((x, y), (x, y), radius)
+}
+
+fn disc(x: i64, y: i64, radius: i64) -> Result<Pad, Fail> {
+    let centre = Point::new(x, y).ok_or("centre")?;
+    Ok(Pad::Disc(Disc::new(centre, radius).ok_or("disc")?))
+}
+
+fn rect(x: i64, y: i64, half_x: i64, half_y: i64) -> Result<Pad, Fail> {
+    let centre = Point::new(x, y).ok_or("centre")?;
+    Ok(Pad::Rect(Rect::new(centre, half_x, half_y).ok_or("rect")?))
+}
+
+fn obround(half_x: i64, half_y: i64) -> Result<Pad, Fail> {
+    let centre = Point::new(0, 0).ok_or("centre")?;
+    let obround = Obround::new(centre, half_x, half_y).ok_or("obround")?;
+    Ok(Pad::Obround(obround))
+}
+
+/// The findings of rings of one hole of 0.4 mm on one layer.
+fn rings_at(alloc: Global, pads: &[Pad], x: i64, y: i64) -> Result<Vec<Finding>, Fail> {
+    let holes = [round(x, y, 200_000_000)?];
+    Ok(ring_findings(alloc, &[pads], &holes, usual_rules()?)?)
+}
+
+#[test]
+fn no_pads_hold_nothing(rt: HostRuntime) -> Result<(), Fail> {
+    let holes = [round(0, 0, 200_000_000)?];
+    let none: [Disc; 0] = [];
+    let layers = [none.as_slice(), none.as_slice()];
+    let found = ring_findings(rt.alloc(), &layers, &holes, usual_rules()?)?;
+    let wanted = [
+        Finding::Ring { layer: 0, hole: 0 },
+        Finding::Ring { layer: 1, hole: 0 },
+    ];
+    assert_eq!(rt; found.as_slice(), wanted.as_slice());
+    let no_layers: [&[Disc]; 0] = [];
+    let found = ring_findings(rt.alloc(), &no_layers, &holes, usual_rules()?)?;
+    assert_eq!(rt; found.len(), 0);
+    Ok(())
+}
+
+#[test]
+fn a_disc_holds_a_hole_up_to_equality(rt: HostRuntime) -> Result<(), Fail> {
+    for (pad, x, y, lacking) in [
+        (disc(0, 0, 325_000_000)?, 0, 0, 0),
+        (disc(1_000, 0, 325_000_000)?, 0, 0, 1),
+        (disc(0, 0, 825_000_000)?, 300_000_000, 400_000_000, 0),
+        (disc(0, 0, 825_000_000)?, 300_001_000, 400_000_000, 1),
+    ] {
+        let found = rings_at(rt.alloc(), &[pad], x, y)?;
+        assert_eq!(rt; found.len(), lacking, "at {x},{y}");
+    }
+    let moved = [disc(1_000, 0, 325_000_000)?];
+    let found = rings_at(rt.alloc(), &moved, 0, 0)?;
+    let wanted = [Finding::Ring { layer: 0, hole: 0 }];
+    assert_eq!(rt; found.as_slice(), wanted.as_slice());
+    Ok(())
+}
+
+#[test]
+fn an_obround_holds_a_hole_at_its_round_end(rt: HostRuntime) -> Result<(), Fail> {
+    let pads = [obround(1_000_000_000, 500_000_000)?];
+    assert_eq!(rt;
+        rings_at(rt.alloc(), &pads, 605_000_000, 140_000_000)?.len(),
+        0
+    );
+    assert_eq!(rt;
+        rings_at(rt.alloc(), &pads, 605_000_000, 150_000_000)?.len(),
+        1
+    );
+    Ok(())
+}
+
+#[test]
+fn a_rectangle_holds_a_hole_one_way_round(rt: HostRuntime) -> Result<(), Fail> {
+    let lying = [rect(0, 0, 1_000_000_000, 350_000_000)?];
+    assert_eq!(rt; rings_at(rt.alloc(), &lying, 0, 600_000_000)?.len(), 1);
+    let upright = [rect(0, 0, 350_000_000, 1_000_000_000)?];
+    assert_eq!(rt; rings_at(rt.alloc(), &upright, 0, 600_000_000)?.len(), 0);
+    Ok(())
+}
+
+#[test]
+fn two_pads_together_hold_nothing(rt: HostRuntime) -> Result<(), Fail> {
+    let pads = [
+        rect(-500_000_000, 0, 500_000_000, 1_000_000_000)?,
+        rect(500_000_000, 0, 500_000_000, 1_000_000_000)?,
+    ];
+    assert_eq!(rt; rings_at(rt.alloc(), &pads, 0, 0)?.len(), 1);
+    Ok(())
+}
+
+#[test]
+fn a_wide_pad_holds_a_hole_far_from_its_centre(rt: HostRuntime) -> Result<(), Fail> {
+    let pads = [rect(0, 0, 100 * MM, MM)?];
+    assert_eq!(rt; rings_at(rt.alloc(), &pads, 95 * MM, 0)?.len(), 0);
+    assert_eq!(rt; rings_at(rt.alloc(), &pads, 99_700_000_000, 0)?.len(), 1);
+    Ok(())
+}
+
+#[test]
+fn unplated_holes_and_slots_need_no_ring(rt: HostRuntime) -> Result<(), Fail> {
+    let bare = Drilled {
+        plated: false,
+        ..round(0, 0, 200_000_000)?
+    };
+    let bare_slot = Drilled {
+        plated: false,
+        ..slot((0, 0), (MM, 0), 200_000_000)?
+    };
+    let bare_oblique = Drilled {
+        plated: false,
+        ..slot((0, 0), (MM, MM), 200_000_000)?
+    };
+    let holes = [bare, bare_slot, bare_oblique];
+    let none: [Disc; 0] = [];
+    let found = ring_findings(rt.alloc(), &[none.as_slice()], &holes, usual_rules()?)?;
+    assert_eq!(rt; found.len(), 0);
+    Ok(())
+}
+
+#[test]
+fn gaps_stand_by_first_and_second(rt: HostRuntime) -> Result<(), Fail> {
+    let holes = [
+        round(0, 0, 200_000_000)?,
+        round(100_000_000, 0, 200_000_000)?,
+        round(200_000_000, 0, 200_000_000)?,
+    ];
+    let found = gap_findings(rt.alloc(), &holes, usual_rules()?)?;
+    let wanted = [
+        Finding::Gap {
+            first: 0,
+            second: 1,
+        },
+        Finding::Gap {
+            first: 0,
+            second: 2,
+        },
+        Finding::Gap {
+            first: 1,
+            second: 2,
+        },
+    ];
+    assert_eq!(rt; found.as_slice(), wanted.as_slice());
+    Ok(())
+}
+
+#[test]
+fn a_hole_far_off_in_y_hides_no_gap(rt: HostRuntime) -> Result<(), Fail> {
+    let holes = [
+        round(0, 0, 200_000_000)?,
+        round(100_000_000, 5 * MM, 200_000_000)?,
+        round(200_000_000, 0, 200_000_000)?,
+    ];
+    let found = gap_findings(rt.alloc(), &holes, usual_rules()?)?;
+    let wanted = [Finding::Gap {
+        first: 0,
+        second: 2,
+    }];
+    assert_eq!(rt; found.as_slice(), wanted.as_slice());
+    Ok(())
+}
+
+#[test]
+fn holes_are_clear_up_to_equality(rt: HostRuntime) -> Result<(), Fail> {
+    let near = round(0, 0, 200_000_000)?;
+    let far = round(390_000_000, 520_000_000, 200_000_000)?;
+    assert!(rt; clear_of(&near.hole, &far.hole, usual_rules()?));
+    assert_eq!(rt;
+        gap_findings(rt.alloc(), &[near, far], usual_rules()?)?.len(),
+        0
+    );
+    let found = gap_findings(rt.alloc(), &[near, near], usual_rules()?)?;
+    let wanted = [Finding::Gap {
+        first: 0,
+        second: 1,
+    }];
+    assert_eq!(rt; found.as_slice(), wanted.as_slice());
+    Ok(())
+}
+
+#[test]
+fn a_slot_is_measured_along_its_whole_length(rt: HostRuntime) -> Result<(), Fail> {
+    let straight = slot((0, 0), (2 * MM, 0), 250_000_000)?;
+    let clear = round(MM, 750_000_000, 250_000_000)?;
+    assert_eq!(rt;
+        gap_findings(rt.alloc(), &[straight, clear], usual_rules()?)?.len(),
+        0
+    );
+    let close = round(MM, 749_000_000, 250_000_000)?;
+    let wanted = [Finding::Gap {
+        first: 0,
+        second: 1,
+    }];
+    let found = gap_findings(rt.alloc(), &[straight, close], usual_rules()?)?;
+    assert_eq!(rt; found.as_slice(), wanted.as_slice());
+    let oblique = slot((0, 5 * MM), (2 * MM, 6 * MM), 250_000_000)?;
+    let corner = round(0, 6 * MM, 250_000_000)?;
+    let found = gap_findings(rt.alloc(), &[oblique, corner], usual_rules()?)?;
+    assert_eq!(rt; found.as_slice(), wanted.as_slice());
+    Ok(())
+}
+
+/// A hundred times a hundred discs, a millimetre apart.
+fn counted_discs(alloc: Global, calls: &Rc<Cell<u64>>) -> Result<Vec<Counted>, Fail> {
+    let mut pads = Vec::new(alloc);
+    for column in 0..100u8 {
+        for row in 0..100u8 {
+            let at = Point::new(i64::from(column) * MM, i64::from(row) * MM).ok_or("point")?;
+            let disc = Disc::new(at, 325_000_000).ok_or("disc")?;
+            let calls = calls.clone()?;
+            pads.push(Counted { disc, calls })?;
+        }
+    }
+    Ok(pads)
+}
+
+/// A plated hole of 0.4 mm at each of these points.
+fn plated_at(alloc: Global, centres: &[Point]) -> Result<Vec<Drilled>, Fail> {
+    let mut holes = Vec::new(alloc);
+    for centre in centres {
+        let hole = Hole::new(*centre, *centre, 200_000_000).ok_or("hole")?;
+        add_hole(&mut holes, hole, None)?;
+    }
+    Ok(holes)
+}
+
+/// Appends a plated hole.
+fn add_hole(holes: &mut Vec<Drilled>, hole: Hole, span: Option<Span>) -> Result<(), AllocError> {
+    holes.push(Drilled {
+        hole,
+        plated: true,
+        span,
+    })?;
+    Ok(())
+}
+
+/// The centres of the discs, in falling order of x and then of y.
+fn centres(alloc: Global) -> Result<Vec<Point>, Fail> {
+    let mut centres = Vec::new(alloc);
+    for column in (0..100u8).rev() {
+        for row in (0..100u8).rev() {
+            let at = Point::new(i64::from(column) * MM, i64::from(row) * MM).ok_or("point")?;
+            centres.push(at)?;
+        }
+    }
+    Ok(centres)
+}
+
+#[test]
+fn few_pads_are_asked(rt: HostRuntime) -> Result<(), Fail> {
+    let calls = Rc::new(rt.alloc(), Cell::new(0))?;
+    let pads = counted_discs(rt.alloc(), &calls)?;
+    let holes = plated_at(rt.alloc(), &centres(rt.alloc())?)?;
+    let found = ring_findings(rt.alloc(), &[pads.as_slice()], &holes, usual_rules()?)?;
+    assert_eq!(rt; found.len(), 0);
+    assert!(rt; calls.get() <= 1_000_000);
+    Ok(())
+}
+
+#[test]
+fn a_large_pad_holds_what_lies_in_it(rt: HostRuntime) -> Result<(), Fail> {
+    let holes = plated_at(rt.alloc(), &centres(rt.alloc())?)?;
+    let all = [rect(50 * MM, 50 * MM, 51 * MM, 51 * MM)?];
+    let found = ring_findings(rt.alloc(), &[all.as_slice()], &holes, usual_rules()?)?;
+    assert_eq!(rt; found.len(), 0);
+    let less = [rect(49 * MM, 50 * MM, 49_400_000_000, 51 * MM)?];
+    let found = ring_findings(rt.alloc(), &[less.as_slice()], &holes, usual_rules()?)?;
+    assert_eq!(rt; found.len(), 100);
+    assert_eq!(rt; found.first(), Some(&Finding::Ring { layer: 0, hole: 0 }));
+    Ok(())
+}
+
+/// A thousand points in a crowd, and a thousand others over 18 m, in turn.
+fn crowd(alloc: Global) -> Result<Vec<Point>, Fail> {
+    let mut points = Vec::new(alloc);
+    for number in 0..1_000u16 {
+        let k = i64::from(number);
+        points.push(Point::new(k % 32 * MM, k / 32 * MM).ok_or("near")?)?;
+        let x = k % 40 * 450_000_000_000 - 9_000_000_000_000;
+        let y = k / 40 * 700_000_000_000 - 9_000_000_000_000;
+        points.push(Point::new(x, y).ok_or("far")?)?;
+    }
+    Ok(points)
+}
+
+#[test]
+fn a_crowd_hides_no_finding(rt: HostRuntime) -> Result<(), Fail> {
+    let mut points = crowd(rt.alloc())?;
+    let mut pads = Vec::new(rt.alloc());
+    for point in &points {
+        pads.push(Disc::new(*point, 325_000_000).ok_or("disc")?)?;
+    }
+    let holes = plated_at(rt.alloc(), &points)?;
+    let layers = [pads.as_slice(), &pads[..pads.len().min(1_000)]];
+    let found = ring_findings(rt.alloc(), &layers, &holes, usual_rules()?)?;
+    assert_eq!(rt; found.len(), 1_000);
+    let wanted = Finding::Ring {
+        layer: 1,
+        hole: 1_000,
+    };
+    assert_eq!(rt; found.first(), Some(&wanted));
+    assert_eq!(rt; gap_findings(rt.alloc(), &holes, usual_rules()?)?.len(), 0);
+    points.push(Point::new(5 * MM, 5 * MM).ok_or("point")?)?;
+    let holes = plated_at(rt.alloc(), &points)?;
+    let found = gap_findings(rt.alloc(), &holes, usual_rules()?)?;
+    let wanted = [Finding::Gap {
+        first: 330,
+        second: 2_000,
+    }];
+    assert_eq!(rt; found.as_slice(), wanted.as_slice());
+    Ok(())
+}
+
+#[test]
+fn a_hole_drilled_twice_is_two_holes(rt: HostRuntime) -> Result<(), Fail> {
+    let mut centres = centres(rt.alloc())?;
+    let holes = plated_at(rt.alloc(), &centres)?;
+    assert_eq!(rt; gap_findings(rt.alloc(), &holes, usual_rules()?)?.len(), 0);
+    centres.push(Point::new(0, 0).ok_or("point")?)?;
+    let holes = plated_at(rt.alloc(), &centres)?;
+    let found = gap_findings(rt.alloc(), &holes, usual_rules()?)?;
+    let wanted = [Finding::Gap {
+        first: 9_999,
+        second: 10_000,
+    }];
+    assert_eq!(rt; found.as_slice(), wanted.as_slice());
+    Ok(())
+}
+
+/// An obround of 0.75 mm across round the middle of a slot of 2 mm along x.
+fn slot_pad(half_x: i64) -> Result<Pad, Fail> {
+    let centre = Point::new(MM, 0).ok_or("centre")?;
+    let obround = Obround::new(centre, half_x, 375_000_000).ok_or("obround")?;
+    Ok(Pad::Obround(obround))
+}
+
+#[test]
+fn a_slot_along_an_axis_needs_one_pad_at_both_ends(rt: HostRuntime) -> Result<(), Fail> {
+    let holes = [slot((0, 0), (2 * MM, 0), 250_000_000)?];
+    let rules = usual_rules()?;
+    let exact = [slot_pad(1_375_000_000)?];
+    let found = ring_findings(rt.alloc(), &[exact.as_slice()], &holes, rules)?;
+    assert_eq!(rt; found.len(), 0);
+    let wanted = [Finding::Ring { layer: 0, hole: 0 }];
+    let short = [slot_pad(1_370_000_000)?];
+    let found = ring_findings(rt.alloc(), &[short.as_slice()], &holes, rules)?;
+    assert_eq!(rt; found.as_slice(), wanted.as_slice());
+    let ends = [disc(0, 0, 375_000_000)?, disc(2 * MM, 0, 375_000_000)?];
+    let found = ring_findings(rt.alloc(), &[ends.as_slice()], &holes, rules)?;
+    assert_eq!(rt; found.as_slice(), wanted.as_slice());
+    Ok(())
+}
+
+#[test]
+fn oblique_slots_stand_among_rings_by_layer_and_hole(rt: HostRuntime) -> Result<(), Fail> {
+    let oblique = slot((0, 5 * MM), (2 * MM, 6 * MM), 250_000_000)?;
+    let holes = [
+        round(0, 0, 200_000_000)?,
+        oblique,
+        round(MM, 0, 200_000_000)?,
+    ];
+    let none: [Pad; 0] = [];
+    let large = [rect(0, 0, 50 * MM, 50 * MM)?];
+    let layers = [none.as_slice(), large.as_slice()];
+    let found = ring_findings(rt.alloc(), &layers, &holes, usual_rules()?)?;
+    let wanted = [
+        Finding::Ring { layer: 0, hole: 0 },
+        Finding::Oblique { layer: 0, hole: 1 },
+        Finding::Ring { layer: 0, hole: 2 },
+        Finding::Oblique { layer: 1, hole: 1 },
+    ];
+    assert_eq!(rt; found.as_slice(), wanted.as_slice());
+    Ok(())
+}
+
+#[test]
+fn an_oblique_slot_is_found_where_it_is_plated(rt: HostRuntime) -> Result<(), Fail> {
+    let oblique = slot((0, 5 * MM), (2 * MM, 6 * MM), 250_000_000)?;
+    let pads = [rect(0, 0, 50 * MM, 50 * MM)?];
+    let found = ring_findings(rt.alloc(), &[pads.as_slice()], &[oblique], usual_rules()?)?;
+    let wanted = [Finding::Oblique { layer: 0, hole: 0 }];
+    assert_eq!(rt; found.as_slice(), wanted.as_slice());
+    let bare = Drilled {
+        plated: false,
+        ..oblique
+    };
+    let found = ring_findings(rt.alloc(), &[pads.as_slice()], &[bare], usual_rules()?)?;
+    assert_eq!(rt; found.len(), 0);
+    Ok(())
+}
+
+/// The findings of rings of a hole of 0.4 mm through these layers of two, of which the first alone holds it.
+fn rings_through(alloc: Global, span: Option<Span>) -> Result<Vec<Finding>, Fail> {
+    let top = [disc(0, 0, 325_000_000)?];
+    let bottom = [disc(1_000, 0, 325_000_000)?];
+    let hole = Drilled {
+        span,
+        ..round(0, 0, 200_000_000)?
+    };
+    let layers = [top.as_slice(), bottom.as_slice()];
+    Ok(ring_findings(alloc, &layers, &[hole], usual_rules()?)?)
+}
+
+#[test]
+fn a_span_names_the_layers_that_need_a_ring(rt: HostRuntime) -> Result<(), Fail> {
+    assert_eq!(rt; rings_through(rt.alloc(), Span::new(1, 1))?.len(), 0);
+    let wanted = [Finding::Ring { layer: 1, hole: 0 }];
+    let found = rings_through(rt.alloc(), Span::new(1, 2))?;
+    assert_eq!(rt; found.as_slice(), wanted.as_slice());
+    let found = rings_through(rt.alloc(), None)?;
+    assert_eq!(rt; found.as_slice(), wanted.as_slice());
+    Ok(())
+}
+
+#[test]
+fn a_span_changes_no_gap(rt: HostRuntime) -> Result<(), Fail> {
+    let upper = Drilled {
+        span: Span::new(1, 2),
+        ..round(0, 0, 200_000_000)?
+    };
+    let lower = Drilled {
+        span: Span::new(3, 4),
+        ..round(100_000_000, 0, 200_000_000)?
+    };
+    let found = gap_findings(rt.alloc(), &[upper, lower], usual_rules()?)?;
+    let wanted = [Finding::Gap {
+        first: 0,
+        second: 1,
+    }];
+    assert_eq!(rt; found.as_slice(), wanted.as_slice());
+    Ok(())
+}
+
+#[test]
+fn spans_run_from_1_upwards(rt: HostRuntime) {
+    for (first, last) in [(0, 1), (2, 1)] {
+        assert!(rt; Span::new(first, last).is_none(), "of {first},{last}");
+    }
+}
+
+#[test]
+fn a_hole_needs_its_ring_on_the_layers_of_its_span(rt: HostRuntime) -> Result<(), Fail> {
+    let span = Span::new(2, 3).ok_or("span")?;
+    assert_eq!(rt; (span.first(), span.last()), (2, 3));
+    let hole = Drilled {
+        span: Some(span),
+        ..round(0, 0, 200_000_000)?
+    };
+    let none: [Pad; 0] = [];
+    let layers = [none.as_slice(); 4];
+    let found = ring_findings(rt.alloc(), &layers, &[hole], usual_rules()?)?;
+    let wanted = [
+        Finding::Ring { layer: 1, hole: 0 },
+        Finding::Ring { layer: 2, hole: 0 },
+    ];
+    assert_eq!(rt; found.as_slice(), wanted.as_slice());
+    Ok(())
+}
+
+/// The places of the holes that an index finds within a zone, in their order.
+fn found(
+    alloc: Global,
+    holes: &[Drilled],
+    zone: &Zone,
+    size: u64,
+) -> Result<Vec<usize>, AllocError> {
+    let index = HoleIndex::new(alloc, holes, size, size)?;
+    let mut places = Vec::new(alloc);
+    index.find(holes, zone, &mut places)?;
+    places.sort_unstable();
+    Ok(places)
+}
+
+/// A zone has the holes that go in on its border, and a slot by its first end; the sizes that the index is made for change nothing.
+#[test]
+fn holes_of_a_zone(rt: HostRuntime) -> Result<(), Fail> {
+    let holes = [
+        round(0, 0, MM)?,
+        round(2 * MM, 0, MM)?,
+        slot((MM, MM), (9 * MM, MM), MM)?,
+        slot((9 * MM, MM), (MM, MM), MM)?,
+        round(0, 0, MM)?,
+        round(-1, 0, MM)?,
+    ];
+    let zone = Zone {
+        left: 0,
+        right: 2 * MM,
+        bottom: 0,
+        top: MM,
+    };
+    let near = found(rt.alloc(), &holes, &zone, 0)?;
+    assert_eq!(rt; near.as_slice() == [0, 1, 2, 4].as_slice(), true);
+    let same = found(rt.alloc(), &holes, &zone, 1_000_000_000_000)?;
+    assert_eq!(rt; same.as_slice() == near.as_slice(), true);
+    let none: [Drilled; 0] = [];
+    assert_eq!(rt; found(rt.alloc(), &none, &zone, 1)?.len(), 0);
+    Ok(())
+}
