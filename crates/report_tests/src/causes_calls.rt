@@ -155,8 +155,9 @@ fn a_hole_in_nothing(rt: HostRuntime) -> Result<(), Fail> {
 /// 40 macro flashes, a millimetre from one to the next along x: the last one stands at 0.
 fn flashes_in_a_row(rt: HostRuntime) -> Result<Vec<Flash>, Fail> {
     let mut flashes = Vec::new(rt.alloc());
-    for place in 0..40 {
-        flashes.push(other((39 - place) * 1_000_000_000, 0, Why::Macro)?)?;
+    for place in (0..40_u8).rev() {
+        let x = i64::from(place) * 1_000_000_000;
+        flashes.extend_from_slice(&[other(x, 0, Why::Macro)?])?;
     }
     Ok(flashes)
 }

@@ -168,11 +168,16 @@ fn begins_with(
     Ok(written.as_slice().starts_with(front.as_slice()))
 }
 
-/// Whether the line of a hole that lacks its ring is this one.
-fn is_ring_line(rt: HostRuntime, drill: &str, lack: &RingLack, text: &str) -> Result<bool, Fail> {
+/// Whether the line of a hole that lacks its ring, which stands alone in a list, is this one.
+fn is_ring_line(
+    rt: HostRuntime,
+    drill: &str,
+    lacks: &[RingLack],
+    text: &str,
+) -> Result<bool, Fail> {
     let mut telling = nothing(rt.alloc(), 0, 1, meets(0, 1))?;
     telling.layers.push(LayerHead { file: 0, asked: 1 })?;
-    telling.rings.push(*lack)?;
+    telling.rings.extend_from_slice(lacks)?;
     begins_with(
         rt,
         &["top", drill],
@@ -191,7 +196,7 @@ fn a_pad_that_is_too_small_is_told(rt: HostRuntime) -> Result<(), Fail> {
     };
     let text =
         "  hole 213 of drill, 0.6096 at 50.546,67.31: ring -0.1016, lacks 0.2016, pad too small: flash 947, disc 0.4064x0.4064, hole off by 0,0\n";
-    assert!(rt; is_ring_line(rt, "drill", &small, text)?);
+    assert!(rt; is_ring_line(rt, "drill", &[small], text)?);
     Ok(())
 }
 
@@ -207,7 +212,7 @@ fn a_hole_in_a_macro_flash_is_told(rt: HostRuntime) -> Result<(), Fail> {
     };
     let text =
         "  hole 7 of pic_programmer-PTH, 0.75 at 142.24,-97.79: no ring, only a macro flash: flash 156\n";
-    assert!(rt; is_ring_line(rt, "pic_programmer-PTH", &bare, text)?);
+    assert!(rt; is_ring_line(rt, "pic_programmer-PTH", &[bare], text)?);
     Ok(())
 }
 
@@ -226,7 +231,7 @@ fn a_hole_off_a_centre_is_told(rt: HostRuntime) -> Result<(), Fail> {
     };
     let text =
         "  hole 1 of pth, 0.4 at 0,0: ring 0.124999, lacks 0.000001, off centre: flash 1, rect 0.65x0.65, hole off by -0.000001,0\n";
-    assert!(rt; is_ring_line(rt, "pth", &moved, text)?);
+    assert!(rt; is_ring_line(rt, "pth", &[moved], text)?);
     Ok(())
 }
 
@@ -254,7 +259,7 @@ fn a_slot_is_told_by_both_ends(rt: HostRuntime) -> Result<(), Fail> {
             at,
             cause,
         };
-        assert!(rt; is_ring_line(rt, "pth", &lack, text)?, "{text}");
+        assert!(rt; is_ring_line(rt, "pth", &[lack], text)?, "{text}");
     }
     Ok(())
 }
@@ -289,7 +294,7 @@ fn a_slot_in_a_short_obround_is_told(rt: HostRuntime) -> Result<(), Fail> {
     }))?;
     let text =
         "  hole 1 of pth, 0.5 at 0,0 to 2,0: ring 0.12, lacks 0.005, pad too small: flash 1, obround 2.74x0.75, hole off by 0,0\n";
-    assert!(rt; is_ring_line(rt, "pth", &small, text)?);
+    assert!(rt; is_ring_line(rt, "pth", &[small], text)?);
     Ok(())
 }
 
@@ -299,8 +304,14 @@ fn a_slot_is_told_off_by_its_middle(rt: HostRuntime) -> Result<(), Fail> {
     let off = slot_lack(RingCause::Off(place))?;
     let text =
         "  hole 1 of pth, 0.5 at 0,0 to 2,0: ring -0.25, lacks 0.375, off centre: flash 1, disc 4x4, hole off by 1,0\n";
-    assert!(rt; is_ring_line(rt, "pth", &off, text)?);
+    assert!(rt; is_ring_line(rt, "pth", &[off], text)?);
     Ok(())
+}
+
+/// Whether the line of a slot in a flash that leaves no pad is this one.
+fn is_flash_line(rt: HostRuntime, why: Why, text: &str) -> Result<bool, Fail> {
+    let lack = slot_lack(RingCause::Other { why, flash: 7 })?;
+    is_ring_line(rt, "pth", &[lack], text)
 }
 
 #[test]
@@ -323,8 +334,7 @@ fn flashes_that_are_no_pads_are_told(rt: HostRuntime) -> Result<(), Fail> {
             "  hole 1 of pth, 0.5 at 0,0 to 2,0: no ring, only a turned flash: flash 7\n",
         ),
     ] {
-        let lack = slot_lack(RingCause::Other { why, flash: 7 })?;
-        assert!(rt; is_ring_line(rt, "pth", &lack, text)?, "{text}");
+        assert!(rt; is_flash_line(rt, why, text)?, "{text}");
     }
     Ok(())
 }
