@@ -110,10 +110,33 @@ fn files_of_shared_holes(rt: HostRuntime) -> Result<(), Fail> {
     let pads = [disc(10, 0)?, disc(5, 5)?];
     let holes = [hit(1, 0)?, hit(5, 5)?, hit(1, 0)?, hit(1, 0)?];
     let bests = best_pads(rt.alloc(), &pads, &holes)?;
-    let mut files = Vec::new(rt.alloc());
-    for (drill, start, end) in [(1, 0, 1), (2, 1, 2), (3, 0, 2), (1, 2, 4), (5, 4, 4)] {
-        files.push(FileStretch { drill, start, end })?;
-    }
+    let files = [
+        FileStretch {
+            drill: 1,
+            start: 0,
+            end: 1,
+        },
+        FileStretch {
+            drill: 2,
+            start: 1,
+            end: 2,
+        },
+        FileStretch {
+            drill: 3,
+            start: 0,
+            end: 2,
+        },
+        FileStretch {
+            drill: 1,
+            start: 2,
+            end: 4,
+        },
+        FileStretch {
+            drill: 5,
+            start: 4,
+            end: 4,
+        },
+    ];
     let lines = scale_lines(rt.alloc(), &pads, &holes, &bests, &files)?;
     let mut found = lines.iter();
     for line in [
