@@ -137,7 +137,7 @@ const PLATED: &[u8; 36] = b"M48\nMETRIC\nT1C0.4\n%\nT1\nX0.0Y0.0\nM30\n";
 
 #[test]
 fn zeros(rt: HostRuntime) {
-    for text in [
+    for &text in &[
         "M48\nMETRIC,TZ\nT1C0.4\n%\nT1\nX2540Y0\nM30\n",
         "M48\nMETRIC,LZ\nT1C0.4\n%\nT1\nX00254Y0\nM30\n",
         "M48\nMETRIC\nT1C0.4\n%\nT1\nX2.54Y0.0\nM30\n",
@@ -153,7 +153,7 @@ fn zeros(rt: HostRuntime) {
 /// The settings are those of the whole header, wherever a comment or a later line names them.
 #[test]
 fn formats(rt: HostRuntime) {
-    for text in [
+    for &text in &[
         "M48\nMETRIC,LZ,00.00\nT1C0.4\n%\nT1\nX0254Y0\nM30\n",
         "M48\n;FILE_FORMAT=2:4\nMETRIC,TZ\nT1C0.4\n%\nT1\nX25400Y0\nM30\n",
         ";FILE_FORMAT=2:4\nM48\nMETRIC,TZ\nT1C0.4\n%\nT1\nX25400Y0\nM30\n",
@@ -169,7 +169,7 @@ fn formats(rt: HostRuntime) {
 /// A comment in the body gives no format, and a later line takes nothing back.
 #[test]
 fn the_header_as_a_whole(rt: HostRuntime) {
-    for text in [
+    for &text in &[
         "M48\nMETRIC\nT1C0.4\nMETRIC,TZ,00.0000\nM95\nT1\n;FILE_FORMAT=3:3\nX25400Y0\nM30",
         "M48\nM71\nMETRIC,LZ\nMETRIC,000.000\nT01C.4\n%\nT1\nX00254Y0\nM30\n\n \n",
     ] {
@@ -184,7 +184,7 @@ fn the_header_as_a_whole(rt: HostRuntime) {
 fn slots(rt: HostRuntime) -> Result<(), TestFail> {
     let text =
         b"M48\nMETRIC\nT1C0.5\n%\nT1\nX0.0Y0.0G85X2.0Y0.0\nX0.0Y5.0G85X2.0Y6.0\nX9.0Y9.0G85X9.0Y9.0\nM30\n";
-    let wanted = [
+    let wanted = &[
         (0, 0, 2_000_000_000, 0, 250_000_000),
         (0, 5_000_000_000, 2_000_000_000, 6_000_000_000, 250_000_000),
         (
@@ -195,7 +195,7 @@ fn slots(rt: HostRuntime) -> Result<(), TestFail> {
             250_000_000,
         ),
     ];
-    assert!(rt; drills(rt.alloc(), text, &wanted));
+    assert!(rt; drills(rt.alloc(), text, wanted));
     assert!(rt; pieces_alike(rt.alloc(), text));
     let routed =
         "M48\nMETRIC\nT1C0.5\n%\nT1\nX0.0Y0.0G85X2.0Y0.0\nX0.0Y5.0G85X2.0Y6.0\nX9.0Y9.0G85X9.0Y9.0\nG00X1.0Y1.0\nM30\n";
@@ -207,7 +207,7 @@ fn slots(rt: HostRuntime) -> Result<(), TestFail> {
 #[test]
 fn coordinates_left_out(rt: HostRuntime) -> Result<(), TestFail> {
     let text = b"M48\nINCH,LZ\nT1C0.1\n%\nT1\nX01Y-005\nX02G85Y01\nY00\nM30\n";
-    let wanted = [
+    let wanted = &[
         (
             25_400_000_000,
             -12_700_000_000,
@@ -224,7 +224,7 @@ fn coordinates_left_out(rt: HostRuntime) -> Result<(), TestFail> {
         ),
         (50_800_000_000, 0, 50_800_000_000, 0, 1_270_000_000),
     ];
-    assert!(rt; drills(rt.alloc(), text, &wanted));
+    assert!(rt; drills(rt.alloc(), text, wanted));
     assert!(rt; pieces_alike(rt.alloc(), text));
     Ok(())
 }
@@ -273,7 +273,7 @@ fn tools_among_commands(rt: HostRuntime) -> Result<(), TestFail> {
 
 #[test]
 fn refused_coordinates(rt: HostRuntime) {
-    for (text, reason, place, byte) in [
+    for &(text, reason, place, byte) in &[
         (
             "M48\nMETRIC\nT1C0.4\n%\nT1\nX2540Y000000\nM30\n",
             Reason::NoZeros,
@@ -299,7 +299,7 @@ fn refused_coordinates(rt: HostRuntime) {
 
 #[test]
 fn refused_digits(rt: HostRuntime) {
-    for (text, reason, place, byte) in [
+    for &(text, reason, place, byte) in &[
         (
             "M48\nMETRIC\nT1C0.4\n%\nT1\nX0000001Y0.0\nM30\n",
             Reason::NoZeros,
@@ -325,7 +325,7 @@ fn refused_digits(rt: HostRuntime) {
 
 #[test]
 fn refused_ends(rt: HostRuntime) {
-    for (text, reason, place, byte) in [
+    for &(text, reason, place, byte) in &[
         (
             "M48\nMETRIC\nT1C0.4\n%\nT1\nX0.0Y0.0\n",
             Reason::Truncated,
@@ -351,7 +351,7 @@ fn refused_ends(rt: HostRuntime) {
 
 #[test]
 fn refused_tools(rt: HostRuntime) {
-    for (text, reason, place, byte) in [
+    for &(text, reason, place, byte) in &[
         (
             "M48\nMETRIC\nT1C0.4\n%\nT2\nX0.0Y0.0\nM30\n",
             Reason::UnknownTool,
@@ -377,7 +377,7 @@ fn refused_tools(rt: HostRuntime) {
 
 #[test]
 fn refused_headers(rt: HostRuntime) {
-    for (text, reason, place, byte) in [
+    for &(text, reason, place, byte) in &[
         ("M48\nMETRIC\nTC0.4\n%\n", Reason::BadNumber, 3, 11),
         ("M48\nMETRIC\nT1\n%\n", Reason::BadLine, 3, 11),
         ("M48\nMETRIC\nT1C0.4C0.5\n%\n", Reason::BadLine, 3, 11),
@@ -395,7 +395,7 @@ fn refused_headers(rt: HostRuntime) {
 
 #[test]
 fn refused_bodies(rt: HostRuntime) {
-    for (text, reason, place, byte) in [
+    for &(text, reason, place, byte) in &[
         (
             "M48\nMETRIC\nT1C0.4\n%\nT99999999999\nX0.0Y0.0\nM30\n",
             Reason::BadNumber,
@@ -413,7 +413,7 @@ fn refused_bodies(rt: HostRuntime) {
 
 #[test]
 fn refused_settings(rt: HostRuntime) {
-    for (text, reason, place, byte) in [
+    for &(text, reason, place, byte) in &[
         (
             "M48\n;FILE_FORMAT=2:4\nMETRIC,TZ,000.000\nT1C0.4\n%\nT1\nX0.0Y0.0\nM30\n",
             Reason::FormatConflict,
@@ -439,7 +439,7 @@ fn refused_settings(rt: HostRuntime) {
 
 #[test]
 fn refused_definitions(rt: HostRuntime) {
-    for (text, reason, place, byte) in [
+    for &(text, reason, place, byte) in &[
         ("M48\nT1C0.4\n%\nT1\nX0.0Y0.0\nM30\n", Reason::NoUnit, 3, 11),
         ("M48\nMETRIC\nT1C0.4\nT1C0.5\n", Reason::Redefined, 4, 18),
         ("M48\nMETRIC\nT1C0.0\n%\n", Reason::BadSize, 3, 11),
@@ -470,7 +470,7 @@ fn cut_refuses(alloc: Global, len: usize, reason: Reason, place: u64, byte: u64)
 #[test]
 fn cut_off(rt: HostRuntime) {
     let alloc = rt.alloc();
-    for (len, reason, place, byte) in [
+    for &(len, reason, place, byte) in &[
         (0, Reason::Truncated, 1, 0),
         (2, Reason::OldFormat, 1, 0),
         (6, Reason::BadLine, 2, 4),
@@ -501,7 +501,7 @@ fn carriage_returns(rt: HostRuntime) {
 #[test]
 fn blanks(rt: HostRuntime) {
     let alloc = rt.alloc();
-    for (text, reason, place, byte) in [
+    for &(text, reason, place, byte) in &[
         ("M48\nMETRIC\n% ", Reason::Truncated, 4, 13),
         ("M48\nMETRIC\n%\n ", Reason::Truncated, 5, 14),
         (" ;x\nM48\n", Reason::OldFormat, 1, 0),
@@ -651,7 +651,7 @@ fn read_again(rt: HostRuntime) -> Result<(), TestFail> {
 /// Lists that no text spells.
 #[test]
 fn not_sayable(rt: HostRuntime) {
-    let lists: [(&[DrillCommand], bool); 4] = [
+    let lists: &[(&[DrillCommand], bool); 4] = &[
         (&[], false),
         (
             &[
@@ -672,7 +672,7 @@ fn not_sayable(rt: HostRuntime) {
         ),
         (&[DrillCommand::Start, DrillCommand::Finish], false),
     ];
-    for (commands, is_sayable) in lists {
+    for &(commands, is_sayable) in lists {
         assert_eq!(rt; drill_sayable(commands), is_sayable);
     }
 }
@@ -692,7 +692,7 @@ fn not_sayable_in_the_body(rt: HostRuntime) -> Result<(), TestFail> {
     let nowhere = Coordinates::new(None, None);
     assert!(rt; !is_said_in_body(DrillCommand::Hit(nowhere)));
     assert!(rt; !is_said_in_body(DrillCommand::Pick(1000)));
-    for text in ["a ", "a\nb"] {
+    for &text in &["a ", "a\nb"] {
         let comment = Text::from_slice(rt.alloc(), text.as_bytes())?;
         assert!(rt; !is_said_in_body(DrillCommand::Comment(comment)), "{text}");
     }

@@ -93,7 +93,7 @@ fn a_fault_of_writing_stays(rt: HostRuntime) {
 /// A diameter of just 10 m, and one of a unit more, in both units.
 #[test]
 fn far_diameters(rt: HostRuntime) {
-    for text in [
+    for &text in &[
         "M48\nMETRIC\nT1C10000.0\n%\nT1\nX0.0\nM30\n",
         "M48\nINCH\nT1C393.7007874\n%\nT1\nX0.0\nM30\n",
         // A tool that no hole needs.
@@ -101,7 +101,7 @@ fn far_diameters(rt: HostRuntime) {
     ] {
         assert!(rt; read_drill(rt.alloc(), text.as_bytes()).is_ok(), "{text}");
     }
-    for (text, byte) in [
+    for &(text, byte) in &[
         ("M48\nMETRIC\nT1C10000.00000001\n%\nT1\nX0.0\nM30\n", 34),
         ("M48\nINCH\nT1C393.70078741\n%\nT1\nX0.0\nM30\n", 30),
     ] {

@@ -102,7 +102,7 @@ fn commands_that_items_spell(rt: HostRuntime) -> Result<(), TestFail> {
 
 #[test]
 fn numbers_of_apertures_at_their_bounds(rt: HostRuntime) {
-    for (number, is_said) in [(2_147_483_647, true), (2_147_483_648, false)] {
+    for &(number, is_said) in &[(2_147_483_647, true), (2_147_483_648, false)] {
         assert_eq!(rt;
             is_sayable(&Command::Select(number)),
             is_said,
@@ -113,7 +113,7 @@ fn numbers_of_apertures_at_their_bounds(rt: HostRuntime) {
 
 #[test]
 fn offsets_at_their_bounds(rt: HostRuntime) -> Result<(), TestFail> {
-    for (i, is_said) in [(-999_999_999_999, true), (-1_000_000_000_000, false)] {
+    for &(i, is_said) in &[(-999_999_999_999, true), (-1_000_000_000_000, false)] {
         let operation = with_offset(Action::Plot, i).ok_or("-")?;
         assert_eq!(rt; is_sayable(&operation), is_said, "of {i}");
     }
@@ -122,7 +122,7 @@ fn offsets_at_their_bounds(rt: HostRuntime) -> Result<(), TestFail> {
 
 #[test]
 fn formats_at_their_bounds(rt: HostRuntime) {
-    for (whole, decimals, is_said) in [(6, 6, true), (2, 7, false)] {
+    for &(whole, decimals, is_said) in &[(6, 6, true), (2, 7, false)] {
         let format = Command::FormatIs(Format { whole, decimals });
         assert_eq!(rt; is_sayable(&format), is_said, "of {whole}:{decimals}");
     }
@@ -130,7 +130,7 @@ fn formats_at_their_bounds(rt: HostRuntime) {
 
 #[test]
 fn blocks_at_their_bounds(rt: HostRuntime) -> Result<(), TestFail> {
-    for (columns, rows, is_said) in [
+    for &(columns, rows, is_said) in &[
         (2_147_483_647, 0, true),
         (2_147_483_648, 0, false),
         (0, 2_147_483_648, false),

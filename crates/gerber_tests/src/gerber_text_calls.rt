@@ -113,7 +113,7 @@ fn first_other(alloc: Global, rows: &[(&[u8], Reason)]) -> Result<Option<usize>,
 
 #[test]
 fn items_refused_by_name(rt: HostRuntime) -> Result<(), TestFail> {
-    let rows: [(&[u8], Reason); 23] = [
+    let rows: &[(&[u8], Reason); 23] = &[
         (b"%FSLAX24Y24*MOMM*%", Reason::SeveralInOne),
         (b"%LPC*LPD*%", Reason::SeveralInOne),
         (b"%**%", Reason::SeveralInOne),
@@ -138,13 +138,13 @@ fn items_refused_by_name(rt: HostRuntime) -> Result<(), TestFail> {
         (b"M01*", Reason::OldParameter),
         (b"N10*", Reason::OldParameter),
     ];
-    assert_eq!(rt; first_other(rt.alloc(), &rows)?, None);
+    assert_eq!(rt; first_other(rt.alloc(), rows)?, None);
     Ok(())
 }
 
 #[test]
 fn items_of_no_row(rt: HostRuntime) -> Result<(), TestFail> {
-    let rows: [(&[u8], Reason); 27] = [
+    let rows: &[(&[u8], Reason); 27] = &[
         (b"X1%*", Reason::BadWord),
         (b"X1%MOMM*", Reason::BadWord),
         (b"X1I1D02*", Reason::BadWord),
@@ -173,13 +173,13 @@ fn items_of_no_row(rt: HostRuntime) -> Result<(), TestFail> {
         (b"%IPX*%", Reason::BadWord),
         (b"\xEF\xBB\xBFG04*", Reason::BadWord),
     ];
-    assert_eq!(rt; first_other(rt.alloc(), &rows)?, None);
+    assert_eq!(rt; first_other(rt.alloc(), rows)?, None);
     Ok(())
 }
 
 #[test]
 fn items_refused_by_their_numbers(rt: HostRuntime) -> Result<(), TestFail> {
-    let rows: [(&[u8], Reason); 23] = [
+    let rows: &[(&[u8], Reason); 23] = &[
         (b"D*", Reason::BadNumber),
         (b"D99999999999*", Reason::BadNumber),
         (b"X1D*", Reason::BadNumber),
@@ -204,14 +204,14 @@ fn items_refused_by_their_numbers(rt: HostRuntime) -> Result<(), TestFail> {
         (b"I5*", Reason::BareCoordinate),
         (b"G01X1Y1*", Reason::BareCoordinate),
     ];
-    assert_eq!(rt; first_other(rt.alloc(), &rows)?, None);
+    assert_eq!(rt; first_other(rt.alloc(), rows)?, None);
     Ok(())
 }
 
 #[test]
 fn texts_refused(rt: HostRuntime) -> Result<(), TestFail> {
     let alloc = rt.alloc();
-    let rows: [(&[u8], u64, u64, Reason); 13] = [
+    let rows: &[(&[u8], u64, u64, Reason); 13] = &[
         (b"M02*D", 2, 4, Reason::AfterEnd),
         (b"X1%M02*", 1, 0, Reason::BadWord),
         (b"", 1, 0, Reason::Truncated),
@@ -236,7 +236,7 @@ fn texts_refused(rt: HostRuntime) -> Result<(), TestFail> {
             Reason::ClearPolarity,
         ),
     ];
-    for (text, place, byte, reason) in rows {
+    for &(text, place, byte, reason) in rows {
         assert_eq!(rt; fault_of(alloc, text), refused(place, byte, reason));
         assert!(rt; is_same_in_pieces(alloc, text));
     }
@@ -261,7 +261,7 @@ fn with_line(alloc: Global, begins: usize, ends: usize, line: &[u8]) -> Result<V
 #[test]
 fn a_refused_command_in_a_layer(rt: HostRuntime) -> Result<(), TestFail> {
     let alloc = rt.alloc();
-    let rows: [(&[u8], Reason); 8] = [
+    let rows: &[(&[u8], Reason); 8] = &[
         (b"%LPC*%", Reason::ClearPolarity),
         (b"%ABD12*%", Reason::BlockAperture),
         (b"%TF.FilePolarity,Negative*%", Reason::NegativeImage),
@@ -271,7 +271,7 @@ fn a_refused_command_in_a_layer(rt: HostRuntime) -> Result<(), TestFail> {
         (b"%OFA1*%", Reason::OldParameter),
         (b"%ADD10C,0.123456789*%", Reason::TooFine),
     ];
-    for (line, reason) in rows {
+    for &(line, reason) in rows {
         let text = with_line(alloc, 22, 22, line)?;
         assert_eq!(rt; fault_of(alloc, &text), refused(3, 22, reason));
         assert!(rt; is_same_in_pieces(alloc, &text));

@@ -266,7 +266,7 @@ fn flashes_that_are_no_pads(rt: HostRuntime) -> Result<(), TestFail> {
     let alloc = rt.alloc();
     let plain = with(alloc, 3, b"%ADD10C,0.65X0*%\n")?;
     assert!(rt; flashes(alloc, &plain, &[disc(0, 0, 325_000_000)?]));
-    let rows: [(usize, &[u8], Why); 8] = [
+    let rows: &[(usize, &[u8], Why); 8] = &[
         (3, b"%ADD10C,0.65X0.2*%\n", Why::Holed),
         (3, b"%ADD10P,1X6*%\n", Why::Polygon),
         (3, b"%ADD10P,1X6X0X0.2*%\n", Why::Polygon),
@@ -276,7 +276,7 @@ fn flashes_that_are_no_pads(rt: HostRuntime) -> Result<(), TestFail> {
         (3, b"%AMa*21,1,1,1,0,0,0*%\n%ADD10a*%\n", Why::Macro),
         (3, b"%LS2*%\n%LR45*%\n%ADD10R,1X1X0.5*%\n", Why::Holed),
     ];
-    for (place, line, why) in rows {
+    for &(place, line, why) in rows {
         let text = with(alloc, place, line)?;
         assert!(rt; leaves(alloc, &text, What::Other(why)));
     }
@@ -347,14 +347,14 @@ fn copies_in_blocks(rt: HostRuntime) -> Result<(), TestFail> {
 #[test]
 fn blocks_out_of_range(rt: HostRuntime) -> Result<(), TestFail> {
     let alloc = rt.alloc();
-    let rows: [(&[u8], Reason); 5] = [
+    let rows: &[(&[u8], Reason); 5] = &[
         (b"%SRX0Y1I0J0*%\nX0Y0D03*\n", Reason::BadRepeat),
         (b"%SRX2Y1I-1J0*%\nX0Y0D03*\n", Reason::BadRepeat),
         (b"%SRX10001Y1I0J0*%\n", Reason::BadRepeat),
         (b"%SRX2147483647Y1I1J0*%\nX0Y0D03*\n", Reason::BadRepeat),
         (b"%SRX2147483648Y1I1J0*%\nX0Y0D03*\n", Reason::BadNumber),
     ];
-    for (line, reason) in rows {
+    for &(line, reason) in rows {
         assert_eq!(rt;
             fault_of(alloc, &with(alloc, 5, line)?),
             refused(5, 42, reason)
@@ -391,7 +391,7 @@ fn as_many_flashes_as_the_limit(rt: HostRuntime) -> Result<(), TestFail> {
 #[test]
 fn rules_that_are_broken(rt: HostRuntime) -> Result<(), TestFail> {
     let alloc = rt.alloc();
-    let rows: [(usize, &[u8], u64, u64, Reason); 19] = [
+    let rows: &[(usize, &[u8], u64, u64, Reason); 19] = &[
         (5, b"G36*\nX0Y0D03*\n", 6, 47, Reason::InRegion),
         (6, b"G36*\nM02*\n", 7, 56, Reason::InRegion),
         (6, b"G36*\nG36*\n", 7, 56, Reason::InRegion),
@@ -412,7 +412,7 @@ fn rules_that_are_broken(rt: HostRuntime) -> Result<(), TestFail> {
         (3, b"%ADD10P,1X13*%\n", 3, 22, Reason::BadSize),
         (5, b"%LS0*%\n", 5, 42, Reason::BadSize),
     ];
-    for (line, text, place, byte, reason) in rows {
+    for &(line, text, place, byte, reason) in rows {
         assert_eq!(rt;
             fault_of(alloc, &with(alloc, line, text)?),
             refused(place, byte, reason)
@@ -426,7 +426,7 @@ fn rules_that_are_broken(rt: HostRuntime) -> Result<(), TestFail> {
 #[test]
 fn what_breaks_no_rule(rt: HostRuntime) -> Result<(), TestFail> {
     let alloc = rt.alloc();
-    let rows: [(usize, &[u8], (usize, usize)); 8] = [
+    let rows: &[(usize, &[u8], (usize, usize)); 8] = &[
         (5, b"X0Y0D03*\n%MOMM*%\n%FSLAX46Y46*%\n", (1, 1)),
         (
             5,
@@ -440,7 +440,7 @@ fn what_breaks_no_rule(rt: HostRuntime) -> Result<(), TestFail> {
         (3, b"%ADD10P,1X12*%\n", (1, 0)),
         (3, b"%AMa*%\n%ADD11a*%\n%ADD10C,1*%\n", (1, 1)),
     ];
-    for (line, text, expected) in rows {
+    for &(line, text, expected) in rows {
         assert_eq!(rt; counts(alloc, &with(alloc, line, text)?), Some(expected));
     }
     let far = with(alloc, 3, b"%ADD10C,10001*%\n")?;
@@ -451,7 +451,7 @@ fn what_breaks_no_rule(rt: HostRuntime) -> Result<(), TestFail> {
 #[test]
 fn file_functions(rt: HostRuntime) -> Result<(), TestFail> {
     let alloc = rt.alloc();
-    let rows: [(&[u8], Option<&[u8]>); 9] = [
+    let rows: &[(&[u8], Option<&[u8]>); 9] = &[
         (
             b"%TF.FileFunction,Copper,L1,Top*%\n",
             Some(b"Copper,L1,Top"),
@@ -477,7 +477,7 @@ fn file_functions(rt: HostRuntime) -> Result<(), TestFail> {
             Some(b"Copper"),
         ),
     ];
-    for (line, expected) in rows {
+    for &(line, expected) in rows {
         let layer = read_layer(alloc, &with(alloc, 1, &joined(alloc, &[line, LAYER[0]])?)?).map_err(
             |_| "refused",
         )?;

@@ -1,5 +1,5 @@
 use grid_units::*;
-use std::test::Fail;
+use std::alloc::{AllocError, Global};
 
 fn read(text: &str) -> Result<i64, Reason> {
     match Dec::read(text.as_bytes()) {
@@ -10,7 +10,7 @@ fn read(text: &str) -> Result<i64, Reason> {
 
 #[test]
 fn decimals_have_their_value(rt: HostRuntime) {
-    for (text, units) in [
+    for &(text, units) in &[
         ("0", 0),
         ("0.4", 40_000_000),
         ("0.65", 65_000_000),
@@ -40,7 +40,7 @@ fn decimals_have_their_value(rt: HostRuntime) {
 
 #[test]
 fn refused_decimals_have_their_first_reason(rt: HostRuntime) {
-    for (text, reason) in [
+    for &(text, reason) in &[
         ("", Reason::BadNumber),
         ("+", Reason::BadNumber),
         ("-", Reason::BadNumber),
@@ -66,7 +66,7 @@ fn refused_decimals_have_their_first_reason(rt: HostRuntime) {
 
 #[test]
 fn decimals_are_written_in_two_spellings(rt: HostRuntime) {
-    for (units, plain, pointed) in [
+    for &(units, plain, pointed) in &[
         (0, "0", "0.0"),
         (1, "0.00000001", "0.00000001"),
         (-1, "-0.00000001", "-0.00000001"),
@@ -89,7 +89,7 @@ fn decimals_are_written_in_two_spellings(rt: HostRuntime) {
 
 #[test]
 fn decimals_out_of_range_are_none(rt: HostRuntime) {
-    for units in [100_000_000_000_000, -100_000_000_000_000] {
+    for &units in &[100_000_000_000_000, -100_000_000_000_000] {
         assert_eq!(rt; Dec::from_units(units), None);
     }
 }
@@ -103,7 +103,7 @@ fn length(text: &str, unit: Unit) -> Result<i64, Reason> {
 
 #[test]
 fn decimals_are_lengths_in_both_units(rt: HostRuntime) {
-    for (text, unit, expected) in [
+    for &(text, unit, expected) in &[
         ("0.00000001", Unit::Millimetre, Ok(10)),
         ("0.00000001", Unit::Inch, Ok(254)),
         ("1", Unit::Millimetre, Ok(1_000_000_000)),
@@ -124,7 +124,7 @@ fn decimals_are_lengths_in_both_units(rt: HostRuntime) {
 
 #[test]
 fn integers_with_six_decimals_are_lengths(rt: HostRuntime) {
-    for (digits, unit, expected) in [
+    for &(digits, unit, expected) in &[
         (1_000_000, Unit::Millimetre, Ok(1_000_000_000)),
         (1, Unit::Millimetre, Ok(1_000)),
         (1, Unit::Inch, Ok(25_400)),
@@ -140,14 +140,14 @@ fn integers_with_six_decimals_are_lengths(rt: HostRuntime) {
 
 #[test]
 fn integers_with_four_decimals_are_lengths(rt: HostRuntime) {
-    for (digits, length) in [(1000, 2_540_000_000), (-500, -1_270_000_000)] {
+    for &(digits, length) in &[(1000, 2_540_000_000), (-500, -1_270_000_000)] {
         assert_eq!(rt; from_digits(digits, 4, Unit::Inch), Ok(length));
     }
 }
 
 #[test]
 fn integers_without_decimals_are_lengths(rt: HostRuntime) {
-    for (digits, unit, expected) in [
+    for &(digits, unit, expected) in &[
         (1, Unit::Inch, Ok(25_400_000_000)),
         (10_000, Unit::Millimetre, Ok(10_000_000_000_000)),
         (10_001, Unit::Millimetre, Err(Reason::TooFar)),
@@ -172,7 +172,7 @@ ghost use Rattle.std.specs.Prelude.{◌≤◌};
 
 #[test]
 fn coordinates_without_a_point_are_filled(rt: HostRuntime) {
-    for (text, zeros, expected) in [
+    for &(text, zeros, expected) in &[
         // 2.54 mm.
         ("2540", Zeros::Trailing, Ok(254_000_000)),
         ("00254", Zeros::Leading, Ok(254_000_000)),
@@ -191,7 +191,7 @@ fn coordinates_without_a_point_are_filled(rt: HostRuntime) {
 fn coordinates_in_inches_are_filled(rt: HostRuntime) {
     // 2.54 in the formats 2:2 and 2:4.
     assert_eq!(rt; coordinate("0254", 2, 2, Zeros::Leading), Ok(254_000_000));
-    for (text, zeros, expected) in [
+    for &(text, zeros, expected) in &[
         ("25400", Zeros::Trailing, 254_000_000),
         // One inch by its two first digits, and -0.5 by three.
         ("01", Zeros::Leading, 100_000_000),
@@ -203,7 +203,7 @@ fn coordinates_in_inches_are_filled(rt: HostRuntime) {
 
 #[test]
 fn coordinates_of_the_narrowest_format(rt: HostRuntime) {
-    for (text, zeros, expected) in [
+    for &(text, zeros, expected) in &[
         ("1", Zeros::Leading, Ok(100_000_000)),
         ("1", Zeros::Trailing, Ok(10_000_000)),
         ("11", Zeros::Full, Ok(110_000_000)),
@@ -215,7 +215,7 @@ fn coordinates_of_the_narrowest_format(rt: HostRuntime) {
 
 #[test]
 fn coordinates_of_the_widest_formats(rt: HostRuntime) {
-    for (text, zeros, expected) in [
+    for &(text, zeros, expected) in &[
         ("999999999999", Zeros::Full, Ok(99_999_999_999_900)),
         ("-999999999999", Zeros::Trailing, Ok(-99_999_999_999_900)),
         ("1", Zeros::Leading, Ok(10_000_000_000_000)),
@@ -233,14 +233,14 @@ fn coordinates_of_the_widest_formats(rt: HostRuntime) {
 
 #[test]
 fn coordinates_that_are_no_digits_are_refused(rt: HostRuntime) {
-    for text in ["", "+", "-", "1.5", "1-", "--1", "x"] {
+    for &text in &["", "+", "-", "1.5", "1-", "--1", "x"] {
         assert_eq!(rt; coordinate(text, 3, 3, Zeros::Full), Err(Reason::BadNumber));
     }
 }
 
 #[test]
 fn lengths_are_written_in_millimetres(rt: HostRuntime) {
-    for (length, text) in [
+    for &(length, text) in &[
         (0, "0.000000000"),
         (1, "0.000000001"),
         (-1, "-0.000000001"),
@@ -259,7 +259,7 @@ const LIMIT: i64 = 10_000_000_000_000;
 
 #[test]
 fn points_have_their_range(rt: HostRuntime) {
-    for (x, y, is_point) in [
+    for &(x, y, is_point) in &[
         (LIMIT, -LIMIT, true),
         (LIMIT + 1, 0, false),
         (0, -LIMIT - 1, false),
@@ -268,26 +268,35 @@ fn points_have_their_range(rt: HostRuntime) {
     }
 }
 
+/// A hole from the origin to this y, of this radius.
+fn hole_to(y: i64, radius: i64) -> Option<Hole> {
+    Hole::new(Point::new(0, 0)?, Point::new(0, y)?, radius)
+}
+
+/// Whether a hole is round and has just these ends and this radius.
+fn is_round_hole(y: i64, radius: i64) -> Option<bool> {
+    let hole = hole_to(y, radius)?;
+    let is_same = hole.from() == Point::new(0, 0)?
+        && hole.to() == Point::new(0, y)?
+        && hole.radius() == radius;
+    is_same.then_some(hole.is_round())
+}
+
 #[test]
-fn holes_have_their_range(rt: HostRuntime) -> Result<(), Fail> {
-    let from = Point::new(0, 0).ok_or("point")?;
-    let to = Point::new(0, 1).ok_or("point")?;
-    for radius in [0, 5_000_000_000_001] {
-        assert!(rt; Hole::new(from, to, radius).is_none(), "of {radius}");
+fn holes_have_their_range(rt: HostRuntime) {
+    for &(y, radius, is_round) in &[
+        (1, 0, None),
+        (1, 5_000_000_000_001, None),
+        (1, 5_000_000_000_000, Some(false)),
+        (0, 1, Some(true)),
+    ] {
+        assert!(rt; is_round_hole(y, radius) == is_round, "of {radius}");
     }
-    let slot = Hole::new(from, to, 5_000_000_000_000).ok_or("slot")?;
-    let hole = Hole::new(to, to, 1).ok_or("hole")?;
-    assert_eq!(rt; (slot.is_round(), hole.is_round()), (false, true));
-    assert_eq!(rt;
-        (slot.from(), slot.to(), slot.radius()),
-        (from, to, 5_000_000_000_000)
-    );
-    Ok(())
 }
 
 #[test]
 fn rules_have_their_ranges(rt: HostRuntime) {
-    for (ring, gap, refusal) in [
+    for &(ring, gap, refusal) in &[
         (-1, 1, Some(Reason::BadRule)),
         (0, 0, Some(Reason::BadRule)),
         (LIMIT + 1, 1, Some(Reason::BadRule)),
@@ -299,23 +308,26 @@ fn rules_have_their_ranges(rt: HostRuntime) {
     }
 }
 
+/// The square of the distance of two points.
+fn square_between(from: (i64, i64), to: (i64, i64)) -> Option<i128> {
+    let from = Point::new(from.0, from.1)?;
+    Some(square_distance(from, Point::new(to.0, to.1)?))
+}
+
 #[test]
-fn squares_of_distances_are_exact(rt: HostRuntime) -> Result<(), Fail> {
-    let p = Point::new(-300_000_000, 400_000_000).ok_or("point")?;
-    let q = Point::new(0, 0).ok_or("point")?;
-    for (from, to, square) in [
-        (p, q, 250_000_000_000_000_000),
-        (q, p, 250_000_000_000_000_000),
-        (p, p, 0),
+fn squares_of_distances_are_exact(rt: HostRuntime) {
+    for &(from, to, square) in &[
+        ((-300_000_000, 400_000_000), (0, 0), 250_000_000_000_000_000),
+        ((0, 0), (-300_000_000, 400_000_000), 250_000_000_000_000_000),
+        ((-300_000_000, 400_000_000), (-300_000_000, 400_000_000), 0),
     ] {
-        assert_eq!(rt; square_distance(from, to), square);
+        assert!(rt; square_between(from, to) == Some(square));
     }
-    Ok(())
 }
 
 #[test]
 fn reasons_have_their_numbers(rt: HostRuntime) {
-    for (reason, number) in [
+    for &(reason, number) in &[
         (Reason::TooLong, 1),
         (Reason::BadWord, 14),
         (Reason::TooManyHoles, 37),
@@ -328,7 +340,7 @@ fn reasons_have_their_numbers(rt: HostRuntime) {
 
 #[test]
 fn reasons_have_their_names(rt: HostRuntime) {
-    for (reason, name) in [
+    for &(reason, name) in &[
         (Reason::TooLong, "TooLong"),
         (Reason::BareCoordinate, "BareCoordinate"),
         (Reason::NotCopper, "NotCopper"),
@@ -338,28 +350,33 @@ fn reasons_have_their_names(rt: HostRuntime) {
     }
 }
 
+const BAD: Result<u8, Reason> = Err(Reason::BadNumber);
+
+const FAR: Result<u8, Reason> = Err(Reason::TooFar);
+
 #[test]
 fn of_two_fields_the_first_reason_is_told(rt: HostRuntime) {
-    let bad: Result<u8, Reason> = Err(Reason::BadNumber);
-    let far: Result<u8, Reason> = Err(Reason::TooFar);
-    let good: Result<u8, Reason> = Ok(7);
-    for (first, second, expected) in [
-        (far, bad, Err(Reason::BadNumber)),
-        (bad, far, Err(Reason::BadNumber)),
-        (good, far, Err(Reason::TooFar)),
-        (good, good, Ok((7, 7))),
+    for &(first, second, expected) in &[
+        (FAR, BAD, Err(Reason::BadNumber)),
+        (BAD, FAR, Err(Reason::BadNumber)),
+        (Ok(7), FAR, Err(Reason::TooFar)),
+        (Ok(7), Ok(7), Ok((7, 7))),
     ] {
-        assert_eq!(rt; both(first, second), expected);
+        assert!(rt; both(first, second) == expected);
     }
 }
 
-#[test]
-fn texts_are_equal_by_their_bytes(rt: HostRuntime) -> Result<(), Fail> {
-    let text = Text::from_slice(rt.alloc(), b"top")?;
+/// Whether two texts are equal, and a copy of the first is.
+fn are_equal(alloc: Global, first: &[u8], second: &[u8]) -> Result<(bool, bool), AllocError> {
+    let text = Text::from_slice(alloc, first)?;
     let copy = text.copy()?;
-    let other = Text::from_slice(rt.alloc(), b"bot")?;
-    assert!(rt; text == copy);
-    assert!(rt; !(text == other));
-    assert_eq!(rt; text.bytes(), b"top".as_slice());
-    Ok(())
+    let is_copy = text == copy && copy.bytes() == first;
+    Ok((text == Text::from_slice(alloc, second)?, is_copy))
+}
+
+#[test]
+fn texts_are_equal_by_their_bytes(rt: HostRuntime) {
+    for &(second, is_equal) in &[("top", true), ("bot", false)] {
+        assert!(rt; are_equal(rt.alloc(), b"top", second.as_bytes()) == Ok((is_equal, true)));
+    }
 }

@@ -2,145 +2,274 @@
 
 use grid_units::Point;
 use pad_shapes::*;
-use std::test::Fail;
 
 /// A radius of 0.2 mm with a ring of 0.125 mm round it, in pm.
 const REACH: i64 = 325_000_000;
 
-fn at(x: i64, y: i64) -> Result<Point, Fail> {
-    Ok(Point::new(x, y).ok_or("point")?)
+/// A radius of 0.25 mm with a ring of 0.125 mm round it, in pm.
+const SLOT_REACH: i64 = 375_000_000;
+
+#[derive(Clone, Copy)]
+enum Shape {
+    Disc,
+    Rect,
+    Obround,
 }
 
-/// Whether a shape covers a hole, asked through its bound.
-fn covers<S: PadShape>(shape: &S, hole: Point) -> bool {
-    shape.covers(hole, REACH)
-}
-
-#[test]
-fn a_disc_covers_up_to_equality(rt: HostRuntime) -> Result<(), Fail> {
-    let disc = Disc::new(at(0, 0)?, 825_000_000).ok_or("disc")?;
-    for (x, is_covered) in [(300_000_000, true), (300_001_000, false)] {
-        assert_eq!(rt; covers(&disc, at(x, 400_000_000)?), is_covered, "at {x}");
+/// A pad of this shape round a point, with these half sides. The radius of a disc is the first.
+fn pad(shape: Shape, centre: (i64, i64), half_x: i64, half_y: i64) -> Option<Pad> {
+    let centre = Point::new(centre.0, centre.1)?;
+    match shape {
+        Shape::Disc => Some(Pad::Disc(Disc::new(centre, half_x)?)),
+        Shape::Rect => Some(Pad::Rect(Rect::new(centre, half_x, half_y)?)),
+        Shape::Obround => Some(Pad::Obround(Obround::new(centre, half_x, half_y)?)),
     }
-    assert_eq!(rt;
-        (disc.left(), disc.right(), disc.radius(), disc.centre()),
-        (-825_000_000, 825_000_000, 825_000_000, at(0, 0)?)
-    );
-    Ok(())
 }
 
-#[test]
-fn an_obround_covers_less_than_its_rectangle(rt: HostRuntime) -> Result<(), Fail> {
-    let obround = Obround::new(at(0, 0)?, 1_000_000_000, 500_000_000).ok_or("obround")?;
-    let rect = Rect::new(at(0, 0)?, 1_000_000_000, 500_000_000).ok_or("rect")?;
-    for (y, is_covered) in [(140_000_000, true), (150_000_000, false)] {
-        assert_eq!(rt; covers(&obround, at(605_000_000, y)?), is_covered, "at {y}");
+/// Whether a shape covers a hole, asked through its bound. None where the pad with the shape inside answers otherwise.
+fn covers<S: PadShape>(shape: &S, pad: &Pad, hole: Point) -> Option<bool> {
+    let is_covered = shape.covers(hole, REACH);
+    (pad.covers(hole, REACH) == is_covered).then_some(is_covered)
+}
+
+/// Whether the pad and the shape inside both cover a hole.
+fn covers_hole(pad: Option<Pad>, x: i64, y: i64) -> Option<bool> {
+    let hole = Point::new(x, y)?;
+    let pad = pad?;
+    match &pad {
+        Pad::Disc(disc) => covers(disc, &pad, hole),
+        Pad::Rect(rect) => covers(rect, &pad, hole),
+        Pad::Obround(obround) => covers(obround, &pad, hole),
     }
-    assert!(rt; covers(&rect, at(605_000_000, 150_000_000)?));
-    assert_eq!(rt;
-        (obround.right(), obround.half_x(), obround.half_y()),
-        (1_000_000_000, 1_000_000_000, 500_000_000)
-    );
-    Ok(())
 }
 
 #[test]
-fn the_sides_of_a_rectangle_matter(rt: HostRuntime) -> Result<(), Fail> {
-    let lying = Rect::new(at(0, 0)?, 1_000_000_000, 350_000_000).ok_or("lying")?;
-    let upright = Rect::new(at(0, 0)?, 350_000_000, 1_000_000_000).ok_or("upright")?;
-    for (rect, is_covered) in [(lying, false), (upright, true)] {
-        assert_eq!(rt; covers(&rect, at(0, 600_000_000)?), is_covered);
-    }
-    assert_eq!(rt;
-        (upright.left(), upright.half_y()),
-        (-350_000_000, 1_000_000_000)
-    );
-    Ok(())
-}
-
-#[test]
-fn a_pad_answers_as_the_shape_inside(rt: HostRuntime) -> Result<(), Fail> {
-    let centre = at(5_000, 7_000)?;
-    let disc = Pad::Disc(Disc::new(centre, REACH).ok_or("disc")?);
-    let obround = Pad::Obround(Obround::new(centre, REACH, REACH).ok_or("obround")?);
-    let rect = Pad::Rect(Rect::new(centre, REACH, 2 * REACH).ok_or("rect")?);
-    for (pad, hole, is_covered) in [
-        (disc, centre, true),
-        (obround, centre, true),
-        (rect, centre, true),
-        (rect, at(5_000, 325_007_000)?, true),
-        (disc, at(5_001, 7_000)?, false),
+fn pads_cover_holes_up_to_equality(rt: HostRuntime) {
+    for &(shape, half_x, half_y, x, y, is_covered) in &[
+        (Shape::Disc, 825_000_000, 0, 300_000_000, 400_000_000, true),
+        (Shape::Disc, 825_000_000, 0, 300_001_000, 400_000_000, false),
+        (
+            Shape::Obround,
+            1_000_000_000,
+            500_000_000,
+            605_000_000,
+            140_000_000,
+            true,
+        ),
+        (
+            Shape::Obround,
+            1_000_000_000,
+            500_000_000,
+            605_000_000,
+            150_000_000,
+            false,
+        ),
+        (
+            Shape::Rect,
+            1_000_000_000,
+            500_000_000,
+            605_000_000,
+            150_000_000,
+            true,
+        ),
+        (
+            Shape::Rect,
+            1_000_000_000,
+            350_000_000,
+            0,
+            600_000_000,
+            false,
+        ),
+        (
+            Shape::Rect,
+            350_000_000,
+            1_000_000_000,
+            0,
+            600_000_000,
+            true,
+        ),
     ] {
-        assert_eq!(rt; covers(&pad, hole), is_covered);
+        let pad = pad(shape, (0, 0), half_x, half_y);
+        assert!(rt; covers_hole(pad, x, y) == Some(is_covered), "at {x},{y}");
     }
-    assert_eq!(rt; (disc.left(), rect.right()), (5_000 - REACH, 5_000 + REACH));
-    Ok(())
 }
 
 #[test]
-fn lengths_out_of_range_are_refused(rt: HostRuntime) -> Result<(), Fail> {
-    let centre = at(0, 0)?;
-    for (radius, is_disc) in [(0, true), (-1, false), (MAX_HALF_SIDE + 1, false)] {
-        assert_eq!(rt; Disc::new(centre, radius).is_some(), is_disc, "of {radius}");
-    }
-    for (half_x, half_y, is_rect) in [(0, 1, false), (1, MAX_HALF_SIDE, true)] {
-        assert_eq!(rt; Rect::new(centre, half_x, half_y).is_some(), is_rect);
-    }
-    assert!(rt; Obround::new(centre, 1, 0).is_none());
-    Ok(())
-}
-
-/// Whether a shape covers both ends of a slot along x with 0.375 mm round them.
-fn covers_lying<S: PadShape>(shape: &S, from: Point, to: Point) -> bool {
-    from.y() == to.y() && shape.covers_slot(from, to, 375_000_000)
-}
-
-#[test]
-fn a_slot_is_covered_by_its_two_ends(rt: HostRuntime) -> Result<(), Fail> {
-    let (from, to, middle) = (at(0, 0)?, at(2_000_000_000, 0)?, at(1_000_000_000, 0)?);
-    let reach = 375_000_000;
-    let exact = Obround::new(middle, 1_375_000_000, reach).ok_or("exact")?;
-    let short = Obround::new(middle, 1_370_000_000, reach).ok_or("short")?;
-    for (obround, from, to, is_covered) in [
-        (exact, from, to, true),
-        (exact, to, from, true),
-        (exact, from, from, true),
-        (short, from, to, false),
+fn pads_elsewhere_cover_holes_up_to_equality(rt: HostRuntime) {
+    for &(shape, half_y, x, y, is_covered) in &[
+        (Shape::Disc, 0, 5_000, 7_000, true),
+        (Shape::Obround, REACH, 5_000, 7_000, true),
+        (Shape::Rect, 2 * REACH, 5_000, 7_000, true),
+        (Shape::Rect, 2 * REACH, 5_000, 325_007_000, true),
+        (Shape::Disc, 0, 5_001, 7_000, false),
     ] {
-        assert_eq!(rt; covers_lying(&Pad::Obround(obround), from, to), is_covered);
+        let pad = pad(shape, (5_000, 7_000), REACH, half_y);
+        assert!(rt; covers_hole(pad, x, y) == Some(is_covered), "at {x},{y}");
     }
-    let end = Disc::new(from, reach).ok_or("end")?;
-    for (from, to) in [(from, to), (to, from)] {
-        assert!(rt; !covers_lying(&end, from, to));
-    }
-    let rect = Rect::new(middle, 1_375_000_000, reach).ok_or("rect")?;
-    assert!(rt; covers_lying(&rect, from, to));
-    Ok(())
+}
+
+/// The least and the greatest x of a pad, its half sides, and its centre. The half sides of a disc are its radius.
+fn sides_of(pad: Option<Pad>) -> Option<(i64, i64, i64, i64, Point)> {
+    let pad = pad?;
+    let (half_x, half_y, centre) = match &pad {
+        Pad::Disc(disc) => (disc.radius(), disc.radius(), disc.centre()),
+        Pad::Rect(rect) => (rect.half_x(), rect.half_y(), rect.centre()),
+        Pad::Obround(obround) => (obround.half_x(), obround.half_y(), obround.centre()),
+    };
+    Some((pad.left(), pad.right(), half_x, half_y, centre))
 }
 
 #[test]
-fn a_zone_holds_what_may_be_covered(rt: HostRuntime) -> Result<(), Fail> {
-    let disc = Disc::new(at(0, 0)?, 825_000_000).ok_or("disc")?;
-    let zone = disc.zone(325_000_000).ok_or("zone")?;
-    assert_eq!(rt;
-        (zone.left, zone.right, zone.bottom, zone.top),
-        (-500_000_000, 500_000_000, -500_000_000, 500_000_000)
-    );
-    for (left, bottom, may_cover) in [
-        (zone.left, zone.bottom, true),
+fn pads_have_their_sides(rt: HostRuntime) {
+    for &(shape, x, half_x, half_y, left, right) in &[
+        (
+            Shape::Disc,
+            0,
+            825_000_000,
+            825_000_000,
+            -825_000_000,
+            825_000_000,
+        ),
+        (
+            Shape::Obround,
+            0,
+            1_000_000_000,
+            500_000_000,
+            -1_000_000_000,
+            1_000_000_000,
+        ),
+        (
+            Shape::Rect,
+            0,
+            350_000_000,
+            1_000_000_000,
+            -350_000_000,
+            350_000_000,
+        ),
+        (
+            Shape::Disc,
+            5_000,
+            REACH,
+            REACH,
+            5_000 - REACH,
+            5_000 + REACH,
+        ),
+        (
+            Shape::Rect,
+            5_000,
+            REACH,
+            2 * REACH,
+            5_000 - REACH,
+            5_000 + REACH,
+        ),
+    ] {
+        let wanted = Point::new(x, 7_000).map(|centre| (left, right, half_x, half_y, centre));
+        let sides = sides_of(pad(shape, (x, 7_000), half_x, half_y));
+        assert!(rt; sides == wanted, "of {half_x} at {x}");
+    }
+}
+
+#[test]
+fn lengths_out_of_range_are_refused(rt: HostRuntime) {
+    for &(shape, half_x, half_y, is_pad) in &[
+        (Shape::Disc, 0, 0, true),
+        (Shape::Disc, -1, 0, false),
+        (Shape::Disc, MAX_HALF_SIDE + 1, 0, false),
+        (Shape::Rect, 0, 1, false),
+        (Shape::Rect, 1, MAX_HALF_SIDE, true),
+        (Shape::Obround, 1, 0, false),
+    ] {
+        assert!(rt;
+            pad(shape, (0, 0), half_x, half_y).is_some() == is_pad,
+            "of {half_x},{half_y}"
+        );
+    }
+}
+
+/// Whether a pad covers both ends of a slot along x.
+fn covers_slot(pad: Option<Pad>, from: i64, to: i64) -> Option<bool> {
+    let from = Point::new(from, 0)?;
+    let to = Point::new(to, 0)?;
+    Some(from.y() == to.y() && pad?.covers_slot(from, to, SLOT_REACH))
+}
+
+#[test]
+fn a_slot_is_covered_by_its_two_ends(rt: HostRuntime) {
+    for &(shape, x, half_x, from, to, is_covered) in &[
+        (
+            Shape::Obround,
+            1_000_000_000,
+            1_375_000_000,
+            0,
+            2_000_000_000,
+            true,
+        ),
+        (
+            Shape::Obround,
+            1_000_000_000,
+            1_375_000_000,
+            2_000_000_000,
+            0,
+            true,
+        ),
+        (Shape::Obround, 1_000_000_000, 1_375_000_000, 0, 0, true),
+        (
+            Shape::Obround,
+            1_000_000_000,
+            1_370_000_000,
+            0,
+            2_000_000_000,
+            false,
+        ),
+        (Shape::Disc, 0, SLOT_REACH, 0, 2_000_000_000, false),
+        (Shape::Disc, 0, SLOT_REACH, 2_000_000_000, 0, false),
+        (
+            Shape::Rect,
+            1_000_000_000,
+            1_375_000_000,
+            0,
+            2_000_000_000,
+            true,
+        ),
+    ] {
+        let pad = pad(shape, (x, 0), half_x, SLOT_REACH);
+        assert!(rt;
+            covers_slot(pad, from, to) == Some(is_covered),
+            "of {half_x}"
+        );
+    }
+}
+
+/// A disc at the origin, and the zone of what it may cover.
+fn disc_and_zone() -> Option<(Disc, Zone)> {
+    let disc = Disc::new(Point::new(0, 0)?, 825_000_000)?;
+    let zone = disc.zone(325_000_000)?;
+    Some((disc, zone))
+}
+
+/// Whether the disc may cover what lies in its zone from these sides on.
+fn may_cover_from(left: i64, bottom: i64) -> Option<bool> {
+    let (disc, zone) = disc_and_zone()?;
+    let corner = Zone {
+        left,
+        bottom,
+        ..zone
+    };
+    Some(disc.may_cover(&corner, 325_000_000))
+}
+
+#[test]
+fn a_zone_holds_what_may_be_covered(rt: HostRuntime) {
+    let sides = disc_and_zone().map(|(_, zone)| (zone.left, zone.right, zone.bottom, zone.top));
+    assert!(rt; sides == Some((-500_000_000, 500_000_000, -500_000_000, 500_000_000)));
+    for &(left, bottom, may_cover) in &[
+        (-500_000_000, -500_000_000, true),
         (300_000_000, 400_000_000, true),
         (300_001_000, 400_000_000, false),
     ] {
-        let corner = Zone {
-            left,
-            bottom,
-            ..zone
-        };
-        assert_eq!(rt;
-            disc.may_cover(&corner, 325_000_000),
-            may_cover,
+        assert!(rt;
+            may_cover_from(left, bottom) == Some(may_cover),
             "from {left}"
         );
     }
-    Ok(())
 }

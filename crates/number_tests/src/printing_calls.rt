@@ -12,7 +12,7 @@ fn is_short(rt: HostRuntime, length: i64, text: &str) -> Result<bool, Fail> {
 
 #[test]
 fn short_lengths_have_no_zeros_behind(rt: HostRuntime) -> Result<(), Fail> {
-    for (length, text) in [
+    for &(length, text) in &[
         (300_000_000, "0.3"),
         (143_745_000_000, "143.745"),
         (-99_547_000_000, "-99.547"),

@@ -22,6 +22,3 @@ pub use names::{escape, name_room};
 pub use panel::{Place, print_panel};
 pub use pen::Pen;
 pub use scene::{Lack, Scene, scene_of};
-
-#[cfg(test)]
-mod tests;

@@ -36,21 +36,21 @@ fn a_check_is_asked_for(rt: HostRuntime) {
 
 #[test]
 fn options_stand_in_any_order(rt: HostRuntime) {
-    let lines: [&[&str]; 5] = [
+    let lines: &[&[&str]; 5] = &[
         &["check", "--gap", "0.2", "--ring", "0.125", "m.csv"],
         &["check", "m.csv", "--gap", "0.2", "--ring", "0.125"],
         &["check", "--ring", "0.125", "m.csv", "--gap", "0.2"],
         &["check", "--gap=0.2", "--ring=0.125", "m.csv"],
         &["check", "--gap=0.2", "--ring=0.125", "--", "m.csv"],
     ];
-    for words in lines {
+    for &words in lines {
         assert!(rt; asks_for_check(rt, words), "{words:?}");
     }
 }
 
 #[test]
 fn a_table_and_a_canonical_text_are_asked_for(rt: HostRuntime) {
-    for words in [
+    for &words in &[
         ["show", "--kind", "layer", "top.gbr"],
         ["show", "top.gbr", "--kind", "layer"],
     ] {
@@ -63,7 +63,7 @@ fn a_table_and_a_canonical_text_are_asked_for(rt: HostRuntime) {
         );
         assert!(rt; is_show);
     }
-    for words in [
+    for &words in &[
         ["rewrite", "--kind", "drill", "pth.drl"],
         ["rewrite", "pth.drl", "--kind", "drill"],
     ] {
@@ -98,7 +98,7 @@ fn a_value_may_begin_with_a_minus_only_behind_an_equals_sign(rt: HostRuntime) {
 
 #[test]
 fn other_words_are_refused(rt: HostRuntime) {
-    let lines: [&[&str]; 12] = [
+    let lines: &[&[&str]; 12] = &[
         &[],
         &["Check", "--ring", "0.125", "--gap", "0.2", "m.csv"],
         &["--ring", "0.125", "--gap", "0.2", "m.csv"],
@@ -112,14 +112,14 @@ fn other_words_are_refused(rt: HostRuntime) {
         &["explain", "Routed", "ring"],
         &["check", "--version"],
     ];
-    for words in lines {
+    for &words in lines {
         assert!(rt; is_usage(rt, words), "{words:?}");
     }
 }
 
 #[test]
 fn a_check_with_other_words_is_refused(rt: HostRuntime) {
-    let lines: [&[&str]; 7] = [
+    let lines: &[&[&str]; 7] = &[
         &["check"],
         &["check", "--ring", "0.125", "m.csv"],
         &["check", "--gap", "0.2", "m.csv"],
@@ -134,14 +134,14 @@ fn a_check_with_other_words_is_refused(rt: HostRuntime) {
         &["check", "--ring=0.125", "--gap=0.2", "m.csv", "n.csv"],
         &["check", "--ring=0.125", "--gap=0.2", "--fast", "m.csv"],
     ];
-    for words in lines {
+    for &words in lines {
         assert!(rt; is_usage(rt, words), "{words:?}");
     }
 }
 
 #[test]
 fn measures_reports_and_pictures_with_other_words_are_refused(rt: HostRuntime) {
-    let lines: [&[&str]; 9] = [
+    let lines: &[&[&str]; 9] = &[
         &["measure"],
         &["measure", "m.csv", "n.csv"],
         &["measure", "--ring", "0.125", "m.csv"],
@@ -152,14 +152,14 @@ fn measures_reports_and_pictures_with_other_words_are_refused(rt: HostRuntime) {
         &["draw"],
         &["draw", "--max", "2", "m.csv"],
     ];
-    for words in lines {
+    for &words in lines {
         assert!(rt; is_usage(rt, words), "{words:?}");
     }
 }
 
 #[test]
 fn a_format_is_named_once_and_of_two_commands(rt: HostRuntime) {
-    let lines: [&[&str]; 7] = [
+    let lines: &[&[&str]; 7] = &[
         &["measure", "m.csv", "--format"],
         &["measure", "--format", "json"],
         &["measure", "--format", "json", "--format", "json", "m.csv"],
@@ -181,14 +181,14 @@ fn a_format_is_named_once_and_of_two_commands(rt: HostRuntime) {
         ],
         &["draw", "--format", "json", "m.csv"],
     ];
-    for words in lines {
+    for &words in lines {
         assert!(rt; is_usage(rt, words), "{words:?}");
     }
 }
 
 #[test]
 fn help_names_the_commands(rt: HostRuntime) {
-    let commands = [
+    let commands = &[
         "check",
         "report",
         "measure",
@@ -200,31 +200,31 @@ fn help_names_the_commands(rt: HostRuntime) {
         "help",
         "--version",
     ];
-    for word in ["--help", "-h", "help"] {
-        assert!(rt; helps(rt, &[word], &commands), "{word}");
+    for &word in &["--help", "-h", "help"] {
+        assert!(rt; helps(rt, &[word], commands), "{word}");
     }
 }
 
 #[test]
 fn help_names_the_values_of_a_command(rt: HostRuntime) {
-    let values = [
+    let values = &[
         "--ring <MM>",
         "--gap <MM>",
         "<MANIFEST>",
         "in mm",
         "role,name,file",
     ];
-    for words in [["check", "--help"], ["help", "check"]] {
-        assert!(rt; helps(rt, &words, &values));
+    for &words in &[["check", "--help"], ["help", "check"]] {
+        assert!(rt; helps(rt, &words, values));
     }
-    for words in [["show", "--help"], ["rewrite", "-h"]] {
+    for &words in &[["show", "--help"], ["rewrite", "-h"]] {
         assert!(rt; helps(rt, &words, &["--kind <layer|drill>", "<FILE>"]));
     }
 }
 
 #[test]
 fn help_tells_the_options_of_a_command(rt: HostRuntime) {
-    let pages: [(&str, &[&str]); 3] = [
+    let pages: &[(&str, &[&str]); 3] = &[
         (
             "measure",
             &[
@@ -252,7 +252,7 @@ fn help_tells_the_options_of_a_command(rt: HostRuntime) {
             ],
         ),
     ];
-    for (command, parts) in pages {
+    for &(command, parts) in pages {
         assert!(rt; helps(rt, &[command, "--help"], parts), "{command}");
     }
 }
@@ -270,7 +270,7 @@ fn asks_for_manifest(rt: HostRuntime, words: &[&str], with_why: bool) -> bool {
 #[test]
 fn a_manifest_is_asked_for(rt: HostRuntime) {
     assert!(rt; asks_for_manifest(rt, &["manifest", "top.gbr", "pth.drl"], false));
-    for words in [
+    for &words in &[
         ["manifest", "--why", "top.gbr", "pth.drl"],
         ["manifest", "top.gbr", "--why", "pth.drl"],
         ["manifest", "top.gbr", "pth.drl", "--why"],
@@ -306,7 +306,7 @@ fn format_of<'a>(rt: HostRuntime, words: &'a [&'a str]) -> Option<&'a str> {
 
 #[test]
 fn a_measure_in_a_format_is_asked_for(rt: HostRuntime) {
-    let lines: [(&[&str], &str); 6] = [
+    let lines: &[(&[&str], &str); 6] = &[
         (&["measure", "--format", "json", "m.csv"], "json"),
         (&["measure", "m.csv", "--format", "json"], "json"),
         (&["measure", "--format=json", "m.csv"], "json"),
@@ -314,14 +314,14 @@ fn a_measure_in_a_format_is_asked_for(rt: HostRuntime) {
         (&["measure", "--format", "xml", "m.csv"], "xml"),
         (&["measure", "--format=", "m.csv"], ""),
     ];
-    for (words, format) in lines {
+    for &(words, format) in lines {
         assert_eq!(rt; format_of(rt, words), Some(format), "{words:?}");
     }
 }
 
 #[test]
 fn a_report_is_asked_for(rt: HostRuntime) {
-    let lines: [(&[&str], Option<&str>); 3] = [
+    let lines: &[(&[&str], Option<&str>); 3] = &[
         (
             &["report", "--ring", "0.125", "--gap", "0.2", "m.csv"],
             None,
@@ -339,7 +339,7 @@ fn a_report_is_asked_for(rt: HostRuntime) {
             Some("2"),
         ),
     ];
-    for (words, most) in lines {
+    for &(words, most) in lines {
         assert_eq!(rt; limits_of(rt, words), Some((most, None, None)), "{words:?}");
     }
 }
@@ -367,7 +367,7 @@ fn limits_of<'a>(rt: HostRuntime, words: &'a [&'a str]) -> Option<Limits<'a>> {
 
 #[test]
 fn a_report_in_a_format_is_asked_for(rt: HostRuntime) {
-    let lines: [(&[&str], Option<&str>, &str); 4] = [
+    let lines: &[(&[&str], Option<&str>, &str); 4] = &[
         (
             &[
                 "report", "--ring", "0.125", "--gap", "0.2", "--format", "json", "m.csv",
@@ -405,7 +405,7 @@ fn a_report_in_a_format_is_asked_for(rt: HostRuntime) {
             "text",
         ),
     ];
-    for (words, most, format) in lines {
+    for &(words, most, format) in lines {
         assert_eq!(rt;
             limits_of(rt, words),
             Some((most, None, Some(format))),
@@ -416,7 +416,7 @@ fn a_report_in_a_format_is_asked_for(rt: HostRuntime) {
 
 #[test]
 fn a_report_with_waivers_is_asked_for(rt: HostRuntime) {
-    let lines: [(&[&str], Option<&str>, Option<&str>); 3] = [
+    let lines: &[(&[&str], Option<&str>, Option<&str>); 3] = &[
         (
             &[
                 "report", "--ring", "0.125", "--gap", "0.2", "--waive", "w.csv", "m.csv",
@@ -447,7 +447,7 @@ fn a_report_with_waivers_is_asked_for(rt: HostRuntime) {
             Some("waivers"),
         ),
     ];
-    for (words, most, format) in lines {
+    for &(words, most, format) in lines {
         assert_eq!(rt;
             limits_of(rt, words),
             Some((most, Some("w.csv"), format)),
@@ -529,7 +529,7 @@ fn fits_a_screen(rt: HostRuntime, words: &[&str]) -> bool {
 #[test]
 fn help_fits_a_screen(rt: HostRuntime) {
     assert!(rt; fits_a_screen(rt, &["--help"]));
-    for command in [
+    for &command in &[
         "check", "report", "measure", "draw", "manifest", "explain", "show", "rewrite",
     ] {
         assert!(rt; fits_a_screen(rt, &[command, "--help"]), "of {command}");

@@ -41,7 +41,7 @@ fn each_word_has_a_page(rt: HostRuntime) -> Result<(), TestFail> {
 
 #[test]
 fn pages_name_settings(rt: HostRuntime) -> Result<(), TestFail> {
-    for (word, setting) in [
+    for &(word, setting) in &[
         ("Routed", "use alternate drill mode"),
         ("ring", "less 0.001 mm"),
         ("none", "keep pads on all layers"),
@@ -58,7 +58,7 @@ fn pages_name_settings(rt: HostRuntime) -> Result<(), TestFail> {
 
 #[test]
 fn other_words_have_none(rt: HostRuntime) -> Result<(), TestFail> {
-    for word in ["", "routed", "Routed ", "Routed:", "Ring", "gap", "pass"].iter() {
+    for &word in &["", "routed", "Routed ", "Routed:", "Ring", "gap", "pass"].iter() {
         assert!(rt; explanation(word).is_none());
     }
     Ok(())

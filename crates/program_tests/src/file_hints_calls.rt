@@ -5,7 +5,7 @@ use std::test::Fail;
 
 #[test]
 fn texts_have_their_kinds(rt: HostRuntime) {
-    for (text, kind) in [
+    for &(text, kind) in &[
         ("%FSLAX46Y46*%\nM02*\n", Kind::Gerber),
         ("M48\r\nT1C0.4\r\n%\r\nT1\r\nX0Y0\r\nM30\r\n", Kind::Drill),
         ("M30\n", Kind::Empty),
@@ -32,7 +32,7 @@ fn the_last_file_function_counts(rt: HostRuntime) {
 
 #[test]
 fn layers_have_numbers_of_at_most_nine_digits(rt: HostRuntime) {
-    for (digits, number) in [("12", Some(12)), ("1234567890", None)] {
+    for &(digits, number) in &[("12", Some(12)), ("1234567890", None)] {
         assert_eq!(rt; layer_number(digits.as_bytes()), number, "of {digits}");
     }
 }
@@ -40,7 +40,7 @@ fn layers_have_numbers_of_at_most_nine_digits(rt: HostRuntime) {
 #[test]
 fn names_have_a_short_form_and_a_point(rt: HostRuntime) {
     assert!(rt; short_name(b"a/b/Board-F_Cu.gbr") == b"Board-F_Cu.gbr".as_slice());
-    for (name, is_there) in [("a.b/c.d", true), ("a.b/c", false)] {
+    for &(name, is_there) in &[("a.b/c.d", true), ("a.b/c", false)] {
         assert_eq!(rt; has_point(name.as_bytes()), is_there, "of {name}");
     }
 }

@@ -90,7 +90,7 @@ fn failure<R: Read>(rt: HostRuntime, reader: &mut R, limit: u64) -> Option<ReadF
 
 #[test]
 fn bytes_within_the_limit_are_read(rt: HostRuntime) {
-    for (text, limit) in [("abcd", 4), ("abcd", MAX_LIMIT), ("", 0)] {
+    for &(text, limit) in &[("abcd", 4), ("abcd", MAX_LIMIT), ("", 0)] {
         let mut reader = text.as_bytes();
         assert!(rt;
             reads(rt, &mut reader, limit, text.as_bytes()),
@@ -106,7 +106,7 @@ fn bytes_within_the_limit_are_read(rt: HostRuntime) {
 
 #[test]
 fn bytes_above_the_limit_are_too_long(rt: HostRuntime) {
-    for (text, limit) in [("abcd", 3), ("a", 0)] {
+    for &(text, limit) in &[("abcd", 3), ("a", 0)] {
         let mut reader = text.as_bytes();
         assert_eq!(rt;
             failure(rt, &mut reader, limit),
@@ -141,7 +141,7 @@ fn a_read_that_fails_is_told(rt: HostRuntime) {
 
 #[test]
 fn reads_are_called_no_more_than_so_often(rt: HostRuntime) {
-    for (limit, calls) in [(0, 65_536), (1000, 66_536)] {
+    for &(limit, calls) in &[(0, 65_536), (1000, 66_536)] {
         let mut interrupted = Interrupted { calls: 0 };
         assert_eq!(rt;
             failure(rt, &mut interrupted, limit),

@@ -25,18 +25,18 @@ fn names(rt: HostRuntime, text: &[u8], files: &[(Role, &str, &str)]) -> bool {
 fn files_are_named_in_order(rt: HostRuntime) {
     let text =
         b"role,name,file\ncopper,top,top.gbr\ncopper,bottom,bottom.gbr\nplated,pth,pth.drl\nunplated,npth,npth.drl\n";
-    let files = [
+    let files = &[
         (Role::Copper, "top", "top.gbr"),
         (Role::Copper, "bottom", "bottom.gbr"),
         (Role::Plated, "pth", "pth.drl"),
         (Role::Unplated, "npth", "npth.drl"),
     ];
-    assert!(rt; names(rt, text, &files));
+    assert!(rt; names(rt, text, files));
 }
 
 #[test]
 fn records_that_break_a_rule_are_refused(rt: HostRuntime) {
-    for (text, place, reason) in [
+    for &(text, place, reason) in &[
         ("", 1, Reason::BadManifest),
         ("role,file,name\n", 1, Reason::BadManifest),
         ("role,name,file\nvia,a,b\n", 2, Reason::BadRole),
@@ -85,7 +85,7 @@ fn with_span(rt: HostRuntime, fields: &str) -> Option<String> {
 
 #[test]
 fn drill_files_name_the_layers_that_they_go_through(rt: HostRuntime) {
-    for (fields, span) in [
+    for &(fields, span) in &[
         ("1,1", Some((1, 1))),
         ("1,2", Some((1, 2))),
         ("2,2", Some((2, 2))),
@@ -103,7 +103,7 @@ fn drill_files_name_the_layers_that_they_go_through(rt: HostRuntime) {
 
 #[test]
 fn spans_that_are_none_are_refused(rt: HostRuntime) {
-    for fields in [
+    for &fields in &[
         "2,1",
         "1,",
         ",1",
@@ -131,7 +131,7 @@ fn spans_that_are_none_are_refused(rt: HostRuntime) {
 
 #[test]
 fn the_first_refusal_is_told_of_spans(rt: HostRuntime) {
-    for (records, place, reason) in [
+    for &(records, place, reason) in &[
         ("copper,top,top.gbr,1,1\n", 2, Reason::BadSpan),
         ("copper,top,top.gbr,,1\n", 2, Reason::BadSpan),
         ("plated,pth,pth.drl,1,1\n", 3, Reason::NoCopper),
@@ -162,7 +162,7 @@ fn the_first_refusal_is_told_of_spans(rt: HostRuntime) {
 
 #[test]
 fn every_record_has_as_many_fields_as_the_first(rt: HostRuntime) {
-    for (text, place) in [
+    for &(text, place) in &[
         ("role,name,file,first,last\ncopper,a,b\n", 2),
         ("role,name,file,first,last\ncopper,a,b,\n", 2),
         ("role,name,file,first,last\ncopper,a,b,,,\n", 2),
@@ -187,30 +187,30 @@ fn files_of_version_1_have_no_span(rt: HostRuntime) {
 
 #[test]
 fn a_byte_order_mark_is_dropped(rt: HostRuntime) {
-    let files = [(Role::Copper, "a", "b"), (Role::Plated, "c", "d")];
+    let files = &[(Role::Copper, "a", "b"), (Role::Plated, "c", "d")];
     assert!(rt;
         names(
             rt,
             b"\xEF\xBB\xBFrole,name,file\ncopper,a,b\nplated,c,d\n",
-            &files
+            files
         )
     );
-    for text in ["\u{FEFF}", "\u{FEFF}\u{FEFF}role,name,file\n"] {
+    for &text in &["\u{FEFF}", "\u{FEFF}\u{FEFF}role,name,file\n"] {
         assert_eq!(rt; refusal(rt, text), Some((1, 0, Reason::BadManifest)));
     }
 }
 
 #[test]
 fn records_end_with_any_line_end_and_empty_lines_are_none(rt: HostRuntime) {
-    let files = [(Role::Copper, "a", "b"), (Role::Plated, "c", "d")];
-    for text in [
+    let files = &[(Role::Copper, "a", "b"), (Role::Plated, "c", "d")];
+    for &text in &[
         "role,name,file\r\ncopper,a,b\r\nplated,c,d\r\n",
         "role,name,file\rcopper,a,b\rplated,c,d",
         "\n\r\nrole,name,file\n\n\ncopper,a,b\n\nplated,c,d\n\n\n",
     ] {
-        assert!(rt; names(rt, text.as_bytes(), &files), "of {text}");
+        assert!(rt; names(rt, text.as_bytes(), files), "of {text}");
     }
-    for (text, place, reason) in [
+    for &(text, place, reason) in &[
         ("role,name,file\n\n\nvia,a,b\n", 2, Reason::BadRole),
         ("role,name,file\ncopper,a,b\n\n\n", 3, Reason::NoDrill),
     ] {
@@ -220,7 +220,7 @@ fn records_end_with_any_line_end_and_empty_lines_are_none(rt: HostRuntime) {
 
 #[test]
 fn quoted_fields_are_read(rt: HostRuntime) {
-    let files = [
+    let files = &[
         (Role::Copper, "a,b", "c\"d"),
         (Role::Plated, "ef", "g\"h\""),
     ];
@@ -228,7 +228,7 @@ fn quoted_fields_are_read(rt: HostRuntime) {
         names(
             rt,
             b"\"role\",name,file\ncopper,\"a,b\",\"c\"\"d\"\nplated,\"e\"f,g\"h\"\n",
-            &files
+            files
         )
     );
     assert!(rt;
@@ -238,7 +238,7 @@ fn quoted_fields_are_read(rt: HostRuntime) {
             &[(Role::Copper, "a", "b"), (Role::Plated, "c", "d")]
         )
     );
-    for (text, place) in [
+    for &(text, place) in &[
         ("role,name,file\n\"\"\n", 2),
         ("role,name,file\n \n", 2),
         ("role,name,file\ncopper,\"a\nb\",c\n", 2),
@@ -253,7 +253,7 @@ fn quoted_fields_are_read(rt: HostRuntime) {
 
 #[test]
 fn fields_are_text_without_control_bytes(rt: HostRuntime) {
-    for text in [
+    for &text in &[
         "role,name,file\ncopper,a\u{1F},b\n",
         "role,name,file\ncopper,a,b\t\n",
         "role,name,file\ncopper,a,\u{7F}\n",
@@ -271,7 +271,7 @@ fn fields_are_text_without_control_bytes(rt: HostRuntime) {
         _ => None,
     };
     assert_eq!(rt; fault, Some((2, Reason::BadManifest)));
-    let files = [
+    let files = &[
         (Role::Copper, "oberste Lage \u{E4}~", " top.gbr "),
         (Role::Unplated, "n", "n"),
     ];
@@ -279,14 +279,14 @@ fn fields_are_text_without_control_bytes(rt: HostRuntime) {
         names(
             rt,
             "role,name,file\ncopper,oberste Lage \u{E4}~, top.gbr \nunplated,n,n\n".as_bytes(),
-            &files
+            files
         )
     );
 }
 
 #[test]
 fn the_first_reason_in_order_is_told(rt: HostRuntime) {
-    for (text, place, reason) in [
+    for &(text, place, reason) in &[
         ("role,name,file\nvia,\u{1},b\n", 2, Reason::BadManifest),
         ("role,name,file\nvia,,b\n", 2, Reason::BadRole),
         ("role,name,file\nCopper,a,b\n", 2, Reason::BadRole),
@@ -316,6 +316,6 @@ fn the_first_reason_in_order_is_told(rt: HostRuntime) {
 
 #[test]
 fn one_file_may_stand_twice(rt: HostRuntime) {
-    let files = [(Role::Copper, "a", "x"), (Role::Plated, "b", "x")];
-    assert!(rt; names(rt, b"role,name,file\ncopper,a,x\nplated,b,x\n", &files));
+    let files = &[(Role::Copper, "a", "x"), (Role::Plated, "b", "x")];
+    assert!(rt; names(rt, b"role,name,file\ncopper,a,x\nplated,b,x\n", files));
 }

@@ -85,7 +85,7 @@ fn a_name_with_nothing_behind_its_slash_is_written_whole(rt: HostRuntime) {
 
 #[test]
 fn names_are_read_word_by_word(rt: HostRuntime) {
-    let files = [
+    let files = &[
         ("rtt_mask.group0.gbr", LAYER),
         ("board-F_Mask.gbr", LAYER),
         ("board-F_Cu.gbr", LAYER),
@@ -161,7 +161,7 @@ fn what_is_proposed_is_a_manifest(rt: HostRuntime) {
 
 #[test]
 fn reasons_are_told(rt: HostRuntime) {
-    let files = [
+    let files = &[
         Named {
             name: "StickHub-B_Cu.gbr",
             content: Content::Bytes(BOARD[0].1),
@@ -194,7 +194,7 @@ fn reasons_are_told(rt: HostRuntime) {
 
 #[test]
 fn files_that_are_not_read_are_undecided(rt: HostRuntime) {
-    let files = [
+    let files = &[
         Named {
             name: "folder",
             content: Content::NotRead,
@@ -226,20 +226,20 @@ const THROUGH: &[u8] = b"M48\n; #@! TF.FileFunction,Plated,1,4,PTH\n%\nX0Y0\nM30
 
 #[test]
 fn layers_are_proposed_where_they_are_clear(rt: HostRuntime) {
-    let by_name = [
+    let by_name = &[
         ("x.g1", LAYER),
         ("x.gtl", FIRST),
         ("x.gbl", THIRD),
         ("h.drl", BURIED),
     ];
-    let names = [
+    let names = &[
         ("F_Cu.gbr", LAYER),
         ("In1_Cu.gbr", LAYER),
         ("In2_Cu.gbr", LAYER),
         ("B_Cu.gbr", LAYER),
         ("h.drl", BLIND),
     ];
-    let both = [("x.gtl", LAYER), ("x.gbl", LAYER), ("h.drl", BLIND)];
+    let both = &[("x.gtl", LAYER), ("x.gbl", LAYER), ("h.drl", BLIND)];
     for (files, text) in [
         (
             by_name.as_slice(),
@@ -259,29 +259,15 @@ fn layers_are_proposed_where_they_are_clear(rt: HostRuntime) {
 }
 
 #[test]
-fn a_drill_file_whose_layers_are_not_clear_is_undecided(rt: HostRuntime) {
-    let lacking = [("a.gbr", FIRST), ("b.gbr", FOURTH), ("h.drl", BLIND)];
-    let twice = [
+fn a_drill_file_with_other_layers_by_function_is_undecided(rt: HostRuntime) {
+    let lacking = &[("a.gbr", FIRST), ("b.gbr", FOURTH), ("h.drl", BLIND)];
+    let twice = &[
         ("a.gbr", FIRST),
         ("b.gbr", SECOND),
         ("c.gbr", FIRST),
         ("h.drl", BLIND),
     ];
-    let beyond = [("a.gbr", FIRST), ("b.gbr", SECOND), ("h.drl", THROUGH)];
-    let unknown = [("a_cu.gbr", LAYER), ("b_cu.gbr", LAYER), ("h.drl", BLIND)];
-    let deeper = [
-        ("x.gtl", LAYER),
-        ("x.gbl", LAYER),
-        ("h.drl", BLIND),
-        ("t.drl", THROUGH),
-    ];
-    let plane = [
-        ("x.gtl", LAYER),
-        ("x.gbl", LAYER),
-        ("x.gp1", LAYER),
-        ("h.drl", BLIND),
-    ];
-    let alone = [("h.drl", BLIND)];
+    let beyond = &[("a.gbr", FIRST), ("b.gbr", SECOND), ("h.drl", THROUGH)];
     for (files, text) in [
         (
             lacking.as_slice(),
@@ -295,6 +281,28 @@ fn a_drill_file_whose_layers_are_not_clear_is_undecided(rt: HostRuntime) {
             beyond.as_slice(),
             "role,name,file\ncopper,a.gbr,a.gbr\ncopper,b.gbr,b.gbr\n?,h.drl,h.drl\n",
         ),
+    ] {
+        assert!(rt; gives(rt, files, text));
+    }
+}
+
+#[test]
+fn a_drill_file_with_unknown_layers_by_name_is_undecided(rt: HostRuntime) {
+    let unknown = &[("a_cu.gbr", LAYER), ("b_cu.gbr", LAYER), ("h.drl", BLIND)];
+    let deeper = &[
+        ("x.gtl", LAYER),
+        ("x.gbl", LAYER),
+        ("h.drl", BLIND),
+        ("t.drl", THROUGH),
+    ];
+    let plane = &[
+        ("x.gtl", LAYER),
+        ("x.gbl", LAYER),
+        ("x.gp1", LAYER),
+        ("h.drl", BLIND),
+    ];
+    let alone = &[("h.drl", BLIND)];
+    for (files, text) in [
         (
             unknown.as_slice(),
             "role,name,file\ncopper,a_cu.gbr,a_cu.gbr\ncopper,b_cu.gbr,b_cu.gbr\n?,h.drl,h.drl\n",

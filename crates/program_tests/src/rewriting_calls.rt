@@ -55,7 +55,7 @@ fn a_drill_file_is_written_anew(rt: HostRuntime) {
 /// The fault of the text as its kind reads it.
 #[test]
 fn refused_texts_are_not_written(rt: HostRuntime) {
-    for (kind, text, reason) in [
+    for &(kind, text, reason) in &[
         (Kind::Layer, "M02*", Reason::NoFormat),
         (Kind::Layer, "", Reason::Truncated),
         (Kind::Drill, "M4", Reason::OldFormat),

@@ -4,19 +4,14 @@ ghost use Rattle.std.specs.List.{Contains};
 use ringcheck::*;
 use std::alloc::{AllocError, Global};
 
-mod checking;
-mod commands;
 mod devices;
-mod drawn;
-mod formats;
-mod met;
-mod one_file;
-mod refusals;
-mod told;
-mod waived;
+mod limits;
+mod sound;
 mod words;
 
 const WORDS: [&str; 6] = ["check", "--ring", "0.125", "--gap", "0.25", "m.csv"];
+
+const REPORT_WORDS: [&str; 6] = ["report", "--ring", "0.125", "--gap", "0.25", "m.csv"];
 
 const MEASURE: [&str; 2] = ["measure", "m.csv"];
 
@@ -151,44 +146,13 @@ fn prints<L: Loader>(
     run(alloc, words, loader, &mut out) == status && out.as_slice() == text.as_bytes()
 }
 
-/// A layer of one aperture.
-fn layer_text(alloc: Global, define: &str, flashes: &str) -> Result<String, AllocError> {
-    format!(in alloc; "%FSLAX46Y46*%\n%MOMM*%\n{define}\nD10*\n{flashes}\nM02*\n")
-}
-
-/// A drill file of one tool.
-fn drill_text(alloc: Global, tool: &str, hits: &str) -> Result<String, AllocError> {
-    format!(in alloc; "M48\nMETRIC\n{tool}\n%\nT1\n{hits}\nM30\n")
-}
-
-/// Whether the check of a layer and a drill file ends so and prints just this.
-fn checks<'x>(alloc: Global, layer: &'x str, drill: &'x str, status: Status, text: &str) -> bool {
-    let files = [("m.csv", MANIFEST), ("top.gbr", layer), ("pth.drl", drill)];
-    prints(alloc, &mut Shelf::new(&files), &WORDS, status, text)
-}
-
 /// Whether a run with these words ends so and prints first just this.
 fn begins(alloc: Global, words: &[&str], status: Status, text: &str) -> bool {
-    let files = [("m.csv", MANIFEST), ("top.gbr", LAYER), ("pth.drl", DRILL)];
+    let files = &[("m.csv", MANIFEST), ("top.gbr", LAYER), ("pth.drl", DRILL)];
     let mut out: Vec<u8> = Vec::new(alloc);
-    run(alloc, words, &mut Shelf::new(&files), &mut out) == status
+    run(alloc, words, &mut Shelf::new(files), &mut out) == status
         && out.as_slice().starts_with(text.as_bytes())
 }
-
-const MACRO: &str = "%TF.FileFunction,Copper,L1,Top*%
-%FSLAX46Y46*%
-%MOMM*%
-G04 made by an exporter*
-%AMRoundRect*
-0 Rectangle with rounded corners*
-21,1,$1,$2,0,0,0*%
-%TA.AperFunction,SMDPad,CuDef*%
-%ADD10RoundRect,1.0X1.0*%
-%TD*%
-D10*
-X0Y0D03*
-M02*
-";
 
 const THREE: &str = "role,name,file\ncopper,top,top.gbr\ncopper,bot,bot.gbr\nplated,pth,pth.drl\n";
 

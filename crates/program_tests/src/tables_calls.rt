@@ -144,7 +144,7 @@ fn a_flash_of_a_macro(rt: HostRuntime) -> Result<(), TestFail> {
 
 #[test]
 fn sides_after_turns(rt: HostRuntime) -> Result<(), TestFail> {
-    let rows: [(&[u8], &[u8], &[u8]); 4] = [
+    let rows: &[(&[u8], &[u8], &[u8]); 4] = &[
         (
             b"%ADD10R,2X0.7*%\n",
             b"",
@@ -166,7 +166,7 @@ fn sides_after_turns(rt: HostRuntime) -> Result<(), TestFail> {
             b"1,obround,0.000000000,0.000000000,1.000000000,2.000000000\n",
         ),
     ];
-    for (aperture, lines, row) in rows {
+    for &(aperture, lines, row) in rows {
         assert!(rt; shows_aperture(rt.alloc(), aperture, lines, row)?);
     }
     Ok(())
@@ -174,7 +174,7 @@ fn sides_after_turns(rt: HostRuntime) -> Result<(), TestFail> {
 
 #[test]
 fn flashes_that_are_no_pads(rt: HostRuntime) -> Result<(), TestFail> {
-    let rows: [(&[u8], &[u8], &[u8]); 5] = [
+    let rows: &[(&[u8], &[u8], &[u8]); 5] = &[
         (
             b"%ADD10P,1X6*%\n",
             b"",
@@ -201,7 +201,7 @@ fn flashes_that_are_no_pads(rt: HostRuntime) -> Result<(), TestFail> {
             b"1,disc,0.000000000,0.000000000,0.650000000,0.650000000\n",
         ),
     ];
-    for (aperture, lines, row) in rows {
+    for &(aperture, lines, row) in rows {
         assert!(rt; shows_aperture(rt.alloc(), aperture, lines, row)?);
     }
     Ok(())

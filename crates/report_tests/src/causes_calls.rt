@@ -166,7 +166,7 @@ fn flashes_in_a_row(rt: HostRuntime) -> Result<Vec<Flash>, Fail> {
 #[test]
 fn holes_in_a_row_of_flashes(rt: HostRuntime) -> Result<(), Fail> {
     let flashes = flashes_in_a_row(rt)?;
-    for (x, radius, number) in [
+    for &(x, radius, number) in &[
         (35, 400_000_000, 5),
         (2, 400_000_000, 38),
         (20, 2_500_000_000, 18),

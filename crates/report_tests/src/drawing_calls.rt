@@ -4,6 +4,7 @@ use drawing::*;
 use flashed_boards::read_flashed;
 use grid_units::Rules;
 use package_check::{File, Role};
+use picture::{escape, name_room};
 use std::test::Fail;
 
 /// A square of 75 mm at the origin.
@@ -102,7 +103,7 @@ fn has(page: &[u8], words: &str) -> bool {
 
 #[test]
 fn a_page_has_a_title_a_panel_a_scale_and_a_legend(rt: HostRuntime) -> Result<(), Fail> {
-    let files = [
+    let files = &[
         File {
             role: Role::Copper,
             name: "top",
@@ -116,7 +117,7 @@ fn a_page_has_a_title_a_panel_a_scale_and_a_legend(rt: HostRuntime) -> Result<()
             bytes: HOLE,
         },
     ];
-    let page = drawn(rt, &files, &["top", "pth"], &None)?;
+    let page = drawn(rt, files, &["top", "pth"], &None)?;
     assert!(rt;
         page.starts_with(
             b"<?xml version=\"1.0\" encoding=\"UTF-8\"?>\n<svg xmlns=\"http://www.w3.org/2000/svg\" font-family=\"sans-serif\" font-size=\"1.25\" width=\"1034\" height=\"1200\" viewBox=\"0 0 81 94\">\n<style>text{fill:#222;font-size:1.25px}"
@@ -139,7 +140,7 @@ fn a_page_has_a_title_a_panel_a_scale_and_a_legend(rt: HostRuntime) -> Result<()
 #[test]
 fn panels_stand_below_each_other_on_a_wide_board(rt: HostRuntime) -> Result<(), Fail> {
     let page = page_of(rt, ("a<b>&\"c\"", WIDE), ("bottom", WIDE), SMALL, &rules())?;
-    for words in [
+    for &words in &[
         " viewBox=\"0 0 81 26\">",
         ">ring 0.2 mm, gap 0.25 mm: 2 findings</text>",
         "<g class=\"layer\" data-file=\"1\" transform=\"translate(3.5 9.5)\">\n<text class=\"name\" transform=\"translate(-0.5 -3) scale(1)\">a&lt;b&gt;&amp;\"c\"</text>\n<text class=\"note\" transform=\"translate(-0.5 -1.3) scale(1)\">2 pads, 0 other, 1 ring lacking</text>\n",
@@ -155,7 +156,7 @@ fn panels_stand_below_each_other_on_a_wide_board(rt: HostRuntime) -> Result<(), 
 #[test]
 fn a_ring_is_lacking_in_its_panel_alone(rt: HostRuntime) -> Result<(), Fail> {
     let page = page_of(rt, ("top", SQUARE), ("bottom", WIDE), SMALL, &rules())?;
-    for words in [
+    for &words in &[
         ">ring 0.2 mm, gap 0.25 mm: 1 finding</text>",
         ">1 pad, 0 other, 0 rings lacking</text>",
         ">2 pads, 0 other, 1 ring lacking</text>",
@@ -200,7 +201,7 @@ fn where_there_is_nothing_the_box_is_a_square_millimetre(rt: HostRuntime) -> Res
 
 #[test]
 fn where_there_are_other_flashes_alone_the_box_is_theirs(rt: HostRuntime) -> Result<(), Fail> {
-    for (top, bottom, words) in [
+    for &(top, bottom, words) in &[
         (
             NOTHING,
             MACRO,
@@ -233,5 +234,24 @@ fn characters_that_xml_forbids_are_replaced(rt: HostRuntime) -> Result<(), Fail>
         &None,
     )?;
     assert!(rt; has(&page, ">a\u{FFFD}b\u{FFFD}</text>\n"));
+    Ok(())
+}
+
+/// Names that are no UTF-8 too, which no manifest can have.
+#[test]
+fn names_have_entities(rt: HostRuntime) -> Result<(), Fail> {
+    let mut name = name_room(rt.alloc(), &["&", "12345678"])?;
+    let rows: &[(&[u8], &[u8]); 3] = &[
+        (b"a<b>&\"c\"", b"a&lt;b&gt;&amp;\"c\""),
+        (
+            b"\xEF\xBF\xBE\xEF\xBF\xBF\xEF\xBF\xBD\xEF\xBF\xBF\xBF",
+            b"\xEF\xBF\xBD\xEF\xBF\xBD\xEF\xBF\xBD\xEF\xBF\xBD\xBF",
+        ),
+        (b"&&&&&&&&", b"&amp;&amp;&amp;&amp;&amp;&amp;&amp;&amp;"),
+    ];
+    for &(bytes, escaped) in rows {
+        escape(&mut name, bytes)?;
+        assert!(rt; name.as_slice() == escaped);
+    }
     Ok(())
 }

@@ -73,7 +73,7 @@ fn is_gap_line(rt: HostRuntime, gap: i64, text: &str) -> Result<bool, Fail> {
 
 #[test]
 fn gaps_are_told(rt: HostRuntime) -> Result<(), Fail> {
-    for (gap, text) in [
+    for &(gap, text) in &[
         (
             300_000_000,
             "gap least=0.300000000 drill=3 hole=1 drill=4 hole=47\n",
@@ -117,7 +117,7 @@ fn what_is_met_is_told(rt: HostRuntime) -> Result<(), Fail> {
 #[test]
 fn scales_are_told(rt: HostRuntime) -> Result<(), Fail> {
     let mut text = String::new(rt.alloc());
-    for factor in [Factor::Ten, Factor::Tenth, Factor::Inch, Factor::PerInch] {
+    for &factor in &[Factor::Ten, Factor::Tenth, Factor::Inch, Factor::PerInch] {
         let line = ScaleLine {
             drill: 1,
             bare: 3,

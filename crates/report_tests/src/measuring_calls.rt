@@ -94,7 +94,7 @@ fn agrees_on_rings(alloc: Global, files: &[File], ring: Met) -> Option<bool> {
 #[test]
 fn rings_of_one_hole(rt: HostRuntime) -> Result<(), Failure> {
     let alloc = rt.alloc();
-    for (layer, drill, ring) in [
+    for &(layer, drill, ring) in &[
         (SQUARE, HIT, Met::Most(125_000_000)),
         (MOVED, HIT, Met::Most(124_999_000)),
         (SMALL, HIT, Met::Most(-50_000_000)),
@@ -112,7 +112,7 @@ fn rings_of_one_hole(rt: HostRuntime) -> Result<(), Failure> {
 #[test]
 fn gaps_of_two_holes(rt: HostRuntime) -> Result<(), Failure> {
     let alloc = rt.alloc();
-    for (layer, drill, ring, gap) in [
+    for &(layer, drill, ring, gap) in &[
         (DISC, TWICE, 125_000_000, -400_000_000),
         (TWO, NEAR, 300_000_000, 100_000_000),
         (FOUR, FAR, 385_786_437, 1_014_213_562),
@@ -151,7 +151,7 @@ fn gap_line(gap: i64, first: (usize, usize), second: (usize, usize)) -> GapLine 
 #[test]
 fn lines_of_gaps(rt: HostRuntime) -> Result<(), Failure> {
     let alloc = rt.alloc();
-    for (layer, drill, gap) in [
+    for &(layer, drill, gap) in &[
         (DISC, TWICE, -400_000_000),
         (TWO, NEAR, 100_000_000),
         (FOUR, FAR, 1_014_213_562),
@@ -215,7 +215,7 @@ fn scales_of_many_records(rt: HostRuntime) -> Result<(), Failure> {
     ];
     let measure = measure_bytes(rt.alloc(), &files).ok().ok_or("no measure")?;
     let mut scales = measure.scales.iter();
-    for drill in [0, 1, 4, 6] {
+    for &drill in &[0, 1, 4, 6] {
         let scale = ScaleLine {
             drill,
             bare: 3,
@@ -246,7 +246,7 @@ fn a_gap_between_files(rt: HostRuntime) -> Result<(), Failure> {
 #[test]
 fn rings_that_are_held(rt: HostRuntime) -> Result<(), Failure> {
     let alloc = rt.alloc();
-    for (layer, drill, ring, held) in [
+    for &(layer, drill, ring, held) in &[
         (FOUR, FAR, Met::Most(385_786_437), Met::Most(385_786_437)),
         (FOUR, ONE_BARE, Met::None, Met::Most(1_800_000_000)),
         (DISCS, TENTHS, Met::None, Met::None),
@@ -278,7 +278,7 @@ fn ring_line(diameter: i64, holes: usize, bare: usize, least: Option<(i64, usize
 #[test]
 fn lines_of_rings(rt: HostRuntime) -> Result<(), Failure> {
     let alloc = rt.alloc();
-    for (layer, drill, holes, bare, least) in [
+    for &(layer, drill, holes, bare, least) in &[
         (SQUARE, HIT, 1, 0, Some((125_000_000, 1))),
         (MOVED, HIT, 1, 0, Some((124_999_000, 1))),
         (SMALL, HIT, 1, 0, Some((-50_000_000, 1))),
@@ -327,7 +327,7 @@ fn lines_in_their_order(rt: HostRuntime) -> Result<(), Failure> {
         .ok()
         .ok_or("no measure")?;
     let mut lines = measure.rings.iter();
-    for (layer, drill, diameter, ring, hole) in [
+    for &(layer, drill, diameter, ring, hole) in &[
         (1, 0, 300_000_000, 750_000_000, 2),
         (1, 0, 400_000_000, 800_000_000, 1),
         (1, 4, 400_000_000, 800_000_000, 1),
@@ -357,7 +357,7 @@ fn places_of_holes(rt: HostRuntime) -> Result<(), Failure> {
         .ok()
         .ok_or("no board")?;
     let filled = filled_files(rt.alloc(), &board)?;
-    let places = [(0, 1), (0, 2), (4, 1), (6, 1), (6, 2)];
+    let places = &[(0, 1), (0, 2), (4, 1), (6, 1), (6, 2)];
     assert_eq!(rt; (filled.len(), board.holes().len()), (3, 5));
     for hole in 0..board.holes().len() {
         let (drill, number) = places.get(hole).copied().unwrap_or((0, 0));

@@ -83,7 +83,7 @@ fn files_of_waivers_are_told(rt: HostRuntime) -> Result<(), Fail> {
 
 #[test]
 fn names_are_escaped(rt: HostRuntime) -> Result<(), Fail> {
-    for (name, escaped) in [
+    for &(name, escaped) in &[
         ("a\"b", "a\\\"b"),
         ("a\\b", "a\\\\b"),
         ("\u{1}\n\t\u{1f}", "\\u0001\\n\\t\\u001f"),
@@ -144,7 +144,7 @@ fn is_measured(rt: HostRuntime, layer: &[u8], holes: &[u8], text: &str) -> Resul
 
 #[test]
 fn measures_are_told(rt: HostRuntime) -> Result<(), Fail> {
-    for (layer, holes, text) in [
+    for &(layer, holes, text) in &[
         (
             SQUARE,
             HIT,
@@ -223,11 +223,11 @@ const HEAD: &str =
 /// Whether the report has this JSON: the result, and the findings behind the head.
 fn is_told(rt: HostRuntime, telling: &Telling, word: &str, findings: &str) -> Result<bool, Fail> {
     let alloc = rt.alloc();
-    let files = [FileSum::Layer {
+    let files = &[FileSum::Layer {
         pads: 242,
         other: 3,
     }];
-    let written = write_telling_json(alloc, &["top_layer"], &files, telling)?;
+    let written = write_telling_json(alloc, &["top_layer"], files, telling)?;
     let wanted = format!(in alloc;
         "{{\"format\":\"ringcheck\",\"version\":1,\"result\":\"{word}\",{HEAD}{findings}]}}\n"
     )?;
@@ -365,12 +365,12 @@ fn is_waived_told(
     findings: &str,
 ) -> Result<bool, Fail> {
     let alloc = rt.alloc();
-    let files = [FileSum::Layer {
+    let files = &[FileSum::Layer {
         pads: 242,
         other: 3,
     }];
     let mut written: Vec<u8> = Vec::new(alloc);
-    let answer = print_waived_json(alloc, &["top_layer"], &files, telling, whys, &mut written);
+    let answer = print_waived_json(alloc, &["top_layer"], files, telling, whys, &mut written);
     let wanted = format!(in alloc;
         "{{\"format\":\"ringcheck\",\"version\":1,\"result\":\"{word}\",{HEAD}{findings}]}}\n"
     )?;

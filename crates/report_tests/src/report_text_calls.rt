@@ -244,7 +244,7 @@ fn a_slot_is_told_by_both_ends(rt: HostRuntime) -> Result<(), Fail> {
         number: 3,
         hole,
     };
-    for (cause, text) in [
+    for &(cause, text) in &[
         (
             RingCause::Oblique,
             "  hole 3 of pth, 0.5 at 0,0 to 2,1: no ring, oblique slot\n",
@@ -316,7 +316,7 @@ fn is_flash_line(rt: HostRuntime, why: Why, text: &str) -> Result<bool, Fail> {
 
 #[test]
 fn flashes_that_are_no_pads_are_told(rt: HostRuntime) -> Result<(), Fail> {
-    for (why, text) in [
+    for &(why, text) in &[
         (
             Why::Polygon,
             "  hole 1 of pth, 0.5 at 0,0 to 2,0: no ring, only a polygon flash: flash 7\n",
@@ -354,7 +354,7 @@ fn is_scale_line(rt: HostRuntime, factor: Factor, text: &str) -> Result<bool, Fa
 
 #[test]
 fn factors_are_told(rt: HostRuntime) -> Result<(), Fail> {
-    for (factor, text) in [
+    for &(factor, text) in &[
         (
             Factor::Tenth,
             "pth: 3 holes have no pad; at 0.1 times their coordinates 0 would have none\n",
@@ -466,7 +466,7 @@ const TENTH: ScaleLine = ScaleLine {
 
 /// Tells of a hole for each cause, and of two in a macro flash.
 fn tell_each_cause(telling: &mut Telling) -> Result<(), Fail> {
-    for why in [
+    for &why in &[
         Why::Turned,
         Why::Scaled,
         Why::Holed,

@@ -120,7 +120,7 @@ fn three_layers_and_three_drill_files_are_told(rt: HostRuntime) -> Result<(), Fa
     let told = tell_bytes(rt.alloc(), &files, rules).ok().ok_or("refused")?;
     let mut rings = told.rings.iter();
     for layer in 0..3 {
-        for (drill, number) in [(1, 1), (4, 1), (4, 2)] {
+        for &(drill, number) in &[(1, 1), (4, 1), (4, 2)] {
             let lack = rings.next().ok_or("a ring is missing")?;
             assert_eq!(rt;
                 (lack.layer, lack.at.drill, lack.at.number),

@@ -19,7 +19,7 @@ fn refusal(rt: HostRuntime, text: &[u8]) -> Option<(u64, u64, Reason)> {
 }
 
 /// Whether a waiver has these fields.
-fn is_waiver(waiver: &Waiver, fields: [&str; 6]) -> bool {
+fn is_waiver(waiver: &Waiver, fields: &[&str; 6]) -> bool {
     waiver.kind.as_str() == fields[0]
         && waiver.layer.as_str() == fields[1]
         && waiver.hole.as_str() == fields[2]
@@ -37,7 +37,7 @@ fn waivers_are_read_in_order(rt: HostRuntime) -> Result<(), Failed> {
         return Err("refused".into());
     };
     assert_eq!(rt; read.len(), 2);
-    let ring = [
+    let ring = &[
         "ring",
         "top_layer",
         "pic_programmer-PTH, 0.75 at 142.24,-97.79",
@@ -45,7 +45,7 @@ fn waivers_are_read_in_order(rt: HostRuntime) -> Result<(), Failed> {
         "none",
         "rounded pin 1; seen by eye",
     ];
-    let gap = [
+    let gap = &[
         "gap",
         "",
         "drill, 0.6096 at 50.546,67.31",
@@ -60,7 +60,7 @@ fn waivers_are_read_in_order(rt: HostRuntime) -> Result<(), Failed> {
 
 #[test]
 fn files_that_break_a_rule_are_refused(rt: HostRuntime) {
-    for (text, place, reason) in [
+    for &(text, place, reason) in &[
         ("", 1, Reason::BadManifest),
         ("\u{FEFF}", 1, Reason::BadManifest),
         ("kind,layer,hole,and,has\n", 1, Reason::BadManifest),
@@ -75,7 +75,7 @@ fn files_that_break_a_rule_are_refused(rt: HostRuntime) {
             "of {text}"
         );
     }
-    for (record, reason) in [
+    for &(record, reason) in &[
         ("ring,top,h,,none", Reason::BadManifest),
         ("ring,top,h,,none,seen,", Reason::BadManifest),
         ("\"\"", Reason::BadManifest),
@@ -142,7 +142,7 @@ fn six_records(rt: HostRuntime, wrong: usize) -> Result<String, AllocError> {
 
 #[test]
 fn a_refusal_has_the_number_of_its_record(rt: HostRuntime) -> Result<(), Failed> {
-    for (wrong, place) in [(0, 2), (1, 3), (2, 4), (3, 5), (4, 6), (5, 7)] {
+    for &(wrong, place) in &[(0, 2), (1, 3), (2, 4), (3, 5), (4, 6), (5, 7)] {
         let text = six_records(rt, wrong)?;
         assert_eq!(rt;
             refusal(rt, text.as_bytes()),
@@ -165,7 +165,7 @@ fn count_read(rt: HostRuntime, text: &[u8]) -> Option<usize> {
 
 #[test]
 fn files_are_read_as_manifests_are(rt: HostRuntime) {
-    for (text, count) in [
+    for &(text, count) in &[
         ("kind,layer,hole,and,has,why", 0),
         ("\u{FEFF}kind,layer,hole,and,has,why\r\ngap,,a,b,0,x\r\n", 1),
         (
@@ -395,9 +395,9 @@ fn the_first_waiver_of_a_finding_is_told(rt: HostRuntime) -> Result<(), Failed> 
         gap,,\"drill, 0.6096 at 50.546,67.31\",\"drill, 0.6096 at 51.181,66.548\",0.382301708,again\n";
     let text = with_reasons(rt, stale)?;
     let (read, waived) = waived_by(rt, text.as_str())?;
-    let rings = [Some(0), Some(1), Some(2), Some(3), Some(4), Some(5)];
+    let rings = &[Some(0), Some(1), Some(2), Some(3), Some(4), Some(5)];
     assert!(rt; waived.all());
-    assert!(rt; is_waived_so(rt, &read, &waived, &rings, &[Some(6)], &[9])?);
+    assert!(rt; is_waived_so(rt, &read, &waived, rings, &[Some(6)], &[9])?);
     Ok(())
 }
 
@@ -451,7 +451,7 @@ fn a_finding_has_the_reason_of_its_waiver(rt: HostRuntime) -> Result<(), Failed>
 
 #[test]
 fn every_field_but_the_reason_is_compared(rt: HostRuntime) -> Result<(), Failed> {
-    for record in [
+    for &record in &[
         "gap,top_layer,\"pic_programmer-PTH, 0.75 at 142.24,-97.79\",,none,seen\n",
         "ring,bottom,\"pic_programmer-PTH, 0.75 at 142.24,-97.79\",,none,seen\n",
         "ring,top_layer,\"pic_programmer-PTH, 0.750 at 142.24,-97.79\",,none,seen\n",

@@ -127,7 +127,7 @@ fn pieces_give_the_report_of_the_whole(rt: HostRuntime) -> Result<(), Failure> {
 
 #[test]
 fn plated_slots_need_their_ring(rt: HostRuntime) -> Result<(), Failure> {
-    for (bytes, role, slots, lines) in [
+    for &(bytes, role, slots, lines) in &[
         (
             OBROUND,
             Role::Plated,
@@ -154,7 +154,7 @@ fn plated_slots_need_their_ring(rt: HostRuntime) -> Result<(), Failure> {
             wanted.as_bytes()
         );
     }
-    for (bytes, pads) in [(SHORT, "1"), (TWO, "2")] {
+    for &(bytes, pads) in &[(SHORT, "1"), (TWO, "2")] {
         let wanted = format!(in rt.alloc();
             "{RULES}file 1 layer pads={pads} other=0 name=top\nfile 2 drill plated=yes round=0 slots=1 name=pth\n{RING}"
         )?;
@@ -320,7 +320,7 @@ fn a_reader_gives_the_flashes_of_copper(rt: HostRuntime) -> Result<(), Failure> 
     assert_eq!(rt; flashes.len(), 0);
     reader.take(Role::Copper, &None, &[TWO])?;
     let board = reader.board().ok().ok_or("no board")?;
-    let wanted = [
+    let wanted = &[
         FileSum::Layer { pads: 2, other: 0 },
         FileSum::Drill {
             plated: true,

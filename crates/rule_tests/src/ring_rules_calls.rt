@@ -103,7 +103,7 @@ fn no_pads_hold_nothing(rt: HostRuntime) -> Result<(), Fail> {
     let none: [Disc; 0] = [];
     let layers = [none.as_slice(), none.as_slice()];
     let found = ring_findings(rt.alloc(), &layers, &holes, usual_rules()?)?;
-    let wanted = [
+    let wanted = &[
         Finding::Ring { layer: 0, hole: 0 },
         Finding::Ring { layer: 1, hole: 0 },
     ];
@@ -127,7 +127,7 @@ fn a_disc_holds_a_hole_up_to_equality(rt: HostRuntime) -> Result<(), Fail> {
     }
     let moved = [disc(1_000, 0, 325_000_000)?];
     let found = rings_at(rt.alloc(), &moved, 0, 0)?;
-    let wanted = [Finding::Ring { layer: 0, hole: 0 }];
+    let wanted = &[Finding::Ring { layer: 0, hole: 0 }];
     assert_eq!(rt; found.as_slice(), wanted.as_slice());
     Ok(())
 }
@@ -202,7 +202,7 @@ fn gaps_stand_by_first_and_second(rt: HostRuntime) -> Result<(), Fail> {
         round(200_000_000, 0, 200_000_000)?,
     ];
     let found = gap_findings(rt.alloc(), &holes, usual_rules()?)?;
-    let wanted = [
+    let wanted = &[
         Finding::Gap {
             first: 0,
             second: 1,
@@ -228,7 +228,7 @@ fn a_hole_far_off_in_y_hides_no_gap(rt: HostRuntime) -> Result<(), Fail> {
         round(200_000_000, 0, 200_000_000)?,
     ];
     let found = gap_findings(rt.alloc(), &holes, usual_rules()?)?;
-    let wanted = [Finding::Gap {
+    let wanted = &[Finding::Gap {
         first: 0,
         second: 2,
     }];
@@ -246,7 +246,7 @@ fn holes_are_clear_up_to_equality(rt: HostRuntime) -> Result<(), Fail> {
         0
     );
     let found = gap_findings(rt.alloc(), &[near, near], usual_rules()?)?;
-    let wanted = [Finding::Gap {
+    let wanted = &[Finding::Gap {
         first: 0,
         second: 1,
     }];
@@ -263,7 +263,7 @@ fn a_slot_is_measured_along_its_whole_length(rt: HostRuntime) -> Result<(), Fail
         0
     );
     let close = round(MM, 749_000_000, 250_000_000)?;
-    let wanted = [Finding::Gap {
+    let wanted = &[Finding::Gap {
         first: 0,
         second: 1,
     }];
@@ -379,7 +379,7 @@ fn a_crowd_hides_no_finding(rt: HostRuntime) -> Result<(), Fail> {
     points.push(Point::new(5 * MM, 5 * MM).ok_or("point")?)?;
     let holes = plated_at(rt.alloc(), &points)?;
     let found = gap_findings(rt.alloc(), &holes, usual_rules()?)?;
-    let wanted = [Finding::Gap {
+    let wanted = &[Finding::Gap {
         first: 330,
         second: 2_000,
     }];
@@ -395,7 +395,7 @@ fn a_hole_drilled_twice_is_two_holes(rt: HostRuntime) -> Result<(), Fail> {
     centres.push(Point::new(0, 0).ok_or("point")?)?;
     let holes = plated_at(rt.alloc(), &centres)?;
     let found = gap_findings(rt.alloc(), &holes, usual_rules()?)?;
-    let wanted = [Finding::Gap {
+    let wanted = &[Finding::Gap {
         first: 9_999,
         second: 10_000,
     }];
@@ -417,7 +417,7 @@ fn a_slot_along_an_axis_needs_one_pad_at_both_ends(rt: HostRuntime) -> Result<()
     let exact = [slot_pad(1_375_000_000)?];
     let found = ring_findings(rt.alloc(), &[exact.as_slice()], &holes, rules)?;
     assert_eq!(rt; found.len(), 0);
-    let wanted = [Finding::Ring { layer: 0, hole: 0 }];
+    let wanted = &[Finding::Ring { layer: 0, hole: 0 }];
     let short = [slot_pad(1_370_000_000)?];
     let found = ring_findings(rt.alloc(), &[short.as_slice()], &holes, rules)?;
     assert_eq!(rt; found.as_slice(), wanted.as_slice());
@@ -439,7 +439,7 @@ fn oblique_slots_stand_among_rings_by_layer_and_hole(rt: HostRuntime) -> Result<
     let large = [rect(0, 0, 50 * MM, 50 * MM)?];
     let layers = [none.as_slice(), large.as_slice()];
     let found = ring_findings(rt.alloc(), &layers, &holes, usual_rules()?)?;
-    let wanted = [
+    let wanted = &[
         Finding::Ring { layer: 0, hole: 0 },
         Finding::Oblique { layer: 0, hole: 1 },
         Finding::Ring { layer: 0, hole: 2 },
@@ -454,7 +454,7 @@ fn an_oblique_slot_is_found_where_it_is_plated(rt: HostRuntime) -> Result<(), Fa
     let oblique = slot((0, 5 * MM), (2 * MM, 6 * MM), 250_000_000)?;
     let pads = [rect(0, 0, 50 * MM, 50 * MM)?];
     let found = ring_findings(rt.alloc(), &[pads.as_slice()], &[oblique], usual_rules()?)?;
-    let wanted = [Finding::Oblique { layer: 0, hole: 0 }];
+    let wanted = &[Finding::Oblique { layer: 0, hole: 0 }];
     assert_eq!(rt; found.as_slice(), wanted.as_slice());
     let bare = Drilled {
         plated: false,
@@ -480,7 +480,7 @@ fn rings_through(alloc: Global, span: Option<Span>) -> Result<Vec<Finding>, Fail
 #[test]
 fn a_span_names_the_layers_that_need_a_ring(rt: HostRuntime) -> Result<(), Fail> {
     assert_eq!(rt; rings_through(rt.alloc(), Span::new(1, 1))?.len(), 0);
-    let wanted = [Finding::Ring { layer: 1, hole: 0 }];
+    let wanted = &[Finding::Ring { layer: 1, hole: 0 }];
     let found = rings_through(rt.alloc(), Span::new(1, 2))?;
     assert_eq!(rt; found.as_slice(), wanted.as_slice());
     let found = rings_through(rt.alloc(), None)?;
@@ -499,7 +499,7 @@ fn a_span_changes_no_gap(rt: HostRuntime) -> Result<(), Fail> {
         ..round(100_000_000, 0, 200_000_000)?
     };
     let found = gap_findings(rt.alloc(), &[upper, lower], usual_rules()?)?;
-    let wanted = [Finding::Gap {
+    let wanted = &[Finding::Gap {
         first: 0,
         second: 1,
     }];
@@ -509,7 +509,7 @@ fn a_span_changes_no_gap(rt: HostRuntime) -> Result<(), Fail> {
 
 #[test]
 fn spans_run_from_1_upwards(rt: HostRuntime) {
-    for (first, last) in [(0, 1), (2, 1)] {
+    for &(first, last) in &[(0, 1), (2, 1)] {
         assert!(rt; Span::new(first, last).is_none(), "of {first},{last}");
     }
 }
@@ -525,7 +525,7 @@ fn a_hole_needs_its_ring_on_the_layers_of_its_span(rt: HostRuntime) -> Result<()
     let none: [Pad; 0] = [];
     let layers = [none.as_slice(); 4];
     let found = ring_findings(rt.alloc(), &layers, &[hole], usual_rules()?)?;
-    let wanted = [
+    let wanted = &[
         Finding::Ring { layer: 1, hole: 0 },
         Finding::Ring { layer: 2, hole: 0 },
     ];

@@ -110,7 +110,7 @@ fn files_of_shared_holes(rt: HostRuntime) -> Result<(), Fail> {
     let pads = [disc(10, 0)?, disc(5, 5)?];
     let holes = [hit(1, 0)?, hit(5, 5)?, hit(1, 0)?, hit(1, 0)?];
     let bests = best_pads(rt.alloc(), &pads, &holes)?;
-    let files = [
+    let files = &[
         FileStretch {
             drill: 1,
             start: 0,
@@ -137,7 +137,7 @@ fn files_of_shared_holes(rt: HostRuntime) -> Result<(), Fail> {
             end: 4,
         },
     ];
-    let lines = scale_lines(rt.alloc(), &pads, &holes, &bests, &files)?;
+    let lines = scale_lines(rt.alloc(), &pads, &holes, &bests, files)?;
     let mut found = lines.iter();
     for line in [
         told(1, Factor::Ten, 0),
@@ -154,7 +154,7 @@ fn files_of_shared_holes(rt: HostRuntime) -> Result<(), Fail> {
 
 #[test]
 fn rounded_down(rt: HostRuntime) -> Result<(), Fail> {
-    for (x, factor, scaled) in [
+    for &(x, factor, scaled) in &[
         (1, Factor::Ten, 10),
         (19, Factor::Tenth, 1),
         (-1, Factor::Tenth, -1),

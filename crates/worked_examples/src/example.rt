@@ -24,7 +24,9 @@ pub(crate) struct Example {
     question: Question,
     status: u8,
     wanted: String,
-    parts: Vec<String>,
+    lines: Vec<String>,
+    parts: Vec<Vec<u8>>,
+    head: Vec<u8>,
     is_clear: bool,
 }
 
@@ -42,7 +44,9 @@ impl Example {
             question: Question::Nothing,
             status: 0,
             wanted: String::new(alloc),
+            lines: Vec::new(alloc),
             parts: Vec::new(alloc),
+            head: Vec::new(alloc),
             is_clear: true,
         }
     }
@@ -69,7 +73,9 @@ impl Example {
                 self.wanted.push_str(rest)?;
                 self.wanted.push_str("\n")?;
             }
-            "has" => self.parts.push(String::from_str(alloc, rest)?)?,
+            "has" => self.lines.push(String::from_str(alloc, rest)?)?,
+            "part" => self.parts.push(unescaped(alloc, rest)?)?,
+            "begins" => self.head = unescaped(alloc, rest)?,
             "base" => {
                 shelf.begin(alloc, rest, Draft::new(alloc))?;
                 shelf.keep_as_bases();
@@ -100,10 +106,12 @@ impl Example {
             || self.wanted.as_str().as_bytes() == answer.text.as_slice();
         answer.status == self.status
             && is_whole
+            && answer.text.starts_with(&self.head)
             && self
-                .parts
+                .lines
                 .iter()
-                .all(|part| has_line(&answer.text, part.as_str()))
+                .all(|line| has_line(&answer.text, line.as_str()))
+            && self.parts.iter().all(|part| has_part(&answer.text, part))
     }
 }
 
@@ -111,6 +119,11 @@ impl Example {
 fn has_line(text: &[u8], line: &str) -> bool {
     text.split(|byte| *byte == b'\n')
         .any(|one| one == line.as_bytes())
+}
+
+/// Whether a text has these bytes in it.
+fn has_part(text: &[u8], part: &[u8]) -> bool {
+    text.windows(part.len().max(1)).any(|one| one == part)
 }
 
 fn status_number(status: Status) -> u8 {
@@ -124,7 +137,10 @@ fn status_number(status: Status) -> u8 {
 }
 
 fn answer_of_run(alloc: Global, shelf: &mut Shelf, words: &str) -> Result<Answer, AllocError> {
-    let words: Vec<&str> = words.split_whitespace().collect(alloc)?;
+    let words = words
+        .split_whitespace()
+        .map(|word| if word == "''" { "" } else { word });
+    let words: Vec<&str> = words.collect(alloc)?;
     let mut text = Vec::new(alloc);
     let status = run(alloc, words.as_slice(), shelf, &mut text);
     Ok(Answer {

@@ -1,5 +1,5 @@
-//! Runs the worked examples of `data/examples.txt`, and tells each whose answer is another than the one that stands there.
-//! How an example is written is said at the head of that file.
+//! Runs the worked examples of `data/examples.txt` and the cases of `data/cases.txt`, and prints each whose answer is another than
+//! the one that stands there. How they are written is said at the head of the first file.
 #![tactic(auto)]
 
 mod draft;
@@ -11,11 +11,11 @@ use ringcheck::read_all;
 use shelf::Shelf;
 use std::{fs, io};
 
-/// The greatest size of the file of examples, in bytes.
+/// The greatest size of a file of examples, in bytes.
 const GREATEST_SIZE: u64 = 1_048_576;
 
-/// Judges the examples in their order: each is some lines, and an empty line ends it.
-fn run_all(rt: &HostRuntime, text: &str) -> io::Result<()> {
+/// Judges the examples of a file in their order: each is some lines, and an empty line ends it.
+fn run_all(rt: &HostRuntime, name: &str, text: &str) -> io::Result<()> {
     let alloc = rt.alloc();
     let mut shelf = Shelf::new(alloc);
     let mut example = Example::new(alloc);
@@ -34,16 +34,22 @@ fn run_all(rt: &HostRuntime, text: &str) -> io::Result<()> {
         }
         example = Example::new(alloc);
     }
-    println!(rt; "examples: {all}, different: {different}")
+    println!(rt; "{name}: {all}, different: {different}")
+}
+
+/// Judges the examples of the file under a name.
+fn run_file(rt: &HostRuntime, name: &str) -> io::Result<()> {
+    let mut file = fs::open(rt, name)?;
+    let Ok(bytes) = read_all(rt.alloc(), &mut file, GREATEST_SIZE) else {
+        return println!(rt; "{name} cannot be read");
+    };
+    match std::str::from_utf8(bytes.as_slice()) {
+        Ok(text) => run_all(rt, name, text),
+        Err(_) => println!(rt; "{name} is no text"),
+    }
 }
 
 fn main(rt: HostRuntime) -> io::Result<()> {
-    let mut file = fs::open(&rt, "examples.txt")?;
-    let Ok(bytes) = read_all(rt.alloc(), &mut file, GREATEST_SIZE) else {
-        return println!(rt; "the file of examples cannot be read");
-    };
-    match std::str::from_utf8(bytes.as_slice()) {
-        Ok(text) => run_all(&rt, text),
-        Err(_) => println!(rt; "the file of examples is no text"),
-    }
+    run_file(&rt, "examples.txt")?;
+    run_file(&rt, "cases.txt")
 }

@@ -6,20 +6,20 @@ use std::test::Fail as Failure;
 
 #[test]
 fn a_loader_that_fails_is_told_at_each_call(rt: HostRuntime) {
-    let files = [
+    let files = &[
         ("m.csv", THREE),
         ("top.gbr", LAYER),
         ("bot.gbr", LAYER),
         ("pth.drl", DRILL),
     ];
-    for (call, text) in [
+    for &(call, text) in &[
         (1, "device\n"),
         (2, "device file=1 name=top\n"),
         (3, "device file=2 name=bot\n"),
         (4, "device file=3 name=pth\n"),
     ] {
         for words in [WORDS.as_slice(), MEASURE.as_slice()] {
-            let mut shelf = Shelf::new(&files);
+            let mut shelf = Shelf::new(files);
             shelf.fails_at = call;
             assert!(rt; prints(rt.alloc(), &mut shelf, words, Status::Device, text));
             assert_eq!(rt; shelf.failures(), 1);
@@ -29,25 +29,25 @@ fn a_loader_that_fails_is_told_at_each_call(rt: HostRuntime) {
 
 #[test]
 fn a_file_that_is_not_loaded_is_told_before_a_refusal(rt: HostRuntime) {
-    let files = [
+    let files = &[
         ("m.csv", THREE),
         ("top.gbr", BARE),
         ("bot.gbr", LAYER),
         ("pth.drl", DRILL),
     ];
-    let mut shelf = Shelf::new(&files);
+    let mut shelf = Shelf::new(files);
     shelf.fails_at = 4;
     let text = "device file=3 name=pth\n";
     assert!(rt; prints(rt.alloc(), &mut shelf, &WORDS, Status::Device, text));
     assert_eq!(rt; shelf.calls, 4);
     let mut shelf = LongShelf {
-        shelf: Shelf::new(&files),
+        shelf: Shelf::new(files),
         name: "pth.drl",
         length: 268_435_457,
     };
     let text = "refused file=3 place=0 byte=0 reason=TooLong name=pth\n";
     assert!(rt; prints(rt.alloc(), &mut shelf, &WORDS, Status::Refused, text));
-    let mut shelf = Shelf::new(&files);
+    let mut shelf = Shelf::new(files);
     let text = "refused file=1 place=1 byte=0 reason=NoFormat name=top\n";
     assert!(rt; prints(rt.alloc(), &mut shelf, &WORDS, Status::Refused, text));
     assert_eq!(rt; shelf.calls, 4);
@@ -177,7 +177,7 @@ fn a_long_measure_is_written_in_parts(rt: HostRuntime) -> Result<(), Failure> {
     ];
     let mut shelf = Shelf::new(&files);
     assert!(rt; prints(alloc, &mut shelf, &MEASURE, Status::Pass, text.as_str()));
-    for fails_at in [1, 4, 2_000] {
+    for &fails_at in &[1, 4, 2_000] {
         let mut out = Narrow { calls: 0, fails_at };
         let status = run(alloc, &MEASURE, &mut Shelf::new(&files), &mut out);
         assert_eq!(rt; (status, out.calls), (Status::Device, fails_at));
@@ -187,9 +187,9 @@ fn a_long_measure_is_written_in_parts(rt: HostRuntime) -> Result<(), Failure> {
 
 /// How a run ends whose writer fails at this call, and how many calls it made.
 fn written(alloc: Global, words: &[&str], fails_at: u64) -> (Status, u64) {
-    let files = [("m.csv", MANIFEST), ("top.gbr", LAYER), ("pth.drl", DRILL)];
+    let files = &[("m.csv", MANIFEST), ("top.gbr", LAYER), ("pth.drl", DRILL)];
     let mut out = Narrow { calls: 0, fails_at };
-    let status = run(alloc, words, &mut Shelf::new(&files), &mut out);
+    let status = run(alloc, words, &mut Shelf::new(files), &mut out);
     (status, out.calls)
 }
 
@@ -208,10 +208,10 @@ fn a_writer_that_fails_is_told_at_each_write(rt: HostRuntime) {
 
 /// Whether a run passes and prints just this, or says just that memory ran out.
 fn passes_or_lacks_memory(alloc: Global, words: &[&str], text: &str) -> bool {
-    let files = [("m.csv", MANIFEST), ("top.gbr", LAYER), ("pth.drl", DRILL)];
+    let files = &[("m.csv", MANIFEST), ("top.gbr", LAYER), ("pth.drl", DRILL)];
     let mut out = [0; 256];
     let mut rest = out.as_mut_slice();
-    let status = run(alloc, words, &mut Shelf::new(&files), &mut rest);
+    let status = run(alloc, words, &mut Shelf::new(files), &mut rest);
     let len = 256_usize.saturating_sub(rest.len());
     match status {
         Status::Pass => &out[..len] == text.as_bytes(),

@@ -1,7 +1,5 @@
-use Rattle.std.proofs.Common.{rules, ◌≡◌, ◌<◌, ◌∙◌, sym, ap, List, ℕ, zero, suc, [], ◌∷◌, map, length, slice_index_or, arith, refl}
+use Rattle.std.proofs.Common.{rules, ◌≡◌, ◌<◌, ap, List, ℕ, zero, suc, [], ◌∷◌, map, length, slice_index_or, arith}
 use Rattle.std.specs.List.{Contains}
-use Rattle.std.specs.Str.{bytes_eq}
-use Rattle.std.proofs.lemmas.Slice.Eq.{bytes_eq-Decides}
 use Rattle.program_tests.proofs.ringcheck_calls.Shelf.text_of.Goals as goal
 
 -- what an element gives is among what all give

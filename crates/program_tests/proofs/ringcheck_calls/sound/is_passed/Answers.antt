@@ -1,6 +1,6 @@
 use Rattle.std.proofs.Common.{rules, refl, codes}
 use Rattle.ringcheck.proofs.Held.{sound_as_held}
-use Rattle.program_tests.proofs.ringcheck_calls.checking.is_passed.Goals as goal
+use Rattle.program_tests.proofs.ringcheck_calls.sound.is_passed.Goals as goal
 
 pub returns : goal.returns
 returns c pass =

@@ -1,6 +1,6 @@
 use Rattle.std.proofs.Common.{rules, refl, codes, None}
 use Rattle.ringcheck.proofs.Held.{met_as_held}
-use Rattle.program_tests.proofs.ringcheck_calls.met.is_measured.Goals as goal
+use Rattle.program_tests.proofs.ringcheck_calls.sound.is_measured.Goals as goal
 
 pub returns : goal.returns
 returns c pass =

@@ -1,0 +1,151 @@
+//! Files at their limits and above them.
+
+use super::*;
+
+/// How a run ends over files of which the one under a name has this length, and what it prints.
+fn written_at<'x>(alloc: Global, words: &[&str], name: &'x str, length: u64) -> (Status, Vec<u8>) {
+    let files = &[
+        ("m.csv", MANIFEST),
+        ("top.gbr", LAYER),
+        ("pth.drl", DRILL),
+        ("w.csv", ""),
+    ];
+    let mut shelf = LongShelf {
+        shelf: Shelf::new(files),
+        name,
+        length,
+    };
+    let mut out: Vec<u8> = Vec::new(alloc);
+    let status = run(alloc, words, &mut shelf, &mut out);
+    (status, out)
+}
+
+const LONG_MANIFEST: &str = "refused manifest place=0 reason=TooLong\n";
+
+const LONG_LAYER: &str = "refused file=1 place=0 byte=0 reason=TooLong name=top\n";
+
+const LONG_DRILL: &str = "refused file=2 place=0 byte=0 reason=TooLong name=pth\n";
+
+#[test]
+fn files_above_their_limit_are_told(rt: HostRuntime) {
+    for (words, name, length, status, text) in [
+        (WORDS.as_slice(), "m.csv", 1_048_576, Status::Pass, REPORT),
+        (
+            WORDS.as_slice(),
+            "m.csv",
+            1_048_577,
+            Status::Refused,
+            LONG_MANIFEST,
+        ),
+        (
+            WORDS.as_slice(),
+            "top.gbr",
+            268_435_456,
+            Status::Pass,
+            REPORT,
+        ),
+        (
+            WORDS.as_slice(),
+            "top.gbr",
+            268_435_457,
+            Status::Refused,
+            LONG_LAYER,
+        ),
+        (
+            WORDS.as_slice(),
+            "pth.drl",
+            268_435_456,
+            Status::Pass,
+            REPORT,
+        ),
+        (
+            WORDS.as_slice(),
+            "pth.drl",
+            268_435_457,
+            Status::Refused,
+            LONG_DRILL,
+        ),
+        (
+            MEASURE.as_slice(),
+            "m.csv",
+            1_048_576,
+            Status::Pass,
+            MEASURED,
+        ),
+        (
+            MEASURE.as_slice(),
+            "m.csv",
+            1_048_577,
+            Status::Refused,
+            LONG_MANIFEST,
+        ),
+        (
+            MEASURE.as_slice(),
+            "pth.drl",
+            268_435_456,
+            Status::Pass,
+            MEASURED,
+        ),
+        (
+            MEASURE.as_slice(),
+            "pth.drl",
+            268_435_457,
+            Status::Refused,
+            LONG_DRILL,
+        ),
+        (
+            ["manifest", "--why", "top.gbr"].as_slice(),
+            "top.gbr",
+            268_435_457,
+            Status::Pass,
+            "file,role,because\ntop.gbr,?,it is too long\n",
+        ),
+    ] {
+        let (ended, out) = written_at(rt.alloc(), words, name, length);
+        assert!(rt;
+            ended == status && out.as_slice() == text.as_bytes(),
+            "{name} {length}"
+        );
+    }
+}
+
+/// A single file is asked for only up to its limit: at its limit it is one that is not there.
+#[test]
+fn single_files_above_their_limit_are_told(rt: HostRuntime) {
+    for &words in &[
+        ["show", "--kind", "layer", "file"],
+        ["show", "--kind", "drill", "file"],
+        ["rewrite", "--kind", "layer", "file"],
+        ["rewrite", "--kind", "drill", "file"],
+    ] {
+        for &(length, status, text) in &[
+            (268_435_456, Status::Device, "device\n"),
+            (
+                268_435_457,
+                Status::Refused,
+                "refused place=0 byte=0 reason=TooLong\n",
+            ),
+        ] {
+            let (ended, out) = written_at(rt.alloc(), &words, "file", length);
+            assert!(rt; ended == status && out.as_slice() == text.as_bytes());
+        }
+    }
+}
+
+/// A file of waivers of 1,048,576 bytes is read, and one of a byte more is refused.
+#[test]
+fn files_of_waivers_have_a_limit(rt: HostRuntime) {
+    let words = &[
+        "report", "--ring", "0.125", "--gap", "0.25", "--waive", "w.csv", "m.csv",
+    ];
+    for &(length, line) in &[
+        (1_048_576, "refused waivers place=1 reason=BadManifest\n"),
+        (1_048_577, "refused waivers place=0 reason=TooLong\n"),
+    ] {
+        let (ended, out) = written_at(rt.alloc(), words, "w.csv", length);
+        assert!(rt;
+            ended == Status::Refused && out.as_slice().starts_with(line.as_bytes()),
+            "{line}"
+        );
+    }
+}

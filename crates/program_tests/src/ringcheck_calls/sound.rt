@@ -1,0 +1,70 @@
+//! What passes, and what is measured, is sound as it lies there.
+
+ghost use Rattle.std.specs.Prelude.{IsTrue, List, None, Ok, Option, [], codes, ℕ, ◌∷◌, ◌≡◌};
+ghost use Rattle.std.specs.List.{Contains};
+ghost use Rattle.grid_units.specs.Holes.{GridRules};
+ghost use Rattle.manifest.specs.Manifest.{manifest};
+ghost use Rattle.manifest.specs.declared.Entry.{Entry as TheEntry};
+ghost use Rattle.measuring.specs.Measures.{PackagePasses};
+ghost use Rattle.measuring.specs.declared.measure.Measure.{Measure};
+ghost use Rattle.package_check.specs.Soundness.{IsSound};
+ghost use Rattle.ringcheck.specs.Naming.{report_named, rules_named};
+ghost use Rattle.ringcheck.specs.Running.{HasFiles, sources};
+ghost use Rattle.ringcheck.specs.declared.naming.ReportFormat.{ReportFormat};
+
+use super::*;
+
+/// Whether a package of three files at hand passes: then the files that its manifest names are sound as they lie there.
+fn is_passed<'x>(alloc: Global, records: &'x str, layer: &'x str, drill: &'x str) -> bool
+    ensures { IsTrue result → (rules : GridRules) × (rules_named (codes "0.125") (codes "0.25") ≡ Ok rules) × (entries : List TheEntry) × (manifest records.now ≡ Ok entries)
+        × (files : List (List ℕ)) × HasFiles (λ n b. Contains {X = List ℕ × List ℕ} ((codes "m.csv", records.now) ∷ (codes "top.gbr", layer.now) ∷ (codes "pth.drl", drill.now) ∷ []) (n, b)) entries files
+        × IsSound (sources entries files) rules }
+{
+    let files = [("m.csv", records), ("top.gbr", layer), ("pth.drl", drill)];
+    let mut out: Vec<u8> = Vec::new(alloc);
+    run(alloc, &WORDS, &mut Shelf::new(&files), &mut out) == Status::Pass
+}
+
+#[test]
+fn what_passes_is_sound_as_it_lies_there(rt: HostRuntime) {
+    assert!(rt; is_passed(rt.alloc(), MANIFEST, LAYER, DRILL));
+    assert!(rt; !is_passed(rt.alloc(), MANIFEST, MOVED, DRILL));
+}
+
+/// Whether a package of three files at hand is measured. Then the files that its manifest names, as they lie there, pass under just
+/// the rules of a measure.
+fn is_measured<'x>(alloc: Global, records: &'x str, layer: &'x str, drill: &'x str) -> bool
+    ensures { IsTrue result → (entries : List TheEntry) × (manifest records.now ≡ Ok entries) × (files : List (List ℕ))
+        × HasFiles (λ n b. Contains {X = List ℕ × List ℕ} ((codes "m.csv", records.now) ∷ (codes "top.gbr", layer.now) ∷ (codes "pth.drl", drill.now) ∷ []) (n, b)) entries files
+        × (measure : Measure) × PackagePasses (sources entries files) measure.meets.ring measure.meets.gap }
+{
+    let files = [("m.csv", records), ("top.gbr", layer), ("pth.drl", drill)];
+    let mut out: Vec<u8> = Vec::new(alloc);
+    run(alloc, &MEASURE, &mut Shelf::new(&files), &mut out) == Status::Pass
+}
+
+#[test]
+fn what_is_measured_passes_under_just_its_rules(rt: HostRuntime) {
+    assert!(rt; is_measured(rt.alloc(), MANIFEST, LAYER, DRILL));
+    assert!(rt; is_measured(rt.alloc(), MANIFEST, MOVED, DRILL));
+    assert!(rt; !is_measured(rt.alloc(), MANIFEST, BARE, DRILL));
+}
+
+/// Whether a report finds nothing on a package of three files at hand. Then the files that its manifest names, as they lie there, are
+/// sound.
+fn is_told_sound<'x>(alloc: Global, records: &'x str, layer: &'x str, drill: &'x str) -> bool
+    ensures { IsTrue result → (asked : GridRules × Option ℕ × ReportFormat) × (report_named (codes "0.125") (codes "0.25") None None None ≡ Ok asked) × (entries : List TheEntry) × (manifest records.now ≡ Ok entries) × (files : List (List ℕ))
+        × HasFiles (λ n b. Contains {X = List ℕ × List ℕ} ((codes "m.csv", records.now) ∷ (codes "top.gbr", layer.now) ∷ (codes "pth.drl", drill.now) ∷ []) (n, b)) entries files
+        × IsSound (sources entries files) asked.0 }
+{
+    let files = [("m.csv", records), ("top.gbr", layer), ("pth.drl", drill)];
+    let mut out: Vec<u8> = Vec::new(alloc);
+    run(alloc, &REPORT_WORDS, &mut Shelf::new(&files), &mut out) == Status::Pass
+}
+
+#[test]
+fn what_a_report_passes_is_sound(rt: HostRuntime) {
+    assert!(rt; is_told_sound(rt.alloc(), MANIFEST, LAYER, DRILL));
+    assert!(rt; !is_told_sound(rt.alloc(), MANIFEST, MOVED, DRILL));
+    assert!(rt; !is_told_sound(rt.alloc(), MANIFEST, BARE, DRILL));
+}
