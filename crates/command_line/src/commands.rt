@@ -1,7 +1,7 @@
 //! The commands of the program, with their help.
 
-ghost use Rattle.std.specs.Prelude.{◌≡◌, IfOk, codes, false};
-ghost use Rattle.clap.specs.Words.{app_of, new_app, rule_of};
+ghost use Rattle.std.specs.Prelude.{◌≡◌, IfOk, codes, false, true};
+ghost use Rattle.clap.specs.Words.{App, app_of, new_app, rule_of, with_subcommand};
 ghost use Rattle.command_line.specs.Line.{check_app, draw_app, explain_app, file_app, manifest_app, maybe, maybe_option, measure_app, option, positional, program_app, report_app, ringcheck_app, several, switch};
 ghost use Rattle.command_line.specs.Inner.Building.{file_commands_of, package_commands_of, report_args_of};
 
@@ -91,26 +91,37 @@ fn program<'a>(alloc: Global) -> Command<'a>
 }
 
 /// A program with the commands on the package of a manifest too.
-// Each command is made where it is added, so that one of them is held at a time.
 fn with_package_commands<'a>(alloc: Global, program: Command<'a>) -> Result<Command<'a>, AllocError>
     ensures { IfOk result (λ c. app_of c ≡ package_commands_of (app_of program.entry)) }
 {
-    program
-        .subcommand(check(alloc)?)?
-        .subcommand(report(alloc)?)?
-        .subcommand(measure(alloc)?)?
-        .subcommand(draw(alloc)?)
+    let program = joined(program, check(alloc))?;
+    let program = joined(program, report(alloc))?;
+    let program = joined(program, measure(alloc))?;
+    joined(program, draw(alloc))
 }
 
 /// A program with the commands on files and on words too.
 fn with_file_commands<'a>(alloc: Global, program: Command<'a>) -> Result<Command<'a>, AllocError>
     ensures { IfOk result (λ c. app_of c ≡ file_commands_of (app_of program.entry)) }
 {
-    program
-        .subcommand(manifest(alloc)?)?
-        .subcommand(explain(alloc)?)?
-        .subcommand(show(alloc)?)?
-        .subcommand(rewrite(alloc)?)
+    let program = joined(program, manifest(alloc))?;
+    let program = joined(program, explain(alloc))?;
+    let program = joined(program, show(alloc))?;
+    joined(program, rewrite(alloc))
+}
+
+/// The program with a command more, where there was memory for it.
+fn joined<'a>(
+    program: Command<'a>,
+    command: Result<Command<'a>, AllocError>,
+) -> Result<Command<'a>, AllocError>
+    ensures { (app : App) → IfOk command.entry (λ c. app_of c ≡ app) → app.top.is_plain ≡ true
+        → IfOk result (λ c. app_of c ≡ with_subcommand (app_of program.entry) app.top) }
+{
+    match command {
+        Ok(command) => program.subcommand(command),
+        Err(fault) => Err(fault),
+    }
 }
 
 /// `check --ring MM --gap MM MANIFEST`

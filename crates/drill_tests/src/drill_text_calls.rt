@@ -4,7 +4,7 @@ use drill_text::{
     Coordinates, Drill, DrillReader, HolesReader, drill_sayable, read_drill, write_drill,
 };
 use grid_units::{Fail, Fault, Hole, Reason, Text};
-use std::alloc::Global;
+use std::alloc::{AllocError, Global};
 use std::test::Fail as TestFail;
 
 /// The ends of a hole and its radius, in pm.
@@ -31,11 +31,16 @@ fn drills(alloc: Global, text: &[u8], wanted: &[Ends]) -> bool {
     }
 }
 
-fn fault_of(alloc: Global, text: &[u8]) -> Option<Fail> {
-    match read_drill(alloc, text) {
+/// Why nothing was read, if so.
+fn failure_of(read: Result<Drill, Fail>) -> Option<Fail> {
+    match read {
         Ok(_) => None,
         Err(fail) => Some(fail),
     }
+}
+
+fn fault_of(alloc: Global, text: &[u8]) -> Option<Fail> {
+    failure_of(read_drill(alloc, text))
 }
 
 fn refused(reason: Reason, place: u64, byte: u64) -> Option<Fail> {
@@ -135,14 +140,24 @@ fn pieces_alike(alloc: Global, text: &[u8]) -> bool {
 
 const PLATED: &[u8; 36] = b"M48\nMETRIC\nT1C0.4\n%\nT1\nX0.0Y0.0\nM30\n";
 
+/// Texts of one hole at 2.54 mm: by each rule for zeros; in other formats, for the settings are those of the whole header, wherever a
+/// comment or a later line names them; a comment in the body gives none, and a later line takes nothing back.
+const ONE_HOLE: [&str; 10] = [
+    "M48\nMETRIC,TZ\nT1C0.4\n%\nT1\nX2540Y0\nM30\n",
+    "M48\nMETRIC,LZ\nT1C0.4\n%\nT1\nX00254Y0\nM30\n",
+    "M48\nMETRIC\nT1C0.4\n%\nT1\nX2.54Y0.0\nM30\n",
+    "M48\nMETRIC\nT1C0.4\n%\nT1\nX002540Y000000\nM30\n",
+    "M48\nMETRIC,LZ,00.00\nT1C0.4\n%\nT1\nX0254Y0\nM30\n",
+    "M48\n;FILE_FORMAT=2:4\nMETRIC,TZ\nT1C0.4\n%\nT1\nX25400Y0\nM30\n",
+    ";FILE_FORMAT=2:4\nM48\nMETRIC,TZ\nT1C0.4\n%\nT1\nX25400Y0\nM30\n",
+    "M48\nMETRIC,TZ\nT1C0.4\n;FILE_FORMAT=2:4\n%\nT1\nX25400Y0\nM30\n",
+    "M48\nMETRIC\nT1C0.4\nMETRIC,TZ,00.0000\nM95\nT1\n;FILE_FORMAT=3:3\nX25400Y0\nM30",
+    "M48\nM71\nMETRIC,LZ\nMETRIC,000.000\nT01C.4\n%\nT1\nX00254Y0\nM30\n\n \n",
+];
+
 #[test]
-fn zeros(rt: HostRuntime) {
-    for &text in &[
-        "M48\nMETRIC,TZ\nT1C0.4\n%\nT1\nX2540Y0\nM30\n",
-        "M48\nMETRIC,LZ\nT1C0.4\n%\nT1\nX00254Y0\nM30\n",
-        "M48\nMETRIC\nT1C0.4\n%\nT1\nX2.54Y0.0\nM30\n",
-        "M48\nMETRIC\nT1C0.4\n%\nT1\nX002540Y000000\nM30\n",
-    ] {
+fn one_hole_of_each_format(rt: HostRuntime) {
+    for &text in &ONE_HOLE {
         assert!(rt;
             drills_one(rt.alloc(), text, 2_540_000_000, 0, 200_000_000),
             "{text}"
@@ -150,115 +165,78 @@ fn zeros(rt: HostRuntime) {
     }
 }
 
-/// The settings are those of the whole header, wherever a comment or a later line names them.
+/// Texts and their holes: slots; coordinates left out, which are those of the point before, at the end of a slot those of its first
+/// point; equal holes, which are two; and a hole at 10 m.
+const HOLES: [(&[u8], &[Ends]); 4] = [
+    (
+        b"M48\nMETRIC\nT1C0.5\n%\nT1\nX0.0Y0.0G85X2.0Y0.0\nX0.0Y5.0G85X2.0Y6.0\nX9.0Y9.0G85X9.0Y9.0\nM30\n",
+        &[
+            (0, 0, 2_000_000_000, 0, 250_000_000),
+            (0, 5_000_000_000, 2_000_000_000, 6_000_000_000, 250_000_000),
+            (
+                9_000_000_000,
+                9_000_000_000,
+                9_000_000_000,
+                9_000_000_000,
+                250_000_000,
+            ),
+        ],
+    ),
+    (
+        b"M48\nINCH,LZ\nT1C0.1\n%\nT1\nX01Y-005\nX02G85Y01\nY00\nM30\n",
+        &[
+            (
+                25_400_000_000,
+                -12_700_000_000,
+                25_400_000_000,
+                -12_700_000_000,
+                1_270_000_000,
+            ),
+            (
+                50_800_000_000,
+                -12_700_000_000,
+                50_800_000_000,
+                25_400_000_000,
+                1_270_000_000,
+            ),
+            (50_800_000_000, 0, 50_800_000_000, 0, 1_270_000_000),
+        ],
+    ),
+    (
+        b"M48\nMETRIC\nT1C0.4\n%\nT1\nX0.0Y0.0\nX0.0Y0.0\nM30\n",
+        &[(0, 0, 0, 0, 200_000_000), (0, 0, 0, 0, 200_000_000)],
+    ),
+    (
+        b"M48\nMETRIC\nT1C0.4\n%\nT1\nX10000.0Y0.0\nM30\n",
+        &[(10_000_000_000_000, 0, 10_000_000_000_000, 0, 200_000_000)],
+    ),
+];
+
 #[test]
-fn formats(rt: HostRuntime) {
-    for &text in &[
-        "M48\nMETRIC,LZ,00.00\nT1C0.4\n%\nT1\nX0254Y0\nM30\n",
-        "M48\n;FILE_FORMAT=2:4\nMETRIC,TZ\nT1C0.4\n%\nT1\nX25400Y0\nM30\n",
-        ";FILE_FORMAT=2:4\nM48\nMETRIC,TZ\nT1C0.4\n%\nT1\nX25400Y0\nM30\n",
-        "M48\nMETRIC,TZ\nT1C0.4\n;FILE_FORMAT=2:4\n%\nT1\nX25400Y0\nM30\n",
-    ] {
-        assert!(rt;
-            drills_one(rt.alloc(), text, 2_540_000_000, 0, 200_000_000),
-            "{text}"
-        );
+fn holes_and_slots(rt: HostRuntime) {
+    for &(text, holes) in &HOLES {
+        assert!(rt; drills(rt.alloc(), text, holes) && pieces_alike(rt.alloc(), text));
     }
-}
-
-/// A comment in the body gives no format, and a later line takes nothing back.
-#[test]
-fn the_header_as_a_whole(rt: HostRuntime) {
-    for &text in &[
-        "M48\nMETRIC\nT1C0.4\nMETRIC,TZ,00.0000\nM95\nT1\n;FILE_FORMAT=3:3\nX25400Y0\nM30",
-        "M48\nM71\nMETRIC,LZ\nMETRIC,000.000\nT01C.4\n%\nT1\nX00254Y0\nM30\n\n \n",
-    ] {
-        assert!(rt;
-            drills_one(rt.alloc(), text, 2_540_000_000, 0, 200_000_000),
-            "{text}"
-        );
-    }
-}
-
-#[test]
-fn slots(rt: HostRuntime) -> Result<(), TestFail> {
-    let text =
-        b"M48\nMETRIC\nT1C0.5\n%\nT1\nX0.0Y0.0G85X2.0Y0.0\nX0.0Y5.0G85X2.0Y6.0\nX9.0Y9.0G85X9.0Y9.0\nM30\n";
-    let wanted = &[
-        (0, 0, 2_000_000_000, 0, 250_000_000),
-        (0, 5_000_000_000, 2_000_000_000, 6_000_000_000, 250_000_000),
-        (
-            9_000_000_000,
-            9_000_000_000,
-            9_000_000_000,
-            9_000_000_000,
-            250_000_000,
-        ),
-    ];
-    assert!(rt; drills(rt.alloc(), text, wanted));
-    assert!(rt; pieces_alike(rt.alloc(), text));
-    let routed =
-        "M48\nMETRIC\nT1C0.5\n%\nT1\nX0.0Y0.0G85X2.0Y0.0\nX0.0Y5.0G85X2.0Y6.0\nX9.0Y9.0G85X9.0Y9.0\nG00X1.0Y1.0\nM30\n";
-    assert!(rt; refuses(rt.alloc(), routed, Reason::Routed, 9, 83));
-    Ok(())
-}
-
-/// A coordinate left out is that of the point before; the end of a slot that of its first point.
-#[test]
-fn coordinates_left_out(rt: HostRuntime) -> Result<(), TestFail> {
-    let text = b"M48\nINCH,LZ\nT1C0.1\n%\nT1\nX01Y-005\nX02G85Y01\nY00\nM30\n";
-    let wanted = &[
-        (
-            25_400_000_000,
-            -12_700_000_000,
-            25_400_000_000,
-            -12_700_000_000,
-            1_270_000_000,
-        ),
-        (
-            50_800_000_000,
-            -12_700_000_000,
-            50_800_000_000,
-            25_400_000_000,
-            1_270_000_000,
-        ),
-        (50_800_000_000, 0, 50_800_000_000, 0, 1_270_000_000),
-    ];
-    assert!(rt; drills(rt.alloc(), text, wanted));
-    assert!(rt; pieces_alike(rt.alloc(), text));
-    Ok(())
-}
-
-/// Equal holes are two holes.
-#[test]
-fn doubled_hits(rt: HostRuntime) -> Result<(), TestFail> {
-    let text = b"M48\nMETRIC\nT1C0.4\n%\nT1\nX0.0Y0.0\nX0.0Y0.0\nM30\n";
-    assert!(rt;
-        drills(
-            rt.alloc(),
-            text,
-            &[(0, 0, 0, 0, 200_000_000), (0, 0, 0, 0, 200_000_000)]
-        )
-    );
-    assert!(rt; pieces_alike(rt.alloc(), text));
-    Ok(())
 }
 
 /// Three tools, of which one has settings, and no hole.
 const TOOLS: &[u8] = b"M48\nMETRIC\nT3C0.3\nT1F00S00C.0350H5Z-1\nT2C2.\n%\nM30\n";
 
+/// The tools of a file by their numbers, with their diameters.
+fn tools_of(alloc: Global, text: &[u8]) -> Result<Vec<(u16, i64)>, Fail> {
+    let drill = read_drill(alloc, text)?;
+    let mut tools = Vec::new(alloc);
+    for (number, diameter) in drill.tools() {
+        tools.push((*number, diameter.units()))?;
+    }
+    Ok(tools)
+}
+
 #[test]
-fn tools_in_order(rt: HostRuntime) -> Result<(), TestFail> {
-    let drill = read_drill(rt.alloc(), TOOLS).map_err(|_| "refused")?;
-    let tools: Vec<(u16, i64)> = drill
-        .tools()
-        .iter()
-        .map(|(number, diameter)| (*number, diameter.units()))
-        .collect(rt.alloc())?;
-    assert_eq!(rt;
-        tools.as_slice(),
-        [(3, 30_000_000), (1, 3_500_000), (2, 200_000_000)].as_slice()
-    );
+fn tools_in_order(rt: HostRuntime) -> Result<(), Fail> {
+    let tools = tools_of(rt.alloc(), TOOLS)?;
+    let wanted = &[(3, 30_000_000), (1, 3_500_000), (2, 200_000_000)];
+    assert!(rt; tools.as_slice() == wanted.as_slice());
     assert!(rt; pieces_alike(rt.alloc(), TOOLS));
     Ok(())
 }
@@ -271,195 +249,135 @@ fn tools_among_commands(rt: HostRuntime) -> Result<(), TestFail> {
     Ok(())
 }
 
-#[test]
-fn refused_coordinates(rt: HostRuntime) {
-    for &(text, reason, place, byte) in &[
-        (
-            "M48\nMETRIC\nT1C0.4\n%\nT1\nX2540Y000000\nM30\n",
-            Reason::NoZeros,
-            6,
-            23,
-        ),
-        (
-            "M48\nMETRIC\nT1C0.4\n%\nT1\nX10000.00000001Y0.0\nM30\n",
-            Reason::TooFar,
-            6,
-            23,
-        ),
-        (
-            "M48\nMETRIC,TZ\nT1C0.4\n%\nT1\nX1234567Y0\nM30\n",
-            Reason::TooManyDigits,
-            6,
-            26,
-        ),
-    ] {
-        assert!(rt; refuses(rt.alloc(), text, reason, place, byte), "{text}");
-    }
-}
+/// Texts that are refused: by coordinates, digits, ends, tools, lines of the header and of the body, settings and definitions.
+const REFUSED: [(&str, Reason, u64, u64); 35] = [
+    (
+        "M48\nMETRIC\nT1C0.4\n%\nT1\nX2540Y000000\nM30\n",
+        Reason::NoZeros,
+        6,
+        23,
+    ),
+    (
+        "M48\nMETRIC\nT1C0.4\n%\nT1\nX10000.00000001Y0.0\nM30\n",
+        Reason::TooFar,
+        6,
+        23,
+    ),
+    (
+        "M48\nMETRIC,TZ\nT1C0.4\n%\nT1\nX1234567Y0\nM30\n",
+        Reason::TooManyDigits,
+        6,
+        26,
+    ),
+    (
+        "M48\nMETRIC\nT1C0.4\n%\nT1\nX0000001Y0.0\nM30\n",
+        Reason::NoZeros,
+        6,
+        23,
+    ),
+    (
+        "M48\nMETRIC\nT1C0.4\n%\nT1\nX99999999999999999999.0Y0.0\nM30\n",
+        Reason::TooFar,
+        6,
+        23,
+    ),
+    (
+        "M48\nMETRIC\n%\nX1.123456789Y1000000.0\n",
+        Reason::TooFine,
+        4,
+        13,
+    ),
+    (
+        "M48\nMETRIC\nT1C0.4\n%\nT1\nX0.0Y0.0\n",
+        Reason::Truncated,
+        7,
+        32,
+    ),
+    (
+        "M48\nMETRIC\nT1C0.4\n%\nT1\nX0.0Y0.0\nM30\nT1\n",
+        Reason::AfterEnd,
+        8,
+        36,
+    ),
+    (
+        "M48\nMETRIC\nT1C0.4\n%\nT1\nX0.0Y0.0\nM30\n;x\n",
+        Reason::AfterEnd,
+        8,
+        36,
+    ),
+    (
+        "M48\nMETRIC\nT1C0.4\n%\nT2\nX0.0Y0.0\nM30\n",
+        Reason::UnknownTool,
+        5,
+        20,
+    ),
+    (
+        "M48\nMETRIC\nT1C0.4\n%\nT0\nX0.0Y0.0\nM30\n",
+        Reason::NoTool,
+        6,
+        23,
+    ),
+    (
+        "M48\nMETRIC\nT1C0.4\n%\nX0.0Y0.0\nM30\n",
+        Reason::NoTool,
+        5,
+        20,
+    ),
+    ("M48\nMETRIC\nTC0.4\n%\n", Reason::BadNumber, 3, 11),
+    ("M48\nMETRIC\nT1\n%\n", Reason::BadLine, 3, 11),
+    ("M48\nMETRIC\nT1C0.4C0.5\n%\n", Reason::BadLine, 3, 11),
+    ("M48\nMETRIC\nT1C4\n%\n", Reason::BadNumber, 3, 11),
+    ("M48\nMETRIC,x\n", Reason::BadLine, 2, 4),
+    ("M48\nMETRIC,\n", Reason::BadNumber, 2, 4),
+    ("M48\nMETRIC,0000000.0\n", Reason::BadNumber, 2, 4),
+    ("M48\nFMAT,1\n", Reason::OldFormat, 2, 4),
+    ("INCH\nM48\n", Reason::OldFormat, 1, 0),
+    ("M48\nICI,ON\n", Reason::Incremental, 2, 4),
+    (
+        "M48\nMETRIC\nT1C0.4\n%\nT99999999999\nX0.0Y0.0\nM30\n",
+        Reason::BadNumber,
+        5,
+        20,
+    ),
+    ("M48\nMETRIC\n%\nR2M01\n", Reason::Repeat, 4, 13),
+    ("M48\nMETRIC\n%\nM15\n", Reason::Routed, 4, 13),
+    ("M48\nMETRIC\n%\nG85X1.0\n", Reason::BadLine, 4, 13),
+    ("M48\nMETRIC\n%\nX1.123456789Y\n", Reason::BadNumber, 4, 13),
+    (
+        "M48\n;FILE_FORMAT=2:4\nMETRIC,TZ,000.000\nT1C0.4\n%\nT1\nX0.0Y0.0\nM30\n",
+        Reason::FormatConflict,
+        3,
+        21,
+    ),
+    (
+        ";FILE_FORMAT=2:4\n;FILE_FORMAT=3:3\nM48\n",
+        Reason::FormatConflict,
+        2,
+        17,
+    ),
+    (
+        "M48\nMETRIC,LZ\nMETRIC,TZ\n%\n",
+        Reason::FormatConflict,
+        3,
+        14,
+    ),
+    ("M48\nT1C0.4\n%\nT1\nX0.0Y0.0\nM30\n", Reason::NoUnit, 3, 11),
+    ("M48\nMETRIC\nT1C0.4\nT1C0.5\n", Reason::Redefined, 4, 18),
+    ("M48\nMETRIC\nT1C0.0\n%\n", Reason::BadSize, 3, 11),
+    ("M48\nMETRIC\nINCH\n%\n", Reason::UnitConflict, 3, 11),
+    (
+        "M48\nMETRIC\nT1C0.5\n%\nT1\nX0.0Y0.0G85X2.0Y0.0\nX0.0Y5.0G85X2.0Y6.0\nX9.0Y9.0G85X9.0Y9.0\nG00X1.0Y1.0\nM30\n",
+        Reason::Routed,
+        9,
+        83,
+    ),
+];
 
 #[test]
-fn refused_digits(rt: HostRuntime) {
-    for &(text, reason, place, byte) in &[
-        (
-            "M48\nMETRIC\nT1C0.4\n%\nT1\nX0000001Y0.0\nM30\n",
-            Reason::NoZeros,
-            6,
-            23,
-        ),
-        (
-            "M48\nMETRIC\nT1C0.4\n%\nT1\nX99999999999999999999.0Y0.0\nM30\n",
-            Reason::TooFar,
-            6,
-            23,
-        ),
-        (
-            "M48\nMETRIC\n%\nX1.123456789Y1000000.0\n",
-            Reason::TooFine,
-            4,
-            13,
-        ),
-    ] {
+fn refused_texts(rt: HostRuntime) {
+    for &(text, reason, place, byte) in &REFUSED {
         assert!(rt; refuses(rt.alloc(), text, reason, place, byte), "{text}");
     }
-}
-
-#[test]
-fn refused_ends(rt: HostRuntime) {
-    for &(text, reason, place, byte) in &[
-        (
-            "M48\nMETRIC\nT1C0.4\n%\nT1\nX0.0Y0.0\n",
-            Reason::Truncated,
-            7,
-            32,
-        ),
-        (
-            "M48\nMETRIC\nT1C0.4\n%\nT1\nX0.0Y0.0\nM30\nT1\n",
-            Reason::AfterEnd,
-            8,
-            36,
-        ),
-        (
-            "M48\nMETRIC\nT1C0.4\n%\nT1\nX0.0Y0.0\nM30\n;x\n",
-            Reason::AfterEnd,
-            8,
-            36,
-        ),
-    ] {
-        assert!(rt; refuses(rt.alloc(), text, reason, place, byte), "{text}");
-    }
-}
-
-#[test]
-fn refused_tools(rt: HostRuntime) {
-    for &(text, reason, place, byte) in &[
-        (
-            "M48\nMETRIC\nT1C0.4\n%\nT2\nX0.0Y0.0\nM30\n",
-            Reason::UnknownTool,
-            5,
-            20,
-        ),
-        (
-            "M48\nMETRIC\nT1C0.4\n%\nT0\nX0.0Y0.0\nM30\n",
-            Reason::NoTool,
-            6,
-            23,
-        ),
-        (
-            "M48\nMETRIC\nT1C0.4\n%\nX0.0Y0.0\nM30\n",
-            Reason::NoTool,
-            5,
-            20,
-        ),
-    ] {
-        assert!(rt; refuses(rt.alloc(), text, reason, place, byte), "{text}");
-    }
-}
-
-#[test]
-fn refused_headers(rt: HostRuntime) {
-    for &(text, reason, place, byte) in &[
-        ("M48\nMETRIC\nTC0.4\n%\n", Reason::BadNumber, 3, 11),
-        ("M48\nMETRIC\nT1\n%\n", Reason::BadLine, 3, 11),
-        ("M48\nMETRIC\nT1C0.4C0.5\n%\n", Reason::BadLine, 3, 11),
-        ("M48\nMETRIC\nT1C4\n%\n", Reason::BadNumber, 3, 11),
-        ("M48\nMETRIC,x\n", Reason::BadLine, 2, 4),
-        ("M48\nMETRIC,\n", Reason::BadNumber, 2, 4),
-        ("M48\nMETRIC,0000000.0\n", Reason::BadNumber, 2, 4),
-        ("M48\nFMAT,1\n", Reason::OldFormat, 2, 4),
-        ("INCH\nM48\n", Reason::OldFormat, 1, 0),
-        ("M48\nICI,ON\n", Reason::Incremental, 2, 4),
-    ] {
-        assert!(rt; refuses(rt.alloc(), text, reason, place, byte), "{text}");
-    }
-}
-
-#[test]
-fn refused_bodies(rt: HostRuntime) {
-    for &(text, reason, place, byte) in &[
-        (
-            "M48\nMETRIC\nT1C0.4\n%\nT99999999999\nX0.0Y0.0\nM30\n",
-            Reason::BadNumber,
-            5,
-            20,
-        ),
-        ("M48\nMETRIC\n%\nR2M01\n", Reason::Repeat, 4, 13),
-        ("M48\nMETRIC\n%\nM15\n", Reason::Routed, 4, 13),
-        ("M48\nMETRIC\n%\nG85X1.0\n", Reason::BadLine, 4, 13),
-        ("M48\nMETRIC\n%\nX1.123456789Y\n", Reason::BadNumber, 4, 13),
-    ] {
-        assert!(rt; refuses(rt.alloc(), text, reason, place, byte), "{text}");
-    }
-}
-
-#[test]
-fn refused_settings(rt: HostRuntime) {
-    for &(text, reason, place, byte) in &[
-        (
-            "M48\n;FILE_FORMAT=2:4\nMETRIC,TZ,000.000\nT1C0.4\n%\nT1\nX0.0Y0.0\nM30\n",
-            Reason::FormatConflict,
-            3,
-            21,
-        ),
-        (
-            ";FILE_FORMAT=2:4\n;FILE_FORMAT=3:3\nM48\n",
-            Reason::FormatConflict,
-            2,
-            17,
-        ),
-        (
-            "M48\nMETRIC,LZ\nMETRIC,TZ\n%\n",
-            Reason::FormatConflict,
-            3,
-            14,
-        ),
-    ] {
-        assert!(rt; refuses(rt.alloc(), text, reason, place, byte), "{text}");
-    }
-}
-
-#[test]
-fn refused_definitions(rt: HostRuntime) {
-    for &(text, reason, place, byte) in &[
-        ("M48\nT1C0.4\n%\nT1\nX0.0Y0.0\nM30\n", Reason::NoUnit, 3, 11),
-        ("M48\nMETRIC\nT1C0.4\nT1C0.5\n", Reason::Redefined, 4, 18),
-        ("M48\nMETRIC\nT1C0.0\n%\n", Reason::BadSize, 3, 11),
-        ("M48\nMETRIC\nINCH\n%\n", Reason::UnitConflict, 3, 11),
-    ] {
-        assert!(rt; refuses(rt.alloc(), text, reason, place, byte), "{text}");
-    }
-}
-
-#[test]
-fn far_coordinates(rt: HostRuntime) -> Result<(), TestFail> {
-    let text = b"M48\nMETRIC\nT1C0.4\n%\nT1\nX10000.0Y0.0\nM30\n";
-    assert!(rt;
-        drills(
-            rt.alloc(),
-            text,
-            &[(10_000_000_000_000, 0, 10_000_000_000_000, 0, 200_000_000)]
-        )
-    );
-    Ok(())
 }
 
 /// Whether a file cut off behind so many of its bytes has this fault.
@@ -514,36 +432,43 @@ fn blanks(rt: HostRuntime) {
     assert!(rt; pieces_alike(alloc, read));
 }
 
+/// A fault of the first line.
+const OLD_FORMAT: Option<Fail> = Some(Fail::Refused(Fault {
+    place: 1,
+    byte: 0,
+    reason: Reason::OldFormat,
+}));
+
+/// Pieces, of which the second ends the line that is refused, and what a reader answers to each.
+const REFUSED_PIECES: [(&str, Option<Fail>); 4] = [
+    ("INCH", None),
+    ("\nM48\n", OLD_FORMAT),
+    ("METRIC\n%\nM30\n", OLD_FORMAT),
+    ("", OLD_FORMAT),
+];
+
 /// A reader that has failed gives its fault again, whatever comes.
 #[test]
 fn a_fault_stays(rt: HostRuntime) {
     let mut reader = DrillReader::new(rt.alloc());
-    let fault = refused(Reason::OldFormat, 1, 0);
-    for (piece, answer) in [
-        ("INCH", None),
-        ("\nM48\n", fault),
-        ("METRIC\n%\nM30\n", fault),
-        ("", fault),
-    ] {
-        assert_eq!(rt; reader.feed(piece.as_bytes()).err(), answer, "{piece}");
+    for &(piece, answer) in &REFUSED_PIECES {
+        assert!(rt; reader.feed(piece.as_bytes()).err() == answer, "{piece}");
     }
-    assert_eq!(rt; reader.finish().map(|_| ()).err(), fault);
+    assert!(rt; failure_of(reader.finish()) == OLD_FORMAT);
 }
 
 /// The same, of a reader of the holes alone.
 #[test]
 fn a_fault_of_holes_stays(rt: HostRuntime) {
     let mut reader = HolesReader::new(rt.alloc());
-    let fault = refused(Reason::OldFormat, 1, 0);
-    for (piece, answer) in [
-        ("INCH", None),
-        ("\nM48\n", fault),
-        ("METRIC\n%\nM30\n", fault),
-        ("", fault),
-    ] {
-        assert_eq!(rt; reader.feed(piece.as_bytes()).err(), answer, "{piece}");
+    for &(piece, answer) in &REFUSED_PIECES {
+        assert!(rt; reader.feed(piece.as_bytes()).err() == answer, "{piece}");
     }
-    assert_eq!(rt; reader.finish().map(|_| ()).err(), fault);
+    let failure = match reader.finish() {
+        Ok(_) => None,
+        Err(fail) => Some(fail),
+    };
+    assert!(rt; failure == OLD_FORMAT);
 }
 
 /// The holes are read alone, or moved out of a file.
@@ -579,19 +504,30 @@ fn two_pieces(rt: HostRuntime) -> Result<(), TestFail> {
     Ok(())
 }
 
-/// A comment of a million bytes, byte by byte.
-#[test]
-fn a_long_comment(rt: HostRuntime) -> Result<(), TestFail> {
-    let mut text = Vec::from_slice(rt.alloc(), b"M48\nMETRIC\n;")?;
+/// A file with a comment of a million bytes.
+fn commented(alloc: Global) -> Result<Vec<u8>, AllocError> {
+    let mut text = Vec::from_slice(alloc, b"M48\nMETRIC\n;")?;
     for _ in 0..1_000_000 {
         text.push(b'a')?;
     }
     text.extend_from_slice(b"\nT1C0.4\n%\nT1\nX0.0Y0.0\nM30\n")?;
-    let drill = byte_by_byte(rt.alloc(), &text).map_err(|_| "refused")?;
-    assert_eq!(rt; drill.holes().len(), 1);
-    assert_eq!(rt; drill.commands().len(), 8);
-    let holes = holes_byte_by_byte(rt.alloc(), &text).map_err(|_| "refused")?;
-    assert!(rt; holes.as_slice() == drill.holes());
+    Ok(text)
+}
+
+/// How many holes and commands a text has that comes byte by byte. None where its holes alone are others.
+fn counts_byte_by_byte(alloc: Global, text: &[u8]) -> Option<(usize, usize)> {
+    let drill = byte_by_byte(alloc, text);
+    let is_same = same_holes(&holes_byte_by_byte(alloc, text), &drill);
+    match drill {
+        Ok(drill) if is_same => Some((drill.holes().len(), drill.commands().len())),
+        _ => None,
+    }
+}
+
+#[test]
+fn a_long_comment(rt: HostRuntime) -> Result<(), AllocError> {
+    let text = commented(rt.alloc())?;
+    assert!(rt; counts_byte_by_byte(rt.alloc(), &text) == Some((1, 8)));
     Ok(())
 }
 
