@@ -226,7 +226,7 @@ const TOOLS: &[u8] = b"M48\nMETRIC\nT3C0.3\nT1F00S00C.0350H5Z-1\nT2C2.\n%\nM30\n
 fn tools_of(alloc: Global, text: &[u8]) -> Result<Vec<(u16, i64)>, Fail> {
     let drill = read_drill(alloc, text)?;
     let mut tools = Vec::new(alloc);
-    for (number, diameter) in drill.tools() {
+    for (number, diameter) in drill.tools().iter() {
         tools.push((*number, diameter.units()))?;
     }
     Ok(tools)
