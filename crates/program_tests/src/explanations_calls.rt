@@ -58,7 +58,7 @@ fn pages_name_settings(rt: HostRuntime) -> Result<(), TestFail> {
 
 #[test]
 fn other_words_have_none(rt: HostRuntime) -> Result<(), TestFail> {
-    for &word in &["", "routed", "Routed ", "Routed:", "Ring", "gap", "pass"].iter() {
+    for &word in &["", "routed", "Routed ", "Routed:", "Ring", "gap", "pass"] {
         assert!(rt; explanation(word).is_none());
     }
     Ok(())
