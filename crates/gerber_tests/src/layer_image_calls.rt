@@ -1,43 +1,36 @@
 //! Layers that are read, and why others are refused.
 
-use grid_units::{Fail, Fault, Point, Reason};
+use crate::texts::{LAYER, expected_fault, joined};
+use grid_units::{Fail, Point, Reason, Text};
 use layer_image::{
     Flash, FlashReader, FlashSum, Layer, LayerReader, LayerSum, SumReader, What, Why, read_layer,
 };
 use pad_shapes::{Disc, Obround, Pad, Rect};
-use std::alloc::{AllocError, Global};
-use std::test::Fail as TestFail;
+use std::alloc::Global;
 
-/// A format, a unit, an aperture, its selection, a flash and the end: items at the bytes 0, 14, 22, 37, 42 and 51.
-const LAYER: [&[u8]; 6] = [
-    b"%FSLAX46Y46*%\n",
-    b"%MOMM*%\n",
-    b"%ADD10C,0.65*%\n",
-    b"D10*\n",
-    b"X0Y0D03*\n",
-    b"M02*\n",
-];
+const FORMAT: &[u8] = b"%FSLAX46Y46*%\n";
 
-/// The text of some lines.
-fn joined(alloc: Global, lines: &[&[u8]]) -> Result<Vec<u8>, AllocError> {
+const UNIT: &[u8] = b"%MOMM*%\n";
+
+const APERTURE: &[u8] = b"%ADD10C,0.65*%\n";
+
+const SELECTION: &[u8] = b"D10*\n";
+
+const FLASH: &[u8] = b"X0Y0D03*\n";
+
+const END: &[u8] = b"M02*\n";
+
+/// The lines of the layer: items at the bytes 0, 14, 22, 37, 42 and 51.
+const LINES: [&[u8]; 6] = [FORMAT, UNIT, APERTURE, SELECTION, FLASH, END];
+
+/// The layer with this text in place of one of its lines.
+fn with(alloc: Global, place: usize, line: &[u8]) -> Option<Vec<u8>> {
     let mut text = Vec::new(alloc);
-    for line in lines {
-        text.extend_from_slice(line)?;
+    for (i, &old) in LINES.iter().enumerate() {
+        let line = if i + 1 == place { line } else { old };
+        text.extend_from_slice(line).ok()?;
     }
-    Ok(text)
-}
-
-/// The layer above, with this text in place of one of its lines.
-fn with(alloc: Global, place: usize, line: &[u8]) -> Result<Vec<u8>, AllocError> {
-    let mut text = Vec::new(alloc);
-    for (i, old) in LAYER.iter().enumerate() {
-        if i + 1 == place {
-            text.extend_from_slice(line)?;
-        } else {
-            text.extend_from_slice(old)?;
-        }
-    }
-    Ok(text)
+    Some(text)
 }
 
 /// The first bytes of a text, at most so many.
@@ -53,43 +46,6 @@ fn fault_of(alloc: Global, text: &[u8]) -> Option<Fail> {
     }
 }
 
-fn refused(place: u64, byte: u64, reason: Reason) -> Option<Fail> {
-    Some(Fail::Refused(Fault {
-        place,
-        byte,
-        reason,
-    }))
-}
-
-/// A flash of a disc, all in pm.
-fn disc(x: i64, y: i64, radius: i64) -> Result<Flash, TestFail> {
-    let at = Point::new(x, y).ok_or("point")?;
-    let disc = Disc::new(at, radius).ok_or("disc")?;
-    Ok(Flash {
-        at,
-        what: What::Pad(Pad::Disc(disc)),
-    })
-}
-
-/// Whether the flashes of a text are these, and the pads those among them.
-fn flashes(alloc: Global, text: &[u8], flashes: &[Flash]) -> bool {
-    match read_layer(alloc, text) {
-        Ok(layer) => layer.flashes() == flashes && layer.pads().len() == flashes.len(),
-        Err(_) => false,
-    }
-}
-
-/// Whether the layer has one flash, which leaves this.
-fn leaves(alloc: Global, text: &[u8], what: What) -> bool {
-    match read_layer(alloc, text) {
-        Ok(layer) => match layer.flashes() {
-            [flash] => flash.what == what,
-            _ => false,
-        },
-        Err(_) => false,
-    }
-}
-
 /// How many flashes and pads a text has.
 fn counts(alloc: Global, text: &[u8]) -> Option<(usize, usize)> {
     match read_layer(alloc, text) {
@@ -98,430 +54,528 @@ fn counts(alloc: Global, text: &[u8]) -> Option<(usize, usize)> {
     }
 }
 
+/// How many flashes and pads a text has, or the place, the byte and the reason of its fault.
+type Outcome = Result<(usize, usize), (u64, u64, Reason)>;
+
+/// Whether a text is there and comes out so.
+fn has_outcome(alloc: Global, text: Option<Vec<u8>>, expected: Outcome) -> bool {
+    match (text, expected) {
+        (Some(text), Ok(expected)) => counts(alloc, &text) == Some(expected),
+        (Some(text), Err(fault)) => fault_of(alloc, &text) == expected_fault(Some(fault)),
+        (None, _) => false,
+    }
+}
+
+/// Texts in place of one of the layer's lines, and what then comes of it.
+const REPLACED: [(usize, &[u8], Outcome); 44] = [
+    // What stands behind the end, and what lacks a code.
+    (6, b"X6*\nM02*\n", Err((6, 51, Reason::BareCoordinate))),
+    (6, b"M02*\nX0D03*\n", Err((7, 56, Reason::AfterEnd))),
+    (6, b"M02*\n*  ", Ok((1, 1))),
+    // Lengths that are too long or too fine.
+    (
+        5,
+        b"X10000000000Y0D03*\n",
+        Err((5, 42, Reason::TooManyDigits)),
+    ),
+    (3, b"%ADD10C,0.123456789*%\n", Err((3, 22, Reason::TooFine))),
+    (3, b"%ADD10C,10001*%\n", Err((5, 43, Reason::TooFar))),
+    // Rules and items.
+    (4, b"D11*\n", Err((4, 37, Reason::UnknownAperture))),
+    (
+        5,
+        b"%LPC*%\nX0Y0D03*\n",
+        Err((5, 42, Reason::ClearPolarity)),
+    ),
+    // Blocks.
+    (
+        5,
+        b"%SRX0Y1I0J0*%\nX0Y0D03*\n",
+        Err((5, 42, Reason::BadRepeat)),
+    ),
+    (
+        5,
+        b"%SRX2Y1I-1J0*%\nX0Y0D03*\n",
+        Err((5, 42, Reason::BadRepeat)),
+    ),
+    (5, b"%SRX10001Y1I0J0*%\n", Err((5, 42, Reason::BadRepeat))),
+    (
+        5,
+        b"%SRX2147483647Y1I1J0*%\nX0Y0D03*\n",
+        Err((5, 42, Reason::BadRepeat)),
+    ),
+    (
+        5,
+        b"%SRX2147483648Y1I1J0*%\nX0Y0D03*\n",
+        Err((5, 42, Reason::BadNumber)),
+    ),
+    (
+        5,
+        b"%SRX10000Y10000I1J1*%\nX0Y0D03*\n",
+        Err((6, 64, Reason::TooManyPads)),
+    ),
+    (
+        5,
+        b"%SRX2Y1I999999J0*%\nX0Y0D03*\n",
+        Err((6, 61, Reason::TooFar)),
+    ),
+    (5, b"%SRX1Y1I999999J999999*%\nX0Y0D03*\n", Ok((1, 1))),
+    (5, b"%SRX10000Y1I0J0*%\nX0Y0D03*\n", Ok((10_000, 10_000))),
+    // Rules that are broken.
+    (5, b"G36*\nX0Y0D03*\n", Err((6, 47, Reason::InRegion))),
+    (6, b"G36*\nM02*\n", Err((7, 56, Reason::InRegion))),
+    (6, b"G36*\nG36*\n", Err((7, 56, Reason::InRegion))),
+    (6, b"G36*\n%TAa*%\n", Err((7, 56, Reason::InRegion))),
+    (6, b"G36*\n%TD*%\n", Err((7, 56, Reason::InRegion))),
+    (
+        6,
+        b"G36*\nX10000000000D03*\n",
+        Err((7, 56, Reason::InRegion)),
+    ),
+    (5, b"G37*\n", Err((5, 42, Reason::NotInRegion))),
+    (5, b"%MOIN*%\n", Err((5, 42, Reason::UnitConflict))),
+    (5, b"%FSLAX24Y24*%\n", Err((5, 42, Reason::FormatConflict))),
+    (5, b"%ADD10C,1*%\n", Err((5, 42, Reason::Redefined))),
+    (5, b"%AMa*%\n%AMa*%\n", Err((6, 49, Reason::Redefined))),
+    (5, b"%ADD11a*%\n", Err((5, 42, Reason::UnknownMacro))),
+    (5, b"%ADD11C0.5*%\n", Err((5, 42, Reason::UnknownMacro))),
+    (4, b"X0Y0D03*\n", Err((4, 37, Reason::NoAperture))),
+    (4, b"X0Y0D01*\n", Err((4, 37, Reason::NoAperture))),
+    (3, b"%ADD10C,-1*%\n", Err((3, 22, Reason::BadSize))),
+    (3, b"%ADD10R,1X0*%\n", Err((3, 22, Reason::BadSize))),
+    (3, b"%ADD10P,1X13*%\n", Err((3, 22, Reason::BadSize))),
+    (5, b"%LS0*%\n", Err((5, 42, Reason::BadSize))),
+    // What breaks no rule.
+    (5, b"X0Y0D03*\n%MOMM*%\n%FSLAX46Y46*%\n", Ok((1, 1))),
+    (
+        5,
+        b"G36*\n*G90*%IPPOS*%G04 a*X0Y0D02*G75*G03X1I1J1D01*G37*\n",
+        Ok((0, 0)),
+    ),
+    (3, b"%ADD10C,0*%\n", Ok((1, 1))),
+    (3, b"%ADD10C,10001X0.1*%\n", Ok((1, 0))),
+    (3, b"%LS2*%\n%ADD10C,10001*%\n", Ok((1, 0))),
+    (3, b"%ADD10C,1*%\n%ADD11C,10001*%\n", Ok((1, 1))),
+    (3, b"%ADD10P,1X12*%\n", Ok((1, 0))),
+    (3, b"%AMa*%\n%ADD11a*%\n%ADD10C,1*%\n", Ok((1, 1))),
+];
+
 #[test]
-fn a_layer_with_one_pad(rt: HostRuntime) -> Result<(), TestFail> {
+fn lines_replaced(rt: HostRuntime) {
     let alloc = rt.alloc();
-    let text = joined(alloc, &LAYER)?;
-    let layer = read_layer(alloc, &text).map_err(|_| "refused")?;
-    assert_eq!(rt; layer.commands().len(), 6);
-    assert_eq!(rt; layer.flashes(), [disc(0, 0, 325_000_000)?].as_slice());
-    assert_eq!(rt; layer.pads().len(), 1);
-    assert!(rt; layer.file_function().is_none());
-    Ok(())
+    let rows = &REPLACED;
+    for (i, &(place, line, expected)) in rows.iter().enumerate() {
+        assert!(rt;
+            has_outcome(alloc, with(alloc, place, line), expected),
+            "of row {i}"
+        );
+    }
+}
+
+/// A block of as many flashes as a layer may have, and one with another flash behind it.
+const FULL: [(usize, &[u8], Outcome); 2] = [
+    (
+        5,
+        b"%SRX2048Y2048I0J0*%\nX0Y0D03*\n",
+        Ok((4_194_304, 4_194_304)),
+    ),
+    (
+        5,
+        b"%SRX2048Y2048I0J0*%\nX0Y0D03*\n%SR*%\nD03*\n",
+        Err((8, 77, Reason::TooManyPads)),
+    ),
+];
+
+#[test]
+fn as_many_flashes_as_the_limit(rt: HostRuntime) {
+    let alloc = rt.alloc();
+    let rows = &FULL;
+    for (i, &(place, line, expected)) in rows.iter().enumerate() {
+        assert!(rt;
+            has_outcome(alloc, with(alloc, place, line), expected),
+            "of row {i}"
+        );
+    }
+}
+
+/// Layers by their lines, and what comes of them.
+const LAYERS: [(&[&[u8]], Outcome); 6] = [
+    (&[b"M02*"], Err((1, 0, Reason::NoFormat))),
+    (&[FORMAT, UNIT, END], Ok((0, 0))),
+    (&[FORMAT, b"X0D02*\n", UNIT], Err((2, 14, Reason::NoUnit))),
+    (
+        &[
+            FORMAT,
+            b"%MOIN*%\n",
+            APERTURE,
+            SELECTION,
+            b"X393800000Y0D03*\n",
+            END,
+        ],
+        Err((5, 42, Reason::TooFar)),
+    ),
+    (
+        &[
+            FORMAT,
+            b"%MOIN*%\n",
+            APERTURE,
+            SELECTION,
+            b"X393700000Y0D03*\n",
+            END,
+        ],
+        Ok((1, 1)),
+    ),
+    (
+        &[FORMAT, UNIT, APERTURE, b"D11*\n", b"%LPC*%\n", FLASH, END],
+        Err((4, 37, Reason::UnknownAperture)),
+    ),
+];
+
+#[test]
+fn layers_of_other_lines(rt: HostRuntime) {
+    let alloc = rt.alloc();
+    let rows = &LAYERS;
+    for (i, &(lines, expected)) in rows.iter().enumerate() {
+        assert!(rt;
+            has_outcome(alloc, joined(alloc, lines), expected),
+            "of row {i}"
+        );
+    }
+}
+
+/// Whether each front of the layer below so many bytes is truncated.
+fn are_truncated(alloc: Global, count: usize) -> bool {
+    for n in 0..count {
+        match fault_of(alloc, front(LAYER, n)) {
+            Some(Fail::Refused(fault)) if fault.reason == Reason::Truncated => {}
+            _ => return false,
+        }
+    }
+    true
 }
 
 #[test]
-fn cut_layers_are_truncated(rt: HostRuntime) -> Result<(), TestFail> {
+fn cut_layers_are_truncated(rt: HostRuntime) {
     let alloc = rt.alloc();
-    let text = joined(alloc, &LAYER)?;
-    for (count, fault) in [
-        (51, refused(6, 51, Reason::Truncated)),
-        (33, refused(3, 22, Reason::Truncated)),
-        (0, refused(1, 0, Reason::Truncated)),
-        (21, refused(3, 21, Reason::Truncated)),
-        (22, refused(3, 22, Reason::Truncated)),
-        (23, refused(3, 22, Reason::Truncated)),
+    for &(count, fault) in &[
+        (51, Some((6, 51, Reason::Truncated))),
+        (33, Some((3, 22, Reason::Truncated))),
+        (0, Some((1, 0, Reason::Truncated))),
+        (21, Some((3, 21, Reason::Truncated))),
+        (22, Some((3, 22, Reason::Truncated))),
+        (23, Some((3, 22, Reason::Truncated))),
         (55, None),
     ] {
-        assert_eq!(rt; fault_of(alloc, front(&text, count)), fault, "of {count}");
+        let found = fault_of(alloc, front(LAYER, count));
+        assert!(rt; found == expected_fault(fault), "of {count}");
     }
-    for n in 0..55 {
-        let truncated = match fault_of(alloc, front(&text, n)) {
-            Some(Fail::Refused(fault)) => fault.reason == Reason::Truncated,
-            _ => false,
-        };
-        assert!(rt; truncated);
-    }
-    Ok(())
+    assert!(rt; are_truncated(alloc, 55));
 }
 
-#[test]
-fn the_current_point_is_kept(rt: HostRuntime) -> Result<(), TestFail> {
-    let alloc = rt.alloc();
-    let both = [
-        disc(1_000_000_000, 2_000_000_000, 325_000_000)?,
-        disc(3_000_000_000, 2_000_000_000, 325_000_000)?,
-    ];
-    let moved = with(alloc, 5, b"X1000000Y2000000D02*\nD03*\nX3000000D03*\n")?;
-    assert!(rt; flashes(alloc, &moved, &both));
-    let drawn = with(
-        alloc,
+/// A flash of a disc by its point and its radius, all in pm.
+fn disc(x: i64, y: i64, radius: i64) -> Option<Flash> {
+    let at = Point::new(x, y)?;
+    let disc = Disc::new(at, radius)?;
+    Some(Flash {
+        at,
+        what: What::Pad(Pad::Disc(disc)),
+    })
+}
+
+/// Whether flashes are these discs.
+fn are_discs(flashes: &[Flash], discs: &[(i64, i64, i64)]) -> bool {
+    for (flash, &(x, y, radius)) in flashes.iter().zip(discs.iter()) {
+        if disc(x, y, radius) != Some(*flash) {
+            return false;
+        }
+    }
+    flashes.len() == discs.len()
+}
+
+/// Whether the flashes of a text are these discs, and the pads those among them.
+fn has_discs(alloc: Global, text: &[u8], discs: &[(i64, i64, i64)]) -> bool {
+    match read_layer(alloc, text) {
+        Ok(layer) => are_discs(layer.flashes(), discs) && layer.pads().len() == discs.len(),
+        Err(_) => false,
+    }
+}
+
+/// Whether the layer with a text in place of one of its lines has these discs.
+fn has_discs_with(alloc: Global, place: usize, line: &[u8], discs: &[(i64, i64, i64)]) -> bool {
+    match with(alloc, place, line) {
+        Some(text) => has_discs(alloc, &text, discs),
+        None => false,
+    }
+}
+
+/// The flash of the layer.
+const ONE: &[(i64, i64, i64)] = &[(0, 0, 325_000_000)];
+
+/// Two flashes by the point that is kept.
+const KEPT: &[(i64, i64, i64)] = &[
+    (1_000_000_000, 2_000_000_000, 325_000_000),
+    (3_000_000_000, 2_000_000_000, 325_000_000),
+];
+
+/// The copies of a block of two columns.
+const TWO: &[(i64, i64, i64)] = &[(0, 0, 325_000_000), (5_000_000_000, 0, 325_000_000)];
+
+/// The copies of a block of three columns and two rows.
+const SIX: &[(i64, i64, i64)] = &[
+    (0, 0, 325_000_000),
+    (0, 2_000_000_000, 325_000_000),
+    (1_000_000_000, 0, 325_000_000),
+    (1_000_000_000, 2_000_000_000, 325_000_000),
+    (2_000_000_000, 0, 325_000_000),
+    (2_000_000_000, 2_000_000_000, 325_000_000),
+];
+
+/// Texts in place of one of the layer's lines, and the discs that are then flashed.
+const FLASHED: [(usize, &[u8], &[(i64, i64, i64)]); 8] = [
+    (5, b"X1000000Y2000000D02*\nD03*\nX3000000D03*\n", KEPT),
+    (
         5,
         b"X1000000Y2000000D02*\nD03*\nX3000000D03*\nG01X1000000D01*\nX0*\n",
-    )?;
-    assert!(rt; flashes(alloc, &drawn, &both));
-    let bare = with(alloc, 6, b"X6*\nM02*\n")?;
-    assert_eq!(rt;
-        fault_of(alloc, &bare),
-        refused(6, 51, Reason::BareCoordinate)
-    );
-    Ok(())
-}
+        KEPT,
+    ),
+    (3, b"%ADD10C,0.65X0*%\n", ONE),
+    (5, b"%SRX3Y2I1J2*%\nX0Y0D03*\n", SIX),
+    (5, b"%SRX2Y1I5.0J0*%\nX0Y0D03*\n%SR*%\n", TWO),
+    (5, b"%SRX2Y1I5.0J0*%\nX0Y0D03*\n", TWO),
+    (5, b"%SR*%\nX0Y0D03*\n", ONE),
+    (5, b"%SRX2Y1I5J0*%\n%SRX1Y1I0J0*%\nX0Y0D03*\n", ONE),
+];
 
 #[test]
-fn layers_without_a_flash(rt: HostRuntime) -> Result<(), TestFail> {
-    let alloc = rt.alloc();
-    assert_eq!(rt; fault_of(alloc, b"M02*"), refused(1, 0, Reason::NoFormat));
-    let text = joined(alloc, &[LAYER[0], LAYER[1], LAYER[5]])?;
-    assert_eq!(rt; counts(alloc, &text), Some((0, 0)));
-    Ok(())
-}
-
-#[test]
-fn what_stands_behind_the_end(rt: HostRuntime) -> Result<(), TestFail> {
-    let alloc = rt.alloc();
-    assert_eq!(rt;
-        fault_of(alloc, &with(alloc, 6, b"M02*\nX0D03*\n")?),
-        refused(7, 56, Reason::AfterEnd)
-    );
-    assert_eq!(rt; counts(alloc, &with(alloc, 6, b"M02*\n*  ")?), Some((1, 1)));
-    Ok(())
-}
-
-#[test]
-fn lengths_beyond_ten_metres(rt: HostRuntime) -> Result<(), TestFail> {
-    let alloc = rt.alloc();
-    let long = with(alloc, 5, b"X10000000000Y0D03*\n")?;
-    assert_eq!(rt;
-        fault_of(alloc, &long),
-        refused(5, 42, Reason::TooManyDigits)
-    );
-    let fine = with(alloc, 3, b"%ADD10C,0.123456789*%\n")?;
-    assert_eq!(rt; fault_of(alloc, &fine), refused(3, 22, Reason::TooFine));
-    let far = joined(
-        alloc,
-        &[
-            LAYER[0],
-            b"%MOIN*%\n",
-            LAYER[2],
-            LAYER[3],
-            b"X393800000Y0D03*\n",
-            LAYER[5],
-        ],
-    )?;
-    assert_eq!(rt; fault_of(alloc, &far), refused(5, 42, Reason::TooFar));
-    let near = joined(
-        alloc,
-        &[
-            LAYER[0],
-            b"%MOIN*%\n",
-            LAYER[2],
-            LAYER[3],
-            b"X393700000Y0D03*\n",
-            LAYER[5],
-        ],
-    )?;
-    assert_eq!(rt; counts(alloc, &near), Some((1, 1)));
-    Ok(())
-}
-
-#[test]
-fn inches(rt: HostRuntime) -> Result<(), TestFail> {
-    let alloc = rt.alloc();
-    let text = b"%FSLAX24Y24*%\n%MOIN*%\n%ADD10C,0.0256*%\nD10*\nX1000Y0D03*\nM02*\n";
-    assert!(rt;
-        flashes(
-            alloc,
-            text.as_slice(),
-            &[disc(2_540_000_000, 0, 325_120_000)?]
-        )
-    );
-    Ok(())
-}
-
-#[test]
-fn an_early_rule_before_a_late_item(rt: HostRuntime) -> Result<(), TestFail> {
-    let alloc = rt.alloc();
-    let unknown = with(alloc, 4, b"D11*\n")?;
-    assert_eq!(rt;
-        fault_of(alloc, &unknown),
-        refused(4, 37, Reason::UnknownAperture)
-    );
-    let both = joined(
-        alloc,
-        &[
-            LAYER[0],
-            LAYER[1],
-            LAYER[2],
-            b"D11*\n",
-            b"%LPC*%\n",
-            LAYER[4],
-            LAYER[5],
-        ],
-    )?;
-    assert_eq!(rt;
-        fault_of(alloc, &both),
-        refused(4, 37, Reason::UnknownAperture)
-    );
-    let clear = with(alloc, 5, b"%LPC*%\nX0Y0D03*\n")?;
-    assert_eq!(rt;
-        fault_of(alloc, &clear),
-        refused(5, 42, Reason::ClearPolarity)
-    );
-    Ok(())
-}
-
-#[test]
-fn flashes_that_are_no_pads(rt: HostRuntime) -> Result<(), TestFail> {
-    let alloc = rt.alloc();
-    let plain = with(alloc, 3, b"%ADD10C,0.65X0*%\n")?;
-    assert!(rt; flashes(alloc, &plain, &[disc(0, 0, 325_000_000)?]));
-    let rows: &[(usize, &[u8], Why); 8] = &[
-        (3, b"%ADD10C,0.65X0.2*%\n", Why::Holed),
-        (3, b"%ADD10P,1X6*%\n", Why::Polygon),
-        (3, b"%ADD10P,1X6X0X0.2*%\n", Why::Polygon),
-        (5, b"%LS2*%\nX0Y0D03*\n", Why::Scaled),
-        (5, b"%LR45*%\nX0Y0D03*\n", Why::Turned),
-        (5, b"%LR90.00000001*%\nX0Y0D03*\n", Why::Turned),
-        (3, b"%AMa*21,1,1,1,0,0,0*%\n%ADD10a*%\n", Why::Macro),
-        (3, b"%LS2*%\n%LR45*%\n%ADD10R,1X1X0.5*%\n", Why::Holed),
-    ];
-    for &(place, line, why) in rows {
-        let text = with(alloc, place, line)?;
-        assert!(rt; leaves(alloc, &text, What::Other(why)));
-    }
-    Ok(())
-}
-
-#[test]
-fn sides_after_turns(rt: HostRuntime) -> Result<(), TestFail> {
-    let alloc = rt.alloc();
-    let at = Point::new(0, 0).ok_or("point")?;
-    let upright = Pad::Rect(Rect::new(at, 350_000_000, 1_000_000_000).ok_or("rect")?);
-    let lying = Pad::Rect(Rect::new(at, 1_000_000_000, 350_000_000).ok_or("rect")?);
-    let obround = Pad::Obround(Obround::new(at, 500_000_000, 1_000_000_000).ok_or("obround")?);
-    for (line, pad) in [
-        ("%LR-90*%\n%ADD10R,2X0.7*%\n", upright),
-        ("%LR90*%\n%ADD10R,2X0.7*%\n", upright),
-        ("%LR180*%\n%ADD10R,2X0.7*%\n", lying),
-        ("%LR270*%\n%LMXY*%\n%ADD10O,2X1*%\n", obround),
-    ] {
-        let text = with(alloc, 3, line.as_bytes())?;
-        assert!(rt; leaves(alloc, &text, What::Pad(pad)), "{line}");
-    }
-    Ok(())
-}
-
-#[test]
-fn copies_in_blocks(rt: HostRuntime) -> Result<(), TestFail> {
-    let alloc = rt.alloc();
-    let six = [
-        disc(0, 0, 325_000_000)?,
-        disc(0, 2_000_000_000, 325_000_000)?,
-        disc(1_000_000_000, 0, 325_000_000)?,
-        disc(1_000_000_000, 2_000_000_000, 325_000_000)?,
-        disc(2_000_000_000, 0, 325_000_000)?,
-        disc(2_000_000_000, 2_000_000_000, 325_000_000)?,
-    ];
-    assert!(rt; flashes(alloc, &with(alloc, 5, b"%SRX3Y2I1J2*%\nX0Y0D03*\n")?, &six));
-    let two = [
-        disc(0, 0, 325_000_000)?,
-        disc(5_000_000_000, 0, 325_000_000)?,
-    ];
-    assert!(rt;
-        flashes(
-            alloc,
-            &with(alloc, 5, b"%SRX2Y1I5.0J0*%\nX0Y0D03*\n%SR*%\n")?,
-            &two
-        )
-    );
-    assert!(rt;
-        flashes(
-            alloc,
-            &with(alloc, 5, b"%SRX2Y1I5.0J0*%\nX0Y0D03*\n")?,
-            &two
-        )
-    );
-    let one = [disc(0, 0, 325_000_000)?];
-    assert!(rt; flashes(alloc, &with(alloc, 5, b"%SR*%\nX0Y0D03*\n")?, &one));
-    assert!(rt;
-        flashes(
-            alloc,
-            &with(alloc, 5, b"%SRX2Y1I5J0*%\n%SRX1Y1I0J0*%\nX0Y0D03*\n")?,
-            &one
-        )
-    );
-    Ok(())
-}
-
-#[test]
-fn blocks_out_of_range(rt: HostRuntime) -> Result<(), TestFail> {
-    let alloc = rt.alloc();
-    let rows: &[(&[u8], Reason); 5] = &[
-        (b"%SRX0Y1I0J0*%\nX0Y0D03*\n", Reason::BadRepeat),
-        (b"%SRX2Y1I-1J0*%\nX0Y0D03*\n", Reason::BadRepeat),
-        (b"%SRX10001Y1I0J0*%\n", Reason::BadRepeat),
-        (b"%SRX2147483647Y1I1J0*%\nX0Y0D03*\n", Reason::BadRepeat),
-        (b"%SRX2147483648Y1I1J0*%\nX0Y0D03*\n", Reason::BadNumber),
-    ];
-    for &(line, reason) in rows {
-        assert_eq!(rt;
-            fault_of(alloc, &with(alloc, 5, line)?),
-            refused(5, 42, reason)
+fn discs_that_are_flashed(rt: HostRuntime) {
+    let rows = &FLASHED;
+    for (i, &(place, line, discs)) in rows.iter().enumerate() {
+        assert!(rt;
+            has_discs_with(rt.alloc(), place, line, discs),
+            "of row {i}"
         );
     }
-    let many = with(alloc, 5, b"%SRX10000Y10000I1J1*%\nX0Y0D03*\n")?;
-    assert_eq!(rt; fault_of(alloc, &many), refused(6, 64, Reason::TooManyPads));
-    let far = with(alloc, 5, b"%SRX2Y1I999999J0*%\nX0Y0D03*\n")?;
-    assert_eq!(rt; fault_of(alloc, &far), refused(6, 61, Reason::TooFar));
-    assert_eq!(rt;
-        counts(
-            alloc,
-            &with(alloc, 5, b"%SRX1Y1I999999J999999*%\nX0Y0D03*\n")?
-        ),
-        Some((1, 1))
-    );
-    assert_eq!(rt;
-        counts(alloc, &with(alloc, 5, b"%SRX10000Y1I0J0*%\nX0Y0D03*\n")?),
-        Some((10_000, 10_000))
-    );
-    Ok(())
+    let inches = b"%FSLAX24Y24*%\n%MOIN*%\n%ADD10C,0.0256*%\nD10*\nX1000Y0D03*\nM02*\n";
+    assert!(rt; has_discs(rt.alloc(), inches, &[(2_540_000_000, 0, 325_120_000)]));
+}
+
+/// What a flash at the origin leaves: no pad, or a pad by its half sides in pm.
+#[derive(Clone, Copy)]
+enum Left {
+    Other(Why),
+    Rect(i64, i64),
+    Obround(i64, i64),
+}
+
+/// What the layer's flashes hold of this.
+fn what(left: Left) -> Option<What> {
+    let at = Point::new(0, 0)?;
+    match left {
+        Left::Other(why) => Some(What::Other(why)),
+        Left::Rect(half_x, half_y) => Some(What::Pad(Pad::Rect(Rect::new(at, half_x, half_y)?))),
+        Left::Obround(half_x, half_y) => {
+            Some(What::Pad(Pad::Obround(Obround::new(at, half_x, half_y)?)))
+        }
+    }
+}
+
+/// What the flash of a text leaves, if it has one flash.
+fn left_by(alloc: Global, text: &[u8]) -> Option<What> {
+    match read_layer(alloc, text) {
+        Ok(layer) => match layer.flashes() {
+            [flash] => Some(flash.what),
+            _ => None,
+        },
+        Err(_) => None,
+    }
+}
+
+/// Whether the layer with a text in place of one of its lines has one flash, which leaves this.
+fn leaves(alloc: Global, place: usize, line: &[u8], left: Left) -> bool {
+    match (with(alloc, place, line), what(left)) {
+        (Some(text), Some(what)) => left_by(alloc, &text) == Some(what),
+        _ => false,
+    }
+}
+
+/// Texts in place of one of the layer's lines, and what the flash then leaves.
+const LEFT: [(usize, &[u8], Left); 12] = [
+    (3, b"%ADD10C,0.65X0.2*%\n", Left::Other(Why::Holed)),
+    (3, b"%ADD10P,1X6*%\n", Left::Other(Why::Polygon)),
+    (3, b"%ADD10P,1X6X0X0.2*%\n", Left::Other(Why::Polygon)),
+    (5, b"%LS2*%\nX0Y0D03*\n", Left::Other(Why::Scaled)),
+    (5, b"%LR45*%\nX0Y0D03*\n", Left::Other(Why::Turned)),
+    (5, b"%LR90.00000001*%\nX0Y0D03*\n", Left::Other(Why::Turned)),
+    (
+        3,
+        b"%AMa*21,1,1,1,0,0,0*%\n%ADD10a*%\n",
+        Left::Other(Why::Macro),
+    ),
+    (
+        3,
+        b"%LS2*%\n%LR45*%\n%ADD10R,1X1X0.5*%\n",
+        Left::Other(Why::Holed),
+    ),
+    (
+        3,
+        b"%LR-90*%\n%ADD10R,2X0.7*%\n",
+        Left::Rect(350_000_000, 1_000_000_000),
+    ),
+    (
+        3,
+        b"%LR90*%\n%ADD10R,2X0.7*%\n",
+        Left::Rect(350_000_000, 1_000_000_000),
+    ),
+    (
+        3,
+        b"%LR180*%\n%ADD10R,2X0.7*%\n",
+        Left::Rect(1_000_000_000, 350_000_000),
+    ),
+    (
+        3,
+        b"%LR270*%\n%LMXY*%\n%ADD10O,2X1*%\n",
+        Left::Obround(500_000_000, 1_000_000_000),
+    ),
+];
+
+#[test]
+fn what_flashes_leave(rt: HostRuntime) {
+    let rows = &LEFT;
+    for (i, &(place, line, left)) in rows.iter().enumerate() {
+        assert!(rt; leaves(rt.alloc(), place, line, left), "of row {i}");
+    }
+}
+
+/// Lines in front of the layer, and the file function.
+const FILE_FUNCTIONS: [(&[u8], Option<&[u8]>); 9] = [
+    (
+        b"%TF.FileFunction,Copper,L1,Top*%\n",
+        Some(b"Copper,L1,Top"),
+    ),
+    (
+        b"G04 #@! TF.FileFunction,Copper,L1,Top*\n",
+        Some(b"Copper,L1,Top"),
+    ),
+    (
+        b"G04   #@! TF.FileFunction,Soldermask*\n",
+        Some(b"Soldermask"),
+    ),
+    (b"%TF.FileFunction*%\n", Some(b"")),
+    (b"%TF.FileFunctions,Legend*%\n", None),
+    (b"%TA.FileFunction,Copper*%\n", None),
+    (b"G04\t#@! TF.FileFunction,Copper*\n", None),
+    (
+        b"%TF.FileFunction,Soldermask*%\nG04 #@! TF.FileFunction,Copper*\n",
+        Some(b"Copper"),
+    ),
+    (
+        b"%TF.FileFunction,Copper*%\n%TD.FileFunction*%\n",
+        Some(b"Copper"),
+    ),
+];
+
+/// Whether a text has this file function, or none.
+fn has_function(alloc: Global, text: &[u8], expected: Option<&[u8]>) -> bool {
+    match read_layer(alloc, text) {
+        Ok(layer) => layer.file_function() == expected,
+        Err(_) => false,
+    }
+}
+
+/// Whether the layer behind a line has this file function, or none.
+fn has_function_with(alloc: Global, line: &[u8], expected: Option<&[u8]>) -> bool {
+    match joined(alloc, &[line, LAYER.as_slice()]) {
+        Some(text) => has_function(alloc, &text, expected),
+        None => false,
+    }
 }
 
 #[test]
-fn as_many_flashes_as_the_limit(rt: HostRuntime) -> Result<(), TestFail> {
-    let alloc = rt.alloc();
-    let full = with(alloc, 5, b"%SRX2048Y2048I0J0*%\nX0Y0D03*\n")?;
-    assert_eq!(rt; counts(alloc, &full), Some((4_194_304, 4_194_304)));
-    let more = with(alloc, 5, b"%SRX2048Y2048I0J0*%\nX0Y0D03*\n%SR*%\nD03*\n")?;
-    assert_eq!(rt; fault_of(alloc, &more), refused(8, 77, Reason::TooManyPads));
-    Ok(())
-}
-
-#[test]
-fn rules_that_are_broken(rt: HostRuntime) -> Result<(), TestFail> {
-    let alloc = rt.alloc();
-    let rows: &[(usize, &[u8], u64, u64, Reason); 19] = &[
-        (5, b"G36*\nX0Y0D03*\n", 6, 47, Reason::InRegion),
-        (6, b"G36*\nM02*\n", 7, 56, Reason::InRegion),
-        (6, b"G36*\nG36*\n", 7, 56, Reason::InRegion),
-        (6, b"G36*\n%TAa*%\n", 7, 56, Reason::InRegion),
-        (6, b"G36*\n%TD*%\n", 7, 56, Reason::InRegion),
-        (6, b"G36*\nX10000000000D03*\n", 7, 56, Reason::InRegion),
-        (5, b"G37*\n", 5, 42, Reason::NotInRegion),
-        (5, b"%MOIN*%\n", 5, 42, Reason::UnitConflict),
-        (5, b"%FSLAX24Y24*%\n", 5, 42, Reason::FormatConflict),
-        (5, b"%ADD10C,1*%\n", 5, 42, Reason::Redefined),
-        (5, b"%AMa*%\n%AMa*%\n", 6, 49, Reason::Redefined),
-        (5, b"%ADD11a*%\n", 5, 42, Reason::UnknownMacro),
-        (5, b"%ADD11C0.5*%\n", 5, 42, Reason::UnknownMacro),
-        (4, b"X0Y0D03*\n", 4, 37, Reason::NoAperture),
-        (4, b"X0Y0D01*\n", 4, 37, Reason::NoAperture),
-        (3, b"%ADD10C,-1*%\n", 3, 22, Reason::BadSize),
-        (3, b"%ADD10R,1X0*%\n", 3, 22, Reason::BadSize),
-        (3, b"%ADD10P,1X13*%\n", 3, 22, Reason::BadSize),
-        (5, b"%LS0*%\n", 5, 42, Reason::BadSize),
-    ];
-    for &(line, text, place, byte, reason) in rows {
-        assert_eq!(rt;
-            fault_of(alloc, &with(alloc, line, text)?),
-            refused(place, byte, reason)
-        );
+fn file_functions(rt: HostRuntime) {
+    let rows = &FILE_FUNCTIONS;
+    for (i, &(line, expected)) in rows.iter().enumerate() {
+        assert!(rt; has_function_with(rt.alloc(), line, expected), "of row {i}");
     }
-    let no_unit = joined(alloc, &[LAYER[0], b"X0D02*\n", LAYER[1]])?;
-    assert_eq!(rt; fault_of(alloc, &no_unit), refused(2, 14, Reason::NoUnit));
-    Ok(())
 }
 
-#[test]
-fn what_breaks_no_rule(rt: HostRuntime) -> Result<(), TestFail> {
-    let alloc = rt.alloc();
-    let rows: &[(usize, &[u8], (usize, usize)); 8] = &[
-        (5, b"X0Y0D03*\n%MOMM*%\n%FSLAX46Y46*%\n", (1, 1)),
-        (
-            5,
-            b"G36*\n*G90*%IPPOS*%G04 a*X0Y0D02*G75*G03X1I1J1D01*G37*\n",
-            (0, 0),
-        ),
-        (3, b"%ADD10C,0*%\n", (1, 1)),
-        (3, b"%ADD10C,10001X0.1*%\n", (1, 0)),
-        (3, b"%LS2*%\n%ADD10C,10001*%\n", (1, 0)),
-        (3, b"%ADD10C,1*%\n%ADD11C,10001*%\n", (1, 1)),
-        (3, b"%ADD10P,1X12*%\n", (1, 0)),
-        (3, b"%AMa*%\n%ADD11a*%\n%ADD10C,1*%\n", (1, 1)),
-    ];
-    for &(line, text, expected) in rows {
-        assert_eq!(rt; counts(alloc, &with(alloc, line, text)?), Some(expected));
+/// Whether a layer has so many commands, the one flash of the first layer, its pad and no file function.
+fn is_first_layer(layer: Result<Layer, Fail>, commands: usize) -> bool {
+    match layer {
+        Ok(layer) => {
+            layer.commands().len() == commands
+                && are_discs(layer.flashes(), ONE)
+                && layer.pads().len() == 1
+                && layer.file_function().is_none()
+                && layer.into_pads().len() == 1
+        }
+        Err(_) => false,
     }
-    let far = with(alloc, 3, b"%ADD10C,10001*%\n")?;
-    assert_eq!(rt; fault_of(alloc, &far), refused(5, 43, Reason::TooFar));
-    Ok(())
 }
 
-#[test]
-fn file_functions(rt: HostRuntime) -> Result<(), TestFail> {
-    let alloc = rt.alloc();
-    let rows: &[(&[u8], Option<&[u8]>); 9] = &[
-        (
-            b"%TF.FileFunction,Copper,L1,Top*%\n",
-            Some(b"Copper,L1,Top"),
-        ),
-        (
-            b"G04 #@! TF.FileFunction,Copper,L1,Top*\n",
-            Some(b"Copper,L1,Top"),
-        ),
-        (
-            b"G04   #@! TF.FileFunction,Soldermask*\n",
-            Some(b"Soldermask"),
-        ),
-        (b"%TF.FileFunction*%\n", Some(b"")),
-        (b"%TF.FileFunctions,Legend*%\n", None),
-        (b"%TA.FileFunction,Copper*%\n", None),
-        (b"G04\t#@! TF.FileFunction,Copper*\n", None),
-        (
-            b"%TF.FileFunction,Soldermask*%\nG04 #@! TF.FileFunction,Copper*\n",
-            Some(b"Copper"),
-        ),
-        (
-            b"%TF.FileFunction,Copper*%\n%TD.FileFunction*%\n",
-            Some(b"Copper"),
-        ),
-    ];
-    for &(line, expected) in rows {
-        let layer = read_layer(alloc, &with(alloc, 1, &joined(alloc, &[line, LAYER[0]])?)?).map_err(
-            |_| "refused",
-        )?;
-        assert_eq!(rt; layer.file_function(), expected);
-    }
-    Ok(())
-}
-
-/// The first layer with the selection of an aperture that is not defined, and a later item of a kind that is refused.
-fn two_faults(alloc: Global) -> Result<Vec<u8>, AllocError> {
-    joined(
-        alloc,
-        &[
-            LAYER[0],
-            LAYER[1],
-            LAYER[2],
-            b"D11*\n",
-            b"%LPC*%\n",
-            LAYER[4],
-            LAYER[5],
-        ],
-    )
-}
-
-/// The first layer with a comment of a million bytes before its third line.
-fn commented(alloc: Global) -> Result<Vec<u8>, AllocError> {
-    let mut line = Vec::from_slice(alloc, b"G04")?;
-    for _ in 0..1_000_000 {
-        line.push(b'a')?;
-    }
-    line.extend_from_slice(b"*\n")?;
-    line.extend_from_slice(LAYER[2])?;
-    with(alloc, 3, &line)
-}
-
-/// Feeds a text in pieces of one byte.
-fn feed_bytes(reader: &mut LayerReader, text: &[u8]) -> Result<(), Fail> {
+/// Whether a reader takes a text byte by byte.
+fn takes_bytes(reader: &mut LayerReader, text: &[u8]) -> bool {
     for i in 0..text.len() {
-        reader.feed(&text[i..i + 1])?;
+        if reader.feed(&text[i..i + 1]).is_err() {
+            return false;
+        }
     }
-    Ok(())
+    true
 }
 
-/// Feeds a text in pieces of one byte, and gives the number of the piece that was refused first.
+/// Whether a reader takes the layer in two pieces.
+fn takes_both(reader: &mut LayerReader) -> bool {
+    let layer = LAYER.as_slice();
+    reader.feed(&layer[..30]).is_ok() && reader.feed(&layer[30..]).is_ok()
+}
+
+#[test]
+fn a_layer_whole_and_in_pieces(rt: HostRuntime) {
+    let alloc = rt.alloc();
+    assert!(rt; is_first_layer(read_layer(alloc, LAYER), 6));
+    let mut halves = LayerReader::new(alloc);
+    assert!(rt; takes_both(&mut halves));
+    assert!(rt; is_first_layer(halves.finish(), 6));
+    let mut bytes = LayerReader::new(alloc);
+    assert!(rt; takes_bytes(&mut bytes, LAYER));
+    assert!(rt; is_first_layer(bytes.finish(), 6));
+}
+
+/// A text of a front, a comment of a million letters, and a back.
+fn commented(alloc: Global, front: &[u8], back: &[u8]) -> Option<Vec<u8>> {
+    match vec![in alloc; b'a'; 1_000_000] {
+        Ok(letters) => joined(alloc, &[front, b"G04", letters.as_slice(), b"*\n", back]),
+        Err(_) => None,
+    }
+}
+
+/// Whether a reader takes the layer with a long comment before its third line, byte by byte.
+fn takes_commented(alloc: Global, reader: &mut LayerReader) -> bool {
+    let layer = LAYER.as_slice();
+    match commented(alloc, &layer[..22], &layer[22..]) {
+        Some(text) => takes_bytes(reader, &text),
+        None => false,
+    }
+}
+
+#[test]
+fn a_long_comment_byte_by_byte(rt: HostRuntime) {
+    let mut reader = LayerReader::new(rt.alloc());
+    assert!(rt; takes_commented(rt.alloc(), &mut reader));
+    assert!(rt; is_first_layer(reader.finish(), 7));
+}
+
+/// The layer with the selection of an aperture that is not defined.
+const UNKNOWN: &[u8] = b"%FSLAX46Y46*%\n%MOMM*%\n%ADD10C,0.65*%\nD11*\nX0Y0D03*\nM02*\n";
+
+/// The same with a later item of a kind that is refused.
+const TWO_FAULTS: &[u8] = b"%FSLAX46Y46*%\n%MOMM*%\n%ADD10C,0.65*%\nD11*\n%LPC*%\nX0Y0D03*\nM02*\n";
+
+/// The failure of both: their fourth item.
+fn unknown_aperture() -> Option<Fail> {
+    expected_fault(Some((4, 37, Reason::UnknownAperture)))
+}
+
+/// The number of the first byte of a text that a reader refuses.
 fn refused_at(reader: &mut LayerReader, text: &[u8]) -> Option<usize> {
     for i in 0..text.len() {
         if reader.feed(&text[i..i + 1]).is_err() {
@@ -531,121 +585,61 @@ fn refused_at(reader: &mut LayerReader, text: &[u8]) -> Option<usize> {
     None
 }
 
-/// Whether a reader refuses each byte of a text with this failure.
-fn refuses_each(reader: &mut LayerReader, text: &[u8], fail: Option<Fail>) -> bool {
+/// Whether a reader refuses each byte of a text with this failure, and its end.
+fn refuses_each(mut reader: LayerReader, text: &[u8], fail: Option<Fail>) -> bool {
     for i in 0..text.len() {
         if reader.feed(&text[i..i + 1]).err() != fail {
             return false;
         }
     }
-    true
-}
-
-/// Whether a layer has so many commands, the one flash of the first layer, its pad and no file function.
-fn is_first_layer(layer: &Layer, commands: usize) -> Result<bool, TestFail> {
-    Ok(
-        layer.commands().len() == commands
-            && layer.flashes() == [disc(0, 0, 325_000_000)?].as_slice()
-            && layer.pads().len() == 1
-            && layer.file_function().is_none(),
-    )
+    reader.finish().err() == fail
 }
 
 #[test]
-fn a_layer_in_two_pieces(rt: HostRuntime) -> Result<(), TestFail> {
-    let alloc = rt.alloc();
-    let text = joined(alloc, &LAYER)?;
-    assert_eq!(rt; text.len(), 56);
-    let mut reader = LayerReader::new(alloc);
-    reader.feed(front(&text, 30)).map_err(|_| "refused")?;
-    reader
-        .feed(&text[text.len().min(30)..])
-        .map_err(|_| "refused")?;
-    let layer = reader.finish().map_err(|_| "refused")?;
-    assert!(rt; is_first_layer(&layer, 6)?);
-    Ok(())
-}
-
-#[test]
-fn a_layer_byte_by_byte(rt: HostRuntime) -> Result<(), TestFail> {
-    let alloc = rt.alloc();
-    let mut reader = LayerReader::new(alloc);
-    feed_bytes(&mut reader, &joined(alloc, &LAYER)?).map_err(|_| "refused")?;
-    let layer = reader.finish().map_err(|_| "refused")?;
-    assert!(rt; is_first_layer(&layer, 6)?);
-    assert_eq!(rt; layer.into_pads().len(), 1);
-    Ok(())
-}
-
-#[test]
-fn a_long_comment_byte_by_byte(rt: HostRuntime) -> Result<(), TestFail> {
-    let alloc = rt.alloc();
-    let mut reader = LayerReader::new(alloc);
-    feed_bytes(&mut reader, &commented(alloc)?).map_err(|_| "refused")?;
-    let layer = reader.finish().map_err(|_| "refused")?;
-    assert!(rt; is_first_layer(&layer, 7)?);
-    Ok(())
-}
-
-#[test]
-fn an_unknown_aperture_and_what_follows_it(rt: HostRuntime) -> Result<(), TestFail> {
-    let alloc = rt.alloc();
-    let text = with(alloc, 4, b"D11*\n")?;
-    let unknown = refused(4, 37, Reason::UnknownAperture);
-    let mut reader = LayerReader::new(alloc);
-    assert_eq!(rt; reader.feed(front(&text, 42)).err(), unknown);
-    assert!(rt; refuses_each(&mut reader, &text, unknown));
-    assert_eq!(rt; reader.finish().map(|_| ()).err(), unknown);
-    Ok(())
-}
-
-#[test]
-fn a_fault_at_the_piece_that_ends_its_item(rt: HostRuntime) -> Result<(), TestFail> {
-    let alloc = rt.alloc();
-    let text = two_faults(alloc)?;
-    let unknown = refused(4, 37, Reason::UnknownAperture);
-    let mut reader = LayerReader::new(alloc);
-    assert_eq!(rt; refused_at(&mut reader, &text), Some(40));
-    assert_eq!(rt; reader.feed(b"").err(), unknown);
-    assert!(rt; refuses_each(&mut reader, &text, unknown));
-    assert_eq!(rt; reader.finish().map(|_| ()).err(), unknown);
-    Ok(())
-}
-
-#[test]
-fn an_early_rule_before_a_late_item_in_one_piece(rt: HostRuntime) -> Result<(), TestFail> {
-    let text = two_faults(rt.alloc())?;
-    let unknown = refused(4, 37, Reason::UnknownAperture);
+fn a_fault_and_what_follows_it(rt: HostRuntime) {
+    let unknown = unknown_aperture();
     let mut reader = LayerReader::new(rt.alloc());
-    for piece in [text.as_slice(), b"M02*"] {
-        assert_eq!(rt; reader.feed(piece).err(), unknown);
-    }
-    Ok(())
+    assert!(rt; reader.feed(front(UNKNOWN, 42)).err() == unknown);
+    assert!(rt; refuses_each(reader, UNKNOWN, unknown));
+    let mut reader = LayerReader::new(rt.alloc());
+    assert!(rt; refused_at(&mut reader, TWO_FAULTS) == Some(40));
+    assert!(rt; reader.feed(b"").err() == unknown);
+    assert!(rt; refuses_each(reader, TWO_FAULTS, unknown));
+}
+
+/// Whether a reader of a layer gives this failure at each of two pieces, and at its end.
+fn layer_fails(alloc: Global, first: &[u8], second: &[u8], fail: Option<Fail>) -> bool {
+    let mut reader = LayerReader::new(alloc);
+    let is_refused = reader.feed(first).err() == fail && reader.feed(second).err() == fail;
+    reader.finish().err() == fail && is_refused
+}
+
+/// The same of a reader of flashes.
+fn flashes_fail(alloc: Global, first: &[u8], second: &[u8], fail: Option<Fail>) -> bool {
+    let mut reader = FlashReader::new(alloc);
+    let is_refused = reader.feed(first).err() == fail && reader.feed(second).err() == fail;
+    reader.finish().err() == fail && is_refused
+}
+
+/// The same of a reader of sums.
+fn sum_fails(alloc: Global, first: &[u8], second: &[u8], fail: Option<Fail>) -> bool {
+    let mut reader = SumReader::new(alloc);
+    let is_refused = reader.feed(first).err() == fail && reader.feed(second).err() == fail;
+    reader.finish().err() == fail && is_refused
 }
 
 #[test]
-fn an_early_rule_before_a_late_item_of_flashes(rt: HostRuntime) -> Result<(), TestFail> {
-    let text = two_faults(rt.alloc())?;
-    let unknown = refused(4, 37, Reason::UnknownAperture);
-    let mut reader = FlashReader::new(rt.alloc());
-    for piece in [text.as_slice(), b"M02*"] {
-        assert_eq!(rt; reader.feed(piece).err(), unknown);
-    }
-    assert_eq!(rt; reader.finish().map(|_| ()).err(), unknown);
-    Ok(())
+fn an_early_rule_before_a_late_item_in_one_piece(rt: HostRuntime) {
+    let alloc = rt.alloc();
+    let unknown = unknown_aperture();
+    assert!(rt; layer_fails(alloc, TWO_FAULTS, b"M02*", unknown));
+    assert!(rt; flashes_fail(alloc, TWO_FAULTS, b"M02*", unknown));
+    assert!(rt; sum_fails(alloc, TWO_FAULTS, b"M02*", unknown));
 }
 
-#[test]
-fn an_early_rule_before_a_late_item_of_sums(rt: HostRuntime) -> Result<(), TestFail> {
-    let text = two_faults(rt.alloc())?;
-    let unknown = refused(4, 37, Reason::UnknownAperture);
-    let mut reader = SumReader::new(rt.alloc());
-    for piece in [text.as_slice(), b"M02*"] {
-        assert_eq!(rt; reader.feed(piece).err(), unknown);
-    }
-    assert_eq!(rt; reader.finish().map(|_| ()).err(), unknown);
-    Ok(())
-}
+/// A file function, another aperture, and its flashes in a block and turned.
+const TURNED: &[u8] =
+    b"%TF.FileFunction,Copper,L1,Top*%\n%ADD11R,1X2*%\nX9Y9D03*\nD11*\n%SRX2Y3I5J1*%\n%LR45*%\nX0Y0D03*\n";
 
 /// The sum of a text that comes in pieces of one byte.
 fn sum_of(alloc: Global, text: &[u8]) -> Result<LayerSum, Fail> {
@@ -656,20 +650,12 @@ fn sum_of(alloc: Global, text: &[u8]) -> Result<LayerSum, Fail> {
     reader.finish()
 }
 
-#[test]
-fn the_sum_of_a_layer_in_pieces(rt: HostRuntime) -> Result<(), TestFail> {
-    let alloc = rt.alloc();
-    let sum = sum_of(alloc, &joined(alloc, &LAYER)?).map_err(|_| "refused")?;
-    assert_eq!(rt; sum.pads.len(), 1);
-    assert_eq!(rt; sum.other, 0);
-    assert!(rt; sum.file_function.is_none());
-    let turned =
-        b"%TF.FileFunction,Copper,L1,Top*%\n%ADD11R,1X2*%\nX9Y9D03*\nD11*\n%SRX2Y3I5J1*%\n%LR45*%\nX0Y0D03*\n";
-    let sum = sum_of(alloc, &with(alloc, 5, turned)?).map_err(|_| "refused")?;
-    assert_eq!(rt; sum.pads.len(), 1);
-    assert_eq!(rt; sum.other, 6);
-    assert!(rt; sum.file_function.is_some());
-    Ok(())
+/// How many pads and other flashes the sum of a text has, and whether it has a file function.
+fn sum_counts(alloc: Global, text: &[u8]) -> Option<(usize, usize, bool)> {
+    match sum_of(alloc, text) {
+        Ok(sum) => Some((sum.pads.len(), sum.other, sum.file_function.is_some())),
+        Err(_) => None,
+    }
 }
 
 /// The flashes of a text that comes in pieces of one byte.
@@ -681,15 +667,14 @@ fn flashes_of(alloc: Global, text: &[u8]) -> Result<Vec<Flash>, Fail> {
     reader.finish()
 }
 
-#[test]
-fn the_flashes_of_a_layer_in_pieces(rt: HostRuntime) -> Result<(), TestFail> {
-    let alloc = rt.alloc();
-    let text = with(alloc, 5, b"%SRX2Y3I5J1*%\n%LR45*%\nX0Y0D03*\n")?;
-    let flashes = flashes_of(alloc, &text).map_err(|_| "refused")?;
-    assert_eq!(rt; flashes.len(), 6);
-    let layer = read_layer(alloc, &text).map_err(|_| "refused")?;
-    assert!(rt; flashes.as_slice() == layer.flashes());
-    Ok(())
+/// How many flashes a text has in pieces, where they are those of its layer.
+fn flash_count(alloc: Global, text: &[u8]) -> Option<usize> {
+    match (flashes_of(alloc, text), read_layer(alloc, text)) {
+        (Ok(flashes), Ok(layer)) => {
+            (flashes.as_slice() == layer.flashes()).then_some(flashes.len())
+        }
+        _ => None,
+    }
 }
 
 /// The flashes of a text in two pieces, with what else a package needs of it.
@@ -701,21 +686,52 @@ fn whole_of(alloc: Global, text: &[u8]) -> Result<FlashSum, Fail> {
     reader.finish_whole()
 }
 
+/// Whether a file function is this text, or none.
+fn is_function(function: &Option<Text>, expected: Option<&[u8]>) -> bool {
+    match (function, expected) {
+        (Some(text), Some(bytes)) => text.bytes() == bytes,
+        (None, None) => true,
+        _ => false,
+    }
+}
+
+/// Whether flashes and a file function are those of a layer.
+fn agree(whole: &FlashSum, layer: &Layer) -> bool {
+    whole.flashes.as_slice() == layer.flashes()
+        && is_function(&whole.file_function, layer.file_function())
+}
+
+/// How many other flashes a text has, where its flashes and its file function are those of its layer.
+fn other_count(alloc: Global, text: &[u8]) -> Option<usize> {
+    match (whole_of(alloc, text), read_layer(alloc, text)) {
+        (Ok(whole), Ok(layer)) => agree(&whole, &layer).then_some(whole.other),
+        _ => None,
+    }
+}
+
+/// Whether the turned flashes are counted so by each reader.
+fn are_turned_flashes_counted(alloc: Global) -> bool {
+    match with(alloc, 5, TURNED) {
+        Some(text) => {
+            sum_counts(alloc, &text) == Some((1, 6, true)) && other_count(alloc, &text) == Some(6)
+        }
+        None => false,
+    }
+}
+
+/// How many flashes the copies of a turned block have in pieces.
+fn copies(alloc: Global) -> Option<usize> {
+    match with(alloc, 5, b"%SRX2Y3I5J1*%\n%LR45*%\nX0Y0D03*\n") {
+        Some(text) => flash_count(alloc, &text),
+        None => None,
+    }
+}
+
 #[test]
-fn the_flashes_of_a_layer_with_its_sum(rt: HostRuntime) -> Result<(), TestFail> {
+fn sums_and_flashes_of_layers_in_pieces(rt: HostRuntime) {
     let alloc = rt.alloc();
-    let turned =
-        b"%TF.FileFunction,Copper,L1,Top*%\n%ADD11R,1X2*%\nX9Y9D03*\nD11*\n%SRX2Y3I5J1*%\n%LR45*%\nX0Y0D03*\n";
-    let text = with(alloc, 5, turned)?;
-    let whole = whole_of(alloc, &text).map_err(|_| "refused")?;
-    let layer = read_layer(alloc, &text).map_err(|_| "refused")?;
-    assert!(rt; whole.flashes.as_slice() == layer.flashes());
-    assert_eq!(rt; whole.other, 6);
-    assert!(rt; whole.file_function.as_ref().map(|text| text.bytes()) == layer.file_function());
-    let early = refused(4, 37, Reason::UnknownAperture);
-    assert_eq!(rt;
-        whole_of(alloc, &two_faults(alloc)?).map(|_| ()).err(),
-        early
-    );
-    Ok(())
+    assert!(rt; sum_counts(alloc, LAYER) == Some((1, 0, false)));
+    assert!(rt; are_turned_flashes_counted(alloc));
+    assert!(rt; copies(alloc) == Some(6));
+    assert!(rt; whole_of(alloc, TWO_FAULTS).err() == unknown_aperture());
 }

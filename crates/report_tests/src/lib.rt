@@ -18,4 +18,8 @@ mod report_text_calls;
 #[cfg(test)]
 mod telling_calls;
 #[cfg(test)]
+mod tellings;
+#[cfg(test)]
+mod texts;
+#[cfg(test)]
 mod waivers_calls;

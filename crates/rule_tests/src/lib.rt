@@ -8,4 +8,6 @@ mod package_check_calls;
 #[cfg(test)]
 mod ring_rules_calls;
 #[cfg(test)]
+mod rows;
+#[cfg(test)]
 mod scales_calls;

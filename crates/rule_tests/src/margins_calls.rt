@@ -5,9 +5,10 @@ ghost use Rattle.pad_shapes.specs.Shapes.{IsInDisc, disc_covers};
 ghost use Rattle.pad_shapes.specs.Inner.ShapeLaws.{disc_holds, disc_holds_slots, disc_between, disc_extent};
 ghost use Rattle.margins.specs.Inner.DepthLaws.{disc_covers_less};
 
+use crate::rows::{HOLE, HoleRow, PadRow, Shape, add_holes, add_pads, pad, slot};
 use grid_units::{Hole, Point};
 use margins::*;
-use pad_shapes::{Disc, Obround, Pad, PadShape, Rect, Zone};
+use pad_shapes::{Disc, Pad, PadShape, Zone};
 use ring_rules::{Drilled, Span};
 use std::alloc::{AllocError, Global};
 use std::cell::Cell;
@@ -87,16 +88,9 @@ fn point(x: i64, y: i64) -> Result<Point, Fail> {
     Ok(Point::new(x, y).ok_or("point")?)
 }
 
-/// A hole between two points.
-fn slot(from: (i64, i64), to: (i64, i64), radius: i64) -> Result<Hole, Fail> {
-    let from = point(from.0, from.1)?;
-    let to = point(to.0, to.1)?;
-    Ok(Hole::new(from, to, radius).ok_or("hole")?)
-}
-
 /// A round hole.
 fn round(x: i64, y: i64, radius: i64) -> Result<Hole, Fail> {
-    slot((x, y), (x, y), radius)
+    Ok(slot((x, y), (x, y), radius).ok_or("hole")?)
 }
 
 /// A plated hole.
@@ -109,101 +103,199 @@ fn drilled(hole: Hole) -> Drilled {
 }
 
 fn disc(x: i64, y: i64, radius: i64) -> Result<Pad, Fail> {
-    Ok(Pad::Disc(Disc::new(point(x, y)?, radius).ok_or("disc")?))
+    Ok(pad((Shape::Disc, x, y, radius, radius)).ok_or("disc")?)
 }
 
 fn rect(x: i64, y: i64, half_x: i64, half_y: i64) -> Result<Pad, Fail> {
-    Ok(Pad::Rect(Rect::new(point(x, y)?, half_x, half_y).ok_or("rect")?))
+    Ok(pad((Shape::Rect, x, y, half_x, half_y)).ok_or("rect")?)
 }
 
-fn obround(x: i64, y: i64, half_x: i64, half_y: i64) -> Result<Pad, Fail> {
-    let obround = Obround::new(point(x, y)?, half_x, half_y).ok_or("obround")?;
-    Ok(Pad::Obround(obround))
-}
+/// One whose middle lies 0.5 mm from there.
+const BESIDE: HoleRow = (
+    (300_000_000, 400_000_000),
+    (300_000_000, 400_000_000),
+    200_000_000,
+);
+
+/// One further off.
+const FURTHER: HoleRow = (
+    (1_000_000_000, 1_000_000_000),
+    (1_000_000_000, 1_000_000_000),
+    200_000_000,
+);
 
 /// The ring that a hole of 0.4 mm at this point has in a pad.
-fn ring_at(pad: &Pad, x: i64, y: i64) -> Result<i64, Fail> {
-    Ok(depth_of_hole(pad, &round(x, y, 200_000_000)?).saturating_sub(200_000_000))
+fn ring_at(row: PadRow, x: i64, y: i64) -> Option<i64> {
+    let hole = slot((x, y), (x, y), 200_000_000)?;
+    Some(depth_of_hole(&pad(row)?, &hole).saturating_sub(200_000_000))
+}
+
+/// Pads, the middles of holes of 0.4 mm, and their rings.
+const RINGS: [(PadRow, i64, i64, i64); 9] = [
+    (
+        (Shape::Rect, 0, 0, 325_000_000, 325_000_000),
+        0,
+        0,
+        125_000_000,
+    ),
+    (
+        (Shape::Rect, -1_000, 0, 325_000_000, 325_000_000),
+        0,
+        0,
+        124_999_000,
+    ),
+    (
+        (Shape::Disc, 0, 0, 825_000_000, 0),
+        300_000_000,
+        400_000_000,
+        125_000_000,
+    ),
+    (
+        (Shape::Disc, 0, 0, 825_000_000, 0),
+        300_001_000,
+        400_000_000,
+        124_999_399,
+    ),
+    ((Shape::Disc, 0, 0, 150_000_000, 0), 0, 0, -50_000_000),
+    ((Shape::Disc, 100_000_000, 0, 300_000_000, 0), 0, 0, 0),
+    (
+        (Shape::Disc, 0, 0, 2_000_000_000, 0),
+        1_000_000_000,
+        1_000_000_000,
+        385_786_437,
+    ),
+    (
+        (Shape::Obround, 0, 0, 1_000_000_000, 500_000_000),
+        605_000_000,
+        140_000_000,
+        125_000_000,
+    ),
+    (
+        (Shape::Obround, 0, 0, 1_000_000_000, 500_000_000),
+        605_000_000,
+        150_000_000,
+        116_901_665,
+    ),
+];
+
+#[test]
+fn rings_of_holes(rt: HostRuntime) {
+    for &(row, x, y, ring) in &RINGS {
+        assert!(rt; ring_at(row, x, y) == Some(ring), "at {x},{y}");
+    }
+}
+
+/// How deep the middle of a pad lies in it, and its middle.
+fn room_of(row: PadRow) -> Option<(i64, Point)> {
+    let pad = pad(row)?;
+    Some((pad.room(), pad.middle()))
 }
 
 #[test]
-fn rings_of_squares(rt: HostRuntime) -> Result<(), Fail> {
-    let square = rect(0, 0, 325_000_000, 325_000_000)?;
-    assert_eq!(rt; ring_at(&square, 0, 0)?, 125_000_000);
-    let moved = rect(-1_000, 0, 325_000_000, 325_000_000)?;
-    assert_eq!(rt; ring_at(&moved, 0, 0)?, 124_999_000);
-    assert_eq!(rt; square.room(), 325_000_000);
-    Ok(())
+fn rooms_of_pads(rt: HostRuntime) {
+    for &(row, room) in &[
+        ((Shape::Rect, 0, 0, 325_000_000, 325_000_000), 325_000_000),
+        ((Shape::Disc, 0, 0, 2_000_000_000, 0), 2_000_000_000),
+        (
+            (Shape::Obround, 0, 0, 1_000_000_000, 500_000_000),
+            500_000_000,
+        ),
+    ] {
+        let expected = match Point::new(0, 0) {
+            Some(middle) => Some((room, middle)),
+            None => None,
+        };
+        assert!(rt; room_of(row) == expected, "of {room}");
+    }
 }
 
-#[test]
-fn rings_of_discs(rt: HostRuntime) -> Result<(), Fail> {
-    let wide = disc(0, 0, 825_000_000)?;
-    assert_eq!(rt; ring_at(&wide, 300_000_000, 400_000_000)?, 125_000_000);
-    assert_eq!(rt; ring_at(&wide, 300_001_000, 400_000_000)?, 124_999_399);
-    assert_eq!(rt; ring_at(&disc(0, 0, 150_000_000)?, 0, 0)?, -50_000_000);
-    assert_eq!(rt; ring_at(&disc(100_000_000, 0, 300_000_000)?, 0, 0)?, 0);
-    let four = disc(0, 0, 2_000_000_000)?;
-    assert_eq!(rt; ring_at(&four, 1_000_000_000, 1_000_000_000)?, 385_786_437);
-    assert_eq!(rt; four.room(), 2_000_000_000);
-    Ok(())
-}
-
-#[test]
-fn rings_of_obrounds(rt: HostRuntime) -> Result<(), Fail> {
-    let lying = obround(0, 0, 1_000_000_000, 500_000_000)?;
-    assert_eq!(rt; ring_at(&lying, 605_000_000, 140_000_000)?, 125_000_000);
-    assert_eq!(rt; ring_at(&lying, 605_000_000, 150_000_000)?, 116_901_665);
-    assert_eq!(rt; lying.room(), 500_000_000);
-    assert_eq!(rt; lying.middle() == point(0, 0)?, true);
-    Ok(())
+/// How deep a hole lies in a disc of 1 mm whose middle is 5 mm right of the origin: no depth below 0.
+fn depth_in_disc(row: HoleRow) -> Option<Option<i64>> {
+    let disc = pad((Shape::Disc, 5_000_000_000, 0, 500_000_000, 0))?;
+    let depth = depth_of_hole(&disc, &slot(row.0, row.1, row.2)?);
+    Some((depth >= 0).then_some(depth))
 }
 
 /// What lies outside of a pad is covered with no reach, and a slot is no deeper than either of its ends.
 #[test]
-fn holes_outside(rt: HostRuntime) -> Result<(), Fail> {
-    let pad = disc(5_000_000_000, 0, 500_000_000)?;
-    assert_eq!(rt; depth_of_hole(&pad, &round(0, 0, 200_000_000)?) < 0, true);
-    let long = slot(
-        (5_000_000_000, 0),
-        (5_000_000_000, 300_000_000),
-        100_000_000,
-    )?;
-    assert_eq!(rt; depth_of_hole(&pad, &long), 200_000_000);
-    let leaves = slot(
-        (5_000_000_000, 0),
-        (5_000_000_000, 600_000_000),
-        100_000_000,
-    )?;
-    assert_eq!(rt; depth_of_hole(&pad, &leaves) < 0, true);
-    Ok(())
+fn holes_outside(rt: HostRuntime) {
+    for &(row, depth) in &[
+        (HOLE, None),
+        (
+            (
+                (5_000_000_000, 0),
+                (5_000_000_000, 300_000_000),
+                100_000_000,
+            ),
+            Some(200_000_000),
+        ),
+        (
+            (
+                (5_000_000_000, 0),
+                (5_000_000_000, 600_000_000),
+                100_000_000,
+            ),
+            None,
+        ),
+    ] {
+        assert!(rt; depth_in_disc(row) == Some(depth));
+    }
+}
+
+fn gap_of(first: HoleRow, second: HoleRow) -> Option<i64> {
+    let first = slot(first.0, first.1, first.2)?;
+    Some(gap_between(&first, &slot(second.0, second.1, second.2)?))
 }
 
 #[test]
-fn gaps(rt: HostRuntime) -> Result<(), Fail> {
-    let first = round(0, 0, 200_000_000)?;
-    assert_eq!(rt; gap_between(&first, &first), -400_000_000);
-    let second = round(300_000_000, 400_000_000, 200_000_000)?;
-    assert_eq!(rt; gap_between(&first, &second), 100_000_000);
-    let third = round(1_000_000_000, 1_000_000_000, 200_000_000)?;
-    assert_eq!(rt; gap_between(&first, &third), 1_014_213_562);
-    assert_eq!(rt; gap_between(&third, &first), 1_014_213_562);
-    let along = slot((0, 0), (2_000_000_000, 0), 250_000_000)?;
-    let beside = round(1_000_000_000, 750_000_000, 250_000_000)?;
-    assert_eq!(rt; gap_between(&along, &beside), 250_000_000);
-    Ok(())
+fn gaps(rt: HostRuntime) {
+    for &(first, second, gap) in &[
+        (HOLE, HOLE, -400_000_000),
+        (HOLE, BESIDE, 100_000_000),
+        (HOLE, FURTHER, 1_014_213_562),
+        (FURTHER, HOLE, 1_014_213_562),
+        (
+            ((0, 0), (2_000_000_000, 0), 250_000_000),
+            (
+                (1_000_000_000, 750_000_000),
+                (1_000_000_000, 750_000_000),
+                250_000_000,
+            ),
+            250_000_000,
+        ),
+    ] {
+        assert!(rt; gap_of(first, second) == Some(gap), "of {gap}");
+    }
 }
 
-/// Of two pads in which a hole lies equally deep the first is the best.
+const WIDE: PadRow = (Shape::Rect, 0, 0, 325_000_000, 325_000_000);
+
+const LEFT: PadRow = (Shape::Disc, -100_000_000, 0, 300_000_000, 0);
+
+const RIGHT: PadRow = (Shape::Disc, 100_000_000, 0, 300_000_000, 0);
+
+/// The place of the best pad of a hole, and how deep the hole lies in it.
+fn best_in(alloc: Global, rows: &[PadRow], row: HoleRow) -> Option<Option<(usize, u64)>> {
+    let hole = slot(row.0, row.1, row.2)?;
+    let mut pads = Vec::new(alloc);
+    match (add_pads(&mut pads, rows), best_pad(&pads, &hole)) {
+        (Some(()), Some(best)) => Some(Some((best.pad, best.depth))),
+        (Some(()), None) => Some(None),
+        (None, _) => None,
+    }
+}
+
+/// Of two pads in which a hole lies equally deep the first is the best. A hole is bare without a pad, and an oblique slot is.
 #[test]
-fn first_of_equal_pads(rt: HostRuntime) -> Result<(), Fail> {
-    let right = disc(100_000_000, 0, 300_000_000)?;
-    let left = disc(-100_000_000, 0, 300_000_000)?;
-    let hole = round(0, 0, 200_000_000)?;
-    let best = best_pad(&[right, left], &hole).ok_or("bare")?;
-    assert_eq!(rt; best.pad, 0);
-    assert_eq!(rt; best.depth, 200_000_000);
-    Ok(())
+fn best_pads_of_holes(rt: HostRuntime) {
+    let rows: &[(&[PadRow], HoleRow, Option<(usize, u64)>); 3] = &[
+        (&[RIGHT, LEFT], HOLE, Some((0, 200_000_000))),
+        (&[], HOLE, None),
+        (&[WIDE], ((0, 0), (1_000, 1_000), 100_000_000), None),
+    ];
+    for &(pads, hole, best) in rows {
+        assert!(rt; best_in(rt.alloc(), pads, hole) == Some(best));
+    }
 }
 
 /// A deeper pad is better wherever it stands.
@@ -215,182 +307,208 @@ fn deepest_pad(rt: HostRuntime) -> Result<(), Fail> {
     let hole = drilled(round(0, 0, 200_000_000)?);
     let outside = drilled(round(9_000_000_000, 0, 200_000_000)?);
     let bests = best_pads(rt.alloc(), &[far, left, wide], &[hole, outside])?;
-    assert_eq!(rt; bests.len(), 2);
-    let best = bests[0].ok_or("bare")?;
-    assert_eq!(rt; best.pad, 2);
-    assert_eq!(rt; best.depth, 325_000_000);
-    assert_eq!(rt; bests[1].is_none(), true);
+    let found = match bests.as_slice() {
+        [Some(best), None] => Some((best.pad, best.depth)),
+        _ => None,
+    };
+    assert!(rt; found == Some((2, 325_000_000)));
     Ok(())
 }
 
-/// A hole is bare without a pad, outside of all, and where it is an oblique slot.
-#[test]
-fn holes_without_a_pad(rt: HostRuntime) -> Result<(), Fail> {
-    let wide = rect(0, 0, 325_000_000, 325_000_000)?;
-    let hole = round(0, 0, 200_000_000)?;
-    let none: [Pad; 0] = [];
-    assert_eq!(rt; best_pad(&none, &hole).is_none(), true);
-    let oblique = slot((0, 0), (1_000, 1_000), 100_000_000)?;
-    assert_eq!(rt; best_pad(&[wide], &oblique).is_none(), true);
-    Ok(())
+/// Which of some holes are bare.
+fn are_bare(alloc: Global, pads: &[PadRow], holes: &[HoleRow], expected: &[bool]) -> bool {
+    let (mut layer, mut drills) = (Vec::new(alloc), Vec::new(alloc));
+    if add_pads(&mut layer, pads).is_none() || add_holes(&mut drills, holes, true).is_none() {
+        return false;
+    }
+    match bare_holes(alloc, &layer, &drills) {
+        Ok(bare) => bare.as_slice() == expected,
+        Err(_) => false,
+    }
 }
 
 /// A hole is bare where two pads cover one of its ends each, and not where one covers its centre, however small that pad is.
 #[test]
-fn bare_and_covered_holes(rt: HostRuntime) -> Result<(), Fail> {
-    let pads = [
-        disc(0, 0, 100_000_000)?,
-        disc(1_000_000_000, 0, 100_000_000)?,
+fn bare_and_covered_holes(rt: HostRuntime) {
+    let pads = &[
+        (Shape::Disc, 0, 0, 100_000_000, 0),
+        (Shape::Disc, 1_000_000_000, 0, 100_000_000, 0),
     ];
-    let covered = drilled(round(60_000_000, 80_000_000, 200_000_000)?);
-    let outside = drilled(round(60_000_001, 80_000_000, 200_000_000)?);
-    let between = drilled(slot((0, 0), (1_000_000_000, 0), 200_000_000)?);
-    let oblique = drilled(slot((0, 0), (1_000, 1_000), 200_000_000)?);
-    let bare = bare_holes(rt.alloc(), &pads, &[covered, outside, between, oblique])?;
-    assert_eq!(rt; bare.len(), 4);
-    assert_eq!(rt; bare[0], false);
-    assert_eq!(rt; bare[1], true);
-    assert_eq!(rt; bare[2], true);
-    assert_eq!(rt; bare[3], true);
-    Ok(())
+    let holes = &[
+        (
+            (60_000_000, 80_000_000),
+            (60_000_000, 80_000_000),
+            200_000_000,
+        ),
+        (
+            (60_000_001, 80_000_000),
+            (60_000_001, 80_000_000),
+            200_000_000,
+        ),
+        ((0, 0), (1_000_000_000, 0), 200_000_000),
+        ((0, 0), (1_000, 1_000), 200_000_000),
+    ];
+    assert!(rt; are_bare(rt.alloc(), pads, holes, &[false, true, true, true]));
 }
 
-/// Of pairs with the same gap the first is told, by the first of its holes and then by the second.
-#[test]
-fn nearest_pairs(rt: HostRuntime) -> Result<(), Fail> {
-    let first = drilled(round(0, 0, 200_000_000)?);
-    let second = drilled(round(300_000_000, 400_000_000, 200_000_000)?);
-    let third = drilled(round(1_000_000_000, 1_000_000_000, 200_000_000)?);
-    assert_eq!(rt; nearest_holes(rt.alloc(), &[first])?.is_none(), true);
-    let near = nearest_holes(rt.alloc(), &[third, first, second])?.ok_or("none")?;
-    assert_eq!(rt; near.first, 1);
-    assert_eq!(rt; near.second, 2);
-    assert_eq!(rt; near.gap, 100_000_000);
-    Ok(())
-}
-
-/// The first two holes of a row are the nearest, unless two others are nearer.
-#[test]
-fn nearest_of_a_row(rt: HostRuntime) -> Result<(), Fail> {
-    let first = drilled(round(0, 0, 200_000_000)?);
-    let second = drilled(round(1_000_000_000, 0, 200_000_000)?);
-    let third = drilled(round(2_000_000_000, 0, 200_000_000)?);
-    let near = nearest_holes(rt.alloc(), &[first, second, third])?.ok_or("none")?;
-    assert_eq!(rt; near.first, 0);
-    assert_eq!(rt; near.second, 1);
-    assert_eq!(rt; near.gap, 600_000_000);
-    let fourth = drilled(round(2_900_000_000, 0, 200_000_000)?);
-    let near = nearest_holes(rt.alloc(), &[first, second, third, fourth])?.ok_or("none")?;
-    assert_eq!(rt; near.first, 2);
-    assert_eq!(rt; near.second, 3);
-    assert_eq!(rt; near.gap, 500_000_000);
-    Ok(())
-}
-
-/// A hole that is drilled twice overlaps itself.
-#[test]
-fn hole_drilled_twice(rt: HostRuntime) -> Result<(), Fail> {
-    let first = drilled(round(0, 0, 200_000_000)?);
-    let third = drilled(round(1_000_000_000, 1_000_000_000, 200_000_000)?);
-    let twice = nearest_holes(rt.alloc(), &[third, first, first, first])?.ok_or("none")?;
-    assert_eq!(rt; twice.first, 1);
-    assert_eq!(rt; twice.second, 2);
-    assert_eq!(rt; twice.gap, -400_000_000);
-    Ok(())
-}
-
-/// The least length that is met.
-fn most(met: Met) -> Result<i64, Fail> {
-    match met {
-        Met::Most(length) => Ok(length),
-        _ => Err("no length")?,
+/// The places of the two nearest of some holes, and the gap between them.
+fn nearest_of(alloc: Global, rows: &[HoleRow]) -> Option<Option<(usize, usize, i64)>> {
+    let mut holes = Vec::new(alloc);
+    match (
+        add_holes(&mut holes, rows, true),
+        nearest_holes(alloc, &holes),
+    ) {
+        (Some(()), Ok(Some(near))) => Some(Some((near.first, near.second, near.gap))),
+        (Some(()), Ok(None)) => Some(None),
+        _ => None,
     }
 }
 
-/// The least ring of a board with one layer counts, and the greatest rule with no finding is just that.
+const MIDDLE: HoleRow = ((1_000_000_000, 0), (1_000_000_000, 0), 200_000_000);
+
+const END: HoleRow = ((2_000_000_000, 0), (2_000_000_000, 0), 200_000_000);
+
+/// Of pairs with the same gap the first is named, by the first of its holes and then by the second; a hole that is drilled twice
+/// overlaps itself; and holes further apart than any rule are tried too.
+const NEAREST: [(&[HoleRow], Option<(usize, usize, i64)>); 6] = [
+    (&[HOLE], None),
+    (&[FURTHER, HOLE, BESIDE], Some((1, 2, 100_000_000))),
+    (&[HOLE, MIDDLE, END], Some((0, 1, 600_000_000))),
+    (
+        &[
+            HOLE,
+            MIDDLE,
+            END,
+            ((2_900_000_000, 0), (2_900_000_000, 0), 200_000_000),
+        ],
+        Some((2, 3, 500_000_000)),
+    ),
+    (&[FURTHER, HOLE, HOLE, HOLE], Some((1, 2, -400_000_000))),
+    (
+        &[
+            ((-9_000_000_000_000, 0), (-9_000_000_000_000, 0), 1),
+            ((9_000_000_000_000, 0), (9_000_000_000_000, 0), 1),
+        ],
+        Some((0, 1, 17_999_999_999_998)),
+    ),
+];
+
 #[test]
-fn board_with_two_holes(rt: HostRuntime) -> Result<(), Fail> {
-    let pads = [disc(0, 0, 1_000_000_000)?];
-    let first = drilled(round(0, 0, 200_000_000)?);
-    let second = drilled(round(300_000_000, 400_000_000, 200_000_000)?);
-    let holes = [first, second];
-    let layers = [pads.as_slice()];
-    assert_eq!(rt; most(ring_met(rt.alloc(), &layers, &holes)?)?, 300_000_000);
-    assert_eq!(rt; most(gap_met(rt.alloc(), &holes)?)?, 100_000_000);
-    Ok(())
+fn nearest_pairs(rt: HostRuntime) {
+    for &(holes, near) in &NEAREST {
+        assert!(rt; nearest_of(rt.alloc(), holes) == Some(near));
+    }
 }
 
-/// A board with a hole wider than its pad meets no ring, and says by how much.
-#[test]
-fn board_with_a_wide_hole(rt: HostRuntime) -> Result<(), Fail> {
-    let pads = [disc(0, 0, 150_000_000)?];
-    let layers = [pads.as_slice()];
-    let holes = [drilled(round(0, 0, 200_000_000)?)];
-    assert_eq!(rt; most(ring_met(rt.alloc(), &layers, &holes)?)?, -50_000_000);
-    assert_eq!(rt; matches!(gap_met(rt.alloc(), &holes)?, Met::Any), true);
-    Ok(())
-}
-
-/// A bare hole meets no ring; where nothing is drilled, or nothing is plated, any ring is met.
-#[test]
-fn boards_without_rings(rt: HostRuntime) -> Result<(), Fail> {
-    let pads = [disc(5_000_000_000, 0, 500_000_000)?];
-    let layers = [pads.as_slice()];
-    let bare = drilled(round(0, 0, 200_000_000)?);
-    let met = ring_met(rt.alloc(), &layers, &[bare])?;
-    assert_eq!(rt; matches!(met, Met::None), true);
-    let unplated = Drilled {
-        hole: bare.hole,
-        plated: false,
-        span: None,
-    };
-    let met = ring_met(rt.alloc(), &layers, &[unplated])?;
-    assert_eq!(rt; matches!(met, Met::Any), true);
-    let none: [Drilled; 0] = [];
-    assert_eq!(rt;
-        matches!(ring_met(rt.alloc(), &layers, &none)?, Met::Any),
-        true
-    );
-    assert_eq!(rt; matches!(gap_met(rt.alloc(), &none)?, Met::Any), true);
-    Ok(())
-}
-
-/// Holes further apart than any rule are tried each with each, and a pair far from the others is found among many.
+/// A pair far from the others is found among many.
 #[test]
 fn nearest_of_many(rt: HostRuntime) -> Result<(), Fail> {
-    let left = drilled(round(-9_000_000_000_000, 0, 1)?);
-    let right = drilled(round(9_000_000_000_000, 0, 1)?);
-    let far = nearest_holes(rt.alloc(), &[left, right])?.ok_or("none")?;
-    assert_eq!(rt; far.gap, 17_999_999_999_998);
     let mut holes = Vec::new(rt.alloc());
     for place in 0..200 {
         let x = i64::from(place) * 1_000_000_000;
         holes.push(drilled(round(x, x, 200_000_000)?))?;
     }
     holes.push(drilled(round(5_000_000_000, 4_500_000_000, 1_000)?))?;
-    let near = nearest_holes(rt.alloc(), &holes)?.ok_or("none")?;
-    assert_eq!(rt; near.first, 5);
-    assert_eq!(rt; near.second, 200);
-    assert_eq!(rt; near.gap, 299_999_000);
+    let near = nearest_holes(rt.alloc(), &holes)?;
+    let expected = Nearest {
+        first: 5,
+        second: 200,
+        gap: 299_999_000,
+    };
+    assert!(rt; near == Some(expected));
     Ok(())
 }
 
-/// A bare hole meets no ring, and is passed over where only those count that are held.
+/// What a board of one layer meets: of rings, of rings that are held, alone too, and of gaps.
+type BoardMeets = (Met, Met, Met, Met);
+
+/// What a board of one layer meets. None where the rings that are met are others when they are asked for alone.
+fn met_by(alloc: Global, pads: &[PadRow], holes: &[HoleRow], plated: bool) -> Option<BoardMeets> {
+    let (mut layer, mut drills) = (Vec::new(alloc), Vec::new(alloc));
+    if add_pads(&mut layer, pads).is_none() || add_holes(&mut drills, holes, plated).is_none() {
+        return None;
+    }
+    met_on(alloc, &[layer.as_slice()], &drills)
+}
+
+fn met_on(alloc: Global, layers: &[&[Pad]], holes: &[Drilled]) -> Option<BoardMeets> {
+    let ring = ring_met(alloc, layers, holes).ok()?;
+    let both = rings_met(alloc, layers, holes).ok()?;
+    let held = held_met(alloc, layers, holes).ok()?;
+    let gap = gap_met(alloc, holes).ok()?;
+    (both.ring == ring).then_some((ring, both.held, held, gap))
+}
+
+const BARE: HoleRow = ((5_000_000_000, 0), (5_000_000_000, 0), 200_000_000);
+
+/// Pads, holes, whether they are plated, and what is met. The least ring counts, and the greatest rule with no finding is just that;
+/// a hole wider than its pad meets no ring, and it is said by how much; a bare hole meets no ring, and is passed over where only those
+/// count that are held; where nothing is drilled, or nothing is plated, any ring is met.
+const MET: [(&[PadRow], &[HoleRow], bool, BoardMeets); 7] = [
+    (
+        &[(Shape::Disc, 0, 0, 1_000_000_000, 0)],
+        &[HOLE, BESIDE],
+        true,
+        (
+            Met::Most(300_000_000),
+            Met::Most(300_000_000),
+            Met::Most(300_000_000),
+            Met::Most(100_000_000),
+        ),
+    ),
+    (
+        &[(Shape::Disc, 0, 0, 150_000_000, 0)],
+        &[HOLE],
+        true,
+        (
+            Met::Most(-50_000_000),
+            Met::Most(-50_000_000),
+            Met::Most(-50_000_000),
+            Met::Any,
+        ),
+    ),
+    (
+        &[(Shape::Disc, 5_000_000_000, 0, 500_000_000, 0)],
+        &[HOLE],
+        true,
+        (Met::None, Met::None, Met::None, Met::Any),
+    ),
+    (
+        &[(Shape::Disc, 5_000_000_000, 0, 500_000_000, 0)],
+        &[HOLE],
+        false,
+        (Met::Any, Met::Any, Met::Any, Met::Any),
+    ),
+    (
+        &[(Shape::Disc, 5_000_000_000, 0, 500_000_000, 0)],
+        &[],
+        true,
+        (Met::Any, Met::Any, Met::Any, Met::Any),
+    ),
+    (
+        &[(Shape::Disc, 0, 0, 1_000_000_000, 0)],
+        &[BARE, HOLE, BARE],
+        true,
+        (
+            Met::None,
+            Met::Most(800_000_000),
+            Met::Most(800_000_000),
+            Met::Most(-400_000_000),
+        ),
+    ),
+    (
+        &[(Shape::Disc, 0, 0, 1_000_000_000, 0)],
+        &[BARE],
+        true,
+        (Met::None, Met::None, Met::None, Met::Any),
+    ),
+];
+
 #[test]
-fn held_rings(rt: HostRuntime) -> Result<(), Fail> {
-    let pads = [disc(0, 0, 1_000_000_000)?];
-    let layers = [pads.as_slice()];
-    let held = drilled(round(0, 0, 200_000_000)?);
-    let bare = drilled(round(5_000_000_000, 0, 200_000_000)?);
-    let met = rings_met(rt.alloc(), &layers, &[bare, held, bare])?;
-    assert_eq!(rt; matches!(met.ring, Met::None), true);
-    assert_eq!(rt; most(met.held)?, 800_000_000);
-    let met = held_met(rt.alloc(), &layers, &[bare])?;
-    assert_eq!(rt; matches!(met, Met::None), true);
-    let none: [Drilled; 0] = [];
-    let met = held_met(rt.alloc(), &layers, &none)?;
-    assert_eq!(rt; matches!(met, Met::Any), true);
-    Ok(())
+fn rules_that_boards_meet(rt: HostRuntime) {
+    for &(pads, holes, plated, met) in &MET {
+        assert!(rt; met_by(rt.alloc(), pads, holes, plated) == Some(met));
+    }
 }
 
 /// The row of some holes names the first hole with the least ring, by its place among all.

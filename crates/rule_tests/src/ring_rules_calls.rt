@@ -4,8 +4,9 @@ ghost use Rattle.std.specs.Prelude.{◌≡◌, pos, ◌+ℤ◌, ◌-ℤ◌};
 ghost use Rattle.pad_shapes.specs.Shapes.{IsInDisc, disc_covers};
 ghost use Rattle.pad_shapes.specs.Inner.ShapeLaws.{disc_holds, disc_holds_slots, disc_between, disc_extent};
 
+use crate::rows::{HOLE, HoleRow, PadRow, Shape, add_holes, add_pads};
 use grid_units::{Hole, Point, Rules};
-use pad_shapes::{Disc, Obround, Pad, PadShape, Rect, Zone};
+use pad_shapes::{Disc, Pad, PadShape, Rect, Zone};
 use ring_rules::*;
 use std::alloc::{AllocError, Global};
 use std::cell::Cell;
@@ -59,7 +60,7 @@ fn usual_rules() -> Result<Rules, Fail> {
 }
 
 /// A plated hole between two points, all in pm.
-fn slot(from: (i64, i64), to: (i64, i64), radius: i64) -> Result<Drilled, Fail> {
+fn drilled(from: (i64, i64), to: (i64, i64), radius: i64) -> Result<Drilled, Fail> {
     let from = Point::new(from.0, from.1).ok_or("from")?;
     let to = Point::new(to.0, to.1).ok_or("to")?;
     let hole = Hole::new(from, to, radius).ok_or("hole")?;
@@ -72,7 +73,7 @@ fn slot(from: (i64, i64), to: (i64, i64), radius: i64) -> Result<Drilled, Fail> 
 
 /// A plated round hole.
 fn round(x: i64, y: i64, radius: i64) -> Result<Drilled, Fail> {
-    slot((x, y), (x, y), radius)
+    drilled((x, y), (x, y), radius)
 }
 
 fn disc(x: i64, y: i64, radius: i64) -> Result<Pad, Fail> {
@@ -85,155 +86,264 @@ fn rect(x: i64, y: i64, half_x: i64, half_y: i64) -> Result<Pad, Fail> {
     Ok(Pad::Rect(Rect::new(centre, half_x, half_y).ok_or("rect")?))
 }
 
-fn obround(half_x: i64, half_y: i64) -> Result<Pad, Fail> {
-    let centre = Point::new(0, 0).ok_or("centre")?;
-    let obround = Obround::new(centre, half_x, half_y).ok_or("obround")?;
-    Ok(Pad::Obround(obround))
+/// Whether these are just the findings of rings on some layers.
+fn rings_are(alloc: Global, layers: &[&[Pad]], holes: &[Drilled], expected: &[Finding]) -> bool {
+    let Ok(rules) = Rules::new(125_000_000, 250_000_000) else {
+        return false;
+    };
+    match ring_findings(alloc, layers, holes, rules) {
+        Ok(found) => found.as_slice() == expected,
+        Err(_) => false,
+    }
 }
 
-/// The findings of rings of one hole of 0.4 mm on one layer.
-fn rings_at(alloc: Global, pads: &[Pad], x: i64, y: i64) -> Result<Vec<Finding>, Fail> {
-    let holes = [round(x, y, 200_000_000)?];
-    Ok(ring_findings(alloc, &[pads], &holes, usual_rules()?)?)
+/// Whether these are just the findings of rings on a layer, or on two, of holes that are plated or not.
+fn finds_rings(
+    alloc: Global,
+    top: &[PadRow],
+    bottom: Option<&[PadRow]>,
+    holes: &[HoleRow],
+    plated: bool,
+    expected: &[Finding],
+) -> bool {
+    let mut first = Vec::new(alloc);
+    let mut second = Vec::new(alloc);
+    let mut drills = Vec::new(alloc);
+    let is_made = add_pads(&mut first, top).is_some()
+        && add_pads(&mut second, bottom.unwrap_or(&[])).is_some()
+        && add_holes(&mut drills, holes, plated).is_some();
+    let layers = [first.as_slice(), second.as_slice()];
+    let layers = match bottom {
+        Some(_) => layers.as_slice(),
+        None => &layers[..1],
+    };
+    is_made && rings_are(alloc, layers, &drills, expected)
 }
+
+/// A slot of 2 mm along x.
+const SLOT: HoleRow = ((0, 0), (2 * MM, 0), 250_000_000);
+
+const OBLIQUE: HoleRow = ((0, 5 * MM), (2 * MM, 6 * MM), 250_000_000);
+
+const LARGE: PadRow = (Shape::Rect, 0, 0, 50 * MM, 50 * MM);
+
+const RING: Finding = Finding::Ring { layer: 0, hole: 0 };
+
+/// Pads of a layer, holes, and the findings: up to equality, by discs, obrounds and rectangles; two pads together hold nothing; a
+/// wide pad holds what is far from its centre; a slot along an axis needs one pad at both ends.
+const RINGS: [(&[PadRow], &[HoleRow], &[Finding]); 16] = [
+    (&[(Shape::Disc, 0, 0, 325_000_000, 0)], &[HOLE], &[]),
+    (&[(Shape::Disc, 1_000, 0, 325_000_000, 0)], &[HOLE], &[RING]),
+    (
+        &[(Shape::Disc, 0, 0, 825_000_000, 0)],
+        &[(
+            (300_000_000, 400_000_000),
+            (300_000_000, 400_000_000),
+            200_000_000,
+        )],
+        &[],
+    ),
+    (
+        &[(Shape::Disc, 0, 0, 825_000_000, 0)],
+        &[(
+            (300_001_000, 400_000_000),
+            (300_001_000, 400_000_000),
+            200_000_000,
+        )],
+        &[RING],
+    ),
+    (
+        &[(Shape::Obround, 0, 0, 1_000_000_000, 500_000_000)],
+        &[(
+            (605_000_000, 140_000_000),
+            (605_000_000, 140_000_000),
+            200_000_000,
+        )],
+        &[],
+    ),
+    (
+        &[(Shape::Obround, 0, 0, 1_000_000_000, 500_000_000)],
+        &[(
+            (605_000_000, 150_000_000),
+            (605_000_000, 150_000_000),
+            200_000_000,
+        )],
+        &[RING],
+    ),
+    (
+        &[(Shape::Rect, 0, 0, 1_000_000_000, 350_000_000)],
+        &[((0, 600_000_000), (0, 600_000_000), 200_000_000)],
+        &[RING],
+    ),
+    (
+        &[(Shape::Rect, 0, 0, 350_000_000, 1_000_000_000)],
+        &[((0, 600_000_000), (0, 600_000_000), 200_000_000)],
+        &[],
+    ),
+    (
+        &[
+            (Shape::Rect, -500_000_000, 0, 500_000_000, 1_000_000_000),
+            (Shape::Rect, 500_000_000, 0, 500_000_000, 1_000_000_000),
+        ],
+        &[HOLE],
+        &[RING],
+    ),
+    (
+        &[(Shape::Rect, 0, 0, 100 * MM, MM)],
+        &[((95 * MM, 0), (95 * MM, 0), 200_000_000)],
+        &[],
+    ),
+    (
+        &[(Shape::Rect, 0, 0, 100 * MM, MM)],
+        &[((99_700_000_000, 0), (99_700_000_000, 0), 200_000_000)],
+        &[RING],
+    ),
+    (
+        &[(Shape::Obround, MM, 0, 1_375_000_000, 375_000_000)],
+        &[SLOT],
+        &[],
+    ),
+    (
+        &[(Shape::Obround, MM, 0, 1_370_000_000, 375_000_000)],
+        &[SLOT],
+        &[RING],
+    ),
+    (
+        &[
+            (Shape::Disc, 0, 0, 375_000_000, 0),
+            (Shape::Disc, 2 * MM, 0, 375_000_000, 0),
+        ],
+        &[SLOT],
+        &[RING],
+    ),
+    (
+        &[LARGE],
+        &[OBLIQUE],
+        &[Finding::Oblique { layer: 0, hole: 0 }],
+    ),
+    (&[], &[HOLE], &[RING]),
+];
 
 #[test]
-fn no_pads_hold_nothing(rt: HostRuntime) -> Result<(), Fail> {
-    let holes = [round(0, 0, 200_000_000)?];
-    let none: [Disc; 0] = [];
-    let layers = [none.as_slice(), none.as_slice()];
-    let found = ring_findings(rt.alloc(), &layers, &holes, usual_rules()?)?;
-    let wanted = &[
+fn rings_on_a_layer(rt: HostRuntime) {
+    for &(pads, holes, expected) in &RINGS {
+        assert!(rt; finds_rings(rt.alloc(), pads, None, holes, true, expected));
+    }
+}
+
+/// Findings stand by layer and hole, oblique slots among rings.
+#[test]
+fn rings_on_two_layers(rt: HostRuntime) {
+    let holes = &[HOLE, OBLIQUE, ((MM, 0), (MM, 0), 200_000_000)];
+    let expected = &[
+        Finding::Ring { layer: 0, hole: 0 },
+        Finding::Oblique { layer: 0, hole: 1 },
+        Finding::Ring { layer: 0, hole: 2 },
+        Finding::Oblique { layer: 1, hole: 1 },
+    ];
+    assert!(rt; finds_rings(rt.alloc(), &[], Some(&[LARGE]), holes, true, expected));
+    let expected = &[
         Finding::Ring { layer: 0, hole: 0 },
         Finding::Ring { layer: 1, hole: 0 },
     ];
-    assert_eq!(rt; found.as_slice(), wanted.as_slice());
-    let no_layers: [&[Disc]; 0] = [];
-    let found = ring_findings(rt.alloc(), &no_layers, &holes, usual_rules()?)?;
-    assert_eq!(rt; found.len(), 0);
+    assert!(rt; finds_rings(rt.alloc(), &[], Some(&[]), &[HOLE], true, expected));
+}
+
+#[test]
+fn no_layers_have_no_rings(rt: HostRuntime) -> Result<(), Fail> {
+    assert!(rt; rings_are(rt.alloc(), &[], &[round(0, 0, 200_000_000)?], &[]));
     Ok(())
 }
 
 #[test]
-fn a_disc_holds_a_hole_up_to_equality(rt: HostRuntime) -> Result<(), Fail> {
-    for (pad, x, y, lacking) in [
-        (disc(0, 0, 325_000_000)?, 0, 0, 0),
-        (disc(1_000, 0, 325_000_000)?, 0, 0, 1),
-        (disc(0, 0, 825_000_000)?, 300_000_000, 400_000_000, 0),
-        (disc(0, 0, 825_000_000)?, 300_001_000, 400_000_000, 1),
-    ] {
-        let found = rings_at(rt.alloc(), &[pad], x, y)?;
-        assert_eq!(rt; found.len(), lacking, "at {x},{y}");
+fn unplated_holes_and_slots_need_no_ring(rt: HostRuntime) {
+    let holes = &[
+        HOLE,
+        ((0, 0), (MM, 0), 200_000_000),
+        ((0, 0), (MM, MM), 200_000_000),
+    ];
+    assert!(rt; finds_rings(rt.alloc(), &[], None, holes, false, &[]));
+    assert!(rt; finds_rings(rt.alloc(), &[LARGE], None, &[OBLIQUE], false, &[]));
+}
+
+/// Whether these are just the findings of gaps.
+fn finds_gaps(alloc: Global, rows: &[HoleRow], expected: &[Finding]) -> bool {
+    let mut holes = Vec::new(alloc);
+    let is_made = add_holes(&mut holes, rows, true).is_some();
+    let Ok(rules) = Rules::new(125_000_000, 250_000_000) else {
+        return false;
+    };
+    match gap_findings(alloc, &holes, rules) {
+        Ok(found) => is_made && found.as_slice() == expected,
+        Err(_) => false,
     }
-    let moved = [disc(1_000, 0, 325_000_000)?];
-    let found = rings_at(rt.alloc(), &moved, 0, 0)?;
-    let wanted = &[Finding::Ring { layer: 0, hole: 0 }];
-    assert_eq!(rt; found.as_slice(), wanted.as_slice());
-    Ok(())
 }
 
-#[test]
-fn an_obround_holds_a_hole_at_its_round_end(rt: HostRuntime) -> Result<(), Fail> {
-    let pads = [obround(1_000_000_000, 500_000_000)?];
-    assert_eq!(rt;
-        rings_at(rt.alloc(), &pads, 605_000_000, 140_000_000)?.len(),
-        0
-    );
-    assert_eq!(rt;
-        rings_at(rt.alloc(), &pads, 605_000_000, 150_000_000)?.len(),
-        1
-    );
-    Ok(())
-}
+const FIRST_TWO: Finding = Finding::Gap {
+    first: 0,
+    second: 1,
+};
+
+const FIRST_AND_THIRD: Finding = Finding::Gap {
+    first: 0,
+    second: 2,
+};
+
+const LAST_TWO: Finding = Finding::Gap {
+    first: 1,
+    second: 2,
+};
+
+/// Holes, and the findings: by first and second; a hole far off in y hides none; holes are clear up to equality; a slot is measured
+/// along its whole length.
+const GAPS: [(&[HoleRow], &[Finding]); 7] = [
+    (
+        &[
+            HOLE,
+            ((100_000_000, 0), (100_000_000, 0), 200_000_000),
+            ((200_000_000, 0), (200_000_000, 0), 200_000_000),
+        ],
+        &[FIRST_TWO, FIRST_AND_THIRD, LAST_TWO],
+    ),
+    (
+        &[
+            HOLE,
+            ((100_000_000, 5 * MM), (100_000_000, 5 * MM), 200_000_000),
+            ((200_000_000, 0), (200_000_000, 0), 200_000_000),
+        ],
+        &[FIRST_AND_THIRD],
+    ),
+    (
+        &[
+            HOLE,
+            (
+                (390_000_000, 520_000_000),
+                (390_000_000, 520_000_000),
+                200_000_000,
+            ),
+        ],
+        &[],
+    ),
+    (&[HOLE, HOLE], &[FIRST_TWO]),
+    (
+        &[SLOT, ((MM, 750_000_000), (MM, 750_000_000), 250_000_000)],
+        &[],
+    ),
+    (
+        &[SLOT, ((MM, 749_000_000), (MM, 749_000_000), 250_000_000)],
+        &[FIRST_TWO],
+    ),
+    (
+        &[OBLIQUE, ((0, 6 * MM), (0, 6 * MM), 250_000_000)],
+        &[FIRST_TWO],
+    ),
+];
 
 #[test]
-fn a_rectangle_holds_a_hole_one_way_round(rt: HostRuntime) -> Result<(), Fail> {
-    let lying = [rect(0, 0, 1_000_000_000, 350_000_000)?];
-    assert_eq!(rt; rings_at(rt.alloc(), &lying, 0, 600_000_000)?.len(), 1);
-    let upright = [rect(0, 0, 350_000_000, 1_000_000_000)?];
-    assert_eq!(rt; rings_at(rt.alloc(), &upright, 0, 600_000_000)?.len(), 0);
-    Ok(())
-}
-
-#[test]
-fn two_pads_together_hold_nothing(rt: HostRuntime) -> Result<(), Fail> {
-    let pads = [
-        rect(-500_000_000, 0, 500_000_000, 1_000_000_000)?,
-        rect(500_000_000, 0, 500_000_000, 1_000_000_000)?,
-    ];
-    assert_eq!(rt; rings_at(rt.alloc(), &pads, 0, 0)?.len(), 1);
-    Ok(())
-}
-
-#[test]
-fn a_wide_pad_holds_a_hole_far_from_its_centre(rt: HostRuntime) -> Result<(), Fail> {
-    let pads = [rect(0, 0, 100 * MM, MM)?];
-    assert_eq!(rt; rings_at(rt.alloc(), &pads, 95 * MM, 0)?.len(), 0);
-    assert_eq!(rt; rings_at(rt.alloc(), &pads, 99_700_000_000, 0)?.len(), 1);
-    Ok(())
-}
-
-#[test]
-fn unplated_holes_and_slots_need_no_ring(rt: HostRuntime) -> Result<(), Fail> {
-    let bare = Drilled {
-        plated: false,
-        ..round(0, 0, 200_000_000)?
-    };
-    let bare_slot = Drilled {
-        plated: false,
-        ..slot((0, 0), (MM, 0), 200_000_000)?
-    };
-    let bare_oblique = Drilled {
-        plated: false,
-        ..slot((0, 0), (MM, MM), 200_000_000)?
-    };
-    let holes = [bare, bare_slot, bare_oblique];
-    let none: [Disc; 0] = [];
-    let found = ring_findings(rt.alloc(), &[none.as_slice()], &holes, usual_rules()?)?;
-    assert_eq!(rt; found.len(), 0);
-    Ok(())
-}
-
-#[test]
-fn gaps_stand_by_first_and_second(rt: HostRuntime) -> Result<(), Fail> {
-    let holes = [
-        round(0, 0, 200_000_000)?,
-        round(100_000_000, 0, 200_000_000)?,
-        round(200_000_000, 0, 200_000_000)?,
-    ];
-    let found = gap_findings(rt.alloc(), &holes, usual_rules()?)?;
-    let wanted = &[
-        Finding::Gap {
-            first: 0,
-            second: 1,
-        },
-        Finding::Gap {
-            first: 0,
-            second: 2,
-        },
-        Finding::Gap {
-            first: 1,
-            second: 2,
-        },
-    ];
-    assert_eq!(rt; found.as_slice(), wanted.as_slice());
-    Ok(())
-}
-
-#[test]
-fn a_hole_far_off_in_y_hides_no_gap(rt: HostRuntime) -> Result<(), Fail> {
-    let holes = [
-        round(0, 0, 200_000_000)?,
-        round(100_000_000, 5 * MM, 200_000_000)?,
-        round(200_000_000, 0, 200_000_000)?,
-    ];
-    let found = gap_findings(rt.alloc(), &holes, usual_rules()?)?;
-    let wanted = &[Finding::Gap {
-        first: 0,
-        second: 2,
-    }];
-    assert_eq!(rt; found.as_slice(), wanted.as_slice());
-    Ok(())
+fn gaps_of_holes(rt: HostRuntime) {
+    for &(holes, expected) in &GAPS {
+        assert!(rt; finds_gaps(rt.alloc(), holes, expected));
+    }
 }
 
 #[test]
@@ -241,38 +351,6 @@ fn holes_are_clear_up_to_equality(rt: HostRuntime) -> Result<(), Fail> {
     let near = round(0, 0, 200_000_000)?;
     let far = round(390_000_000, 520_000_000, 200_000_000)?;
     assert!(rt; clear_of(&near.hole, &far.hole, usual_rules()?));
-    assert_eq!(rt;
-        gap_findings(rt.alloc(), &[near, far], usual_rules()?)?.len(),
-        0
-    );
-    let found = gap_findings(rt.alloc(), &[near, near], usual_rules()?)?;
-    let wanted = &[Finding::Gap {
-        first: 0,
-        second: 1,
-    }];
-    assert_eq!(rt; found.as_slice(), wanted.as_slice());
-    Ok(())
-}
-
-#[test]
-fn a_slot_is_measured_along_its_whole_length(rt: HostRuntime) -> Result<(), Fail> {
-    let straight = slot((0, 0), (2 * MM, 0), 250_000_000)?;
-    let clear = round(MM, 750_000_000, 250_000_000)?;
-    assert_eq!(rt;
-        gap_findings(rt.alloc(), &[straight, clear], usual_rules()?)?.len(),
-        0
-    );
-    let close = round(MM, 749_000_000, 250_000_000)?;
-    let wanted = &[Finding::Gap {
-        first: 0,
-        second: 1,
-    }];
-    let found = gap_findings(rt.alloc(), &[straight, close], usual_rules()?)?;
-    assert_eq!(rt; found.as_slice(), wanted.as_slice());
-    let oblique = slot((0, 5 * MM), (2 * MM, 6 * MM), 250_000_000)?;
-    let corner = round(0, 6 * MM, 250_000_000)?;
-    let found = gap_findings(rt.alloc(), &[oblique, corner], usual_rules()?)?;
-    assert_eq!(rt; found.as_slice(), wanted.as_slice());
     Ok(())
 }
 
@@ -403,68 +481,6 @@ fn a_hole_drilled_twice_is_two_holes(rt: HostRuntime) -> Result<(), Fail> {
     Ok(())
 }
 
-/// An obround of 0.75 mm across round the middle of a slot of 2 mm along x.
-fn slot_pad(half_x: i64) -> Result<Pad, Fail> {
-    let centre = Point::new(MM, 0).ok_or("centre")?;
-    let obround = Obround::new(centre, half_x, 375_000_000).ok_or("obround")?;
-    Ok(Pad::Obround(obround))
-}
-
-#[test]
-fn a_slot_along_an_axis_needs_one_pad_at_both_ends(rt: HostRuntime) -> Result<(), Fail> {
-    let holes = [slot((0, 0), (2 * MM, 0), 250_000_000)?];
-    let rules = usual_rules()?;
-    let exact = [slot_pad(1_375_000_000)?];
-    let found = ring_findings(rt.alloc(), &[exact.as_slice()], &holes, rules)?;
-    assert_eq!(rt; found.len(), 0);
-    let wanted = &[Finding::Ring { layer: 0, hole: 0 }];
-    let short = [slot_pad(1_370_000_000)?];
-    let found = ring_findings(rt.alloc(), &[short.as_slice()], &holes, rules)?;
-    assert_eq!(rt; found.as_slice(), wanted.as_slice());
-    let ends = [disc(0, 0, 375_000_000)?, disc(2 * MM, 0, 375_000_000)?];
-    let found = ring_findings(rt.alloc(), &[ends.as_slice()], &holes, rules)?;
-    assert_eq!(rt; found.as_slice(), wanted.as_slice());
-    Ok(())
-}
-
-#[test]
-fn oblique_slots_stand_among_rings_by_layer_and_hole(rt: HostRuntime) -> Result<(), Fail> {
-    let oblique = slot((0, 5 * MM), (2 * MM, 6 * MM), 250_000_000)?;
-    let holes = [
-        round(0, 0, 200_000_000)?,
-        oblique,
-        round(MM, 0, 200_000_000)?,
-    ];
-    let none: [Pad; 0] = [];
-    let large = [rect(0, 0, 50 * MM, 50 * MM)?];
-    let layers = [none.as_slice(), large.as_slice()];
-    let found = ring_findings(rt.alloc(), &layers, &holes, usual_rules()?)?;
-    let wanted = &[
-        Finding::Ring { layer: 0, hole: 0 },
-        Finding::Oblique { layer: 0, hole: 1 },
-        Finding::Ring { layer: 0, hole: 2 },
-        Finding::Oblique { layer: 1, hole: 1 },
-    ];
-    assert_eq!(rt; found.as_slice(), wanted.as_slice());
-    Ok(())
-}
-
-#[test]
-fn an_oblique_slot_is_found_where_it_is_plated(rt: HostRuntime) -> Result<(), Fail> {
-    let oblique = slot((0, 5 * MM), (2 * MM, 6 * MM), 250_000_000)?;
-    let pads = [rect(0, 0, 50 * MM, 50 * MM)?];
-    let found = ring_findings(rt.alloc(), &[pads.as_slice()], &[oblique], usual_rules()?)?;
-    let wanted = &[Finding::Oblique { layer: 0, hole: 0 }];
-    assert_eq!(rt; found.as_slice(), wanted.as_slice());
-    let bare = Drilled {
-        plated: false,
-        ..oblique
-    };
-    let found = ring_findings(rt.alloc(), &[pads.as_slice()], &[bare], usual_rules()?)?;
-    assert_eq!(rt; found.len(), 0);
-    Ok(())
-}
-
 /// The findings of rings of a hole of 0.4 mm through these layers of two, of which the first alone holds it.
 fn rings_through(alloc: Global, span: Option<Span>) -> Result<Vec<Finding>, Fail> {
     let top = [disc(0, 0, 325_000_000)?];
@@ -553,8 +569,8 @@ fn holes_of_a_zone(rt: HostRuntime) -> Result<(), Fail> {
     let holes = [
         round(0, 0, MM)?,
         round(2 * MM, 0, MM)?,
-        slot((MM, MM), (9 * MM, MM), MM)?,
-        slot((9 * MM, MM), (MM, MM), MM)?,
+        drilled((MM, MM), (9 * MM, MM), MM)?,
+        drilled((9 * MM, MM), (MM, MM), MM)?,
         round(0, 0, MM)?,
         round(-1, 0, MM)?,
     ];
