@@ -307,11 +307,10 @@ fn deepest_pad(rt: HostRuntime) -> Result<(), Fail> {
     let hole = drilled(round(0, 0, 200_000_000)?);
     let outside = drilled(round(9_000_000_000, 0, 200_000_000)?);
     let bests = best_pads(rt.alloc(), &[far, left, wide], &[hole, outside])?;
-    let found = match bests.as_slice() {
-        [Some(best), None] => Some((best.pad, best.depth)),
-        _ => None,
-    };
-    assert!(rt; found == Some((2, 325_000_000)));
+    assert_eq!(rt; bests.len(), 2);
+    let best = bests[0].ok_or("bare")?;
+    assert!(rt; (best.pad, best.depth) == (2, 325_000_000));
+    assert!(rt; bests[1].is_none());
     Ok(())
 }
 

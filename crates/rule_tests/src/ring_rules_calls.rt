@@ -112,12 +112,13 @@ fn finds_rings(
     let is_made = add_pads(&mut first, top).is_some()
         && add_pads(&mut second, bottom.unwrap_or(&[])).is_some()
         && add_holes(&mut drills, holes, plated).is_some();
-    let layers = [first.as_slice(), second.as_slice()];
-    let layers = match bottom {
-        Some(_) => layers.as_slice(),
-        None => &layers[..1],
-    };
-    is_made && rings_are(alloc, layers, &drills, expected)
+    match bottom {
+        None => is_made && rings_are(alloc, &[first.as_slice()], &drills, expected),
+        Some(_) => {
+            let layers = [first.as_slice(), second.as_slice()];
+            is_made && rings_are(alloc, &layers, &drills, expected)
+        }
+    }
 }
 
 /// A slot of 2 mm along x.
