@@ -1,56 +1,49 @@
 //! Causes of worked examples, in pm.
 
-use super::tellings::{Shape, pad_of};
 use causes::*;
 use grid_units::{Hole, Point, Rules};
 use layer_image::{Flash, What, Why};
 use margins::best_pads;
-use pad_shapes::Pad;
+use pad_shapes::{Disc, Obround, Pad, Rect};
 use report_text::RingCause;
 use ring_rules::Drilled;
-use std::alloc::Global;
+use std::test::Fail;
 
-/// What a flash leaves.
-enum Left {
-    Pad(Shape),
-    Other(Why),
+fn point(x: i64, y: i64) -> Result<Point, Fail> {
+    Ok(Point::new(x, y).ok_or("point")?)
 }
 
-/// A flash at a point.
-type Spot = (i64, i64, Left);
-
-/// The name of a cause, the number of its flash, the ring and the lack.
-type Told = (&'static str, usize, i64, i64);
-
-fn flash_of(x: i64, y: i64, left: &Left) -> Option<Flash> {
-    let at = Point::new(x, y)?;
-    let what = match left {
-        Left::Pad(shape) => What::Pad(pad_of(shape, at)?),
-        Left::Other(why) => What::Other(*why),
-    };
-    Some(Flash { at, what })
+/// A round hole.
+fn hole(x: i64, y: i64, radius: i64) -> Result<Hole, Fail> {
+    let at = point(x, y)?;
+    Ok(Hole::new(at, at, radius).ok_or("hole")?)
 }
 
-/// Adds flashes to a layer.
-fn add_flashes(layer: &mut Vec<Flash>, spots: &[Spot]) -> Option<()> {
-    for (x, y, left) in spots {
-        layer.push(flash_of(*x, *y, left)?).ok()?;
-    }
-    Some(())
+fn disc(x: i64, y: i64, radius: i64) -> Result<Flash, Fail> {
+    let at = point(x, y)?;
+    Ok(Flash {
+        at,
+        what: What::Pad(Pad::Disc(Disc::new(at, radius).ok_or("disc")?)),
+    })
 }
 
-/// A plated hole: where it goes from, where it goes to, and its radius.
-fn drilled(from: (i64, i64), to: (i64, i64), radius: i64) -> Option<Drilled> {
-    let hole = Hole::new(Point::new(from.0, from.1)?, Point::new(to.0, to.1)?, radius)?;
-    Some(Drilled {
-        hole,
-        plated: true,
-        span: None,
+fn square(x: i64, y: i64, half: i64) -> Result<Flash, Fail> {
+    let at = point(x, y)?;
+    Ok(Flash {
+        at,
+        what: What::Pad(Pad::Rect(Rect::new(at, half, half).ok_or("rect")?)),
+    })
+}
+
+fn other(x: i64, y: i64, why: Why) -> Result<Flash, Fail> {
+    Ok(Flash {
+        at: point(x, y)?,
+        what: What::Other(why),
     })
 }
 
 /// The words for a cause: its name, the number of its flash, the ring and the lack.
-fn told_by(cause: RingCause) -> Told {
+fn told_by(cause: RingCause) -> (&'static str, usize, i64, i64) {
     match cause {
         RingCause::Small(pad) => ("small", pad.flash, pad.ring, pad.lack),
         RingCause::Off(pad) => ("off", pad.flash, pad.ring, pad.lack),
@@ -64,236 +57,287 @@ fn told_by(cause: RingCause) -> Told {
 }
 
 /// What is told of a hole that lacks a ring of so many pm.
-fn told_of(alloc: Global, flashes: &[Flash], hole: Drilled, ring: i64) -> Option<Told> {
-    let rules = Rules::new(ring, 1).ok()?;
-    let holes = [hole];
-    match LayerCauses::new(alloc, flashes, &holes) {
-        Ok(known) => Some(told_by(known.cause(flashes, &holes, 0, rules))),
-        Err(_) => None,
-    }
+fn told_of(
+    rt: HostRuntime,
+    flashes: &[Flash],
+    hole: Hole,
+    ring: i64,
+) -> Result<(&'static str, usize, i64, i64), Fail> {
+    let Ok(rules) = Rules::new(ring, 1) else {
+        return Err(Fail::from("rules"));
+    };
+    let holes = [Drilled {
+        hole,
+        plated: true,
+        span: None,
+    }];
+    let known = LayerCauses::new(rt.alloc(), flashes, &holes)?;
+    Ok(told_by(known.cause(flashes, &holes, 0, rules)))
 }
 
-/// What is told of a hole among these flashes.
-fn told_among(alloc: Global, spots: &[Spot], hole: Option<Drilled>, ring: i64) -> Option<Told> {
-    let hole = hole?;
-    let mut flashes = Vec::new(alloc);
-    match add_flashes(&mut flashes, spots) {
-        Some(()) => told_of(alloc, &flashes, hole, ring),
-        None => None,
-    }
-}
-
-/// A hole, the ring that it lacks, the flashes of a layer, and what is told.
-struct Row<'a> {
-    name: &'static str,
-    from: (i64, i64),
-    to: (i64, i64),
+/// What is told of a round hole that lacks a ring of so many pm.
+fn told(
+    rt: HostRuntime,
+    flashes: &[Flash],
+    x: i64,
+    y: i64,
     radius: i64,
     ring: i64,
-    spots: &'a [Spot],
-    told: Told,
+) -> Result<(&'static str, usize, i64, i64), Fail> {
+    told_of(rt, flashes, hole(x, y, radius)?, ring)
 }
-
-const ROWS: [Row; 10] = [
-    Row {
-        name: "a hole off its centre",
-        from: (0, 0),
-        to: (0, 0),
-        radius: 200_000_000,
-        ring: 125_000_000,
-        spots: &[(1_000, 0, Left::Pad(Shape::Rect(325_000_000, 325_000_000)))],
-        told: ("off", 1, 124_999_000, 1_000),
-    },
-    // A macro flash and a disc stand elsewhere.
-    Row {
-        name: "a hole in a pad that is too small",
-        from: (50_546_000_000, 67_310_000_000),
-        to: (50_546_000_000, 67_310_000_000),
-        radius: 304_800_000,
-        ring: 100_000_000,
-        spots: &[
-            (0, 0, Left::Other(Why::Macro)),
-            (0, 0, Left::Pad(Shape::Disc(1_000_000_000))),
-            (
-                50_546_000_000,
-                67_310_000_000,
-                Left::Pad(Shape::Disc(203_200_000)),
-            ),
-        ],
-        told: ("small", 3, -101_600_000, 201_600_000),
-    },
-    // One flash is out of the hole by 1 pm, one stands at its rim and one at its middle.
-    Row {
-        name: "a hole in another flash",
-        from: (0, 0),
-        to: (0, 0),
-        radius: 400_000_000,
-        ring: 100_000_000,
-        spots: &[
-            (5_000_000_000, 0, Left::Pad(Shape::Disc(500_000_000))),
-            (400_000_001, 0, Left::Other(Why::Polygon)),
-            (0, 400_000_000, Left::Other(Why::Macro)),
-            (0, 0, Left::Other(Why::Turned)),
-        ],
-        told: ("macro", 3, 0, 0),
-    },
-    Row {
-        name: "a hole in nothing",
-        from: (0, 0),
-        to: (0, 0),
-        radius: 400_000_000,
-        ring: 100_000_000,
-        spots: &[(2_000_000_000, 0, Left::Other(Why::Macro))],
-        told: ("nothing", 0, 0, 0),
-    },
-    Row {
-        name: "an oblique slot",
-        from: (0, 0),
-        to: (1_000_000, 1_000_000),
-        radius: 200_000_000,
-        ring: 100_000_000,
-        spots: &[(0, 0, Left::Pad(Shape::Disc(5_000_000_000)))],
-        told: ("oblique", 0, 0, 0),
-    },
-    Row {
-        name: "a flash at the right rim of a slot",
-        from: (0, 0),
-        to: (1_000_000, 0),
-        radius: 200_000_000,
-        ring: 100_000_000,
-        spots: &[
-            (-200_000_001, 0, Left::Other(Why::Polygon)),
-            (201_000_000, 0, Left::Other(Why::Macro)),
-            (500_000, 0, Left::Other(Why::Turned)),
-            (-200_000_000, 0, Left::Other(Why::Turned)),
-        ],
-        told: ("macro", 2, 0, 0),
-    },
-    Row {
-        name: "a flash at the left rim of a slot",
-        from: (0, 0),
-        to: (1_000_000, 0),
-        radius: 200_000_000,
-        ring: 100_000_000,
-        spots: &[
-            (201_000_001, 0, Left::Other(Why::Polygon)),
-            (-200_000_000, 0, Left::Other(Why::Macro)),
-        ],
-        told: ("macro", 2, 0, 0),
-    },
-    Row {
-        name: "a slot in the middle of a pad that is too short",
-        from: (0, 0),
-        to: (2_000_000_000, 0),
-        radius: 250_000_000,
-        ring: 125_000_000,
-        spots: &[(
-            1_000_000_000,
-            0,
-            Left::Pad(Shape::Obround(1_370_000_000, 375_000_000)),
-        )],
-        told: ("small", 1, 120_000_000, 5_000_000),
-    },
-    Row {
-        name: "a slot off the middle of a large pad",
-        from: (0, 0),
-        to: (2_000_000_000, 0),
-        radius: 250_000_000,
-        ring: 125_000_000,
-        spots: &[(0, 0, Left::Pad(Shape::Disc(2_000_000_000)))],
-        told: ("off", 1, -250_000_000, 375_000_000),
-    },
-    Row {
-        name: "a slot off a pad at the rim of the grid",
-        from: (9_998_600_000_000, 0),
-        to: (9_999_900_000_000, 0),
-        radius: 250_000_000,
-        ring: 125_000_000,
-        spots: &[(
-            10_000_000_000_000,
-            0,
-            Left::Pad(Shape::Rect(1_500_000_000, 500_000_000)),
-        )],
-        told: ("off", 1, -150_000_000, 275_000_000),
-    },
-];
 
 #[test]
-fn holes_and_slots_among_flashes(rt: HostRuntime) {
-    for row in &ROWS {
-        let hole = drilled(row.from, row.to, row.radius);
-        let told = told_among(rt.alloc(), row.spots, hole, row.ring);
-        assert!(rt; told == Some(row.told), "{}", row.name);
-    }
+fn a_hole_off_its_centre(rt: HostRuntime) -> Result<(), Fail> {
+    let flashes = [square(1_000, 0, 325_000_000)?];
+    let it = told(rt, &flashes, 0, 0, 200_000_000, 125_000_000)?;
+    assert_eq!(rt; it.0, "off");
+    assert_eq!(rt; it.1, 1);
+    assert_eq!(rt; it.2, 124_999_000);
+    assert_eq!(rt; it.3, 1_000);
+    Ok(())
 }
 
-/// Adds 40 macro flashes, a millimetre from one to the next along x: the last one stands at 0.
-fn add_row(layer: &mut Vec<Flash>) -> Option<()> {
+/// A macro flash, a disc elsewhere, and one at a hole of the worked example.
+fn small_pads() -> Result<[Flash; 3], Fail> {
+    Ok([
+        other(0, 0, Why::Macro)?,
+        disc(0, 0, 1_000_000_000)?,
+        disc(50_546_000_000, 67_310_000_000, 203_200_000)?,
+    ])
+}
+
+#[test]
+fn a_pad_that_is_too_small(rt: HostRuntime) -> Result<(), Fail> {
+    let flashes = small_pads()?;
+    let it = told(
+        rt,
+        &flashes,
+        50_546_000_000,
+        67_310_000_000,
+        304_800_000,
+        100_000_000,
+    )?;
+    assert_eq!(rt; it.0, "small");
+    assert_eq!(rt; it.1, 3);
+    assert_eq!(rt; it.2, -101_600_000);
+    assert_eq!(rt; it.3, 201_600_000);
+    Ok(())
+}
+
+/// A pad elsewhere, and three other flashes: one out of the hole by 1 pm, one at its rim, one at its middle.
+fn other_flashes() -> Result<[Flash; 4], Fail> {
+    Ok([
+        disc(5_000_000_000, 0, 500_000_000)?,
+        other(400_000_001, 0, Why::Polygon)?,
+        other(0, 400_000_000, Why::Macro)?,
+        other(0, 0, Why::Turned)?,
+    ])
+}
+
+#[test]
+fn a_hole_in_another_flash(rt: HostRuntime) -> Result<(), Fail> {
+    let flashes = other_flashes()?;
+    let it = told(rt, &flashes, 0, 0, 400_000_000, 100_000_000)?;
+    assert_eq!(rt; it.0, "macro");
+    assert_eq!(rt; it.1, 3);
+    Ok(())
+}
+
+#[test]
+fn a_hole_in_nothing(rt: HostRuntime) -> Result<(), Fail> {
+    let flashes = [other(2_000_000_000, 0, Why::Macro)?];
+    let it = told(rt, &flashes, 0, 0, 400_000_000, 100_000_000)?;
+    assert_eq!(rt; it.0, "nothing");
+    Ok(())
+}
+
+/// 40 macro flashes, a millimetre from one to the next along x: the last one stands at 0.
+fn flashes_in_a_row(rt: HostRuntime) -> Result<Vec<Flash>, Fail> {
+    let mut flashes = Vec::new(rt.alloc());
     for place in (0..40_u8).rev() {
         let x = i64::from(place) * 1_000_000_000;
-        layer.push(flash_of(x, 0, &Left::Other(Why::Macro))?).ok()?;
+        flashes.extend_from_slice(&[other(x, 0, Why::Macro)?])?;
     }
-    Some(())
+    Ok(flashes)
 }
 
-/// What is told of a round hole among them.
-fn told_in_row(alloc: Global, hole: Option<Drilled>) -> Option<Told> {
-    let hole = hole?;
-    let mut flashes = Vec::new(alloc);
-    match add_row(&mut flashes) {
-        Some(()) => told_of(alloc, &flashes, hole, 100_000_000),
-        None => None,
-    }
-}
-
-/// Holes that one flash, some of them and all of them are in: those from 30 mm on to 34 mm stand in two groups of 32. The last hole
-/// stands beside the row, further from it by 1 pm than its radius.
+/// Holes that one flash, some of them and all of them are in: those from 30 mm on to 34 mm stand in two groups of 32.
 #[test]
-fn holes_in_a_row_of_flashes(rt: HostRuntime) {
-    for &(x, y, radius, name, number) in &[
-        (35_000_000_000, 0, 400_000_000, "macro", 5),
-        (2_000_000_000, 0, 400_000_000, "macro", 38),
-        (20_000_000_000, 0, 2_500_000_000, "macro", 18),
-        (32_000_000_000, 0, 2_500_000_000, "macro", 6),
-        (20_000_000_000, 0, 50_000_000_000, "macro", 1),
-        (20_000_000_000, 400_000_001, 400_000_000, "nothing", 0),
+fn holes_in_a_row_of_flashes(rt: HostRuntime) -> Result<(), Fail> {
+    let flashes = flashes_in_a_row(rt)?;
+    for &(x, radius, number) in &[
+        (35, 400_000_000, 5),
+        (2, 400_000_000, 38),
+        (20, 2_500_000_000, 18),
+        (32, 2_500_000_000, 6),
+        (20, 50_000_000_000, 1),
     ] {
-        let told = told_in_row(rt.alloc(), drilled((x, y), (x, y), radius));
-        assert!(rt; told == Some((name, number, 0, 0)), "at {x},{y}");
+        let it = told(rt, &flashes, x * 1_000_000_000, 0, radius, 100_000_000)?;
+        assert_eq!(rt; it.0, "macro");
+        assert_eq!(rt; it.1, number);
     }
+    Ok(())
 }
 
-/// What is told of a hole that lacks a ring of 0.125 mm on a layer of one flash, where the best of some pads are known.
-fn told_by_bests(alloc: Global, flash: Flash, hole: Drilled, pad: Pad) -> Option<Told> {
-    let rules = Rules::new(125_000_000, 1).ok()?;
-    let (flashes, holes, pads) = ([flash], [hole], [pad]);
-    let Ok(bests) = best_pads(alloc, &pads, &holes) else {
-        return None;
+/// A hole beside a row of flashes, further from it by 1 pm than its radius.
+#[test]
+fn a_hole_beside_a_row_of_flashes(rt: HostRuntime) -> Result<(), Fail> {
+    let flashes = flashes_in_a_row(rt)?;
+    let it = told(
+        rt,
+        &flashes,
+        20_000_000_000,
+        400_000_001,
+        400_000_000,
+        100_000_000,
+    )?;
+    assert_eq!(rt; it.0, "nothing");
+    Ok(())
+}
+
+/// A slot.
+fn slot(from: Point, to: Point) -> Result<Hole, Fail> {
+    Ok(Hole::new(from, to, 200_000_000).ok_or("hole")?)
+}
+
+/// What is told of a slot that lies along no axis.
+fn told_of_slot(rt: HostRuntime, flashes: &[Flash]) -> Result<&'static str, Fail> {
+    let from = point(0, 0)?;
+    let to = point(1_000_000, 1_000_000)?;
+    let it = told_of(rt, flashes, slot(from, to)?, 100_000_000)?;
+    Ok(it.0)
+}
+
+#[test]
+fn an_oblique_slot(rt: HostRuntime) -> Result<(), Fail> {
+    let flashes = [disc(0, 0, 5_000_000_000)?];
+    assert_eq!(rt; told_of_slot(rt, &flashes)?, "oblique");
+    Ok(())
+}
+
+/// What is told of a hole of 0.4 mm at the origin that lacks a ring of 0.125 mm, where the best of some pads are known.
+fn told_by_bests(
+    rt: HostRuntime,
+    flashes: &[Flash],
+    pads: &[Pad],
+) -> Result<(&'static str, usize, i64, i64), Fail> {
+    let Ok(rules) = Rules::new(125_000_000, 1) else {
+        return Err(Fail::from("rules"));
     };
-    match LayerCauses::with_bests(alloc, &flashes, &holes, &pads, &bests) {
-        Ok(known) => Some(told_by(known.cause(&flashes, &holes, 0, rules))),
-        Err(_) => None,
-    }
+    let holes = [Drilled {
+        hole: hole(0, 0, 200_000_000)?,
+        plated: true,
+        span: None,
+    }];
+    let bests = best_pads(rt.alloc(), pads, &holes)?;
+    let known = LayerCauses::with_bests(rt.alloc(), flashes, &holes, pads, &bests)?;
+    Ok(told_by(known.cause(flashes, &holes, 0, rules)))
 }
 
-/// A square of 0.65 mm.
-const SQUARE: Left = Left::Pad(Shape::Rect(325_000_000, 325_000_000));
-
-/// The same of a hole of 0.4 mm at the origin in a square 1 nm beside it, where the best of this pad are known.
-fn told_by_best(alloc: Global, shape: &Shape, x: i64) -> Option<Told> {
-    let flash = flash_of(1_000, 0, &SQUARE)?;
-    let hole = drilled((0, 0), (0, 0), 200_000_000)?;
-    told_by_bests(alloc, flash, hole, pad_of(shape, Point::new(x, 0)?)?)
-}
-
-/// The pad is that of the layer, and one of another layer.
 #[test]
-fn best_pads_that_are_known(rt: HostRuntime) {
-    for (shape, x) in &[
-        (Shape::Rect(325_000_000, 325_000_000), 1_000),
-        (Shape::Disc(1_000_000_000), 0),
-    ] {
-        let told = told_by_best(rt.alloc(), shape, *x);
-        assert!(rt; told == Some(("off", 1, 124_999_000, 1_000)), "at {x}");
-    }
+fn best_pads_of_the_layer_are_known(rt: HostRuntime) -> Result<(), Fail> {
+    let flashes = [square(1_000, 0, 325_000_000)?];
+    let rect = Rect::new(point(1_000, 0)?, 325_000_000, 325_000_000).ok_or("rect")?;
+    let it = told_by_bests(rt, &flashes, &[Pad::Rect(rect)])?;
+    assert_eq!(rt; it.0, "off");
+    assert_eq!(rt; it.2, 124_999_000);
+    assert_eq!(rt; it.3, 1_000);
+    Ok(())
+}
+
+#[test]
+fn best_pads_of_another_layer_are_known(rt: HostRuntime) -> Result<(), Fail> {
+    let flashes = [square(1_000, 0, 325_000_000)?];
+    let disc = Disc::new(point(0, 0)?, 1_000_000_000).ok_or("disc")?;
+    let it = told_by_bests(rt, &flashes, &[Pad::Disc(disc)])?;
+    assert_eq!(rt; it.0, "off");
+    assert_eq!(rt; it.2, 124_999_000);
+    assert_eq!(rt; it.3, 1_000);
+    Ok(())
+}
+
+/// What is told of a slot of 1 um along x among these flashes.
+fn told_along_x(rt: HostRuntime, flashes: &[Flash]) -> Result<(&'static str, usize), Fail> {
+    let from = point(0, 0)?;
+    let to = point(1_000_000, 0)?;
+    let it = told_of(rt, flashes, slot(from, to)?, 100_000_000)?;
+    Ok((it.0, it.1))
+}
+
+#[test]
+fn a_flash_at_the_right_rim_of_a_slot(rt: HostRuntime) -> Result<(), Fail> {
+    let flashes = [
+        other(-200_000_001, 0, Why::Polygon)?,
+        other(201_000_000, 0, Why::Macro)?,
+        other(500_000, 0, Why::Turned)?,
+        other(-200_000_000, 0, Why::Turned)?,
+    ];
+    let it = told_along_x(rt, &flashes)?;
+    assert_eq!(rt; it.0, "macro");
+    assert_eq!(rt; it.1, 2);
+    Ok(())
+}
+
+#[test]
+fn a_flash_at_the_left_rim_of_a_slot(rt: HostRuntime) -> Result<(), Fail> {
+    let flashes = [
+        other(201_000_001, 0, Why::Polygon)?,
+        other(-200_000_000, 0, Why::Macro)?,
+    ];
+    let it = told_along_x(rt, &flashes)?;
+    assert_eq!(rt; it.0, "macro");
+    assert_eq!(rt; it.1, 2);
+    Ok(())
+}
+
+/// What is told of a slot of 0.5 mm from 0,0 to 2,0 that lacks a ring of 0.125 mm in a pad.
+fn told_of_slot_in(rt: HostRuntime, at: Point, pad: Pad) -> Result<(&'static str, i64, i64), Fail> {
+    let slot = Hole::new(point(0, 0)?, point(2_000_000_000, 0)?, 250_000_000).ok_or("hole")?;
+    let flashes = [Flash {
+        at,
+        what: What::Pad(pad),
+    }];
+    let it = told_of(rt, &flashes, slot, 125_000_000)?;
+    Ok((it.0, it.2, it.3))
+}
+
+#[test]
+fn a_slot_in_the_middle_of_a_pad_that_is_too_short(rt: HostRuntime) -> Result<(), Fail> {
+    let at = point(1_000_000_000, 0)?;
+    let pad = Obround::new(at, 1_370_000_000, 375_000_000).ok_or("obround")?;
+    let it = told_of_slot_in(rt, at, Pad::Obround(pad))?;
+    assert_eq!(rt; it.0, "small");
+    assert_eq!(rt; it.1, 120_000_000);
+    assert_eq!(rt; it.2, 5_000_000);
+    Ok(())
+}
+
+#[test]
+fn a_slot_off_the_middle_of_a_large_pad(rt: HostRuntime) -> Result<(), Fail> {
+    let at = point(0, 0)?;
+    let pad = Disc::new(at, 2_000_000_000).ok_or("disc")?;
+    let it = told_of_slot_in(rt, at, Pad::Disc(pad))?;
+    assert_eq!(rt; it.0, "off");
+    assert_eq!(rt; it.1, -250_000_000);
+    assert_eq!(rt; it.2, 375_000_000);
+    Ok(())
+}
+
+#[test]
+fn a_slot_off_a_pad_at_the_rim_of_the_grid(rt: HostRuntime) -> Result<(), Fail> {
+    let from = point(9_998_600_000_000, 0)?;
+    let to = point(9_999_900_000_000, 0)?;
+    let slot = Hole::new(from, to, 250_000_000).ok_or("hole")?;
+    let at = point(10_000_000_000_000, 0)?;
+    let pad = Rect::new(at, 1_500_000_000, 500_000_000).ok_or("rect")?;
+    let flashes = [Flash {
+        at,
+        what: What::Pad(Pad::Rect(pad)),
+    }];
+    let it = told_of(rt, &flashes, slot, 125_000_000)?;
+    assert_eq!(rt; it.0, "off");
+    assert_eq!(rt; it.2, -150_000_000);
+    assert_eq!(rt; it.3, 275_000_000);
+    Ok(())
 }

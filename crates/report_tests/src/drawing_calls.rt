@@ -5,7 +5,7 @@ use flashed_boards::read_flashed;
 use grid_units::Rules;
 use package_check::{File, Role};
 use picture::{escape, name_room};
-use std::alloc::Global;
+use std::test::Fail;
 
 /// A square of 75 mm at the origin.
 const SQUARE: &[u8] = b"%FSLAX46Y46*%\n%MOMM*%\n%ADD10R,75.0X75.0*%\nD10*\nX0Y0D03*\nM02*\n";
@@ -44,61 +44,65 @@ fn rules() -> Option<Rules> {
     Rules::new(200_000_000, 250_000_000).ok()
 }
 
-/// Draws a package onto a page, and says whether it was read and printed.
-fn is_drawn(
-    alloc: Global,
+/// The page of two copper files and a plated drill file.
+fn page_of(
+    rt: HostRuntime,
+    first: (&str, &[u8]),
+    second: (&str, &[u8]),
+    drill: &[u8],
+    rules: &Option<Rules>,
+) -> Result<Vec<u8>, Fail> {
+    let files = [
+        File {
+            role: Role::Copper,
+            name: first.0,
+            span: None,
+            bytes: first.1,
+        },
+        File {
+            role: Role::Plated,
+            name: "pth",
+            span: None,
+            bytes: drill,
+        },
+        File {
+            role: Role::Copper,
+            name: second.0,
+            span: None,
+            bytes: second.1,
+        },
+    ];
+    let names = [first.0, "pth", second.0];
+    drawn(rt, &files, &names, rules)
+}
+
+/// The page of some files.
+fn drawn(
+    rt: HostRuntime,
     files: &[File],
     names: &[&str],
     rules: &Option<Rules>,
-    page: &mut Vec<u8>,
-) -> bool {
-    match read_flashed(alloc, files) {
-        Ok(flashed) => print_drawing(alloc, names, &flashed, rules, page).is_ok(),
+) -> Result<Vec<u8>, Fail> {
+    let mut out: Vec<u8> = Vec::new(rt.alloc());
+    match read_flashed(rt.alloc(), files) {
+        Ok(flashed) => match print_drawing(rt.alloc(), names, &flashed, rules, &mut out) {
+            Ok(()) => Ok(out),
+            Err(_) => Err(Fail::from("not printed")),
+        },
+        Err(_) => Err(Fail::from("refused")),
+    }
+}
+
+/// Whether a page has these words.
+fn has(page: &[u8], words: &str) -> bool {
+    match str::from_utf8(page) {
+        Ok(text) => text.contains(words),
         Err(_) => false,
     }
 }
 
-/// Whether a page has all these words.
-fn has_all(page: &[u8], words: &[&str]) -> bool {
-    let Ok(text) = str::from_utf8(page) else {
-        return false;
-    };
-    for &it in words {
-        if !text.contains(it) {
-            return false;
-        }
-    }
-    true
-}
-
-/// Whether the page of some files begins and ends with these words and has those.
-fn is_page(
-    alloc: Global,
-    files: &[File],
-    names: &[&str],
-    front: &[u8],
-    words: &str,
-    back: &[u8],
-) -> bool {
-    let mut page = Vec::new(alloc);
-    is_drawn(alloc, files, names, &None, &mut page)
-        && page.starts_with(front)
-        && has_all(&page, &[words])
-        && page.ends_with(back)
-}
-
-/// How the page of a square and a hole begins, what it has, and how it ends.
-const FRONT: &[u8] =
-    b"<?xml version=\"1.0\" encoding=\"UTF-8\"?>\n<svg xmlns=\"http://www.w3.org/2000/svg\" font-family=\"sans-serif\" font-size=\"1.25\" width=\"1034\" height=\"1200\" viewBox=\"0 0 81 94\">\n<style>text{fill:#222;font-size:1.25px}";
-
-const PANEL: &str =
-    "</style>\n<rect width=\"100%\" height=\"100%\" fill=\"#fff\"/>\n<text class=\"title\" transform=\"translate(3 3) scale(1)\">no rules</text>\n<g class=\"layer\" data-file=\"1\" transform=\"translate(40.5 46.5)\">\n<text class=\"name\" transform=\"translate(-37.5 -40) scale(1)\">top</text>\n<text class=\"note\" transform=\"translate(-37.5 -38.3) scale(1)\">1 pad, 0 other</text>\n<rect class=\"board\" x=\"-37.5\" y=\"-37.5\" width=\"75\" height=\"75\"/>\n<path class=\"pad\" d=\"M-37.5 -37.5h75v75h-75z\"/>\n<circle class=\"plated\" cx=\"0\" cy=\"0\" r=\"5\" stroke-width=\"0.1\"/>\n</g>\n<path class=\"scale\" d=\"M3 87h10\"/>\n<text transform=\"translate(14 87.4) scale(1)\">10 mm</text>\n<g class=\"legend\" font-size=\"1.25\" transform=\"translate(4 90) scale(1)\">\n<circle class=\"pad\" r=\".6\"/>\n<text x=\"1.2\" y=\".4\">pad</text>\n";
-
-const BACK: &[u8] =
-    b"<path class=\"gap\" stroke-width=\".3\" d=\"M28.5 2.5h1\"/>\n<text x=\"30.2\" y=\"2.9\">gap lacking</text>\n</g>\n</svg>\n";
-
 #[test]
-fn a_page_has_a_title_a_panel_a_scale_and_a_legend(rt: HostRuntime) {
+fn a_page_has_a_title_a_panel_a_scale_and_a_legend(rt: HostRuntime) -> Result<(), Fail> {
     let files = &[
         File {
             role: Role::Copper,
@@ -113,176 +117,141 @@ fn a_page_has_a_title_a_panel_a_scale_and_a_legend(rt: HostRuntime) {
             bytes: HOLE,
         },
     ];
-    assert!(rt; is_page(rt.alloc(), files, &["top", "pth"], FRONT, PANEL, BACK));
+    let page = drawn(rt, files, &["top", "pth"], &None)?;
+    assert!(rt;
+        page.starts_with(
+            b"<?xml version=\"1.0\" encoding=\"UTF-8\"?>\n<svg xmlns=\"http://www.w3.org/2000/svg\" font-family=\"sans-serif\" font-size=\"1.25\" width=\"1034\" height=\"1200\" viewBox=\"0 0 81 94\">\n<style>text{fill:#222;font-size:1.25px}"
+        )
+    );
+    assert!(rt;
+        has(
+            &page,
+            "</style>\n<rect width=\"100%\" height=\"100%\" fill=\"#fff\"/>\n<text class=\"title\" transform=\"translate(3 3) scale(1)\">no rules</text>\n<g class=\"layer\" data-file=\"1\" transform=\"translate(40.5 46.5)\">\n<text class=\"name\" transform=\"translate(-37.5 -40) scale(1)\">top</text>\n<text class=\"note\" transform=\"translate(-37.5 -38.3) scale(1)\">1 pad, 0 other</text>\n<rect class=\"board\" x=\"-37.5\" y=\"-37.5\" width=\"75\" height=\"75\"/>\n<path class=\"pad\" d=\"M-37.5 -37.5h75v75h-75z\"/>\n<circle class=\"plated\" cx=\"0\" cy=\"0\" r=\"5\" stroke-width=\"0.1\"/>\n</g>\n<path class=\"scale\" d=\"M3 87h10\"/>\n<text transform=\"translate(14 87.4) scale(1)\">10 mm</text>\n<g class=\"legend\" font-size=\"1.25\" transform=\"translate(4 90) scale(1)\">\n<circle class=\"pad\" r=\".6\"/>\n<text x=\"1.2\" y=\".4\">pad</text>\n"
+        )
+    );
+    assert!(rt;
+        page.ends_with(
+            b"<path class=\"gap\" stroke-width=\".3\" d=\"M28.5 2.5h1\"/>\n<text x=\"30.2\" y=\"2.9\">gap lacking</text>\n</g>\n</svg>\n"
+        )
+    );
+    Ok(())
 }
-
-/// A page of two copper files and a plated drill file between them.
-struct Page<'a> {
-    first: (&'a str, &'a [u8]),
-    second: (&'a str, &'a [u8]),
-    drill: &'a [u8],
-    /// Whether a ring and a gap are asked.
-    is_ruled: bool,
-    words: &'a [&'a str],
-}
-
-/// Whether a page has its words.
-fn has_words(alloc: Global, it: &Page) -> bool {
-    let files = [
-        File {
-            role: Role::Copper,
-            name: it.first.0,
-            span: None,
-            bytes: it.first.1,
-        },
-        File {
-            role: Role::Plated,
-            name: "pth",
-            span: None,
-            bytes: it.drill,
-        },
-        File {
-            role: Role::Copper,
-            name: it.second.0,
-            span: None,
-            bytes: it.second.1,
-        },
-    ];
-    let names = [it.first.0, "pth", it.second.0];
-    let rules = if it.is_ruled { rules() } else { None };
-    let mut page = Vec::new(alloc);
-    is_drawn(alloc, &files, &names, &rules, &mut page) && has_all(&page, it.words)
-}
-
-const PAGES: [Page; 9] = [
-    // Panels stand below each other on a wide board.
-    Page {
-        first: ("a<b>&\"c\"", WIDE),
-        second: ("bottom", WIDE),
-        drill: SMALL,
-        is_ruled: true,
-        words: &[
-            " viewBox=\"0 0 81 26\">",
-            ">ring 0.2 mm, gap 0.25 mm: 2 findings</text>",
-            "<g class=\"layer\" data-file=\"1\" transform=\"translate(3.5 9.5)\">\n<text class=\"name\" transform=\"translate(-0.5 -3) scale(1)\">a&lt;b&gt;&amp;\"c\"</text>\n<text class=\"note\" transform=\"translate(-0.5 -1.3) scale(1)\">2 pads, 0 other, 1 ring lacking</text>\n",
-            "<g class=\"layer\" data-file=\"3\" transform=\"translate(3.5 15.5)\">\n<text class=\"name\" transform=\"translate(-0.5 -3) scale(1)\">bottom</text>\n",
-            "<text class=\"number\" transform=\"translate(0.77 -0.77) scale(1)\">1</text>\n</g>\n",
-            "<text class=\"number\" transform=\"translate(0.77 -0.77) scale(1)\">2</text>\n</g>\n",
-        ],
-    },
-    // A ring is lacking in its panel alone.
-    Page {
-        first: ("top", SQUARE),
-        second: ("bottom", WIDE),
-        drill: SMALL,
-        is_ruled: true,
-        words: &[
-            ">ring 0.2 mm, gap 0.25 mm: 1 finding</text>",
-            ">1 pad, 0 other, 0 rings lacking</text>",
-            ">2 pads, 0 other, 1 ring lacking</text>",
-        ],
-    },
-    // A board that passes says so.
-    Page {
-        first: ("top", SQUARE),
-        second: ("bottom", SQUARE),
-        drill: SMALL,
-        is_ruled: true,
-        words: &[">ring 0.2 mm, gap 0.25 mm: PASS</text>"],
-    },
-    // A crowded panel has its box alone.
-    Page {
-        first: ("top", MANY),
-        second: ("bottom", WIDE),
-        drill: SMALL,
-        is_ruled: false,
-        words: &[
-            ">more than 100000 flashes and holes</text>\n<rect class=\"board\" x=\"-0.5\" y=\"-100.5\" width=\"1000\" height=\"101\"/>\n</g>\n",
-            ">2 pads, 0 other</text>",
-        ],
-    },
-    // Where there is nothing the box is a square millimetre.
-    Page {
-        first: ("top", NOTHING),
-        second: ("bottom", NOTHING),
-        drill: NO_HOLE,
-        is_ruled: true,
-        words: &[
-            "<rect class=\"board\" x=\"0\" y=\"-1\" width=\"1\" height=\"1\"/>\n</g>\n",
-            "h0.2\"/>\n",
-        ],
-    },
-    // Where there are other flashes alone the box is theirs.
-    Page {
-        first: ("top", NOTHING),
-        second: ("bottom", MACRO),
-        drill: NO_HOLE,
-        is_ruled: false,
-        words: &[
-            "<rect class=\"board\" x=\"-0.5\" y=\"-0.5\" width=\"1\" height=\"1\"/>\n<path class=\"other\"",
-        ],
-    },
-    Page {
-        first: ("top", MACRO),
-        second: ("bottom", MACROS),
-        drill: NO_HOLE,
-        is_ruled: false,
-        words: &[
-            ">0 pads, 1 other</text>\n<rect class=\"board\" x=\"-0.5\" y=\"-2.5\" width=\"11\" height=\"3\"/>\n<path class=\"other\"",
-        ],
-    },
-    Page {
-        first: ("top", WIDE),
-        second: ("bottom", MACROS),
-        drill: NO_HOLE,
-        is_ruled: false,
-        words: &[
-            ">0 pads, 2 other</text>\n<rect class=\"board\" x=\"-0.5\" y=\"-0.5\" width=\"75\" height=\"1\"/>\n<path class=\"other\"",
-        ],
-    },
-    // Characters that XML forbids are replaced.
-    Page {
-        first: ("a\u{FFFE}b\u{FFFF}", WIDE),
-        second: ("bottom", WIDE),
-        drill: NO_HOLE,
-        is_ruled: false,
-        words: &[">a\u{FFFD}b\u{FFFD}</text>\n"],
-    },
-];
 
 #[test]
-fn pages_have_their_panels_boxes_and_names(rt: HostRuntime) {
-    for (place, page) in PAGES.iter().enumerate() {
-        assert!(rt; has_words(rt.alloc(), page), "page {place}");
+fn panels_stand_below_each_other_on_a_wide_board(rt: HostRuntime) -> Result<(), Fail> {
+    let page = page_of(rt, ("a<b>&\"c\"", WIDE), ("bottom", WIDE), SMALL, &rules())?;
+    for &words in &[
+        " viewBox=\"0 0 81 26\">",
+        ">ring 0.2 mm, gap 0.25 mm: 2 findings</text>",
+        "<g class=\"layer\" data-file=\"1\" transform=\"translate(3.5 9.5)\">\n<text class=\"name\" transform=\"translate(-0.5 -3) scale(1)\">a&lt;b&gt;&amp;\"c\"</text>\n<text class=\"note\" transform=\"translate(-0.5 -1.3) scale(1)\">2 pads, 0 other, 1 ring lacking</text>\n",
+        "<g class=\"layer\" data-file=\"3\" transform=\"translate(3.5 15.5)\">\n<text class=\"name\" transform=\"translate(-0.5 -3) scale(1)\">bottom</text>\n",
+        "<text class=\"number\" transform=\"translate(0.77 -0.77) scale(1)\">1</text>\n</g>\n",
+        "<text class=\"number\" transform=\"translate(0.77 -0.77) scale(1)\">2</text>\n</g>\n",
+    ] {
+        assert!(rt; has(&page, words), "{words}");
     }
+    Ok(())
 }
 
-/// Whether each of these names is escaped so, one after the other in the same room.
-fn are_escaped(name: &mut Vec<u8>, rows: &[(&[u8], &[u8])]) -> bool {
-    for &(bytes, escaped) in rows {
-        if escape(name, bytes).is_err() || name.as_slice() != escaped {
-            return false;
-        }
+#[test]
+fn a_ring_is_lacking_in_its_panel_alone(rt: HostRuntime) -> Result<(), Fail> {
+    let page = page_of(rt, ("top", SQUARE), ("bottom", WIDE), SMALL, &rules())?;
+    for &words in &[
+        ">ring 0.2 mm, gap 0.25 mm: 1 finding</text>",
+        ">1 pad, 0 other, 0 rings lacking</text>",
+        ">2 pads, 0 other, 1 ring lacking</text>",
+    ] {
+        assert!(rt; has(&page, words), "{words}");
     }
-    true
+    Ok(())
 }
 
-/// Names, and what they are in a page.
-const NAMES: [(&[u8], &[u8]); 3] = [
-    (b"a<b>&\"c\"", b"a&lt;b&gt;&amp;\"c\""),
-    (
-        b"\xEF\xBF\xBE\xEF\xBF\xBF\xEF\xBF\xBD\xEF\xBF\xBF\xBF",
-        b"\xEF\xBF\xBD\xEF\xBF\xBD\xEF\xBF\xBD\xEF\xBF\xBD\xBF",
-    ),
-    (b"&&&&&&&&", b"&amp;&amp;&amp;&amp;&amp;&amp;&amp;&amp;"),
-];
+#[test]
+fn a_board_that_passes_says_so(rt: HostRuntime) -> Result<(), Fail> {
+    let page = page_of(rt, ("top", SQUARE), ("bottom", SQUARE), SMALL, &rules())?;
+    assert!(rt; has(&page, ">ring 0.2 mm, gap 0.25 mm: PASS</text>"));
+    Ok(())
+}
+
+#[test]
+fn a_crowded_panel_has_its_box_alone(rt: HostRuntime) -> Result<(), Fail> {
+    let page = page_of(rt, ("top", MANY), ("bottom", WIDE), SMALL, &None)?;
+    assert!(rt;
+        has(
+            &page,
+            ">more than 100000 flashes and holes</text>\n<rect class=\"board\" x=\"-0.5\" y=\"-100.5\" width=\"1000\" height=\"101\"/>\n</g>\n"
+        )
+    );
+    assert!(rt; has(&page, ">2 pads, 0 other</text>"));
+    Ok(())
+}
+
+#[test]
+fn where_there_is_nothing_the_box_is_a_square_millimetre(rt: HostRuntime) -> Result<(), Fail> {
+    let page = page_of(rt, ("top", NOTHING), ("bottom", NOTHING), NO_HOLE, &rules())?;
+    assert!(rt;
+        has(
+            &page,
+            "<rect class=\"board\" x=\"0\" y=\"-1\" width=\"1\" height=\"1\"/>\n</g>\n"
+        )
+    );
+    assert!(rt; has(&page, "h0.2\"/>\n"));
+    Ok(())
+}
+
+#[test]
+fn where_there_are_other_flashes_alone_the_box_is_theirs(rt: HostRuntime) -> Result<(), Fail> {
+    for &(top, bottom, words) in &[
+        (
+            NOTHING,
+            MACRO,
+            "<rect class=\"board\" x=\"-0.5\" y=\"-0.5\" width=\"1\" height=\"1\"/>\n<path class=\"other\"",
+        ),
+        (
+            MACRO,
+            MACROS,
+            ">0 pads, 1 other</text>\n<rect class=\"board\" x=\"-0.5\" y=\"-2.5\" width=\"11\" height=\"3\"/>\n<path class=\"other\"",
+        ),
+        (
+            WIDE,
+            MACROS,
+            ">0 pads, 2 other</text>\n<rect class=\"board\" x=\"-0.5\" y=\"-0.5\" width=\"75\" height=\"1\"/>\n<path class=\"other\"",
+        ),
+    ] {
+        let page = page_of(rt, ("top", top), ("bottom", bottom), NO_HOLE, &None)?;
+        assert!(rt; has(&page, words), "{words}");
+    }
+    Ok(())
+}
+
+#[test]
+fn characters_that_xml_forbids_are_replaced(rt: HostRuntime) -> Result<(), Fail> {
+    let page = page_of(
+        rt,
+        ("a\u{FFFE}b\u{FFFF}", WIDE),
+        ("bottom", WIDE),
+        NO_HOLE,
+        &None,
+    )?;
+    assert!(rt; has(&page, ">a\u{FFFD}b\u{FFFD}</text>\n"));
+    Ok(())
+}
 
 /// Names that are no UTF-8 too, which no manifest can have.
 #[test]
-fn names_have_entities(rt: HostRuntime) {
-    let are_so = match name_room(rt.alloc(), &["&", "12345678"]) {
-        Ok(mut name) => are_escaped(&mut name, &NAMES),
-        Err(_) => false,
-    };
-    assert!(rt; are_so);
+fn names_have_entities(rt: HostRuntime) -> Result<(), Fail> {
+    let mut name = name_room(rt.alloc(), &["&", "12345678"])?;
+    let rows: &[(&[u8], &[u8]); 3] = &[
+        (b"a<b>&\"c\"", b"a&lt;b&gt;&amp;\"c\""),
+        (
+            b"\xEF\xBF\xBE\xEF\xBF\xBF\xEF\xBF\xBD\xEF\xBF\xBF\xBF",
+            b"\xEF\xBF\xBD\xEF\xBF\xBD\xEF\xBF\xBD\xEF\xBF\xBD\xBF",
+        ),
+        (b"&&&&&&&&", b"&amp;&amp;&amp;&amp;&amp;&amp;&amp;&amp;"),
+    ];
+    for &(bytes, escaped) in rows {
+        escape(&mut name, bytes)?;
+        assert!(rt; name.as_slice() == escaped);
+    }
+    Ok(())
 }

@@ -18,8 +18,4 @@ mod report_text_calls;
 #[cfg(test)]
 mod telling_calls;
 #[cfg(test)]
-mod tellings;
-#[cfg(test)]
-mod texts;
-#[cfg(test)]
 mod waivers_calls;

@@ -1,82 +1,88 @@
 //! The JSON of worked examples.
 
-use super::tellings::{
-    Board, CauseRow, EMPTY, GapRow, HoleRow, PadRow, RingRow, Shape, telling_of,
-};
-use super::texts::{behind, is_made_of};
-use grid_units::{Fault, Reason};
+use grid_units::{Fault, Hole, Point, Reason, Rules};
 use layer_image::Why;
 use margin_text::{Meets, Met};
 use measuring::measure_board;
-use package_check::{Board as Package, File, FileSum, Role, read_package};
+use package_check::{File, FileSum, Role, read_package};
+use pad_shapes::{Disc, Pad};
 use report_json::*;
-use report_text::{LayerHead, Whys};
+use report_text::{GapLack, HoleAt, InPad, LayerHead, RingCause, RingLack, Telling, Whys};
 use std::alloc::Global;
+use std::test::Fail;
 
-/// Whether a refusal has the text of these parts.
-fn is_refused(alloc: Global, stop: &Stop, parts: &[&str]) -> bool {
-    match refusal_json(alloc, stop) {
-        Ok(text) => is_made_of(text.as_bytes(), parts),
-        Err(_) => false,
-    }
-}
-
-/// Refusals of files, of a manifest and of a file of waivers.
-const REFUSALS: [(Stop, &str); 6] = [
-    (
-        Stop::Refused {
-            index: 0,
-            name: "top",
-            fault: Fault {
-                place: 11,
-                byte: 100,
-                reason: Reason::BadWord,
-            },
-        },
-        "{\"format\":\"ringcheck\",\"version\":1,\"result\":\"refused\",\"file\":1,\"name\":\"top\",\"place\":11,\"byte\":100,\"reason\":\"BadWord\"}\n",
-    ),
-    (
-        Stop::RefusedManifest {
-            place: 3,
-            reason: Reason::BadRole,
-        },
-        "{\"format\":\"ringcheck\",\"version\":1,\"result\":\"refused\",\"place\":3,\"reason\":\"BadRole\"}\n",
-    ),
-    (
-        Stop::Device {
-            index: 1,
-            name: "pth",
-        },
-        "{\"format\":\"ringcheck\",\"version\":1,\"result\":\"device\",\"file\":2,\"name\":\"pth\"}\n",
-    ),
-    (
-        Stop::ManifestDevice,
-        "{\"format\":\"ringcheck\",\"version\":1,\"result\":\"device\"}\n",
-    ),
-    (
-        Stop::RefusedWaivers {
-            place: 2,
-            reason: Reason::EmptyName,
-        },
-        "{\"format\":\"ringcheck\",\"version\":1,\"result\":\"refused\",\"waivers\":true,\"place\":2,\"reason\":\"EmptyName\"}\n",
-    ),
-    (
-        Stop::WaiversDevice,
-        "{\"format\":\"ringcheck\",\"version\":1,\"result\":\"device\",\"waivers\":true}\n",
-    ),
-];
-
-#[test]
-fn refusals_are_told(rt: HostRuntime) {
-    for (stop, text) in &REFUSALS {
-        assert!(rt; is_refused(rt.alloc(), stop, &[*text]), "{text}");
-    }
+/// Whether a refusal has this text.
+fn is_refused(rt: HostRuntime, stop: &Stop, text: &str) -> Result<bool, Fail> {
+    Ok(refusal_json(rt.alloc(), stop)?.as_str() == text)
 }
 
 #[test]
-fn names_are_escaped(rt: HostRuntime) {
-    let front =
-        "{\"format\":\"ringcheck\",\"version\":1,\"result\":\"device\",\"file\":1,\"name\":\"";
+fn refusals_are_told(rt: HostRuntime) -> Result<(), Fail> {
+    let refused = Stop::Refused {
+        index: 0,
+        name: "top",
+        fault: Fault {
+            place: 11,
+            byte: 100,
+            reason: Reason::BadWord,
+        },
+    };
+    let manifest = Stop::RefusedManifest {
+        place: 3,
+        reason: Reason::BadRole,
+    };
+    let device = Stop::Device {
+        index: 1,
+        name: "pth",
+    };
+    for (stop, text) in [
+        (
+            refused,
+            "{\"format\":\"ringcheck\",\"version\":1,\"result\":\"refused\",\"file\":1,\"name\":\"top\",\"place\":11,\"byte\":100,\"reason\":\"BadWord\"}\n",
+        ),
+        (
+            manifest,
+            "{\"format\":\"ringcheck\",\"version\":1,\"result\":\"refused\",\"place\":3,\"reason\":\"BadRole\"}\n",
+        ),
+        (
+            device,
+            "{\"format\":\"ringcheck\",\"version\":1,\"result\":\"device\",\"file\":2,\"name\":\"pth\"}\n",
+        ),
+        (
+            Stop::ManifestDevice,
+            "{\"format\":\"ringcheck\",\"version\":1,\"result\":\"device\"}\n",
+        ),
+    ] {
+        assert!(rt; is_refused(rt, &stop, text)?, "{text}");
+    }
+    Ok(())
+}
+
+#[test]
+fn files_of_waivers_are_told(rt: HostRuntime) -> Result<(), Fail> {
+    let refused = Stop::RefusedWaivers {
+        place: 2,
+        reason: Reason::EmptyName,
+    };
+    assert!(rt;
+        is_refused(
+            rt,
+            &refused,
+            "{\"format\":\"ringcheck\",\"version\":1,\"result\":\"refused\",\"waivers\":true,\"place\":2,\"reason\":\"EmptyName\"}\n"
+        )?
+    );
+    assert!(rt;
+        is_refused(
+            rt,
+            &Stop::WaiversDevice,
+            "{\"format\":\"ringcheck\",\"version\":1,\"result\":\"device\",\"waivers\":true}\n"
+        )?
+    );
+    Ok(())
+}
+
+#[test]
+fn names_are_escaped(rt: HostRuntime) -> Result<(), Fail> {
     for &(name, escaped) in &[
         ("a\"b", "a\\\"b"),
         ("a\\b", "a\\\\b"),
@@ -85,11 +91,12 @@ fn names_are_escaped(rt: HostRuntime) {
         ("", ""),
     ] {
         let device = Stop::Device { index: 0, name };
-        assert!(rt;
-            is_refused(rt.alloc(), &device, &[front, escaped, "\"}\n"]),
-            "{escaped}"
-        );
+        let text = format!(in rt.alloc();
+            "{{\"format\":\"ringcheck\",\"version\":1,\"result\":\"device\",\"file\":1,\"name\":\"{escaped}\"}}\n"
+        )?;
+        assert!(rt; is_refused(rt, &device, text.as_str())?);
     }
+    Ok(())
 }
 
 const SQUARE: &[u8] = b"%FSLAX46Y46*%\n%MOMM*%\n%ADD10R,0.65X0.65*%\nD10*\nX0Y0D03*\nM02*\n";
@@ -119,37 +126,24 @@ fn file<'a>(role: Role, name: &'a str, bytes: &'a [u8]) -> File<'a> {
     }
 }
 
-/// The JSON of the measure of a package of two files.
-fn measure_json(alloc: Global, package: &Package) -> Option<Vec<u8>> {
-    match measure_board(alloc, package) {
-        Ok(measure) => write_measure_json(alloc, &["top", "pth"], package, &measure).ok(),
-        Err(_) => None,
-    }
-}
-
-/// Whether the measure of a package has this JSON behind its first members.
-fn has_measure(alloc: Global, package: &Package, text: &str) -> bool {
-    let front = "{\"format\":\"ringcheck\",\"version\":1,\"result\":\"measured\",";
-    match measure_json(alloc, package) {
-        Some(written) => is_made_of(&written, &[front, text, "}\n"]),
-        None => false,
-    }
-}
-
-/// The same of a layer and a plated drill file.
-fn is_measured(alloc: Global, layer: &[u8], holes: &[u8], text: &str) -> bool {
+/// Whether the measure of a layer and a plated drill file has this JSON behind its first members.
+fn is_measured(rt: HostRuntime, layer: &[u8], holes: &[u8], text: &str) -> Result<bool, Fail> {
+    let alloc = rt.alloc();
     let files = [
         file(Role::Copper, "top", layer),
         file(Role::Plated, "pth", holes),
     ];
-    match read_package(alloc, &files) {
-        Ok(package) => has_measure(alloc, &package, text),
-        Err(_) => false,
-    }
+    let board = read_package(alloc, &files).ok().ok_or("no board")?;
+    let measure = measure_board(alloc, &board)?;
+    let written = write_measure_json(alloc, &["top", "pth"], &board, &measure)?;
+    let wanted = format!(in alloc;
+        "{{\"format\":\"ringcheck\",\"version\":1,\"result\":\"measured\",{text}}}\n"
+    )?;
+    Ok(written.as_slice() == wanted.as_bytes())
 }
 
 #[test]
-fn measures_are_told(rt: HostRuntime) {
+fn measures_are_told(rt: HostRuntime) -> Result<(), Fail> {
     for &(layer, holes, text) in &[
         (
             SQUARE,
@@ -177,244 +171,182 @@ fn measures_are_told(rt: HostRuntime) {
             "\"meets\":{\"ring_pm\":\"none\",\"gap_pm\":600000000,\"held_pm\":\"none\"},\"files\":[{\"number\":1,\"role\":\"copper\",\"name\":\"top\",\"pads\":3,\"other\":0},{\"number\":2,\"role\":\"plated\",\"name\":\"pth\",\"round\":3,\"slots\":0}],\"scales\":[{\"drill\":2,\"bare\":3,\"factor\":\"10\",\"then\":0}],\"rings\":[{\"layer\":1,\"drill\":2,\"diameter_pm\":400000000,\"holes\":3,\"bare\":3,\"least_pm\":null,\"hole\":null}],\"gap\":{\"least_pm\":600000000,\"at\":{\"drill\":2,\"hole\":1,\"from_pm\":[1000000000,0],\"to_pm\":[1000000000,0],\"diameter_pm\":400000000},\"and\":{\"drill\":2,\"hole\":2,\"from_pm\":[2000000000,0],\"to_pm\":[2000000000,0],\"diameter_pm\":400000000}}",
         ),
     ] {
-        assert!(rt; is_measured(rt.alloc(), layer, holes, text), "{text}");
+        assert!(rt; is_measured(rt, layer, holes, text)?);
     }
+    Ok(())
 }
 
-/// A package of one layer whose holes are bare, under a ring of 0.1 and a gap of 0.25.
-const BARE: Board = Board {
-    rules: (100_000_000, 250_000_000),
-    meets: Meets {
-        ring: Met::None,
-        gap: Met::Most(1_046_051_224),
-        held: Met::Most(275_000_000),
-    },
-    layers: &[LayerHead { file: 0, asked: 1 }],
-    ..EMPTY
+fn point(x: i64, y: i64) -> Result<Point, Fail> {
+    Ok(Point::new(x, y).ok_or("point")?)
+}
+
+/// A hole of a drill file.
+fn hole_at(
+    drill: usize,
+    number: usize,
+    from: (i64, i64),
+    to: (i64, i64),
+    diameter: i64,
+) -> Result<HoleAt, Fail> {
+    let hole = Hole::new(point(from.0, from.1)?, point(to.0, to.1)?, diameter / 2).ok_or("hole")?;
+    Ok(HoleAt {
+        drill,
+        number,
+        hole,
+    })
+}
+
+/// What a package of one layer that meets these rules is told.
+fn nothing(alloc: Global, ring: i64, gap: i64, meets: Meets) -> Result<Telling, Fail> {
+    let mut layers = Vec::new(alloc);
+    layers.push(LayerHead { file: 0, asked: 1 })?;
+    Ok(Telling {
+        rules: Rules::new(ring, gap)?,
+        layers,
+        rings: Vec::new(alloc),
+        gaps: Vec::new(alloc),
+        scales: Vec::new(alloc),
+        meets,
+    })
+}
+
+const NO_RING: Meets = Meets {
+    ring: Met::None,
+    gap: Met::Most(1_046_051_224),
+    held: Met::Most(275_000_000),
 };
 
-const START: &str = "{\"format\":\"ringcheck\",\"version\":1,\"result\":\"";
-
-/// The head of its report, behind the result.
+/// The head of a report under a ring of 0.1 and a gap of 0.25 on a board whose holes are bare.
 const HEAD: &str =
     "\"rules\":{\"ring_pm\":100000000,\"gap_pm\":250000000},\"meets\":{\"ring_pm\":\"none\",\"gap_pm\":1046051224,\"held_pm\":275000000},\"files\":[{\"number\":1,\"role\":\"copper\",\"name\":\"top_layer\",\"pads\":242,\"other\":3}],\"scales\":[],\"findings\":[";
 
-const FILES: [FileSum; 1] = [FileSum::Layer {
-    pads: 242,
-    other: 3,
-}];
-
-/// Whether a report has this JSON: the result, and behind the head the findings in their parts.
-fn is_report(written: &[u8], word: &str, findings: &[&[&str]]) -> bool {
-    let Some(mut rest) = behind(written, &[START, word, "\",", HEAD]) else {
-        return false;
-    };
-    for parts in findings {
-        match behind(rest, parts) {
-            Some(it) => rest = it,
-            None => return false,
-        }
-    }
-    rest == b"]}\n".as_slice()
+/// Whether the report has this JSON: the result, and the findings behind the head.
+fn is_told(rt: HostRuntime, telling: &Telling, word: &str, findings: &str) -> Result<bool, Fail> {
+    let alloc = rt.alloc();
+    let files = &[FileSum::Layer {
+        pads: 242,
+        other: 3,
+    }];
+    let written = write_telling_json(alloc, &["top_layer"], files, telling)?;
+    let wanted = format!(in alloc;
+        "{{\"format\":\"ringcheck\",\"version\":1,\"result\":\"{word}\",{HEAD}{findings}]}}\n"
+    )?;
+    Ok(written.as_slice() == wanted.as_bytes())
 }
 
-/// Whether the report of a board has this JSON.
-fn is_told(alloc: Global, board: &Board, word: &str, findings: &[&[&str]]) -> bool {
-    let Some(telling) = telling_of(alloc, board) else {
-        return false;
-    };
-    match write_telling_json(alloc, &["top_layer"], &FILES, &telling) {
-        Ok(written) => is_report(&written, word, findings),
-        Err(_) => false,
-    }
+/// Tells of a bare hole, in which a macro is flashed.
+fn tell_in_macro(telling: &mut Telling) -> Result<(), Fail> {
+    let at = (142_240_000_000, -97_790_000_000);
+    telling.rings.push(RingLack {
+        layer: 0,
+        at: hole_at(3, 7, at, at, 750_000_000)?,
+        cause: RingCause::Other {
+            why: Why::Macro,
+            flash: 156,
+        },
+    })?;
+    Ok(())
 }
-
-/// A bare hole, in which a macro is flashed.
-const MACRO: RingRow = RingRow {
-    at: HoleRow {
-        drill: 3,
-        number: 7,
-        from: (142_240_000_000, -97_790_000_000),
-        to: (142_240_000_000, -97_790_000_000),
-        diameter: 750_000_000,
-    },
-    cause: CauseRow::Other {
-        why: Why::Macro,
-        flash: 156,
-    },
-};
 
 const IN_MACRO: &str =
     "{\"kind\":\"ring\",\"layer\":1,\"at\":{\"drill\":4,\"hole\":7,\"from_pm\":[142240000000,-97790000000],\"to_pm\":[142240000000,-97790000000],\"diameter_pm\":750000000},\"has_pm\":null,\"lacks_pm\":null,\"cause\":\"macro\",\"flash\":156,\"waived\":null}";
 
-/// A hole of 0.4 at the origin.
-const ROUND: HoleRow = HoleRow {
-    drill: 1,
-    number: 1,
-    from: (0, 0),
-    to: (0, 0),
-    diameter: 400_000_000,
-};
+#[test]
+fn reports_are_told(rt: HostRuntime) -> Result<(), Fail> {
+    let mut telling = nothing(rt.alloc(), 100_000_000, 250_000_000, NO_RING)?;
+    assert!(rt; is_told(rt, &telling, "pass", "")?);
+    tell_in_macro(&mut telling)?;
+    assert!(rt; is_told(rt, &telling, "findings", IN_MACRO)?);
+    Ok(())
+}
 
 /// A disc at the origin in which a hole has no ring at all, to 1 pm.
-const NO_RING: PadRow = PadRow {
-    flash: 1,
-    shape: Shape::Disc(200_000_000),
-    centre: (0, 0),
-    ring: 0,
-    lack: 100_000_000,
-};
-
-/// How the finding of hole 1 and of hole 2 begins, and how one ends.
-const AT_1: &str = "{\"kind\":\"ring\",\"layer\":1,\"at\":{\"drill\":2,\"hole\":1,";
-
-const AT_2: &str = "{\"kind\":\"ring\",\"layer\":1,\"at\":{\"drill\":2,\"hole\":2,";
-
-const NOT_WAIVED: &str = ",\"waived\":null}";
-
-/// The finding of a hole in a macro flash, with its comma.
-const COMMA: &[&str] = &[IN_MACRO, ","];
-
-/// The finding of a gap behind them.
-const CLOSE: &[&str] = &[
-    "{\"kind\":\"gap\",\"at\":{\"drill\":3,\"hole\":213,\"from_pm\":[50546000000,67310000000],\"to_pm\":[50546000000,67310000000],\"diameter_pm\":609600000},\"and\":{\"drill\":3,\"hole\":214,\"from_pm\":[51181000000,66548000000],\"to_pm\":[51181000000,66548000000],\"diameter_pm\":609600000},\"has_pm\":382301708,\"lacks_pm\":1,\"waived\":null}",
-];
-
-/// 40 findings of holes and one of a gap.
-const LONG: [&[&str]; 41] = [
-    COMMA, COMMA, COMMA, COMMA, COMMA, COMMA, COMMA, COMMA, COMMA, COMMA, COMMA, COMMA, COMMA,
-    COMMA, COMMA, COMMA, COMMA, COMMA, COMMA, COMMA, COMMA, COMMA, COMMA, COMMA, COMMA, COMMA,
-    COMMA, COMMA, COMMA, COMMA, COMMA, COMMA, COMMA, COMMA, COMMA, COMMA, COMMA, COMMA, COMMA,
-    COMMA, CLOSE,
-];
-
-/// A board, the result, and the findings in their parts.
-type Report<'a> = (Board<'a>, &'a str, &'a [&'a [&'a str]]);
-
-/// A board that passes, a hole in a macro flash, a ring of 0 in a pad that is too small and off a centre, holes that have no ring, and a
-/// long report.
-const REPORTS: [Report; 7] = [
-    (BARE, "pass", &[]),
-    (
-        Board {
-            rings: &[(0, &[MACRO])],
-            ..BARE
-        },
-        "findings",
-        &[&[IN_MACRO]],
-    ),
-    (
-        Board {
-            rings: &[(
-                0,
-                &[RingRow {
-                    at: ROUND,
-                    cause: CauseRow::Small(NO_RING),
-                }],
-            )],
-            ..BARE
-        },
-        "findings",
-        &[&[
-            AT_1,
-            "\"from_pm\":[0,0],\"to_pm\":[0,0],\"diameter_pm\":400000000},\"has_pm\":0,\"lacks_pm\":100000000,\"cause\":\"small\",\"flash\":1",
-            NOT_WAIVED,
-        ]],
-    ),
-    (
-        Board {
-            rings: &[(
-                0,
-                &[RingRow {
-                    at: ROUND,
-                    cause: CauseRow::Off(NO_RING),
-                }],
-            )],
-            ..BARE
-        },
-        "findings",
-        &[&[
-            AT_1,
-            "\"from_pm\":[0,0],\"to_pm\":[0,0],\"diameter_pm\":400000000},\"has_pm\":0,\"lacks_pm\":100000000,\"cause\":\"off\",\"flash\":1",
-            NOT_WAIVED,
-        ]],
-    ),
-    (
-        Board {
-            rings: &[(
-                0,
-                &[RingRow {
-                    at: ROUND,
-                    cause: CauseRow::Nothing,
-                }],
-            )],
-            ..BARE
-        },
-        "findings",
-        &[&[
-            AT_1,
-            "\"from_pm\":[0,0],\"to_pm\":[0,0],\"diameter_pm\":400000000},\"has_pm\":null,\"lacks_pm\":null,\"cause\":\"none\",\"flash\":null",
-            NOT_WAIVED,
-        ]],
-    ),
-    (
-        Board {
-            rings: &[(
-                0,
-                &[RingRow {
-                    at: HoleRow {
-                        number: 2,
-                        to: (1_000_000, 2_000_000),
-                        ..ROUND
-                    },
-                    cause: CauseRow::Oblique,
-                }],
-            )],
-            ..BARE
-        },
-        "findings",
-        &[&[
-            AT_2,
-            "\"from_pm\":[0,0],\"to_pm\":[1000000,2000000],\"diameter_pm\":400000000},\"has_pm\":null,\"lacks_pm\":null,\"cause\":\"oblique\",\"flash\":null",
-            NOT_WAIVED,
-        ]],
-    ),
-    (
-        Board {
-            rings: &[(0, &[MACRO; 40])],
-            gaps: &[GapRow {
-                first: HoleRow {
-                    drill: 2,
-                    number: 213,
-                    from: (50_546_000_000, 67_310_000_000),
-                    to: (50_546_000_000, 67_310_000_000),
-                    diameter: 609_600_000,
-                },
-                second: HoleRow {
-                    drill: 2,
-                    number: 214,
-                    from: (51_181_000_000, 66_548_000_000),
-                    to: (51_181_000_000, 66_548_000_000),
-                    diameter: 609_600_000,
-                },
-                gap: 382_301_708,
-                lack: 1,
-            }],
-            ..BARE
-        },
-        "findings",
-        &LONG,
-    ),
-];
+fn in_disc() -> Result<InPad, Fail> {
+    let disc = Disc::new(point(0, 0)?, 200_000_000).ok_or("disc")?;
+    Ok(InPad {
+        flash: 1,
+        pad: Pad::Disc(disc),
+        ring: 0,
+        lack: 100_000_000,
+    })
+}
 
 #[test]
-fn reports_are_told(rt: HostRuntime) {
-    for (place, (board, word, findings)) in REPORTS.iter().enumerate() {
-        assert!(rt;
-            is_told(rt.alloc(), board, word, findings),
-            "report {place}"
-        );
+fn nothing_is_no_zero(rt: HostRuntime) -> Result<(), Fail> {
+    let round = hole_at(1, 1, (0, 0), (0, 0), 400_000_000)?;
+    let slot = hole_at(1, 2, (0, 0), (1_000_000, 2_000_000), 400_000_000)?;
+    for (at, cause, text) in [
+        (
+            round,
+            RingCause::Small(in_disc()?),
+            "\"from_pm\":[0,0],\"to_pm\":[0,0],\"diameter_pm\":400000000},\"has_pm\":0,\"lacks_pm\":100000000,\"cause\":\"small\",\"flash\":1",
+        ),
+        (
+            round,
+            RingCause::Off(in_disc()?),
+            "\"from_pm\":[0,0],\"to_pm\":[0,0],\"diameter_pm\":400000000},\"has_pm\":0,\"lacks_pm\":100000000,\"cause\":\"off\",\"flash\":1",
+        ),
+        (
+            round,
+            RingCause::Nothing,
+            "\"from_pm\":[0,0],\"to_pm\":[0,0],\"diameter_pm\":400000000},\"has_pm\":null,\"lacks_pm\":null,\"cause\":\"none\",\"flash\":null",
+        ),
+        (
+            slot,
+            RingCause::Oblique,
+            "\"from_pm\":[0,0],\"to_pm\":[1000000,2000000],\"diameter_pm\":400000000},\"has_pm\":null,\"lacks_pm\":null,\"cause\":\"oblique\",\"flash\":null",
+        ),
+    ] {
+        let mut telling = nothing(rt.alloc(), 100_000_000, 250_000_000, NO_RING)?;
+        telling.rings.push(RingLack {
+            layer: 0,
+            at,
+            cause,
+        })?;
+        let number = at.number;
+        let finding = format!(in rt.alloc();
+            "{{\"kind\":\"ring\",\"layer\":1,\"at\":{{\"drill\":2,\"hole\":{number},{text},\"waived\":null}}"
+        )?;
+        assert!(rt; is_told(rt, &telling, "findings", finding.as_str())?);
     }
+    Ok(())
+}
+
+#[test]
+fn a_long_report_is_told(rt: HostRuntime) -> Result<(), Fail> {
+    let alloc = rt.alloc();
+    let mut telling = nothing(alloc, 100_000_000, 250_000_000, NO_RING)?;
+    let mut findings = String::new(alloc);
+    for _ in 0..40 {
+        tell_in_macro(&mut telling)?;
+        findings.push_str(IN_MACRO)?;
+        findings.push_str(",")?;
+    }
+    let (here, there) = (
+        (50_546_000_000, 67_310_000_000),
+        (51_181_000_000, 66_548_000_000),
+    );
+    telling.gaps.push(GapLack {
+        first: hole_at(2, 213, here, here, 609_600_000)?,
+        second: hole_at(2, 214, there, there, 609_600_000)?,
+        gap: 382_301_708,
+        lack: 1,
+    })?;
+    findings.push_str(
+        "{\"kind\":\"gap\",\"at\":{\"drill\":3,\"hole\":213,\"from_pm\":[50546000000,67310000000],\"to_pm\":[50546000000,67310000000],\"diameter_pm\":609600000},\"and\":{\"drill\":3,\"hole\":214,\"from_pm\":[51181000000,66548000000],\"to_pm\":[51181000000,66548000000],\"diameter_pm\":609600000},\"has_pm\":382301708,\"lacks_pm\":1,\"waived\":null}",
+    )?;
+    assert!(rt; is_told(rt, &telling, "findings", findings.as_str())?);
+    Ok(())
+}
+
+/// Two holes that lack their gap.
+fn close_pair() -> Result<GapLack, Fail> {
+    Ok(GapLack {
+        first: hole_at(1, 1, (0, 0), (0, 0), 400_000_000)?,
+        second: hole_at(1, 2, (0, 0), (0, 0), 400_000_000)?,
+        gap: -400_000_000,
+        lack: 650_000_000,
+    })
 }
 
 /// A ring and a gap that are lacking, as JSON up to the reasons.
@@ -424,94 +356,74 @@ const RING: &str =
 const GAP: &str =
     "{\"kind\":\"gap\",\"at\":{\"drill\":2,\"hole\":1,\"from_pm\":[0,0],\"to_pm\":[0,0],\"diameter_pm\":400000000},\"and\":{\"drill\":2,\"hole\":2,\"from_pm\":[0,0],\"to_pm\":[0,0],\"diameter_pm\":400000000},\"has_pm\":-400000000,\"lacks_pm\":650000000,\"waived\":";
 
-/// The same, and two holes that lack their gap.
-const RING_AND_GAP: Board = Board {
-    rings: &[(0, &[MACRO])],
-    gaps: &[GapRow {
-        first: ROUND,
-        second: HoleRow { number: 2, ..ROUND },
-        gap: -400_000_000,
-        lack: 650_000_000,
-    }],
-    ..BARE
-};
-
-/// Whether a report with waivers has this JSON: the result, and behind the head the findings in their parts.
+/// Whether a report with waivers has this JSON: the result, and the findings behind the head.
 fn is_waived_told(
-    alloc: Global,
-    board: &Board,
+    rt: HostRuntime,
+    telling: &Telling,
     whys: &Whys,
     word: &str,
-    findings: &[&[&str]],
-) -> bool {
-    let Some(telling) = telling_of(alloc, board) else {
-        return false;
-    };
+    findings: &str,
+) -> Result<bool, Fail> {
+    let alloc = rt.alloc();
+    let files = &[FileSum::Layer {
+        pads: 242,
+        other: 3,
+    }];
     let mut written: Vec<u8> = Vec::new(alloc);
-    print_waived_json(alloc, &["top_layer"], &FILES, &telling, whys, &mut written).is_ok()
-        && is_report(&written, word, findings)
+    let answer = print_waived_json(alloc, &["top_layer"], files, telling, whys, &mut written);
+    let wanted = format!(in alloc;
+        "{{\"format\":\"ringcheck\",\"version\":1,\"result\":\"{word}\",{HEAD}{findings}]}}\n"
+    )?;
+    Ok(answer.is_ok() && written.as_slice() == wanted.as_bytes())
 }
 
-/// A board, its waivers, the result, and the findings in their parts.
-type WaivedReport<'a> = (Board<'a>, Whys<'a>, &'a str, &'a [&'a [&'a str]]);
-
-/// Waivers of nothing leave a pass; all findings, the ring alone and the gap alone are waived.
-const WAIVED: [WaivedReport; 4] = [
-    (
-        BARE,
-        Whys {
-            rings: &[Some("milled \"by hand\"")],
-            gaps: &[Some("slot")],
-            idle: &[8],
-        },
-        "pass",
-        &[],
-    ),
-    (
-        RING_AND_GAP,
-        Whys {
-            rings: &[Some("milled \"by hand\"")],
-            gaps: &[Some("slot")],
-            idle: &[8],
-        },
-        "waived",
-        &[&[
-            RING,
-            "\"milled \\\"by hand\\\"\"",
-            "},",
-            GAP,
-            "\"slot\"",
-            "}",
-        ]],
-    ),
-    (
-        RING_AND_GAP,
-        Whys {
-            rings: &[Some("milled \"by hand\"")],
-            gaps: &[],
-            idle: &[],
-        },
-        "findings",
-        &[&[RING, "\"milled \\\"by hand\\\"\"", "},", GAP, "null", "}"]],
-    ),
-    (
-        RING_AND_GAP,
-        Whys {
-            rings: &[None, Some("more than there are")],
-            gaps: &[Some("slot")],
-            idle: &[],
-        },
-        "findings",
-        &[&[RING, "null", "},", GAP, "\"slot\"", "}"]],
-    ),
-];
+#[test]
+fn a_waiver_of_nothing_leaves_a_pass(rt: HostRuntime) -> Result<(), Fail> {
+    let telling = nothing(rt.alloc(), 100_000_000, 250_000_000, NO_RING)?;
+    let whys = Whys {
+        rings: &[Some("milled \"by hand\"")],
+        gaps: &[Some("slot")],
+        idle: &[8],
+    };
+    assert!(rt; is_waived_told(rt, &telling, &whys, "pass", "")?);
+    Ok(())
+}
 
 #[test]
-fn reports_with_waivers_are_told(rt: HostRuntime) {
-    for (board, whys, word, findings) in &WAIVED {
-        assert!(rt;
-            is_waived_told(rt.alloc(), board, whys, word, findings),
-            "{word}"
-        );
+fn waivers_are_told(rt: HostRuntime) -> Result<(), Fail> {
+    let mut telling = nothing(rt.alloc(), 100_000_000, 250_000_000, NO_RING)?;
+    tell_in_macro(&mut telling)?;
+    telling.gaps.push(close_pair()?)?;
+    let milled = Some("milled \"by hand\"");
+    for (rings, gaps, idle, word, ring, gap) in [
+        (
+            [milled].as_slice(),
+            [Some("slot")].as_slice(),
+            [8].as_slice(),
+            "waived",
+            "\"milled \\\"by hand\\\"\"",
+            "\"slot\"",
+        ),
+        (
+            [milled].as_slice(),
+            &[],
+            &[],
+            "findings",
+            "\"milled \\\"by hand\\\"\"",
+            "null",
+        ),
+        (
+            [None, Some("more than there are")].as_slice(),
+            [Some("slot")].as_slice(),
+            &[],
+            "findings",
+            "null",
+            "\"slot\"",
+        ),
+    ] {
+        let findings = format!(in rt.alloc(); "{RING}{ring}}},{GAP}{gap}}}")?;
+        let whys = Whys { rings, gaps, idle };
+        assert!(rt; is_waived_told(rt, &telling, &whys, word, findings.as_str())?);
     }
+    Ok(())
 }

@@ -1,251 +1,143 @@
 //! Reports with the figures of the worked examples.
 
-use super::tellings::{
-    Board, CauseRow, EMPTY, GapRow, HoleRow, PadRow, RingRow, Shape, telling_of,
-};
-use super::texts::behind;
+use grid_units::{Hole, Point, Rules};
 use layer_image::Why;
 use margin_text::{Factor, Meets, Met, ScaleLine};
+use pad_shapes::{Disc, Obround, Pad, Rect};
 use report_text::*;
 use std::alloc::Global;
+use std::test::Fail;
 
-/// Whether a report of files of these names has this text.
-fn is_told(alloc: Global, names: &[&str], board: &Board, most: Option<usize>, text: &str) -> bool {
-    let Some(telling) = telling_of(alloc, board) else {
-        return false;
-    };
-    match write_telling(alloc, names, &telling, most) {
-        Ok(written) => written.as_slice() == text.as_bytes(),
-        Err(_) => false,
+fn point(x: i64, y: i64) -> Result<Point, Fail> {
+    Ok(Point::new(x, y).ok_or("point")?)
+}
+
+/// A round hole of a drill file.
+fn hole_at(drill: usize, number: usize, at: (i64, i64), diameter: i64) -> Result<HoleAt, Fail> {
+    let centre = point(at.0, at.1)?;
+    let hole = Hole::new(centre, centre, diameter / 2).ok_or("hole")?;
+    Ok(HoleAt {
+        drill,
+        number,
+        hole,
+    })
+}
+
+/// What a hole has in a disc.
+fn in_disc(
+    flash: usize,
+    centre: (i64, i64),
+    radius: i64,
+    ring: i64,
+    lack: i64,
+) -> Result<InPad, Fail> {
+    let disc = Disc::new(point(centre.0, centre.1)?, radius).ok_or("disc")?;
+    Ok(InPad {
+        flash,
+        pad: Pad::Disc(disc),
+        ring,
+        lack,
+    })
+}
+
+/// What a package of no layers that meets these rules is told.
+fn nothing(alloc: Global, ring: i64, gap: i64, meets: Meets) -> Result<Telling, Fail> {
+    Ok(Telling {
+        rules: Rules::new(ring, gap)?,
+        layers: Vec::new(alloc),
+        rings: Vec::new(alloc),
+        gaps: Vec::new(alloc),
+        scales: Vec::new(alloc),
+        meets,
+    })
+}
+
+/// A package that meets a ring and a gap.
+fn meets(ring: i64, gap: i64) -> Meets {
+    Meets {
+        ring: Met::Most(ring),
+        gap: Met::Most(gap),
+        held: Met::Most(ring),
     }
 }
 
-const STICK: &[&str] = &["F_Cu", "B_Cu", "StickHub-NPTH", "StickHub-PTH"];
+/// Whether a report of files of these names has this text.
+fn is_told(
+    rt: HostRuntime,
+    names: &[&str],
+    telling: &Telling,
+    most: Option<usize>,
+    text: &str,
+) -> Result<bool, Fail> {
+    let written = write_telling(rt.alloc(), names, telling, most)?;
+    Ok(written.as_slice() == text.as_bytes())
+}
 
-const TOP: &[&str] = &["top", "pth"];
+const STICK: [&str; 4] = ["F_Cu", "B_Cu", "StickHub-NPTH", "StickHub-PTH"];
 
-/// A hole of 0.3 of StickHub-PTH at the origin.
-const HOLE: HoleRow = HoleRow {
-    drill: 3,
-    number: 24,
-    from: (0, 0),
-    to: (0, 0),
-    diameter: 300_000_000,
-};
+/// The figures of a hole of 0.3 that lacks its ring, off the centre of a disc of 0.5.
+#[derive(Clone, Copy)]
+struct Figures {
+    number: usize,
+    at: (i64, i64),
+    flash: usize,
+    centre: (i64, i64),
+    ring: i64,
+    lack: i64,
+}
 
-/// A disc of 0.5 in which a hole has the least ring.
-const DISC: PadRow = PadRow {
-    flash: 2,
-    shape: Shape::Disc(250_000_000),
-    centre: (0, 0),
-    ring: 99_394_596,
-    lack: 605_404,
-};
-
-/// The first two holes of the worked example, the hole that lacks least, and the one that lacks most.
-const FIRST: RingRow = RingRow {
-    at: HoleRow {
-        number: 10,
-        from: (143_745_000_000, -99_547_000_000),
-        to: (143_745_000_000, -99_547_000_000),
-        ..HOLE
-    },
-    cause: CauseRow::Off(PadRow {
-        flash: 150,
-        centre: (143_745_010_000, -99_546_626_000),
-        ring: 99_625_866,
-        lack: 374_134,
-        ..DISC
-    }),
-};
-
-const SECOND: RingRow = RingRow {
-    at: HoleRow {
-        number: 22,
-        from: (146_180_000_000, -93_072_000_000),
-        to: (146_180_000_000, -93_072_000_000),
-        ..HOLE
-    },
-    cause: CauseRow::Off(PadRow {
-        flash: 121,
-        centre: (146_180_031_000, -93_072_237_000),
-        ring: 99_760_981,
-        lack: 239_019,
-        ..DISC
-    }),
-};
-
-const LEAST: RingRow = RingRow {
-    at: HOLE,
-    cause: CauseRow::Off(PadRow {
-        ring: 99_998_585,
-        lack: 1_415,
-        ..DISC
-    }),
-};
-
-const MOST: RingRow = RingRow {
-    at: HOLE,
-    cause: CauseRow::Off(DISC),
-};
-
-/// The 24 holes of a layer.
-const LIMITED: [RingRow; 24] = [
-    FIRST, SECOND, LEAST, MOST, MOST, MOST, MOST, MOST, MOST, MOST, MOST, MOST, MOST, MOST, MOST,
-    MOST, MOST, MOST, MOST, MOST, MOST, MOST, MOST, MOST,
-];
-
-/// A hole of 0.4 at the origin in the first drill file.
-const AT_ORIGIN: HoleRow = HoleRow {
-    drill: 1,
-    number: 1,
-    from: (0, 0),
-    to: (0, 0),
-    diameter: 400_000_000,
-};
-
-/// Five holes that lie in no pad, each other one on the second layer.
-const MIXED: [(usize, &[RingRow]); 5] = [
-    (
-        1,
-        &[RingRow {
-            at: HoleRow { number: 1, ..HOLE },
-            cause: CauseRow::Nothing,
-        }],
-    ),
-    (
-        0,
-        &[RingRow {
-            at: HoleRow { number: 2, ..HOLE },
-            cause: CauseRow::Nothing,
-        }],
-    ),
-    (
-        1,
-        &[RingRow {
-            at: HoleRow { number: 3, ..HOLE },
-            cause: CauseRow::Nothing,
-        }],
-    ),
-    (
-        0,
-        &[RingRow {
-            at: HoleRow { number: 4, ..HOLE },
-            cause: CauseRow::Nothing,
-        }],
-    ),
-    (
-        1,
-        &[RingRow {
-            at: HoleRow { number: 5, ..HOLE },
-            cause: CauseRow::Nothing,
-        }],
-    ),
-];
-
-/// A hole for each cause, and two in a macro flash.
-const EACH_CAUSE: [RingRow; 10] = [
-    RingRow {
-        at: AT_ORIGIN,
-        cause: CauseRow::Other {
-            why: Why::Turned,
-            flash: 1,
+/// The figures of one of the 24 holes of a layer: the first two of the worked example, the least lack, and the greatest.
+fn figures_of(index: usize) -> Figures {
+    let greatest = Figures {
+        number: 24,
+        at: (0, 0),
+        flash: 2,
+        centre: (0, 0),
+        ring: 99_394_596,
+        lack: 605_404,
+    };
+    match index {
+        0 => Figures {
+            number: 10,
+            at: (143_745_000_000, -99_547_000_000),
+            flash: 150,
+            centre: (143_745_010_000, -99_546_626_000),
+            ring: 99_625_866,
+            lack: 374_134,
         },
-    },
-    RingRow {
-        at: AT_ORIGIN,
-        cause: CauseRow::Other {
-            why: Why::Scaled,
-            flash: 1,
+        1 => Figures {
+            number: 22,
+            at: (146_180_000_000, -93_072_000_000),
+            flash: 121,
+            centre: (146_180_031_000, -93_072_237_000),
+            ring: 99_760_981,
+            lack: 239_019,
         },
-    },
-    RingRow {
-        at: AT_ORIGIN,
-        cause: CauseRow::Other {
-            why: Why::Holed,
-            flash: 1,
+        2 => Figures {
+            ring: 99_998_585,
+            lack: 1_415,
+            ..greatest
         },
-    },
-    RingRow {
-        at: AT_ORIGIN,
-        cause: CauseRow::Other {
-            why: Why::Polygon,
-            flash: 1,
-        },
-    },
-    RingRow {
-        at: AT_ORIGIN,
-        cause: CauseRow::Other {
-            why: Why::Macro,
-            flash: 1,
-        },
-    },
-    RingRow {
-        at: AT_ORIGIN,
-        cause: CauseRow::Other {
-            why: Why::Macro,
-            flash: 1,
-        },
-    },
-    RingRow {
-        at: AT_ORIGIN,
-        cause: CauseRow::Oblique,
-    },
-    RingRow {
-        at: AT_ORIGIN,
-        cause: CauseRow::Nothing,
-    },
-    RingRow {
-        at: AT_ORIGIN,
-        cause: CauseRow::Off(PadRow {
-            flash: 1,
-            ring: 100_000_000,
-            lack: 50_000_000,
-            ..DISC
-        }),
-    },
-    RingRow {
-        at: AT_ORIGIN,
-        cause: CauseRow::Small(PadRow {
-            flash: 1,
-            ring: 99_394_596,
-            lack: 50_605_404,
-            ..DISC
-        }),
-    },
-];
+        _ => greatest,
+    }
+}
 
-/// A drill file at a tenth of its size.
-const TENTH: ScaleLine = ScaleLine {
-    drill: 1,
-    bare: 3,
-    factor: Factor::Ten,
-    then: 0,
-};
-
-/// The names of the files of a board, the board, how many findings are told at most, and the text.
-type Report<'a> = (&'a [&'a str], Board<'a>, Option<usize>, &'a str);
-
-/// A limited report, layers that are told one by one, a hole that is hit twice, a board that passes, and each cause with a scale.
-const REPORTS: [Report; 5] = [
-    (
-        STICK,
-        Board {
-            rules: (100_000_000, 250_000_000),
-            meets: Meets {
-                ring: Met::Most(99_394_596),
-                gap: Met::Most(300_000_000),
-                held: Met::Most(99_394_596),
-            },
-            layers: &[
-                LayerHead { file: 0, asked: 87 },
-                LayerHead { file: 1, asked: 87 },
-            ],
-            rings: &[(0, &LIMITED), (1, &LIMITED)],
-            ..EMPTY
-        },
-        Some(2),
-        "ring 0.1, gap 0.25\n\
+#[test]
+fn a_limited_report_is_told(rt: HostRuntime) -> Result<(), Fail> {
+    let board = meets(99_394_596, 300_000_000);
+    let mut telling = nothing(rt.alloc(), 100_000_000, 250_000_000, board)?;
+    telling.layers.push(LayerHead { file: 0, asked: 87 })?;
+    telling.layers.push(LayerHead { file: 1, asked: 87 })?;
+    for index in 0..48 {
+        let it = figures_of(index % 24);
+        let place = in_disc(it.flash, it.centre, 250_000_000, it.ring, it.lack)?;
+        telling.rings.push(RingLack {
+            layer: index / 24,
+            at: hole_at(3, it.number, it.at, 300_000_000)?,
+            cause: RingCause::Off(place),
+        })?;
+    }
+    let text = "ring 0.1, gap 0.25\n\
         F_Cu: 24 of 87 rings lacking\n  \
         hole 10 of StickHub-PTH, 0.3 at 143.745,-99.547: ring 0.099625866, lacks 0.000374134, off centre: flash 150, disc 0.5x0.5, hole off by -0.00001,-0.000374\n  \
         hole 22 of StickHub-PTH, 0.3 at 146.18,-93.072: ring 0.099760981, lacks 0.000239019, off centre: flash 121, disc 0.5x0.5, hole off by -0.000031,0.000237\n  \
@@ -256,26 +148,250 @@ const REPORTS: [Report; 5] = [
         48 off centre: the pad is large enough for a hole at its centre; drill files are rounded: see `ringcheck explain ring`\n\
         rings lack 0.000001415 to 0.000605404\n\
         this board meets ring 0.099394596, gap 0.3\n\
-        FINDINGS 48\n",
-    ),
-    (
-        STICK,
-        Board {
-            rules: (100_000_000, 250_000_000),
-            meets: Meets {
-                ring: Met::Most(0),
-                gap: Met::Most(250_000_000),
-                held: Met::Most(0),
-            },
-            layers: &[
-                LayerHead { file: 0, asked: 9 },
-                LayerHead { file: 1, asked: 8 },
-            ],
-            rings: &MIXED,
-            ..EMPTY
+        FINDINGS 48\n";
+    assert!(rt; is_told(rt, &STICK, &telling, Some(2), text)?);
+    Ok(())
+}
+
+/// Whether a report of files of these names begins with these lines.
+fn begins_with(
+    rt: HostRuntime,
+    names: &[&str],
+    telling: &Telling,
+    lines: &[&str],
+) -> Result<bool, Fail> {
+    let mut front: Vec<u8> = Vec::new(rt.alloc());
+    for line in lines {
+        front.extend_from_slice(line.as_bytes())?;
+    }
+    let written = write_telling(rt.alloc(), names, telling, None)?;
+    Ok(written.as_slice().starts_with(front.as_slice()))
+}
+
+/// Whether the line of a hole that lacks its ring, which stands alone in a list, is this one.
+fn is_ring_line(
+    rt: HostRuntime,
+    drill: &str,
+    lacks: &[RingLack],
+    text: &str,
+) -> Result<bool, Fail> {
+    let mut telling = nothing(rt.alloc(), 0, 1, meets(0, 1))?;
+    telling.layers.push(LayerHead { file: 0, asked: 1 })?;
+    telling.rings.extend_from_slice(lacks)?;
+    begins_with(
+        rt,
+        &["top", drill],
+        &telling,
+        &["ring 0, gap 0.000000001\ntop: 1 of 1 rings lacking\n", text],
+    )
+}
+
+#[test]
+fn a_pad_that_is_too_small_is_told(rt: HostRuntime) -> Result<(), Fail> {
+    let at = (50_546_000_000, 67_310_000_000);
+    let small = RingLack {
+        layer: 0,
+        at: hole_at(1, 213, at, 609_600_000)?,
+        cause: RingCause::Small(in_disc(947, at, 203_200_000, -101_600_000, 201_600_000)?),
+    };
+    let text =
+        "  hole 213 of drill, 0.6096 at 50.546,67.31: ring -0.1016, lacks 0.2016, pad too small: flash 947, disc 0.4064x0.4064, hole off by 0,0\n";
+    assert!(rt; is_ring_line(rt, "drill", &[small], text)?);
+    Ok(())
+}
+
+#[test]
+fn a_hole_in_a_macro_flash_is_told(rt: HostRuntime) -> Result<(), Fail> {
+    let bare = RingLack {
+        layer: 0,
+        at: hole_at(1, 7, (142_240_000_000, -97_790_000_000), 750_000_000)?,
+        cause: RingCause::Other {
+            why: Why::Macro,
+            flash: 156,
         },
-        Some(4),
-        "ring 0.1, gap 0.25\n\
+    };
+    let text =
+        "  hole 7 of pic_programmer-PTH, 0.75 at 142.24,-97.79: no ring, only a macro flash: flash 156\n";
+    assert!(rt; is_ring_line(rt, "pic_programmer-PTH", &[bare], text)?);
+    Ok(())
+}
+
+#[test]
+fn a_hole_off_a_centre_is_told(rt: HostRuntime) -> Result<(), Fail> {
+    let square = Rect::new(point(1_000, 0)?, 325_000_000, 325_000_000).ok_or("rect")?;
+    let moved = RingLack {
+        layer: 0,
+        at: hole_at(1, 1, (0, 0), 400_000_000)?,
+        cause: RingCause::Off(InPad {
+            flash: 1,
+            pad: Pad::Rect(square),
+            ring: 124_999_000,
+            lack: 1_000,
+        }),
+    };
+    let text =
+        "  hole 1 of pth, 0.4 at 0,0: ring 0.124999, lacks 0.000001, off centre: flash 1, rect 0.65x0.65, hole off by -0.000001,0\n";
+    assert!(rt; is_ring_line(rt, "pth", &[moved], text)?);
+    Ok(())
+}
+
+#[test]
+fn a_slot_is_told_by_both_ends(rt: HostRuntime) -> Result<(), Fail> {
+    let to = point(2_000_000_000, 1_000_000_000)?;
+    let hole = Hole::new(point(0, 0)?, to, 250_000_000).ok_or("hole")?;
+    let at = HoleAt {
+        drill: 1,
+        number: 3,
+        hole,
+    };
+    for &(cause, text) in &[
+        (
+            RingCause::Oblique,
+            "  hole 3 of pth, 0.5 at 0,0 to 2,1: no ring, oblique slot\n",
+        ),
+        (
+            RingCause::Nothing,
+            "  hole 3 of pth, 0.5 at 0,0 to 2,1: no ring, no pad\n",
+        ),
+    ] {
+        let lack = RingLack {
+            layer: 0,
+            at,
+            cause,
+        };
+        assert!(rt; is_ring_line(rt, "pth", &[lack], text)?, "{text}");
+    }
+    Ok(())
+}
+
+/// A slot of 0.5 mm from 0,0 to 2,0.
+fn slot_at() -> Result<HoleAt, Fail> {
+    let hole = Hole::new(point(0, 0)?, point(2_000_000_000, 0)?, 250_000_000).ok_or("hole")?;
+    Ok(HoleAt {
+        drill: 1,
+        number: 1,
+        hole,
+    })
+}
+
+/// What this slot lacks, by its cause.
+fn slot_lack(cause: RingCause) -> Result<RingLack, Fail> {
+    Ok(RingLack {
+        layer: 0,
+        at: slot_at()?,
+        cause,
+    })
+}
+
+#[test]
+fn a_slot_in_a_short_obround_is_told(rt: HostRuntime) -> Result<(), Fail> {
+    let short = Obround::new(point(1_000_000_000, 0)?, 1_370_000_000, 375_000_000);
+    let small = slot_lack(RingCause::Small(InPad {
+        flash: 1,
+        pad: Pad::Obround(short.ok_or("obround")?),
+        ring: 120_000_000,
+        lack: 5_000_000,
+    }))?;
+    let text =
+        "  hole 1 of pth, 0.5 at 0,0 to 2,0: ring 0.12, lacks 0.005, pad too small: flash 1, obround 2.74x0.75, hole off by 0,0\n";
+    assert!(rt; is_ring_line(rt, "pth", &[small], text)?);
+    Ok(())
+}
+
+#[test]
+fn a_slot_is_told_off_by_its_middle(rt: HostRuntime) -> Result<(), Fail> {
+    let place = in_disc(1, (0, 0), 2_000_000_000, -250_000_000, 375_000_000)?;
+    let off = slot_lack(RingCause::Off(place))?;
+    let text =
+        "  hole 1 of pth, 0.5 at 0,0 to 2,0: ring -0.25, lacks 0.375, off centre: flash 1, disc 4x4, hole off by 1,0\n";
+    assert!(rt; is_ring_line(rt, "pth", &[off], text)?);
+    Ok(())
+}
+
+/// Whether the line of a slot in a flash that leaves no pad is this one.
+fn is_flash_line(rt: HostRuntime, why: Why, text: &str) -> Result<bool, Fail> {
+    let lack = slot_lack(RingCause::Other { why, flash: 7 })?;
+    is_ring_line(rt, "pth", &[lack], text)
+}
+
+#[test]
+fn flashes_that_are_no_pads_are_told(rt: HostRuntime) -> Result<(), Fail> {
+    for &(why, text) in &[
+        (
+            Why::Polygon,
+            "  hole 1 of pth, 0.5 at 0,0 to 2,0: no ring, only a polygon flash: flash 7\n",
+        ),
+        (
+            Why::Holed,
+            "  hole 1 of pth, 0.5 at 0,0 to 2,0: no ring, only a holed flash: flash 7\n",
+        ),
+        (
+            Why::Scaled,
+            "  hole 1 of pth, 0.5 at 0,0 to 2,0: no ring, only a scaled flash: flash 7\n",
+        ),
+        (
+            Why::Turned,
+            "  hole 1 of pth, 0.5 at 0,0 to 2,0: no ring, only a turned flash: flash 7\n",
+        ),
+    ] {
+        assert!(rt; is_flash_line(rt, why, text)?, "{text}");
+    }
+    Ok(())
+}
+
+/// Whether the line of a drill file whose coordinates are off by a factor is this one.
+fn is_scale_line(rt: HostRuntime, factor: Factor, text: &str) -> Result<bool, Fail> {
+    let line = ScaleLine { factor, ..TENTH };
+    let mut telling = nothing(rt.alloc(), 0, 1, meets(0, 1))?;
+    telling.scales.push(line)?;
+    begins_with(
+        rt,
+        &["top", "pth"],
+        &telling,
+        &["ring 0, gap 0.000000001\n0 gaps lacking\n", text],
+    )
+}
+
+#[test]
+fn factors_are_told(rt: HostRuntime) -> Result<(), Fail> {
+    for &(factor, text) in &[
+        (
+            Factor::Tenth,
+            "pth: 3 holes have no pad; at 0.1 times their coordinates 0 would have none\n",
+        ),
+        (
+            Factor::Inch,
+            "pth: 3 holes have no pad; at 25.4 times their coordinates 0 would have none\n",
+        ),
+        (
+            Factor::PerInch,
+            "pth: 3 holes have no pad; at 1/25.4 times their coordinates 0 would have none\n",
+        ),
+    ] {
+        assert!(rt; is_scale_line(rt, factor, text)?, "{text}");
+    }
+    Ok(())
+}
+
+/// Two layers of which each other ring is on the second.
+fn mixed_layers(alloc: Global) -> Result<Telling, Fail> {
+    let mut telling = nothing(alloc, 100_000_000, 250_000_000, meets(0, 250_000_000))?;
+    telling.layers.push(LayerHead { file: 0, asked: 9 })?;
+    telling.layers.push(LayerHead { file: 1, asked: 8 })?;
+    for number in 1..6 {
+        telling.rings.push(RingLack {
+            layer: number % 2,
+            at: hole_at(3, number, (0, 0), 300_000_000)?,
+            cause: RingCause::Nothing,
+        })?;
+    }
+    Ok(telling)
+}
+
+#[test]
+fn mixed_layers_are_told_one_by_one(rt: HostRuntime) -> Result<(), Fail> {
+    let telling = mixed_layers(rt.alloc())?;
+    let text = "ring 0.1, gap 0.25\n\
         F_Cu: 2 of 9 rings lacking\n  \
         hole 2 of StickHub-PTH, 0.3 at 0,0: no ring, no pad\n  \
         hole 4 of StickHub-PTH, 0.3 at 0,0: no ring, no pad\n\
@@ -286,59 +402,104 @@ const REPORTS: [Report; 5] = [
         0 gaps lacking\n\
         5 no pad: no pad reaches the hole's centre: removed or painted pad, plane, other origin or format: see `ringcheck explain none`\n\
         this board meets ring 0, gap 0.25\n\
-        FINDINGS 5\n",
-    ),
-    (
-        TOP,
-        Board {
-            rules: (125_000_000, 250_000_000),
-            meets: Meets {
-                ring: Met::Most(125_000_000),
-                gap: Met::Most(-400_000_000),
-                held: Met::Most(125_000_000),
-            },
-            layers: &[LayerHead { file: 0, asked: 2 }],
-            gaps: &[GapRow {
-                first: AT_ORIGIN,
-                second: HoleRow {
-                    number: 2,
-                    ..AT_ORIGIN
-                },
-                gap: -400_000_000,
-                lack: 650_000_000,
-            }],
-            ..EMPTY
-        },
-        None,
-        "ring 0.125, gap 0.25\n\
+        FINDINGS 5\n";
+    assert!(rt; is_told(rt, &STICK, &telling, Some(4), text)?);
+    Ok(())
+}
+
+#[test]
+fn a_hole_hit_twice_is_told(rt: HostRuntime) -> Result<(), Fail> {
+    let mut telling = nothing(
+        rt.alloc(),
+        125_000_000,
+        250_000_000,
+        meets(125_000_000, -400_000_000),
+    )?;
+    telling.layers.push(LayerHead { file: 0, asked: 2 })?;
+    telling.gaps.push(GapLack {
+        first: hole_at(1, 1, (0, 0), 400_000_000)?,
+        second: hole_at(1, 2, (0, 0), 400_000_000)?,
+        gap: -400_000_000,
+        lack: 650_000_000,
+    })?;
+    let text = "ring 0.125, gap 0.25\n\
         top: 0 of 2 rings lacking\n\
         1 gaps lacking\n  \
         hole 1 of pth, 0.4 at 0,0, and hole 2 of pth, 0.4 at 0,0: gap -0.4, lacks 0.65\n\
         gaps lack 0.65 to 0.65\n\
         this board meets ring 0.125, gap -0.4\n\
-        FINDINGS 1\n",
-    ),
-    (
-        &[],
-        EMPTY,
-        Some(0),
-        "ring 0, gap 0.000000001\n0 gaps lacking\nthis board meets ring any, gap any\nPASS\n",
-    ),
-    (
-        TOP,
-        Board {
-            rules: (150_000_000, 250_000_000),
-            meets: Meets {
-                ring: Met::None,
-                gap: Met::Most(1_046_051_224),
-                held: Met::Most(275_000_000),
-            },
-            rings: &[(9, &EACH_CAUSE)],
-            scales: &[TENTH],
-            ..EMPTY
-        },
-        None,
-        "ring 0.15, gap 0.25\n\
+        FINDINGS 1\n";
+    assert!(rt; is_told(rt, &["top", "pth"], &telling, None, text)?);
+    Ok(())
+}
+
+#[test]
+fn a_package_that_passes_is_told(rt: HostRuntime) -> Result<(), Fail> {
+    let any = Meets {
+        ring: Met::Any,
+        gap: Met::Any,
+        held: Met::Any,
+    };
+    let telling = nothing(rt.alloc(), 0, 1, any)?;
+    let text =
+        "ring 0, gap 0.000000001\n0 gaps lacking\nthis board meets ring any, gap any\nPASS\n";
+    assert!(rt; is_told(rt, &[], &telling, Some(0), text)?);
+    Ok(())
+}
+
+/// A hole that lacks its ring on a layer that has no head.
+fn unseen(cause: RingCause) -> Result<RingLack, Fail> {
+    Ok(RingLack {
+        layer: 9,
+        at: hole_at(1, 1, (0, 0), 400_000_000)?,
+        cause,
+    })
+}
+
+/// A drill file at a tenth of its size.
+const TENTH: ScaleLine = ScaleLine {
+    drill: 1,
+    bare: 3,
+    factor: Factor::Ten,
+    then: 0,
+};
+
+/// Tells of a hole for each cause, and of two in a macro flash.
+fn tell_each_cause(telling: &mut Telling) -> Result<(), Fail> {
+    for &why in &[
+        Why::Turned,
+        Why::Scaled,
+        Why::Holed,
+        Why::Polygon,
+        Why::Macro,
+        Why::Macro,
+    ] {
+        telling
+            .rings
+            .push(unseen(RingCause::Other { why, flash: 1 })?)?;
+    }
+    for cause in [
+        RingCause::Oblique,
+        RingCause::Nothing,
+        RingCause::Off(in_disc(1, (0, 0), 250_000_000, 100_000_000, 50_000_000)?),
+        RingCause::Small(in_disc(1, (0, 0), 250_000_000, 99_394_596, 50_605_404)?),
+    ] {
+        telling.rings.push(unseen(cause)?)?;
+    }
+    Ok(())
+}
+
+#[test]
+fn causes_and_scales_are_told(rt: HostRuntime) -> Result<(), Fail> {
+    let board = Meets {
+        ring: Met::None,
+        gap: Met::Most(1_046_051_224),
+        held: Met::Most(275_000_000),
+    };
+    let mut telling = nothing(rt.alloc(), 150_000_000, 250_000_000, board)?;
+    tell_each_cause(&mut telling)?;
+    telling.scales.push(TENTH)?;
+    let text = "ring 0.15, gap 0.25\n\
         0 gaps lacking\n\
         1 pad too small: the pad's own radius or half side is less than the hole's radius and the ring\n\
         1 off centre: the pad is large enough for a hole at its centre; drill files are rounded: see `ringcheck explain ring`\n\
@@ -352,462 +513,70 @@ const REPORTS: [Report; 5] = [
         rings lack 0.05 to 0.050605404\n\
         pth: 3 holes have no pad; at 10 times their coordinates 0 would have none\n\
         this board meets ring none, gap 1.046051224; where a pad is, ring 0.275\n\
-        FINDINGS 10\n",
-    ),
-];
-
-#[test]
-fn reports_are_told(rt: HostRuntime) {
-    for (names, board, most, text) in &REPORTS {
-        assert!(rt; is_told(rt.alloc(), names, board, *most, text), "{text}");
-    }
+        FINDINGS 10\n";
+    assert!(rt; is_told(rt, &["top", "pth"], &telling, None, text)?);
+    Ok(())
 }
 
-/// Whether a report of two files begins with these lines.
-fn begins_with(alloc: Global, drill: &str, board: &Board, lines: &[&str]) -> bool {
-    let Some(telling) = telling_of(alloc, board) else {
-        return false;
-    };
-    match write_telling(alloc, &["top", drill], &telling, None) {
-        Ok(written) => behind(&written, lines).is_some(),
-        Err(_) => false,
-    }
-}
-
-/// A board of any files that meets no ring above 0 and no gap above 1 pm.
-const LEAST_MET: Board = Board {
-    meets: Meets {
-        ring: Met::Most(0),
-        gap: Met::Most(1),
-        held: Met::Most(0),
-    },
-    ..EMPTY
-};
-
-/// The same with one layer.
-const ONE_LAYER: Board = Board {
-    layers: &[LayerHead { file: 0, asked: 1 }],
-    ..LEAST_MET
-};
-
-/// How the report of a hole that lacks its ring begins, and that of a scale.
-const RING_FRONT: &str = "ring 0, gap 0.000000001\ntop: 1 of 1 rings lacking\n";
-
-const SCALE_FRONT: &str = "ring 0, gap 0.000000001\n0 gaps lacking\n";
-
-/// A slot of 0.5 mm from 0,0 to 2,0.
-const SLOT: HoleRow = HoleRow {
-    drill: 1,
-    number: 1,
-    from: (0, 0),
-    to: (2_000_000_000, 0),
-    diameter: 500_000_000,
-};
-
-/// A slot of 0.5 mm from 0,0 to 2,1.
-const OBLIQUE: HoleRow = HoleRow {
-    number: 3,
-    to: (2_000_000_000, 1_000_000_000),
-    ..SLOT
-};
-
-/// A pad that is too small, a macro flash, a hole off a centre, a slot that is told by both ends, one in a short obround, one that is
-/// told off by its middle, flashes that are no pads, and factors: the name of the drill file, the board, and how its report begins.
-const LINES: [(&str, Board, &[&str]); 14] = [
-    (
-        "drill",
-        Board {
-            rings: &[(
-                0,
-                &[RingRow {
-                    at: HoleRow {
-                        drill: 1,
-                        number: 213,
-                        from: (50_546_000_000, 67_310_000_000),
-                        to: (50_546_000_000, 67_310_000_000),
-                        diameter: 609_600_000,
-                    },
-                    cause: CauseRow::Small(PadRow {
-                        flash: 947,
-                        shape: Shape::Disc(203_200_000),
-                        centre: (50_546_000_000, 67_310_000_000),
-                        ring: -101_600_000,
-                        lack: 201_600_000,
-                    }),
-                }],
-            )],
-            ..ONE_LAYER
-        },
-        &[
-            RING_FRONT,
-            "  hole 213 of drill, 0.6096 at 50.546,67.31: ring -0.1016, lacks 0.2016, pad too small: flash 947, disc 0.4064x0.4064, hole off by 0,0\n",
-        ],
-    ),
-    (
-        "pic_programmer-PTH",
-        Board {
-            rings: &[(
-                0,
-                &[RingRow {
-                    at: HoleRow {
-                        drill: 1,
-                        number: 7,
-                        from: (142_240_000_000, -97_790_000_000),
-                        to: (142_240_000_000, -97_790_000_000),
-                        diameter: 750_000_000,
-                    },
-                    cause: CauseRow::Other {
-                        why: Why::Macro,
-                        flash: 156,
-                    },
-                }],
-            )],
-            ..ONE_LAYER
-        },
-        &[
-            RING_FRONT,
-            "  hole 7 of pic_programmer-PTH, 0.75 at 142.24,-97.79: no ring, only a macro flash: flash 156\n",
-        ],
-    ),
-    (
-        "pth",
-        Board {
-            rings: &[(
-                0,
-                &[RingRow {
-                    at: AT_ORIGIN,
-                    cause: CauseRow::Off(PadRow {
-                        flash: 1,
-                        shape: Shape::Rect(325_000_000, 325_000_000),
-                        centre: (1_000, 0),
-                        ring: 124_999_000,
-                        lack: 1_000,
-                    }),
-                }],
-            )],
-            ..ONE_LAYER
-        },
-        &[
-            RING_FRONT,
-            "  hole 1 of pth, 0.4 at 0,0: ring 0.124999, lacks 0.000001, off centre: flash 1, rect 0.65x0.65, hole off by -0.000001,0\n",
-        ],
-    ),
-    (
-        "pth",
-        Board {
-            rings: &[(
-                0,
-                &[RingRow {
-                    at: OBLIQUE,
-                    cause: CauseRow::Oblique,
-                }],
-            )],
-            ..ONE_LAYER
-        },
-        &[
-            RING_FRONT,
-            "  hole 3 of pth, 0.5 at 0,0 to 2,1: no ring, oblique slot\n",
-        ],
-    ),
-    (
-        "pth",
-        Board {
-            rings: &[(
-                0,
-                &[RingRow {
-                    at: OBLIQUE,
-                    cause: CauseRow::Nothing,
-                }],
-            )],
-            ..ONE_LAYER
-        },
-        &[
-            RING_FRONT,
-            "  hole 3 of pth, 0.5 at 0,0 to 2,1: no ring, no pad\n",
-        ],
-    ),
-    (
-        "pth",
-        Board {
-            rings: &[(
-                0,
-                &[RingRow {
-                    at: SLOT,
-                    cause: CauseRow::Small(PadRow {
-                        flash: 1,
-                        shape: Shape::Obround(1_370_000_000, 375_000_000),
-                        centre: (1_000_000_000, 0),
-                        ring: 120_000_000,
-                        lack: 5_000_000,
-                    }),
-                }],
-            )],
-            ..ONE_LAYER
-        },
-        &[
-            RING_FRONT,
-            "  hole 1 of pth, 0.5 at 0,0 to 2,0: ring 0.12, lacks 0.005, pad too small: flash 1, obround 2.74x0.75, hole off by 0,0\n",
-        ],
-    ),
-    (
-        "pth",
-        Board {
-            rings: &[(
-                0,
-                &[RingRow {
-                    at: SLOT,
-                    cause: CauseRow::Off(PadRow {
-                        flash: 1,
-                        shape: Shape::Disc(2_000_000_000),
-                        centre: (0, 0),
-                        ring: -250_000_000,
-                        lack: 375_000_000,
-                    }),
-                }],
-            )],
-            ..ONE_LAYER
-        },
-        &[
-            RING_FRONT,
-            "  hole 1 of pth, 0.5 at 0,0 to 2,0: ring -0.25, lacks 0.375, off centre: flash 1, disc 4x4, hole off by 1,0\n",
-        ],
-    ),
-    (
-        "pth",
-        Board {
-            rings: &[(
-                0,
-                &[RingRow {
-                    at: SLOT,
-                    cause: CauseRow::Other {
-                        why: Why::Polygon,
-                        flash: 7,
-                    },
-                }],
-            )],
-            ..ONE_LAYER
-        },
-        &[
-            RING_FRONT,
-            "  hole 1 of pth, 0.5 at 0,0 to 2,0: no ring, only a polygon flash: flash 7\n",
-        ],
-    ),
-    (
-        "pth",
-        Board {
-            rings: &[(
-                0,
-                &[RingRow {
-                    at: SLOT,
-                    cause: CauseRow::Other {
-                        why: Why::Holed,
-                        flash: 7,
-                    },
-                }],
-            )],
-            ..ONE_LAYER
-        },
-        &[
-            RING_FRONT,
-            "  hole 1 of pth, 0.5 at 0,0 to 2,0: no ring, only a holed flash: flash 7\n",
-        ],
-    ),
-    (
-        "pth",
-        Board {
-            rings: &[(
-                0,
-                &[RingRow {
-                    at: SLOT,
-                    cause: CauseRow::Other {
-                        why: Why::Scaled,
-                        flash: 7,
-                    },
-                }],
-            )],
-            ..ONE_LAYER
-        },
-        &[
-            RING_FRONT,
-            "  hole 1 of pth, 0.5 at 0,0 to 2,0: no ring, only a scaled flash: flash 7\n",
-        ],
-    ),
-    (
-        "pth",
-        Board {
-            rings: &[(
-                0,
-                &[RingRow {
-                    at: SLOT,
-                    cause: CauseRow::Other {
-                        why: Why::Turned,
-                        flash: 7,
-                    },
-                }],
-            )],
-            ..ONE_LAYER
-        },
-        &[
-            RING_FRONT,
-            "  hole 1 of pth, 0.5 at 0,0 to 2,0: no ring, only a turned flash: flash 7\n",
-        ],
-    ),
-    (
-        "pth",
-        Board {
-            scales: &[ScaleLine {
-                factor: Factor::Tenth,
-                ..TENTH
-            }],
-            ..LEAST_MET
-        },
-        &[
-            SCALE_FRONT,
-            "pth: 3 holes have no pad; at 0.1 times their coordinates 0 would have none\n",
-        ],
-    ),
-    (
-        "pth",
-        Board {
-            scales: &[ScaleLine {
-                factor: Factor::Inch,
-                ..TENTH
-            }],
-            ..LEAST_MET
-        },
-        &[
-            SCALE_FRONT,
-            "pth: 3 holes have no pad; at 25.4 times their coordinates 0 would have none\n",
-        ],
-    ),
-    (
-        "pth",
-        Board {
-            scales: &[ScaleLine {
-                factor: Factor::PerInch,
-                ..TENTH
-            }],
-            ..LEAST_MET
-        },
-        &[
-            SCALE_FRONT,
-            "pth: 3 holes have no pad; at 1/25.4 times their coordinates 0 would have none\n",
-        ],
-    ),
-];
-
-#[test]
-fn rings_that_are_lacking_and_scales_are_told(rt: HostRuntime) {
-    for (place, (drill, board, lines)) in LINES.iter().enumerate() {
-        assert!(rt;
-            begins_with(rt.alloc(), drill, board, lines),
-            "line {place}"
-        );
-    }
-}
+const HOLED: [&str; 2] = ["top_layer", "pth"];
 
 /// The reasons of the rings and of the gaps of a board of three of each.
 const RINGS: [Option<&str>; 3] = [Some("milled"), Some("milled"), Some("by hand")];
 
 const GAPS: [Option<&str>; 3] = [Some("drilled \"twice\""), Some("x"), Some("y")];
 
-/// The second and the third hole at the origin.
-const SECOND_AT: HoleRow = HoleRow {
-    number: 2,
-    ..AT_ORIGIN
-};
+/// Tells of a hole that lies in no pad, and that is hit twice.
+fn tell_twice_hit(telling: &mut Telling, number: usize) -> Result<(), Fail> {
+    telling.rings.push(RingLack {
+        layer: 0,
+        at: hole_at(1, number, (0, 0), 400_000_000)?,
+        cause: RingCause::Nothing,
+    })?;
+    telling.gaps.push(GapLack {
+        first: hole_at(1, number, (0, 0), 400_000_000)?,
+        second: hole_at(1, number, (0, 0), 400_000_000)?,
+        gap: -400_000_000,
+        lack: 650_000_000,
+    })?;
+    Ok(())
+}
 
-const THIRD_AT: HoleRow = HoleRow {
-    number: 3,
-    ..AT_ORIGIN
-};
-
-/// Three holes that lie in no pad, and that are hit twice.
-const THREE: Board = Board {
-    rules: (100_000_000, 250_000_000),
-    meets: Meets {
-        ring: Met::Most(100_000_000),
-        gap: Met::Most(-400_000_000),
-        held: Met::Most(100_000_000),
-    },
-    layers: &[LayerHead {
+/// Three holes that lack their ring and three pairs that lack their gap.
+fn three_of_each(alloc: Global) -> Result<Telling, Fail> {
+    let board = meets(100_000_000, -400_000_000);
+    let mut telling = nothing(alloc, 100_000_000, 250_000_000, board)?;
+    telling.layers.push(LayerHead {
         file: 0,
         asked: 245,
-    }],
-    rings: &[(
-        0,
-        &[
-            RingRow {
-                at: AT_ORIGIN,
-                cause: CauseRow::Nothing,
-            },
-            RingRow {
-                at: SECOND_AT,
-                cause: CauseRow::Nothing,
-            },
-            RingRow {
-                at: THIRD_AT,
-                cause: CauseRow::Nothing,
-            },
-        ],
-    )],
-    gaps: &[
-        GapRow {
-            first: AT_ORIGIN,
-            second: AT_ORIGIN,
-            gap: -400_000_000,
-            lack: 650_000_000,
-        },
-        GapRow {
-            first: SECOND_AT,
-            second: SECOND_AT,
-            gap: -400_000_000,
-            lack: 650_000_000,
-        },
-        GapRow {
-            first: THIRD_AT,
-            second: THIRD_AT,
-            gap: -400_000_000,
-            lack: 650_000_000,
-        },
-    ],
-    scales: &[],
-};
+    })?;
+    for number in 1..4 {
+        tell_twice_hit(&mut telling, number)?;
+    }
+    Ok(telling)
+}
 
 /// Whether a report with waivers has this text.
 fn is_waived_told(
-    alloc: Global,
-    board: &Board,
+    rt: HostRuntime,
+    telling: &Telling,
     most: Option<usize>,
     whys: &Whys,
     text: &str,
-) -> bool {
-    let Some(telling) = telling_of(alloc, board) else {
-        return false;
-    };
-    let mut written: Vec<u8> = Vec::new(alloc);
-    let names = &["top_layer", "pth"];
-    print_waived(alloc, names, &telling, most, whys, &mut written).is_ok()
-        && written.as_slice() == text.as_bytes()
+) -> Result<bool, Fail> {
+    let mut written: Vec<u8> = Vec::new(rt.alloc());
+    let answer = print_waived(rt.alloc(), &HOLED, telling, most, whys, &mut written);
+    Ok(answer.is_ok() && written.as_slice() == text.as_bytes())
 }
 
-/// All findings of these reasons are waived.
-const ALL: Whys = Whys {
-    rings: &RINGS,
-    gaps: &GAPS,
-    idle: &[8],
-};
-
-/// The board, how many findings are told at most, the reasons, and the text: all are waived, one is not, a limit cuts among the gaps,
-/// lists are shorter than the findings, and a waiver waives nothing on a board that passes.
-type WaivedReport<'a> = (Board<'a>, Option<usize>, Whys<'a>, &'a str);
-
-const WAIVED: [WaivedReport; 5] = [
-    (
-        THREE,
-        None,
-        ALL,
-        "ring 0.1, gap 0.25\n\
+#[test]
+fn a_board_whose_findings_are_waived_is_told(rt: HostRuntime) -> Result<(), Fail> {
+    let telling = three_of_each(rt.alloc())?;
+    let whys = Whys {
+        rings: &RINGS,
+        gaps: &GAPS,
+        idle: &[8],
+    };
+    let text = "ring 0.1, gap 0.25\n\
         top_layer: 3 of 245 rings lacking, 3 waived\n  \
         hole 1 of pth, 0.4 at 0,0: no ring, no pad, waived: milled\n  \
         hole 2 of pth, 0.4 at 0,0: no ring, no pad, waived: milled\n  \
@@ -820,17 +589,21 @@ const WAIVED: [WaivedReport; 5] = [
         gaps lack 0.65 to 0.65\n\
         this board meets ring 0.1, gap -0.4\n\
         waiver 8 waives nothing\n\
-        WAIVED 6\n",
-    ),
-    (
-        THREE,
-        Some(2),
-        Whys {
-            rings: &[Some("milled"), None, Some("by hand")],
-            gaps: &GAPS,
-            idle: &[2, 9],
-        },
-        "ring 0.1, gap 0.25\n\
+        WAIVED 6\n";
+    assert!(rt; is_waived_told(rt, &telling, None, &whys, text)?);
+    assert_eq!(rt; count_waived(&telling, &whys), 6);
+    Ok(())
+}
+
+#[test]
+fn a_finding_that_is_not_waived_is_counted(rt: HostRuntime) -> Result<(), Fail> {
+    let telling = three_of_each(rt.alloc())?;
+    let whys = Whys {
+        rings: &[Some("milled"), None, Some("by hand")],
+        gaps: &GAPS,
+        idle: &[2, 9],
+    };
+    let text = "ring 0.1, gap 0.25\n\
         top_layer: 3 of 245 rings lacking, 2 waived\n  \
         hole 1 of pth, 0.4 at 0,0: no ring, no pad, waived: milled\n  \
         hole 2 of pth, 0.4 at 0,0: no ring, no pad\n  \
@@ -842,17 +615,20 @@ const WAIVED: [WaivedReport; 5] = [
         this board meets ring 0.1, gap -0.4\n\
         waiver 2 waives nothing\n\
         waiver 9 waives nothing\n\
-        FINDINGS 1\n",
-    ),
-    (
-        THREE,
-        Some(4),
-        Whys {
-            rings: &RINGS,
-            gaps: &[],
-            idle: &[],
-        },
-        "ring 0.1, gap 0.25\n\
+        FINDINGS 1\n";
+    assert!(rt; is_waived_told(rt, &telling, Some(2), &whys, text)?);
+    Ok(())
+}
+
+#[test]
+fn a_limit_cuts_among_the_gaps(rt: HostRuntime) -> Result<(), Fail> {
+    let telling = three_of_each(rt.alloc())?;
+    let whys = Whys {
+        rings: &RINGS,
+        gaps: &[],
+        idle: &[],
+    };
+    let text = "ring 0.1, gap 0.25\n\
         top_layer: 3 of 245 rings lacking, 3 waived\n  \
         hole 1 of pth, 0.4 at 0,0: no ring, no pad, waived: milled\n  \
         hole 2 of pth, 0.4 at 0,0: no ring, no pad, waived: milled\n  \
@@ -863,17 +639,20 @@ const WAIVED: [WaivedReport; 5] = [
         3 no pad: no pad reaches the hole's centre: removed or painted pad, plane, other origin or format: see `ringcheck explain none`\n\
         gaps lack 0.65 to 0.65\n\
         this board meets ring 0.1, gap -0.4\n\
-        FINDINGS 3\n",
-    ),
-    (
-        THREE,
-        Some(0),
-        Whys {
-            rings: &[],
-            gaps: &[None, Some("milled")],
-            idle: &[],
-        },
-        "ring 0.1, gap 0.25\n\
+        FINDINGS 3\n";
+    assert!(rt; is_waived_told(rt, &telling, Some(4), &whys, text)?);
+    Ok(())
+}
+
+#[test]
+fn a_shorter_list_waives_no_more(rt: HostRuntime) -> Result<(), Fail> {
+    let telling = three_of_each(rt.alloc())?;
+    let whys = Whys {
+        rings: &[],
+        gaps: &[None, Some("milled")],
+        idle: &[],
+    };
+    let text = "ring 0.1, gap 0.25\n\
         top_layer: 3 of 245 rings lacking\n  \
         and 3 more\n\
         3 gaps lacking, 1 waived\n  \
@@ -881,39 +660,21 @@ const WAIVED: [WaivedReport; 5] = [
         3 no pad: no pad reaches the hole's centre: removed or painted pad, plane, other origin or format: see `ringcheck explain none`\n\
         gaps lack 0.65 to 0.65\n\
         this board meets ring 0.1, gap -0.4\n\
-        FINDINGS 5\n",
-    ),
-    (
-        LEAST_MET,
-        None,
-        Whys {
-            rings: &RINGS,
-            gaps: &[],
-            idle: &[2],
-        },
-        "ring 0, gap 0.000000001\n0 gaps lacking\nthis board meets ring 0, gap 0.000000001\nwaiver 2 waives nothing\nPASS\n",
-    ),
-];
-
-#[test]
-fn reports_with_waivers_are_told(rt: HostRuntime) {
-    for (board, most, whys, text) in &WAIVED {
-        assert!(rt;
-            is_waived_told(rt.alloc(), board, *most, whys, text),
-            "{text}"
-        );
-    }
-}
-
-/// How many findings of a board are waived.
-fn waived_of(alloc: Global, board: &Board, whys: &Whys) -> Option<u128> {
-    match telling_of(alloc, board) {
-        Some(telling) => Some(count_waived(&telling, whys)),
-        None => None,
-    }
+        FINDINGS 5\n";
+    assert!(rt; is_waived_told(rt, &telling, Some(0), &whys, text)?);
+    Ok(())
 }
 
 #[test]
-fn waived_findings_are_counted(rt: HostRuntime) {
-    assert!(rt; waived_of(rt.alloc(), &THREE, &ALL) == Some(6));
+fn a_waiver_that_waives_nothing_leaves_a_pass(rt: HostRuntime) -> Result<(), Fail> {
+    let telling = nothing(rt.alloc(), 0, 1, meets(0, 1))?;
+    let whys = Whys {
+        rings: &RINGS,
+        gaps: &[],
+        idle: &[2],
+    };
+    let text =
+        "ring 0, gap 0.000000001\n0 gaps lacking\nthis board meets ring 0, gap 0.000000001\nwaiver 2 waives nothing\nPASS\n";
+    assert!(rt; is_waived_told(rt, &telling, None, &whys, text)?);
+    Ok(())
 }

@@ -2,8 +2,8 @@
 
 use grid_units::Rules;
 use package_check::{File, Role};
-use report_text::{RingCause, RingLack};
-use std::alloc::Global;
+use report_text::RingCause;
+use std::test::Fail;
 use telling::*;
 
 /// A square of 0.65 mm at 1 nm beside the origin.
@@ -34,10 +34,16 @@ fn file<'a>(role: Role, bytes: &'a [u8]) -> File<'a> {
     }
 }
 
-/// What is told of some files under a ring and a gap in pm.
-fn told_of(alloc: Global, files: &[File], ring: i64, gap: i64) -> Option<Telling> {
-    let rules = Rules::new(ring, gap).ok()?;
-    tell_bytes(alloc, files, rules).ok()
+/// What is told of a layer and a plated drill file under a ring in pm and a gap of 0.25 mm.
+fn told_of(rt: HostRuntime, layer: &[u8], drill: &[u8], ring: i64) -> Result<Telling, Fail> {
+    let files = [file(Role::Copper, layer), file(Role::Plated, drill)];
+    let Ok(rules) = Rules::new(ring, 250_000_000) else {
+        return Err(Fail::from("rules"));
+    };
+    match tell_bytes(rt.alloc(), &files, rules) {
+        Ok(told) => Ok(told),
+        Err(_) => Err(Fail::from("refused")),
+    }
 }
 
 /// The word for a cause, the number of its flash, the ring and the lack.
@@ -67,93 +73,41 @@ fn first_gap(told: &Telling) -> (usize, i64, i64) {
     }
 }
 
-/// Whether this is told first of the rings and of the gaps of a layer and a plated drill file, under a ring in pm and a gap of 0.25 mm.
-fn is_told(
-    alloc: Global,
-    layer: &[u8],
-    drill: &[u8],
-    ring: i64,
-    rings: (usize, (&str, usize, i64, i64)),
-    gaps: (usize, i64, i64),
-) -> bool {
-    let files = [file(Role::Copper, layer), file(Role::Plated, drill)];
-    match told_of(alloc, &files, ring, 250_000_000) {
-        Some(told) => first_ring(&told) == rings && first_gap(&told) == gaps,
-        None => false,
-    }
-}
-
-/// A hole off its centre; a board that passes; a hole in a macro flash; a hole that is hit twice.
 #[test]
-fn rings_and_gaps_that_are_lacking_are_told(rt: HostRuntime) {
-    for &(layer, drill, ring, rings, gaps) in &[
-        (
-            MOVED,
-            HIT,
-            125_000_000,
-            (1, ("off", 1, 124_999_000, 1_000)),
-            (0, 0, 0),
-        ),
-        (MOVED, HIT, 124_999_000, (0, ("none", 0, 0, 0)), (0, 0, 0)),
-        (MACRO, HIT, 100_000_000, (1, ("other", 1, 0, 0)), (0, 0, 0)),
-        (
-            DISC,
-            TWICE,
-            125_000_000,
-            (0, ("none", 0, 0, 0)),
-            (1, -400_000_000, 650_000_000),
-        ),
-    ] {
-        assert!(rt;
-            is_told(rt.alloc(), layer, drill, ring, rings, gaps),
-            "of {ring}"
-        );
-    }
+fn a_hole_off_its_centre_is_told(rt: HostRuntime) -> Result<(), Fail> {
+    let told = told_of(rt, MOVED, HIT, 125_000_000)?;
+    assert_eq!(rt; first_ring(&told), (1, ("off", 1, 124_999_000, 1_000)));
+    assert_eq!(rt; first_gap(&told).0, 0);
+    Ok(())
 }
 
-/// Whether a ring is that of this hole of this drill file on this layer, in a disc that is 25 um too small.
-fn is_ring(lack: &RingLack, layer: usize, drill: usize, number: usize) -> bool {
-    (lack.layer, lack.at.drill, lack.at.number) == (layer, drill, number)
-        && cause_words(lack.cause) == ("small", 1, 125_000_000, 25_000_000)
+#[test]
+fn nothing_is_told_of_a_board_that_passes(rt: HostRuntime) -> Result<(), Fail> {
+    let told = told_of(rt, MOVED, HIT, 124_999_000)?;
+    assert_eq!(rt; first_ring(&told).0, 0);
+    assert_eq!(rt; first_gap(&told).0, 0);
+    Ok(())
 }
 
-/// Whether the rings are those of these layers, drill files and holes.
-fn are_rings(rings: &[RingLack], wanted: &[(usize, usize, usize)]) -> bool {
-    let mut rings = rings.iter();
-    for &(layer, drill, number) in wanted {
-        match rings.next() {
-            Some(lack) if is_ring(lack, layer, drill, number) => {}
-            _ => return false,
-        }
-    }
-    rings.next().is_none()
+#[test]
+fn a_hole_in_a_macro_flash_is_told(rt: HostRuntime) -> Result<(), Fail> {
+    let told = told_of(rt, MACRO, HIT, 100_000_000)?;
+    assert_eq!(rt; first_ring(&told), (1, ("other", 1, 0, 0)));
+    Ok(())
 }
 
-/// Whether these rings and so many gaps are told of some files, under a ring of 0.15 mm and a gap of 1 pm.
-fn are_told(alloc: Global, files: &[File], rings: &[(usize, usize, usize)], gaps: usize) -> bool {
-    match told_of(alloc, files, 150_000_000, 1) {
-        Some(told) => are_rings(&told.rings, rings) && told.gaps.len() == gaps,
-        None => false,
-    }
+#[test]
+fn a_hole_that_is_hit_twice_is_told(rt: HostRuntime) -> Result<(), Fail> {
+    let told = told_of(rt, DISC, TWICE, 125_000_000)?;
+    assert_eq!(rt; first_gap(&told), (1, -400_000_000, 650_000_000));
+    assert_eq!(rt; first_ring(&told).0, 0);
+    Ok(())
 }
-
-/// The layers, the drill files and the holes of the nine rings.
-const RINGS: [(usize, usize, usize); 9] = [
-    (0, 1, 1),
-    (0, 4, 1),
-    (0, 4, 2),
-    (1, 1, 1),
-    (1, 4, 1),
-    (1, 4, 2),
-    (2, 1, 1),
-    (2, 4, 1),
-    (2, 4, 2),
-];
 
 /// What is told of three layers and of three drill files, of which one has no holes: no disc leaves the ring that is asked, and each
 /// pair of holes is told.
 #[test]
-fn three_layers_and_three_drill_files_are_told(rt: HostRuntime) {
+fn three_layers_and_three_drill_files_are_told(rt: HostRuntime) -> Result<(), Fail> {
     let files = [
         file(Role::Copper, DISC),
         file(Role::Plated, HIT),
@@ -162,5 +116,22 @@ fn three_layers_and_three_drill_files_are_told(rt: HostRuntime) {
         file(Role::Plated, TWICE),
         file(Role::Copper, DISC),
     ];
-    assert!(rt; are_told(rt.alloc(), &files, &RINGS, 3));
+    let rules = Rules::new(150_000_000, 1).ok().ok_or("rules")?;
+    let told = tell_bytes(rt.alloc(), &files, rules).ok().ok_or("refused")?;
+    let mut rings = told.rings.iter();
+    for layer in 0..3 {
+        for &(drill, number) in &[(1, 1), (4, 1), (4, 2)] {
+            let lack = rings.next().ok_or("a ring is missing")?;
+            assert_eq!(rt;
+                (lack.layer, lack.at.drill, lack.at.number),
+                (layer, drill, number)
+            );
+            assert_eq!(rt;
+                cause_words(lack.cause),
+                ("small", 1, 125_000_000, 25_000_000)
+            );
+        }
+    }
+    assert_eq!(rt; (told.rings.len(), told.gaps.len()), (9, 3));
+    Ok(())
 }

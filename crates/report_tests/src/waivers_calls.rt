@@ -1,19 +1,18 @@
 //! Files of waivers, and findings with the figures of the worked examples.
 
-use super::tellings::{
-    Board, CauseRow, EMPTY, GapRow, HoleRow, PadRow, RingRow, Shape, telling_of,
-};
-use grid_units::{Fail, Reason};
+use grid_units::{Fail, Hole, Point, Reason, Rules};
+use manifest::Name;
+use manifest::rows::all_rows;
 use margin_text::{Meets, Met};
-use report_text::{LayerHead, Telling};
-use std::alloc::Global;
+use pad_shapes::{Disc, Pad};
+use report_text::{GapLack, HoleAt, InPad, LayerHead, RingCause, RingLack, Telling};
+use std::alloc::{AllocError, Global};
+use std::test::Fail as Failed;
 use waivers::*;
 
 /// The place, the byte and the reason of a refusal.
-type Refusal = (u64, u64, Reason);
-
-fn refusal(alloc: Global, text: &[u8]) -> Option<Refusal> {
-    match read_waivers(alloc, text) {
+fn refusal(rt: HostRuntime, text: &[u8]) -> Option<(u64, u64, Reason)> {
+    match read_waivers(rt.alloc(), text) {
         Err(Fail::Refused(fault)) => Some((fault.place, fault.byte, fault.reason)),
         _ => None,
     }
@@ -29,70 +28,34 @@ fn is_waiver(waiver: &Waiver, fields: &[&str; 6]) -> bool {
         && waiver.why.as_str() == fields[5]
 }
 
-/// Whether these are the fields of all waivers, in order.
-fn are_waivers(waivers: &[Waiver], wanted: &[[&str; 6]]) -> bool {
-    let mut waivers = waivers.iter();
-    for fields in wanted {
-        match waivers.next() {
-            Some(waiver) if is_waiver(waiver, fields) => {}
-            _ => return false,
-        }
-    }
-    waivers.next().is_none()
-}
-
-/// Whether a file has waivers of these fields.
-fn has_waivers(alloc: Global, text: &str, wanted: &[[&str; 6]]) -> bool {
-    match read_waivers(alloc, text.as_bytes()) {
-        Ok(read) => are_waivers(&read, wanted),
-        Err(_) => false,
-    }
-}
-
 #[test]
-fn waivers_are_read_in_order(rt: HostRuntime) {
+fn waivers_are_read_in_order(rt: HostRuntime) -> Result<(), Failed> {
     let text = "kind,layer,hole,and,has,why\n\
         ring,top_layer,\"pic_programmer-PTH, 0.75 at 142.24,-97.79\",,none,rounded pin 1; seen by eye\n\
         gap,,\"drill, 0.6096 at 50.546,67.31\",\"drill, 0.6096 at 51.181,66.548\",0.382301708,as drawn\n";
-    let waivers = &[
-        [
-            "ring",
-            "top_layer",
-            "pic_programmer-PTH, 0.75 at 142.24,-97.79",
-            "",
-            "none",
-            "rounded pin 1; seen by eye",
-        ],
-        [
-            "gap",
-            "",
-            "drill, 0.6096 at 50.546,67.31",
-            "drill, 0.6096 at 51.181,66.548",
-            "0.382301708",
-            "as drawn",
-        ],
+    let Ok(read) = read_waivers(rt.alloc(), text.as_bytes()) else {
+        return Err("refused".into());
+    };
+    assert_eq!(rt; read.len(), 2);
+    let ring = &[
+        "ring",
+        "top_layer",
+        "pic_programmer-PTH, 0.75 at 142.24,-97.79",
+        "",
+        "none",
+        "rounded pin 1; seen by eye",
     ];
-    assert!(rt; has_waivers(rt.alloc(), text, waivers));
-}
-
-/// Adds some texts to a file, one after the other, and says whether there was memory for them.
-fn add_all(text: &mut String, parts: &[&str]) -> bool {
-    for &part in parts {
-        if text.push_str(part).is_err() {
-            return false;
-        }
-    }
-    true
-}
-
-/// The refusal of a file of these parts.
-fn refusal_of(alloc: Global, parts: &[&str]) -> Option<Refusal> {
-    let mut text = String::new(alloc);
-    if add_all(&mut text, parts) {
-        refusal(alloc, text.as_bytes())
-    } else {
-        None
-    }
+    let gap = &[
+        "gap",
+        "",
+        "drill, 0.6096 at 50.546,67.31",
+        "drill, 0.6096 at 51.181,66.548",
+        "0.382301708",
+        "as drawn",
+    ];
+    assert!(rt; is_waiver(&read[0], ring));
+    assert!(rt; is_waiver(&read[1], gap));
+    Ok(())
 }
 
 #[test]
@@ -106,15 +69,12 @@ fn files_that_break_a_rule_are_refused(rt: HostRuntime) {
         ("Kind,layer,hole,and,has,why\n", 1, Reason::BadManifest),
         ("ring,top,h,,none,seen\n", 1, Reason::BadManifest),
     ] {
-        let wanted = Some((place, 0, reason));
-        assert!(rt; refusal(rt.alloc(), text.as_bytes()) == wanted, "of {text}");
+        assert_eq!(rt;
+            refusal(rt, text.as_bytes()),
+            Some((place, 0, reason)),
+            "of {text}"
+        );
     }
-    let bytes = b"kind,layer,hole,and,has,why\nring,top,h\xFF,,none,seen\n";
-    assert!(rt; refusal(rt.alloc(), bytes) == Some((2, 0, Reason::BadManifest)));
-}
-
-#[test]
-fn records_that_break_a_rule_are_refused(rt: HostRuntime) {
     for &(record, reason) in &[
         ("ring,top,h,,none", Reason::BadManifest),
         ("ring,top,h,,none,seen,", Reason::BadManifest),
@@ -129,102 +89,77 @@ fn records_that_break_a_rule_are_refused(rt: HostRuntime) {
         ("ring,top,h,,none,", Reason::EmptyName),
         ("gap,,h,i,0.1,\"\"", Reason::EmptyName),
     ] {
-        let refused = refusal_of(rt.alloc(), &["kind,layer,hole,and,has,why\n", record, "\n"]);
-        assert!(rt; refused == Some((2, 0, reason)), "of {record}");
-    }
-}
-
-/// Two records, of which the second has so many of these letters as its reason, in quotes, and whether there was memory for them.
-fn add_letters(text: &mut String, letter: &str, count: u32) -> bool {
-    let front = "kind,layer,hole,and,has,why\nring,top,h,,none,seen\nring,top,h,,none,\"";
-    if text.push_str(front).is_err() {
-        return false;
-    }
-    for _ in 0..count {
-        if text.push_str(letter).is_err() {
-            return false;
-        }
-    }
-    text.push_str("\"\n").is_ok()
-}
-
-/// The refusal of these two records. There is one for their length alone.
-fn refusal_of_letters(alloc: Global, letter: &str, count: u32) -> Option<Refusal> {
-    let mut text = String::new(alloc);
-    if add_letters(&mut text, letter, count) {
-        refusal(alloc, text.as_bytes())
-    } else {
-        Some((0, 0, Reason::Truncated))
-    }
-}
-
-#[test]
-fn reasons_have_at_most_1000_bytes(rt: HostRuntime) {
-    for &(letter, count, wanted) in &[
-        ("a", 1_000, None),
-        ("a", 1_001, Some((3, 0, Reason::TooLong))),
-        ("\u{E9}", 500, None),
-        ("\u{E9}", 501, Some((3, 0, Reason::TooLong))),
-        ("\"\"", 1_000, None),
-        ("\"\"", 1_001, Some((3, 0, Reason::TooLong))),
-        ("a", 100_000, Some((3, 0, Reason::TooLong))),
-    ] {
-        assert!(rt;
-            refusal_of_letters(rt.alloc(), letter, count) == wanted,
-            "of {count}"
+        let Ok(text) = format!(in rt.alloc(); "kind,layer,hole,and,has,why\n{record}\n") else {
+            continue;
+        };
+        assert_eq!(rt;
+            refusal(rt, text.as_bytes()),
+            Some((2, 0, reason)),
+            "of {record}"
         );
     }
+    let bytes = b"kind,layer,hole,and,has,why\nring,top,h\xFF,,none,seen\n";
+    assert_eq!(rt; refusal(rt, bytes), Some((2, 0, Reason::BadManifest)));
 }
 
-/// Six records, of which one, from 0, has no reason, and whether there was memory for them.
-fn add_six(text: &mut String, wrong: u32) -> bool {
-    if text.push_str("kind,layer,hole,and,has,why\n\n").is_err() {
-        return false;
-    }
-    for index in 0..6_u32 {
-        let record = if index < wrong {
-            "ring,top,h,,none,seen\n"
-        } else {
-            "ring,top,h,,none,\n"
-        };
-        if text.push_str(record).is_err() {
-            return false;
-        }
-    }
-    true
-}
-
-/// How many of six records are read, or their refusal.
-fn six_read(alloc: Global, wrong: u32) -> Option<Result<usize, Refusal>> {
-    let mut text = String::new(alloc);
-    if add_six(&mut text, wrong) {
-        read_of(alloc, text.as_bytes())
-    } else {
-        None
-    }
-}
-
-/// How many waivers a file has, or its refusal.
-fn read_of(alloc: Global, text: &[u8]) -> Option<Result<usize, Refusal>> {
-    match read_waivers(alloc, text) {
-        Ok(read) => Some(Ok(read.len())),
-        Err(Fail::Refused(fault)) => Some(Err((fault.place, fault.byte, fault.reason))),
-        _ => None,
-    }
+/// Two records, of which the second has so many of these letters as its reason, in quotes.
+fn with_letters(rt: HostRuntime, letter: &str, count: usize) -> Result<String, AllocError> {
+    let reason = letter.repeat(rt.alloc(), count)?;
+    let mut text = String::from_str(rt.alloc(), "kind,layer,hole,and,has,why\n")?;
+    text.push_str("ring,top,h,,none,seen\nring,top,h,,none,\"")?;
+    text.push_str(reason.as_str())?;
+    text.push_str("\"\n")?;
+    Ok(text)
 }
 
 #[test]
-fn a_refusal_has_the_number_of_its_record(rt: HostRuntime) {
-    for &(wrong, wanted) in &[
-        (0, Err((2, 0, Reason::EmptyName))),
-        (1, Err((3, 0, Reason::EmptyName))),
-        (2, Err((4, 0, Reason::EmptyName))),
-        (3, Err((5, 0, Reason::EmptyName))),
-        (4, Err((6, 0, Reason::EmptyName))),
-        (5, Err((7, 0, Reason::EmptyName))),
-        (6, Ok(6)),
+fn reasons_have_at_most_1000_bytes(rt: HostRuntime) -> Result<(), Failed> {
+    let long = Some((3, 0, Reason::TooLong));
+    for (letter, count, answer) in [
+        ("a", 1_000, None),
+        ("a", 1_001, long),
+        ("\u{E9}", 500, None),
+        ("\u{E9}", 501, long),
+        ("\"\"", 1_000, None),
+        ("\"\"", 1_001, long),
+        ("a", 100_000, long),
     ] {
-        assert!(rt; six_read(rt.alloc(), wrong) == Some(wanted), "of {wrong}");
+        let text = with_letters(rt, letter, count)?;
+        assert_eq!(rt; refusal(rt, text.as_bytes()), answer, "of {count}");
+    }
+    Ok(())
+}
+
+/// Six records, of which one, from 0, has no reason.
+fn six_records(rt: HostRuntime, wrong: usize) -> Result<String, AllocError> {
+    let mut text = String::from_str(rt.alloc(), "kind,layer,hole,and,has,why\n\n")?;
+    for index in 0..6 {
+        text.push_str("ring,top,h,,none,")?;
+        text.push_str(if index < wrong { "seen\n" } else { "\n" })?;
+    }
+    Ok(text)
+}
+
+#[test]
+fn a_refusal_has_the_number_of_its_record(rt: HostRuntime) -> Result<(), Failed> {
+    for &(wrong, place) in &[(0, 2), (1, 3), (2, 4), (3, 5), (4, 6), (5, 7)] {
+        let text = six_records(rt, wrong)?;
+        assert_eq!(rt;
+            refusal(rt, text.as_bytes()),
+            Some((place, 0, Reason::EmptyName))
+        );
+    }
+    let text = six_records(rt, 6)?;
+    assert_eq!(rt; refusal(rt, text.as_bytes()), None);
+    assert_eq!(rt; count_read(rt, text.as_bytes()), Some(6));
+    Ok(())
+}
+
+/// How many waivers a text has.
+fn count_read(rt: HostRuntime, text: &[u8]) -> Option<usize> {
+    match read_waivers(rt.alloc(), text) {
+        Ok(read) => Some(read.len()),
+        Err(_) => None,
     }
 }
 
@@ -242,152 +177,114 @@ fn files_are_read_as_manifests_are(rt: HostRuntime) {
             1,
         ),
     ] {
-        assert!(rt;
-            read_of(rt.alloc(), text.as_bytes()) == Some(Ok(count)),
-            "of {text}"
-        );
+        assert_eq!(rt; count_read(rt, text.as_bytes()), Some(count), "of {text}");
     }
+}
+
+fn point(x: i64, y: i64) -> Result<Point, Failed> {
+    Ok(Point::new(x, y).ok_or("point")?)
+}
+
+/// A round hole of a drill file.
+fn hole_at(drill: usize, at: (i64, i64), diameter: i64) -> Result<HoleAt, Failed> {
+    let centre = point(at.0, at.1)?;
+    let hole = Hole::new(centre, centre, diameter / 2).ok_or("hole")?;
+    Ok(HoleAt {
+        drill,
+        number: 1,
+        hole,
+    })
+}
+
+/// Tells of a hole that lies in no pad of a layer.
+fn tell_bare(told: &mut Telling, layer: usize, at: HoleAt) -> Result<(), Failed> {
+    told.rings.push(RingLack {
+        layer,
+        at,
+        cause: RingCause::Nothing,
+    })?;
+    Ok(())
+}
+
+/// Tells of a hole that has this ring in a disc.
+fn tell_in_disc(told: &mut Telling, layer: usize, at: HoleAt, ring: i64) -> Result<(), Failed> {
+    let disc = Disc::new(at.hole.from(), 250_000_000).ok_or("disc")?;
+    let place = InPad {
+        flash: 1,
+        pad: Pad::Disc(disc),
+        ring,
+        lack: 1,
+    };
+    told.rings.push(RingLack {
+        layer,
+        at,
+        cause: RingCause::Off(place),
+    })?;
+    Ok(())
+}
+
+/// Tells of three rings on a layer.
+fn tell_layer(told: &mut Telling, layer: usize) -> Result<(), Failed> {
+    let first = hole_at(2, (142_240_000_000, -97_790_000_000), 750_000_000)?;
+    tell_bare(told, layer, first)?;
+    let second = hole_at(2, (0, 0), 1_000_000_000)?;
+    tell_in_disc(told, layer, second, 99_625_866)?;
+    let third = hole_at(3, (1, -1), 609_600_000)?;
+    tell_in_disc(told, layer, third, -101_600_000)
+}
+
+/// Tells of two holes that lack their gap.
+fn tell_gap(told: &mut Telling) -> Result<(), Failed> {
+    told.gaps.push(GapLack {
+        first: hole_at(3, (50_546_000_000, 67_310_000_000), 609_600_000)?,
+        second: hole_at(3, (51_181_000_000, 66_548_000_000), 609_600_000)?,
+        gap: 382_301_708,
+        lack: 1,
+    })?;
+    Ok(())
 }
 
 const NAMES: [&str; 4] = ["top_layer", "bottom_layer", "pic_programmer-PTH", "drill"];
 
-/// A board of two layers without findings.
-const NO_FINDINGS: Board = Board {
-    rules: (100_000_000, 250_000_000),
-    meets: Meets {
-        ring: Met::None,
-        gap: Met::Any,
-        held: Met::Any,
-    },
-    layers: &[
-        LayerHead {
-            file: 0,
-            asked: 245,
+/// A report of two layers without findings.
+fn no_findings(rt: HostRuntime) -> Result<Telling, Failed> {
+    let mut told = Telling {
+        rules: Rules::new(100_000_000, 250_000_000)?,
+        layers: Vec::new(rt.alloc()),
+        rings: Vec::new(rt.alloc()),
+        gaps: Vec::new(rt.alloc()),
+        scales: Vec::new(rt.alloc()),
+        meets: Meets {
+            ring: Met::None,
+            gap: Met::Any,
+            held: Met::Any,
         },
-        LayerHead {
-            file: 1,
-            asked: 245,
-        },
-    ],
-    ..EMPTY
-};
-
-/// A hole of 0.75 of pic_programmer-PTH.
-const HOLE: HoleRow = HoleRow {
-    drill: 2,
-    number: 1,
-    from: (142_240_000_000, -97_790_000_000),
-    to: (142_240_000_000, -97_790_000_000),
-    diameter: 750_000_000,
-};
-
-/// What a hole has in a disc at the origin.
-const DISC: PadRow = PadRow {
-    flash: 1,
-    shape: Shape::Disc(250_000_000),
-    centre: (0, 0),
-    ring: 99_625_866,
-    lack: 1,
-};
-
-/// Three rings of a layer.
-const RINGS: [RingRow; 3] = [
-    RingRow {
-        at: HOLE,
-        cause: CauseRow::Nothing,
-    },
-    RingRow {
-        at: HoleRow {
-            from: (0, 0),
-            to: (0, 0),
-            diameter: 1_000_000_000,
-            ..HOLE
-        },
-        cause: CauseRow::Off(DISC),
-    },
-    RingRow {
-        at: HoleRow {
-            drill: 3,
-            number: 1,
-            from: (1, -1),
-            to: (1, -1),
-            diameter: 609_600_000,
-        },
-        cause: CauseRow::Off(PadRow {
-            centre: (1, -1),
-            ring: -101_600_000,
-            ..DISC
-        }),
-    },
-];
-
-/// Two holes that lack their gap.
-const CLOSE: GapRow = GapRow {
-    first: HoleRow {
-        drill: 3,
-        number: 1,
-        from: (50_546_000_000, 67_310_000_000),
-        to: (50_546_000_000, 67_310_000_000),
-        diameter: 609_600_000,
-    },
-    second: HoleRow {
-        drill: 3,
-        number: 1,
-        from: (51_181_000_000, 66_548_000_000),
-        to: (51_181_000_000, 66_548_000_000),
-        diameter: 609_600_000,
-    },
-    gap: 382_301_708,
-    lack: 1,
-};
-
-/// A board of six rings on two layers and of one gap.
-const SEVEN_FINDINGS: Board = Board {
-    rings: &[(0, &RINGS), (1, &RINGS)],
-    gaps: &[CLOSE],
-    ..NO_FINDINGS
-};
-
-/// A ring of a slot, and one of a layer and a drill file that have no names.
-const SLOT: Board = Board {
-    rings: &[
-        (
-            0,
-            &[RingRow {
-                at: HoleRow {
-                    drill: 1,
-                    number: 3,
-                    from: (0, 0),
-                    to: (2_000_000_000, 1_000_000_000),
-                    diameter: 500_000_000,
-                },
-                cause: CauseRow::Oblique,
-            }],
-        ),
-        (
-            9,
-            &[RingRow {
-                at: HoleRow {
-                    drill: 9,
-                    number: 1,
-                    from: (0, 0),
-                    to: (0, 0),
-                    diameter: 400_000_000,
-                },
-                cause: CauseRow::Nothing,
-            }],
-        ),
-    ],
-    ..NO_FINDINGS
-};
-
-/// Whether the findings of a board are printed so.
-fn are_printed(alloc: Global, names: &[&str], board: &Board, wanted: &str) -> bool {
-    let Some(told) = telling_of(alloc, board) else {
-        return false;
     };
-    let mut text = Vec::new(alloc);
-    print_waivers(alloc, names, &told, &mut text).is_ok() && text.as_slice() == wanted.as_bytes()
+    told.layers.push(LayerHead {
+        file: 0,
+        asked: 245,
+    })?;
+    told.layers.push(LayerHead {
+        file: 1,
+        asked: 245,
+    })?;
+    Ok(told)
+}
+
+/// A report of six rings on two layers and of one gap.
+fn seven_findings(rt: HostRuntime) -> Result<Telling, Failed> {
+    let mut told = no_findings(rt)?;
+    tell_layer(&mut told, 0)?;
+    tell_layer(&mut told, 1)?;
+    tell_gap(&mut told)?;
+    Ok(told)
+}
+
+/// The text of the findings of a report.
+fn printed(rt: HostRuntime, names: &[&str], told: &Telling) -> Result<Vec<u8>, Failed> {
+    let mut text = Vec::new(rt.alloc());
+    print_waivers(rt.alloc(), names, told, &mut text)?;
+    Ok(text)
 }
 
 const SEVEN: &str = "kind,layer,hole,and,has,why
@@ -400,269 +297,182 @@ ring,bottom_layer,\"drill, 0.6096 at 0.000000001,-0.000000001\",,-0.1016,
 gap,,\"drill, 0.6096 at 50.546,67.31\",\"drill, 0.6096 at 51.181,66.548\",0.382301708,
 ";
 
-/// A slot, and names that are printed as they are.
-const AS_THEY_ARE: &str = "kind,layer,hole,and,has,why\n\
-        ring,\"\"\"top\"\"\",\"p,th, 0.5 at 0,0 to 2,1\",,none,\n\
-        ring,,\", 0.4 at 0,0\",,none,\n";
-
-/// Names of files, a board, and its findings as they are printed.
-const PRINTED: [(&[&str], Board, &str); 3] = [
-    (&NAMES, SEVEN_FINDINGS, SEVEN),
-    (&[], NO_FINDINGS, "kind,layer,hole,and,has,why\n"),
-    (&["\"top\"", "p,th"], SLOT, AS_THEY_ARE),
-];
-
 #[test]
-fn findings_are_printed_with_empty_reasons(rt: HostRuntime) {
-    for (names, board, text) in &PRINTED {
-        assert!(rt; are_printed(rt.alloc(), names, board, text), "{text}");
-    }
-    assert!(rt; refusal(rt.alloc(), SEVEN.as_bytes()) == Some((2, 0, Reason::EmptyName)));
+fn findings_are_printed_with_empty_reasons(rt: HostRuntime) -> Result<(), Failed> {
+    let told = seven_findings(rt)?;
+    let text = printed(rt, &NAMES, &told)?;
+    assert!(rt; text.as_slice() == SEVEN.as_bytes());
+    assert_eq!(rt;
+        refusal(rt, text.as_slice()),
+        Some((2, 0, Reason::EmptyName))
+    );
+    let text = printed(rt, &[], &no_findings(rt)?)?;
+    assert!(rt; text.as_slice() == b"kind,layer,hole,and,has,why\n".as_slice());
+    Ok(())
 }
 
-/// The answer of a print of the findings of a board into 40 bytes.
-fn print_short(alloc: Global, board: &Board) -> Option<Result<(), PrintFault>> {
-    let Some(told) = telling_of(alloc, board) else {
-        return None;
-    };
+#[test]
+fn a_writer_without_room_cuts_the_text(rt: HostRuntime) -> Result<(), Failed> {
     let mut room = [0; 40];
     let mut out = room.as_mut_slice();
-    Some(print_waivers(alloc, &NAMES, &told, &mut out))
+    let cut = print_waivers(rt.alloc(), &NAMES, &seven_findings(rt)?, &mut out);
+    assert_eq!(rt; cut, Err(PrintFault::Cut));
+    Ok(())
 }
 
 #[test]
-fn a_writer_without_room_cuts_the_text(rt: HostRuntime) {
-    assert!(rt; print_short(rt.alloc(), &SEVEN_FINDINGS) == Some(Err(PrintFault::Cut)));
-}
-
-/// What is waived: the numbers of the waivers of the rings and of the gaps, and of those that waive nothing; and whether all is waived.
-struct Waiving<'a> {
-    rings: &'a [Option<usize>],
-    gaps: &'a [Option<usize>],
-    idles: &'a [usize],
-    is_all: bool,
-}
-
-/// Whether the waivers that waive nothing have these numbers.
-fn are_idle(alloc: Global, waived: &Waived, read: &[Waiver], idles: &[usize]) -> bool {
-    match idle(alloc, waived, read) {
-        Ok(found) => found.as_slice() == idles,
-        Err(_) => false,
-    }
-}
-
-/// Whether these waivers waive so.
-fn waive_so(alloc: Global, told: &Telling, read: &[Waiver], wanted: &Waiving) -> bool {
-    match waive(alloc, &NAMES, told, read) {
-        Ok(waived) => {
-            waived.rings.as_slice() == wanted.rings
-                && waived.gaps.as_slice() == wanted.gaps
-                && waived.all() == wanted.is_all
-                && are_idle(alloc, &waived, read, wanted.idles)
-        }
-        Err(_) => false,
-    }
-}
-
-/// Whether the waivers of a file waive so.
-fn is_waived(alloc: Global, board: &Board, text: &str, wanted: &Waiving) -> bool {
-    let Some(told) = telling_of(alloc, board) else {
-        return false;
+fn slots_and_names_are_printed_as_they_are(rt: HostRuntime) -> Result<(), Failed> {
+    let mut told = no_findings(rt)?;
+    let slot = Hole::new(
+        point(0, 0)?,
+        point(2_000_000_000, 1_000_000_000)?,
+        250_000_000,
+    );
+    let at = HoleAt {
+        drill: 1,
+        number: 3,
+        hole: slot.ok_or("hole")?,
     };
-    match read_waivers(alloc, text.as_bytes()) {
-        Ok(read) => waive_so(alloc, &told, &read, wanted),
-        Err(_) => false,
-    }
+    told.rings.push(RingLack {
+        layer: 0,
+        at,
+        cause: RingCause::Oblique,
+    })?;
+    tell_bare(&mut told, 9, hole_at(9, (0, 0), 400_000_000)?)?;
+    let text = printed(rt, &["\"top\"", "p,th"], &told)?;
+    let expected = "kind,layer,hole,and,has,why\n\
+        ring,\"\"\"top\"\"\",\"p,th, 0.5 at 0,0 to 2,1\",,none,\n\
+        ring,,\", 0.4 at 0,0\",,none,\n";
+    assert!(rt; text.as_slice() == expected.as_bytes());
+    Ok(())
 }
 
-/// Whether the waivers of a file of these parts waive so.
-fn is_waived_by(alloc: Global, board: &Board, parts: &[&str], wanted: &Waiving) -> bool {
-    let mut text = String::new(alloc);
-    add_all(&mut text, parts) && is_waived(alloc, board, text.as_str(), wanted)
-}
-
-/// Adds the text of the seven findings, each with a reason, to a file, and says whether there was memory for it.
-fn add_reasons(text: &mut String) -> bool {
+/// The text of the seven findings, each with a reason, and records behind them.
+fn with_reasons(rt: HostRuntime, behind: &str) -> Result<String, AllocError> {
+    let mut text = String::new(rt.alloc());
     for (index, line) in SEVEN.lines().enumerate() {
-        let reason = if index > 0 { "seen by eye\n" } else { "\n" };
-        if !add_all(text, &[line, reason]) {
-            return false;
-        }
+        text.push_str(line)?;
+        text.push_str(if index > 0 { "seen by eye\n" } else { "\n" })?;
     }
-    true
+    text.push_str(behind)?;
+    Ok(text)
 }
 
-/// Whether the seven findings with reasons and these records behind them waive so.
-fn is_waived_with(alloc: Global, records: &str, wanted: &Waiving) -> bool {
-    let mut text = String::new(alloc);
-    add_reasons(&mut text)
-        && text.push_str(records).is_ok()
-        && is_waived(alloc, &SEVEN_FINDINGS, text.as_str(), wanted)
+/// The waivers of a file, and which of them waive the findings of a report.
+fn waived_in(rt: HostRuntime, told: &Telling, text: &str) -> Result<(Vec<Waiver>, Waived), Failed> {
+    let Ok(read) = read_waivers(rt.alloc(), text.as_bytes()) else {
+        return Err("refused".into());
+    };
+    let waived = waive(rt.alloc(), &NAMES, told, read.as_slice())?;
+    Ok((read, waived))
+}
+
+/// The same of the seven findings.
+fn waived_by(rt: HostRuntime, text: &str) -> Result<(Vec<Waiver>, Waived), Failed> {
+    waived_in(rt, &seven_findings(rt)?, text)
+}
+
+/// Whether these are the numbers of the waivers of the rings and of the gaps, and these of those that waive nothing.
+fn is_waived_so(
+    rt: HostRuntime,
+    read: &[Waiver],
+    waived: &Waived,
+    rings: &[Option<usize>],
+    gaps: &[Option<usize>],
+    idles: &[usize],
+) -> Result<bool, AllocError> {
+    let found = idle(rt.alloc(), waived, read)?;
+    Ok(
+        waived.rings.as_slice() == rings
+            && waived.gaps.as_slice() == gaps
+            && found.as_slice() == idles,
+    )
 }
 
 #[test]
-fn the_first_waiver_of_a_finding_is_told(rt: HostRuntime) {
+fn the_first_waiver_of_a_finding_is_told(rt: HostRuntime) -> Result<(), Failed> {
     let stale = "ring,top_layer,\"pic_programmer-PTH, 0.75 at 142.24,-97.79\",,0.05,seen\n\
         gap,,\"drill, 0.6096 at 50.546,67.31\",\"drill, 0.6096 at 51.181,66.548\",0.382301708,again\n";
-    let wanted = &Waiving {
-        rings: &[Some(0), Some(1), Some(2), Some(3), Some(4), Some(5)],
-        gaps: &[Some(6)],
-        idles: &[9],
-        is_all: true,
-    };
-    assert!(rt; is_waived_with(rt.alloc(), stale, wanted));
+    let text = with_reasons(rt, stale)?;
+    let (read, waived) = waived_by(rt, text.as_str())?;
+    let rings = &[Some(0), Some(1), Some(2), Some(3), Some(4), Some(5)];
+    assert!(rt; waived.all());
+    assert!(rt; is_waived_so(rt, &read, &waived, rings, &[Some(6)], &[9])?);
+    Ok(())
 }
 
-/// Two rings and two gaps that are alike.
-const TWO_OF_EACH: Board = Board {
-    rings: &[(0, &[ALIKE, ALIKE])],
-    gaps: &[CLOSE, CLOSE],
-    ..NO_FINDINGS
-};
+/// A report of two rings and two gaps that are alike.
+fn two_of_each(rt: HostRuntime) -> Result<Telling, Failed> {
+    let mut told = no_findings(rt)?;
+    for _ in 0..2 {
+        tell_bare(&mut told, 0, hole_at(2, (0, 0), 750_000_000)?)?;
+        tell_gap(&mut told)?;
+    }
+    Ok(told)
+}
 
-const ALIKE: RingRow = RingRow {
-    at: HoleRow {
-        from: (0, 0),
-        to: (0, 0),
-        ..HOLE
-    },
-    cause: CauseRow::Nothing,
-};
-
-/// Where no finding is waived, and one waiver waives nothing.
-const NONE: Waiving = Waiving {
-    rings: &[None; 6],
-    gaps: &[None],
-    idles: &[2],
-    is_all: false,
-};
-
-/// A board, the records of a file behind its head, and what is waived: of findings that are alike no waiver is idle, every field but the
-/// reason is compared, and a board without findings is waived.
-const WAIVED: [(Board, &str, Waiving); 7] = [
-    (
-        TWO_OF_EACH,
-        "ring,top_layer,\"pic_programmer-PTH, 0.75 at 0,0\",,none,first\n\
+#[test]
+fn a_file_of_findings_that_are_alike_has_no_idle_waiver(rt: HostRuntime) -> Result<(), Failed> {
+    let records = "kind,layer,hole,and,has,why\n\
+        ring,top_layer,\"pic_programmer-PTH, 0.75 at 0,0\",,none,first\n\
         ring,top_layer,\"pic_programmer-PTH, 0.75 at 0,0\",,none,second\n\
         ring,top_layer,\"pic_programmer-PTH, 0.75 at 0,0\",,0,stale\n\
         gap,,\"drill, 0.6096 at 50.546,67.31\",\"drill, 0.6096 at 51.181,66.548\",0.382301708,third\n\
         gap,,\"drill, 0.6096 at 50.546,67.31\",\"drill, 0.6096 at 51.181,66.548\",0.382301708,third\n\
-        ring,top_layer,\"pic_programmer-PTH, 0.75 at 0,0\",,0,stale\n",
-        Waiving {
-            rings: &[Some(0), Some(0)],
-            gaps: &[Some(3), Some(3)],
-            idles: &[4, 7],
-            is_all: true,
-        },
-    ),
-    (
-        SEVEN_FINDINGS,
-        "gap,top_layer,\"pic_programmer-PTH, 0.75 at 142.24,-97.79\",,none,seen\n",
-        NONE,
-    ),
-    (
-        SEVEN_FINDINGS,
-        "ring,bottom,\"pic_programmer-PTH, 0.75 at 142.24,-97.79\",,none,seen\n",
-        NONE,
-    ),
-    (
-        SEVEN_FINDINGS,
-        "ring,top_layer,\"pic_programmer-PTH, 0.750 at 142.24,-97.79\",,none,seen\n",
-        NONE,
-    ),
-    (
-        SEVEN_FINDINGS,
-        "ring,top_layer,\"pic_programmer-PTH, 0.75 at 142.24,-97.79\",-,none,seen\n",
-        NONE,
-    ),
-    (
-        SEVEN_FINDINGS,
-        "ring,top_layer,\"pic_programmer-PTH, 0.75 at 142.24,-97.79\",,0,seen\n",
-        NONE,
-    ),
-    (
-        NO_FINDINGS,
-        "",
-        Waiving {
-            rings: &[],
-            gaps: &[],
-            idles: &[],
-            is_all: true,
-        },
-    ),
-];
-
-#[test]
-fn findings_are_waived_by_all_fields_but_the_reason(rt: HostRuntime) {
-    for (board, records, wanted) in &WAIVED {
-        let parts = &["kind,layer,hole,and,has,why\n", *records];
-        assert!(rt;
-            is_waived_by(rt.alloc(), board, parts, wanted),
-            "of {records}"
-        );
-    }
-}
-
-/// Whether these are the reasons of the waivers at these places.
-fn has_reasons(
-    alloc: Global,
-    read: &[Waiver],
-    places: &[Option<usize>],
-    wanted: &[Option<&str>],
-) -> bool {
-    match reasons(alloc, read, places) {
-        Ok(found) => found.as_slice() == wanted,
-        Err(_) => false,
-    }
-}
-
-/// Whether these are the reasons of the rings and of the gaps of a report, by these waivers.
-fn are_reasons(
-    alloc: Global,
-    told: &Telling,
-    read: &[Waiver],
-    rings: &[Option<&str>],
-    gaps: &[Option<&str>],
-) -> bool {
-    match waive(alloc, &NAMES, told, read) {
-        Ok(waived) => {
-            has_reasons(alloc, read, &waived.rings, rings)
-                && has_reasons(alloc, read, &waived.gaps, gaps)
-        }
-        Err(_) => false,
-    }
-}
-
-/// Whether these are the reasons of the rings and of the gaps of a board, by the waivers of a file.
-fn is_reasoned(
-    alloc: Global,
-    board: &Board,
-    text: &str,
-    rings: &[Option<&str>],
-    gaps: &[Option<&str>],
-) -> bool {
-    let Some(told) = telling_of(alloc, board) else {
-        return false;
-    };
-    match read_waivers(alloc, text.as_bytes()) {
-        Ok(read) => are_reasons(alloc, &told, &read, rings, gaps),
-        Err(_) => false,
-    }
+        ring,top_layer,\"pic_programmer-PTH, 0.75 at 0,0\",,0,stale\n";
+    let (read, waived) = waived_in(rt, &two_of_each(rt)?, records)?;
+    assert!(rt; waived.all());
+    assert!(rt;
+        is_waived_so(
+            rt,
+            &read,
+            &waived,
+            &[Some(0), Some(0)],
+            &[Some(3), Some(3)],
+            &[4, 7]
+        )?
+    );
+    Ok(())
 }
 
 #[test]
-fn a_finding_has_the_reason_of_its_waiver(rt: HostRuntime) {
+fn a_finding_has_the_reason_of_its_waiver(rt: HostRuntime) -> Result<(), Failed> {
     let records = "kind,layer,hole,and,has,why\n\
         gap,,\"drill, 0.6096 at 50.546,67.31\",\"drill, 0.6096 at 51.181,66.548\",0.382301708,as drawn\n\
         ring,top_layer,\"pic_programmer-PTH, 0.75 at 142.24,-97.79\",,none,rounded pin 1; seen by eye\n";
-    let rings = &[
-        Some("rounded pin 1; seen by eye"),
-        None,
-        None,
-        None,
-        None,
-        None,
-    ];
-    let gaps = &[Some("as drawn")];
-    assert!(rt; is_reasoned(rt.alloc(), &SEVEN_FINDINGS, records, rings, gaps));
+    let (read, waived) = waived_by(rt, records)?;
+    let rings = reasons(rt.alloc(), read.as_slice(), waived.rings.as_slice())?;
+    let gaps = reasons(rt.alloc(), read.as_slice(), waived.gaps.as_slice())?;
+    let first = Some("rounded pin 1; seen by eye");
+    assert!(rt; rings.as_slice() == [first, None, None, None, None, None].as_slice());
+    assert!(rt; gaps.as_slice() == [Some("as drawn")].as_slice());
+    Ok(())
+}
+
+#[test]
+fn every_field_but_the_reason_is_compared(rt: HostRuntime) -> Result<(), Failed> {
+    for &record in &[
+        "gap,top_layer,\"pic_programmer-PTH, 0.75 at 142.24,-97.79\",,none,seen\n",
+        "ring,bottom,\"pic_programmer-PTH, 0.75 at 142.24,-97.79\",,none,seen\n",
+        "ring,top_layer,\"pic_programmer-PTH, 0.750 at 142.24,-97.79\",,none,seen\n",
+        "ring,top_layer,\"pic_programmer-PTH, 0.75 at 142.24,-97.79\",-,none,seen\n",
+        "ring,top_layer,\"pic_programmer-PTH, 0.75 at 142.24,-97.79\",,0,seen\n",
+    ] {
+        let text = format!(in rt.alloc(); "kind,layer,hole,and,has,why\n{record}")?;
+        let (read, waived) = waived_by(rt, text.as_str())?;
+        assert!(rt; !waived.all(), "of {record}");
+        assert!(rt;
+            is_waived_so(rt, &read, &waived, &[None; 6], &[None], &[2])?,
+            "of {record}"
+        );
+    }
+    Ok(())
+}
+
+#[test]
+fn a_report_without_findings_is_waived(rt: HostRuntime) -> Result<(), Failed> {
+    let waived = waive(rt.alloc(), &NAMES, &no_findings(rt)?, &[])?;
+    assert!(rt; waived.all());
+    assert_eq!(rt; idle(rt.alloc(), &waived, &[])?.len(), 0);
+    Ok(())
 }

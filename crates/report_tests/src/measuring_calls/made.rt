@@ -6,6 +6,7 @@ use margins::Met;
 use measuring::measure_bytes;
 use package_check::{File, Role, Span};
 use std::alloc::{AllocError, Global};
+use std::test::Fail as Failure;
 
 /// How many packages are made.
 const PACKAGES: u32 = 160;
@@ -190,51 +191,40 @@ fn is_told(meets: Meets) -> bool {
     }
 }
 
-/// Whether the check of some files agrees with their measure; and then whether a ring and a gap are both named.
-fn judged_files(alloc: Global, files: &[File]) -> Option<bool> {
-    let meets = match measure_bytes(alloc, files) {
-        Ok(measure) => measure.meets,
-        Err(_) => return None,
-    };
-    agrees(alloc, files, meets).then_some(is_told(meets))
+/// What some files meet, and whether their check agrees.
+fn judged_files(alloc: Global, files: &[File]) -> Result<(Meets, bool), Failure> {
+    let measure = measure_bytes(alloc, files).ok().ok_or("no measure")?;
+    Ok((measure.meets, agrees(alloc, files, measure.meets)))
 }
 
-/// The same of up to six files of these texts and parts.
-fn judged_texts(alloc: Global, texts: &[String], parts: &[(Role, Option<Span>)]) -> Option<bool> {
-    let files = [
-        file_at(texts, parts, 0),
-        file_at(texts, parts, 1),
-        file_at(texts, parts, 2),
-        file_at(texts, parts, 3),
-        file_at(texts, parts, 4),
-        file_at(texts, parts, 5),
-    ];
-    judged_files(alloc, &files[..texts.len().min(6)])
-}
-
-/// The same of a package that is made.
-fn judged(alloc: Global, counter: u32) -> Option<bool> {
+/// What a package meets, and whether its check agrees.
+fn judged(alloc: Global, counter: u32) -> Result<(Meets, bool), Failure> {
     let mut draws = Draws {
         state: u64::from(counter),
     };
     let layers = draws.below(3).saturating_add(1);
-    let Ok(texts) = texts(alloc, &mut draws, layers) else {
-        return None;
-    };
-    match parts(alloc, &mut draws, layers, texts.len()) {
-        Ok(parts) => judged_texts(alloc, &texts, &parts),
-        Err(_) => None,
-    }
+    let texts = texts(alloc, &mut draws, layers)?;
+    let parts = parts(alloc, &mut draws, layers, texts.len())?;
+    let files = [
+        file_at(&texts, &parts, 0),
+        file_at(&texts, &parts, 1),
+        file_at(&texts, &parts, 2),
+        file_at(&texts, &parts, 3),
+        file_at(&texts, &parts, 4),
+        file_at(&texts, &parts, 5),
+    ];
+    judged_files(alloc, &files[..texts.len().min(6)])
 }
 
 #[test]
-fn checks_agree_with_measures(rt: HostRuntime) {
+fn checks_agree_with_measures(rt: HostRuntime) -> Result<(), Failure> {
     let mut told = 0_usize;
     for counter in 0..PACKAGES {
-        let judged = judged(rt.alloc(), counter);
-        assert!(rt; judged.is_some(), "package {counter}");
-        told = told.saturating_add(usize::from(judged == Some(true)));
+        let (meets, agreed) = judged(rt.alloc(), counter)?;
+        assert!(rt; agreed, "package {counter}");
+        told = told.saturating_add(usize::from(is_told(meets)));
     }
     // Most of the packages meet a ring and a gap of their own.
     assert!(rt; told > 100, "{told} packages");
+    Ok(())
 }
