@@ -227,7 +227,7 @@ fn front(count: usize) -> &'static [u8] {
     &LAYER[..count.min(56)]
 }
 
-/// The layer's bytes behind so many.
+/// The layer's bytes after so many.
 fn back(count: usize) -> &'static [u8] {
     &LAYER[count.min(56)..]
 }
@@ -266,7 +266,7 @@ fn with_line(alloc: Global, front: &[u8], line: &[u8], back: &[u8]) -> Option<Ve
     joined(alloc, &[front, line, b"\n", back])
 }
 
-/// Whether the layer with a line behind so many of its bytes has this fault, or none.
+/// Whether the layer with a line after so many of its bytes has this fault, or none.
 fn has_fault_with(
     alloc: Global,
     at: usize,
@@ -378,7 +378,7 @@ fn a_layer_in_pieces(rt: HostRuntime) {
     assert!(rt; ends_as_the_layer(rt.alloc(), bytes));
 }
 
-/// How many commands a reader has after the front of the layer, and how many once it has let go of them.
+/// How many commands a reader has after the front of the layer, and how many once they were cleared.
 fn held_and_left(reader: &mut WordReader) -> Option<(usize, usize)> {
     reader.feed(front(42)).ok()?;
     let held = reader.commands().len();

@@ -68,7 +68,7 @@ fn has_outcome(alloc: Global, text: Option<Vec<u8>>, expected: Outcome) -> bool 
 
 /// Texts in place of one of the layer's lines, and what then comes of it.
 const REPLACED: [(usize, &[u8], Outcome); 44] = [
-    // What stands behind the end, and what lacks a code.
+    // What stands after the end, and what lacks a code.
     (6, b"X6*\nM02*\n", Err((6, 51, Reason::BareCoordinate))),
     (6, b"M02*\nX0D03*\n", Err((7, 56, Reason::AfterEnd))),
     (6, b"M02*\n*  ", Ok((1, 1))),
@@ -172,7 +172,7 @@ fn lines_replaced(rt: HostRuntime) {
     }
 }
 
-/// A block of as many flashes as a layer may have, and one with another flash behind it.
+/// A block of as many flashes as a layer may have, and one with another flash after it.
 const FULL: [(usize, &[u8], Outcome); 2] = [
     (
         5,
@@ -482,7 +482,7 @@ fn has_function(alloc: Global, text: &[u8], expected: Option<&[u8]>) -> bool {
     }
 }
 
-/// Whether the layer behind a line has this file function, or none.
+/// Whether a layer that begins with this line has this file function, or none.
 fn has_function_with(alloc: Global, line: &[u8], expected: Option<&[u8]>) -> bool {
     match joined(alloc, &[line, LAYER.as_slice()]) {
         Some(text) => has_function(alloc, &text, expected),
@@ -728,10 +728,13 @@ fn copies(alloc: Global) -> Option<usize> {
 }
 
 #[test]
-fn sums_and_flashes_of_layers_in_pieces(rt: HostRuntime) {
-    let alloc = rt.alloc();
-    assert!(rt; sum_counts(alloc, LAYER) == Some((1, 0, false)));
-    assert!(rt; are_turned_flashes_counted(alloc));
-    assert!(rt; copies(alloc) == Some(6));
-    assert!(rt; whole_of(alloc, TWO_FAULTS).err() == unknown_aperture());
+fn sums_of_layers_in_pieces(rt: HostRuntime) {
+    assert!(rt; sum_counts(rt.alloc(), LAYER) == Some((1, 0, false)));
+    assert!(rt; are_turned_flashes_counted(rt.alloc()));
+}
+
+#[test]
+fn flashes_of_layers_in_pieces(rt: HostRuntime) {
+    assert!(rt; copies(rt.alloc()) == Some(6));
+    assert!(rt; whole_of(rt.alloc(), TWO_FAULTS).err() == unknown_aperture());
 }

@@ -30,7 +30,7 @@ pub(crate) enum Plain {
     Aperture(u32, Standard, i64),
     /// An operation with its X and its I.
     Operation(Action, Option<i64>, i64),
-    /// The digits of whole millimetres or inches, and those behind the point.
+    /// The digits of whole millimetres or inches, and those after the point.
     Format(u8, u8),
     /// A block: its columns, its rows and their steps.
     Repeat(u32, u32, i64, i64),

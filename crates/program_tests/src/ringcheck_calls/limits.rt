@@ -26,81 +26,32 @@ const LONG_LAYER: &str = "refused file=1 place=0 byte=0 reason=TooLong name=top\
 
 const LONG_DRILL: &str = "refused file=2 place=0 byte=0 reason=TooLong name=pth\n";
 
+/// How a run over a file of a length ends: the words, the file, its length, the status and what is printed.
+type LengthRow<'x> = (&'x [&'x str], &'x str, u64, Status, &'x str);
+
+const LENGTHS: &[LengthRow] = &[
+    (&WORDS, "m.csv", 1_048_576, Status::Pass, REPORT),
+    (&WORDS, "m.csv", 1_048_577, Status::Refused, LONG_MANIFEST),
+    (&WORDS, "top.gbr", 268_435_456, Status::Pass, REPORT),
+    (&WORDS, "top.gbr", 268_435_457, Status::Refused, LONG_LAYER),
+    (&WORDS, "pth.drl", 268_435_456, Status::Pass, REPORT),
+    (&WORDS, "pth.drl", 268_435_457, Status::Refused, LONG_DRILL),
+    (&MEASURE, "m.csv", 1_048_576, Status::Pass, MEASURED),
+    (&MEASURE, "m.csv", 1_048_577, Status::Refused, LONG_MANIFEST),
+    (&MEASURE, "pth.drl", 268_435_456, Status::Pass, MEASURED),
+    (&MEASURE, "pth.drl", 268_435_457, Status::Refused, LONG_DRILL),
+    (
+        &["manifest", "--why", "top.gbr"],
+        "top.gbr",
+        268_435_457,
+        Status::Pass,
+        "file,role,because\ntop.gbr,?,it is too long\n",
+    ),
+];
+
 #[test]
 fn files_above_their_limit_are_told(rt: HostRuntime) {
-    for (words, name, length, status, text) in [
-        (WORDS.as_slice(), "m.csv", 1_048_576, Status::Pass, REPORT),
-        (
-            WORDS.as_slice(),
-            "m.csv",
-            1_048_577,
-            Status::Refused,
-            LONG_MANIFEST,
-        ),
-        (
-            WORDS.as_slice(),
-            "top.gbr",
-            268_435_456,
-            Status::Pass,
-            REPORT,
-        ),
-        (
-            WORDS.as_slice(),
-            "top.gbr",
-            268_435_457,
-            Status::Refused,
-            LONG_LAYER,
-        ),
-        (
-            WORDS.as_slice(),
-            "pth.drl",
-            268_435_456,
-            Status::Pass,
-            REPORT,
-        ),
-        (
-            WORDS.as_slice(),
-            "pth.drl",
-            268_435_457,
-            Status::Refused,
-            LONG_DRILL,
-        ),
-        (
-            MEASURE.as_slice(),
-            "m.csv",
-            1_048_576,
-            Status::Pass,
-            MEASURED,
-        ),
-        (
-            MEASURE.as_slice(),
-            "m.csv",
-            1_048_577,
-            Status::Refused,
-            LONG_MANIFEST,
-        ),
-        (
-            MEASURE.as_slice(),
-            "pth.drl",
-            268_435_456,
-            Status::Pass,
-            MEASURED,
-        ),
-        (
-            MEASURE.as_slice(),
-            "pth.drl",
-            268_435_457,
-            Status::Refused,
-            LONG_DRILL,
-        ),
-        (
-            ["manifest", "--why", "top.gbr"].as_slice(),
-            "top.gbr",
-            268_435_457,
-            Status::Pass,
-            "file,role,because\ntop.gbr,?,it is too long\n",
-        ),
-    ] {
+    for &(words, name, length, status, text) in LENGTHS {
         let (ended, out) = written_at(rt.alloc(), words, name, length);
         assert!(rt;
             ended == status && out.as_slice() == text.as_bytes(),
