@@ -11,7 +11,7 @@ use Rattle.pad_shapes.specs.declared.pad.Pad.TheVariants.{Disc, Rect, Obround}
 use Rattle.margins.specs.Depths.{pad_middle}
 use Rattle.causes.specs.Causes.{half_apart, lower_end_at, upper_end_at}
 
--- a pad covers two points alike that are as far from its middle along each axis
+-- a pad covers both or neither of two points as far from its middle along each axis
 covers_alike : (pad : Pad) (a b : GridPoint) (reach : ℕ) → apart a.x (pad_middle pad).x ≡ apart b.x (pad_middle pad).x → apart a.y (pad_middle pad).y ≡ apart b.y (pad_middle pad).y
     → pad_covers pad a reach ≡ pad_covers pad b reach
 covers_alike (Disc d) a b reach along_x along_y = ap₂ (λ (x y : ℕ). nat_le reach d.radius && nat_le (square x + square y) (square (d.radius - reach))) along_x along_y
@@ -25,7 +25,7 @@ below z n = first_of (omega arith, grind arith)
 above : (z : ℤ) (n : ℕ) → unsigned_abs ((z +ℤ pos n) -ℤ z) ≡ n
 above z n = first_of (omega arith, grind arith)
 
--- where one end of a hole would stand at the middle of a pad decides for both
+-- with the middle of a hole at that of a pad, the pad covers both ends of the hole or neither
 pub ends_alike : (pad : Pad) (h : GridHole) (at : GridPoint) (reach : ℕ) → apart at.x (pad_middle pad).x ≡ half_apart h.from.x h.to.x → apart at.y (pad_middle pad).y ≡ half_apart h.from.y h.to.y
     → pad_covers pad at reach ≡ covers_ends pad_covers pad (lower_end_at h (pad_middle pad)) (upper_end_at h (pad_middle pad)) reach
 ends_alike pad h at reach along_x along_y =

@@ -38,14 +38,14 @@ less_part z w h = omega (arith, ints, positive_part_is z, positive_part_is w)
 max_less : (a b c d : ℕ) → a ≤ c → b ≤ d → max a b ≤ max c d
 max_less a b c d h k = omega arith
 
--- a range is no further than a number in it
+-- the distance to a range is at most that to a number in it
 nearer : (a b l x g : ℤ) → l ≤ℤ x → x ≤ℤ g → range_distance a b l g ≤ range_distance a b x x
 nearer a b l x g low high =
     max_less (positive_part (int_min l g -ℤ int_max a b)) (positive_part (int_min a b -ℤ int_max l g)) (positive_part (int_min x x -ℤ int_max a b)) (positive_part (int_min a b -ℤ int_max x x))
     (less_part (int_min l g -ℤ int_max a b) (int_min x x -ℤ int_max a b) (omega (arith, ints, clamps)))
     (less_part (int_min a b -ℤ int_max l g) (int_min a b -ℤ int_max x x) (omega (arith, ints, clamps)))
 
--- one of its ends is as far as a number in it
+-- and the further end of the range is at least as far as a number in it
 further : (a b l x g : ℤ) → l ≤ℤ x → x ≤ℤ g → range_distance a b x x ≤ max (range_distance a b l l) (range_distance a b g g)
 further a b l x g low high =
     let right = less_part (int_min x x -ℤ int_max a b) (int_min g g -ℤ int_max a b) (omega (arith, ints, clamps)) in
@@ -55,11 +55,11 @@ further a b l x g low high =
 sums_rise : (a b c d : ℕ) → a ≤ c → b ≤ d → square a + square b ≤ square c + square d
 sums_rise a b c d h k = omega (arith, square-le a c h, square-le b d k)
 
--- the square of how far a hole is from a box
+-- the square of the distance from a hole to a box
 abbrev pub box_distance : GridHole → Bounds → ℕ
 box_distance h b = square (range_distance h.from.x h.to.x b.least.x b.greatest.x) + square (range_distance h.from.y h.to.y b.least.y b.greatest.y)
 
--- and of how far it is from the corner that is furthest
+-- and to the furthest corner of the box
 abbrev pub corner_distance : GridHole → Bounds → ℕ
 corner_distance h b =
     square (max (range_distance h.from.x h.to.x b.least.x b.least.x) (range_distance h.from.x h.to.x b.greatest.x b.greatest.x))
@@ -82,26 +82,26 @@ tests_within m n h = by_test (nat_le m n) refl
     by_test true e = refl
     by_test false e = absurd (grind (arith, nat_tests))
 
--- no point of a box that is apart is in the hole
+-- where a box is further from a hole than its radius, no point of it lies in the hole
 pub apart_out : (h : GridHole) (b : Bounds) (o : Other) → square h.radius < box_distance h b → IsWithin b o → is_in_hole h o.at ≡ false
 apart_out h b o far w =
     let sum = sums_rise _ _ _ _ (nearer h.from.x h.to.x b.least.x o.at.x b.greatest.x w.left w.right) (nearer h.from.y h.to.y b.least.y o.at.y b.greatest.y w.low w.high) in
     tests_above (point_distance h o.at) (square h.radius) (omega (arith, sum, far))
 
--- each point of a box whose corners are in the hole is in it
+-- where all corners of a box lie in the hole, so does each point of it
 pub inside_in : (h : GridHole) (b : Bounds) (o : Other) → corner_distance h b ≤ square h.radius → IsWithin b o → is_in_hole h o.at ≡ true
 inside_in h b o near w =
     let sum = sums_rise _ _ _ _ (further h.from.x h.to.x b.least.x o.at.x b.greatest.x w.left w.right) (further h.from.y h.to.y b.least.y o.at.y b.greatest.y w.low w.high) in
     tests_within (point_distance h o.at) (square h.radius) (omega (arith, sum, near))
 
--- what the tests say
+-- `nat_le` as inequalities
 pub above_of : (m n : ℕ) → nat_le m n ≡ false → n < m
 above_of m n e = grind (arith, nat_tests)
 
 pub within_of : (m n : ℕ) → nat_le m n ≡ true → m ≤ n
 within_of m n e = grind (arith, nat_tests)
 
--- what is in a box is in a wider one
+-- a box lies in the wider one
 pub widened : (b wide : Bounds) (o held : Other) → wide.least.x ≡ int_min b.least.x o.at.x → wide.least.y ≡ int_min b.least.y o.at.y → wide.greatest.x ≡ int_max b.greatest.x o.at.x → wide.greatest.y ≡ int_max b.greatest.y o.at.y
     → wide.first.place ≤ b.first.place → IsWithin b held → IsWithin wide held
 widened b wide o held lx ly gx gy first w = record {
@@ -112,7 +112,7 @@ widened b wide o held lx ly gx gy first w = record {
   later = (let later = w.later in omega (arith, first, later));
 }
 
--- the point that a box is widened for is in it
+-- the point for which a box is widened lies in it
 pub holds_new : (b wide : Bounds) (o : Other) → wide.least.x ≡ int_min b.least.x o.at.x → wide.least.y ≡ int_min b.least.y o.at.y → wide.greatest.x ≡ int_max b.greatest.x o.at.x → wide.greatest.y ≡ int_max b.greatest.y o.at.y
     → wide.first.place ≤ o.place → IsWithin wide o
 holds_new b wide o lx ly gx gy first = record {
@@ -123,7 +123,7 @@ holds_new b wide o lx ly gx gy first = record {
   later = first;
 }
 
--- ---- the first one so far
+-- ---- the earliest so far
 
 pushed : (P : Other → Type 0) (xs : List Other) (x : Other) → All P xs → P x → All P (xs ++ x ∷ [])
 pushed P xs x all p = All-append P xs (x ∷ []) all (All-cons P x [] p (All-nil P))
@@ -149,7 +149,7 @@ comes_first h seen first other inside e is = (
     earlier : (m n : ℕ) → nat_lt m n ≡ true → m < n
     earlier m n e = grind (arith, nat_tests)
 
--- one that is in the hole: it or the first so far, which stands before the other
+-- a flash in the hole, and the first so far: the earlier one of them
 pub lesser_is : (h : GridHole) (seen : List Other) (first : Option Other) (other : Other) → is_in_hole h other.at ≡ true → IsFirstIn seen h first → IsFirstIn (seen ++ other ∷ []) h (Some (option_map_or (λ held. if nat_lt other.place held.place then other else held) first other))
 lesser_is h seen None other inside all =
     (Contains-append_right seen (other ∷ []) other (contains_first other []), inside, pushed (λ o. is_in_hole h o.at ≡ true → other.place ≤ o.place) seen other (out_of h (λ o. other.place ≤ o.place) seen all) (λ here. omega arith))
@@ -159,7 +159,7 @@ lesser_is h seen (Some first) other inside is = by (nat_lt other.place first.pla
     by true e = comes_first h seen first other inside e is
     by false e = not_before h seen first other e is
 
--- a box that is widened for the next one of some flashes holds all of them
+-- a box that is widened for the next flash holds all flashes so far
 pub one_more : (all : List Other) (i : ℕ) (item : Other) (b wide : Bounds) → i < length all → item ≡ get_or all i item → IsWithin wide item → ((held : Other) → IsWithin b held → IsWithin wide held) → All (IsWithin b) (take i all)
     → All (IsWithin wide) (take (i + 1) all)
 one_more all i item b wide there is new keeps was =
@@ -171,7 +171,7 @@ pub one_first : (all : List Other) (i : ℕ) (item : Other) (b wide : Bounds) �
 one_first all i item b wide there is (inl same) among = subst (Contains all) (sym same) among
 one_first all i item b wide there is (inr same) among = subst (Contains all) (sym same) (i, there, sym is)
 
--- ---- from the flashes that are passed to those up to the end of a group
+-- ---- from the flashes passed to those up to the end of a group
 
 module _ (xs : List Other) (s p e : ℕ) (starts : s ≤ p) (ends : p ≤ e) (inside : e ≤ length xs) where
   all_to : (P : Other → Type 0) → All P (take p xs) → All P (slice_range xs s e) → All P (take e xs)
@@ -213,7 +213,7 @@ module _ (all : List Other) (h : GridHole) (g : Group) (is : IsGroup all g) (p :
   abbrev pub own : List Other
   own = slice_range all g.start g.end
 
-  -- nothing of a group is in the hole
+  -- no flash of a group lies in the hole
   pub passed_out : (first : Option Other) → All (λ other. is_in_hole h other.at ≡ false) own → IsFirstIn (take p all) h first → IsFirstIn (take g.end all) h first
   passed_out None out was = all_to all g.start p g.end starts ends is.inside (λ other. is_in_hole h other.at ≡ false) was out
   passed_out (Some first) out was = (
@@ -222,7 +222,7 @@ module _ (all : List Other) (h : GridHole) (g : Group) (is : IsGroup all g) (p :
     all_to all g.start p g.end starts ends is.inside (λ other. is_in_hole h other.at ≡ true → first.place ≤ other.place) was.2 (out_of h (λ other. first.place ≤ other.place) own out),
   )
 
-  -- all of a group come behind the first so far
+  -- all flashes of a group come after the first so far
   pub passed_later : (first : Other) → first.place ≤ g.bounds.first.place → IsFirstIn (take p all) h (Some first) → IsFirstIn (take g.end all) h (Some first)
   passed_later first before was = (
     front_to all g.start p g.end starts ends is.inside first was.0,
@@ -231,7 +231,7 @@ module _ (all : List Other) (h : GridHole) (g : Group) (is : IsGroup all g) (p :
         (All-weaker (IsWithin g.bounds) (λ other. is_in_hole h other.at ≡ true → first.place ≤ other.place) (λ other w here. (let later = w.later in omega (arith, before, later))) own is.bounds.within),
   )
 
-  -- all of a group are in the hole
+  -- all flashes of a group lie in the hole
   pub passed_inside : (first : Option Other) → ((other : Other) → IsWithin g.bounds other → is_in_hole h other.at ≡ true) → IsFirstIn (take p all) h first
       → IsFirstIn (take g.end all) h (Some (option_map_or (λ held. if nat_lt g.bounds.first.place held.place then g.bounds.first else held) first g.bounds.first))
   passed_inside first all_in was =
@@ -257,18 +257,18 @@ module _ (all : List Other) (h : GridHole) (g : Group) (is : IsGroup all g) (p :
                 (All-weaker (IsWithin g.bounds) P (λ other w inside. (let later = w.later in omega (arith, bound, later))) own is.bounds.within),
           )
 
--- those up to the end of a group, with those that are looked at one by one
+-- the flashes passed and those up to the end of a group
 pub joined_to : (xs : List Other) (p e : ℕ) → p ≤ e → take p xs ++ slice_range xs p e ≡ take e xs
 joined_to xs p e h = sym (take-add p (e - p) xs) ∙ ap (λ (n : ℕ). take n xs) (let same : p + (e - p) ≡ e = omega (arith, h) in same)
 
--- a search that ends where these are passed
+-- a search that has passed a group
 pub has_passed : (all : List Other) (h : GridHole) (e : ℕ) (first : Option Other) (s : Search) → s.passed ≡ e → s.first ≡ first → e ≤ length all → IsFirstIn (take e all) h first → HasPassed all h s
 has_passed all h e first s ends is inside found = record {
   inside = omega (arith, ends, inside);
   first = subst (λ (n : ℕ). IsFirstIn (take n all) h s.first) (sym ends) (subst (IsFirstIn (take e all) h) (sym is) found);
 }
 
--- ---- the flashes of a layer stand by their places
+-- ---- the flashes of a layer are in order of their places
 
 low_from : (k : ℕ) (flashes : List Flash) → All (λ other. k ≤ other.place) (filter_map (λ f. other_flash f.0 f.1.at f.1.what) (enumerate_from k flashes))
 low_from k [] = λ i d lt. absurd (omega (arith, lt))
@@ -291,7 +291,7 @@ places_rise_from k (f ∷ fs) = pairs_front k (other_flash k f.at f.what) _ (her
     here at (what.Pad pad) = tt
     here at (what.Other why) = refl
 
--- ---- what is found
+-- ---- the flash that is found
 
 find_none : (p : Other → Bool) (xs : List Other) → All (λ other. p other ≡ false) xs → find p xs ≡ None
 find_none p [] out = refl
@@ -315,7 +315,7 @@ find_least p (x ∷ xs) first up among inside least =
     by false e (inl same) rest = absurd (false≢true (sym e ∙ ap p same ∙ inside))
     by false e (inr later) rest = rest later
 
--- the first of all, in whatever order they stand, is the first of the layer
+-- the earliest of all, in whatever order they are listed, is the first of the layer
 pub first_is_found : (flashes : List Flash) (all : List Other) (h : GridHole) (first : Option Other) → IsPermutation (others flashes) all → IsFirstIn all h first → first ≡ other_in flashes h
 first_is_found flashes all h None moved out = sym (find_none (λ other. is_in_hole h other.at) (others flashes) (All-permutation (λ other. is_in_hole h other.at ≡ false) all (others flashes) (IsPermutation-sym (others flashes) all moved) out))
 first_is_found flashes all h (Some first) moved is =

@@ -11,12 +11,12 @@ use Rattle.pad_shapes.specs.declared.pad.Pad.{Pad}
 use Rattle.grid_units.specs.Points.{GridPoint}
 use Rattle.causes.specs.Causes.{other_flash, others, pad_place, pad_places}
 
--- an optional element in front
+-- an optional element at the head
 pub in_front : {X : Type 0} (P : X → Type 0) (x : Option X) (xs : List X) → IfSome x P → All P xs → All P (cons_option x xs)
 in_front P None xs h all = all
 in_front P (Some x) xs h all = All-cons P x xs h all
 
--- a bound that is written otherwise
+-- the same bound with `suc`
 further : (k n place : ℕ) → place < (k + 1) + n → place < k + suc n
 further k n place lt = omega (arith, lt)
 
@@ -47,7 +47,7 @@ places_below_from k (f ∷ fs) =
     in_front (λ place. place < k + suc (length fs)) _ _ (place_below k (length fs) (is_other f.what))
     (weaker (λ place. place < (k + 1) + length fs) (λ place. place < k + suc (length fs)) _ (further k (length fs)) (places_below_from (k + 1) fs))
 
--- each place of a pad is one of a flash
+-- each place of a pad is that of a flash
 pub places_below : (flashes : List Flash) → All (λ place. place < length flashes) (pad_places flashes)
 places_below flashes = weaker (λ place. place < 0 + length flashes) (λ place. place < length flashes) _ (λ place lt. omega (arith, lt)) (places_below_from 0 flashes)
 
@@ -63,11 +63,11 @@ others_below_from k (f ∷ fs) =
     in_front (λ other. other.place < k + suc (length fs)) _ _ (other_below k (length fs) f.at f.what)
     (weaker (λ other. other.place < (k + 1) + length fs) (λ other. other.place < k + suc (length fs)) _ (λ other. further k (length fs) other.place) (others_below_from (k + 1) fs))
 
--- each place of another flash is one of a flash
+-- each place of another flash is that of a flash
 pub others_below : (flashes : List Flash) → All (λ other. other.place < length flashes) (others flashes)
 others_below flashes = weaker (λ other. other.place < 0 + length flashes) (λ other. other.place < length flashes) _ (λ other lt. omega (arith, lt)) (others_below_from 0 flashes)
 
--- what holds of all holds of what is found
+-- what holds of all elements holds of the one that `find` returns
 pub found_has : {X : Type 0} (P : X → Type 0) (p : X → Bool) (xs : List X) (x : X) → All P xs → find p xs ≡ Some x → P x
 found_has P p [] x all e = cc
 found_has P p (y ∷ ys) x all e = by (p y) e (λ h. found_has P p ys x (λ k d lt. all (suc k) d (omega (arith, lt))) h)

@@ -1,4 +1,4 @@
--- When two lists of pads are the same.
+-- When two lists of pads are equal.
 use Rattle.std.proofs.Common.{◌≡◌, ℕ, ℤ, Bool, true, ◌&&◌, ◌==◌, List, [], ◌∷◌, refl, ap, ap₂, ◌∙◌}
 use Rattle.std.specs.Cmp.Lexicographic.{pointwise}
 use Rattle.std.specs.Ordering.{int_eq}
@@ -49,6 +49,6 @@ module _ {S : Type 0} (E : S → S → Bool) (same : (a b : S) → E a b ≡ tru
   same_lists (x ∷ xs) [] e = absurd (false≢true e)
   same_lists (x ∷ xs) (y ∷ ys) e = let h = both_true (E x y) (pointwise E xs ys) e in ap₂ (λ (z : S) (zs : List S). z ∷ zs) (same x y h.0) (same_lists xs ys h.1)
 
--- lists of pads that are told to be equal are the same
+-- lists of pads for which `==` answers true are equal
 pub same_pad_lists : (pads others : List Pad) → pointwise impl.eq-value.it pads others ≡ true → pads ≡ others
 same_pad_lists pads others e = same_lists impl.eq-value.it same_pads pads others e

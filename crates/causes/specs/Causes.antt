@@ -1,4 +1,4 @@
--- Why a hole lacks its ring on a layer. Lengths are whole picometres.
+-- Why a hole lacks its ring on a layer. Lengths are whole picometres. A place counts from 0, a flash's number from 1.
 use Rattle.std.specs.Prelude.{◌≡◌, ℕ, ℤ, pos, ◌+◌, ◌≤◌, ◌+ℤ◌, ◌-ℤ◌, ◌≤ℤ◌, Bool, true, false, not, Option, Some, None, List, length, get_or, nat_le, if◌then◌else◌}
 use Rattle.std.specs.Int.{div_ceil}
 use Rattle.std.specs.List.{All, Contains, enumerate_from, filter_map, find, slice_range}
@@ -26,48 +26,49 @@ use Rattle.report_text.specs.declared.InPad.{InPad}
 use Rattle.report_text.specs.declared.RingCause.{RingCause}
 use Rattle.report_text.specs.declared.RingCause.TheVariants as cause
 
--- the place of a flash that is a pad (docs/DEFINITIONS.md, Causes)
+-- the place of a flash if it is a pad, else `None`
 abbrev pub pad_place : ℕ × Flash → Option ℕ
 pad_place (place, flash) = if is_other flash.what then None else Some place
 
--- the places of those flashes of a layer that are pads, in order (docs/DEFINITIONS.md, Causes)
+-- the places of the flashes that are pads, in order: of pad, other, pad they are 0 and 2
 abbrev pub pad_places : List Flash → List ℕ
 pad_places flashes = filter_map pad_place (enumerate_from 0 flashes)
 
--- what is told of a flash that is no pad: its place, its point, and why it is none (docs/DEFINITIONS.md, Causes)
+-- a flash that is no pad: its place, its point, and why it is no pad; `None` for a pad
 abbrev pub other_flash : ℕ → GridPoint → What → Option Other
 other_flash place at (what.Pad pad) = None
 other_flash place at (what.Other why) = Some (record { place = place; at = at; why = why })
 
--- the flashes of a layer that are no pads, in order (docs/DEFINITIONS.md, Causes)
+-- the flashes of a layer that are no pads, in order
 abbrev pub others : List Flash → List Other
 others flashes = filter_map (λ f. other_flash f.0 f.1.at f.1.what) (enumerate_from 0 flashes)
 
--- a point lies in a hole: it is no further from its core than its radius (docs/DEFINITIONS.md, Causes)
+-- a point lies in a hole: it is no further from the hole's core than its radius
 abbrev pub is_in_hole : GridHole → GridPoint → Bool
 is_in_hole h p = nat_le (square (range_distance h.from.x h.to.x p.x p.x) + square (range_distance h.from.y h.to.y p.y p.y)) (square h.radius)
 
--- the first flash that is no pad and has its point in the hole (docs/DEFINITIONS.md, Causes)
+-- the first flash that is no pad and whose point lies in the hole
 abbrev pub other_in : List Flash → GridHole → Option Other
 other_in flashes h = find (λ other. is_in_hole h other.at) (others flashes)
 
--- half of how far two coordinates are apart, rounded up (docs/DEFINITIONS.md, Causes)
+-- half the distance of two coordinates, rounded up: of 0 and 3 it is 2
 abbrev pub half_apart : ℤ → ℤ → ℕ
 half_apart a b = div_ceil (apart a b) 2
 
--- where the lower end of a hole along an axis would stand, if its middle stood at a point: the point itself where it is round (docs/DEFINITIONS.md, Causes)
+-- the lower end of a hole along each axis if its middle stood at a point: half its length below, for a round hole the point itself
 abbrev pub lower_end_at : GridHole → GridPoint → GridPoint
 lower_end_at h at = record { x = at.x -ℤ pos (half_apart h.from.x h.to.x); y = at.y -ℤ pos (half_apart h.from.y h.to.y) }
 
--- where its upper end would stand (docs/DEFINITIONS.md, Causes)
+-- the upper end of a hole along each axis if its middle stood at a point
 abbrev pub upper_end_at : GridHole → GridPoint → GridPoint
 upper_end_at h at = record { x = at.x +ℤ pos (half_apart h.from.x h.to.x); y = at.y +ℤ pos (half_apart h.from.y h.to.y) }
 
--- a pad is too small for a hole and its ring: it would not cover the ends of the hole with the radius and the ring, even if the middle of the hole stood at its own (docs/DEFINITIONS.md, Causes)
+-- a pad is too small for a hole with its ring: even with the hole's middle at its own, the pad would not cover
+-- both ends of the hole with the radius and the ring
 abbrev pub is_small : ℕ → GridHole → Pad → Bool
 is_small ring h pad = not (covers_ends pad_covers pad (lower_end_at h (pad_middle pad)) (upper_end_at h (pad_middle pad)) (h.radius + ring))
 
--- the best pad of a hole on a layer, with the number of its flash, the ring that the hole has in it, and what it lacks of the ring that is asked (docs/DEFINITIONS.md, Causes)
+-- the best pad of a hole (the one in which it lies deepest): its flash, the hole's ring in it, and what this lacks of the required ring
 pub record IsInPad (flashes : List Flash) (asked : ℕ) (h : GridHole) (told : InPad) : Type 0 where
   pub best : Best
   pub deepest : IsBest pad_covers (pads_of flashes) (length (pads_of flashes)) h best
@@ -76,12 +77,12 @@ pub record IsInPad (flashes : List Flash) (asked : ℕ) (h : GridHole) (told : I
   pub ring : told.ring ≡ pos best.depth -ℤ pos h.radius
   pub lack : told.lack ≡ pos asked -ℤ told.ring
 
--- the hole is no oblique slot, and no pad of the layer covers both its ends (docs/DEFINITIONS.md, Causes)
+-- the hole is no oblique slot, and no pad of the layer covers both its ends
 abbrev pub HasNoPad : List Flash → GridHole → Type 0
 HasNoPad flashes h = (is_oblique h ≡ false) × AreShallow pad_covers (pads_of flashes) (length (pads_of flashes)) h
 
--- why a hole lacks a ring among the flashes of a layer: the pad in which it lies deepest is too small, or it lies off its middle; or it lies in none,
--- and there is another flash in it, or nothing; or it is an oblique slot (docs/DEFINITIONS.md, Causes)
+-- why a hole lacks its ring, the first that applies: an oblique slot; a best pad that is too small; a hole off the middle of its best pad;
+-- no pad, but another flash whose point lies in the hole; no pad and no such flash
 abbrev pub IsCause : List Flash → ℕ → GridHole → RingCause → Type 0
 IsCause flashes ring h (cause.Small told) = (is_oblique h ≡ false) × IsInPad flashes ring h told × (is_small ring h told.pad ≡ true)
 IsCause flashes ring h (cause.Off told) = (is_oblique h ≡ false) × IsInPad flashes ring h told × (is_small ring h told.pad ≡ false)
@@ -89,7 +90,7 @@ IsCause flashes ring h (cause.Other why flash) = HasNoPad flashes h × ((other :
 IsCause flashes ring h cause.Nothing = HasNoPad flashes h × (other_in flashes h ≡ None)
 IsCause flashes ring h cause.Oblique = is_oblique h ≡ true
 
--- a flash is no earlier than the first one of a box, and its point is in the box (docs/DEFINITIONS.md, Causes)
+-- a flash's point lies in a box, and the flash stands no earlier on the layer than the box's first one
 pub record IsWithin (bounds : Bounds) (other : Other) : Type 0 where
   pub left : bounds.least.x ≤ℤ other.at.x
   pub right : other.at.x ≤ℤ bounds.greatest.x
@@ -97,29 +98,29 @@ pub record IsWithin (bounds : Bounds) (other : Other) : Type 0 where
   pub high : other.at.y ≤ℤ bounds.greatest.y
   pub later : bounds.first.place ≤ other.place
 
--- a box holds the points of some flashes, and has the first of them by its place (docs/DEFINITIONS.md, Causes)
+-- a box holds the points of some flashes, and its first flash is one of them: the earliest on the layer
 pub record IsBounds (all : List Other) (bounds : Bounds) : Type 0 where
   pub within : All (IsWithin bounds) all
   pub first : Contains all bounds.first
 
--- a group of some flashes of a list: those from one place to another, and their box (docs/DEFINITIONS.md, Causes)
+-- a group: consecutive flashes of a list, from one place up to an end, and their box
 pub record IsGroup (all : List Other) (group : Group) : Type 0 where
   pub ordered : group.start ≤ group.end
   pub inside : group.end ≤ length all
   pub bounds : IsBounds (slice_range all group.start group.end) group.bounds
 
--- each of these is a group of some flashes of a list (docs/DEFINITIONS.md, Causes)
+-- each is a group of flashes of a list
 abbrev pub AreGroups : List Other → List Group → Type 0
 AreGroups all groups = All (IsGroup all) groups
 
--- what is known of a layer: its pads, the places of their flashes, its other flashes in any order, and groups of them (docs/DEFINITIONS.md, Causes)
+-- the data kept of a layer: its pads, the places of their flashes, its other flashes in any order, and groups of these
 pub record IsKnownOf (flashes : List Flash) (layer : LayerCauses) : Type 0 where
   pub pads : layer.pads.items ≡ pads_of flashes
   pub places : layer.places.items ≡ pad_places flashes
   pub others : IsPermutation (others flashes) layer.others.items
   pub groups : AreGroups layer.others.items layer.groups.items
 
--- and for each hole the pad in which it lies deepest (docs/DEFINITIONS.md, Causes)
+-- the same data with the best pad of each hole, if it has one
 pub record IsKnown (flashes : List Flash) (holes : List Drilled) (layer : LayerCauses) : Type 0 where
   pub known : IsKnownOf flashes layer
   pub bests : AreBest pad_covers (pads_of flashes) holes layer.bests.items

@@ -11,18 +11,18 @@ use crate::other::Other;
 use grid_units::{Hole, Point, square, square_length};
 use ring_rules::{core_distance_x, core_distance_y};
 
-/// A box that holds the points of some flashes, and the first of these by its place on the layer.
+/// A box that holds the points of some flashes, with the earliest of these on the layer.
 #[derive(Clone, Copy)]
 pub(crate) struct Bounds {
-    /// The least coordinates.
+    /// The least coordinates, in pm.
     least: Point,
-    /// The greatest coordinates.
+    /// The greatest coordinates, in pm.
     greatest: Point,
-    /// The first flash.
+    /// The earliest flash on the layer.
     pub(crate) first: Other,
 }
 
-/// The lesser one of two coordinates.
+/// The lesser of two coordinates.
 fn least_of(a: i64, b: i64) -> i64
     requires a { IsCoordinate a }
     requires b { IsCoordinate b }
@@ -32,7 +32,7 @@ fn least_of(a: i64, b: i64) -> i64
     a.min(b)
 }
 
-/// The greater one of two coordinates.
+/// The greater of two coordinates.
 fn greatest_of(a: i64, b: i64) -> i64
     requires a { IsCoordinate a }
     requires b { IsCoordinate b }
@@ -42,7 +42,7 @@ fn greatest_of(a: i64, b: i64) -> i64
     a.max(b)
 }
 
-/// The point with the lesser ones of the coordinates of two points.
+/// The lower left corner of the box of two points.
 fn lesser_corner(a: Point, b: Point) -> Point
     ensures x { result.x ≡ int_min a.x b.x }
     ensures y { result.y ≡ int_min a.y b.y }
@@ -50,7 +50,7 @@ fn lesser_corner(a: Point, b: Point) -> Point
     Point::new(least_of(a.x(), b.x()), least_of(a.y(), b.y())).unwrap()
 }
 
-/// The point with the greater ones of the coordinates of two points.
+/// The upper right corner of the box of two points.
 fn greater_corner(a: Point, b: Point) -> Point
     ensures x { result.x ≡ int_max a.x b.x }
     ensures y { result.y ≡ int_max a.y b.y }
@@ -58,14 +58,14 @@ fn greater_corner(a: Point, b: Point) -> Point
     Point::new(greatest_of(a.x(), b.x()), greatest_of(a.y(), b.y())).unwrap()
 }
 
-/// A hole of the same radius from one point to another.
+/// A hole from one point to another, with the radius of a given hole.
 fn hole_from(from: Point, to: Point, hole: &Hole) -> Hole
     ensures { result ≡ record { from = from; to = to; radius = hole.now.radius } }
 {
     Hole::new(from, to, hole.radius()).unwrap()
 }
 
-/// Whether what is so far from the core of a hole along each axis is no further from it than its radius.
+/// Whether a point at these distances from the core of a hole, in pm along each axis, is no further from it than the radius.
 fn is_within(x: u64, y: u64, hole: &Hole) -> bool
     requires x { x ≤ 20000000000000 }
     requires y { y ≤ 20000000000000 }
@@ -74,7 +74,7 @@ fn is_within(x: u64, y: u64, hole: &Hole) -> bool
     square_length(x, y) <= square(hole.radius().unsigned_abs())
 }
 
-/// The one of two flashes that has the lesser place.
+/// Whichever of two flashes has the lesser place.
 fn earlier_of(a: Other, b: Other) -> Other
     ensures among { (result ≡ a) ⊎ (result ≡ b) }
     ensures a { result.place ≤ a.place }
@@ -96,7 +96,7 @@ impl Bounds {
         }
     }
 
-    /// The box that holds one more flash.
+    /// The box that also holds one more flash.
     fn with(self, other: Other) -> Bounds
         ensures within { IsWithin result other }
         ensures keeps { (held : TheOther) → IsWithin self held → IsWithin result held }
@@ -109,7 +109,7 @@ impl Bounds {
         }
     }
 
-    /// The box of some flashes.
+    /// The box of some flashes, at least one.
     pub(crate) fn of(others: &[Other]) -> Bounds
         requires { 0 < length others.now }
         ensures { IsBounds others.now result }
@@ -121,7 +121,7 @@ impl Bounds {
         bounds
     }
 
-    /// Whether the box is no further from the core of a hole than its radius. Where it is further, no point of it is in the hole.
+    /// Whether the box comes as near to the core of a hole as its radius. Where it does not, no point of it is in the hole.
     pub(crate) fn is_met(&self, hole: &Hole) -> bool
         ensures { result ≡ false → (held : TheOther) → IsWithin self.now held → is_in_hole hole.now held.at ≡ false }
     {
@@ -133,7 +133,7 @@ impl Bounds {
         )
     }
 
-    /// How far the end of the box that is furthest along x is from the core of a hole.
+    /// The distance along x from the core of a hole to the further side of the box, in pm.
     fn furthest_x(&self, hole: &Hole) -> u64
         ensures value { result ≡ max (range_distance hole.now.from.x hole.now.to.x self.now.least.x self.now.least.x) (range_distance hole.now.from.x hole.now.to.x self.now.greatest.x self.now.greatest.x) }
         ensures in_range { result ≤ 20000000000000 }
@@ -143,7 +143,7 @@ impl Bounds {
         core_distance_x(hole, &least).max(core_distance_x(hole, &greatest))
     }
 
-    /// How far the end of the box that is furthest along y is from the core of a hole.
+    /// The distance along y from the core of a hole to the further side of the box, in pm.
     fn furthest_y(&self, hole: &Hole) -> u64
         ensures value { result ≡ max (range_distance hole.now.from.y hole.now.to.y self.now.least.y self.now.least.y) (range_distance hole.now.from.y hole.now.to.y self.now.greatest.y self.now.greatest.y) }
         ensures in_range { result ≤ 20000000000000 }
@@ -153,7 +153,7 @@ impl Bounds {
         core_distance_y(hole, &least).max(core_distance_y(hole, &greatest))
     }
 
-    /// Whether no corner of the box is further from the core of a hole than its radius, so that each point of it is in the hole.
+    /// Whether all corners of the box lie in a hole, so that each point of it does.
     pub(crate) fn is_inside(&self, hole: &Hole) -> bool
         ensures { result ≡ true → (held : TheOther) → IsWithin self.now held → is_in_hole hole.now held.at ≡ true }
     {

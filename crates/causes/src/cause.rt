@@ -10,7 +10,7 @@ use margins::Deep;
 use pad_shapes::{Pad, PadShape};
 use ring_rules::{core_distance_x, core_distance_y};
 
-/// A hole of the same radius at a point.
+/// A hole of the same radius, round, at a point.
 fn hole_at(at: Point, hole: &Hole) -> Hole
     ensures { result ≡ record { from = at; to = at; radius = hole.now.radius } }
 {
@@ -26,7 +26,7 @@ pub(crate) fn is_in_hole(hole: &Hole, at: Point) -> bool
     far <= square(hole.radius().unsigned_abs())
 }
 
-/// Half of how far two coordinates are apart, rounded up.
+/// Half the distance of two coordinates in pm, rounded up.
 fn half_apart(a: i64, b: i64) -> u64
     requires a { IsCoordinate a }
     requires b { IsCoordinate b }
@@ -36,7 +36,7 @@ fn half_apart(a: i64, b: i64) -> u64
     a.abs_diff(b).div_ceil(2)
 }
 
-/// The one of the two coordinates that lie so far from a middle that is nearer to 0.
+/// Of the two coordinates at this distance from a middle, the one nearer to 0.
 fn inner_end(middle: i64, half: u64) -> i64
     requires middle { IsCoordinate middle }
     requires half { half ≤ max_coordinate }
@@ -50,7 +50,7 @@ fn inner_end(middle: i64, half: u64) -> i64
     }
 }
 
-/// Where an end of a hole along an axis would stand, if its middle stood at a point: of the coordinates of its two ends there, those
+/// One end of a hole along an axis if its middle stood at a point: of the coordinates of its two ends, those
 /// nearer to 0. The other end may lie beyond the grid.
 fn end_at(hole: &Hole, at: Point) -> Point
     ensures x { apart result.x at.x ≡ half_apart hole.now.from.x hole.now.to.x }
@@ -62,15 +62,15 @@ fn end_at(hole: &Hole, at: Point) -> Point
     Point::new(x, y).unwrap()
 }
 
-/// Whether a pad covers a point with the radius of a hole and the ring.
+/// Whether a pad covers a point with a reach of the hole's radius and the ring together.
 fn covers_ring(pad: &Pad, at: Point, hole: &Hole, rules: Rules) -> bool
     ensures { result ≡ pad_covers pad.now at (hole.now.radius + rules.ring) }
 {
     pad.covers(at, hole.radius() + rules.ring())
 }
 
-/// Whether a pad is too small for a hole with its ring, wherever it stands. A pad reaches as far on each side of its middle, so it covers
-/// both ends of a hole there where it covers one.
+/// Whether a pad is too small for a hole with its ring, wherever the hole stands. A pad reaches as far on each side of its middle, so
+/// with the hole's middle there it covers both ends where it covers one.
 pub(crate) fn is_small(pad: &Pad, hole: &Hole, rules: Rules) -> bool
     ensures { result ≡ is_small rules.ring hole.now pad.now }
 {

@@ -1,4 +1,4 @@
-//! Flashes in groups, so that a hole is asked for few of them.
+//! Flashes in groups, each with its box, so that a search in a hole skips most of them.
 
 ghost use Rattle.std.specs.Prelude.{◌≡◌, ◌<◌, ◌≤◌, List, Some, length, true, IfOk, OnOk};
 ghost use Rattle.std.specs.List.Sorted.{IsPermutation};
@@ -12,34 +12,34 @@ use crate::other::{Other, first_of, lesser};
 use grid_units::Hole;
 use std::alloc::{AllocError, Global};
 
-/// Some flashes that stand one after the other in a list.
+/// Consecutive flashes of a list.
 #[derive(Clone, Copy)]
 pub(crate) struct Group {
     /// The place of the first of them in the list.
     start: usize,
-    /// The place behind the last one.
+    /// The end of their places: one past the last.
     end: usize,
-    /// How many groups, with this one, are of these flashes alone. They stand one after the other, this one first.
+    /// The number of groups of these flashes alone, this one included. They are consecutive, this one first.
     size: usize,
     /// The box of their points.
     bounds: Bounds,
 }
 
-/// How far a search has come.
+/// How far a search in a hole has come.
 #[derive(Clone, Copy)]
 struct Search {
     /// The place of the next group.
     next: usize,
-    /// How many flashes of the list are behind it.
+    /// The number of flashes that it has passed.
     passed: usize,
-    /// The first of these in the hole.
+    /// The earliest of these, on the layer, whose point lies in the hole.
     first: Option<Other>,
 }
 
-/// How many flashes the smallest groups have.
+/// The number of flashes in the smallest groups.
 const LEAST: usize = 32;
 
-/// The group of the flashes from a place on, of at most so many.
+/// The group of the flashes from a place on, `width` at most.
 fn group_from(others: &[Other], start: usize, width: usize, size: usize) -> Group
     requires start { start < length others.now }
     requires width { 0 < width }
@@ -54,7 +54,7 @@ fn group_from(others: &[Other], start: usize, width: usize, size: usize) -> Grou
     }
 }
 
-/// Adds the group of the flashes from a place on, where groups of this width begin there.
+/// Adds the group of the flashes from a place on, if groups of this width begin there.
 fn push_group(
     groups: &mut Vec<Group>,
     others: &[Other],
@@ -72,7 +72,7 @@ fn push_group(
     Ok(())
 }
 
-/// Adds the groups of all widths that begin at a place, the widest first. Each has 32 of the next width.
+/// Adds the groups of all widths that begin at a place, the widest first. Each holds 32 of the next width.
 fn push_groups(groups: &mut Vec<Group>, others: &[Other], start: usize) -> Result<(), AllocError>
     requires { start < length others.now }
     ensures { AreGroups others.now groups.old.items → OnOk result (AreGroups others.now groups.new.items) }
@@ -83,7 +83,7 @@ fn push_groups(groups: &mut Vec<Group>, others: &[Other], start: usize) -> Resul
     push_group(groups, others, start, LEAST, 1)
 }
 
-/// The groups of some flashes: those of some at a place stand before those of fewer there, and these before those of later ones.
+/// All groups of some flashes, in the order of their starts; of those with one start the widest first.
 pub(crate) fn groups_of(alloc: Global, others: &[Other]) -> Result<Vec<Group>, AllocError>
     ensures { IfOk result (λ groups. AreGroups others.now groups.items) }
 {
@@ -97,14 +97,14 @@ pub(crate) fn groups_of(alloc: Global, others: &[Other]) -> Result<Vec<Group>, A
 }
 
 impl Group {
-    /// Whether the flashes of the group are all that a search has not passed up to its end.
+    /// Whether the group begins among the flashes that a search has passed, and ends no earlier than these.
     fn is_next(&self, search: &Search) -> bool
         ensures { result ≡ true → (self.now.start ≤ search.now.passed) × (search.now.passed ≤ self.now.end) }
     {
         self.start <= search.passed && search.passed <= self.end
     }
 
-    /// Whether the group has no flash that comes before the first one so far.
+    /// Whether the search already has a flash that is no later than any of the group.
     fn is_later(&self, search: &Search) -> bool
         ensures { result ≡ true → (held : TheOther) × (search.now.first ≡ Some held) × (held.place ≤ self.now.bounds.first.place) }
     {
@@ -116,7 +116,7 @@ impl Group {
 }
 
 impl Search {
-    /// The search behind so many groups, and at least one.
+    /// The search after this many groups, one at least.
     fn by(&self, groups: usize, passed: usize, first: Option<Other>) -> Search
         requires { self.now.next < usize.MAX }
         ensures next { self.now.next < result.next }
@@ -130,7 +130,7 @@ impl Search {
         }
     }
 
-    /// The search behind a group, or behind the first of those of its flashes, where more has to be known of it.
+    /// The search after a group; or after its head alone, where its parts must be looked at.
     fn behind(&self, others: &[Other], group: &Group, hole: &Hole) -> Search
         requires next { self.now.next < usize.MAX }
         requires group { IsGroup others.now group.now }
@@ -159,8 +159,8 @@ impl Search {
     }
 }
 
-/// The first of the flashes of a layer that are no pads, by its place there, whose point lies in a hole: these flashes in any order, and
-/// their groups.
+/// The earliest flash of a layer that is no pad and whose point lies in a hole. `all` are these flashes in any order, `groups` are
+/// groups of them.
 pub(crate) fn first_in(all: &[Other], groups: &[Group], hole: &Hole) -> Option<Other>
     requires { AreGroups all.now groups.now }
     ensures { (flashes : List TheFlash) → IsPermutation (others flashes) all.now → result ≡ other_in flashes hole.now }

@@ -1,4 +1,4 @@
-//! What is known of a layer, for the causes of its holes.
+//! The data that is kept of a layer, to find why its holes lack their rings.
 
 ghost use Rattle.std.specs.Prelude.{◌≡◌, ◌<◌, ◌+◌, ◌-ℤ◌, ◌≤ℤ◌, ℕ, List, pos, neg_ℤ, false, true, IfOk, length, get_or};
 ghost use Rattle.pad_shapes.specs.Pads.{pad_covers};
@@ -19,7 +19,7 @@ use report_text::{InPad, RingCause};
 use ring_rules::{Drilled, is_oblique};
 use std::alloc::{AllocError, Global};
 
-/// What is known of a layer: its pads and its other flashes, and the pad in which each hole lies deepest.
+/// The data of a layer: its pads, its other flashes, and the best pad of each hole (the one in which it lies deepest).
 #[derive(Drop)]
 pub struct LayerCauses {
     pads: Vec<Pad>,
@@ -29,7 +29,7 @@ pub struct LayerCauses {
     bests: Vec<Option<Best>>,
 }
 
-/// The pad that a flash is, if it is one.
+/// The pad of a flash, if it is one.
 fn pad_in(flash: &Flash) -> Option<Pad>
     ensures { result ≡ pad_in flash.now.what }
 {
@@ -39,7 +39,7 @@ fn pad_in(flash: &Flash) -> Option<Pad>
     }
 }
 
-/// The place of a flash, where it is a pad.
+/// The place of a flash that is a pad.
 fn pad_place(place: usize, flash: &Flash) -> Option<usize>
     ensures { result ≡ pad_place (place, flash.now) }
 {
@@ -68,7 +68,7 @@ fn pad_places(alloc: Global, flashes: &[Flash]) -> Result<Vec<usize>, AllocError
         .collect(alloc)
 }
 
-/// The ring of a hole in its best pad.
+/// The ring of a hole in its best pad, in pm; below 0 where the hole's edge lies outside the pad.
 fn ring_of(best: Best, hole: &Hole) -> i64
     ensures value { result ≡ pos best.depth -ℤ pos hole.now.radius }
     ensures least { neg_ℤ (pos 5000000000000) ≤ℤ result }
@@ -77,7 +77,7 @@ fn ring_of(best: Best, hole: &Hole) -> i64
     best.depth as i64 - hole.radius()
 }
 
-/// What a ring lacks of the one that is asked.
+/// What a ring lacks of the required one, in pm.
 fn lack_of(rules: Rules, ring: i64) -> i64
     requires least { neg_ℤ (pos 5000000000000) ≤ℤ ring }
     requires most { ring ≤ℤ pos 5000000000000 }
@@ -86,14 +86,14 @@ fn lack_of(rules: Rules, ring: i64) -> i64
     rules.ring() - ring
 }
 
-/// Whether two lists have the same pads.
+/// Whether two lists hold equal pads in the same order.
 fn are_same(pads: &[Pad], others: &[Pad]) -> bool
     ensures { result ≡ true → pads.now ≡ others.now }
 {
     pads == others
 }
 
-/// The best pads of a layer for these holes: those that are known where they are of the same pads, since to look for them takes long.
+/// The best pads of a layer for these holes. Those given are copied if they belong to equal pads, since a search takes long.
 fn bests_of(
     alloc: Global,
     pads: &[Pad],
@@ -110,7 +110,7 @@ fn bests_of(
 }
 
 impl LayerCauses {
-    /// What is known of the layer of these flashes, by its pads and the best of them for each hole.
+    /// The data of the layer of these flashes, by its pads and their best ones for the holes.
     fn of(
         alloc: Global,
         flashes: &[Flash],
@@ -130,11 +130,11 @@ impl LayerCauses {
         })
     }
 
-    /// What is known of the layer of these flashes, for these holes.
+    /// The data of the layer of these flashes, for these holes.
     ///
     /// # Errors
     ///
-    /// Where there is no memory.
+    /// An `AllocError` when memory runs out.
     pub fn new(
         alloc: Global,
         flashes: &[Flash],
@@ -147,12 +147,12 @@ impl LayerCauses {
         LayerCauses::of(alloc, flashes, pads, bests)
     }
 
-    /// What is known of the layer of these flashes, for these holes, where the best pads of some pads for these holes are known already:
-    /// where the flashes are those pads, these are not looked for again.
+    /// The data of the layer of these flashes, for these holes. `bests` are the best of `pads` for these holes: they are taken where the
+    /// layer has just these pads, else the best pads are searched for.
     ///
     /// # Errors
     ///
-    /// Where there is no memory.
+    /// An `AllocError` when memory runs out.
     pub fn with_bests(
         alloc: Global,
         flashes: &[Flash],
@@ -167,7 +167,7 @@ impl LayerCauses {
         LayerCauses::of(alloc, flashes, own, bests)
     }
 
-    /// The number of the flash of a pad, from 1.
+    /// The number of a pad's flash on the layer, from 1.
     fn flash_of(&self, flashes: &[Flash], pad: usize) -> usize
         requires known { IsKnownOf flashes.now self.now }
         requires pad { pad < length (pads_of flashes.now) }
@@ -176,7 +176,7 @@ impl LayerCauses {
         self.places[pad] + 1
     }
 
-    /// The best pad of a hole, and what the hole lacks in it.
+    /// The best pad of a hole, with the hole's ring in it and what this lacks.
     fn in_pad(&self, flashes: &[Flash], hole: &Hole, best: Best, rules: Rules) -> InPad
         requires known { IsKnownOf flashes.now self.now }
         requires best { IsBest pad_covers (pads_of flashes.now) (length (pads_of flashes.now)) hole.now best }
@@ -191,7 +191,7 @@ impl LayerCauses {
         }
     }
 
-    /// Why a hole that lies in a pad lacks its ring.
+    /// Why a hole that has a best pad lacks its ring.
     fn in_best(&self, flashes: &[Flash], hole: &Hole, best: Best, rules: Rules) -> RingCause
         requires known { IsKnownOf flashes.now self.now }
         requires straight { is_oblique hole.now ≡ false }
@@ -206,7 +206,7 @@ impl LayerCauses {
         }
     }
 
-    /// Why a hole that lies in no pad lacks its ring.
+    /// Why a hole that no pad covers lacks its ring.
     fn in_none(&self, flashes: &[Flash], hole: &Hole) -> RingCause
         requires known { IsKnownOf flashes.now self.now }
         requires none { HasNoPad flashes.now hole.now }
@@ -221,7 +221,7 @@ impl LayerCauses {
         }
     }
 
-    /// Why a hole lacks its ring, by the pad in which it lies deepest.
+    /// Why a hole lacks its ring, by its best pad.
     fn cause_of(
         &self,
         flashes: &[Flash],
@@ -242,7 +242,7 @@ impl LayerCauses {
         }
     }
 
-    /// Why the hole at a place, from 0, lacks the ring of these rules on the layer of these flashes. They are those that this is known of.
+    /// Why the hole at a place, from 0, lacks the ring of these rules on the layer. The flashes and holes must be those of the data.
     pub fn cause(
         &self,
         flashes: &[Flash],

@@ -1,4 +1,4 @@
-//! The flashes of a layer that are no pads, and those of them in which holes lie.
+//! The flashes of a layer that are no pads, and the first of them in a hole.
 
 ghost use Rattle.std.specs.Prelude.{◌≡◌, ◌++◌, ◌∷◌, [], List, nat_lt, IfOk, if◌then◌else◌};
 ghost use Rattle.std.specs.List.Sorted.{IsPermutation};
@@ -17,13 +17,13 @@ use std::cmp::Ordering;
 pub(crate) struct Other {
     /// Its place on the layer, from 0.
     pub(crate) place: usize,
-    /// Its point.
+    /// Its coordinates.
     pub(crate) at: Point,
-    /// Why it is no pad.
+    /// Why it is no pad, such as a macro aperture.
     pub(crate) why: Why,
 }
 
-/// What is told of a flash, where it is no pad.
+/// A flash with its place, if it is no pad.
 fn other_flash(place: usize, flash: &Flash) -> Option<Other>
     ensures { result ≡ other_flash place flash.now.at flash.now.what }
 {
@@ -48,13 +48,13 @@ fn in_order(alloc: Global, flashes: &[Flash]) -> Result<Vec<Other>, AllocError>
         .collect(alloc)
 }
 
-/// How far a coordinate is from the least of all numbers, so that the bits of two coordinates can be compared.
+/// The distance of a coordinate from `i64::MIN`: as unsigned numbers, two coordinates can be compared bit by bit.
 fn from_least(coordinate: i64) -> u64 {
     coordinate.abs_diff(i64::MIN)
 }
 
-/// How two points stand along a curve through ever smaller squares, on which points that are near each other mostly stand together: by the
-/// coordinates that differ in the higher bit. What is found does not depend on it, so no clause speaks of it.
+/// The order of two points along a curve through ever smaller squares (Z-order), on which neighbours mostly stand together: that of the
+/// coordinates that differ in the higher bit. The answers do not depend on it, so no clause speaks of it.
 fn along_curve(a: Point, b: Point) -> Ordering {
     let (ax, bx) = (from_least(a.x()), from_least(b.x()));
     let (ay, by) = (from_least(a.y()), from_least(b.y()));
@@ -66,7 +66,7 @@ fn along_curve(a: Point, b: Point) -> Ordering {
     }
 }
 
-/// The flashes that are no pads, such that those that are near each other mostly stand together.
+/// The flashes that are no pads, ordered so that neighbours mostly stand together.
 pub(crate) fn others(alloc: Global, flashes: &[Flash]) -> Result<Vec<Other>, AllocError>
     ensures { IfOk result (λ found. IsPermutation (others flashes.now) found.items) }
 {
@@ -75,7 +75,7 @@ pub(crate) fn others(alloc: Global, flashes: &[Flash]) -> Result<Vec<Other>, All
     Ok(found)
 }
 
-/// The first of two flashes by their places, where there is one so far.
+/// The flash of the lesser place: of the first so far, if there is one, and another.
 pub(crate) fn lesser(first: Option<Other>, other: Other) -> Other
     ensures { result ≡ option_map_or (λ held. if nat_lt other.place held.place then other else held) first other }
 {
@@ -91,7 +91,7 @@ pub(crate) fn lesser(first: Option<Other>, other: Other) -> Other
     }
 }
 
-/// The first flash of those so far and one more, by its place, whose point lies in a hole.
+/// The earliest flash in a hole, of those so far and one more.
 fn earlier(first: Option<Other>, other: Other, hole: &Hole) -> Option<Other>
     ensures { (seen : List Other) → IsFirstIn seen hole.now first → IsFirstIn (seen ++ other ∷ []) hole.now result }
 {
@@ -101,7 +101,7 @@ fn earlier(first: Option<Other>, other: Other, hole: &Hole) -> Option<Other>
     Some(lesser(first, other))
 }
 
-/// The first flash of those so far and some more, by its place, whose point lies in a hole.
+/// The earliest flash in a hole, of those so far and some more.
 pub(crate) fn first_of(first: Option<Other>, others: &[Other], hole: &Hole) -> Option<Other>
     ensures { (seen : List Other) → IsFirstIn seen hole.now first → IsFirstIn (seen ++ others.now) hole.now result }
 {

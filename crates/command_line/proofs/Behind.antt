@@ -1,4 +1,4 @@
--- What the program makes of the words behind a command's name, from the steps of the command's walk.
+-- What the program makes of the words after a command's name, from the steps of the command's walk.
 use Rattle.std.proofs.Common.{◌≡◌, ◌∙◌, ◌==◌, ◌&&◌, ◌++◌, ℕ, true, false, refl, ap, ap₂, sym, List, [], ◌∷◌, Option, Some, None, Bool, append_assoc}
 use Rattle.std.specs.Prelude.{is_some}
 use Rattle.std.specs.List.{list_all, fold}
@@ -16,16 +16,16 @@ use Rattle.command_line.specs.Line.{is_plain_if_some, is_plain_word, option_word
 
 -- ---- rows and places
 
--- what is found for an option or a place with one value
+-- the row of an option or an argument with one value
 abbrev pub given : Text → Text → Row
 given id value = record { id = id; values = value ∷ []; count = None; source = Some source.CommandLine; reading = reading_of parser.String }
 
--- what is found for an option that need not be there
+-- the row of an option that may be left out
 abbrev pub given_if_some : Text → Option Text → List Row
 given_if_some id None = []
 given_if_some id (Some value) = given id value ∷ []
 
--- between two words of a command
+-- the walk of a command between two words
 abbrev pub standing : List Row → Option (Text × List Text) → Waiting → ℕ → Walk
 standing rows pending waits position = record {
   held = record { rows = rows; pending = pending; skip = 0 };
@@ -75,13 +75,13 @@ module _ (s : Shape) where
   goes_by name value before between behind words end g v p h =
       goes_on before name between (value ∷ words) end g (goes_on between value (behind value) words end (plain_goes between behind v value p) h)
 
-  -- an option that need not be there
+  -- an option that may be left out
   pub goes_if_some : (name : Text) (o : Option Text) (between : Walk) (behind : Option Text → Walk) (words : List Text) (end : Walk) → Goes (behind None) name between
       → GoesByPlain between (λ value. behind (Some value)) → is_plain_if_some o ≡ true → Runs (behind o) words end → Runs (behind None) (option_words name o ++ words) end
   goes_if_some name None between behind words end g v p h = h
   goes_if_some name (Some value) between behind words end g v p h = goes_by name value (behind None) between (λ w. behind (Some w)) words end g v p h
 
-  -- what is asked where the walk ends
+  -- what must hold where the walk ends
   abbrev pub passes_end : Held → Bool
   passes_end end = settle_passes s.rules s.args_override_self end && (list_all default_passes s.rules && is_valid s (finished s.rules end) false)
 
@@ -93,7 +93,7 @@ module _ (s : Shape) where
 abbrev pub program : App
 program = built ringcheck_app
 
--- where the program's walk stands behind a command's name and these words
+-- where the program's walk stands after a command's name and these words
 abbrev pub stopped : Text → List Text → Walk
 stopped name words = record { held = nothing_held; waiting = idle; position = 1; is_trailing = false; stopped = Some (name, words) }
 
@@ -113,7 +113,7 @@ unfolding walk_passes walked
 passes name words [] = refl
 passes name words (w ∷ rest) = passes name (words ++ w ∷ []) rest
 
--- what is asked where the program's walk ends
+-- what must hold where the program's walk ends
 abbrev pub taken_at : Walk → Bool → Bool
 taken_at end goes = entered_passes program end.stopped && (goes && (settle_passes program.top.rules program.top.args_override_self end.held
     && (list_all default_passes program.top.rules && is_valid program.top (finished program.top.rules end.held) (is_some (entered program end.stopped)))))

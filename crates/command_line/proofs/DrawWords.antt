@@ -64,7 +64,7 @@ both : (a b : Bool) → (a && b) ≡ true → (a ≡ true) × (b ≡ true)
 both true b h = (refl, h)
 both false b h = absurd (false≢true h)
 
--- the words behind the name
+-- the words after the name
 abbrev values : Option (Text × Text) → Text → List Text
 values None m = m ∷ []
 values (Some (r, g)) m = codes "--ring" ∷ r ∷ codes "--gap" ∷ g ∷ m ∷ []

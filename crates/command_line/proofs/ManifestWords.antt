@@ -79,7 +79,7 @@ runs_files why f fs h =
     goes_on listing (begun why) f (has_files why (f ∷ [])) fs (has_files why (f ∷ fs))
     (plain_goes listing (begun why) (λ g. has_files why (g ∷ [])) (first_file why) f k.0) (runs_more why (f ∷ []) fs k.1)
 
--- the words behind the name
+-- the words after the name
 abbrev values : Bool → List Text → List Text
 values why files = if why then codes "--why" ∷ files else files
 

@@ -40,7 +40,7 @@ unfolding clap_on_literals
 manifest None x xs p = (rw (p, p) refl, rw (p, p) refl)
 manifest (Some f) x xs p = (rw (p, p) refl, rw (p, p) refl)
 
--- the words behind the name
+-- the words after the name
 abbrev values : Option Text → Text → List Text
 values o m = option_words (codes "--format") o ++ m ∷ []
 

@@ -45,7 +45,7 @@ gap : (r : Text) → GoesByPlain reporting (wants_gap r) (has_gap r)
 unfolding clap_on_literals
 gap r x xs p = (rw (p, p) refl, rw (p, p) refl)
 
--- ---- the options that need not be there
+-- ---- the options that may be left out
 
 abbrev wants_most : Text → Text → Walk
 wants_most r g = standing (given (codes "ring") r ∷ given (codes "gap") g ∷ []) (Some (codes "max", [])) (waits_for (codes "max")) 1
@@ -120,7 +120,7 @@ manifest r g (Some n) None (Some f) x xs p = (rw (p, p) refl, rw (p, p) refl)
 manifest r g (Some n) (Some l) None x xs p = (rw (p, p) refl, rw (p, p) refl)
 manifest r g (Some n) (Some l) (Some f) x xs p = (rw (p, p) refl, rw (p, p) refl)
 
--- ---- all words behind the name
+-- ---- all words after the name
 
 abbrev format_values : Option Text → Text → List Text
 format_values o m = option_words (codes "--format") o ++ m ∷ []

@@ -38,7 +38,7 @@ file : (k : Text) → GoesByPlain rewriting (has_kind k) (has_file k)
 unfolding clap_on_literals
 file k x xs p = (rw (p, p) refl, rw (p, p) refl)
 
--- the words behind the name
+-- the words after the name
 abbrev values : Text → Text → List Text
 values k f = codes "--kind" ∷ k ∷ f ∷ []
 

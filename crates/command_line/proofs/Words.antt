@@ -61,7 +61,7 @@ manifest : (r g : Text) → GoesByPlain checking (has_gap r g) (has_manifest r g
 unfolding clap_on_literals
 manifest r g x xs p = (rw (p, p) refl, rw (p, p) refl)
 
--- the words behind the name
+-- the words after the name
 abbrev values : Text → Text → Text → List Text
 values r g m = codes "--ring" ∷ r ∷ codes "--gap" ∷ g ∷ m ∷ []
 

@@ -1,4 +1,4 @@
--- The program's command line, in the words of `clap`.
+-- The program's command line, as a command of the crate `clap` (docs/FORMATS.md, The program).
 use Rattle.std.specs.Prelude.{◌≡◌, ◌≢◌, ◌==◌, ◌&&◌, Bool, true, false, not, List, [], ◌∷◌, ◌++◌, length, map, codes, Some, None, Option, option_map, Result, Ok, Err, if◌then◌else◌}
 use Rattle.std.specs.List.{list_all}
 use Rattle.clap.specs.Lexer.{usize_max}
@@ -14,65 +14,65 @@ use Rattle.command_line.specs.declared.Refusal.TheVariants.{Help, Version, Usage
 
 -- ---- the commands
 
--- a required word with a place, and what help calls it (docs/FORMATS.md, The program)
+-- a required argument by its position, such as `MANIFEST`
 abbrev pub positional : Text → Rule
 positional id = record (new_rule id) { required = true; action = Some Set; value_names = 1 }
 
--- a required option with one value (docs/FORMATS.md, The program)
+-- a required option with one value, such as `--ring MM`
 abbrev pub option : Text → Rule
 option id = record (positional id) { long = Some id }
 
--- a word with a place that need not be there (docs/FORMATS.md, The program)
+-- an argument by its position that may be left out, such as `[WORD]`
 abbrev pub maybe : Text → Rule
 maybe id = record (new_rule id) { action = Some Set; value_names = 1 }
 
--- an option with one value that need not be there (docs/FORMATS.md, The program)
+-- an option with one value that may be left out, such as `[--max N]`
 abbrev pub maybe_option : Text → Rule
 maybe_option id = record (maybe id) { long = Some id }
 
--- one required word or more with a place (docs/FORMATS.md, The program)
+-- one required argument by its position, or more of them, such as `FILE..`
 abbrev pub several : Text → Rule
 several id = record (new_rule id) { required = true; action = Some Append; range = Some (record { start_inclusive = 1; end_inclusive = usize_max }); value_names = 1 }
 
--- an option without a value (docs/FORMATS.md, The program)
+-- an option without a value, such as `[--why]`
 abbrev pub switch : Text → Rule
 switch id = record (new_rule id) { long = Some id; action = Some SetTrue }
 
--- `check --ring MM --gap MM MANIFEST` (docs/FORMATS.md, The program)
+-- `check --ring MM --gap MM MANIFEST`
 abbrev pub check_app : App
 check_app = with_rule (with_rule (with_rule (new_app (codes "check")) (option (codes "ring"))) (option (codes "gap"))) (positional (codes "manifest"))
 
--- `measure [--format text|json] MANIFEST` (docs/FORMATS.md, The program)
+-- `measure [--format text|json] MANIFEST`
 abbrev pub measure_app : App
 measure_app = with_rule (with_rule (new_app (codes "measure")) (maybe_option (codes "format"))) (positional (codes "manifest"))
 
--- `report --ring MM --gap MM [--max N] [--waive FILE] [--format text|json|waivers] MANIFEST` (docs/FORMATS.md, The program)
+-- `report --ring MM --gap MM [--max N] [--waive FILE] [--format text|json|waivers] MANIFEST`
 abbrev pub report_app : App
 report_app =
     with_rule (with_rule (with_rule (with_rule (with_rule (with_rule (new_app (codes "report")) (option (codes "ring"))) (option (codes "gap"))) (maybe_option (codes "max")))
     (maybe_option (codes "waive"))) (maybe_option (codes "format"))) (positional (codes "manifest"))
 
--- `draw [--ring MM --gap MM] MANIFEST` (docs/FORMATS.md, The program)
+-- `draw [--ring MM --gap MM] MANIFEST`
 abbrev pub draw_app : App
 draw_app = with_rule (with_rule (with_rule (new_app (codes "draw")) (maybe_option (codes "ring"))) (maybe_option (codes "gap"))) (positional (codes "manifest"))
 
--- `show --kind layer|drill FILE` and `rewrite --kind layer|drill FILE` (docs/FORMATS.md, The program)
+-- `show --kind layer|drill FILE` and `rewrite --kind layer|drill FILE`
 abbrev pub file_app : Text → App
 file_app name = with_rule (with_rule (new_app name) (option (codes "kind"))) (positional (codes "file"))
 
--- `manifest [--why] FILE..` (docs/FORMATS.md, The program)
+-- `manifest [--why] FILE..`
 abbrev pub manifest_app : App
 manifest_app = with_rule (with_rule (new_app (codes "manifest")) (switch (codes "why"))) (several (codes "file"))
 
--- `explain [WORD]` (docs/FORMATS.md, The program)
+-- `explain [WORD]`
 abbrev pub explain_app : App
 explain_app = with_rule (new_app (codes "explain")) (maybe (codes "word"))
 
--- a program with a version, whose words come without its name, and begin with a command (docs/FORMATS.md, The program)
+-- the program without its commands: it has a version, its words come without its name, and they must begin with a command
 abbrev pub program_app : App
 program_app = let bare = new_app (codes "ringcheck") in record bare { top = record bare.top { no_binary_name = true; subcommand_required = true; has_version = true } }
 
--- the program with its commands (docs/FORMATS.md, The program)
+-- the program with its eight commands
 abbrev pub ringcheck_app : App
 ringcheck_app =
     with_subcommand (with_subcommand (with_subcommand (with_subcommand (with_subcommand (with_subcommand (with_subcommand (with_subcommand program_app
@@ -81,13 +81,13 @@ ringcheck_app =
 
 -- ---- what any words ask for
 
--- what an option without a value says, as far as `clap` reads it so (docs/FORMATS.md, The program)
+-- whether an option without a value is on, by the value that `clap` gives it; where it gives none it is off
 pub record Switched (text : Option Text) (on : Bool) : Type 0 where
   pub yes : text ≡ Some (codes "true") → on ≡ true
   pub no : text ≡ Some (codes "false") → on ≡ false
   pub none : text ≡ None → on ≡ false
 
--- the request is that of a command, with the values that `clap` gives its options and its file (docs/FORMATS.md, The program)
+-- the request is that of the command that `clap` finds, with the first value of each option, and the file or files
 abbrev pub AsksFor : Option (Text × List Row) → Request → Type 0
 AsksFor None asked = ⊥
 AsksFor (Some (name, rows)) (Check ring gap manifest) =
@@ -109,8 +109,8 @@ AsksFor (Some (name, rows)) (Manifest why files) =
     (name ≡ codes "manifest") × Switched (one_of (codes "why") rows) why × (all_of (codes "file") rows ≡ Some (map (λ file. file.now) files.items))
 AsksFor (Some (name, rows)) (Explain word) = (name ≡ codes "explain") × (first_of (codes "word") rows ≡ option_map (λ w. w.now) word)
 
--- The answer to the words of a line, running out of memory aside: a request just where `clap` finds no fault in them, and else help
--- or the version where that is what it finds asked for (docs/FORMATS.md, The program).
+-- the answer to the words of a line, running out of memory aside: a request just where `clap` finds no fault in them,
+-- help or the version where it finds these asked for, and a usage error where it finds another fault
 abbrev pub AnswersLine : List Text → Result Request Refusal → Type 0
 AnswersLine words (Ok asked) = (fault_of ringcheck_app words ≡ []) × AsksFor (subcommand_of ringcheck_app words) asked
 AnswersLine words (Err (Help text)) = IsAmong DisplayHelp (fault_of ringcheck_app words)
@@ -120,16 +120,16 @@ AnswersLine words (Err Memory) = Unit {0}
 
 -- ---- what the words of a check ask for
 
--- a word is not empty and does not begin with `-`, the byte 45 (docs/FORMATS.md, The program)
+-- whether a word is plain: it is not empty and does not begin with `-`, the byte 45
 abbrev pub is_plain_word : Text → Bool
 is_plain_word [] = false
 is_plain_word (x ∷ xs) = not (x == 45)
 
--- the words of a check in their usual order (docs/FORMATS.md, The program)
+-- the words `check --ring R --gap G M`
 abbrev pub check_words : Text → Text → Text → List Text
 check_words ring gap manifest = codes "check" ∷ codes "--ring" ∷ ring ∷ codes "--gap" ∷ gap ∷ manifest ∷ []
 
--- the request is a check with these words (docs/FORMATS.md, The program)
+-- the request is a check with just this ring, gap and manifest
 abbrev pub IsCheck : Text → Text → Text → Request → Type 0
 IsCheck r g m (Check ring gap manifest) = (ring.now ≡ r) × (gap.now ≡ g) × (manifest.now ≡ m)
 IsCheck r g m (Measure format manifest) = ⊥
@@ -140,7 +140,7 @@ IsCheck r g m (Rewrite kind file) = ⊥
 IsCheck r g m (Manifest why files) = ⊥
 IsCheck r g m (Explain word) = ⊥
 
--- the answer is a check with these words, running out of memory aside (docs/FORMATS.md, The program)
+-- the answer is a check with just these words, running out of memory aside
 abbrev pub AnswersCheck : Text → Text → Text → Result Request Refusal → Type 0
 AnswersCheck r g m (Ok asked) = IsCheck r g m asked
 AnswersCheck r g m (Err Memory) = Unit {0}
@@ -150,11 +150,11 @@ AnswersCheck r g m (Err (Usage text)) = ⊥
 
 -- ---- what the words of a command on one file ask for
 
--- the words of `show` and `rewrite` in their usual order (docs/FORMATS.md, The program)
+-- the words `show --kind K F` or `rewrite --kind K F`
 abbrev pub file_words : Text → Text → Text → List Text
 file_words name kind file = name ∷ codes "--kind" ∷ kind ∷ file ∷ []
 
--- the request is to show a file of this kind (docs/FORMATS.md, The program)
+-- the request is to show this file as one of this kind
 abbrev pub IsShow : Text → Text → Request → Type 0
 IsShow k f (Check ring gap manifest) = ⊥
 IsShow k f (Measure format manifest) = ⊥
@@ -165,7 +165,7 @@ IsShow k f (Rewrite kind file) = ⊥
 IsShow k f (Manifest why files) = ⊥
 IsShow k f (Explain word) = ⊥
 
--- the request is to rewrite a file of this kind (docs/FORMATS.md, The program)
+-- the request is to rewrite this file as one of this kind
 abbrev pub IsRewrite : Text → Text → Request → Type 0
 IsRewrite k f (Check ring gap manifest) = ⊥
 IsRewrite k f (Measure format manifest) = ⊥
@@ -176,7 +176,7 @@ IsRewrite k f (Rewrite kind file) = (kind.now ≡ k) × (file.now ≡ f)
 IsRewrite k f (Manifest why files) = ⊥
 IsRewrite k f (Explain word) = ⊥
 
--- the answer is such a request, running out of memory aside (docs/FORMATS.md, The program)
+-- the answer is such a request, running out of memory aside
 abbrev pub AnswersAs : (Request → Type 0) → Result Request Refusal → Type 0
 AnswersAs IsAsked (Ok asked) = IsAsked asked
 AnswersAs IsAsked (Err Memory) = Unit {0}
@@ -186,15 +186,15 @@ AnswersAs IsAsked (Err (Usage text)) = ⊥
 
 -- ---- what the words of the other commands ask for
 
--- one plain word or more (docs/FORMATS.md, The program)
+-- whether there are some words, and each is plain
 abbrev pub are_plain_words : List Text → Bool
 are_plain_words words = not (length words == 0) && list_all is_plain_word words
 
--- the words of `manifest`, with the table of why or without (docs/FORMATS.md, The program)
+-- the words `manifest FILE..` or, for the table of why, `manifest --why FILE..`
 abbrev pub manifest_words : Bool → List Text → List Text
 manifest_words why files = codes "manifest" ∷ (if why then codes "--why" ∷ files else files)
 
--- the request is for a manifest of these files, or for the table of why (docs/FORMATS.md, The program)
+-- the request is for a manifest of these files, or for the table of why
 abbrev pub IsManifest : Bool → List Text → Request → Type 0
 IsManifest w fs (Check ring gap manifest) = ⊥
 IsManifest w fs (Measure format manifest) = ⊥
@@ -205,21 +205,21 @@ IsManifest w fs (Rewrite kind file) = ⊥
 IsManifest w fs (Manifest why files) = (why ≡ w) × (map (λ file. file.now) files.items ≡ fs)
 IsManifest w fs (Explain word) = ⊥
 
--- a word that need not be there is plain where it is (docs/FORMATS.md, The program)
+-- whether a word that may be left out is plain where it is there
 abbrev pub is_plain_if_some : Option Text → Bool
 is_plain_if_some None = true
 is_plain_if_some (Some word) = is_plain_word word
 
--- the words of an option and its value where it is there (docs/FORMATS.md, The program)
+-- an option and its value where there is a value, and else no words
 abbrev pub option_words : Text → Option Text → List Text
 option_words name None = []
 option_words name (Some value) = name ∷ value ∷ []
 
--- the words of `measure` in their usual order, with a format or without (docs/FORMATS.md, The program)
+-- the words `measure [--format F] M`
 abbrev pub measure_words : Option Text → Text → List Text
 measure_words format manifest = codes "measure" ∷ (option_words (codes "--format") format ++ manifest ∷ [])
 
--- the request is to measure the package of this manifest, with this format or without (docs/FORMATS.md, The program)
+-- the request is to measure the package of this manifest, with just this format or with none
 abbrev pub IsMeasure : Option Text → Text → Request → Type 0
 IsMeasure o m (Check ring gap manifest) = ⊥
 IsMeasure o m (Measure format manifest) = (option_map (λ f. f.now) format ≡ o) × (manifest.now ≡ m)
@@ -230,13 +230,13 @@ IsMeasure o m (Rewrite kind file) = ⊥
 IsMeasure o m (Manifest why files) = ⊥
 IsMeasure o m (Explain word) = ⊥
 
--- the words of `report` in their usual order, with the number of findings that are told at most, a file of waivers and a format, or without (docs/FORMATS.md, The program)
+-- the words `report --ring R --gap G [--max N] [--waive V] [--format F] M`
 abbrev pub report_words : Text → Text → Option Text → Option Text → Option Text → Text → List Text
 report_words ring gap most waive format manifest =
     codes "report" ∷ codes "--ring" ∷ ring ∷ codes "--gap" ∷ gap
     ∷ (option_words (codes "--max") most ++ (option_words (codes "--waive") waive ++ (option_words (codes "--format") format ++ manifest ∷ [])))
 
--- the request is for a report under these rules of the package of this manifest, with this number of findings at most, this file of waivers and this format, or without (docs/FORMATS.md, The program)
+-- the request is a report with just this ring, gap and manifest, and just these of a limit of findings, a file of waivers and a format
 abbrev pub IsReport : Text → Text → Option Text → Option Text → Option Text → Text → Request → Type 0
 IsReport r g n v o m (Check ring gap manifest) = ⊥
 IsReport r g n v o m (Measure format manifest) = ⊥
@@ -248,17 +248,17 @@ IsReport r g n v o m (Rewrite kind file) = ⊥
 IsReport r g n v o m (Manifest why files) = ⊥
 IsReport r g n v o m (Explain word) = ⊥
 
--- the words of `draw` in their usual order, with a ring and a gap or without (docs/FORMATS.md, The program)
+-- the words `draw M` or `draw --ring R --gap G M`
 abbrev pub draw_words : Option (Text × Text) → Text → List Text
 draw_words None manifest = codes "draw" ∷ manifest ∷ []
 draw_words (Some (ring, gap)) manifest = codes "draw" ∷ codes "--ring" ∷ ring ∷ codes "--gap" ∷ gap ∷ manifest ∷ []
 
--- a ring and a gap that need not be there are plain words where they are (docs/FORMATS.md, The program)
+-- whether a ring and a gap that may be left out are plain where they are there
 abbrev pub are_plain_rules : Option (Text × Text) → Bool
 are_plain_rules None = true
 are_plain_rules (Some (ring, gap)) = is_plain_word ring && is_plain_word gap
 
--- the request is to draw the package of this manifest with these rules, a ring and a gap, or with none (docs/FORMATS.md, The program)
+-- the request is to draw the package of this manifest, with just this ring and gap or with neither
 abbrev pub IsDraw : Option (Text × Text) → Text → Request → Type 0
 IsDraw o m (Check ring gap manifest) = ⊥
 IsDraw o m (Measure format manifest) = ⊥
@@ -270,12 +270,12 @@ IsDraw o m (Rewrite kind file) = ⊥
 IsDraw o m (Manifest why files) = ⊥
 IsDraw o m (Explain word) = ⊥
 
--- the words of `explain`, with a word to explain or without (docs/FORMATS.md, The program)
+-- the words `explain` or `explain W`
 abbrev pub explain_words : Option Text → List Text
 explain_words None = codes "explain" ∷ []
 explain_words (Some word) = codes "explain" ∷ word ∷ []
 
--- the request is to explain this word, or to list all (docs/FORMATS.md, The program)
+-- the request is to explain this word, or to list the words
 abbrev pub IsExplain : Option Text → Request → Type 0
 IsExplain o (Check ring gap manifest) = ⊥
 IsExplain o (Measure format manifest) = ⊥
@@ -286,7 +286,7 @@ IsExplain o (Rewrite kind file) = ⊥
 IsExplain o (Manifest why files) = ⊥
 IsExplain o (Explain word) = option_map (λ w. w.now) word ≡ o
 
--- the answer is the version, running out of memory aside (docs/FORMATS.md, The program)
+-- the answer is the version, running out of memory aside
 abbrev pub AnswersVersion : Result Request Refusal → Type 0
 AnswersVersion (Ok asked) = ⊥
 AnswersVersion (Err Memory) = Unit {0}

@@ -11,7 +11,7 @@ use std::alloc::{AllocError, Global};
 /// The version of the program, as the file `VERSION` has it.
 pub const VERSION: &str = "0.1.0";
 
-/// What is printed of the version.
+/// The line that `--version` prints.
 pub const VERSION_LINE: &str = "ringcheck 0.1.0\n";
 
 const STATUSES: &str = "Status: 0 no finding, all of them waived, or done; 1 findings; 2 a file is
@@ -40,7 +40,7 @@ ring where holes without a pad are left out. Lengths are in mm, or any, or
 none. A line ring tells the least ring of the holes of one diameter.
 Example:  ringcheck measure board.csv";
 
-// Behind `Usage: ` on two lines, the second below the options of the first.
+// After `Usage: ` it stands on two lines, the second below the options of the first.
 const REPORT_USAGE: &str = "ringcheck report --ring <MM> --gap <MM> [--max <N>] [--waive <FILE>]
                         [--format <text|json|waivers>] <MANIFEST>";
 
@@ -65,7 +65,7 @@ const SHOW: &str = "Example:  ringcheck show --kind drill pth.drl";
 const REWRITE: &str = "Example:  ringcheck rewrite --kind layer top.gbr";
 
 /// The program, whose words come without its name and begin with a command.
-// The values that it builds in turn would lie in the frame of what parses by them.
+// It is not inlined: the values that it builds would otherwise lie in the frame of its caller, which then parses.
 #[inline(never)]
 pub(crate) fn ringcheck<'a>(alloc: Global) -> Result<Command<'a>, AllocError>
     ensures { IfOk result (λ c. app_of c ≡ ringcheck_app) }
@@ -90,7 +90,7 @@ fn program<'a>(alloc: Global) -> Command<'a>
     .subcommand_required(true)
 }
 
-/// A program with the commands on the package of a manifest too.
+/// Adds the commands `check`, `report`, `measure` and `draw`.
 fn with_package_commands<'a>(alloc: Global, program: Command<'a>) -> Result<Command<'a>, AllocError>
     ensures { IfOk result (λ c. app_of c ≡ package_commands_of (app_of program.entry)) }
 {
@@ -100,7 +100,7 @@ fn with_package_commands<'a>(alloc: Global, program: Command<'a>) -> Result<Comm
     joined(program, draw(alloc))
 }
 
-/// A program with the commands on files and on words too.
+/// Adds the commands `manifest`, `explain`, `show` and `rewrite`.
 fn with_file_commands<'a>(alloc: Global, program: Command<'a>) -> Result<Command<'a>, AllocError>
     ensures { IfOk result (λ c. app_of c ≡ file_commands_of (app_of program.entry)) }
 {
@@ -110,7 +110,7 @@ fn with_file_commands<'a>(alloc: Global, program: Command<'a>) -> Result<Command
     joined(program, rewrite(alloc))
 }
 
-/// The program with a command more, where there was memory for it.
+/// The program with one more command, if there was memory for that command.
 fn joined<'a>(
     program: Command<'a>,
     command: Result<Command<'a>, AllocError>,
@@ -181,7 +181,7 @@ fn report<'a>(alloc: Global) -> Result<Command<'a>, AllocError>
     as_report(alloc, under_rules)
 }
 
-/// A command that takes `[--max N] [--waive FILE] [--format text|json|waivers] MANIFEST` too.
+/// Adds `[--max N] [--waive FILE] [--format text|json|waivers] MANIFEST` to a command.
 fn as_report<'a>(alloc: Global, command: Command<'a>) -> Result<Command<'a>, AllocError>
     ensures { IfOk result (λ c. app_of c ≡ report_args_of (app_of command.entry)) }
 {
@@ -308,7 +308,7 @@ fn of_file<'a>(
         .arg(value_of(alloc, "file", "FILE", "File to read"))
 }
 
-/// A command with its texts for help: what it does, how it is called, and what stands below.
+/// A command with its texts for help: what it does, its usage, and what is printed below.
 fn described<'a>(
     alloc: Global,
     name: &'a str,
@@ -324,7 +324,7 @@ fn described<'a>(
         .after_help(below)
 }
 
-/// A word that need not be there. Help shows it by `shown`.
+/// An argument by its position that may be left out. Help shows it as `shown`.
 fn maybe_of<'a>(alloc: Global, id: &'a str, shown: &'a str, help: &'a str) -> Arg<'a>
     ensures rule { rule_of result ≡ maybe id.entry.now }
     ensures global { result.global ≡ false }
@@ -335,7 +335,7 @@ fn maybe_of<'a>(alloc: Global, id: &'a str, shown: &'a str, help: &'a str) -> Ar
         .help(help)
 }
 
-/// A required word.
+/// A required argument by its position.
 fn value_of<'a>(alloc: Global, id: &'a str, shown: &'a str, help: &'a str) -> Arg<'a>
     ensures rule { rule_of result ≡ positional id.entry.now }
     ensures global { result.global ≡ false }
@@ -343,7 +343,7 @@ fn value_of<'a>(alloc: Global, id: &'a str, shown: &'a str, help: &'a str) -> Ar
     maybe_of(alloc, id, shown, help).required(true)
 }
 
-/// An option with one value that need not be there.
+/// An option with one value that may be left out.
 fn maybe_option_of<'a>(alloc: Global, id: &'a str, shown: &'a str, help: &'a str) -> Arg<'a>
     ensures rule { rule_of result ≡ maybe_option id.entry.now }
     ensures global { result.global ≡ false }
@@ -351,7 +351,7 @@ fn maybe_option_of<'a>(alloc: Global, id: &'a str, shown: &'a str, help: &'a str
     maybe_of(alloc, id, shown, help).long(id)
 }
 
-/// The ring that is asked.
+/// `--ring MM`
 fn ring_of<'a>(alloc: Global) -> Arg<'a>
     ensures rule { rule_of result ≡ option (codes "ring") }
     ensures global { result.global ≡ false }
@@ -359,7 +359,7 @@ fn ring_of<'a>(alloc: Global) -> Arg<'a>
     option_of(alloc, "ring", "MM", RING)
 }
 
-/// The gap that is asked.
+/// `--gap MM`
 fn gap_of<'a>(alloc: Global) -> Arg<'a>
     ensures rule { rule_of result ≡ option (codes "gap") }
     ensures global { result.global ≡ false }
@@ -367,7 +367,7 @@ fn gap_of<'a>(alloc: Global) -> Arg<'a>
     option_of(alloc, "gap", "MM", GAP)
 }
 
-/// The format that is asked, where one is.
+/// `[--format text|json]`
 fn format_of<'a>(alloc: Global) -> Arg<'a>
     ensures rule { rule_of result ≡ maybe_option (codes "format") }
     ensures global { result.global ≡ false }
@@ -383,7 +383,7 @@ fn option_of<'a>(alloc: Global, id: &'a str, shown: &'a str, help: &'a str) -> A
     value_of(alloc, id, shown, help).long(id)
 }
 
-/// One word or more.
+/// One required argument by its position, or more of them.
 fn several_of<'a>(alloc: Global, id: &'a str, shown: &'a str, help: &'a str) -> Arg<'a>
     ensures rule { rule_of result ≡ several id.entry.now }
     ensures global { result.global ≡ false }

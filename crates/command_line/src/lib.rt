@@ -24,7 +24,7 @@ use clap::{ArgMatches, Error};
 pub use commands::{VERSION, VERSION_LINE};
 use std::alloc::Global;
 
-/// What the words ask for. The texts are those of the words; no number among them has been read.
+/// What the words ask for. The texts are words of the command line as they stand; no number in them has been read yet.
 #[derive(Debug, Drop)]
 pub enum Request<'a> {
     /// Check the package of a manifest. The ring and the gap are texts in mm.
@@ -33,14 +33,14 @@ pub enum Request<'a> {
         gap: &'a str,
         manifest: &'a str,
     },
-    /// Tell the greatest ring and gap that the package of a manifest meets, in the format of this name, where one is named.
+    /// Print the greatest ring and gap that the package of a manifest meets. `format` is the word for a format, where one is given.
     Measure {
         format: Option<&'a str>,
         manifest: &'a str,
     },
-    /// Tell of each finding under the ring and the gap by how much, and why; the ring and the gap are texts in mm. At most as
-    /// many findings are told as `most` says, a text too, and all where there is none. The file of waivers has this name, where there is one; the format is the name of one, where one
-    /// is named.
+    /// Print each finding under the ring and the gap, by how much it lacks, and why. The ring and the gap are texts in mm. `most`
+    /// is the limit of findings, also a text: without it all of them are shown. `waive` is the name of a file of waivers, and
+    /// `format` the word for a format, where they are given.
     Report {
         ring: &'a str,
         gap: &'a str,
@@ -56,12 +56,12 @@ pub enum Request<'a> {
         gap: Option<&'a str>,
         manifest: &'a str,
     },
-    /// Print the table of a file.
+    /// Print the table of a file, read as a layer or as a drill file.
     Show {
         kind: &'a str,
         file: &'a str,
     },
-    /// Print the canonical text of a file.
+    /// Print the canonical text of a file, read as a layer or as a drill file.
     Rewrite {
         kind: &'a str,
         file: &'a str,
@@ -86,18 +86,18 @@ pub enum Refusal {
     Version,
     /// The words are no command of the program.
     Usage(String),
-    /// There is no memory.
+    /// Memory ran out.
     Memory,
 }
 
-/// What the words of a line, those after the program's name, ask for. The options of a command may stand in any order, as
-/// `--ring MM` or `--ring=MM`, before and behind its file.
+/// What the words of a line ask for, without the program's name. The options of a command may stand in any order, before and
+/// after its file, as `--ring MM` or `--ring=MM`.
 ///
 /// # Errors
 ///
-/// [`Refusal::Help`] where help is asked for, [`Refusal::Version`] where the version is, [`Refusal::Usage`] where the words are no command of the program (no words at
-/// all are none), and [`Refusal::Memory`].
-// The frame of a caller would hold clap's values for as long as the caller runs.
+/// [`Refusal::Help`] where help is asked for, [`Refusal::Version`] where the version is, and [`Refusal::Memory`] where memory
+/// runs out. [`Refusal::Usage`] where the words are no command of the program, also where there are none.
+// It is not inlined: clap's values would otherwise lie in the frame of a caller for as long as that runs.
 #[inline(never)]
 pub fn parse<'a>(alloc: Global, words: &'a [&'a str]) -> Result<Request<'a>, Refusal>
     ensures exact { AnswersLine (map (λ w. w.now) words.entry.now) result }
@@ -136,14 +136,14 @@ pub fn parse<'a>(alloc: Global, words: &'a [&'a str]) -> Result<Request<'a>, Ref
     }
 }
 
-/// How many words there are.
+/// The number of words.
 fn count_of(words: &[&str]) -> usize
     ensures { result ≡ length words.now }
 {
     words.len()
 }
 
-/// What a parsed line asks for.
+/// The request of a parsed line.
 fn request_of<'a>(alloc: Global, matches: &ArgMatches<'a>) -> Option<Request<'a>>
     ensures asked { IfSome result (λ asked. AsksFor (subcommand_rows_of matches.now) asked) }
     ensures check { (r g m : Text) (rows : List Row) → subcommand_rows_of matches.now ≡ Some (codes "check", rows)

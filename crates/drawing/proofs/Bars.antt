@@ -8,7 +8,7 @@ use Rattle.drawing.specs.Layouts.{IsBar, IsRound}
 tens : (j k : ℕ) → j < k → 10 * 10 ^ j ≤ 10 ^ k
 tens j k lt = let h : 10 ^ suc j ≤ 10 ^ k = pow-le-pow_right {n = 10} (omega arith) {i = suc j} {j = k} (omega arith) in omega arith
 
--- once, twice or five times a number
+-- once, twice and five times a number
 abbrev Few : ℕ → ℕ → Type 0
 Few n power = (n ≡ power) ⊎ ((n ≡ 2 * power) ⊎ (n ≡ 5 * power))
 
@@ -28,7 +28,7 @@ at_power n same power is (inr (inl e)) = inr (inl (omega arith))
 at_power n same power is (inr (inr e)) = inr (inr (omega arith))
 
 module _ (width k : ℕ) (least : width < 40 * 10 ^ k) where
-  -- what is at most a quarter of the width
+  -- a round length of at most a quarter of the width
   within : (n : ℕ) → IsRound n → 4 * n ≤ width → (n ≤ 10 ^ k) ⊎ ((n ≡ 2 * 10 ^ k) ⊎ (n ≡ 5 * 10 ^ k))
   within n round short = elim (cases_lt k round.0) [
     | inl more ↦ absurd (too_long width n (10 ^ round.0) (10 ^ k) least round.1 (tens k round.0 more) short)

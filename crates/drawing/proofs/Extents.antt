@@ -1,4 +1,4 @@
--- The extent of some things and one more.
+-- The extent of some elements and one more.
 use Rattle.std.proofs.Common.{◌≡◌, ◌<◌, ◌+◌, ◌++◌, ℕ, List, [], ◌∷◌, Option, length, take, get_or, map, ap, sym, ◌∙◌, append-nil}
 use Rattle.std.specs.List.{flat_map, fold}
 use Rattle.std.proofs.lemmas.List.{take_more}
@@ -7,14 +7,14 @@ use Rattle.std.proofs.lemmas.List.Sums.{fold_more, fold-append}
 use Rattle.std.proofs.lemmas.List.Concat.{flat_map-append}
 use Rattle.drawing.specs.Boxes.{GridExtent, joined_to}
 
--- one thing more
+-- with one more element
 pub extent_more : {X : Type 0} (f : X → GridExtent) (before : Option GridExtent) (xs : List X) (i : ℕ) (d : X) → i < length xs
     → joined_to (fold joined_to before (map f (take i xs))) (f (get_or xs i d)) ≡ fold joined_to before (map f (take (i + 1) xs))
 extent_more {X} f before xs i d lt =
     ap (λ (all : Option GridExtent). joined_to all (f (get_or xs i d))) (fold-map joined_to f before (take i xs))
     ∙ (sym (fold_more (λ (all : Option GridExtent) (x : X). joined_to all (f x)) before xs i d lt) ∙ sym (fold-map joined_to f before (take (i + 1) xs)))
 
--- one layer more
+-- with the extents of one more layer
 pub layers_more : {X : Type 0} (f : X → List GridExtent) (before : Option GridExtent) (xs : List X) (i : ℕ) (d : X) → i < length xs
     → fold joined_to (fold joined_to before (flat_map f (take i xs))) (f (get_or xs i d)) ≡ fold joined_to before (flat_map f (take (i + 1) xs))
 layers_more f before xs i d lt =

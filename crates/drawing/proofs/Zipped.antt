@@ -10,7 +10,7 @@ module _ {A B : Type 0} (R : A → B → Type 0) where
   zip_more (v ∷ vs) [] x y h r = absurd h
   zip_more (v ∷ vs) (u ∷ us) x y h r = (h.0, zip_more vs us x y h.1 r)
 
--- one more, of an element with its place
+-- one more element with its place
 pub zip_placed : {A B : Type 0} (R : ℕ × A → B → Type 0) (xs : List A) (i : ℕ) (d : A) (ys more : List B) (y : B) → i < length xs
     → AllZip R (take i (enumerate_from 0 xs)) ys → R (i, get_or xs i d) y → more ≡ ys ++ y ∷ [] → AllZip R (take (i + 1) (enumerate_from 0 xs)) more
 zip_placed {A} {B} R xs i d ys more y lt h r is =

@@ -1,4 +1,4 @@
--- The box of a board. Lengths are whole picometres.
+-- The box that all panels of a board share (docs/FORMATS.md, Pictures). Lengths are whole picometres.
 use Rattle.std.specs.Prelude.{◌≡◌, ◌*◌, ◌^◌, ◌++◌, ◌+ℤ◌, ◌-ℤ◌, ℕ, ℤ, pos, List, [], get_or, Option, None, Some, map}
 use Rattle.std.specs.Int.{int_min, int_max}
 use Rattle.std.specs.List.{flat_map, fold}
@@ -12,76 +12,76 @@ use Rattle.flashed_boards.specs.Flashed.{FlashedSurvey}
 use Rattle.picture.specs.Scenes.{cross_of}
 use Rattle.picture.specs.declared.frame.Frame.{Frame}
 
--- how far something reaches along both axes (docs/DEFINITIONS.md, Drawings)
+-- how far something reaches: its least and greatest x and y
 pub record GridExtent : Type 0 where
   pub left : ℤ
   pub right : ℤ
   pub bottom : ℤ
   pub top : ℤ
 
--- the extent of what reaches so far from a point along each axis (docs/DEFINITIONS.md, Drawings)
+-- the extent round a point, this far along each axis
 abbrev pub extent_round : GridPoint → ℕ → ℕ → GridExtent
 extent_round p far_x far_y =
     record { left = p.x -ℤ pos far_x; right = p.x +ℤ pos far_x; bottom = p.y -ℤ pos far_y; top = p.y +ℤ pos far_y }
 
--- the least extent with both (docs/DEFINITIONS.md, Drawings)
+-- the least extent that holds both
 abbrev pub joined : GridExtent → GridExtent → GridExtent
 joined a b =
     record { left = int_min a.left b.left; right = int_max a.right b.right; bottom = int_min a.bottom b.bottom; top = int_max a.top b.top }
 
--- the extent of a pad (docs/DEFINITIONS.md, Drawings)
+-- the extent of a pad: its half sides round its centre, for a disc the radius
 abbrev pub pad_extent : Pad → GridExtent
 pad_extent (pads.Disc d) = extent_round d.centre d.radius d.radius
 pad_extent (pads.Rect r) = extent_round r.centre r.half_x r.half_y
 pad_extent (pads.Obround o) = extent_round o.centre o.half_x o.half_y
 
--- the extent of a hole: of both of its ends (docs/DEFINITIONS.md, Drawings)
+-- the extent of a hole: its radius round both of its ends
 abbrev pub hole_extent : GridHole → GridExtent
 hole_extent h = joined (extent_round h.from h.radius h.radius) (extent_round h.to h.radius h.radius)
 
--- the extent of what there is so far, and of one thing more (docs/DEFINITIONS.md, Drawings)
+-- the extent so far, if there is one, joined with another
 abbrev pub joined_to : Option GridExtent → GridExtent → Option GridExtent
 joined_to None extent = Some extent
 joined_to (Some all) extent = Some (joined all extent)
 
--- the extents of all pads of some layers, and of some holes (docs/DEFINITIONS.md, Drawings)
+-- the extents of all pads of some layers, then of some holes
 abbrev pub extents : List (List Pad) → List Drilled → List GridExtent
 extents layers holes = flat_map (λ layer. map pad_extent layer) layers ++ map (λ drilled. hole_extent drilled.hole) holes
 
--- the extent of some things together, if there are any (docs/DEFINITIONS.md, Drawings)
+-- the least extent that holds all of some; `None` where there are none
 abbrev pub whole_extent : List GridExtent → Option GridExtent
 whole_extent all = fold joined_to None all
 
--- the extent of a flash that is no pad: half a millimetre round its point; none of a pad (docs/FORMATS.md, Pictures)
+-- the extent of a flash that is no pad: half a millimetre round its point; none for a pad
 abbrev pub cross_extent : Flash → List GridExtent
 cross_extent flash = map (λ point. extent_round point (5 * 10 ^ 8) (5 * 10 ^ 8)) (cross_of flash)
 
--- the extents of the flashes of some files that are no pads, by the flashes of all files (docs/DEFINITIONS.md, Drawings)
+-- the extents of those flashes of some files that are no pads; `flashes` has a list for each file
 abbrev pub cross_extents : List (List Flash) → List ℕ → List GridExtent
 cross_extents flashes files = flat_map (λ file. flat_map cross_extent (get_or flashes file [])) files
 
--- an extent, or another where there is none (docs/DEFINITIONS.md, Drawings)
+-- an extent, or the other where it is missing
 abbrev pub extent_or : Option GridExtent → Option GridExtent → Option GridExtent
 extent_or None other = other
 extent_or (Some extent) other = Some extent
 
--- the extent of a board: of all its pads and holes; where it has neither, of its other flashes (docs/FORMATS.md, Pictures)
+-- the extent of a board: of all its pads and holes; where it has neither, of its other flashes
 abbrev pub board_extent : FlashedSurvey → Option GridExtent
 board_extent flashed =
     extent_or (whole_extent (extents flashed.board.layers flashed.board.holes)) (whole_extent (cross_extents flashed.flashes flashed.board.layer_indexes))
 
--- a box has this corner at the upper left and these sides (docs/DEFINITIONS.md, Drawings)
+-- a box has this left edge, this top edge and these sides
 pub record HasSides (f : Frame) (left top width height : ℤ) : Type 0 where
   pub at_left : f.left ≡ left
   pub at_top : f.top ≡ top
   pub so_wide : f.width ≡ width
   pub so_high : f.height ≡ height
 
--- a side of a box: at least a nanometre (docs/FORMATS.md, Pictures)
+-- a side of a box: at least a nanometre
 abbrev pub side : ℤ → ℤ → ℤ
 side least greatest = int_max (greatest -ℤ least) (pos 1000)
 
--- the box of what there is: that of its extent, a square millimetre where there is nothing (docs/FORMATS.md, Pictures)
+-- the box of an extent; where there is none a square millimetre, above and right of the origin
 abbrev pub IsBox : Option GridExtent → Frame → Type 0
 IsBox None f = HasSides f (pos 0) (pos (10 ^ 9)) (pos (10 ^ 9)) (pos (10 ^ 9))
 IsBox (Some e) f = HasSides f e.left e.top (side e.left e.right) (side e.bottom e.top)

@@ -1,4 +1,4 @@
--- The drawing of a board: a panel for each copper file.
+-- The drawing of a board: a panel for each copper file (docs/FORMATS.md, Pictures).
 use Rattle.std.specs.Prelude.{◌≡◌, ◌+◌, ◌-◌, ◌^◌, ◌+ℤ◌, ◌-ℤ◌, ℕ, pos, min, List, [], length, get_or, Option, None, Some, IsPermutation}
 use Rattle.std.specs.List.{AllZip, enumerate_from}
 use Rattle.grid_units.specs.Holes.{GridRules}
@@ -17,12 +17,12 @@ use Rattle.drawing.specs.declared.draw.Page.{Page}
 use Rattle.drawing.specs.declared.layout.Layout.{Layout}
 use Rattle.drawing.specs.declared.panels.Panel.{Panel}
 
--- what is found under the rules, nothing where there are none (docs/DEFINITIONS.md, Drawings)
+-- the findings under the rules; none where no rules are given
 abbrev pub found : Option GridRules → Survey → List Finding
 found None board = []
 found (Some rules) board = board_findings rules board
 
--- what stands in the panel of a layer, by its place among the copper files (docs/DEFINITIONS.md, Drawings)
+-- the contents of a layer's panel, by the layer's place among the copper files, from 0
 pub record IsScene (layer : ℕ) (flashes : List Flash) (drilled : List Drilled) (findings : List Finding) (scene : Scene) : Type 0 where
   pub crowded : scene.crowded ≡ is_crowded flashes drilled
   pub pads : IsPermutation (pads_of (unless_crowded scene.crowded flashes)) scene.pads.items
@@ -31,11 +31,11 @@ pub record IsScene (layer : ℕ) (flashes : List Flash) (drilled : List Drilled)
   pub holes : scene.holes.now ≡ unless_crowded scene.crowded drilled
   pub lacks : scene.lacks.items ≡ lacks_of layer drilled findings
 
--- the number of a file by its index: from 1, as far as a number of 64 bits goes (docs/DEFINITIONS.md, Drawings)
+-- the number of a file, from 1, by its index from 0; at most 2^64 - 1
 abbrev pub number_of : ℕ → ℕ
 number_of file = min (file + 1) (2 ^ 64 - 1)
 
--- the panel of a layer, by its place among the copper files and the index of its file (docs/DEFINITIONS.md, Drawings)
+-- the panel of a layer, by its place among the copper files, from 0, and the index of its file
 pub record IsPanel (names : List (List ℕ)) (flashed : FlashedSurvey) (findings : List Finding) (l : Layout) (at : ℕ × ℕ) (panel : Panel) : Type 0 where
   pub file : panel.place.file ≡ number_of at.1
   pub name : panel.place.name.now ≡ get_or names at.1 []
@@ -43,13 +43,13 @@ pub record IsPanel (names : List (List ℕ)) (flashed : FlashedSurvey) (findings
   pub y : panel.place.y ≡ pos (box_top l at.0) +ℤ l.frame.top
   pub scene : IsScene at.0 (get_or flashed.flashes at.1 []) flashed.board.holes findings panel.scene
 
--- what the page of a board shows under rules, if there are any, by the names of its files (docs/DEFINITIONS.md, Drawings)
+-- the contents of a board's page, under rules if there are any; `names` are those of its files, in order
 pub record IsPage (names : List (List ℕ)) (flashed : FlashedSurvey) (asked : Option GridRules) (page : Page) : Type 0 where
   pub laid : IsLayout (board_extent flashed) (length flashed.board.layer_indexes) asked page.layout
   pub drawn : AllZip (IsPanel names flashed (found asked flashed.board) page.layout) (enumerate_from 0 flashed.board.layer_indexes) page.panels.items
   pub told : page.count ≡ length (found asked flashed.board)
 
--- a text is the page of a board under rules, if there are any, by the names of its files (docs/DEFINITIONS.md, Drawings)
+-- a text is the page of a board, under rules if there are any; `names` are those of its files, in order
 pub record IsDrawn (names : List (List ℕ)) (flashed : FlashedSurvey) (asked : Option GridRules) (text : List ℕ) : Type 0 where
   pub page : Page
   pub shows : IsPage names flashed asked page

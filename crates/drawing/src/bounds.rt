@@ -11,7 +11,7 @@ use layer_image::{Flash, What};
 use pad_shapes::Pad;
 use ring_rules::Drilled;
 
-/// The extent of what there is so far, and of some pads.
+/// The extent so far, joined with those of some pads.
 fn with_pads(before: Option<Extent>, pads: &[Pad]) -> Option<Extent>
     ensures { result ≡ fold joined_to before (map pad_extent pads.now) }
 {
@@ -22,7 +22,7 @@ fn with_pads(before: Option<Extent>, pads: &[Pad]) -> Option<Extent>
     all
 }
 
-/// The extent of what there is so far, and of the pads of some layers.
+/// The extent so far, joined with those of the pads of some layers.
 fn with_layers(before: Option<Extent>, layers: &[&[Pad]]) -> Option<Extent>
     ensures { result ≡ fold joined_to before (flat_map (λ layer. map pad_extent layer) (map (λ layer. layer.now) layers.now)) }
 {
@@ -33,7 +33,7 @@ fn with_layers(before: Option<Extent>, layers: &[&[Pad]]) -> Option<Extent>
     all
 }
 
-/// The extent of what there is so far, and of some holes.
+/// The extent so far, joined with those of some holes.
 fn with_holes(before: Option<Extent>, holes: &[Drilled]) -> Option<Extent>
     ensures { result ≡ fold joined_to before (map (λ drilled. hole_extent drilled.hole) holes.now) }
 {
@@ -51,7 +51,7 @@ fn extent_of(layers: &[&[Pad]], holes: &[Drilled]) -> Option<Extent>
     with_holes(with_layers(None, layers), holes)
 }
 
-/// The extent of what there is so far, and of a flash, if it is no pad.
+/// The extent so far, joined with that of a flash that is no pad.
 fn with_flash(before: Option<Extent>, flash: &Flash) -> Option<Extent>
     ensures { result ≡ fold joined_to before (cross_extent flash.now) }
 {
@@ -61,7 +61,7 @@ fn with_flash(before: Option<Extent>, flash: &Flash) -> Option<Extent>
     }
 }
 
-/// The extent of what there is so far, and of the flashes of a file that are no pads.
+/// The extent so far, joined with those of the flashes of a file that are no pads.
 fn with_flashes(before: Option<Extent>, flashes: &[Flash]) -> Option<Extent>
     ensures { result ≡ fold joined_to before (flat_map cross_extent flashes.now) }
 {
@@ -72,7 +72,7 @@ fn with_flashes(before: Option<Extent>, flashes: &[Flash]) -> Option<Extent>
     all
 }
 
-/// The extent of all flashes of some files that are no pads, if there are any.
+/// The extent of those flashes of some files that are no pads, if there are any.
 fn crosses_extent(flashed: &FlashedBoard, files: &[usize]) -> Option<Extent>
     ensures { result ≡ whole_extent (cross_extents flashed.now.flashes files.now) }
 {
@@ -83,7 +83,7 @@ fn crosses_extent(flashed: &FlashedBoard, files: &[usize]) -> Option<Extent>
     all
 }
 
-/// An extent, or that of the flashes of a board that are no pads where there is none.
+/// An extent, or where there is none that of the board's flashes that are no pads.
 fn or_crosses(extent: Option<Extent>, flashed: &FlashedBoard) -> Option<Extent>
     ensures { result ≡ extent_or extent (whole_extent (cross_extents flashed.now.flashes flashed.now.board.layer_indexes)) }
 {
@@ -93,7 +93,7 @@ fn or_crosses(extent: Option<Extent>, flashed: &FlashedBoard) -> Option<Extent>
     }
 }
 
-/// The extent of a board, by the pads of its layers: of all pads and holes; where it has neither, of its other flashes.
+/// The extent of a board: of its holes and of the pads of its layers. Where it has neither, that of its other flashes.
 pub(crate) fn board_extent(layers: &[&[Pad]], flashed: &FlashedBoard) -> Option<Extent>
     ensures { result ≡ extent_or (whole_extent (extents (map (λ layer. layer.now) layers.now) flashed.now.board.holes)) (whole_extent (cross_extents flashed.now.flashes flashed.now.board.layer_indexes)) }
 {

@@ -1,20 +1,20 @@
-//! In how many columns the panels of a board stand.
+//! The number of columns in which the panels of a board stand.
 
 ghost use Rattle.std.specs.Prelude.{◌≡◌, ◌≤◌, ◌^◌};
 ghost use Rattle.drawing.specs.Layouts.{AreColumns, boxes_height, boxes_width, off_square, times, unit_of};
 
 use picture::Frame;
 
-/// A thousand kilometres in pm: the greatest length that is made of several.
+/// A thousand kilometres in pm: no product of a length is longer.
 const MOST: u64 = 1_000_000_000_000_000_000;
 
-/// Ten metres in pm: the greatest unit.
+/// Ten metres in pm: no unit is longer.
 const MOST_UNIT: u64 = 10_000_000_000_000;
 
-/// How many units the longer side of all boxes together has.
+/// The number of units in the longer side of all boxes together.
 const UNITS: u64 = 75;
 
-/// A length in pm so many times, at most 1,000 km.
+/// A length in pm times a count, at most 1,000 km.
 pub(crate) fn times(length: u64, count: usize) -> u64
     ensures value { result ≡ times length count }
     ensures within { result ≤ 10 ^ 18 }
@@ -22,14 +22,14 @@ pub(crate) fn times(length: u64, count: usize) -> u64
     length.saturating_mul(count as u64).min(MOST)
 }
 
-/// The width of so many boxes side by side, in pm.
+/// The width of this many boxes side by side, in pm.
 fn boxes_width(frame: &Frame, columns: usize) -> u64
     ensures { result ≡ boxes_width frame.now columns }
 {
     times(frame.width.unsigned_abs(), columns)
 }
 
-/// The height of the rows that so many boxes fill, in pm.
+/// The height of `count` boxes in this many columns, in pm.
 fn boxes_height(frame: &Frame, count: usize, columns: usize) -> u64
     requires { 1 ≤ columns }
     ensures { result ≡ boxes_height frame.now count columns }
@@ -37,7 +37,7 @@ fn boxes_height(frame: &Frame, count: usize, columns: usize) -> u64
     times(frame.height.unsigned_abs(), count.div_ceil(columns))
 }
 
-/// By how much the sides of the whole differ, in pm.
+/// The difference of that width and that height, in pm.
 fn off_square(frame: &Frame, count: usize, columns: usize) -> u64
     requires { 1 ≤ columns }
     ensures { result ≡ off_square frame.now count columns }
@@ -45,7 +45,7 @@ fn off_square(frame: &Frame, count: usize, columns: usize) -> u64
     boxes_width(frame, columns).abs_diff(boxes_height(frame, count, columns))
 }
 
-/// The number of columns with which the whole is nearest to a square.
+/// The number of columns with which the boxes together are nearest to a square, at least 1.
 pub(crate) fn columns_of(frame: &Frame, count: usize) -> usize
     ensures { AreColumns frame.now count result }
 {
@@ -58,7 +58,7 @@ pub(crate) fn columns_of(frame: &Frame, count: usize) -> usize
     best
 }
 
-/// The unit of a page, in pm.
+/// The unit of a page, in pm: a 75th of the longer side of all boxes together.
 pub(crate) fn unit_of(frame: &Frame, count: usize, columns: usize) -> u64
     requires { 1 ≤ columns }
     ensures value { result ≡ unit_of frame.now count columns }

@@ -25,26 +25,26 @@ use thiserror::Error;
 /// Why a drawing was not printed.
 #[derive(Clone, Copy, Debug, PartialEq, Eq, Error)]
 pub enum PrintFault {
-    /// There was no memory, and nothing was written.
+    /// Memory ran out, and nothing was written.
     #[error("out of memory before the drawing was written")]
     Memory,
-    /// The writer failed, and it is not known what it took.
+    /// The writer failed. It may have taken a part of the text.
     #[error("the drawing was not written to its end")]
     Cut,
 }
 
-/// What a page shows.
+/// The contents of a page.
 #[derive(Drop)]
 pub(crate) struct Page<'n, 'h> {
-    /// How its panels stand.
+    /// Where its panels stand.
     layout: Layout,
-    /// How many findings there are.
+    /// The number of findings on the board.
     count: usize,
-    /// Its panels.
+    /// Its panels, one for each copper file.
     panels: Vec<Panel<'n, 'h>>,
 }
 
-/// What is found under the rules, nothing where there are none.
+/// The findings under the rules; none where there are no rules.
 fn found(alloc: Global, board: &Board, rules: &Option<Rules>) -> Result<Vec<Finding>, AllocError>
     ensures { IfOk result (λ findings. findings.items ≡ found rules.now board.now) }
 {
@@ -54,7 +54,7 @@ fn found(alloc: Global, board: &Board, rules: &Option<Rules>) -> Result<Vec<Find
     }
 }
 
-/// Gathers what stands before the panels.
+/// Gathers the text before the panels.
 fn gather_before_panels<W: Write>(
     text: &mut String,
     layout: &Layout,
@@ -71,7 +71,7 @@ fn gather_before_panels<W: Write>(
     }
 }
 
-/// Gathers a panel, whose name is put into `room`.
+/// Gathers a panel; its name is escaped in `room`.
 fn gather_panel<W: Write>(
     text: &mut String,
     room: &mut Vec<u8>,
@@ -92,7 +92,7 @@ fn gather_panel<W: Write>(
     )
 }
 
-/// Gathers the panels one after the other, each of whose names is put into `room`.
+/// Gathers the panels one after the other; their names are escaped in `room`.
 fn gather_panels<W: Write>(
     text: &mut String,
     room: &mut Vec<u8>,
@@ -108,7 +108,7 @@ fn gather_panels<W: Write>(
     Ok(())
 }
 
-/// Gathers what stands behind the panels.
+/// Gathers the text after the panels.
 fn gather_behind_panels<W: Write>(
     text: &mut String,
     layout: &Layout,
@@ -123,7 +123,7 @@ fn gather_behind_panels<W: Write>(
     }
 }
 
-/// Prints what `text` holds, and the text of a page behind it. The names of its panels are put into `room`.
+/// Prints the bytes of `text`, and then the text of a page. The names of its panels are escaped in `room`.
 fn print_page<W: Write>(
     text: &mut String,
     room: &mut Vec<u8>,
@@ -141,7 +141,7 @@ fn print_page<W: Write>(
     pass_on(text, out)
 }
 
-/// What the page of a board shows.
+/// The contents of the page of a board.
 fn page_of<'n, 'h>(
     alloc: Global,
     names: &[&'n str],
@@ -163,13 +163,13 @@ fn page_of<'n, 'h>(
     })
 }
 
-/// Prints a board as a page of SVG, by the names of its files: a panel for each copper file, with what is found under the rules; nothing
-/// is looked for where there are none. The text is written in parts: what the panels show, and the room that the parts and the names of
-/// files are gathered in, is taken before the first of them is written, and no memory after it.
+/// Prints a board as a page of SVG, by the names of its files: a panel for each copper file, with the findings under the rules. Without
+/// rules it has no findings. The text is written in parts. All memory is taken before the first of them is written: for the contents of
+/// the panels, and for the buffers of the parts and of the names.
 ///
 /// # Errors
 ///
-/// [`PrintFault::Memory`] where there is no memory, and then nothing was written; [`PrintFault::Cut`] where the writer fails.
+/// [`PrintFault::Memory`] when memory runs out, and then nothing was written; [`PrintFault::Cut`] when the writer fails.
 pub fn print_drawing<W: Write>(
     alloc: Global,
     names: &[&str],

@@ -66,7 +66,7 @@ impl Extent {
         self.top
     }
 
-    /// The least extent with both.
+    /// The least extent that holds both.
     fn joined(&self, other: &Extent) -> Extent
         ensures { result ≡ joined self.now other.now }
     {
@@ -79,7 +79,6 @@ impl Extent {
     }
 }
 
-/// The lesser of two lengths.
 fn lesser(first: i64, second: i64) -> i64
     requires first { unsigned_abs first ≤ 2 * 10 ^ 13 }
     requires second { unsigned_abs second ≤ 2 * 10 ^ 13 }
@@ -89,7 +88,6 @@ fn lesser(first: i64, second: i64) -> i64
     first.min(second)
 }
 
-/// The greater of two lengths.
 fn greater(first: i64, second: i64) -> i64
     requires first { unsigned_abs first ≤ 2 * 10 ^ 13 }
     requires second { unsigned_abs second ≤ 2 * 10 ^ 13 }
@@ -99,7 +97,6 @@ fn greater(first: i64, second: i64) -> i64
     first.max(second)
 }
 
-/// A coordinate less a length.
 fn less(at: i64, far: u64) -> i64
     requires at { unsigned_abs at ≤ 10 ^ 13 }
     requires far { far ≤ 5000000000000 }
@@ -109,7 +106,6 @@ fn less(at: i64, far: u64) -> i64
     at - far as i64
 }
 
-/// A coordinate and a length.
 fn more(at: i64, far: u64) -> i64
     requires at { unsigned_abs at ≤ 10 ^ 13 }
     requires far { far ≤ 5000000000000 }
@@ -119,7 +115,7 @@ fn more(at: i64, far: u64) -> i64
     at + far as i64
 }
 
-/// The extent of what reaches so far from a point along each axis, in pm.
+/// The extent that reaches this far from a point along each axis, in pm.
 fn extent_round(centre: Point, far_x: u64, far_y: u64) -> Extent
     requires x { far_x ≤ 5000000000000 }
     requires y { far_y ≤ 5000000000000 }
@@ -133,7 +129,7 @@ fn extent_round(centre: Point, far_x: u64, far_y: u64) -> Extent
     }
 }
 
-/// The extent of a pad.
+/// The extent of a pad: its half sides, or its radius, round its centre.
 pub(crate) fn pad_extent(pad: &Pad) -> Extent
     ensures { result ≡ pad_extent pad.now }
 {
@@ -155,7 +151,7 @@ pub(crate) fn pad_extent(pad: &Pad) -> Extent
     }
 }
 
-/// The extent of a hole.
+/// The extent of a hole: its radius round both of its ends.
 pub(crate) fn hole_extent(hole: &Hole) -> Extent
     ensures { result ≡ hole_extent hole.now }
 {
@@ -163,14 +159,14 @@ pub(crate) fn hole_extent(hole: &Hole) -> Extent
     extent_round(hole.from(), radius, radius).joined(&extent_round(hole.to(), radius, radius))
 }
 
-/// The extent of the point of a flash that is no pad: half a millimetre round it.
+/// The extent of a flash that is no pad: half a millimetre round its point.
 pub(crate) fn point_extent(at: Point) -> Extent
     ensures { result ≡ extent_round at (5 * 10 ^ 8) (5 * 10 ^ 8) }
 {
     extent_round(at, HALF_MILLIMETRE, HALF_MILLIMETRE)
 }
 
-/// The extent of what there is so far, and of one thing more.
+/// The extent so far, if there is one, joined with another.
 pub(crate) fn joined_to(all: Option<Extent>, extent: Extent) -> Option<Extent>
     ensures { result ≡ joined_to all extent }
 {

@@ -1,4 +1,4 @@
-//! How the panels of a board stand on a page: from its box.
+//! The layout of a page, from the extent of the board.
 
 ghost use Rattle.std.specs.Prelude.{◌≡◌, ◌≤◌, ◌^◌, ◌*◌, ◌≤ℤ◌, pos, unsigned_abs};
 ghost use Rattle.drawing.specs.Boxes.{IsBox, side};
@@ -14,10 +14,10 @@ use picture::{Frame, Pen};
 /// A millimetre in pm.
 const MILLIMETRE: i64 = 1_000_000_000;
 
-/// A nanometre in pm: the least side of a box.
+/// A nanometre in pm: no side of a box is shorter.
 const NANOMETRE: i64 = 1_000;
 
-/// A side of a box.
+/// A side of a box in pm, between two coordinates.
 fn side(least: i64, greatest: i64) -> i64
     requires least { unsigned_abs least ≤ 2 * 10 ^ 13 }
     requires greatest { unsigned_abs greatest ≤ 2 * 10 ^ 13 }
@@ -28,7 +28,7 @@ fn side(least: i64, greatest: i64) -> i64
     (greatest - least).max(NANOMETRE)
 }
 
-/// The box of what there is.
+/// The box of an extent; where there is none, a square millimetre.
 fn box_of(extent: Option<Extent>) -> Frame
     ensures is { IsBox extent result }
     ensures left { unsigned_abs result.left ≤ 10 ^ 14 }
@@ -52,7 +52,7 @@ fn box_of(extent: Option<Extent>) -> Frame
     }
 }
 
-/// The ring that is asked, in pm.
+/// The required ring, in pm; 0 without rules.
 fn ring_of(rules: &Option<Rules>) -> u64
     ensures value { result ≡ ring_of rules.now }
     ensures near { result ≤ 10 ^ 13 }
@@ -63,7 +63,7 @@ fn ring_of(rules: &Option<Rules>) -> u64
     }
 }
 
-/// How so many panels stand on a page, by the extent of the board and the rules.
+/// The layout of a page with this many panels, by the extent of the board and the rules.
 pub(crate) fn layout_of(extent: Option<Extent>, count: usize, rules: &Option<Rules>) -> Layout
     ensures { IsLayout extent count rules.now result }
 {

@@ -4,16 +4,16 @@ ghost use Rattle.std.specs.Prelude.{◌≤◌, ◌^◌, unsigned_abs};
 
 use picture::{Frame, Pen};
 
-/// How the panels of a board stand on the page: in rows, each of so many columns.
+/// Where the panels of a board stand on a page: in rows, each with the same number of columns.
 #[derive(Clone, Copy)]
 pub(crate) struct Layout {
-    /// The box of each panel.
+    /// The box of the board, which all panels share.
     pub(crate) frame: Frame,
-    /// The unit in pm, and the ring that is asked.
+    /// The unit and the required ring, in pm.
     pub(crate) pen: Pen,
-    /// How many columns there are.
+    /// The number of columns, at least 1.
     pub(crate) columns: usize,
-    /// How many rows there are.
+    /// The number of rows.
     pub(crate) rows: usize,
     /// The length of the bar of the scale in pm.
     pub(crate) bar: u64,

@@ -1,4 +1,4 @@
-//! What stands on a page before and behind the panels.
+//! The text of a page before and after the panels.
 
 ghost use Rattle.std.specs.Prelude.{◌≡◌, ◌++◌, OnOk, string_bytes};
 ghost use Rattle.drawing.specs.Pages.{before_panels, behind_panels, legend, page_start, scale, title, title_words};
@@ -12,7 +12,7 @@ use grid_units::Rules;
 use printing::push_words;
 use std::alloc::AllocError;
 
-/// Appends the begin of a page.
+/// Appends the start of a page: the XML declaration, the element `svg` and the style.
 fn push_page_start(text: &mut String, layout: &Layout) -> Result<(), AllocError>
     ensures { OnOk result (string_bytes text.new ≡ string_bytes text.old ++ page_start layout.now) }
 {
@@ -31,7 +31,7 @@ fn push_page_start(text: &mut String, layout: &Layout) -> Result<(), AllocError>
     push_style(text)
 }
 
-/// Appends the rules and how many findings there are, or that there are no rules.
+/// Appends the rules and the number of findings, or `no rules`.
 fn push_title_words(
     text: &mut String,
     rules: &Option<Rules>,
@@ -73,7 +73,7 @@ fn push_title(
     push_words(text, "</text>\n")
 }
 
-/// Appends what stands before the panels.
+/// Appends the text before the panels.
 pub(crate) fn push_before_panels(
     text: &mut String,
     layout: &Layout,
@@ -110,7 +110,7 @@ fn push_legend_and_end(text: &mut String, layout: &Layout) -> Result<(), AllocEr
     push_legend(text)
 }
 
-/// Appends what stands behind the panels.
+/// Appends the text after the panels.
 pub(crate) fn push_behind_panels(text: &mut String, layout: &Layout) -> Result<(), AllocError>
     ensures { OnOk result (string_bytes text.new ≡ string_bytes text.old ++ behind_panels layout.now) }
 {

@@ -12,16 +12,16 @@ use picture::{Place, Scene, scene_of};
 use ring_rules::{Drilled, Finding};
 use std::alloc::{AllocError, Global};
 
-/// A panel: where it stands, and what stands in it.
+/// A panel: where it stands on the page, and its contents.
 #[derive(Drop)]
 pub(crate) struct Panel<'n, 'h> {
-    /// Where it stands.
+    /// Its place on the page, and the number and name of its file.
     pub(crate) place: Place<'n>,
-    /// What stands in it.
+    /// Its pads, crosses, holes and findings.
     pub(crate) scene: Scene<'h>,
 }
 
-/// The name of a file; empty where it has none.
+/// The name of a file, by its index; empty where it has none.
 fn name_of<'a>(names: &[&'a str], file: usize) -> &'a str
     ensures { result.now ≡ get_or (map (λ name. name.now) names.now) file [] }
 {
@@ -31,7 +31,7 @@ fn name_of<'a>(names: &[&'a str], file: usize) -> &'a str
     }
 }
 
-/// The flashes of a file.
+/// The flashes of a file, by its index.
 pub(crate) fn flashes_of(flashed: &FlashedBoard, file: usize) -> &[Flash]
     ensures { result.now ≡ get_or flashed.now.flashes file [] }
 {
@@ -41,7 +41,7 @@ pub(crate) fn flashes_of(flashed: &FlashedBoard, file: usize) -> &[Flash]
     }
 }
 
-/// Where the panel of a layer stands, by its place among the copper files and the index of its file.
+/// The place of a layer's panel, by the layer's place among the copper files and the index of its file.
 fn place_of<'a>(layout: &Layout, names: &[&'a str], layer: usize, file: usize) -> Place<'a>
     ensures file { result.file ≡ number_of file }
     ensures name { result.name.now ≡ get_or (map (λ name. name.now) names.now) file [] }
@@ -56,7 +56,7 @@ fn place_of<'a>(layout: &Layout, names: &[&'a str], layer: usize, file: usize) -
     }
 }
 
-/// What stands in the panel of a layer.
+/// The contents of a layer's panel.
 fn scene_on<'a>(
     alloc: Global,
     layer: usize,
@@ -94,7 +94,6 @@ fn panel_of<'n, 'h>(
     })
 }
 
-/// Adds a panel.
 fn add<'n, 'h>(panels: &mut Vec<Panel<'n, 'h>>, panel: Panel<'n, 'h>) -> Result<(), AllocError>
     ensures { OnOk result (panels.new.items ≡ panels.old.items ++ panel.entry ∷ []) }
 {
@@ -108,7 +107,7 @@ fn add<'n, 'h>(panels: &mut Vec<Panel<'n, 'h>>, panel: Panel<'n, 'h>) -> Result<
 ///
 /// # Errors
 ///
-/// An `AllocError` where there is no memory for what stands in them.
+/// An `AllocError` when memory runs out.
 pub(crate) fn panels_of<'n, 'h>(
     alloc: Global,
     layout: &Layout,

@@ -1,4 +1,4 @@
-//! Where things stand on a page.
+//! The distances on a page, from its layout.
 
 ghost use Rattle.std.specs.Prelude.{◌≡◌, ◌≤◌, ◌^◌, ◌*◌};
 ghost use Rattle.drawing.specs.Layouts.{box_left, box_top, boxes_end, column_step, page_height, page_width, pixels, row_step};
@@ -6,25 +6,25 @@ ghost use Rattle.drawing.specs.Layouts.{box_left, box_top, boxes_end, column_ste
 use crate::columns::times;
 use crate::layout::Layout;
 
-/// How many pixels the longer side of a page has.
+/// The number of pixels of the longer side of a page.
 const PIXELS: u128 = 1_200;
 
 impl Layout {
-    /// How far a column is from the next, in pm.
+    /// From the left of a column to that of the next, in pm.
     fn column_step(&self) -> u64
         ensures value { result ≡ column_step self.now }
     {
         self.frame.width.unsigned_abs().max(30 * self.pen.unit) + 3 * self.pen.unit
     }
 
-    /// How far a row is from the next, in pm.
+    /// From the top of a row to that of the next, in pm.
     fn row_step(&self) -> u64
         ensures value { result ≡ row_step self.now }
     {
         self.frame.height.unsigned_abs() + 5 * self.pen.unit
     }
 
-    /// How far the box of a layer is from the left of the page, in pm.
+    /// From the left of the page to the box of a layer, in pm.
     pub(crate) fn box_left(&self, layer: usize) -> u64
         ensures value { result ≡ box_left self.now layer }
         ensures within { result ≤ 2 * 10 ^ 18 }
@@ -32,7 +32,7 @@ impl Layout {
         3 * self.pen.unit + times(self.column_step(), layer % self.columns)
     }
 
-    /// How far the box of a layer is from the top of the page, in pm.
+    /// From the top of the page to the box of a layer, in pm.
     pub(crate) fn box_top(&self, layer: usize) -> u64
         ensures value { result ≡ box_top self.now layer }
         ensures within { result ≤ 2 * 10 ^ 18 }
@@ -40,7 +40,7 @@ impl Layout {
         9 * self.pen.unit + times(self.row_step(), layer / self.columns)
     }
 
-    /// Where the last row ends, in pm from the top of the page.
+    /// From the top of the page to the end of the last row, in pm.
     pub(crate) fn boxes_end(&self) -> u64
         ensures value { result ≡ boxes_end self.now }
         ensures within { result ≤ 2 * 10 ^ 18 }
@@ -65,7 +65,7 @@ impl Layout {
         self.boxes_end() + 10 * self.pen.unit
     }
 
-    /// A side in pixels, of which the longer side of the page has 1,200.
+    /// A side of the page in pixels, in proportion to the longer side, which has 1,200.
     pub(crate) fn pixels(&self, side: u64) -> u128
         ensures { result ≡ pixels self.now side }
     {

@@ -20,7 +20,7 @@ pub(crate) fn bar_of(width: u64) -> u64
     }
 }
 
-/// The greatest power of ten that is at most so much.
+/// The greatest power of ten that is no more than `most`.
 fn power_within(most: u64) -> u64
     requires some { 1 ≤ most }
     requires near { most ≤ 10 ^ 14 }

@@ -7,7 +7,7 @@ use printing::{push_short_mm, push_words};
 use std::alloc::AllocError;
 use std::fmt::Write;
 
-/// Appends words and a length.
+/// Appends words, then a length in millimetres.
 pub(crate) fn push_named(text: &mut String, words: &str, length: u64) -> Result<(), AllocError>
     requires { length < 2 ^ 63 }
     ensures { OnOk result (string_bytes text.new ≡ string_bytes text.old ++ named words.now length) }
@@ -16,7 +16,7 @@ pub(crate) fn push_named(text: &mut String, words: &str, length: u64) -> Result<
     push_short_mm(text, length as i64)
 }
 
-/// Appends words and a whole number.
+/// Appends words, then a whole number.
 fn push_counted(text: &mut String, words: &str, number: u128) -> Result<(), AllocError>
     ensures { OnOk result (string_bytes text.new ≡ string_bytes text.old ++ counted words.now number) }
 {
@@ -26,7 +26,7 @@ fn push_counted(text: &mut String, words: &str, number: u128) -> Result<(), Allo
     }
 }
 
-/// Appends how elements look.
+/// Appends the style sheet and the white ground.
 #[tactic(auto, unfolding(crate::specs::Pages::style_words))]
 pub(crate) fn push_style(text: &mut String) -> Result<(), AllocError>
     ensures { OnOk result (string_bytes text.new ≡ string_bytes text.old ++ style_words) }
@@ -37,7 +37,7 @@ pub(crate) fn push_style(text: &mut String) -> Result<(), AllocError>
     )
 }
 
-/// Appends the size of the text, and the size of the page in pixels.
+/// Appends the size of the letters, and the size of the page in pixels.
 #[tactic(auto, unfolding(crate::specs::Pages::sizes_words))]
 pub(crate) fn push_sizes(
     text: &mut String,
@@ -65,7 +65,7 @@ pub(crate) fn push_view(text: &mut String, width: u64, height: u64) -> Result<()
     push_words(text, "\">\n")
 }
 
-/// Appends how many findings there are.
+/// Appends the number of findings.
 pub(crate) fn push_found(text: &mut String, count: usize) -> Result<(), AllocError>
     ensures { OnOk result (string_bytes text.new ≡ string_bytes text.old ++ found_words count) }
 {
@@ -81,7 +81,7 @@ pub(crate) fn push_found(text: &mut String, count: usize) -> Result<(), AllocErr
     }
 }
 
-/// Appends the rules.
+/// Appends the rules: `ring 0.15 mm, gap 0.25 mm: `.
 #[tactic(auto, unfolding(crate::specs::Pages::rules_words))]
 pub(crate) fn push_rules(text: &mut String, ring: u64, gap: u64) -> Result<(), AllocError>
     requires ring { ring < 2 ^ 63 }
@@ -93,7 +93,7 @@ pub(crate) fn push_rules(text: &mut String, ring: u64, gap: u64) -> Result<(), A
     push_words(text, " mm: ")
 }
 
-/// Appends the begin of a text at a place, whose letters are in units, behind its first words.
+/// Appends the start of a text after its first words: its place, and the unit that scales its letters.
 #[tactic(auto, unfolding(crate::specs::Pages::text_start))]
 pub(crate) fn push_text_start(
     text: &mut String,
@@ -147,7 +147,7 @@ pub(crate) fn push_length(
     push_words(text, " mm</text>\n")
 }
 
-/// Appends where the legend begins, and its unit.
+/// Appends where the legend stands, and its unit.
 #[tactic(auto, unfolding(crate::specs::Pages::legend_start))]
 pub(crate) fn push_legend_start(
     text: &mut String,
@@ -170,7 +170,7 @@ pub(crate) fn push_legend_start(
     push_words(text, ")\">\n")
 }
 
-/// Appends what the elements mean.
+/// Appends the samples of the legend, and the end of the page.
 #[tactic(auto, unfolding(crate::specs::Pages::legend_words))]
 pub(crate) fn push_legend(text: &mut String) -> Result<(), AllocError>
     ensures { OnOk result (string_bytes text.new ≡ string_bytes text.old ++ legend_words) }

@@ -6,7 +6,7 @@ use Rattle.std.specs.Str.{bytes_eq}
 use Rattle.grid_units.specs.declared.fault.Reason.{Reason}
 use Rattle.grid_units.specs.Rows.{RowOf, first_fit_or, behind, just, beginning}
 
--- what a row says has this, where it fits
+-- what a row says has this property, if the row fits
 abbrev pub RowHas : {A : Type 0} → (Result A Reason → Type 0) → RowOf A → Type 0
 RowHas P None = Unit {0}
 RowHas P (Some meaning) = P meaning

@@ -1,4 +1,4 @@
--- Runs of a line: digits, numbers, and what stands behind them.
+-- Runs of a line: digits, numbers, and what follows them.
 use Rattle.std.proofs.Common.{◌≡◌, ℕ, zero, suc, ◌+◌, ◌<◌, ◌≤◌, Bool, true, false, cond, not, ◌||◌, ◌&&◌, ◌/◌, ◌%◌, ◌^◌, eqb, List, [], ◌∷◌, ◌++◌, length, ℤ, Ok, refl, ap, ◌∙◌, arith, replicate, lit<, lit≤}
 use Rattle.std.specs.Prelude.{unsigned_abs, decimal}
 use Rattle.std.specs.List.{list_all, list_any, fold}
@@ -26,7 +26,7 @@ any_behind p (x ∷ xs) ys h = or_right (p x) (list_any p (xs ++ ys)) (any_behin
 
 -- ---- a spelled decimal
 
--- a run that spells a decimal with its point
+-- the run of a decimal, spelled with its point
 pub record IsRun (v : ℤ) (run : List ℕ) : Type 0 where
   pub numbers : list_all is_number run ≡ true
   pub point : list_any is_point run ≡ true
@@ -59,7 +59,7 @@ pointed_run v h =
 
 -- ---- bytes that are kept
 
--- neither a blank nor LF
+-- a byte that is neither a blank nor LF
 unfoldable pub is_solid : ℕ → Bool
 is_solid b = not (is_blank b) && not (eqb b 10)
 
@@ -85,7 +85,7 @@ solid_kept (x ∷ xs) h =
 pub no_letter : (b : ℕ) → is_number b ≡ true → is_diameter b ≡ false
 no_letter b h = grind (arith, nat_tests)
 
--- numbers count no diameter
+-- among number characters there is no `C`
 pub no_diameters : (xs : List ℕ) (n : ℕ) → list_all is_number xs ≡ true → fold (λ a x. a + cond (is_diameter x) 1 0) n xs ≡ n
 no_diameters [] n h = refl
 no_diameters (x ∷ xs) n h =

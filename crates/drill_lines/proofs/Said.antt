@@ -1,4 +1,4 @@
--- What a line spells can be said.
+-- What a line spells is sayable.
 use Rattle.std.proofs.Common.{◌≡◌, ℕ, suc, ◌≤◌, Bool, true, false, cond, not, ◌||◌, ◌&&◌, eqb, leb, ltb, List, [], ◌∷◌, length, drop, ℤ, Option, Some, None, is_some, Result, Ok, Err, refl, sym, ap, subst, ◌∙◌, arith, lit≤}
 use Rattle.std.specs.Prelude.{codes, take_while, count_by}
 use Rattle.std.specs.List.{list_all, list_any, prefix_len, AllByRecursion}
@@ -29,7 +29,7 @@ use Rattle.drill_lines.specs.Writing.{can_name_zeros, is_tool_number, names_any,
 use Rattle.drill_lines.proofs.Rows.{RowHas, first_has, just_has, beginning_has, behind_has}
 use Rattle.grid_units.proofs.BoolLemmas.{and_true, both_true}
 
--- the command, if it is one, can be said in this part
+-- the command, if there is one, is sayable in this part
 pub Said : Part → Result DrillCommand Reason → Type 0
 Said p (Ok c) = is_sayable p c ≡ true
 Said p (Err r) = Unit {0}
@@ -144,7 +144,7 @@ drilled_said s from rest h =
     (λ _. one_bind part.Body (coordinates s from) (λ p. Ok (Hit p)) (λ p e. point_named s from p e ∙ h))
     (first_has (Said part.Body) BadLine rows tt (behind_has (Said part.Body) (codes "G85") (slot_line s from) rest (λ line. slot_said s from line h), tt))
 
--- a field of a line that begins with its letter
+-- a field of a line that begins with its letter, or not
 found : Bool → ℕ → List ℕ → Option (List ℕ) × List ℕ
 found t b bs = cond t (Some (take_while is_number bs), drop (prefix_len is_number bs) bs) (None, b ∷ bs)
 
@@ -278,7 +278,7 @@ said_is p (Ok (Some d)) c h e = let same : d ≡ c = cc in ap (is_sayable p) (sy
 said_is p (Ok None) c h e = absurd cc
 said_is p (Err r) c h e = absurd cc
 
--- the command that a line without LF spells can be said
+-- the command that a line without LF spells is sayable
 pub line_said : (s : Settings) (line : List ℕ) (c : DrillCommand) → list_all (λ b. not (eqb b 10)) line ≡ true → length line ≤ 1048576 → meaning s (trimmed line) ≡ Ok (Some c) → is_sayable s.part c ≡ true
 line_said s line c inside short e =
     said_is s.part (meaning s (trimmed line)) c (kept_said s (trimmed line) (trimmed_twice line) (trimmed_all (λ b. not (eqb b 10)) line inside) (omega (arith, trimmed_short line, short))) e

@@ -185,7 +185,7 @@ solid_line part.Body (Slot p q) h t = inl (all_append is_solid (point_word p) (c
 solid_line part.Body Finish h t = inl refl
 solid_line p c h t = absurd cc
 
--- a text as long as what trimming leaves is what it leaves
+-- a text that trimming leaves as long is left unchanged
 trimmed_first : (t : Bool) (x : ℕ) (xs : List ℕ) → (length (trimmed xs) ≡ length xs → trimmed xs ≡ xs) → length (cond t [] (x ∷ trimmed xs)) ≡ suc (length xs) → cond t [] (x ∷ trimmed xs) ≡ x ∷ xs
 trimmed_first true x xs rest k = absurd (omega (arith, k))
 trimmed_first false x xs rest k = ap (λ (l : List ℕ). x ∷ l) (rest (omega (arith, k)))
@@ -194,7 +194,7 @@ trimmed_whole : (xs : List ℕ) → length (trimmed xs) ≡ length xs → trimme
 trimmed_whole [] h = refl
 trimmed_whole (x ∷ xs) h = trimmed_first (is_blank x && eqb (length (trimmed xs)) 0) x xs (trimmed_whole xs) h
 
--- the canonical line of a command that a line of this part can spell: kept whole, without LF, and spelling it
+-- the canonical line of a command that this part can have: kept whole, without LF, and spelling it
 pub record Says (s : Settings) (c : DrillCommand) : Type 0 where
   pub spells : meaning s (trimmed (canonical c)) ≡ Ok (Some c)
   pub inside : list_all (λ b. not (eqb b 10)) (canonical c) ≡ true

@@ -22,7 +22,7 @@ use Rattle.grid_units.proofs.ListLemmas.{all_weaker, run_in_front, rest_behind, 
 
 -- ---- tools
 
--- a number of at most 999 as its digits
+-- the digits of a number from `least` to 999
 record IsNumber (least n : ℕ) (digits : List ℕ) : Type 0 where
   digits_are : list_all is_digit digits ≡ true
   reads : number_from least digits ≡ Ok n
@@ -130,7 +130,7 @@ hit_spelled s p dec =
 some_bytes : (n : ℕ) → eqb (suc n) 0 ≡ false
 some_bytes n = grind (arith, nat_tests)
 
--- `G85` begins the end of a slot
+-- what follows the first point begins with `G85`, so it is a slot
 behind_slot : (s : Settings) (runs : Runs) (q : List ℕ) → drill_from s runs (codes "G85" ++ q) ≡ slot_line s runs q
 unfolding drill_from
 behind_slot s runs q = ap (λ t. cond t (coordinates s runs >>= λ p. Ok (Hit p)) (slot_line s runs q)) (some_bytes (suc (suc (length q))))

@@ -1,4 +1,4 @@
--- The lines that drill: a hit at a point, a slot from one point to another.
+-- The lines that drill: a hit at a point, a slot from one point to another (docs/FORMATS.md, Drill lines).
 use Rattle.std.specs.Prelude.{ℕ, ℤ, Bool, ◌||◌, ◌&&◌, ◌==◌, List, [], ◌∷◌, length, drop, if◌then◌else◌, Option, Some, None, unwrap_or, is_some, Result, Ok, Err, codes, take_while}
 use Rattle.std.specs.List.{list_any, prefix_len}
 use Rattle.std.specs.Option.{option_map}
@@ -26,58 +26,59 @@ abbrev pub default_format : Option Units → Digits
 default_format (Some Inch) = record { whole = 2; decimals = 4 }
 default_format _ = record { whole = 3; decimals = 3 }
 
--- the format by which coordinates are read (docs/FORMATS.md, Coordinates of a drill file)
+-- the format by which a coordinate without a point is read: the given one, else the default (docs/FORMATS.md, Coordinates of a drill file)
 abbrev pub format_in : Settings → Digits
 format_in settings = unwrap_or settings.format (default_format settings.unit)
 
--- the zeros that coordinates keep; all where a header names none (docs/FORMATS.md, Coordinates of a drill file)
+-- the zeros that coordinates keep: all where the header names none (docs/FORMATS.md, Coordinates of a drill file)
 abbrev pub zeros_in : Settings → Zeros
 zeros_in settings = unwrap_or settings.zeros Full
 
--- a coordinate: with a point a decimal, without one in the format (docs/FORMATS.md, Coordinates of a drill file)
+-- a coordinate: with a point a decimal, without one filled up by the zeros and the format: `00254` with `LZ` and 3:3 is 2.54
+-- (docs/FORMATS.md, Coordinates of a drill file)
 unfoldable pub coordinate_of : Settings → List ℕ → Result ℤ Reason
 coordinate_of settings run = if list_any is_point run then dec_of run else zeros_of run (format_in settings).whole (format_in settings).decimals (zeros_in settings)
 
--- a coordinate that may be left out (docs/FORMATS.md, Drill lines)
+-- the value of a coordinate's run, or that the coordinate is left out
 unfoldable pub coordinate : Settings → Option (List ℕ) → Result (Option ℤ) Reason
 coordinate settings None = Ok None
 coordinate settings (Some run) = coordinate_of settings run >>= λ v. Ok (Some v)
 
 -- ---- lines
 
--- the run behind this letter, where the letter stands, and the bytes behind it (docs/FORMATS.md, Drill lines)
+-- the run after this letter, if the letter stands, and the bytes after it: `X1.0Y2.0` gives `1.0` and `Y2.0`
 abbrev pub field : ℕ → List ℕ → Option (List ℕ) × List ℕ
 field letter [] = (None, [])
 field letter (b ∷ bs) = if b == letter then (Some (take_while is_number bs), drop (prefix_len is_number bs) bs) else (None, b ∷ bs)
 
--- the runs of X and Y, where they stand (docs/FORMATS.md, Drill lines)
+-- the runs of X and Y, of those that stand
 pub record Runs : Type 0 where
   pub x : Option (List ℕ)
   pub y : Option (List ℕ)
 
--- [`X` run] [`Y` run], and the bytes behind them (docs/FORMATS.md, Drill lines)
+-- [`X` run] [`Y` run], and the bytes after them: `X1.0G85Y2.0` gives `1.0`, no Y, and `G85Y2.0`
 abbrev pub runs_of : List ℕ → Runs × List ℕ
 runs_of line = (record { x = (field ascii.upper_x line).0; y = (field ascii.upper_y (field ascii.upper_x line).1).0 }, (field ascii.upper_y (field ascii.upper_x line).1).1)
 
--- at least one of the two stands (docs/FORMATS.md, Drill lines)
+-- the run of X or that of Y stands
 abbrev pub names_one : Runs → Bool
 names_one runs = is_some runs.x || is_some runs.y
 
--- the coordinates that these runs name (docs/FORMATS.md, Drill lines)
+-- the coordinates of these runs, or the first reason in the reading order
 unfoldable pub coordinates : Settings → Runs → Result Coordinates Reason
 coordinates settings runs = both (coordinate settings runs.x) (coordinate settings runs.y) >>= λ p. Ok (record { x = p.0; y = p.1 })
 
--- `G85` and what stands behind it: the end of a slot from this point (docs/FORMATS.md, Drill lines)
+-- a slot from this point, by what follows its `G85`: `Y1.0` of `X2.0G85Y1.0`
 unfoldable pub slot_line : Settings → Runs → List ℕ → Result DrillCommand Reason
 slot_line settings from line =
     if names_one (runs_of line).0 && (length (runs_of line).1 == 0) then (both (coordinates settings from) (coordinates settings (runs_of line).0) >>= λ p. Ok (Slot p.0 p.1)) else Err BadLine
 
--- what stands behind a point: nothing for a hit, `G85` for a slot (docs/FORMATS.md, Drill lines)
+-- a hit or a slot, by what follows its first point: nothing, or `G85` and a second point
 unfoldable pub drill_from : Settings → Runs → List ℕ → Result DrillCommand Reason
 drill_from settings from rest =
     if length rest == 0 then (coordinates settings from >>= λ p. Ok (Hit p))
     else first_fit_or BadLine (option_map (slot_line settings from) (behind (codes "G85") rest) ∷ [])
 
--- a hit or a slot (docs/FORMATS.md, Drill lines)
+-- a hit, as `X1.0Y-0.5`, or a slot, as `X2.0G85Y1.0`
 unfoldable pub drill_line : Settings → List ℕ → Result DrillCommand Reason
 drill_line settings line = drill_from settings (runs_of line).0 (runs_of line).1

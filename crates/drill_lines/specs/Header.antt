@@ -1,4 +1,4 @@
--- The lines of a header: units, zeros and formats.
+-- The lines of a header: units, zeros and formats (docs/FORMATS.md, Drill lines; Drill coordinates).
 use Rattle.std.specs.Prelude.{ℕ, ◌-◌, Bool, ◌&&◌, ◌==◌, nat_le, List, [], ◌∷◌, length, drop, if◌then◌else◌, Option, Some, None, option_and_then, Result, Ok, Err, codes}
 use Rattle.std.specs.Option.{option_map}
 use Rattle.std.specs.List.{list_all, prefix_len}
@@ -15,33 +15,33 @@ use Rattle.drill_lines.specs.Formats.{Digits}
 use Rattle.grid_units.specs.Numbers.{is_number}
 use Rattle.grid_units.specs.Ascii as ascii
 
--- the digit 0 (docs/FORMATS.md, Drill lines)
+-- the digit `0`
 abbrev pub is_zero : ℕ → Bool
 is_zero b = b == ascii.digit_zero
 
--- a number of digits, 1 to 6 (docs/FORMATS.md, Drill coordinates)
+-- a number of digits that a format can have: 1 to 6
 abbrev pub is_size : ℕ → Bool
 is_size n = nat_le 1 n && nat_le n 6
 
--- these numbers of digits, each 1 to 6 (docs/FORMATS.md, Drill coordinates)
+-- the format with these numbers of digits, or BadNumber where one of them is not 1 to 6
 abbrev pub sizes : ℕ → ℕ → Result Digits Reason
 sizes whole decimals = if is_size whole && is_size decimals then Ok (record { whole = whole; decimals = decimals }) else Err BadNumber
 
--- what stands behind the zeros of a pattern's whole part: a point and zeros (docs/FORMATS.md, Drill lines)
+-- the format of a pattern, by its zeros before the point and by what follows these: a point and zeros
 abbrev pub pattern_from : ℕ → List ℕ → Result Digits Reason
 pattern_from whole [] = Err BadNumber
 pattern_from whole (b ∷ bs) = if (b == ascii.point) && list_all is_zero bs then sizes whole (length bs) else Err BadNumber
 
--- the format that a pattern shows: zeros, a point, zeros (docs/FORMATS.md, Drill lines)
+-- the format that a pattern shows, zeros, a point and zeros: `00.0000` is 2:4
 unfoldable pub pattern : List ℕ → Result Digits Reason
 pattern run = pattern_from (prefix_len is_zero run) (drop (prefix_len is_zero run) run)
 
--- [`,` run] behind the unit and the zeros (docs/FORMATS.md, Drill lines)
+-- what follows the unit and the zeros: nothing, or `,` and a pattern, as in `METRIC,TZ,000.000`
 unfoldable pub unit_format : Units → Option Zeros → List ℕ → Result DrillCommand Reason
 unit_format unit zeros [] = Ok (UnitLine unit zeros None)
 unit_format unit zeros (b ∷ bs) = if (b == ascii.comma) && list_all is_number bs then (pattern bs >>= λ p. Ok (UnitLine unit zeros (Some p))) else Err BadLine
 
--- [`,LZ` or `,TZ`] [`,` run] behind the unit; the last row fits any line (docs/FORMATS.md, Drill lines)
+-- what follows the unit: optionally `,LZ` or `,TZ`, then optionally `,` and a pattern. The last of these rows fits any line
 unfoldable pub unit_line : Units → List ℕ → Result DrillCommand Reason
 unit_line unit line =
     first_fit_or BadLine
@@ -50,15 +50,15 @@ unit_line unit line =
     ∷ Some (unit_format unit None line)
     ∷ [])
 
--- a digit from 1 to 6 (docs/FORMATS.md, Drill coordinates)
+-- a digit from `1` to `6`
 abbrev pub is_size_digit : ℕ → Bool
 is_size_digit b = nat_le ascii.digit_one b && nat_le b ascii.digit_six
 
--- i:d (docs/FORMATS.md, Drill coordinates)
+-- i:d, two digits from 1 to 6: `2:4`
 abbrev pub sizes_named : List ℕ → Option Digits
 sizes_named (i ∷ colon ∷ d ∷ []) = if is_size_digit i && ((colon == ascii.colon) && is_size_digit d) then Some (record { whole = i - ascii.digit_zero; decimals = d - ascii.digit_zero }) else None
 sizes_named _ = None
 
--- the format that the text of a comment gives: it is exactly `FILE_FORMAT=i:d` (docs/FORMATS.md, Drill coordinates)
+-- the format that the text of a comment gives, exactly `FILE_FORMAT=i:d`: `FILE_FORMAT=2:4` gives 2:4
 unfoldable pub file_format : List ℕ → Option Digits
 file_format text = option_and_then sizes_named (behind (codes "FILE_FORMAT=") text)

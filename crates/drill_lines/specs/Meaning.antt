@@ -1,4 +1,4 @@
--- What a line spells, by the part of the file in which it stands: the rows of the part, of which the first that fits decides.
+-- What a line spells: the first row that fits, of the rows of its part of the file (docs/FORMATS.md, Drill lines).
 use Rattle.std.specs.Prelude.{ℕ, Bool, false, ◌==◌, List, [], ◌∷◌, if◌then◌else◌, Option, Some, None, Result, Ok, Err, codes}
 use Rattle.std.specs.Option.{option_map}
 use Rattle.grid_units.specs.declared.fault.Reason.{Reason}
@@ -16,27 +16,27 @@ use Rattle.drill_lines.specs.Tools.{tool_line, pick_line}
 use Rattle.drill_lines.specs.Drilling.{drill_line}
 use Rattle.grid_units.specs.Ascii as ascii
 
--- what a line spells: a command, nothing, or the reason why it is refused (docs/FORMATS.md, Drill lines)
+-- what a line spells: one command, nothing, or the reason for its refusal
 abbrev pub Meaning : Type 0
 Meaning = Result (Option DrillCommand) Reason
 
--- a row of the table of drill lines (docs/FORMATS.md, Drill lines)
+-- a row of the table of drill lines: what a line that fits it spells, and `None` for a line that does not fit
 abbrev pub Row : Type 0
 Row = RowOf (Option DrillCommand)
 
--- one command (docs/DEFINITIONS.md, Drill lines)
+-- a line that spells one command, or is refused
 abbrev pub one : Result DrillCommand Reason → Meaning
 one read = read >>= λ command. Ok (Some command)
 
 -- ---- the part before
 
--- the lines of this part (docs/FORMATS.md, Drill lines)
+-- the lines before the header, comments apart: `%` spells nothing, and `M48` begins the header
 unfoldable pub lines_before : List (List ℕ × Meaning)
 lines_before = (codes "%", Ok None) ∷ (codes "M48", Ok (Some Start)) ∷ []
 
 -- ---- the header and the body
 
--- the lines that are read alike in both (docs/FORMATS.md, Drill lines)
+-- the lines that are read alike in the header and in the body, as `M71` for millimetres, `G90`, `FMAT,1`
 unfoldable pub common_lines : List (List ℕ × Meaning)
 common_lines =
     (codes "M71", Ok (Some (UnitCode Millimetre))) ∷ (codes "M72", Ok (Some (UnitCode Inch)))
@@ -45,17 +45,17 @@ common_lines =
     ∷ (codes "G91", Err Incremental) ∷ (codes "ICI,ON", Err Incremental)
     ∷ []
 
--- the rows of both (docs/FORMATS.md, Drill lines)
+-- the rows that the header and the body share: these lines, and those that begin with `G93`, which are refused
 abbrev pub common_rows : List ℕ → List Row
 common_rows line = just common_lines line ∷ beginning ((codes "G93", Err OldFormat) ∷ []) line ∷ []
 
 -- ---- the header
 
--- the lines that end the header (docs/FORMATS.md, Drill lines)
+-- the lines that end the header: `%` and `M95`
 unfoldable pub header_ends : List (List ℕ × Meaning)
 header_ends = (codes "%", Ok (Some HeaderEnd)) ∷ (codes "M95", Ok (Some HeaderEnd)) ∷ []
 
--- the rows of the header (docs/FORMATS.md, Drill lines)
+-- the rows of the header, for lines as `%`, `METRIC,TZ`, `T1C0.4` and `M71`
 abbrev pub header_rows : List ℕ → List Row
 header_rows line =
     just header_ends line
@@ -66,18 +66,18 @@ header_rows line =
 
 -- ---- the body
 
--- a hit or a slot: a line that begins with `X` or `Y` (docs/FORMATS.md, Drill lines)
+-- a hit or a slot, which begins with `X` or `Y`: `X1.0Y-0.5`, `Y1.0`, `X2.0G85Y1.0`
 abbrev pub drill_row : Settings → List ℕ → Row
 drill_row settings line = beginning ((codes "X", one (drill_line settings line)) ∷ (codes "Y", one (drill_line settings line)) ∷ []) line
 
--- the beginnings of lines of routed paths, and of repeats and patterns (docs/FORMATS.md, Drill lines)
+-- how lines of routed paths begin, as `G00`, and those of repeats and patterns, as `R` and `M25`; all are refused
 unfoldable pub body_beginnings : List (List ℕ × Meaning)
 body_beginnings =
     (codes "G00", Err Routed) ∷ (codes "G01", Err Routed) ∷ (codes "G02", Err Routed) ∷ (codes "G03", Err Routed) ∷ (codes "M15", Err Routed) ∷ (codes "M16", Err Routed)
     ∷ (codes "R", Err Repeat) ∷ (codes "M01", Err Repeat) ∷ (codes "M02", Err Repeat) ∷ (codes "M08", Err Repeat) ∷ (codes "M25", Err Repeat)
     ∷ []
 
--- the rows of the body (docs/FORMATS.md, Drill lines)
+-- the rows of the body, for lines as `X1.0Y-0.5`, `T1`, `M30` and `M72`
 abbrev pub body_rows : Settings → List ℕ → List Row
 body_rows settings line =
     drill_row settings line
@@ -88,19 +88,19 @@ body_rows settings line =
 
 -- ---- every part
 
--- a line in this part of the file (docs/FORMATS.md, Drill lines)
+-- a line in this part of the file; where no row fits it is OldFormat before `M48`, then BadLine. After `M30` it is AfterEnd
 unfoldable pub line_in : Part → Settings → List ℕ → Meaning
 line_in part.Before settings line = first_fit_or OldFormat (just lines_before line ∷ [])
 line_in part.Header settings line = first_fit_or BadLine (header_rows line)
 line_in part.Body settings line = first_fit_or BadLine (body_rows settings line)
 line_in part.After settings line = Err AfterEnd
 
--- a comment, which may stand anywhere but behind `M30` (docs/FORMATS.md, Drill lines)
+-- a line that begins with `;` is a comment in every part but the one after `M30`
 abbrev pub begins_comment : Part → ℕ → Bool
 begins_comment part.After b = false
 begins_comment _ b = b == ascii.semicolon
 
--- The command that a line without blanks at its end spells, if it spells one, where these settings stand (docs/FORMATS.md, Drill lines).
+-- What a line without blanks at its end spells by these settings: in the header `T1C0.4` spells Tool(1, 0.4).
 unfoldable pub meaning : Settings → List ℕ → Meaning
 meaning settings [] = Ok None
 meaning settings (b ∷ bs) =

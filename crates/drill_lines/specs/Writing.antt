@@ -1,4 +1,4 @@
--- The canonical line of a command.
+-- The canonical line of a command, and which commands a line spells (docs/FORMATS.md, Canonical drill text).
 use Rattle.std.specs.Prelude.{ℕ, ◌≤◌, ℤ, Bool, true, false, not, ◌||◌, ◌&&◌, ◌==◌, nat_lt, nat_le, unsigned_abs, List, [], ◌∷◌, ◌++◌, length, replicate, decimal, Option, Some, None, is_some, codes}
 use Rattle.std.specs.List.{list_any}
 use Rattle.grid_units.specs.declared.lengths.Unit.{Unit as Units}
@@ -19,38 +19,38 @@ use Rattle.grid_units.specs.Ascii as ascii
 
 -- ---- lines
 
--- `INCH` or `METRIC` (docs/FORMATS.md, Canonical drill text)
+-- `INCH` or `METRIC`, the word of a unit line
 abbrev pub unit_word : Units → List ℕ
 unit_word Inch = codes "INCH"
 unit_word Millimetre = codes "METRIC"
 
--- `,LZ` or `,TZ`, where given (docs/FORMATS.md, Canonical drill text)
+-- `,LZ` or `,TZ` where leading or trailing zeros are given, else nothing
 abbrev pub zeros_word : Option Zeros → List ℕ
 zeros_word (Some Leading) = codes ",LZ"
 zeros_word (Some Trailing) = codes ",TZ"
 zeros_word (Some Full) = []
 zeros_word None = []
 
--- the pattern, where given (docs/FORMATS.md, Canonical drill text)
+-- the pattern of a format, if one is given: `,00.0000` for 2:4
 abbrev pub pattern_word : Option Digits → List ℕ
 pattern_word None = []
 pattern_word (Some format) = ascii.comma ∷ (replicate format.whole ascii.digit_zero ++ ascii.point ∷ replicate format.decimals ascii.digit_zero)
 
--- `M71` or `M72` (docs/FORMATS.md, Canonical drill text)
+-- the code of a unit: `M71` for millimetres, `M72` for inches
 abbrev pub unit_code : Units → List ℕ
 unit_code Millimetre = codes "M71"
 unit_code Inch = codes "M72"
 
--- a letter and its coordinate, where it stands (docs/FORMATS.md, Canonical drill text)
+-- a coordinate after its letter, as `X1.0`; nothing where it is left out
 abbrev pub coordinate_word : ℕ → Option ℤ → List ℕ
 coordinate_word letter None = []
 coordinate_word letter (Some v) = letter ∷ pointed v
 
--- the coordinates of a point (docs/FORMATS.md, Canonical drill text)
+-- the coordinates of a point, of those that stand: `X1.0Y-0.5`, `Y1.0`
 abbrev pub point_word : Coordinates → List ℕ
 point_word p = coordinate_word ascii.upper_x p.x ++ coordinate_word ascii.upper_y p.y
 
--- the canonical line of a command, without its LF (docs/FORMATS.md, Canonical drill text)
+-- the canonical line of a command, without its LF: `METRIC,TZ,000.000`, `T1C0.4`, `X1.0Y-0.5`, `X2.0G85Y1.0`
 abbrev pub canonical : DrillCommand → List ℕ
 canonical (Comment text) = ascii.semicolon ∷ text
 canonical Start = codes "M48"
@@ -65,24 +65,24 @@ canonical Finish = codes "M30"
 
 -- ---- commands that a line spells
 
--- a comment's text: without LF, without a blank at its end, and of a line that is not too long (docs/FORMATS.md, Canonical drill text)
+-- the text of a comment: without LF, with no blank at its end, and shorter than 1,048,576 bytes
 abbrev pub is_comment_text : List ℕ → Bool
 is_comment_text text = not (list_any (λ b. b == ascii.line_feed) text) && ((length (trimmed text) == length text) && nat_lt (length text) line_limit)
 
--- zeros that a unit line can name (docs/FORMATS.md, Drill lines)
+-- zeros that a unit line can give: leading, trailing or none (docs/FORMATS.md, Drill lines)
 abbrev pub can_name_zeros : Option Zeros → Bool
 can_name_zeros (Some Full) = false
 can_name_zeros _ = true
 
--- a tool's number (docs/FORMATS.md, Drill lines)
+-- the number of a tool that is defined: 1 to 999 (docs/FORMATS.md, Drill lines)
 abbrev pub is_tool_number : ℕ → Bool
 is_tool_number n = nat_le 1 n && nat_le n 999
 
--- at least one coordinate stands (docs/FORMATS.md, Drill lines)
+-- a point names at least one coordinate (docs/FORMATS.md, Drill lines)
 abbrev pub names_any : Coordinates → Bool
 names_any p = is_some p.x || is_some p.y
 
--- some line of this part of a file spells the command (docs/FORMATS.md, Canonical drill text)
+-- some line of this part of a file spells the command: a Tool in the header, a Hit in the body, a Comment up to `M30`
 abbrev pub is_sayable : Part → DrillCommand → Bool
 is_sayable part.Before Start = true
 is_sayable part.Before (Comment text) = is_comment_text text
@@ -101,20 +101,20 @@ is_sayable _ _ = false
 
 -- ---- what the types of a command's fields say
 
--- a decimal of its range (docs/FORMATS.md, Numbers)
+-- a decimal in units of 10^-8: at most 999,999.99999999 from zero (docs/FORMATS.md, The three kinds of number)
 abbrev pub IsDec : ℤ → Type 0
 IsDec v = unsigned_abs v ≤ max_units
 
--- the same where it stands (docs/FORMATS.md, Numbers)
+-- a decimal, or a coordinate that is left out (docs/FORMATS.md, The three kinds of number)
 abbrev pub AreDecs : Option ℤ → Type 0
 AreDecs None = Unit {0}
 AreDecs (Some v) = IsDec v
 
--- both coordinates of a point (docs/FORMATS.md, Numbers)
+-- each coordinate of a point is a decimal or left out (docs/FORMATS.md, The three kinds of number)
 abbrev pub IsPoint : Coordinates → Type 0
 IsPoint p = AreDecs p.x × AreDecs p.y
 
--- each number of a command lies in the range of its type (docs/FORMATS.md, Numbers)
+-- each number of a command lies in the range of its type, as the digits of a pattern from 1 to 6
 abbrev pub IsTyped : DrillCommand → Type 0
 IsTyped (UnitLine unit zeros (Some format)) = AreSizes format.whole format.decimals
 IsTyped (Tool number diameter) = IsDec diameter

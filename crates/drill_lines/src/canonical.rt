@@ -1,4 +1,4 @@
-//! The canonical lines of commands.
+//! The canonical line of a command, as `T1C0.4`.
 
 ghost use Rattle.std.specs.Prelude.{◌≡◌, ◌++◌, ◌∷◌, ◌==◌, OnOk, decimal, replicate};
 ghost use Rattle.std.specs.List.{list_any};
@@ -14,7 +14,7 @@ use grid_units::{Dec, Unit, Zeros};
 use itoa::Buffer;
 use std::alloc::AllocError;
 
-/// Appends a decimal with its point.
+/// Appends a decimal in its pointed spelling, as `1.0`.
 fn push_dec(text: &mut Vec<u8>, value: Dec) -> Result<(), AllocError>
     ensures items { OnOk result (text.new.items ≡ text.old.items ++ pointed value) }
     ensures typed { IsDec value }
@@ -22,7 +22,7 @@ fn push_dec(text: &mut Vec<u8>, value: Dec) -> Result<(), AllocError>
     text.extend_from_slice(value.write_pointed().as_bytes())
 }
 
-/// Appends a number.
+/// Appends a number in decimal digits.
 fn push_number(text: &mut Vec<u8>, number: u16) -> Result<(), AllocError>
     ensures { OnOk result (text.new.items ≡ text.old.items ++ decimal number) }
 {
@@ -68,7 +68,7 @@ fn unit_code(unit: Unit) -> &'static [u8]
     }
 }
 
-/// Appends the pattern of a format.
+/// Appends the pattern of a format, as `,00.0000` for 2:4.
 fn push_format(text: &mut Vec<u8>, format: Format) -> Result<(), AllocError>
     ensures items { OnOk result (text.new.items ≡ text.old.items ++ (44 ∷ (replicate format.whole 48 ++ 46 ∷ replicate format.decimals 48))) }
     ensures typed { AreSizes format.whole format.decimals }
@@ -80,7 +80,7 @@ fn push_format(text: &mut Vec<u8>, format: Format) -> Result<(), AllocError>
     push_zeros(text, decimals)
 }
 
-/// Appends a unit line.
+/// Appends a unit line, as `METRIC,TZ,000.000`.
 fn push_unit_line(
     text: &mut Vec<u8>,
     unit: Unit,
@@ -98,7 +98,7 @@ fn push_unit_line(
     }
 }
 
-/// Appends a letter and its coordinate, where it stands.
+/// Appends a letter and its coordinate, or nothing where it is left out.
 fn push_coordinate(text: &mut Vec<u8>, letter: u8, value: Option<Dec>) -> Result<(), AllocError>
     ensures items { OnOk result (text.new.items ≡ text.old.items ++ coordinate_word letter value) }
     ensures typed { OnOk result (AreDecs value) }
@@ -112,7 +112,7 @@ fn push_coordinate(text: &mut Vec<u8>, letter: u8, value: Option<Dec>) -> Result
     }
 }
 
-/// Appends the coordinates of a point.
+/// Appends the coordinates of a point, as `X1.0Y-0.5`.
 fn push_point(text: &mut Vec<u8>, point: &Coordinates) -> Result<(), AllocError>
     ensures items { OnOk result (text.new.items ≡ text.old.items ++ point_word point.now) }
     ensures typed { OnOk result (IsPoint point.now) }
@@ -121,7 +121,7 @@ fn push_point(text: &mut Vec<u8>, point: &Coordinates) -> Result<(), AllocError>
     push_coordinate(text, b'Y', point.y.get())
 }
 
-/// Appends a tool's definition.
+/// Appends a tool's definition, as `T1C0.4`.
 fn push_tool(text: &mut Vec<u8>, number: u16, diameter: Dec) -> Result<(), AllocError>
     ensures items { OnOk result (text.new.items ≡ text.old.items ++ (84 ∷ (decimal number ++ 67 ∷ pointed diameter))) }
     ensures typed { OnOk result (IsDec diameter) }
@@ -132,7 +132,7 @@ fn push_tool(text: &mut Vec<u8>, number: u16, diameter: Dec) -> Result<(), Alloc
     push_dec(text, diameter)
 }
 
-/// Appends a pick.
+/// Appends a pick, as `T1`.
 fn push_pick(text: &mut Vec<u8>, number: u16) -> Result<(), AllocError>
     ensures { OnOk result (text.new.items ≡ text.old.items ++ (84 ∷ decimal number)) }
 {
@@ -140,7 +140,7 @@ fn push_pick(text: &mut Vec<u8>, number: u16) -> Result<(), AllocError>
     push_number(text, number)
 }
 
-/// Appends a slot.
+/// Appends a slot, as `X2.0G85Y1.0`.
 fn push_slot(
     text: &mut Vec<u8>,
     first: &Coordinates,
@@ -154,7 +154,7 @@ fn push_slot(
     push_point(text, second)
 }
 
-/// Appends a comment.
+/// Appends a comment, `;` and its text.
 fn push_comment(text: &mut Vec<u8>, comment: &[u8]) -> Result<(), AllocError>
     ensures { OnOk result (text.new.items ≡ text.old.items ++ (59 ∷ comment.now)) }
 {
@@ -187,14 +187,14 @@ pub fn push_canonical(text: &mut Vec<u8>, command: &DrillCommand) -> Result<(), 
     }
 }
 
-/// Whether there is an LF.
+/// Whether a text has an LF.
 fn has_break(text: &[u8]) -> bool
     ensures { result ≡ list_any (λ b. b == 10) text.now }
 {
     text.iter().any(|byte| *byte == b'\n')
 }
 
-/// Whether a line can spell a comment of this text.
+/// Whether a line can spell a comment with this text.
 fn is_comment_text(text: &[u8]) -> bool
     ensures { result ≡ is_comment_text text.now }
 {

@@ -1,4 +1,4 @@
-//! The commands of a drill file, and by what its lines are read.
+//! The commands of a drill file, and the settings by which its lines are read.
 
 ghost use Rattle.std.specs.Prelude.{◌≡◌, ◌≤◌, ◌↔◌, IsSome, IfSome};
 
@@ -6,7 +6,7 @@ use grid_units::{Dec, Text, Unit, Zeros};
 use std::fmt;
 use std::marker::Model;
 
-/// How many digits a coordinate without a point has before its point and behind it: 1 to 6 each.
+/// How many digits a coordinate without a point has before its point and after it: 1 to 6 each.
 #[derive(Clone, Copy, Debug, PartialEq, Eq)]
 pub struct Format {
     whole: u8,
@@ -48,7 +48,7 @@ impl Format {
         self.whole
     }
 
-    /// How many digits stand behind the point, 1 to 6.
+    /// How many digits stand after the point, 1 to 6.
     pub fn decimals(&self) -> u8
         ensures value { result ≡ self.now.decimals }
         ensures in_range { AreSizes self.now.whole self.now.decimals }
@@ -57,7 +57,7 @@ impl Format {
     }
 }
 
-/// What no decimal has as its units: a coordinate that is left out.
+/// The units kept for a coordinate that is left out: one more than a decimal can have.
 const LEFT_OUT: i64 = 100_000_000_000_000;
 
 /// A coordinate of a line, or that it is left out. It takes eight bytes, since a file has many; contracts see
@@ -83,7 +83,7 @@ impl Model for Coordinate {
 impl Coordinate {
     ghost use Rattle.std.specs.Option.{option_or};
 
-    /// This coordinate, or none.
+    /// This coordinate, or one that is left out.
     pub fn new(value: Option<Dec>) -> Coordinate
         ensures { result ≡ value }
     {
@@ -95,7 +95,7 @@ impl Coordinate {
         }
     }
 
-    /// The coordinate, in the unit of its file, where it is not left out.
+    /// The coordinate in the unit of its file, or `None` where it is left out.
     pub fn get(self) -> Option<Dec>
         ensures { result ≡ self }
     {
@@ -110,7 +110,7 @@ impl Coordinate {
     }
 }
 
-/// The coordinates that a line names for a point, in the unit of its file.
+/// The coordinates that a line names for a point, in the unit of its file. Each may be left out.
 #[derive(Clone, Copy, Debug, PartialEq, Eq)]
 pub struct Coordinates {
     pub x: Coordinate,
@@ -118,7 +118,7 @@ pub struct Coordinates {
 }
 
 impl Coordinates {
-    /// The point of these coordinates, each of which may be left out.
+    /// A point with these coordinates, each of which may be left out.
     pub fn new(x: Option<Dec>, y: Option<Dec>) -> Coordinates
         ensures { result ≡ record { x = x; y = y } }
     {
@@ -132,30 +132,30 @@ impl Coordinates {
 /// What a line of a drill file commands.
 #[derive(PartialEq, Eq, Drop)]
 pub enum DrillCommand {
-    /// `;` and a text.
+    /// `;` and a text: a comment.
     Comment(Text),
     /// `M48`: the header begins.
     Start,
-    /// `INCH` or `METRIC`, with the zeros and the format that it gives.
+    /// `INCH` or `METRIC`, with the zeros and the format that the line gives.
     UnitLine(Unit, Option<Zeros>, Option<Format>),
-    /// A tool, by its number from 1 to 999, and its diameter in the unit of the file.
+    /// A tool: its number, from 1 to 999, and its diameter in the unit of the file.
     Tool(u16, Dec),
     /// `%` or `M95`: the header ends.
     HeaderEnd,
-    /// `M71` or `M72`.
+    /// `M71` for millimetres, `M72` for inches.
     UnitCode(Unit),
-    /// A tool is picked by its number; 0 picks none.
+    /// A tool is picked by its number. 0 picks none.
     Pick(u16),
-    /// A hole at one point.
+    /// A hit: one hole at a point.
     Hit(Coordinates),
-    /// A slot (`G85`) from one point to another.
+    /// A slot (`G85`) from a first point to a second.
     Slot(Coordinates, Coordinates),
-    /// `M30`: the file ends.
+    /// `M30`: the end of the file.
     Finish,
 }
 
 impl fmt::Debug for DrillCommand {
-    /// The name of its kind alone.
+    /// Writes the name of the command's kind alone.
     fn fmt<W: fmt::Write>(&self, f: &mut fmt::Formatter<W>) -> fmt::Result {
         f.write_str(match self {
             DrillCommand::Comment(..) => "Comment",
@@ -179,11 +179,11 @@ pub enum Part {
     Before,
     Header,
     Body,
-    /// Behind `M30`.
+    /// After `M30`.
     After,
 }
 
-/// By what a line is read: the part of the file in which it stands, and what the header gives as a whole.
+/// By what a line is read: the part of the file in which it stands, and what the whole header gives.
 #[derive(Clone, Copy, Debug)]
 pub struct Settings {
     pub part: Part,

@@ -10,7 +10,7 @@ use crate::tools::has_point;
 use grid_units::numbers::number_len;
 use grid_units::{Dec, Reason, Unit, Zeros, both, from_zeros};
 
-/// The format where a header gives none.
+/// The format where a header gives none: 2:4 for inch, else 3:3.
 fn default_format(unit: Option<Unit>) -> (u8, u8)
     ensures whole { result.0 ≡ (default_format unit).whole }
     ensures decimals { result.1 ≡ (default_format unit).decimals }
@@ -22,7 +22,7 @@ fn default_format(unit: Option<Unit>) -> (u8, u8)
     }
 }
 
-/// The format by which coordinates are read.
+/// The format by which a coordinate without a point is read.
 fn sizes_in(settings: &Settings) -> (u8, u8)
     ensures whole { result.0 ≡ (format_in settings.now).whole }
     ensures decimals { result.1 ≡ (format_in settings.now).decimals }
@@ -34,7 +34,7 @@ fn sizes_in(settings: &Settings) -> (u8, u8)
     }
 }
 
-/// A coordinate: with a point a decimal, without one in the format.
+/// The value of a coordinate: with a point it is a decimal, without one it is read in the format.
 #[tactic(auto, unfolding(crate::specs::Drilling::coordinate_of))]
 fn coordinate_of(settings: &Settings, run: &[u8]) -> Result<Dec, Reason>
     ensures { result ≡ coordinate_of settings.now run.now }
@@ -51,7 +51,7 @@ fn coordinate_of(settings: &Settings, run: &[u8]) -> Result<Dec, Reason>
     from_zeros(run, whole, decimals, settings.zeros.unwrap_or(Zeros::Full))
 }
 
-/// A coordinate that may be left out.
+/// The value of a coordinate that may be left out.
 #[tactic(auto, unfolding(crate::specs::Drilling::coordinate))]
 fn coordinate(settings: &Settings, run: Option<&[u8]>) -> Result<Option<Dec>, Reason>
     ensures { result ≡ coordinate settings.now (option_copied run.entry) }
@@ -62,7 +62,7 @@ fn coordinate(settings: &Settings, run: Option<&[u8]>) -> Result<Option<Dec>, Re
     }
 }
 
-/// The run behind a letter, where that stands, and the rest.
+/// The run after a letter, if the letter stands, and the rest.
 fn field(letter: u8, bytes: &[u8]) -> (Option<&[u8]>, &[u8])
     ensures run { option_copied result.0 ≡ (field letter bytes.now).0 }
     ensures rest { result.1.now ≡ (field letter bytes.now).1 }
@@ -76,7 +76,7 @@ fn field(letter: u8, bytes: &[u8]) -> (Option<&[u8]>, &[u8])
     }
 }
 
-/// The coordinates that these runs name.
+/// The coordinates of these runs, or the first reason in the reading order.
 #[tactic(auto, unfolding(crate::specs::Drilling::coordinates))]
 fn coordinates(
     settings: &Settings,
@@ -89,7 +89,7 @@ fn coordinates(
     Ok(Coordinates::new(x, y))
 }
 
-/// A slot from a point, by what stands behind its `G85`.
+/// A slot from a point, by what follows its `G85`.
 #[tactic(auto, unfolding(crate::specs::Drilling::slot_line))]
 fn slot_line(
     settings: &Settings,
@@ -111,7 +111,7 @@ fn slot_line(
     Ok(DrillCommand::Slot(from, to))
 }
 
-/// What stands behind a point: nothing for a hit, `G85` for a slot.
+/// A hit or a slot, by what follows its first point: nothing, or `G85` and a second point.
 #[tactic(auto, unfolding(crate::specs::Drilling::drill_from))]
 fn drill_from(
     settings: &Settings,
@@ -130,7 +130,7 @@ fn drill_from(
     }
 }
 
-/// A hit or a slot.
+/// Reads a hit, as `X1.0Y-0.5`, or a slot, as `X2.0G85Y1.0`.
 #[tactic(auto, unfolding(crate::specs::Drilling::drill_line))]
 pub(crate) fn drill_line(settings: Settings, line: &[u8]) -> Result<DrillCommand, Reason>
     ensures { result ≡ drill_line settings line.now }

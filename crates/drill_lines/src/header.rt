@@ -15,7 +15,7 @@ fn is_zero(byte: u8) -> bool
     byte == b'0'
 }
 
-/// How many zeros stand in front.
+/// How many zeros stand at the start.
 fn zeros_len(run: &[u8]) -> usize
     ensures within { result ≤ length run.now }
     ensures len { result ≡ prefix_len is_zero run.now }
@@ -40,7 +40,7 @@ fn is_size(count: usize) -> bool
     (1..=6).contains(&count)
 }
 
-/// The format with these numbers of digits.
+/// The format with these numbers of digits, or `BadNumber` where one of them is not 1 to 6.
 fn sizes(whole: usize, decimals: usize) -> Result<Format, Reason>
     ensures { result ≡ sizes whole decimals }
 {
@@ -50,7 +50,7 @@ fn sizes(whole: usize, decimals: usize) -> Result<Format, Reason>
     Format::new(whole as u8, decimals as u8).ok_or(Reason::BadNumber)
 }
 
-/// The format of a pattern with these zeros before its point, from what stands behind them.
+/// The format of a pattern with so many zeros before its point, by what follows these.
 fn pattern_from(whole: usize, rest: &[u8]) -> Result<Format, Reason>
     ensures { result ≡ pattern_from whole rest.now }
 {
@@ -62,7 +62,7 @@ fn pattern_from(whole: usize, rest: &[u8]) -> Result<Format, Reason>
     }
 }
 
-/// The format that a pattern shows.
+/// The format that a pattern shows: `00.0000` is 2:4.
 #[tactic(auto, unfolding(crate::specs::Header::pattern))]
 fn pattern(run: &[u8]) -> Result<Format, Reason>
     ensures { result ≡ pattern run.now }
@@ -77,7 +77,7 @@ fn are_number_bytes(run: &[u8]) -> bool
     run.iter().all(|byte| is_number(*byte))
 }
 
-/// A unit line, from what stands behind its unit and its zeros.
+/// A unit line, by what follows its unit and its zeros.
 #[tactic(auto, unfolding(crate::specs::Header::unit_format))]
 fn unit_format(unit: Unit, zeros: Option<Zeros>, rest: &[u8]) -> Result<DrillCommand, Reason>
     ensures { result ≡ unit_format unit zeros rest.now }
@@ -92,7 +92,7 @@ fn unit_format(unit: Unit, zeros: Option<Zeros>, rest: &[u8]) -> Result<DrillCom
     Ok(DrillCommand::UnitLine(unit, zeros, Some(format)))
 }
 
-/// A unit line, from what stands behind its unit.
+/// A unit line, by what follows its unit.
 #[tactic(auto, unfolding(crate::specs::Header::unit_line))]
 pub(crate) fn unit_line(unit: Unit, line: &[u8]) -> Result<DrillCommand, Reason>
     ensures { result ≡ unit_line unit line.now }
@@ -112,7 +112,7 @@ fn is_size_digit(byte: u8) -> bool
     (b'1'..=b'6').contains(&byte)
 }
 
-/// The format of `i:d`.
+/// The format of `i:d`, two digits from 1 to 6.
 fn sizes_named(text: &[u8]) -> Option<Format>
     ensures { result ≡ sizes_named text.now }
 {
@@ -122,7 +122,7 @@ fn sizes_named(text: &[u8]) -> Option<Format>
     }
 }
 
-/// The format that the text of a comment gives: the text is exactly `FILE_FORMAT=i:d`, i and d digits from 1 to 6.
+/// The format that the text of a comment gives, if it is exactly `FILE_FORMAT=i:d` with digits i and d from 1 to 6.
 #[tactic(auto, unfolding(crate::specs::Header::file_format))]
 pub fn file_format(text: &[u8]) -> Option<Format>
     ensures { result ≡ file_format text.now }

@@ -22,7 +22,7 @@ fn is_blank(byte: u8) -> bool
     byte == b' ' || byte == b'\t' || byte == b'\r'
 }
 
-/// How long a line is without the blanks at its end.
+/// How many bytes a line has without the blanks at its end.
 pub(crate) fn trimmed_len(line: &[u8]) -> usize
     ensures within { result ≤ length line.now }
     ensures exact { take result line.now ≡ trimmed line.now }
@@ -41,10 +41,10 @@ fn begins(word: &[u8], line: &[u8]) -> bool
     line.strip_prefix(word).is_some()
 }
 
-/// A row of the table of drill lines: what a line spells that fits it.
+/// A row of the table of drill lines: what a line that fits it spells.
 type Row = Option<Result<Option<DrillCommand>, Reason>>;
 
-/// A line before `M48`.
+/// Reads a line before `M48`.
 #[tactic(auto, unfolding(crate::specs::Meaning::lines_before))]
 fn line_before(line: &[u8]) -> Result<Option<DrillCommand>, Reason>
     ensures { result ≡ first_fit_or OldFormat (just lines_before line.now ∷ []) }
@@ -58,7 +58,7 @@ fn line_before(line: &[u8]) -> Result<Option<DrillCommand>, Reason>
     }
 }
 
-/// A line that is just one of those that are read alike in the header and in the body.
+/// Reads a line that is just one of those of both the header and the body, as `M71`.
 #[tactic(auto, unfolding(crate::specs::Meaning::common_lines))]
 fn common_line(line: &[u8]) -> Row
     ensures { result ≡ just common_lines line.now }
@@ -83,7 +83,7 @@ fn common_line(line: &[u8]) -> Row
     }
 }
 
-/// A line by the rows that the header and the body share.
+/// Reads a line by the rows that the header and the body share.
 fn common_rows(line: &[u8]) -> Result<Option<DrillCommand>, Reason>
     ensures { result ≡ first_fit_or BadLine (common_rows line.now) }
 {
@@ -96,7 +96,7 @@ fn common_rows(line: &[u8]) -> Result<Option<DrillCommand>, Reason>
     }
 }
 
-/// A line that ends the header.
+/// Reads a line that ends the header, `%` or `M95`.
 #[tactic(auto, unfolding(crate::specs::Meaning::header_ends))]
 fn header_end(line: &[u8]) -> Row
     ensures { result ≡ just header_ends line.now }
@@ -108,7 +108,7 @@ fn header_end(line: &[u8]) -> Row
     }
 }
 
-/// A line of the header.
+/// Reads a line of the header.
 fn header_line(line: &[u8]) -> Result<Option<DrillCommand>, Reason>
     ensures { result ≡ first_fit_or BadLine (header_rows line.now) }
 {
@@ -127,7 +127,7 @@ fn header_line(line: &[u8]) -> Result<Option<DrillCommand>, Reason>
     common_rows(line)
 }
 
-/// A line of the body that is refused by how it begins.
+/// Refuses a line of the body by its beginning: a routed path, a repeat or a pattern.
 #[tactic(auto, unfolding(crate::specs::Meaning::body_beginnings))]
 fn body_beginning(line: &[u8]) -> Row
     ensures { result ≡ beginning body_beginnings line.now }
@@ -152,7 +152,7 @@ fn body_beginning(line: &[u8]) -> Row
     }
 }
 
-/// A line of the body that neither drills nor picks a tool.
+/// Reads a line of the body that neither drills nor picks a tool.
 fn body_word(line: &[u8]) -> Result<Option<DrillCommand>, Reason>
     ensures { result ≡ first_fit_or BadLine (just ((codes "M30", Ok (Some Finish)) ∷ []) line.now ∷ beginning body_beginnings line.now ∷ common_rows line.now) }
 {
@@ -165,7 +165,7 @@ fn body_word(line: &[u8]) -> Result<Option<DrillCommand>, Reason>
     }
 }
 
-/// A line of the body.
+/// Reads a line of the body.
 fn body_line(settings: Settings, line: &[u8]) -> Result<Option<DrillCommand>, Reason>
     ensures { result ≡ first_fit_or BadLine (body_rows settings line.now) }
 {
@@ -178,7 +178,7 @@ fn body_line(settings: Settings, line: &[u8]) -> Result<Option<DrillCommand>, Re
     body_word(line)
 }
 
-/// A line in this part of the file.
+/// Reads a line by the part of the file in which it stands.
 #[tactic(auto, unfolding(crate::specs::Meaning::line_in))]
 fn line_in(settings: Settings, line: &[u8]) -> Result<Option<DrillCommand>, Reason>
     ensures { result ≡ line_in settings.part settings line.now }
@@ -191,7 +191,7 @@ fn line_in(settings: Settings, line: &[u8]) -> Result<Option<DrillCommand>, Reas
     }
 }
 
-/// Whether a line that begins with this byte is a comment.
+/// Whether a line that begins with this byte is a comment in this part of the file.
 fn begins_comment(part: Part, first: u8) -> bool
     ensures { result ≡ begins_comment part first }
 {

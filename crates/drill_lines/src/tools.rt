@@ -76,28 +76,28 @@ fn are_pick_bytes(fields: &[u8]) -> bool
     fields.iter().all(|byte| is_pick_byte(*byte))
 }
 
-/// Whether these are letters of a tool's definition, each with a run.
+/// Whether these are letters of a tool's definition, each with a run, as `F200C0.4`.
 fn are_tool_fields(fields: &[u8]) -> bool
     ensures { result ≡ are_fields is_letter fields.now }
 {
     begins_with_letter(fields) && are_tool_bytes(fields)
 }
 
-/// Whether these are letters of a pick, each with a run.
+/// Whether these are letters of a pick, each with a run, as `F200S65`.
 fn are_pick_fields(fields: &[u8]) -> bool
     ensures { result ≡ are_fields is_skipped fields.now }
 {
     begins_with_skipped(fields) && are_pick_bytes(fields)
 }
 
-/// How many diameters there are.
+/// How many `C` there are.
 fn diameters(fields: &[u8]) -> usize
     ensures { result ≡ count_by is_diameter fields.now }
 {
     fields.iter().filter(|byte| is_diameter(**byte)).count()
 }
 
-/// A tool's number.
+/// The number of a tool, from `least` to 999.
 #[tactic(auto, unfolding(crate::specs::Tools::number_from))]
 fn number_from(least: u64, digits: &[u8]) -> Result<u16, Reason>
     ensures { result ≡ number_from least digits.now }
@@ -113,7 +113,7 @@ fn number_from(least: u64, digits: &[u8]) -> Result<u16, Reason>
     }
 }
 
-/// A diameter: a decimal with a point.
+/// The diameter of a tool: a decimal with a point.
 #[tactic(auto, unfolding(crate::specs::Tools::diameter_of))]
 fn diameter_of(run: &[u8]) -> Result<Dec, Reason>
     ensures { result ≡ diameter_of run.now }
@@ -144,7 +144,7 @@ fn diameter_at(fields: &[u8]) -> usize
     fields.len()
 }
 
-/// What stands behind the first `C`.
+/// The bytes after the first `C`.
 fn behind_diameter(fields: &[u8]) -> &[u8]
     ensures { result.now ≡ after_first is_diameter fields.now }
 {
@@ -152,14 +152,14 @@ fn behind_diameter(fields: &[u8]) -> &[u8]
     &fields[behind..]
 }
 
-/// The run in front.
+/// The run at the start of the bytes.
 fn run_in_front(bytes: &[u8]) -> &[u8]
     ensures { result.now ≡ take_while is_number bytes.now }
 {
     &bytes[..number_len(bytes)]
 }
 
-/// A tool's definition, from its number and its fields.
+/// A tool's definition, by the digits of its number and its fields.
 #[tactic(auto, unfolding(crate::specs::Tools::tool_fields))]
 fn tool_fields(digits: &[u8], fields: &[u8]) -> Result<DrillCommand, Reason>
     ensures { result ≡ tool_fields digits.now fields.now }
@@ -172,7 +172,7 @@ fn tool_fields(digits: &[u8], fields: &[u8]) -> Result<DrillCommand, Reason>
     Ok(DrillCommand::Tool(number, diameter))
 }
 
-/// A tool's definition, behind its `T`.
+/// Reads a tool's definition, after its `T`: `1C0.4`.
 #[tactic(auto, unfolding(crate::specs::Tools::tool_line))]
 pub(crate) fn tool_line(line: &[u8]) -> Result<DrillCommand, Reason>
     ensures { result ≡ tool_line line.now }
@@ -181,7 +181,7 @@ pub(crate) fn tool_line(line: &[u8]) -> Result<DrillCommand, Reason>
     tool_fields(digits, fields)
 }
 
-/// A pick, from its number and its fields.
+/// A pick, by the digits of its number and its fields.
 #[tactic(auto, unfolding(crate::specs::Tools::pick_fields))]
 fn pick_fields(digits: &[u8], fields: &[u8]) -> Result<DrillCommand, Reason>
     ensures { result ≡ pick_fields digits.now fields.now }
@@ -192,7 +192,7 @@ fn pick_fields(digits: &[u8], fields: &[u8]) -> Result<DrillCommand, Reason>
     Ok(DrillCommand::Pick(number_from(0, digits)?))
 }
 
-/// A pick, behind its `T`.
+/// Reads a pick, after its `T`: `1`.
 #[tactic(auto, unfolding(crate::specs::Tools::pick_line))]
 pub(crate) fn pick_line(line: &[u8]) -> Result<DrillCommand, Reason>
     ensures { result ≡ pick_line line.now }

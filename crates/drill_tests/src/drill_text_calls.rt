@@ -7,7 +7,7 @@ use grid_units::{Fail, Fault, Hole, Reason, Text};
 use std::alloc::{AllocError, Global};
 use std::test::Fail as TestFail;
 
-/// The ends of a hole and its radius, in pm.
+/// The ends of a hole, each with its x and its y, and its radius, in pm.
 type Ends = (i64, i64, i64, i64, i64);
 
 fn ends(hole: &Hole) -> Ends {
@@ -31,7 +31,7 @@ fn drills(alloc: Global, text: &[u8], wanted: &[Ends]) -> bool {
     }
 }
 
-/// Why nothing was read, if so.
+/// The failure of a read, or `None` where it succeeded.
 fn failure_of(read: Result<Drill, Fail>) -> Option<Fail> {
     match read {
         Ok(_) => None,
@@ -51,19 +51,19 @@ fn refused(reason: Reason, place: u64, byte: u64) -> Option<Fail> {
     }))
 }
 
-/// Whether a text has this fault, also in pieces.
+/// Whether a text has this fault, whole and in pieces.
 fn refuses(alloc: Global, text: &str, reason: Reason, place: u64, byte: u64) -> bool {
     let text = text.as_bytes();
     fault_of(alloc, text) == refused(reason, place, byte) && pieces_alike(alloc, text)
 }
 
-/// Whether a text drills one round hole of this place, also in pieces.
+/// Whether a text drills just one round hole at this point, whole and in pieces.
 fn drills_one(alloc: Global, text: &str, x: i64, y: i64, radius: i64) -> bool {
     let text = text.as_bytes();
     drills(alloc, text, &[(x, y, x, y, radius)]) && pieces_alike(alloc, text)
 }
 
-/// A read of a text in two pieces.
+/// Reads a text in two pieces.
 fn in_two(alloc: Global, text: &[u8], at: usize) -> Result<Drill, Fail> {
     let mut reader = DrillReader::new(alloc);
     let at = at.min(text.len());
@@ -72,7 +72,7 @@ fn in_two(alloc: Global, text: &[u8], at: usize) -> Result<Drill, Fail> {
     reader.finish()
 }
 
-/// A read of a text byte by byte, with an empty piece between each two.
+/// Reads a text byte by byte, with an empty piece after each byte.
 fn byte_by_byte(alloc: Global, text: &[u8]) -> Result<Drill, Fail> {
     let mut reader = DrillReader::new(alloc);
     for i in 0..text.len() {
@@ -82,7 +82,7 @@ fn byte_by_byte(alloc: Global, text: &[u8]) -> Result<Drill, Fail> {
     reader.finish()
 }
 
-/// The same, of the holes alone.
+/// Reads the holes alone, byte by byte, with an empty piece after each byte.
 fn holes_byte_by_byte(alloc: Global, text: &[u8]) -> Result<Vec<Hole>, Fail> {
     let mut reader = HolesReader::new(alloc);
     for i in 0..text.len() {
@@ -92,7 +92,7 @@ fn holes_byte_by_byte(alloc: Global, text: &[u8]) -> Result<Vec<Hole>, Fail> {
     reader.finish()
 }
 
-/// Whether the holes, or the failure, are those of a drill file.
+/// Whether the holes are those of a drill file, or both failed alike.
 fn same_holes(a: &Result<Vec<Hole>, Fail>, b: &Result<Drill, Fail>) -> bool {
     match (a, b) {
         (Ok(a), Ok(b)) => a.as_slice() == b.holes(),
@@ -113,13 +113,13 @@ fn same(a: &Result<Drill, Fail>, b: &Result<Drill, Fail>) -> bool {
     }
 }
 
-/// Whether a text cut in two at each byte reads as the whole.
+/// Whether a text that is cut in two at each byte reads as the whole does.
 fn splits_alike(alloc: Global, text: &[u8]) -> bool {
     let whole = read_drill(alloc, text);
     (0..text.len()).all(|n| same(&in_two(alloc, text, n), &whole))
 }
 
-/// Whether a text cut off behind each byte reads in pieces of one byte as the whole.
+/// Whether each prefix of a text reads byte by byte as it does whole, the holes alone too.
 fn cuts_alike(alloc: Global, text: &[u8]) -> bool {
     for n in 0..text.len() + 1 {
         let front = &text[..n];
@@ -133,15 +133,15 @@ fn cuts_alike(alloc: Global, text: &[u8]) -> bool {
     true
 }
 
-/// Whether a text reads in pieces as the whole.
+/// Whether a text and its prefixes read in pieces as they do whole.
 fn pieces_alike(alloc: Global, text: &[u8]) -> bool {
     splits_alike(alloc, text) && cuts_alike(alloc, text)
 }
 
 const PLATED: &[u8; 36] = b"M48\nMETRIC\nT1C0.4\n%\nT1\nX0.0Y0.0\nM30\n";
 
-/// Texts of one hole at 2.54 mm: by each rule for zeros; in other formats, for the settings are those of the whole header, wherever a
-/// comment or a later line names them; a comment in the body gives none, and a later line takes nothing back.
+/// Texts of one hole at 2.54 mm: by each rule for zeros, and in other formats. The settings are those of the whole header, wherever a
+/// comment or a later line gives them. A comment in the body gives none, and a later line takes nothing back.
 const ONE_HOLE: [&str; 10] = [
     "M48\nMETRIC,TZ\nT1C0.4\n%\nT1\nX2540Y0\nM30\n",
     "M48\nMETRIC,LZ\nT1C0.4\n%\nT1\nX00254Y0\nM30\n",
@@ -165,8 +165,8 @@ fn one_hole_of_each_format(rt: HostRuntime) {
     }
 }
 
-/// Texts and their holes: slots; coordinates left out, which are those of the point before, at the end of a slot those of its first
-/// point; equal holes, which are two; and a hole at 10 m.
+/// Texts and their holes: slots; coordinates left out, which are those of the point before (of the second end of a slot, those of its
+/// first end); equal holes, which are two; and a hole at 10 m.
 const HOLES: [(&[u8], &[Ends]); 4] = [
     (
         b"M48\nMETRIC\nT1C0.5\n%\nT1\nX0.0Y0.0G85X2.0Y0.0\nX0.0Y5.0G85X2.0Y6.0\nX9.0Y9.0G85X9.0Y9.0\nM30\n",
@@ -219,10 +219,10 @@ fn holes_and_slots(rt: HostRuntime) {
     }
 }
 
-/// Three tools, of which one has settings, and no hole.
+/// Three tools, one of them with feed, speed and other settings, and no hole.
 const TOOLS: &[u8] = b"M48\nMETRIC\nT3C0.3\nT1F00S00C.0350H5Z-1\nT2C2.\n%\nM30\n";
 
-/// The tools of a file by their numbers, with their diameters.
+/// The numbers of a file's tools, with their diameters in units of 10^-8.
 fn tools_of(alloc: Global, text: &[u8]) -> Result<Vec<(u16, i64)>, Fail> {
     let drill = read_drill(alloc, text)?;
     let mut tools = Vec::new(alloc);
@@ -249,7 +249,7 @@ fn tools_among_commands(rt: HostRuntime) -> Result<(), TestFail> {
     Ok(())
 }
 
-/// Texts that are refused: by coordinates, digits, ends, tools, lines of the header and of the body, settings and definitions.
+/// Texts that are refused for coordinates, digits, ends, tools, lines of the header and of the body, settings and definitions.
 const REFUSED: [(&str, Reason, u64, u64); 35] = [
     (
         "M48\nMETRIC\nT1C0.4\n%\nT1\nX2540Y000000\nM30\n",
@@ -380,7 +380,7 @@ fn refused_texts(rt: HostRuntime) {
     }
 }
 
-/// Whether a file cut off behind so many of its bytes has this fault.
+/// Whether the file, cut off after so many bytes, has this fault.
 fn cut_refuses(alloc: Global, len: usize, reason: Reason, place: u64, byte: u64) -> bool {
     len <= 36 && fault_of(alloc, &PLATED[..len]) == refused(reason, place, byte)
 }
@@ -405,7 +405,7 @@ fn cut_off(rt: HostRuntime) {
     assert!(rt; pieces_alike(alloc, PLATED));
 }
 
-/// Lines that end with CR and LF, and one with a CR among its bytes.
+/// Lines may end with CR and LF, but a CR among a line's bytes is refused.
 #[test]
 fn carriage_returns(rt: HostRuntime) {
     let alloc = rt.alloc();
@@ -415,7 +415,7 @@ fn carriage_returns(rt: HostRuntime) {
     assert!(rt; refuses(alloc, broken, Reason::BadLine, 6, 23));
 }
 
-/// A text that only begins with blanks, or ends with them.
+/// Blanks at the end of a line are dropped, and blanks at its start are not.
 #[test]
 fn blanks(rt: HostRuntime) {
     let alloc = rt.alloc();
@@ -432,14 +432,14 @@ fn blanks(rt: HostRuntime) {
     assert!(rt; pieces_alike(alloc, read));
 }
 
-/// A fault of the first line.
+/// OldFormat at the first line.
 const OLD_FORMAT: Option<Fail> = Some(Fail::Refused(Fault {
     place: 1,
     byte: 0,
     reason: Reason::OldFormat,
 }));
 
-/// Pieces, of which the second ends the line that is refused, and what a reader answers to each.
+/// Pieces, the second of which ends the line that is refused, and what a reader answers to each.
 const REFUSED_PIECES: [(&str, Option<Fail>); 4] = [
     ("INCH", None),
     ("\nM48\n", OLD_FORMAT),
@@ -447,7 +447,7 @@ const REFUSED_PIECES: [(&str, Option<Fail>); 4] = [
     ("", OLD_FORMAT),
 ];
 
-/// A reader that has failed gives its fault again, whatever comes.
+/// A reader that has failed gives its fault again at each later call.
 #[test]
 fn a_fault_stays(rt: HostRuntime) {
     let mut reader = DrillReader::new(rt.alloc());
@@ -457,7 +457,7 @@ fn a_fault_stays(rt: HostRuntime) {
     assert!(rt; failure_of(reader.finish()) == OLD_FORMAT);
 }
 
-/// The same, of a reader of the holes alone.
+/// A reader of the holes alone that has failed gives its fault again at each later call.
 #[test]
 fn a_fault_of_holes_stays(rt: HostRuntime) {
     let mut reader = HolesReader::new(rt.alloc());
@@ -471,7 +471,7 @@ fn a_fault_of_holes_stays(rt: HostRuntime) {
     assert!(rt; failure == OLD_FORMAT);
 }
 
-/// The holes are read alone, or moved out of a file.
+/// Holes that are read alone are those that are moved out of a file.
 #[test]
 fn holes_alone(rt: HostRuntime) -> Result<(), TestFail> {
     let holes = holes_byte_by_byte(rt.alloc(), PLATED).map_err(|_| "refused")?;
@@ -514,7 +514,7 @@ fn commented(alloc: Global) -> Result<Vec<u8>, AllocError> {
     Ok(text)
 }
 
-/// How many holes and commands a text has that comes byte by byte. None where its holes alone are others.
+/// How many holes and commands a text has byte by byte, or `None` where its holes read alone are others.
 fn counts_byte_by_byte(alloc: Global, text: &[u8]) -> Option<(usize, usize)> {
     let drill = byte_by_byte(alloc, text);
     let is_same = same_holes(&holes_byte_by_byte(alloc, text), &drill);
@@ -564,7 +564,7 @@ fn many_holes(rt: HostRuntime) -> Result<(), TestFail> {
     Ok(())
 }
 
-/// The canonical text of a list of commands.
+/// A text with various spellings is written as its canonical text.
 #[test]
 fn written_back(rt: HostRuntime) -> Result<(), TestFail> {
     let drill = read_drill(rt.alloc(), OLD).map_err(|_| "refused")?;
@@ -575,7 +575,7 @@ fn written_back(rt: HostRuntime) -> Result<(), TestFail> {
     Ok(())
 }
 
-/// The canonical text reads as the text that it was written from.
+/// The canonical text reads as the text from which it was written.
 #[test]
 fn read_again(rt: HostRuntime) -> Result<(), TestFail> {
     let drill = read_drill(rt.alloc(), OLD).map_err(|_| "refused")?;
@@ -584,7 +584,7 @@ fn read_again(rt: HostRuntime) -> Result<(), TestFail> {
     Ok(())
 }
 
-/// Lists that no text spells.
+/// Lists of commands, and whether some text spells them.
 #[test]
 fn not_sayable(rt: HostRuntime) {
     let lists: &[(&[DrillCommand], bool); 4] = &[
@@ -613,7 +613,7 @@ fn not_sayable(rt: HostRuntime) {
     }
 }
 
-/// Whether a list that has just this command in its body is sayable.
+/// Whether a list with just this command in its body is sayable.
 fn is_said_in_body(command: DrillCommand) -> bool {
     drill_sayable(&[
         DrillCommand::Start,

@@ -1,4 +1,4 @@
-//! Texts that are written anew as they are read, and diameters at the limit.
+//! Texts that are written anew as they are read, and tool diameters at the limit.
 
 use drill_text::{RewriteReader, read_drill};
 use grid_units::{Fail, Fault, Reason};
@@ -19,7 +19,7 @@ fn refusal(reason: Reason, place: u64, byte: u64) -> Fail {
     })
 }
 
-/// A text that is written anew, in pieces of one byte with an empty piece behind each.
+/// Writes a text anew, byte by byte and with an empty piece after each byte.
 fn rewritten(alloc: Global, text: &[u8]) -> Result<Vec<u8>, Fail> {
     let mut reader = RewriteReader::new(alloc);
     for i in 0..text.len() {
@@ -29,7 +29,7 @@ fn rewritten(alloc: Global, text: &[u8]) -> Result<Vec<u8>, Fail> {
     reader.finish()
 }
 
-/// The same, of a text that comes in two pieces.
+/// Writes a text anew that comes in two pieces.
 fn in_two(alloc: Global, text: &[u8], at: usize) -> Result<Vec<u8>, Fail> {
     let mut reader = RewriteReader::new(alloc);
     let at = at.min(text.len());
@@ -52,7 +52,7 @@ fn is_fault(answer: &Result<Vec<u8>, Fail>, wanted: Fail) -> bool {
     }
 }
 
-/// A text of which the last line has no LF, in pieces.
+/// A text whose last line has no LF is written anew, in pieces.
 #[test]
 fn written_as_it_is_read(rt: HostRuntime) {
     let alloc = rt.alloc();
@@ -63,7 +63,7 @@ fn written_as_it_is_read(rt: HostRuntime) {
     }
 }
 
-/// A text without its end.
+/// A text without its end is refused as Truncated.
 #[test]
 fn refused_as_it_is_read(rt: HostRuntime) {
     let cut = b"M48\nMETRIC\n%\n";
@@ -75,7 +75,7 @@ fn refused_as_it_is_read(rt: HostRuntime) {
     );
 }
 
-/// A reader that has failed gives its fault again, whatever comes.
+/// A reader that has failed gives its fault again at each later call.
 #[test]
 fn a_fault_of_writing_stays(rt: HostRuntime) {
     let fault = refusal(Reason::OldFormat, 1, 0);
@@ -90,13 +90,13 @@ fn a_fault_of_writing_stays(rt: HostRuntime) {
     assert!(rt; is_fault(&reader.finish(), fault));
 }
 
-/// A diameter of just 10 m, and one of a unit more, in both units.
+/// A diameter of at most 10 m, and one above it, in both units.
 #[test]
 fn far_diameters(rt: HostRuntime) {
     for &text in &[
         "M48\nMETRIC\nT1C10000.0\n%\nT1\nX0.0\nM30\n",
         "M48\nINCH\nT1C393.7007874\n%\nT1\nX0.0\nM30\n",
-        // A tool that no hole needs.
+        // No hole needs this tool.
         "M48\nMETRIC\nT1C10000.00000001\n%\nM30\n",
     ] {
         assert!(rt; read_drill(rt.alloc(), text.as_bytes()).is_ok(), "{text}");

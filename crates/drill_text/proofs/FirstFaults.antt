@@ -62,7 +62,7 @@ refused_err before line r (inr h) =
 
 -- ---- lines
 
--- the first of some lines that is refused, behind these commands
+-- the first of some lines that is refused, after these commands
 record Refused (place byte : ℕ) (lines : List (List ℕ)) (start : List DrillCommand) (f : Fault) : Type 0 where
   before : List (List ℕ)
   line : List ℕ
@@ -120,7 +120,7 @@ faulty place byte (line ∷ lines) start f e =
       | inr h ↦ next_refused place byte line lines start h.0 f h.1 (faulty (suc place) (byte + (length line + 1)) lines h.0 f h.2)
     ]
 
--- lines that stand in front keep the fault
+-- lines before these keep the fault
 lines_refused : (place byte : ℕ) (before : List (List ℕ)) (line : List ℕ) (after : List (List ℕ)) (start cs : List DrillCommand) (r : Reason) → commands_from place byte before start ≡ Ok cs → step cs line ≡ Err r
     → commands_from place byte (before ++ line ∷ after) start ≡ Err (fault (place + length before) (byte + length (bytes_of before)) r)
 lines_refused place byte [] line after start cs r e h =

@@ -1,4 +1,4 @@
--- Hits that are read by the short way.
+-- Hits that are read by the fast path.
 use Rattle.std.proofs.Common.{◌≡◌, ◌≤◌, ◌+◌, ◌-◌, ℕ, ℤ, true, not, eqb, cond, List, [], ◌∷◌, ◌++◌, length, Option, Some, None, Result, Ok, refl, sym, ap, ◌∙◌, arith, append_assoc}
 use Rattle.std.specs.Prelude.{IfSome, is_some}
 use Rattle.std.proofs.lemmas.Bool.{false≢true}
@@ -55,7 +55,7 @@ trim_blanks xs (b ∷ c ∷ bs) h le = absurd (omega arith)
 
 -- ---- the whole
 
--- an X and a Y with blanks and an LF behind them
+-- an X and a Y, blanks and an LF
 pub leads_hit : (bytes behind_x behind_y : List ℕ) (x y : ℤ) (count len : ℕ) → NamesDecimal 88 x behind_x bytes → NamesDecimal 89 y behind_y behind_x → EndsLine count behind_y → len ≡ length bytes - length behind_y + count
     → LeadsHit (record { x = Some x; y = Some y }) len bytes
 leads_hit bytes behind_x behind_y x y count len h k e lens =
@@ -80,7 +80,7 @@ leads_hit bytes behind_x behind_y x y count len h k e lens =
           ∙ (in_body s (xs ++ 89 ∷ ys) body ∙ ap one (spelled_hit s xs ys x y h.is_decimal.numbers k.is_decimal.numbers (pointed_coordinate s xs x h.is_decimal.point h.is_decimal.reads) (pointed_coordinate s ys y k.is_decimal.point k.is_decimal.reads)));
     }
 
--- the same of what was found
+-- a hit that was found, with an X and a Y
 pub hit_found : (bytes behind_x behind_y : List ℕ) (x y : Option ℤ) (count len : ℕ) → IfSome x (λ v. NamesDecimal 88 v behind_x bytes) → IfSome y (λ v. NamesDecimal 89 v behind_y behind_x) → EndsLine count behind_y → is_some x ≡ true → is_some y ≡ true
     → len ≡ length bytes - length behind_y + count → LeadsHit (record { x = x; y = y }) len bytes
 hit_found bytes behind_x behind_y None y count len h k e p q lens = absurd (false≢true p)

@@ -84,7 +84,7 @@ standing-more before c = λ i. record {
 
 -- ---- holes
 
--- a point behind others lies where a carried point says
+-- a point after others lies where the point that is carried along says
 point-more : (unit : Units) (points : List Coordinates) (p : Coordinates) → onto unit (last_named x_named points) (last_named y_named points) p ≡ point_at unit (points ++ p ∷ [])
 point-more unit points p = λ i. record {
   x = coordinate_in unit (sym (last_named-append x_named points (p ∷ [])) i);
@@ -101,7 +101,7 @@ point-more-two unit points p q = λ i. record {
   y = coordinate_in unit (coordinate-more-two y_named points p q i);
 }
 
--- what is drilled from a carried point is what looking back gives
+-- what is drilled from the point that is carried along is what looking back gives
 pub drilled_back : (before : List DrillCommand) (c : DrillCommand) → drilled (standing before) c ≡ drilled_at before c
 drilled_back before (command.Hit p) = λ i. Some (record { from = point-more (unit_after before) (points_of before) p i; to = point-more (unit_after before) (points_of before) p i; diameter = coordinate_in (unit_after before) (diameter_after before) })
 drilled_back before (command.Slot p q) = λ i. Some (record { from = point-more (unit_after before) (points_of before) p i; to = point-more-two (unit_after before) (points_of before) p q i; diameter = coordinate_in (unit_after before) (diameter_after before) })
@@ -128,7 +128,7 @@ tools_of-more cs c = filter_map-append tool_defined cs (c ∷ []) ∙ ap (λ (x 
 
 -- ---- the judge
 
--- the rule that a command breaks, by what the judge says
+-- the rule that a command breaks, by the fields of the judge
 pub same_rule : (judge : Judge) (before : List DrillCommand) (c : DrillCommand) → Knows judge before → first_broken (told judge) (length judge.holes.items) (drilled (told judge) c) c ≡ broken_rule before c
 same_rule judge before c knows = (λ i. first_broken (knows.standing i) (length (knows.holes i)) (drilled (knows.standing i) c) c) ∙ ap (λ d. first_broken (standing before) (length (holes_of before)) d c) (drilled_back before c)
 

@@ -38,7 +38,7 @@ no_breaks : (xs : List ℕ) → list_all (λ b. not (eqb b 10)) xs ≡ true → 
 no_breaks [] h = tt
 no_breaks (x ∷ xs) h = let k = both_true (not (eqb x 10)) (list_all (λ b. not (eqb b 10)) xs) h in (not_break x k.0, no_breaks xs k.1)
 
--- the lines of commands behind others
+-- the lines of commands after others
 record Written (before cs : List DrillCommand) : Type 0 where
   inside : AllByRecursion HasNoBreak (map canonical cs)
   short : AreShort (map canonical cs ++ [] ∷ [])

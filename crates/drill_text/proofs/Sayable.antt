@@ -1,4 +1,4 @@
--- The commands that a text spells can be said.
+-- The commands that a text spells are sayable.
 use Rattle.std.proofs.Common.{◌≡◌, ◌≢◌, ℕ, Bool, true, false, not, eqb, List, [], ◌∷◌, ◌++◌, Option, None, Some, Result, Ok, Err, IfOk, refl, sym, ap, subst, ◌∙◌, append_assoc, append-nil}
 use Rattle.std.specs.List.{list_any, list_all, AllByRecursion}
 use Rattle.std.specs.Option.{option_to_list}
@@ -35,7 +35,7 @@ no_break : (xs : List ℕ) → HasNoBreak xs → list_all (λ b. not (eqb b 10))
 no_break [] h = refl
 no_break (x ∷ xs) h = and_true (not (eqb x 10)) (list_all (λ b. not (eqb b 10)) xs) (not_ten x h.0 (eqb x 10) refl) (no_break xs h.1)
 
--- what lines spell behind others can be said behind them
+-- what lines spell after these commands is sayable after them
 record SaidBehind (before new : List DrillCommand) : Type 0 where
   more : List DrillCommand
   whole : new ≡ before ++ more
@@ -56,7 +56,7 @@ spelled_said before new (line ∷ lines) inside short e =
     said_next before new b.0 (λ c k. line_said (settings_after before) line c (no_break line inside.0) short.0 (b.1 ∙ ap (λ (o : Option DrillCommand). Ok o) k))
     (spelled_said (before ++ option_to_list b.0) new lines inside.1 short.1 b.2)
 
--- nothing is said behind the end
+-- no command is sayable after the end
 over_alone : (cs : List DrillCommand) → are_sayable part.After cs ≡ true → is_over (part_from part.After cs) ≡ true
 over_alone [] h = refl
 over_alone (c ∷ cs) h = absurd cc

@@ -18,7 +18,7 @@ use Rattle.grid_units.specs.Limits.{line_limit}
 
 -- ---- what is shown
 
--- behind lines that spell commands, the rest may be too long
+-- after lines that spell commands, the rest may be too long
 checks_rest : List (List ℕ) → List ℕ → List DrillCommand → Result (List DrillCommand) Fault
 checks_rest lines rest commands = cond (ltb line_limit (length rest)) (Err (fault (suc (length lines)) (length (bytes_of lines)) TooLong)) (Ok commands)
 
@@ -51,7 +51,7 @@ rest_shows : (place byte : ℕ) (r : Result (List DrillCommand) Fault) → (r >>
 rest_shows place byte (Ok x) = refl
 rest_shows place byte (Err x) = refl
 
--- the lines with one more, behind which nothing stands
+-- the lines and one more, with nothing after it
 pub show_push : (lines : List (List ℕ)) (line : List ℕ) (cs : List DrillCommand) → commands_from 1 0 lines [] ≡ Ok cs → shown (lines ++ line ∷ []) [] ≡ spelled (suc (length lines)) (length (bytes_of lines)) line cs
 show_push lines line cs e =
     let k : 1 + length lines ≡ suc (length lines) = omega arith in

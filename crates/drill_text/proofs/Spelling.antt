@@ -71,7 +71,7 @@ all_kept place byte (line ∷ lines) before new e =
       λ legal. rest.2 (k.keeps legal),
     )
 
--- the front of a legal list is legal
+-- the first part of a legal list is legal
 nil_front : {A : Type 0} (xs ys : List A) → xs ++ ys ≡ [] → xs ≡ []
 nil_front [] ys e = refl
 nil_front (x ∷ xs) ys e = absurd cc
@@ -79,7 +79,7 @@ nil_front (x ∷ xs) ys e = absurd cc
 pub legal_front : (cs ds : List DrillCommand) → IsLegal broken_rule (cs ++ ds) → IsLegal broken_rule cs
 legal_front cs ds legal = nil_front (breaks broken_rule cs) (filter_map (break_at broken_rule) (positions_after cs ds)) (sym (breaks-append broken_rule cs ds) ∙ legal)
 
--- what lines spell begins with what stood before
+-- what lines spell begins with the commands before them
 pub spelled_more : (before : List DrillCommand) (lines : List (List ℕ)) (new : List DrillCommand) → spelled_behind before lines ≡ Ok new → (more : List DrillCommand) × (new ≡ before ++ more)
 spelled_more before [] new e = let same : before ≡ new = cc in ([], sym same ∙ sym (append-nil before))
 spelled_more before (line ∷ lines) new e =
@@ -100,7 +100,7 @@ pub last_legal : (before : List DrillCommand) (c : DrillCommand) → IsLegal bro
 last_legal before c legal =
     no_break (length before) (broken_rule before c) (nil_back (breaks broken_rule before) (filter_map (break_at broken_rule) (positions_after before (c ∷ []))) (sym (breaks-append broken_rule before (c ∷ [])) ∙ legal))
 
--- what is said is kept, where the list behind it is legal
+-- a command that is judged is kept, if the list with it is legal
 keeps_judged : (before : List DrillCommand) (command : Option DrillCommand) → IsLegal broken_rule (before ++ option_to_list command) → judged before command ≡ Ok (before ++ option_to_list command)
 keeps_judged before None legal = ap (λ (x : List DrillCommand). Ok x) (sym (append-nil before))
 keeps_judged before (Some c) legal = ap (λ o. kept_unless o before c) (last_legal before c legal)

@@ -17,7 +17,7 @@ use Rattle.grid_units.specs.Limits.{text_limit}
 checks_len : ℕ → List (List ℕ) → List DrillCommand → Result (List DrillCommand) Fault
 checks_len len lines commands = cond (ltb text_limit len) (Err (fault (suc (length lines)) text_limit TooLong)) (Ok commands)
 
--- the front of two lists
+-- the first elements of two joined lists
 take_both : (n : ℕ) (xs ys : List ℕ) → take n (xs ++ ys) ≡ take n xs ++ take (n - length xs) ys
 take_both zero xs ys = let none : 0 - length xs ≡ 0 = omega arith in rw none refl
 take_both (suc n) [] ys = let all : suc n - 0 ≡ suc n = omega arith in rw all refl

@@ -15,7 +15,7 @@ use Rattle.drill_text.specs.Reading.{Shows}
 use Rattle.drill_text.specs.Holding.{Holds, HasFault, Refuses, RefusesText}
 use Rattle.grid_units.specs.Limits.{text_limit}
 
--- behind a text that is too long, its front shows what it shows
+-- the length is checked last: where the first bytes of a text show a fault, the whole shows it too
 checks_len : ℕ → List (List ℕ) → List DrillCommand → Result (List DrillCommand) Fault
 checks_len len items commands = cond (ltb text_limit len) (Err (fault (suc (length items)) text_limit TooLong)) (Ok commands)
 

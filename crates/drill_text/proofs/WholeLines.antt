@@ -25,7 +25,7 @@ no_break (b ∷ bs) h = let k = both_true (not (eqb b 10)) (list_all (λ b. not 
     negated true e = absurd cc
     negated false e = refl
 
--- the text with this line and its LF behind it
+-- the text, followed by this line and its LF
 whole_splits : (old : Progress) (text line : List ℕ) (h : Holds old text) → old.line.items ≡ [] → HasNoBreak line → Splits (text ++ (line ++ 10 ∷ [])) (h.lines ++ line ∷ []) []
 whole_splits old text line h none inside =
     let alone : Splits text h.lines [] = subst (λ (x : List ℕ). Splits text h.lines x) none h.splits in
@@ -49,7 +49,7 @@ whole_holds old new text line after h none inside kept spells met count start of
       offset = omega (arith, offset, h.offset, length-append text (line ++ 10 ∷ []), length-append line (10 ∷ []));
     }
 
--- the same of the bytes that the line and its LF are
+-- the taken bytes are this line and its LF
 pub whole_taken : (old new : Progress) (text line taken : List ℕ) (after : List DrillCommand) (h : Holds old text) → line ++ 10 ∷ [] ≡ taken → old.line.items ≡ [] → HasNoBreak line → new.line.items ≡ old.line.items → spelled (old.lines + 1) old.start line h.commands ≡ Ok after
     → Met new.judge new.kept after → new.lines ≡ old.lines + 1 → new.start ≡ new.offset → new.offset ≡ old.offset + (length line + 1) → Holds new (text ++ taken)
 whole_taken old new text line taken after h is none inside kept spells met count start offset =

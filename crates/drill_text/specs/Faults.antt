@@ -1,4 +1,4 @@
--- The first fault of a drill text, as a relation.
+-- The first fault of a drill text, as a relation (docs/FORMATS.md, The first fault).
 use Rattle.std.specs.Prelude.{◌≡◌, ◌⊎◌, ℕ, suc, ◌<◌, ◌≤◌, Bool, true, false, List, [], ◌∷◌, ◌++◌, length, take, Ok, Err, Some}
 use Rattle.std.specs.List.{list_any}
 use Rattle.grid_units.specs.declared.fault.Reason.{Reason}
@@ -17,14 +17,14 @@ use Rattle.drill_text.specs.Texts.{spelled_behind, AreShort, IsDrillText}
 use Rattle.grid_units.specs.Limits.{text_limit, line_limit}
 use Rattle.grid_units.specs.Lists.{IsLegal}
 
--- Lines spell these commands, which are legal, and none of them is too long (docs/DEFINITIONS.md, Reading a drill file).
+-- Lines spell these commands, which are legal, and none of the lines is too long.
 pub record SpellLegally (lines : List (List ℕ)) (commands : List DrillCommand) : Type 0 where
   pub short : AreShort lines
   pub spelling : spelled_behind [] lines ≡ Ok commands
   pub legal : IsLegal broken_rule commands
 
--- a line behind these commands is refused by this reason: it is too long; or it spells nothing, by this reason; or the command
--- that it spells breaks this rule (docs/DEFINITIONS.md, Reading a drill file)
+-- a line after these commands is refused for this reason: it is too long; or it spells nothing for this reason; or the command
+-- that it spells breaks this rule
 abbrev pub IsRefused : List DrillCommand → List ℕ → Reason → Type 0
 IsRefused before line why =
     ((line_limit < length line) × (why ≡ TooLong))
@@ -32,7 +32,7 @@ IsRefused before line why =
     ⊎ ((c : DrillCommand) × (meaning (settings_after before) (trimmed line) ≡ Ok (Some c)) × (broken_rule before c ≡ Some why))))
 
 -- One of these lines has this fault: the lines before its place spell legal commands, and the line at its place, which begins at
--- its byte, is refused by its reason (docs/DEFINITIONS.md, Reading a drill file).
+-- its byte, is refused for its reason.
 pub record HasRefusedLine (lines : List (List ℕ)) (f : Fault) : Type 0 where
   pub before : List (List ℕ)
   pub line : List ℕ
@@ -44,15 +44,15 @@ pub record HasRefusedLine (lines : List (List ℕ)) (f : Fault) : Type 0 where
   pub place : f.place ≡ suc (length before)
   pub byte : f.byte ≡ length (bytes_of before)
 
--- the fault of a text within the limit: that of one of its lines, the rest behind the last LF among them; or its end is missing
--- behind them (docs/DEFINITIONS.md, Reading a drill file)
+-- the fault of a text within the limit: that of one of its lines, the rest after the last LF among them; or Truncated after
+-- them, where the end is missing
 abbrev pub HasFaultWithin : List ℕ → List (List ℕ) → List ℕ → Fault → Type 0
 HasFaultWithin text lines rest f =
     HasRefusedLine (lines ++ rest ∷ []) f
     ⊎ ((commands : List DrillCommand) × SpellLegally (lines ++ rest ∷ []) commands × (list_any is_finish commands ≡ false) × (f ≡ fault (place_behind lines rest) (length text) Truncated))
 
--- the fault of a text above the limit, by the bytes within it: that of one of the lines that have ended; or the line behind them
--- is too long already; or else the text is (docs/DEFINITIONS.md, Reading a drill file)
+-- the fault of a text above the limit, by the bytes within it: that of a line that has ended; or the line after these is too
+-- long already; or else the text is
 abbrev pub HasFaultBeyond : List (List ℕ) → List ℕ → Fault → Type 0
 HasFaultBeyond lines rest f =
     HasRefusedLine lines f
@@ -60,17 +60,17 @@ HasFaultBeyond lines rest f =
     × (((line_limit < length rest) × (f ≡ fault (suc (length lines)) (length (bytes_of lines)) TooLong))
     ⊎ ((length rest ≤ line_limit) × (f ≡ fault (suc (length lines)) text_limit TooLong))))
 
--- this is the first fault of a text (docs/DEFINITIONS.md, Reading a drill file)
+-- this is the first fault of a text, by its first 268,435,456 bytes
 abbrev pub IsFirstFault : List ℕ → Fault → Type 0
 IsFirstFault text f =
     (lines : List (List ℕ)) × (rest : List ℕ) × Splits (take text_limit text) lines rest
     × (((length text ≤ text_limit) × HasFaultWithin text lines rest f) ⊎ ((text_limit < length text) × HasFaultBeyond lines rest f))
 
--- a text is a drill text of some commands, or has a first fault (docs/DEFINITIONS.md, Reading a drill file)
+-- a text is a drill text of some commands, or has a first fault
 abbrev pub HasAnswer : List ℕ → Type 0
 HasAnswer text = ((commands : List DrillCommand) × IsDrillText text commands) ⊎ ((f : Fault) × IsFirstFault text f)
 
--- the reasons for which a drill text is refused (docs/DEFINITIONS.md, Reading a drill file)
+-- the 21 reasons for which drill texts are refused
 abbrev pub is_drill_reason : Reason → Bool
 is_drill_reason reason.TooLong = true
 is_drill_reason reason.AfterEnd = true

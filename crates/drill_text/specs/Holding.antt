@@ -1,4 +1,5 @@
--- What a reader holds of the bytes so far.
+-- What a reader in pieces holds of the bytes so far: the commands of the lines that have ended, and the bytes of the line
+-- that has not ended. It does not keep the text.
 use Rattle.std.specs.Prelude.{◌≡◌, ℕ, List, ◌++◌, length, Ok, Err, Option, None}
 use Rattle.grid_units.specs.declared.fault.Fault.{Fault}
 use Rattle.grid_units.specs.declared.fault.Fail.{Fail}
@@ -14,7 +15,7 @@ use Rattle.drill_text.specs.Lines.{bytes_of, Splits}
 use Rattle.drill_text.specs.Reading.{shown, Shows}
 use Rattle.drill_text.specs.Keeping.{Met}
 
--- The text is cut into lines, which spell the commands that the reader has met, and into a rest, the line that has not ended (docs/DEFINITIONS.md, A drill reader in pieces).
+-- The text is cut into lines, which spell the commands that the reader has met, and into a rest, the line that has not ended.
 pub record Holds (reader : Progress) (text : List ℕ) : Type 0 where
   pub lines : List (List ℕ)
   pub commands : List DrillCommand
@@ -25,51 +26,51 @@ pub record Holds (reader : Progress) (text : List ℕ) : Type 0 where
   pub start : reader.start ≡ length (bytes_of lines)
   pub offset : reader.offset ≡ length text
 
--- the text shows this fault, whatever follows it (docs/DEFINITIONS.md, A drill reader in pieces)
+-- the text shows this fault, whatever bytes follow it
 pub record HasFault (text : List ℕ) (f : Fault) : Type 0 where
   pub lines : List (List ℕ)
   pub rest : List ℕ
   pub splits : Splits text lines rest
   pub fault : shown lines rest ≡ Err f
 
--- a reader went from all it may have read to that and these bytes (docs/DEFINITIONS.md, A drill reader in pieces)
+-- whatever text the old reader has read, the new one has read that text and these bytes
 abbrev pub Advances : Progress → Progress → List ℕ → Type 0
 Advances old new bytes = (text : List ℕ) → Holds old text → Holds new (text ++ bytes)
 
--- a fault that these bytes show behind what was read (docs/DEFINITIONS.md, A drill reader in pieces)
+-- whatever text the reader has read, that text with these bytes shows this fault; or memory ran out
 abbrev pub Refuses : Progress → List ℕ → Fail → Type 0
 Refuses old bytes fails.Memory = Unit {0}
 Refuses old bytes (fails.Refused f) = (text : List ℕ) → Holds old text → HasFault (text ++ bytes) f
 
--- the fault that the text shows with these bytes behind it (docs/DEFINITIONS.md, A drill reader in pieces)
+-- whatever text the reader has read, that text with this piece shows this fault; or memory ran out
 abbrev pub RefusesText : Progress → List ℕ → Fail → Type 0
 RefusesText old piece e = (text : List ℕ) → Holds old text → Tells (λ f. Shows (text ++ piece) (Err f)) e
 
--- what a reader has failed with (docs/DEFINITIONS.md, A drill reader in pieces)
+-- the failure of a reader, `None` where it has not failed
 abbrev pub failure : DrillReader → Option Fail
 failure reader = reader.failed
 
--- The reader has read this text, which shows no fault, and keeps its commands (docs/DEFINITIONS.md, A drill reader in pieces).
+-- The reader has read this text, which shows no fault, and keeps its commands.
 pub record StandsAfter (reader : DrillReader) (text : List ℕ) : Type 0 where
   pub sound : failure reader ≡ None
   pub holds : Holds reader.progress text
   pub whole : reader.progress.kept.keeping ≡ keep.Commands
 
--- what a reader of the holes has failed with (docs/DEFINITIONS.md, A drill reader in pieces)
+-- the failure of a reader of the holes alone, `None` where it has not failed
 abbrev pub holes_failure : HolesReader → Option Fail
 holes_failure reader = reader.failed
 
--- The reader of the holes has read this text, which shows no fault, and keeps none of its commands (docs/DEFINITIONS.md, A drill reader in pieces).
+-- The reader of the holes has read this text, which shows no fault, and keeps none of its commands.
 pub record HolesStandAfter (reader : HolesReader) (text : List ℕ) : Type 0 where
   pub sound : holes_failure reader ≡ None
   pub holds : Holds reader.progress text
   pub light : reader.progress.kept.keeping ≡ keep.Nothing
 
--- what a reader that writes the file anew has failed with (docs/DEFINITIONS.md, A drill reader in pieces)
+-- the failure of a reader that writes the file anew, `None` where it has not failed
 abbrev pub rewrite_failure : RewriteReader → Option Fail
 rewrite_failure reader = reader.failed
 
--- The reader has read this text, which shows no fault, and keeps the canonical lines of its commands (docs/DEFINITIONS.md, A drill reader in pieces).
+-- The reader has read this text, which shows no fault, and keeps the canonical lines of its commands.
 pub record LinesStandAfter (reader : RewriteReader) (text : List ℕ) : Type 0 where
   pub sound : rewrite_failure reader ≡ None
   pub holds : Holds reader.progress text

@@ -1,4 +1,4 @@
--- The holes of a drill file. Lengths are whole picometres.
+-- The holes of a drill file (docs/FORMATS.md, Points and holes). Lengths are whole picometres (pm).
 use Rattle.std.specs.Prelude.{◌/◌, ℤ, pos, List, [], ◌∷◌, ◌++◌, Option, None, Some, unwrap_or, unsigned_abs}
 use Rattle.std.specs.Option.{option_and_then, option_map, option_to_list}
 use Rattle.std.specs.List.{flat_map}
@@ -13,33 +13,33 @@ use Rattle.drill_lines.specs.declared.command.DrillCommand.TheVariants as comman
 use Rattle.grid_units.specs.Numbers.{picometres}
 use Rattle.drill_text.specs.Lookback.{header, unit_named, diameter_named, tool_named, points_of, x_named, y_named}
 
--- what a command drills: from one point to another, with a tool of this diameter (docs/DEFINITIONS.md, Drill files)
+-- what a command drills: from one point to another, with a tool of this diameter in pm
 pub record Drilled : Type 0 where
   pub from : GridPoint
   pub to : GridPoint
   pub diameter : ℤ
 
--- the unit that a header gives; a header without one has no legal body (docs/DEFINITIONS.md, Drill files)
+-- the unit that a header gives, else millimetres; a header without a unit has no legal body
 abbrev pub unit_or : Option Units → Units
 unit_or unit = unwrap_or unit Millimetre
 
--- the unit of the file behind these commands (docs/DEFINITIONS.md, Drill files)
+-- the unit of the file after these commands, as given last before the first HeaderEnd
 abbrev pub unit_after : List DrillCommand → Units
 unit_after before = unit_or (last_named unit_named (header before))
 
--- a coordinate in pm, 0 where none was named (docs/DEFINITIONS.md, Drill files)
+-- a coordinate in pm, from units of 10^-8 of an inch or a millimetre; 0 where none was named
 abbrev pub coordinate_in : Units → Option ℤ → ℤ
 coordinate_in unit v = picometres unit 8 (unwrap_or v (pos 0))
 
--- where the last of these points lies: each of its coordinates is the one last named, else 0 (docs/DEFINITIONS.md, Drill files)
+-- where the last of these points lies: its X is the one last named at or before it, else 0, and so is its Y
 abbrev pub point_at : Units → List Coordinates → GridPoint
 point_at unit points = record { x = coordinate_in unit (last_named x_named points); y = coordinate_in unit (last_named y_named points) }
 
--- the diameter of the tool that was picked last (docs/DEFINITIONS.md, Drill files)
+-- the diameter of the tool picked last, in units of 10^-8 of the file's unit
 abbrev pub diameter_after : List DrillCommand → Option ℤ
 diameter_after before = option_and_then (λ number. last_named (diameter_named number) before) (last_named tool_named before)
 
--- what a command drills behind these commands: a hit at its point, a slot from its first point to its second (docs/DEFINITIONS.md, Drill files)
+-- what a command drills after these commands: a hit at its point, a slot from its first point to its second
 abbrev pub drilled_at : List DrillCommand → DrillCommand → Option Drilled
 drilled_at before (command.Hit point) = Some (record {
   from = point_at (unit_after before) (points_of before ++ point ∷ []);
@@ -53,14 +53,14 @@ drilled_at before (command.Slot first second) = Some (record {
 })
 drilled_at before _ = None
 
--- the hole of what is drilled: its radius is half the diameter (docs/DEFINITIONS.md, Drill files)
+-- the hole of what is drilled: its radius is half of the diameter
 abbrev pub hole_of : Drilled → GridHole
 hole_of d = record { from = d.from; to = d.to; radius = unsigned_abs d.diameter / 2 }
 
--- the hole that a command drills behind these commands (docs/DEFINITIONS.md, Drill files)
+-- the hole that a command drills after these commands, as a list of one or none
 abbrev pub holes_at : List DrillCommand → DrillCommand → List GridHole
 holes_at before c = option_to_list (option_map hole_of (drilled_at before c))
 
--- the holes of a list of commands, in order, each hit and each slot one (docs/DEFINITIONS.md, Drill files)
+-- the holes of a list of commands in order, one for each hit and each slot; equal holes are two
 abbrev pub holes_of : List DrillCommand → List GridHole
 holes_of commands = flat_map (λ p. holes_at p.0 p.1) (positions commands)

@@ -14,31 +14,31 @@ use Rattle.drill_text.specs.Writing.{canonical_text}
 use Rattle.drill_text.specs.Inner.Knowing.{Knows}
 use Rattle.grid_units.specs.Limits.{text_limit}
 
--- The lines are those of the commands; or these are too long, and none is held (docs/DEFINITIONS.md, The judge of a drill file).
+-- These are the canonical lines of the commands, within the limit of a text; or the lines are known to exceed it.
 pub record HoldsLines (lines : Lines) (commands : List DrillCommand) : Type 0 where
   pub text : lines.is_long ≡ false → lines.text.items ≡ canonical_text commands
   pub within : lines.is_long ≡ false → length lines.text.items ≤ text_limit
   pub long : lines.is_long ≡ true → text_limit < length (canonical_text commands)
 
--- All of the commands are kept, or their lines, or nothing of them but whether the end of the file is among them (docs/DEFINITIONS.md, The judge of a drill file).
+-- The commands are kept, or their canonical lines, or neither; and whether the end of the file is among them.
 pub record Keeps (kept : Kept) (commands : List DrillCommand) : Type 0 where
   pub whole : kept.keeping ≡ keep.Commands → kept.commands.items ≡ commands
   pub lines : kept.keeping ≡ keep.Lines → HoldsLines kept.lines commands
   pub none : (kept.keeping ≡ keep.Commands → ⊥) → kept.commands.items ≡ []
   pub finished : kept.is_finished ≡ list_any is_finish commands
 
--- the judge has met just these commands, and they are kept (docs/DEFINITIONS.md, The judge of a drill file)
+-- the judge has met just these commands, and they are kept
 pub record Met (judge : Judge) (kept : Kept) (commands : List DrillCommand) : Type 0 where
   pub knows : Knows judge commands
   pub keeps : Keeps kept commands
 
--- The line was read and judged: the commands that the judge has met are those after it, or this is its fault, or memory ran out (docs/DEFINITIONS.md, The judge of a drill file).
+-- The line was read and judged: the judge has now met the commands after it; or this is its fault, or memory ran out.
 abbrev pub Leaves : {X : Type 0} → Result X Fail → Judge → Kept → Result (List DrillCommand) Fault → Type 0
 Leaves (Ok x) judge kept read = (commands : List DrillCommand) × (read ≡ Ok commands) × Met judge kept commands
 Leaves (Err fails.Memory) judge kept read = Unit {0}
 Leaves (Err (fails.Refused f)) judge kept read = read ≡ Err f
 
--- A text has ended: the judge has met its commands, which are kept, or it has this fault, or memory ran out (docs/DEFINITIONS.md, A drill reader in pieces).
+-- A text has ended: the judge has met its commands, which are kept; or it has this fault, or memory ran out.
 abbrev pub Ends : List ℕ → Result (Judge × Kept) Fail → Type 0
 Ends text (Ok p) = (commands : List DrillCommand) × Reads text (Ok commands) × Met p.0 p.1 commands
 Ends text (Err fails.Memory) = Unit {0}

@@ -1,4 +1,5 @@
--- What the commands before a line say, each word by looking back over the list.
+-- What the commands before a line say; each definition looks back over their list
+-- (docs/FORMATS.md, Drill lines of the four parts; Drill coordinates).
 use Rattle.std.specs.Prelude.{ℕ, ℤ, Bool, true, false, ◌==◌, List, [], ◌∷◌, Option, None, Some, unwrap_or, if◌then◌else◌}
 use Rattle.std.specs.List.{list_any, flat_map, filter_map}
 use Rattle.grid_units.specs.Lists.{last_named}
@@ -15,47 +16,47 @@ use Rattle.drill_lines.specs.Header.{file_format}
 
 -- ---- the part of the file
 
--- the part of the file that a command begins (docs/FORMATS.md, Drill lines)
+-- the part of the file that a command begins: Start the header, HeaderEnd the body, Finish the part after
 abbrev pub part_named : DrillCommand → Option Part
 part_named command.Start = Some part.Header
 part_named command.HeaderEnd = Some part.Body
 part_named command.Finish = Some part.After
 part_named _ = None
 
--- the part of the file behind these commands (docs/FORMATS.md, Drill lines)
+-- the part of the file after these commands, by the last of them that begins one
 abbrev pub part_after : List DrillCommand → Part
 part_after before = unwrap_or (last_named part_named before) part.Before
 
 -- ---- what the commands up to the end of the header give as a whole
 
--- `%` or `M95` (docs/DEFINITIONS.md, Drill files)
+-- HeaderEnd, which `%` and `M95` spell
 abbrev pub ends_header : DrillCommand → Bool
 ends_header command.HeaderEnd = true
 ends_header _ = false
 
--- the commands before the end of the header (docs/DEFINITIONS.md, Drill files)
+-- the commands before the first HeaderEnd, all of them where there is none
 abbrev pub header : List DrillCommand → List DrillCommand
 header [] = []
 header (c ∷ cs) = if ends_header c then [] else c ∷ header cs
 
--- the unit that a command gives (docs/FORMATS.md, Drill lines)
+-- the unit that a command gives, as `METRIC` and `M71` do
 abbrev pub unit_named : DrillCommand → Option Units
 unit_named (command.UnitLine unit _ _) = Some unit
 unit_named (command.UnitCode unit) = Some unit
 unit_named _ = None
 
--- the zeros that a command gives (docs/FORMATS.md, Drill lines)
+-- the zeros that a command gives, as `METRIC,TZ` does
 abbrev pub zeros_named : DrillCommand → Option Zeros
 zeros_named (command.UnitLine _ zeros _) = zeros
 zeros_named _ = None
 
--- the format that a command gives (docs/FORMATS.md, Drill coordinates)
+-- the format that a command gives, as `METRIC,000.000` and `;FILE_FORMAT=3:3` do
 abbrev pub format_named : DrillCommand → Option Digits
 format_named (command.Comment text) = file_format text
 format_named (command.UnitLine _ _ format) = format
 format_named _ = None
 
--- By what a line behind these commands is read: a comment or a line behind the header gives nothing (docs/DEFINITIONS.md, Drill files).
+-- By what the next line is read: its part of the file, and what was given last before the first HeaderEnd. Later lines give nothing.
 abbrev pub settings_after : List DrillCommand → Settings
 settings_after before = record {
   part = part_after before;
@@ -66,46 +67,46 @@ settings_after before = record {
 
 -- ---- tools and points
 
--- the diameter that a command gives to this tool (docs/DEFINITIONS.md, Drill files)
+-- the diameter that a command gives this tool, in units of 10^-8
 abbrev pub diameter_named : ℕ → DrillCommand → Option ℤ
 diameter_named number (command.Tool other diameter) = if other == number then Some diameter else None
 diameter_named number _ = None
 
--- the tool that a command defines, with its diameter (docs/DEFINITIONS.md, Drill files)
+-- the tool that a command defines, with its diameter: (1, 40000000) of `T1C0.4`
 abbrev pub tool_defined : DrillCommand → Option (ℕ × ℤ)
 tool_defined (command.Tool number diameter) = Some (number, diameter)
 tool_defined _ = None
 
--- the tools in order of definition (docs/DEFINITIONS.md, Drill files)
+-- the tools with their diameters, in order of definition
 abbrev pub tools_of : List DrillCommand → List (ℕ × ℤ)
 tools_of commands = filter_map tool_defined commands
 
--- the tool that a command picks (docs/DEFINITIONS.md, Drill files)
+-- the tool that a command picks: 1 of `T1` in the body, 0 of `T0`
 abbrev pub tool_named : DrillCommand → Option ℕ
 tool_named (command.Pick number) = Some number
 tool_named _ = None
 
--- the points that a command names, in order (docs/DEFINITIONS.md, Drill files)
+-- the points that a command names, in order: one of a hit, two of a slot
 abbrev pub points_named : DrillCommand → List Coordinates
 points_named (command.Hit point) = point ∷ []
 points_named (command.Slot first second) = first ∷ second ∷ []
 points_named _ = []
 
--- the points of a list of commands, in order: one for a hit and two for a slot (docs/DEFINITIONS.md, Drill files)
+-- the points of a list of commands, in order: one for a hit and two for a slot
 abbrev pub points_of : List DrillCommand → List Coordinates
 points_of commands = flat_map points_named commands
 
--- the X that a point names (docs/DEFINITIONS.md, Drill files)
+-- the X that a point names, if it does not leave it out
 abbrev pub x_named : Coordinates → Option ℤ
 x_named point = point.x
 
--- the Y that a point names (docs/DEFINITIONS.md, Drill files)
+-- the Y that a point names, if it does not leave it out
 abbrev pub y_named : Coordinates → Option ℤ
 y_named point = point.y
 
 -- ---- all that stands when a line comes
 
--- what the commands before a line say to it (docs/DEFINITIONS.md, Drill files)
+-- what stands before a line: the settings, whether the header has ended, the tools, the tool picked last, and the last X and Y
 pub record Standing : Type 0 where
   pub settings : Settings
   pub is_settled : Bool
@@ -114,7 +115,7 @@ pub record Standing : Type 0 where
   pub x : Option ℤ
   pub y : Option ℤ
 
--- each by looking back (docs/DEFINITIONS.md, Drill files)
+-- what stands after these commands, each field by looking back
 abbrev pub standing : List DrillCommand → Standing
 standing before = record {
   settings = settings_after before;

@@ -1,4 +1,4 @@
--- The rules of a legal drill file.
+-- The rules of a legal drill file (docs/FORMATS.md, Rules of a drill file).
 use Rattle.std.specs.Prelude.{ℕ, pos, Bool, true, false, not, ◌==◌, ◌&&◌, ◌||◌, nat_le, int_le, List, [], ◌∷◌, length, Option, None, Some, is_none, is_some}
 use Rattle.std.specs.Option.{option_map_or}
 use Rattle.std.specs.List.{find}
@@ -17,78 +17,78 @@ use Rattle.drill_text.specs.Holes.{Drilled, drilled_at, holes_of}
 
 -- ---- one rule at a time
 
--- the two units are one (docs/FORMATS.md, Rules of a drill file)
+-- the two units are equal
 abbrev pub same_unit : Units → Units → Bool
 same_unit unit.Inch unit.Inch = true
 same_unit unit.Millimetre unit.Millimetre = true
 same_unit _ _ = false
 
--- the two zeros are one (docs/FORMATS.md, Rules of a drill file)
+-- the two settings of zeros are equal
 abbrev pub same_zeros : Zeros → Zeros → Bool
 same_zeros zeros.Leading zeros.Leading = true
 same_zeros zeros.Trailing zeros.Trailing = true
 same_zeros zeros.Full zeros.Full = true
 same_zeros _ _ = false
 
--- the two formats are one (docs/FORMATS.md, Rules of a drill file)
+-- the two formats have equal numbers of digits: 2:4 and 2:4
 abbrev pub same_format : Digits → Digits → Bool
 same_format a b = (a.whole == b.whole) && (a.decimals == b.decimals)
 
--- this is given, something was before, and they differ (docs/FORMATS.md, Rules of a drill file)
+-- a value is given, one was given before, and they differ: `M72` after `METRIC`
 abbrev pub differs : {A : Type 0} → (A → A → Bool) → Option A → Option A → Bool
 differs same None before = false
 differs same (Some a) None = false
 differs same (Some a) (Some b) = not (same a b)
 
--- a given i:d, or given zeros, that differ from earlier ones; nothing is given behind the header (docs/FORMATS.md, Rules of a drill file)
+-- a format or zeros that differ from those given before: `METRIC,TZ` after `METRIC,LZ`. After the header nothing is given
 abbrev pub conflicts_in_format : Standing → DrillCommand → Bool
 conflicts_in_format s c = (differs same_format (format_named c) s.settings.format || differs same_zeros (zeros_named c) s.settings.zeros) && not s.is_settled
 
--- the header ends without a unit (docs/FORMATS.md, Rules of a drill file)
+-- the header ends, and no unit was given
 abbrev pub lacks_unit : Standing → DrillCommand → Bool
 lacks_unit s command.HeaderEnd = is_none s.settings.unit
 lacks_unit s _ = false
 
--- a tool that stands before (docs/FORMATS.md, Rules of a drill file)
+-- a tool is defined whose number was defined before, with whatever diameter
 abbrev pub defines_again : Standing → DrillCommand → Bool
 defines_again s (command.Tool number _) = is_some (s.diameter number)
 defines_again s _ = false
 
--- a tool from 1 that is not defined (docs/FORMATS.md, Rules of a drill file)
+-- a tool other than 0 is picked, and it is not defined
 abbrev pub picks_unknown : Standing → DrillCommand → Bool
 picks_unknown s (command.Pick number) = not (number == 0) && is_none (s.diameter number)
 picks_unknown s _ = false
 
--- a hit or a slot (docs/FORMATS.md, Rules of a drill file)
+-- a hit or a slot
 abbrev pub drills : DrillCommand → Bool
 drills (command.Hit _) = true
 drills (command.Slot _ _) = true
 drills _ = false
 
--- no tool is picked (docs/FORMATS.md, Rules of a drill file)
+-- no tool was picked, or the last pick is 0
 abbrev pub has_no_tool : Standing → Bool
 has_no_tool s = option_map_or (λ number. number == 0) s.tool true
 
--- a tool's diameter that is not above 0 (docs/FORMATS.md, Rules of a drill file)
+-- a tool is defined with a diameter that is not above 0, as `T1C0.0`
 abbrev pub defines_badly : DrillCommand → Bool
 defines_badly (command.Tool _ diameter) = int_le diameter (pos 0)
 defines_badly _ = false
 
--- the same of a hole (docs/FORMATS.md, Rules of a drill file)
+-- a hole is drilled with a diameter that is not above 0
 abbrev pub is_bad : Drilled → Bool
 is_bad d = int_le d.diameter (pos 0)
 
--- a coordinate or the diameter is (docs/FORMATS.md, Rules of a drill file)
+-- a coordinate of what is drilled, or its diameter, is above 10 m in absolute value
 abbrev pub reaches_far : Drilled → Bool
 reaches_far d = is_far d.from.x || (is_far d.from.y || (is_far d.to.x || (is_far d.to.y || is_far d.diameter)))
 
--- the most holes of a drill file (docs/FORMATS.md, Limits)
+-- the greatest number of holes in a drill file (docs/FORMATS.md, Limits)
 abbrev pub max_holes : ℕ
 max_holes = 1048576
 
 -- ---- the table
 
--- whether a rule applies to a command, by what stands when it comes, how many holes there are and what it drills (docs/FORMATS.md, Rules of a drill file)
+-- whether the rule of a reason applies to a command, by what stands before it, how many holes there are and what it drills
 abbrev pub applies : Standing → ℕ → Option Drilled → DrillCommand → Reason → Bool
 applies s count drilled c reason.NoUnit = lacks_unit s c
 applies s count drilled c reason.UnitConflict = differs same_unit (unit_named c) s.settings.unit
@@ -101,14 +101,14 @@ applies s count drilled c reason.TooFar = option_map_or reaches_far drilled fals
 applies s count drilled c reason.TooManyHoles = drills c && nat_le max_holes count
 applies s count drilled c _ = false
 
--- in rule order (docs/FORMATS.md, Rules of a drill file)
+-- the reasons of all rules, in rule order
 abbrev pub rules : List Reason
 rules = reason.NoUnit ∷ reason.UnitConflict ∷ reason.FormatConflict ∷ reason.Redefined ∷ reason.UnknownTool ∷ reason.NoTool ∷ reason.BadSize ∷ reason.TooFar ∷ reason.TooManyHoles ∷ []
 
--- the first rule that applies (docs/FORMATS.md, Rules of a drill file)
+-- the first rule that applies, in rule order
 unfoldable pub first_broken : Standing → ℕ → Option Drilled → DrillCommand → Option Reason
 first_broken s count drilled c = find (applies s count drilled c) rules
 
--- the first rule that a command breaks behind the commands before it (docs/DEFINITIONS.md, Drill files)
+-- the first rule that a command breaks after the commands before it
 abbrev pub broken_rule : List DrillCommand → DrillCommand → Option Reason
 broken_rule before c = first_broken (standing before) (length (holes_of before)) (drilled_at before c) c

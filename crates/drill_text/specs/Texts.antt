@@ -1,4 +1,4 @@
--- The texts of a list of commands.
+-- Drill texts: texts whose lines spell legal commands up to the end of the file.
 use Rattle.std.specs.Prelude.{◌≡◌, ℕ, ◌≤◌, true, List, [], ◌∷◌, ◌++◌, length, Result, Ok, Err}
 use Rattle.std.specs.List.{list_any, AllByRecursion}
 use Rattle.std.specs.Option.{option_to_list}
@@ -17,17 +17,17 @@ use Rattle.drill_text.specs.Reading.{is_finish, Reads}
 use Rattle.grid_units.specs.Limits.{text_limit, line_limit}
 use Rattle.drill_text.specs.Rules.{broken_rule}
 
--- these commands and those that the lines spell behind them, each line by the settings of the commands before it (docs/DEFINITIONS.md, Drill files)
+-- these commands and those that the lines after them spell, each line by the settings of the commands before it
 abbrev pub spelled_behind : List DrillCommand → List (List ℕ) → Result (List DrillCommand) Reason
 spelled_behind before [] = Ok before
 spelled_behind before (line ∷ lines) = meaning (settings_after before) (trimmed line) >>= λ command. spelled_behind (before ++ option_to_list command) lines
 
--- no line is too long (docs/FORMATS.md, Limits)
+-- no line has more than 1,048,576 bytes (docs/FORMATS.md, Limits)
 abbrev pub AreShort : List (List ℕ) → Type 0
 AreShort lines = AllByRecursion (λ line. length line ≤ line_limit) lines
 
--- A text spells these commands: its lines, the rest behind the last LF among them, spell them in order, and its end is one of them
--- (docs/DEFINITIONS.md, Drill files).
+-- A text spells these commands: its lines, with the rest after the last LF, spell them in order, its end is one of them, and
+-- neither a line nor the text is too long.
 pub record SpellsText (text : List ℕ) (commands : List DrillCommand) : Type 0 where
   pub lines : List (List ℕ)
   pub rest : List ℕ
@@ -37,16 +37,16 @@ pub record SpellsText (text : List ℕ) (commands : List DrillCommand) : Type 0 
   pub spelling : spelled_behind [] (lines ++ rest ∷ []) ≡ Ok commands
   pub ends : list_any is_finish commands ≡ true
 
--- a drill text of these commands (docs/DEFINITIONS.md, Drill files)
+-- a drill text of these commands: the text spells them, and none of them breaks a rule after those before it
 pub record IsDrillText (text : List ℕ) (commands : List DrillCommand) : Type 0 where
   pub spells : SpellsText text commands
   pub legal : IsLegal broken_rule commands
 
--- a text is a drill text whose commands drill these holes (docs/DEFINITIONS.md, Drill files)
+-- a drill text whose commands drill just these holes
 abbrev pub DrillsHoles : List ℕ → List GridHole → Type 0
 DrillsHoles text holes = (commands : List DrillCommand) × IsDrillText text commands × (holes ≡ holes_of commands)
 
--- A whole text drills these holes, or has this fault (docs/DEFINITIONS.md, Drill files).
+-- A whole text drills these holes, or has this as its first fault.
 abbrev pub ReadsHoles : List ℕ → Result (List GridHole) Fault → Type 0
 ReadsHoles text (Ok holes) = DrillsHoles text holes
 ReadsHoles text (Err fault) = Reads text (Err fault)

@@ -1,4 +1,4 @@
--- The canonical text of a list of commands.
+-- The canonical text of a list of commands (docs/FORMATS.md, Canonical drill text).
 use Rattle.std.specs.Prelude.{◌≡◌, ◌⊎◌, ℕ, Bool, true, false, ◌&&◌, nat_lt, List, [], ◌∷◌, length, map, unwrap_or, if◌then◌else◌, Result, Ok, Err}
 use Rattle.std.specs.Global.{Vec}
 use Rattle.grid_units.specs.declared.fault.Fault.{Fault}
@@ -14,43 +14,43 @@ use Rattle.drill_text.specs.Reading.{Reads}
 use Rattle.drill_text.specs.Texts.{IsDrillText}
 use Rattle.grid_units.specs.Limits.{text_limit}
 
--- the part of a file behind one more command (docs/FORMATS.md, Drill lines)
+-- the part of a file after one more command
 abbrev pub part_behind : Part → DrillCommand → Part
 part_behind p c = unwrap_or (part_named c) p
 
--- the part of a file behind more commands (docs/FORMATS.md, Drill lines)
+-- the part of a file after more commands
 abbrev pub part_from : Part → List DrillCommand → Part
 part_from p [] = p
 part_from p (c ∷ cs) = part_from (part_behind p c) cs
 
--- each command is one that some line of its part spells (docs/FORMATS.md, Canonical drill text)
+-- each command is one that some line of its part of the file spells
 abbrev pub are_sayable : Part → List DrillCommand → Bool
 are_sayable p [] = true
 are_sayable p (c ∷ cs) = is_sayable p c && are_sayable (part_behind p c) cs
 
--- behind `M30` (docs/FORMATS.md, Drill lines)
+-- the part after `M30`
 abbrev pub is_over : Part → Bool
 is_over part.After = true
 is_over _ = false
 
--- A list is sayable where it is comments, Start, commands of the header, HeaderEnd, commands of the body and Finish, each one that
--- some line spells (docs/FORMATS.md, Canonical drill text).
+-- A list is sayable: comments, Start, commands of the header, HeaderEnd, commands of the body and Finish, each one that
+-- some line of its part spells.
 abbrev pub drill_sayable : List DrillCommand → Bool
 drill_sayable commands = are_sayable part.Before commands && is_over (part_from part.Before commands)
 
--- each command as its line, with LF (docs/FORMATS.md, Canonical drill text)
+-- each command as its canonical line, with an LF after it
 abbrev pub canonical_text : List DrillCommand → List ℕ
 canonical_text commands = bytes_of (map canonical commands)
 
--- the canonical text, or that it is too long (docs/FORMATS.md, Canonical drill text)
+-- the canonical text; one above 268,435,456 bytes is TooLong at place 0 and byte 0
 abbrev pub written : List DrillCommand → Result (List ℕ) Fault
 written commands = if nat_lt text_limit (length (canonical_text commands)) then Err (fault 0 0 TooLong) else Ok (canonical_text commands)
 
--- the bytes of a vector (docs/DEFINITIONS.md, Answers)
+-- the bytes that a vector holds, in order
 abbrev pub bytes_in : Vec ℕ → List ℕ
 bytes_in bytes = bytes.items
 
--- A whole text is a drill text of commands that have this canonical text; or it has this fault, or that text is too long (docs/DEFINITIONS.md, Drill files).
+-- A whole text is a drill text whose commands have this canonical text; or it has this fault, or that text is too long.
 abbrev pub ReadsWritten : List ℕ → Result (List ℕ) Fault → Type 0
 ReadsWritten text (Ok new) = (commands : List DrillCommand) × IsDrillText text commands × (written commands ≡ Ok new)
 ReadsWritten text (Err fault) = Reads text (Err fault) ⊎ ((commands : List DrillCommand) × IsDrillText text commands × (written commands ≡ Err fault))

@@ -7,8 +7,8 @@ use grid_units::{Dec, Hole};
 use indexmap::IndexMap;
 use std::marker::Model;
 
-/// A drill file: its commands, the holes that they drill and the tools that they define. Its unit is that
-/// of its commands for coordinates and diameters; holes are in pm.
+/// A drill file: its commands, the holes that they drill and the tools that they define. The commands have
+/// coordinates and diameters in the unit of the file; the holes are in pm.
 #[derive(Drop)]
 pub struct Drill {
     commands: Vec<DrillCommand>,
@@ -39,14 +39,14 @@ impl Drill {
         }
     }
 
-    /// The commands, in order.
+    /// The commands, in the order of their lines.
     pub fn commands(&self) -> &[DrillCommand]
         ensures { result.now ≡ self.now.commands }
     {
         &self.commands
     }
 
-    /// The holes in order of their lines, in pm.
+    /// The holes, one for each hit and each slot, in the order of their lines and in pm.
     pub fn holes(&self) -> &[Hole]
         ensures { result.now ≡ self.now.holes }
     {
@@ -61,7 +61,7 @@ impl Drill {
         holes
     }
 
-    /// The diameters by tool number in order of definition, in the unit of the file.
+    /// The diameters by tool number, in order of definition and in the unit of the file.
     pub fn tools(&self) -> &IndexMap<u16, Dec>
         ensures { result.now.entries ≡ self.now.tools }
     {

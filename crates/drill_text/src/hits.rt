@@ -1,4 +1,4 @@
-//! Hits at decimals with points, as most lines are: read in one pass, from the first byte of a line to its LF.
+//! Hits at decimals with points, as most lines are. They are read in one pass, from the first byte of a line to its LF.
 
 ghost use Rattle.std.specs.Prelude.{IfSome};
 ghost use Rattle.drill_text.specs.Inner.Hits.{NamesDecimal, EndsLine, LeadsHit};
@@ -6,7 +6,7 @@ ghost use Rattle.drill_text.specs.Inner.Hits.{NamesDecimal, EndsLine, LeadsHit};
 use drill_lines::Coordinates;
 use grid_units::Dec;
 
-/// A decimal with a point behind a letter, where there is one, and what stands behind it.
+/// The decimal with a point after a letter, if both stand, and the bytes after it.
 fn named_decimal(letter: u8, bytes: &[u8]) -> (Option<Dec>, &[u8])
     ensures { IfSome result.0 (λ v. NamesDecimal letter v result.1.now bytes.now) }
 {
@@ -16,7 +16,7 @@ fn named_decimal(letter: u8, bytes: &[u8]) -> (Option<Dec>, &[u8])
     }
 }
 
-/// How many blanks stand before an LF in front of the bytes: none, or a CR.
+/// How many blanks stand before the LF at the start of the bytes: none, or one CR.
 fn blanks_at_end(bytes: &[u8]) -> Option<usize>
     ensures { IfSome result (λ count. EndsLine count bytes.now) }
 {
@@ -31,7 +31,7 @@ fn blanks_at_end(bytes: &[u8]) -> Option<usize>
 }
 
 /// The hit that the line at the start of the bytes spells in the body, and how many bytes stand before its LF. `None`
-/// says only that this fast path does not find one.
+/// only means that this fast path does not find one.
 pub(crate) fn leading_hit(bytes: &[u8]) -> Option<(Coordinates, usize)>
     ensures { IfSome result (λ hit. LeadsHit hit.0 hit.1 bytes.now) }
 {

@@ -10,7 +10,7 @@ use crate::reader::Progress;
 use grid_units::{Fail, Hole};
 use std::alloc::Global;
 
-/// A reader of the holes of a drill file that comes in pieces. It judges the file as [`DrillReader`] does, and lets go of its
+/// A reader of the holes of a drill file that comes in pieces. It judges the file as [`DrillReader`] does, and drops its
 /// commands: it holds the holes, the tools and at most one line.
 ///
 /// [`DrillReader`]: crate::DrillReader
@@ -54,7 +54,7 @@ impl HolesReader {
         outcome
     }
 
-    /// The holes in order of their lines, in pm. A reader that has failed gives its failure again.
+    /// The holes in the order of their lines, in pm. A reader that has failed gives its failure again.
     ///
     /// # Errors
     ///

@@ -1,4 +1,4 @@
-//! The judge: meets the commands of a drill file one by one, and says at the first that breaks a rule which rule it breaks.
+//! The judge: it meets the commands of a drill file one by one, and answers which rule a command breaks first.
 
 ghost use Rattle.std.specs.Prelude.{◌≡◌, nat_eq};
 ghost use Rattle.std.specs.Option.{option_and_then};
@@ -10,7 +10,7 @@ use grid_units::{Dec, Hole, Point, Reason, Stop, Text, Unit, Zeros};
 use indexmap::IndexMap;
 use std::alloc::{AllocError, Global};
 
-/// The most holes of a drill file.
+/// The greatest number of holes in a drill file.
 const MAX_HOLES: usize = 1_048_576;
 
 /// What the commands so far say to the next one, and the holes that they drill.
@@ -20,7 +20,7 @@ pub(crate) struct Judge {
     is_settled: bool,
     tools: IndexMap<u16, Dec>,
     tool: Option<u16>,
-    // Kept beside the two, so that no hole looks its tool up.
+    // Kept beside `tools` and `tool`, so that no hole looks its tool up.
     diameter: Option<Dec>,
     x: Coordinate,
     y: Coordinate,
@@ -63,7 +63,7 @@ impl Judge {
         }
     }
 
-    /// By what the next line is read.
+    /// The settings by which the next line is read.
     pub(crate) fn settings(&self) -> Settings
         ensures { result ≡ self.now.settings }
     {
@@ -77,7 +77,7 @@ impl Judge {
         matches!(self.settings.part, Part::Body)
     }
 
-    /// The holes and the tools of the commands that the judge has taken in.
+    /// The holes and the tools of the commands that were taken in.
     pub(crate) fn into_parts(self) -> (Vec<Hole>, IndexMap<u16, Dec>)
         ensures { result ≡ (self.holes, self.tools) }
     {
@@ -85,7 +85,7 @@ impl Judge {
         (holes, tools)
     }
 
-    /// Judges one more command, and takes it in where it breaks no rule.
+    /// Judges one more command, and takes it in if it breaks no rule.
     pub(crate) fn step(&mut self, command: &DrillCommand) -> Result<(), Stop>
         ensures { (before : List TheCommand) → Knows self.old before → Judges before command.now self.new result }
     {
@@ -96,7 +96,7 @@ impl Judge {
         }
     }
 
-    /// Judges a command that drills nothing, and takes it in where it breaks no rule.
+    /// Judges a command that drills nothing, and takes it in if it breaks no rule.
     fn settle(&mut self, command: &DrillCommand) -> Result<(), Stop>
         requires { drills command.now ≡ false }
         ensures { (before : List TheCommand) → Knows self.old before → Judges before command.now self.new result }
@@ -108,7 +108,7 @@ impl Judge {
         Ok(())
     }
 
-    /// The first rule that a command breaks which drills nothing.
+    /// The first rule that a command breaks, if the command drills nothing.
     #[tactic(auto, unfolding(crate::specs::Rules::first_broken))]
     fn broken_rule(&self, command: &DrillCommand) -> Option<Reason>
         requires { drills command.now ≡ false }
@@ -234,7 +234,7 @@ impl Judge {
         Ok(())
     }
 
-    /// Takes in what a line gives, if the header has not ended.
+    /// Takes in what a line gives, unless the header has ended.
     fn give(&mut self, unit: Option<Unit>, zeros: Option<Zeros>, format: Option<Format>)
         ensures told { told self.new ≡ given unit zeros format (told self.old) }
         ensures holes { self.new.holes.items ≡ self.old.holes.items }
@@ -254,7 +254,7 @@ impl Judge {
         }
     }
 
-    /// Drills at a point, where that breaks no rule.
+    /// Drills at a point, unless that breaks a rule.
     fn drill_at(&mut self, point: &Coordinates) -> Result<(), Stop>
         ensures { Drills self.old point.now nowhere self.new result }
     {
@@ -279,7 +279,7 @@ impl Judge {
         self.hole_between(width, at, at)
     }
 
-    /// Drills from one point to another, where that breaks no rule.
+    /// Drills from one point to another, unless that breaks a rule.
     fn drill_slot(&mut self, first: &Coordinates, second: &Coordinates) -> Result<(), Stop>
         ensures { Drills self.old first.now second.now self.new result }
     {
@@ -301,7 +301,7 @@ impl Judge {
         self.hole_between(width, from, to)
     }
 
-    /// Adds a hole.
+    /// Adds a hole, if there is memory for it.
     fn add(&mut self, hole: Hole) -> Result<(), Stop>
         ensures told { told self.new ≡ told self.old }
         ensures tools { self.new.tools ≡ self.old.tools }
@@ -314,7 +314,7 @@ impl Judge {
         }
     }
 
-    /// The hole between two points, with a tool of this diameter in pm.
+    /// The hole between two points with a tool of this diameter in pm, unless there are too many.
     fn hole_between(&self, width: i64, from: Point, to: Point) -> Result<Hole, Reason>
         requires { IsWidth width }
         ensures { result ≡ hole_between (length self.now.holes.items) width from to }
@@ -325,7 +325,7 @@ impl Judge {
         Hole::new(from, to, width / 2).ok_or(Reason::BadSize)
     }
 
-    /// Goes to a point.
+    /// Makes this the last point. A coordinate that it leaves out stays.
     fn go(&mut self, point: &Coordinates)
         ensures told { told self.new ≡ moved point.now (told self.old) }
         ensures holes { self.new.holes ≡ self.old.holes }
@@ -335,14 +335,14 @@ impl Judge {
         self.y = point.y.or(self.y);
     }
 
-    /// The unit of the file; a header without one has no legal body.
+    /// The unit of the file. A header without one has no legal body.
     fn unit(&self) -> Unit
         ensures { result ≡ unit_or self.now.settings.unit }
     {
         self.settings.unit.unwrap_or(Unit::Millimetre)
     }
 
-    /// A length in pm; 0 where none was named.
+    /// A length in pm, 0 where none was named, or `TooFar` above 10 m.
     fn length(&self, value: Coordinate) -> Result<i64, Reason>
         ensures { result ≡ length_in (unit_or self.now.settings.unit) value }
     {
@@ -352,7 +352,7 @@ impl Judge {
         }
     }
 
-    /// The point at these coordinates.
+    /// The point at these coordinates, or `TooFar` where one is above 10 m.
     #[tactic(auto, unfolding(grid_units::specs::Numbers::within_limit))]
     fn point(&self, x: Coordinate, y: Coordinate) -> Result<Point, Reason>
         ensures { result ≡ point_in (unit_or self.now.settings.unit) x y }
@@ -384,7 +384,7 @@ impl Judge {
     }
 }
 
-/// The diameter of a tool, in the unit of the file.
+/// The diameter of the picked tool, in the unit of the file.
 fn diameter_of(tools: &IndexMap<u16, Dec>, tool: Option<u16>) -> Option<Dec>
     ensures { result ≡ option_and_then (λ number. get nat_eq tools.now number) tool }
 {

@@ -10,18 +10,18 @@ use drill_lines::DrillCommand;
 use grid_units::Fail;
 use std::alloc::{AllocError, Global};
 
-/// What is to be kept of the commands.
+/// What a reader keeps of the commands.
 #[derive(Clone, Copy, Debug, PartialEq, Eq)]
 pub(crate) enum Keeping {
-    /// Nothing but whether the end of the file is among them.
+    /// Nothing but whether the end of the file is among the commands.
     Nothing,
-    /// All of them.
+    /// All of the commands.
     Commands,
-    /// Their canonical lines.
+    /// The canonical lines of the commands.
     Lines,
 }
 
-/// The commands that were read, or their canonical lines, or nothing of them but whether the end of the file is among them.
+/// The commands that were read, or their canonical lines, or neither; and whether the end of the file is among them.
 #[derive(Drop)]
 pub(crate) struct Kept {
     keeping: Keeping,
@@ -33,7 +33,7 @@ pub(crate) struct Kept {
 impl Kept {
     ghost use Rattle.drill_text.specs.Keeping.{Keeps, HoldsLines};
 
-    /// Nothing yet.
+    /// Keeps nothing yet.
     pub(crate) fn new(alloc: Global, keeping: Keeping) -> Kept
         ensures keeps { Keeps result [] }
         ensures same { result.keeping ≡ keeping }
@@ -46,7 +46,7 @@ impl Kept {
         }
     }
 
-    /// Adds a command.
+    /// Adds a command, or its line.
     pub(crate) fn add(&mut self, command: DrillCommand) -> Result<(), AllocError>
         ensures keeps { (before : List TheCommand) → Keeps self.old before → OnOk result (Keeps self.new (before ++ command ∷ [])) }
         ensures same { self.new.keeping ≡ self.old.keeping }

@@ -1,4 +1,4 @@
-//! Laws of the definitions of a drill file. A call of one does nothing, and gives its clause.
+//! Laws of the definitions of a drill file. Calling one does nothing, but gives its clauses.
 
 ghost use Rattle.std.specs.Prelude.{◌≡◌, ◌↔◌, ◌++◌, true, ℕ, List, Result, Ok, Err};
 ghost use Rattle.grid_units.specs.declared.fault.Fault.{Fault};
@@ -22,7 +22,7 @@ pub fn faults_stay()
     ensures read { (text more : List ℕ) (f : Fault) → Shows text (Err f) → Reads (text ++ more) (Err f) }
 {}
 
-/// A text is read as just the commands of which it is a drill text.
+/// A text is read as some commands just where it is a drill text of them.
 pub fn drill_texts()
     ensures { (text : List ℕ) (commands : List DrillCommand) → (Reads text (Ok commands)) ↔ (IsDrillText text commands) }
 {}
@@ -38,8 +38,8 @@ pub fn sayable_texts()
     ensures { (text : List ℕ) (commands : List DrillCommand) → SpellsText text commands → drill_sayable commands ≡ true }
 {}
 
-/// A text has a fault exactly where this is its first one, and each text is a drill text of some commands or has a fault. Its reason
-/// is one of those that a drill text is refused for.
+/// A text has a fault exactly where this is its first one, and each text is a drill text of some commands or has a fault. The reason
+/// of a fault is one for which drill texts are refused.
 pub fn first_faults()
     ensures first { (text : List ℕ) (f : Fault) → (Reads text (Err f)) ↔ (IsFirstFault text f) }
     ensures answer { (text : List ℕ) → HasAnswer text }

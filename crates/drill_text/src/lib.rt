@@ -1,4 +1,4 @@
-//! Excellon drill files, their commands, and the holes that these drill.
+//! Excellon drill files: their commands, and the holes that these drill.
 #![tactic(auto)]
 
 mod drill;

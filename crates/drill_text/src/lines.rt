@@ -10,7 +10,7 @@ use drill_lines::DrillCommand;
 use grid_units::{Fail, TEXT_LIMIT};
 use std::alloc::{AllocError, Global};
 
-/// The canonical lines of some commands, or that they are longer than a text may be. Of lines that are too long none are held.
+/// The canonical lines of some commands, or that they are longer than a text may be; then none of them is held.
 #[derive(Drop)]
 pub(crate) struct Lines {
     text: Vec<u8>,
@@ -20,7 +20,7 @@ pub(crate) struct Lines {
 impl Lines {
     ghost use Rattle.drill_text.specs.Keeping.{HoldsLines};
 
-    /// No lines.
+    /// The lines of no command yet.
     pub(crate) fn new(alloc: Global) -> Lines
         ensures { HoldsLines result [] }
     {
@@ -30,7 +30,7 @@ impl Lines {
         }
     }
 
-    /// Adds the line of a command.
+    /// Adds the canonical line of a command.
     pub(crate) fn add(&mut self, command: &DrillCommand) -> Result<(), AllocError>
         ensures { (before : List TheCommand) → HoldsLines self.old before → OnOk result (HoldsLines self.new (before ++ command.now ∷ [])) }
     {
@@ -45,7 +45,7 @@ impl Lines {
         Ok(())
     }
 
-    /// The text of the lines.
+    /// The text of the lines, or the refusal of one that is too long.
     pub(crate) fn finish(self) -> Result<Vec<u8>, Fail>
         ensures { (commands : List TheCommand) → HoldsLines self commands → AnswersAlways bytes_in (λ answer. answer ≡ written commands) result }
     {

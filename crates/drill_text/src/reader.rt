@@ -1,4 +1,4 @@
-//! A reader of a drill file, in pieces.
+//! A reader of a drill file that comes in pieces.
 
 ghost use Rattle.std.specs.Prelude.{◌≡◌, ◌≢◌, ◌≤◌, ◌<◌, ◌+◌, true, ℕ, List, All, length, vec_len, take, slice_index, Some, None, Ok, Err, OnOk, IfOk, IfErr, IfSome};
 ghost use Rattle.drill_lines.specs.declared.command.DrillCommand.{DrillCommand as TheCommand};
@@ -23,10 +23,10 @@ use grid_units::{Fail, Fault, Hole, LINE_LIMIT, Reason, Stop};
 use memchr::memchr;
 use std::alloc::Global;
 
-/// The longest text, as an offset.
+/// The limit of a text's length, 268,435,456 bytes, as an offset.
 const TEXT_LIMIT: u64 = grid_units::TEXT_LIMIT as u64;
 
-/// What was read so far, and the line that has not ended.
+/// The commands that were read so far, and the line that has not ended.
 #[derive(Drop)]
 pub(crate) struct Progress {
     alloc: Global,
@@ -63,7 +63,7 @@ fn refusal(place: u64, byte: u64, reason: Reason) -> Fail
     })
 }
 
-/// Judges the command that a line spells, and adds it where it breaks no rule.
+/// Judges the command that a line spells, and adds it if it breaks no rule.
 fn keep(
     place: u64,
     byte: u64,
@@ -111,7 +111,7 @@ impl Progress {
     ghost use Rattle.drill_text.specs.Inner.Hits.{LeadsHit};
     ghost use Rattle.drill_text.specs.Holding.{Advances, Refuses, RefusesText, Holds};
 
-    /// Nothing is read.
+    /// A reader that has read nothing.
     pub(crate) fn new(alloc: Global, keeping: Keeping) -> Progress
         ensures holds { Holds result [] }
         ensures keeping { result.kept.keeping ≡ keeping }
@@ -127,7 +127,7 @@ impl Progress {
         }
     }
 
-    /// Adds bytes to the line.
+    /// Adds bytes to the line that has not ended.
     fn extend(&mut self, run: &[u8]) -> Result<(), Fail>
         requires inside { All (λ b. b ≢ 10) run.now }
         requires room { self.old.offset + length run.now ≤ text_limit }
@@ -144,7 +144,7 @@ impl Progress {
         Ok(())
     }
 
-    /// Ends the line with its LF.
+    /// Ends the line with its LF, and reads it.
     fn close(&mut self) -> Result<(), Fail>
         requires room { self.old.offset < text_limit }
         ensures offset { OnOk result (self.new.offset ≡ self.old.offset + 1) }
@@ -167,7 +167,7 @@ impl Progress {
         Ok(())
     }
 
-    /// Reads a line that stands in the piece from its first byte to its LF.
+    /// Reads a line that stands in one piece with its LF.
     fn read_whole(&mut self, line: &[u8]) -> Result<(), Fail>
         requires empty { self.old.line.items ≡ [] }
         requires inside { All (λ b. b ≢ 10) line.now }
@@ -192,7 +192,7 @@ impl Progress {
         Ok(())
     }
 
-    /// Takes in the hit that stands in front of the bytes with its LF.
+    /// Takes the hit at the start of the bytes, with the LF of its line.
     fn take_hit(&mut self, point: Coordinates, len: usize, bytes: &[u8]) -> Result<(), Fail>
         requires leads { LeadsHit point len bytes.now }
         requires body { self.old.judge.settings.part ≡ part.Body }
@@ -232,7 +232,7 @@ impl Progress {
         self.close()
     }
 
-    /// Takes some of the bytes, from the first on, and says how many.
+    /// Takes some of the bytes, from the first on, and returns how many.
     fn take_some(&mut self, bytes: &[u8]) -> Result<usize, Fail>
         requires some { 0 < length bytes.now }
         requires room { self.old.offset + length bytes.now ≤ text_limit }
@@ -285,7 +285,7 @@ impl Progress {
         Err(refusal(self.lines + 1, TEXT_LIMIT, Reason::TooLong))
     }
 
-    /// The number of the line behind the last one.
+    /// The number of the line after the last one.
     fn place_behind(&self) -> u64
         ensures { result ≡ place_behind_count self.now.lines self.now.line.items }
     {
@@ -296,7 +296,7 @@ impl Progress {
         }
     }
 
-    /// Reads the line that no LF has ended.
+    /// Reads the rest of the text, which no LF has ended, as a line.
     fn end(&mut self) -> Result<(), Fail>
         ensures leaves { (before : List TheCommand) → Met self.old.judge self.old.kept before → Leaves result self.new.judge self.new.kept (spelled (self.old.lines + 1) self.old.start self.old.line.items before) }
         ensures keeping { self.new.kept.keeping ≡ self.old.kept.keeping }
@@ -312,7 +312,7 @@ impl Progress {
         )
     }
 
-    /// The judge and what is kept of the commands, if the text has ended.
+    /// The judge and what is kept of the commands, or the fault of the text that ends here.
     fn finish(self) -> Result<(Judge, Kept), Fail>
         ensures ends { (text : List ℕ) → Holds self text → Ends text result }
         ensures keeping { IfOk result (λ p. p.1.keeping ≡ self.kept.keeping) }
@@ -325,7 +325,7 @@ impl Progress {
         Err(refusal(last.place_behind(), last.offset, Reason::Truncated))
     }
 
-    /// The file, if its text has ended.
+    /// The drill file, or the fault of the text that ends here.
     fn finish_drill(self) -> Result<Drill, Fail>
         ensures exact { self.kept.keeping ≡ Keeping.Commands → (text : List ℕ) → Holds self text → Answers commands_in (Reads text) result }
         ensures file { self.kept.keeping ≡ Keeping.Commands → (text : List ℕ) → Holds self text → IfOk result (λ drill. drill ≡ file_of drill.commands) }
@@ -335,7 +335,7 @@ impl Progress {
         Ok(Drill::new(kept.into_commands(), holes, tools))
     }
 
-    /// The canonical text, if the text has ended.
+    /// The canonical text, or the fault of the text that ends here.
     pub(crate) fn finish_lines(self) -> Result<Vec<u8>, Fail>
         ensures { self.kept.keeping ≡ Keeping.Lines → (text : List ℕ) → Holds self text → Answers bytes_in (ReadsWritten text) result }
     {
@@ -343,7 +343,7 @@ impl Progress {
         kept.into_text()
     }
 
-    /// The holes, if the text has ended.
+    /// The holes, or the fault of the text that ends here.
     pub(crate) fn finish_holes(self) -> Result<Vec<Hole>, Fail>
         ensures { (text : List ℕ) → Holds self text → Answers (λ holes. holes.items) (ReadsHoles text) result }
     {
@@ -393,7 +393,7 @@ impl DrillReader {
         outcome
     }
 
-    /// The drill file. A reader that has failed gives its failure again.
+    /// The drill file of the whole text. A reader that has failed gives its failure again.
     pub fn finish(self) -> Result<Drill, Fail>
         ensures exact { (text : List ℕ) → StandsAfter self text → Answers commands_in (Reads text) result }
         ensures file { (text : List ℕ) → StandsAfter self text → IfOk result (λ drill. drill ≡ file_of drill.commands) }

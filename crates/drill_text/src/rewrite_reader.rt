@@ -1,4 +1,4 @@
-//! A reader of a drill file that writes it anew, in pieces.
+//! A reader of a drill file in pieces, which writes the file anew as it reads it.
 
 ghost use Rattle.std.specs.Prelude.{◌≡◌, ◌++◌, [], ℕ, List, Some, Err, OnOk, IfErr, IfSome};
 ghost use Rattle.grid_units.specs.Results.{Answers, Tells};
@@ -10,8 +10,8 @@ use crate::reader::Progress;
 use grid_units::Fail;
 use std::alloc::Global;
 
-/// A reader of a drill file that comes in pieces, and is written anew as it is read. It judges the file as [`DrillReader`] does,
-/// and lets go of its commands: it holds their canonical text, the holes, the tools and at most one line.
+/// A reader of a drill file that comes in pieces and is written anew as it is read. It judges the file as [`DrillReader`] does,
+/// and drops its commands: it holds their canonical text, the holes, the tools and at most one line.
 ///
 /// [`DrillReader`]: crate::DrillReader
 #[derive(Drop)]

@@ -12,7 +12,7 @@ use drill_lines::{DrillCommand, Part, is_sayable, push_canonical};
 use grid_units::{Fail, Fault, Reason, TEXT_LIMIT};
 use std::alloc::{AllocError, Global};
 
-/// The part of a file behind one more command.
+/// The part of a file after one more command.
 fn part_behind(part: Part, command: &DrillCommand) -> Part
     ensures { result ≡ part_behind part command.now }
 {
@@ -45,7 +45,7 @@ pub fn drill_sayable(commands: &[DrillCommand]) -> bool
     is_over(part)
 }
 
-/// Appends the line of a command and its LF.
+/// Appends the canonical line of a command, and an LF.
 pub(crate) fn push_line(text: &mut Vec<u8>, command: &DrillCommand) -> Result<(), AllocError>
     ensures items { OnOk result (text.new.items ≡ text.old.items ++ (canonical command.now ++ 10 ∷ [])) }
     ensures typed { OnOk result (IsTyped command.now) }
@@ -55,7 +55,7 @@ pub(crate) fn push_line(text: &mut Vec<u8>, command: &DrillCommand) -> Result<()
     Ok(())
 }
 
-/// The refusal of a text that would be too long.
+/// The refusal of a text above 268,435,456 bytes.
 pub(crate) fn too_long() -> Fail
     ensures { result ≡ Refused (fault 0 0 TooLong) }
 {
@@ -66,7 +66,7 @@ pub(crate) fn too_long() -> Fail
     })
 }
 
-/// The canonical text of a list, which spells just the list.
+/// The canonical text of a sayable list. The text spells just this list.
 ///
 /// # Errors
 ///

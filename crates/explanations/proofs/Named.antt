@@ -1,4 +1,4 @@
--- Each reason and each topic stands in its list, and a search of a list finds what has a name.
+-- Each reason and each topic stands in its list, and a search of a list finds the one with a name.
 use Rattle.std.proofs.Common.{arith, inl, inr, map, ◌≡◌, ◌≢◌, ◌<◌, ◌≤◌, ◌+◌, ◌∙◌, ℕ, false, List, length, take, get_or, All, sym, refl, ap, subst}
 use Rattle.std.specs.List.{Contains}
 use Rattle.std.specs.Str.{bytes_eq}
@@ -78,7 +78,7 @@ listed_topic topics.Turned = (11, omega arith, refl)
 listed_topic topics.Oblique = (12, omega arith, refl)
 listed_topic topics.Plane = (13, omega arith, refl)
 
--- the words of what is listed
+-- the words of the listed reasons or topics
 pub contains_map : {A B : Type 0} (f : A → B) (xs : List A) (x : A) → Contains xs x → Contains (map f xs) (f x)
 contains_map f xs x h = (h.0, omega (arith, h.1, length-map xs f), get_or-map f xs h.0 x (f x) h.1 ∙ ap f h.2)
 

@@ -1,4 +1,4 @@
--- The words that have a page.
+-- The words that have a page (docs/FORMATS.md, Explanations).
 use Rattle.std.specs.Prelude.{◌≡◌, ◌≤◌, ◌⊎◌, ◌+◌, ◌++◌, ◌==◌, ℕ, Bool, List, [], ◌∷◌, codes, length, map, take}
 use Rattle.std.specs.List.{before_first, AllByRecursion, Contains}
 use Rattle.std.specs.Str.Lines.{lines}
@@ -9,7 +9,7 @@ use Rattle.explanations.specs.declared.topic.Topic.{Topic}
 use Rattle.explanations.specs.declared.topic.Topic.TheVariants as topics
 use Rattle.grid_units.specs.Ascii as ascii
 
--- the word of a topic (docs/FORMATS.md, Explanations)
+-- the word of a topic: `RING` is a finding, `small` a cause of one
 abbrev pub topic_word : Topic → List ℕ
 topic_word topics.RingLine = codes "RING"
 topic_word topics.GapLine = codes "GAP"
@@ -26,27 +26,27 @@ topic_word topics.Turned = codes "turned"
 topic_word topics.Oblique = codes "oblique"
 topic_word topics.Plane = codes "plane"
 
--- the words that have a page: the names of the reasons and the words of the topics (docs/FORMATS.md, Explanations)
+-- a word that has a page: the name of a reason (`TooLong`) or the word of a topic (`RING`)
 abbrev pub IsWord : List ℕ → Type 0
 IsWord word = ((reason : Reason) × (name_of reason ≡ word)) ⊎ ((topic : Topic) × (topic_word topic ≡ word))
 
--- a page begins with its word and a colon (docs/FORMATS.md, Explanations)
+-- a page begins with its word, a colon and a space: `TooLong: `
 abbrev pub Heads : List ℕ → List ℕ → Type 0
 Heads word page = take (length word + 2) page ≡ word ++ codes ": "
 
--- a page has at most 12 lines of at most 78 columns (docs/FORMATS.md, Explanations)
+-- a page has at most 12 lines, each of at most 78 columns
 abbrev pub FitsScreen : List ℕ → Type 0
 FitsScreen page = (length (lines page) ≤ 12) × AllByRecursion (λ line. length line ≤ 78) (lines page)
 
--- the reasons, in order of their numbers (docs/FORMATS.md, Explanations)
+-- all 46 reasons, in the order of their numbers
 abbrev pub all_reasons : List Reason
 all_reasons = reasons.TooLong ∷ reasons.AfterEnd ∷ reasons.Truncated ∷ reasons.SeveralInOne ∷ reasons.ClearPolarity ∷ reasons.BlockAperture ∷ reasons.NegativeImage ∷ reasons.TrailingZeros ∷ reasons.Incremental ∷ reasons.OldParameter ∷ reasons.OldFormat ∷ reasons.Routed ∷ reasons.Repeat ∷ reasons.BadWord ∷ reasons.BadLine ∷ reasons.BadNumber ∷ reasons.NoZeros ∷ reasons.TooManyDigits ∷ reasons.TooFine ∷ reasons.TooFar ∷ reasons.BareCoordinate ∷ reasons.InRegion ∷ reasons.NotInRegion ∷ reasons.NoFormat ∷ reasons.NoUnit ∷ reasons.UnitConflict ∷ reasons.FormatConflict ∷ reasons.Redefined ∷ reasons.UnknownMacro ∷ reasons.UnknownAperture ∷ reasons.UnknownTool ∷ reasons.NoAperture ∷ reasons.NoTool ∷ reasons.BadSize ∷ reasons.BadRepeat ∷ reasons.TooManyPads ∷ reasons.TooManyHoles ∷ reasons.BadRule ∷ reasons.BadManifest ∷ reasons.BadRole ∷ reasons.EmptyName ∷ reasons.RepeatedName ∷ reasons.NoCopper ∷ reasons.NoDrill ∷ reasons.NotCopper ∷ reasons.BadSpan ∷ []
 
--- the topics, in order (docs/FORMATS.md, Explanations)
+-- all 14 topics, in the order of the list: the findings, then their causes
 abbrev pub all_topics : List Topic
 all_topics = topics.RingLine ∷ topics.GapLine ∷ topics.ObliqueLine ∷ topics.Ring ∷ topics.Small ∷ topics.Off ∷ topics.Bare ∷ topics.Macro ∷ topics.Polygon ∷ topics.Holed ∷ topics.Scaled ∷ topics.Turned ∷ topics.Oblique ∷ topics.Plane ∷ []
 
--- the words that are listed: the names of the reasons, then the words of the topics (docs/FORMATS.md, Explanations)
+-- the words that are listed: the names of the reasons, then the words of the topics
 abbrev pub all_words : List (List ℕ)
 all_words = map name_of all_reasons ++ map topic_word all_topics
 
@@ -54,10 +54,10 @@ all_words = map name_of all_reasons ++ map topic_word all_topics
 abbrev pub is_colon : ℕ → Bool
 is_colon b = b == ascii.colon
 
--- a text lists the words: they stand before the colons of its lines, in order, and no line is above 78 columns (docs/FORMATS.md, Explanations)
+-- the lines of a text, each of at most 78 columns, have all words in order before their colons: `NoDrill: the manifest names no drill file`
 abbrev pub ListsWords : List ℕ → Type 0
 ListsWords text = (map (before_first is_colon) (lines text) ≡ all_words) × AllByRecursion (λ line. length line ≤ 78) (lines text)
 
--- each word that has a page is listed (docs/FORMATS.md, Explanations)
+-- each word that has a page is listed
 abbrev pub EachWordIsListed : Type 0
 EachWordIsListed = (word : List ℕ) → IsWord word → Contains all_words word

@@ -1,4 +1,4 @@
-//! What the reasons of refusals, the findings and their causes mean, and what to set in which tool: a page for each word.
+//! What the reasons for refusals, the findings and their causes mean, and what to set in which tool: a page for each word.
 #![tactic(auto)]
 
 mod naming;

@@ -9,7 +9,7 @@ ghost use Rattle.explanations.specs.Words.{EachWordIsListed, ListsWords, topic_w
 use crate::topic::Topic;
 use grid_units::Reason;
 
-/// The words, one to a line, each with what it means in short.
+/// The words, one to a line, each with what it means in short: `ring: the copper round a hole is narrower than the rule`.
 const WORDS: &str = "\
 TooLong: an item, a line or a file has too many bytes
 AfterEnd: something stands behind the end of the file
@@ -139,8 +139,8 @@ const TOPICS: [Topic; 14] = [
     Topic::Plane,
 ];
 
-/// The words that have a page, one to a line: the names of the reasons, then the other words. Behind each stand a colon, a space
-/// and what it means in short. A line has at most 78 columns, and is ended by a line feed.
+/// The words that have a page, one to a line: the names of the reasons, then the other words. A colon, a space and what it
+/// means in short follow each word. A line has at most 78 columns, and ends with a line feed.
 #[tactic(auto, unfolding(grid_units::specs::Reasons::name_of))]
 pub fn words() -> &'static str
     ensures listed { ListsWords result.now }
@@ -149,7 +149,7 @@ pub fn words() -> &'static str
     WORDS
 }
 
-/// The reason of a name.
+/// The reason with this name: `TooLong`.
 pub(crate) fn reason_named(word: &str) -> Option<Reason>
     ensures { MatchOption result ((reason : Reasons) → name_of reason ≢ word.now) (λ reason. name_of reason ≡ word.now) }
 {
@@ -161,7 +161,7 @@ pub(crate) fn reason_named(word: &str) -> Option<Reason>
     None
 }
 
-/// The topic of a word.
+/// The topic with this word: `RING`.
 pub(crate) fn topic_named(word: &str) -> Option<Topic>
     ensures { MatchOption result ((topic : Topics) → topic_word topic ≢ word.now) (λ topic. topic_word topic ≡ word.now) }
 {

@@ -1,4 +1,4 @@
-//! The pages of the reasons.
+//! The pages of the 46 reasons, as `ringcheck explain` prints them.
 
 ghost use Rattle.grid_units.specs.Reasons.{name_of};
 ghost use Rattle.explanations.specs.Words.{FitsScreen, Heads};
@@ -290,7 +290,7 @@ span is the numbers of its first and last copper layer, the first one not
 above the last; copper layers have none. Mend the record of the manifest.
 ";
 
-/// The page of a reason.
+/// The page of a reason: at most 12 lines that begin with its name and a colon.
 #[tactic(auto, unfolding(grid_units::specs::Reasons::name_of))]
 pub(crate) fn reason_page(reason: Reason) -> &'static str
     ensures headed { Heads (name_of reason) result.now }

@@ -1,9 +1,9 @@
-//! Causes of findings, and what else is to be known of them.
+//! The findings and their causes, as words to explain.
 
 ghost use Rattle.std.specs.Prelude.{◌≡◌};
 ghost use Rattle.explanations.specs.Words.{topic_word};
 
-/// What is explained beside the reasons.
+/// A finding or a cause of one: what has a page besides the reasons.
 #[derive(Clone, Copy, Debug, PartialEq, Eq)]
 pub(crate) enum Topic {
     /// A line `RING` of the report.
@@ -12,32 +12,32 @@ pub(crate) enum Topic {
     GapLine,
     /// A line `OBLIQUE` of the report.
     ObliqueLine,
-    /// The copper round a hole is narrower than the ring that is asked for.
+    /// The copper round a hole is narrower than the rule asks.
     Ring,
-    /// The pad is too small.
+    /// The pad is too small for the hole and its ring.
     Small,
     /// The hole is off the centre of its pad.
     Off,
-    /// No pad reaches the hole.
+    /// No pad reaches the centre of the hole.
     Bare,
-    /// Only a flash by a macro stands there.
+    /// Only a flash by an aperture macro stands at the hole.
     Macro,
     /// A flash by a regular polygon.
     Polygon,
     /// A flash by an aperture with a hole.
     Holed,
-    /// A flash that is scaled.
+    /// A scaled flash.
     Scaled,
-    /// A flash that is turned by no multiple of 90 degrees.
+    /// A flash turned by an angle that is no multiple of 90 degrees.
     Turned,
     /// A plated slot along neither axis.
     Oblique,
-    /// A negative plane without a mark.
+    /// A negative plane whose file does not mark it as one.
     Plane,
 }
 
 impl Topic {
-    /// The word of a topic.
+    /// The word of a topic, as it is printed: `RING`, or `small`.
     pub(crate) fn word(self) -> &'static str
         ensures { result.now ≡ topic_word self }
     {

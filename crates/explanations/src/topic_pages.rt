@@ -1,4 +1,4 @@
-//! The pages of the topics.
+//! The pages of the findings and their causes, as `ringcheck explain` prints them.
 
 ghost use Rattle.explanations.specs.Words.{FitsScreen, Heads, topic_word};
 
@@ -110,7 +110,7 @@ it stands, and its clearance discs count as pads: a ring may pass that is not
 there. Do not name such a file as copper.
 ";
 
-/// The page of a topic.
+/// The page of a finding or a cause: at most 12 lines that begin with its word and a colon.
 pub(crate) fn topic_page(topic: Topic) -> &'static str
     ensures headed { Heads (topic_word topic) result.now }
     ensures fits { FitsScreen result.now }

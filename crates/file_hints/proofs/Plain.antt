@@ -1,4 +1,4 @@
--- What stands behind the last slash of a name has no slash, and is text where the name is.
+-- What follows the last slash of a name has no slash, and is text where the name is.
 use Rattle.std.proofs.Common.{◌≡◌, ◌∙◌, ◌<◌, ◌≤◌, ◌+◌, ◌-◌, ◌==◌, ◌||◌, ℕ, zero, suc, Bool, true, false, not, List, [], ◌∷◌, length, drop, take, get_or, arith, refl, sym, ap}
 use Rattle.std.specs.List.{list_any, suffix_len}
 use Rattle.std.specs.Str.{is_utf8, IsUtf8}
@@ -13,7 +13,7 @@ use Rattle.file_hints.specs.Names.{short_name}
 abbrev no_slash : ℕ → Bool
 no_slash b = not (b == 47)
 
--- the place behind the last slash
+-- the place after the last slash
 record IsCut (name : List ℕ) (n : ℕ) : Type 0 where
   pub high : n ≤ length name
   pub behind : (k : ℕ) → n ≤ k → k < length name → no_slash (get_or name k 0) ≡ true
@@ -38,7 +38,7 @@ cut (x ∷ xs) = by (cut xs).0 (cut xs).1 (no_slash x) refl
     by zero c true e = (0, record { high = omega arith; behind = λ k a l. behind_all x xs c e k l; before = λ lt. absurd (omega arith) })
     by zero c false e = (1, record { high = omega arith; behind = behind_more x xs 0 c; before = λ lt. e })
 
--- the place behind the last slash of a name
+-- the place after the last slash of a name
 abbrev place : List ℕ → ℕ
 place name = (cut name).0
 
@@ -50,7 +50,7 @@ short_is name =
     let s : suffix_len no_slash name ≡ length name - n = suffix_len_is no_slash name n 0 high c.behind c.before in
     ap (λ k. drop k name) (let e : length name - suffix_len no_slash name ≡ n = omega (arith, s) in e)
 
--- there is no further slash behind the last one
+-- no further slash follows the last one
 pub short_of_short : (name : List ℕ) → short_name (short_name name) ≡ short_name name
 short_of_short name = ap short_name (short_is name) ∙ whole ∙ sym (short_is name)
   where
@@ -97,7 +97,7 @@ behind_cut name (suc n) c u =
     let next : n + 1 ≡ suc n = omega arith in
     IsUtf8-drop name (suc n) u (rw next at (IsCharBoundary-after_ascii name n u (omega arith) lt))
 
--- what stands behind the last slash of a text is text
+-- what follows the last slash of a text is text
 pub short_is_text : (name : List ℕ) → is_utf8 name ≡ true → is_utf8 (short_name name) ≡ true
 short_is_text name h =
     ap is_utf8 (short_is name) ∙ is_utf8-from_IsUtf8 (drop (place name) name) (behind_cut name (place name) (cut name).1 (IsUtf8-from_is_utf8 name h))

@@ -1,4 +1,4 @@
--- A name behind its last slash.
+-- A name after its last slash.
 use Rattle.std.proofs.Common.{◌≡◌, ◌∙◌, ◌<◌, ◌+◌, ◌-◌, ℕ, Bool, true, false, not, List, length, drop, get_or, Some, None, arith, refl, sym, ap}
 use Rattle.std.specs.List.{suffix_len}
 use Rattle.std.proofs.lemmas.List.Sums.{suffix_len_is}
@@ -10,14 +10,14 @@ not_from true h = absurd (h refl tt)
 not_from false h = refl
 
 module _ (name : List ℕ) where
-  -- no slash
+  -- a name without a slash
   pub short_none : IsLastByte (is_byte 47) name None → name ≡ short_name name
   short_none h =
       let all : suffix_len (λ b. not (is_byte 47 b)) name ≡ length name - 0 =
       suffix_len_is (λ b. not (is_byte 47 b)) name 0 0 (omega arith) (λ k a b. not_from (is_byte 47 (get_or name k 0)) (λ e u. h k (omega arith) b e)) (λ no. absurd (omega arith)) in
       sym (ap (λ n. drop (length name - n) name) all ∙ ap (λ n. drop n name) (let z : length name - (length name - 0) ≡ 0 = omega arith in z))
 
-  -- behind the last slash
+  -- a name with a slash
   pub short_some : (at : ℕ) → IsLastByte (is_byte 47) name (Some at) → drop (at + 1) name ≡ short_name name
   short_some at h =
       let high : at < length name = h.0.high in

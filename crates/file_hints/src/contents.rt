@@ -16,7 +16,7 @@ pub enum Kind {
     Drill,
     /// A drill file without a hole.
     Empty,
-    /// Neither.
+    /// Neither a Gerber nor a drill file.
     Neither,
 }
 
@@ -27,7 +27,7 @@ fn is_blank(byte: u8) -> bool
     byte == b' ' || byte == b'\t' || byte == b'\r'
 }
 
-/// Whether a line is this word, with nothing but spaces, tabs and CR behind it.
+/// Whether a line is this word and then nothing but spaces, tabs and CR.
 fn is_line(word: &[u8], line: &[u8]) -> bool
     ensures { result ≡ says.is_line word.now line.now }
 {
@@ -37,7 +37,7 @@ fn is_line(word: &[u8], line: &[u8]) -> bool
     }
 }
 
-/// Whether some line of a text is this word, with nothing but spaces, tabs and CR behind it.
+/// Whether some line of a text is this word and then nothing but spaces, tabs and CR.
 pub fn has_line(word: &[u8], text: &[u8]) -> bool
     ensures { result ≡ says.has_line word.now text.now }
 {
@@ -45,7 +45,7 @@ pub fn has_line(word: &[u8], text: &[u8]) -> bool
         .any(|line| is_line(word, line))
 }
 
-/// Whether a line of a drill file has no hole.
+/// Whether a line has no hole: it is empty, `M30` or `%`.
 fn is_holeless(line: &[u8]) -> bool
     ensures { result ≡ says.is_holeless line.now }
 {
@@ -75,7 +75,8 @@ fn is_gerber(text: &[u8]) -> bool
         || contains(text, b"M02*")
 }
 
-/// The kind of a text: Gerber where it has one of the texts `%FS`, `D02*`, `D03*` and `M02*`, drill where a line is `M48` or `M30`.
+/// The kind of a text: Gerber where it contains `%FS`, `D02*`, `D03*` or `M02*`, drill where a line is `M48` or `M30`. A drill
+/// file without `M48` is empty where each line is empty, `M30` or `%`.
 pub fn kind_of(text: &[u8]) -> Kind
     ensures { result ≡ says.kind_of text.now }
 {
@@ -102,7 +103,7 @@ fn ends_function(byte: u8) -> bool
     byte == b'*' || byte == b'%' || byte == b'\r' || byte == b'\n'
 }
 
-/// What stands before the first byte that ends a file function.
+/// The bytes before the first one that ends a file function.
 fn before_end(text: &[u8]) -> &[u8]
     ensures { result.now ≡ before_first ends_function text.now }
 {
@@ -114,7 +115,7 @@ fn before_end(text: &[u8]) -> &[u8]
     text
 }
 
-/// The fields of a text's last file function: what stands behind the last `.FileFunction,` up to an asterisk, a percent sign, CR, LF
+/// The fields of a text's last file function: what follows the last `.FileFunction,` up to an asterisk, a percent sign, CR, LF
 /// or the end (Gerber Layer Format Specification 2024.05, section 5.6.3).
 pub fn function_of(text: &[u8]) -> Option<&[u8]>
     ensures { option_map (λ fields. fields.now) result ≡ says.function_of text.now }
@@ -125,7 +126,7 @@ pub fn function_of(text: &[u8]) -> Option<&[u8]>
     }
 }
 
-/// What stands before the first comma, and what stands behind it.
+/// The bytes before the first comma, and those after it; all and none where there is no comma.
 fn at_comma(text: &[u8]) -> (&[u8], &[u8])
     ensures before { result.0.now ≡ before_first is_comma text.now }
     ensures behind { result.1.now ≡ after_first is_comma text.now }
@@ -146,7 +147,7 @@ pub struct Fields<'a> {
     pub third: &'a [u8],
 }
 
-/// The fields of a file function.
+/// The first three fields of a file function: `Copper`, `L1` and `Top` of `Copper,L1,Top`.
 pub fn fields_of(function: &[u8]) -> Fields<'_>
     ensures first { result.first.now ≡ says.field 0 function.now }
     ensures second { result.second.now ≡ says.field 1 function.now }

@@ -9,7 +9,7 @@ use grid_units::numbers::{capped_value, is_digit, is_digits};
 use memchr::memrchr;
 use std::alloc::{AllocError, Global};
 
-/// A name behind its last slash.
+/// What follows the last slash of a name, or the whole name where it has none.
 pub fn short_name(name: &[u8]) -> &[u8]
     ensures { result.now ≡ says.short_name name.now }
 {
@@ -38,7 +38,7 @@ pub fn runs(alloc: Global, name: &[u8]) -> Result<Vec<&[u8]>, AllocError>
         .collect(alloc)
 }
 
-/// Whether a point stands behind the last slash of a name.
+/// Whether a name has a point after its last slash.
 pub fn has_point(name: &[u8]) -> bool
     ensures { result ≡ says.has_point name.now }
 {
@@ -62,7 +62,7 @@ pub fn end_of<'a>(point: bool, words: &[&'a [u8]]) -> &'a [u8]
     if point { last(words) } else { &[] }
 }
 
-/// The words of a name but its end.
+/// The stem of a name: its words without its end, all of them where it has no point.
 pub fn stem_of<'w, 'a>(point: bool, words: &'w [&'a [u8]]) -> &'w [&'a [u8]]
     ensures { map (λ word. word.now) result.now ≡ says.stem_of point (map (λ word. word.now) words.now) }
 {
@@ -77,7 +77,7 @@ pub fn is_among(word: &[u8], these: &[&str]) -> bool
     these.iter().any(|one| one.as_bytes() == word)
 }
 
-/// The number that one to so many digits spell, at most nine.
+/// The number that a text spells, if it is one to `most` digits; at most nine are allowed.
 fn number_of(most: usize, text: &[u8]) -> Option<u32>
     requires { most ≤ 9 }
     ensures { result ≡ says.number_of most text.now }
@@ -88,14 +88,14 @@ fn number_of(most: usize, text: &[u8]) -> Option<u32>
     Some(capped_value(text, 999_999_999) as u32)
 }
 
-/// The number that one to nine digits spell.
+/// The number that a text spells, if it is one to nine digits.
 pub fn layer_number(text: &[u8]) -> Option<u32>
     ensures { result ≡ says.number_of 9 text.now }
 {
     number_of(9, text)
 }
 
-/// A word before its first digit, and from it on.
+/// A word before its first digit, and from that digit on.
 fn at_digit(word: &[u8]) -> (&[u8], &[u8])
     ensures letters { result.0.now ≡ says.letters_of word.now }
     ensures digits { result.1.now ≡ says.digits_of word.now }
@@ -108,7 +108,7 @@ fn at_digit(word: &[u8]) -> (&[u8], &[u8])
     (word, &[])
 }
 
-/// The number of a word that is one of these and one or two digits.
+/// The number of a word that is one of these and then one or two digits: 2 of `in2`.
 pub fn numbered(these: &[&str], word: &[u8]) -> Option<u32>
     ensures { result ≡ says.numbered (map (λ one. one.now) these.now) word.now }
 {
@@ -120,7 +120,7 @@ pub fn numbered(these: &[&str], word: &[u8]) -> Option<u32>
     }
 }
 
-/// Whether a word says that a layer is of copper.
+/// Whether a word is one for copper: `cu`, `copper` or `layer`.
 fn is_copper_word(word: &[u8]) -> bool
     ensures { result ≡ says.is_copper_word word.now }
 {
@@ -162,14 +162,14 @@ fn has_unplated_word(words: &[&[u8]]) -> bool
     words.iter().any(|word| is_among(word, &["npth", "unplated", "nonplated", "nplt"]))
 }
 
-/// Whether words say that holes are not plated.
+/// Whether the words of a name say that holes are not plated: one of them does, or `non` stands right before `plated`.
 pub fn names_unplated(words: &[&[u8]]) -> bool
     ensures { result ≡ says.names_unplated (map (λ word. word.now) words.now) }
 {
     has_unplated_word(words) || has_non_plated(words)
 }
 
-/// What stands behind the last slash of a name, its capitals `A` to `Z` made small: its runs are the words of the name.
+/// What follows the last slash of a name, with `A` to `Z` in lower case. Its runs are the words of the name.
 ///
 /// # Errors
 ///

@@ -1,4 +1,4 @@
-//! What the files of a package say, with each flash of its copper files.
+//! The board of a package, with each flash of its copper files.
 #![tactic(auto)]
 
 mod reader;

@@ -1,4 +1,4 @@
-//! A package whose files are taken one after the other, and the flashes of whose copper files are kept.
+//! A reader of a package, which takes its files one after the other and keeps the flashes of the copper files.
 
 ghost use Rattle.std.specs.Prelude.{◌≡◌, ◌++◌, ◌∷◌, ℕ, List, [], Err, IfOk, OnErr, OnOk, alloc_error, map};
 ghost use Rattle.std.specs.List.{concat};
@@ -12,12 +12,12 @@ use package_check::{Board, File, PackageFault, PackageReader, Role, Span, layer_
 use std::alloc::{AllocError, Global};
 use std::marker::Model;
 
-/// What the files of a package say, with the flashes of each copper file.
+/// The board of a package, with the flashes of each copper file.
 #[derive(Drop)]
 pub struct FlashedBoard {
-    /// What they say, all of them together.
+    /// The board of the package: what all of its files say together.
     pub board: Board,
-    /// The flashes of each file, in the order of the files. Those of a drill file say nothing.
+    /// The flashes of each file, in the order of the files. The list of a drill file says nothing.
     pub flashes: Vec<Vec<Flash>>,
 }
 
@@ -31,7 +31,7 @@ impl Model for FlashedBoard {
 }
 
 impl FlashedBoard {
-    /// What the files say, without their flashes.
+    /// The board of the package, without its flashes.
     pub fn board(&self) -> &Board
         ensures { result.now ≡ self.now.board }
     {
@@ -63,7 +63,7 @@ impl FlashedReader {
     }
 
     /// Takes the next file of the package, whose text comes in these pieces. A file that is refused is no error here:
-    /// [`FlashedReader::finish`] tells of the first of them.
+    /// [`FlashedReader::finish`] returns the first of them.
     ///
     /// # Errors
     ///
@@ -89,7 +89,7 @@ impl FlashedReader {
         taken
     }
 
-    /// Takes the next file, where no memory was lacking so far.
+    /// Takes the next file, where memory has not run out so far.
     fn take_next(
         &mut self,
         role: Role,
@@ -105,7 +105,7 @@ impl FlashedReader {
         push(&mut self.flashes, its)
     }
 
-    /// What the files that were taken say, all of them together, and the flashes of each.
+    /// The board of the files that were taken, with the flashes of each copper file.
     ///
     /// # Errors
     ///
@@ -148,7 +148,7 @@ fn reader_of(alloc: Global, files: &[File]) -> Result<FlashedReader, AllocError>
     Ok(reader)
 }
 
-/// What the files say, all of them together, and the flashes of each.
+/// The board of the files, with the flashes of each copper file.
 ///
 /// # Errors
 ///

@@ -71,7 +71,7 @@ fits_operation plotting (b ∷ bs) h = elim (either (eqb b 88) (eqb b 89) h) [
   | inr y ↦ subst (λ c. first_fit (words plotting (c ∷ bs)) ≡ cond (is_operation (fields (c ∷ bs))) (operate plotting None (fields (c ∷ bs))) (Err BadWord)) (sym (eqb-true b 89 y)) (fits_y plotting bs)
 ]
 
--- ---- behind an interpolation
+-- ---- after an interpolation
 
 nothing_linear : (b : ℕ) (bs : List ℕ) → nothing_row (71 ∷ 48 ∷ 49 ∷ b ∷ bs) ≡ None
 unfolding nothing_row
@@ -130,7 +130,7 @@ fits_counterclockwise plotting b bs =
     by true = refl
     by false = refl
 
--- an interpolation that may stand in front leaves no row but that of operations
+-- a word with an optional interpolation and a coordinate fits no row but that of operations
 pub fits_front : (plotting : Bool) (m : Option Interpolation) (tail : List ℕ) → 0 < length tail → (is_some m || begins_with_coordinate tail) ≡ true → first_fit (words plotting (front_word m ++ tail)) ≡ cond (is_operation (fields tail)) (operate plotting m (fields tail)) (Err BadWord)
 fits_front plotting None tail some h = fits_operation plotting tail h
 fits_front plotting (Some m) [] some h = absurd (omega (arith, some))

@@ -6,7 +6,7 @@ use Rattle.std.proofs.lemmas.List.Concat.{flat_map-append}
 use Rattle.grid_units.specs.Spellings.{canonical}
 use Rattle.gerber_rows.specs.Canonical.{sizes_text}
 
--- one more element is written behind the others
+-- one more element is written after the others
 pub written_more : {A : Type 0} (f : A → List ℕ) (xs : List A) (i : ℕ) (x : A) (old now next added : List ℕ) → i < length xs → x ≡ get_or xs i x → now ≡ old ++ flat_map f (take i xs) → next ≡ now ++ added → added ≡ f x → next ≡ old ++ flat_map f (take (i + 1) xs)
 written_more f xs i x old now next added lt is before after same =
     let front = flat_map f (take i xs) in
@@ -18,12 +18,12 @@ written_more f xs i x old now next added lt is before after same =
 pub written_all : {A : Type 0} (f : A → List ℕ) (xs : List A) (i : ℕ) (old now : List ℕ) → length xs ≤ i → now ≡ old ++ flat_map f (take i xs) → now ≡ old ++ flat_map f xs
 written_all f xs i old now le is = is ∙ ap (λ ys. old ++ flat_map f ys) (take_all i xs le)
 
--- parameters that are joined are the first, and `X` before each other
+-- joined parameters are the first one, and an `X` before each other
 pub sizes_joined : (v : ℤ) (vs : List ℤ) → sizes_text (v ∷ vs) ≡ canonical v ++ flat_map (λ w. 88 ∷ canonical w) vs
 sizes_joined v [] = sym (append-nil (canonical v))
 sizes_joined v (w ∷ vs) = ap (λ (t : List ℕ). canonical v ++ 88 ∷ t) (sizes_joined w vs)
 
--- the first parameter and those behind it are all
+-- the first parameter and those after it are all parameters
 pub sizes_parts : (sizes : List ℤ) (first : ℤ) (old middle new : List ℕ) → 1 ≤ length sizes → first ≡ get_or sizes 0 first → middle ≡ old ++ canonical first → new ≡ middle ++ flat_map (λ (w : ℤ). 88 ∷ canonical w) (take (length sizes - 1) (drop 1 sizes)) → new ≡ old ++ sizes_text sizes
 sizes_parts [] first old middle new le is before after = absurd (omega arith)
 sizes_parts (v ∷ vs) first old middle new le is before after =

@@ -17,7 +17,7 @@ front_zero true b bs e h =
     ap (λ k. value (drop k (b ∷ bs))) n ∙ (h ∙ ap (λ d. value (d ∷ bs)) (sym z))
 front_zero false b bs e h = refl
 
--- zeros in front change nothing
+-- leading zeros do not change the value
 pub value_significant : (digits : List ℕ) → value (significant digits) ≡ value digits
 value_significant [] = refl
 value_significant (b ∷ bs) = front_zero (eqb b 48) b bs refl (value_significant bs)

@@ -8,7 +8,7 @@ use Rattle.grid_units.specs.Reasons.{number_of}
 use Rattle.grid_units.specs.Results.{◌>>=◌, both, first_reason}
 use Rattle.gerber_rows.specs.Inner.Parameters.{with_one_more}
 
--- what was read before and what is read behind it
+-- the parameters read before, and those read after them
 abbrev pub joined : Result (List ℤ) Reason → Result (List ℤ) Reason → Result (List ℤ) Reason
 joined before behind = both before behind >>= λ p. Ok (p.0 ++ p.1)
 
@@ -25,7 +25,7 @@ first_by a b c false false false ab bc ac = ap (λ t. cond t b c) bc ∙ sym (ap
 first_of_three : (a b c : Reason) → first_reason (first_reason a b) c ≡ first_reason a (first_reason b c)
 first_of_three a b c = first_by a b c (leb (number_of a) (number_of b)) (leb (number_of b) (number_of c)) (leb (number_of a) (number_of c)) refl refl refl
 
--- one more parameter is the last of those before, as it is the first of those behind
+-- one more parameter is the last of those before, as it is the first of those after
 pub one_more : (before : Result (List ℤ) Reason) (one : Result ℤ Reason) (behind : Result (List ℤ) Reason) → joined (with_one_more before one) behind ≡ joined before (both one behind >>= λ p. Ok (p.0 ∷ p.1))
 one_more (Ok xs) (Ok x) (Ok ys) = ap (λ (l : List ℤ). Ok l) (append_assoc xs (x ∷ []) ys)
 one_more (Ok xs) (Ok x) (Err c) = refl
@@ -36,7 +36,7 @@ one_more (Err a) (Ok x) (Err c) = refl
 one_more (Err a) (Err b) (Ok ys) = refl
 one_more (Err a) (Err b) (Err c) = ap (λ (r : Reason). Err r) (first_of_three a b c)
 
--- where there was room for the parameters that are left, there is for those behind the first of them
+-- where there was room for the parameters left, there is room for those after the first of them
 pub room_left : (before : Result (List ℤ) Reason) (one : Result ℤ Reason) (n m : ℕ) → IfOk before (λ s. length s + n ≤ 5) → n ≡ suc m → IfOk (with_one_more before one) (λ s. length s + m ≤ 5)
 room_left (Ok xs) (Ok x) n m h e = omega (arith, h, e, length-append xs (x ∷ []))
 room_left (Ok xs) (Err b) n m h e = tt
@@ -48,7 +48,7 @@ pub none_before : (behind : Result (List ℤ) Reason) → joined (Ok []) behind 
 none_before (Ok ys) = refl
 none_before (Err c) = refl
 
--- nothing is read behind
+-- nothing is read after these parameters
 pub none_behind : (before : Result (List ℤ) Reason) → joined before (Ok []) ≡ before
 none_behind (Ok xs) = ap (λ (l : List ℤ). Ok l) (append-nil xs)
 none_behind (Err a) = refl

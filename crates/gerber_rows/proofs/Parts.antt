@@ -50,7 +50,7 @@ sizes_are_not aperture text a p not_so =
 
 -- ---- the first part
 
--- how much is left of a text that may be there
+-- a measure of an optional text that is left: 0 for none, else one more than its bytes
 abbrev pub left_of : Option (List ℕ) → ℕ
 left_of None = 0
 left_of (Some text) = suc (length text)

@@ -1,4 +1,4 @@
--- Operations that are spelled as most are.
+-- Operations that are written as most are: `G01X10Y20D01*`.
 use Rattle.std.proofs.Common.{◌≡◌, ◌≢◌, ℕ, zero, suc, ◌+◌, ◌-◌, ◌<◌, ◌≤◌, Bool, true, false, cond, eqb, ◌||◌, List, [], ◌∷◌, ◌++◌, length, take, drop, get_or, Option, None, Some, Result, Ok, Err, refl, sym, ap, subst, ◌∙◌, arith, append_assoc}
 use Rattle.std.specs.Prelude.{ℤ, pos, neg_ℤ, is_some, not, IfSome}
 use Rattle.std.specs.List.{list_any, take_while, prefix_len, AllByRecursion}
@@ -100,7 +100,7 @@ code_ends Plot = refl
 code_ends Move = refl
 code_ends Flash = refl
 
--- the fields of an operation by these coordinates
+-- the fields of an operation with these coordinates
 abbrev pub found : Option (List ℕ) → Option (List ℕ) → Option (List ℕ) → Option (List ℕ) → Action → Fields
 found x y i j action = record { x = x; y = y; i = i; j = j; d = Some (48 ∷ digit_of action ∷ []); rest = [] }
 
@@ -135,7 +135,7 @@ at_code x y i j Plot = refl
 at_code x y i j Move = refl
 at_code x y i j Flash = refl
 
--- a run of this letter ends where such bytes begin
+-- a run of this letter ends where these bytes begin
 record Heads (letter : ℕ) (tail : List ℕ) : Type 0 where
   pub first : ℕ
   pub others : List ℕ
@@ -153,7 +153,7 @@ heads_word letter l (Some run) tail a d h = record { first = l; others = run ++ 
 field_at : (letter : ℕ) (run : Option (List ℕ)) (tail : List ℕ) → IfSome run (AllByRecursion (λ x. is_number x ≡ true)) → Heads letter tail → field is_number letter (coordinate_word letter run ++ tail) ≡ (run, tail)
 field_at letter run tail h k = subst (λ (t : List ℕ). field is_number letter (coordinate_word letter run ++ t) ≡ (run, t)) (sym k.is) (field_there letter run k.first k.others h k.away k.differs)
 
--- what stands from each letter on
+-- the bytes of an operation from one letter on
 abbrev pub tail_j : Option (List ℕ) → Action → List ℕ
 tail_j j action = coordinate_word 74 j ++ code action
 
@@ -166,7 +166,7 @@ tail_y y i j action = coordinate_word 89 y ++ tail_i i j action
 abbrev pub tail_x : Option (List ℕ) → Option (List ℕ) → Option (List ℕ) → Option (List ℕ) → Action → List ℕ
 tail_x x y i j action = coordinate_word 88 x ++ tail_y y i j action
 
--- each run that stands there is of number characters
+-- the run, if it stands, has number characters alone
 abbrev pub AreNumbers : Option (List ℕ) → Type 0
 AreNumbers run = IfSome run (AllByRecursion (λ b. is_number b ≡ true))
 
@@ -216,7 +216,7 @@ fits None None None None action = names_found action
 
 -- ---- its bytes
 
--- neither a mark nor a line break
+-- neither `%` nor `*`, and no line break
 abbrev pub Stays : ℕ → Type 0
 Stays b = (eqb b 37 ≡ false) × (eqb b 42 ≡ false) × (is_line_break b ≡ false)
 
@@ -301,7 +301,7 @@ front_of_push w b =
     let n : length (w ++ b ∷ []) - 1 ≡ length w = omega (arith, length-append w (b ∷ [])) in
     ap (λ k. take k (w ++ b ∷ [])) n ∙ take-append_seam w (b ∷ [])
 
--- an item that begins with no mark
+-- an item that does not begin with `%`
 item_means : (plotting : Bool) (b : ℕ) (bs : List ℕ) → eqb b 37 ≡ false → meaning plotting ((b ∷ bs) ++ 42 ∷ []) ≡ word plotting (b ∷ bs)
 unfolding meaning
 item_means plotting b bs other = ap (λ t. cond t (extended (front_of (bs ++ 42 ∷ []))) (word plotting (front_of ((b ∷ bs) ++ 42 ∷ [])))) other ∙ ap (word plotting) (front_of_push (b ∷ bs) 42)
@@ -330,7 +330,7 @@ stands_by (b ∷ bs) commands some h k = record {
   says = λ plotting. item_means plotting b bs h.0.0 ∙ k plotting;
 }
 
--- the bytes of such an item
+-- the bytes of such an item, with its `*`
 abbrev pub item_of : Option Interpolation → Option (List ℕ) → Option (List ℕ) → Option (List ℕ) → Option (List ℕ) → Action → List ℕ
 item_of m x y i j action = front_word m ++ (coordinate_word 88 x ++ (coordinate_word 89 y ++ (coordinate_word 73 i ++ (coordinate_word 74 j ++ action_code action))))
 
@@ -352,7 +352,7 @@ unfolding coordinate
 same_coordinate None v h = let e : None ≡ v = cc in ap is_some e
 same_coordinate (Some run) v h = let b = bind_ok (int_of run) (λ n. Ok (Some n)) v h in sym (same_some b.0 v b.2)
 
--- a coordinate that stands there, and one that does not
+-- a coordinate that stands, and one that is left out
 pub coordinate_there : (letter : ℕ) (bytes rest : List ℕ) (n z : ℤ) → 0 < length bytes → get_or bytes 0 0 ≡ letter → z ≡ n → BeginsWithInt (take (length bytes - 1) (drop 1 bytes)) n rest → BeginsWithCoordinate letter bytes (Some z) rest
 unfolding coordinate
 coordinate_there letter [] rest n z some is same h = absurd (omega arith)
@@ -391,7 +391,7 @@ front_long (Some Linear) = omega arith
 front_long (Some Clockwise) = omega arith
 front_long (Some Counterclockwise) = omega arith
 
--- an interpolation that may stand in front, coordinates and a code make an item
+-- an optional interpolation, coordinates and a D code make an item
 pub plain_item : (bytes behind_m behind_x behind_y behind_i rest more : List ℕ) (m : Option Interpolation) (v w s t : Option ℤ) (action : Action) → bytes ≡ front_word m ++ behind_m → BeginsWithCoordinate 88 behind_m v behind_x → BeginsWithCoordinate 89 behind_x w behind_y → BeginsWithCoordinate 73 behind_y s behind_i → BeginsWithCoordinate 74 behind_i t rest
     → rest ≡ action_code action ++ more → (is_some m || (is_some v || is_some w)) ≡ true → (is_plot action || not (is_some s || is_some t)) ≡ true
     → BeginsWith bytes (length bytes - length rest + 4) (modes_of m ++ Operate action v w s t ∷ [])

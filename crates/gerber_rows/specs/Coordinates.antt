@@ -1,18 +1,18 @@
--- The integers that the coordinates of an operation are kept as.
+-- How an operation keeps a coordinate that may be left out: as one signed integer of 64 bits.
 use Rattle.std.specs.Prelude.{◌≡◌, ℕ, ◌≤◌, ◌⊎◌, ℤ, negsuc, nat_le, unsigned_abs, Option, Some, None, if◌then◌else◌}
 
--- the greatest absolute value that a coordinate may have: that of a signed number of 64 bits (docs/DEFINITIONS.md, Items of a Gerber text)
+-- the greatest absolute value of a coordinate that is kept: 2^63 - 1
 abbrev pub greatest : ℕ
 greatest = 9223372036854775807
 
--- what stands for a coordinate that is left out: the least signed number of 64 bits (docs/DEFINITIONS.md, Items of a Gerber text)
+-- the integer kept for a coordinate that is left out: -2^63, the least signed one of 64 bits
 abbrev pub left_out : ℤ
 left_out = negsuc 9223372036854775807
 
--- the coordinate that is kept as this integer (docs/DEFINITIONS.md, Items of a Gerber text)
+-- the coordinate that is kept as this integer, `None` for `left_out`
 abbrev pub named : ℤ → Option ℤ
 named z = if nat_le (unsigned_abs z) greatest then Some z else None
 
--- a coordinate, or what stands for one that is left out (docs/DEFINITIONS.md, Items of a Gerber text)
+-- an integer that is kept: a coordinate, or `left_out`
 abbrev pub IsStored : ℤ → Type 0
 IsStored z = (unsigned_abs z ≤ greatest) ⊎ (z ≡ left_out)

@@ -1,14 +1,14 @@
--- Items of a Gerber text without its line ends: words, and extended items.
+-- Items of a Gerber text without its line ends: words as `D10*`, extended items as `%MOMM*%` (docs/FORMATS.md, Cutting).
 use Rattle.std.specs.Prelude.{◌≡◌, ◌≢◌, ℕ, Bool, ◌||◌, ◌==◌, List, [], ◌∷◌, ◌++◌, if◌then◌else◌, codes}
 use Rattle.std.specs.List.{AllByRecursion}
 use Rattle.std.specs.Str.{bytes_eq}
 use Rattle.grid_units.specs.Ascii as ascii
 
--- CR or LF, which are dropped wherever they stand (docs/FORMATS.md, Cutting)
+-- CR or LF, which are dropped wherever they stand, also inside a name or a number
 abbrev pub is_line_break : ℕ → Bool
 is_line_break b = (b == ascii.line_feed) || (b == ascii.carriage_return)
 
--- the byte that ends an item which begins so: `%` an extended item, `*` a word (Gerber format, Commands)
+-- the byte that ends an item with this beginning: `%` where it begins with `%`, else `*` (Gerber format, Commands)
 abbrev pub ender : List ℕ → ℕ
 ender [] = ascii.asterisk
 ender (b ∷ bs) = if b == ascii.percent then ascii.percent else ascii.asterisk
@@ -18,20 +18,20 @@ abbrev pub behind_percent : List ℕ → List ℕ
 behind_percent [] = []
 behind_percent (b ∷ bs) = if b == ascii.percent then bs else b ∷ bs
 
--- the bytes have not come to the end of their item (docs/FORMATS.md, Cutting)
+-- no byte, an opening `%` apart, ends the item: so in `%MOMM*` and `X10`, and where there are no bytes yet
 abbrev pub IsUnfinished : List ℕ → Type 0
 IsUnfinished bytes = AllByRecursion (λ b. b ≢ ender bytes) (behind_percent bytes)
 
--- an item: a word and its `*`, or an extended item between its two `%` (docs/FORMATS.md, Cutting)
+-- just one item: a word with its `*`, as `M02*`, or an extended item with both its `%`, as `%LPD*%`
 pub record IsItem (bytes : List ℕ) : Type 0 where
   pub front : List ℕ
   pub unfinished : IsUnfinished front
   pub whole : bytes ≡ front ++ ender front ∷ []
 
--- the last byte is the end of an item that begins as the bytes before it do (docs/FORMATS.md, Cutting)
+-- the last byte ends an item with this beginning; unlike in `IsItem`, such a byte may stand earlier too
 abbrev pub IsEnded : List ℕ → Type 0
 IsEnded bytes = (front : List ℕ) × (bytes ≡ front ++ ender front ∷ [])
 
--- `M02` or `M2`, the end of the text (Gerber format, End-of-file M02)
+-- `M02*` or `M2*`, the end of the text (Gerber format, End-of-file M02)
 abbrev pub is_end : List ℕ → Bool
 is_end bytes = bytes_eq bytes (codes "M02*") || bytes_eq bytes (codes "M2*")

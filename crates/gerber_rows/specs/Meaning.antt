@@ -1,4 +1,4 @@
--- What an item spells.
+-- What an item spells (docs/FORMATS.md, How a row fits and is read).
 use Rattle.std.specs.Prelude.{ℕ, ◌-◌, Bool, ◌==◌, List, [], ◌∷◌, length, take, if◌then◌else◌, Err}
 use Rattle.grid_units.specs.declared.fault.Reason.TheVariants.{BadWord}
 use Rattle.gerber_rows.specs.Rows.{Meaning}
@@ -6,11 +6,11 @@ use Rattle.gerber_rows.specs.Pieces.{extended}
 use Rattle.gerber_rows.specs.Words.{word}
 use Rattle.grid_units.specs.Ascii as ascii
 
--- all bytes but the last, which ends the item (docs/FORMATS.md, Cutting)
+-- all bytes but the last, which ends the item: `D10` of `D10*` (docs/FORMATS.md, Cutting)
 abbrev pub front_of : List ℕ → List ℕ
 front_of bytes = take (length bytes - 1) bytes
 
--- what an item spells, where the last operation before it was a plot or not (docs/FORMATS.md, How a row fits and is read)
+-- what an item spells, given whether the last operation before it is a plot: `D10*` spells Select(10)
 unfoldable pub meaning : Bool → List ℕ → Meaning
 meaning plotting [] = Err BadWord
 meaning plotting (b ∷ bs) = if b == ascii.percent then extended (front_of bs) else word plotting (front_of (b ∷ bs))

@@ -1,4 +1,4 @@
--- Items at the start of a text, and the words that most items are.
+-- Operations at the start of a text, written as most are: `G01X10Y20D01*`.
 use Rattle.std.specs.Prelude.{◌≡◌, ℕ, ◌<◌, ◌≤◌, Bool, true, false, List, [], ◌∷◌, ◌++◌, length, take, Option, None, Some, IfSome, Ok, codes, ℤ}
 use Rattle.std.specs.List.{AllByRecursion}
 use Rattle.grid_units.specs.Numbers.{is_number}
@@ -10,8 +10,8 @@ use Rattle.gerber_rows.specs.Meaning.{meaning}
 use Rattle.gerber_rows.specs.Numbers.{int_of}
 use Rattle.gerber_rows.specs.Words.{coordinate}
 
--- The bytes begin with an item of this length and without line breaks, which spells just these commands, whatever stands
--- before it, and is not the end of the text (docs/FORMATS.md, Cutting).
+-- The bytes begin with an item of this length, at most 64, without line breaks and not the end of the text. Whatever stands
+-- before it, it spells just these commands (docs/FORMATS.md, Cutting).
 pub record BeginsWith (bytes : List ℕ) (len : ℕ) (commands : List Command) : Type 0 where
   pub some : 0 < len
   pub within : len ≤ length bytes
@@ -21,7 +21,7 @@ pub record BeginsWith (bytes : List ℕ) (len : ℕ) (commands : List Command) :
   pub goes_on : is_end (take len bytes) ≡ false
   pub says : (plotting : Bool) → meaning plotting (take len bytes) ≡ Ok commands
 
--- The bytes are number characters that spell this integer, and this rest (docs/FORMATS.md, Runs).
+-- The bytes are an Int of this value, at most 13 bytes long, and this rest: `-50Y3` is -50 and `Y3` (docs/FORMATS.md, Runs).
 pub record BeginsWithInt (bytes : List ℕ) (n : ℤ) (rest : List ℕ) : Type 0 where
   pub run : List ℕ
   pub whole : bytes ≡ run ++ rest
@@ -29,19 +29,19 @@ pub record BeginsWithInt (bytes : List ℕ) (n : ℤ) (rest : List ℕ) : Type 0
   pub short : length run ≤ 13
   pub value : int_of run ≡ Ok n
 
--- the word of an interpolation in front of an operation, or nothing (Gerber format, Plot state G01, G02, G03)
+-- the word of an interpolation before an operation, `G01` for a line, or nothing (Gerber format, Plot state G01, G02, G03)
 abbrev pub front_word : Option Interpolation → List ℕ
 front_word None = []
 front_word (Some Linear) = codes "G01"
 front_word (Some Clockwise) = codes "G02"
 front_word (Some Counterclockwise) = codes "G03"
 
--- a coordinate's letter and its run, or nothing where it is left out (Gerber format, Coordinate data)
+-- the letter and run of a coordinate, as `X10`; nothing where it is left out (Gerber format, Coordinate data)
 abbrev pub coordinate_word : ℕ → Option (List ℕ) → List ℕ
 coordinate_word letter None = []
 coordinate_word letter (Some run) = letter ∷ run
 
--- The bytes are a coordinate of this letter and value, which may be left out, and this rest (Gerber format, Coordinate data).
+-- The bytes are a coordinate of this letter and value, or none where it is left out, and this rest (Gerber format, Coordinate data).
 pub record BeginsWithCoordinate (letter : ℕ) (bytes : List ℕ) (value : Option ℤ) (rest : List ℕ) : Type 0 where
   pub run : Option (List ℕ)
   pub whole : bytes ≡ coordinate_word letter run ++ rest

@@ -1,4 +1,4 @@
--- What a word spells: the rows of the table of words, in its order.
+-- What a word spells: the rows of its table, in their order (docs/FORMATS.md, Words; How a row fits and is read).
 use Rattle.std.specs.Prelude.{ℕ, Bool, true, false, not, ◌&&◌, ◌||◌, ◌==◌, nat_le, List, [], ◌∷◌, ◌++◌, length, drop, if◌then◌else◌, Option, None, Some, unwrap_or, is_some, Result, Ok, Err, is_ok, codes, ℤ}
 use Rattle.std.specs.Option.{option_map, option_or}
 use Rattle.std.specs.List.{list_any, list_all, prefix_len, take_while}
@@ -19,125 +19,125 @@ use Rattle.grid_units.specs.Rows.{behind, just}
 use Rattle.gerber_rows.specs.Rows.{Meaning, Row, first_fit, field, modes_of}
 use Rattle.grid_units.specs.Ascii as ascii
 
--- the bytes are just these (docs/FORMATS.md, How a row fits and is read)
+-- the text is just this literal, byte by byte
 abbrev pub is : List ℕ → List ℕ → Bool
 is text literal = bytes_eq text literal
 
 -- ---- empty; `G90`: nothing
 
--- nothing: the empty word, and absolute coordinates (Gerber format, Deprecated G90)
+-- the empty word, and `G90` for absolute coordinates, spell nothing (Gerber format, Deprecated G90)
 unfoldable pub nothing_row : List ℕ → Row
 nothing_row text = if (length text == 0) || is text (codes "G90") then Some (Ok []) else None
 
 -- ---- `G04` text
 
--- what stands before the first comma (Gerber format, Attributes)
+-- the text up to the first comma: `.FileFunction` of `.FileFunction,Copper,L1,Top` (Gerber format, Attributes)
 abbrev pub first_field : List ℕ → List ℕ
 first_field text = take_while (λ b. not (b == ascii.comma)) text
 
--- a file attribute that makes the image negative (Gerber format, .FilePolarity)
+-- a file attribute that makes the image negative: `.FilePolarity,Negative` (Gerber format, .FilePolarity)
 abbrev pub is_negative_image : List ℕ → Bool
 is_negative_image attribute = unwrap_or (option_map (λ value. is (first_field value) (codes "Negative")) (behind (codes ".FilePolarity,") attribute)) false
 
--- the text from its first byte on that is no space (docs/FORMATS.md, How a row fits and is read)
+-- the text without the spaces at its start
 abbrev pub behind_spaces : List ℕ → List ℕ
 behind_spaces text = drop (prefix_len (λ b. b == ascii.space) text) text
 
--- a comment that holds such a file attribute (Gerber format, Attributes in comments)
+-- a comment with such an attribute: ` #@! TF.FilePolarity,Negative` (Gerber format, Attributes in comments)
 abbrev pub comments_negative : List ℕ → Bool
 comments_negative text = unwrap_or (option_map is_negative_image (behind (codes "#@! TF") (behind_spaces text))) false
 
--- a comment (Gerber format, Comment G04)
+-- a comment of this text, or NegativeImage (Gerber format, Comment G04)
 unfoldable pub comment : List ℕ → Meaning
 comment text = if comments_negative text then Err NegativeImage else Ok (Comment text ∷ [])
 
--- `G04` text (Gerber format, Comment G04)
+-- `G04` and any text, as `G04 top copper` (Gerber format, Comment G04)
 abbrev pub comment_row : List ℕ → Row
 comment_row text = option_map comment (behind (codes "G04") text)
 
 -- ---- `G01`, `G02`, `G03` (or `G1`, `G2`, `G3`)
 
--- the words of the interpolations (Gerber format, Plot state G01, G02, G03)
+-- the words of a line, a clockwise and a counterclockwise arc, with two digits or one (Gerber format, Plot state G01, G02, G03)
 abbrev pub interpolations : List (List ℕ × Interpolation)
 interpolations =
     (codes "G01", Linear) ∷ (codes "G1", Linear) ∷ (codes "G02", Clockwise) ∷ (codes "G2", Clockwise) ∷ (codes "G03", Counterclockwise) ∷ (codes "G3", Counterclockwise) ∷ []
 
--- the first of these words with which the text begins, and what stands after it (docs/FORMATS.md, How a row fits and is read)
+-- the first of these words that the text begins with, and the bytes after it; all bytes where it begins with none
 abbrev pub first_word : List (List ℕ × Interpolation) → List ℕ → Option Interpolation × List ℕ
 first_word [] text = (None, text)
 first_word (w ∷ words) text = unwrap_or (option_map (λ rest. (Some w.1, rest)) (behind w.0 text)) (first_word words text)
 
--- the interpolation in front of a word, and what stands after it (docs/FORMATS.md, How a row fits and is read)
+-- the interpolation at the start of a word, and the bytes after it: `G01X5D01` gives Linear and `X5D01`
 unfoldable pub mode_front : List ℕ → Option Interpolation × List ℕ
 mode_front text = first_word interpolations text
 
--- an interpolation alone (Gerber format, Plot state G01, G02, G03)
+-- an interpolation alone, as `G02` (Gerber format, Plot state G01, G02, G03)
 unfoldable pub mode_row : List ℕ → Row
 mode_row text = if length (mode_front text).1 == 0 then option_map (λ mode. Ok (Mode mode ∷ [])) (mode_front text).0 else None
 
 -- ---- `G74`, `G75`; `G36`, `G37`; `G70`, `G71`; `G91`
 
--- how an arc's centre is found (Gerber format, G75 and G74)
+-- how the centre of an arc is found: `G74` in a single quadrant, `G75` in several (Gerber format, G75 and G74)
 unfoldable pub quadrant_row : List ℕ → Row
 quadrant_row text = just ((codes "G74", Ok (Quadrant Single ∷ [])) ∷ (codes "G75", Ok (Quadrant Multi ∷ [])) ∷ []) text
 
--- the ends of a region (Gerber format, Region statement G36/G37)
+-- `G36` starts a region, `G37` ends it (Gerber format, Region statement G36/G37)
 unfoldable pub region_row : List ℕ → Row
 region_row text = just ((codes "G36", Ok (RegionStart ∷ [])) ∷ (codes "G37", Ok (RegionEnd ∷ [])) ∷ []) text
 
--- the unit (Gerber format, Deprecated G70 and G71)
+-- the unit by an older code: `G70` is inch, `G71` millimetre (Gerber format, Deprecated G70 and G71)
 unfoldable pub unit_row : List ℕ → Row
 unit_row text = just ((codes "G70", Ok (UnitIs Inch ∷ [])) ∷ (codes "G71", Ok (UnitIs Millimetre ∷ [])) ∷ []) text
 
--- incremental coordinates, which are refused (Gerber format, Deprecated G91)
+-- `G91`, incremental coordinates, which are refused (Gerber format, Deprecated G91)
 unfoldable pub incremental_row : List ℕ → Row
 incremental_row text = just ((codes "G91", Err Incremental) ∷ []) text
 
 -- ---- `D` Nat; `G54D` Nat
 
--- the operation of a D code (Gerber format, Operations D01, D02, D03)
+-- the operation of a D code: 1 plots, 2 moves, 3 flashes, any other is BadWord (Gerber format, Operations D01, D02, D03)
 abbrev pub action : ℕ → Result Action Reason
 action n = if n == 1 then Ok Plot else if n == 2 then Ok Move else if n == 3 then Ok Flash else Err BadWord
 
--- the run behind this prefix, where the text is the prefix and a digit run (docs/FORMATS.md, How a row fits and is read)
+-- the digits after this prefix, if nothing else follows it: `10` of `D10`, none of `D10X`
 abbrev pub numbered : List ℕ → List ℕ → Option (List ℕ)
 numbered prefix text = if list_all is_digit (unwrap_or (behind prefix text) []) then behind prefix text else None
 
--- `D` and a number: an aperture from 10 on, else an operation without coordinates (Gerber format, Set current aperture Dnn)
+-- `D` and a number: 10 and above selects an aperture, 1 to 3 are operations without coordinates (Gerber format, Set current aperture Dnn)
 unfoldable pub alone : List ℕ → Meaning
 alone digits = nat_of digits >>= λ n. if nat_le 10 n then Ok (Select n ∷ []) else (action n >>= λ what. Ok (Operate what None None None None ∷ []))
 
--- `G54D` and a number: an aperture from 10 on (Gerber format, Deprecated G54)
+-- `G54D` and a number of 10 and above selects an aperture, as `G54D10` (Gerber format, Deprecated G54)
 unfoldable pub prepared : List ℕ → Meaning
 prepared digits = nat_of digits >>= λ n. if nat_le 10 n then Ok (Select n ∷ []) else Err BadWord
 
--- `D` Nat; `G54D` Nat (Gerber format, Set current aperture Dnn)
+-- a D code without coordinates, as `D10`, `D03` or `G54D10` (Gerber format, Set current aperture Dnn)
 unfoldable pub select_row : List ℕ → Row
 select_row text = option_or (option_map alone (numbered (codes "D") text)) (option_map prepared (numbered (codes "G54D") text))
 
 -- ---- [mode] [`X` Int] [`Y` Int] [`I` Int] [`J` Int] [`D` Nat]
 
--- a coordinate, which may be left out (Gerber format, Coordinate data)
+-- the Int of a coordinate's run, or that the coordinate is left out (Gerber format, Coordinate data)
 unfoldable pub coordinate : Option (List ℕ) → Result (Option ℤ) Reason
 coordinate None = Ok None
 coordinate (Some run) = int_of run >>= λ n. Ok (Some n)
 
--- a plot, beside which alone offsets may stand (Gerber format, Operations D01, D02, D03)
+-- `D01`, the only operation that may have the offsets I and J (Gerber format, Operations D01, D02, D03)
 abbrev pub is_plot : Action → Bool
 is_plot Plot = true
 is_plot Move = false
 is_plot Flash = false
 
--- an operation with coordinates; offsets stand with a plot alone (Gerber format, Operations D01, D02, D03)
+-- the operation of a D code, BadWord for a move or flash with an offset I or J (Gerber format, Operations D01, D02, D03)
 abbrev pub action_with : Bool → ℕ → Result Action Reason
 action_with offsets n = action n >>= λ what. if offsets && not (n == 1) then Err BadWord else Ok what
 
--- what an operation with coordinates does: without a number it goes on plotting (Gerber format, Coordinate data without operation code)
+-- the operation by the digits of its D code; without a D code it continues a plot (Gerber format, Coordinate data without operation code)
 unfoldable pub kind : Bool → Bool → Option (List ℕ) → Result Action Reason
 kind plotting offsets None = if plotting then Ok Plot else Err BareCoordinate
 kind plotting offsets (Some digits) = nat_of digits >>= action_with offsets
 
--- the fields of an operation, each as a run where its letter stands (docs/FORMATS.md, How a row fits and is read)
+-- the fields of an operation: the run of each letter that stands, and the bytes left over
 pub record Fields : Type 0 where
   pub x : Option (List ℕ)
   pub y : Option (List ℕ)
@@ -146,7 +146,7 @@ pub record Fields : Type 0 where
   pub d : Option (List ℕ)
   pub rest : List ℕ
 
--- the fields in their order, and what stands after them (docs/FORMATS.md, How a row fits and is read)
+-- the fields X, Y, I, J and D in this order, as in `X10Y20I5J0D01`
 unfoldable pub fields : List ℕ → Fields
 fields text =
     let x = field is_number ascii.upper_x text in
@@ -156,44 +156,44 @@ fields text =
     let d = field is_digit ascii.upper_d j.1 in
     record { x = x.0; y = y.0; i = i.0; j = j.0; d = d.0; rest = d.1 }
 
--- a D code of 1, 2 or 3 (docs/FORMATS.md, How a row fits and is read)
+-- a D code stands, of 1, 2 or 3
 unfoldable pub names_action : Option (List ℕ) → Bool
 names_action None = false
 names_action (Some digits) = is_ok (nat_of digits >>= action)
 
--- at least one coordinate, or a D code of 1, 2 or 3 (docs/FORMATS.md, How a row fits and is read)
+-- nothing is left over, and a coordinate stands or a D code of 1, 2 or 3
 abbrev pub is_operation : Fields → Bool
 is_operation f = (length f.rest == 0) && (is_some f.x || (is_some f.y || (is_some f.i || (is_some f.j || names_action f.d))))
 
--- an offset stands among the fields (Gerber format, Coordinate data)
+-- an offset I or J stands, of an arc's centre from its start (Gerber format, Coordinate data)
 abbrev pub has_offsets : Fields → Bool
 has_offsets f = is_some f.i || is_some f.j
 
--- the values of the fields: x and y, i and j, and what is done (docs/FORMATS.md, How a row fits and is read)
+-- the values of X and Y, of I and J, and the operation; or the first reason in the reading order
 unfoldable pub operands : Bool → Fields → Result (((Option ℤ × Option ℤ) × (Option ℤ × Option ℤ)) × Action) Reason
 operands plotting f = both (both (both (coordinate f.x) (coordinate f.y)) (both (coordinate f.i) (coordinate f.j))) (kind plotting (has_offsets f) f.d)
 
--- the operation of these fields (Gerber format, Operations D01, D02, D03)
+-- the commands of these fields: the Mode, if the word names one, and the Operate (Gerber format, Operations D01, D02, D03)
 unfoldable pub operate : Bool → Option Interpolation → Fields → Meaning
 operate plotting mode f = operands plotting f >>= λ r. Ok (modes_of mode ++ Operate r.1 r.0.0.0 r.0.0.1 r.0.1.0 r.0.1.1 ∷ [])
 
--- an interpolation that may stand in front, and an operation (Gerber format, Operations D01, D02, D03)
+-- an operation, optionally after an interpolation: `G01X10Y20D01`, `X5D03` (Gerber format, Operations D01, D02, D03)
 unfoldable pub operation_row : Bool → List ℕ → Row
 operation_row plotting text = if is_operation (fields (mode_front text).1) then Some (operate plotting (mode_front text).0 (fields (mode_front text).1)) else None
 
 -- ---- `M02`, `M2`; `M00`, `M01`, `N`
 
--- the end of the text (Gerber format, End-of-file M02)
+-- `M02` or `M2`, the end of the text (Gerber format, End-of-file M02)
 unfoldable pub finish_row : List ℕ → Row
 finish_row text = if is text (codes "M02") || is text (codes "M2") then Some (Ok (Finish ∷ [])) else None
 
--- stops and line numbers, which are refused (Gerber format, Deprecated commands)
+-- stops and line numbers, as `M00`, `M01`, `N10`, which are refused (Gerber format, Deprecated commands)
 unfoldable pub old_row : List ℕ → Row
 old_row text = if is text (codes "M00") || (is text (codes "M01") || is_some (behind (codes "N") text)) then Some (Err OldParameter) else None
 
 -- ---- the table
 
--- the rows of words after those of comments, in the order of the table (docs/FORMATS.md, Words)
+-- the rows of words after that of comments
 abbrev pub later_words : Bool → List ℕ → List Row
 later_words plotting text =
     mode_row text
@@ -207,10 +207,10 @@ later_words plotting text =
     ∷ old_row text
     ∷ []
 
--- the rows of words, in the order of the table (docs/FORMATS.md, Words)
+-- all rows of words
 abbrev pub words : Bool → List ℕ → List Row
 words plotting text = nothing_row text ∷ comment_row text ∷ later_words plotting text
 
--- A word without its `*`, where the last operation before it was a plot or not (docs/FORMATS.md, Words).
+-- A word without its `*`, given whether the last operation before it is a plot. A word with a `%` is BadWord.
 unfoldable pub word : Bool → List ℕ → Meaning
 word plotting text = if list_any (λ b. b == ascii.percent) text then Err BadWord else first_fit (words plotting text)

@@ -1,4 +1,4 @@
-//! Definitions of apertures and of macros.
+//! Definitions of apertures and of macros, as `ADD10C,0.5` and `AMDONUT*1,1,0.5,0,0`.
 
 ghost use Rattle.std.specs.Prelude.{◌≡◌, ◌≤◌, ◌<◌, ◌+◌, ◌==◌, ◌||◌, ◌&&◌, nat_le, length, map, position, count_by, IfOk, IfSome, ◌∷◌};
 ghost use Rattle.std.specs.List.{list_all};
@@ -84,14 +84,14 @@ pub fn most_sizes(aperture: Standard) -> usize
     }
 }
 
-/// Where a text is divided first.
+/// The offset of the first byte that divides a text.
 fn division(at: u8, text: &[u8]) -> Option<usize>
     ensures { result ≡ position (λ b. b == at) text.now }
 {
     text.iter().position(|byte| *byte == at)
 }
 
-/// The first part of a text, and what stands behind the byte that divides it.
+/// The first part of a text, and what follows the byte that divides it.
 fn split_first(at: u8, text: &[u8]) -> (&[u8], Option<&[u8]>)
     ensures parts { divided at text.now ≡ result.0.now ∷ divided_if at (option_copied result.1) }
     ensures shorter { IfSome result.1 (λ rest. length rest.now < length text.now) }
@@ -108,14 +108,14 @@ fn are_size_bytes(text: &[u8]) -> bool
     text.iter().all(|byte| is_number(*byte) || *byte == b'X')
 }
 
-/// Whether an aperture takes one parameter more than this.
+/// Whether an aperture takes one parameter more than there are divisions.
 fn takes(aperture: Standard, divisions: usize) -> bool
     ensures { result ≡ (nat_le (least_sizes aperture) (divisions + 1) && nat_le (divisions + 1) (most_sizes aperture)) }
 {
     divisions >= least_sizes(aperture) - 1 && divisions < most_sizes(aperture)
 }
 
-/// How often a text is divided by `X`.
+/// How many `X` divide a text.
 fn divisions(text: &[u8]) -> usize
     ensures { result ≡ count_by (λ b. b == 88) text.now }
 {
@@ -129,7 +129,7 @@ fn are_sizes(aperture: Standard, text: &[u8]) -> bool
     are_size_bytes(text) && takes(aperture, divisions(text))
 }
 
-/// One more parameter: it is read also behind one that is refused, since its reason may be the first of the reading order.
+/// Adds one more parameter. It is read even after one that is refused, since its reason may come first in the reading order.
 fn add_size(sizes: Result<Sizes, Reason>, run: &[u8]) -> Result<Sizes, Reason>
     requires { IfOk sizes (λ s. length s < 5) }
     ensures { result ≡ with_one_more sizes (dec_of run.now) }
@@ -143,7 +143,7 @@ fn add_size(sizes: Result<Sizes, Reason>, run: &[u8]) -> Result<Sizes, Reason>
     }
 }
 
-/// The parameters, divided by `X`.
+/// The parameters of a text, divided at each `X`.
 fn read_sizes(text: &[u8]) -> Result<Sizes, Reason>
     requires { length (divided 88 text.now) ≤ 5 }
     ensures { result ≡ all_of (map dec_of (divided 88 text.now)) }
@@ -158,7 +158,7 @@ fn read_sizes(text: &[u8]) -> Result<Sizes, Reason>
     sizes
 }
 
-/// The parameters of a standard aperture.
+/// The parameters of a standard aperture, or `BadWord` where their number is wrong or one is no run.
 #[tactic(auto, unfolding(crate::specs::Pieces::sizes_of))]
 fn sizes_of(aperture: Standard, parameters: Option<&[u8]>) -> Result<Sizes, Reason>
     ensures { result ≡ sizes_of aperture (option_copied parameters.entry) }
@@ -169,7 +169,7 @@ fn sizes_of(aperture: Standard, parameters: Option<&[u8]>) -> Result<Sizes, Reas
     }
 }
 
-/// The number of an aperture, at least 10.
+/// The number of an aperture, at least 10, else `BadNumber`.
 #[tactic(auto, unfolding(crate::specs::Pieces::aperture_number))]
 fn aperture_number(digits: &[u8]) -> Result<u32, Reason>
     ensures { result ≡ aperture_number digits.now }
@@ -182,7 +182,7 @@ fn aperture_number(digits: &[u8]) -> Result<u32, Reason>
     }
 }
 
-/// An aperture of a standard template.
+/// Defines an aperture of a standard template.
 #[tactic(auto, unfolding(crate::specs::Pieces::define_standard))]
 fn define_standard(
     alloc: Global,
@@ -197,7 +197,7 @@ fn define_standard(
     Ok(Spelled::one(Command::Define { number, template }))
 }
 
-/// A copy of a text that may be there.
+/// Copies an optional text.
 fn copy_of(alloc: Global, text: Option<&[u8]>) -> Result<Option<Text>, AllocError>
     ensures { IfOk result (λ copy. copy ≡ option_copied text.entry) }
 {
@@ -207,7 +207,7 @@ fn copy_of(alloc: Global, text: Option<&[u8]>) -> Result<Option<Text>, AllocErro
     }
 }
 
-/// An aperture of a macro.
+/// Defines an aperture of a macro.
 #[tactic(auto, unfolding(crate::specs::Pieces::define_named))]
 fn define_named(
     alloc: Global,
@@ -224,7 +224,7 @@ fn define_named(
     Ok(Spelled::one(Command::Define { number, template }))
 }
 
-/// An aperture of this template.
+/// Defines a standard aperture where the name is one of `C`, `R`, `O`, `P`, else one of the macro with this name.
 fn define_as(
     alloc: Global,
     digits: &[u8],
@@ -239,7 +239,7 @@ fn define_as(
     }
 }
 
-/// What stands behind the first comma, where there is one.
+/// What follows the first comma, if there is one.
 fn after_comma(text: &[u8]) -> Option<&[u8]>
     ensures { option_copied result ≡ after_comma text.now }
 {
@@ -251,14 +251,14 @@ fn after_comma(text: &[u8]) -> Option<&[u8]>
     }
 }
 
-/// What stands before the first comma.
+/// What stands before the first comma, or all where there is none.
 fn before_comma(text: &[u8]) -> &[u8]
     ensures { result.now ≡ before_comma text.now }
 {
     text.split_at(run_before(b',', text)).0
 }
 
-/// A number's digits, and a template with its parameters.
+/// Defines an aperture by the digits of its number, and by its template with parameters.
 #[tactic(auto, unfolding(crate::specs::Pieces::define))]
 fn define(alloc: Global, digits: &[u8], text: &[u8]) -> Result<Spelled, Stop>
     ensures { Gives result (define digits.now text.now) }
@@ -271,7 +271,7 @@ fn define(alloc: Global, digits: &[u8], text: &[u8]) -> Result<Spelled, Stop>
     }
 }
 
-/// The definition of an aperture, from its number on.
+/// Reads what follows `ADD`: a number and a template, as `10C,0.5`.
 #[tactic(auto, unfolding(crate::specs::Pieces::definition))]
 pub(crate) fn read_define(alloc: Global, text: &[u8]) -> Result<Spelled, Stop>
     ensures { Gives result (definition text.now) }
@@ -280,7 +280,7 @@ pub(crate) fn read_define(alloc: Global, text: &[u8]) -> Result<Spelled, Stop>
     define(alloc, digits, rest)
 }
 
-/// Copies of the pieces of a text that may be there, each without its `*`.
+/// Copies the pieces of an optional text, each without its `*`.
 fn copy_pieces(alloc: Global, text: Option<&[u8]>) -> Result<Pieces, AllocError>
     ensures { IfOk result (λ pieces. pieces ≡ divided_if 42 (option_copied text.entry)) }
 {
@@ -294,7 +294,7 @@ fn copy_pieces(alloc: Global, text: Option<&[u8]>) -> Result<Pieces, AllocError>
     Ok(Pieces::new(texts))
 }
 
-/// The definition of a macro.
+/// Reads what follows `AM`: a name and further pieces.
 #[tactic(auto, unfolding(crate::specs::Pieces::macro_text))]
 pub(crate) fn read_macro(alloc: Global, text: &[u8]) -> Result<Spelled, Stop>
     ensures { Gives result (macro_text text.now) }

@@ -1,4 +1,4 @@
-//! The canonical item of a command.
+//! The canonical item of a command, as `%ADD10C,0.65*%`.
 
 ghost use Rattle.std.specs.Prelude.{◌≡◌, ◌++◌, [], ◌∷◌, OnOk, decimal, List, ℕ};
 ghost use Rattle.std.specs.List.{flat_map};
@@ -21,7 +21,7 @@ fn put(out: &mut Vec<u8>, bytes: &[u8]) -> Result<(), AllocError>
     out.extend_from_slice(bytes)
 }
 
-/// Appends a number.
+/// Appends a number in decimal digits.
 fn put_number(out: &mut Vec<u8>, number: u64) -> Result<(), AllocError>
     ensures { OnOk result (out.new.items ≡ out.old.items ++ decimal number) }
 {
@@ -29,7 +29,7 @@ fn put_number(out: &mut Vec<u8>, number: u64) -> Result<(), AllocError>
     put(out, buffer.format(number).as_bytes())
 }
 
-/// Appends a decimal.
+/// Appends a decimal in its canonical spelling, as `0.65`.
 fn put_dec(out: &mut Vec<u8>, dec: Dec) -> Result<(), AllocError>
     ensures { OnOk result (out.new.items ≡ out.old.items ++ canonical_dec dec) }
 {
@@ -148,14 +148,14 @@ fn standard_name(aperture: Standard) -> &'static [u8]
     }
 }
 
-/// `-` below zero.
+/// `-` for a number below zero, else nothing.
 fn sign(number: i64) -> &'static [u8]
     ensures { result.now ≡ minus number }
 {
     if number < 0 { b"-" } else { b"" }
 }
 
-/// Appends a coordinate that may stand there.
+/// Appends a coordinate after its letter, or nothing where it is left out.
 fn put_coordinate(out: &mut Vec<u8>, letter: u8, number: Option<i64>) -> Result<(), AllocError>
     ensures { OnOk result (out.new.items ≡ out.old.items ++ coordinate_text letter number) }
 {
@@ -169,7 +169,7 @@ fn put_coordinate(out: &mut Vec<u8>, letter: u8, number: Option<i64>) -> Result<
     }
 }
 
-/// Appends the digits of one axis.
+/// Appends the digits of one axis, as `46`.
 fn put_digits(out: &mut Vec<u8>, format: Format) -> Result<(), AllocError>
     ensures { OnOk result (out.new.items ≡ out.old.items ++ digits_text format.whole format.decimals) }
 {
@@ -189,7 +189,7 @@ fn put_format(out: &mut Vec<u8>, format: Format) -> Result<(), AllocError>
     put(out, b"*%")
 }
 
-/// Appends one more parameter.
+/// Appends an `X` and one more parameter.
 fn put_size(out: &mut Vec<u8>, size: Dec) -> Result<(), AllocError>
     ensures { OnOk result (out.new.items ≡ out.old.items ++ 88 ∷ canonical_dec size) }
 {
@@ -210,7 +210,7 @@ fn put_sizes(out: &mut Vec<u8>, sizes: &[Dec]) -> Result<(), AllocError>
     }
 }
 
-/// Appends the parameters behind the first.
+/// Appends the parameters after the first one.
 fn put_further_sizes(out: &mut Vec<u8>, rest: &[Dec]) -> Result<(), AllocError>
     ensures { OnOk result (out.new.items ≡ out.old.items ++ flat_map (λ size. 88 ∷ canonical_dec size) rest.now) }
 {
@@ -220,7 +220,7 @@ fn put_further_sizes(out: &mut Vec<u8>, rest: &[Dec]) -> Result<(), AllocError>
     Ok(())
 }
 
-/// Appends a template and its parameters.
+/// Appends a template and its parameters, as `C,0.65`.
 fn put_template(out: &mut Vec<u8>, template: &Template) -> Result<(), AllocError>
     ensures { OnOk result (out.new.items ≡ out.old.items ++ template_text template.now) }
 {
@@ -238,7 +238,7 @@ fn put_template(out: &mut Vec<u8>, template: &Template) -> Result<(), AllocError
     }
 }
 
-/// Appends the item of an aperture's definition.
+/// Appends the item of an aperture's definition, as `%ADD10C,0.65*%`.
 #[tactic(auto, unfolding(crate::specs::Canonical::canonical))]
 fn put_define(out: &mut Vec<u8>, number: u32, template: &Template) -> Result<(), AllocError>
     ensures { OnOk result (out.new.items ≡ out.old.items ++ canonical (Define number template.now)) }
@@ -249,7 +249,7 @@ fn put_define(out: &mut Vec<u8>, number: u32, template: &Template) -> Result<(),
     put(out, b"*%")
 }
 
-/// Appends the pieces of a macro, each behind a line end.
+/// Appends the pieces of a macro, each after an LF.
 fn put_pieces(out: &mut Vec<u8>, pieces: &[Text]) -> Result<(), AllocError>
     ensures { OnOk result (out.new.items ≡ out.old.items ++ pieces_text pieces.now) }
 {
@@ -269,7 +269,7 @@ fn put_macro(out: &mut Vec<u8>, name: &[u8], pieces: &[Text]) -> Result<(), Allo
     put(out, b"%")
 }
 
-/// The coordinates of an operation.
+/// The four coordinates of an operation, each of which may be left out.
 #[derive(Clone, Copy)]
 struct Coordinates {
     x: Option<i64>,
@@ -278,7 +278,7 @@ struct Coordinates {
     j: Option<i64>,
 }
 
-/// Appends the word of an operation.
+/// Appends the word of an operation, as `X10Y20D01*`.
 #[tactic(auto, unfolding(crate::specs::Canonical::canonical))]
 fn put_operation(out: &mut Vec<u8>, action: Action, at: Coordinates) -> Result<(), AllocError>
     ensures { OnOk result (out.new.items ≡ out.old.items ++ canonical (Operate action at.x at.y at.i at.j)) }
@@ -290,7 +290,7 @@ fn put_operation(out: &mut Vec<u8>, action: Action, at: Coordinates) -> Result<(
     put(out, action_code(action))
 }
 
-/// Appends the item of a step and repeat block.
+/// Appends the item of a step and repeat block, as `%SRX2Y1I5J0*%`.
 #[tactic(auto, unfolding(crate::specs::Canonical::canonical))]
 fn put_block(out: &mut Vec<u8>, block: Block) -> Result<(), AllocError>
     ensures { OnOk result (out.new.items ≡ out.old.items ++ canonical (Repeat block)) }
@@ -301,7 +301,7 @@ fn put_block(out: &mut Vec<u8>, block: Block) -> Result<(), AllocError>
     put_dec_between(out, b"", block.step_y, b"*%")
 }
 
-/// Appends the canonical item of a command.
+/// Appends the canonical item of a command, without the LF after it.
 ///
 /// # Errors
 ///

@@ -8,14 +8,14 @@ use std::alloc::{AllocError, Global};
 use std::fmt;
 use std::marker::Model;
 
-/// The digits of a coordinate before and after its decimal point.
+/// How many digits a coordinate has before and after its decimal point: 0 to 6 each where they are read.
 #[derive(Clone, Copy, Debug, PartialEq, Eq)]
 pub struct Format {
     pub whole: u8,
     pub decimals: u8,
 }
 
-/// How a plot goes from point to point (Gerber format, Plot state G01, G02, G03).
+/// How a plot goes from point to point: along a line or an arc (Gerber format, Plot state G01, G02, G03).
 #[derive(Clone, Copy, Debug, PartialEq, Eq)]
 pub enum Interpolation {
     Linear,
@@ -23,14 +23,14 @@ pub enum Interpolation {
     Counterclockwise,
 }
 
-/// How an arc's centre is found (Gerber format, G75 and G74).
+/// How the centre of an arc is found: in a single quadrant or in several (Gerber format, G75 and G74).
 #[derive(Clone, Copy, Debug, PartialEq, Eq)]
 pub enum QuadrantMode {
     Single,
     Multi,
 }
 
-/// What an operation does at its point (Gerber format, Operations D01, D02, D03).
+/// What an operation does at its point: plot, move or flash (Gerber format, Operations D01, D02, D03).
 #[derive(Clone, Copy, Debug, PartialEq, Eq)]
 pub enum Action {
     Plot,
@@ -38,7 +38,7 @@ pub enum Action {
     Flash,
 }
 
-/// What an attribute belongs to (Gerber format, TF, TA, TO).
+/// What an attribute belongs to: the file, apertures or objects (Gerber format, TF, TA, TO).
 #[derive(Clone, Copy, Debug, PartialEq, Eq)]
 pub enum AttributeKind {
     File,
@@ -46,7 +46,7 @@ pub enum AttributeKind {
     Object,
 }
 
-/// The pieces of a macro behind its name. Contracts see the list of their texts.
+/// The pieces of a macro after its name. Contracts see the list of their texts.
 #[derive(Debug, Drop)]
 pub struct Pieces {
     texts: Vec<Text>,
@@ -63,14 +63,14 @@ impl Model for Pieces {
 impl Pieces {
     ghost use Rattle.std.specs.Prelude.{◌≡◌};
 
-    /// The pieces of a vector, which it takes over.
+    /// Pieces with these texts, in order.
     pub fn new(texts: Vec<Text>) -> Self
         ensures { result ≡ texts.items }
     {
         Pieces { texts }
     }
 
-    /// The texts of the pieces.
+    /// The texts of the pieces, in order and without their `*`.
     pub fn texts(&self) -> &[Text]
         ensures { result.now ≡ self.now }
     {
@@ -99,7 +99,7 @@ impl Model for Sizes {
 impl Sizes {
     ghost use Rattle.std.specs.Prelude.{◌≡◌, ◌<◌, ◌≤◌, [], ◌∷◌, ◌++◌, length};
 
-    /// No parameter.
+    /// An empty list of parameters.
     pub fn new() -> Self
         ensures { result ≡ [] }
     {
@@ -110,7 +110,7 @@ impl Sizes {
         }
     }
 
-    /// The parameters in order.
+    /// The parameters in order, each in units of 10^-8.
     pub fn as_slice(&self) -> &[Dec]
         ensures value { result.now ≡ self.now }
         ensures short { length self.now ≤ 5 }
@@ -118,7 +118,7 @@ impl Sizes {
         &self.values[..self.len]
     }
 
-    /// Adds a parameter.
+    /// Adds a parameter after the others; there is room for five.
     pub fn push(&mut self, size: Dec)
         requires { length self.old < 5 }
         ensures { self.new ≡ self.old ++ size ∷ [] }
@@ -128,7 +128,7 @@ impl Sizes {
     }
 }
 
-/// A standard aperture (Gerber format, Standard aperture templates).
+/// A standard aperture: circle, rectangle, obround or polygon (Gerber format, Standard aperture templates).
 #[derive(Clone, Copy, Debug, PartialEq, Eq)]
 pub enum Standard {
     Circle,
@@ -137,7 +137,7 @@ pub enum Standard {
     Polygon,
 }
 
-/// A value in memory of its own, so that a command that holds it stays short. Contracts see the value.
+/// A value in memory of its own, so that a command that holds it takes few bytes. Contracts see the value.
 #[derive(Debug, Drop)]
 pub struct Boxed<T> {
     inner: Box<T>,
@@ -150,7 +150,7 @@ impl<T> Model for Boxed<T> {
 }
 
 impl<T: Drop> Boxed<T> {
-    /// A value, which moves to memory of its own.
+    /// Moves a value to memory of its own.
     ///
     /// # Errors
     ///
@@ -163,7 +163,7 @@ impl<T: Drop> Boxed<T> {
         })
     }
 
-    /// The value.
+    /// The value that is kept.
     pub fn get(&self) -> &T
         ensures { result.now ≡ self.now }
     {
@@ -171,7 +171,7 @@ impl<T: Drop> Boxed<T> {
     }
 }
 
-/// What no coordinate is: the value that stands for one that is left out.
+/// The value that stands for a coordinate that is left out.
 const LEFT_OUT: i64 = i64::MIN;
 
 /// A coordinate of an operation as an integer, or that it is left out. It takes eight bytes, since a text has many;
@@ -207,7 +207,7 @@ impl Coordinate {
         }
     }
 
-    /// This coordinate, or that it is left out.
+    /// This coordinate, or that it is left out. The value is not the least `i64`.
     pub(crate) fn of(value: Option<i64>) -> Coordinate
         requires { value ≢ Some left_out }
         ensures { result ≡ value }
@@ -225,7 +225,7 @@ impl Coordinate {
         Coordinate { value: LEFT_OUT }
     }
 
-    /// The coordinate, where it is not left out.
+    /// The coordinate, in units of the last decimal of the file's format, or `None` where it is left out.
     pub fn get(self) -> Option<i64>
         ensures { result ≡ self }
     {
@@ -237,16 +237,16 @@ impl Coordinate {
     }
 }
 
-/// What an aperture is made of (Gerber format, Aperture definition AD).
+/// The shape of an aperture, standard or a macro (Gerber format, Aperture definition AD).
 #[derive(Debug, Drop)]
 pub enum Template {
-    /// A standard aperture and its parameters.
+    /// A standard aperture and its parameters, as `C,0.5`.
     Standard(Standard, Sizes),
-    /// A macro's name, and what stands after the comma, where one stands.
+    /// A macro's name, and the text after the comma, if there is one.
     Named(Text, Option<Text>),
 }
 
-/// Counts and steps of a step and repeat block (Gerber format, Step and repeat SR).
+/// The counts of columns and rows of a step and repeat block, and its steps (Gerber format, Step and repeat SR).
 #[derive(Clone, Copy, Debug, PartialEq, Eq)]
 pub struct Block {
     pub columns: u32,
@@ -255,24 +255,24 @@ pub struct Block {
     pub step_y: Dec,
 }
 
-/// What an item of a Gerber text commands. The fields are those of the format's table.
+/// What an item of a Gerber text commands. The fields are those of the table in `docs/FORMATS.md`.
 #[derive(Drop)]
 pub enum Command {
-    /// `G04` and a text.
+    /// `G04` and a text: a comment.
     Comment(Text),
-    /// `G01`, `G02`, `G03`.
+    /// `G01`, `G02`, `G03`: how plots go from point to point.
     Mode(Interpolation),
-    /// `G74`, `G75`.
+    /// `G74`, `G75`: how the centre of an arc is found.
     Quadrant(QuadrantMode),
-    /// `G36`.
+    /// `G36`: a region starts.
     RegionStart,
-    /// `G37`.
+    /// `G37`: a region ends.
     RegionEnd,
     /// `MO`: the unit of all lengths.
     UnitIs(Unit),
     /// `FS`: the digits of the coordinates.
     FormatIs(Format),
-    /// `AD`: an aperture by its number, from 10 on.
+    /// `AD`: an aperture with its number, from 10 on.
     Define {
         number: u32,
         template: Boxed<Template>,
@@ -281,7 +281,7 @@ pub enum Command {
     Macro(Text, Boxed<Pieces>),
     /// `D10` and above: the aperture that is flashed and drawn with from here on.
     Select(u32),
-    /// `D01`, `D02`, `D03`: a plot, a move or a flash, with the coordinates that stand there, as integers.
+    /// `D01`, `D02`, `D03`: a plot, a move or a flash, with the coordinates that stand in the word.
     Operate {
         action: Action,
         x: Coordinate,
@@ -296,24 +296,24 @@ pub enum Command {
         x: bool,
         y: bool,
     },
-    /// `LR`: flashes are turned, in degrees, counterclockwise.
+    /// `LR`: flashes are rotated by so many degrees, counterclockwise.
     Turn(Dec),
-    /// `LS`: flashes are scaled.
+    /// `LS`: flashes are scaled by this factor.
     Scale(Dec),
     /// `SR` with counts and steps: a step and repeat block begins.
     Repeat(Block),
-    /// `SR` alone: it ends.
+    /// `SR` alone: the step and repeat block ends.
     RepeatEnd,
-    /// `TF`, `TA`, `TO` and a text.
+    /// `TF`, `TA`, `TO` and a text: an attribute.
     Attribute(AttributeKind, Text),
-    /// `TD` and a text.
+    /// `TD` and a text: the named attribute is deleted, or all where the text is empty.
     Remove(Text),
     /// `M02`: the end of the text.
     Finish,
 }
 
 impl fmt::Debug for Command {
-    /// The name of its kind alone.
+    /// Writes the name of the command's kind alone.
     fn fmt<W: fmt::Write>(&self, f: &mut fmt::Formatter<W>) -> fmt::Result {
         f.write_str(match self {
             Command::Comment(..) => "Comment",
@@ -364,7 +364,7 @@ impl Spelled {
     ghost use Rattle.gerber_rows.specs.declared.command.Command.TheVariants.{Mode};
     ghost use Rattle.gerber_rows.specs.Rows.{modes_of, commands_of};
 
-    /// No command.
+    /// An item without effect, which spells no command.
     pub(crate) fn nothing() -> Self
         ensures { result ≡ [] }
     {
@@ -374,7 +374,7 @@ impl Spelled {
         }
     }
 
-    /// An interpolation alone.
+    /// An item with an interpolation alone.
     pub(crate) fn mode(mode: Interpolation) -> Self
         ensures { result ≡ Mode mode ∷ [] }
     {
@@ -384,7 +384,7 @@ impl Spelled {
         }
     }
 
-    /// One command.
+    /// An item with one command.
     pub(crate) fn one(command: Command) -> Self
         ensures { result ≡ command ∷ [] }
     {
@@ -394,7 +394,7 @@ impl Spelled {
         }
     }
 
-    /// An interpolation, if there is one, and a command.
+    /// An item with a command, optionally after an interpolation.
     pub(crate) fn both(mode: Option<Interpolation>, command: Command) -> Self
         ensures { result ≡ modes_of mode ++ command ∷ [] }
     {
@@ -404,7 +404,7 @@ impl Spelled {
         }
     }
 
-    /// The interpolation and the other command.
+    /// The interpolation and the other command, each if the item spells one.
     pub fn into_parts(self) -> (Option<Interpolation>, Option<Command>)
         ensures { self ≡ modes_of result.0 ++ commands_of result.1 }
     {

@@ -1,4 +1,4 @@
-//! Fields of a row: what stands behind a prefix, and the run behind a letter.
+//! Fields of a row: what follows a prefix, and the run after a letter.
 
 ghost use Rattle.std.specs.Prelude.{◌≡◌, ◌==◌, ◌≤◌, length};
 ghost use Rattle.std.specs.List.{prefix_len};
@@ -10,14 +10,14 @@ ghost use Rattle.grid_units.specs.Numbers.{is_digit, is_number};
 
 use grid_units::numbers::{digits_len, number_len};
 
-/// What stands behind a prefix, where a text begins so.
+/// What follows a prefix, if a text begins with it.
 pub(crate) fn behind<'a>(prefix: &[u8], text: &'a [u8]) -> Option<&'a [u8]>
     ensures { option_copied result ≡ behind prefix.now text.now }
 {
     text.strip_prefix(prefix)
 }
 
-/// The run behind a letter, where that stands, and the rest.
+/// The run after a letter, if the letter stands, and the rest.
 pub(crate) fn number_field(letter: u8, text: &[u8]) -> (Option<&[u8]>, &[u8])
     ensures run { option_copied result.0 ≡ (field is_number letter text.now).0 }
     ensures rest { result.1.now ≡ (field is_number letter text.now).1 }
@@ -31,7 +31,7 @@ pub(crate) fn number_field(letter: u8, text: &[u8]) -> (Option<&[u8]>, &[u8])
     }
 }
 
-/// The digits behind a letter, where that stands, and the rest.
+/// The digits after a letter, if the letter stands, and the rest.
 pub(crate) fn digits_field(letter: u8, text: &[u8]) -> (Option<&[u8]>, &[u8])
     ensures run { option_copied result.0 ≡ (field is_digit letter text.now).0 }
     ensures rest { result.1.now ≡ (field is_digit letter text.now).1 }

@@ -1,4 +1,4 @@
-//! An item of a Gerber text.
+//! An item of a Gerber text: its end, and the commands that it spells.
 
 ghost use Rattle.std.specs.Prelude.{◌≡◌, ◌↔◌, IsTrue};
 ghost use Rattle.gerber_rows.specs.Items.{is_end, ender, IsEnded};
@@ -11,14 +11,14 @@ use crate::word::read_word;
 use grid_units::{Reason, Stop};
 use std::alloc::Global;
 
-/// Whether the item is the end of the text.
+/// Whether the item is `M02*` or `M2*`, the end of the text.
 pub fn is_text_end(bytes: &[u8]) -> bool
     ensures { result ≡ is_end bytes.now }
 {
     bytes == b"M02*".as_slice() || bytes == b"M2*".as_slice()
 }
 
-/// The byte that ends an item which begins so.
+/// The byte that ends an item with this beginning: `%` after `%`, else `*`.
 pub fn end_of(bytes: &[u8]) -> u8
     ensures { result ≡ ender bytes.now }
 {
@@ -28,7 +28,7 @@ pub fn end_of(bytes: &[u8]) -> u8
     }
 }
 
-/// Whether the last of the bytes ends an item which begins as they do.
+/// Whether the last byte ends an item with this beginning.
 pub fn is_ended(bytes: &[u8]) -> bool
     ensures { IsTrue result ↔ IsEnded bytes.now }
 {
@@ -38,7 +38,7 @@ pub fn is_ended(bytes: &[u8]) -> bool
     }
 }
 
-/// All bytes but the last.
+/// All bytes but the last one.
 fn front(bytes: &[u8]) -> &[u8]
     ensures { result.now ≡ front_of bytes.now }
 {
@@ -48,7 +48,7 @@ fn front(bytes: &[u8]) -> &[u8]
     }
 }
 
-/// The commands of an item, where the last operation before it was a plot or not. An item has no line breaks, and its last
+/// The commands of an item, given whether the last operation before it is a plot. An item has no line breaks, and its last
 /// byte is its end: a `%` where it begins with `%`, else a `*` ([`is_ended`]).
 ///
 /// # Errors

@@ -1,4 +1,4 @@
-//! The numbers of a Gerber text that are not decimals.
+//! The integers of a Gerber text: a signed Int of at most 12 digits, and a Nat.
 
 ghost use Rattle.std.specs.Prelude.{◌≡◌, ◌≢◌, IfOk, IfSome, ◌<◌, ◌^◌, ◌≤◌, ◌==◌, length, take, All, true, neg_ℤ, pos, if◌then◌else◌};
 ghost use Rattle.std.specs.List.{list_all, prefix_len};
@@ -9,7 +9,7 @@ ghost use Rattle.gerber_rows.specs.Numbers.{int_of, nat_of};
 use grid_units::Reason;
 use grid_units::numbers::{behind_sign, capped_value, is_digit, is_digits, is_negative, run_of};
 
-/// The number that at most 12 digits spell.
+/// The value of at most 12 digits.
 fn value_of(digits: &[u8]) -> u64
     requires short { length digits.now ≤ 12 }
     requires digits { All (λ b. is_digit b ≡ true) digits.now }
@@ -35,7 +35,7 @@ fn are_digits(bytes: &[u8]) -> bool
     all
 }
 
-/// The number that the first eight bytes spell, where these are digits.
+/// The value of the first eight bytes, if these are digits.
 fn eight_digits(bytes: &[u8]) -> Option<u64>
     ensures within { IfSome result (λ n. 8 ≤ length bytes.now) }
     ensures digits { IfSome result (λ n. All (λ b. is_digit b ≡ true) (take 8 bytes.now)) }
@@ -52,7 +52,7 @@ fn eight_digits(bytes: &[u8]) -> Option<u64>
     Some(value_of(front))
 }
 
-/// The number that the first digits spell, at most 12 of them, and how many these are, where it is known of some of them.
+/// The value of the first digits, at most 12, and how many these are. The value of the first `known` ones is given.
 fn more_digits(bytes: &[u8], known: usize, number: u64) -> (u64, usize)
     requires within { known ≤ length bytes.now }
     requires short { known ≤ 12 }
@@ -76,7 +76,7 @@ fn more_digits(bytes: &[u8], known: usize, number: u64) -> (u64, usize)
     (n, end)
 }
 
-/// The number that the first digits spell, at most 12 of them, and how many these are.
+/// The value of the first digits, at most 12, and how many these are.
 #[inline(always)]
 pub(crate) fn first_digits(bytes: &[u8]) -> (u64, usize)
     ensures within { result.1 ≤ length bytes.now }
@@ -91,7 +91,7 @@ pub(crate) fn first_digits(bytes: &[u8]) -> (u64, usize)
     }
 }
 
-/// An optional sign and digits.
+/// Reads an Int: an optional sign and digits, at most 12 after leading zeros.
 #[tactic(auto, unfolding(crate::specs::Numbers::int_of))]
 pub(crate) fn read_int(run: &[u8]) -> Result<i64, Reason>
     ensures value { result ≡ int_of run.now }
@@ -112,7 +112,7 @@ pub(crate) fn read_int(run: &[u8]) -> Result<i64, Reason>
     Ok(signed(is_negative(run), value_of(significant)))
 }
 
-/// A number with its sign.
+/// A magnitude with its sign.
 pub(crate) fn signed(negative: bool, magnitude: u64) -> i64
     requires { magnitude < 10 ^ 12 }
     ensures value { result ≡ (if negative then neg_ℤ (pos magnitude) else pos magnitude) }
@@ -125,7 +125,7 @@ pub(crate) fn signed(negative: bool, magnitude: u64) -> i64
     }
 }
 
-/// Digits of a value of at most 2,147,483,647.
+/// Reads a Nat: digits with a value of at most 2,147,483,647.
 #[tactic(auto, unfolding(crate::specs::Numbers::nat_of))]
 pub(crate) fn read_nat(digits: &[u8]) -> Result<u32, Reason>
     ensures { result ≡ nat_of digits.now }

@@ -22,7 +22,7 @@ use std::alloc::Global;
 
 type Row = Option<Result<Spelled, Reason>>;
 
-/// Coordinates without trailing zeros, and incremental ones.
+/// Refuses trailing zeros left out (`FST`) and incremental coordinates (`FSLI`).
 #[tactic(auto, unfolding(crate::specs::Pieces::system_row))]
 fn read_system(text: &[u8]) -> Row
     ensures { result ≡ system_row text.now }
@@ -36,7 +36,7 @@ fn read_system(text: &[u8]) -> Row
     }
 }
 
-/// The format of two digits, for both axes the same.
+/// The format of i whole digits and d decimals, alike on both axes.
 fn format_of(i: u8, d: u8, j: u8, e: u8) -> Result<Spelled, Reason>
     requires whole { is_digit i ≡ true }
     requires decimals { is_digit d ≡ true }
@@ -52,7 +52,7 @@ fn format_of(i: u8, d: u8, j: u8, e: u8) -> Result<Spelled, Reason>
     }
 }
 
-/// The digits of the two axes, with `Y` between them.
+/// The digits of both axes with `Y` between them, as `46Y46`.
 fn format_fields(text: &[u8]) -> Row
     ensures { result ≡ format_fields text.now }
 {
@@ -68,7 +68,7 @@ fn format_fields(text: &[u8]) -> Row
     }
 }
 
-/// The digits of coordinates.
+/// Reads how many digits coordinates have, as `FSLAX46Y46`.
 #[tactic(auto, unfolding(crate::specs::Pieces::format_row))]
 fn read_format(text: &[u8]) -> Row
     ensures { result ≡ format_row text.now }
@@ -79,7 +79,7 @@ fn read_format(text: &[u8]) -> Row
     }
 }
 
-/// The unit.
+/// Reads the unit, `MOIN` or `MOMM`.
 #[tactic(auto, unfolding(crate::specs::Pieces::unit_piece_row))]
 fn read_unit(text: &[u8]) -> Row
     ensures { result ≡ unit_piece_row text.now }
@@ -93,7 +93,7 @@ fn read_unit(text: &[u8]) -> Row
     }
 }
 
-/// The polarity: clear polarity is refused.
+/// Reads the polarity: `LPD` is dark, and `LPC`, clear, is refused.
 #[tactic(auto, unfolding(crate::specs::Pieces::polarity_row))]
 fn read_polarity(text: &[u8]) -> Row
     ensures { result ≡ polarity_row text.now }
@@ -107,7 +107,7 @@ fn read_polarity(text: &[u8]) -> Row
     }
 }
 
-/// The axes of mirroring.
+/// Reads the axes of mirroring, as `LMXY`.
 #[tactic(auto, unfolding(crate::specs::Pieces::mirror_row))]
 fn read_mirror(text: &[u8]) -> Row
     ensures { result ≡ mirror_row text.now }
@@ -131,7 +131,7 @@ fn are_number_bytes(text: &[u8]) -> bool
     text.iter().all(|byte| is_number(*byte))
 }
 
-/// The run behind a prefix, where nothing else stands there.
+/// The run after a prefix, if nothing else follows it.
 fn run_behind<'a>(prefix: &[u8], text: &'a [u8]) -> Option<&'a [u8]>
     ensures { option_copied result ≡ run_behind prefix.now text.now }
 {
@@ -155,7 +155,7 @@ fn read_scale(run: &[u8]) -> Result<Spelled, Reason>
     Ok(Spelled::one(Command::Scale(Dec::read(run)?)))
 }
 
-/// Rotation and scaling.
+/// Reads a rotation, as `LR90`, or a scaling, as `LS0.5`.
 #[tactic(auto, unfolding(crate::specs::Pieces::transform_row))]
 fn read_transform(text: &[u8]) -> Row
     ensures { result ≡ transform_row text.now }
@@ -169,24 +169,24 @@ fn read_transform(text: &[u8]) -> Row
     }
 }
 
-/// Two counts.
+/// The counts of columns and rows.
 fn counts_of(x: &[u8], y: &[u8]) -> Result<(u32, u32), Reason>
     ensures { result ≡ both (nat_of x.now) (nat_of y.now) }
 {
     both(read_nat(x), read_nat(y))
 }
 
-/// Two steps.
+/// The steps along x and y.
 fn steps_of(i: &[u8], j: &[u8]) -> Result<(Dec, Dec), Reason>
     ensures { result ≡ both (dec_of i.now) (dec_of j.now) }
 {
     both(Dec::read(i), Dec::read(j))
 }
 
-/// Two counts and two steps.
+/// The counts of columns and rows, and the steps along x and y.
 type BlockFields = ((u32, u32), (Dec, Dec));
 
-/// The values of counts and steps.
+/// The counts and steps of a block.
 #[tactic(auto, unfolding(crate::specs::Pieces::block_fields))]
 fn block_fields(x: &[u8], y: &[u8], i: &[u8], j: &[u8]) -> Result<BlockFields, Reason>
     ensures { result ≡ block_fields x.now y.now i.now j.now }
@@ -194,7 +194,7 @@ fn block_fields(x: &[u8], y: &[u8], i: &[u8], j: &[u8]) -> Result<BlockFields, R
     both(counts_of(x, y), steps_of(i, j))
 }
 
-/// Counts and steps.
+/// A step and repeat block with these counts and steps.
 #[tactic(auto, unfolding(crate::specs::Pieces::repeat))]
 fn read_block(x: &[u8], y: &[u8], i: &[u8], j: &[u8]) -> Result<Spelled, Reason>
     ensures { result ≡ repeat x.now y.now i.now j.now }
@@ -208,7 +208,7 @@ fn read_block(x: &[u8], y: &[u8], i: &[u8], j: &[u8]) -> Result<Spelled, Reason>
     })))
 }
 
-/// The beginning of a step and repeat block.
+/// Reads the start of a step and repeat block, as `X2Y1I5J0` after `SR`.
 #[tactic(auto, unfolding(crate::specs::Pieces::repeat_start))]
 fn read_repeat_start(text: &[u8]) -> Row
     ensures { result ≡ repeat_start text.now }
@@ -223,7 +223,7 @@ fn read_repeat_start(text: &[u8]) -> Row
     }
 }
 
-/// A step and repeat block, or its end.
+/// Reads the start of a step and repeat block, or its end, `SR`.
 #[tactic(auto, unfolding(crate::specs::Pieces::repeat_row))]
 fn read_repeat(text: &[u8]) -> Row
     ensures { result ≡ repeat_row text.now }
@@ -237,7 +237,7 @@ fn read_repeat(text: &[u8]) -> Row
     }
 }
 
-/// A file attribute.
+/// A file attribute, which must not make the image negative.
 #[tactic(auto, unfolding(crate::specs::Pieces::file_attribute))]
 fn read_file_attribute(alloc: Global, text: &[u8]) -> Result<Spelled, Stop>
     ensures { Gives result (file_attribute text.now) }
@@ -249,7 +249,7 @@ fn read_file_attribute(alloc: Global, text: &[u8]) -> Result<Spelled, Stop>
     Ok(Spelled::one(Command::Attribute(AttributeKind::File, text)))
 }
 
-/// An attribute of apertures or objects.
+/// An attribute of an aperture or of an object.
 #[tactic(auto, unfolding(crate::specs::Pieces::attribute))]
 fn read_attribute(alloc: Global, kind: AttributeKind, text: &[u8]) -> Result<Spelled, Stop>
     ensures { Gives result (attribute kind text.now) }
@@ -258,7 +258,7 @@ fn read_attribute(alloc: Global, kind: AttributeKind, text: &[u8]) -> Result<Spe
     Ok(Spelled::one(Command::Attribute(kind, text)))
 }
 
-/// Attributes that are deleted.
+/// The deletion of attributes.
 #[tactic(auto, unfolding(crate::specs::Pieces::removal))]
 fn read_removal(alloc: Global, text: &[u8]) -> Result<Spelled, Stop>
     ensures { Gives result (removal text.now) }
@@ -267,7 +267,7 @@ fn read_removal(alloc: Global, text: &[u8]) -> Result<Spelled, Stop>
     Ok(Spelled::one(Command::Remove(text)))
 }
 
-/// Whether a decimal is of so many units, or left out.
+/// Whether a run is a decimal of so many units of 10^-8, or is left out.
 fn may_be(units: i64, run: Option<&[u8]>) -> bool
     ensures { result ≡ may_be units (option_copied run.entry) }
 {
@@ -280,7 +280,7 @@ fn may_be(units: i64, run: Option<&[u8]>) -> bool
     }
 }
 
-/// `IR` and a decimal of 0.
+/// Whether a text is `IR` and a decimal of 0.
 fn turns_nothing(text: &[u8]) -> bool
     ensures { result ≡ turns_nothing text.now }
 {
@@ -288,7 +288,7 @@ fn turns_nothing(text: &[u8]) -> bool
     run.is_some() && may_be(0, run)
 }
 
-/// A decimal of so many units on both axes, where they stand.
+/// Whether a text is a decimal of so many units on each axis that stands, as `A0B0`.
 #[tactic(auto, unfolding(crate::specs::Pieces::axes_are))]
 fn axes_are(units: i64, text: &[u8]) -> bool
     ensures { result ≡ axes_are units text.now }
@@ -298,7 +298,7 @@ fn axes_are(units: i64, text: &[u8]) -> bool
     rest.is_empty() && may_be(units, a) && may_be(units, b)
 }
 
-/// A parameter with so many units on both axes.
+/// Whether a text is a parameter with so many units on each axis that stands, as `OFA0B0`.
 fn leaves(prefix: &[u8], units: i64, text: &[u8]) -> bool
     ensures { result ≡ leaves prefix.now units text.now }
 {
@@ -314,7 +314,7 @@ fn begins(prefix: &[u8], text: &[u8]) -> bool
     behind(prefix, text).is_some()
 }
 
-/// Parameters without effect.
+/// Reads parameters without effect, as `IPPOS` or `LN` and a text.
 #[tactic(auto, unfolding(crate::specs::Pieces::plain_row))]
 fn read_plain(text: &[u8]) -> Row
     ensures { result ≡ plain_row text.now }
@@ -331,7 +331,7 @@ fn read_plain(text: &[u8]) -> Row
     }
 }
 
-/// `OF` and `MI` with zeros, `SF` with ones.
+/// Reads `OF` and `MI` with zeros and `SF` with ones, which have no effect.
 #[tactic(auto, unfolding(crate::specs::Pieces::axes_row))]
 fn read_axes(text: &[u8]) -> Row
     ensures { result ≡ axes_row text.now }
@@ -343,7 +343,7 @@ fn read_axes(text: &[u8]) -> Row
     }
 }
 
-/// A negative image.
+/// Refuses a negative image, `IPNEG`.
 #[tactic(auto, unfolding(crate::specs::Pieces::negative_row))]
 fn read_negative(text: &[u8]) -> Row
     ensures { result ≡ negative_row text.now }
@@ -355,7 +355,7 @@ fn read_negative(text: &[u8]) -> Row
     }
 }
 
-/// Older parameters with an effect.
+/// Refuses older parameters with an effect, as `IR90`.
 #[tactic(auto, unfolding(crate::specs::Pieces::old_piece_row))]
 fn read_old(text: &[u8]) -> Row
     ensures { result ≡ old_piece_row text.now }
@@ -372,7 +372,7 @@ fn read_old(text: &[u8]) -> Row
     }
 }
 
-/// A block aperture.
+/// Refuses a block aperture, as `ABD12`.
 #[tactic(auto, unfolding(crate::specs::Pieces::block_row))]
 fn read_block_aperture(text: &[u8]) -> Row
     ensures { result ≡ block_row text.now }
@@ -384,7 +384,7 @@ fn read_block_aperture(text: &[u8]) -> Row
     }
 }
 
-/// The older parameters.
+/// Reads the rows of the older parameters, and of block apertures.
 fn read_older(text: &[u8]) -> Result<Spelled, Reason>
     ensures { result ≡ first_fit (older_pieces text.now) }
 {
@@ -403,7 +403,7 @@ fn read_older(text: &[u8]) -> Result<Spelled, Reason>
     }
 }
 
-/// The rows from attributes on.
+/// Reads the rows from file attributes on.
 fn read_from_attributes(alloc: Global, text: &[u8]) -> Result<Spelled, Stop>
     ensures { Gives result (first_fit (pieces_from_attributes text.now)) }
 {
@@ -422,7 +422,7 @@ fn read_from_attributes(alloc: Global, text: &[u8]) -> Result<Spelled, Stop>
     Ok(read_older(text)?)
 }
 
-/// The rows from polarity on.
+/// Reads the rows from polarity on.
 fn read_from_polarity(alloc: Global, text: &[u8]) -> Result<Spelled, Stop>
     ensures { Gives result (first_fit (pieces_from_polarity text.now)) }
 {
@@ -441,7 +441,7 @@ fn read_from_polarity(alloc: Global, text: &[u8]) -> Result<Spelled, Stop>
     read_from_attributes(alloc, text)
 }
 
-/// All rows.
+/// Reads all rows of pieces.
 fn read_pieces(alloc: Global, text: &[u8]) -> Result<Spelled, Stop>
     ensures { Gives result (first_fit (pieces text.now)) }
 {
@@ -463,7 +463,7 @@ fn read_pieces(alloc: Global, text: &[u8]) -> Result<Spelled, Stop>
     read_from_polarity(alloc, text)
 }
 
-/// Pieces without their last `*`.
+/// Reads what stands before the last `*`: one piece, or a macro with its pieces.
 #[tactic(auto, unfolding(crate::specs::Pieces::piece))]
 fn read_piece(alloc: Global, text: &[u8]) -> Result<Spelled, Stop>
     ensures { Gives result (piece text.now) }
@@ -474,7 +474,7 @@ fn read_piece(alloc: Global, text: &[u8]) -> Result<Spelled, Stop>
     read_pieces(alloc, text)
 }
 
-/// The bytes before a last `*`.
+/// The bytes before the last `*`, if the text ends with it.
 fn before_star(text: &[u8]) -> Option<&[u8]>
     ensures none { IfNone result (is (last_byte text.now) (codes "*") ≡ false) }
     ensures some { IfSome result (λ front. (is (last_byte text.now) (codes "*") ≡ true) × (front.now ≡ before_last text.now)) }
@@ -485,7 +485,7 @@ fn before_star(text: &[u8]) -> Option<&[u8]>
     }
 }
 
-/// An extended item between its two `%`.
+/// Reads what stands between the two `%` of an extended item.
 #[tactic(auto, unfolding(crate::specs::Pieces::extended))]
 pub(crate) fn read_extended(alloc: Global, text: &[u8]) -> Result<Spelled, Stop>
     ensures { Gives result (extended text.now) }

@@ -12,7 +12,7 @@ use crate::command::{Action, Coordinate, Interpolation};
 use crate::number::{first_digits, signed};
 use grid_units::numbers::{behind_sign, is_negative};
 
-/// An operation, the interpolation that may stand in front of it, and how many bytes its item takes.
+/// An operation, the interpolation before it, if there is one, and how many bytes its item takes.
 #[derive(Clone, Copy, Debug, PartialEq, Eq)]
 pub struct PlainOperation {
     pub mode: Option<Interpolation>,
@@ -24,7 +24,7 @@ pub struct PlainOperation {
     pub len: usize,
 }
 
-/// The integer at the start of these bytes, with a sign and at most 12 digits, and what stands behind it.
+/// The integer at the start of these bytes, with a sign and at most 12 digits, and the bytes after it.
 fn first_int(bytes: &[u8]) -> Option<(i64, &[u8])>
     ensures value { IfSome result (λ found. BeginsWithInt bytes.now found.0 found.1.now) }
     ensures kept { IfSome result (λ found. found.0 ≢ left_out) }
@@ -37,7 +37,7 @@ fn first_int(bytes: &[u8]) -> Option<(i64, &[u8])>
     Some((signed(is_negative(bytes), magnitude), &digits[len..]))
 }
 
-/// The coordinate at the start of these bytes, where its letter stands there, and what stands behind it.
+/// The coordinate at the start of these bytes, if its letter stands there, and the bytes after it.
 // Most operations have no I and no J: without a call these cost a comparison each.
 #[inline(always)]
 fn first_coordinate(letter: u8, bytes: &[u8]) -> Option<(Option<i64>, &[u8])>
@@ -53,7 +53,7 @@ fn first_coordinate(letter: u8, bytes: &[u8]) -> Option<(Option<i64>, &[u8])>
     }
 }
 
-/// The operation code at the start of these bytes, where its two digits and `*` stand there.
+/// The operation code at the start of these bytes, if `D01*`, `D02*` or `D03*` stands there.
 fn first_action(bytes: &[u8]) -> Option<Action>
     ensures { IfSome result (λ action. (rest : List ℕ) × (bytes.now ≡ action_code action ++ rest)) }
 {
@@ -65,7 +65,7 @@ fn first_action(bytes: &[u8]) -> Option<Action>
     }
 }
 
-/// The interpolation at the start of these bytes, where its three letters stand there, and what stands behind it.
+/// The interpolation at the start of these bytes, if `G01`, `G02` or `G03` stands there, and the bytes after it.
 fn first_mode(bytes: &[u8]) -> (Option<Interpolation>, &[u8])
     ensures { bytes.now ≡ front_word result.0 ++ result.1.now }
 {
@@ -77,28 +77,28 @@ fn first_mode(bytes: &[u8]) -> (Option<Interpolation>, &[u8])
     }
 }
 
-/// Whether an interpolation stands in front, or an `X` or a `Y`.
+/// Whether a word begins with an interpolation, an `X` or a `Y`.
 fn begins_plainly(mode: Option<Interpolation>, x: Option<i64>, y: Option<i64>) -> bool
     ensures { result ≡ (is_some mode || (is_some x || is_some y)) }
 {
     mode.is_some() || (x.is_some() || y.is_some())
 }
 
-/// Whether an operation is a plot (`D01`), beside which alone offsets may stand.
+/// Whether an operation is a plot (`D01`), the only one that may have offsets.
 pub fn is_plot(action: Action) -> bool
     ensures { result ≡ is_plot action }
 {
     matches!(action, Action::Plot)
 }
 
-/// Whether the offsets that stand there may stand beside this operation.
+/// Whether the offsets, if any stand, may stand beside this operation.
 fn may_stand(action: Action, i: Option<i64>, j: Option<i64>) -> bool
     ensures { result ≡ (is_plot action || not (is_some i || is_some j)) }
 {
     is_plot(action) || !(i.is_some() || j.is_some())
 }
 
-/// The operation with which these bytes begin, where it is written so: `G01`, `G02`, `G03` or at least one of `X` and
+/// The operation at the start of these bytes, if it is written so: `G01`, `G02`, `G03` or at least one of `X` and
 /// `Y`, each coordinate with at most 12 digits, `D01`, `D02` or `D03`, and `*`. Where it is written otherwise,
 /// [`read_item`](crate::read_item) reads it.
 pub fn plain_operation(bytes: &[u8]) -> Option<PlainOperation>

@@ -18,7 +18,7 @@ use std::alloc::Global;
 
 type Row = Option<Result<Spelled, Reason>>;
 
-/// The empty word, and absolute coordinates.
+/// Reads the empty word and `G90`, which spell nothing.
 #[tactic(auto, unfolding(crate::specs::Words::nothing_row))]
 fn read_nothing(text: &[u8]) -> Row
     ensures { result ≡ nothing_row text.now }
@@ -30,7 +30,7 @@ fn read_nothing(text: &[u8]) -> Row
     }
 }
 
-/// What stands before the first comma.
+/// The text up to the first comma.
 pub(crate) fn first_field(text: &[u8]) -> &[u8]
     ensures { result.now ≡ first_field text.now }
 {
@@ -47,7 +47,7 @@ pub fn is_negative_image(attribute: &[u8]) -> bool
     }
 }
 
-/// The text from its first byte on that is no space.
+/// The text without the spaces at its start.
 fn behind_spaces(text: &[u8]) -> &[u8]
     ensures { result.now ≡ behind_spaces text.now }
 {
@@ -64,7 +64,7 @@ pub fn comments_negative(text: &[u8]) -> bool
     }
 }
 
-/// A comment.
+/// Reads the text of a comment, which must not make the image negative.
 #[tactic(auto, unfolding(crate::specs::Words::comment))]
 fn read_comment(alloc: Global, text: &[u8]) -> Result<Spelled, Stop>
     ensures { Gives result (comment text.now) }
@@ -76,7 +76,7 @@ fn read_comment(alloc: Global, text: &[u8]) -> Result<Spelled, Stop>
     Ok(Spelled::one(Command::Comment(text)))
 }
 
-/// The interpolation in front of a word, and what stands behind it.
+/// The interpolation at the start of a word, if there is one, and the bytes after it.
 #[tactic(auto, unfolding(crate::specs::Words::mode_front))]
 fn mode_front(text: &[u8]) -> (Option<Interpolation>, &[u8])
     ensures mode { result.0 ≡ (mode_front text.now).0 }
@@ -99,7 +99,7 @@ fn mode_front(text: &[u8]) -> (Option<Interpolation>, &[u8])
     }
 }
 
-/// An interpolation alone.
+/// Reads an interpolation alone, as `G02`.
 #[tactic(auto, unfolding(crate::specs::Words::mode_row))]
 fn read_mode(text: &[u8]) -> Row
     ensures { result ≡ mode_row text.now }
@@ -110,7 +110,7 @@ fn read_mode(text: &[u8]) -> Row
     }
 }
 
-/// How an arc's centre is found.
+/// Reads how the centre of an arc is found, `G74` or `G75`.
 #[tactic(auto, unfolding(crate::specs::Words::quadrant_row))]
 fn read_quadrant(text: &[u8]) -> Row
     ensures { result ≡ quadrant_row text.now }
@@ -124,7 +124,7 @@ fn read_quadrant(text: &[u8]) -> Row
     }
 }
 
-/// The ends of a region.
+/// Reads the start or end of a region, `G36` or `G37`.
 #[tactic(auto, unfolding(crate::specs::Words::region_row))]
 fn read_region(text: &[u8]) -> Row
     ensures { result ≡ region_row text.now }
@@ -138,7 +138,7 @@ fn read_region(text: &[u8]) -> Row
     }
 }
 
-/// The unit.
+/// Reads the unit by an older code, `G70` or `G71`.
 #[tactic(auto, unfolding(crate::specs::Words::unit_row))]
 fn read_unit(text: &[u8]) -> Row
     ensures { result ≡ unit_row text.now }
@@ -152,7 +152,7 @@ fn read_unit(text: &[u8]) -> Row
     }
 }
 
-/// Incremental coordinates.
+/// Refuses incremental coordinates, `G91`.
 #[tactic(auto, unfolding(crate::specs::Words::incremental_row))]
 fn read_incremental(text: &[u8]) -> Row
     ensures { result ≡ incremental_row text.now }
@@ -164,7 +164,7 @@ fn read_incremental(text: &[u8]) -> Row
     }
 }
 
-/// The operation of a D code.
+/// The operation of a D code of 1, 2 or 3.
 fn action_of(number: u32) -> Result<Action, Reason>
     ensures { result ≡ action number }
 {
@@ -176,7 +176,7 @@ fn action_of(number: u32) -> Result<Action, Reason>
     }
 }
 
-/// The digits behind a prefix, where nothing else stands there.
+/// The digits after a prefix, if nothing else follows it.
 fn numbered<'a>(prefix: &[u8], text: &'a [u8]) -> Option<&'a [u8]>
     ensures { option_copied result ≡ numbered prefix.now text.now }
 {
@@ -186,7 +186,7 @@ fn numbered<'a>(prefix: &[u8], text: &'a [u8]) -> Option<&'a [u8]>
     }
 }
 
-/// `D` and a number.
+/// Reads the number of `D`: an aperture from 10 on, or an operation.
 #[tactic(auto, unfolding(crate::specs::Words::alone))]
 fn read_alone(digits: &[u8]) -> Result<Spelled, Reason>
     ensures { result ≡ alone digits.now }
@@ -205,7 +205,7 @@ fn read_alone(digits: &[u8]) -> Result<Spelled, Reason>
     }))
 }
 
-/// `G54D` and a number.
+/// Reads the number of `G54D`: an aperture from 10 on.
 #[tactic(auto, unfolding(crate::specs::Words::prepared))]
 fn read_prepared(digits: &[u8]) -> Result<Spelled, Reason>
     ensures { result ≡ prepared digits.now }
@@ -218,7 +218,7 @@ fn read_prepared(digits: &[u8]) -> Result<Spelled, Reason>
     }
 }
 
-/// `D` and a number, or `G54D` and a number.
+/// Reads a D code without coordinates, as `D10` or `G54D10`.
 #[tactic(auto, unfolding(crate::specs::Words::select_row))]
 fn read_select(text: &[u8]) -> Row
     ensures { result ≡ select_row text.now }
@@ -243,7 +243,7 @@ fn coordinate_of(run: Option<&[u8]>) -> Result<Coordinate, Reason>
     }
 }
 
-/// What an operation with coordinates does.
+/// The operation of a word with coordinates. Without a D code it continues a plot.
 #[tactic(auto, unfolding(crate::specs::Words::kind))]
 fn kind_of(plotting: bool, offsets: bool, digits: Option<&[u8]>) -> Result<Action, Reason>
     ensures { result ≡ kind plotting offsets (option_copied digits.entry) }
@@ -255,7 +255,7 @@ fn kind_of(plotting: bool, offsets: bool, digits: Option<&[u8]>) -> Result<Actio
     }
 }
 
-/// The operation of a D code beside coordinates: offsets stand with a plot alone.
+/// The operation of a D code beside coordinates. Only a plot may have offsets.
 fn action_with(offsets: bool, number: u32) -> Result<Action, Reason>
     ensures { result ≡ action_with offsets number }
 {
@@ -267,7 +267,7 @@ fn action_with(offsets: bool, number: u32) -> Result<Action, Reason>
     }
 }
 
-/// The fields of an operation, each as a run where its letter stands, and what stands behind them.
+/// The fields of an operation: the run of each letter that stands, and the bytes left over.
 #[derive(Clone, Copy)]
 struct Runs<'a> {
     x: Option<&'a [u8]>,
@@ -278,7 +278,7 @@ struct Runs<'a> {
     rest: &'a [u8],
 }
 
-/// The fields in their order.
+/// The fields X, Y, I, J and D, in this order.
 #[tactic(auto, unfolding(crate::specs::Words::fields))]
 fn fields(text: &[u8]) -> Runs<'_>
     ensures { fields_of result ≡ fields text.now }
@@ -298,7 +298,7 @@ fn fields(text: &[u8]) -> Runs<'_>
     }
 }
 
-/// Whether this is a D code of 1, 2 or 3.
+/// Whether a D code stands, of 1, 2 or 3.
 #[tactic(auto, unfolding(crate::specs::Words::names_action))]
 fn names_action(digits: Option<&[u8]>) -> bool
     ensures { result ≡ names_action (option_copied digits.entry) }
@@ -312,7 +312,7 @@ fn names_action(digits: Option<&[u8]>) -> bool
     }
 }
 
-/// At least one coordinate, or a D code of 1, 2 or 3.
+/// Whether nothing is left over, and a coordinate stands or a D code of 1, 2 or 3.
 fn is_operation(f: &Runs<'_>) -> bool
     ensures { result ≡ is_operation (fields_of f.now) }
 {
@@ -320,24 +320,24 @@ fn is_operation(f: &Runs<'_>) -> bool
         && (f.x.is_some() || f.y.is_some() || f.i.is_some() || f.j.is_some() || names_action(f.d))
 }
 
-/// The values of the fields: x and y, i and j, and what is done.
+/// The values of X and Y, of I and J, and the operation.
 type Operands = (((Coordinate, Coordinate), (Coordinate, Coordinate)), Action);
 
-/// Two coordinates.
+/// The values of two coordinates, or the first reason in the reading order.
 fn pair_of(first: Option<&[u8]>, second: Option<&[u8]>) -> Result<(Coordinate, Coordinate), Reason>
     ensures { result ≡ both (coordinate (option_copied first.entry)) (coordinate (option_copied second.entry)) }
 {
     both(coordinate_of(first), coordinate_of(second))
 }
 
-/// Whether an offset stands there.
+/// Whether an offset I or J stands.
 fn has_offsets(f: &Runs<'_>) -> bool
     ensures { result ≡ has_offsets (fields_of f.now) }
 {
     f.i.is_some() || f.j.is_some()
 }
 
-/// The values of these fields.
+/// The values of these fields, or the first reason in the reading order.
 #[tactic(auto, unfolding(crate::specs::Words::operands))]
 fn read_operands(plotting: bool, f: &Runs<'_>) -> Result<Operands, Reason>
     ensures { result ≡ operands plotting (fields_of f.now) }
@@ -346,7 +346,7 @@ fn read_operands(plotting: bool, f: &Runs<'_>) -> Result<Operands, Reason>
     both(coordinates, kind_of(plotting, has_offsets(f), f.d))
 }
 
-/// The operation of these fields.
+/// The interpolation, if there is one, and the operation of these fields.
 #[tactic(auto, unfolding(crate::specs::Words::operate))]
 fn read_operate(
     plotting: bool,
@@ -359,7 +359,7 @@ fn read_operate(
     Ok(Spelled::both(mode, Command::Operate { action, x, y, i, j }))
 }
 
-/// An interpolation that may stand in front, and an operation.
+/// Reads an operation, optionally after an interpolation, as `G01X10Y20D01`.
 #[tactic(auto, unfolding(crate::specs::Words::operation_row))]
 fn read_operation(plotting: bool, text: &[u8]) -> Row
     ensures { result ≡ operation_row plotting text.now }
@@ -373,7 +373,7 @@ fn read_operation(plotting: bool, text: &[u8]) -> Row
     }
 }
 
-/// The end of the text.
+/// Reads the end of the text, `M02` or `M2`.
 #[tactic(auto, unfolding(crate::specs::Words::finish_row))]
 fn read_finish(text: &[u8]) -> Row
     ensures { result ≡ finish_row text.now }
@@ -385,7 +385,7 @@ fn read_finish(text: &[u8]) -> Row
     }
 }
 
-/// Stops and line numbers.
+/// Refuses the stops `M00` and `M01`, and line numbers.
 #[tactic(auto, unfolding(crate::specs::Words::old_row))]
 fn read_old(text: &[u8]) -> Row
     ensures { result ≡ old_row text.now }
@@ -409,7 +409,7 @@ pub(crate) fn contains(text: &[u8], sought: u8) -> bool
     found
 }
 
-/// The rows behind those of comments, in their order.
+/// Reads the rows after that of comments, in their order.
 fn read_later(plotting: bool, text: &[u8]) -> Result<Spelled, Reason>
     ensures { result ≡ first_fit (later_words plotting text.now) }
 {
@@ -436,7 +436,7 @@ fn read_later(plotting: bool, text: &[u8]) -> Result<Spelled, Reason>
     }
 }
 
-/// A word without its `*`.
+/// Reads a word without its `*`, given whether the last operation before it is a plot.
 #[tactic(auto, unfolding(crate::specs::Words::word))]
 pub(crate) fn read_word(alloc: Global, plotting: bool, text: &[u8]) -> Result<Spelled, Stop>
     ensures { Gives result (word plotting text.now) }

@@ -32,7 +32,7 @@ use Rattle.grid_units.specs.Limits.{item_limit}
 use Rattle.grid_units.proofs.BoolLemmas.{both_true}
 use Rattle.grid_units.proofs.ListLemmas.{all_weaker, all_append}
 
--- two tests of numbers that say the same
+-- two comparisons of numbers with one answer
 pub same_test : (a b m n : ℕ) → (a ≤ b → m ≤ n) → (m ≤ n → a ≤ b) → leb a b ≡ leb m n
 same_test a b m n h k = by (leb a b) (leb m n) refl refl
   where

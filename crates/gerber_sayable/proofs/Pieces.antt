@@ -338,7 +338,7 @@ is_none (Some x) h = absurd cc
 not_less : (n : ℕ) → ltb n n ≡ false
 not_less n = le-ltb n n (omega arith)
 
--- the definition of an aperture by a macro's name, and what may stand behind a comma
+-- an aperture of a macro's name, and of the text that may follow a comma
 name_defines : (ds name text : List ℕ) (parameters : Option (List ℕ)) → is_macro_name name ≡ true → before_comma text ≡ name → after_comma text ≡ parameters → define ds text ≡ define_named ds name parameters
 unfolding define
 name_defines ds name text parameters h before after =

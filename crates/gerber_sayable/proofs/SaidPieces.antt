@@ -299,7 +299,7 @@ as_said : (digits name : List ℕ) (aperture : Option Standard) (parameters : Op
 as_said digits name None parameters h e m l = named_said digits name parameters (and_true (is_name name) (not (is_some (standard name))) h (ap (λ o. not (is_some o)) e)) m l
 as_said digits name (Some aperture) parameters h e m l = standard_said digits aperture parameters
 
--- the name before a comma and the text behind it are no longer than both
+-- the name before a comma and the text after it are together no longer than the whole
 comma_fits : (t : Bool) (text : List ℕ) (k : ℕ) → ltb k (length text) ≡ t → (parts_length (take k text) (cond t (Some (drop (k + 1) text)) None) ≤ length text)
 unfolding parts_length
 comma_fits true text k h = omega (arith, length-take k text, length-drop (k + 1) text, ltb-true k (length text) h)

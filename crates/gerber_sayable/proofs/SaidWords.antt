@@ -99,7 +99,7 @@ one_row c e h = one_command c e h
 pub bounded : (c : Command) → has_fields c ≡ true → is_bounded c ≡ true → is_sayable c ≡ true
 bounded c h b = and_true (has_fields c) (is_short c) h (sym (short_true c (bounded_short c h b)))
 
--- what stands behind a prefix is what is left without so many bytes
+-- what follows a prefix is the text without so many bytes
 pub behind_is : (prefix text rest : List ℕ) → behind prefix text ≡ Some rest → drop (length prefix) text ≡ rest
 behind_is prefix text rest e = by (bytes_eq (take (length prefix) text) prefix) e
   where
@@ -210,7 +210,7 @@ select_said text =
     (row_map alone (numbered (codes "D") text) (λ digits _. alone_said digits))
     (row_map prepared (numbered (codes "G54D") text) (λ digits _. prepared_said digits))
 
--- the interpolation in front of an operation, and the operation
+-- an interpolation before an operation, and the operation
 operate_both : (mode : Option Interpolation) (c : Command) → is_finish c ≡ false → is_sayable c ≡ true → Said (Ok (modes_of mode ++ c ∷ []))
 unfolding Said
 operate_both None c e h = ((h, e), tt)

@@ -283,7 +283,7 @@ operation_word plotting a None None None (Some v) h =
     word_fits plotting w (operation_bytes a None None None (Some v) h) ∙ (fits_j plotting (integer v ++ code a) ∙ some_fits plotting a None None None (Some v) h refl)
 operation_word plotting a None None None None h = alone_fits plotting a
 
--- a text behind another, ended by a third
+-- a text after another one, ended by a third
 pub behind_all : (a xs ys s : List ℕ) → xs ≡ ys ++ s → a ++ xs ≡ (a ++ ys) ++ s
 behind_all a xs ys s h = ap (λ (l : List ℕ). a ++ l) h ∙ sym (append_assoc a ys s)
 

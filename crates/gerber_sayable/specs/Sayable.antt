@@ -1,4 +1,5 @@
--- Which commands some item of a Gerber text spells: the ranges of their fields, and the bytes of their texts.
+-- Which commands some item of a Gerber text spells: the ranges of their numbers, and the bytes of their texts
+-- (docs/FORMATS.md, The canonical Gerber text).
 use Rattle.std.specs.Prelude.{ℕ, ◌+◌, ◌^◌, ℤ, Bool, true, false, not, ◌||◌, ◌&&◌, ◌==◌, nat_le, nat_lt, unsigned_abs, List, length, Option, None, Some, is_some}
 use Rattle.std.specs.List.{list_all}
 use Rattle.grid_units.specs.Numbers.{max_units}
@@ -27,64 +28,64 @@ use Rattle.grid_units.specs.Ascii as ascii
 abbrev pub is_text_byte : ℕ → Bool
 is_text_byte b = not ((b == ascii.asterisk) || ((b == ascii.percent) || is_line_break b))
 
--- a text in an item (docs/FORMATS.md, How a row fits and is read)
+-- a text that an item can hold, the empty one too (docs/FORMATS.md, How a row fits and is read)
 abbrev pub is_text : List ℕ → Bool
 is_text text = list_all is_text_byte text
 
--- the same where it stands (docs/FORMATS.md, How a row fits and is read)
+-- such a text, or no text (docs/FORMATS.md, How a row fits and is read)
 abbrev pub may_be_text : Option (List ℕ) → Bool
 may_be_text None = true
 may_be_text (Some text) = is_text text
 
--- a whole number without a sign: at most 2,147,483,647 (docs/FORMATS.md, The three kinds of number)
+-- a Nat: a whole number without a sign, at most 2,147,483,647 (docs/FORMATS.md, The three kinds of number)
 abbrev pub is_nat : ℕ → Bool
 is_nat n = nat_le n 2147483647
 
--- a whole number with a sign: at most 12 digits (docs/FORMATS.md, The three kinds of number)
+-- an Int: a whole number with at most 12 digits, whatever its sign (docs/FORMATS.md, The three kinds of number)
 abbrev pub is_int : ℤ → Bool
 is_int z = nat_lt (unsigned_abs z) (10 ^ 12)
 
--- the same where it stands (docs/FORMATS.md, The three kinds of number)
+-- an Int, or a coordinate that is left out (docs/FORMATS.md, The three kinds of number)
 abbrev pub may_be_int : Option ℤ → Bool
 may_be_int None = true
 may_be_int (Some z) = is_int z
 
--- a decimal, in units of 10^-8: at most 999,999.99999999 from zero (docs/FORMATS.md, The three kinds of number)
+-- a Dec in units of 10^-8: at most 999,999.99999999 from zero (docs/FORMATS.md, The three kinds of number)
 abbrev pub is_dec : ℤ → Bool
 is_dec v = nat_le (unsigned_abs v) max_units
 
 -- ---- kinds of commands
 
--- digits of a format: none above 6, not both 0 (docs/FORMATS.md, Extended items)
+-- the digits of a format, as 4 and 6: none above 6, not both 0 (docs/FORMATS.md, Extended items)
 abbrev pub is_format : Format → Bool
 is_format f = nat_le f.whole 6 && (nat_le f.decimals 6 && nat_le 1 (f.whole + f.decimals))
 
--- the number of an aperture, from 10 on (docs/FORMATS.md, Apertures)
+-- the number of an aperture: 10 to 2,147,483,647 (docs/FORMATS.md, Apertures)
 abbrev pub is_aperture_number : ℕ → Bool
 is_aperture_number n = nat_le 10 n && is_nat n
 
--- the name of a macro: a name, and none of the standard apertures (docs/FORMATS.md, Apertures)
+-- the name of a macro, as `THERMAL80`: any name but `C`, `R`, `O` and `P` (docs/FORMATS.md, Apertures)
 abbrev pub is_macro_name : List ℕ → Bool
 is_macro_name name = is_name name && not (is_some (standard name))
 
--- the parameters of a standard aperture: as many as it takes, each a decimal (docs/FORMATS.md, Apertures)
+-- the parameters of a standard aperture: each a Dec, and as many as it takes (docs/FORMATS.md, Apertures)
 abbrev pub is_parameters : Standard → List ℤ → Bool
 is_parameters aperture sizes = list_all is_dec sizes && (nat_le (least_sizes aperture) (length sizes) && nat_le (length sizes) (most_sizes aperture))
 
--- a template: a standard aperture, or a macro's name and a text (docs/FORMATS.md, Apertures)
+-- a standard aperture with its parameters, or the name of a macro with or without a text (docs/FORMATS.md, Apertures)
 abbrev pub is_template : Template → Bool
 is_template (templates.Standard aperture sizes) = is_parameters aperture sizes
 is_template (templates.Named name parameters) = is_macro_name name && may_be_text parameters
 
--- an operation: its coordinates are whole numbers, and offsets stand with a plot alone (docs/FORMATS.md, Words)
+-- an operation: its coordinates are Ints, and only a plot has the offsets I and J (docs/FORMATS.md, Words)
 abbrev pub is_operation : Action → Option ℤ → Option ℤ → Option ℤ → Option ℤ → Bool
 is_operation action x y i j = (may_be_int x && may_be_int y) && ((may_be_int i && may_be_int j) && (is_plot action || not (is_some i || is_some j)))
 
--- a step and repeat block (docs/FORMATS.md, Extended items)
+-- a step and repeat block: its counts are Nats and its steps Decs (docs/FORMATS.md, Extended items)
 abbrev pub is_block : Block → Bool
 is_block b = (is_nat b.columns && is_nat b.rows) && (is_dec b.step_x && is_dec b.step_y)
 
--- an attribute: a text, of files none that makes the image negative (docs/FORMATS.md, Names, first fields, negative images)
+-- an attribute: any text, but one of the file must not make the image negative (docs/FORMATS.md, Names, first fields, negative images)
 abbrev pub is_attribute : AttributeKind → List ℕ → Bool
 is_attribute kinds.File text = is_text text && not (is_negative_image text)
 is_attribute kinds.Aperture text = is_text text
@@ -92,7 +93,7 @@ is_attribute kinds.Object text = is_text text
 
 -- ---- commands
 
--- The fields of a command are those that some item spells, whatever the item's length (docs/FORMATS.md, The canonical Gerber text).
+-- Some item spells a command with these fields, whatever the item's length: there is one for Select(10), and none for Select(9).
 unfoldable pub has_fields : Command → Bool
 has_fields (Comment text) = is_text text && not (comments_negative text)
 has_fields (FormatIs format) = is_format format
@@ -107,15 +108,15 @@ has_fields (Attribute kind text) = is_attribute kind text
 has_fields (Remove text) = is_text text
 has_fields _ = true
 
--- the canonical item of a command is at most 1,048,576 bytes without its line breaks (docs/FORMATS.md, The canonical Gerber text)
+-- the canonical item of a command is at most 1,048,576 bytes long without its line breaks
 abbrev pub is_short : Command → Bool
 is_short command = nat_le (length (unbroken (canonical command))) item_limit
 
--- A command is sayable where some item spells it and its canonical item is within the limit (docs/FORMATS.md, The canonical Gerber text).
+-- A command is sayable where some item spells it and its canonical item is within the limit. By a law this is `IsSpelled`.
 abbrev pub is_sayable : Command → Bool
 is_sayable command = has_fields command && is_short command
 
--- the end of the text (Gerber format, End-of-file M02)
+-- Finish, the end of the text (Gerber format, End-of-file M02)
 abbrev pub is_finish : Command → Bool
 is_finish Finish = true
 is_finish _ = false

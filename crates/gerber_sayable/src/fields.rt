@@ -1,4 +1,4 @@
-//! The fields of commands: ranges of numbers, and bytes of texts.
+//! The fields of commands: the ranges of numbers, and the bytes of texts.
 
 ghost use Rattle.std.specs.Prelude.{◌≡◌};
 ghost use Rattle.std.specs.List.{list_all};
@@ -17,7 +17,7 @@ fn is_text_byte(byte: u8) -> bool
     !(byte == b'*' || byte == b'%' || byte == b'\n' || byte == b'\r')
 }
 
-/// Whether an item can hold this text.
+/// Whether an item can hold this text: it has no `*`, `%`, CR or LF.
 pub(crate) fn is_text(text: &[u8]) -> bool
     ensures { result ≡ is_text text.now }
 {
@@ -61,7 +61,7 @@ fn may_be_int(number: Option<i64>) -> bool
     }
 }
 
-/// Whether a decimal is in the range that can be read, as each one is.
+/// Whether a decimal is at most 999,999.99999999 from zero, as each one that is read is.
 pub(crate) fn is_dec(dec: Dec) -> bool
     ensures { result ≡ is_dec dec }
 {
@@ -80,7 +80,7 @@ pub(crate) fn is_aperture_number(number: u32) -> bool
     10 <= number && is_nat(number)
 }
 
-/// Whether this can be the name of a macro.
+/// Whether this can be the name of a macro: a name other than `C`, `R`, `O` and `P`.
 pub(crate) fn is_macro_name(name: &[u8]) -> bool
     ensures { result ≡ is_macro_name name.now }
 {

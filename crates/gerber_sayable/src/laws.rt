@@ -1,4 +1,4 @@
-//! Laws of sayable commands. A call of one does nothing, and gives its clauses.
+//! Laws of sayable commands. Calling one does nothing, but gives its clauses.
 
 ghost use Rattle.std.specs.Prelude.{◌≡◌, ◌↔◌, true, List, ℕ, Bool, Ok, All};
 ghost use Rattle.gerber_rows.specs.declared.command.Command.{Command};

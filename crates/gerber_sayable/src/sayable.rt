@@ -45,7 +45,7 @@ fn has_fields(command: &Command) -> bool
     }
 }
 
-/// How many bytes the digits of a number take.
+/// How many decimal digits a number has, at most 10.
 fn digits_len(number: u32) -> usize
     ensures value { result ≡ length (decimal number) }
     ensures few { result ≤ 10 }
@@ -54,7 +54,7 @@ fn digits_len(number: u32) -> usize
     buffer.format(number).len()
 }
 
-/// Whether so many bytes hold these texts, each with a byte behind it.
+/// Whether these texts fit into so many bytes, each with one byte after it.
 fn hold(room: usize, texts: &[Text]) -> bool
     ensures { result ≡ nat_le (length (flat_map (λ text. text ++ codes "*") texts.now)) room }
 {
@@ -68,7 +68,7 @@ fn hold(room: usize, texts: &[Text]) -> bool
     true
 }
 
-/// Whether the canonical item of a macro is short enough.
+/// Whether the canonical item of a macro is within the limit.
 fn is_macro_short(name: &[u8], pieces: &[Text]) -> bool
     requires { length name.now ≤ 127 }
     ensures { result ≡ nat_le (5 + (length name.now + length (flat_map (λ piece. piece ++ codes "*") pieces.now))) item_limit }
@@ -76,7 +76,7 @@ fn is_macro_short(name: &[u8], pieces: &[Text]) -> bool
     hold(ITEM_LIMIT - 5 - name.len(), pieces)
 }
 
-/// Whether the canonical item of an aperture with a macro's name and a text is short enough.
+/// Whether the canonical item of a macro aperture with a text is within the limit.
 fn is_text_short(number: u32, name: &[u8], text: &[u8]) -> bool
     requires { length name.now ≤ 127 }
     ensures { result ≡ nat_le (7 + (length (decimal number) + (length name.now + length text.now))) item_limit }
@@ -84,7 +84,7 @@ fn is_text_short(number: u32, name: &[u8], text: &[u8]) -> bool
     text.len() <= ITEM_LIMIT - 7 - name.len() - digits_len(number)
 }
 
-/// Whether the canonical item of an aperture with a macro's name is short enough.
+/// Whether the canonical item of a macro aperture is within the limit.
 fn is_named_short(number: u32, name: &[u8], parameters: &Option<Text>) -> bool
     requires { has_fields (Define number (Named name.now parameters.now)) ≡ true }
     ensures { result ≡ is_short (Define number (Named name.now parameters.now)) }
@@ -95,7 +95,7 @@ fn is_named_short(number: u32, name: &[u8], parameters: &Option<Text>) -> bool
     }
 }
 
-/// Whether the canonical item of an aperture's definition is short enough.
+/// Whether the canonical item of an aperture's definition is within the limit.
 fn is_define_short(number: u32, template: &Template) -> bool
     requires { has_fields (Define number template.now) ≡ true }
     ensures { result ≡ is_short (Define number template.now) }

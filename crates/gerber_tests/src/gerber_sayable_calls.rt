@@ -72,7 +72,7 @@ const COMMANDS: [(Plain, bool); 47] = [
     (Plain::Macro(Bytes::Letters(1_048_570)), false),
 ];
 
-/// Whether an item spells a command.
+/// Whether a command is sayable: an item within the limit spells it.
 fn is_spelled(alloc: Global, plain: Plain) -> Option<bool> {
     match command(alloc, plain) {
         Some(command) => Some(is_sayable(&command)),

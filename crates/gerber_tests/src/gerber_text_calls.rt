@@ -8,7 +8,7 @@ use gerber_text::{
 use grid_units::{Fail, Reason};
 use std::alloc::Global;
 
-/// The fault of a text, read whole.
+/// The fault of a text that is read whole, if it has one.
 fn fault_of(alloc: Global, text: &[u8]) -> Option<Fail> {
     match read_words(alloc, text) {
         Ok(_) => None,
@@ -16,7 +16,7 @@ fn fault_of(alloc: Global, text: &[u8]) -> Option<Fail> {
     }
 }
 
-/// What a text that comes in two pieces reads as.
+/// What a text reads as when it comes in two pieces.
 fn in_two(alloc: Global, text: &[u8], at: usize) -> Result<Vec<Placed<Command>>, Fail>
     requires { at ≤ length text.now }
 {
@@ -26,7 +26,7 @@ fn in_two(alloc: Global, text: &[u8], at: usize) -> Result<Vec<Placed<Command>>,
     reader.finish()
 }
 
-/// What a text that comes byte by byte reads as.
+/// What a text reads as when it comes byte by byte.
 fn in_bytes(alloc: Global, text: &[u8]) -> Result<Vec<Placed<Command>>, Fail> {
     let mut reader = WordReader::new(alloc);
     for i in 0..text.len() {
@@ -61,7 +61,7 @@ fn agree(
     }
 }
 
-/// Whether every front of a text has the same answer whole and byte by byte.
+/// Whether every prefix of a text has one answer, whole and byte by byte.
 fn is_same_in_bytes(alloc: Global, text: &[u8]) -> bool {
     for n in 0..text.len() + 1 {
         let front = &text[..n];
@@ -72,7 +72,7 @@ fn is_same_in_bytes(alloc: Global, text: &[u8]) -> bool {
     true
 }
 
-/// Whether every front of a text has the same answer byte by byte, and the text the same in two pieces at each byte.
+/// Whether every prefix of a text has one answer, whole and byte by byte, and so has the text in any two pieces.
 pub(crate) fn is_same_in_pieces(alloc: Global, text: &[u8]) -> bool {
     let whole = read_words(alloc, text);
     for at in 0..text.len() + 1 {
@@ -83,14 +83,14 @@ pub(crate) fn is_same_in_pieces(alloc: Global, text: &[u8]) -> bool {
     is_same_in_bytes(alloc, text)
 }
 
-/// Whether a text has this fault, a place, a byte and a reason, or none, whole and in pieces.
+/// Whether a text has this fault (a place, a byte and a reason) or none, whole and in pieces.
 fn has_fault(alloc: Global, text: &[u8], fault: Option<(u64, u64, Reason)>) -> bool {
     fault_of(alloc, text) == expected_fault(fault) && is_same_in_pieces(alloc, text)
 }
 
-/// Items, and why they are refused.
+/// Items, and the reasons for which they are refused.
 const ITEMS: [(&[u8], Reason); 73] = [
-    // By name.
+    // Refused by name.
     (b"%FSLAX24Y24*MOMM*%", Reason::SeveralInOne),
     (b"%LPC*LPD*%", Reason::SeveralInOne),
     (b"%**%", Reason::SeveralInOne),
@@ -114,7 +114,7 @@ const ITEMS: [(&[u8], Reason); 73] = [
     (b"M00*", Reason::OldParameter),
     (b"M01*", Reason::OldParameter),
     (b"N10*", Reason::OldParameter),
-    // Of no row of the format's table.
+    // These fit no row of the tables of words and of extended items.
     (b"X1%*", Reason::BadWord),
     (b"X1%MOMM*", Reason::BadWord),
     (b"X1I1D02*", Reason::BadWord),
@@ -142,7 +142,7 @@ const ITEMS: [(&[u8], Reason); 73] = [
     (b"%SRX2Y1*%", Reason::BadWord),
     (b"%IPX*%", Reason::BadWord),
     (b"\xEF\xBB\xBFG04*", Reason::BadWord),
-    // By their numbers.
+    // Their numbers are at fault.
     (b"D*", Reason::BadNumber),
     (b"D99999999999*", Reason::BadNumber),
     (b"X1D*", Reason::BadNumber),
@@ -168,7 +168,7 @@ const ITEMS: [(&[u8], Reason); 73] = [
     (b"G01X1Y1*", Reason::BareCoordinate),
 ];
 
-/// Whether an item is refused for this reason, where it stands in front of the end of a text.
+/// Whether an item is refused for this reason when `M02*` follows it.
 fn is_refused(alloc: Global, item: &[u8], reason: Reason) -> bool {
     match joined(alloc, &[item, b"M02*"]) {
         Some(text) => has_fault(alloc, &text, Some((1, 0, reason))),
@@ -232,7 +232,7 @@ fn back(count: usize) -> &'static [u8] {
     &LAYER[count.min(56)..]
 }
 
-/// Lines in the layer, the bytes that stand before them, and the faults of the texts.
+/// Where a line goes into the layer, by the bytes before it, the line, and the fault of the text.
 const LINES: [(usize, &[u8], Option<(u64, u64, Reason)>); 13] = [
     (22, b"%LPC*%", Some((3, 22, Reason::ClearPolarity))),
     (22, b"%ABD12*%", Some((3, 22, Reason::BlockAperture))),
@@ -261,12 +261,12 @@ const LINES: [(usize, &[u8], Option<(u64, u64, Reason)>); 13] = [
     (56, b"*   ", None),
 ];
 
-/// The text of a front, a line and a back.
+/// A text of a beginning, a line, an LF and the rest.
 fn with_line(alloc: Global, front: &[u8], line: &[u8], back: &[u8]) -> Option<Vec<u8>> {
     joined(alloc, &[front, line, b"\n", back])
 }
 
-/// Whether the layer with a line after so many of its bytes has this fault, or none.
+/// Whether the layer with a line added after so many of its bytes has this fault, or none.
 fn has_fault_with(
     alloc: Global,
     at: usize,
@@ -301,13 +301,13 @@ fn a_layer_cut_short(rt: HostRuntime) {
     }
 }
 
-/// The fields of a plain operation but its coordinates.
+/// The interpolation, the operation and the length in bytes of a plain operation.
 type Head = (Option<Interpolation>, Action, usize);
 
 /// X, Y, I and J of an operation.
 type Coordinates = (Option<i64>, Option<i64>, Option<i64>, Option<i64>);
 
-/// The plain operation with which a text begins.
+/// The plain operation at the start of a text, if it is found.
 fn operation_of(text: &[u8]) -> Option<(Head, Coordinates)> {
     let found = plain_operation(text)?;
     let head = (found.mode, found.action, found.len);
@@ -315,7 +315,7 @@ fn operation_of(text: &[u8]) -> Option<(Head, Coordinates)> {
     Some((head, coordinates))
 }
 
-/// Texts, and the plain operations with which they begin.
+/// Texts, and the plain operations at their start.
 const OPERATIONS: [(&[u8], Option<(Head, Coordinates)>); 6] = [
     (
         b"X1Y-2D03*\nD10*",
@@ -360,7 +360,7 @@ fn takes_bytes(reader: &mut WordReader, text: &[u8]) -> bool {
     true
 }
 
-/// Whether a reader that has taken the layer gives the commands that it has whole.
+/// Whether a reader that has taken the layer ends with the commands of the layer read whole.
 fn ends_as_the_layer(alloc: Global, reader: WordReader) -> bool {
     match (reader.finish(), read_words(alloc, LAYER)) {
         (Ok(commands), Ok(whole)) => matches!(are_same(alloc, &commands, &whole), Ok(true)),
@@ -378,7 +378,7 @@ fn a_layer_in_pieces(rt: HostRuntime) {
     assert!(rt; ends_as_the_layer(rt.alloc(), bytes));
 }
 
-/// How many commands a reader has after the front of the layer, and how many once they were cleared.
+/// How many commands a reader has after the first 42 bytes of the layer, and how many after it dropped them.
 fn held_and_left(reader: &mut WordReader) -> Option<(usize, usize)> {
     reader.feed(front(42)).ok()?;
     let held = reader.commands().len();
@@ -386,7 +386,7 @@ fn held_and_left(reader: &mut WordReader) -> Option<(usize, usize)> {
     Some((held, reader.commands().len()))
 }
 
-/// The place and the byte of the first command that a reader of the layer's next item lets go of.
+/// The place and the byte of the first command that is moved out of a reader after the layer's next item.
 fn first_taken(reader: &mut WordReader) -> Option<(u64, u64)> {
     let layer = LAYER.as_slice();
     reader.feed(&layer[42..51]).ok()?;
@@ -430,7 +430,7 @@ fn commands_before_a_fault(rt: HostRuntime) {
     assert!(rt; is_same_in_pieces(alloc, text));
 }
 
-/// Whether a reader gives this failure at each of these pieces and at its end, and has no commands.
+/// Whether a reader gives this failure at each of these pieces and at its end, and holds no commands.
 fn fails_at_each(alloc: Global, pieces: &[&[u8]], fail: Option<Fail>) -> bool {
     let mut reader = WordReader::new(alloc);
     for piece in pieces {
@@ -447,7 +447,7 @@ fn a_fault_again_after_it(rt: HostRuntime) {
     assert!(rt; fails_at_each(rt.alloc(), &[b"x*", b"M02*", b""], fault));
 }
 
-/// A byte that stands many times between a front and a back, and the fault of the text.
+/// A beginning, a byte, how often it stands, the rest, and the fault of the text.
 type LongText = (
     &'static [u8],
     u8,
@@ -490,7 +490,7 @@ const LONG_TEXTS: [LongText; 7] = [
     ),
 ];
 
-/// A text of a front, a byte so many times, and a back.
+/// A text of a beginning, a byte so many times, and the rest.
 fn long_text(alloc: Global, front: &[u8], byte: u8, count: usize, back: &[u8]) -> Option<Vec<u8>> {
     match vec![in alloc; byte; count] {
         Ok(middle) => joined(alloc, &[front, middle.as_slice(), back]),
@@ -498,7 +498,7 @@ fn long_text(alloc: Global, front: &[u8], byte: u8, count: usize, back: &[u8]) -
     }
 }
 
-/// The fault of a text of a front, a byte so many times, and a back; `Memory` where there is no room for it.
+/// The fault of such a text; `Memory` where there is no room for it.
 fn long_fault(alloc: Global, front: &[u8], byte: u8, count: usize, back: &[u8]) -> Option<Fail> {
     match long_text(alloc, front, byte, count, back) {
         Some(text) => fault_of(alloc, &text),
@@ -515,7 +515,7 @@ fn long_texts(rt: HostRuntime) {
     }
 }
 
-/// Whether a reader takes so many pieces of one letter.
+/// Whether a reader takes the letter `a` so many times, one at a time.
 fn takes_letters(reader: &mut WordReader, count: usize) -> bool {
     for _ in 0..count {
         if reader.feed(b"a").is_err() {

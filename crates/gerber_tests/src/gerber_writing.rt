@@ -1,4 +1,4 @@
-//! Texts that are read, and written in their canonical spelling.
+//! Texts that are read and then written in their canonical spelling.
 
 use crate::gerber_text_calls::is_same_in_pieces;
 use crate::texts::LAYER;
@@ -17,11 +17,11 @@ fn commands_of(alloc: Global, text: &[u8]) -> Result<Vec<Command>, Fail> {
     Ok(commands)
 }
 
-/// All 20 kinds of commands.
+/// A text with all 20 kinds of commands, in various spellings.
 const ALL_KINDS: &[u8] =
     b"G04 all*%FSLAX24Y24*%%MOMM*%%TF.Part,Single*%%TD.Part*%%AMbox*21,1,$1,$2,0,0,0*%%ADD010C,.0500*%%ADD11box,1X2*%G75*G01X+01000Y0D2*G36*G37*D10*%LPD*%%LMX*%%LR90.0*%%LS1.00*%%SRX02Y1I5.0J-0*%X2000D1*%SR*%M2*";
 
-/// The same in their canonical spelling.
+/// The canonical text of the same commands.
 const CANONICAL: &[u8] =
     b"G04 all*\n%FSLAX24Y24*%\n%MOMM*%\n%TF.Part,Single*%\n%TD.Part*%\n%AMbox*\n21,1,$1,$2,0,0,0*%\n%ADD10C,0.05*%\n%ADD11box,1X2*%\nG75*\nG01*\nX1000Y0D02*\nG36*\nG37*\nD10*\n%LPD*%\n%LMX*%\n%LR90*%\n%LS1*%\n%SRX2Y1I5J0*%\nX2000D01*\n%SR*%\nM02*\n";
 
@@ -52,7 +52,7 @@ const REWRITTEN: [(&[u8], &[u8]); 8] = [
     ),
 ];
 
-/// Whether what was written is this text.
+/// Whether just this text was written.
 fn is_text(written: Result<Vec<u8>, Fail>, text: &[u8]) -> bool {
     match written {
         Ok(bytes) => bytes.as_slice() == text,
@@ -60,7 +60,7 @@ fn is_text(written: Result<Vec<u8>, Fail>, text: &[u8]) -> bool {
     }
 }
 
-/// Whether the commands of a text are written as this one without their places.
+/// Whether the commands of a text are written as this one, given without their places.
 fn is_rewritten(alloc: Global, text: &[u8], canonical: &[u8]) -> bool {
     match commands_of(alloc, text) {
         Ok(commands) => is_text(write_commands(alloc, &commands), canonical),
@@ -68,7 +68,7 @@ fn is_rewritten(alloc: Global, text: &[u8], canonical: &[u8]) -> bool {
     }
 }
 
-/// Whether the commands of a text are written as this one with their places.
+/// Whether the commands of a text are written as this one, given with their places.
 fn is_rewritten_placed(alloc: Global, text: &[u8], canonical: &[u8]) -> bool {
     match read_words(alloc, text) {
         Ok(commands) => is_text(write_placed(alloc, &commands), canonical),

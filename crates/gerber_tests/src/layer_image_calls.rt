@@ -20,7 +20,7 @@ const FLASH: &[u8] = b"X0Y0D03*\n";
 
 const END: &[u8] = b"M02*\n";
 
-/// The lines of the layer: items at the bytes 0, 14, 22, 37, 42 and 51.
+/// The lines of the layer. Its items begin at the bytes 0, 14, 22, 37, 42 and 51.
 const LINES: [&[u8]; 6] = [FORMAT, UNIT, APERTURE, SELECTION, FLASH, END];
 
 /// The layer with this text in place of one of its lines.
@@ -54,10 +54,10 @@ fn counts(alloc: Global, text: &[u8]) -> Option<(usize, usize)> {
     }
 }
 
-/// How many flashes and pads a text has, or the place, the byte and the reason of its fault.
+/// The number of flashes and of pads of a text, or the place, the byte and the reason of its fault.
 type Outcome = Result<(usize, usize), (u64, u64, Reason)>;
 
-/// Whether a text is there and comes out so.
+/// Whether a text is there and has this outcome.
 fn has_outcome(alloc: Global, text: Option<Vec<u8>>, expected: Outcome) -> bool {
     match (text, expected) {
         (Some(text), Ok(expected)) => counts(alloc, &text) == Some(expected),
@@ -66,9 +66,9 @@ fn has_outcome(alloc: Global, text: Option<Vec<u8>>, expected: Outcome) -> bool 
     }
 }
 
-/// Texts in place of one of the layer's lines, and what then comes of it.
+/// The number of a line of the layer, the text in its place, and the outcome.
 const REPLACED: [(usize, &[u8], Outcome); 44] = [
-    // What stands after the end, and what lacks a code.
+    // Bytes after the end, and a coordinate without a D code.
     (6, b"X6*\nM02*\n", Err((6, 51, Reason::BareCoordinate))),
     (6, b"M02*\nX0D03*\n", Err((7, 56, Reason::AfterEnd))),
     (6, b"M02*\n*  ", Ok((1, 1))),
@@ -80,14 +80,14 @@ const REPLACED: [(usize, &[u8], Outcome); 44] = [
     ),
     (3, b"%ADD10C,0.123456789*%\n", Err((3, 22, Reason::TooFine))),
     (3, b"%ADD10C,10001*%\n", Err((5, 43, Reason::TooFar))),
-    // Rules and items.
+    // Items that are refused, and rules that are broken.
     (4, b"D11*\n", Err((4, 37, Reason::UnknownAperture))),
     (
         5,
         b"%LPC*%\nX0Y0D03*\n",
         Err((5, 42, Reason::ClearPolarity)),
     ),
-    // Blocks.
+    // Step and repeat blocks.
     (
         5,
         b"%SRX0Y1I0J0*%\nX0Y0D03*\n",
@@ -145,7 +145,7 @@ const REPLACED: [(usize, &[u8], Outcome); 44] = [
     (3, b"%ADD10R,1X0*%\n", Err((3, 22, Reason::BadSize))),
     (3, b"%ADD10P,1X13*%\n", Err((3, 22, Reason::BadSize))),
     (5, b"%LS0*%\n", Err((5, 42, Reason::BadSize))),
-    // What breaks no rule.
+    // Layers that break no rule.
     (5, b"X0Y0D03*\n%MOMM*%\n%FSLAX46Y46*%\n", Ok((1, 1))),
     (
         5,
@@ -172,7 +172,7 @@ fn lines_replaced(rt: HostRuntime) {
     }
 }
 
-/// A block of as many flashes as a layer may have, and one with another flash after it.
+/// A block with as many flashes as a layer may have, and one with one flash more.
 const FULL: [(usize, &[u8], Outcome); 2] = [
     (
         5,
@@ -198,7 +198,7 @@ fn as_many_flashes_as_the_limit(rt: HostRuntime) {
     }
 }
 
-/// Layers by their lines, and what comes of them.
+/// Layers by their lines, and their outcomes.
 const LAYERS: [(&[&[u8]], Outcome); 6] = [
     (&[b"M02*"], Err((1, 0, Reason::NoFormat))),
     (&[FORMAT, UNIT, END], Ok((0, 0))),
@@ -243,7 +243,7 @@ fn layers_of_other_lines(rt: HostRuntime) {
     }
 }
 
-/// Whether each front of the layer below so many bytes is truncated.
+/// Whether each prefix of the layer below so many bytes is truncated.
 fn are_truncated(alloc: Global, count: usize) -> bool {
     for n in 0..count {
         match fault_of(alloc, front(LAYER, n)) {
@@ -272,7 +272,7 @@ fn cut_layers_are_truncated(rt: HostRuntime) {
     assert!(rt; are_truncated(alloc, 55));
 }
 
-/// A flash of a disc by its point and its radius, all in pm.
+/// A flash of a disc with its point and its radius, all in pm.
 fn disc(x: i64, y: i64, radius: i64) -> Option<Flash> {
     let at = Point::new(x, y)?;
     let disc = Disc::new(at, radius)?;
@@ -292,7 +292,7 @@ fn are_discs(flashes: &[Flash], discs: &[(i64, i64, i64)]) -> bool {
     flashes.len() == discs.len()
 }
 
-/// Whether the flashes of a text are these discs, and the pads those among them.
+/// Whether the flashes of a text are these discs, and all of them are pads.
 fn has_discs(alloc: Global, text: &[u8], discs: &[(i64, i64, i64)]) -> bool {
     match read_layer(alloc, text) {
         Ok(layer) => are_discs(layer.flashes(), discs) && layer.pads().len() == discs.len(),
@@ -300,7 +300,7 @@ fn has_discs(alloc: Global, text: &[u8], discs: &[(i64, i64, i64)]) -> bool {
     }
 }
 
-/// Whether the layer with a text in place of one of its lines has these discs.
+/// Whether the flashes of the layer, with a text in place of one of its lines, are these discs.
 fn has_discs_with(alloc: Global, place: usize, line: &[u8], discs: &[(i64, i64, i64)]) -> bool {
     match with(alloc, place, line) {
         Some(text) => has_discs(alloc, &text, discs),
@@ -308,10 +308,10 @@ fn has_discs_with(alloc: Global, place: usize, line: &[u8], discs: &[(i64, i64, 
     }
 }
 
-/// The flash of the layer.
+/// The flash of the layer: a disc of 0.65 mm at the origin.
 const ONE: &[(i64, i64, i64)] = &[(0, 0, 325_000_000)];
 
-/// Two flashes by the point that is kept.
+/// Two flashes, the second with the Y of the first.
 const KEPT: &[(i64, i64, i64)] = &[
     (1_000_000_000, 2_000_000_000, 325_000_000),
     (3_000_000_000, 2_000_000_000, 325_000_000),
@@ -330,7 +330,7 @@ const SIX: &[(i64, i64, i64)] = &[
     (2_000_000_000, 2_000_000_000, 325_000_000),
 ];
 
-/// Texts in place of one of the layer's lines, and the discs that are then flashed.
+/// The number of a line of the layer, the text in its place, and the discs that are then flashed.
 const FLASHED: [(usize, &[u8], &[(i64, i64, i64)]); 8] = [
     (5, b"X1000000Y2000000D02*\nD03*\nX3000000D03*\n", KEPT),
     (
@@ -359,7 +359,7 @@ fn discs_that_are_flashed(rt: HostRuntime) {
     assert!(rt; has_discs(rt.alloc(), inches, &[(2_540_000_000, 0, 325_120_000)]));
 }
 
-/// What a flash at the origin leaves: no pad, or a pad by its half sides in pm.
+/// What a flash at the origin is: no pad, or a pad with half of its sides in pm.
 #[derive(Clone, Copy)]
 enum Left {
     Other(Why),
@@ -367,7 +367,7 @@ enum Left {
     Obround(i64, i64),
 }
 
-/// What the layer's flashes hold of this.
+/// What such a flash is, as a layer has it.
 fn what(left: Left) -> Option<What> {
     let at = Point::new(0, 0)?;
     match left {
@@ -379,7 +379,7 @@ fn what(left: Left) -> Option<What> {
     }
 }
 
-/// What the flash of a text leaves, if it has one flash.
+/// What the only flash of a text is, if it has just one.
 fn left_by(alloc: Global, text: &[u8]) -> Option<What> {
     match read_layer(alloc, text) {
         Ok(layer) => match layer.flashes() {
@@ -390,7 +390,7 @@ fn left_by(alloc: Global, text: &[u8]) -> Option<What> {
     }
 }
 
-/// Whether the layer with a text in place of one of its lines has one flash, which leaves this.
+/// Whether the layer, with a text in place of one of its lines, has just one flash, which is this.
 fn leaves(alloc: Global, place: usize, line: &[u8], left: Left) -> bool {
     match (with(alloc, place, line), what(left)) {
         (Some(text), Some(what)) => left_by(alloc, &text) == Some(what),
@@ -398,7 +398,7 @@ fn leaves(alloc: Global, place: usize, line: &[u8], left: Left) -> bool {
     }
 }
 
-/// Texts in place of one of the layer's lines, and what the flash then leaves.
+/// The number of a line of the layer, the text in its place, and what the flash then is.
 const LEFT: [(usize, &[u8], Left); 12] = [
     (3, b"%ADD10C,0.65X0.2*%\n", Left::Other(Why::Holed)),
     (3, b"%ADD10P,1X6*%\n", Left::Other(Why::Polygon)),
@@ -446,7 +446,7 @@ fn what_flashes_leave(rt: HostRuntime) {
     }
 }
 
-/// Lines in front of the layer, and the file function.
+/// Lines before the layer, and the file functions that they give.
 const FILE_FUNCTIONS: [(&[u8], Option<&[u8]>); 9] = [
     (
         b"%TF.FileFunction,Copper,L1,Top*%\n",
@@ -498,7 +498,7 @@ fn file_functions(rt: HostRuntime) {
     }
 }
 
-/// Whether a layer has so many commands, the one flash of the first layer, its pad and no file function.
+/// Whether a layer has so many commands, the flash and pad of the first layer, and no file function.
 fn is_first_layer(layer: Result<Layer, Fail>, commands: usize) -> bool {
     match layer {
         Ok(layer) => {
@@ -540,7 +540,7 @@ fn a_layer_whole_and_in_pieces(rt: HostRuntime) {
     assert!(rt; is_first_layer(bytes.finish(), 6));
 }
 
-/// A text of a front, a comment of a million letters, and a back.
+/// A text of a beginning, a comment of a million letters, and the rest.
 fn commented(alloc: Global, front: &[u8], back: &[u8]) -> Option<Vec<u8>> {
     match vec![in alloc; b'a'; 1_000_000] {
         Ok(letters) => joined(alloc, &[front, b"G04", letters.as_slice(), b"*\n", back]),
@@ -548,7 +548,7 @@ fn commented(alloc: Global, front: &[u8], back: &[u8]) -> Option<Vec<u8>> {
     }
 }
 
-/// Whether a reader takes the layer with a long comment before its third line, byte by byte.
+/// Whether a reader takes the layer byte by byte, with a long comment before its third line.
 fn takes_commented(alloc: Global, reader: &mut LayerReader) -> bool {
     let layer = LAYER.as_slice();
     match commented(alloc, &layer[..22], &layer[22..]) {
@@ -567,15 +567,15 @@ fn a_long_comment_byte_by_byte(rt: HostRuntime) {
 /// The layer with the selection of an aperture that is not defined.
 const UNKNOWN: &[u8] = b"%FSLAX46Y46*%\n%MOMM*%\n%ADD10C,0.65*%\nD11*\nX0Y0D03*\nM02*\n";
 
-/// The same with a later item of a kind that is refused.
+/// That layer with `LPC` in a later item, which is refused as well.
 const TWO_FAULTS: &[u8] = b"%FSLAX46Y46*%\n%MOMM*%\n%ADD10C,0.65*%\nD11*\n%LPC*%\nX0Y0D03*\nM02*\n";
 
-/// The failure of both: their fourth item.
+/// The failure of both texts, at their fourth item.
 fn unknown_aperture() -> Option<Fail> {
     expected_fault(Some((4, 37, Reason::UnknownAperture)))
 }
 
-/// The number of the first byte of a text that a reader refuses.
+/// The offset of the first byte of a text that a reader refuses.
 fn refused_at(reader: &mut LayerReader, text: &[u8]) -> Option<usize> {
     for i in 0..text.len() {
         if reader.feed(&text[i..i + 1]).is_err() {
@@ -585,7 +585,7 @@ fn refused_at(reader: &mut LayerReader, text: &[u8]) -> Option<usize> {
     None
 }
 
-/// Whether a reader refuses each byte of a text with this failure, and its end.
+/// Whether a reader gives this failure at each byte of a text, and at its end.
 fn refuses_each(mut reader: LayerReader, text: &[u8], fail: Option<Fail>) -> bool {
     for i in 0..text.len() {
         if reader.feed(&text[i..i + 1]).err() != fail {
@@ -614,14 +614,14 @@ fn layer_fails(alloc: Global, first: &[u8], second: &[u8], fail: Option<Fail>) -
     reader.finish().err() == fail && is_refused
 }
 
-/// The same of a reader of flashes.
+/// Whether a reader of flashes gives this failure at each of two pieces, and at its end.
 fn flashes_fail(alloc: Global, first: &[u8], second: &[u8], fail: Option<Fail>) -> bool {
     let mut reader = FlashReader::new(alloc);
     let is_refused = reader.feed(first).err() == fail && reader.feed(second).err() == fail;
     reader.finish().err() == fail && is_refused
 }
 
-/// The same of a reader of sums.
+/// Whether a reader of sums gives this failure at each of two pieces, and at its end.
 fn sum_fails(alloc: Global, first: &[u8], second: &[u8], fail: Option<Fail>) -> bool {
     let mut reader = SumReader::new(alloc);
     let is_refused = reader.feed(first).err() == fail && reader.feed(second).err() == fail;
@@ -637,11 +637,11 @@ fn an_early_rule_before_a_late_item_in_one_piece(rt: HostRuntime) {
     assert!(rt; sum_fails(alloc, TWO_FAULTS, b"M02*", unknown));
 }
 
-/// A file function, another aperture, and its flashes in a block and turned.
+/// A file function, a second aperture, and its flashes in a block, turned by 45 degrees.
 const TURNED: &[u8] =
     b"%TF.FileFunction,Copper,L1,Top*%\n%ADD11R,1X2*%\nX9Y9D03*\nD11*\n%SRX2Y3I5J1*%\n%LR45*%\nX0Y0D03*\n";
 
-/// The sum of a text that comes in pieces of one byte.
+/// The sum of a text that comes byte by byte.
 fn sum_of(alloc: Global, text: &[u8]) -> Result<LayerSum, Fail> {
     let mut reader = SumReader::new(alloc);
     for i in 0..text.len() {
@@ -658,7 +658,7 @@ fn sum_counts(alloc: Global, text: &[u8]) -> Option<(usize, usize, bool)> {
     }
 }
 
-/// The flashes of a text that comes in pieces of one byte.
+/// The flashes of a text that comes byte by byte.
 fn flashes_of(alloc: Global, text: &[u8]) -> Result<Vec<Flash>, Fail> {
     let mut reader = FlashReader::new(alloc);
     for i in 0..text.len() {
@@ -667,7 +667,7 @@ fn flashes_of(alloc: Global, text: &[u8]) -> Result<Vec<Flash>, Fail> {
     reader.finish()
 }
 
-/// How many flashes a text has in pieces, where they are those of its layer.
+/// How many flashes a text has byte by byte, if they are those of its layer.
 fn flash_count(alloc: Global, text: &[u8]) -> Option<usize> {
     match (flashes_of(alloc, text), read_layer(alloc, text)) {
         (Ok(flashes), Ok(layer)) => {
@@ -677,7 +677,7 @@ fn flash_count(alloc: Global, text: &[u8]) -> Option<usize> {
     }
 }
 
-/// The flashes of a text in two pieces, with what else a package needs of it.
+/// The flashes of a text that comes in two pieces, with what else a package needs of it.
 fn whole_of(alloc: Global, text: &[u8]) -> Result<FlashSum, Fail> {
     let half = text.len() / 2;
     let mut reader = FlashReader::new(alloc);
@@ -701,7 +701,7 @@ fn agree(whole: &FlashSum, layer: &Layer) -> bool {
         && is_function(&whole.file_function, layer.file_function())
 }
 
-/// How many other flashes a text has, where its flashes and its file function are those of its layer.
+/// How many flashes of a text are no pads, if its flashes and its file function are those of its layer.
 fn other_count(alloc: Global, text: &[u8]) -> Option<usize> {
     match (whole_of(alloc, text), read_layer(alloc, text)) {
         (Ok(whole), Ok(layer)) => agree(&whole, &layer).then_some(whole.other),
@@ -709,7 +709,7 @@ fn other_count(alloc: Global, text: &[u8]) -> Option<usize> {
     }
 }
 
-/// Whether the turned flashes are counted so by each reader.
+/// Whether each reader counts the turned flashes: one pad and six others.
 fn are_turned_flashes_counted(alloc: Global) -> bool {
     match with(alloc, 5, TURNED) {
         Some(text) => {
@@ -719,7 +719,7 @@ fn are_turned_flashes_counted(alloc: Global) -> bool {
     }
 }
 
-/// How many flashes the copies of a turned block have in pieces.
+/// How many flashes a turned block of two columns and three rows has, read byte by byte.
 fn copies(alloc: Global) -> Option<usize> {
     match with(alloc, 5, b"%SRX2Y3I5J1*%\n%LR45*%\nX0Y0D03*\n") {
         Some(text) => flash_count(alloc, &text),

@@ -7,7 +7,7 @@ use gerber_rows::{
 use grid_units::{Dec, Text};
 use std::alloc::Global;
 
-/// The bytes of a text: these, or so many letters `a`.
+/// The bytes of a text: these, or the letter `a` so many times.
 #[derive(Clone, Copy)]
 pub(crate) enum Bytes {
     These(&'static [u8]),
@@ -20,19 +20,19 @@ pub(crate) enum Plain {
     Comment(Bytes),
     Remove(Bytes),
     Attribute(AttributeKind, &'static [u8]),
-    /// A macro by its name, without pieces.
+    /// A macro with this name, without pieces.
     BareMacro(&'static [u8]),
-    /// A macro `a` of one piece.
+    /// A macro `a` with one piece.
     Macro(Bytes),
-    /// An aperture 10 by the name of its macro.
+    /// The aperture 10, of the macro with this name.
     Named(&'static [u8]),
-    /// An aperture by its number, of one parameter.
+    /// A standard aperture with its number and one parameter.
     Aperture(u32, Standard, i64),
-    /// An operation with its X and its I.
+    /// An operation with its X, if there is one, and its I.
     Operation(Action, Option<i64>, i64),
-    /// The digits of whole millimetres or inches, and those after the point.
+    /// How many digits coordinates have before and after the point.
     Format(u8, u8),
-    /// A block: its columns, its rows and their steps.
+    /// A step and repeat block: its columns, its rows, and their steps.
     Repeat(u32, u32, i64, i64),
     RepeatEnd,
     Select(u32),
@@ -42,7 +42,7 @@ pub(crate) enum Plain {
     Finish,
 }
 
-/// A text of so many letters.
+/// A text of the letter `a` so many times.
 fn letters(alloc: Global, count: usize) -> Option<Text> {
     match vec![in alloc; b'a'; count] {
         Ok(bytes) => Some(Text::new(bytes)),
@@ -58,20 +58,20 @@ fn text(alloc: Global, bytes: Bytes) -> Option<Text> {
     }
 }
 
-/// The definition of an aperture by its template.
+/// The definition of an aperture with its number and template.
 fn definition(alloc: Global, number: u32, template: Template) -> Option<Command> {
     let template = Boxed::new(alloc, template).ok()?;
     Some(Command::Define { number, template })
 }
 
-/// The definition of a standard aperture of one parameter.
+/// The definition of a standard aperture with one parameter.
 fn aperture(alloc: Global, number: u32, standard: Standard, size: i64) -> Option<Command> {
     let mut sizes = Sizes::new();
     sizes.push(Dec::from_units(size)?);
     definition(alloc, number, Template::Standard(standard, sizes))
 }
 
-/// A macro of these pieces.
+/// A macro with these pieces.
 fn macro_of(alloc: Global, name: &[u8], pieces: Vec<Text>) -> Option<Command> {
     let pieces = Boxed::new(alloc, Pieces::new(pieces)).ok()?;
     match Text::from_slice(alloc, name) {
@@ -86,7 +86,7 @@ fn one_piece(alloc: Global, piece: Bytes) -> Option<Vec<Text>> {
     Vec::from_array(alloc, [piece]).ok()
 }
 
-/// An operation with an X, if one is given, and an I.
+/// An operation with an X, if there is one, and an I.
 fn operation(action: Action, x: Option<i64>, i: i64) -> Option<Command> {
     Some(Command::Operate {
         action,
@@ -107,7 +107,7 @@ fn repeat(columns: u32, rows: u32, step_x: i64, step_y: i64) -> Option<Command> 
     }))
 }
 
-/// The command that holds a text.
+/// The command with this text.
 fn of_text(alloc: Global, plain: Plain) -> Option<Command> {
     match plain {
         Plain::Comment(bytes) => Some(Command::Comment(text(alloc, bytes)?)),
@@ -125,7 +125,7 @@ fn of_text(alloc: Global, plain: Plain) -> Option<Command> {
     }
 }
 
-/// The command that plain data says.
+/// The command that plain data stands for.
 pub(crate) fn command(alloc: Global, plain: Plain) -> Option<Command> {
     match plain {
         Plain::Aperture(number, standard, size) => aperture(alloc, number, standard, size),

@@ -1,11 +1,11 @@
-//! Lists of commands that a text spells, and others.
+//! Lists of commands that some text spells, and other lists.
 
 use crate::plain_commands::{Bytes, Plain, command};
 use gerber_rows::{Action, Command};
 use gerber_text::sayable;
 use std::alloc::Global;
 
-/// Adds a command to a list, and says whether it did.
+/// Adds a command to a list, and returns whether there was one to add and room for it.
 fn add(alloc: Global, commands: &mut Vec<Command>, plain: Plain) -> bool {
     match command(alloc, plain) {
         Some(command) => commands.push(command).is_ok(),

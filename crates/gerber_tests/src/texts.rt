@@ -1,18 +1,18 @@
-//! Texts that are put together, and faults as plain data.
+//! Texts that are joined from parts, and faults as plain data.
 
 use grid_units::{Fail, Fault, Reason};
 use std::alloc::Global;
 
-/// A format, a unit, an aperture, its selection, a flash and the end.
+/// A layer of a format, a unit, an aperture, its selection, a flash and the end.
 pub(crate) const LAYER: &[u8; 56] =
     b"%FSLAX46Y46*%\n%MOMM*%\n%ADD10C,0.65*%\nD10*\nX0Y0D03*\nM02*\n";
 
-/// The text of some pieces.
+/// The pieces joined to one text, or `None` where memory runs out.
 pub(crate) fn joined(alloc: Global, pieces: &[&[u8]]) -> Option<Vec<u8>> {
     pieces.concat(alloc).ok()
 }
 
-/// The failure of a place, a byte and a reason.
+/// The refusal with this place, byte and reason, if there is one.
 pub(crate) fn expected_fault(fault: Option<(u64, u64, Reason)>) -> Option<Fail> {
     let (place, byte, reason) = fault?;
     Some(Fail::Refused(Fault {

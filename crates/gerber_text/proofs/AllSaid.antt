@@ -29,11 +29,11 @@ use Rattle.grid_units.proofs.BoolLemmas.{both_true, and_true, neither}
 
 -- ---- lists
 
--- sayable commands, none of which is the end of the text
+-- sayable commands, none of them the end of the text
 abbrev ArePlain : List Command → Type 0
 ArePlain cs = AllByRecursion (λ c. is_sayable c ≡ true) cs × (list_any is_finish cs ≡ false)
 
--- one more command in front
+-- one more command at the start
 sayable_more : (c : Command) (ds : List Command) → is_sayable c ≡ true → is_finish c ≡ false → sayable ds ≡ true → sayable (c ∷ ds) ≡ true
 sayable_more c [] h e k = absurd (false≢true k)
 sayable_more c (d ∷ ds) h e k = λ i. (h i && (not (e i) && k i))
@@ -160,7 +160,7 @@ always_said text (Err e) h = tt
 
 -- ---- the test, command by command
 
--- behind commands of which the last is the end of the text or not
+-- these commands end a sayable list, after a command that is the end of the text or not
 pub goes_on : Bool → List Command → Bool
 goes_on ended [] = ended
 goes_on ended (c ∷ cs) = not ended && (is_sayable c && goes_on (is_finish c) cs)

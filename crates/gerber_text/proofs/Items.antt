@@ -34,7 +34,7 @@ pub record Taken (text item : List ℕ) (items : List (List OffsetByte)) (place 
   pub ends : has_end (items ++ last ∷ []) ≡ is_end item
   pub count : length (items ++ last ∷ []) ≡ length items + 1
 
--- an item without line breaks behind items that have ended
+-- an item without line breaks, after items that have ended
 pub takes : (text item : List ℕ) (items : List (List OffsetByte)) (rest : List OffsetByte) (place : ℕ) (cs : Entries) → Splits (offset_bytes text) items rest → rest ≡ [] → has_end items ≡ false → shown items rest ≡ Ok cs → IsItem item → AllByRecursion (λ b. is_line_break b ≡ false) item → length item ≤ item_limit → place ≡ suc (length items)
     → Taken text item items place cs
 takes text item items rest place cs s none running e one kept short place-is =

@@ -81,6 +81,6 @@ by_length : (t : Bool) (text more : List ℕ) (cs : Entries) (e : Fail) → ltb 
 by_length true text more cs e long h = fails_beyond text more cs e (ltb-true _ _ long) h
 by_length false text more cs e short h = fails_within text more cs e (ltb-false _ _ short) h
 
--- a failure of a text is that of each longer one, behind the same commands
+-- a failure of a text is that of each longer one, after the same commands
 pub fails_longer : (text more : List ℕ) (cs : Entries) (e : Fail) → FailsWith text cs e → FailsWith (text ++ more) cs e
 fails_longer text more cs e h = by_length (ltb text_limit (length text)) text more cs e refl h

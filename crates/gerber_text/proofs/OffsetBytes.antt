@@ -1,4 +1,4 @@
--- Bytes that are put behind a text, with their offsets.
+-- Bytes after a text, with their offsets.
 use Rattle.std.proofs.Common.{◌≡◌, ℕ, suc, ◌+◌, ◌<◌, true, false, cond, not, List, [], ◌∷◌, ◌++◌, length, refl, sym, ap, ◌∙◌, arith, add-zero}
 use Rattle.std.specs.List.{enumerate_from, filter, AllByRecursion}
 use Rattle.std.proofs.lemmas.List.{append-nil}

@@ -19,7 +19,7 @@ use Rattle.gerber_text.proofs.OffsetBytes.{offset_bytes-append, first_offset-app
 use Rattle.gerber_text.proofs.Splitting.{Splits-grow, Splits-close, IsUnfinished-push, bytes_of-push, commands_from-push}
 use Rattle.grid_units.specs.Limits.{item_limit}
 
--- ---- behind the end of the text
+-- ---- after the end of the text
 
 split_first : {A : Type 0} (t : Bool) (x y : A) (d z : A) → cond t x y ≡ z → ((t ≡ true) × (x ≡ z)) ⊎ ((t ≡ false) × (y ≡ z))
 split_first true x y d z e = inl (refl, e)
@@ -90,7 +90,7 @@ rest_shows true place (Ok x) = refl
 rest_shows false place (Ok x) = refl
 rest_shows t place (Err x) = refl
 
--- the items with one more, behind which nothing stands
+-- the items and one more, with nothing after it
 pub show_push : (items : List (List OffsetByte)) (item : List OffsetByte) (cs : Entries) → commands_from 1 items [] ≡ Ok cs → shown (items ++ item ∷ []) [] ≡ spelled (suc (length items)) (first_offset item) (bytes_of item) cs
 show_push items item cs e =
     let k : 1 + length items ≡ suc (length items) = omega arith in
@@ -99,7 +99,7 @@ show_push items item cs e =
 
 -- ---- a fault stays, and the items before it
 
--- the same bytes with their offsets with one more: other items behind the same first ones, and the same fault
+-- one more byte: the first items stay, and so does a fault
 pub record Pushed (ms : List OffsetByte) (m : OffsetByte) (items : List (List OffsetByte)) (rest : List OffsetByte) : Type 0 where
   pub more : List (List OffsetByte)
   pub left : List OffsetByte

@@ -14,7 +14,7 @@ use Rattle.grid_units.specs.Limits.{text_limit}
 abbrev pub Parts : Type 0
 Parts = List (List OffsetByte) × List OffsetByte
 
--- one more byte: behind the end, at the end of an item, or inside one
+-- one more byte: after the end of the text, at the end of an item, or inside one
 pub next : Parts → OffsetByte → Parts
 next c m = cond (has_end c.0) (c.0, c.1 ++ m ∷ []) (cond (eqb m.1 (ender (bytes_of c.1))) (c.0 ++ (c.1 ++ m ∷ []) ∷ [], []) (c.0, c.1 ++ m ∷ []))
 
@@ -96,7 +96,7 @@ run_item xs item none i =
     let last : p.last.1 ≡ ender (bytes_of p.before) = p.byte ∙ ap ender (sym p.bytes) in
     ap (λ (x : List OffsetByte). fold next (xs, []) x) p.whole ∙ (fold-append next (xs, []) p.before (p.last ∷ []) ∙ (ap (λ (c : Parts). next c p.last) front ∙ (next_last xs p.before p.last none last ∙ ap (λ (x : List OffsetByte). (xs ++ x ∷ [], [])) (sym p.whole))))
 
--- from an item on, where the items behind it are found
+-- from one item on, where the items after it are found
 run_last : (t : Bool) (xs : List (List OffsetByte)) (item : List OffsetByte) (items : List (List OffsetByte)) (rest : List OffsetByte) → is_end (bytes_of item) ≡ t → has_end xs ≡ false → (is_end (bytes_of item) ≡ true → items ≡ [])
     → (has_end (xs ++ item ∷ []) ≡ false → run (xs ++ item ∷ [], []) (flat_map (λ (i : List OffsetByte). i) items ++ rest) ≡ ((xs ++ item ∷ []) ++ items, rest))
     → run (xs ++ item ∷ [], []) (flat_map (λ (i : List OffsetByte). i) items ++ rest) ≡ (xs ++ item ∷ items, rest)
@@ -106,7 +106,7 @@ run_last true xs item items rest e none only again =
 run_last false xs item items rest e none only again =
     again (has_end-push xs item none ∙ e) ∙ ap (λ (x : List (List OffsetByte)). (x, rest)) (append_assoc xs (item ∷ []) items)
 
--- where no item of xs is the end, an item that is not the end leaves the rest to be unfinished
+-- if neither the items so far nor this one are the end, the rest stays unfinished
 still : (t u : Bool) → t ≡ false → u ≡ false → (t || u) ≡ false
 still true u h k = h
 still false u h k = k

@@ -16,7 +16,7 @@ use Rattle.grid_units.proofs.Binds.{bind_err, guard_err}
 use Rattle.gerber_text.proofs.Shown.{kept_all}
 use Rattle.grid_units.specs.Limits.{text_limit}
 
--- behind a text that is too long, its front shows what it shows
+-- the length is checked last: where the first bytes of a text show a fault, the whole shows it too
 checks_len : ℕ → List (List OffsetByte) → Entries → Result Entries Fault
 checks_len len items commands = cond (ltb text_limit len) (Err (fault (suc (length items)) text_limit TooLong)) (Ok commands)
 
@@ -33,7 +33,7 @@ fault_shown text items rest f s e = record {
 kept_of : (text : List ℕ) (kept : ℕ) (items : List (List OffsetByte)) (rest : List OffsetByte) (cs : Entries) → Splits (offset_bytes (take text_limit text)) items rest → kept ≤ length items → commands_from 1 (take kept items) [] ≡ Ok cs → KeptOf text kept cs
 kept_of text kept items rest cs s le e = record { items = items; rest = rest; splits = s; within = le; spelled = e }
 
--- what a reader holds of a text is kept before the next place
+-- what a reader holds of a text are the commands before the next place
 pub kept_before : (r : Progress) (gone : Entries) (text : List ℕ) (h : Holds r gone text) → length text ≤ text_limit → (byte : ℕ) → KeptBefore text (fails.Refused (fault (r.items + 1) byte Truncated)) (gone ++ r.commands.items)
 kept_before r gone text h le byte =
     let place : r.items + 1 ≡ suc (length h.items) = omega (arith, h.count) in

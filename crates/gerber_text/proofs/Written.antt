@@ -17,7 +17,7 @@ use Rattle.grid_units.specs.Limits.{text_limit}
 use Rattle.gerber_text.specs.Writing.{lines, limited, canonical_text, without_places, sayable, ReadsAs, bytes_of_vector}
 use Rattle.gerber_text.proofs.RoundTrip.{reads_as}
 
--- one more element is written behind the others
+-- one more element is written after the others
 pub written_more : {A : Type 0} (f : A → List ℕ) (xs : List A) (i : ℕ) (x : A) (now next : List ℕ) → i < length xs → x ≡ get_or xs i x → now ≡ flat_map f (take i xs) → next ≡ now ++ f x → next ≡ flat_map f (take (i + 1) xs)
 written_more f xs i x now next lt is before after =
     let one : flat_map f (get_or xs i x ∷ []) ≡ f x = append-nil (f (get_or xs i x)) ∙ ap f (sym is) in

@@ -1,4 +1,5 @@
--- What a reader in pieces holds of the bytes so far.
+-- What a reader in pieces holds of the bytes so far: the commands of the items that have ended, except those it has dropped,
+-- and the bytes of the item that has not ended. It does not keep the text.
 use Rattle.std.specs.Prelude.{◌≡◌, ℕ, suc, ◌<◌, ◌≤◌, false, List, [], ◌++◌, length, take, Result, Ok, Err, Option, None, Some}
 use Rattle.grid_units.specs.Results.{Tells}
 use Rattle.grid_units.specs.declared.fault.Fail.{Fail}
@@ -9,7 +10,7 @@ use Rattle.gerber_text.specs.Cut.{OffsetByte, offset_bytes, bytes_of, first_offs
 use Rattle.gerber_text.specs.Reading.{Entries, commands_from, shown, Shows, Reads, KeptBefore, is_plotting}
 
 -- The text is cut into items, which spell the commands that are gone and those that the reader holds, and into a rest,
--- whose bytes are the unfinished item (docs/DEFINITIONS.md, Reading in pieces).
+-- whose bytes are the unfinished item.
 pub record Holds (reader : Progress) (gone : Entries) (text : List ℕ) : Type 0 where
   pub items : List (List OffsetByte)
   pub rest : List OffsetByte
@@ -22,8 +23,8 @@ pub record Holds (reader : Progress) (gone : Entries) (text : List ℕ) : Type 0
   pub offset : reader.offset ≡ length text
   pub ended : reader.ended ≡ has_end items
 
--- These bytes begin with items that spell these commands; and the failure is the fault that the bytes show, whatever
--- follows them, at the place after these items (docs/DEFINITIONS.md, Reading in pieces).
+-- These bytes begin with items that spell these commands. The failure is the fault that the bytes show at the next place,
+-- whatever follows them; or memory ran out.
 pub record Stops (ms : List OffsetByte) (commands : Entries) (e : Fail) : Type 0 where
   pub items : List (List OffsetByte)
   pub rest : List OffsetByte
@@ -33,52 +34,51 @@ pub record Stops (ms : List OffsetByte) (commands : Entries) (e : Fail) : Type 0
   pub spelled : commands_from 1 (take kept items) [] ≡ Ok commands
   pub told : Tells (λ f. (shown items rest ≡ Err f) × (f.place ≡ suc kept)) e
 
--- a reader went from all it may have read to that and these bytes (docs/DEFINITIONS.md, Reading in pieces)
+-- whatever text the old reader has read, the new one has read that text and these bytes
 abbrev pub Advances : Progress → Progress → List ℕ → Type 0
 Advances old new bytes = (gone : Entries) (text : List ℕ) → Holds old gone text → Holds new gone (text ++ bytes)
 
--- a reader stopped within these bytes, with these commands (docs/DEFINITIONS.md, Reading in pieces)
+-- whatever text the reader has read, it stops within these bytes after it, and keeps these commands
 abbrev pub Refuses : Progress → Entries → List ℕ → Fail → Type 0
 Refuses old left bytes e = (gone : Entries) (text : List ℕ) → Holds old gone text → Stops (offset_bytes (text ++ bytes)) (gone ++ left) e
 
--- the failure is the fault that this text shows, and these are the commands before it (docs/DEFINITIONS.md, Reading in pieces)
+-- the failure is the fault that this text shows, or memory ran out; and these are the commands before it
 pub record FailsWith (text : List ℕ) (commands : Entries) (e : Fail) : Type 0 where
   pub told : Tells (λ f. Shows text (Err f)) e
   pub kept : KeptBefore text e commands
 
--- a reader stopped within a piece, with these commands (docs/DEFINITIONS.md, Reading in pieces)
+-- whatever text the reader has read, it fails within this piece after it, and keeps these commands
 abbrev pub RefusesText : Progress → Entries → List ℕ → Fail → Type 0
 RefusesText old left piece e = (gone : Entries) (text : List ℕ) → Holds old gone text → FailsWith (text ++ piece) (gone ++ left) e
 
--- the text ends here: nothing is missing, or the fault that it has and the commands before it (docs/DEFINITIONS.md, Reading in pieces)
+-- the text ends here: it has no fault and these commands, or it has this fault and these commands before it
 abbrev pub Ends : {X : Type 0} → List ℕ → Entries → Result X Fail → Type 0
 Ends text commands (Ok _) = Reads text (Ok commands)
 Ends text commands (Err fails.Memory) = ⊥
 Ends text commands (Err (fails.Refused f)) = Reads text (Err f) × KeptBefore text (fails.Refused f) commands
 
--- what a reader has failed with (docs/DEFINITIONS.md, Reading in pieces)
+-- the failure of a reader, `None` where it has not failed
 abbrev pub failure : WordReader → Option Fail
 failure reader = reader.failed
 
--- the commands that a reader holds (docs/DEFINITIONS.md, Reading in pieces)
+-- the commands that a reader holds, without those that it has dropped
 abbrev pub held : WordReader → Entries
 held reader = reader.progress.commands.items
 
--- The reader has read this text, which shows no fault, and has let go of these commands, the first ones
--- (docs/DEFINITIONS.md, Reading in pieces).
+-- The reader has read this text, which shows no fault, and has dropped these commands, the first ones.
 pub record StandsBehind (reader : WordReader) (gone : Entries) (text : List ℕ) : Type 0 where
   pub sound : failure reader ≡ None
   pub holds : Holds reader.progress gone text
 
--- The reader has read this text, which shows no fault, and holds all of its commands (docs/DEFINITIONS.md, Reading in pieces).
+-- The reader has read this text, which shows no fault, and holds all of its commands.
 abbrev pub StandsAfter : WordReader → List ℕ → Type 0
 StandsAfter reader text = StandsBehind reader [] text
 
--- The reader has failed within this text, with this failure, and had let go of these commands (docs/DEFINITIONS.md, Reading in pieces).
+-- The reader has failed within this text, with this failure, and had dropped these commands, the first ones.
 pub record FailedBehind (reader : WordReader) (gone : Entries) (text : List ℕ) (e : Fail) : Type 0 where
   pub failed : failure reader ≡ Some e
   pub fails : FailsWith text (gone ++ reader.progress.commands.items) e
 
--- The reader has failed within this text, with this failure, and holds all of its commands (docs/DEFINITIONS.md, Reading in pieces).
+-- The reader has failed within this text, with this failure, and holds all commands before it.
 abbrev pub HasFailed : WordReader → List ℕ → Fail → Type 0
 HasFailed reader text e = FailedBehind reader [] text e

@@ -1,4 +1,4 @@
--- The commands of a text, or its first fault.
+-- The commands of a Gerber text, or its first fault (docs/FORMATS.md, Cutting; The first fault; What an item spells).
 use Rattle.std.specs.Prelude.{◌≡◌, ℕ, suc, ◌≤◌, Bool, true, false, ◌||◌, ◌==◌, nat_lt, List, [], ◌∷◌, ◌++◌, length, take, map, if◌then◌else◌, Result, Ok, Err, Option, Some, None, unwrap_or}
 use Rattle.std.specs.List.{list_all, AllByRecursion}
 use Rattle.std.specs.Global.{Vec}
@@ -17,79 +17,79 @@ use Rattle.grid_units.specs.Limits.{text_limit, item_limit}
 use Rattle.gerber_rows.specs.Words.{is_plot}
 use Rattle.grid_units.specs.Ascii as ascii
 
--- commands with their places (docs/FORMATS.md, Cutting)
+-- commands, each with the number of its item, from 1, and the offset of that item's first byte
 abbrev pub Entries : Type 0
 Entries = List (Placed Command)
 
--- whether a command is a plot, of an operation alone (docs/FORMATS.md, How a row fits and is read)
+-- whether an operation is a plot; `None` for any other command
 abbrev pub plot_of : Command → Option Bool
 plot_of (Operate action x y i j) = Some (is_plot action)
 plot_of _ = None
 
--- the last operation is a plot (Gerber format, Coordinate data without operation code)
+-- the last operation among these commands is a plot (Gerber format, Coordinate data without operation code)
 abbrev pub is_plotting : Entries → Bool
 is_plotting before = unwrap_or (last_named (λ entry. plot_of entry.what) before) false
 
--- commands with the place of their item and the offset of its first byte (docs/FORMATS.md, Cutting)
+-- the commands of one item, each with the item's number and the offset of its first byte
 abbrev pub placed : ℕ → ℕ → List Command → Entries
 placed place byte commands = map (λ what. record { place = place; byte = byte; what = what }) commands
 
--- these commands, and after them those that the item of these bytes spells, or the item's fault (docs/FORMATS.md, How a row fits and is read)
+-- these commands, and after them those that the item of these bytes spells; or the item's fault
 unfoldable pub spelled : ℕ → ℕ → List ℕ → Entries → Result Entries Fault
 spelled place byte bytes before = at place byte (if nat_lt item_limit (length bytes) then Err TooLong else (meaning (is_plotting before) bytes >>= λ commands. Ok (before ++ placed place byte commands)))
 
--- What a call leaves is what reading gives, running out of memory aside (docs/DEFINITIONS.md, Answers).
+-- What a call leaves is what reading gives, running out of memory aside: the commands after it, or the fault.
 abbrev pub Leaves : {X : Type 0} → Result X Fail → Entries → Result Entries Fault → Type 0
 Leaves (Ok x) new read = read ≡ Ok new
 Leaves (Err fails.Memory) new read = Unit {0}
 Leaves (Err (fails.Refused f)) new read = read ≡ Err f
 
--- these commands and those of the items, from this place on; or the fault of the first item that has one (docs/FORMATS.md, How a row fits and is read)
+-- these commands and those of the items, the first with this number; or the fault of the first item that has one
 abbrev pub commands_from : ℕ → List (List OffsetByte) → Entries → Result Entries Fault
 commands_from place [] before = Ok before
 commands_from place (item ∷ items) before = spelled place (first_offset item) (bytes_of item) before >>= commands_from (suc place) items
 
--- a space, a tab or `*`, which may stand after the end of the text (docs/FORMATS.md, Cutting)
+-- a space, a tab or `*`, which may stand after the end of the text, as CR and LF may
 abbrev pub may_follow : ℕ → Bool
 may_follow b = (b == ascii.space) || ((b == ascii.tab) || (b == ascii.asterisk))
 
--- after the end of the text, the first byte that may not stand there is a fault (docs/FORMATS.md, Cutting)
+-- after the end of the text, the first byte that may not stand there is AfterEnd at the next place
 abbrev pub behind_end : ℕ → Entries → List OffsetByte → Result Entries Fault
 behind_end place commands [] = Ok commands
 behind_end place commands (m ∷ ms) = if may_follow m.1 then behind_end place commands ms else Err (fault place m.0 AfterEnd)
 
--- the commands, or the first fault that these items and this rest show, whatever follows (docs/FORMATS.md, Cutting)
+-- the commands, or the first fault that these items and this rest show, whatever bytes follow
 abbrev pub shown : List (List OffsetByte) → List OffsetByte → Result Entries Fault
 shown items rest = commands_from 1 items [] >>= λ commands.
     if has_end items then behind_end (suc (length items)) commands rest
     else if nat_lt item_limit (length rest) then Err (fault (suc (length items)) (first_offset rest) TooLong) else Ok commands
 
--- the same of a text of this length, which is too long above the limit (docs/FORMATS.md, Limits)
+-- what is shown in a text of this length: TooLong above 268,435,456 bytes, unless there is an earlier fault
 abbrev pub shown_in : ℕ → List (List OffsetByte) → List OffsetByte → Result Entries Fault
 shown_in len items rest = shown items rest >>= λ commands. if nat_lt text_limit len then Err (fault (suc (length items)) text_limit TooLong) else Ok commands
 
--- A text shows these commands or this fault, whatever follows it (docs/DEFINITIONS.md, Reading in pieces).
+-- A text shows these commands or this fault, whatever bytes follow it.
 pub record Shows (text : List ℕ) (answer : Result Entries Fault) : Type 0 where
   pub items : List (List OffsetByte)
   pub rest : List OffsetByte
   pub splits : Splits (offset_bytes (take text_limit text)) items rest
   pub answer_is : answer ≡ shown_in (length text) items rest
 
--- a space or a tab (docs/FORMATS.md, Cutting)
+-- a space or a tab
 abbrev pub is_blank : ℕ → Bool
 is_blank b = (b == ascii.space) || (b == ascii.tab)
 
--- the text ends here: the commands, or that the end is missing (docs/FORMATS.md, Cutting)
+-- the commands of a text that ends here; Truncated without `M02`, at the text's length where only blanks are left over
 abbrev pub ended : ℕ → List (List OffsetByte) → List OffsetByte → Entries → Result Entries Fault
 ended len items rest commands =
     if has_end items then Ok commands
     else Err (fault (suc (length items)) (if list_all is_blank (bytes_of rest) then len else first_offset rest) Truncated)
 
--- the commands of a text that ends here, or its fault (docs/FORMATS.md, Cutting)
+-- the commands of a whole text of this length, or its first fault
 abbrev pub read_in : ℕ → List (List OffsetByte) → List OffsetByte → Result Entries Fault
 read_in len items rest = shown items rest >>= λ commands. if nat_lt text_limit len then Err (fault (suc (length items)) text_limit TooLong) else ended len items rest commands
 
--- A whole text spells these commands, or has this fault (docs/DEFINITIONS.md, Reading a Gerber text).
+-- A whole text spells these commands, or has this as its first fault.
 pub record Reads (text : List ℕ) (answer : Result Entries Fault) : Type 0 where
   pub items : List (List OffsetByte)
   pub rest : List OffsetByte
@@ -97,7 +97,7 @@ pub record Reads (text : List ℕ) (answer : Result Entries Fault) : Type 0 wher
   pub answer_is : answer ≡ read_in (length text) items rest
 
 -- A text spells these commands: its items spell them in order, the last one is the end of the text, and only spaces, tabs
--- and `*` stand after it (docs/FORMATS.md, Cutting).
+-- and `*` stand after it.
 pub record SpellsText (text : List ℕ) (commands : Entries) : Type 0 where
   pub items : List (List OffsetByte)
   pub tail : List OffsetByte
@@ -107,7 +107,7 @@ pub record SpellsText (text : List ℕ) (commands : Entries) : Type 0 where
   pub follows : AllByRecursion (λ m. may_follow m.1 ≡ true) tail
   pub short : length text ≤ text_limit
 
--- The first items of a text, as many as this, spell these commands (docs/DEFINITIONS.md, Reading a Gerber text).
+-- The first items of a text, as many as `kept`, spell these commands.
 pub record KeptOf (text : List ℕ) (kept : ℕ) (commands : Entries) : Type 0 where
   pub items : List (List OffsetByte)
   pub rest : List OffsetByte
@@ -115,20 +115,20 @@ pub record KeptOf (text : List ℕ) (kept : ℕ) (commands : Entries) : Type 0 w
   pub within : kept ≤ length items
   pub spelled : commands_from 1 (take kept items) [] ≡ Ok commands
 
--- the items before the place of a fault spell these commands; some first items do where memory ran out (docs/DEFINITIONS.md, Reading a Gerber text)
+-- the items before the place of a fault spell these commands; where memory ran out, some first items do
 abbrev pub KeptBefore : List ℕ → Fail → Entries → Type 0
 KeptBefore text fails.Memory commands = (kept : ℕ) × KeptOf text kept commands
 KeptBefore text (fails.Refused f) commands = (kept : ℕ) × (f.place ≡ suc kept) × KeptOf text kept commands
 
--- the commands of a whole text and nothing more, or those before its fault (docs/DEFINITIONS.md, Reading a Gerber text)
+-- the commands of a whole text without a fault, or the fault and the commands before it
 abbrev pub Keeps : {X : Type 0} → List ℕ → Entries → Result X Fail → Type 0
 Keeps text commands (Ok _) = Reads text (Ok commands)
 Keeps text commands (Err e) = Tells (λ f. Reads text (Err f)) e × KeptBefore text e commands
 
--- the commands that are gone, and after them those of a vector (docs/DEFINITIONS.md, Reading in pieces)
+-- the commands that were dropped, and after them those of a vector
 abbrev pub entries_behind : Entries → Vec (Placed Command) → Entries
 entries_behind gone v = gone ++ v.items
 
--- the entries of a vector (docs/DEFINITIONS.md, Reading a Gerber text)
+-- the commands that a vector holds, in order
 abbrev pub entries_of : Vec (Placed Command) → Entries
 entries_of v = v.items

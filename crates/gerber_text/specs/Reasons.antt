@@ -1,8 +1,8 @@
--- The reasons of reading a Gerber text.
+-- The reasons for which a Gerber text is refused while it is read (docs/FORMATS.md, The table of reasons).
 use Rattle.grid_units.specs.declared.fault.Reason.{Reason}
 use Rattle.grid_units.specs.declared.fault.Reason.TheVariants.{TooLong, AfterEnd, Truncated, SeveralInOne, ClearPolarity, BlockAperture, NegativeImage, TrailingZeros, Incremental, OldParameter, BadWord, BadNumber, TooManyDigits, TooFine, TooFar, BareCoordinate}
 
--- a reason why a text is refused before its commands are judged (docs/FORMATS.md, the table of reasons)
+-- a reason of reading, sixteen in all; the rules of a layer, as NoUnit, come later
 abbrev pub IsReasonOfReading : Reason → Type 0
 IsReasonOfReading TooLong = Unit {0}
 IsReasonOfReading AfterEnd = Unit {0}

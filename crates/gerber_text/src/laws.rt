@@ -1,4 +1,4 @@
-//! Laws of what a text shows, reads as and spells. A call of one does nothing, and gives its clauses.
+//! Laws of what a text shows, reads as and spells. Calling one does nothing, but gives its clauses.
 
 ghost use Rattle.std.specs.Prelude.{◌≡◌, ◌↔◌, true, ℕ, List, Result, Ok, Err};
 ghost use Rattle.grid_units.specs.declared.fault.Fault.{Fault};

@@ -1,4 +1,4 @@
-//! Commands with their places.
+//! Commands with the places and offsets of their items.
 
 /// A command, with the number of its item, from 1, and the offset of that item's first byte.
 #[derive(Debug, Drop)]

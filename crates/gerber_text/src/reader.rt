@@ -22,10 +22,10 @@ use memchr::memchr3;
 use std::alloc::{AllocError, Global};
 use std::mem::replace;
 
-/// The longest text, as an offset.
+/// The limit of a text's length, 268,435,456 bytes, as an offset.
 const TEXT_LIMIT: u64 = grid_units::TEXT_LIMIT as u64;
 
-/// What was read so far, and the item that has not ended.
+/// The commands that were read so far, and the item that has not ended.
 #[derive(Debug, Drop)]
 pub(crate) struct Progress {
     alloc: Global,
@@ -47,14 +47,14 @@ fn is_break(byte: u8) -> bool
     byte == b'\n' || byte == b'\r'
 }
 
-/// Whether the byte shows no fault behind the end of the text.
+/// Whether the byte may stand after the end of the text.
 fn may_stand(byte: u8) -> bool
     ensures { result ≡ follows_or_drops byte }
 {
     byte == b'\n' || byte == b'\r' || byte == b' ' || byte == b'\t' || byte == b'*'
 }
 
-/// How many bytes from the first on neither end the item nor are dropped.
+/// How many of the first bytes neither end the item nor are line breaks.
 fn inside_len(bytes: &[u8], end: u8) -> usize
     ensures within { result ≤ length bytes.now }
     ensures inside { All (IsInside end) (take result bytes.now) }
@@ -66,8 +66,8 @@ fn inside_len(bytes: &[u8], end: u8) -> usize
     }
 }
 
-/// How many bytes the item takes with which these bytes begin, where it ends among them, has no line break in it and is
-/// within the limit.
+/// The length of the item at the start of these bytes, if it ends among them, has no line break and is within
+/// the limit.
 fn item_len(bytes: &[u8]) -> Option<usize>
     requires some { 0 < length bytes.now }
     requires inside { IsInside 42 (slice_index bytes.now 0) }
@@ -83,7 +83,7 @@ fn item_len(bytes: &[u8]) -> Option<usize>
     }
 }
 
-/// Where the first byte lies that may not stand behind the end of the text.
+/// Where the first byte lies that may not stand after the end of the text.
 fn first_stray(bytes: &[u8]) -> Option<usize>
     ensures none { IfNone result (All (λ b. follows_or_drops b ≡ true) bytes.now) }
     ensures some { IfSome result (λ i. (i < length bytes.now) × All (λ b. follows_or_drops b ≡ true) (take i bytes.now) × (follows_or_drops (slice_index bytes.now i) ≡ false)) }
@@ -103,7 +103,7 @@ fn is_all_blank(bytes: &[u8]) -> bool
     bytes.iter().all(|b| *b == b' ' || *b == b'\t')
 }
 
-/// Whether the last operation is a plot, after this command.
+/// Whether the last operation is a plot, once this command has come.
 fn plots_after(before: bool, what: &Command) -> bool
     ensures { result ≡ unwrap_or (plot_of what.now) before }
 {
@@ -113,7 +113,7 @@ fn plots_after(before: bool, what: &Command) -> bool
     }
 }
 
-/// Adds the commands of an item, both or none, and says whether the last operation is a plot.
+/// Adds the commands of an item, both or none, and returns whether the last operation is a plot.
 fn add(
     plotting: bool,
     place: u64,
@@ -133,7 +133,7 @@ fn add(
     }
 }
 
-/// Adds a command behind an interpolation that may stand in front, both or none, and says whether the last operation is a
+/// Adds a command after an optional interpolation, both or none, and returns whether the last operation is a
 /// plot.
 // Most items are operations: inlined, their command is written just once, where it is kept.
 #[inline(always)]
@@ -159,7 +159,7 @@ fn add_behind(
     }
 }
 
-/// Adds a command, and says whether the last operation is a plot.
+/// Adds a command, and returns whether the last operation is a plot.
 fn add_one(
     plotting: bool,
     place: u64,
@@ -202,7 +202,7 @@ fn add_both(
     Ok(())
 }
 
-/// Adds the commands that an item spells.
+/// Adds the commands that an item spells, and returns whether the last operation is a plot.
 #[tactic(auto, unfolding(crate::specs::Reading::spelled))]
 fn spell(
     alloc: Global,
@@ -237,7 +237,7 @@ impl Progress {
     ghost use Rattle.gerber_text.specs.Holding.{Advances, Refuses, RefusesText, Holds, Ends};
     ghost use Rattle.grid_units.specs.Results.{AnswersAlways};
 
-    /// The refusal of the item that comes next.
+    /// The refusal of the next item, for this reason.
     fn refuse(&self, byte: u64, reason: Reason) -> Fail
         ensures { result ≡ Refused (fault (self.now.items + 1) byte reason) }
     {
@@ -248,14 +248,14 @@ impl Progress {
         })
     }
 
-    /// The byte that ends the item.
+    /// The byte that ends the unfinished item, `%` or `*`.
     fn ender(&self) -> u8
         ensures { result ≡ ender self.now.item.items }
     {
         end_of(&self.item)
     }
 
-    /// The offset of the item's first byte, also where that is the next one.
+    /// The offset of the unfinished item's first byte, or of the next byte where no item has begun.
     fn item_start(&self) -> u64
         ensures fresh { vec_len self.now.item ≡ 0 → result ≡ self.now.offset }
         ensures begun { 0 < vec_len self.now.item → result ≡ self.now.start }
@@ -267,7 +267,7 @@ impl Progress {
         }
     }
 
-    /// Drops a CR or LF.
+    /// Passes a CR or LF, which is dropped.
     fn skip_break(&mut self, byte: u8)
         requires dropped { is_line_break byte ≡ true }
         requires room { self.old.offset < text_limit }
@@ -277,7 +277,7 @@ impl Progress {
         self.offset += 1;
     }
 
-    /// Takes the item of an operation.
+    /// Takes the item of an operation that is written plainly.
     fn operate(&mut self, bytes: &[u8], operation: PlainOperation) -> Result<(), Fail>
         requires running { self.old.ended ≡ false }
         requires fresh { vec_len self.old.item ≡ 0 }
@@ -311,8 +311,8 @@ impl Progress {
         Ok(())
     }
 
-    /// Takes the common operation at the start of these bytes, where it stands there plainly; else the item, where
-    /// it stands there whole; else one byte. Returns how many bytes it took.
+    /// Takes the plain operation at the start of these bytes, if there is one; else the item, if it stands there
+    /// whole; else one byte. Returns how many bytes it took.
     fn start(&mut self, bytes: &[u8]) -> Result<usize, Fail>
         requires running { self.old.ended ≡ false }
         requires fresh { vec_len self.old.item ≡ 0 }
@@ -333,8 +333,8 @@ impl Progress {
         }
     }
 
-    /// Takes the item at the start of these bytes, where it stands there whole, else its first byte, and says how
-    /// many bytes these are.
+    /// Takes the item at the start of these bytes, if it stands there whole, else its first byte. Returns how many
+    /// bytes it took.
     fn start_item(&mut self, bytes: &[u8]) -> Result<usize, Fail>
         requires running { self.old.ended ≡ false }
         requires fresh { vec_len self.old.item ≡ 0 }
@@ -357,7 +357,7 @@ impl Progress {
         }
     }
 
-    /// Takes an item of so many bytes.
+    /// Takes a whole item of so many bytes.
     fn take_item(&mut self, bytes: &[u8], len: usize) -> Result<(), Fail>
         requires running { self.old.ended ≡ false }
         requires fresh { vec_len self.old.item ≡ 0 }
@@ -384,7 +384,7 @@ impl Progress {
         Ok(())
     }
 
-    /// Adds the first byte of an item.
+    /// Begins an item with its first byte.
     fn begin(&mut self, byte: u8) -> Result<(), Fail>
         requires running { self.old.ended ≡ false }
         requires fresh { vec_len self.old.item ≡ 0 }
@@ -448,7 +448,7 @@ impl Progress {
         Ok(())
     }
 
-    /// Passes over bytes behind the end of the text.
+    /// Passes bytes after the end of the text.
     fn pass(&mut self, bytes: &[u8]) -> Result<(), Fail>
         requires ended { self.old.ended ≡ true }
         requires room { self.old.offset + length bytes.now ≤ text_limit }
@@ -465,7 +465,7 @@ impl Progress {
         }
     }
 
-    /// Takes some of the bytes, from the first on, and says how many.
+    /// Takes some of the bytes, from the first on, and returns how many.
     fn take_some(&mut self, bytes: &[u8]) -> Result<usize, Fail>
         requires some { 0 < length bytes.now }
         requires room { self.old.offset + length bytes.now ≤ text_limit }
@@ -520,7 +520,7 @@ impl Progress {
         Err(self.refuse(TEXT_LIMIT, Reason::TooLong))
     }
 
-    /// Where the end of the text is missing.
+    /// The offset at which the text is Truncated: that of the unfinished item, or the text's length.
     fn missing_at(&self) -> u64
         ensures { result ≡ (if list_all is_blank self.now.item.items then self.now.offset else self.now.start) }
     {
@@ -531,7 +531,7 @@ impl Progress {
         }
     }
 
-    /// Whether the text has ended.
+    /// The refusal Truncated, unless the text has ended.
     fn end(&self) -> Result<(), Fail>
         ensures { (gone : Entries) (text : List ℕ) → Holds self.now gone text → Ends text (gone ++ self.now.commands.items) result }
     {
@@ -619,7 +619,7 @@ impl WordReader {
         &self.progress.commands
     }
 
-    /// Lets go of the commands so far: from here on [`WordReader::commands`] gives those that come after them.
+    /// Drops the commands so far: from here on [`WordReader::commands`] gives those that come after them.
     pub fn let_go(&mut self)
         ensures none { held self.new ≡ [] }
         ensures gone { (gone : Entries) (text : List ℕ) → StandsBehind self.old gone text → StandsBehind self.new (gone ++ held self.old) text }
@@ -628,7 +628,7 @@ impl WordReader {
         self.progress.commands.clear();
     }
 
-    /// The commands so far, which the reader lets go of.
+    /// The commands so far, which are moved out of the reader.
     pub fn take_commands(&mut self) -> Vec<Placed<Command>>
         ensures taken { result.items ≡ held self.old }
         ensures none { held self.new ≡ [] }
@@ -639,7 +639,7 @@ impl WordReader {
         replace(&mut self.progress.commands, Vec::new(alloc))
     }
 
-    /// The commands of the text.
+    /// The commands of the whole text, the last one `Finish`.
     ///
     /// # Errors
     ///
@@ -657,7 +657,7 @@ impl WordReader {
         }
     }
 
-    /// The commands so far, and whether the text has ended; or those before the fault, and the fault.
+    /// The commands so far and no fault where the text has ended; else the commands before the fault, and the fault.
     fn into_kept(self) -> Kept
         ensures stands { (text : List ℕ) → StandsAfter self text → Keeps text result.commands.items result.outcome }
         ensures failed { (text : List ℕ) (e : TheFail) → HasFailed self text e → Keeps text result.commands.items result.outcome }
@@ -669,7 +669,7 @@ impl WordReader {
         }
     }
 
-    /// Whether the text ends here, or the failure.
+    /// The failure of the reader, or Truncated unless the text has ended.
     fn outcome(&self) -> Result<(), Fail>
         ensures stands { (text : List ℕ) → StandsAfter self.now text → Keeps text self.now.progress.commands.items result }
         ensures failed { (text : List ℕ) (e : TheFail) → HasFailed self.now text e → Keeps text self.now.progress.commands.items result }
@@ -681,7 +681,7 @@ impl WordReader {
     }
 }
 
-/// The commands of a text, or those before its first fault.
+/// The commands of a text, or the fault and the commands before it.
 #[derive(Debug, Drop)]
 pub struct Kept {
     pub commands: Vec<Placed<Command>>,

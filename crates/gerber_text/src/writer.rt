@@ -10,7 +10,7 @@ use gerber_rows::{Command, write_item};
 use grid_units::{Fail, Fault, Reason, TEXT_LIMIT};
 use std::alloc::{AllocError, Global};
 
-/// Appends the canonical item of a command, and a line end.
+/// Appends the canonical item of a command, and an LF.
 fn put_line(out: &mut Vec<u8>, command: &Command) -> Result<(), AllocError>
     ensures { OnOk result (out.new.items ≡ out.old.items ++ (canonical command.now ++ 10 ∷ [])) }
 {
@@ -19,7 +19,7 @@ fn put_line(out: &mut Vec<u8>, command: &Command) -> Result<(), AllocError>
     Ok(())
 }
 
-/// A text within the limit.
+/// The text, or the refusal of one above 268,435,456 bytes.
 fn limited(text: Vec<u8>) -> Result<Vec<u8>, Fail>
     ensures { AnswersAlways bytes_of_vector (λ answer. answer ≡ limited text.items) result }
 {
@@ -34,7 +34,7 @@ fn limited(text: Vec<u8>) -> Result<Vec<u8>, Fail>
     }
 }
 
-/// The lines of commands.
+/// The canonical items of commands, each with an LF.
 fn lines_of(alloc: Global, commands: &[Command]) -> Result<Vec<u8>, AllocError>
     ensures { IfOk result (λ text. text.items ≡ lines commands.now) }
 {
@@ -58,7 +58,7 @@ pub fn write_commands(alloc: Global, commands: &[Command]) -> Result<Vec<u8>, Fa
     limited(lines_of(alloc, commands)?)
 }
 
-/// The lines of commands with their places.
+/// The canonical items of commands with places, each with an LF.
 fn lines_of_placed(alloc: Global, commands: &[Placed<Command>]) -> Result<Vec<u8>, AllocError>
     ensures { IfOk result (λ text. text.items ≡ lines (without_places commands.now)) }
 {

@@ -1,4 +1,4 @@
--- Steps that may be refused, one upon another.
+-- Chains of steps that may be refused.
 use Rattle.std.proofs.Common.{◌≡◌, ◌⊎◌, inl, inr, Bool, true, false, cond, Result, Ok, Err, refl, ap}
 use Rattle.grid_units.specs.declared.fault.Reason.{Reason}
 use Rattle.grid_units.specs.Results.{◌>>=◌, both}

@@ -1,4 +1,4 @@
--- The value of digits that stand one behind the other.
+-- The value of runs of digits in a row.
 use Rattle.std.proofs.Common.{◌≡◌, ℕ, zero, suc, ◌+◌, ◌-◌, ◌*◌, ◌^◌, ◌<◌, ◌≤◌, Bool, true, false, not, cond, eqb, ◌&&◌, List, [], ◌∷◌, ◌++◌, length, take, drop, ℤ, pos, ◌*ℤ◌, Ok, Err, refl, sym, ap, ◌∙◌, arith, add-zero, mul-le-mul_right, zero-mul, ltb, lit<, ◌/◌}
 use Rattle.std.specs.Prelude.{neg_ℤ, All}
 use Rattle.std.specs.List.{fold, list_all, AllByRecursion}
@@ -71,7 +71,7 @@ fine_is digits decimals h =
 pub fine_exact : (digits decimals : List ℕ) → is_coarse decimals ≡ true → fine (value (digits ++ decimals)) (length decimals) * 10 ^ length decimals ≡ value (digits ++ decimals) * 10 ^ 8
 fine_exact digits decimals h = ap (λ n. n * 10 ^ length decimals) (fine_is digits decimals h) ∙ exact digits decimals h
 
--- a sign stands for a whole product
+-- the sign of a product is that of its first factor
 signed_product : (t : Bool) (m k : ℕ) → cond t (neg_ℤ (pos m)) (pos m) *ℤ pos k ≡ cond t (neg_ℤ (pos (m * k))) (pos (m * k))
 signed_product true zero k = pos-*ℤ-pos 0 k ∙ ap pos (zero-mul k) ∙ ap (λ n. neg_ℤ (pos n)) (sym (zero-mul k))
 signed_product true (suc m) k = refl
@@ -87,7 +87,7 @@ digit_small b h = grind (arith, nat_tests)
 front : (d p v : ℕ) → d ≤ 9 → v < p → d * p + v < 10 * p
 front d p v h l = omega (arith, mul-le-mul_right p h)
 
--- digits spell less than the power of ten of their number
+-- n digits spell less than 10^n
 pub value_lt : (ds : List ℕ) → AllByRecursion (λ b. is_digit b ≡ true) ds → value ds < 10 ^ length ds
 value_lt [] h = lit< tt
 value_lt (d ∷ ds) h =

@@ -19,7 +19,7 @@ scaled n d h =
     let q : n * (10 ^ (8 - d) * 10 ^ d) ≡ n * 10 ^ 8 = ap (λ k. n * k) p in
     omega (arith, q)
 
--- a number of d decimals, in units of 10^-8
+-- a number with d decimals, in units of 10^-8
 pub scaled_is : (n d : ℕ) → d ≤ 8 → n * 10 ^ (8 - d) ≡ fine n d
 scaled_is n d h = sym (mul-div_cancel (n * 10 ^ (8 - d)) (one-le-pow d 10 (lit< tt))) ∙ ap (λ k. k / 10 ^ d) (scaled n d h)
 
@@ -37,7 +37,7 @@ scaled_bound n i d hi hd l =
     let m : 10 ^ (i + 8) ≤ 10 ^ 14 = pow-le-pow_right {n = 10} (lit< tt) {i = i + 8} {j = 14} (omega arith) in
     omega (arith, b, p, m)
 
--- the number of digits with zeros behind them
+-- the number that digits spell with zeros after them
 pub filled_is : (ds : List ℕ) (k : ℕ) → value ds * 10 ^ k ≡ filled ds k
 filled_is ds k =
     let e : filled ds k ≡ value ds * 10 ^ length {A = ℕ} (replicate k 48) + value (replicate k 48) = value-append ds (replicate k 48) in

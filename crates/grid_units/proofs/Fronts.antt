@@ -1,4 +1,4 @@
--- A decimal that stands in front of other bytes, by its parts.
+-- A decimal at the start of a text, by its parts.
 use Rattle.std.proofs.Common.{◌≡◌, ℕ, ◌+◌, ◌-◌, ◌*◌, ◌^◌, ◌<◌, ◌≤◌, Bool, true, false, cond, not, ◌&&◌, ◌||◌, eqb, ltb, List, [], ◌∷◌, ◌++◌, length, ℤ, refl, sym, ap, ◌∙◌, inl, arith, append_assoc, lit≤}
 use Rattle.std.specs.Prelude.{neg_ℤ, pos}
 use Rattle.std.specs.List.{list_all, list_any, prefix_len, before_first, after_first, AllByRecursion}
@@ -13,7 +13,7 @@ use Rattle.grid_units.proofs.Digits.{dec_ok, fine_is, value_lt, filled_lt}
 use Rattle.grid_units.proofs.Spelled.{before_point, behind_the_point, no_sign, no_minus}
 use Rattle.grid_units.proofs.BoolLemmas.{and_true, both_true}
 
--- the sign in front of a text
+-- the sign at the start of a text, where there is one
 record HasSign (bytes sign : List ℕ) : Type 0 where
   whole : bytes ≡ sign ++ unsigned bytes
   numbers : list_all is_number sign ≡ true
@@ -108,7 +108,7 @@ eight_decimals fs h le = filled_lt fs (All-from_recursion (λ b. is_digit b ≡ 
 signed_by : Bool → ℕ → ℤ
 signed_by t m = cond t (neg_ℤ (pos m)) (pos m)
 
--- a run of these parts, and what stands behind it
+-- a run of these parts, and what follows it
 pub front_is : (bytes ds fs rest : List ℕ) (v : ℤ) → unsigned bytes ≡ ds ++ 46 ∷ (fs ++ rest) → list_all is_digit ds ≡ true → list_all is_digit fs ≡ true → eqb (length ds + length fs) 0 ≡ false → length ds ≤ 6 → length fs ≤ 8
     → prefix_len is_number rest ≡ 0 → v ≡ signed bytes (value ds * 10 ^ 8 + value fs * 10 ^ (8 - length fs)) → IsInFront v rest bytes
 unfolding signed_by

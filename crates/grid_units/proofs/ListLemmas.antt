@@ -77,7 +77,7 @@ all_append p xs ys h k = list_all-append p xs ys ∙ and_true (list_all p xs) (l
 
 -- ---- runs
 
--- a run of bytes that pass, behind which stands one that does not
+-- a run of bytes that pass, followed by one that does not, or by nothing
 pub prefix_run : (p : ℕ → Bool) (xs ys : List ℕ) → list_all p xs ≡ true → prefix_len p ys ≡ 0 → prefix_len p (xs ++ ys) ≡ length xs
 prefix_run p [] ys h k = k
 prefix_run p (x ∷ xs) ys h k =

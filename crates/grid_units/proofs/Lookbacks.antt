@@ -27,7 +27,7 @@ last_named-append names (c ∷ cs) ds = ap (λ o. option_or o (names c)) (last_n
 pub last_named-more : {C A : Type 0} (names : C → Option A) (cs : List C) (c : C) → last_named names (cs ++ c ∷ []) ≡ option_or (names c) (last_named names cs)
 last_named-more names cs c = last_named-append names cs (c ∷ [])
 
--- the same with a value to start from
+-- what two lists in a row name last, with a value to start from
 pub last_or-append : {C A : Type 0} (names : C → Option A) (start : A) (cs ds : List C) → unwrap_or (last_named names (cs ++ ds)) start ≡ unwrap_or (last_named names ds) (unwrap_or (last_named names cs) start)
 last_or-append names start cs ds = ap (λ o. unwrap_or o start) (last_named-append names cs ds) ∙ unwrap_or_or (last_named names ds) (last_named names cs) start
 

@@ -11,7 +11,7 @@ unfolding places
 length-places zero n = refl
 length-places (suc w) n = length-append (places w (n / 10)) ((48 + n % 10) ∷ []) ∙ omega (arith, length-places w (n / 10))
 
--- the first of them
+-- the first of the last digits
 pub places_front : (w n : ℕ) → places (suc w) n ≡ (48 + n / 10 ^ w % 10) ∷ places w n
 unfolding places
 places_front zero n = ap (λ m. (48 + m % 10) ∷ []) (div_one n)
@@ -95,7 +95,7 @@ behind_any_is : (xs : List ℕ) → 0 < length xs → behind_any_point xs ≡ 46
 behind_any_is [] l = absurd (omega arith)
 behind_any_is (x ∷ xs) l = refl
 
--- a point and digits, one behind the other
+-- a point and then digits
 pub pointed_places : (old mid new ts : List ℕ) (w n : ℕ) → 0 < w → places w n ≡ ts → mid ≡ old ++ 46 ∷ [] → new ≡ mid ++ places w n → new ≡ old ++ behind_point ts
 pointed_places old mid new ts w n l same first second =
     second ∙ ap (λ m. m ++ places w n) first ∙ append_assoc old (46 ∷ []) (places w n) ∙ ap (λ xs. old ++ 46 ∷ xs) same

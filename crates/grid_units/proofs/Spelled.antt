@@ -103,7 +103,7 @@ pub length-zeros : (k : ℕ) → length {A = ℕ} (replicate k 48) ≡ k
 length-zeros zero = refl
 length-zeros (suc k) = ap suc (length-zeros k)
 
--- trimmed decimals with their places filled up are the decimals
+-- trimmed decimals, filled up with zeros, are the decimals
 pub record IsTrim (ds ts : List ℕ) : Type 0 where
   pub digits : list_all is_digit ts ≡ true
   pub short : length ts ≤ length ds
@@ -155,7 +155,7 @@ point_nowhere (d ∷ ds) h =
     let b = both_true (is_digit d) (list_all is_digit ds) h in
     ap (λ t. cond t (1 + prefix_len (λ b. not (eqb b 46)) ds) 0) (no_point d b.0) ∙ omega (arith, point_nowhere ds b.1)
 
--- digits, and behind a point the decimals, or nothing
+-- a point and its decimals, or nothing where there are none
 abbrev pub IsTail : List ℕ → List ℕ → Type 0
 IsTail fs tail = (tail ≡ 46 ∷ fs) ⊎ ((tail ≡ []) × (fs ≡ []))
 

@@ -1,10 +1,10 @@
--- A decimal that stands in front of other bytes.
+-- A decimal at the start of a text (docs/FORMATS.md, Numbers).
 use Rattle.std.specs.Prelude.{◌≡◌, ◌≤◌, ℕ, ℤ, true, ◌==◌, List, ◌++◌, length, Ok}
 use Rattle.std.specs.List.{list_all, list_any, prefix_len}
 use Rattle.grid_units.specs.Numbers.{is_number, dec_of}
 use Rattle.grid_units.specs.Ascii as ascii
 
--- The run of number characters in front of the rest has a point and spells this decimal (docs/FORMATS.md, Numbers).
+-- the bytes are a whole run of at most 16 number characters and `rest`; the run has a point and spells v: `0.5` of `0.5D03`
 pub record IsInFront (v : ℤ) (rest bytes : List ℕ) : Type 0 where
   pub run : List ℕ
   pub whole : bytes ≡ run ++ rest

@@ -1,4 +1,4 @@
--- Numbers, and the lengths that they give.
+-- Numbers, and the lengths in pm that they give (docs/FORMATS.md, Numbers).
 use Rattle.std.specs.Prelude.{ℕ, ◌+◌, ◌-◌, ◌*◌, ◌/◌, ◌^◌, Bool, false, not, ◌||◌, ◌&&◌, ◌==◌, nat_lt, nat_le, List, [], ◌∷◌, ◌++◌, length, drop, replicate, if◌then◌else◌, Result, Ok, Err, ℤ, pos, neg_ℤ, ◌*ℤ◌, unsigned_abs}
 use Rattle.std.specs.List.{fold, list_all, before_first, after_first}
 use Rattle.grid_units.specs.declared.fault.Reason.{Reason}
@@ -13,63 +13,63 @@ use Rattle.grid_units.specs.Ascii as ascii
 
 -- ---- digits
 
--- `0` to `9` (docs/FORMATS.md, Numbers)
+-- `0` to `9`
 abbrev pub is_digit : ℕ → Bool
 is_digit b = nat_le ascii.digit_zero b && nat_le b ascii.digit_nine
 
--- a digit, a sign or a point (docs/FORMATS.md, Numbers)
+-- a number character: a digit, a sign or a point
 abbrev pub is_number : ℕ → Bool
 is_number b = is_digit b || ((b == ascii.plus) || ((b == ascii.minus) || (b == ascii.point)))
 
--- one or more digits (docs/FORMATS.md, Numbers)
+-- one or more digits and nothing else: `007`
 abbrev pub is_digits : List ℕ → Bool
 is_digits bs = not (length bs == 0) && list_all is_digit bs
 
--- the number that decimal digits spell (docs/FORMATS.md, Numbers)
+-- the number that decimal digits spell: `007` is 7
 abbrev pub value : List ℕ → ℕ
 value digits = fold (λ n b. n * 10 + (b - ascii.digit_zero)) 0 digits
 
--- what stands behind an optional sign (docs/FORMATS.md, Numbers)
+-- what follows an optional sign: `.5` of `-.5`
 abbrev pub unsigned : List ℕ → List ℕ
 unsigned [] = []
 unsigned (b ∷ bs) = if (b == ascii.plus) || (b == ascii.minus) then bs else b ∷ bs
 
--- the sign is a minus (docs/FORMATS.md, Numbers)
+-- the sign is a minus: `-.5`
 abbrev pub is_negative : List ℕ → Bool
 is_negative [] = false
 is_negative (b ∷ bs) = b == ascii.minus
 
--- a number with the sign of a text (docs/FORMATS.md, Numbers)
+-- n, or minus n where the text begins with `-`
 abbrev pub signed : List ℕ → ℕ → ℤ
 signed text n = if is_negative text then neg_ℤ (pos n) else pos n
 
--- the v of v * 10^k = n * 10^8: n with k decimals, in units of 10^-8 (docs/FORMATS.md, Numbers)
+-- n with k decimals, in units of 10^-8, the v of v * 10^k = n * 10^8: 254 with 2 decimals is 254,000,000
 abbrev pub fine : ℕ → ℕ → ℕ
 fine n k = n * 10 ^ 8 / 10 ^ k
 
 -- ---- decimals
 
--- the digits before the point (docs/FORMATS.md, Numbers)
+-- the digits before the point: `01` of `-01.50`
 abbrev pub whole : List ℕ → List ℕ
 whole text = before_first (λ b. b == ascii.point) (unsigned text)
 
--- the digits behind the point (docs/FORMATS.md, Numbers)
+-- the digits after the point: `50` of `-01.50`
 abbrev pub fraction : List ℕ → List ℕ
 fraction text = after_first (λ b. b == ascii.point) (unsigned text)
 
--- an optional sign, and one or more digits with at most one point among them (docs/FORMATS.md, Numbers)
+-- an optional sign, and one or more digits with at most one point among them: `1.`, `-.5`, `01.00`
 abbrev pub is_decimal : List ℕ → Bool
 is_decimal text = (list_all is_digit (whole text) && list_all is_digit (fraction text)) && not (length (whole text) + length (fraction text) == 0)
 
--- the decimals behind the eighth are zeros (docs/FORMATS.md, Numbers)
+-- the decimals after the eighth are zeros: `12345678000`
 abbrev pub is_coarse : List ℕ → Bool
 is_coarse decimals = list_all (λ b. b == ascii.digit_zero) (drop 8 decimals)
 
--- the number that all the digits spell (docs/FORMATS.md, Numbers)
+-- the number that all the digits spell, read without the point: 150 of `-01.50`
 abbrev pub all_digits : List ℕ → ℕ
 all_digits text = value (whole text ++ fraction text)
 
--- A decimal in units of 10^-8, or the first refusal: BadNumber, TooFine, TooFar (docs/FORMATS.md, Numbers).
+-- a decimal in units of 10^-8, or its first refusal, BadNumber, TooFine or TooFar: `-.5` is -50,000,000
 unfoldable pub dec_of : List ℕ → Result ℤ Reason
 dec_of text =
     if is_decimal text then (if is_coarse (fraction text) then (if nat_lt 999999 (value (whole text)) then Err TooFar
@@ -77,43 +77,43 @@ dec_of text =
     else Err TooFine)
     else Err BadNumber
 
--- the largest absolute value of a decimal, in units of 10^-8 (docs/FORMATS.md, Numbers)
+-- the largest absolute value of a decimal, in units of 10^-8: 999,999.99999999
 abbrev pub max_units : ℕ
 max_units = 99999999999999
 
 -- ---- lengths
 
--- the picometres of a unit (docs/FORMATS.md, Lengths)
+-- one unit in pm: an inch is 25.4 mm
 abbrev pub unit_length : Units → ℕ
 unit_length Inch = 25400000000
 unit_length Millimetre = 1000000000
 
--- the p of p * 10^decimals = n * unit: a number with so many decimals of a unit, in pm (docs/FORMATS.md, Lengths)
+-- a number with so many decimals of a unit, in pm, the p of p * 10^decimals = n * unit: 254 with 2 decimals of 1 mm is 2,540,000,000
 abbrev pub picometres : Units → ℕ → ℤ → ℤ
 picometres unit decimals n = n *ℤ pos (unit_length unit / 10 ^ decimals)
 
--- beyond 10 m (docs/FORMATS.md, Limits)
+-- a length in pm beyond 10 m (docs/FORMATS.md, Limits)
 abbrev pub is_far : ℤ → Bool
 is_far length = nat_lt max_coordinate (unsigned_abs length)
 
--- a length, or TooFar beyond 10 m (docs/FORMATS.md, Limits)
+-- a length in pm, or TooFar beyond 10 m (docs/FORMATS.md, Limits)
 unfoldable pub within_limit : ℤ → Result ℤ Reason
 within_limit length = if is_far length then Err TooFar else Ok length
 
 -- ---- drill coordinates without a point
 
--- How many zeros are filled in behind so many digits, by the zeros that were kept; where neither is named all places must be
--- written (docs/FORMATS.md, Coordinates of a drill file).
+-- How many zeros to fill in after n digits: under `LZ` up to all places, under `TZ` none; more digits than places are
+-- TooManyDigits. Where neither is named, all places must be written, else NoZeros.
 abbrev pub missing : Zeros → ℕ → ℕ → Result ℕ Reason
 missing Leading places n = if nat_le n places then Ok (places - n) else Err TooManyDigits
 missing Trailing places n = if nat_le n places then Ok 0 else Err TooManyDigits
 missing Full places n = if n == places then Ok 0 else Err NoZeros
 
--- the number of a coordinate's digits, with so many zeros filled in behind them (docs/FORMATS.md, Coordinates of a drill file)
+-- the number that digits spell with so many zeros filled in after them: `00254` with one zero is 2540
 abbrev pub filled : List ℕ → ℕ → ℕ
 filled digits zeros = value (digits ++ replicate zeros ascii.digit_zero)
 
--- A coordinate without a point in the format i:d, in units of 10^-8 (docs/FORMATS.md, Coordinates of a drill file).
+-- a coordinate without a point in the format i:d, in units of 10^-8: `00254` in 3:3 under `LZ` is 254,000,000, that is 2.54
 unfoldable pub zeros_of : List ℕ → ℕ → ℕ → Zeros → Result ℤ Reason
 zeros_of text i d zeros =
     if is_digits (unsigned text) then (missing zeros (i + d) (length (unsigned text)) >>= λ k. Ok (signed text (fine (filled (unsigned text) k) d)))

@@ -1,7 +1,7 @@
 -- Points of the grid, and the squares of their distances. Lengths are whole picometres.
 use Rattle.std.specs.Prelude.{ℕ, ℤ, ◌+◌, ◌*◌, ◌≤◌, ◌-ℤ◌, unsigned_abs}
 
--- a point of the grid, in pm (docs/DEFINITIONS.md, Points and holes)
+-- a point of the grid: its x and y in pm
 pub record GridPoint : Type 0 where
   pub x : ℤ
   pub y : ℤ
@@ -10,19 +10,18 @@ pub record GridPoint : Type 0 where
 abbrev pub max_coordinate : ℕ
 max_coordinate = 10000000000000
 
--- at most ten metres from zero (docs/FORMATS.md, Limits)
+-- a coordinate in pm: at most ten metres in absolute value (docs/FORMATS.md, Limits)
 abbrev pub IsCoordinate : ℤ → Type 0
 IsCoordinate z = unsigned_abs z ≤ max_coordinate
 
--- a number times itself (docs/DEFINITIONS.md, Points and holes)
+-- a number times itself
 abbrev pub square : ℕ → ℕ
 square n = n * n
 
--- how far two whole numbers are apart (docs/DEFINITIONS.md, Points and holes)
+-- how far two whole numbers are apart
 abbrev pub apart : ℤ → ℤ → ℕ
 apart a b = unsigned_abs (a -ℤ b)
 
--- the square of the distance of two points
--- the square of the distance of two points (docs/DEFINITIONS.md, Points and holes)
+-- the square of the distance of two points; no root is ever taken
 abbrev pub square_distance : GridPoint → GridPoint → ℕ
 square_distance p q = square (apart p.x q.x) + square (apart p.y q.y)

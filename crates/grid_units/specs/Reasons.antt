@@ -1,9 +1,9 @@
--- The names of the reasons.
+-- The names and the numbers of the reasons (docs/FORMATS.md, the table of reasons).
 use Rattle.std.specs.Prelude.{ℕ, List, codes}
 use Rattle.grid_units.specs.declared.fault.Reason.{Reason}
 use Rattle.grid_units.specs.declared.fault.Reason.TheVariants.{TooLong, AfterEnd, Truncated, SeveralInOne, ClearPolarity, BlockAperture, NegativeImage, TrailingZeros, Incremental, OldParameter, OldFormat, Routed, Repeat, BadWord, BadLine, BadNumber, NoZeros, TooManyDigits, TooFine, TooFar, BareCoordinate, InRegion, NotInRegion, NoFormat, NoUnit, UnitConflict, FormatConflict, Redefined, UnknownMacro, UnknownAperture, UnknownTool, NoAperture, NoTool, BadSize, BadRepeat, TooManyPads, TooManyHoles, BadRule, BadManifest, BadRole, EmptyName, RepeatedName, NoCopper, NoDrill, NotCopper, BadSpan}
 
--- the name of a reason, as it is printed (docs/FORMATS.md, the table of reasons)
+-- the name of a reason as it is printed, `TooLong` in `refused place=0 byte=0 reason=TooLong`
 unfoldable pub name_of : Reason → List ℕ
 name_of TooLong = codes "TooLong"
 name_of AfterEnd = codes "AfterEnd"
@@ -52,7 +52,7 @@ name_of NoDrill = codes "NoDrill"
 name_of NotCopper = codes "NotCopper"
 name_of BadSpan = codes "BadSpan"
 
--- the number of a reason (docs/FORMATS.md, the table of reasons)
+-- the number of a reason, from 1 to 46
 abbrev pub number_of : Reason → ℕ
 number_of TooLong = 1
 number_of AfterEnd = 2

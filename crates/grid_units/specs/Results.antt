@@ -9,54 +9,54 @@ use Rattle.grid_units.specs.declared.stop.Stop.TheVariants as stops
 use Rattle.grid_units.specs.Reasons.{number_of}
 
 infixl 10 ◌>>=◌
--- the second step upon what the first one gives, or the first refusal (docs/DEFINITIONS.md, Answers)
+-- the second step on what the first one gives, or the first refusal
 abbrev pub ◌>>=◌ : {A B E : Type 0} → Result A E → (A → Result B E) → Result B E
 (Ok x) >>= f = f x
 (Err e) >>= f = Err e
 
--- a reason with its place and byte (docs/DEFINITIONS.md, Answers)
+-- a reason with its place (the number of an item, line or record, or 0 of a whole file) and its byte (an offset from 0)
 abbrev pub fault : ℕ → ℕ → Reason → Fault
 fault place byte reason = record { place = place; byte = byte; reason = reason }
 
--- an answer whose reason stands at a place and a byte (docs/DEFINITIONS.md, Answers)
+-- an answer, with its reason put at this place and byte where it is a refusal
 abbrev pub at : {A : Type 0} → ℕ → ℕ → Result A Reason → Result A Fault
 at place byte (Ok x) = Ok x
 at place byte (Err reason) = Err (fault place byte reason)
 
--- of two reasons the one that is read first: the reasons of reading are numbered in the reading order (docs/FORMATS.md, the table of reasons)
+-- the earlier of two reasons in the reading order: the reasons of reading are numbered in it (docs/FORMATS.md, the table of reasons)
 abbrev pub first_reason : Reason → Reason → Reason
 first_reason a b = if nat_le (number_of a) (number_of b) then a else b
 
--- Both of two fields. Every field is read, and then the first reason of the reading order is the answer (docs/FORMATS.md, What an item spells).
+-- both of two fields, or the first reason of the reading order: every field is read, also after a refusal (docs/FORMATS.md, What an item spells)
 abbrev pub both : {A B : Type 0} → Result A Reason → Result B Reason → Result (A × B) Reason
 both (Ok x) (Ok y) = Ok (x, y)
 both (Ok x) (Err b) = Err b
 both (Err a) (Ok y) = Err a
 both (Err a) (Err b) = Err (first_reason a b)
 
--- What a call returned, seen by a view, is an answer of which P speaks, running out of memory aside (docs/DEFINITIONS.md, Answers).
+-- P holds of what a call returned, a value seen by the view or a fault; nothing is claimed of a call that ran out of memory
 abbrev pub Answers : {T V : Type 0} → (T → V) → (Result V Fault → Type 0) → Result T Fail → Type 0
 Answers view P (Ok x) = P (Ok (view x))
 Answers view P (Err fails.Memory) = Unit {0}
 Answers view P (Err (fails.Refused f)) = P (Err f)
 
--- The same of a call that takes no memory (docs/DEFINITIONS.md, Answers).
+-- P holds of what a call returned, a value seen by the view or a fault; the call cannot run out of memory
 abbrev pub AnswersAlways : {T V : Type 0} → (T → V) → (Result V Fault → Type 0) → Result T Fail → Type 0
 AnswersAlways view P (Ok x) = P (Ok (view x))
 AnswersAlways view P (Err fails.Memory) = ⊥
 AnswersAlways view P (Err (fails.Refused f)) = P (Err f)
 
--- A failure is a fault of which P speaks, running out of memory aside (docs/DEFINITIONS.md, Answers).
+-- P holds of the fault of a failure; nothing is claimed where memory ran out
 abbrev pub Tells : (Fault → Type 0) → Fail → Type 0
 Tells P fails.Memory = Unit {0}
 Tells P (fails.Refused f) = P f
 
--- What stopped a call is the reason of this answer, running out of memory aside (docs/DEFINITIONS.md, Answers).
+-- the answer is the refusal that stopped a call; nothing is claimed where memory ran out
 abbrev pub Fails : {A : Type 0} → Stop → Result A Reason → Type 0
 Fails stops.Memory answer = Unit {0}
 Fails (stops.Refused reason) answer = answer ≡ Err reason
 
--- What a call returned is this answer, running out of memory aside (docs/DEFINITIONS.md, Answers).
+-- a call returned just this answer, or ran out of memory
 abbrev pub Gives : {A : Type 0} → Result A Stop → Result A Reason → Type 0
 Gives (Ok x) answer = answer ≡ Ok x
 Gives (Err stop) answer = Fails stop answer

@@ -1,28 +1,28 @@
--- Rows of a format's table: what a text spells that fits one, and which row decides.
+-- Rows of a format's table, and which row decides what a text spells (docs/FORMATS.md, How a row fits and is read).
 use Rattle.std.specs.Prelude.{ℕ, List, [], ◌∷◌, length, take, drop, if◌then◌else◌, Option, None, Some, Result, Err}
 use Rattle.std.specs.Str.{bytes_eq}
 use Rattle.grid_units.specs.declared.fault.Reason.{Reason}
 
--- a row of a format's table: what a text spells that fits it, and nothing of any other (docs/FORMATS.md, How a row fits and is read)
+-- what a row makes of a text: None where it does not fit, else what the text spells or the reason that refuses it
 abbrev pub RowOf : Type 0 → Type 0
 RowOf A = Option (Result A Reason)
 
--- the first row that fits says what the text spells; where none fits it is refused for this reason (docs/FORMATS.md, How a row fits and is read)
+-- what the first row that fits makes of the text; where none fits, the text is refused for this reason
 abbrev pub first_fit_or : {A : Type 0} → Reason → List (RowOf A) → Result A Reason
 first_fit_or reason [] = Err reason
 first_fit_or reason (None ∷ rows) = first_fit_or reason rows
 first_fit_or reason (Some meaning ∷ rows) = meaning
 
--- what stands after this prefix, where a text begins so (docs/FORMATS.md, How a row fits and is read)
+-- what follows this prefix, where a text begins with it: `10` after `G54D` in `G54D10`
 abbrev pub behind : List ℕ → List ℕ → Option (List ℕ)
 behind prefix text = if bytes_eq (take (length prefix) text) prefix then Some (drop (length prefix) text) else None
 
--- the row of texts that are just one of these literals (docs/FORMATS.md, How a row fits and is read)
+-- the row of texts that are just one of these literals, each with what it spells: `G36`
 abbrev pub just : {A : Type 0} → List (List ℕ × Result A Reason) → List ℕ → RowOf A
 just [] text = None
 just (form ∷ forms) text = if bytes_eq text form.0 then Some form.1 else just forms text
 
--- the row of texts that begin with one of these literals (docs/FORMATS.md, How a row fits and is read)
+-- the row of texts that begin with one of these literals, whatever follows, each with what it spells: `N10` begins with `N`
 abbrev pub beginning : {A : Type 0} → List (List ℕ × Result A Reason) → List ℕ → RowOf A
 beginning [] text = None
 beginning (form ∷ forms) text = if bytes_eq (take (length form.0) text) form.0 then Some form.1 else beginning forms text

@@ -1,48 +1,48 @@
--- How numbers are written.
+-- How numbers are written (docs/FORMATS.md, Numbers).
 use Rattle.std.specs.Prelude.{ℕ, zero, suc, ◌+◌, ◌/◌, ◌%◌, ◌^◌, ◌&&◌, ◌==◌, List, [], ◌∷◌, ◌++◌, length, decimal, if◌then◌else◌, ℤ, pos, negsuc, unsigned_abs}
 use Rattle.grid_units.specs.Ascii as ascii
 
--- the last so many digits of a number (docs/FORMATS.md, Numbers)
+-- the last so many digits of a number, with leading zeros: the last 3 of 12 are `012`
 unfoldable pub places : ℕ → ℕ → List ℕ
 places zero n = []
 places (suc w) n = places w (n / 10) ++ (ascii.digit_zero + n % 10) ∷ []
 
--- digits without the zeros at their end (docs/FORMATS.md, Numbers)
+-- digits without the zeros at their end: `05` of `0500`
 unfoldable pub trimmed : List ℕ → List ℕ
 trimmed [] = []
 trimmed (d ∷ ds) = if (d == ascii.digit_zero) && (length (trimmed ds) == 0) then [] else d ∷ trimmed ds
 
--- `-` below zero (docs/FORMATS.md, Numbers)
+-- `-` below zero, else nothing
 abbrev pub minus : ℤ → List ℕ
 minus (pos n) = []
 minus (negsuc n) = ascii.minus ∷ []
 
--- the decimals of a number of 10^-8, without the zeros at their end (docs/FORMATS.md, Numbers)
+-- the decimals of a number of 10^-8, without the zeros at their end: `05` of 5,000,000
 abbrev pub decimals : ℕ → List ℕ
 decimals units = trimmed (places 8 (units % 10 ^ 8))
 
--- `.` and the decimals, nothing where there are none (docs/FORMATS.md, Numbers)
+-- `.` and the decimals, nothing where there are none
 abbrev pub behind_point : List ℕ → List ℕ
 behind_point [] = []
 behind_point (d ∷ ds) = ascii.point ∷ d ∷ ds
 
--- `.` and the decimals, `.0` where there are none (docs/FORMATS.md, Numbers)
+-- `.` and the decimals, `.0` where there are none
 abbrev pub behind_any_point : List ℕ → List ℕ
 behind_any_point [] = ascii.point ∷ ascii.digit_zero ∷ []
 behind_any_point (d ∷ ds) = ascii.point ∷ d ∷ ds
 
--- the sign and the whole part, `0` for none, of a number in units of which so many are one (docs/FORMATS.md, Numbers)
+-- the sign and the whole part of v, where so many units are 1; `0` stands for no whole part: `-12` of -1250 hundredths
 abbrev pub signed_whole : ℕ → ℤ → List ℕ
 signed_whole one v = minus v ++ decimal (unsigned_abs v / one)
 
--- the canonical spelling of a number of 10^-8 (docs/FORMATS.md, Numbers)
+-- the canonical spelling of a number of 10^-8: `0.05` of 5,000,000
 unfoldable pub canonical : ℤ → List ℕ
 canonical v = signed_whole (10 ^ 8) v ++ behind_point (decimals (unsigned_abs v))
 
--- the same, always with a point (docs/FORMATS.md, Numbers)
+-- the spelling with a point, `.0` where there is no fraction: `-12.0` of -1,200,000,000
 unfoldable pub pointed : ℤ → List ℕ
 pointed v = signed_whole (10 ^ 8) v ++ behind_any_point (decimals (unsigned_abs v))
 
--- a length in pm as millimetres with nine decimals (docs/FORMATS.md, Numbers)
+-- a length in pm as millimetres with nine decimals: `0.125000000` of 125,000,000
 unfoldable pub millimetres : ℤ → List ℕ
 millimetres p = signed_whole (10 ^ 9) p ++ ascii.point ∷ places 9 (unsigned_abs p % 10 ^ 9)

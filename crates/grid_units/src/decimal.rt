@@ -12,7 +12,7 @@ use crate::spelling::{push_decimals, push_decimals_or_zero, signed_whole};
 use arrayvec::ArrayString;
 use std::marker::Model;
 
-/// The largest absolute value, in units of 10^-8.
+/// The largest absolute value of a decimal, in units of 10^-8.
 const MAX_UNITS: u64 = 99_999_999_999_999;
 
 /// A decimal of at most eight places: a whole number of 10^-8, at most 99,999,999,999,999 in absolute
@@ -40,7 +40,7 @@ impl Dec {
     ///
     /// # Errors
     ///
-    /// In this order: [`Reason::BadNumber`] for another text, [`Reason::TooFine`] where a decimal behind the
+    /// In this order: [`Reason::BadNumber`] for another text, [`Reason::TooFine`] where a decimal after the
     /// eighth is not 0, [`Reason::TooFar`] where the whole part is above 999,999.
     #[tactic(auto, unfolding(crate::specs::Numbers::dec_of))]
     pub fn read(text: &[u8]) -> Result<Dec, Reason>
@@ -81,8 +81,8 @@ impl Dec {
         }
     }
 
-    /// The canonical spelling: `-` below zero, the whole part without leading zeros (`0` for none), and
-    /// where the fraction is not zero, a point and its digits without trailing zeros.
+    /// The canonical spelling: `-` below zero, and the whole part without leading zeros (`0` for none).
+    /// Where the fraction is not zero, a point and its digits without trailing zeros follow: `0.05`.
     #[tactic(auto, unfolding(crate::specs::Spellings::canonical))]
     pub fn write(self) -> ArrayString<16>
         ensures spelling { result.bytes ≡ canonical self }
@@ -104,7 +104,7 @@ impl Dec {
         text
     }
 
-    /// The length of so many units in pm: the `p` of `p * 10^8 = units * unit`.
+    /// The decimal as a length of this unit, in pm: the `p` of `p * 10^8 = units * unit`.
     ///
     /// # Errors
     ///
@@ -118,7 +118,7 @@ impl Dec {
     }
 }
 
-/// The digits before the point, and those behind it.
+/// The digits before the point, and those after it.
 fn parts(text: &[u8]) -> (&[u8], &[u8])
     ensures whole { result.0.now ≡ whole text.now }
     ensures fraction { result.1.now ≡ fraction text.now }
@@ -148,21 +148,21 @@ fn point_at(digits: &[u8]) -> usize
     digits.len()
 }
 
-/// Whether these are digits, and not none.
+/// Whether both parts are digits alone, and at least one part is not empty.
 fn has_only_digits(whole: &[u8], fraction: &[u8]) -> bool
     ensures { result ≡ ((list_all is_digit whole.now && list_all is_digit fraction.now) && not (length whole.now + length fraction.now == 0)) }
 {
     are_all_digits(whole) && are_all_digits(fraction) && !(whole.is_empty() && fraction.is_empty())
 }
 
-/// Whether the decimals behind the eighth are zeros.
+/// Whether the decimals after the eighth are zeros.
 fn is_coarse(decimals: &[u8]) -> bool
     ensures { result ≡ is_coarse decimals.now }
 {
     behind_eighth(decimals).iter().all(|byte| *byte == b'0')
 }
 
-/// The decimals behind the eighth.
+/// The decimals after the eighth.
 fn behind_eighth(decimals: &[u8]) -> &[u8]
     ensures { result.now ≡ drop 8 decimals.now }
 {
@@ -185,7 +185,7 @@ pub(crate) fn first_eight(decimals: &[u8]) -> &[u8]
     }
 }
 
-/// The units of a whole part and the decimals behind its point.
+/// A whole part and its first eight decimals, in units of 10^-8.
 fn units_of(whole: u64, decimals: &[u8]) -> u64
     requires whole { whole ≤ 999999 }
     requires digits { All (λ b. is_digit b ≡ true) decimals.now }
@@ -197,7 +197,7 @@ fn units_of(whole: u64, decimals: &[u8]) -> u64
     whole * 100_000_000 + capped_value(first, 100_000_000) * power_of_ten(missing)
 }
 
-/// The decimal of so many units and a sign.
+/// The decimal of so many units of 10^-8, with its sign.
 pub(crate) fn signed(negative: bool, units: u64) -> Dec
     requires { units ≤ max_units }
     ensures { result ≡ (if negative then neg_ℤ (pos units) else pos units) }

@@ -7,15 +7,15 @@ ghost use Rattle.grid_units.specs.declared.fault.Fail.TheVariants.{Memory};
 use std::alloc::{AllocError, AllocFailed};
 use std::fmt;
 
-/// Why an item, a line, a file, a number or a rule is refused. The numbers are names only; the orders
-/// in which reasons are looked for stand in `docs/FORMATS.md`.
+/// Why an item, a line, a file, a number or a rule is refused. The numbers are names only;
+/// `docs/FORMATS.md` has the orders in which reasons are looked for.
 #[derive(Clone, Copy, PartialEq, Eq)]
 pub enum Reason {
-    /// An item, a line, a manifest or a file is above its limit of bytes.
+    /// An item, a line, a file or the reason of a waiver is above its limit of bytes.
     TooLong = 1,
-    /// Something stands behind the end of the text (`M02`, `M30`).
+    /// Something follows the end of the text (`M02`, `M30`).
     AfterEnd = 2,
-    /// The text ends without its end (`M02`, `M30`).
+    /// The text stops without its end code (`M02`, `M30`).
     Truncated = 3,
     /// Several commands stand between one pair of `%`.
     SeveralInOne = 4,
@@ -23,13 +23,13 @@ pub enum Reason {
     ClearPolarity = 5,
     /// A block aperture (`AB`).
     BlockAperture = 6,
-    /// A negative image.
+    /// A negative image (`IPNEG`, or `.FilePolarity,Negative`).
     NegativeImage = 7,
     /// Gerber coordinates with trailing zeros left out (`FST`).
     TrailingZeros = 8,
-    /// Incremental coordinates.
+    /// Incremental coordinates (`FSLI`, `G91`).
     Incremental = 9,
-    /// A deprecated Gerber parameter with an effect, or a deprecated word.
+    /// A deprecated Gerber parameter with an effect (as `MI`), or a deprecated word (`M00`, `M01`, `N`).
     OldParameter = 10,
     /// A drill file of an older format.
     OldFormat = 11,
@@ -43,15 +43,15 @@ pub enum Reason {
     BadLine = 15,
     /// A field that is not a number of its kind.
     BadNumber = 16,
-    /// A drill coordinate without a point, where the zeros kept are not named.
+    /// A drill coordinate without a point and not with all its digits, where the file names no zeros.
     NoZeros = 17,
-    /// More digits than the format has.
+    /// More digits than a coordinate may have.
     TooManyDigits = 18,
-    /// A decimal behind the eighth that is not 0.
+    /// A decimal after the eighth that is not 0.
     TooFine = 19,
     /// A length above 10 m, or a whole part above 999,999.
     TooFar = 20,
-    /// A coordinate without a D code where the last operation was no plot.
+    /// A coordinate without a D code where the last operation was not a plot (`D01`).
     BareCoordinate = 21,
     /// A command that may not stand in a region.
     InRegion = 22,
@@ -61,11 +61,11 @@ pub enum Reason {
     NoFormat = 24,
     /// An operation, or the end, before the unit.
     NoUnit = 25,
-    /// A unit that differs from an earlier one.
+    /// A unit that differs from the one named before.
     UnitConflict = 26,
-    /// A coordinate format that differs from an earlier one.
+    /// A coordinate format, or the zeros of a drill file, other than those named before.
     FormatConflict = 27,
-    /// A number or a name that is defined already.
+    /// An aperture, a macro or a tool that is defined already.
     Redefined = 28,
     /// A macro that is not defined.
     UnknownMacro = 29,
@@ -77,7 +77,7 @@ pub enum Reason {
     NoAperture = 32,
     /// A hole with no tool picked.
     NoTool = 33,
-    /// A size out of its range.
+    /// A size, a scale, a number of vertices or a diameter out of its range.
     BadSize = 34,
     /// A count or a step of a step and repeat block out of its range.
     BadRepeat = 35,
@@ -85,23 +85,23 @@ pub enum Reason {
     TooManyPads = 36,
     /// More holes than the limit of a drill file.
     TooManyHoles = 37,
-    /// A ring or a gap out of its range.
+    /// A ring or a gap out of its range, or one of them alone for a picture.
     BadRule = 38,
-    /// A record of the manifest that has not its form.
+    /// A record of a manifest or of waivers that is not of their form, or a word that no manifest may have.
     BadManifest = 39,
-    /// A role, or a kind of file, that is none.
+    /// An unknown role in a manifest, or an unknown kind, format or word to explain on the command line.
     BadRole = 40,
-    /// An empty name in the manifest.
+    /// An empty name in a manifest, or a waiver without a reason.
     EmptyName = 41,
-    /// A name that stood in the manifest before.
+    /// A name that an earlier record of the manifest has.
     RepeatedName = 42,
     /// A manifest without a copper layer.
     NoCopper = 43,
     /// A manifest without a drill file.
     NoDrill = 44,
-    /// A copper file whose file function is another.
+    /// A file listed as copper that names another file function.
     NotCopper = 45,
-    /// A span of layers that is none, or that stands where none may.
+    /// A text that is no span of layers, a span of a copper file, or one above the number of layers.
     BadSpan = 46,
 }
 
@@ -158,14 +158,14 @@ const NAMES: [&str; 46] = [
 impl Reason {
     ghost use Rattle.grid_units.specs.Reasons.{name_of, number_of};
 
-    /// The number, from 1.
+    /// The number of the reason, from 1 to 46.
     pub fn number(self) -> u8
         ensures { result ≡ number_of self }
     {
         self as u8
     }
 
-    /// The name as it is printed.
+    /// The name as it is printed: `TooLong`.
     #[tactic(auto, unfolding(crate::specs::Reasons::name_of))]
     pub fn name(self) -> &'static str
         ensures { result.now ≡ name_of self }
@@ -180,11 +180,11 @@ impl fmt::Debug for Reason {
     }
 }
 
-/// Both of two fields: every field is read, and then the first reason of the reading order is the answer.
+/// Both of two fields. Where both are refused, the first reason of the reading order is the answer.
 ///
 /// # Errors
 ///
-/// The reason of the one that was refused; of two reasons the one that is read first.
+/// The reason of the field that was refused; of two reasons the one that is first in the reading order.
 pub fn both<A: Drop, B: Drop>(
     first: Result<A, Reason>,
     second: Result<B, Reason>,
@@ -198,7 +198,7 @@ pub fn both<A: Drop, B: Drop>(
     }
 }
 
-/// Of two reasons the one that is read first.
+/// The earlier of two reasons in the reading order.
 fn first_reason(a: Reason, b: Reason) -> Reason
     ensures { result ≡ first_reason a b }
 {
@@ -206,7 +206,7 @@ fn first_reason(a: Reason, b: Reason) -> Reason
 }
 
 /// A refusal: where, and why. `place` is the number of the item, line or record, from 1; `byte` is the
-/// offset of its first byte. Both are 0 where the refusal speaks of a whole file.
+/// offset of its first byte. Both are 0 where a whole file is refused.
 #[derive(Clone, Copy, Debug, PartialEq, Eq)]
 pub struct Fault {
     pub place: u64,

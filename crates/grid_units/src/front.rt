@@ -9,7 +9,7 @@ use crate::decimal::{Dec, first_eight, signed};
 use crate::lengths::power_of_ten;
 use crate::numbers::{behind_sign, is_digit, is_negative, is_number};
 
-/// How many digits stand in front, eight at most, and the number that these spell.
+/// How many digits stand at the start, eight at most, and the number that they spell.
 fn leading_digits(bytes: &[u8]) -> (usize, u64)
     ensures within { result.0 ≤ length bytes.now }
     ensures short { result.0 ≤ 8 }
@@ -36,7 +36,7 @@ fn begins_with_number(bytes: &[u8]) -> bool
     }
 }
 
-/// The units of a whole part and so many decimals.
+/// A whole part and the number that its decimals spell, in units of 10^-8.
 fn units_of(whole: u64, decimals: u64, places: usize) -> u64
     requires whole { whole ≤ 999999 }
     requires places { places ≤ 8 }
@@ -48,8 +48,8 @@ fn units_of(whole: u64, decimals: u64, places: usize) -> u64
 }
 
 impl Dec {
-    /// The decimal with a point at the start of these bytes, and what stands behind it. `None` says only that this fast
-    /// path does not find one: it knows up to six digits before the point and up to eight behind it.
+    /// The decimal with a point at the start of these bytes, and what follows it. `None` says only that this fast
+    /// path finds none: it takes up to six digits before the point and up to eight after it.
     pub fn in_front(bytes: &[u8]) -> (Option<Dec>, &[u8])
         ensures { IfSome result.0 (λ found. IsInFront found result.1.now bytes.now) }
     {

@@ -1,4 +1,4 @@
-//! Holes that a drill makes.
+//! Drilled holes, round ones and slots.
 
 ghost use Rattle.std.specs.Prelude.{◌≡◌, pos, ◌≤◌, ◌↔◌, ◌≤ℤ◌, IsSome, IfSome, IsTrue, unsigned_abs};
 ghost use Rattle.grid_units.specs.Holes.{IsRadius, is_round, max_radius};
@@ -9,7 +9,7 @@ use std::marker::Model;
 /// The largest radius of a hole, in pm: five metres.
 const MAX_RADIUS: i64 = 5_000_000_000_000;
 
-/// A hole that a drill makes on its way from one end to another. It is round where the ends are equal,
+/// A drilled hole: the path of a tool from one end to the other. It is round where the ends are equal,
 /// else a slot. Its radius is 1 to 5,000,000,000,000 pm.
 #[derive(Clone, Copy, Debug, PartialEq, Eq)]
 pub struct Hole {
@@ -69,7 +69,7 @@ impl Hole {
         self.radius as i64
     }
 
-    /// Whether both ends are equal.
+    /// Whether both ends are equal, so that the hole is no slot.
     pub fn is_round(&self) -> bool
         ensures test { result ≡ is_round self.now }
         ensures exact { IsTrue result ↔ (self.now.from ≡ self.now.to) }

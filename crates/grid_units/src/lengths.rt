@@ -1,4 +1,4 @@
-//! Units, and numbers of a unit as whole picometres.
+//! Units of length, and numbers of a unit as whole picometres.
 
 ghost use Rattle.std.specs.Prelude.{◌≡◌, ◌≤◌, ◌<◌, ◌^◌, ◌/◌, ◌*ℤ◌, pos, ℕ, ℤ, unsigned_abs, IfOk};
 ghost use Rattle.grid_units.specs.declared.lengths.Unit.{Unit as Units};
@@ -10,13 +10,13 @@ use crate::plane::MAX_COORDINATE;
 /// The unit of a file's lengths.
 #[derive(Clone, Copy, Debug, PartialEq, Eq)]
 pub enum Unit {
-    /// 25,400,000,000 pm.
+    /// An inch, 25,400,000,000 pm.
     Inch,
-    /// 1,000,000,000 pm.
+    /// A millimetre, 1,000,000,000 pm.
     Millimetre,
 }
 
-/// The picometres of a unit.
+/// One unit in pm.
 fn unit_length(unit: Unit) -> u64
     ensures { result ≡ unit_length unit }
 {
@@ -26,7 +26,7 @@ fn unit_length(unit: Unit) -> u64
     }
 }
 
-/// A power of ten.
+/// A power of ten, at most 10^12.
 pub fn power_of_ten(exponent: u8) -> u64
     requires { exponent ≤ 12 }
     ensures value { result ≡ 10 ^ exponent }
@@ -49,7 +49,7 @@ pub fn power_of_ten(exponent: u8) -> u64
     }
 }
 
-/// A number with so many decimals of a unit, in pm, of any size.
+/// A number with so many decimals of a unit, in pm. No limit is asked: it may lie beyond 10 m.
 pub fn picometres(n: i64, decimals: u8, unit: Unit) -> i128
     requires { decimals ≤ 8 }
     ensures value { result ≡ picometres unit decimals n }
@@ -76,7 +76,7 @@ pub fn is_far(length: i128) -> bool
     length.unsigned_abs() > u128::from(MAX_COORDINATE)
 }
 
-/// A length in pm that is not beyond 10 m.
+/// A length in pm, refused beyond 10 m.
 #[tactic(auto, unfolding(crate::specs::Numbers::within_limit))]
 fn within_limit(length: i128) -> Result<i64, Reason>
     ensures { result ≡ within_limit length }
@@ -88,7 +88,7 @@ fn within_limit(length: i128) -> Result<i64, Reason>
     }
 }
 
-/// A length in pm of 64 bits that is not beyond 10 m.
+/// A length in pm that fits 64 bits, refused beyond 10 m.
 #[tactic(auto, unfolding(crate::specs::Numbers::within_limit))]
 pub(crate) fn within_ten_metres(length: i64) -> Result<i64, Reason>
     ensures { result ≡ within_limit length }
@@ -100,7 +100,7 @@ pub(crate) fn within_ten_metres(length: i64) -> Result<i64, Reason>
     }
 }
 
-/// The integer of a coordinate with so many decimals of a unit, in pm: the `p` of `p * 10^decimals = n * unit`.
+/// A coordinate, written as an integer with so many decimals of a unit, in pm: the `p` of `p * 10^decimals = n * unit`.
 ///
 /// # Errors
 ///

@@ -18,7 +18,7 @@ pub fn is_number(byte: u8) -> bool
     is_digit(byte) || byte == b'+' || byte == b'-' || byte == b'.'
 }
 
-/// How many bytes at the start of a text are this one.
+/// How many times a text repeats this byte at its start.
 pub fn run_of(sought: u8, text: &[u8]) -> usize
     ensures within { result ≤ length text.now }
     ensures len { result ≡ prefix_len (λ b. b == sought) text.now }
@@ -31,7 +31,7 @@ pub fn run_of(sought: u8, text: &[u8]) -> usize
     text.len()
 }
 
-/// How many bytes stand before the first of this kind, all of them where there is none.
+/// How many bytes come before the first byte of this value, all of them where there is none.
 pub fn run_before(sought: u8, text: &[u8]) -> usize
     ensures within { result ≤ length text.now }
     ensures len { result ≡ prefix_len (λ b. not (b == sought)) text.now }
@@ -44,7 +44,7 @@ pub fn run_before(sought: u8, text: &[u8]) -> usize
     text.len()
 }
 
-/// How many digits stand in front: the length of the digit run.
+/// How many digits stand at the start: the length of the digit run.
 pub fn digits_len(bytes: &[u8]) -> usize
     ensures within { result ≤ length bytes.now }
     ensures len { result ≡ prefix_len is_digit bytes.now }
@@ -57,7 +57,7 @@ pub fn digits_len(bytes: &[u8]) -> usize
     bytes.len()
 }
 
-/// How many number characters stand in front: the length of the run.
+/// How many number characters stand at the start: the length of the run.
 pub fn number_len(bytes: &[u8]) -> usize
     ensures within { result ≤ length bytes.now }
     ensures len { result ≡ prefix_len is_number bytes.now }
@@ -77,7 +77,7 @@ pub fn is_digits(bytes: &[u8]) -> bool
     !bytes.is_empty() && are_all_digits(bytes)
 }
 
-/// Whether there is nothing but digits.
+/// Whether there is nothing but digits; true of no bytes.
 pub fn are_all_digits(bytes: &[u8]) -> bool
     ensures { result ≡ list_all is_digit bytes.now }
 {
@@ -97,7 +97,7 @@ pub fn capped_value(digits: &[u8], limit: u64) -> u64
     n
 }
 
-/// What stands behind an optional sign.
+/// What follows an optional sign.
 pub fn behind_sign(text: &[u8]) -> &[u8]
     ensures { result.now ≡ unsigned text.now }
 {
@@ -107,7 +107,7 @@ pub fn behind_sign(text: &[u8]) -> &[u8]
     }
 }
 
-/// Whether the sign is a minus.
+/// Whether a text begins with `-`.
 pub fn is_negative(text: &[u8]) -> bool
     ensures { result ≡ is_negative text.now }
 {

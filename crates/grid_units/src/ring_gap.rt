@@ -1,4 +1,4 @@
-//! What is required of the holes of a board.
+//! The rules for the holes of a board: the ring and the gap that they need.
 
 ghost use Rattle.std.specs.Prelude.{◌≡◌, pos, ◌≤◌, ◌↔◌, IsOk, IfOk, IfErr, unsigned_abs};
 ghost use Rattle.grid_units.specs.Holes.{AreRules};

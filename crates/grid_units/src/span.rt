@@ -1,11 +1,11 @@
-//! The layers that a drill file's holes go through.
+//! The copper layers that the holes of a drill file go through.
 
 ghost use Rattle.std.specs.Prelude.{◌≡◌, ◌↔◌, IsSome, IfSome};
 ghost use Rattle.grid_units.specs.Spans.{IsSpan, is_in_span};
 
 use std::marker::Model;
 
-/// A run of layers, by the numbers of the first and of the last of them. Layers are numbered from 1.
+/// A run of layers: the numbers of its first and its last, both included. Layers are numbered from 1.
 #[derive(Clone, Copy, Debug, PartialEq, Eq)]
 pub struct Span {
     first: usize,
@@ -54,7 +54,7 @@ impl Span {
     }
 }
 
-/// Whether a layer, by its place from 0, lies in a span. Without a span each layer does.
+/// Whether the layer at this place, from 0, lies in a span. Without a span every layer does.
 pub fn is_in_span(layer: usize, span: Option<Span>) -> bool
     ensures { result ≡ is_in_span layer span }
 {

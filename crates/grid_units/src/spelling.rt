@@ -8,7 +8,7 @@ use crate::lengths::power_of_ten;
 use arrayvec::ArrayString;
 use itoa::Buffer;
 
-/// The sign and the whole part of a number in units of which `one` are 1.
+/// The sign and the whole part of a number, where `one` of its units are 1.
 pub(crate) fn signed_whole(number: i64, one: u64) -> ArrayString<16>
     requires one { 0 < one }
     requires small { unsigned_abs number / one < 10 ^ 6 }
@@ -33,7 +33,7 @@ fn push_whole(text: &mut ArrayString<16>, number: u64)
     text.push_str(buffer.format(number));
 }
 
-/// `-` below zero.
+/// `-` below zero, else nothing.
 fn minus(number: i64) -> ArrayString<16>
     ensures text { result.bytes ≡ minus number }
     ensures short { array_string_len result ≤ 1 }
@@ -64,7 +64,7 @@ fn push_digit(text: &mut ArrayString<16>, digit: u8)
     push_ascii(text, b'0' + digit);
 }
 
-/// One digit of a number: that of so many tens.
+/// The digit of a number at 10^`exponent`.
 fn digit_of(number: u64, exponent: u8) -> u8
     requires { exponent ≤ 12 }
     ensures value { result ≡ number / 10 ^ exponent % 10 }
@@ -84,7 +84,7 @@ fn push_places(text: &mut ArrayString<16>, number: u64, width: u8)
     }
 }
 
-/// A number without the zeros at its end, and how many of its eight digits are left.
+/// The number without the zeros at its end, and how many of its last eight digits are left.
 fn without_zeros(number: u64) -> (u64, u8)
     ensures places { places result.1 result.0 ≡ trimmed (places 8 number) }
     ensures width { result.1 ≤ 8 }
@@ -111,7 +111,7 @@ pub(crate) fn push_decimals(text: &mut ArrayString<16>, fraction: u64)
     }
 }
 
-/// The same, with `.0` where there are none.
+/// Appends a point and the decimals of a number of 10^-8, `.0` where there are none.
 pub(crate) fn push_decimals_or_zero(text: &mut ArrayString<16>, fraction: u64)
     requires { array_string_len text.old ≤ 7 }
     ensures { text.new.bytes ≡ text.old.bytes ++ behind_any_point (trimmed (places 8 fraction)) }
@@ -125,7 +125,7 @@ pub(crate) fn push_decimals_or_zero(text: &mut ArrayString<16>, fraction: u64)
     }
 }
 
-/// A length in pm as millimetres with nine decimals.
+/// A length in pm as millimetres with nine decimals: `0.125000000`.
 #[tactic(auto, unfolding(crate::specs::Spellings::millimetres))]
 pub fn write_mm(length: i64) -> ArrayString<16>
     requires { unsigned_abs length ≤ 10 ^ 13 }

@@ -1,4 +1,4 @@
-//! Why a single item, line or command gives nothing.
+//! Why a single item, line or command has no result.
 
 ghost use Rattle.std.specs.Prelude.{◌≡◌};
 ghost use Rattle.grid_units.specs.declared.stop.Stop.TheVariants.{Memory, Refused};
@@ -6,12 +6,12 @@ ghost use Rattle.grid_units.specs.declared.stop.Stop.TheVariants.{Memory, Refuse
 use crate::fault::Reason;
 use std::alloc::AllocError;
 
-/// Why an item, a line or a command gives nothing: a [`Fail`](crate::Fail) whose place is the caller's to add.
+/// Why an item, a line or a command has no result: a [`Fail`](crate::Fail) without its place, which the caller adds.
 #[derive(Clone, Copy, Debug, PartialEq, Eq)]
 pub enum Stop {
     /// An allocation failed.
     Memory,
-    /// It was refused.
+    /// The item, line or command was refused.
     Refused(Reason),
 }
 

@@ -11,7 +11,7 @@ use std::alloc::{AllocError, Global};
 use std::hash::{Hash, Hasher};
 use std::marker::Model;
 
-/// Bytes of a file, as a comment or a name has them. Any byte may stand in it. Contracts see the list
+/// Bytes of a file, such as a comment or a name. Any byte may stand in it. Contracts see the list
 /// of the bytes, and equal lists are equal keys.
 #[derive(Debug, Drop)]
 pub struct Text {
@@ -29,7 +29,7 @@ impl Model for Text {
 impl Text {
     ghost use Rattle.std.specs.Prelude.{◌≡◌, IfOk};
 
-    /// The bytes of a vector, which it takes over.
+    /// A text of the bytes of a vector, taken over without a copy.
     pub fn new(bytes: Vec<u8>) -> Self
         ensures { result ≡ bytes.items }
     {
@@ -40,7 +40,7 @@ impl Text {
     ///
     /// # Errors
     ///
-    /// An `AllocError` where there is no memory for it.
+    /// An `AllocError` where there is no memory for the copy.
     pub fn from_slice(alloc: Global, bytes: &[u8]) -> Result<Self, AllocError>
         ensures { IfOk result (λ text. text ≡ bytes.now) }
     {
@@ -49,18 +49,18 @@ impl Text {
         })
     }
 
-    /// The bytes.
+    /// All bytes of the text.
     pub fn bytes(&self) -> &[u8]
         ensures { result.now ≡ self.now }
     {
         self.bytes.as_slice()
     }
 
-    /// The same bytes in memory of their own.
+    /// A copy of the text, in memory of its own.
     ///
     /// # Errors
     ///
-    /// An `AllocError` where there is no memory for it.
+    /// An `AllocError` where there is no memory for the copy.
     pub fn copy(&self) -> Result<Self, AllocError>
         ensures { IfOk result (λ copy. copy ≡ self.now) }
     {

@@ -13,20 +13,20 @@ use crate::numbers::{behind_sign, capped_value, is_digits, is_negative};
 pub enum Zeros {
     /// Leading zeros are kept (`LZ`): digits left out at the end are zeros.
     Leading,
-    /// Trailing zeros are kept (`TZ`): digits left out in front are zeros.
+    /// Trailing zeros are kept (`TZ`): digits left out at the start are zeros.
     Trailing,
-    /// Neither is named: every digit of the format must stand.
+    /// Neither is named: every digit of the format must be written.
     Full,
 }
 
-/// A coordinate without a point, in a format of `i` digits before the point and `d` behind it: the `v` of
+/// A coordinate without a point, in a format of `i` digits before the point and `d` after it: the `v` of
 /// `v * 10^d = s * N * 10^8`, where `N` is the number of the digits after filling and `s` the sign.
 ///
 /// # Errors
 ///
 /// In this order: [`Reason::BadNumber`] where the text is no optional sign and digits;
-/// [`Reason::NoZeros`] where neither zeros are named and the digits are not `i + d`;
-/// [`Reason::TooManyDigits`] where one is named and there are more than `i + d` digits.
+/// [`Reason::NoZeros`] where the file names no zeros and there are not just `i + d` digits;
+/// [`Reason::TooManyDigits`] where it names some and there are more than `i + d` digits.
 #[tactic(auto, unfolding(crate::specs::Numbers::zeros_of))]
 pub fn from_zeros(text: &[u8], i: u8, d: u8, zeros: Zeros) -> Result<Dec, Reason>
     requires whole { (1 ≤ i) × (i ≤ 6) }
@@ -42,7 +42,7 @@ pub fn from_zeros(text: &[u8], i: u8, d: u8, zeros: Zeros) -> Result<Dec, Reason
     Ok(signed(is_negative(text), units_of(filled(digits, zeros), i, d)))
 }
 
-/// How many zeros are filled in behind so many digits.
+/// How many zeros to fill in after so many digits.
 fn missing(zeros: Zeros, places: u8, digits: usize) -> Result<u8, Reason>
     requires { places ≤ 12 }
     ensures value { result ≡ missing zeros places digits }
@@ -58,7 +58,7 @@ fn missing(zeros: Zeros, places: u8, digits: usize) -> Result<u8, Reason>
     }
 }
 
-/// The number of digits with so many zeros behind them.
+/// The number that digits spell with so many zeros after them.
 fn filled(digits: &[u8], zeros: u8) -> u64
     requires digits { All (λ b. is_digit b ≡ true) digits.now }
     requires places { length digits.now + zeros ≤ 12 }
@@ -68,7 +68,7 @@ fn filled(digits: &[u8], zeros: u8) -> u64
     capped_value(digits, 1_000_000_000_000) * power_of_ten(zeros)
 }
 
-/// A number of `d` decimals in units of 10^-8.
+/// A number with `d` decimals, in units of 10^-8.
 fn units_of(number: u64, i: u8, d: u8) -> u64
     requires whole { i ≤ 6 }
     requires decimals { d ≤ 8 }

@@ -1,4 +1,4 @@
-//! What a call answers, in a form that can be compared and printed without taking memory.
+//! Answers of calls, in a form that can be compared and printed without taking memory.
 
 use crate::digest::Digest;
 use drill_text::{Drill, DrillCommand};
@@ -12,7 +12,7 @@ use ring_rules::Finding;
 use std::fmt;
 use std::fmt::Write;
 
-/// An answer: two counts of what was given and a digest of it, or the failure.
+/// An answer: two counts and a digest of what was returned, or the failure.
 #[derive(Clone, Copy, Debug, PartialEq, Eq)]
 pub(crate) enum Answer {
     Given {
@@ -21,7 +21,7 @@ pub(crate) enum Answer {
         digest: u64,
     },
     Failed(Fail),
-    /// A reader that had failed answered something else later.
+    /// A reader that had failed later answered something else.
     Changed,
 }
 
@@ -44,7 +44,7 @@ impl fmt::Display for Answer {
 }
 
 impl Answer {
-    /// Whether two counts were given, and these are the two.
+    /// Whether these two counts were returned.
     pub(crate) fn has_counts(&self, wanted: (usize, usize)) -> bool {
         match self {
             Answer::Given { first, second, .. } => (*first, *second) == wanted,
@@ -69,7 +69,7 @@ impl Answer {
         }
     }
 
-    /// The number of commands.
+    /// The answer of a reader of words: its first count is that of the commands.
     pub(crate) fn of_words(outcome: Result<Vec<Placed<Command>>, Fail>) -> Answer {
         match outcome {
             Ok(commands) => {
@@ -85,7 +85,7 @@ impl Answer {
         }
     }
 
-    /// The numbers of commands and of pads.
+    /// The answer of a reader of a layer: the numbers of commands and of pads.
     pub(crate) fn of_layer(outcome: Result<Layer, Fail>) -> Answer {
         match outcome {
             Ok(layer) => {
@@ -118,7 +118,7 @@ impl Answer {
         }
     }
 
-    /// The same of a whole layer.
+    /// The same numbers from a whole layer.
     pub(crate) fn of_layer_sum(outcome: Result<Layer, Fail>) -> Answer {
         match outcome {
             Ok(layer) => sum_answer(layer.pads(), others(layer.flashes()), layer.file_function()),
@@ -206,7 +206,7 @@ impl Answer {
     }
 }
 
-/// How many of the flashes are no pads.
+/// The number of flashes that are no pads.
 fn others(flashes: &[Flash]) -> usize {
     flashes
         .iter()
@@ -225,7 +225,7 @@ fn sum_answer(pads: &[Pad], other: usize, function: Option<&[u8]>) -> Answer {
     }
 }
 
-/// The longest list of which all is in a digest. Of a longer one as many of the first are.
+/// The most elements of a list that are in a digest: a longer list is digested only up to here.
 const LONGEST: usize = 2000;
 
 fn digest_words(digest: &mut Digest, commands: &[Placed<Command>]) {
@@ -234,7 +234,7 @@ fn digest_words(digest: &mut Digest, commands: &[Placed<Command>]) {
     }
 }
 
-/// A comment may be long, and is taken as it stands.
+/// A comment may be long, so its bytes are digested as they are.
 fn digest_word(digest: &mut Digest, command: &Placed<Command>) {
     let (place, byte, what) = (command.place, command.byte, &command.what);
     let _ = write!(digest, "{place} {byte} ");

@@ -34,7 +34,7 @@ pub(crate) const ON_BOARDS: [BoardCall; 7] = [
     BoardCall::Gaps,
 ];
 
-/// What the call answers.
+/// The answer of the call.
 pub(crate) fn ask(call: BoardCall, alloc: Global, board: &Board) -> Answer {
     let Ok(rules) = Rules::new(125_000_000, 250_000_000) else {
         return Answer::Changed;
@@ -64,7 +64,7 @@ fn file(role: Role, name: &'static str, span: Option<Span>, text: &'static str) 
     }
 }
 
-/// What the check of the whole files answers, or its report.
+/// The answer of a check of whole files, or its report.
 fn whole(alloc: Global, board: &Board, rules: Rules, is_report: bool) -> Answer {
     let top = file(Role::Copper, "top", None, board.top);
     let drill = file(board.role, "pth", span_of(board), board.drill);
@@ -102,7 +102,7 @@ fn checked(outcome: Result<Report, PackageFault>) -> Answer {
     }
 }
 
-/// The pieces of a text, of so many bytes each.
+/// The pieces of a text, each of `length` bytes but the last.
 fn pieces_of(
     alloc: Global,
     text: &'static str,
@@ -115,7 +115,7 @@ fn pieces_of(
     Ok(pieces)
 }
 
-/// What the check of files in pieces of so many bytes answers.
+/// The answer of a check of files in pieces of `length` bytes.
 fn in_pieces(alloc: Global, board: &Board, rules: Rules, length: usize) -> Answer {
     match pieced(alloc, board, rules, length) {
         Ok(answer) => answer,

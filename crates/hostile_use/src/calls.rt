@@ -63,7 +63,7 @@ pub(crate) const ON_DRILLS: [Call; 9] = [
 
 pub(crate) const ON_MANIFESTS: [Call; 4] = [Call::Manifest, Call::ReadAll, Call::Copy, Call::Name];
 
-/// What the call answers. A reader's text is cut behind 30 bytes where it comes in two pieces.
+/// The answer of the call. Where a reader's text comes in two pieces, it is cut after 30 bytes.
 pub(crate) fn ask(call: Call, alloc: Global, text: &[u8]) -> Answer {
     match call {
         Call::Whole(reader) => reader.whole(alloc, text),
@@ -89,7 +89,7 @@ fn or_memory(outcome: Result<Answer, AllocError>) -> Answer {
     outcome.unwrap_or(Answer::Failed(Fail::Memory))
 }
 
-/// The commands before a fault; or that memory ran out, whatever is kept then.
+/// The commands before a fault; or that memory ran out, whatever was kept.
 fn kept(alloc: Global, text: &[u8]) -> Answer {
     let Kept { commands, outcome } = read_kept(alloc, text);
     match outcome {
@@ -117,7 +117,7 @@ fn placed_written(alloc: Global, text: &[u8]) -> Result<Vec<u8>, Fail> {
     write_placed(alloc, &placed)
 }
 
-/// What is written of the commands of a drill file, which are sayable.
+/// The canonical text of a drill file's commands, which can be written.
 fn drill_written(alloc: Global, text: &[u8]) -> Result<Vec<u8>, Fail> {
     let drill = read_drill(alloc, text)?;
     if !drill_sayable(drill.commands()) {

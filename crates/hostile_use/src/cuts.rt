@@ -1,4 +1,4 @@
-//! Texts that are cut: the pieces have to answer what the whole answers.
+//! Texts that are cut: the answer to the pieces must be that to the whole.
 
 use crate::readers::{READERS, Reader};
 use crate::texts::{Paragraph, Wanted};
@@ -10,7 +10,7 @@ const CUT_ANYWHERE: usize = 4_096;
 /// The longest text that is cut at some sixty places. A longer one is cut at five.
 const CUT_OFTEN: usize = 2_097_152;
 
-/// How many questions were asked, and how many had another answer.
+/// The number of comparisons, and of those that differ.
 #[derive(Clone, Copy)]
 pub(crate) struct Tally {
     pub(crate) all: u64,
@@ -33,7 +33,7 @@ impl Tally {
     }
 }
 
-/// Whether a text of this length is cut there.
+/// Whether a text of this length is cut at a place.
 fn is_place(at: usize, length: usize) -> bool {
     if length <= CUT_ANYWHERE {
         return true;
@@ -44,7 +44,7 @@ fn is_place(at: usize, length: usize) -> bool {
     at < 20 || length.saturating_sub(at) < 20 || at % (length / 20) == 0
 }
 
-/// Cuts a text everywhere, for each of the readers.
+/// Cuts a text at all these places, for each of the readers.
 pub(crate) fn cut(alloc: Global, text: &[u8], tally: &mut Tally) {
     for reader in READERS {
         cut_for(reader, alloc, text, tally);
@@ -63,7 +63,7 @@ fn cut_for(reader: Reader, alloc: Global, text: &[u8], tally: &mut Tally) {
     }
 }
 
-/// Whether a front has the same answer in pieces as whole: byte by byte, where it is not long.
+/// Whether a front has the same answer in pieces as whole: byte by byte, unless it is long.
 fn is_front_same(reader: Reader, alloc: Global, front: &[u8]) -> bool {
     let answer = if front.len() <= CUT_ANYWHERE {
         reader.in_bytes(alloc, front)
@@ -73,7 +73,7 @@ fn is_front_same(reader: Reader, alloc: Global, front: &[u8]) -> bool {
     answer == reader.whole(alloc, front)
 }
 
-/// Whether a text has the answer that is wanted, whole, in two pieces and byte by byte.
+/// Whether a row has its stated answer: whole, in two pieces and byte by byte.
 pub(crate) fn is_answered(alloc: Global, row: &Paragraph) -> Result<bool, AllocError> {
     let (Some(reader), Some(wanted)) = (row.reader, &row.wanted) else {
         return Ok(false);

@@ -1,4 +1,4 @@
-//! A number that differs where printed texts differ, for all that a comparison of answers needs. It takes no memory.
+//! A digest of printed texts, by which answers are compared. It takes no memory.
 
 use std::fmt;
 

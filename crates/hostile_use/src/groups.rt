@@ -1,4 +1,4 @@
-//! The calls over one input, made twice each, and their answers, a line a call.
+//! The calls over one input, each made twice, with their answers, a line a call.
 
 use crate::boards::{self, ON_BOARDS};
 use crate::calls::{self, Call, ON_DRILLS, ON_LAYERS, ON_MANIFESTS};
@@ -6,7 +6,7 @@ use crate::inputs::{BOARDS, Board, DRILLS, FOLDERS, Held, LAYERS, LINES, MANIFES
 use crate::small::{self, ON_FOLDERS};
 use std::io;
 
-/// Makes the calls over the input of this number. Past the last one nothing is made, and nothing printed.
+/// Makes the calls over the input of this number. After the last input nothing is made or printed.
 pub(crate) fn run(rt: &HostRuntime, number: usize) -> io::Result<()> {
     const DRILLS_BEGIN: usize = LAYERS.len();
     const MANIFESTS_BEGIN: usize = DRILLS_BEGIN + DRILLS.len();

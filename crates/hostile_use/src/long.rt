@@ -1,5 +1,5 @@
-//! Texts above the limit of 268,435,456 bytes, which come in pieces and of which nothing is kept, and one below it whose
-//! canonical text is above.
+//! Texts above the limit of 268,435,456 bytes, which come in pieces to readers that keep nothing of them; and one below the limit whose
+//! canonical text is above it.
 
 use crate::answer::Answer;
 use crate::cuts::Tally;
@@ -8,13 +8,13 @@ use drill_text::{Drill, DrillReader, drill_sayable, write_drill};
 use grid_units::{Fail, Fault, Reason};
 use std::alloc::{AllocError, Global};
 
-/// How many pieces make a text of the greatest length.
+/// The number of pieces in a text of the greatest length.
 const PIECES: u64 = 256;
 
-/// How many bytes each of them has.
+/// The length of each of them in bytes.
 const PIECE: usize = 1_048_576;
 
-/// A comment that with its ends is a piece.
+/// A piece that is one comment, with this front and back.
 fn piece(alloc: Global, front: &str, back: &str) -> Result<Vec<u8>, AllocError> {
     let mut piece = Vec::from_slice(alloc, front.as_bytes())?;
     for _ in front.len()..PIECE.saturating_sub(back.len()) {
@@ -24,7 +24,7 @@ fn piece(alloc: Global, front: &str, back: &str) -> Result<Vec<u8>, AllocError> 
     Ok(piece)
 }
 
-/// Whether a reader of so many comments refuses the first byte beyond the limit.
+/// Whether a reader refuses the first byte after as many comments as the limit holds.
 fn is_refused(alloc: Global, reader: Reader, front: &str, back: &str) -> Result<bool, AllocError> {
     let piece = piece(alloc, front, back)?;
     let wanted = Fault {
@@ -35,13 +35,13 @@ fn is_refused(alloc: Global, reader: Reader, front: &str, back: &str) -> Result<
     Ok(reader.repeated(alloc, &piece, PIECES) == Answer::Failed(Fail::Refused(wanted)))
 }
 
-/// How many comments stand in the drill file below the limit: 260,046,848 bytes.
+/// The number of comments in the drill file below the limit: 260,046,848 bytes.
 const COMMENTS: u64 = 248;
 
-/// How many times 4,096 hits stand behind them: 7,311,360 bytes, and 9,400,320 where they are written anew.
+/// How many times 4,096 hits follow them: 7,311,360 bytes, and 9,400,320 in the canonical text.
 const HITS: u64 = 255;
 
-/// Feeds a piece so many times.
+/// Feeds a piece `count` times.
 fn feed_again(reader: &mut DrillReader, piece: &[u8], count: u64) -> Result<(), Fail> {
     for _ in 0..count {
         reader.feed(piece)?;
@@ -61,7 +61,7 @@ fn long_drill(alloc: Global) -> Result<Drill, Fail> {
     reader.finish()
 }
 
-/// Whether a drill file that is read is refused where it is written.
+/// Whether a drill file that can be read is refused when it is written.
 fn is_refused_written(alloc: Global) -> Result<bool, Fail> {
     let wanted = Fault {
         place: 0,
@@ -79,7 +79,7 @@ fn is_refused_written(alloc: Global) -> Result<bool, Fail> {
     }
 }
 
-/// Asks the readers that keep no comment, and the writer of drill files.
+/// Tries the readers that keep no comment, and the writer of drill files.
 pub(crate) fn run(alloc: Global) -> Result<Tally, AllocError> {
     let mut tally = Tally::new();
     tally.count(is_refused(alloc, Reader::Sum, "G04", "*\n")?);

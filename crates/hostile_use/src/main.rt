@@ -26,14 +26,14 @@ const GREATEST_SIZE: u64 = 1_048_576;
 /// The greatest size of a file that is read by a reader, in bytes.
 const GREATEST_FILE: u64 = 268_435_456;
 
-/// Which paragraphs a run is over, and what is done with each.
+/// What is done with the paragraphs of a data file.
 #[derive(Clone, Copy, PartialEq, Eq)]
 enum Task {
     Cuts,
     Rows,
 }
 
-/// Does the task with one paragraph, and tells a row that is not answered as it says.
+/// Does the task with one paragraph, and prints a row whose answer differs from the one that it states.
 fn judge(rt: &HostRuntime, task: Task, paragraph: &Paragraph, tally: &mut Tally) -> io::Result<()> {
     let alloc = rt.alloc();
     match task {
@@ -49,7 +49,7 @@ fn judge(rt: &HostRuntime, task: Task, paragraph: &Paragraph, tally: &mut Tally)
     Ok(())
 }
 
-/// Does the task with all paragraphs of a data file: each is some lines, and an empty line ends it.
+/// Does the task with all paragraphs of a data file, which are lines up to an empty one.
 fn judge_all(rt: &HostRuntime, task: Task, text: &str) -> io::Result<Tally> {
     let alloc = rt.alloc();
     let mut tally = Tally::new();
@@ -82,7 +82,7 @@ fn run_file(rt: &HostRuntime, task: Task, name: &str) -> io::Result<()> {
     }
 }
 
-/// Prints what a reader answers of a file in two pieces.
+/// Prints the answer of a reader to a file in two pieces.
 fn read_file(rt: &HostRuntime, reader: Reader, name: &str) -> io::Result<()> {
     let mut file = fs::open(rt, name)?;
     match read_all(rt.alloc(), &mut file, GREATEST_FILE) {
@@ -95,7 +95,7 @@ fn read_file(rt: &HostRuntime, reader: Reader, name: &str) -> io::Result<()> {
     }
 }
 
-/// The word of this place, or an empty one.
+/// The word at this place, or an empty one.
 fn word(words: &[String], at: usize) -> &str {
     match words.get(at) {
         Some(word) => word.as_str(),

@@ -1,4 +1,4 @@
-//! The readers of files that come in pieces, and what they answer of a text whole, in two pieces and byte by byte.
+//! The readers of files that come in pieces, and their answers to a text whole, in two pieces and byte by byte.
 
 use crate::answer::Answer;
 use drill_text::{DrillReader, HolesReader, read_drill};
@@ -69,7 +69,7 @@ impl Pieces for HolesReader {
 struct Fed<R> {
     reader: R,
     failed: Option<Fail>,
-    /// Whether it has given each time the failure that it gave first.
+    /// Whether it has returned its first failure each time.
     is_true_to_it: bool,
 }
 
@@ -105,7 +105,7 @@ impl<R: Pieces> Fed<R> {
     }
 }
 
-/// What a reader answers of a text in two pieces, of which the first has so many bytes.
+/// The answer of a reader to a text in two pieces; the first has `at` bytes.
 fn fed_in_two<R: Pieces>(reader: R, text: &[u8], at: usize) -> Answer {
     let (front, back) = text.split_at(at.min(text.len()));
     let mut fed = Fed::new(reader);
@@ -114,7 +114,7 @@ fn fed_in_two<R: Pieces>(reader: R, text: &[u8], at: usize) -> Answer {
     fed.finish()
 }
 
-/// What a reader answers of a text that comes byte by byte.
+/// The answer of a reader to a text byte by byte.
 fn fed_in_bytes<R: Pieces>(reader: R, text: &[u8]) -> Answer {
     let mut fed = Fed::new(reader);
     for byte in text {
@@ -123,7 +123,7 @@ fn fed_in_bytes<R: Pieces>(reader: R, text: &[u8]) -> Answer {
     fed.finish()
 }
 
-/// What a reader answers of a piece that comes so many times, and two line ends behind it.
+/// The answer of a reader to a piece that comes `count` times, and two line ends after it.
 fn fed_again<R: Pieces>(reader: R, piece: &[u8], count: u64) -> Answer {
     let mut fed = Fed::new(reader);
     for _ in 0..count {
@@ -165,7 +165,7 @@ impl Reader {
         }
     }
 
-    /// What the call on the whole text answers, or for a reader without one, what it means.
+    /// The answer of the call on the whole text. A reader without such a call has its answer worked out from another.
     pub(crate) fn whole(self, alloc: Global, text: &[u8]) -> Answer {
         match self {
             Reader::Words => Answer::of_words(read_words(alloc, text)),
@@ -179,7 +179,7 @@ impl Reader {
         }
     }
 
-    /// What it answers of a text in two pieces, of which the first has so many bytes.
+    /// The answer to a text in two pieces; the first has `at` bytes.
     pub(crate) fn in_two(self, alloc: Global, text: &[u8], at: usize) -> Answer {
         match self {
             Reader::Words => fed_in_two(WordReader::new(alloc), text, at),
@@ -190,7 +190,7 @@ impl Reader {
         }
     }
 
-    /// What it answers of a text that comes byte by byte.
+    /// The answer to a text byte by byte.
     pub(crate) fn in_bytes(self, alloc: Global, text: &[u8]) -> Answer {
         match self {
             Reader::Words => fed_in_bytes(WordReader::new(alloc), text),
@@ -200,7 +200,7 @@ impl Reader {
             Reader::Holes => fed_in_bytes(HolesReader::new(alloc), text),
         }
     }
-    /// What it answers of a piece that comes so many times, and two line ends behind it.
+    /// The answer to a piece that comes `count` times, and two line ends after it.
     pub(crate) fn repeated(self, alloc: Global, piece: &[u8], count: u64) -> Answer {
         match self {
             Reader::Words => fed_again(WordReader::new(alloc), piece, count),

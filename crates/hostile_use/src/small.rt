@@ -1,4 +1,4 @@
-//! The calls on an item, a line, a name, the words of a command line and a folder's files that take memory.
+//! The calls that take memory on an item, a line, a name, the words of a command line and the files of a folder.
 
 use crate::answer::Answer;
 use crate::digest::Digest;
@@ -13,7 +13,7 @@ use proposals::{Content, Named, Proposal, propose, write_proposal, write_reasons
 use std::alloc::{AllocError, Global};
 use std::fmt::Write;
 
-/// What each line of a text says as an item behind a plot, written again.
+/// Each line of a text read as an item after a plot, and written again.
 pub(crate) fn items(alloc: Global, text: &[u8]) -> Result<Vec<u8>, AllocError> {
     let mut out = Vec::new(alloc);
     for line in text.split(|byte| *byte == b'\n') {
@@ -27,7 +27,7 @@ pub(crate) fn items(alloc: Global, text: &[u8]) -> Result<Vec<u8>, AllocError> {
     Ok(out)
 }
 
-/// Of an item that is refused the name of the reason is written.
+/// Appends an item as it is written, or the name of the reason where it is refused.
 fn put_item(out: &mut Vec<u8>, item: Result<Spelled, Stop>) -> Result<(), AllocError> {
     match item {
         Ok(spelled) => match spelled.into_parts() {
@@ -53,19 +53,19 @@ fn put_lines(alloc: Global, commands: &[DrillCommand]) -> Result<Vec<u8>, AllocE
     Ok(out)
 }
 
-/// A copy of a copy of a text.
+/// The answer for a copy of a copy of a text.
 pub(crate) fn copied(alloc: Global, text: &[u8]) -> Result<Answer, AllocError> {
     let copy = Text::from_slice(alloc, text)?.copy()?;
     Ok(Answer::of_text(copy.bytes()))
 }
 
-/// A text as a name.
+/// The answer for a text as a name.
 pub(crate) fn named(alloc: Global, text: &[u8]) -> Result<Answer, AllocError> {
     let name = Name::new(alloc, str::from_utf8(text).unwrap_or(""))?;
     Ok(Answer::of_text(name.as_str().as_bytes()))
 }
 
-/// What the words of a command line ask for.
+/// The answer for the words of a command line.
 pub(crate) fn asked(alloc: Global, words: &[&str]) -> Answer {
     match parse(alloc, words) {
         Ok(request) => of_request(&request),
@@ -101,7 +101,7 @@ pub(crate) const ON_FOLDERS: [FolderCall; 3] = [
     FolderCall::WriteReasons,
 ];
 
-/// What the call answers.
+/// The answer of the call.
 pub(crate) fn proposed(call: FolderCall, alloc: Global, files: &[Held]) -> Answer {
     match answered(call, alloc, files) {
         Ok(answer) => answer,

@@ -3,7 +3,7 @@
 use crate::readers::Reader;
 use std::alloc::{AllocError, Global};
 
-/// What a reader has to answer.
+/// The answer that a reader must give.
 #[derive(Drop)]
 pub(crate) enum Wanted {
     /// These two counts.
@@ -12,7 +12,7 @@ pub(crate) enum Wanted {
     Line(String),
 }
 
-/// A text, and what a reader has to answer to it where the paragraph says so.
+/// A text, with a reader and the answer that it must give, where the paragraph states them.
 #[derive(Drop)]
 pub(crate) struct Paragraph {
     pub(crate) is_begun: bool,
@@ -33,7 +33,7 @@ impl Paragraph {
         }
     }
 
-    /// Takes one line of the file.
+    /// Takes one line of the data file.
     pub(crate) fn take(&mut self, alloc: Global, line: &str) -> Result<(), AllocError> {
         let (word, rest) = line.split_once(' ').unwrap_or((line, ""));
         match word {
@@ -50,7 +50,7 @@ impl Paragraph {
         Ok(())
     }
 
-    /// Appends a text so many times.
+    /// Appends a text `count` times.
     fn append(&mut self, alloc: Global, count: usize, text: &str) -> Result<(), AllocError> {
         let bytes = unescaped(alloc, text)?;
         for _ in 0..count {

@@ -1,4 +1,4 @@
--- The pads and the others among flashes that are alike.
+-- The pads among flashes that are alike, and how many are no pads.
 use Rattle.std.proofs.Common.{◌≡◌, ℕ, ◌+◌, suc, cond, List, [], ◌∷◌, length, map, refl, sym, ap, ◌∙◌, append-nil, arith}
 use Rattle.std.proofs.lemmas.List.Sums.{sum_by-append}
 use Rattle.grid_units.specs.Points.{GridPoint}
@@ -14,7 +14,7 @@ use Rattle.layer_image.specs.Keeping.{Adds}
 pub adds_none : (kept : Flashes) → Adds kept [] kept
 adds_none kept = record { same = refl; count = omega arith; others = omega arith; pads = λ _. sym (append-nil kept.pads.items); all = λ _. sym (append-nil kept.all.items) }
 
--- the flashes of a pad are pads, and none other
+-- the flashes of a pad are all pads
 pub pads_laid : (pad : Pad) (ps : List GridPoint) → pads_of (map (flash_moved (what.Pad pad)) ps) ≡ map (pad_laid pad) ps
 pads_laid pad [] = refl
 pads_laid pad (p ∷ ps) = ap (λ (l : List Pad). pad_laid pad p ∷ l) (pads_laid pad ps)

@@ -1,4 +1,4 @@
--- What it says of a command that it breaks no rule.
+-- What follows for a command that breaks no rule.
 use Rattle.std.proofs.Common.{◌≡◌, ℕ, ◌+◌, length, nat_lt, ℤ, List, [], ◌∷◌, ◌++◌, Option, None, Some, Bool, true, false, cond, ◌||◌, ◌&&◌, refl, sym, ap, ◌∙◌}
 use Rattle.std.specs.List.{find}
 use Rattle.gerber_rows.specs.declared.command.Command.{Command}

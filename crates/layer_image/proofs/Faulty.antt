@@ -1,4 +1,4 @@
--- Where the judge stops is the first fault.
+-- The first command at which the judge stops gives the first fault.
 use Rattle.std.proofs.Common.{List, ◌≡◌, [], ◌∷◌, ◌++◌, length, Err, ap}
 use Rattle.std.specs.Option.{option_map}
 use Rattle.grid_units.specs.Lists.{breaks}

@@ -48,7 +48,7 @@ none_broken s count action x y i j a b c d e f g = λ k.
     cond (a k) (Some reason.InRegion) (cond (b k) (Some reason.NoFormat) (cond (c k) (Some reason.NoUnit) (cond (d k) (Some reason.NoAperture)
     (cond (e k) (Some reason.TooManyDigits) (cond (f k) (Some reason.TooFar) (cond (g k) (Some reason.TooManyPads) None))))))
 
--- ---- what is in force, with what is named
+-- ---- what the fast path keeps, and what is named
 
 record NamedLengths (l : Lengths) (unit : Option Units) (format : Option Format) : Type 0 where
   pub the_unit : Units
@@ -105,7 +105,7 @@ near_length n place most near within =
     let p : unsigned_abs n * place ≤ most * place = mul-le-mul_right place within in
     rw unsigned_abs-mul (omega (arith, p, near))
 
--- the length of a number in force
+-- the length of a coordinate on the fast path
 length_is : (s : Standing) (l : Lengths) → NamedLengths l s.unit s.format → (n : ℤ) → picometres (unit_in_force s) (decimals_in_force s) n ≡ n *ℤ pos l.place
 length_is s l h n =
     (λ k. n *ℤ pos (unit_length (unwrap_or (h.unit_is k) Millimetre) / 10 ^ option_map_or (λ (f : Format). f.decimals) (h.format_is k) 0)) ∙ (λ k. n *ℤ pos (sym h.place k))
@@ -192,9 +192,9 @@ flash_is s count l w action x y i j flash near known is_lone flashes outside roo
       few = few;
     }
 
--- ---- what is in force
+-- ---- what the fast path keeps
 
--- a command that changes none of it leaves it
+-- a command that changes nothing of it leaves it true
 pub keeps_fast : (fast : FastPath) (s : Standing) (c : Command) → changes_force c ≡ false → IsFastPath fast s → IsFastPath fast (after c s)
 keeps_fast fast s (command.Comment text) e h = h
 keeps_fast fast s (command.Mode mode) e h = h

@@ -15,7 +15,7 @@ use Rattle.layer_image.specs.Inner.Knows.{Knows, Takes, after, told}
 use Rattle.grid_units.proofs.Lookbacks.{last_named-more, last_or-more, list_any-more, flat_positions-more}
 use Rattle.gerber_rows.specs.Pieces.{one}
 
--- what stands after one more command
+-- the state after one more command
 pub standing-more : (before : List Command) (c : Command) → standing (before ++ c ∷ []) ≡ after c (standing before)
 standing-more before c = λ i. record {
   unit = last_named-more unit_named before c i;

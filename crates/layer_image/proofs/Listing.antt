@@ -1,4 +1,4 @@
--- A list of commands, up to one of them and from it on.
+-- A list of commands, cut at one of them.
 use Rattle.std.proofs.Common.{◌≡◌, ◌+◌, ◌<◌, ℕ, [], ◌∷◌, ◌++◌, length, take, drop, get_or, ap, sym, ◌∙◌, drop-cons, add-one}
 use Rattle.std.proofs.lemmas.List.{take_more, take-append-drop}
 use Rattle.gerber_rows.specs.declared.command.Command.{Command}
@@ -9,7 +9,7 @@ use Rattle.gerber_text.specs.Reading.{Entries}
 pub with_next : (cs : Entries) (i : ℕ) (e : Placed Command) → i < length cs → e ≡ get_or cs i e → take (i + 1) cs ≡ take i cs ++ e ∷ []
 with_next cs i e h k = take_more cs i e h ∙ ap (λ d. take i cs ++ d ∷ []) (sym k)
 
--- the list, parted at i
+-- the list, cut at i
 pub parted : (cs : Entries) (i : ℕ) (e : Placed Command) → i < length cs → e ≡ get_or cs i e → take i cs ++ e ∷ drop (i + 1) cs ≡ cs
 parted cs i e h k =
     ap (λ l. take i cs ++ l) (ap (λ d. d ∷ drop (i + 1) cs) k ∙ ap (λ n. get_or cs i e ∷ drop n cs) (add-one i) ∙ sym (drop-cons cs i e h)) ∙ take-append-drop i cs

@@ -35,6 +35,6 @@ or_moved (Some why) p unit turn shape = refl
 pub what_moved : (p : GridPoint) (unit : Units) (scale turn : ℤ) (shape : Aperture) → moved p (what_at origin unit scale turn shape) ≡ what_at p unit scale turn shape
 what_moved p unit scale turn shape = or_moved (find (keeps_from_pad shape scale turn) why_order) p unit turn shape
 
--- the flashes at points are one flash, moved to each
+-- the flashes at some points are one flash, moved to each of them
 pub flashes_moved : (s : Standing) (shape : Aperture) (ps : List GridPoint) → map (flash_moved (what_at origin (unit_in_force s) s.scale s.turn shape)) ps ≡ map (flash_at s shape) ps
 flashes_moved s shape ps = λ i. map (λ (p : GridPoint). record { at = p; what = what_moved p (unit_in_force s) s.scale s.turn shape i }) ps

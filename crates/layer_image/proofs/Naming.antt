@@ -1,4 +1,4 @@
--- A name more in an ordered table of names.
+-- An ordered table of names with one name more.
 use Rattle.std.proofs.Common.{◌≡◌, ℕ, Bool, true, false, ◌||◌, List, [], ◌∷◌, refl, sym, ap, ◌∙◌, nat_eq}
 use Rattle.std.specs.Global.{Vec}
 use Rattle.std.specs.List.{list_any}
@@ -45,6 +45,6 @@ any_inserted bytes (x ∷ keys) key = by (by_bytes key x) refl (any_inserted byt
     by Equal e h = or_twice (has_bytes bytes x) (has_bytes bytes key) (list_any (has_bytes bytes) keys) (same_bytes bytes key x e)
     by Greater e h = ap (λ t. has_bytes bytes x || t) h ∙ or_swap (has_bytes bytes x) (has_bytes bytes key) (list_any (has_bytes bytes) keys)
 
--- bytes are those of a key just where the key's bytes are these
+-- a name is that of a key just where the key has its bytes
 pub has_bytes_of : (bytes : List ℕ) (key : Vec ℕ) → has_bytes bytes key ≡ pointwise nat_eq key.items bytes
 has_bytes_of bytes key = is_eq-slice_cmp bytes key.items ∙ nat_list_eq_equiv.symm bytes key.items

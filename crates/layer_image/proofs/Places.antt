@@ -1,4 +1,4 @@
--- Numbers with many digits, and places behind the last.
+-- Numbers with many digits, and decimal places below a picometre.
 use Rattle.std.proofs.Common.{◌≡◌, ℕ, ◌+◌, ◌-◌, ◌*◌, ◌/◌, ◌^◌, ◌≤◌, ◌<◌, true, false, nat_le, arith, ◌∙◌, ap, sym, subst, inl, inr, lit<}
 use Rattle.std.proofs.Math.Nat.{pow-le-pow_right, le-div_iff_mul-le}
 use Rattle.std.proofs.lemmas.Nat.{pow-add, div_below}
@@ -11,7 +11,7 @@ test_yes a b h = grind (arith, nat_tests)
 pub test_no : (a b : ℕ) → b < a → nat_le a b ≡ false
 test_no a b h = grind (arith, nat_tests)
 
--- more digits than twelve and some more
+-- a number with more than 12 digits, by its quotient
 pub more_digits : (n d : ℕ) → 12 ≤ d → nat_le (10 ^ (d - 12)) (n / 10 ^ 12) ≡ nat_le (10 ^ d) n
 more_digits n d h =
     let whole : (d - 12) + 12 ≡ d = omega arith in
@@ -30,7 +30,7 @@ no_more_digits n d h k =
     let large : 10 ^ 20 ≤ 10 ^ d = pow-le-pow_right {n = 10} (lit< tt) k in
     test_no _ _ (omega (arith, large))
 
--- a length has no whole picometres behind its last digit
+-- below the last place that is looked up a step has no whole picometre
 pub no_finer : (n e d : ℕ) → n < 10 ^ e → e ≤ d → n / 10 ^ d ≡ 0
 no_finer n e d short k =
     let large : 10 ^ e ≤ 10 ^ d = pow-le-pow_right {n = 10} (lit< tt) k in

@@ -1,4 +1,4 @@
--- What the judge says of the commands that were kept of a text is what the text reads as.
+-- What the judge finds in the commands that were kept of a text is what the text reads as.
 use Rattle.std.proofs.Common.{◌≡◌, inl, inr, ℕ, List, length, Bool, true, false, cond, Result, Ok, Err, [], refl, sym, ap, subst, ◌∙◌, nat_lt, arith}
 use Rattle.std.proofs.Math.Seq.{take-length}
 use Rattle.grid_units.specs.Results.{Answers, Tells}

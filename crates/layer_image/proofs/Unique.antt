@@ -1,4 +1,4 @@
--- A text reads as one thing.
+-- A text reads in one way.
 use Rattle.std.proofs.Common.{◌≡◌, ◌⊎◌, inl, inr, ℕ, zero, suc, ◌≤◌, ◌+◌, List, [], ◌∷◌, ◌++◌, length, take, drop, Option, Some, None, slice_get, Bool, true, false, cond, Result, Ok, Err, refl, sym, ap, subst, ◌∙◌, nat_lt, arith, append_assoc, append-nil}
 use Rattle.std.specs.List.{filter_map, cons_option, list_all}
 use Rattle.std.specs.Option.{option_map}
@@ -103,7 +103,7 @@ spelled_ok : (place byte : ℕ) (bytes : List ℕ) (before cs : Entries) → spe
 unfolding spelled
 spelled_ok place byte bytes before cs h = within_ok (nat_lt item_limit (length bytes)) (meaning (is_plotting before) bytes) TooLong place byte before cs (at_ok place byte _ cs h)
 
--- items add their commands behind those before them
+-- later items add their commands after those of earlier ones
 grows : (place : ℕ) (items : List (List OffsetByte)) (before cs : Entries) → commands_from place items before ≡ Ok cs → (ds : Entries) × (cs ≡ before ++ ds)
 grows place [] before cs h = let same : before ≡ cs = cc in ([], sym same ∙ sym (append-nil before))
 grows place (item ∷ items) before cs h =
@@ -133,7 +133,7 @@ later place (item ∷ items) before f h = elim (bind_err (spelled place (first_o
   | inr there ↦ omega (arith, later (suc place) items there.0 f there.2)
 ]
 
--- where the first items have no fault, it stands behind them
+-- a fault comes after the first items, where these have none
 behind_first : (place : ℕ) (xs ys : List (List OffsetByte)) (before es : Entries) (f : Fault) → commands_from place (xs ++ ys) before ≡ Err f → commands_from place xs before ≡ Ok es → place + length xs ≤ f.place
 behind_first place [] ys before es f h k = omega (arith, later place ys before f h)
 behind_first place (x ∷ xs) ys before es f h k =
@@ -172,14 +172,14 @@ shown_place items rest f h = elim (bind_err (commands_from 1 items []) _ f h) [
   | inr there ↦ inr (rest_place (has_end items) (nat_lt item_limit (length rest)) (suc (length items)) (first_offset rest) there.0 rest f there.2)
 ]
 
--- a fault of reading is that of an item, or stands behind all of them
+-- a fault of reading is that of an item, or comes after all of them
 read_place : (len : ℕ) (items : List (List OffsetByte)) (rest : List OffsetByte) (f : Fault) → read_in len items rest ≡ Err f → (commands_from 1 items [] ≡ Err f) ⊎ (f.place ≡ suc (length items))
 read_place len items rest f h = elim (bind_err (shown items rest) _ f h) [
   | inl e ↦ shown_place items rest f e
   | inr there ↦ inr (ended_place (nat_lt text_limit len) (has_end items) (suc (length items)) text_limit (cond (list_all is_blank (bytes_of rest)) len (first_offset rest)) there.0 f there.2)
 ]
 
--- ---- a text reads as one thing
+-- ---- a text reads in one way
 
 module _ (text : List ℕ) where
   parts_of : {n : ℕ} {cs : Entries} → KeptOf text n cs → List (List OffsetByte)
@@ -199,7 +199,7 @@ module _ (text : List ℕ) where
       fewer (suc i) (suc j) [] h = refl
       fewer (suc i) (suc j) (x ∷ l) h = ap (λ (r : List (List OffsetByte)). x ∷ r) (fewer i j l (omega arith))
 
-  -- the fault of reading stands behind the items that are kept
+  -- the fault of reading comes after the items that are kept
   kept_before : (n : ℕ) (cs : Entries) (f : Fault) → KeptOf text n cs → Reads text (Err f) → suc n ≤ f.place
   kept_before n cs f h r =
       let same = (same_items (offset_bytes (take text_limit text)) h.items r.items h.rest r.rest h.splits r.splits).0 in
@@ -241,7 +241,7 @@ module _ (text : List ℕ) where
     | inr more ↦ same_rule n m cs ds f g h k (omega (arith, more)) first second
   ]
 
-  -- the fault of a rule stands before that of reading
+  -- the fault of a rule comes before that of reading
   rule_or_reading : (f g : Fault) (n m : ℕ) (cs ds : Entries) → KeptOf text n cs → IsFirstFault cs f → Reads text (Err g) → g.place ≡ suc m → KeptOf text m ds → IsLegal broken_rule (without_places ds) → ⊥
   rule_or_reading f g n m cs ds h first r place k legal = no_early_fault n m cs ds f h k (omega (arith, kept_before n cs g h r, place)) legal first
 

@@ -14,15 +14,15 @@ use Rattle.grid_units.specs.declared.stop.Stop.TheVariants as stop
 use Rattle.layer_image.specs.Rules.{broken_rule}
 use Rattle.gerber_text.specs.Writing.{without_places}
 
--- the fault of a command that breaks a rule after those before it, at its place (docs/DEFINITIONS.md, Legal lists)
+-- the fault of a command that breaks a rule after those before it, at the place and the byte of its item
 abbrev pub fault_of : Entries → Placed Command → Option Fault
 fault_of before entry = option_map (fault entry.place entry.byte) (broken_rule (without_places before) entry.what)
 
--- the first command that breaks a rule has this fault (docs/DEFINITIONS.md, Legal lists)
+-- this is the fault of the first command of the list that breaks a rule
 abbrev pub IsFirstFault : Entries → Fault → Type 0
 IsFirstFault entries f = (k : ℕ) × (slice_get (breaks fault_of entries) 0 ≡ Some (k, f))
 
--- a stop at a place and a byte (docs/DEFINITIONS.md, Legal lists)
+-- a stop of the judge as a failure: a broken rule gets the place and the byte of its item
 abbrev pub fail_at : ℕ → ℕ → Stop → Fail
 fail_at place byte stop.Memory = fails.Memory
 fail_at place byte (stop.Refused reason) = fails.Refused (fault place byte reason)

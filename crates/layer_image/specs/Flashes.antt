@@ -1,4 +1,4 @@
--- The flashes of a list of commands, one for each copy.
+-- The flashes of a list of commands, one for each copy (docs/FORMATS.md, Point, state and copies; Flashes and pads).
 use Rattle.std.specs.Prelude.{ℕ, zero, suc, ◌*◌, ◌%◌, ℤ, pos, ◌+ℤ◌, ◌*ℤ◌, Bool, true, false, not, ◌==◌, List, [], ◌∷◌, ◌++◌, map, count_by, Option, None, Some, unwrap_or, if◌then◌else◌, unsigned_abs}
 use Rattle.std.specs.Option.{option_map_or}
 use Rattle.std.specs.Ordering.{int_eq}
@@ -30,43 +30,43 @@ use Rattle.gerber_rows.specs.Pieces.{one}
 
 -- ---- copies
 
--- the numbers below n, in order (docs/DEFINITIONS.md, Flashes and pads)
+-- the numbers below n, from 0 up
 abbrev pub numbers_below : ℕ → List ℕ
 numbers_below zero = []
 numbers_below (suc n) = numbers_below n ++ n ∷ []
 
--- the copy in a column and a row (Gerber format, Step and repeat SR)
+-- the copy in a column and a row, both from 0 (Gerber format, Step and repeat SR)
 abbrev pub copy_at : Grid → ℕ → ℕ → GridPoint
 copy_at grid u v = record { x = grid.x +ℤ pos u *ℤ grid.step_x; y = grid.y +ℤ pos v *ℤ grid.step_y }
 
--- the copies of a point: column by column, and in each column row by row (docs/FORMATS.md, Rules of a layer)
+-- the copies of a point: column by column, and in each column row by row
 abbrev pub copies : Grid → List GridPoint
 copies grid = flat_map (λ u. map (copy_at grid u) (numbers_below grid.rows)) (numbers_below grid.columns)
 
 -- ---- what is flashed
 
--- a quarter of a turn, in units of 10^-8 degrees (docs/FORMATS.md, Numbers)
+-- 90 degrees, in units of 10^-8 degrees
 abbrev pub quarter : ℕ
 quarter = 9000000000
 
--- made by a macro (Gerber format, Aperture macro AM)
+-- the aperture is made by a macro (Gerber format, Aperture macro AM)
 abbrev pub is_macro : Aperture → Bool
 is_macro aperture.Macro = true
 is_macro _ = false
 
--- a regular polygon (Gerber format, Polygon)
+-- the aperture is a regular polygon (Gerber format, Polygon)
 abbrev pub is_polygon : Aperture → Bool
 is_polygon aperture.Polygon = true
 is_polygon _ = false
 
--- with a hole (Gerber format, Standard aperture templates)
+-- the aperture has a hole (Gerber format, Standard aperture templates)
 abbrev pub is_holed : Aperture → Bool
 is_holed (aperture.Circle diameter holed) = holed
 is_holed (aperture.Rectangle width height holed) = holed
 is_holed (aperture.Obround width height holed) = holed
 is_holed _ = false
 
--- the reason keeps a flash of the aperture, under this scale and turn, from being a pad (docs/FORMATS.md, Rules of a layer)
+-- the reason keeps a flash of the aperture, at this scale and turn, from being a pad
 abbrev pub keeps_from_pad : Aperture → ℤ → ℤ → Why → Bool
 keeps_from_pad shape scale turn why.Macro = is_macro shape
 keeps_from_pad shape scale turn why.Polygon = is_polygon shape
@@ -74,15 +74,15 @@ keeps_from_pad shape scale turn why.Holed = is_holed shape
 keeps_from_pad shape scale turn why.Scaled = not (int_eq scale one)
 keeps_from_pad shape scale turn why.Turned = not (unsigned_abs turn % quarter == 0)
 
--- the order in which the reasons are looked for (docs/FORMATS.md, Rules of a layer)
+-- the reasons in the order in which they are looked for; the first that applies is reported
 abbrev pub why_order : List Why
 why_order = why.Macro ∷ why.Polygon ∷ why.Holed ∷ why.Scaled ∷ why.Turned ∷ []
 
--- an odd multiple of a quarter of a turn (docs/FORMATS.md, Rules of a layer)
+-- an odd multiple of 90 degrees, such as `%LR90*%` or `%LR-270*%`, under which width and height change places
 abbrev pub exchanges_sides : ℤ → Bool
 exchanges_sides turn = unsigned_abs turn % (2 * quarter) == quarter
 
--- half of a size, in pm; no size of a legal list is below 0 (docs/FORMATS.md, Lengths)
+-- half of a size, in pm; no size of a legal list is below 0
 abbrev pub half : Units → ℤ → ℕ
 half unit size = unsigned_abs (half_length unit size)
 
@@ -90,15 +90,15 @@ half unit size = unsigned_abs (half_length unit size)
 abbrev pub disc_at : GridPoint → Units → ℤ → GridDisc
 disc_at p unit diameter = record { centre = p; radius = half unit diameter }
 
--- the rectangle of two sides round a point (Gerber format, Rectangle)
+-- the rectangle of a width and a height round a point (Gerber format, Rectangle)
 abbrev pub rect_at : GridPoint → Units → ℤ → ℤ → GridRect
 rect_at p unit width height = record { centre = p; half_x = half unit width; half_y = half unit height }
 
--- the obround of two sides round a point (Gerber format, Obround)
+-- the obround of a width and a height round a point (Gerber format, Obround)
 abbrev pub obround_at : GridPoint → Units → ℤ → ℤ → GridObround
 obround_at p unit width height = record { centre = p; half_x = half unit width; half_y = half unit height }
 
--- the disc, rectangle or obround of an aperture at a point (docs/DEFINITIONS.md, Flashes and pads)
+-- the disc, rectangle or obround of an aperture at a point, its sides exchanged by an odd quarter of a turn
 abbrev pub shape_at : GridPoint → Units → ℤ → Aperture → What
 shape_at p unit turn (aperture.Circle diameter holed) = what.Pad (pads.Disc (disc_at p unit diameter))
 shape_at p unit turn (aperture.Rectangle width height holed) = what.Pad (pads.Rect (if exchanges_sides turn then rect_at p unit height width else rect_at p unit width height))
@@ -106,22 +106,22 @@ shape_at p unit turn (aperture.Obround width height holed) = what.Pad (pads.Obro
 shape_at p unit turn aperture.Polygon = what.Other why.Polygon
 shape_at p unit turn aperture.Macro = what.Other why.Macro
 
--- what an aperture leaves at a point: a pad, or the first reason that keeps it from one (docs/DEFINITIONS.md, Flashes and pads)
+-- what an aperture leaves at a point: a pad, or the first reason that keeps it from being one
 abbrev pub what_at : GridPoint → Units → ℤ → ℤ → Aperture → What
 what_at p unit scale turn shape = option_map_or what.Other (find (keeps_from_pad shape scale turn) why_order) (shape_at p unit turn shape)
 
 -- ---- at a position
 
--- the unit that was named; no operation is legal before one is (docs/FORMATS.md, Rules of a layer)
+-- the unit that was named; no operation is legal before one is
 abbrev pub unit_in_force : Standing → Units
 unit_in_force s = unwrap_or s.unit Millimetre
 
--- the decimals of the format that was named; no operation is legal before one is (docs/FORMATS.md, Rules of a layer)
+-- the decimals of the format that was named; no operation is legal before one is
 abbrev pub decimals_in_force : Standing → ℕ
 decimals_in_force s = option_map_or (λ (f : Format). f.decimals) s.format 0
 
--- The point of an operation that names these, by each axis its number, else the last one named before it, else 0;
--- and the block that is open. All in pm (docs/DEFINITIONS.md, Flashes and pads).
+-- The point of an operation and the block that is open, in pm. Each coordinate is the one that the operation names, else the last
+-- one named before it, else 0.
 abbrev pub grid_at : Standing → Option ℤ → Option ℤ → Grid
 grid_at s x y = record {
   x = picometres (unit_in_force s) (decimals_in_force s) (unwrap_or x s.x);
@@ -132,48 +132,48 @@ grid_at s x y = record {
   step_y = fine_length (unit_in_force s) s.block.step_y;
 }
 
--- the points of an operation, one for each copy (docs/DEFINITIONS.md, Flashes and pads)
+-- the points of an operation, one for each copy
 abbrev pub copies_at : Standing → Option ℤ → Option ℤ → List GridPoint
 copies_at s x y = copies (grid_at s x y)
 
--- a flash of the aperture at a point (docs/DEFINITIONS.md, Flashes and pads)
+-- a flash of the aperture at a point
 abbrev pub flash_at : Standing → Aperture → GridPoint → Flash
 flash_at s shape p = record { at = p; what = what_at p (unit_in_force s) s.scale s.turn shape }
 
--- the flashes of the aperture, one for each copy (docs/DEFINITIONS.md, Flashes and pads)
+-- the flashes of the aperture, one for each copy
 abbrev pub flashed : Standing → Option ℤ → Option ℤ → Aperture → List Flash
 flashed s x y shape = map (flash_at s shape) (copies_at s x y)
 
--- a flash, and no draw or move (Gerber format, Operations D01, D02, D03)
+-- the operation is a flash (`D03`), and no draw or move (Gerber format, Operations D01, D02, D03)
 abbrev pub is_flash : Action → Bool
 is_flash action.Flash = true
 is_flash _ = false
 
--- the flashes that a command adds (docs/DEFINITIONS.md, Flashes and pads)
+-- the flashes that a command adds: an operation `D03` those of the selected aperture, any other command none
 abbrev pub flashes_at : Standing → Command → List Flash
 flashes_at s (command.Operate action x y i j) = if is_flash action then option_map_or (flashed s x y) (aperture_in s) [] else []
 flashes_at s _ = []
 
 -- ---- over a whole list
 
--- the flashes of a list, in order (docs/DEFINITIONS.md, Flashes and pads)
+-- the flashes of a list of commands, in order
 abbrev pub flashes_of : List Command → List Flash
 flashes_of commands = flat_map (λ p. flashes_at (standing p.0) p.1) (positions commands)
 
--- the pad that was left, if it is one (docs/DEFINITIONS.md, Flashes and pads)
+-- the pad that a flash leaves, if it leaves one
 abbrev pub pad_in : What → Option Pad
 pad_in (what.Pad pad) = Some pad
 pad_in (what.Other why) = None
 
--- the pads among the flashes, in order (docs/DEFINITIONS.md, Flashes and pads)
+-- the pads among the flashes, in order
 abbrev pub pads_of : List Flash → List Pad
 pads_of flashes = filter_map (λ flash. pad_in flash.what) flashes
 
--- what was left is no pad (docs/DEFINITIONS.md, Flashes and pads)
+-- a flash leaves something else than a pad
 abbrev pub is_other : What → Bool
 is_other (what.Pad pad) = false
 is_other (what.Other why) = true
 
--- how many of the flashes are no pads (docs/DEFINITIONS.md, Flashes and pads)
+-- how many of the flashes are no pads
 abbrev pub others_in : List Flash → ℕ
 others_in flashes = count_by (λ flash. is_other flash.what) flashes

@@ -6,30 +6,29 @@ use Rattle.layer_image.specs.declared.flashes.Keep.{Keep}
 use Rattle.layer_image.specs.declared.flashes.Keep.TheVariants as keep
 use Rattle.layer_image.specs.Flashes.{pads_of, others_in}
 
--- commands are kept (docs/DEFINITIONS.md, Legal lists)
+-- commands are kept: only a whole layer has them
 abbrev pub keeps_commands : Keep → Bool
 keeps_commands keep.All = true
 keeps_commands keep.Flashes = false
 keeps_commands keep.Pads = false
 
--- each flash is kept (docs/DEFINITIONS.md, Legal lists)
+-- each flash is kept, pads among them
 abbrev pub keeps_flashes : Keep → Bool
 keeps_flashes keep.All = true
 keeps_flashes keep.Flashes = true
 keeps_flashes keep.Pads = false
 
--- the pads are kept in a list of their own (docs/DEFINITIONS.md, Legal lists)
+-- the pads are kept in a list of their own
 abbrev pub keeps_pads : Keep → Bool
 keeps_pads keep.All = true
 keeps_pads keep.Flashes = false
 keeps_pads keep.Pads = true
 
--- how many flashes there were (docs/DEFINITIONS.md, Legal lists)
+-- how many flashes there were, whatever is kept of them
 abbrev pub flash_count : Flashes → ℕ
 flash_count kept = kept.count
 
--- just these flashes were made: it is known how many they are and how many are no pads; and each, and its pads, are
--- kept where they are to be (docs/DEFINITIONS.md, Legal lists)
+-- just these flashes were made: all are counted, and those that are no pads; flashes and pads are kept where the mode asks for it
 pub record KeepsFlashes (kept : Flashes) (keep : Keep) (flashes : List Flash) : Type 0 where
   pub same : kept.keep ≡ keep
   pub count : kept.count ≡ length flashes
@@ -37,7 +36,7 @@ pub record KeepsFlashes (kept : Flashes) (keep : Keep) (flashes : List Flash) : 
   pub pads : keeps_pads keep ≡ true → kept.pads.items ≡ pads_of flashes
   pub all : keeps_flashes keep ≡ true → kept.all.items ≡ flashes
 
--- what is kept after these flashes too (docs/DEFINITIONS.md, Legal lists)
+-- what is kept after these flashes as well: the counts have grown, and what is kept has these at its end
 pub record Adds (old : Flashes) (flashes : List Flash) (new : Flashes) : Type 0 where
   pub same : new.keep ≡ old.keep
   pub count : new.count ≡ old.count + length flashes

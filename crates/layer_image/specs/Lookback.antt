@@ -1,4 +1,4 @@
--- What the commands before a position say to the next one, each word by looking back over the finished list.
+-- What the commands before a position say of it: each field is found by looking back over the finished list.
 use Rattle.std.specs.Prelude.{ℕ, nat_eq, ℤ, pos, Bool, true, false, ◌==◌, List, Option, None, Some, unwrap_or, if◌then◌else◌, slice_get, drop, int_lt}
 use Rattle.std.specs.Option.{option_and_then}
 use Rattle.std.specs.List.{list_any}
@@ -19,43 +19,43 @@ use Rattle.gerber_rows.specs.Pieces.{one}
 
 -- ---- what one command names
 
--- the unit (Gerber format, Unit MO)
+-- the unit: millimetres by `%MOMM*%` (Gerber format, Unit MO)
 abbrev pub unit_named : Command → Option Units
 unit_named (command.UnitIs unit) = Some unit
 unit_named _ = None
 
--- the digits of coordinates (Gerber format, Format specification FS)
+-- the digits of coordinates: 4 whole and 6 decimals by `%FSLAX46Y46*%` (Gerber format, Format specification FS)
 abbrev pub format_named : Command → Option Format
 format_named (command.FormatIs format) = Some format
 format_named _ = None
 
--- a region begins, or ends (Gerber format, Region statement G36/G37)
+-- a region begins with `G36*` and ends with `G37*` (Gerber format, Region statement G36/G37)
 abbrev pub region_named : Command → Option Bool
 region_named command.RegionStart = Some true
 region_named command.RegionEnd = Some false
 region_named _ = None
 
--- the number of the aperture from here on (Gerber format, Current aperture Dnn)
+-- the number of the aperture that is selected: 10 by `D10*` (Gerber format, Current aperture Dnn)
 abbrev pub number_named : Command → Option ℕ
 number_named (command.Select number) = Some number
 number_named _ = None
 
--- the X of an operation, where it stands there (Gerber format, Coordinate data)
+-- the X of an operation that has one: 500 in `X500Y-20D03*` (Gerber format, Coordinate data)
 abbrev pub x_named : Command → Option ℤ
 x_named (command.Operate action x y i j) = x
 x_named _ = None
 
--- the Y of an operation, where it stands there (Gerber format, Coordinate data)
+-- the Y of an operation that has one: -20 in `X500Y-20D03*` (Gerber format, Coordinate data)
 abbrev pub y_named : Command → Option ℤ
 y_named (command.Operate action x y i j) = y
 y_named _ = None
 
--- how far flashes are turned, in units of 10^-8 degrees (Gerber format, Load rotation LR)
+-- how far flashes are turned, in 10^-8 degrees: 9,000,000,000 by `%LR90*%` (Gerber format, Load rotation LR)
 abbrev pub turn_named : Command → Option ℤ
 turn_named (command.Turn turn) = Some turn
 turn_named _ = None
 
--- how flashes are scaled, in units of 10^-8 (Gerber format, Load scaling LS)
+-- the scale of flashes, in units of 10^-8: 50,000,000 by `%LS0.5*%` (Gerber format, Load scaling LS)
 abbrev pub scale_named : Command → Option ℤ
 scale_named (command.Scale scale) = Some scale
 scale_named _ = None
@@ -64,45 +64,45 @@ scale_named _ = None
 abbrev pub single : Block
 single = record { columns = 1; rows = 1; step_x = pos 0; step_y = pos 0 }
 
--- a block begins, or ends (Gerber format, Step and repeat SR)
+-- a step and repeat block begins with `%SRX2Y3I5J4*%` and ends with `%SR*%` (Gerber format, Step and repeat SR)
 abbrev pub block_named : Command → Option Block
 block_named (command.Repeat block) = Some block
 block_named command.RepeatEnd = Some single
 block_named _ = None
 
--- the parameter at a place, 0 where it is left out (Gerber format, Standard aperture templates)
+-- the parameter at a place, from 0, in units of 10^-8; 0 where it is left out (Gerber format, Standard aperture templates)
 abbrev pub size_at : List ℤ → ℕ → ℤ
 size_at sizes place = unwrap_or (slice_get sizes place) (pos 0)
 
--- one of the parameters from a place on is above 0 (Gerber format, Standard aperture templates)
+-- a parameter from this place on is above 0, which makes a hole: the 0.2 of `%ADD10C,0.5X0.2*%` (Gerber format, Standard aperture templates)
 abbrev pub has_hole : List ℤ → ℕ → Bool
 has_hole sizes place = list_any (λ size. int_lt (pos 0) size) (drop place sizes)
 
--- a standard aperture as a flash needs it (Gerber format, Standard aperture templates)
+-- what a flash needs of a standard aperture: its sizes, and whether it has a hole (Gerber format, Standard aperture templates)
 abbrev pub standard_aperture : Standard → List ℤ → Aperture
 standard_aperture standard.Circle sizes = aperture.Circle (size_at sizes 0) (has_hole sizes 1)
 standard_aperture standard.Rectangle sizes = aperture.Rectangle (size_at sizes 0) (size_at sizes 1) (has_hole sizes 2)
 standard_aperture standard.Obround sizes = aperture.Obround (size_at sizes 0) (size_at sizes 1) (has_hole sizes 2)
 standard_aperture standard.Polygon sizes = aperture.Polygon
 
--- an aperture as a flash needs it (Gerber format, Aperture definition AD)
+-- what a flash needs of an aperture; of a macro, that it is one (Gerber format, Aperture definition AD)
 abbrev pub aperture_of : Template → Aperture
 aperture_of (template.Standard which sizes) = standard_aperture which sizes
 aperture_of (template.Named name parameters) = aperture.Macro
 
--- the aperture of this number (Gerber format, Aperture definition AD)
+-- the aperture that a command gives this number: `%ADD10C,0.5*%` gives one to 10 (Gerber format, Aperture definition AD)
 abbrev pub definition_named : ℕ → Command → Option Aperture
 definition_named number (command.Define other template) = if number == other then Some (aperture_of template) else None
 definition_named number _ = None
 
--- a macro of this name (Gerber format, Aperture macro AM)
+-- a command defines the macro of this name, as `%AMROUND*..*%` that of `ROUND` (Gerber format, Aperture macro AM)
 abbrev pub defines_macro : List ℕ → Command → Bool
 defines_macro name (command.Macro other pieces) = pointwise nat_eq other name
 defines_macro name _ = false
 
--- ---- what stands when a command comes
+-- ---- the state that a command meets
 
--- what the commands before it say to the next one (docs/DEFINITIONS.md, Layers)
+-- the state that a command meets: `x` and `y` in steps of the format, `turn` in 10^-8 degrees, `scale` in units of 10^-8
 pub record Standing : Type 0 where
   pub unit : Option Units
   pub format : Option Format
@@ -116,7 +116,8 @@ pub record Standing : Type 0 where
   pub scale : ℤ
   pub block : Block
 
--- each by what was named last, else as at the start (docs/FORMATS.md, Rules of a layer)
+-- Each field is as the last command that names it says. At the start: no unit, format or aperture, the point (0, 0), turn 0,
+-- scale 1, no block (docs/FORMATS.md, Point, state and copies).
 abbrev pub standing : List Command → Standing
 standing before = record {
   unit = last_named unit_named before;

@@ -8,10 +8,10 @@ use Rattle.layer_image.specs.declared.aperture.Aperture.{Aperture}
 use Rattle.layer_image.specs.declared.tables.Apertures.{Apertures}
 use Rattle.layer_image.specs.declared.tables.Names.{Names}
 
--- the aperture that a table has for a number (docs/DEFINITIONS.md, Legal lists)
+-- the aperture that a table has for a number, if any
 abbrev pub aperture_at : Apertures → ℕ → Option Aperture
 aperture_at apertures number = get nat_cmp apertures.table number
 
--- whether a table has a name (docs/DEFINITIONS.md, Legal lists)
+-- a table has this name
 abbrev pub has_name : Names → List ℕ → Bool
 has_name names name = contains_by (λ key. slice_cmp nat_cmp name key.items) names.table

@@ -1,4 +1,4 @@
-//! Apertures as a flash needs them.
+//! What a flash needs of an aperture.
 
 ghost use Rattle.std.specs.Prelude.{◌≡◌, false};
 ghost use Rattle.layer_image.specs.Lookback.{size_at, has_hole, aperture_of, standard_aperture};
@@ -8,7 +8,7 @@ use crate::size::{Diameter, Side};
 use gerber_rows::{Sizes, Standard, Template};
 use grid_units::Dec;
 
-/// An aperture: of a disc, a rectangle or an obround the sizes, and whether it has a hole.
+/// An aperture as a flash needs it: the sizes of a disc, a rectangle or an obround, and whether it has a hole.
 #[derive(Clone, Copy)]
 pub enum Aperture {
     Circle(Diameter, bool),
@@ -18,7 +18,7 @@ pub enum Aperture {
     Macro,
 }
 
-/// The aperture of a template whose sizes are in range.
+/// What a flash needs of an aperture whose sizes are in range.
 pub(crate) fn aperture_of(template: &Template) -> Aperture
     requires { is_badly_sized template.now ≡ false }
     ensures { result ≡ aperture_of template.now }
@@ -59,7 +59,7 @@ fn side(sizes: &Sizes, place: usize) -> Side
     Side::new(size_at(sizes, place)).unwrap()
 }
 
-/// The size at a place, 0 where it is left out.
+/// The size at a place, from 0; 0 where it is left out.
 fn size_at(sizes: &Sizes, place: usize) -> Dec
     ensures { result ≡ size_at sizes.now place }
 {
@@ -69,7 +69,7 @@ fn size_at(sizes: &Sizes, place: usize) -> Dec
     }
 }
 
-/// Whether one of the sizes from a place on is above 0.
+/// Whether a size from this place on is above 0, which makes a hole.
 fn has_hole(sizes: &Sizes, place: usize) -> bool
     ensures { result ≡ has_hole sizes.now place }
 {
@@ -80,7 +80,7 @@ fn has_hole(sizes: &Sizes, place: usize) -> bool
         .any(|size| size.units() > 0)
 }
 
-/// Whether a size of a template is out of its range.
+/// Whether a size of a template is out of range. Sizes of a macro are not judged.
 pub(crate) fn is_badly_sized(template: &Template) -> bool
     ensures { result ≡ is_badly_sized template.now }
 {
@@ -111,7 +111,7 @@ fn lacks_size(sizes: &Sizes, place: usize) -> bool
     size_at(sizes, place).units() <= 0
 }
 
-/// Whether one of the sizes from a place on is below 0.
+/// Whether a size from this place on is below 0.
 fn has_negative(sizes: &Sizes, place: usize) -> bool
     ensures { result ≡ has_negative sizes.now place }
 {
@@ -122,7 +122,7 @@ fn has_negative(sizes: &Sizes, place: usize) -> bool
         .any(|size| size.units() < 0)
 }
 
-/// Whether a size is a whole number from 3 to 12.
+/// Whether a number of vertices is a whole number from 3 to 12.
 fn counts_vertices(size: Dec) -> bool
     ensures { result ≡ counts_vertices size }
 {

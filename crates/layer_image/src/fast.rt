@@ -1,4 +1,4 @@
-//! The fast path of the judge: what most operations need is computed when it changes, and not at each of them.
+//! The fast path of the judge. What most operations need is computed when it changes, not at each operation.
 
 ghost use Rattle.std.specs.Prelude.{◌≡◌, [], List, IfSome, None, true, false};
 ghost use Rattle.gerber_rows.specs.declared.command.Command.{Command};
@@ -19,7 +19,7 @@ use gerber_rows::{Action, Command};
 use grid_units::Stop;
 use std::alloc::Global;
 
-/// A judge, and what is in force for most operations.
+/// A judge, with what most operations need of its state kept at hand.
 #[derive(Drop)]
 pub(crate) struct FastJudge {
     pub(crate) judge: Judge,
@@ -49,7 +49,7 @@ impl FastJudge {
         self.step_slowly(command)
     }
 
-    /// The same for an operation.
+    /// Judges an operation and takes it in: on the fast path where it applies, else as any other command.
     fn operate(
         &mut self,
         what: &Command,
@@ -73,7 +73,7 @@ impl FastJudge {
         self.step_slowly(what)
     }
 
-    /// The same for any command.
+    /// Judges any command by the whole table of rules, and brings the fast path up to date.
     fn step_slowly(&mut self, command: &Command) -> Result<(), Stop>
         ensures { (keep : TheKeep) (before : List Command) → Knows self.old.judge keep before → Judges keep before command.now self.new.judge result }
     {
@@ -84,7 +84,7 @@ impl FastJudge {
         outcome
     }
 
-    /// Whether an operation is no flash and breaks no rule, as most do.
+    /// Whether the fast path shows that an operation is no flash and breaks no rule. So it is with most operations.
     fn moves(
         &self,
         action: Action,
@@ -109,7 +109,7 @@ impl FastJudge {
         true
     }
 
-    /// The flash of an operation that breaks no rule and makes just one, as most flashes do.
+    /// The flash of an operation that breaks no rule and makes just one, where the fast path shows it.
     fn flash(
         &self,
         action: Action,
@@ -150,7 +150,7 @@ impl FastJudge {
     }
 }
 
-/// Whether a command changes what is in force for most operations.
+/// Whether a command changes what the fast path keeps.
 fn changes_force(command: &Command) -> bool
     ensures { result ≡ changes_force command.now }
 {

@@ -7,31 +7,31 @@ ghost use Rattle.layer_image.specs.Inner.Moved.{moved, moved_pad, flash_laid, pa
 use grid_units::Point;
 use pad_shapes::{Disc, Obround, Pad, Rect};
 
-/// Why a flash is no pad: the first that applies, in this order.
+/// Why a flash is no pad. Where several reasons apply, the first in this order is given.
 #[derive(Clone, Copy, Debug, PartialEq, Eq)]
 pub enum Why {
-    /// Its aperture is made by a macro.
+    /// Its aperture is made by a macro (`%AM..*%`).
     Macro,
-    /// Its aperture is a regular polygon.
+    /// Its aperture is a regular polygon (`P`).
     Polygon,
-    /// Its aperture has a hole.
+    /// Its aperture has a hole, as that of `%ADD10C,0.5X0.2*%` has.
     Holed,
-    /// It is scaled.
+    /// It is scaled by other than 1 (`%LS..*%`).
     Scaled,
-    /// It is turned by no multiple of 90 degrees.
+    /// It is turned by no multiple of 90 degrees (`%LR..*%`).
     Turned,
 }
 
 /// What a flash leaves on the layer.
 #[derive(Clone, Copy, Debug, PartialEq, Eq)]
 pub enum What {
-    /// A pad round the point of the flash.
+    /// A pad, centred on the point of the flash.
     Pad(Pad),
-    /// Another shape.
+    /// Anything else than a pad, and why.
     Other(Why),
 }
 
-/// A flash: one for each copy in a step and repeat block.
+/// A flash at its point. A step and repeat block has one for each copy.
 #[derive(Clone, Copy, Debug, PartialEq, Eq)]
 pub struct Flash {
     pub at: Point,
@@ -39,7 +39,7 @@ pub struct Flash {
 }
 
 impl What {
-    /// The same at another point.
+    /// What the flash leaves, moved to another point.
     pub(crate) fn at(&self, centre: Point) -> What
         ensures { result ≡ moved centre self.now }
     {
@@ -50,12 +50,12 @@ impl What {
     }
 }
 
-/// What can be laid at another point.
+/// Flashes and pads, which can be laid at another point.
 pub(crate) trait Lay: Copy {
-    /// The same at another point.
+    /// A copy of it at another point.
     ghost laid: { Self → GridPoint → Self };
 
-    /// The same at another point.
+    /// A copy of it at another point.
     fn laid(&self, at: Point) -> Self
         ensures { result ≡ laid self.now at };
 }
@@ -79,7 +79,7 @@ impl Lay for Pad {
     }
 }
 
-/// The same pad round another centre.
+/// The pad moved to another centre.
 fn pad_at(pad: &Pad, centre: Point) -> Pad
     ensures { result ≡ moved_pad centre pad.now }
 {

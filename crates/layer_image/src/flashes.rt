@@ -12,7 +12,7 @@ use crate::grid::Grid;
 use pad_shapes::Pad;
 use std::alloc::{AllocError, Global};
 
-/// What is kept of a layer: all of it, its flashes alone, or its pads alone.
+/// What is kept of a layer: everything, the flashes alone, or the pads alone.
 #[derive(Clone, Copy)]
 pub(crate) enum Keep {
     All,
@@ -54,7 +54,7 @@ impl Keep {
     }
 }
 
-/// How many flashes there were and how many of them are no pads; and each flash, and each pad, where they are kept.
+/// How many flashes there were, and how many of them are no pads; and the flashes and the pads that are kept.
 #[derive(Drop)]
 pub(crate) struct Flashes {
     pub(crate) keep: Keep,
@@ -69,7 +69,7 @@ pub(crate) struct Flashes {
 impl Flashes {
     ghost use Rattle.layer_image.specs.Keeping.{Adds, KeepsFlashes, flash_count, keeps_flashes, keeps_pads};
 
-    /// Of no flashes.
+    /// No flashes so far.
     pub(crate) fn new(alloc: Global, keep: Keep) -> Self
         ensures { KeepsFlashes result keep [] }
     {
@@ -82,7 +82,7 @@ impl Flashes {
         }
     }
 
-    /// How many flashes there were.
+    /// How many flashes there were, whatever is kept of them.
     pub(crate) fn count(&self) -> u128
         ensures value { result ≡ flash_count self.now }
         ensures small { result ≤ max_flashes }
@@ -90,7 +90,7 @@ impl Flashes {
         u128::from(self.count)
     }
 
-    /// Whether there is no room for one more.
+    /// Whether the layer has as many flashes as it may have.
     pub(crate) fn is_full(&self) -> bool
         ensures { result ≡ nat_le max_flashes (flash_count self.now) }
     {
@@ -101,7 +101,7 @@ impl Flashes {
     ///
     /// # Errors
     ///
-    /// An `AllocError` where there is no memory for it or its pad.
+    /// An `AllocError` where there is no memory for the flash or its pad.
     pub(crate) fn add(&mut self, flash: &Flash) -> Result<(), AllocError>
         requires { flash_count self.old < max_flashes }
         ensures { OnOk result (Adds self.old (flash.now ∷ []) self.new) }
@@ -150,7 +150,7 @@ impl Flashes {
         Ok(())
     }
 
-    /// Keeps each flash, where all are to be kept.
+    /// Keeps the flash at each copy, where flashes are kept.
     fn lay_all(&mut self, grid: &Grid, flash: &Flash) -> Result<(), AllocError>
         requires bounded { IsBounded grid.now }
         requires near { list_any is_far_point (copies grid.now) ≡ false }
@@ -166,7 +166,7 @@ impl Flashes {
         grid.lay(&mut self.all, flash)
     }
 
-    /// Keeps the pads, where they are to be kept.
+    /// Keeps the pad at each copy, where pads are kept in a list of their own.
     fn lay_pads(&mut self, grid: &Grid, what: &What) -> Result<(), AllocError>
         requires bounded { IsBounded grid.now }
         requires near { list_any is_far_point (copies grid.now) ≡ false }
@@ -185,7 +185,7 @@ impl Flashes {
         }
     }
 
-    /// Counts the flashes, and those that are no pads.
+    /// Counts the flash at each copy, and those that are no pads.
     fn tally(&mut self, grid: &Grid, what: &What)
         requires few { flash_count self.old + length (copies grid.now) ≤ max_flashes }
         ensures same { self.new.keep ≡ self.old.keep }

@@ -19,10 +19,10 @@ use crate::size::{Diameter, Side};
 use grid_units::{Point, Unit, is_far};
 use pad_shapes::{Disc, Obround, Pad, Rect};
 
-/// A quarter of a turn, in units of 10^-8 degrees.
+/// 90 degrees, in units of 10^-8 degrees.
 const QUARTER: u64 = 9_000_000_000;
 
-/// 1 in units of 10^-8.
+/// 1, in units of 10^-8.
 const ONE: i64 = 100_000_000;
 
 impl Judge {
@@ -41,7 +41,7 @@ impl Judge {
         }
     }
 
-    /// The point of an operation that names these, and the block that is open.
+    /// The point of an operation with these coordinates, and the block that is open. All in pm.
     pub(crate) fn grid(&self, x: Option<i64>, y: Option<i64>) -> Grid
         ensures value { result ≡ grid_at (told self.now) x y }
         ensures bounded { IsBounded result }
@@ -58,7 +58,7 @@ impl Judge {
         }
     }
 
-    /// The aperture that was selected last.
+    /// The aperture of the number that was selected last.
     pub(crate) fn aperture(&self) -> Option<Aperture>
         ensures { result ≡ aperture_in (told self.now) }
     {
@@ -68,7 +68,7 @@ impl Judge {
         }
     }
 
-    /// Whether a flash of the aperture is a pad with a size beyond 10 m.
+    /// Whether a flash of the aperture is a pad with a size above 10 m.
     pub(crate) fn is_far_pad(&self, aperture: &Aperture) -> bool
         ensures { result ≡ is_far_pad (told self.now) aperture.now }
     {
@@ -110,7 +110,7 @@ impl Judge {
         }
     }
 
-    /// What a flash leaves at the origin where one is near and no block repeats it.
+    /// What a flash leaves at the origin, where no block repeats it and no size of its pad is above 10 m.
     pub(crate) fn lone_what(&self) -> Option<What>
         ensures { IfSome result (λ w. IsLoneWhat w (unit_in_force (told self.now)) (aperture_in (told self.now)) self.now.scale self.now.turn self.now.block) }
     {
@@ -124,7 +124,7 @@ impl Judge {
         Some(self.what(&aperture))
     }
 
-    /// What the aperture leaves, as at the origin.
+    /// What the aperture leaves at the origin.
     pub(crate) fn what(&self, aperture: &Aperture) -> What
         requires { is_far_pad (told self.now) aperture.now ≡ false }
         ensures { result ≡ what_at origin (unit_in_force (told self.now)) self.now.scale self.now.turn aperture.now }
@@ -160,7 +160,7 @@ impl Judge {
         }
     }
 
-    /// Whether flashes are turned by an odd multiple of a quarter.
+    /// Whether flashes are turned by an odd multiple of 90 degrees, so that their sides change places.
     fn exchanges_sides(&self) -> bool
         ensures { result ≡ exchanges_sides self.now.turn }
     {

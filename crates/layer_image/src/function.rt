@@ -10,7 +10,7 @@ ghost use Rattle.layer_image.specs.Functions.{is_comma, function_in, function_na
 use gerber_rows::{AttributeKind, Command};
 use grid_units::numbers::{run_before, run_of};
 
-/// The file function in a file attribute, also in one that a comment holds.
+/// The file function in a file attribute, or in a comment that holds one.
 pub(crate) fn function_named(command: &Command) -> Option<&[u8]>
     ensures { option_copied result ≡ function_named command.now }
 {
@@ -21,7 +21,7 @@ pub(crate) fn function_named(command: &Command) -> Option<&[u8]>
     }
 }
 
-/// What stands behind the name of the attribute and its comma.
+/// What follows the name `.FileFunction` and its comma.
 fn function_in(attribute: &[u8]) -> Option<&[u8]>
     ensures { option_copied result ≡ function_in attribute.now }
 {
@@ -33,14 +33,14 @@ fn function_in(attribute: &[u8]) -> Option<&[u8]>
     }
 }
 
-/// What stands behind `#@! TF`, which makes a comment a file attribute, where a comment begins with it.
+/// What follows `#@! TF`, which makes a comment a file attribute, in a comment that begins with it.
 fn behind_attribute_sign(comment: &[u8]) -> Option<&[u8]>
     ensures { option_copied result ≡ behind (codes "#@! TF") comment.now }
 {
     comment.strip_prefix(b"#@! TF")
 }
 
-/// The bytes before the first comma, and those behind it.
+/// The bytes before the first comma, and those after it.
 fn parts(text: &[u8]) -> (&[u8], &[u8])
     ensures before { result.0.now ≡ before_first is_comma text.now }
     ensures behind { result.1.now ≡ after_first is_comma text.now }
@@ -50,7 +50,7 @@ fn parts(text: &[u8]) -> (&[u8], &[u8])
     (&text[..at], &text[behind..])
 }
 
-/// The text from its first byte on that is no space.
+/// The text without the spaces at its start.
 fn behind_spaces(text: &[u8]) -> &[u8]
     ensures { result.now ≡ behind_spaces text.now }
 {

@@ -12,7 +12,7 @@ use crate::flash::Lay;
 use grid_units::{Point, is_far};
 use std::alloc::AllocError;
 
-/// A point and the counts and steps of its copies, in pm.
+/// A point with the counts and the steps of its copies. Coordinates and steps are in pm.
 #[derive(Clone, Copy)]
 pub struct Grid {
     pub x: i128,
@@ -31,7 +31,7 @@ impl Grid {
         u64::from(self.columns) * u64::from(self.rows)
     }
 
-    /// Whether a copy is beyond 10 m from an axis: one of those at the ends is.
+    /// Whether a copy is beyond 10 m along an axis. If any is, one in a corner of the block is.
     pub fn is_far(&self) -> bool
         requires { IsBounded self.now }
         ensures { result ≡ list_any is_far_point (copies self.now) }
@@ -44,7 +44,7 @@ impl Grid {
         is_any_far(self.x, self.y, last_x, last_y)
     }
 
-    /// One copy.
+    /// The copy in a column and a row, both from 0.
     fn copy(&self, u: u32, v: u32) -> Point
         requires bounded { IsBounded self.now }
         requires near { list_any is_far_point (copies self.now) ≡ false }
@@ -58,11 +58,11 @@ impl Grid {
         )
     }
 
-    /// Lays this at each copy, in order.
+    /// Lays one flash or pad at each copy, in order.
     ///
     /// # Errors
     ///
-    /// An `AllocError` where there is no memory for one.
+    /// An `AllocError` where there is no memory for all copies.
     pub(crate) fn lay<T: Lay>(&self, laid: &mut Vec<T>, one: &T) -> Result<(), AllocError>
         requires bounded { IsBounded self.now }
         requires near { list_any is_far_point (copies self.now) ≡ false }
@@ -79,7 +79,7 @@ impl Grid {
     }
 }
 
-/// The point of two coordinates that are near.
+/// The point of two coordinates of at most 10 m.
 fn point(x: i128, y: i128) -> Point
     requires x { unsigned_abs x ≤ max_coordinate }
     requires y { unsigned_abs y ≤ max_coordinate }
@@ -88,7 +88,7 @@ fn point(x: i128, y: i128) -> Point
     Point::new(x as i64, y as i64).unwrap()
 }
 
-/// So many steps from a start.
+/// The coordinate that is so many steps from a start.
 fn stepped(start: i128, step: i128, count: u32) -> i128
     requires start { unsigned_abs start ≤ 2 ^ 98 }
     requires step { unsigned_abs step ≤ 2 ^ 71 }

@@ -1,4 +1,4 @@
-//! The graphics state as one command sees it, for most operations: lengths of coordinates, and what a flash leaves.
+//! What the fast path keeps of the graphics state: the lengths of coordinates, and what a flash leaves.
 
 ghost use Rattle.std.specs.Prelude.{◌≡◌, ◌≤◌, ◌<◌, ◌*◌, ◌^◌, ◌*ℤ◌, IfSome, pos, nat_le, unsigned_abs};
 
@@ -11,7 +11,7 @@ use grid_units::{Point, Unit, power_of_ten};
 /// 10 m in pm.
 const MAX_LENGTH: u64 = 10_000_000_000_000;
 
-/// Lengths of coordinates: the pm of a step, and the greatest number that is neither too long nor too far.
+/// The pm of one step of a coordinate, and the greatest coordinate that is neither too long nor too far.
 #[derive(Clone, Copy)]
 pub(crate) struct Lengths {
     pub(crate) place: u64,
@@ -40,14 +40,14 @@ impl Lengths {
         })
     }
 
-    /// Whether a number is neither too long nor too far.
+    /// Whether a coordinate is neither too long nor too far.
     pub(crate) fn has(&self, n: i64) -> bool
         ensures { result ≡ nat_le (unsigned_abs n) self.now.most }
     {
         n.unsigned_abs() <= self.most
     }
 
-    /// The same of a number where one is named.
+    /// Whether a coordinate is neither too long nor too far, if there is one.
     pub(crate) fn has_named(&self, named: Option<i64>) -> bool
         ensures { result ≡ is_within self.now.most named }
     {
@@ -57,7 +57,7 @@ impl Lengths {
         }
     }
 
-    /// The point of two such numbers.
+    /// The point of two coordinates that are neither too long nor too far.
     pub(crate) fn point(&self, x: i64, y: i64) -> Point
         requires x { unsigned_abs x ≤ self.now.most }
         requires y { unsigned_abs y ≤ self.now.most }
@@ -66,7 +66,7 @@ impl Lengths {
         Point::new(self.length(x), self.length(y)).unwrap()
     }
 
-    /// The length of such a number, in pm.
+    /// The length of such a coordinate, in pm.
     fn length(&self, n: i64) -> i64
         requires { unsigned_abs n ≤ self.now.most }
         ensures value { result ≡ n *ℤ pos self.now.place }
@@ -76,7 +76,7 @@ impl Lengths {
     }
 }
 
-/// The greatest number of so many digits and of at most 10 m.
+/// The greatest number with at most so many digits that is no longer than 10 m, each step being `place` pm.
 fn greatest(place: u64, digits: u16) -> u64
     requires some { 0 < place }
     requires few { digits ≤ 12 }
@@ -86,8 +86,8 @@ fn greatest(place: u64, digits: u16) -> u64
     (MAX_LENGTH / place).min(power_of_ten(digits as u8) - 1)
 }
 
-/// What is in force for most operations: the lengths of coordinates where they are known, and what a flash leaves at
-/// the origin where it stands alone and is near.
+/// What most operations need: the lengths of coordinates, where they are known, and what a flash leaves at the
+/// origin, where it has no copies and is not too large.
 #[derive(Clone, Copy)]
 pub(crate) struct FastPath {
     pub(crate) ready: bool,
@@ -100,7 +100,7 @@ impl FastPath {
     ghost use Rattle.layer_image.specs.Inner.Knows.{told};
     ghost use Rattle.layer_image.specs.Inner.InForce.{IsFastPath};
 
-    /// What is in force after the commands that a judge has taken in.
+    /// What most operations need after the commands that a judge has taken in.
     pub(crate) fn of(judge: &Judge) -> FastPath
         ensures { IsFastPath result (told judge.now) }
     {

@@ -1,4 +1,4 @@
-//! The judge: meets the commands of a list one by one, and says at the first that breaks a rule which rule it breaks.
+//! The judge: it meets the commands of a list one by one, and names the first rule that one of them breaks.
 
 ghost use Rattle.std.specs.Prelude.{◌≡◌, ◌+◌, ◌<◌, ◌≤◌, ◌*◌, [], ◌∷◌, List, nat_lt, Option, ℤ, IfErr, OnOk, None, pos, length, true, false};
 ghost use Rattle.std.specs.Option.{option_map_or};
@@ -24,7 +24,7 @@ use gerber_rows::{Action, Block, Command, Format, Template};
 use grid_units::{Dec, Reason, Stop, Unit};
 use std::alloc::{AllocError, Global};
 
-/// What the commands so far say to the next one, and the flashes that they made.
+/// The state that the commands so far make, and their flashes.
 #[derive(Drop)]
 pub(crate) struct Judge {
     alloc: Global,
@@ -77,7 +77,7 @@ impl Judge {
         Ok(())
     }
 
-    /// What is kept of the flashes of the commands that the judge has taken in.
+    /// What is kept of the flashes of the commands that were taken in.
     pub(crate) fn into_flashes(self) -> Flashes
         ensures { result ≡ self.flashes }
     {
@@ -114,7 +114,7 @@ impl Judge {
         Ok(())
     }
 
-    /// Takes in an aperture.
+    /// Takes in the definition of an aperture.
     fn define(&mut self, number: u32, template: &Template) -> Result<(), AllocError>
         requires { is_badly_sized template.now ≡ false }
         ensures { OnOk result (Takes self.old (command.Define number template.now) self.new) }
@@ -155,7 +155,7 @@ impl Judge {
         }
     }
 
-    /// Takes in an operation.
+    /// Takes in an operation: its flashes, and then its point.
     fn operate(&mut self, action: Action, x: Option<i64>, y: Option<i64>) -> Result<(), AllocError>
         requires near { is_flash action ≡ true → flashes_too_far (told self.old) x y ≡ false }
         requires few { is_flash action ≡ true → nat_lt max_flashes (flash_count self.old.flashes + length (copies_at (told self.old) x y)) ≡ false }
@@ -193,7 +193,7 @@ impl Judge {
     }
 }
 
-/// A decimal without a fraction.
+/// A whole number as a decimal.
 fn decimal(whole: u8) -> Dec
     ensures { result ≡ pos (whole * 100000000) }
 {

@@ -54,14 +54,14 @@ impl Layer {
         &self.pads
     }
 
-    /// The pads alone, in order, which takes no memory.
+    /// The flashes that are pads, in order, moved out of the layer. This takes no memory.
     pub fn into_pads(self) -> Vec<Pad>
         ensures { result.items ≡ self.pads }
     {
         self.pads
     }
 
-    /// The text behind `.FileFunction,` in the last file attribute or comment that names it.
+    /// What follows `.FileFunction,` in the last file attribute or comment that names it, such as `Copper,L1,Top`.
     pub fn file_function(&self) -> Option<&[u8]>
         ensures { option_copied result ≡ self.now.file_function }
     {
@@ -72,12 +72,11 @@ impl Layer {
     }
 }
 
-/// The layer of a text.
+/// Reads the text of a layer.
 ///
 /// # Errors
 ///
-/// The first fault of the text: of its items or of the rules, whichever stands first; `Memory` where an
-/// allocation failed.
+/// The first fault of the text: of its items or of the rules, whichever comes first; `Memory` where an allocation failed.
 pub fn read_layer(alloc: Global, bytes: &[u8]) -> Result<Layer, Fail>
     ensures { Answers (λ layer. layer) (λ answer. ReadsLayer bytes.now answer) result }
 {
@@ -86,7 +85,7 @@ pub fn read_layer(alloc: Global, bytes: &[u8]) -> Result<Layer, Fail>
     reader.finish()
 }
 
-/// The layer of legal commands, what is kept of their flashes, and their file function.
+/// A layer of legal commands, what is kept of their flashes, and their file function.
 pub(crate) fn layer_of(
     commands: Vec<Placed<Command>>,
     flashes: Flashes,

@@ -1,4 +1,4 @@
-//! Lengths and numbers of a layer.
+//! Lengths of a layer, and the digits of its coordinates.
 
 ghost use Rattle.std.specs.Prelude.{◌≡◌, ◌≤◌, ◌^◌, ◌/◌, pos, unsigned_abs, nat_le};
 ghost use Rattle.grid_units.specs.Numbers.{picometres, unit_length};
@@ -15,7 +15,7 @@ pub(crate) fn coordinate(n: i64, decimals: u8, unit: Unit) -> i128
     i128::from(n) * i128::from(place_length(decimals, unit))
 }
 
-/// The whole pm of a decimal place. It is looked up, since a division would be most of the time of a coordinate.
+/// The pm of one step of a coordinate, rounded down. It is looked up: a division would take most of the time of a coordinate.
 pub(crate) fn place_length(decimals: u8, unit: Unit) -> u64
     ensures value { result ≡ unit_length unit / 10 ^ decimals }
     ensures small { result ≤ 25400000000 }
@@ -65,7 +65,7 @@ fn millimetre_place(decimals: u8) -> u64
     }
 }
 
-/// A length of 10^-8 of a unit, in pm.
+/// A length in units of 10^-8 inch or mm, in pm.
 pub(crate) fn fine_length(length: Dec, unit: Unit) -> i128
     ensures value { result ≡ fine_length unit length }
     ensures bound { unsigned_abs result ≤ 2 ^ 71 }

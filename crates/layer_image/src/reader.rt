@@ -14,8 +14,7 @@ use grid_units::{Fail, Text};
 use pad_shapes::Pad;
 use std::alloc::{AllocError, Global};
 
-/// The one body of the readers of a layer: it judges the commands piece by piece and lets go of them, or keeps
-/// them where they are to be kept.
+/// What all readers of a layer share. It judges the commands piece by piece, and drops them unless they are to be kept.
 #[derive(Drop)]
 pub(crate) struct Core {
     alloc: Global,
@@ -47,7 +46,7 @@ impl Core {
         }
     }
 
-    /// Takes the next piece of the text. A reader that has failed gives its failure again.
+    /// Takes the next piece of the text. A reader that has failed returns its failure again.
     pub(crate) fn feed(&mut self, piece: &[u8]) -> Result<(), Fail>
         ensures ok { OnOk result (CoreAdvances self.old self.new piece.now) }
         ensures err { (text : List ℕ) → CoreStands self.old text → IfErr result (Tells (ShowsLayerFault (text ++ piece.now))) }
@@ -65,8 +64,7 @@ impl Core {
         outcome
     }
 
-    /// Takes the next piece of the text: judges the commands of the items that it ends, and keeps them or lets
-    /// go of them.
+    /// Takes the next piece of the text: judges the commands of the items that it ends, then keeps or drops them.
     fn advance(&mut self, piece: &[u8]) -> Result<(), Fail>
         ensures ok { OnOk result (CoreAdvances self.old self.new piece.now) }
         ensures err { (text : List ℕ) → CoreStands self.old text → IfErr result (Tells (ShowsLayerFault (text ++ piece.now))) }
@@ -79,7 +77,7 @@ impl Core {
         Ok(())
     }
 
-    /// Takes the commands that the word reader holds, or lets go of them.
+    /// Keeps the commands that the word reader holds, or drops them.
     fn keep_commands(&mut self) -> Result<(), AllocError>
         ensures words { (gone : Entries) (text : List ℕ) → StandsBehind self.old.words gone text → StandsBehind self.new.words (gone ++ held self.old.words) text }
         ensures none { held self.new.words ≡ [] }
@@ -96,7 +94,7 @@ impl Core {
         push_all(&mut self.kept, commands)
     }
 
-    /// What the reader has failed with, if it has.
+    /// The failure of the reader, if it has failed.
     fn outcome(&self) -> Result<(), Fail>
         ensures sound { self.now.failed ≡ None → IsOk result }
         ensures failed { IfSome self.now.failed (λ e. result ≡ Err e) }
@@ -107,7 +105,7 @@ impl Core {
         }
     }
 
-    /// What was met and what was kept, if the text has ended. A reader that has failed gives its failure again.
+    /// What the scan has met and what was kept, if the text has ended. A reader that has failed returns its failure again.
     fn end(self) -> Result<(Scan, Vec<Placed<Command>>), Fail>
         ensures exact { (text : List ℕ) → CoreStands self text → CoreEnds text self.keep result }
         ensures failed { IfSome self.failed (λ e. result ≡ Err e) }
@@ -118,7 +116,7 @@ impl Core {
     }
 }
 
-/// Adds commands to those that are kept, which takes no memory where there are none.
+/// Adds commands to those that are kept. This takes no memory where there are none so far.
 fn push_all(
     kept: &mut Vec<Placed<Command>>,
     commands: Vec<Placed<Command>>,
@@ -135,8 +133,7 @@ fn push_all(
     Ok(())
 }
 
-/// A reader of a layer that comes in pieces. It keeps what the layer will hold, one forward state and the
-/// unfinished item, and not the text.
+/// A reader of a layer that comes in pieces. It keeps what the layer will hold, the state and the unfinished item, and not the text.
 #[derive(Drop)]
 pub struct LayerReader {
     core: Core,
@@ -160,8 +157,8 @@ impl LayerReader {
     ///
     /// # Errors
     ///
-    /// The first fault that the text shows so far, whatever follows; `Memory` where an allocation failed. A
-    /// reader that has failed gives its failure again.
+    /// The first fault that the text shows so far, whatever follows; `Memory` where an allocation failed. A reader
+    /// that has failed returns its failure again.
     pub fn feed(&mut self, piece: &[u8]) -> Result<(), Fail>
         ensures ok { (text : List ℕ) → LayerStandsAfter self.old text → OnOk result (LayerStandsAfter self.new (text ++ piece.now)) }
         ensures err { (text : List ℕ) → LayerStandsAfter self.old text → IfErr result (Tells (ShowsLayerFault (text ++ piece.now))) }
@@ -171,12 +168,11 @@ impl LayerReader {
         self.core.feed(piece)
     }
 
-    /// The layer of the text.
+    /// Ends the text, and returns its layer.
     ///
     /// # Errors
     ///
-    /// The first fault of the text; `Memory` where an allocation failed. A reader that has failed gives its
-    /// failure again.
+    /// The first fault of the text; `Memory` where an allocation failed. A reader that has failed returns its failure again.
     pub fn finish(self) -> Result<Layer, Fail>
         ensures exact { (text : List ℕ) → LayerStandsAfter self text → Answers (λ layer. layer) (λ answer. ReadsLayer text answer) result }
         ensures failed { IfSome (layer_failure self) (λ e. result ≡ Err e) }
@@ -221,8 +217,8 @@ impl FlashReader {
     ///
     /// # Errors
     ///
-    /// The first fault that the text shows so far, whatever follows; `Memory` where an allocation failed. A
-    /// reader that has failed gives its failure again.
+    /// The first fault that the text shows so far, whatever follows; `Memory` where an allocation failed. A reader
+    /// that has failed returns its failure again.
     pub fn feed(&mut self, piece: &[u8]) -> Result<(), Fail>
         ensures ok { (text : List ℕ) → FlashesStandAfter self.old text → OnOk result (FlashesStandAfter self.new (text ++ piece.now)) }
         ensures err { (text : List ℕ) → FlashesStandAfter self.old text → IfErr result (Tells (ShowsLayerFault (text ++ piece.now))) }
@@ -236,8 +232,7 @@ impl FlashReader {
     ///
     /// # Errors
     ///
-    /// The first fault of the text; `Memory` where an allocation failed. A reader that has failed gives its
-    /// failure again.
+    /// The first fault of the text; `Memory` where an allocation failed. A reader that has failed returns its failure again.
     pub fn finish(self) -> Result<Vec<Flash>, Fail>
         ensures exact { (text : List ℕ) → FlashesStandAfter self text → Answers (λ flashes. flashes.items) (ReadsFlashes text) result }
         ensures failed { IfSome (flash_failure self) (λ e. result ≡ Err e) }
@@ -247,7 +242,7 @@ impl FlashReader {
         Ok(judge.into_flashes().all)
     }
 
-    /// The flashes of the layer of the text, as [`FlashReader::finish`] gives them, with what else a package needs of it.
+    /// The flashes of the layer of the text, in order, with how many of them are no pads and its file function.
     ///
     /// # Errors
     ///
@@ -270,7 +265,7 @@ impl FlashReader {
     }
 }
 
-/// What a package needs of a layer: its pads, how many flashes are no pads, and its file function.
+/// What a check needs of a layer: its pads in order, how many flashes are no pads, and its file function.
 #[derive(Drop)]
 pub struct LayerSum {
     pub pads: Vec<Pad>,
@@ -278,7 +273,7 @@ pub struct LayerSum {
     pub file_function: Option<Text>,
 }
 
-/// A reader of a layer that comes in pieces, for a package. It keeps no commands.
+/// A reader of a layer that comes in pieces, for its pads. It keeps neither commands nor other flashes.
 #[derive(Drop)]
 pub struct SumReader {
     core: Core,
@@ -297,7 +292,7 @@ impl SumReader {
         }
     }
 
-    /// Takes the next piece of the text. A reader that has failed gives its failure again.
+    /// Takes the next piece of the text. A reader that has failed returns its failure again.
     pub fn feed(&mut self, piece: &[u8]) -> Result<(), Fail>
         ensures ok { (text : List ℕ) → SumStandsAfter self.old text → OnOk result (SumStandsAfter self.new (text ++ piece.now)) }
         ensures err { (text : List ℕ) → SumStandsAfter self.old text → IfErr result (Tells (ShowsLayerFault (text ++ piece.now))) }
@@ -307,7 +302,7 @@ impl SumReader {
         self.core.feed(piece)
     }
 
-    /// What a package needs of the layer of the text.
+    /// The pads of the layer of the text, with how many flashes are no pads and its file function.
     pub fn finish(self) -> Result<LayerSum, Fail>
         ensures exact { (text : List ℕ) → SumStandsAfter self text → Answers sum_view (ReadsSum text) result }
         ensures failed { IfSome (sum_failure self) (λ e. result ≡ Err e) }

@@ -16,11 +16,11 @@ use crate::length::{coordinate, is_long};
 use gerber_rows::{Action, Block, Command, Format, Template};
 use grid_units::{Dec, Reason, Unit, is_far};
 
-/// The most flashes of a layer, copies counted.
+/// The most flashes of a layer, of every kind, copies counted.
 const MAX_FLASHES: u128 = 4_194_304;
 
 impl Judge {
-    /// The first rule that a command breaks.
+    /// The first rule that a command breaks, if any.
     #[tactic(auto, unfolding(crate::specs::Rules::first_broken))]
     pub(crate) fn broken_rule(&self, command: &Command) -> Option<Reason>
         ensures { result ≡ first_broken (told self.now) (flash_count self.now.flashes) command.now }
@@ -212,7 +212,7 @@ fn is_not_positive(scale: Dec) -> bool
     scale.units() <= 0
 }
 
-/// Whether the command may stand between a start and an end of a region.
+/// Whether a command may stand in a region.
 fn may_stand_in_region(command: &Command) -> bool
     ensures { result ≡ may_stand_in_region command.now }
 {
@@ -223,7 +223,7 @@ fn may_stand_in_region(command: &Command) -> bool
     }
 }
 
-/// Whether an operation is a flash.
+/// Whether an operation is a flash (`D03`).
 pub(crate) fn is_flash(action: Action) -> bool
     ensures { result ≡ is_flash action }
 {

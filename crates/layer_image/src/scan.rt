@@ -1,4 +1,4 @@
-//! A scan over commands: each is judged and then let go, and what a layer says is kept.
+//! A scan over commands: each is judged and then dropped, and what the layer is made of is kept.
 
 ghost use Rattle.std.specs.Prelude.{◌≡◌, ◌++◌, ◌∷◌, [], List, OnOk, IfErr};
 ghost use Rattle.grid_units.specs.Results.{Tells};
@@ -16,7 +16,7 @@ use gerber_text::Placed;
 use grid_units::{Fail, Fault, Stop, Text};
 use std::alloc::{AllocError, Global};
 
-/// What the commands so far say of the layer.
+/// A judge and the last file function, after the commands so far.
 #[derive(Drop)]
 pub(crate) struct Scan {
     pub(crate) judge: FastJudge,
@@ -36,7 +36,7 @@ impl Scan {
         }
     }
 
-    /// Meets commands, in order.
+    /// Judges commands in order and takes them in.
     ///
     /// # Errors
     ///
@@ -54,7 +54,7 @@ impl Scan {
         Ok(())
     }
 
-    /// Meets one more command.
+    /// Judges one more command and takes it in.
     fn meet(&mut self, alloc: Global, command: &Command) -> Result<(), Stop>
         ensures { (keep : TheKeep) (before : List Command) → Met self.old keep before → Meets keep before command.now self.new result }
     {
@@ -63,7 +63,7 @@ impl Scan {
         Ok(())
     }
 
-    /// Takes in the file function, where the command names one.
+    /// Keeps the file function, where the command names one.
     fn name(&mut self, alloc: Global, command: &Command) -> Result<(), AllocError>
         ensures same { self.new.judge ≡ self.old.judge }
         ensures named { (before : List Command) → self.old.file_function ≡ file_function_of before → OnOk result (self.new.file_function ≡ file_function_of (before ++ command.now ∷ [])) }
@@ -75,7 +75,7 @@ impl Scan {
     }
 }
 
-/// A stop at a place and a byte.
+/// A stop of the judge as a failure at the place and the byte of an item.
 fn fail_at(place: u64, byte: u64, stop: Stop) -> Fail
     ensures { result ≡ fail_at place byte stop }
 {

@@ -8,7 +8,7 @@ ghost use Rattle.layer_image.specs.Numbers.{fine_length, half_length};
 use grid_units::{Dec, Unit};
 use std::marker::Model;
 
-/// The diameter of a disc, not below 0. Contracts see it in units of 10^-8.
+/// The diameter of a disc, 0 or more. Contracts see it in units of 10^-8 inch or mm.
 #[derive(Clone, Copy)]
 pub struct Diameter {
     size: Dec,
@@ -39,14 +39,14 @@ impl Diameter {
         }
     }
 
-    /// The size.
+    /// The size, in units of 10^-8 inch or mm.
     pub fn size(self) -> Dec
         ensures { result ≡ self }
     {
         self.size
     }
 
-    /// The radius in pm.
+    /// The radius, in pm.
     pub fn half(self, unit: Unit) -> i64
         requires { is_far (fine_length unit self) ≡ false }
         ensures value { result ≡ half_length unit self }
@@ -59,7 +59,7 @@ impl Diameter {
     }
 }
 
-/// A side of a rectangle or an obround, above 0. Contracts see it in units of 10^-8.
+/// A side of a rectangle or an obround, above 0. Contracts see it in units of 10^-8 inch or mm.
 #[derive(Clone, Copy)]
 pub struct Side {
     size: Dec,
@@ -90,14 +90,14 @@ impl Side {
         }
     }
 
-    /// The size.
+    /// The size, in units of 10^-8 inch or mm.
     pub fn size(self) -> Dec
         ensures { result ≡ self }
     {
         self.size
     }
 
-    /// Half of it in pm.
+    /// Half of the side, in pm.
     pub fn half(self, unit: Unit) -> i64
         requires { is_far (fine_length unit self) ≡ false }
         ensures value { result ≡ half_length unit self }

@@ -1,4 +1,4 @@
-//! Tables of what a file defines. They are ordered, so that no choice of numbers or names makes them slow.
+//! Tables of what a file defines. They are ordered, so no choice of numbers or names makes them slow.
 
 ghost use Rattle.std.specs.Prelude.{◌≡◌, ◌||◌, ◌==◌, ℕ, List, None, Some, nat_eq, is_some, OnOk, if◌then◌else◌, false};
 ghost use Rattle.std.specs.Option.{option_or};
@@ -27,7 +27,7 @@ impl Apertures {
         }
     }
 
-    /// The aperture of a number.
+    /// The aperture of a number, if it has one.
     pub(crate) fn get(&self, number: u32) -> Option<Aperture>
         ensures { result ≡ aperture_at self.now number }
     {
@@ -41,7 +41,7 @@ impl Apertures {
         self.table.contains_key(&number)
     }
 
-    /// Gives a number an aperture.
+    /// Gives a number its aperture.
     pub(crate) fn insert(&mut self, number: u32, aperture: Aperture) -> Result<(), AllocError>
         ensures { OnOk result ((other : ℕ) → aperture_at self.new other ≡ option_or (if other == number then Some aperture else None) (aperture_at self.old other)) }
     {
@@ -50,7 +50,7 @@ impl Apertures {
     }
 }
 
-/// Names, such as those of macros.
+/// A set of names, such as those of macros.
 #[derive(Drop)]
 pub(crate) struct Names {
     table: BTreeSet<Vec<u8>>,
@@ -68,14 +68,14 @@ impl Names {
         }
     }
 
-    /// Whether this is one of the names.
+    /// Whether the set has a name.
     pub(crate) fn has(&self, name: &Text) -> bool
         ensures { result ≡ has_name self.now name.now }
     {
         self.table.contains(name.bytes())
     }
 
-    /// Adds a copy of a name.
+    /// Adds a copy of a name to the set.
     pub(crate) fn insert(&mut self, alloc: Global, name: &Text) -> Result<(), AllocError>
         ensures { OnOk result ((other : List ℕ) → has_name self.new other ≡ (pointwise nat_eq name.now other || has_name self.old other)) }
     {

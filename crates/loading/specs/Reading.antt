@@ -1,4 +1,4 @@
--- What is read of a reader that tells its bytes.
+-- What reading all bytes of a reader answers.
 use Rattle.std.specs.Prelude.{◌≡◌, ◌<◌, ◌≤◌, ℕ, List, length, Option, Some, None, Result, Ok, Err, Vec}
 use Rattle.std.specs.declared.alloc.Global.{Global}
 use Rattle.loading.specs.declared.reading.ReadFail.{ReadFail}
@@ -8,8 +8,8 @@ use Rattle.loading.specs.declared.reading.ReadFail.TheVariants.{ReadFault, TooLo
 abbrev pub max_limit : ℕ
 max_limit = 268435456
 
--- All that was left, where it is within the limit, or that it is more. Of a reader that tells nothing of its bytes only their
--- number is known (docs/DEFINITIONS.md, Reading).
+-- The bytes read are all that the reader had left, and within the limit; TooLong means that more than the limit were left. Of a
+-- reader whose contracts do not name its bytes, only this is said: no more bytes are read than the limit.
 abbrev pub ReadsAll : Option (List ℕ) → ℕ → Result (Vec ℕ Global) ReadFail → Type 0
 ReadsAll None limit (Ok v) = length v.items ≤ limit
 ReadsAll None limit (Err e) = Unit {0}

@@ -1,4 +1,4 @@
-//! Where the bytes of files come from.
+//! Where the bytes of files come from: all bytes of a reader within a limit, and the trait of a loader of files.
 #![tactic(auto)]
 
 mod loader;

@@ -1,4 +1,4 @@
-//! What gives the bytes of files by their names.
+//! The trait of a loader, which gives the bytes of files by their names.
 
 ghost use Rattle.std.specs.Prelude.{◌≡◌, ◌<◌, ◌≤◌, ◌⊎◌, ◌↔◌, ◌-◌, ◌^◌, ℕ, List, IfOk, IfErr, length};
 
@@ -19,7 +19,7 @@ pub enum LoadFault {
     Memory,
 }
 
-/// Gives the bytes of files by their names. What a name may stand for is one relation, which no call changes.
+/// Gives the bytes of files by their names. Which bytes a name may stand for is one relation, which no call changes.
 pub trait Loader {
     /// The bytes that a name may stand for.
     ghost has: { Self → List ℕ → List ℕ → Type 0 };
@@ -27,12 +27,12 @@ pub trait Loader {
     /// How many loads have failed so far.
     ghost failed: { Self → ℕ };
 
-    /// The bytes of a file, if they are not more than `limit`.
+    /// All bytes of a file, if there are at most `limit`.
     ///
     /// # Errors
     ///
     /// [`LoadFault::Device`] where the file cannot be read, which is then counted as a failure; [`LoadFault::TooLong`] where it
-    /// has more than `limit` bytes; [`LoadFault::Memory`].
+    /// has more than `limit` bytes; [`LoadFault::Memory`] where there is no memory.
     fn load(&mut self, alloc: Global, name: &str, limit: u64) -> Result<Vec<u8>, LoadFault>
         ensures keeps { (n b : List ℕ) → has self.new n b ↔ has self.old n b }
         ensures gives { IfOk result (λ v. has self.old name.now v.items × (length v.items ≤ limit)) }

@@ -11,7 +11,7 @@ use std::alloc::{AllocError, Global};
 use std::io::Read;
 use thiserror::Error;
 
-/// Why the bytes of a reader are not to be had.
+/// Why the bytes of a reader were not read.
 #[derive(Clone, Copy, Debug, PartialEq, Eq, Error)]
 pub enum ReadFail {
     /// A read failed, or too many of them gave nothing.
@@ -36,10 +36,10 @@ impl From<AllocError> for ReadFail {
 /// The greatest limit of [`read_all`], in bytes.
 pub const MAX_LIMIT: u64 = 268_435_456;
 
-/// How many reads may come on top of one for each byte.
+/// How many more reads may be made than the limit has bytes.
 const SPARE_READS: u64 = 65_536;
 
-/// How many bytes are asked for at once. The block for them is no local, as a stack may be as small as that.
+/// How many bytes one read asks for. The block for them is no local, as a stack may be as small as that.
 const BLOCK: usize = 65_536;
 
 /// All that a reader has left, if that is not more than `limit` bytes; a limit is at most [`MAX_LIMIT`]. A read that was
@@ -48,7 +48,7 @@ const BLOCK: usize = 65_536;
 /// # Errors
 ///
 /// [`ReadFail::TooLong`] where more than `limit` bytes come; [`ReadFail::ReadFault`] where a read fails, or has been called
-/// `limit + 65,536` times; [`ReadFail::Memory`].
+/// `limit + 65,536` times; [`ReadFail::Memory`] where there is no memory.
 pub fn read_all<R: Read>(alloc: Global, reader: &mut R, limit: u64) -> Result<Vec<u8>, ReadFail>
     requires limit { limit ≤ max_limit }
     ensures exact { ReadsAll (R.remaining reader.old) limit result }
@@ -59,14 +59,14 @@ pub fn read_all<R: Read>(alloc: Global, reader: &mut R, limit: u64) -> Result<Ve
     read_by(alloc, reader, &mut reads, block.as_mut_slice(), limit)
 }
 
-/// So many zeros.
+/// A block of so many zeros.
 fn zeros(alloc: Global, count: usize) -> Result<Vec<u8>, AllocError>
     ensures { IfOk result (λ v. vec_len v ≡ count) }
 {
     vec![in alloc; 0u8; count]
 }
 
-/// All that a reader has left, as `read_all` says, where each read is into a block and is counted.
+/// All that a reader has left, as `read_all` says; each read fills the block and is counted.
 fn read_by<R: Read>(
     alloc: Global,
     reader: &mut R,
@@ -94,7 +94,7 @@ fn read_by<R: Read>(
     Err(ReadFail::ReadFault)
 }
 
-/// Appends bytes, if the limit lets them in.
+/// Appends bytes, if the limit has room for them.
 fn append(bytes: &mut Vec<u8>, more: &[u8], limit: u64) -> Result<(), ReadFail>
     requires { vec_len bytes.old ≤ limit }
     ensures ok { OnOk result ((bytes.new.items ≡ bytes.old.items ++ more.now) × (vec_len bytes.new ≤ limit)) }
@@ -109,7 +109,7 @@ fn append(bytes: &mut Vec<u8>, more: &[u8], limit: u64) -> Result<(), ReadFail>
     Ok(())
 }
 
-/// Room for so many more bytes, and where the vector has to grow for them, by a sixteenth at least: so it holds little more
+/// Makes room for so many more bytes. A vector that has to grow does so by a sixteenth at least: so it holds little more
 /// than its bytes, and is seldom moved.
 fn make_room(bytes: &mut Vec<u8>, count: usize) -> Result<(), AllocError>
     ensures items { bytes.new.items ≡ bytes.old.items }

@@ -1,4 +1,4 @@
-//! Reads that are counted.
+//! Counted reads, and whether one of them failed.
 
 ghost use Rattle.std.specs.Prelude.{◌≡◌, ◌<◌, ◌+◌, ◌-◌, ◌^◌, true, false, OnOk, IfErr, length};
 ghost use Rattle.loading.specs.Inner.{Gives, IsUnread};
@@ -31,8 +31,8 @@ impl Reads {
         self.made
     }
 
-    /// Reads once more, and counts it: how many bytes were given, or none where the read was interrupted. This body alone says what
-    /// is a failed read, as no clause of `Read` speaks of failures.
+    /// Reads once more, counts the read, and returns how many bytes it gave; `None` means that it was interrupted. Only this
+    /// body says what a failed read is, as no clause of `Read` mentions failures.
     pub(crate) fn read<R: Read>(
         &mut self,
         reader: &mut R,

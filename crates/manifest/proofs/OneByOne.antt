@@ -28,13 +28,13 @@ accepted width repeated row entry place e = by (broken_rule width repeated row) 
     by (Some why) h = absurd cc
 
 module _ {A : Type 0} (f : A → Row) where
-  -- the records before, one more
+  -- the records before, and one more
   pub one_more : (xs : List A) (i : ℕ) (x : A) → i < length xs → x ≡ get_or xs i x → map f (take (i + 1) xs) ≡ map f (take i xs) ++ f x ∷ []
   one_more [] i x lt e = absurd (omega arith)
   one_more (y ∷ ys) zero x lt e = rw (← e) refl
   one_more (y ∷ ys) (suc i) x lt e = let n : suc i + 1 ≡ suc (i + 1) = omega arith in rw n (ap (λ rows. f y ∷ rows) (one_more ys i x (omega arith) e))
 
-  -- all records, about one of them
+  -- all records, around one of them
   pub about : (xs : List A) (i : ℕ) (x : A) → i < length xs → x ≡ get_or xs i x → map f xs ≡ map f (take i xs) ++ f x ∷ map f (drop (i + 1) xs)
   about [] i x lt e = absurd (omega arith)
   about (y ∷ ys) zero x lt e = rw (← e) refl
@@ -60,7 +60,7 @@ module _ (width : ℕ) where
       ap (λ (o : Option (ℕ × Reason)). unless_wrong (option_or o (wrong_together (map entry_of (before ++ row ∷ rest)))) (map entry_of (before ++ row ∷ rest)))
       (breaks-first (broken_behind width) before rest row why none is)
 
-  -- a record that is refused behind lawful ones, as a failure
+  -- a record that is refused after lawful ones, as a failure
   pub refused : (before rest : List Row) (row : Row) (all : List Row) (repeated : Bool) (i : ℕ) (e : Fail) → all ≡ before ++ row ∷ rest → i ≡ length before → repeated ≡ is_repeated (field 1 row) (map entry_of before)
       → breaks (broken_behind width) before ≡ [] → Answers (λ (x : Entry). x) (λ answer. answer ≡ at (i + 2) 0 (judged width repeated row)) (Err e)
       → Answers {T = Vec Entry Global} (λ entries. entries.items) (λ answer. answer ≡ entries_of width all) (Err e)
@@ -70,7 +70,7 @@ module _ (width : ℕ) where
       let rule : broken_behind width before row ≡ Some why = ap (λ (b : Bool). broken_rule width b row) (sym was) ∙ is in
       ap (λ (g : Fault). Err g) (same ∙ ap (λ (n : ℕ). fault (n + 2) 0 why) place) ∙ sym (refused_at before rest row why none rule) ∙ ap (entries_of width) (sym split)
 
-  -- a record that is accepted behind lawful ones
+  -- a record that is accepted after lawful ones
   pub accepted_more : (before : List Row) (row : Row) (after : List Row) (repeated : Bool) (earlier items : List Entry) (entry : Entry) (place : ℕ) → after ≡ before ++ row ∷ [] → repeated ≡ is_repeated (field 1 row) (map entry_of before)
       → earlier ≡ map entry_of before → items ≡ earlier ++ entry ∷ [] → breaks (broken_behind width) before ≡ [] → Ok entry ≡ at place 0 (judged width repeated row)
       → (items ≡ map entry_of after) × (breaks (broken_behind width) after ≡ [])

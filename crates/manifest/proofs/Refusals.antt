@@ -17,7 +17,7 @@ module _ (fair : Reason → Bool) where
   Fair None = Unit {0}
   Fair (Some why) = fair why ≡ true
 
-  -- the same of a reason with its place
+  -- no reason with its place, or one that passes
   unfoldable pub FairAt : Option (ℕ × Reason) → Type 0
   FairAt None = Unit {0}
   FairAt (Some wrong) = fair wrong.1 ≡ true

@@ -17,7 +17,7 @@ layer_number_is text n digits short e =
     let fits : is_layer_number text ≡ true = rw (digits, le-leb (length text) 9 short) refl in
     ap (λ (k : ℕ). Some k) same ∙ sym (rw fits refl)
 
--- a span that is refused is a bad one
+-- a span is refused where `is_bad_span` says so
 pub bad_span : (role : Role) (first last : List ℕ) (why : Reason) → Err why ≡ span_of role first last → is_bad_span role first last ≡ true
 bad_span role first last why e = by (is_bad_span role first last) e
   where

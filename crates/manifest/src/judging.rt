@@ -31,7 +31,7 @@ pub(crate) fn manifest_of(alloc: Global, rows: &[ByteRecord]) -> Result<Vec<Entr
     entries_of(alloc, width, files)
 }
 
-/// The files that the records behind the first one name, where each has so many fields.
+/// The files that the records after the first one name; each record needs `width` fields.
 fn entries_of(alloc: Global, width: usize, files: &[ByteRecord]) -> Result<Vec<Entry>, Fail>
     requires { width ≤ 5 }
     ensures { Answers (λ entries. entries.items) (λ answer. answer ≡ naming.entries_of width (map fields_of files.now)) result }
@@ -49,7 +49,7 @@ fn entries_of(alloc: Global, width: usize, files: &[ByteRecord]) -> Result<Vec<E
     }
 }
 
-/// The refusal of a record by its number.
+/// The refusal of the record of this number, from 1. Its byte is 0.
 fn refused(place: u64, reason: Reason) -> Fail
     ensures { result ≡ Fail.Refused (fault place 0 reason) }
 {
@@ -70,7 +70,7 @@ fn name_of(row: &ByteRecord) -> &[u8]
     }
 }
 
-/// The file that a record names, where a file before it has the same name or not.
+/// The file that a record names; `repeated` says whether an earlier file has its name.
 fn entry_named(
     alloc: Global,
     place: u64,
@@ -104,7 +104,7 @@ fn entry_named(
     })
 }
 
-/// The fields of a record, each of plain text. Those that it lacks are empty.
+/// The fields of a record, each of plain text. A field that it lacks is empty.
 #[derive(Clone, Copy)]
 struct Fields<'a> {
     role: &'a str,
@@ -159,7 +159,7 @@ fn names_spans(row: &ByteRecord) -> bool
     has_field(row, 3, "first") && has_field(row, 4, "last")
 }
 
-/// The role that a word names.
+/// The role that a word names: `copper`, `plated` or `unplated`.
 fn role_named(word: &str) -> Option<Role>
     ensures { result ≡ naming.role_named word.now }
 {
@@ -187,7 +187,7 @@ fn span_of(role: Role, first: &str, last: &str) -> Result<Option<Span>, Reason>
     }
 }
 
-/// The span whose layers have these numbers.
+/// The span of the layers with these numbers, if they are those of a span.
 fn numbered_span(first: &str, last: &str) -> Option<Span>
     ensures { result ≡ reading.numbered_span first.now last.now }
 {
@@ -229,7 +229,7 @@ fn missing_role(entries: &[Entry]) -> Option<Reason>
     None
 }
 
-/// What is wrong with the files together, at which place from 0.
+/// What is wrong with all files together, and at which place from 0.
 fn wrong_together(entries: &[Entry]) -> Option<(usize, Reason)>
     ensures { result ≡ naming.wrong_together entries.now }
 {
@@ -242,7 +242,7 @@ fn wrong_together(entries: &[Entry]) -> Option<(usize, Reason)>
     }
 }
 
-/// How many layers there are.
+/// How many of the files are copper layers.
 fn layers(entries: &[Entry]) -> usize
     ensures { result ≡ count_by naming.is_copper entries.now }
 {
@@ -259,7 +259,7 @@ fn ends_beyond(layers: usize, span: Option<Span>) -> bool
     }
 }
 
-/// The place of the first file whose span ends above the last copper layer.
+/// The place, from 0, of the first file whose span ends above the last copper layer.
 fn first_beyond(entries: &[Entry]) -> Option<usize>
     ensures { result ≡ naming.first_beyond entries.now }
 {

@@ -1,7 +1,8 @@
 //! The manifest of a package: its files, each with a role and a name.
 //!
 //! A manifest is CSV text. Its first record is `role,name,file`, or `role,name,file,first,last` in version 2. Each further record
-//! is one file of the package, in version 2 with the numbers of the first and the last layer that a drill file's holes go through.
+//! is one file of the package: `copper,top,top.gbr`. In version 2 it also has the numbers of the first and the last layer that a
+//! drill file's holes go through: `plated,vias,vias.drl,2,3`.
 #![tactic(auto)]
 
 ghost use Rattle.std.specs.Prelude.{◌≡◌};
@@ -18,7 +19,7 @@ use grid_units::{Fail, Span};
 pub use names::Name;
 use std::alloc::Global;
 
-/// What a file of a package is.
+/// What kind of file a file of a package is.
 #[derive(Clone, Copy, Debug, PartialEq, Eq)]
 pub enum Role {
     /// A copper layer, a Gerber file.
@@ -47,12 +48,13 @@ pub struct Entry {
 /// # Errors
 ///
 /// The first refusal, with the number of its record from 1 as the place, and 0 as the byte. In this order:
-/// [`Reason::BadManifest`] where the first record is neither `role,name,file` nor `role,name,file,first,last`, where there is
-/// none, or where a record has not as many fields as the first, each of UTF-8 without control bytes; [`Reason::BadRole`],
-/// [`Reason::EmptyName`], [`Reason::RepeatedName`]; [`Reason::BadSpan`] where not both fields of a span are empty, and the file
-/// is copper or the fields are not both one to nine digits with 1 ≤ first ≤ last; one place behind the last record
-/// [`Reason::NoCopper`] and [`Reason::NoDrill`]; and [`Reason::BadSpan`] at the first record whose span ends above the number of
-/// copper files. [`Fail::Memory`] where there is no memory.
+/// [`Reason::BadManifest`] where there is no record, or the first is neither `role,name,file` nor
+/// `role,name,file,first,last`; [`Reason::BadManifest`] where a record has another number of fields than the first, or one that
+/// is not UTF-8 without control bytes; [`Reason::BadRole`], [`Reason::EmptyName`], [`Reason::RepeatedName`];
+/// [`Reason::BadSpan`] where a copper file names a span, or the fields of a span are neither both empty nor both one to nine
+/// digits with 1 ≤ first ≤ last; one place after the last record [`Reason::NoCopper`] and [`Reason::NoDrill`]; and
+/// [`Reason::BadSpan`] at the first record whose span ends above the number of copper files. [`Fail::Memory`] where memory
+/// runs out.
 ///
 /// [`Reason::BadManifest`]: grid_units::Reason::BadManifest
 /// [`Reason::BadRole`]: grid_units::Reason::BadRole

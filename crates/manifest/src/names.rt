@@ -1,11 +1,11 @@
-//! Names that a manifest gives, which contracts see as the list of their bytes.
+//! The names in a manifest.
 
 ghost use Rattle.std.specs.Prelude.{◌≡◌, IfOk, ℕ, List, string_bytes};
 
 use std::alloc::{AllocError, Global};
 use std::marker::Model;
 
-/// A name that a manifest gives, of a file in reports or of the file as it is loaded. Contracts see the list of its bytes.
+/// A name in a manifest: what reports call a file, or the name by which it is loaded. Contracts see the list of its bytes.
 #[derive(Debug, Drop)]
 pub struct Name {
     held: String,
@@ -18,11 +18,11 @@ impl Model for Name {
 }
 
 impl Name {
-    /// A copy of a text.
+    /// A name with a copy of this text.
     ///
     /// # Errors
     ///
-    /// An `AllocError` where there is no memory for it.
+    /// An `AllocError` where there is no memory for the copy.
     pub fn new(alloc: Global, text: &str) -> Result<Name, AllocError>
         ensures { IfOk result (λ name. name ≡ text.now) }
     {
@@ -31,7 +31,7 @@ impl Name {
         })
     }
 
-    /// The text.
+    /// The name as a text.
     pub fn as_str(&self) -> &str
         ensures { result.now ≡ self.now }
     {

@@ -10,12 +10,13 @@ use csv::{ByteRecord, ReaderBuilder};
 use std::alloc::{AllocError, Global};
 use std::str;
 
-/// Every record of a text, the first as the others, of any lengths. A byte order mark before the text is dropped.
+/// Every record of a text, with any number of fields; the first is read as the others. A byte order mark before the text
+/// is dropped.
 ///
 /// # Errors
 ///
 /// An `AllocError` where there is no memory. A slice can always be read, so `csv` refuses nothing else here.
-// The reader's buffers would lie in the frame of what runs long after it.
+// Inlined, the reader's buffers would lie in the frame of a caller that runs on long after it.
 #[inline(never)]
 pub fn all_rows(alloc: Global, text: &[u8]) -> Result<Vec<ByteRecord>, AllocError>
     ensures { IfOk result (λ v. map fields_of v.items ≡ rows_of text.now) }
@@ -34,7 +35,7 @@ pub fn all_rows(alloc: Global, text: &[u8]) -> Result<Vec<ByteRecord>, AllocErro
     Ok(rows)
 }
 
-/// The field at a place from 0, if it is plain text: UTF-8 without control bytes. One that the record lacks is empty.
+/// The field at a place from 0, if it is plain text: UTF-8 without control bytes. A field that the record lacks is empty.
 pub fn text_field(row: &ByteRecord, i: usize) -> Option<&str>
     ensures { MatchOption result (is_plain_text (field i (fields_of row.now)) ≡ false)
         (λ text. (is_plain_text (field i (fields_of row.now)) ≡ true) × (text.now ≡ field i (fields_of row.now))) }
@@ -62,7 +63,7 @@ fn has_control(bytes: &[u8]) -> bool
     bytes.iter().any(|byte| *byte < 0x20 || *byte == 0x7F)
 }
 
-/// Whether the field at a place is this text, which is not empty.
+/// Whether the field at a place from 0 is this text, which is not empty.
 pub fn has_field(row: &ByteRecord, i: usize, text: &str) -> bool
     requires { 0 < length text.now }
     ensures { result ≡ bytes_eq (field i (fields_of row.now)) text.now }

@@ -7,7 +7,7 @@ use csv::{Writer, WriterBuilder};
 use std::alloc::{AllocError, Global};
 use std::marker::Model;
 
-/// The rows so far. Contracts see their bytes.
+/// A table as CSV, row by row. Contracts see its bytes.
 // A writer has kilobytes of buffers, which each move of a table would copy on the stack.
 #[derive(Drop)]
 pub struct Table {
@@ -26,7 +26,7 @@ impl Model for Table {
 }
 
 impl Table {
-    /// No rows.
+    /// A table without rows.
     ///
     /// # Errors
     ///
@@ -42,7 +42,7 @@ impl Table {
         })
     }
 
-    /// These rows and one more.
+    /// The table with one more row of these fields.
     ///
     /// # Errors
     ///
@@ -57,12 +57,12 @@ impl Table {
         }
     }
 
-    /// The bytes of the rows.
+    /// The bytes of all rows.
     ///
     /// # Errors
     ///
     /// An `AllocError` where there is no memory.
-    // As for a table without rows.
+    // As in `new`: the writer lies on the stack once it is out of its box.
     #[inline(never)]
     pub fn into_bytes(self) -> Result<Vec<u8>, AllocError>
         ensures { IfOk result (λ bytes. bytes.items ≡ self) }

@@ -1,5 +1,5 @@
-//! The lines that tell by how much a package meets its rules: the least ring of each layer, drill file and diameter, the least gap,
-//! and the greatest ring and gap that the whole package meets.
+//! The lines that say by how much a package meets its rules: the least ring of each layer, drill file and diameter,
+//! the least gap, and the greatest ring and gap that the whole package meets.
 //!
 //! All lengths are whole picometres (pm), and are written in millimetres with nine decimals.
 #![tactic(auto)]
@@ -21,11 +21,11 @@ pub struct RingLine {
     pub drill: usize,
     /// The diameter in pm, at most 10 m.
     pub diameter: i64,
-    /// How many holes ask a ring.
+    /// How many holes need a ring.
     pub holes: usize,
     /// How many of them are bare: they lie in no pad.
     pub bare: usize,
-    /// The least ring, of those that are not bare.
+    /// The least ring of those that are not bare.
     pub least: Option<LeastRing>,
 }
 
@@ -63,13 +63,13 @@ pub struct ScaleLine {
     pub drill: usize,
     /// How many of its round holes are bare on the first layer.
     pub bare: usize,
-    /// What its coordinates would be taken times.
+    /// The factor by which its coordinates seem to be off: what they are to be multiplied by.
     pub factor: Factor,
-    /// How many would be bare then.
+    /// How many of its round holes would be bare then.
     pub then: usize,
 }
 
-/// A factor of coordinates.
+/// A factor that coordinates are multiplied by.
 #[derive(Clone, Copy, Debug, PartialEq, Eq)]
 pub enum Factor {
     /// 10.
@@ -85,10 +85,10 @@ pub enum Factor {
 /// The rules that a package meets.
 #[derive(Clone, Copy, Debug, PartialEq, Eq)]
 pub struct Meets {
-    /// The rings that all holes that ask one have.
+    /// The rings that all holes have that need one.
     pub ring: Met,
-    /// The gaps that all holes keep.
+    /// The gaps that any two holes have.
     pub gap: Met,
-    /// The rings that all holes that ask one and are not bare have.
+    /// The rings that all holes have that need one and are not bare.
     pub held: Met,
 }

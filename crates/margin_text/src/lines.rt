@@ -24,7 +24,7 @@ pub fn push_ring(text: &mut String, line: &RingLine) -> Result<(), AllocError>
     push_words(text, "\n")
 }
 
-/// Appends the files of a line of rings.
+/// Appends the start of a line of rings, with its files.
 fn push_files(text: &mut String, layer: u128, drill: u128) -> Result<(), AllocError>
     ensures { OnOk result (string_bytes text.new ≡ string_bytes text.old ++ ring_files layer drill) }
 {
@@ -34,7 +34,7 @@ fn push_files(text: &mut String, layer: u128, drill: u128) -> Result<(), AllocEr
     }
 }
 
-/// Appends how many holes ask a ring, and how many of them are bare.
+/// Appends how many holes need a ring, and how many of them are bare.
 fn push_counts(text: &mut String, holes: usize, bare: usize) -> Result<(), AllocError>
     ensures { OnOk result (string_bytes text.new ≡ string_bytes text.old ++ ring_counts holes bare) }
 {
@@ -67,7 +67,7 @@ fn push_hole(text: &mut String, hole: usize) -> Result<(), AllocError>
     }
 }
 
-/// A factor as it is written.
+/// A factor as it is written: `10`, `0.1`, `25.4` or `1/25.4`.
 pub fn factor_word(factor: Factor) -> &'static str
     ensures { result.now ≡ factor_word factor }
 {
@@ -92,7 +92,7 @@ pub fn push_scale(text: &mut String, line: &ScaleLine) -> Result<(), AllocError>
     push_counts_by(text, line.drill as u128 + 1, line.bare, factor, line.then)
 }
 
-/// Appends the line of a scale, by its factor as it is written.
+/// Appends a line of scales, given the word of its factor.
 fn push_counts_by(
     text: &mut String,
     drill: u128,
@@ -111,7 +111,7 @@ fn push_counts_by(
     }
 }
 
-/// Appends the file of a hole, from 1, and its number.
+/// Appends the number of a hole's file, from 1, and the number of the hole.
 fn push_place(text: &mut String, place: &HolePlace) -> Result<(), AllocError>
     ensures { OnOk result (string_bytes text.new ≡ string_bytes text.old ++ hole_words place.now) }
 {
@@ -137,7 +137,7 @@ pub fn push_gap(text: &mut String, line: &GapLine) -> Result<(), AllocError>
     push_words(text, "\n")
 }
 
-/// Appends what is met: a length, `any` or `none`.
+/// Appends what is met: a length in millimetres, `any` or `none`.
 fn push_met(text: &mut String, met: Met) -> Result<(), AllocError>
     ensures { OnOk result (string_bytes text.new ≡ string_bytes text.old ++ met_words met) }
 {

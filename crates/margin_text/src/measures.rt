@@ -12,7 +12,7 @@ use printing::{Cut, buffer, make_room, pass_on};
 use std::alloc::{AllocError, Global};
 use std::io::Write;
 
-/// Gathers a line of rings.
+/// Adds a line of rings to the text that is gathered, and writes this text first where there is no room.
 fn gather_ring<W: Write>(text: &mut String, line: &RingLine, out: &mut W) -> Result<(), Cut>
     ensures { OnOk result (PassesOn (W.contents out.old) (string_bytes text.old) (W.contents out.new) (string_bytes text.new) (ring_line line.now)) }
 {
@@ -23,7 +23,7 @@ fn gather_ring<W: Write>(text: &mut String, line: &RingLine, out: &mut W) -> Res
     }
 }
 
-/// Gathers the lines of rings, and writes those for which there is no room.
+/// Gathers the lines of rings, and writes those that have no room.
 fn gather_rings<W: Write>(text: &mut String, lines: &[RingLine], out: &mut W) -> Result<(), Cut>
     ensures { OnOk result (PassesOn (W.contents out.old) (string_bytes text.old) (W.contents out.new) (string_bytes text.new) (flat_map ring_line lines.now)) }
 {
@@ -33,7 +33,7 @@ fn gather_rings<W: Write>(text: &mut String, lines: &[RingLine], out: &mut W) ->
     Ok(())
 }
 
-/// Gathers a line of scales.
+/// Adds a line of scales to the text that is gathered, and writes this text first where there is no room.
 fn gather_scale<W: Write>(text: &mut String, line: &ScaleLine, out: &mut W) -> Result<(), Cut>
     ensures { OnOk result (PassesOn (W.contents out.old) (string_bytes text.old) (W.contents out.new) (string_bytes text.new) (scale_line line.now)) }
 {
@@ -44,7 +44,7 @@ fn gather_scale<W: Write>(text: &mut String, line: &ScaleLine, out: &mut W) -> R
     }
 }
 
-/// Gathers the lines of scales, and writes those for which there is no room.
+/// Gathers the lines of scales, and writes those that have no room.
 fn gather_scales<W: Write>(text: &mut String, lines: &[ScaleLine], out: &mut W) -> Result<(), Cut>
     ensures { OnOk result (PassesOn (W.contents out.old) (string_bytes text.old) (W.contents out.new) (string_bytes text.new) (flat_map scale_line lines.now)) }
 {
@@ -64,7 +64,7 @@ fn push_last(text: &mut String, gap: Option<GapLine>, meets: &Meets) -> Result<(
     push_meets(text, meets)
 }
 
-/// Gathers the last lines, and writes what is left.
+/// Gathers the last lines, and writes all that is left.
 fn end<W: Write>(
     text: &mut String,
     gap: Option<GapLine>,
@@ -79,8 +79,8 @@ fn end<W: Write>(
     }
 }
 
-/// Prints what `text` holds, and the text of a measure behind it. Lines are gathered in `text` and written in parts. Where it is a
-/// [`buffer`] and is empty, no memory is taken, however many lines there are.
+/// Prints what `text` holds, and then the text of a measure. Lines are gathered in `text` and written in parts. Where
+/// it is an empty [`buffer`], no memory is taken, however many lines there are.
 ///
 /// # Errors
 ///

@@ -96,7 +96,7 @@ one_tried holes place near count before mid after so step = record {
   ];
 }
 
--- those that an index finds in the zone of a hole are all that may be nearer
+-- the holes that an index finds in the zone of a hole are all that may be nearer
 module _ (holes : List Drilled) (count place : ℕ) (below : ℤ) (zone : Zone) (limits : Limits) (near : List ℕ) (before after : Nearest) where
   pub asked_all : count ≤ length holes → AreLimits (take count holes) limits
       → ((o : GridHole) → IsUnder limits o → size_of o ≤ size_of (hole_at holes place) → AreNearer below o (hole_at holes place) → IsInZone zone o.from)
@@ -116,7 +116,7 @@ module _ (holes : List Drilled) (count place : ℕ) (below : ℤ) (zone : Zone) 
         subst (λ (n : ℕ). IsNoFurther after (min place n) (max place n) g) is (tried.seen among.0 g among.1 (subst (λ (n : ℕ). IsGapOf holes place n g) (sym is) of));
   }
 
--- a pair that is no further than one that a hole need not ask about
+-- a pair stays no further than one that a hole need not ask about
 pub still : (before after : Nearest) (p i j : ℕ) (g : ℤ) → IsNoFurther after before.first before.second before.gap → before.gap ≤ℤ g → before.first < p → IsNoFurther after i j g ⊎ ((after.gap ≤ℤ g) × (after.first < p))
 still before after p i j g back low less = elim (order after.gap g) [
   | inl nearer ↦ inl (strictly after i j g nearer)

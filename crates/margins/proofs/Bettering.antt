@@ -35,7 +35,7 @@ ends_less covers shrinks s from to less reach le e =
 pub oblique_step : {S : Type 0} (covers : S → GridPoint → ℕ → Bool) (pad : S) (place : ℕ) (h : GridHole) (best : Option Best) → is_oblique h ≡ true → IsStep covers pad place h best best
 oblique_step covers pad place h best oblique = record { oblique = λ e. refl; straight = λ e. not_both (is_oblique h) oblique e }
 
--- so does a hole that lies no deeper
+-- so does a hole that lies no deeper in the next pad
 pub kept_step : {S : Type 0} (covers : S → GridPoint → ℕ → Bool) → CoversLess covers → (pad : S) (place : ℕ) (h : GridHole) (best : Option Best) → covers_ends covers pad h.from h.to (asked best) ≡ false → IsStep covers pad place h best best
 kept_step covers shrinks pad place h best fails = record {
   oblique = λ e. refl;
@@ -51,7 +51,7 @@ kept_step covers shrinks pad place h best fails = record {
 pub taken_step : {S : Type 0} (covers : S → GridPoint → ℕ → Bool) (pad : S) (place : ℕ) (h : GridHole) (best : Option Best) (now : Best) → is_oblique h ≡ false → IsBetter (λ reach. covers_ends covers pad h.from h.to reach) best place (Some now) → IsStep covers pad place h best (Some now)
 taken_step covers pad place h best now straight better = record { oblique = λ e. not_both (is_oblique h) e straight; straight = λ e. better }
 
--- a depth that is not below 0, as it is passed on
+-- a depth that is not below 0, as a call passes it on
 pub depth_is : (z : ℤ) (m a : ℕ) → m ≡ unsigned_abs (to_z w64 (of_z w64 z)) → pos a ≤ℤ z → z ≤ℤ pos 5000000000000 → z ≡ pos m
 depth_is (pos n) m a e low high = ap pos (sym (natural (pos n) n m (omega (arith, ints, high)) refl e))
 depth_is (negsuc n) m a e low high = absurd (omega (arith, ints, low))
@@ -89,7 +89,7 @@ step_twice covers pad place h a b c first second = record {
   straight = λ e. better_twice (λ reach. covers_ends covers pad h.from h.to reach) a place b c (first.straight e) (second.straight e);
 }
 
--- nothing is tried yet
+-- no place is tried yet
 pub near_none : {S : Type 0} (covers : S → GridPoint → ℕ → Bool) (pad : S) (place : ℕ) (holes : List Drilled) (near : List ℕ) (bests : List (Option Best)) → IsTriedNear covers pad place holes near 0 bests bests
 near_none covers pad place holes near bests = record { size = refl; kept = λ k. inl refl; tried = λ i h. absurd (omega (arith, h)) }
 
@@ -128,7 +128,7 @@ module _ {S : Type 0} (covers : S → GridPoint → ℕ → Bool) (pad : S) (pla
         ];
       }
 
--- no test with more than what is asked passes, where nothing has changed
+-- where nothing has changed, no reach that passes is more than what is asked for
 not_deeper : (test : ℕ → Bool) (place : ℕ) (a b : Option Best) → b ≡ a → IsBetter test a place b → (reach : ℕ) → test reach ≡ true → reach < asked a
 not_deeper test place a b same (inl kept) reach t = kept.below reach t
 not_deeper test place a b same (inr next) reach t = absurd (
@@ -158,7 +158,7 @@ one_more zones first i zone is p some = elim (cases_lt some.i i) [
 ]
 
 module _ {S : Type 0} (covers : S → GridPoint → ℕ → Bool) (pad : S) (place : ℕ) (holes : List Drilled) where
-  -- nothing is tried yet
+  -- no zone is tried yet
   pub tried_none : (zones : List Zone) (first : ℕ) (bests : List (Option Best)) → IsTriedIn covers pad place holes (IsInSome zones first first) bests bests
   tried_none zones first bests = record { size = refl; kept = λ k. inl refl; tried = λ k h some. absurd (let l = some.from in let m = some.early in omega (arith, l, m)) }
 
@@ -194,7 +194,7 @@ module _ {S : Type 0} (covers : S → GridPoint → ℕ → Bool) (pad : S) (pla
         subst (λ (n : ℕ). IsStep covers pad place (hole_at holes n) (get_or before n None) (get_or after n None)) is (was.tried among.0 among.1);
   }
 
-  -- at some holes, and then at some
+  -- a pad tried at some holes and then at others is tried at both
   pub tried_both : (first second both : GridPoint → Type 0) (a b c : List (Option Best)) → ((p : GridPoint) → both p → first p ⊎ second p) → IsTriedIn covers pad place holes first a b → IsTriedIn covers pad place holes second b c → IsTriedIn covers pad place holes both a c
   tried_both first second both a b c split early late = record {
     size = late.size ∙ early.size;
@@ -216,7 +216,7 @@ module _ {S : Type 0} (covers : S → GridPoint → ℕ → Bool) (pad : S) (pla
       | inr next ↦ step_twice covers pad place (hole_at holes k) (get_or a k None) (get_or b k None) (get_or c k None) step next
     ]
 
-  -- at some holes, and so at fewer
+  -- a pad tried at some holes is tried at fewer of them
   pub tried_fewer : (among fewer : GridPoint → Type 0) (before after : List (Option Best)) → ((k : ℕ) → k < length holes → fewer (point_at holes k) → among (point_at holes k)) → IsTriedIn covers pad place holes among before after → IsTriedIn covers pad place holes fewer before after
   tried_fewer among fewer before after less was = record { size = was.size; kept = was.kept; tried = λ k h in_fewer. was.tried k h (less k h in_fewer) }
 
@@ -274,7 +274,7 @@ module _ {S : Type 0} (covers : S → GridPoint → ℕ → Bool) (pad : S) (pla
         subst (AskFor holes after (IsInZone z)) (sym (get_or-set_other bounds i j bound 0 differs)) (asks_still (IsInZone z) (get_or bounds j 0) before after kept (was j z h is))
   ]
 
--- nothing is asked for less than nothing
+-- no hole asks for less than 0
 pub asks_none : (holes : List Drilled) (bests : List (Option Best)) (among : GridPoint → Type 0) → AskFor holes bests among 0
 asks_none holes bests among k h within e = omega arith
 
@@ -291,7 +291,7 @@ module _ {S : Type 0} (covers : S → GridPoint → ℕ → Bool) (pads : List S
   at_pad : (p : S) (k reach : ℕ) → k ≡ place → covers_ends covers (get_or pads k p) h.from h.to reach ≡ covers_ends covers pad h.from h.to reach
   at_pad p k reach e = ap (λ (s : S). covers_ends covers s h.from h.to reach) (ap (λ (n : ℕ). get_or pads n p) e ∙ is p)
 
-  -- with which reach one of the pads before covers
+  -- with which reaches an earlier pad covers the hole
   before_less : (best : Option Best) → IsBestOf covers pads place h best → (p : S) (k reach : ℕ) → k < place → covers_ends covers (get_or pads k p) h.from h.to reach ≡ true → reach < asked best
   before_less None was p k reach l t = not_both (covers_ends covers (get_or pads k p) h.from h.to reach) t (was p k reach l)
   before_less (Some best) was p k reach l t = (let le : reach ≤ best.depth = was.deepest p k reach l t in omega (arith, le))

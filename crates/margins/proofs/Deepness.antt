@@ -10,7 +10,7 @@ use Rattle.margins.specs.Depths.{IsDepth, IsDepthOfHole}
 use Rattle.margins.specs.Inner.DepthLaws.{both_le, le_both}
 use Rattle.grid_units.proofs.BoolLemmas.{both_true}
 
--- within a circle of a radius: the far point's distance, rounded up, is the root
+-- within a circle: a point is covered up to the radius less its distance, rounded up
 pub round_depth : (radius far root n : ℕ) → ((t : ℕ) → (far ≤ square t) ↔ (root ≤ t)) → ((nat_le n radius && nat_le far (square (radius - n))) ≡ true) ↔ (pos n ≤ℤ (pos radius -ℤ pos root))
 round_depth radius far root n exact = (
   λ e.
@@ -23,7 +23,7 @@ round_depth radius far root n exact = (
       le_both n radius far (square (radius - n)) s ((exact (radius - n)).1 u),
 )
 
--- within a rectangle
+-- within a rectangle: a point is covered up to the lesser distance from a side
 pub straight_depth : (dx dy half_x half_y n : ℕ) → ((nat_le (dx + n) half_x && nat_le (dy + n) half_y) ≡ true) ↔ (pos n ≤ℤ int_min (pos half_x -ℤ pos dx) (pos half_y -ℤ pos dy))
 straight_depth dx dy half_x half_y n = (
   λ e. let t = both_le (dx + n) half_x (dy + n) half_y e in omega (arith, ints, clamps, t.0, t.1),

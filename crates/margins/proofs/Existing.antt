@@ -1,4 +1,4 @@
--- Each two holes have a gap, so the nearest two tell the greatest gap that a board meets.
+-- Any two holes have a gap, so the nearest two give the greatest gap that a board meets.
 use Rattle.std.proofs.Common.{◌↔◌, ℕ, ℤ, pos, zero, suc, ◌+◌, ◌*◌, ◌<◌, ◌≤◌, ◌-ℤ◌, inl, inr, List, arith}
 use Rattle.std.proofs.lemmas.Bool.{cases_lt}
 use Rattle.grid_units.specs.Points.{square}
@@ -45,7 +45,7 @@ root (suc n) =
       )
     ]
 
--- two holes have a gap
+-- any two holes have a gap
 pub gap_of : (a b : GridHole) → (gap : ℤ) × IsGap a b gap
 gap_of a b =
     let w = root (square_of_cores a b) in

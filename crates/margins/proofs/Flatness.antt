@@ -1,4 +1,4 @@
--- What the best pads among shapes in which nothing lies deep tell of the shapes.
+-- What the best pads among flat shapes say of the shapes themselves.
 use Rattle.std.proofs.Common.{◌≡◌, ◌↔◌, ℕ, ◌<◌, ◌+◌, inl, inr, Bool, true, false, Option, Some, None, List, [], ◌∷◌, length, map, get_or, replicate, refl, sym, subst, ap, ◌∙◌, arith}
 use Rattle.std.specs.Prelude.{◌&&◌, nat_le}
 use Rattle.std.proofs.lemmas.Bool.{cases_lt}
@@ -34,13 +34,13 @@ some_of [] k h = absurd (omega (arith, h))
 some_of (x ∷ xs) k h = x
 
 module _ {S T : Type 0} (covers : S → GridPoint → ℕ → Bool) (shrinks : CoversLess covers) (flat : T → GridPoint → ℕ → Bool) (make : S → T) (same : (s : S) (c : GridPoint) (reach : ℕ) → flat (make s) c reach ≡ flat_covers covers s c reach) where
-  -- what covers both ends with some reach covers them flatly
+  -- a shape that covers both ends with some reach covers them flatly
   flat_ends : (s : S) (h : GridHole) (reach : ℕ) → covers_ends covers s h.from h.to reach ≡ true → covers_ends flat (make s) h.from h.to 0 ≡ true
   flat_ends s h reach e =
       let t = both_true (covers s h.from reach) (covers s h.to reach) e in
       both (flat (make s) h.from 0) (flat (make s) h.to 0) (same s h.from 0 ∙ shrinks s h.from 0 reach (omega arith) t.0) (same s h.to 0 ∙ shrinks s h.to 0 reach (omega arith) t.1)
 
-  -- and the other way round
+  -- and a shape that covers both ends flatly covers them
   round_ends : (s : S) (h : GridHole) (reach : ℕ) → covers_ends flat (make s) h.from h.to reach ≡ true → covers_ends covers s h.from h.to 0 ≡ true
   round_ends s h reach e =
       let t = both_true (flat (make s) h.from reach) (flat (make s) h.to reach) e in
@@ -83,7 +83,7 @@ module _ {S T : Type 0} (covers : S → GridPoint → ℕ → Bool) (shrinks : C
         (λ e. tells.0 (sym is ∙ e), λ bare. is ∙ tells.1 bare);
   }
 
--- a pad more that covers nothing of a zone
+-- one more pad that covers nothing of a zone
 pub none_more : {S : Type 0} (covers : S → GridPoint → ℕ → Bool) (pads : List S) (count : ℕ) (pad : S) (zone : Zone) → ((s : S) → get_or pads count s ≡ pad) → CoverNone covers pads count zone → CoversNone covers pad 0 zone → CoverNone covers pads (count + 1) zone
 none_more covers pads count pad zone is none next s k h = elim (cases_lt k count) [
   | inl less ↦ none s k less
@@ -92,7 +92,7 @@ none_more covers pads count pad zone is none next s k h = elim (cases_lt k count
       subst (λ x. CoversNone covers x 0 zone) (sym (ap (λ (n : ℕ). get_or pads n s) last ∙ is s)) next
 ]
 
--- holes of a zone of which no pad covers a point
+-- no pad covers a point of the zone, so its holes are bare
 pub bare_none : {S : Type 0} (covers : S → GridPoint → ℕ → Bool) (pads : List S) (holes : List Drilled) (zone : Zone) (bare : List Bool) → ((k : ℕ) → k < length holes → IsInZone zone (point_at holes k)) → CoverNone covers pads (length pads) zone
     → bare ≡ replicate (length holes) true → AreBare covers pads holes bare
 bare_none covers pads holes zone bare within none is = record {

@@ -28,11 +28,11 @@ root_of dx dy a b root x y exact =
     subst (λ (k : ℕ). (t : ℕ) → (square t ≤ square a + square k) ↔ (t ≤ root)) y
     (subst (λ (k : ℕ). (t : ℕ) → (square t ≤ square k + square dy) ↔ (t ≤ root)) x exact)
 
--- two holes have at least a gap that their radii make up for
+-- a gap of two holes is at least minus both radii
 pub gap_of_none : (a b : GridHole) (z g : ℤ) → (z +ℤ pos (a.radius + b.radius)) ≤ℤ pos 0 → IsGap a b g → z ≤ℤ g
 gap_of_none a b z g none gap = let low : pos 0 ≤ℤ (g +ℤ pos (a.radius + b.radius)) = (gap 0).0 (omega arith) in omega (arith, ints, low, none)
 
--- and one that is no longer, with the radii, than their cores are apart
+-- a gap that with both radii is no longer than the distance of the cores is at most that of the holes
 pub gap_of_far : (a b : GridHole) (z g : ℤ) (n : ℕ) → pos n ≡ z +ℤ pos (a.radius + b.radius) → nat_le (square n) (square_of_cores a b) ≡ true → IsGap a b g → z ≤ℤ g
 gap_of_far a b z g n is test gap =
     let far : square n ≤ square_of_cores a b = grind (arith, nat_tests) in

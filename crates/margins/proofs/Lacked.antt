@@ -16,7 +16,7 @@ use Rattle.margins.proofs.Meeting.{ring_of_best}
 use Rattle.margins.proofs.Passing.{short_lacks}
 
 module _ {S : Type 0} (covers : S → GridPoint → ℕ → Bool) (less : CoversLess covers) (pads : List S) (holes : List Drilled) (bests : List (Option Best)) (are : AreBest covers pads holes bests) where
-  -- the hole at a place is lacking just where it falls short by the best pad there
+  -- the hole at a place lacks its ring just where it falls short by the best pad there
   pub short_wants : (layer q k : ℕ) (d : Drilled) (best : Option Best) → k < length holes → d ≡ get_or holes k d → best ≡ get_or bests k best → falls_short q layer d best ≡ is_ring_finding covers q layer pads d
   short_wants layer q k d best inside at there = ap (λ b. asks_ring layer d && b) (short_lacks covers pads d.hole q less (ring_by best d.hole) (ring_of_best covers pads d.hole best is))
     where

@@ -127,7 +127,7 @@ module _ (asked : ℕ → ℕ → Type 0) (has : ℕ → ℕ → Option ℤ → 
   one_more (mets.Most m) (Some r) so h = lesser_least m r so h
   one_more mets.None (Some r) so h = record { i = so.i; j = so.j; there = inl so.there; nothing = so.nothing }
 
--- the same pairs, said in another way
+-- two conditions that hold of the same pairs
 same_asked : (p q : ℕ → ℕ → Type 0) (has : ℕ → ℕ → Option ℤ → Type 0) → ((i j : ℕ) → p i j → q i j) → ((i j : ℕ) → q i j → p i j) → (met : Met) → IsLeast p has met → IsLeast q has met
 same_asked p q has to from mets.Any so = λ i j h. so i j (from i j h)
 same_asked p q has to from (mets.Most m) so = record { i = so.i; j = so.j; there = to so.i so.j so.there; reached = so.reached; least = λ k l h. so.least k l (from k l h) }
@@ -141,7 +141,7 @@ same_held p q has to from mets.None so = record { i = so.i; j = so.j; there = to
 same_both : (p q : ℕ → ℕ → Type 0) (has : ℕ → ℕ → Option ℤ → Type 0) → ((i j : ℕ) → p i j → q i j) → ((i j : ℕ) → q i j → p i j) → (met : RingsMet) → AreLeast p has met → AreLeast q has met
 same_both p q has to from met so = record { ring = same_asked p q has to from met.ring so.ring; held = same_held p q has to from met.held so.held }
 
--- one hole more that asks a ring on a layer
+-- one more hole that needs a ring on a layer
 pub hole_asks : (asked : ℕ → ℕ → Type 0) (has : ℕ → ℕ → Option ℤ → Type 0) (at count : ℕ) (holes : List Drilled) (met next : RingsMet) (r : Option ℤ) → count < length holes → asks_ring at (get_or holes count nowhere) ≡ true
     → has at count r → next.ring ≡ least_of met.ring r → next.held ≡ held_of met.held r → AreLeast (λ i j. asked i j ⊎ AsksOn at count holes i j) has met → AreLeast (λ i j. asked i j ⊎ AsksOn at (count + 1) holes i j) has next
 hole_asks asked has at count holes met next r inside asks h ring held so =
@@ -171,7 +171,7 @@ hole_asks asked has at count holes met next r inside asks h ring held so =
       held = subst (IsLeastHeld (Or (λ i j. asked i j ⊎ AsksOn at count holes i j) at count) has) (sym held) (one_more_held (λ i j. asked i j ⊎ AsksOn at count holes i j) has at count met.held r so.held h);
     })
 
--- one hole more that asks none
+-- one more hole that needs none
 pub hole_asks_none : (asked : ℕ → ℕ → Type 0) (has : ℕ → ℕ → Option ℤ → Type 0) (at count : ℕ) (holes : List Drilled) (met : RingsMet) → asks_ring at (get_or holes count nowhere) ≡ false
     → AreLeast (λ i j. asked i j ⊎ AsksOn at count holes i j) has met → AreLeast (λ i j. asked i j ⊎ AsksOn at (count + 1) holes i j) has met
 hole_asks_none asked has at count holes met none so =
@@ -199,7 +199,7 @@ no_hole asked has at holes met so =
     (λ i j choice. elim choice [ inl earlier ↦ earlier | inr here ↦ absurd (let l : j < 0 = here.below in omega (arith, l)) ])
     met so
 
--- one layer more
+-- one more layer
 pub layer_asks : (has : ℕ → ℕ → Option ℤ → Type 0) (count : ℕ) (holes : List Drilled) (met : RingsMet) → AreLeast (λ i j. AsksRing count holes i j ⊎ AsksOn count (length holes) holes i j) has met → AreLeast (AsksRing (count + 1) holes) has met
 layer_asks has count holes met so =
     same_both (λ i j. AsksRing count holes i j ⊎ AsksOn count (length holes) holes i j) (AsksRing (count + 1) holes) has
@@ -230,7 +230,7 @@ pub ring_of_best : {S : Type 0} (covers : S → GridPoint → ℕ → Bool) (pad
 ring_of_best covers pads hole None is = is
 ring_of_best covers pads hole (Some best) is = record { best = best; straight = is.0; deepest = is.1; less = refl }
 
--- one hole more that asks a ring, by its best pad
+-- one more hole that needs a ring, by its best pad
 pub hole_by_best : {S : Type 0} (covers : S → GridPoint → ℕ → Bool) (layers : List (List S)) (pads : List S) (holes : List Drilled) (bests : List (Option Best)) (at count : ℕ) (d : Drilled) (best : Option Best) (met next : RingsMet)
     → get_or layers at [] ≡ pads → AreBest covers pads holes bests → count < length holes → d ≡ get_or holes count d → best ≡ get_or bests count best → asks_ring at d ≡ true
     → next.ring ≡ least_of met.ring (ring_by best d.hole) → next.held ≡ held_of met.held (ring_by best d.hole)

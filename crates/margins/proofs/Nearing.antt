@@ -56,7 +56,7 @@ gap_read holes i j d e gap first second is =
     subst (λ (x : Drilled). IsGap (hole_at holes i) x.hole gap) (get_or_default holes j e nowhere second)
     (subst (λ (x : Drilled). IsGap x.hole (get_or holes j e).hole gap) (get_or_default holes i d nowhere first) is)
 
--- and that of the holes there, of those that were read
+-- and the gap of the holes at two places is that of the holes that were read
 pub gap_told : (holes : List Drilled) (i j : ℕ) (d e : Drilled) (gap : ℤ) → i < length holes → j < length holes → IsGap (hole_at holes i) (hole_at holes j) gap → IsGap (get_or holes i d).hole (get_or holes j e).hole gap
 gap_told holes i j d e gap first second is =
     subst (λ (x : Drilled). IsGap (get_or holes i d).hole x.hole gap) (sym (get_or_default holes j e nowhere second))

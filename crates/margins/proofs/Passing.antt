@@ -1,4 +1,4 @@
--- What a board meets says under which rules nothing is found.
+-- What a board meets decides under which rules nothing is found.
 use Rattle.std.proofs.Common.{◌≡◌, ℕ, ℤ, pos, suc, ◌+◌, ◌<◌, ◌≤◌, ◌+ℤ◌, ◌-ℤ◌, ◌≤ℤ◌, inl, inr, Bool, true, false, cond, Option, Some, None, List, [], ◌∷◌, ◌++◌, map, length, get_or, refl, sym, ap, ◌∙◌, arith}
 use Rattle.std.specs.Prelude.{not, ◌&&◌, ◌||◌, nat_lt, int_lt}
 use Rattle.std.specs.List.{filter, flat_map, enumerate_from, list_any, Contains}
@@ -71,7 +71,7 @@ some (x ∷ xs) k h = x
 -- ---- one hole among the pads of a layer
 
 module _ {S : Type 0} (covers : S → GridPoint → ℕ → Bool) (pads : List S) (h : GridHole) (q : ℕ) where
-  -- the pad that covers a hole that lacks nothing
+  -- the pad that covers a hole that does not lack its ring
   covering : lacks_ring covers q pads h ≡ false → (is_oblique h ≡ false) × ((x : S) × Contains pads x × (covers_hole covers q h x ≡ true))
   covering e =
       let t = neither (is_oblique h) (not (list_any (covers_hole covers q h) pads)) e in
@@ -111,7 +111,7 @@ module _ {S : Type 0} (covers : S → GridPoint → ℕ → Bool) (pads : List S
   same_tests false true f g = let e : true ≡ false = g refl in cc
   same_tests false false f g = refl
 
-  -- what a hole has is less than a rule just where it lacks that ring
+  -- a hole has less than a rule just where it lacks that ring
   pub short_lacks : CoversLess covers → (ring : Option ℤ) → IsRingOf covers pads h ring → is_short q ring ≡ lacks_ring covers q pads h
   short_lacks less None is = same_tests true (lacks_ring covers q pads h) (λ none e. bare_lacks is none) (λ e. absurd cc)
   short_lacks less (Some ring) is = same_tests (int_lt ring (pos q)) (lacks_ring covers q pads h)

@@ -1,15 +1,15 @@
--- Signed numbers, as the program passes them on.
+-- Signed numbers, as calls pass them on.
 use Rattle.std.proofs.Common.{◌≡◌, ℤ, ◌<◌, w64, to_z, of_z, subst, sym, ap, ◌∙◌, arith}
 use Rattle.std.specs.Prelude.{ℕ, pos, unsigned_abs}
 use Rattle.std.specs.Int.{int_min}
 use Rattle.std.specs.Int.Signed.{mag}
 use Rattle.std.proofs.lemmas.Int.{ints}
 
--- a signed number, as it is passed on, is itself
+-- a signed number is itself after it is passed on
 pub same : (z : ℤ) → mag z < 9223372036854775808 → to_z w64 (of_z w64 z) ≡ z
 same z fits = omega (arith, ints)
 
--- what holds of a number holds of it as it is passed on
+-- what holds of a number holds of it after it is passed on
 pub on : (P : ℤ → Type 0) (z w : ℤ) → mag z < 9223372036854775808 → z ≡ w → P w → P (to_z w64 (of_z w64 z))
 on P z w fits is h = subst P (sym (same z fits ∙ is)) h
 

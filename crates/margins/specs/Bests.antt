@@ -1,4 +1,4 @@
--- The shape of a list in which a hole lies deepest. Lengths are whole picometres.
+-- The shape of a list in which a hole lies deepest: its best pad. All lengths are whole picometres.
 use Rattle.std.specs.Prelude.{◌≡◌, ◌↔◌, ℕ, ◌<◌, ◌≤◌, ◌⊎◌, Bool, true, false, Option, Some, None, List, [], length, get_or}
 use Rattle.grid_units.specs.Points.{GridPoint}
 use Rattle.grid_units.specs.Holes.{GridHole}
@@ -8,7 +8,7 @@ use Rattle.ring_rules.specs.Places.{hole_at}
 use Rattle.ring_rules.specs.declared.finding.Drilled.{Drilled}
 use Rattle.margins.specs.declared.best.Best.{Best}
 
--- the best of the first so many shapes: the first of those in which the hole lies deepest, and how deep, at most five metres (docs/DEFINITIONS.md, Best pads)
+-- the best of the first `count` shapes: the first of those in which the hole lies deepest, and how deep, at most five metres
 pub record IsBest {S : Type 0} (covers : S → GridPoint → ℕ → Bool) (pads : List S) (count : ℕ) (h : GridHole) (best : Best) : Type 0 where
   pub inside : best.pad < count
   pub in_range : best.depth ≤ max_half_side
@@ -16,35 +16,35 @@ pub record IsBest {S : Type 0} (covers : S → GridPoint → ℕ → Bool) (pads
   pub deepest : (p : S) (k reach : ℕ) → k < count → covers_ends covers (get_or pads k p) h.from h.to reach ≡ true → reach ≤ best.depth
   pub first : (p : S) (k : ℕ) → k < best.pad → covers_ends covers (get_or pads k p) h.from h.to best.depth ≡ false
 
--- none of the first so many shapes covers both ends of a hole, with whatever reach (docs/DEFINITIONS.md, Best pads)
+-- none of the first `count` shapes covers both ends of a hole, with any reach
 abbrev pub AreShallow : {S : Type 0} → (S → GridPoint → ℕ → Bool) → List S → ℕ → GridHole → Type 0
 AreShallow {S} covers pads count h = (p : S) (k reach : ℕ) → k < count → covers_ends covers (get_or pads k p) h.from h.to reach ≡ false
 
--- the best of the first so many shapes, or none where all of them are shallow (docs/DEFINITIONS.md, Best pads)
+-- the best of the first `count` shapes, or none where none of them covers both ends of the hole
 abbrev pub IsBestOf : {S : Type 0} → (S → GridPoint → ℕ → Bool) → List S → ℕ → GridHole → Option Best → Type 0
 IsBestOf covers pads count h None = AreShallow covers pads count h
 IsBestOf covers pads count h (Some best) = IsBest covers pads count h best
 
--- a hole is bare: it is an oblique slot, or no shape of the list covers both its ends (docs/DEFINITIONS.md, Best pads)
+-- a hole is bare: it is an oblique slot, or no shape of the list covers both its ends, with any reach
 abbrev pub IsBare : {S : Type 0} → (S → GridPoint → ℕ → Bool) → List S → GridHole → Type 0
 IsBare covers pads h = (is_oblique h ≡ true) ⊎ AreShallow covers pads (length pads) h
 
--- the best shape of a list for a hole, or none where the hole is bare (docs/DEFINITIONS.md, Best pads)
+-- the best shape of a list for a hole, or none where the hole is bare
 abbrev pub IsBestPad : {S : Type 0} → (S → GridPoint → ℕ → Bool) → List S → GridHole → Option Best → Type 0
 IsBestPad covers pads h None = IsBare covers pads h
 IsBestPad covers pads h (Some best) = (is_oblique h ≡ false) × IsBest covers pads (length pads) h best
 
--- the best shape of a list for each of some holes, in their order (docs/DEFINITIONS.md, Best pads)
+-- the best shape of a list for each of some holes, in their order
 pub record AreBest {S : Type 0} (covers : S → GridPoint → ℕ → Bool) (pads : List S) (holes : List Drilled) (bests : List (Option Best)) : Type 0 where
   pub size : length bests ≡ length holes
   pub each : (k : ℕ) → k < length holes → IsBestPad covers pads (hole_at holes k) (get_or bests k None)
 
--- the best shape of each layer for each of some holes, layer by layer (docs/DEFINITIONS.md, Best pads)
+-- the best shape on each layer for each of some holes, layer by layer
 pub record AreBestOn {S : Type 0} (covers : S → GridPoint → ℕ → Bool) (layers : List (List S)) (holes : List Drilled) (bests : List (List (Option Best))) : Type 0 where
   pub size : length bests ≡ length layers
   pub each : (layer : ℕ) → layer < length layers → AreBest covers (get_or layers layer []) holes (get_or bests layer [])
 
--- for each of some holes whether it is bare, in their order (docs/DEFINITIONS.md, Best pads)
+-- whether each of some holes is bare, in their order
 pub record AreBare {S : Type 0} (covers : S → GridPoint → ℕ → Bool) (pads : List S) (holes : List Drilled) (bare : List Bool) : Type 0 where
   pub size : length bare ≡ length holes
   pub each : (k : ℕ) → k < length holes → (get_or bare k false ≡ true) ↔ IsBare covers pads (hole_at holes k)

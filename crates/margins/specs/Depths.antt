@@ -1,4 +1,4 @@
--- How deep points and holes lie in a shape. Lengths are whole picometres.
+-- How deep points and holes lie in a shape. All lengths are whole picometres.
 use Rattle.std.specs.Prelude.{◌≡◌, ◌↔◌, ℕ, ℤ, pos, ◌≤◌, ◌≤ℤ◌, Bool, true}
 use Rattle.grid_units.specs.Points.{GridPoint}
 use Rattle.grid_units.specs.Holes.{GridHole}
@@ -6,19 +6,19 @@ use Rattle.pad_shapes.specs.Shapes.{covers_ends}
 use Rattle.pad_shapes.specs.declared.pad.Pad.{Pad}
 use Rattle.pad_shapes.specs.declared.pad.Pad.TheVariants.{Disc, Rect, Obround}
 
--- what a shape covers with a reach it covers with each lesser one (docs/DEFINITIONS.md, Depths)
+-- what a shape covers with a reach it covers with each lesser reach
 abbrev pub CoversLess : {S : Type 0} → (S → GridPoint → ℕ → Bool) → Type 0
 CoversLess {S} covers = (s : S) (c : GridPoint) (less reach : ℕ) → less ≤ reach → covers s c reach ≡ true → covers s c less ≡ true
 
--- the depth of a point in a shape: the point is covered with just those reaches that are at most the depth (docs/DEFINITIONS.md, Depths)
+-- the depth of a point in a shape: it is covered with just the reaches up to the depth; below 0 with none, and the number says no more
 abbrev pub IsDepth : {S : Type 0} → (S → GridPoint → ℕ → Bool) → S → GridPoint → ℤ → Type 0
 IsDepth covers s c depth = (reach : ℕ) → (covers s c reach ≡ true) ↔ (pos reach ≤ℤ depth)
 
--- the depth of a hole: both its ends are covered with just those reaches that are at most the depth (docs/DEFINITIONS.md, Depths)
+-- the depth of a hole: both its ends are covered with just the reaches up to the depth, so it is the lesser depth of the two
 abbrev pub IsDepthOfHole : {S : Type 0} → (S → GridPoint → ℕ → Bool) → S → GridHole → ℤ → Type 0
 IsDepthOfHole covers s h depth = (reach : ℕ) → (covers_ends covers s h.from h.to reach ≡ true) ↔ (pos reach ≤ℤ depth)
 
--- the centre of the shape inside a pad (docs/DEFINITIONS.md, Depths)
+-- the centre of the shape inside a pad
 abbrev pub pad_middle : Pad → GridPoint
 pad_middle (Disc d) = d.centre
 pad_middle (Rect r) = r.centre

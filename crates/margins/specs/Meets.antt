@@ -1,4 +1,4 @@
--- The greatest ring and the greatest gap that a board meets. Lengths are whole picometres.
+-- The greatest ring and the greatest gap that a board meets, in whole picometres (docs/FORMATS.md, Measure).
 use Rattle.std.specs.Prelude.{◌≡◌, ◌↔◌, ℕ, ℤ, pos, ◌<◌, ◌-ℤ◌, ◌≤ℤ◌, ◌⊎◌, Bool, true, false, ◌&&◌, Option, Some, None, List, [], length, get_or}
 use Rattle.grid_units.specs.Points.{GridPoint}
 use Rattle.grid_units.specs.Holes.{GridHole}
@@ -14,20 +14,20 @@ use Rattle.margins.specs.declared.met.Met.{Met}
 use Rattle.margins.specs.declared.met.RingsMet.{RingsMet}
 use Rattle.margins.specs.declared.met.Met.TheVariants as mets
 
--- a rule is allowed by what is met: any, those up to a length, or none (docs/DEFINITIONS.md, What a board meets)
+-- what is met allows a rule: any rule, those up to a length, or none; below 0 no rule is allowed, and the board fails by that length
 abbrev pub allows : Met → ℕ → Type 0
 allows mets.Any rule = Unit {0}
 allows (mets.Most length) rule = pos rule ≤ℤ length
 allows mets.None rule = ⊥
 
--- some asked pair has nothing (docs/DEFINITIONS.md, What a board meets)
+-- one of the pairs that are asked has no length
 pub record LacksOne (asked : ℕ → ℕ → Type 0) (has : ℕ → ℕ → Option ℤ → Type 0) : Type 0 where
   pub i : ℕ
   pub j : ℕ
   pub there : asked i j
   pub nothing : has i j None
 
--- an asked pair has this length, and each has one that is no less (docs/DEFINITIONS.md, What a board meets)
+-- one of the pairs that are asked has this length, and each has one that is no less
 pub record HasLeast (asked : ℕ → ℕ → Type 0) (has : ℕ → ℕ → Option ℤ → Type 0) (length : ℤ) : Type 0 where
   pub i : ℕ
   pub j : ℕ
@@ -35,20 +35,20 @@ pub record HasLeast (asked : ℕ → ℕ → Type 0) (has : ℕ → ℕ → Opti
   pub reached : has i j (Some length)
   pub least : (k l : ℕ) → asked k l → (other : ℤ) × has k l (Some other) × (length ≤ℤ other)
 
--- what is met where some pairs are asked: any rule if none is asked, none if one has nothing, else up to the least length that one has (docs/DEFINITIONS.md, What a board meets)
+-- what is met by pairs that are asked for a length: any rule if none is asked, none if one has no length, else those up to the least length
 abbrev pub IsLeast : (ℕ → ℕ → Type 0) → (ℕ → ℕ → Option ℤ → Type 0) → Met → Type 0
 IsLeast asked has mets.Any = (i j : ℕ) → asked i j → ⊥
 IsLeast asked has (mets.Most length) = HasLeast asked has length
 IsLeast asked has mets.None = LacksOne asked has
 
--- some pair is asked, and each that is has nothing (docs/DEFINITIONS.md, What a board meets)
+-- some pair is asked, and none of those that are asked has a length
 pub record LacksAll (asked : ℕ → ℕ → Type 0) (has : ℕ → ℕ → Option ℤ → Type 0) : Type 0 where
   pub i : ℕ
   pub j : ℕ
   pub there : asked i j
   pub nothing : (k l : ℕ) → asked k l → has k l None
 
--- an asked pair has this length, and each has nothing or one that is no less (docs/DEFINITIONS.md, What a board meets)
+-- one of the pairs that are asked has this length, and each has no length or one that is no less
 pub record HasLeastHeld (asked : ℕ → ℕ → Type 0) (has : ℕ → ℕ → Option ℤ → Type 0) (length : ℤ) : Type 0 where
   pub i : ℕ
   pub j : ℕ
@@ -56,76 +56,76 @@ pub record HasLeastHeld (asked : ℕ → ℕ → Type 0) (has : ℕ → ℕ → 
   pub reached : has i j (Some length)
   pub least : (k l : ℕ) → asked k l → has k l None ⊎ ((other : ℤ) × has k l (Some other) × (length ≤ℤ other))
 
--- what is met where pairs that have nothing are passed over: any rule if none is asked, none if all have nothing, else up to the least length that one has (docs/DEFINITIONS.md, What a board meets)
+-- what is met where pairs without a length are skipped: any rule if none is asked, none if none has one, else those up to the least length
 abbrev pub IsLeastHeld : (ℕ → ℕ → Type 0) → (ℕ → ℕ → Option ℤ → Type 0) → Met → Type 0
 IsLeastHeld asked has mets.Any = (i j : ℕ) → asked i j → ⊥
 IsLeastHeld asked has (mets.Most length) = HasLeastHeld asked has length
 IsLeastHeld asked has mets.None = LacksAll asked has
 
--- a hole asks a ring on a layer: it is plated and goes through it (docs/DEFINITIONS.md, What a board meets)
+-- a hole needs a ring on a layer: it is plated and goes through the layer
 abbrev pub asks_ring : ℕ → Drilled → Bool
 asks_ring layer d = d.plated && is_in_span layer d.span
 
--- a layer of the first so many, and a hole that asks a ring there (docs/DEFINITIONS.md, What a board meets)
+-- one of the first `count` layers, and a hole that needs a ring there
 pub record AsksRing (count : ℕ) (holes : List Drilled) (layer hole : ℕ) : Type 0 where
   pub in_layers : layer < count
   pub in_holes : hole < length holes
   pub asks : asks_ring layer (get_or holes hole nowhere) ≡ true
 
--- a hole has a ring among the pads of a layer: how deep it lies in the best of them, less its radius (docs/DEFINITIONS.md, What a board meets)
+-- the ring of a hole on a layer: how deep it lies in the best pad, less its radius; below 0 where the hole is wider than the copper round it
 pub record IsRing {S : Type 0} (covers : S → GridPoint → ℕ → Bool) (pads : List S) (hole : GridHole) (ring : ℤ) : Type 0 where
   pub best : Best
   pub straight : is_oblique hole ≡ false
   pub deepest : IsBest covers pads (length pads) hole best
   pub less : ring ≡ pos best.depth -ℤ pos hole.radius
 
--- the ring of a hole among the pads of a layer, or none where the hole is bare (docs/DEFINITIONS.md, What a board meets)
+-- the ring of a hole among the pads of a layer, or none where the hole is bare
 abbrev pub IsRingOf : {S : Type 0} → (S → GridPoint → ℕ → Bool) → List S → GridHole → Option ℤ → Type 0
 IsRingOf covers pads hole None = IsBare covers pads hole
 IsRingOf covers pads hole (Some ring) = IsRing covers pads hole ring
 
--- the ring of the hole at a place, on the layer at a place (docs/DEFINITIONS.md, What a board meets)
+-- the ring of the hole at a place, on the layer at a place
 abbrev pub HasRing : {S : Type 0} → (S → GridPoint → ℕ → Bool) → List (List S) → List Drilled → ℕ → ℕ → Option ℤ → Type 0
 HasRing covers layers holes layer hole ring = IsRingOf covers (get_or layers layer []) (hole_at holes hole) ring
 
--- the gap of the holes at two places, which always have one (docs/DEFINITIONS.md, What a board meets)
+-- the gap of the holes at two places; any two holes have one
 abbrev pub HasGap : List Drilled → ℕ → ℕ → Option ℤ → Type 0
 HasGap holes i j None = ⊥
 HasGap holes i j (Some gap) = IsGap (hole_at holes i) (hole_at holes j) gap
 
--- what a board meets of rings (docs/DEFINITIONS.md, What a board meets)
+-- the rings that a board meets at all holes that need one
 abbrev pub MeetsRings : {S : Type 0} → (S → GridPoint → ℕ → Bool) → List (List S) → List Drilled → Met → Type 0
 MeetsRings covers layers holes met = IsLeast (AsksRing (length layers) holes) (HasRing covers layers holes) met
 
--- what a board meets of rings at those holes that are not bare (docs/DEFINITIONS.md, What a board meets)
+-- the rings that a board meets at the holes that need one and are not bare
 abbrev pub MeetsHeld : {S : Type 0} → (S → GridPoint → ℕ → Bool) → List (List S) → List Drilled → Met → Type 0
 MeetsHeld covers layers holes met = IsLeastHeld (AsksRing (length layers) holes) (HasRing covers layers holes) met
 
--- what is met where some pairs are asked, with those that have nothing and without (docs/DEFINITIONS.md, What a board meets)
+-- what is met by pairs that are asked for a length, those without one counted (`ring`) and skipped (`held`)
 pub record AreLeast (asked : ℕ → ℕ → Type 0) (has : ℕ → ℕ → Option ℤ → Type 0) (met : RingsMet) : Type 0 where
   pub ring : IsLeast asked has met.ring
   pub held : IsLeastHeld asked has met.held
 
--- what the first so many layers of a board meet of rings (docs/DEFINITIONS.md, What a board meets)
+-- the rings that the first `count` layers of a board meet
 abbrev pub MeetsOn : {S : Type 0} → (S → GridPoint → ℕ → Bool) → List (List S) → List Drilled → ℕ → RingsMet → Type 0
 MeetsOn covers layers holes count met = AreLeast (AsksRing count holes) (HasRing covers layers holes) met
 
--- what a board meets of gaps (docs/DEFINITIONS.md, What a board meets)
+-- the gaps that a board meets: the least gap of two of its holes, plated or not
 abbrev pub MeetsGaps : List Drilled → Met → Type 0
 MeetsGaps holes met = IsLeast (IsPair holes) (HasGap holes) met
 
--- nothing is found of rings under just the rings that are allowed (docs/DEFINITIONS.md, What a board meets)
+-- for every ring: nothing is found of rings under it just where it is allowed
 abbrev pub RingsPass : {S : Type 0} → (S → GridPoint → ℕ → Bool) → List (List S) → List Drilled → Met → Type 0
 RingsPass covers layers holes met = (ring : ℕ) → (ring_findings covers ring layers holes ≡ []) ↔ allows met ring
 
--- nothing is found of gaps under just the gaps that are allowed (docs/DEFINITIONS.md, What a board meets)
+-- for every gap: nothing is found of gaps under it just where it is allowed
 abbrev pub GapsPass : List Drilled → Met → Type 0
 GapsPass holes met = (gap : ℕ) → (gap_findings gap holes ≡ []) ↔ allows met gap
 
--- what a board meets says of all rings whether it passes (docs/DEFINITIONS.md, What a board meets)
+-- the rings that a board meets are just those under which nothing is found of rings
 abbrev pub RingsPassExactly : {S : Type 0} → (S → GridPoint → ℕ → Bool) → Type 0
 RingsPassExactly {S} covers = (layers : List (List S)) (holes : List Drilled) (met : Met) → MeetsRings covers layers holes met → RingsPass covers layers holes met
 
--- and of all gaps (docs/DEFINITIONS.md, What a board meets)
+-- the gaps that a board meets are just those under which nothing is found of gaps
 abbrev pub GapsPassExactly : Type 0
 GapsPassExactly = (holes : List Drilled) (met : Met) → MeetsGaps holes met → GapsPass holes met

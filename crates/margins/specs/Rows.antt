@@ -1,4 +1,4 @@
--- The rings that some holes have on one layer. Lengths are whole picometres.
+-- The rings that some holes have on one layer. Holes are named by their places in the list of all holes. All lengths are whole picometres.
 use Rattle.std.specs.Prelude.{◌≡◌, ℕ, ℤ, pos, ◌<◌, ◌-ℤ◌, ◌≤ℤ◌, ◌<ℤ◌, Bool, true, false, Option, Some, None, List, length, get_or, count_by}
 use Rattle.grid_units.specs.Points.{GridPoint}
 use Rattle.grid_units.specs.Holes.{GridHole}
@@ -10,21 +10,21 @@ use Rattle.margins.specs.declared.best.Best.{Best}
 use Rattle.margins.specs.declared.row.LeastRing.{LeastRing}
 use Rattle.margins.specs.declared.row.RingRow.{RingRow}
 
--- the ring of a hole by its best pad (docs/DEFINITIONS.md, What a board meets)
+-- the ring of a hole by its best pad: how deep it lies there, less its radius; none without a best pad
 abbrev pub ring_by : Option Best → GridHole → Option ℤ
 ring_by None hole = None
 ring_by (Some best) hole = Some (pos best.depth -ℤ pos hole.radius)
 
--- the ring of the hole at a place, or none where it is bare (docs/DEFINITIONS.md, Rows of rings)
+-- the ring of the hole at a place, or none where it is bare
 abbrev pub ring_at : List (Option Best) → List Drilled → ℕ → Option ℤ
 ring_at bests holes k = ring_by (get_or bests k None) (hole_at holes k)
 
--- there is no best pad (docs/DEFINITIONS.md, Rows of rings)
+-- a hole has no best pad, so it is bare
 abbrev pub has_none : Option Best → Bool
 has_none None = true
 has_none (Some best) = false
 
--- the least ring of the first so many of some holes, and the first of them that has it (docs/DEFINITIONS.md, Rows of rings)
+-- the least ring of the first `count` chosen holes, and the first of them that has it
 pub record IsLeastRing (bests : List (Option Best)) (holes : List Drilled) (chosen : List ℕ) (count : ℕ) (held : LeastRing) : Type 0 where
   pub i : ℕ
   pub inside : i < count
@@ -33,18 +33,18 @@ pub record IsLeastRing (bests : List (Option Best)) (holes : List Drilled) (chos
   pub least : (j : ℕ) (ring : ℤ) → j < count → ring_at bests holes (get_or chosen j 0) ≡ Some ring → held.ring ≤ℤ ring
   pub first : (j : ℕ) (ring : ℤ) → j < i → ring_at bests holes (get_or chosen j 0) ≡ Some ring → held.ring <ℤ ring
 
--- the least ring of the first so many of some holes, or none where each of them is bare (docs/DEFINITIONS.md, Rows of rings)
+-- the least ring of the first `count` chosen holes, or none where each of them is bare
 abbrev pub IsLeastRingOf : List (Option Best) → List Drilled → List ℕ → ℕ → Option LeastRing → Type 0
 IsLeastRingOf bests holes chosen count None = (j : ℕ) → j < count → ring_at bests holes (get_or chosen j 0) ≡ None
 IsLeastRingOf bests holes chosen count (Some least) = IsLeastRing bests holes chosen count least
 
--- how many holes are chosen, how many of them are bare, and the least ring of them (docs/DEFINITIONS.md, Rows of rings)
+-- how many holes are chosen, how many of them are bare, and the least ring of the others
 pub record IsRow (bests : List (Option Best)) (holes : List Drilled) (chosen : List ℕ) (row : RingRow) : Type 0 where
   pub size : row.holes ≡ length chosen
   pub bare : row.bare ≡ count_by (λ k. has_none (get_or bests k None)) chosen
   pub least : IsLeastRingOf bests holes chosen (length chosen) row.least
 
--- the rings of a row are those among the pads of the layer (docs/DEFINITIONS.md, Rows of rings)
+-- the ring that is computed from the best pad of a hole is its ring among the pads of the layer
 abbrev pub RowsTellRings : {S : Type 0} → (S → GridPoint → ℕ → Bool) → Type 0
 RowsTellRings {S} covers =
     (pads : List S) (holes : List Drilled) (bests : List (Option Best)) (k : ℕ) → AreBest covers pads holes bests → k < length holes → IsRingOf covers pads (hole_at holes k) (ring_at bests holes k)

@@ -3,7 +3,7 @@
 ghost use Rattle.std.specs.Prelude.{◌≤◌};
 ghost use Rattle.pad_shapes.specs.Shapes.{max_half_side};
 
-/// The first pad of a list of those in which a hole lies deepest.
+/// The best pad of a hole: the first of those in which it lies deepest.
 #[derive(Clone, Copy, Debug, PartialEq, Eq)]
 pub struct Best {
     /// The place of the pad in the list, from 0.

@@ -19,7 +19,7 @@ use pad_shapes::Zone;
 use ring_rules::{Drilled, HoleIndex, is_oblique, usual_zone};
 use std::alloc::{AllocError, Global};
 
-/// How deep a hole must lie in a pad that is better than the best so far, in pm.
+/// How deep a hole must lie at least in a pad that is better than the best so far, in pm.
 fn asked(best: Option<Best>) -> i64
     ensures value { result ≡ pos (asked best) }
     ensures in_range { IsReach result }
@@ -38,7 +38,7 @@ fn is_deeper<S: Deep>(pad: &S, hole: &Hole, best: Option<Best>) -> bool
     pad.covers_slot(hole.from(), hole.to(), asked(best))
 }
 
-/// A pad that covers a hole, as its best one.
+/// A pad that covers a hole, as its best pad.
 fn best_in<S: Deep>(place: usize, pad: &S, hole: &Hole, best: Option<Best>) -> Best
     requires { covers_ends S.covers pad.now hole.now.from hole.now.to (asked best) ≡ true }
     ensures { IsBetter (λ reach. covers_ends S.covers pad.now hole.now.from hole.now.to reach) best place (Some result) }
@@ -49,7 +49,7 @@ fn best_in<S: Deep>(place: usize, pad: &S, hole: &Hole, best: Option<Best>) -> B
     }
 }
 
-/// The better of the best pad so far and the next one. An oblique slot has none.
+/// The better of the best pad so far and the next one. An oblique slot keeps what it has.
 fn better<S: Deep>(best: Option<Best>, place: usize, pad: &S, hole: &Hole) -> Option<Best>
     ensures { IsStep S.covers pad.now place hole.now best result }
 {
@@ -91,8 +91,8 @@ fn try_near<S: Deep>(
     }
 }
 
-/// How much a hole of a list asks at least of a pad that is better than its best so far: what some did, or less. An oblique slot asks
-/// for nothing.
+/// The lesser of a depth and the one that a hole asks of a pad that is better than its best so far, in pm. An oblique
+/// slot asks for nothing.
 fn lesser_asked(least: u64, hole: &Hole, best: Option<Best>) -> u64
     ensures less { result ≤ least }
     ensures asks { AsksFor hole.now best result }
@@ -103,7 +103,7 @@ fn lesser_asked(least: u64, hole: &Hole, best: Option<Best>) -> u64
     least
 }
 
-/// What the holes at some places ask at least.
+/// The least depth that a hole at one of some places asks of a better pad, in pm.
 fn least_asked(holes: &[Drilled], near: &[usize], bests: &[Option<Best>]) -> u64
     requires near { All (λ k. k < length holes.now) near.now }
     requires size { length bests.now ≡ length holes.now }
@@ -116,7 +116,7 @@ fn least_asked(holes: &[Drilled], near: &[usize], bests: &[Option<Best>]) -> u64
     least
 }
 
-/// Tries a pad at the holes of a part, where it may be better at one of them, and says what these ask at least from now on.
+/// Tries a pad at the holes of a part, if it may be better for one of them. Returns the least depth that these ask for from now on.
 fn try_part<S: Deep>(
     index: &HoleIndex,
     pad: &S,
@@ -141,8 +141,8 @@ fn try_part<S: Deep>(
     Ok(least_asked(holes, near, bests))
 }
 
-/// Tries a pad at the holes of the parts from one to below another, each with what its holes ask at least, and says what all of these
-/// ask at least from now on.
+/// Tries a pad at the holes of the parts from one place to another, end excluded. Each part has the least depth that
+/// its holes ask for; the least of all is returned.
 fn try_parts<S: Deep>(
     index: &HoleIndex,
     pad: &S,
@@ -173,7 +173,8 @@ fn try_parts<S: Deep>(
     Ok(least)
 }
 
-/// Tries a pad at the holes of a zone, part by part, where it may be better at one of them, and says what these ask at least from now on.
+/// Tries a pad at the holes of a zone, part by part, if it may be better for one of them. Returns the least depth
+/// that these ask for from now on.
 fn try_zone<S: Deep>(
     index: &HoleIndex,
     pad: &S,
@@ -207,7 +208,8 @@ fn try_zone<S: Deep>(
     )
 }
 
-/// Tries a pad at the holes of the zone at a place, where it may be better at one of them, and says what these ask at least from now on.
+/// Tries a pad at the holes of the zone at a place, if it may be better for one of them. Returns the least depth that
+/// these ask for from now on.
 fn try_zone_at<S: Deep>(
     index: &HoleIndex,
     pad: &S,
@@ -247,7 +249,7 @@ fn try_zone_at<S: Deep>(
     )
 }
 
-/// Tries a pad at the holes of all zones, each with what its holes ask at least, and says what all holes ask at least from now on.
+/// Tries a pad at the holes of all zones. Each zone has the least depth that its holes ask for; the least of all is returned.
 fn try_zones<S: Deep>(
     index: &HoleIndex,
     pad: &S,
@@ -291,7 +293,7 @@ fn try_zones<S: Deep>(
     Ok(least)
 }
 
-/// Tries a pad at the holes of the board, zone by zone, and says what these ask at least from now on.
+/// Tries a pad at the holes of the board, zone by zone. Returns the least depth that these ask for from now on.
 fn try_all<S: Deep>(
     index: &HoleIndex,
     pad: &S,
@@ -328,7 +330,7 @@ fn try_all<S: Deep>(
     )
 }
 
-/// The zone of a pad, where it has no more than so many cells.
+/// The zone of a pad, if it has one with at most so many cells.
 fn small_zone<S: Deep>(index: &HoleIndex, pad: &S, most: usize) -> Option<Zone>
     ensures { IfSome result (BoundsCentres S.covers pad.now 0) }
 {
@@ -359,8 +361,9 @@ fn try_within<S: Deep>(
     Ok(())
 }
 
-/// Tries a pad at the holes that it may cover, where it may be better at one of the board: at those of its zone where it is small, else zone
-/// by zone of the board. Says what the holes of the board ask at least from now on.
+/// Tries a pad at the holes that it may cover, if it may be better for one of the board. A small pad is tried at the
+/// holes of its zone, a large one zone by zone of the board. Returns the least depth that the holes of the board ask
+/// for from now on.
 fn try_pad<S: Deep>(
     index: &HoleIndex,
     pad: &S,
@@ -408,7 +411,7 @@ fn try_pad<S: Deep>(
     }
 }
 
-/// Tries all pads in their order, at holes that have none yet.
+/// Tries all pads in their order, at holes that have no best pad so far.
 fn try_pads<S: Deep>(
     alloc: Global,
     index: &HoleIndex,
@@ -448,7 +451,7 @@ fn try_pads<S: Deep>(
     Ok(())
 }
 
-/// Tries all pads in their order, at holes that have none yet, of which nothing is known.
+/// Tries all pads in their order, at holes that have no best pad so far, with bounds of 0.
 fn try_anew<S: Deep>(
     alloc: Global,
     index: &HoleIndex,
@@ -477,7 +480,7 @@ fn try_anew<S: Deep>(
     )
 }
 
-/// The best pad of each hole of an index and of a division.
+/// The best pad of each hole, by an index and a division of the holes.
 fn best_of_division<S: Deep>(
     alloc: Global,
     index: &HoleIndex,
@@ -494,7 +497,7 @@ fn best_of_division<S: Deep>(
     Ok(bests)
 }
 
-/// The best pad of each hole of an index.
+/// The best pad of each hole, by an index of the holes.
 fn best_of_index<S: Deep>(
     alloc: Global,
     index: &HoleIndex,

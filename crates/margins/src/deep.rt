@@ -8,21 +8,20 @@ ghost use Rattle.margins.specs.Depths.{IsDepth, IsDepthOfHole, CoversLess};
 use grid_units::{Hole, Point};
 use pad_shapes::PadShape;
 
-/// A shape that tells how deep a point lies in it.
+/// A shape with a depth of each point.
 ///
-/// The depth of a point is the greatest reach with which the shape covers it, in whole pm. What is covered with a reach is
-/// covered with each lesser one. Below 0 the point is covered with no reach at all.
+/// The depth of a point is the greatest reach with which the shape covers it, in whole pm. What is covered with a
+/// reach is covered with each lesser one. Below 0 the point is covered with no reach at all.
 pub trait Deep: PadShape {
-    /// Its middle.
+    /// Its middle, such as the centre of a pad.
     ghost middle: { Self → GridPoint };
 
-    /// How deep the point lies in it, in pm: at most five metres. Below 0 the number says no more than that the point is not
-    /// covered.
+    /// How deep the point lies in it, in pm: at most five metres. Below 0 the point is not covered, and the number says no more.
     fn depth(&self, at: Point) -> i64
         ensures exact { IsDepth Self.covers self.now at result }
         ensures in_range { result ≤ℤ pos max_half_side };
 
-    /// Its middle.
+    /// Its middle, such as the centre of a pad.
     fn middle(&self) -> Point
         ensures { result ≡ middle self.now };
 
@@ -33,7 +32,7 @@ pub trait Deep: PadShape {
         self.depth(self.middle())
     }
 
-    /// What it covers with a reach it covers with each lesser one.
+    /// What it covers with a reach it covers with each lesser reach.
     ghost shrinks: { CoversLess Self.covers };
 }
 

@@ -16,7 +16,7 @@ use pad_shapes::{PadShape, Zone};
 use ring_rules::Drilled;
 use std::alloc::{AllocError, Global};
 
-/// The same shape, in which nothing lies deep: it covers with no reach what the shape covers so, and nothing with a greater one.
+/// A flat shape, in which nothing lies deep. It covers with a reach of 0 what the shape does, and nothing with a greater one.
 #[derive(Clone, Copy)]
 struct Flat<S> {
     shape: S,
@@ -74,7 +74,7 @@ impl<S: Deep> Deep for Flat<S> {
     }
 }
 
-/// The shapes of some shapes in which nothing lies deep.
+/// The flat shapes of some shapes.
 fn flats<S: Deep + Copy>(alloc: Global, pads: &[S]) -> Result<Vec<Flat<S>>, AllocError>
     ensures { IfOk result (λ flats. flats.items ≡ map (λ pad. record { shape = pad }) pads.now) }
 {
@@ -88,7 +88,7 @@ fn nones(alloc: Global, bests: &[Option<Best>]) -> Result<Vec<bool>, AllocError>
     bests.iter().map(|best| best.is_none()).collect(alloc)
 }
 
-/// Whether a pad of some may cover a point of a zone. `true` says nothing.
+/// Whether one of some pads may cover a point of a zone. `true` says nothing.
 fn may_cover_one<S: Deep>(pads: &[S], zone: &Zone) -> bool
     ensures { result ≡ false → CoverNone S.covers pads.now (length pads.now) zone.now }
 {
@@ -100,7 +100,7 @@ fn may_cover_one<S: Deep>(pads: &[S], zone: &Zone) -> bool
     false
 }
 
-/// That each of some holes is bare, where no pad covers a point of a zone that holds them.
+/// The answer that each hole is bare, where no pad covers a point of a zone with the entry points of all.
 fn all_bare<S: Deep>(
     alloc: Global,
     pads: &[S],
@@ -114,7 +114,7 @@ fn all_bare<S: Deep>(
     vec![in alloc; true; holes.len()]
 }
 
-/// Whether each of some holes is bare, by the shapes in which nothing lies deep.
+/// Whether each of some holes is bare, by the flat shapes of the pads.
 fn bare_by_flats<S: Deep + Copy>(
     alloc: Global,
     pads: &[S],
@@ -127,8 +127,9 @@ fn bare_by_flats<S: Deep + Copy>(
     nones(alloc, &bests)
 }
 
-/// Whether each of some holes is bare, in their order: an oblique slot, or covered by no pad at both ends with any reach. That is what
-/// `best_pads` tells too; here nothing is asked of a hole again once a pad covers it, and no shape is copied where none is near.
+/// Whether each of some holes is bare, in their order: an oblique slot, or covered by no pad at both ends with any
+/// reach. `best_pads` answers that too. Here a hole is not asked again once a pad covers it, and no shape is copied
+/// where none is near.
 ///
 /// # Errors
 ///

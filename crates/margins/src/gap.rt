@@ -21,7 +21,7 @@ pub fn gap_between(a: &Hole, b: &Hole) -> i64
     less(cores, a.radius().unsigned_abs() + b.radius().unsigned_abs())
 }
 
-/// Whether the cores of two holes are at least so far apart.
+/// Whether the cores of two holes are at least so many pm apart.
 fn is_as_far(a: &Hole, b: &Hole, far: u64) -> bool
     requires { far ≤ 50000000000000 }
     ensures { result ≡ nat_le (square far) (square_of_cores a.now b.now) }
@@ -30,7 +30,7 @@ fn is_as_far(a: &Hole, b: &Hole, far: u64) -> bool
     square(far) <= cores
 }
 
-/// Whether the gap between two holes is so much or more, in pm. No root is taken.
+/// Whether the gap between two holes is at least so many pm. No root is taken.
 pub(crate) fn has_gap(a: &Hole, b: &Hole, gap: i64) -> bool
     requires { IsGapBound gap }
     ensures { result ≡ true → (g : ℤ) → IsGap a.now b.now g → gap ≤ℤ g }

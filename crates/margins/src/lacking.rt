@@ -13,7 +13,7 @@ use grid_units::Rules;
 use ring_rules::{Drilled, Finding, layer_findings};
 use std::alloc::{AllocError, Global};
 
-/// Whether a ring that a hole has, if it has one, is less than the rule.
+/// Whether a hole has no ring, or one below the rule.
 fn is_short(ring: Option<i64>, rules: Rules) -> bool
     ensures { result ≡ is_short rules.ring ring }
 {
@@ -23,7 +23,7 @@ fn is_short(ring: Option<i64>, rules: Rules) -> bool
     }
 }
 
-/// Whether a hole asks a ring on a layer and has less by its best pad there.
+/// Whether a hole needs a ring on a layer, and its best pad there gives it none or less than the rule.
 fn falls_short(layer: usize, drilled: &Drilled, best: Option<Best>, rules: Rules) -> bool
     ensures { result ≡ falls_short rules.ring layer drilled.now best }
 {
@@ -49,7 +49,7 @@ fn lacking_by<S: Deep>(
     Ok(lacking)
 }
 
-/// Appends what is found on a layer, by the best pads of the holes there.
+/// Appends the findings of rings on a layer, by the best pads of the holes there.
 fn add_lacking<S: Deep>(
     alloc: Global,
     findings: &mut Vec<Finding>,
@@ -66,7 +66,7 @@ fn add_lacking<S: Deep>(
     layer_findings(findings, layer, holes, &lacking)
 }
 
-/// What [`ring_rules::ring_findings`] finds, by the best pads of the holes on each layer: no pad is looked at again.
+/// The findings of [`ring_rules::ring_findings`], by the best pads of the holes on each layer: no pad is looked at again.
 ///
 /// # Errors
 ///

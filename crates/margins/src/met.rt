@@ -19,9 +19,9 @@ use std::alloc::{AllocError, Global};
 /// The rules that a board meets.
 #[derive(Clone, Copy, Debug, PartialEq, Eq)]
 pub enum Met {
-    /// All of them: nothing is asked.
+    /// All of them: no hole, or no two holes, are asked for anything.
     Any,
-    /// Those up to this length in pm, and no greater one. Below 0 there is none.
+    /// Those up to this length, in pm. A length below 0 allows no rule.
     Most(i64),
     /// None, however small.
     None,
@@ -30,20 +30,20 @@ pub enum Met {
 /// The rings that a board meets.
 #[derive(Clone, Copy, Debug, PartialEq, Eq)]
 pub struct RingsMet {
-    /// Those that all holes have: none where a hole is bare on a layer where it asks a ring.
+    /// Those that all holes have: none where a hole is bare on a layer where it needs a ring.
     pub ring: Met,
-    /// Those that the holes have that are not bare: none where each hole is bare on each layer where it asks a ring.
+    /// Those that the holes have that are not bare: none where each hole is bare on each layer where it needs a ring.
     pub held: Met,
 }
 
-/// Whether a hole asks a ring on a layer, by its place from 0: it is plated and goes through it.
+/// Whether a hole needs a ring on a layer, by its place from 0: it is plated and goes through the layer.
 pub fn asks_ring(layer: usize, drilled: &Drilled) -> bool
     ensures { result ≡ asks_ring layer drilled.now }
 {
     drilled.plated && is_in_span(layer, drilled.span)
 }
 
-/// What is met of all rings where one more hole asks one.
+/// The rings that are met with one more hole that needs one.
 fn least(met: Met, ring: Option<i64>) -> Met
     ensures { result ≡ least_of met ring }
 {
@@ -54,7 +54,7 @@ fn least(met: Met, ring: Option<i64>) -> Met
     }
 }
 
-/// What is met of the rings that there are where one more hole asks one.
+/// The rings that are met with one more hole that needs one, bare holes skipped.
 fn least_held(met: Met, ring: Option<i64>) -> Met
     ensures { result ≡ held_of met ring }
 {
@@ -66,7 +66,7 @@ fn least_held(met: Met, ring: Option<i64>) -> Met
     }
 }
 
-/// What is met where one more hole asks a ring.
+/// What is met, with bare holes counted and skipped, where one more hole needs a ring.
 fn with_ring(met: RingsMet, ring: Option<i64>) -> RingsMet
     ensures ring { result.ring ≡ least_of met.ring ring }
     ensures held { result.held ≡ held_of met.held ring }
@@ -77,7 +77,7 @@ fn with_ring(met: RingsMet, ring: Option<i64>) -> RingsMet
     }
 }
 
-/// What a board meets without a layer.
+/// What a board without a layer meets.
 pub fn met_by_none<S: Deep>(layers: &[&[S]], holes: &[Drilled]) -> RingsMet
     ensures { MeetsOn S.covers (map (λ pads. pads.now) layers.now) holes.now 0 result }
 {
@@ -87,7 +87,7 @@ pub fn met_by_none<S: Deep>(layers: &[&[S]], holes: &[Drilled]) -> RingsMet
     }
 }
 
-/// What the layers of a board meet up to one of them, by the best pads of the holes there, and by what those before it meet.
+/// What the layers of a board up to and with one of them meet, by the best pads there and by what the layers before it meet.
 pub fn met_with<S: Deep>(
     layers: &[&[S]],
     layer: usize,
@@ -109,8 +109,9 @@ pub fn met_with<S: Deep>(
     met
 }
 
-/// The greatest rings that a board meets: of all holes that ask one, and of those that are not bare. Each is any where no hole asks
-/// one, and else the least that a hole has in its best pad on a layer of its span.
+/// The greatest rings that a board meets: at all holes that need one (`ring`), and at those that are not bare
+/// (`held`). Each is any where no hole needs a ring. One bare hole makes `ring` none; `held` is none where all are
+/// bare. Else each is the least that a hole has in its best pad on a layer of its span.
 ///
 /// # Errors
 ///
@@ -132,8 +133,9 @@ pub fn rings_met<S: Deep>(
     Ok(met)
 }
 
-/// The greatest ring that a board meets: any where no hole asks one, none where a hole that asks one is bare, else the least that a hole
-/// has in its best pad, on a layer of its span. Under just these rings nothing is found.
+/// The greatest ring that a board meets. It is any where no hole needs one, and none where a hole that needs one is
+/// bare. Else it is the least that a hole has in its best pad on a layer of its span. Under just these rings nothing
+/// is found.
 ///
 /// # Errors
 ///
@@ -150,8 +152,9 @@ pub fn ring_met<S: Deep>(
     Ok(met.ring)
 }
 
-/// The greatest ring that those holes of a board meet that are not bare where they ask one: any where no hole asks one, none where all
-/// that ask one are bare, else the least that a hole has in its best pad, on a layer of its span.
+/// The greatest ring that a board meets at the holes that are not bare where they need one. It is any where no hole
+/// needs one, and none where all that need one are bare. Else it is the least that a hole has in its best pad on a
+/// layer of its span.
 ///
 /// # Errors
 ///
@@ -167,14 +170,14 @@ pub fn held_met<S: Deep>(
     Ok(met.held)
 }
 
-/// What the nearest holes meet.
+/// The gaps that a board meets, by its nearest holes.
 fn most(nearest: Nearest) -> Met
     ensures { result ≡ Met.Most nearest.gap }
 {
     Met::Most(nearest.gap)
 }
 
-/// The greatest gap that a board meets, by the nearest of its holes: any where there are none, else the gap of these two. Under just
+/// The greatest gap that a board meets, by its nearest holes: any where there are none, else their gap. Under just
 /// these gaps nothing is found.
 pub fn gap_met_by(holes: &[Drilled], nearest: Option<Nearest>) -> Met
     requires { IsNearestOf holes.now (IsPair holes.now) nearest }
@@ -187,8 +190,8 @@ pub fn gap_met_by(holes: &[Drilled], nearest: Option<Nearest>) -> Met
     }
 }
 
-/// The greatest gap that a board meets: any where there are fewer than two holes, else the least gap of two. Under just these gaps
-/// nothing is found.
+/// The greatest gap that a board meets: any where there are fewer than two holes, else the least gap of two holes.
+/// Under just these gaps nothing is found.
 ///
 /// # Errors
 ///

@@ -1,9 +1,10 @@
 //! The two holes of a board that are nearest to each other.
 //!
-//! Each hole is tried with those that are no larger and go in so near to it that they may be nearer than the nearest pair so far, which an
-//! index tells. As that pair becomes nearer, fewer are tried. Pairs at its own gap may be very many, as of holes at one point. They are
-//! asked for only where they may come before it: by holes up to its first one; and by later ones among the holes up to that one alone,
-//! of which there is an index too, once all others were tried.
+//! Each hole is tried with those that are no larger and that may be nearer to it than the nearest pair so far. An
+//! index finds these. As that pair becomes nearer, fewer are tried. There may be very many pairs at just its gap, as
+//! of holes at one point. They are looked for only where they may come before it. Holes up to its first one look for
+//! them; so do later ones, once all others were tried, among the holes up to that one, which have an index of their
+//! own.
 
 ghost use Rattle.std.specs.Prelude.{◌≡◌, ◌+◌, ◌<◌, ◌≤◌, ◌+ℤ◌, ◌<ℤ◌, ◌≤ℤ◌, ◌⊎◌, ℤ, pos, length, true, false, IfOk};
 ghost use Rattle.ring_rules.specs.Near.{IsGapBound};
@@ -27,7 +28,7 @@ pub struct Nearest {
     pub gap: i64,
 }
 
-/// The first holes of a list, so many of them: an index of these, and lengths that none of them exceeds.
+/// The first holes of a list, with an index of them and lengths that none of them exceeds.
 #[derive(Drop)]
 struct Prefix {
     count: usize,
@@ -59,7 +60,7 @@ fn pair_at(holes: &[Drilled], first: usize, second: usize) -> Nearest
     Nearest { first, second, gap }
 }
 
-/// The gap with which the holes at two places are no nearer than a pair: its own where it comes before them.
+/// The least gap at which the holes at two places are no nearer than a pair: its own where it comes before them, else one more.
 fn enough(pair: &Nearest, first: usize, second: usize) -> i64
     requires { IsPossible pair.now.gap }
     ensures enough { (gap : ℤ) → result ≤ℤ gap → IsNoFurther pair.now first second gap }
@@ -83,7 +84,7 @@ fn is_further(holes: &[Drilled], first: usize, second: usize, pair: &Nearest) ->
     has_gap(&holes[first].hole, &holes[second].hole, gap)
 }
 
-/// The nearer of the nearest pair so far and the holes at two places, where these are two of the list in their order.
+/// The nearer of the nearest pair so far and the holes at two places, if these are a pair of the list in order.
 fn tried(holes: &[Drilled], first: usize, second: usize, best: Nearest) -> Nearest
     requires { IsHeld holes.now best }
     ensures { IsTried holes.now first second best result }
@@ -102,7 +103,7 @@ fn tried(holes: &[Drilled], first: usize, second: usize, best: Nearest) -> Neare
     }
 }
 
-/// The nearest of a pair and of those of a hole with the holes at some places.
+/// The nearest of a pair and of a hole with each of the holes at some places.
 fn nearest_among(holes: &[Drilled], place: usize, near: &[usize], best: Nearest) -> Nearest
     requires { IsHeld holes.now best }
     ensures { AreTried holes.now place near.now (length near.now) best result }
@@ -114,7 +115,7 @@ fn nearest_among(holes: &[Drilled], place: usize, near: &[usize], best: Nearest)
     nearest
 }
 
-/// The first holes of a list, so many of them.
+/// The first `count` holes of a list, with their index and their limits.
 fn prefix_of(alloc: Global, holes: &[Drilled], count: usize) -> Result<Prefix, AllocError>
     requires { count ≤ length holes.now }
     ensures prefix { IfOk result (IsPrefix holes.now) }
@@ -130,7 +131,7 @@ fn prefix_of(alloc: Global, holes: &[Drilled], count: usize) -> Result<Prefix, A
     })
 }
 
-/// The nearest of a pair and of those of a hole with the first holes, as far as they are no larger than it and have less than a gap.
+/// The nearest of a pair and of a hole with each of the first holes that is no larger and has less than a gap from it.
 fn asked(
     prefix: &Prefix,
     holes: &[Drilled],
@@ -150,8 +151,8 @@ fn asked(
     Ok(nearest_among(holes, place, near, best))
 }
 
-/// Below which gap a hole asks for pairs, when all before it have asked: one more than that of the nearest pair so far, and just that
-/// where the hole comes later than the first of the pair.
+/// The gap below which a hole looks for pairs after all before it have done so: one more than that of the nearest
+/// pair so far, or just that where the hole comes after the first of the pair.
 fn gap_below(pair: &Nearest, place: usize) -> i64
     requires { IsPossible pair.now.gap }
     ensures rest { (gap : ℤ) → result ≤ℤ gap → (pair.now.gap <ℤ gap) ⊎ ((pair.now.gap ≤ℤ gap) × (pair.now.first < place)) }
@@ -164,8 +165,8 @@ fn gap_below(pair: &Nearest, place: usize) -> i64
     }
 }
 
-/// The nearest of a pair and of those of each hole with those that are no larger. Where the first hole of the answer comes before the
-/// larger one of a pair, that may come before the answer at the same gap.
+/// The nearest of a pair and of each hole with those that are no larger. A pair at the gap of the answer may still
+/// come before it, if its larger hole comes after the first hole of the answer.
 fn all_asked(
     prefix: &Prefix,
     holes: &[Drilled],
@@ -185,7 +186,7 @@ fn all_asked(
     Ok(nearest)
 }
 
-/// The nearest of a pair and of those of each hole behind the first ones with these, as far as they are no larger and no further apart.
+/// The nearest of a pair and of each hole after the first ones with one of those that is no larger and no further away.
 fn later_asked(
     prefix: &Prefix,
     holes: &[Drilled],
@@ -213,7 +214,7 @@ fn one_nearest(alloc: Global, holes: &[Drilled]) -> Result<Nearest, AllocError>
     all_asked(&all, holes, &mut near, pair_at(holes, 0, 1))
 }
 
-/// The first of the nearest pairs of a list, by one of them.
+/// The first of the nearest pairs of a list, given any of them.
 fn first_nearest(alloc: Global, holes: &[Drilled], nearest: Nearest) -> Result<Nearest, AllocError>
     requires { AreAsked holes.now (length holes.now) nearest }
     ensures { IfOk result (IsNearest holes.now (IsPair holes.now)) }
@@ -223,8 +224,8 @@ fn first_nearest(alloc: Global, holes: &[Drilled], nearest: Nearest) -> Result<N
     later_asked(&early, holes, &mut near, nearest)
 }
 
-/// The two holes with the least gap, by the first and then by the second of them among equals. There are none where there are
-/// fewer than two holes.
+/// The two holes with the least gap; of equal pairs the first by the first hole, then by the second. There is none
+/// where there are fewer than two holes.
 ///
 /// # Errors
 ///

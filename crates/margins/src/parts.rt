@@ -1,4 +1,4 @@
-//! The zones in which the holes of a board go in, each cut into parts of few holes.
+//! The zones with the entry points of the holes of a board, each cut into parts of few holes.
 
 ghost use Rattle.std.specs.Prelude.{◌≡◌, ℕ, ◌≤◌, ◌<◌, [], ◌∷◌, ◌++◌, length, get_or, IfOk, OnOk};
 ghost use Rattle.std.specs.List.{All};
@@ -19,11 +19,11 @@ const FEW: usize = 8;
 /// The zones of a board, and the parts of each.
 #[derive(Drop)]
 pub(crate) struct Division {
-    /// A zone that holds all others.
+    /// A zone that contains all entry points.
     pub whole: Zone,
-    /// The zones.
+    /// Zones that together contain all entry points.
     pub zones: Vec<Zone>,
-    /// Where the parts of each zone begin in the list of parts; behind it where the last ones end.
+    /// Where the parts of each zone begin in the list of parts, and at the end where the last ones end.
     pub starts: Vec<usize>,
     /// The parts, zone by zone.
     pub parts: Vec<Zone>,
@@ -51,7 +51,7 @@ fn zone_of(at: Point) -> Zone
     }
 }
 
-/// The least zone that holds two others.
+/// The least zone that contains two others.
 fn hull(a: Zone, b: Zone) -> Zone
     ensures first { (p : GridPoint) → IsInZone a p → IsInZone result p }
     ensures second { (p : GridPoint) → IsInZone b p → IsInZone result p }
@@ -64,7 +64,7 @@ fn hull(a: Zone, b: Zone) -> Zone
     }
 }
 
-/// A zone that holds some others.
+/// A zone that contains some others.
 fn hull_of(zones: &[Zone]) -> Zone
     ensures { (p : GridPoint) → IsInOneOf zones.now p → IsInZone result p }
 {
@@ -75,7 +75,7 @@ fn hull_of(zones: &[Zone]) -> Zone
     whole
 }
 
-/// A zone that holds where each hole goes in.
+/// A zone that contains the entry point of each hole.
 pub(crate) fn zone_of_all(holes: &[Drilled]) -> Zone
     ensures { (k : ℕ) → k < length holes.now → IsInZone result (point_at holes.now k) }
 {
@@ -86,7 +86,7 @@ pub(crate) fn zone_of_all(holes: &[Drilled]) -> Zone
     whole
 }
 
-/// A zone that holds where those holes go in whose places stand in a list from one place to below another.
+/// A zone that contains the entry points of the holes at the places from `start` to `end` of a list of places, end excluded.
 fn part_of(holes: &[Drilled], near: &[usize], start: usize, end: usize) -> Zone
     requires near { All (λ k. k < length holes.now) near.now }
     requires end { end ≤ length near.now }
@@ -99,7 +99,7 @@ fn part_of(holes: &[Drilled], near: &[usize], start: usize, end: usize) -> Zone
     part
 }
 
-/// The end of what begins at a place, within so many places.
+/// The end of a part that begins at a place, within so many places.
 fn end_of(start: usize, count: usize) -> usize
     requires { start < count }
     ensures more { start < result }
@@ -108,7 +108,7 @@ fn end_of(start: usize, count: usize) -> usize
     start + FEW.min(count - start)
 }
 
-/// Appends parts that together hold where the holes at some places go in.
+/// Appends parts that together contain the entry points of the holes at some places.
 fn add_parts(holes: &[Drilled], near: &[usize], parts: &mut Vec<Zone>) -> Result<(), AllocError>
     requires { All (λ k. k < length holes.now) near.now }
     ensures longer { OnOk result (length parts.old.items ≤ length parts.new.items) }
@@ -146,7 +146,7 @@ fn add_cut(
     Ok(())
 }
 
-/// Zones that hold where the holes of an index go in, with their parts and a zone that holds all of them.
+/// The zones of an index with their parts, and a zone that contains all of them.
 fn cut(
     alloc: Global,
     index: &HoleIndex,

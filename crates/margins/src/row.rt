@@ -19,14 +19,14 @@ pub struct LeastRing {
     pub hole: usize,
 }
 
-/// What some holes have of rings on a layer.
+/// What rings some holes have on a layer.
 #[derive(Clone, Copy, Debug, PartialEq, Eq)]
 pub struct RingRow {
     /// How many holes these are.
     pub holes: usize,
     /// How many of them are bare: they have no ring at all.
     pub bare: usize,
-    /// The least ring, if one of them has a ring.
+    /// The least ring, if one of them is not bare.
     pub least: Option<LeastRing>,
 }
 
@@ -37,7 +37,7 @@ pub(crate) fn ring_in(best: &Best, hole: &Hole) -> i64
     less(best.depth, hole.radius().unsigned_abs())
 }
 
-/// The ring of a hole, if it is not bare.
+/// The ring of a hole by its best pad, none where it is bare.
 pub(crate) fn ring_of(best: Option<Best>, hole: &Hole) -> Option<i64>
     ensures { result ≡ ring_by best hole.now }
 {
@@ -54,7 +54,7 @@ fn is_bare(best: Option<Best>) -> bool
     best.is_none()
 }
 
-/// The lesser of the least ring so far and that of one more hole. Of equal ones the first stays.
+/// The lesser of the least ring so far and that of one more hole. Of equal rings the first stays.
 fn lesser(least: Option<LeastRing>, hole: usize, ring: Option<i64>) -> Option<LeastRing>
     ensures { IsLesser least hole ring result }
 {
@@ -65,9 +65,9 @@ fn lesser(least: Option<LeastRing>, hole: usize, ring: Option<i64>) -> Option<Le
     }
 }
 
-/// What some holes have of rings on a layer: how many they are, how many of them are bare, and the least ring, with the first of them that
-/// has it. The best pads are those of all holes on this layer; the holes are chosen by their places, from 0. It takes as long as these
-/// are many.
+/// What rings some holes have on a layer: how many holes they are, how many of them are bare, and the least ring with
+/// the first hole that has it. The best pads are those of all holes on this layer; the holes are chosen by their
+/// places, from 0. Only the chosen holes are looked at.
 pub fn ring_row(bests: &[Option<Best>], holes: &[Drilled], chosen: &[usize]) -> RingRow
     requires bests { length bests.now ≡ length holes.now }
     requires chosen { All (λ k. k < length holes.now) chosen.now }

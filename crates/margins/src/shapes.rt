@@ -10,7 +10,7 @@ use crate::roots::{length_above, less};
 use grid_units::Point;
 use pad_shapes::{Disc, Obround, Pad, Rect};
 
-/// How far two points are apart along x.
+/// How far two points are apart along x, in pm.
 fn apart_x(p: Point, q: Point) -> u64
     ensures value { result ≡ apart p.x q.x }
     ensures in_range { result ≤ 20000000000000 }
@@ -18,7 +18,7 @@ fn apart_x(p: Point, q: Point) -> u64
     p.x().abs_diff(q.x())
 }
 
-/// How far two points are apart along y.
+/// How far two points are apart along y, in pm.
 fn apart_y(p: Point, q: Point) -> u64
     ensures value { result ≡ apart p.y q.y }
     ensures in_range { result ≤ 20000000000000 }

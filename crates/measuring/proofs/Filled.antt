@@ -34,7 +34,7 @@ module _ (files : List FileSum) where
       let same : holes_before files (i + n + 1) ≡ holes_before files (i + suc n) = ap (holes_before files) e in
       omega (arith, rest, next, same)
 
-  -- no fewer holes stand before a later file
+  -- a later file has no fewer holes before it
   pub no_fewer : (i j : ℕ) → i ≤ j → holes_before files i ≤ holes_before files j
   no_fewer i j h =
       let e : i + (j - i) ≡ j = omega (arith, h) in
@@ -42,7 +42,7 @@ module _ (files : List FileSum) where
       let by = no_fewer_by i (j - i) in
       omega (arith, same, by)
 
-  -- a hole before the end of some files stands in one of them
+  -- a hole before the end of some files is in one of them
   pub stands : (count hole : ℕ) → hole < holes_before files count → (file : ℕ) × (file < count) × (holes_before files file ≤ hole) × (hole < holes_before files (file + 1))
   stands zero hole less = absurd (omega (arith, less))
   stands (suc n) hole less = elim (cases_lt hole (holes_before files n)) [
@@ -108,7 +108,7 @@ module _ (files : List FileSum) where
           let size = length-append old (one ∷ []) in
           get_or-append_right old (one ∷ []) (length old) i d refl high ∙ only (i - length old) d (omega (arith, l, high, size))
 
--- the end of no file lies beyond that of a later one
+-- the ends of files never fall
 ends_rise : (files : List FileSum) (count : ℕ) (filled : List FileHoles) → AreFileHoles files count filled → IsNonDecreasingBy (λ file. file.end) filled
 ends_rise files count filled are i j d l m =
     let low = (are.each i d (omega (arith, l, m))).1.ends in
@@ -122,7 +122,7 @@ pub parted : (files : List FileSum) (count : ℕ) (filled : List FileHoles) (hol
 parted files count filled hole are = IsPartitionedBy-leb (λ file. file.end) filled hole (ends_rise files count filled are)
 
 module _ (board : Survey) (filled : List FileHoles) (are : AreFilledFiles board filled) where
-  -- the file at the first end behind a hole is that of the hole
+  -- the first file that ends after a hole is the hole's file
   pub found : (hole i : ℕ) → hole < length board.holes → IsPartitionPoint (λ file. leb file.end hole ≡ true) (λ file. leb file.end hole ≡ false) filled i
       → (i < length filled) × ((d : FileHoles) → ((get_or filled i d).start ≤ hole) × (hole < (get_or filled i d).end))
   found hole i inside point = (here, λ d. (low d, high d))
@@ -178,7 +178,7 @@ module _ (board : Survey) (filled : List FileHoles) (are : AreFilledFiles board 
           let above = its.1 in
           omega (arith, start, fewer, above)
 
--- the holes of a file on a layer
+-- the holes of a file, as a stretch on a layer
 pub stretch_of : (board : Survey) (filled : List FileHoles) (i layer : ℕ) (file : FileHoles) → AreFilledFiles board filled → i < length filled → file ≡ get_or filled i file → IsStretch board (record { layer = layer; drill = file.drill; start = file.start; end = file.end })
 stretch_of board filled i layer file are inside at =
     let its : IsFileHoles board.files file = subst (IsFileHoles board.files) (sym at) (are.are.each i file inside).1 in
@@ -194,7 +194,7 @@ stretch_of board filled i layer file are inside at =
       ends = ends;
     }
 
--- the place of a hole in a file that has it
+-- the number of a hole in its file
 pub placed_in : (board : Survey) (filled : List FileHoles) (file : FileHoles) (hole : ℕ) → AreFilledFiles board filled → Contains filled file → file.start ≤ hole → hole < file.end → IsPlace board.files hole (record { drill = file.drill; hole = hole - file.start + 1 })
 placed_in board filled file hole are among low high =
     let its = (All-contains (λ file. (file.drill < length board.files) × IsFileHoles board.files file) filled file are.are.each among).1 in

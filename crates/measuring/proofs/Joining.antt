@@ -1,4 +1,4 @@
--- Lines of rows that stand one after the other.
+-- The lines of rows, joined.
 use Rattle.std.proofs.Common.{◌≡◌, ℕ, ◌+◌, ◌-◌, ◌<◌, ◌≤◌, ◌⊎◌, inl, inr, List, [], ◌++◌, length, get_or, refl, sym, subst, ap, ap₂, ◌∙◌, arith}
 use Rattle.std.specs.List.{AllPairs}
 use Rattle.std.proofs.lemmas.List.{length-append, get_or_append_left, get_or-append_right}
@@ -32,7 +32,7 @@ module _ {X : Type 0} (xs ys : List X) where
   ]
 
 module _ (board : Survey) where
-  -- no lines for rows that have no hole
+  -- no lines for rows without holes
   pub none : (among : RowKey → Type 0) → ((key : RowKey) → among key → 0 < length (places_of board key) → ⊥) → AreRowLines board among []
   none among empty = record {
     keys = [];
@@ -43,7 +43,7 @@ module _ (board : Survey) where
     all = λ key a h. absurd (empty key a h);
   }
 
-  -- the same lines for rows that are named in another way
+  -- the same lines for rows that are described in another way
   pub renamed : (p q : RowKey → Type 0) (lines : List RingLine) → ((key : RowKey) → p key → q key) → ((key : RowKey) → q key → 0 < length (places_of board key) → p key) → AreRowLines board p lines → AreRowLines board q lines
   renamed p q lines to back h = record {
     keys = h.keys;
@@ -54,7 +54,7 @@ module _ (board : Survey) where
     all = λ key a m. h.all key (back key a m) m;
   }
 
-  -- the lines of some rows, and those of rows behind them
+  -- the lines of some rows, and those of later rows
   pub join : (p q r : RowKey → Type 0) (xs ys : List RingLine) → ((a b : RowKey) → p a → q b → IsBefore a b) → ((key : RowKey) → p key → r key) → ((key : RowKey) → q key → r key) → ((key : RowKey) → r key → p key ⊎ q key)
       → AreRowLines board p xs → AreRowLines board q ys → AreRowLines board r (xs ++ ys)
   join p q r xs ys before first last split x y =

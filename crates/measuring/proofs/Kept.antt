@@ -1,4 +1,4 @@
--- The best pads of the layers of a board, one layer more at a time.
+-- The best pads of the layers of a board, layer by layer.
 use Rattle.std.proofs.Common.{◌≡◌, ℕ, ◌+◌, ◌++◌, ◌∷◌, inl, inr, List, [], Option, get_or, map, refl, sym, subst, ap, ◌∙◌, arith}
 use Rattle.std.specs.Global.{Vec}
 use Rattle.std.proofs.lemmas.Bool.{cases_lt}
@@ -26,12 +26,12 @@ module _ (board : Survey) where
     ];
   }
 
-  -- the best pads of the next layer, behind those of the others
+  -- the best pads of one more layer
   pub one_more : (count : ℕ) (old new : List (Vec (Option Best))) (bests : Vec (Option Best)) → new ≡ old ++ bests ∷ [] → AreLayerBests board count (map (λ b. b.items) old)
       → AreBest pad_covers (get_or board.layers count []) board.holes bests.items → AreLayerBests board (count + 1) (map (λ b. b.items) new)
   one_more count old new bests e was is =
       subst (AreLayerBests board (count + 1)) (sym (ap (map (λ b. b.items)) e ∙ map_push (λ b. b.items) old bests)) (next_kept count (map (λ b. b.items) old) bests.items was is)
 
-  -- those of all layers
+  -- the best pads of all layers
   pub all_kept : (count all : ℕ) (bests : List (List (Option Best))) → count ≡ all → AreLayerBests board count bests → AreLayerBests board all bests
   all_kept count all bests e is = subst (λ (n : ℕ). AreLayerBests board n bests) e is

@@ -1,4 +1,4 @@
--- The lines of a layer, one drill file after the other.
+-- The lines of a layer, drill file by drill file.
 use Rattle.std.proofs.Common.{◌≡◌, ℕ, ◌+◌, ◌-◌, ◌<◌, ◌≤◌, ◌⊎◌, inl, inr, List, [], ◌++◌, length, get_or, refl, sym, subst, ap, ◌∙◌, arith}
 use Rattle.std.specs.List.{Contains, filter, range_with_len}
 use Rattle.std.proofs.lemmas.List.{get_or_default}
@@ -13,11 +13,11 @@ use Rattle.measuring.proofs.Filled.{holes_of}
 use Rattle.measuring.proofs.Joining.{join, renamed}
 use Rattle.measuring.proofs.Tabling.{no_file}
 
--- the rows of the layers before one, and on it those of the first so many of some drill files
+-- the rows of the layers before one, and on it those of the first drill files of a list
 abbrev pub IsUpTo : List FileHoles → ℕ → ℕ → RowKey → Type 0
 IsUpTo filled layer count key = (key.layer < layer) ⊎ ((key.layer ≡ layer) × ((k : ℕ) × (k < count) × ((d : FileHoles) → (get_or filled k d).drill ≡ key.drill)))
 
--- a row that has a hole is one of a drill file that has holes
+-- a row with a hole has a drill file with holes
 has_hole : (board : Survey) (key : RowKey) → 0 < length (places_of board key) → holes_before board.files key.drill < holes_before board.files (key.drill + 1)
 has_hole board key some = elim (cases_lt (holes_before board.files key.drill) (holes_before board.files (key.drill + 1))) [
   | inl less ↦ less

@@ -1,4 +1,4 @@
--- The lines of a drill file on a layer, by the table of its holes.
+-- The lines of a drill file on a layer, from the table of its holes.
 use Rattle.std.proofs.Common.{Less, Equal, Greater, ltb, ℤ, w64, to_z, of_z, ◌≡◌, ◌++◌, ◌&&◌, ℕ, pos, ◌+◌, ◌*◌, ◌<◌, ◌≤◌, inl, inr, Bool, true, false, cond, List, [], ◌∷◌, Option, Some, None, length, map, get_or, drop, refl, sym, subst, ap, ◌∙◌, arith}
 use Rattle.std.specs.Prelude.{is_some, ◌*ℤ◌}
 use Rattle.std.specs.Int.Signed.{mag}
@@ -34,7 +34,7 @@ use Rattle.measuring.specs.Rows.{AreRowLines, IsBefore, IsRowLine, RowKey, Tells
 use Rattle.measuring.specs.declared.rows.Stretch.{Stretch}
 use Rattle.measuring.specs.Inner.Tables.{IsIn, IsTableOf, IsTold, is_filled, row_of}
 
--- what is taken from the front of a list
+-- the next element of a list
 pub next_of : {X : Type 0} (xs rest : List X) (n : ℕ) (x : X) → drop n xs ≡ x ∷ rest → (n < length xs) × (get_or xs n x ≡ x) × (rest ≡ drop (n + 1) xs)
 next_of {X} xs rest n x e = elim (cases_lt n (length xs)) [
   | inl inside ↦ (
@@ -61,7 +61,7 @@ got : (o : Option (Vec ℕ)) → is_some o ≡ true → (v : Vec ℕ) × (o ≡ 
 got None e = absurd cc
 got (Some v) e = (v, refl)
 
--- twice a radius, as it is passed on
+-- twice a radius does not overflow
 pub doubled : (z : ℤ) (radius : ℕ) → z ≡ pos radius → radius ≤ 5000000000000 → to_z w64 (of_z w64 (pos 2 *ℤ to_z w64 (of_z w64 z))) ≡ pos (2 * radius)
 doubled z radius is few =
     let one : mag (pos radius) < 9223372036854775808 = omega (arith, ints, few) in
@@ -70,7 +70,7 @@ doubled z radius is few =
     ap (λ (x : ℤ). to_z w64 (of_z w64 (pos 2 *ℤ to_z w64 (of_z w64 x)))) is
     ∙ (ap (λ (x : ℤ). to_z w64 (of_z w64 (pos 2 *ℤ x))) (same (pos radius) one) ∙ (ap (λ (x : ℤ). to_z w64 (of_z w64 x)) twice ∙ same (pos (2 * radius)) two))
 
--- nothing is left behind the last element
+-- after the last element nothing is left
 pub all_taken : {X : Type 0} (xs : List X) (n : ℕ) → drop n xs ≡ [] → length xs ≤ n
 all_taken xs n e = elim (cases_lt n (length xs)) [
   | inl inside ↦ absurd (taken_more xs n inside e)
@@ -81,14 +81,14 @@ all_taken xs n e = elim (cases_lt n (length xs)) [
     taken_more [] n l e = omega (arith, l)
     taken_more (x ∷ xs) n l e = (let more = drop_more (x ∷ xs) n x l in let none : get_or (x ∷ xs) n x ∷ drop (n + 1) (x ∷ xs) ≡ [] = sym more ∙ e in cc)
 
--- the least ring of a row that lies in a stretch is that of one of its holes
+-- the least ring of a row is that of one of its holes
 pub least_inside : (bests : List (Option Best)) (holes : List Drilled) (chosen : List ℕ) (row : RingRow) (low high : ℕ) → IsRow bests holes chosen row → All (λ place. (low ≤ place) × (place < high)) chosen
     → (least : LeastRing) → row.least ≡ Some least → (low ≤ least.hole) × (least.hole < high)
 least_inside bests holes chosen row low high is inside least e =
     let held = subst (IsLeastRingOf bests holes chosen (length chosen)) e is.least in
     subst (λ (place : ℕ). (low ≤ place) × (place < high)) held.there (inside held.i 0 held.inside)
 
--- and it is told by the number of that hole
+-- and its number is the number of that hole
 pub least_told : (files : List FileSum) (drill start end : ℕ) (held : Option LeastRing) (told : Option line.LeastRing) → start ≡ holes_before files drill → end ≡ holes_before files (drill + 1)
     → ((least : LeastRing) → held ≡ Some least → (start ≤ least.hole) × (least.hole < end)) → IsTold held start told → TellsLeast files drill held told
 least_told files drill start end None None starts ends inside is = tt

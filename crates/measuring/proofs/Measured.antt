@@ -28,7 +28,7 @@ neither : {X : Type 0} (xs ys : List X) → xs ≡ [] → ys ≡ [] → xs ++ ys
 neither [] ys e k = k
 neither (x ∷ xs) ys e k = absurd cc
 
--- a board passes where its rings and its gaps do
+-- a board passes where its rings and its gaps pass
 pub board_passes : (board : Survey) (ring gap : Met) → RingsPass pad_covers board.layers board.holes ring → GapsPass board.holes gap → BoardPasses board ring gap
 board_passes board ring gap rings gaps rules =
     let found = ring_findings pad_covers rules.ring board.layers board.holes in

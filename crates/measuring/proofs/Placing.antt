@@ -1,4 +1,4 @@
--- Where the holes of a package stand.
+-- The drill files of holes.
 use Rattle.std.proofs.Common.{◌≡◌, ℕ, ◌+◌, ◌-◌, ◌<◌, ◌≤◌, min, inl, inr, List, length, get_or, ap, ◌∙◌, arith}
 use Rattle.std.specs.List.{sum_by}
 use Rattle.std.proofs.lemmas.List.{take_all}
@@ -14,7 +14,7 @@ use Rattle.measuring.specs.Rows.{IsPlace, holes_before}
 pub before_next : (files : List FileSum) (file : ℕ) (one : FileSum) → file < length files → get_or files file one ≡ one → holes_before files (file + 1) ≡ holes_before files file + hole_count one
 before_next files file one inside is = sum_by_more hole_count files file one inside ∙ ap (λ (f : FileSum). holes_before files file + hole_count f) is
 
--- where the holes of a file end, by how many of the rest it has
+-- the end of a file's holes, by how many of the rest it has
 pub end_is : (files : List FileSum) (holes : List Drilled) (file start count : ℕ) (one : FileSum) → TellAllHoles files holes → file < length files → get_or files file one ≡ one → start ≡ holes_before files file
     → count ≡ min (hole_count one) (length holes - start) → (start + count ≡ holes_before files (file + 1)) × (start + count ≤ length holes)
 end_is files holes file start count one told inside is starts counted =
@@ -22,11 +22,11 @@ end_is files holes file start count one told inside is starts counted =
     let most = sum_by-take-le hole_count files (file + 1) in
     (omega (arith, told, starts, counted, next, most), omega (arith, told, starts, counted, next, most))
 
--- the holes of a file begin in the list
+-- the start of a file's holes is in the list
 pub start_in : (files : List FileSum) (holes : List Drilled) (file start : ℕ) → TellAllHoles files holes → start ≡ holes_before files file → start ≤ length holes
 start_in files holes file start told starts = let most = sum_by-take-le hole_count files file in omega (arith, told, starts, most)
 
--- a hole stands in the file before whose end it lies, if in none before it
+-- a hole between the start and the end of a file's holes has its number there
 pub placed : (files : List FileSum) (file hole start end : ℕ) → start ≡ holes_before files file → end ≡ holes_before files (file + 1) → start ≤ hole → hole < end → IsPlace files hole (record { drill = file; hole = hole - start + 1 })
 placed files file hole start end starts ends low less = record {
   at = omega (arith, starts, low);
@@ -34,7 +34,7 @@ placed files file hole start end starts ends low less = record {
   inside = omega (arith, ends, less);
 }
 
--- no hole stands behind the last file
+-- no hole comes after those of the last file
 pub none_behind : (files : List FileSum) (holes : List Drilled) (file hole start : ℕ) → TellAllHoles files holes → length files ≤ file → start ≡ holes_before files file → start ≤ hole → hole < length holes → ⊥
 none_behind files holes file hole start told past starts low inside =
     let all : holes_before files file ≡ sum_by hole_count files = ap (sum_by hole_count) (take_all file files past) in

@@ -21,7 +21,7 @@ use Rattle.measuring.specs.Inner.Tables.{AreAsked, AreFound, IsAsked, IsScaleLin
 use Rattle.measuring.proofs.Joining.{pairs_join}
 
 module _ (board : Survey) where
-  -- the line of the holes of a plated drill file is its line, and another file has none
+  -- the line found for a file's holes is the file's line, and a file without plated holes has none
   pub found_line : (drill : ℕ) (asked : FileStretch) (pads : List Pad) (line : Option ScaleLine) → IsAsked board drill asked → drill < length board.files → 0 < length board.layers → pads ≡ first_pads board
       → IsScaleLine pads (slice_range board.holes asked.start asked.end) asked.drill line → IsScaleLineOf board drill line
   found_line drill asked pads line is inside layer first scale =
@@ -64,7 +64,7 @@ module _ (board : Survey) where
           let none : bare_count (first_pads board) [] ≡ 0 = refl in
           omega (arith, most, bare, none))
 
-  -- the holes of the files that are asked stand in the list
+  -- the holes that are searched for scales are in the list of all holes
   pub asked_fit : (asked : List FileStretch) → AreAsked board (length board.files) asked → AreFileStretches board.holes asked
   asked_fit asked are = λ k d l. (let size = are.size in let is = are.each k d (omega (arith, l, size)) in (is.ordered, is.inside))
 
@@ -79,7 +79,7 @@ module _ (board : Survey) where
       nothing : FileStretch
       nothing = record { drill = 0; start = 0; end = 0 }
 
-  -- one more file whose scale is asked
+  -- one more file searched for a scale
   pub asked_more : (count : ℕ) (old all : List FileStretch) (asked : FileStretch) → all ≡ old ++ asked ∷ [] → IsAsked board count asked → AreAsked board count old → AreAsked board (count + 1) all
   asked_more count old all asked is more was = subst (AreAsked board (count + 1)) (sym is) (record {
     size = (let size = length-append old (asked ∷ []) in let few = was.size in omega (arith, size, few));
@@ -145,7 +145,7 @@ module _ (board : Survey) where
           let size = length-append old (line ∷ []) in
           get_or-append_right old (line ∷ []) (length old) i d refl high ∙ only (i - length old) d (omega (arith, l, high, size))
 
--- the lines of scales: none before the first layer, and all behind it
+-- the lines of scales once some layers are done: none before the first, all after it
 pub record ScalesAt (board : Survey) (layer : ℕ) (scales : List ScaleLine) : Type 0 where
   pub before : layer ≡ 0 → scales ≡ []
   pub behind : 0 < layer → AreScaleLines board (length board.files) scales

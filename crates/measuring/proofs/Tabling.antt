@@ -10,7 +10,7 @@ use Rattle.measuring.specs.declared.rows.Stretch.{Stretch}
 use Rattle.measuring.specs.Inner.Tables.{IsStretch, is_filled, row_of}
 
 module _ (p : ℕ → Bool) where
-  -- one more number is looked at
+  -- one more number
   kept_more : (a n : ℕ) → p (a + n) ≡ true → filter p (range_with_len a (n + 1)) ≡ filter p (range_with_len a n) ++ (a + n) ∷ []
   kept_more a zero holds =
       let e : a + 0 ≡ a = omega arith in
@@ -42,7 +42,7 @@ either : (b : Bool) → (b ≡ true) ⊎ (b ≡ false)
 either true = inl refl
 either false = inr refl
 
--- one more place of those that there are
+-- a list with one more place is not empty
 filled_push : (xs : List ℕ) (y : ℕ) → is_filled (xs ++ y ∷ []) ≡ true
 filled_push [] y = refl
 filled_push (x ∷ xs) y = refl
@@ -54,7 +54,7 @@ module _ (p : ℕ → Bool) (a n place : ℕ) (here : a + n ≡ place) where
   passed_over : p place ≡ false → filter p (range_with_len a (n + 1)) ≡ filter p (range_with_len a n)
   passed_over fails = left_out p a n (subst (λ (k : ℕ). p k ≡ false) (sym here) fails)
 
-  -- a place is added behind those of its radius
+  -- a place is added to those of its radius
   pub items_added : (old new : List ℕ) → old ≡ filter p (range_with_len a n) → new ≡ cond (p place) (old ++ place ∷ []) old → new ≡ filter p (range_with_len a (n + 1))
   items_added old new was is = elim (either (p place)) [
     | inl holds ↦ is ∙ (ap (λ (b : Bool). cond b (old ++ place ∷ []) old) holds ∙ (ap (λ (xs : List ℕ). xs ++ place ∷ []) was ∙ sym (taken holds)))
@@ -67,7 +67,7 @@ module _ (p : ℕ → Bool) (a n place : ℕ) (here : a + n ≡ place) where
     | inr fails ↦ is ∙ (ap (λ (b : Bool). b || old) fails ∙ (was ∙ sym (ap is_filled (passed_over fails))))
   ]
 
--- the places of a row are those of its stretch that are asked
+-- the places of a row are those holes of its stretch that need the ring
 pub stretched : (board : Survey) (stretch : Stretch) (radius : ℕ) → IsStretch board stretch
     → places_of board (row_of stretch radius) ≡ filter (is_asked board (row_of stretch radius)) (range_with_len stretch.start (stretch.end - stretch.start))
 stretched board stretch radius is = sym (
@@ -86,7 +86,7 @@ places_inside board stretch radius is =
     subst (λ (place : ℕ). (stretch.start ≤ place) × (place < stretch.end)) at (omega arith, omega (arith, inside, ordered)) in
     subst (All (λ place. (stretch.start ≤ place) × (place < stretch.end))) (sym (stretched board stretch radius is)) (All-filter (is_asked board (row_of stretch radius)) (λ place. (stretch.start ≤ place) × (place < stretch.end)) (range_with_len low size) every)
 
--- no file stands behind the last
+-- there is no file after the last
 pub no_file : (board : Survey) (key : RowKey) → length board.files ≤ key.drill → 0 < length (places_of board key) → ⊥
 no_file board key far some =
     let all : holes_before board.files (key.drill + 1) ≡ holes_before board.files key.drill = ap (sum_by hole_count) (take_all (key.drill + 1) board.files (omega (arith, far)) ∙ sym (take_all key.drill board.files far)) in

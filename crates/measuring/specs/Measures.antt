@@ -1,4 +1,4 @@
--- By how much a package meets its rules. Lengths are whole picometres.
+-- The measure of a package: its least rings and gap, and the rules that it meets. Lengths are whole picometres.
 use Rattle.std.specs.Prelude.{◌≡◌, ◌↔◌, ℕ, ◌<◌, Option, List, [], length, get_or, Result, Ok, Err, ⊤}
 use Rattle.grid_units.specs.Holes.{GridRules}
 use Rattle.grid_units.specs.declared.fault.Fault.{Fault}
@@ -16,20 +16,20 @@ use Rattle.measuring.specs.Rows.{AreRingLines, IsGapLine}
 use Rattle.measuring.specs.Scaling.{AreScaleLines}
 use Rattle.measuring.specs.declared.measure.Measure.{Measure}
 
--- both rules are allowed by what is met (docs/DEFINITIONS.md, Measures)
+-- the ring and the gap of the rules are both allowed
 abbrev pub AllowsRules : Met → Met → GridRules → Type 0
 AllowsRules ring gap rules = allows ring rules.ring × allows gap rules.gap
 
--- nothing is found on a board under just the rules that are allowed (docs/DEFINITIONS.md, Measures)
+-- a check of the board has no findings under just the rules that are allowed
 abbrev pub BoardPasses : Survey → Met → Met → Type 0
 BoardPasses board ring gap = (rules : GridRules) → (board_findings rules board ≡ []) ↔ AllowsRules ring gap rules
 
--- the files of a package are all read, whatever the rules are, and its report has no finding under just the rules that are allowed (docs/DEFINITIONS.md, Measures)
+-- the files of a package can be read, whatever the rules are, and its report has no findings under just the rules that are allowed
 pub record PackagePasses (sources : List Source) (ring gap : Met) : Type 0 where
   pub reported : (rules : GridRules) → (report : Account) × IsReport sources rules report
   pub passes : (rules : GridRules) (report : Account) → IsReport sources rules report → (report.findings ≡ []) ↔ AllowsRules ring gap rules
 
--- the measure of a board: the lines of its rings and of its scales, the line of its least gap, and the greatest ring and the greatest gap that it meets (docs/DEFINITIONS.md, Measures)
+-- the measure of a board: the lines of its rings, its scales and its least gap, and the greatest rules that it meets
 pub record IsMeasure (board : Survey) (measure : Measure) : Type 0 where
   pub lines : AreRingLines board measure.rings.items
   pub scales : AreScaleLines board (length board.files) measure.scales.items
@@ -38,24 +38,24 @@ pub record IsMeasure (board : Survey) (measure : Measure) : Type 0 where
   pub held : MeetsHeld pad_covers board.layers board.holes measure.meets.held
   pub gaps : MeetsGaps board.holes measure.meets.gap
 
--- the measure of a package: that of the board of its files (docs/DEFINITIONS.md, Measures)
+-- the measure of a package: that of the board of its files
 pub record IsMeasureOf (sources : List Source) (measure : Measure) : Type 0 where
   pub board : Survey
   pub read : IsBoard sources board
   pub is : IsMeasure board measure
 
--- the best pads of each of the first so many layers of a board, for each of its holes (docs/DEFINITIONS.md, Measures)
+-- the best pad of each hole of a board, on each of its first `count` layers
 pub record AreLayerBests (board : Survey) (count : ℕ) (bests : List (List (Option Best))) : Type 0 where
   pub size : length bests ≡ count
   pub each : (layer : ℕ) → layer < count → AreBest pad_covers (get_or board.layers layer []) board.holes (get_or bests layer [])
 
--- what is returned is the measure of the package, or the first file that is refused, running out of memory aside (docs/DEFINITIONS.md, Measures)
+-- the answer is the measure of the package, or its first file that is refused; if memory runs out nothing is claimed
 abbrev pub AnswersMeasure : List Source → Result Measure PackageFault → Type 0
 AnswersMeasure sources (Ok measure) = IsMeasureOf sources measure
 AnswersMeasure sources (Err stop.Memory) = ⊤
 AnswersMeasure sources (Err (stop.File index fault)) = IsFirstRefused sources index fault
 
--- a package is measured just where a check reports on it, and refused just as by a check, running out of memory aside (docs/DEFINITIONS.md, Measures)
+-- a package has a measure just where a check reports on it, and is refused just as by a check, unless memory runs out
 abbrev pub RefusesAlike : Result Account (ℕ × Fault) → Result Measure PackageFault → Type 0
 RefusesAlike (Ok report) (Ok measure) = ⊤
 RefusesAlike (Err refusal) (Ok measure) = ⊥
@@ -64,6 +64,6 @@ RefusesAlike (Err refusal) (Err stop.Memory) = ⊤
 RefusesAlike (Ok report) (Err (stop.File index fault)) = ⊥
 RefusesAlike (Err refusal) (Err (stop.File index fault)) = refusal ≡ (index, fault)
 
--- a package whose files are all read passes under just the rules that its board meets (docs/DEFINITIONS.md, Measures)
+-- a package whose files can all be read passes under just the rules that its board meets
 abbrev pub MeasuredPasses : Type 0
 MeasuredPasses = (sources : List Source) (board : Survey) (ring gap : Met) → IsBoard sources board → MeetsRings pad_covers board.layers board.holes ring → MeetsGaps board.holes gap → PackagePasses sources ring gap

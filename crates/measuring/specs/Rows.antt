@@ -1,4 +1,4 @@
--- The lines of a measure that tell of rings and of the least gap. Lengths are whole picometres.
+-- The lines of a measure for rings and for the least gap. Lengths are whole pm. The places of holes in the list of all holes count from 0.
 use Rattle.std.specs.Prelude.{◌≡◌, ◌⊎◌, ◌&&◌, ◌==◌, ℕ, pos, ◌+◌, ◌-◌, ◌*◌, ◌<◌, Bool, Option, Some, None, List, [], length, take, get_or, ⊤}
 use Rattle.std.specs.List.{All, AllPairs, Contains, filter, sum_by, range_with_len}
 use Rattle.pad_shapes.specs.Pads.{pad_covers}
@@ -19,59 +19,59 @@ use Rattle.package_check.specs.Boards.{Survey, TellAllHoles, hole_count}
 use Rattle.package_check.specs.declared.FileSum.{FileSum}
 use Rattle.measuring.specs.declared.places.FileHoles.{FileHoles}
 
--- how many holes the files before one have, by its index (docs/DEFINITIONS.md, Lines of a measure)
+-- the number of holes in the files before one, by its index
 abbrev pub holes_before : List FileSum → ℕ → ℕ
 holes_before files file = sum_by hole_count (take file files)
 
--- the hole at a place of the list of all holes stands in a file, as the one of a number from 1 (docs/DEFINITIONS.md, Lines of a measure)
+-- the hole at a place in the list of all holes has this number, from 1, in this drill file
 pub record IsPlace (files : List FileSum) (hole : ℕ) (place : HolePlace) : Type 0 where
   pub at : holes_before files place.drill + place.hole ≡ hole + 1
   pub from_one : 0 < place.hole
   pub inside : hole < holes_before files (place.drill + 1)
 
--- the holes of a drill file that has some: where they begin and where they end in the list of all holes (docs/DEFINITIONS.md, Lines of a measure)
+-- the holes of a drill file that has some: their places from `start` up to `end`, not included
 pub record IsFileHoles (files : List FileSum) (file : FileHoles) : Type 0 where
   pub starts : file.start ≡ holes_before files file.drill
   pub ends : file.end ≡ holes_before files (file.drill + 1)
   pub some : file.start < file.end
 
--- all of the first so many files that have holes, in the order of files (docs/DEFINITIONS.md, Lines of a measure)
+-- among the first `count` files all that have holes, in order
 pub record AreFileHoles (files : List FileSum) (count : ℕ) (filled : List FileHoles) : Type 0 where
   pub each : All (λ file. (file.drill < count) × IsFileHoles files file) filled
   pub sorted : AllPairs (λ a b. a.drill < b.drill) filled
   pub all : (file : FileHoles) → file.drill < count → IsFileHoles files file → Contains filled file
 
--- the drill files of a board that have holes: together they have all its holes (docs/DEFINITIONS.md, Lines of a measure)
+-- the drill files of a board that have holes; together they have all its holes
 pub record AreFilledFiles (board : Survey) (filled : List FileHoles) : Type 0 where
   pub are : AreFileHoles board.files (length board.files) filled
   pub told : TellAllHoles board.files board.holes
 
--- a row: the layer of its rings, its drill file and the radius of its holes (docs/DEFINITIONS.md, Lines of a measure)
+-- a row: the holes of one drill file and one radius that need a ring on one layer
 pub record RowKey : Type 0 where
   pub layer : ℕ
   pub drill : ℕ
   pub radius : ℕ
 
--- the places of the holes of a file, in their order (docs/DEFINITIONS.md, Lines of a measure)
+-- the places of a file's holes, in order
 abbrev pub places_in : List FileSum → ℕ → List ℕ
 places_in files file = range_with_len (holes_before files file) (holes_before files (file + 1) - holes_before files file)
 
--- a hole asks a ring on the layer of a row, and has its radius (docs/DEFINITIONS.md, Lines of a measure)
+-- a hole needs a ring on the layer of a row, and has the row's radius
 abbrev pub is_asked : Survey → RowKey → ℕ → Bool
 is_asked board key hole = asks_ring key.layer (get_or board.holes hole nowhere) && ((hole_at board.holes hole).radius == key.radius)
 
--- the places of the holes of a row, in their order (docs/DEFINITIONS.md, Lines of a measure)
+-- the places of the holes of a row, in order
 abbrev pub places_of : Survey → RowKey → List ℕ
 places_of board key = filter (is_asked board key) (places_in board.files key.drill)
 
--- the least ring of a row and the number of the first hole that has it, or none where each hole is bare (docs/DEFINITIONS.md, Lines of a measure)
+-- the least ring of a row, with the number of the first hole that has it; none where each hole of the row is bare
 abbrev pub TellsLeast : List FileSum → ℕ → Option row.LeastRing → Option line.LeastRing → Type 0
 TellsLeast files drill None None = ⊤
 TellsLeast files drill None (Some told) = ⊥
 TellsLeast files drill (Some held) None = ⊥
 TellsLeast files drill (Some held) (Some told) = (told.ring ≡ held.ring) × IsPlace files held.hole (record { drill = drill; hole = told.hole })
 
--- the line of a row, by the best pads of the layer (docs/DEFINITIONS.md, Lines of a measure)
+-- the line of a row, by the best pads of its layer: `ring layer=1 drill=4 diameter=0.300000000 holes=81 bare=0 least=0.099394596 hole=68`
 pub record IsRowLine (board : Survey) (key : RowKey) (line : RingLine) : Type 0 where
   pub bests : List (Option Best)
   pub best : AreBest pad_covers (get_or board.layers key.layer []) board.holes bests
@@ -84,11 +84,11 @@ pub record IsRowLine (board : Survey) (key : RowKey) (line : RingLine) : Type 0 
   pub bare : line.bare ≡ row.bare
   pub least : TellsLeast board.files key.drill row.least line.least
 
--- the order of rows: by layer, then by drill file, then by radius (docs/DEFINITIONS.md, Lines of a measure)
+-- the order of rows: by layer, then by drill file, then by radius
 abbrev pub IsBefore : RowKey → RowKey → Type 0
 IsBefore a b = (a.layer < b.layer) ⊎ ((a.layer ≡ b.layer) × ((a.drill < b.drill) ⊎ ((a.drill ≡ b.drill) × (a.radius < b.radius))))
 
--- one line for each of some rows that has a hole, in the order of rows (docs/DEFINITIONS.md, Lines of a measure)
+-- one line for each of some rows that has a hole, in the order of rows
 pub record AreRowLines (board : Survey) (among : RowKey → Type 0) (lines : List RingLine) : Type 0 where
   pub keys : List RowKey
   pub size : length keys ≡ length lines
@@ -97,11 +97,11 @@ pub record AreRowLines (board : Survey) (among : RowKey → Type 0) (lines : Lis
   pub sorted : AllPairs IsBefore keys
   pub all : (key : RowKey) → among key → 0 < length (places_of board key) → Contains keys key
 
--- the lines of rings of a board: those of all rows of its layers (docs/DEFINITIONS.md, Lines of a measure)
+-- the lines of a board's rings: those of all rows on its layers
 abbrev pub AreRingLines : Survey → List RingLine → Type 0
 AreRingLines board lines = AreRowLines board (λ key. key.layer < length board.layers) lines
 
--- the line of the least gap: the first two holes that have it (docs/DEFINITIONS.md, Lines of a measure)
+-- the line of the least gap, of the first two holes that have it: `gap least=0.300000000 drill=3 hole=1 drill=4 hole=47`
 pub record IsLeastGap (board : Survey) (line : GapLine) : Type 0 where
   pub pair : Nearest
   pub nearest : IsNearest board.holes (IsPair board.holes) pair
@@ -109,7 +109,7 @@ pub record IsLeastGap (board : Survey) (line : GapLine) : Type 0 where
   pub first : IsPlace board.files pair.first line.first
   pub second : IsPlace board.files pair.second line.second
 
--- the line of the least gap, or none where there are fewer than two holes (docs/DEFINITIONS.md, Lines of a measure)
+-- the line of the least gap; none where there are fewer than two holes
 abbrev pub IsGapLine : Survey → Option GapLine → Type 0
 IsGapLine board None = length board.holes < 2
 IsGapLine board (Some line) = IsLeastGap board line

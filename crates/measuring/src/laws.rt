@@ -1,4 +1,4 @@
-//! What follows from the definitions alone. A call of a law does nothing, and gives its clause.
+//! Laws that follow from the definitions alone. A call of a law does nothing, and gives its clause.
 
 ghost use Rattle.measuring.specs.Measures.{MeasuredPasses};
 
@@ -6,7 +6,7 @@ use margins::laws::{gaps_pass, rings_pass};
 use package_check::laws::one_answer;
 use pad_shapes::Pad;
 
-/// A package whose files are all read passes under just the rules that it meets.
+/// A package whose files can all be read passes under just the rules that it meets.
 pub fn measured_passes()
     ensures { MeasuredPasses }
 {

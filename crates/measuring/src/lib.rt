@@ -1,6 +1,5 @@
-//! By how much a package meets its rules: the least ring of each layer, drill file and diameter, the least gap, the drill files whose
-//! coordinates seem to be off by a factor, and the greatest ring and
-//! the greatest gap under which its check finds nothing.
+//! The measure of a package: the least ring of each layer, drill file and diameter, the least gap, the drill files whose
+//! coordinates seem to be off by a factor, and the greatest ring and the greatest gap under which its check has no findings.
 //!
 //! All lengths are whole picometres (pm).
 #![tactic(auto)]

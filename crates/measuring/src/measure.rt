@@ -23,20 +23,20 @@ use package_check::{Board, File, PackageFault, read_package};
 use pad_shapes::Pad;
 use std::alloc::{AllocError, Global};
 
-/// By how much a package meets its rules: the lines of its measure.
+/// The measure of a package, line by line.
 #[derive(Drop)]
 pub struct Measure {
     /// The least ring of each copper file, drill file and diameter.
     pub rings: Vec<RingLine>,
     /// The drill files whose coordinates seem to be off by a factor.
     pub scales: Vec<ScaleLine>,
-    /// The least gap, where there are two holes.
+    /// The least gap, if there are two holes.
     pub gap: Option<GapLine>,
-    /// The greatest rules that are met.
+    /// The greatest rules under which a check passes.
     pub meets: Meets,
 }
 
-/// What a board meets of rings, the lines of its rings and those of its scales, and the best pads of each layer where they are kept.
+/// The greatest rings that a board meets, the lines of its rings and scales, and the best pads of its layers if they are kept.
 #[derive(Drop)]
 struct Rings {
     met: RingsMet,
@@ -45,7 +45,7 @@ struct Rings {
     bests: Vec<Vec<Option<Best>>>,
 }
 
-/// Keeps the best pads of a layer behind those of the layers before it, or lets them go.
+/// Keeps the best pads of a layer after those of the layers before it, or frees them.
 fn keep(
     keeps: bool,
     bests: Vec<Option<Best>>,
@@ -62,8 +62,8 @@ fn keep(
     }
 }
 
-/// The rings of a board, and its scales. The best pads of each layer are looked for once, and kept only where that is asked, since those of
-/// all layers take memory. The drill files that have holes are listed once for all layers.
+/// The rings of a board, and its scales. The best pads of each layer are searched for once. They are kept only if `keeps` says so, since
+/// those of all layers take memory. The drill files that have holes are listed once for all layers.
 fn rings_on(alloc: Global, board: &Board, keeps: bool) -> Result<Rings, AllocError>
     ensures met { IfOk result (λ rings. MeetsOn pad_covers board.now.layers board.now.holes (length board.now.layers) rings.met) }
     ensures lines { IfOk result (λ rings. AreRingLines board.now rings.lines.items) }
@@ -94,7 +94,7 @@ fn rings_on(alloc: Global, board: &Board, keeps: bool) -> Result<Rings, AllocErr
     })
 }
 
-/// The measure of a board, and the best pads of each layer where they are kept.
+/// The measure of a board, and the best pads of its layers if they are kept.
 fn measure_of(
     alloc: Global,
     board: &Board,
@@ -119,7 +119,7 @@ fn measure_of(
     Ok((measure, rings.bests))
 }
 
-/// The measure of a board alone.
+/// The measure of a board, without best pads.
 fn measure_alone(alloc: Global, board: &Board) -> Result<Measure, AllocError>
     ensures { IfOk result (IsMeasure board.now) }
 {
@@ -131,7 +131,7 @@ fn measure_alone(alloc: Global, board: &Board) -> Result<Measure, AllocError>
 ///
 /// # Errors
 ///
-/// Where there is no memory.
+/// An `AllocError` when memory runs out.
 pub fn measure_board(alloc: Global, board: &Board) -> Result<Measure, AllocError>
     ensures exact { IfOk result (IsMeasure board.now) }
     ensures passes { IfOk result (λ measure. BoardPasses board.now measure.meets.ring measure.meets.gap) }
@@ -141,12 +141,12 @@ pub fn measure_board(alloc: Global, board: &Board) -> Result<Measure, AllocError
     measure_alone(alloc, board)
 }
 
-/// The measure of a board, and for each of its layers the best pad of each hole there. These take memory for each layer and hole: where
-/// only the measure is asked, [`measure_board`] keeps none of them.
+/// The measure of a board, and for each of its layers the best pad of each hole there. These take memory for each layer and hole;
+/// [`measure_board`] keeps none of them.
 ///
 /// # Errors
 ///
-/// Where there is no memory.
+/// An `AllocError` when memory runs out.
 pub fn measure_with_bests(
     alloc: Global,
     board: &Board,
@@ -169,13 +169,13 @@ fn measure_files(alloc: Global, files: &[File]) -> Result<Measure, PackageFault>
     }
 }
 
-/// The measure of the package of these files. Under just the rules that it names the check of these files finds nothing: a ring of 0
-/// or above, and a gap of 1 pm or above.
+/// The measure of the package of these files. A check of them has no findings under just the rules that it allows: a ring of 0
+/// or more, and a gap of 1 pm or more.
 ///
 /// # Errors
 ///
 /// As those of [`package_check::check_bytes`] on these files, whatever its rules are: the first file that is refused, by its index,
-/// with its fault; `Memory` where there is no memory.
+/// with its fault; `Memory` when memory runs out.
 pub fn measure_bytes(alloc: Global, files: &[File]) -> Result<Measure, PackageFault>
     ensures exact { AnswersMeasure (sources_of files.now) result }
     ensures same { (rules : GridRules) (answer : Result Account (ℕ × TheFault)) → IsAnswer (sources_of files.now) rules answer → RefusesAlike answer result }

@@ -1,4 +1,4 @@
-//! Where the holes of a package stand: in which drill file, and as the one of which number.
+//! The drill file of a hole and the hole's number there, from its place in the list of all holes.
 
 ghost use Rattle.std.specs.Prelude.{◌≡◌, ◌++◌, ◌∷◌, ◌+◌, ◌<◌, ◌≤◌, [], length, IfOk, OnOk};
 ghost use Rattle.std.specs.List.{Contains};
@@ -11,18 +11,18 @@ use margins::Nearest;
 use package_check::{Board, hole_count};
 use std::alloc::{AllocError, Global};
 
-/// The holes of a drill file that has some, in the list of all holes of a board.
+/// The holes of a drill file that has some, as places in the list of all holes of a board.
 #[derive(Clone, Copy)]
 pub struct FileHoles {
     /// The index of the drill file.
     pub drill: usize,
     /// The place of its first hole.
     pub start: usize,
-    /// The place behind its last hole.
+    /// The end of these places: one past its last hole.
     pub end: usize,
 }
 
-/// Where the holes of a file end in the list of all holes, by where they begin.
+/// The end of a file's holes in the list of all holes, by their start.
 pub(crate) fn end_of(board: &Board, drill: usize, start: usize) -> usize
     requires inside { drill < length board.now.files }
     requires starts { start ≡ holes_before board.now.files drill }
@@ -35,8 +35,8 @@ pub(crate) fn end_of(board: &Board, drill: usize, start: usize) -> usize
     start + hole_count(&files[drill], rest)
 }
 
-/// Where a hole of a board stands, by its place in the list of all its holes, from 0: in which drill file, and as the one of which number. It takes
-/// as long as a walk over the files: [`place_among`] is for many holes.
+/// The drill file of a hole, and the hole's number there from 1, by its place in the list of all holes, from 0. It walks
+/// over the files; for many holes [`place_among`] is faster.
 pub fn place_of(board: &Board, hole: usize) -> HolePlace
     requires { hole < length board.now.holes }
     ensures { IsPlace board.now.files hole result }
@@ -56,7 +56,7 @@ pub fn place_of(board: &Board, hole: usize) -> HolePlace
     unreachable!()
 }
 
-/// Adds a drill file behind those before it, if it has holes.
+/// Adds a drill file if it has holes.
 fn push_filled(filled: &mut Vec<FileHoles>, file: FileHoles) -> Result<(), AllocError>
     ensures some { file.start < file.end → OnOk result (filled.new.items ≡ filled.old.items ++ file ∷ []) }
     ensures none { file.end ≤ file.start → OnOk result (filled.new.items ≡ filled.old.items) }
@@ -67,11 +67,11 @@ fn push_filled(filled: &mut Vec<FileHoles>, file: FileHoles) -> Result<(), Alloc
     Ok(())
 }
 
-/// The drill files of a board that have holes, in their order: a list for many questions about the same board.
+/// The drill files of a board that have holes, in order, for [`place_among`].
 ///
 /// # Errors
 ///
-/// Where there is no memory.
+/// An `AllocError` when memory runs out.
 pub fn filled_files(alloc: Global, board: &Board) -> Result<Vec<FileHoles>, AllocError>
     ensures { IfOk result (λ filled. AreFilledFiles board.now filled.items) }
 {
@@ -86,7 +86,7 @@ pub fn filled_files(alloc: Global, board: &Board) -> Result<Vec<FileHoles>, Allo
     Ok(filled)
 }
 
-/// The drill file in which a hole stands, of those that have holes.
+/// The drill file of a hole, among those that have holes.
 fn file_of(files: &[FileHoles], hole: usize) -> FileHoles
     requires { (board : Survey) × AreFilledFiles board files.now × (hole < length board.holes) }
     ensures among { Contains files.now result }
@@ -97,8 +97,8 @@ fn file_of(files: &[FileHoles], hole: usize) -> FileHoles
     files[index]
 }
 
-/// Where a hole of a board stands, as [`place_of`] says, by the drill files of the board that have holes. It takes as long as a binary search among
-/// these files.
+/// The drill file of a hole and the hole's number there, as [`place_of`] gives them. It searches by halves among the drill files
+/// that have holes.
 pub fn place_among(files: &[FileHoles], hole: usize) -> HolePlace
     requires { (board : Survey) × AreFilledFiles board files.now × (hole < length board.holes) }
     ensures { (board : Survey) → AreFilledFiles board files.now → IsPlace board.files hole result }
@@ -110,7 +110,7 @@ pub fn place_among(files: &[FileHoles], hole: usize) -> HolePlace
     }
 }
 
-/// The line of the gap between the nearest holes.
+/// The line of the gap between two nearest holes.
 fn line_of(board: &Board, pair: Nearest) -> GapLine
     requires { IsNearest board.now.holes (IsPair board.now.holes) pair }
     ensures { IsLeastGap board.now result }
@@ -122,7 +122,7 @@ fn line_of(board: &Board, pair: Nearest) -> GapLine
     }
 }
 
-/// The line of the least gap, by the nearest holes.
+/// The line of the least gap, if there are two holes.
 pub(crate) fn gap_line(board: &Board, nearest: Option<Nearest>) -> Option<GapLine>
     requires { IsNearestOf board.now.holes (IsPair board.now.holes) nearest }
     ensures { IsGapLine board.now result }

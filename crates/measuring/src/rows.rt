@@ -1,4 +1,4 @@
-//! The lines of rings: one for each layer, drill file and diameter at which holes ask rings.
+//! The lines of rings: one for each layer, drill file and diameter at which holes need rings.
 
 ghost use Rattle.std.specs.Prelude.{◌≡◌, ◌==◌, ◌&&◌, ◌||◌, ◌++◌, ◌∷◌, ◌+◌, ◌<◌, ◌≤◌, [], ℕ, length, get_or, IfOk, OnOk, if◌then◌else◌};
 ghost use Rattle.std.specs.List.{All};
@@ -19,17 +19,17 @@ use std::collections::BTreeMap;
 /// The holes of a drill file, on one layer.
 #[derive(Clone, Copy)]
 pub(crate) struct Stretch {
-    /// The layer, by its place among the copper files.
+    /// The place of the layer among the copper files.
     pub(crate) layer: usize,
     /// The index of the drill file.
     pub(crate) drill: usize,
     /// The place of the first hole.
     pub(crate) start: usize,
-    /// The place behind the last hole.
+    /// The end of their places: one past the last hole.
     pub(crate) end: usize,
 }
 
-/// Adds a place behind those of a radius.
+/// Adds the place of a hole after those of its radius.
 fn push_place(
     alloc: Global,
     table: &mut BTreeMap<u64, Vec<usize>>,
@@ -44,7 +44,7 @@ fn push_place(
     Ok(())
 }
 
-/// Adds the place of a hole behind those of its radius, if it asks a ring.
+/// Adds the place of a hole after those of its radius, if it needs a ring.
 fn push_asked(
     alloc: Global,
     table: &mut BTreeMap<u64, Vec<usize>>,
@@ -61,7 +61,7 @@ fn push_asked(
     Ok(())
 }
 
-/// The places of the holes that ask a ring, by their radius.
+/// The places of the holes that need a ring, by their radius.
 fn table_of(
     alloc: Global,
     board: &Board,
@@ -85,7 +85,7 @@ fn layer_index(board: &Board, layer: usize) -> usize
     board.layer_indexes().get(layer).copied().unwrap_or(0)
 }
 
-/// The least ring of a row, with the number of its hole.
+/// The least ring of a row, with the number of its hole in its file.
 fn told_least(row: &RingRow, start: usize) -> Option<LeastRing>
     requires { IsToldBy row.now start }
     ensures { IsTold row.now.least start result }

@@ -22,7 +22,7 @@ fn is_plated(file: &FileSum) -> bool
     matches!(file, FileSum::Drill { plated: true, .. })
 }
 
-/// Where the holes of a file stand in the list of all holes, where they are plated; of another file none.
+/// The holes that are searched for a scale: those of a file if they are plated, else none.
 fn asked_of(board: &Board, stretch: &Stretch) -> FileStretch
     requires inside { stretch.now.drill < length board.now.files }
     requires stretch { IsStretch board.now stretch.now }
@@ -40,7 +40,7 @@ fn asked_of(board: &Board, stretch: &Stretch) -> FileStretch
     }
 }
 
-/// Where the holes of each file stand whose scale is asked.
+/// For each file the holes that are searched for a scale.
 fn all_asked(alloc: Global, board: &Board) -> Result<Vec<FileStretch>, AllocError>
     ensures { IfOk result (λ asked. AreAsked board.now (length board.now.files) asked.items) }
 {
@@ -61,7 +61,6 @@ fn all_asked(alloc: Global, board: &Board) -> Result<Vec<FileStretch>, AllocErro
     Ok(asked)
 }
 
-/// Appends a line, if there is one.
 fn push_line(lines: &mut Vec<ScaleLine>, line: Option<ScaleLine>) -> Result<(), AllocError>
     ensures { OnOk result (lines.new.items ≡ lines.old.items ++ listed line) }
 {
@@ -71,7 +70,7 @@ fn push_line(lines: &mut Vec<ScaleLine>, line: Option<ScaleLine>) -> Result<(), 
     Ok(())
 }
 
-/// Those of these lines that there are, in their order.
+/// The lines that are there, in order.
 fn all_listed(
     alloc: Global,
     board: &Board,
@@ -87,7 +86,7 @@ fn all_listed(
     Ok(lines)
 }
 
-/// The lines of scales of a board, by the pads of its first layer and the best of these for each hole.
+/// The lines of a board's scales, by the pads of its first layer and the best of these for each hole.
 pub(crate) fn scale_lines(
     alloc: Global,
     board: &Board,

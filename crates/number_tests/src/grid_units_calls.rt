@@ -113,7 +113,7 @@ fn decimals_are_lengths_in_both_units(rt: HostRuntime) {
         ("10000", Unit::Millimetre, Ok(10_000_000_000_000)),
         ("10000.00000001", Unit::Millimetre, Err(Reason::TooFar)),
         ("-10000.00000001", Unit::Millimetre, Err(Reason::TooFar)),
-        // 393.70078740 in is 9,999,999,999,960 pm, and one step more is 10,000,000,000,214 pm.
+        // 393.70078740 in is 9,999,999,999,960 pm, and 10^-8 in more is 10,000,000,000,214 pm.
         ("393.70078740", Unit::Inch, Ok(9_999_999_999_960)),
         ("393.70078741", Unit::Inch, Err(Reason::TooFar)),
         ("393.8", Unit::Inch, Err(Reason::TooFar)),
@@ -157,7 +157,7 @@ fn integers_without_decimals_are_lengths(rt: HostRuntime) {
     }
 }
 
-/// The units of a coordinate without a point in the format I:D.
+/// A coordinate without a point in the format i:d, in units of 10^-8.
 fn coordinate(text: &str, i: u8, d: u8, zeros: Zeros) -> Result<i64, Reason>
     requires whole { (1 ≤ i) × (i ≤ 6) }
     requires decimals { (1 ≤ d) × (d ≤ 6) }
@@ -173,7 +173,7 @@ ghost use Rattle.std.specs.Prelude.{◌≤◌};
 #[test]
 fn coordinates_without_a_point_are_filled(rt: HostRuntime) {
     for &(text, zeros, expected) in &[
-        // 2.54 mm.
+        // 2.54, written in three ways.
         ("2540", Zeros::Trailing, Ok(254_000_000)),
         ("00254", Zeros::Leading, Ok(254_000_000)),
         ("002540", Zeros::Full, Ok(254_000_000)),
@@ -193,7 +193,7 @@ fn coordinates_in_inches_are_filled(rt: HostRuntime) {
     assert_eq!(rt; coordinate("0254", 2, 2, Zeros::Leading), Ok(254_000_000));
     for &(text, zeros, expected) in &[
         ("25400", Zeros::Trailing, 254_000_000),
-        // One inch by its two first digits, and -0.5 by three.
+        // One inch by its first two digits, and -0.5 inch by three.
         ("01", Zeros::Leading, 100_000_000),
         ("-005", Zeros::Leading, -50_000_000),
     ] {
@@ -273,7 +273,7 @@ fn hole_to(y: i64, radius: i64) -> Option<Hole> {
     Hole::new(Point::new(0, 0)?, Point::new(0, y)?, radius)
 }
 
-/// Whether a hole is round and has just these ends and this radius.
+/// Whether the hole with these ends and this radius is round. `None` where it is out of range or read back otherwise.
 fn is_round_hole(y: i64, radius: i64) -> Option<bool> {
     let hole = hole_to(y, radius)?;
     let is_same = hole.from() == Point::new(0, 0)?
@@ -308,7 +308,7 @@ fn rules_have_their_ranges(rt: HostRuntime) {
     }
 }
 
-/// The square of the distance of two points.
+/// The square of the distance of two points, in pm. `None` where a point is out of range.
 fn square_between(from: (i64, i64), to: (i64, i64)) -> Option<i128> {
     let from = Point::new(from.0, from.1)?;
     Some(square_distance(from, Point::new(to.0, to.1)?))
@@ -366,7 +366,7 @@ fn of_two_fields_the_first_reason_is_told(rt: HostRuntime) {
     }
 }
 
-/// Whether two texts are equal, and a copy of the first is.
+/// Whether two texts are equal, and whether a copy of the first equals it.
 fn are_equal(alloc: Global, first: &[u8], second: &[u8]) -> Result<(bool, bool), AllocError> {
     let text = Text::from_slice(alloc, first)?;
     let copy = text.copy()?;

@@ -1,4 +1,4 @@
-//! Tests of the crates of numbers, shapes and printed lengths.
+//! Tests of the crates `grid_units`, `pad_shapes` and `printing`: numbers, shapes of pads, and printed lengths.
 #![tactic(auto)]
 
 #[cfg(test)]

@@ -1,12 +1,12 @@
-//! What pads cover, and their ranges.
+//! What pads cover, and the ranges of their sizes.
 
 use grid_units::Point;
 use pad_shapes::*;
 
-/// A radius of 0.2 mm with a ring of 0.125 mm round it, in pm.
+/// The reach of a hole of radius 0.2 mm with a ring of 0.125 mm, in pm.
 const REACH: i64 = 325_000_000;
 
-/// A radius of 0.25 mm with a ring of 0.125 mm round it, in pm.
+/// The reach of a slot of radius 0.25 mm with a ring of 0.125 mm, in pm.
 const SLOT_REACH: i64 = 375_000_000;
 
 #[derive(Clone, Copy)]
@@ -16,7 +16,7 @@ enum Shape {
     Obround,
 }
 
-/// A pad of this shape round a point, with these half sides. The radius of a disc is the first.
+/// A pad of this shape round a point, with these half sides in pm. The radius of a disc is the first of them.
 fn pad(shape: Shape, centre: (i64, i64), half_x: i64, half_y: i64) -> Option<Pad> {
     let centre = Point::new(centre.0, centre.1)?;
     match shape {
@@ -26,13 +26,13 @@ fn pad(shape: Shape, centre: (i64, i64), half_x: i64, half_y: i64) -> Option<Pad
     }
 }
 
-/// Whether a shape covers a hole, asked through its bound. None where the pad with the shape inside answers otherwise.
+/// Whether a shape covers a hole, asked through the trait. `None` where the pad with this shape inside answers otherwise.
 fn covers<S: PadShape>(shape: &S, pad: &Pad, hole: Point) -> Option<bool> {
     let is_covered = shape.covers(hole, REACH);
     (pad.covers(hole, REACH) == is_covered).then_some(is_covered)
 }
 
-/// Whether the pad and the shape inside both cover a hole.
+/// Whether a pad covers a hole. `None` where the shape inside answers otherwise.
 fn covers_hole(pad: Option<Pad>, x: i64, y: i64) -> Option<bool> {
     let hole = Point::new(x, y)?;
     let pad = pad?;
@@ -240,14 +240,14 @@ fn a_slot_is_covered_by_its_two_ends(rt: HostRuntime) {
     }
 }
 
-/// A disc at the origin, and the zone of what it may cover.
+/// A disc at the origin, and the zone of the centres that it may cover.
 fn disc_and_zone() -> Option<(Disc, Zone)> {
     let disc = Disc::new(Point::new(0, 0)?, 825_000_000)?;
     let zone = disc.zone(325_000_000)?;
     Some((disc, zone))
 }
 
-/// Whether the disc may cover what lies in its zone from these sides on.
+/// Whether the disc may cover a centre in the corner of its zone that begins at this left and this bottom.
 fn may_cover_from(left: i64, bottom: i64) -> Option<bool> {
     let (disc, zone) = disc_and_zone()?;
     let corner = Zone {

@@ -1,9 +1,9 @@
-//! Lengths, and texts in parts.
+//! Printed lengths, and texts that are written in parts.
 
 use printing::*;
 use std::test::Fail;
 
-/// Whether a length in pm is written so.
+/// Whether a length in pm is written as this text, in short millimetres.
 fn is_short(rt: HostRuntime, length: i64, text: &str) -> Result<bool, Fail> {
     let mut written = String::new(rt.alloc());
     push_short_mm(&mut written, length)?;

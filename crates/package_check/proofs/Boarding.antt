@@ -1,4 +1,4 @@
--- What the files of a package say, and its holes with their places.
+-- The board of a package, and its holes with their places.
 use Rattle.std.proofs.Common.{◌≡◌, ◌<◌, ◌≤◌, ◌+◌, ◌++◌, ℕ, zero, suc, List, [], ◌∷◌, length, map, take, drop, get_or, min, arith, refl, sym, ap, ap₂, subst, ◌∙◌, Bool, true, false, cond, not, append_assoc}
 use Rattle.std.specs.List.{flat_map, enumerate_from, count_by, sum_by}
 use Rattle.std.proofs.lemmas.List.{append-nil, drop_all, drop_more, take_more, take_min, map-append, length-append, length-map}
@@ -55,7 +55,7 @@ numbered_more file xs i x lt is =
     ∙ (map-append f (enumerate_from 1 (take i xs)) ((1 + length (take i xs), x) ∷ [])
     ∙ ap (λ k. numbered_in file (take i xs) ++ f (k, x) ∷ []) e)))
 
--- the holes of the next file, and those behind it
+-- the holes of the next file, and those of the files after it
 pub numbered_next : (file : ℕ) (one : FileSum) (files : List FileSum) (holes : List Drilled) (its behind : List Drilled) → its ≡ take (min (hole_count one) (length holes)) holes → behind ≡ drop (min (hole_count one) (length holes)) holes
     → numbered_from file (one ∷ files) holes ≡ numbered_in file its ++ numbered_from (file + 1) files behind
 unfolding numbered_from
@@ -133,7 +133,7 @@ numbered_all n (c ∷ cs) =
     ∙ (ap (λ (ys : List Numbered). holes_of (n, c) ++ ys) (numbered_all (n + 1) cs)
     ∙ sym (flat_map-cons holes_of (n, c) (enumerate_from (n + 1) cs)))))
 
--- the report on the board of files is that on what they say
+-- the report on the board of files is that on their contents
 same_report : (rules : GridRules) (contents : List Content) → reported rules (board_on contents) ≡ report_on rules contents
 same_report rules contents = λ i. record {
   rules = rules;

@@ -1,4 +1,4 @@
--- Each file says something or has a fault, and so each package has an answer.
+-- Each file has a content or a fault, and so each package has an answer.
 use Rattle.std.proofs.Common.{◌≡◌, ◌↔◌, ◌<◌, ℕ, Bool, true, false, zero, suc, List, [], ◌∷◌, length, take, get_or, Option, Result, Ok, Err, refl, arith, ◌⊎◌, inl, inr}
 use Rattle.grid_units.specs.Spans.{LayerSpan}
 use Rattle.grid_units.specs.Holes.{GridRules}
@@ -20,7 +20,7 @@ use Rattle.package_check.proofs.Saying.{said_of}
 
 module _ (each_layer : layers.EachTextAnswers) (each_drill : (text : List ℕ) → HasAnswer text)
     (first : (text : List ℕ) (f : Fault) → drills.Reads text (Err f) ↔ IsFirstFault text f) where
-  -- a layer is of copper, or is refused as it is not
+  -- a layer is copper, or is refused as NotCopper
   of_image : (bytes : List ℕ) (image : Image) → ReadsLayer bytes (Ok image) → (copper : Bool) → image.is_copper ≡ copper → (answer : Result Content Fault) × ReadsCopper bytes answer
   of_image bytes image h true e = (Ok (content.Layer image), (h, e))
   of_image bytes image h false e = (Err not_copper, inr (image, h, e, refl))
@@ -53,7 +53,7 @@ module _ (each_layer : layers.EachTextAnswers) (each_drill : (text : List ℕ) �
   some_reading source = some_unless (is_bad_span source.role source.span source.layers) source
 
 module _ (some : SomeReading) where
-  -- what comes after a file that is read is read, or its first refused file is that of all, one place further
+  -- what follows a file that is read is all read, or its first refused file is that of all files, one place further on
   after : (source : Source) (sources : List Source) (c : Content) → Says source c
       → ((contents : List Content) × AreRead sources contents) ⊎ ((index : ℕ) × (fault : Fault) × IsFirstRefused sources index fault)
       → ((contents : List Content) × AreRead (source ∷ sources) contents) ⊎ ((index : ℕ) × (fault : Fault) × IsFirstRefused (source ∷ sources) index fault)

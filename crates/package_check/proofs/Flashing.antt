@@ -33,7 +33,7 @@ pads_more flashes i d lt = sym (pads_append (take i flashes) (get_or flashes i d
 pub pads_are : (text : List ℕ) (image : LayerImage) → ReadsLayer text (Ok image) → pads_of image.flashes ≡ image.pads
 pads_are text image h = ap (λ (i : LayerImage). pads_of i.flashes) h.1 ∙ sym (ap (λ (i : LayerImage). i.pads) h.1)
 
--- what holds of a success holds where there is one
+-- what holds anyway holds of a success
 pub held : {T E : Type 0} (r : Result T E) (X : Type 0) → X → OnOk r X
 held (Ok t) X h = h
 held (Err e) X h = tt
@@ -41,20 +41,20 @@ held (Err e) X h = tt
 refused_by : (content : Content) → (let x : Result Content Fault = Ok content in let y : Result Content Fault = Err bad_span in x ≡ y) → ⊥
 refused_by content e = cc
 
--- no file with a bad span says anything
+-- a file with a bad span has no content
 unread : (source : Source) (r : Result Content Fail) (X : Type 0) → Answers {T = Content} (λ x. x) (ReadsUnless true source) r → OnOk r X
 unread source (Ok content) X h = absurd (refused_by content h)
 unread source (Err e) X h = tt
 
 module _ (layers : ℕ) (bytes : List ℕ) (r : Result Content Fail) where
-  -- a copper file without a span says what its bytes say
+  -- a copper file without a span has the content of its bytes
   pub spanless : (q : Role) (span : Option LayerSpan) → (is_copper q && not (is_some span)) ≡ true → Answers {T = Content} (λ x. x) (ReadsCopper bytes) r → Answers {T = Content} (λ x. x) (Reads (nameless q span layers bytes)) r
   spanless role.Copper None is h = h
   spanless role.Copper (Some s) is h = absurd cc
   spanless role.Plated span is h = absurd cc
   spanless role.Unplated span is h = absurd cc
 
-  -- a copper file with a span says nothing
+  -- a copper file with a span has no content
   pub spanned : (q : Role) (span : Option LayerSpan) (X : Type 0) → (is_copper q && not (is_some span)) ≡ false → is_copper q ≡ true → Answers {T = Content} (λ x. x) (Reads (nameless q span layers bytes)) r → OnOk r X
   spanned role.Copper None X is copper h = absurd cc
   spanned role.Copper (Some s) X is copper h = unread (nameless role.Copper (Some s) layers bytes) r X h

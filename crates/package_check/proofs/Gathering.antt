@@ -78,13 +78,13 @@ pub sums_length : (files : List File) (rules : GridRules) (report : Account) →
 sums_length files rules report h =
     sym (same_length (source_of (layer_count files)) files) ∙ read_length (sources_of files) h.contents h.read ∙ sym (length-map h.contents sum_of) ∙ ap (λ (r : Account). length r.files) (sym h.is)
 
--- what one file says, the other says
+-- an answer for one file is one for another that says as much
 pub answers_alike : (s t : Source) (r : Result Content Fail) → ((answer : Result Content Fault) → Reads s answer → Reads t answer) → Answers {T = Content} (λ x. x) (Reads s) r → Answers {T = Content} (λ x. x) (Reads t) r
 answers_alike s t (Ok x) f h = f (Ok x) h
 answers_alike s t (Err fails.Memory) f h = tt
 answers_alike s t (Err (fails.Refused e)) f h = f (Err e) h
 
--- what a file says does not depend on its name
+-- the content or the fault of a file does not depend on its name
 pub any_name : (q : Role) (name : List ℕ) (span : Option LayerSpan) (bytes : List ℕ) (n : ℕ) (answer : Result Content Fault) → Reads (nameless q span n bytes) answer
     → Reads (record { role = q; name = name; span = span; bytes = bytes; layers = n }) answer
 any_name q name span bytes n answer h = by (is_bad_span q span n) h

@@ -34,7 +34,7 @@ joined_more xs i d lt =
     ∙ (sym (concat-append (map (λ (p : Bor (List ℕ)). p.now) (take i xs)) (x.now ∷ []))
     ∙ (ap concat (sym (map-append (λ (p : Bor (List ℕ)). p.now) (take i xs) (x ∷ []))) ∙ ap joined (sym (take_more xs i d lt))))
 
--- those so far, one more, and those behind it
+-- those so far, one more, and those after it
 pub joined_all : (xs : List (Bor (List ℕ))) (i : ℕ) (d : Bor (List ℕ)) → i < length xs → (joined (take i xs) ++ (get_or xs i d).now) ++ joined (drop (i + 1) xs) ≡ joined xs
 joined_all xs i d lt =
     ap (λ (t : List ℕ). t ++ joined (drop (i + 1) xs)) (joined_more xs i d lt)
@@ -49,13 +49,13 @@ pub drill_joined : {T : Type 0} (view : T → List GridHole) → ((text more : L
 drill_joined view law text more whole fails.Memory is h = tt
 drill_joined view law text more whole (fails.Refused f) is h = subst (λ (t : List ℕ). Reads t (Err f)) is (law text more f h)
 
--- the same of a layer, for what a package needs of it
+-- the fault that a layer's text shows so far is that of the whole text, for what a package needs of it
 pub sum_joined : ((text more : List ℕ) (f : Fault) → ShowsLayerFault text f → ReadsLayer (text ++ more) (Err f)) → (text more whole : List ℕ) (e : Fail) → text ++ more ≡ whole → Tells (ShowsLayerFault text) e
     → Answers sum_view (ReadsSum whole) (Err e)
 sum_joined law text more whole fails.Memory is h = tt
 sum_joined law text more whole (fails.Refused f) is h = subst (λ (t : List ℕ). ReadsLayer t (Err f)) is (law text more f h)
 
--- the same of a layer whose flashes are kept
+-- and for a layer whose flashes are kept
 pub flashes_joined : ((text more : List ℕ) (f : Fault) → ShowsLayerFault text f → ReadsLayer (text ++ more) (Err f)) → (text more whole : List ℕ) (e : Fail) → text ++ more ≡ whole → Tells (ShowsLayerFault text) e
     → Answers flash_view (ReadsFlashSum whole) (Err e)
 flashes_joined law text more whole fails.Memory is h = tt

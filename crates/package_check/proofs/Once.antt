@@ -1,4 +1,4 @@
--- A file says one thing, or has one fault.
+-- A file has one content or one fault.
 use Rattle.std.proofs.Common.{◌≡◌, ◌↔◌, ℕ, Bool, true, false, List, Result, Ok, Err, sym, ap, ◌∙◌, inl, inr}
 use Rattle.grid_units.specs.Holes.{GridHole}
 use Rattle.grid_units.specs.declared.fault.Fault.{Fault}

@@ -1,4 +1,4 @@
--- What a file says is just what reading it gives where it has no fault.
+-- The content of a file is just what reading it gives where it has no fault.
 use Rattle.std.proofs.Common.{◌≡◌, ℕ, Bool, true, false, List, Result, Ok, Err, refl}
 use Rattle.std.specs.Prelude.{Option}
 use Rattle.grid_units.specs.declared.fault.Fault.{Fault}
@@ -20,7 +20,7 @@ bytes_read role.Copper name span bytes n c h = h
 bytes_read role.Plated name span bytes n c h = h
 bytes_read role.Unplated name span bytes n c h = h
 
--- a file that says something has no bad span
+-- a file with a content has no bad span
 good_span : (t : Bool) (s : Source) (c : Content) → ReadsUnless t s (Ok c) → (t ≡ false) × ReadsBytes s (Ok c)
 good_span true s c h = absurd (let e : (let x : Result Content Fault = Ok c in let y : Result Content Fault = Err bad_span in x ≡ y) = h in cc)
 good_span false s c h = (refl, h)

@@ -38,7 +38,7 @@ through_is role.Copper name span bytes n plated through holes h = absurd h
 through_is role.Plated name span bytes n plated through holes h = h.2
 through_is role.Unplated name span bytes n plated through holes h = h.2
 
--- some layer lies in a span that is no bad one
+-- some layer lies in a span that is not bad
 some_layer : (q : Role) (span : Option LayerSpan) (n : ℕ) → 0 < n → is_bad_span q span n ≡ false → (l : ℕ) × (l < n) × (is_in_span l span ≡ true)
 some_layer q None n some h = (0, some, refl)
 some_layer q (Some s) n some h = by (is_copper q) (leb 1 s.first) (leb s.first s.last) (leb s.last n) refl refl refl h

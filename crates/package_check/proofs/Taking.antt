@@ -1,4 +1,4 @@
--- A package by one more file.
+-- A reader of a package takes one more file.
 use Rattle.std.proofs.Common.{◌≡◌, ◌<◌, ◌+◌, ◌++◌, ℕ, List, [], ◌∷◌, Ok, Err, Result, Option, Some, None, OnOk, true, false, length, map, take, get_or, arith, refl, sym, ap, subst, ◌∙◌}
 use Rattle.std.specs.Prelude.{alloc_error, is_some}
 use Rattle.std.specs.Result.{result_err}
@@ -16,7 +16,7 @@ use Rattle.package_check.specs.Package.{Source, AreRead, IsFirstRefused, Reads, 
 use Rattle.package_check.specs.Holding.{ReadsNext, Said}
 use Rattle.package_check.proofs.Gathering.{any_name, read_length, read_more, source_at, same_length}
 
--- the first file that is refused stays it
+-- a first refused file stays the first when more files follow
 pub refused_stays : (sources : List Source) (s : Source) (i : ℕ) (f : Fault) → IsFirstRefused sources i f → IsFirstRefused (sources ++ s ∷ []) i f
 refused_stays sources s i f h =
     let inside = h.inside in
@@ -38,7 +38,7 @@ refused_now sources contents s f h r =
       refused = λ d. subst (λ (n : ℕ). Reads (get_or (sources ++ s ∷ []) n d) (Err f)) same (subst (λ (x : Source). Reads x (Err f)) (sym (get_or-append_seam sources s [] d)) r);
     }
 
--- what is read of a file is read of it under any name
+-- what is read of a file does not depend on its name
 next_named : (q : Role) (name : List ℕ) (span : Option LayerSpan) (bytes : List ℕ) (n : ℕ) (before after : List Content) (r : Result (Unit {0}) Fail)
     → ReadsNext (nameless q span n bytes) before after r → ReadsNext (record { role = q; name = name; span = span; bytes = bytes; layers = n }) before after r
 next_named q name span bytes n before after (Ok u) h = (h.0, any_name q name span bytes n (Ok h.0) h.1, h.2)

@@ -1,4 +1,4 @@
--- What the files of a package say, all of them together.
+-- The board of a package: what all of its files say together.
 use Rattle.std.specs.Prelude.{ℕ, ◌+◌, ◌≡◌, ◌++◌, List, [], ◌∷◌, length, map, take, drop, Result, Ok, Err, ⊤}
 use Rattle.std.specs.List.{flat_map, enumerate_from, sum_by}
 use Rattle.grid_units.specs.Holes.{GridRules}
@@ -15,14 +15,14 @@ use Rattle.package_check.specs.Reports.{Account}
 use Rattle.package_check.specs.Soundness.{drilled_in}
 use Rattle.package_check.specs.Package.{Source, AreRead, IsFirstRefused, findings, layer_indexes, layers, sum_of}
 
--- what the files of a package say: how much each holds, the pads of each copper file and its index, and the holes of all drill files in their order (docs/DEFINITIONS.md, Packages)
+-- the board of a package: the counts of each file, the pads and the index of each copper file, and the holes of all drill files in order
 pub record Survey : Type 0 where
   pub files : List FileSum
   pub layers : List (List Pad)
   pub layer_indexes : List ℕ
   pub holes : List Drilled
 
--- the board of files that say this (docs/DEFINITIONS.md, Packages)
+-- the board of files with these contents
 abbrev pub board_on : List Content → Survey
 board_on contents = record {
   files = map sum_of contents;
@@ -31,49 +31,49 @@ board_on contents = record {
   holes = flat_map drilled_in contents;
 }
 
--- the board of files that are all read (docs/DEFINITIONS.md, Packages)
+-- the board of a package whose files are all read
 pub record IsBoard (sources : List Source) (board : Survey) : Type 0 where
   pub contents : List Content
   pub read : AreRead sources contents
   pub is : board ≡ board_on contents
 
--- what is returned is the board of the package, or the first file that is refused, running out of memory aside (docs/DEFINITIONS.md, Packages)
+-- the result is the board of the package, or the first file that is refused, running out of memory aside
 abbrev pub AnswersBoard : List Source → Result Survey PackageFault → Type 0
 AnswersBoard sources (Ok board) = IsBoard sources board
 AnswersBoard sources (Err stop.Memory) = ⊤
 AnswersBoard sources (Err (stop.File index fault)) = IsFirstRefused sources index fault
 
--- how many holes a file has (docs/DEFINITIONS.md, Packages)
+-- how many holes a file drills, slots among them; a copper file drills none
 abbrev pub hole_count : FileSum → ℕ
 hole_count (sum.Layer pads other) = 0
 hole_count (sum.Drill plated span round slots) = round + slots
 
--- files tell of all holes: together they have just so many (docs/DEFINITIONS.md, Packages)
+-- the counts of the files add up to the number of these holes
 abbrev pub TellAllHoles : List FileSum → List Drilled → Type 0
 TellAllHoles files holes = sum_by hole_count files ≡ length holes
 
--- the files of a package that is read tell of all holes of its board (docs/DEFINITIONS.md, Packages)
+-- where a package is read, the counts of its files add up to the holes of its board
 abbrev pub FilesTellAllHoles : Type 0
 FilesTellAllHoles = (sources : List Source) (board : Survey) → IsBoard sources board → TellAllHoles board.files board.holes
 
--- holes with the index of their file, and their numbers in it from 1 (docs/DEFINITIONS.md, Packages)
+-- the holes of one file with its index, each with its number there, from 1
 abbrev pub numbered_in : ℕ → List Drilled → List Numbered
 numbered_in file holes = map (λ hole. record { file = file; number = hole.0; drilled = hole.1 }) (enumerate_from 1 holes)
 
--- holes that are listed file by file, as many of each as it has, with their places; the files are counted from one index on (docs/DEFINITIONS.md, Packages)
+-- the places of holes that are listed file by file, each file having as many as it counts; `file` is the index of the first of the files
 unfoldable pub numbered_from : ℕ → List FileSum → List Drilled → List Numbered
 numbered_from file [] holes = []
 numbered_from file (one ∷ files) holes = numbered_in file (take (hole_count one) holes) ++ numbered_from (file + 1) files (drop (hole_count one) holes)
 
--- the holes of a board with their places (docs/DEFINITIONS.md, Packages)
+-- the holes of a board with their places: the index of the file, from 0, and the number in it, from 1
 abbrev pub numbered : Survey → List Numbered
 numbered board = numbered_from 0 board.files board.holes
 
--- what the rules find on a board (docs/DEFINITIONS.md, Packages)
+-- what the rules find on a board: first the rings that are lacking, then the gaps
 abbrev pub board_findings : GridRules → Survey → List Finding
 board_findings rules board = findings rules board.layers board.holes
 
--- the report on a board (docs/DEFINITIONS.md, Packages)
+-- the report on a board under these rules
 abbrev pub reported : GridRules → Survey → Account
 reported rules board = record {
   rules = rules;

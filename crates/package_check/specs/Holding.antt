@@ -1,4 +1,4 @@
--- What a reader of a package holds of the files so far.
+-- What a reader of a package holds of the files that it has taken so far.
 use Rattle.std.specs.Prelude.{◌≡◌, ◌++◌, ◌∷◌, [], ℕ, List, length, Option, None, Some, Result, Ok, Err}
 use Rattle.grid_units.specs.declared.fault.Fail.{Fail}
 use Rattle.grid_units.specs.declared.fault.Fail.TheVariants as fails
@@ -6,31 +6,29 @@ use Rattle.package_check.specs.declared.contents.Content.{Content}
 use Rattle.package_check.specs.declared.package_reader.PackageReader.{PackageReader}
 use Rattle.package_check.specs.Package.{Source, AreRead, IsFirstRefused, Reads}
 
--- of how many copper files a reader was told (docs/DEFINITIONS.md, Packages)
+-- how many copper files the package has, as the reader was given it at the start
 abbrev pub copper_files : PackageReader → ℕ
 copper_files reader = reader.layers
 
--- Files that say these contents, one by one; or, where one is refused, those before the first that is refused say them
--- (docs/DEFINITIONS.md, Packages).
+-- the contents of these files, one by one; where one is refused, those of the files before the first that is
 abbrev pub Said : Option Fail → List Content → List Source → Type 0
 Said None contents sources = AreRead sources contents
 Said (Some fails.Memory) contents sources = ⊥
 Said (Some (fails.Refused fault)) contents sources = IsFirstRefused sources (length contents) fault
 
--- the reader has taken just these files (docs/DEFINITIONS.md, Packages)
+-- the reader has taken just these files, in this order
 abbrev pub PackageStandsAfter : PackageReader → List Source → Type 0
 PackageStandsAfter reader sources = Said reader.stopped reader.contents.items sources
 
--- memory ran out for the reader (docs/DEFINITIONS.md, Packages)
+-- the reader ran out of memory
 abbrev pub HasNoMemory : PackageReader → Type 0
 HasNoMemory reader = reader.stopped ≡ Some fails.Memory
 
--- the reader has refused none of the files that it has taken (docs/DEFINITIONS.md, Packages)
+-- the reader has refused no file so far, and has not run out of memory
 abbrev pub HasRefusedNone : PackageReader → Type 0
 HasRefusedNone reader = reader.stopped ≡ None
 
--- The next file is read, and what it says stands behind what was kept; or it is refused, and nothing is kept of it
--- (docs/DEFINITIONS.md, Packages).
+-- the next file is read, and its content is appended; or it is refused, and nothing is kept of it
 abbrev pub ReadsNext : Source → List Content → List Content → Result (Unit {0}) Fail → Type 0
 ReadsNext source before after (Ok _) = (one : Content) × Reads source (Ok one) × (after ≡ before ++ one ∷ [])
 ReadsNext source before after (Err fails.Memory) = Unit {0}

@@ -1,8 +1,8 @@
--- What a copper file says.
+-- What the check keeps of a copper file.
 use Rattle.std.specs.Prelude.{ℕ, Bool, List}
 use Rattle.pad_shapes.specs.declared.pad.Pad.{Pad}
 
--- the pads of a layer in order, the number of its other flashes, and whether its file function is that of copper (docs/DEFINITIONS.md, Packages)
+-- the pads of a layer in order, how many flashes are no pads, and whether it is copper: it has no file function, or that of copper
 pub record Image : Type 0 where
   pub pads : List Pad
   pub other : ℕ

@@ -5,7 +5,7 @@ use Rattle.ring_rules.specs.declared.finding.Finding.{Finding}
 use Rattle.package_check.specs.declared.FileSum.{FileSum}
 use Rattle.package_check.specs.declared.Numbered.{Numbered}
 
--- the parts of a report (docs/DEFINITIONS.md, Packages)
+-- a report: the rules, the counts of each file, the indexes of the copper files, all holes with their places, and the findings
 pub record Account : Type 0 where
   pub rules : GridRules
   pub files : List FileSum

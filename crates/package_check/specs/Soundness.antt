@@ -1,4 +1,4 @@
--- What a package that passes is.
+-- When a package is sound, as it is where its report has no finding.
 use Rattle.std.specs.Prelude.{◌≡◌, ◌<◌, ℕ, List, [], true, map, length, get_or, Option}
 use Rattle.std.specs.List.{Contains, flat_map}
 use Rattle.grid_units.specs.Holes.{GridHole, GridRules}
@@ -12,23 +12,23 @@ use Rattle.package_check.specs.declared.contents.Content.{Content}
 use Rattle.package_check.specs.declared.contents.Content.TheVariants as content
 use Rattle.package_check.specs.Package.{Source, AreRead, IsReport, layers}
 
--- the holes of a file (docs/DEFINITIONS.md, Packages)
+-- the holes of a file with its plating and its span; a copper file has none
 abbrev pub drilled_in : Content → List Drilled
 drilled_in (content.Layer image) = []
 drilled_in (content.Drill plated span holes) = map (λ hole. record { hole = hole; plated = plated; span = span }) holes
 
--- a hole of a plated file (docs/DEFINITIONS.md, Packages)
+-- a hole of some plated drill file
 pub record IsPlated (contents : List Content) (hole : GridHole) : Type 0 where
   pub span : Option LayerSpan
   pub holes : List GridHole
   pub file : Contains contents (content.Drill true span holes)
   pub drilled : Contains holes hole
 
--- each plated slot of these files lies along an axis (docs/DEFINITIONS.md, Packages)
+-- each plated slot of these files lies along an axis
 abbrev pub AreStraight : List Source → Type 0
 AreStraight sources = (contents : List Content) (hole : GridHole) → AreRead sources contents → IsPlated contents hole → IsAlongAxis hole.from hole.to
 
--- a hole of a plated file, in whose span the layer lies (docs/DEFINITIONS.md, Packages)
+-- a hole of some plated drill file that goes through this layer, by its place among the copper files, from 0
 pub record IsPlatedThrough (contents : List Content) (layer : ℕ) (hole : GridHole) : Type 0 where
   pub span : Option LayerSpan
   pub holes : List GridHole
@@ -36,9 +36,8 @@ pub record IsPlatedThrough (contents : List Content) (layer : ℕ) (hole : GridH
   pub drilled : Contains holes hole
   pub through : is_in_span layer span ≡ true
 
--- Every file is a text of its grammar; on every copper layer of its drill file's span each plated round hole, and each
--- plated slot along an axis, lies in one pad with the ring round it; no plated slot with a layer in its span is oblique;
--- no points of two holes, of whatever files, are nearer than the gap (docs/DEFINITIONS.md, Packages).
+-- Every file is read. On each copper layer of its span, each plated round hole and each plated slot along an axis lies in one pad with its ring;
+-- no plated slot through a copper layer is oblique; no points of two holes, of whatever files, are nearer than the gap.
 pub record IsSound (sources : List Source) (rules : GridRules) : Type 0 where
   pub contents : List Content
   pub read : AreRead sources contents
@@ -49,6 +48,6 @@ pub record IsSound (sources : List Source) (rules : GridRules) : Type 0 where
   pub straight : (layer : ℕ) (hole : GridHole) → layer < length (layers contents) → IsPlatedThrough contents layer hole → IsAlongAxis hole.from hole.to
   pub gaps : AreAllApart rules.gap (flat_map drilled_in contents)
 
--- where the report on a package has no finding, the package is sound (docs/DEFINITIONS.md, Packages)
+-- a package whose report has no finding is sound
 abbrev pub PassingIsSound : Type 0
 PassingIsSound = (sources : List Source) (rules : GridRules) (report : Account) → IsReport sources rules report → report.findings ≡ [] → IsSound sources rules

@@ -1,4 +1,4 @@
-//! What the files of a package say, all of them together.
+//! The board of a package: what all of its files say together.
 
 ghost use Rattle.std.specs.Prelude.{◌≡◌, ◌++◌, ◌∷◌, [], IfOk, OnOk, map, min, not, count_by};
 ghost use Rattle.std.specs.List.{flat_map};
@@ -16,7 +16,7 @@ use ring_rules::{Drilled, Finding, Span, gap_findings, ring_findings};
 use std::alloc::{AllocError, Global};
 use std::marker::Model;
 
-/// What the files of a package say: how much each holds, the pads of each copper file, and the holes of all drill files.
+/// The board of a package: the counts of each file, the pads of each copper file, and the holes of all drill files.
 #[derive(Drop)]
 pub struct Board {
     files: Vec<FileSum>,
@@ -36,7 +36,7 @@ impl Model for Board {
     ghost invariant = { λ b. TellAllHoles b.files.items b.holes.items };
 }
 
-/// The parts of a board that a report keeps: sums, indexes of the copper files, holes.
+/// The parts of a board that a report keeps: the counts of the files, the indexes of the copper files, and the holes.
 #[derive(Drop)]
 pub(crate) struct Kept {
     pub(crate) files: Vec<FileSum>,
@@ -45,7 +45,7 @@ pub(crate) struct Kept {
 }
 
 impl Board {
-    /// How much each file holds. Together the files have just the holes of the board.
+    /// The counts of each file, in the order of the files. Together they count just the holes of the board.
     pub fn files(&self) -> &[FileSum]
         ensures sums { result.now ≡ self.now.files }
         ensures told { TellAllHoles self.now.files self.now.holes }
@@ -57,32 +57,32 @@ impl Board {
     ///
     /// # Errors
     ///
-    /// Where there is no memory for the list.
+    /// An `AllocError` where there is no memory for the list.
     pub fn layers(&self, alloc: Global) -> Result<Vec<&[Pad]>, AllocError>
         ensures { IfOk result (λ layers. map (λ pads. pads.now) layers.items ≡ self.now.layers) }
     {
         pads_of_each(alloc, &self.layers)
     }
 
-    /// The index of the copper file of each layer.
+    /// For each layer the index of its copper file among all files, from 0.
     pub fn layer_indexes(&self) -> &[usize]
         ensures { result.now ≡ self.now.layer_indexes }
     {
         &self.layer_indexes
     }
 
-    /// The holes of all drill files: those of the first such file in their order, then those of the next.
+    /// The holes of all drill files: those of the first drill file in their order, then those of the next.
     pub fn holes(&self) -> &[Drilled]
         ensures { result.now ≡ self.now.holes }
     {
         &self.holes
     }
 
-    /// What the rules find on the layers and at the holes.
+    /// The findings on this board: the rings that are lacking, layer by layer, then the gaps.
     ///
     /// # Errors
     ///
-    /// Where there is no memory.
+    /// An `AllocError` where there is no memory.
     pub fn findings(&self, alloc: Global, rules: Rules) -> Result<Vec<Finding>, AllocError>
         ensures { IfOk result (λ found. found.items ≡ board_findings rules self.now) }
     {
@@ -93,7 +93,7 @@ impl Board {
         Ok(findings)
     }
 
-    /// Lets go of the pads.
+    /// Frees the pads.
     pub(crate) fn without_pads(self) -> Kept
         ensures files { result.files.items ≡ self.files }
         ensures layer_indexes { result.layer_indexes.items ≡ self.layer_indexes }
@@ -206,7 +206,7 @@ fn push_layer(layers: &mut Vec<Layer>, layer: Layer) -> Result<(), AllocError>
     Ok(())
 }
 
-/// Moves what a file says to the list of its kind. What it says of holes is let go of when they are listed.
+/// Moves the content of a file to the list of its kind. Its own list of holes is freed once they are appended.
 fn sort_in(
     layers: &mut Vec<Layer>,
     holes: &mut Vec<Drilled>,
@@ -225,7 +225,7 @@ fn sort_in(
     }
 }
 
-/// Moves what the files say to the lists of their kinds, one file after the other.
+/// Moves the contents of the files to the lists of their kinds, file by file.
 fn sort_all(
     layers: &mut Vec<Layer>,
     holes: &mut Vec<Drilled>,
@@ -240,7 +240,7 @@ fn sort_all(
     Ok(())
 }
 
-/// How many holes the files have.
+/// How many holes all files have together, to reserve their list at once.
 fn total(contents: &[Content]) -> usize {
     let mut total: usize = 0;
     for content in contents {
@@ -251,7 +251,7 @@ fn total(contents: &[Content]) -> usize {
     total
 }
 
-/// The board of what the files say.
+/// The board of files with these contents.
 #[tactic(auto, using(crate::proofs::Boarding::all_told))]
 pub(crate) fn board_on(alloc: Global, contents: Vec<Content>) -> Result<Board, AllocError>
     ensures { IfOk result (λ board. board ≡ board_on contents.items) }
@@ -269,7 +269,7 @@ pub(crate) fn board_on(alloc: Global, contents: Vec<Content>) -> Result<Board, A
     })
 }
 
-/// How many of the first so many holes a file has.
+/// How many holes a file has, at most `all`.
 pub fn hole_count(file: &FileSum, all: usize) -> usize
     ensures { result ≡ min (hole_count file.now) all }
 {
@@ -279,7 +279,7 @@ pub fn hole_count(file: &FileSum, all: usize) -> usize
     }
 }
 
-/// Appends the holes of one file, numbered from 1.
+/// Appends the holes of one file with its index, numbered from 1.
 fn push_numbered(
     numbered: &mut Vec<Numbered>,
     file: usize,
@@ -297,7 +297,7 @@ fn push_numbered(
     Ok(())
 }
 
-/// The holes of files of these sums with their places.
+/// The holes with their places: `files` counts how many of them each file has.
 pub(crate) fn numbered(
     alloc: Global,
     files: &[FileSum],

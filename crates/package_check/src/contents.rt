@@ -1,4 +1,4 @@
-// What a file of a package says.
+// What the check reads of a file of a package.
 ghost use Rattle.std.specs.Prelude.{◌≡◌, ◌&&◌, ℕ, List, Ok, OnOk, is_some, map, not, true};
 ghost use Rattle.std.specs.List.{concat};
 ghost use Rattle.grid_units.specs.Results.{Answers};
@@ -13,7 +13,7 @@ use layer_image::Flash;
 use ring_rules::Span;
 use std::alloc::Global;
 
-/// What a file says.
+/// What the check keeps of a file.
 #[derive(Drop)]
 pub(crate) enum Content {
     Layer(Layer),
@@ -24,7 +24,7 @@ pub(crate) enum Content {
     },
 }
 
-/// A layer as what a file says, where it is copper.
+/// A layer as the content of a file, or NotCopper where it is not copper.
 fn copper_of(layer: Layer) -> Result<Content, Fail>
     ensures { (bytes : List ℕ) → ReadsLayer bytes (Ok layer) → Answers (λ x. x) (ReadsCopper bytes) result }
 {
@@ -46,7 +46,7 @@ fn read_copper(alloc: Global, pieces: &[&[u8]]) -> Result<Content, Fail>
     copper_of(layer)
 }
 
-/// What a copper file says, and its flashes.
+/// The content of a copper file, and its flashes.
 fn read_copper_with_flashes(
     alloc: Global,
     flashes: &mut Vec<Flash>,
@@ -81,7 +81,7 @@ pub(crate) fn is_copper(role: Role) -> bool
     matches!(role, Role::Copper)
 }
 
-/// Whether a file of this role may not have this span, among so many copper files.
+/// Whether this span is bad for a file of this role: it is copper, or the span ends above the number of copper files.
 fn is_bad_span(role: Role, span: Option<Span>, layers: usize) -> bool
     ensures { result ≡ is_bad_span role span layers }
 {
@@ -91,7 +91,7 @@ fn is_bad_span(role: Role, span: Option<Span>, layers: usize) -> bool
     }
 }
 
-/// What a file of this role and with this span says, among so many copper files. Its bytes come in pieces.
+/// The content of a file of this role and span, in a package of so many copper files, or its fault. Its bytes come in pieces.
 pub(crate) fn read_file(
     alloc: Global,
     role: Role,
@@ -115,14 +115,14 @@ pub(crate) fn read_file(
     }
 }
 
-/// Whether a file of this role is copper, and has no span as it must not have.
+/// Whether a file is copper and names no span, as no copper file may.
 fn is_spanless_copper(role: Role, span: Option<Span>) -> bool
     ensures { result ≡ (is_copper role && not (is_some span)) }
 {
     is_copper(role) && span.is_none()
 }
 
-/// What such a file says, as [`read_file`] gives it, and its flashes where it is copper.
+/// The content of a file as [`read_file`] gives it, and its flashes where it is copper.
 pub(crate) fn read_file_with_flashes(
     alloc: Global,
     flashes: &mut Vec<Flash>,

@@ -1,4 +1,4 @@
-// What follows from the definitions alone.
+// Laws that follow from the definitions alone. A call of one does nothing, and gives its clause.
 ghost use Rattle.package_check.specs.Alike.{AnswersTheSame, OneAnswer, OneReading, SomeAnswer, SomeReading};
 ghost use Rattle.package_check.specs.Boards.{FilesTellAllHoles};
 ghost use Rattle.package_check.specs.Package.{FindingsNameTheirPlaces};
@@ -15,14 +15,14 @@ pub fn passing_is_sound()
     gaps_hold();
 }
 
-/// Each finding of the report on a package names a layer and a hole of the report, or two of its holes in their order.
+/// In the report on a package each finding names a layer and a hole, or two holes, the first before the second.
 pub fn findings_name_their_places()
     ensures { FindingsNameTheirPlaces }
 {
     findings_name_places::<Pad>();
 }
 
-/// The files of a package that is read tell of all holes of its board.
+/// Where a package is read, the counts of its files add up to the holes of its board.
 pub fn files_tell_all_holes()
     ensures { FilesTellAllHoles }
 {}
@@ -32,7 +32,7 @@ pub fn answers_the_same()
     ensures { AnswersTheSame }
 {}
 
-/// A file says at most one thing, or has at most one fault.
+/// A file has at most one content or one fault.
 pub fn one_reading()
     ensures { OneReading }
 {
@@ -41,7 +41,7 @@ pub fn one_reading()
     drill_text::laws::drill_texts();
 }
 
-/// A file says something, or has a fault.
+/// A file has a content or a fault.
 pub fn some_reading()
     ensures { SomeReading }
 {
@@ -56,7 +56,7 @@ pub fn one_answer()
     one_reading();
 }
 
-/// A package has an answer.
+/// A package has an answer: a report, or the first file that is refused.
 pub fn some_answer()
     ensures { SomeAnswer }
 {

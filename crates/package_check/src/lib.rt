@@ -44,10 +44,10 @@ pub struct PiecedFile<'a> {
     pub pieces: &'a [&'a [u8]],
 }
 
-/// Why there is no report.
+/// Why a package has no report.
 #[derive(Clone, Copy, Debug, PartialEq, Eq, Error)]
 pub enum PackageFault {
-    /// There is no memory.
+    /// Memory ran out.
     #[error("out of memory")]
     Memory,
     /// The file at this index of the list, from 0, is refused.
@@ -55,7 +55,7 @@ pub enum PackageFault {
     File { index: usize, fault: Fault },
 }
 
-/// How much a file holds.
+/// The counts of a file: pads and other flashes of a layer, round holes and slots of a drill file.
 #[derive(Clone, Copy, Debug, PartialEq, Eq)]
 pub enum FileSum {
     Layer {
@@ -70,7 +70,7 @@ pub enum FileSum {
     },
 }
 
-/// A hole, with the index of its file, and its number in it from 1.
+/// A hole, with the index of its file among all files, from 0, and its number in that file, from 1.
 #[derive(Clone, Copy, Debug, PartialEq, Eq)]
 pub struct Numbered {
     pub file: usize,

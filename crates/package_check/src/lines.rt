@@ -254,7 +254,7 @@ fn push_gap_at(
     push_gap(text, first, second)
 }
 
-/// Appends the line of a finding: nothing where it names no layer or hole of the report.
+/// Appends the line of a finding. Appends nothing where it names no layer or hole of the report.
 #[tactic(auto, unfolding(crate::specs::Texts::finding_line))]
 pub(crate) fn push_finding(
     text: &mut String,
@@ -270,7 +270,7 @@ pub(crate) fn push_finding(
     }
 }
 
-/// Appends the lines of the files, numbered from 1, as far as there are a name and a sum.
+/// Appends the lines of the files, numbered from 1, as long as there is both a name and a count.
 pub(crate) fn push_files(
     text: &mut String,
     names: &[&str],

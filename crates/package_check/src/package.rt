@@ -61,7 +61,7 @@ pub fn check_bytes(alloc: Global, files: &[File], rules: Rules) -> Result<Report
     report_of(alloc, files, rules)
 }
 
-/// What the files say, all of them together.
+/// The board of the files: what all of them say together.
 ///
 /// # Errors
 ///

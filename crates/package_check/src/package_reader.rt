@@ -20,8 +20,8 @@ use layer_image::Flash;
 use ring_rules::Span;
 use std::alloc::{AllocError, Global};
 
-/// A reader of a package, which takes its files one after the other. It keeps of a layer the pads and of a drill file the
-/// holes, and no text. Behind the first file that is refused it reads no other.
+/// A reader of a package, which takes its files one after the other. It keeps the pads of a layer and the holes of a drill
+/// file, and no text. After the first file that is refused it reads no other.
 #[derive(Drop)]
 pub struct PackageReader {
     alloc: Global,
@@ -47,7 +47,7 @@ impl PackageReader {
     }
 
     /// Takes the next file of the package, whose text comes in these pieces. A file that is refused is no error here:
-    /// [`PackageReader::finish`] tells of the first of them.
+    /// [`PackageReader::finish`] returns the first of them.
     ///
     /// # Errors
     ///
@@ -80,7 +80,7 @@ impl PackageReader {
     }
 
     /// Takes the next file, as [`PackageReader::take`] does, and gives the flashes of a copper file, which is read but once.
-    /// Those of a drill file, and those behind the first file that is refused, say nothing.
+    /// The list for a drill file, and for a file after the first that is refused, says nothing.
     ///
     /// # Errors
     ///
@@ -184,8 +184,8 @@ impl PackageReader {
         }
     }
 
-    /// What the files that were taken say, all of them together. What a drill file says of its holes is let go of as they are
-    /// listed.
+    /// The board of the files that were taken: what all of them say together. A drill file's own list of holes is freed as they
+    /// are appended to the board's.
     ///
     /// # Errors
     ///
@@ -207,7 +207,7 @@ impl PackageReader {
     }
 }
 
-/// Reads the next file, and keeps what it says behind what the files before it say.
+/// Reads the next file, and appends its content to `contents`.
 fn read_next(
     alloc: Global,
     contents: &mut Vec<Content>,

@@ -1,4 +1,4 @@
-//! What the files of a package say, of which the check keeps pads and holes alone.
+//! What the check keeps of a file as it reads it: pads of a layer, holes of a drill file.
 
 ghost use Rattle.std.specs.Prelude.{◌≡◌, ◌≤◌, ◌++◌, ◌∷◌, [], ◌==◌, not, ℕ, List, Ok, Err, IfErr, IfOk, OnOk, length, map};
 ghost use Rattle.std.specs.List.{concat, prefix_len, take_while};
@@ -16,10 +16,10 @@ use pad_shapes::Pad;
 use std::alloc::{AllocError, Global};
 use std::marker::Model;
 
-/// How many bytes of a layer are read at once: the reader holds the commands of so many, and then lets go of them.
+/// How many bytes of a layer are read at once: its commands are held for so many bytes alone, and then dropped.
 const PIECE: usize = 65_536;
 
-/// What a copper file says.
+/// What the check keeps of a copper file.
 #[derive(Drop)]
 pub(crate) struct Layer {
     pads: Vec<Pad>,
@@ -55,7 +55,7 @@ impl Layer {
     }
 }
 
-/// What a drill file says.
+/// What the check keeps of a drill file: its holes.
 #[derive(Drop)]
 pub(crate) struct Drill {
     holes: Vec<Hole>,
@@ -88,14 +88,14 @@ fn is_copper_function(function: &Option<Text>) -> bool
     }
 }
 
-/// What stands before the first comma.
+/// The text before the first comma.
 fn first_field(text: &[u8]) -> &[u8]
     ensures { result.now ≡ take_while (λ b. not (b == 44)) text.now }
 {
     &text[..run_before(b',', text)]
 }
 
-/// Takes a piece of a layer, some bytes at a time.
+/// Feeds a piece of a layer to the reader, [`PIECE`] bytes at a time.
 fn feed_layer(reader: &mut SumReader, piece: &[u8]) -> Result<(), Fail>
     ensures ok { (text : List ℕ) → SumStandsAfter reader.old text → OnOk result (SumStandsAfter reader.new (text ++ piece.now)) }
     ensures err { (text : List ℕ) → SumStandsAfter reader.old text → IfErr result (Tells (ShowsLayerFault (text ++ piece.now))) }
@@ -107,7 +107,7 @@ fn feed_layer(reader: &mut SumReader, piece: &[u8]) -> Result<(), Fail>
     Ok(())
 }
 
-/// What a package needs of the layer whose text comes in these pieces.
+/// What a package needs of the layer whose text comes in these pieces: pads, count of other flashes, file function.
 fn read_sum(alloc: Global, pieces: &[&[u8]]) -> Result<LayerSum, Fail>
     ensures { Answers sum_view (ReadsSum (concat (map (λ piece. piece.now) pieces.now))) result }
 {
@@ -119,7 +119,7 @@ fn read_sum(alloc: Global, pieces: &[&[u8]]) -> Result<LayerSum, Fail>
     reader.finish()
 }
 
-/// What a copper file says, whose text comes in these pieces, or its fault.
+/// What the check keeps of the copper file whose text comes in these pieces, or its fault.
 pub(crate) fn read_image(alloc: Global, pieces: &[&[u8]]) -> Result<Layer, Fail>
     ensures { Answers (λ x. x) (ReadsLayer (concat (map (λ piece. piece.now) pieces.now))) result }
 {
@@ -132,7 +132,7 @@ pub(crate) fn read_image(alloc: Global, pieces: &[&[u8]]) -> Result<Layer, Fail>
     })
 }
 
-/// Takes a piece of a layer whose flashes are kept, some bytes at a time.
+/// Feeds a piece of a layer whose flashes are kept to the reader, [`PIECE`] bytes at a time.
 fn feed_flashes(reader: &mut FlashReader, piece: &[u8]) -> Result<(), Fail>
     ensures ok { (text : List ℕ) → FlashesStandAfter reader.old text → OnOk result (FlashesStandAfter reader.new (text ++ piece.now)) }
     ensures err { (text : List ℕ) → FlashesStandAfter reader.old text → IfErr result (Tells (ShowsLayerFault (text ++ piece.now))) }
@@ -144,7 +144,7 @@ fn feed_flashes(reader: &mut FlashReader, piece: &[u8]) -> Result<(), Fail>
     Ok(())
 }
 
-/// The flashes of the layer whose text comes in these pieces, with what else a package needs of it.
+/// What [`read_sum`] gives of the layer whose text comes in these pieces, with all flashes in place of the pads.
 fn read_flashes(alloc: Global, pieces: &[&[u8]]) -> Result<FlashSum, Fail>
     ensures { Answers flash_view (ReadsFlashSum (concat (map (λ piece. piece.now) pieces.now))) result }
 {
@@ -156,7 +156,7 @@ fn read_flashes(alloc: Global, pieces: &[&[u8]]) -> Result<FlashSum, Fail>
     reader.finish_whole()
 }
 
-/// Adds a flash to the pads, where it is one.
+/// Appends the pad of a flash, where it has one.
 fn push_pad(pads: &mut Vec<Pad>, flash: &Flash) -> Result<(), AllocError>
     ensures { OnOk result (pads.new.items ≡ pads.old.items ++ pads_of (flash.now ∷ [])) }
 {
@@ -169,7 +169,7 @@ fn push_pad(pads: &mut Vec<Pad>, flash: &Flash) -> Result<(), AllocError>
     }
 }
 
-/// The pads among the flashes, in order, in a list with room for so many.
+/// The pads among the flashes, in order, in a list that is reserved for `count` of them.
 fn pads_among(alloc: Global, flashes: &[Flash], count: usize) -> Result<Vec<Pad>, AllocError>
     ensures { IfOk result (λ pads. pads.items ≡ pads_of flashes.now) }
 {
@@ -180,7 +180,7 @@ fn pads_among(alloc: Global, flashes: &[Flash], count: usize) -> Result<Vec<Pad>
     Ok(all)
 }
 
-/// What a copper file says, as [`read_image`] gives it, and its flashes.
+/// What [`read_image`] gives of a copper file, and its flashes.
 pub(crate) fn read_image_with_flashes(
     alloc: Global,
     flashes: &mut Vec<Flash>,
@@ -214,7 +214,7 @@ fn read_drill(alloc: Global, pieces: &[&[u8]]) -> Result<Vec<Hole>, Fail>
     reader.finish()
 }
 
-/// What a drill file says, whose text comes in these pieces, or its fault.
+/// What the check keeps of the drill file whose text comes in these pieces, or its fault.
 pub(crate) fn read_holes(alloc: Global, pieces: &[&[u8]]) -> Result<Drill, Fail>
     ensures { Answers (λ x. x) (ReadsDrill (concat (map (λ piece. piece.now) pieces.now))) result }
 {

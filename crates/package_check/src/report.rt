@@ -9,7 +9,7 @@ use ring_rules::Finding;
 use std::alloc::{AllocError, Global};
 use std::marker::Model;
 
-/// What a check found.
+/// The report of a check: its rules, the files, the holes, and what it found.
 #[derive(Drop)]
 pub struct Report {
     rules: Rules,
@@ -35,28 +35,28 @@ impl Report {
         self.rules
     }
 
-    /// How much each file holds.
+    /// The counts of each file, in the order of the files.
     pub fn files(&self) -> &[FileSum]
         ensures { result.now ≡ self.now.files }
     {
         &self.files
     }
 
-    /// The index of each copper file.
+    /// The index of each copper file among all files, from 0.
     pub fn layers(&self) -> &[usize]
         ensures { result.now ≡ self.now.layers }
     {
         &self.layers
     }
 
-    /// The holes of all drill files.
+    /// The holes of all drill files with their places, file by file.
     pub fn holes(&self) -> &[Numbered]
         ensures { result.now ≡ self.now.holes }
     {
         &self.holes
     }
 
-    /// Where the rules are broken.
+    /// The findings: rings that are lacking, layer by layer, then gaps.
     pub fn findings(&self) -> &[Finding]
         ensures { result.now ≡ self.now.findings }
     {
@@ -64,7 +64,7 @@ impl Report {
     }
 }
 
-/// The report on a board. The pads are let go of before the holes are listed with their places.
+/// The report on a board. The pads are freed before the holes are listed with their places.
 pub(crate) fn report_on(alloc: Global, board: Board, rules: Rules) -> Result<Report, AllocError>
     ensures { IfOk result (λ report. report ≡ reported rules board) }
 {

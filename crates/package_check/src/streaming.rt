@@ -26,7 +26,7 @@ pub enum PrintFault {
     Cut,
 }
 
-/// The lines of the rules and of the files, with room for what is gathered behind them.
+/// The lines of the rules and of the files, in a buffer with room for more lines.
 fn first_lines(alloc: Global, names: &[&str], report: &Report) -> Result<String, AllocError>
     ensures { IfOk result (λ text. string_bytes text ≡ rules_line report.now.rules ++ file_lines 1 (map (λ name. name.now) names.now) report.now.files) }
 {
@@ -36,7 +36,7 @@ fn first_lines(alloc: Global, names: &[&str], report: &Report) -> Result<String,
     Ok(text)
 }
 
-/// Writes what was gathered, and lets go of it.
+/// Writes what was gathered, and empties the buffer.
 fn write_out<W: Write>(text: &mut String, out: &mut W) -> Result<(), PrintFault>
     ensures ok { OnOk result (Appends (W.contents out.old) (W.contents out.new) (string_bytes text.old) × (string_bytes text.new ≡ [])) }
     ensures fault { IfErr result (λ e. e ≡ PrintFault.Cut) }
@@ -47,7 +47,7 @@ fn write_out<W: Write>(text: &mut String, out: &mut W) -> Result<(), PrintFault>
     }
 }
 
-/// Gathers the line of a finding, behind what is gathered, or where that is enough, behind what is written of it.
+/// Adds the line of a finding to the buffer, which is written first where it is full enough.
 fn gather<W: Write>(
     text: &mut String,
     report: &Report,
@@ -66,7 +66,7 @@ fn gather<W: Write>(
     }
 }
 
-/// Gathers the lines of the findings, and writes those for which there is no room.
+/// Adds the lines of the findings to the buffer, and writes it whenever it is full enough.
 fn gather_all<W: Write>(text: &mut String, report: &Report, out: &mut W) -> Result<(), PrintFault>
     ensures ok { OnOk result (PassesOn (W.contents out.old) (string_bytes text.old) (W.contents out.new) (string_bytes text.new) (flat_map (finding_line report.now.layers report.now.holes) report.now.findings)) }
     ensures fault { IfErr result (λ e. e ≡ PrintFault.Cut) }
@@ -77,7 +77,7 @@ fn gather_all<W: Write>(text: &mut String, report: &Report, out: &mut W) -> Resu
     Ok(())
 }
 
-/// Gathers the last line, and writes what is left.
+/// Adds the last line, and writes what is left.
 fn end<W: Write>(text: &mut String, report: &Report, out: &mut W) -> Result<(), PrintFault>
     ensures ok { OnOk result (Appends (W.contents out.old) (W.contents out.new) (string_bytes text.old ++ last_line (length report.now.findings))) }
     ensures fault { IfErr result (λ e. e ≡ PrintFault.Cut) }
@@ -88,8 +88,8 @@ fn end<W: Write>(text: &mut String, report: &Report, out: &mut W) -> Result<(), 
     }
 }
 
-/// Prints the text of a report on files of these names. It is written in parts: what they are gathered in is taken before the
-/// first of them is written, so no more memory is taken for a long report than for a short one.
+/// Prints the text of a report on files of these names. It is written in parts, through a buffer that is taken before the first
+/// byte is written. So a long report takes no more memory to print than a short one.
 ///
 /// # Errors
 ///
@@ -119,7 +119,7 @@ fn files_lines(alloc: Global, names: &[&str], files: &[FileSum]) -> Result<Strin
     Ok(text)
 }
 
-/// Prints the lines on the files alone, by their names and how much each holds: as many as there are of both.
+/// Prints the lines `file` alone, by the names and the counts of the files, as long as there are both.
 ///
 /// # Errors
 ///

@@ -40,7 +40,7 @@ obround_deep d c reach r less e =
 pub squares-le : (a b : ℕ) → a ≤ b → a * a ≤ b * b
 squares-le a b h = mul-le a a b b h h
 
--- a test of two sides no longer than those of a step that is short enough
+-- the test passes for a step that is no longer along either axis than one that is short enough
 fits : (a b dx dy m n : ℕ) → dx ≤ a → dy ≤ b → m ≤ n → square a + square b ≤ square m → (nat_le dx n && (nat_le dy n && nat_le (square dx + square dy) (square n))) ≡ true
 fits a b dx dy m n x y less h =
     let t : dx ≤ n = (let s = side-le a b m h in omega (arith, s, x, less)) in
@@ -70,7 +70,7 @@ pub obround_radius : (d : GridObround) (c : GridPoint) (reach r : ℕ) → reach
 obround_radius d c reach r less e =
     let t = both_le r (end_radius d) (square_from_axis d c) (square (end_radius d - r)) e in omega (arith, t.0, less)
 
--- a test that is false where it cannot be true
+-- a test that cannot be true is false
 pub false_from : (b : Bool) → (b ≡ true → ⊥) → b ≡ false
 false_from b never = by_case b refl where
   by_case : (x : Bool) → b ≡ x → b ≡ false

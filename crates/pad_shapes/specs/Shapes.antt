@@ -3,18 +3,18 @@ use Rattle.std.specs.Prelude.{◌≡◌, ℕ, ℤ, pos, ◌+◌, ◌-◌, ◌≤
 use Rattle.grid_units.specs.Points.{GridPoint, apart, square, square_distance}
 use Rattle.grid_units.specs.Holes.{IsBetween}
 
--- a round pad, by its centre and its radius (docs/DEFINITIONS.md, Shapes)
+-- a round pad, such as a flash of `%ADD10C,0.5*%`: its centre and its radius
 pub record GridDisc : Type 0 where
   pub centre : GridPoint
   pub radius : ℕ
 
--- a rectangle along the axes, by its centre and half of each side (docs/DEFINITIONS.md, Shapes)
+-- a rectangle along the axes, such as a flash of `%ADD11R,1.0X0.5*%`: its centre and half of each side
 pub record GridRect : Type 0 where
   pub centre : GridPoint
   pub half_x : ℕ
   pub half_y : ℕ
 
--- a rectangle whose two shorter sides are bent into half circles, by its centre and half of each side (docs/DEFINITIONS.md, Shapes)
+-- a rectangle with half circles for its shorter sides, such as a flash of `%ADD12O,1.0X0.5*%`; a disc where the sides are equal
 pub record GridObround : Type 0 where
   pub centre : GridPoint
   pub half_x : ℕ
@@ -24,11 +24,11 @@ pub record GridObround : Type 0 where
 abbrev pub max_half_side : ℕ
 max_half_side = 5000000000000
 
--- the radius of a pad (docs/FORMATS.md, Limits)
+-- the radius of a round pad, from 0 to 5 m (docs/FORMATS.md, Limits)
 abbrev pub IsPadRadius : ℤ → Type 0
 IsPadRadius z = (pos 0 ≤ℤ z) × (z ≤ℤ pos max_half_side)
 
--- half of a side (docs/FORMATS.md, Limits)
+-- half of a side of a pad, from 1 pm to 5 m (docs/FORMATS.md, Limits)
 abbrev pub IsHalfSide : ℤ → Type 0
 IsHalfSide z = (pos 1 ≤ℤ z) × (z ≤ℤ pos max_half_side)
 
@@ -36,23 +36,23 @@ IsHalfSide z = (pos 1 ≤ℤ z) × (z ≤ℤ pos max_half_side)
 abbrev pub max_reach : ℕ
 max_reach = 20000000000000
 
--- a reach that a shape is asked for (docs/FORMATS.md, Limits)
+-- a reach round a centre in a call, from 0 to 20 m: for a hole, its radius and its ring together (docs/FORMATS.md, Limits)
 abbrev pub IsReach : ℤ → Type 0
 IsReach z = (pos 0 ≤ℤ z) × (z ≤ℤ pos max_reach)
 
--- no further than the radius from the centre (docs/DEFINITIONS.md, Shapes)
+-- p is no further than the radius from the centre, judged by squares
 abbrev pub IsInDisc : GridDisc → GridPoint → Type 0
 IsInDisc d p = square_distance p d.centre ≤ square d.radius
 
--- along each axis no further than half of the side from the centre (docs/DEFINITIONS.md, Shapes)
+-- p is, along each axis, no further than half of the side from the centre
 abbrev pub IsInRect : GridRect → GridPoint → Type 0
 IsInRect r p = (apart p.x r.centre.x ≤ r.half_x) × (apart p.y r.centre.y ≤ r.half_y)
 
--- the radius of the round ends, half of the shorter side (docs/DEFINITIONS.md, Shapes)
+-- the radius of the two round ends: half of the shorter side
 abbrev pub end_radius : GridObround → ℕ
 end_radius o = min o.half_x o.half_y
 
--- the rectangle between the middles of the round ends (docs/DEFINITIONS.md, Shapes)
+-- the rectangle between the centres of the round ends
 abbrev pub straight_part : GridObround → GridRect
 straight_part o = record {
   centre = o.centre;
@@ -60,83 +60,84 @@ straight_part o = record {
   half_y = if nat_le o.half_y o.half_x then end_radius o else o.half_y - end_radius o;
 }
 
--- The round end on the right or above: of the two differences the one along the shorter side is zero (docs/DEFINITIONS.md, Shapes).
+-- the round end on the right or at the top; along the shorter side its centre is that of the pad
 abbrev pub upper_end : GridObround → GridDisc
 upper_end o = record {
   centre = record { x = o.centre.x +ℤ pos (o.half_x - end_radius o); y = o.centre.y +ℤ pos (o.half_y - end_radius o) };
   radius = end_radius o;
 }
 
--- the round end on the left or below (docs/DEFINITIONS.md, Shapes)
+-- the round end on the left or at the bottom
 abbrev pub lower_end : GridObround → GridDisc
 lower_end o = record {
   centre = record { x = o.centre.x -ℤ pos (o.half_x - end_radius o); y = o.centre.y -ℤ pos (o.half_y - end_radius o) };
   radius = end_radius o;
 }
 
--- in the straight part or in one of the round ends (docs/DEFINITIONS.md, Shapes)
+-- p lies in the straight part or in one of the round ends
 abbrev pub IsInObround : GridObround → GridPoint → Type 0
 IsInObround o p = IsInRect (straight_part o) p ⊎ (IsInDisc (upper_end o) p ⊎ IsInDisc (lower_end o) p)
 
--- the centre lies so deep in the disc that the reach stays inside (docs/DEFINITIONS.md, What a shape covers)
+-- c lies so deep in the disc that the reach stays inside: no further from its centre than the radius less the reach
 abbrev pub disc_covers : GridDisc → GridPoint → ℕ → Bool
 disc_covers d c reach =
     nat_le reach d.radius && nat_le (square_distance c d.centre) (square (d.radius - reach))
 
--- the centre lies along each axis so deep in the rectangle that the reach stays inside (docs/DEFINITIONS.md, What a shape covers)
+-- c lies so deep in the rectangle that, along each axis, its distance from the middle and the reach fit into half of the side
 abbrev pub rect_covers : GridRect → GridPoint → ℕ → Bool
 rect_covers r c reach =
     nat_le (apart c.x r.centre.x + reach) r.half_x && nat_le (apart c.y r.centre.y + reach) r.half_y
 
--- the square of the distance from the line between the middles of the round ends (docs/DEFINITIONS.md, What a shape covers)
+-- the square of p's distance from the line between the centres of the round ends
 abbrev pub square_from_axis : GridObround → GridPoint → ℕ
 square_from_axis o p =
     square (apart p.x o.centre.x - (o.half_x - end_radius o)) + square (apart p.y o.centre.y - (o.half_y - end_radius o))
 
--- the centre lies so near that line that the reach stays inside (docs/DEFINITIONS.md, What a shape covers)
+-- c is no further from that line than the radius of the ends less the reach, so that the reach stays inside
 abbrev pub obround_covers : GridObround → GridPoint → ℕ → Bool
 obround_covers o c reach =
     nat_le reach (end_radius o) && nat_le (square_from_axis o c) (square (end_radius o - reach))
 
--- each point within the reach of a covered centre is a point of the shape (docs/DEFINITIONS.md, What a shape covers)
+-- each grid point within the reach of a covered centre is a point of the shape
 abbrev pub HoldsWhatItCovers : {S : Type 0} → (S → GridPoint → Type 0) → (S → GridPoint → ℕ → Bool) → Type 0
 HoldsWhatItCovers {S} points covers =
     (s : S) (c : GridPoint) (reach : ℕ) → covers s c reach ≡ true → (p : GridPoint) → square_distance p c ≤ square reach → points s p
 
--- two points share their x or their y (docs/DEFINITIONS.md, What a shape covers)
+-- two points share their x or their y
 abbrev pub IsAlongAxis : GridPoint → GridPoint → Type 0
 IsAlongAxis from to = (from.x ≡ to.x) ⊎ (from.y ≡ to.y)
 
--- in the least box that contains two points (docs/DEFINITIONS.md, What a shape covers)
+-- p lies in the least box that contains both points
 abbrev pub IsInBox : GridPoint → GridPoint → GridPoint → Type 0
 IsInBox from to p = IsBetween from.x to.x p.x × IsBetween from.y to.y p.y
 
--- both ends of a slot are covered (docs/DEFINITIONS.md, What a shape covers)
+-- both ends of a slot are covered with this reach
 abbrev pub covers_ends : {S : Type 0} → (S → GridPoint → ℕ → Bool) → S → GridPoint → GridPoint → ℕ → Bool
 covers_ends covers s from to reach = covers s from reach && covers s to reach
 
--- where the ends of a slot along an axis are covered, each point within the reach of some point of their box is a point of the shape (docs/DEFINITIONS.md, What a shape covers)
+-- where both ends of a slot along an axis are covered, each grid point within the reach of a point between them is in the shape
 abbrev pub HoldsSlots : {S : Type 0} → (S → GridPoint → Type 0) → (S → GridPoint → ℕ → Bool) → Type 0
 HoldsSlots {S} points covers =
     (s : S) (from to : GridPoint) (reach : ℕ) → IsAlongAxis from to → covers_ends covers s from to reach ≡ true → (c p : GridPoint) → IsInBox from to c → square_distance p c ≤ square reach → points s p
 
--- a covered centre lies between the least and the greatest x (docs/DEFINITIONS.md, What a shape covers)
+-- a covered centre lies between the least and the greatest x of the shape
 abbrev pub CoversBetween : {S : Type 0} → (S → GridPoint → ℕ → Bool) → (S → ℤ) → (S → ℤ) → Type 0
 CoversBetween {S} covers left right =
     (s : S) (c : GridPoint) (reach : ℕ) → covers s c reach ≡ true → (left s ≤ℤ c.x) × (c.x ≤ℤ right s)
 
--- the least and the greatest x of a set of points (docs/DEFINITIONS.md, Shapes)
+-- left and right are the least and the greatest x of a set of points: each point lies between them, and some points have them
 pub record IsExtent (points : GridPoint → Type 0) (left right : ℤ) : Type 0 where
   pub least : (p : GridPoint) → points p → left ≤ℤ p.x
   pub greatest : (p : GridPoint) → points p → p.x ≤ℤ right
   pub at_least : (y : ℤ) × points (record { x = left; y = y })
   pub at_greatest : (y : ℤ) × points (record { x = right; y = y })
 
--- each shape has its least and its greatest x (docs/DEFINITIONS.md, Shapes)
+-- for each shape, left and right are the least and the greatest x of its points
 abbrev pub HasExtent : {S : Type 0} → (S → GridPoint → Type 0) → (S → ℤ) → (S → ℤ) → Type 0
 HasExtent {S} points left right = (s : S) → IsExtent (points s) (left s) (right s)
 
--- where a rectangle does not cover a centre, some point within the reach is none of its points (docs/DEFINITIONS.md, What a shape covers)
+-- Where a rectangle does not cover a centre, some grid point within the reach lies outside it. A disc or an obround may hold
+-- all grid points within the reach of a centre that it does not cover, as its rim runs between grid points.
 abbrev pub RectMissesOne : Type 0
 RectMissesOne =
     (r : GridRect) (c : GridPoint) (reach : ℕ) → rect_covers r c reach ≡ false → (p : GridPoint) × (square_distance p c ≤ square reach) × ¬ IsInRect r p

@@ -9,7 +9,7 @@ use crate::zone::{Zone, beyond_x, beyond_y, deep_within, is_within};
 use grid_units::{Point, square, square_distance};
 use std::marker::Model;
 
-/// A disc, by its centre and its radius of 0 to 5,000,000,000,000 pm.
+/// A disc: its centre, and its radius of 0 to 5,000,000,000,000 pm.
 #[derive(Clone, Copy, Debug, PartialEq, Eq)]
 pub struct Disc {
     centre: Point,
@@ -45,7 +45,7 @@ impl Disc {
         }
     }
 
-    /// The centre.
+    /// The centre of the disc.
     pub fn centre(&self) -> Point
         ensures { result ≡ self.now.centre }
     {

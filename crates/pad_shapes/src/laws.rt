@@ -1,10 +1,11 @@
-//! Laws of the shapes. A call of one does nothing, and gives its clause.
+//! Laws of the shapes. Calling a law does nothing but give its clause.
 
 ghost use Rattle.pad_shapes.specs.Shapes.{HoldsWhatItCovers, HoldsSlots, CoversBetween, HasExtent, RectMissesOne};
 
 use crate::shape::PadShape;
 
-/// What a shape covers with a reach it holds whole, slots along an axis too, between its least and its greatest x.
+/// A shape holds each point within the reach of what it covers, slots along an axis too. A covered centre lies between its
+/// least and its greatest x, which are those of its points.
 pub fn shapes_hold<S: PadShape>()
     ensures holds { HoldsWhatItCovers S.points S.covers }
     ensures slots { HoldsSlots S.points S.covers }

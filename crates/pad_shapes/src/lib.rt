@@ -1,7 +1,7 @@
 //! Shapes of flashed pads: discs, rectangles and obrounds.
 //!
-//! A shape is a set of points of the grid of whole picometres (pm). It covers a centre with a reach where a
-//! test of distances says so, and then each point within the reach is a point of the shape.
+//! A shape is a set of points of the grid of whole picometres (pm). Whether it covers a centre with a reach is a
+//! test of distances; where it does, each point within the reach is a point of the shape.
 #![tactic(auto)]
 
 mod disc;

@@ -1,4 +1,4 @@
-//! Pads with two round ends.
+//! Obround pads: pads with two round ends.
 
 ghost use Rattle.std.specs.Prelude.{◌≡◌, pos, ◌≤◌, ◌+ℤ◌, ◌-ℤ◌, ◌↔◌, IsSome, IfSome, unsigned_abs};
 ghost use Rattle.pad_shapes.specs.Shapes.{IsHalfSide, IsInObround, end_radius, square_from_axis, obround_covers, max_half_side};
@@ -9,8 +9,8 @@ use crate::zone::{Zone, beyond_x, beyond_y, deep_within, is_within};
 use grid_units::{Point, square, square_length};
 use std::marker::Model;
 
-/// An obround: a rectangle along the axes whose two shorter sides are bent into half circles, by its centre and
-/// half of each side. Each half is 1 to 5,000,000,000,000 pm.
+/// An obround: a rectangle along the axes with half circles for its two shorter sides. It has a centre and half of
+/// each side; each half is 1 to 5,000,000,000,000 pm.
 #[derive(Clone, Copy, Debug, PartialEq, Eq)]
 pub struct Obround {
     centre: Point,
@@ -32,7 +32,7 @@ impl Model for Obround {
 }
 
 impl Obround {
-    /// The obround round this centre, or `None` where one of the two halves of a side in pm is out of range.
+    /// The obround round this centre, or `None` where half of a side, in pm, is out of range.
     pub fn new(centre: Point, half_x: i64, half_y: i64) -> Option<Obround>
         ensures valid { IsSome result ↔ (IsHalfSide half_x × IsHalfSide half_y) }
         ensures value { IfSome result (λ o. o ≡ record { centre = centre; half_x = unsigned_abs half_x; half_y = unsigned_abs half_y }) }
@@ -48,7 +48,7 @@ impl Obround {
         }
     }
 
-    /// The centre.
+    /// The centre of the obround.
     pub fn centre(&self) -> Point
         ensures { result ≡ self.now.centre }
     {
@@ -71,7 +71,7 @@ impl Obround {
         self.half_y as i64
     }
 
-    /// The radius of the round ends.
+    /// The radius of the round ends, in pm: half of the shorter side.
     fn end_radius(&self) -> u64
         ensures value { result ≡ end_radius self.now }
         ensures in_range { result ≤ max_half_side }
@@ -79,7 +79,7 @@ impl Obround {
         self.half_x.min(self.half_y)
     }
 
-    /// The square of a point's distance from the line between the middles of the round ends.
+    /// The square of a point's distance from the line between the centres of the round ends.
     fn square_from_axis(&self, point: Point) -> i128
         ensures { result ≡ pos (square_from_axis self.now point) }
     {

@@ -11,14 +11,14 @@ use crate::shape::PadShape;
 use crate::zone::Zone;
 use grid_units::Point;
 
-/// A flashed pad.
+/// A flashed pad of any shape.
 #[derive(Clone, Copy, Debug, PartialEq, Eq)]
 pub enum Pad {
-    /// A round one.
+    /// A round pad (aperture `C`).
     Disc(Disc),
-    /// A rectangular one.
+    /// A rectangular pad (aperture `R`).
     Rect(Rect),
-    /// One with two round ends.
+    /// A pad with two round ends (aperture `O`).
     Obround(Obround),
 }
 

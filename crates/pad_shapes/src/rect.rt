@@ -9,7 +9,7 @@ use crate::zone::{Zone, beyond_x, beyond_y, deep_within};
 use grid_units::Point;
 use std::marker::Model;
 
-/// A rectangle along the axes, by its centre and half of each side. Each half is 1 to 5,000,000,000,000 pm.
+/// A rectangle along the axes: its centre, and half of each side. Each half is 1 to 5,000,000,000,000 pm.
 #[derive(Clone, Copy, Debug, PartialEq, Eq)]
 pub struct Rect {
     centre: Point,
@@ -31,7 +31,7 @@ impl Model for Rect {
 }
 
 impl Rect {
-    /// The rectangle round this centre, or `None` where one of the two halves of a side in pm is out of range.
+    /// The rectangle round this centre, or `None` where half of a side, in pm, is out of range.
     pub fn new(centre: Point, half_x: i64, half_y: i64) -> Option<Rect>
         ensures valid { IsSome result ↔ (IsHalfSide half_x × IsHalfSide half_y) }
         ensures value { IfSome result (λ r. r ≡ record { centre = centre; half_x = unsigned_abs half_x; half_y = unsigned_abs half_y }) }
@@ -47,7 +47,7 @@ impl Rect {
         }
     }
 
-    /// The centre.
+    /// The centre of the rectangle.
     pub fn centre(&self) -> Point
         ensures { result ≡ self.now.centre }
     {

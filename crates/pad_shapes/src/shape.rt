@@ -1,4 +1,4 @@
-//! What every shape of a pad tells.
+//! The trait of pad shapes: their points, what they cover, and how far they extend.
 
 ghost use Rattle.std.specs.Prelude.{◌≡◌, ◌≤◌, ℕ, ℤ, Bool, false, ◌↔◌, IsTrue, IfSome, unsigned_abs};
 ghost use Rattle.grid_units.specs.Points.{GridPoint};
@@ -14,13 +14,13 @@ pub const MAX_HALF_SIDE: i64 = 5_000_000_000_000;
 /// A shape of copper.
 ///
 /// Its meaning is its points, the centres that it covers with a reach round them, and the least and the
-/// greatest x of its points. It holds each point within the reach of a centre that it covers, and of a slot along an
-/// axis whose two ends it covers.
+/// greatest x of its points. It holds each point within the reach of a centre that it covers. It also holds each
+/// point within the reach of a slot along an axis, where it covers both ends of the slot.
 pub trait PadShape {
-    /// Its points.
+    /// The grid points of the shape.
     ghost points: { Self → GridPoint → Type 0 };
 
-    /// Whether it covers a centre with a reach round it.
+    /// Whether it covers a centre with a reach round it, in pm.
     ghost covers: { Self → GridPoint → ℕ → Bool };
 
     /// The least x of its points.
@@ -53,8 +53,8 @@ pub trait PadShape {
     fn right(&self) -> i64
         ensures { result ≡ right self.now };
 
-    /// A zone of the centres that it covers with this reach or a greater one, if it tells any. The reach is in pm, at
-    /// most 20,000,000,000,000.
+    /// A zone that holds each centre that it covers with this reach or a greater one; `None` where it names none. The
+    /// reach is in pm, at most 20,000,000,000,000.
     fn zone(&self, reach: u64) -> Option<Zone>
         requires { reach ≤ max_reach }
         ensures { IfSome result (BoundsCentres covers self.now reach) }
@@ -62,17 +62,17 @@ pub trait PadShape {
         None
     }
 
-    /// Whether it may cover a centre of the zone with this reach or a greater one. `true` says nothing.
+    /// Whether it may cover a centre in the zone with this reach or a greater one. `true` promises nothing.
     fn may_cover(&self, zone: &Zone, reach: u64) -> bool
         ensures { result ≡ false → CoversNone covers self.now reach zone.now }
     {
         true
     }
 
-    /// Each point within the reach of a covered centre is a point of it.
+    /// Each point within the reach of a covered centre is a point of the shape.
     ghost holds: { HoldsWhatItCovers points covers };
 
-    /// Each point within the reach of a slot along an axis whose ends are covered is a point of it.
+    /// Each point within the reach of a slot along an axis is a point of the shape, where both ends are covered.
     ghost holds_slots: { HoldsSlots points covers };
 
     /// A covered centre lies between the least and the greatest x.

@@ -6,7 +6,7 @@ ghost use Rattle.pad_shapes.specs.Zones.{IsInZone, IsDeep};
 
 use grid_units::{Point, square, square_length};
 
-/// A box along the axes, by the least and the greatest coordinates of its points, in pm.
+/// A box along the axes: the least and the greatest coordinates of its points, in pm.
 #[derive(Clone, Copy, Debug, PartialEq, Eq)]
 pub struct Zone {
     /// The least x.
@@ -19,7 +19,7 @@ pub struct Zone {
     pub top: i64,
 }
 
-/// Where the centres lie that are as deep as a reach in a box round a centre, by half of each of its sides.
+/// The zone of the points that lie at least a reach deep in the box round this centre with these half sides.
 pub(crate) fn deep_within(centre: Point, half_x: u64, half_y: u64, reach: u64) -> Zone
     requires x { half_x ≤ 5000000000000 }
     requires y { half_y ≤ 5000000000000 }
@@ -36,7 +36,7 @@ pub(crate) fn deep_within(centre: Point, half_x: u64, half_y: u64, reach: u64) -
     }
 }
 
-/// How far each point of a zone lies at least from a centre, along x.
+/// The least distance of a zone's points from a centre along x, in pm.
 pub(crate) fn beyond_x(zone: &Zone, centre: Point) -> u64
     ensures { (p : GridPoint) → IsInZone zone.now p → result ≤ apart p.x centre.x }
 {
@@ -50,7 +50,7 @@ pub(crate) fn beyond_x(zone: &Zone, centre: Point) -> u64
     }
 }
 
-/// How far each point of a zone lies at least from a centre, along y.
+/// The least distance of a zone's points from a centre along y, in pm.
 pub(crate) fn beyond_y(zone: &Zone, centre: Point) -> u64
     ensures { (p : GridPoint) → IsInZone zone.now p → result ≤ apart p.y centre.y }
 {

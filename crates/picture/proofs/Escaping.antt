@@ -4,9 +4,9 @@ use Rattle.std.proofs.lemmas.Bool.Decides.{nat_tests}
 use Rattle.std.proofs.lemmas.List.{append_assoc, drop_all, length-append}
 use Rattle.picture.specs.Escapes.{IsEscaped, begins, begins_entity, begins_forbidden, ends_forbidden, escaped_behind, written_byte}
 
--- ---- no byte begins what is forbidden
+-- ---- no byte begins U+FFFE or U+FFFF
 
--- behind the second byte
+-- after the second byte
 last_written : (low high amp less more : Bool) (d : ℕ) (t : List ℕ) → (d == 190) ≡ low → (d == 191) ≡ high
     → (begins (190 ∷ []) ((if low || high then 189 ∷ [] else if amp then codes "&amp;" else if less then codes "&lt;" else if more then codes "&gt;" else d ∷ []) ++ t)
     || begins (191 ∷ []) ((if low || high then 189 ∷ [] else if amp then codes "&amp;" else if less then codes "&lt;" else if more then codes "&gt;" else d ∷ []) ++ t)) ≡ false
@@ -25,7 +25,7 @@ unfolding escaped_behind
 behind_second [] = refl
 behind_second (d ∷ ds) = last_written (d == 190) (d == 191) (d == 38) (d == 60) (d == 62) d (escaped_behind 191 d ds) refl refl
 
--- behind the first byte
+-- after the first byte
 abbrev Follows : List ℕ → Type 0
 Follows t = (begins (191 ∷ 190 ∷ []) t || begins (191 ∷ 191 ∷ []) t) ≡ false
 
@@ -47,7 +47,7 @@ unfolding escaped_behind
 behind_first second [] = refl
 behind_first second (c ∷ cs) = next_written (c == 38) (c == 60) (c == 62) c cs
 
--- a byte and what is written behind it
+-- a byte, and the rest of the name as it is printed
 alone : (same : Bool) (second b : ℕ) (bs : List ℕ) → (239 == b) ≡ same → begins_forbidden (b ∷ escaped_behind second b bs) ≡ false
 alone false second b bs is = rw is refl
 alone true second b bs is =
@@ -56,7 +56,7 @@ alone true second b bs is =
 
 -- ---- a whole name
 
--- a byte that is neither of the two
+-- a byte that is neither `&` nor `<`
 plain : (b : ℕ) (t : List ℕ) → b ≢ 38 → b ≢ 60 → begins_forbidden (b ∷ t) ≡ false → IsEscaped t → IsEscaped (b ∷ t)
 unfolding IsEscaped
 plain b t and less ends h = (less, (λ e. absurd (and e)), ends, h)
@@ -66,7 +66,7 @@ entity : (t : List ℕ) → IsTrue (begins_entity t) → IsEscaped t → IsEscap
 unfolding IsEscaped
 entity t is h = (search rules, (λ e. is), refl, h)
 
--- a byte as it is written
+-- a byte as it is printed
 written : (last amp less more : Bool) (b : ℕ) (t : List ℕ) → (b == 38) ≡ amp → (b == 60) ≡ less → begins_forbidden (b ∷ t) ≡ false → IsEscaped t
     → IsEscaped ((if last then 189 ∷ [] else if amp then codes "&amp;" else if less then codes "&lt;" else if more then codes "&gt;" else b ∷ []) ++ t)
 written true amp less more b t and other ends h = plain 189 t (search rules) (search rules) refl h
@@ -78,16 +78,16 @@ written false false false true b t and other ends h =
     entity (103 ∷ 116 ∷ 59 ∷ t) (search rules) (plain 103 _ (search rules) (search rules) refl (plain 116 _ (search rules) (search rules) refl (plain 59 _ (search rules) (search rules) refl h)))
 written false false false false b t and other ends h = plain b t (grind (arith, nat_tests, and)) (grind (arith, nat_tests, other)) ends h
 
--- what is written behind two bytes
+-- the rest of a name as it is printed is escaped
 pub escaped_safe : (first second : ℕ) (name : List ℕ) → IsEscaped (escaped_behind first second name)
 unfolding IsEscaped escaped_behind
 escaped_safe first second [] = tt
 escaped_safe first second (b ∷ bs) =
     written (ends_forbidden first second b) (b == 38) (b == 60) (b == 62) b (escaped_behind second b bs) refl refl (alone (239 == b) second b bs refl) (escaped_safe second b bs)
 
--- ---- how long a name is
+-- ---- the length of a name
 
--- how long a byte is as it is written
+-- the length of a byte as it is printed
 byte_short : (last amp less more : Bool) (b : ℕ)
     → length (if last then 189 ∷ [] else if amp then codes "&amp;" else if less then codes "&lt;" else if more then codes "&gt;" else b ∷ []) ≤ 5
 byte_short true amp less more b = search rules
@@ -96,7 +96,7 @@ byte_short false false true more b = search rules
 byte_short false false false true b = search rules
 byte_short false false false false b = search rules
 
--- how long what is written behind two bytes is
+-- the length of the rest of a name as it is printed
 pub escaped_short : (first second : ℕ) (name : List ℕ) → length (escaped_behind first second name) ≤ 5 * length name
 unfolding escaped_behind
 escaped_short first second [] = search rules
@@ -105,7 +105,7 @@ escaped_short first second (b ∷ bs) =
 
 -- ---- byte by byte
 
--- one byte more
+-- one more byte
 pub one_more_byte : (before after all : List ℕ) (first second : ℕ) (name : List ℕ) (i : ℕ) → i < length name
     → after ≡ before ++ written_byte first second (get_or name i 0) → before ++ escaped_behind first second (drop i name) ≡ all
     → after ++ escaped_behind second (get_or name i 0) (drop (i + 1) name) ≡ all
@@ -116,7 +116,7 @@ one_more_byte before after all first second name i lt is was =
     let split : drop i name ≡ b ∷ drop (i + 1) name = rw add-one (drop-cons name i 0 lt) in
     ap (λ (t : List ℕ). t ++ rest) is ∙ (append_assoc before (written_byte first second b) rest ∙ (sym (ap (λ (t : List ℕ). before ++ escaped_behind first second t) split) ∙ was))
 
--- no byte more
+-- no more bytes
 pub no_more_bytes : (all done : List ℕ) (first second : ℕ) (name : List ℕ) (i : ℕ) → length name ≤ i → done ++ escaped_behind first second (drop i name) ≡ all → done ≡ all
 unfolding escaped_behind
 no_more_bytes all done first second name i h was =

@@ -1,4 +1,4 @@
--- Lists that grow by what one element gives, and bytes behind what was gathered.
+-- Lists that grow by what one element gives, and bytes after those that are gathered.
 use Rattle.std.proofs.Common.{◌≡◌, ◌<◌, ◌+◌, ◌++◌, ◌∙◌, ℕ, List, [], ◌∷◌, Option, Some, None, length, take, get_or, refl, ap, sym, subst, append-nil}
 use Rattle.std.specs.List.{cons_option, enumerate_from, flat_map}
 use Rattle.std.specs.Io.KnownBytes.{Appends}
@@ -24,6 +24,6 @@ pub pads_flat : (flashes : List Flash) → flat_map pad_of flashes ≡ pads_of f
 pads_flat [] = refl
 pads_flat (f ∷ fs) = ap (λ ys. pad_of f ++ ys) (pads_flat fs) ∙ one_pad _ (pads_of fs)
 
--- bytes behind what was gathered
+-- bytes written after the gathered ones
 pub passes_bytes : (a b c : Option (List ℕ)) (g h m : List ℕ) → Appends a b g × (h ≡ []) → Appends b c m → PassesOn a g c h m
 passes_bytes a b c g h m p q = subst (λ (t : List ℕ). PassesOn a g c t m) (sym p.1) (passes_more a b c g [] [] [] m (g, p.0, refl) (m, q, append-nil m))

@@ -37,7 +37,7 @@ both_equal Greater q e = cc
 same_number : (x y : ℕ) → nat_cmp x y ≡ Equal → x ≡ y
 same_number x y e = ranked x y Equal (sym e)
 
--- neither of two kinds and sizes stands before the other
+-- two kinds and sizes are equal where neither comes before the other
 same_kind : (a b : Kind) → is_lt (kind_order a b) ≡ false → is_lt (kind_order b a) ≡ false → AreSame a b
 same_kind a b left right =
     let tied = both_equal (ordering_then (nat_cmp a.0 b.0) (nat_cmp a.1 b.1)) (nat_cmp a.2 b.2) (neither_less (kind_order a b) (kind_order b a) (kinds_total.antisymm b a) left right) in
@@ -92,7 +92,7 @@ alike_from_kind (pads.Obround a) (pads.Obround b) h = of_both a.half_x b.half_x 
 
 -- ---- paths
 
--- a pad between two of one kind and size is of these too
+-- a pad between two pads alike is like them
 between : (all : List Pad) → AreInOrder all → (i m k : ℕ) (d : Pad) → i ≤ m → m ≤ k → k < length all
     → are_alike (get_or all i d) (get_or all k d) ≡ true → AreSame (kind_of (get_or all i d)) (kind_of (get_or all m d))
 between all up i m k d im mk kn alike =

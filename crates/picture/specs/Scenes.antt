@@ -1,4 +1,4 @@
--- What stands in the panel of a layer: its pads, its other flashes, the holes, and what is found there.
+-- The contents of a layer's panel: its pads, its other flashes, the holes, and the findings there (docs/FORMATS.md, Pictures).
 use Rattle.std.specs.Prelude.{◌≡◌, ℕ, ◌+◌, ◌≤◌, ◌<◌, ◌==◌, nat_lt, Bool, true, List, [], ◌∷◌, length, get_or, Option, Some, None, slice_get, if◌then◌else◌}
 use Rattle.std.specs.List.{cons_option, flat_map, enumerate_from}
 use Rattle.std.specs.List.Sorted.{IsSortedByKey}
@@ -16,62 +16,62 @@ use Rattle.picture.specs.Elements.{are_alike}
 use Rattle.picture.specs.declared.scene.Lack.{Lack}
 use Rattle.picture.specs.declared.scene.Lack.TheVariants.{Ring, Gap}
 
--- more flashes and holes than a panel draws (docs/DEFINITIONS.md, Pictures)
+-- more flashes and holes than a panel draws: above 100,000
 abbrev pub is_crowded : List Flash → List Drilled → Bool
 is_crowded flashes holes = nat_lt 100000 (length flashes + length holes)
 
--- what is drawn of some flashes or holes: none of them in a crowded panel (docs/DEFINITIONS.md, Pictures)
+-- the flashes or holes that are drawn: none of them in a crowded panel
 abbrev pub unless_crowded : {X : Type 0} → Bool → List X → List X
 unless_crowded crowded xs = if crowded then [] else xs
 
--- the pad of a flash, if it is one (docs/DEFINITIONS.md, Pictures)
+-- the pad of a flash, if it is one
 abbrev pub pad_of : Flash → List Pad
 pad_of flash = cons_option (pad_in flash.what) []
 
--- the kind of a pad, in the order disc, rectangle, obround, and its half sides (docs/DEFINITIONS.md, Pictures)
+-- the kind of a pad (0 disc, 1 rectangle, 2 obround) and its half sides along x and y, in pm
 abbrev pub kind_of : Pad → ℕ × ℕ × ℕ
 kind_of (pads.Disc d) = (0, d.radius, d.radius)
 kind_of (pads.Rect r) = (1, r.half_x, r.half_y)
 kind_of (pads.Obround o) = (2, o.half_x, o.half_y)
 
--- the order of kinds, of one kind by the half sides along x and then along y (docs/DEFINITIONS.md, Pictures)
+-- the order of kinds; of one kind by the half side along x, then by that along y
 abbrev pub kind_order : ℕ × ℕ × ℕ → ℕ × ℕ × ℕ → Ordering
 kind_order a b = ordering_then (ordering_then (nat_cmp a.0 b.0) (nat_cmp a.1 b.1)) (nat_cmp a.2 b.2)
 
--- pads in order of kind and size, so that those of one kind and size stand behind one another (docs/DEFINITIONS.md, Pictures)
+-- pads in order of kind and size, so that pads alike stand next to each other
 abbrev pub AreInOrder : List Pad → Type 0
 AreInOrder pads = IsSortedByKey kind_of kind_order pads
 
--- each kind and size is one path: between two pads of one kind and size no new path begins (docs/DEFINITIONS.md, Pictures)
+-- each kind and size is one path: between two pads alike no new path begins
 abbrev pub IsOnePathEach : List Pad → Type 0
 IsOnePathEach pads =
     (i j k : ℕ) (d : Pad) → i ≤ j → j < k → k < length pads → are_alike (get_or pads i d) (get_or pads k d) ≡ true
     → are_alike (get_or pads j d) (get_or pads (j + 1) d) ≡ true
 
--- the point of a flash that is no pad (docs/DEFINITIONS.md, Pictures)
+-- the point of a flash that is no pad
 abbrev pub cross_of : Flash → List GridPoint
 cross_of flash = if is_other flash.what then flash.at ∷ [] else []
 
--- the crosses of some flashes: a point for each that is no pad, in order (docs/DEFINITIONS.md, Pictures)
+-- the crosses of some flashes: a point for each that is no pad, in order
 abbrev pub crosses_of : List Flash → List GridPoint
 crosses_of flashes = flat_map cross_of flashes
 
--- a ring that is lacking at a hole, if there is such a hole, by the number of its finding (docs/DEFINITIONS.md, Pictures)
+-- the insufficient ring of a hole, with the number of its finding; nothing where there is no such hole
 abbrev pub ring_lack : ℕ → Option Drilled → List Lack
 ring_lack number None = []
 ring_lack number (Some d) = Ring number d.hole ∷ []
 
--- a gap that is lacking between two holes, if there are both (docs/DEFINITIONS.md, Pictures)
+-- the insufficient gap between two holes, with the number of its finding; nothing where one hole is missing
 abbrev pub gap_lack : ℕ → Option Drilled → Option Drilled → List Lack
 gap_lack number (Some a) (Some b) = Gap number a.hole b.hole ∷ []
 gap_lack number _ _ = []
 
--- what a numbered finding shows in the panel of a layer: a ring there alone, a gap in every panel (docs/DEFINITIONS.md, Pictures)
+-- what a finding shows in the panel of a layer: a ring on its own layer alone, a gap in every panel; numbers count from 1
 unfoldable pub lack_of : ℕ → List Drilled → ℕ × Finding → List Lack
 lack_of layer holes (place, finding.Ring l hole) = if l == layer then ring_lack (place + 1) (slice_get holes hole) else []
 lack_of layer holes (place, finding.Oblique l hole) = if l == layer then ring_lack (place + 1) (slice_get holes hole) else []
 lack_of layer holes (place, finding.Gap first second) = gap_lack (place + 1) (slice_get holes first) (slice_get holes second)
 
--- what all findings show there, in their order, numbered from 1 (docs/DEFINITIONS.md, Pictures)
+-- what all findings show there, in their order
 abbrev pub lacks_of : ℕ → List Drilled → List Finding → List Lack
 lacks_of layer holes findings = flat_map (lack_of layer holes) (enumerate_from 0 findings)

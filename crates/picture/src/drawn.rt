@@ -1,4 +1,4 @@
-//! What is drawn by an element for each.
+//! The elements of a panel that are gathered one for each item.
 
 ghost use Rattle.std.specs.Prelude.{◌≡◌, ◌++◌, ℕ, List, OnOk, string_bytes};
 ghost use Rattle.picture.specs.declared.pen.Pen.{Pen as Pens};
@@ -12,12 +12,12 @@ use grid_units::Point;
 use ring_rules::Drilled;
 use std::alloc::AllocError;
 
-/// How each of some things is drawn.
+/// How an item is drawn.
 pub(crate) trait Form<T> {
-    /// The text of one.
+    /// The text of one item.
     ghost written: { Pens → T → List ℕ };
 
-    /// Appends the text of one.
+    /// Appends the text of one item.
     fn push(&self, text: &mut String, pen: &Pen, one: &T) -> Result<(), AllocError>
         ensures { OnOk result (string_bytes text.new ≡ string_bytes text.old ++ written pen.now one.now) };
 }
@@ -44,7 +44,7 @@ impl Form<Drilled> for Holes {
     }
 }
 
-/// Rings and gaps that are lacking.
+/// Insufficient rings and gaps, each as its element.
 pub(crate) struct Lacks;
 
 impl Form<Lack> for Lacks {
@@ -55,7 +55,7 @@ impl Form<Lack> for Lacks {
     }
 }
 
-/// The marks of what is lacking.
+/// The marks round insufficient rings and gaps.
 pub(crate) struct Marks;
 
 impl Form<Lack> for Marks {
@@ -66,7 +66,7 @@ impl Form<Lack> for Marks {
     }
 }
 
-/// The numbers of what is lacking.
+/// The numbers of insufficient rings and gaps.
 pub(crate) struct Numbers;
 
 impl Form<Lack> for Numbers {

@@ -1,4 +1,4 @@
-//! The forms of the elements of a picture. Lengths are in pm; in a picture y grows downwards.
+//! The forms of the elements of a picture. Lengths are in pm, printed in millimetres; in a picture y grows downwards.
 
 ghost use Rattle.std.specs.Prelude.{◌≡◌, ◌++◌, ◌≤◌, ◌^◌, OnOk, decimal, neg_ℤ, string_bytes, unsigned_abs};
 ghost use Rattle.picture.specs.Elements.{across, after, along, box, circle, line, lines_start, number_at, start, text_start};
@@ -9,7 +9,7 @@ use printing::{push_short_mm, push_words};
 use std::alloc::AllocError;
 use std::fmt::Write;
 
-/// A y of the board as it stands in a picture.
+/// The y in a picture of a y on the board: negated.
 pub(crate) fn down(y: i64) -> i64
     requires { unsigned_abs y ≤ 10 ^ 15 }
     ensures { result ≡ neg_ℤ y }
@@ -17,7 +17,7 @@ pub(crate) fn down(y: i64) -> i64
     -y
 }
 
-/// Appends words and a length.
+/// Appends words, then a length in millimetres.
 pub(crate) fn push_after(text: &mut String, words: &str, length: i64) -> Result<(), AllocError>
     ensures { OnOk result (string_bytes text.new ≡ string_bytes text.old ++ after words.now length) }
 {
@@ -25,7 +25,7 @@ pub(crate) fn push_after(text: &mut String, words: &str, length: i64) -> Result<
     push_short_mm(text, length)
 }
 
-/// Appends a circle.
+/// Appends a circle, by its class, its centre, its radius and the width of its line.
 pub(crate) fn push_circle(
     text: &mut String,
     class: &str,
@@ -45,7 +45,7 @@ pub(crate) fn push_circle(
     push_words(text, "\"/>\n")
 }
 
-/// Appends a straight line.
+/// Appends a straight line, by its class, its width and its ends.
 pub(crate) fn push_line(
     text: &mut String,
     class: &str,
@@ -67,7 +67,7 @@ pub(crate) fn push_line(
     push_words(text, "\"/>\n")
 }
 
-/// Appends where a part of a path begins.
+/// Appends the start of a part of a path: `M8 -24.54`.
 fn push_start(text: &mut String, x: i64, y: i64) -> Result<(), AllocError>
     ensures { OnOk result (string_bytes text.new ≡ string_bytes text.old ++ start x y) }
 {
@@ -75,7 +75,7 @@ fn push_start(text: &mut String, x: i64, y: i64) -> Result<(), AllocError>
     push_after(text, " ", y)
 }
 
-/// Appends a rectangle of a path, by its corner at the upper left, its sides and the way back.
+/// Appends a rectangle as a part of a path, by its upper left corner, its sides and the way back.
 pub(crate) fn push_box(
     text: &mut String,
     x: i64,
@@ -94,7 +94,7 @@ pub(crate) fn push_box(
     push_words(text, "z")
 }
 
-/// Appends a part of a path that goes along x.
+/// Appends a part of a path along x.
 #[tactic(auto, unfolding(crate::specs::Elements::across))]
 pub(crate) fn push_across(text: &mut String, x: i64, y: i64, length: i64) -> Result<(), AllocError>
     ensures { OnOk result (string_bytes text.new ≡ string_bytes text.old ++ across x y length) }
@@ -103,7 +103,7 @@ pub(crate) fn push_across(text: &mut String, x: i64, y: i64, length: i64) -> Res
     push_after(text, "h", length)
 }
 
-/// Appends a part of a path that goes along y.
+/// Appends a part of a path along y.
 #[tactic(auto, unfolding(crate::specs::Elements::along))]
 pub(crate) fn push_along(text: &mut String, x: i64, y: i64, length: i64) -> Result<(), AllocError>
     ensures { OnOk result (string_bytes text.new ≡ string_bytes text.old ++ along x y length) }
@@ -112,7 +112,7 @@ pub(crate) fn push_along(text: &mut String, x: i64, y: i64, length: i64) -> Resu
     push_after(text, "v", length)
 }
 
-/// Appends the begin of a path of lines.
+/// Appends the start of a path of lines, by their width.
 pub(crate) fn push_lines_start(text: &mut String, width: i64) -> Result<(), AllocError>
     ensures { OnOk result (string_bytes text.new ≡ string_bytes text.old ++ lines_start width) }
 {
@@ -120,7 +120,7 @@ pub(crate) fn push_lines_start(text: &mut String, width: i64) -> Result<(), Allo
     push_words(text, "\" d=\"")
 }
 
-/// Appends words and the digits of a number.
+/// Appends words, then the digits of a number.
 pub(crate) fn push_decimal(text: &mut String, words: &str, number: usize) -> Result<(), AllocError>
     ensures { OnOk result (string_bytes text.new ≡ string_bytes text.old ++ (words.now ++ decimal number)) }
 {
@@ -130,7 +130,7 @@ pub(crate) fn push_decimal(text: &mut String, words: &str, number: usize) -> Res
     }
 }
 
-/// Appends the digits of a number and words.
+/// Appends the digits of a number, then words.
 pub(crate) fn push_digits(text: &mut String, number: usize, words: &str) -> Result<(), AllocError>
     ensures { OnOk result (string_bytes text.new ≡ string_bytes text.old ++ (decimal number ++ words.now)) }
 {
@@ -140,7 +140,7 @@ pub(crate) fn push_digits(text: &mut String, number: usize, words: &str) -> Resu
     }
 }
 
-/// Appends the begin of a text at a place, whose letters are in units, behind its first words.
+/// Appends the start of a text after its first words: its place, and the unit that scales its letters.
 pub(crate) fn push_text_start(
     text: &mut String,
     pen: &Pen,
@@ -156,7 +156,7 @@ pub(crate) fn push_text_start(
     push_words(text, ")\">")
 }
 
-/// Appends a number at a place.
+/// Appends the number of a finding at a place, as an element.
 #[tactic(auto, unfolding(crate::specs::Elements::number_at))]
 pub(crate) fn push_number_at(
     text: &mut String,

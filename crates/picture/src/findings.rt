@@ -1,4 +1,4 @@
-//! What is lacking, in a picture.
+//! The findings of a panel, their marks and their numbers. Lengths and coordinates are in pm.
 
 ghost use Rattle.std.specs.Prelude.{◌≡◌, ◌++◌, ◌*◌, ◌≤◌, ◌^◌, ◌+ℤ◌, neg_ℤ, pos, OnOk, string_bytes, unsigned_abs};
 ghost use Rattle.grid_units.specs.Points.{IsCoordinate};
@@ -12,7 +12,7 @@ use crate::widths::{gap_width, ring_rim, strong};
 use grid_units::Hole;
 use std::alloc::AllocError;
 
-/// Halfway between two coordinates.
+/// Halfway between two coordinates, rounded towards 0.
 fn halfway(a: i64, b: i64) -> i64
     requires a { IsCoordinate a }
     requires b { IsCoordinate b }
@@ -22,7 +22,6 @@ fn halfway(a: i64, b: i64) -> i64
     (a + b) / 2
 }
 
-/// The x of the middle of a hole.
 fn middle_x(hole: &Hole) -> i64
     ensures value { result ≡ middle_x hole.now }
     ensures in_range { IsCoordinate result }
@@ -30,7 +29,6 @@ fn middle_x(hole: &Hole) -> i64
     halfway(hole.from().x(), hole.to().x())
 }
 
-/// The y of the middle of a hole.
 fn middle_y(hole: &Hole) -> i64
     ensures value { result ≡ middle_y hole.now }
     ensures in_range { IsCoordinate result }
@@ -38,7 +36,7 @@ fn middle_y(hole: &Hole) -> i64
     halfway(hole.from().y(), hole.to().y())
 }
 
-/// Appends the ring that a hole asks.
+/// Appends the required ring of a hole: a circle, of a slot a wide line.
 fn push_ring(text: &mut String, pen: &Pen, hole: &Hole) -> Result<(), AllocError>
     ensures { OnOk result (string_bytes text.new ≡ string_bytes text.old ++ ring pen.now hole.now) }
 {
@@ -57,7 +55,7 @@ fn push_ring(text: &mut String, pen: &Pen, hole: &Hole) -> Result<(), AllocError
     )
 }
 
-/// Appends the gap between two holes.
+/// Appends the insufficient gap between two holes: a line from middle to middle.
 fn push_gap(text: &mut String, pen: &Pen, first: &Hole, second: &Hole) -> Result<(), AllocError>
     ensures { OnOk result (string_bytes text.new ≡ string_bytes text.old ++ gap pen.now first.now second.now) }
 {
@@ -72,7 +70,7 @@ fn push_gap(text: &mut String, pen: &Pen, first: &Hole, second: &Hole) -> Result
     )
 }
 
-/// Appends what is found.
+/// Appends the ring or the gap of a finding.
 #[tactic(auto, unfolding(crate::specs::Elements::lack))]
 pub(crate) fn push_lack(text: &mut String, pen: &Pen, found: &Lack) -> Result<(), AllocError>
     ensures { OnOk result (string_bytes text.new ≡ string_bytes text.old ++ lack pen.now found.now) }
@@ -83,7 +81,7 @@ pub(crate) fn push_lack(text: &mut String, pen: &Pen, found: &Lack) -> Result<()
     }
 }
 
-/// The x of the place of a finding.
+/// The x of a finding's place: the middle of its hole, or halfway between its two holes.
 fn place_x(found: &Lack) -> i64
     ensures value { result ≡ place_x found.now }
     ensures in_range { IsCoordinate result }
@@ -94,7 +92,7 @@ fn place_x(found: &Lack) -> i64
     }
 }
 
-/// The y of the place of a finding.
+/// The y of a finding's place, likewise.
 fn place_y(found: &Lack) -> i64
     ensures value { result ≡ place_y found.now }
     ensures in_range { IsCoordinate result }
@@ -105,7 +103,7 @@ fn place_y(found: &Lack) -> i64
     }
 }
 
-/// How far what is found reaches from its place.
+/// How far the element of a finding reaches from its place; 0 for a gap.
 fn reach(pen: &Pen, found: &Lack) -> u64
     ensures value { result ≡ reach pen.now found.now }
     ensures within { result ≤ 10 ^ 14 }
@@ -116,7 +114,7 @@ fn reach(pen: &Pen, found: &Lack) -> u64
     }
 }
 
-/// The radius of the mark of a finding.
+/// The radius of the mark of a finding, at least a unit.
 fn mark_radius(pen: &Pen, found: &Lack) -> u64
     ensures value { result ≡ mark_radius pen.now found.now }
     ensures within { result ≤ 2 * 10 ^ 14 }
@@ -139,7 +137,7 @@ pub(crate) fn push_mark(text: &mut String, pen: &Pen, found: &Lack) -> Result<()
     )
 }
 
-/// The number of a finding among all.
+/// The number of a finding among all, from 1.
 fn number_of(found: &Lack) -> usize
     ensures { result ≡ number_of found.now }
 {
@@ -149,7 +147,7 @@ fn number_of(found: &Lack) -> usize
     }
 }
 
-/// How far the number of a finding stands beside its place and above it.
+/// The distance of a finding's number from its place, to the right and upwards.
 fn aside(pen: &Pen, found: &Lack) -> i64
     ensures value { result ≡ pos (aside pen.now found.now) }
     ensures within { unsigned_abs result ≤ 2 * 10 ^ 14 }
@@ -157,7 +155,7 @@ fn aside(pen: &Pen, found: &Lack) -> i64
     (mark_radius(pen, found) * 7 / 10) as i64
 }
 
-/// Where the number of a finding stands in a picture.
+/// The place of a finding's number in a picture.
 fn number_place(pen: &Pen, found: &Lack) -> (i64, i64)
     ensures x { result.0 ≡ place_x found.now +ℤ pos (aside pen.now found.now) }
     ensures y { result.1 ≡ neg_ℤ (place_y found.now +ℤ pos (aside pen.now found.now)) }

@@ -2,7 +2,7 @@
 
 ghost use Rattle.std.specs.Prelude.{◌≤◌, ◌^◌, unsigned_abs};
 
-/// The box of a board: all panels of a picture have the same.
+/// The box of a board, which all panels of a picture share.
 #[derive(Clone, Copy)]
 pub struct Frame {
     /// The least x in pm.

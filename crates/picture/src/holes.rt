@@ -1,4 +1,4 @@
-//! Holes and crosses in a picture.
+//! Holes and crosses in a picture. Lengths and coordinates are in pm.
 
 ghost use Rattle.std.specs.Prelude.{◌≡◌, ◌++◌, ◌*◌, ◌-◌, ◌≤◌, ◌^◌, ◌+ℤ◌, ◌-ℤ◌, neg_ℤ, pos, OnOk, codes, string_bytes};
 ghost use Rattle.picture.specs.Elements.{arm, cross, cross_bar, cross_post, crosses_start, hole, hole_class, rim, slot};
@@ -11,7 +11,7 @@ use printing::push_words;
 use ring_rules::Drilled;
 use std::alloc::AllocError;
 
-/// Where the lines of a cross begin in a picture, to the left and above, and how long they are.
+/// The x of the left end of a cross's horizontal line, the y in a picture of the upper end of the vertical one, and their length.
 fn cross_ends(pen: &Pen, at: Point) -> (i64, i64, i64)
     ensures left { result.0 ≡ at.x -ℤ pos (arm pen.now) }
     ensures above { result.1 ≡ neg_ℤ (at.y +ℤ pos (arm pen.now)) }
@@ -21,7 +21,7 @@ fn cross_ends(pen: &Pen, at: Point) -> (i64, i64, i64)
     (at.x() - arm, down(at.y() + arm), 2 * arm)
 }
 
-/// Appends the line of a cross along x.
+/// Appends the horizontal line of a cross.
 fn push_cross_bar(text: &mut String, pen: &Pen, at: Point) -> Result<(), AllocError>
     ensures { OnOk result (string_bytes text.new ≡ string_bytes text.old ++ cross_bar pen.now at) }
 {
@@ -29,7 +29,7 @@ fn push_cross_bar(text: &mut String, pen: &Pen, at: Point) -> Result<(), AllocEr
     push_across(text, left, down(at.y()), length)
 }
 
-/// Appends the line of a cross along y.
+/// Appends the vertical line of a cross.
 fn push_cross_post(text: &mut String, pen: &Pen, at: Point) -> Result<(), AllocError>
     ensures { OnOk result (string_bytes text.new ≡ string_bytes text.old ++ cross_post pen.now at) }
 {
@@ -46,7 +46,7 @@ pub(crate) fn push_cross(text: &mut String, pen: &Pen, at: Point) -> Result<(), 
     push_cross_post(text, pen, at)
 }
 
-/// Appends the begin of the path of crosses.
+/// Appends the start of the path of crosses.
 #[tactic(auto, unfolding(crate::specs::Elements::crosses_start))]
 pub(crate) fn push_crosses_start(text: &mut String, pen: &Pen) -> Result<(), AllocError>
     ensures { OnOk result (string_bytes text.new ≡ string_bytes text.old ++ crosses_start pen.now) }
@@ -55,14 +55,14 @@ pub(crate) fn push_crosses_start(text: &mut String, pen: &Pen) -> Result<(), All
     push_words(text, "\" d=\"")
 }
 
-/// The class of a round hole.
+/// The class of a round hole: `plated` or `unplated`.
 fn hole_class(plated: bool) -> &'static str
     ensures { result.now ≡ hole_class plated }
 {
     if plated { "plated" } else { "unplated" }
 }
 
-/// Appends the line of a hole from end to end, by half of its width.
+/// Appends the line of a slot from end to end, by its class and half its width.
 pub(crate) fn push_slot(
     text: &mut String,
     class: &str,
@@ -84,7 +84,7 @@ pub(crate) fn push_slot(
     )
 }
 
-/// Appends the two lines of a slot.
+/// Appends the two lines of a slot: `rim` and the narrower `slot`.
 fn push_slots(text: &mut String, pen: &Pen, hole: &Hole) -> Result<(), AllocError>
     ensures { OnOk result (string_bytes text.new ≡ string_bytes text.old ++ (slot (codes "rim") hole.now hole.now.radius ++ slot (codes "slot") hole.now (hole.now.radius - rim pen.now hole.now.radius))) }
 {
@@ -93,7 +93,7 @@ fn push_slots(text: &mut String, pen: &Pen, hole: &Hole) -> Result<(), AllocErro
     push_slot(text, "slot", hole, radius - rim(pen, radius))
 }
 
-/// Appends a hole.
+/// Appends a hole: a circle, or the two lines of a slot.
 #[tactic(auto, unfolding(crate::specs::Elements::hole))]
 pub(crate) fn push_hole(text: &mut String, pen: &Pen, drilled: &Drilled) -> Result<(), AllocError>
     ensures { OnOk result (string_bytes text.new ≡ string_bytes text.old ++ hole pen.now drilled.now) }

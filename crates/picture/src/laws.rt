@@ -5,17 +5,17 @@ ghost use Rattle.pad_shapes.specs.declared.pad.Pad.{Pad};
 ghost use Rattle.picture.specs.Escapes.{IsEscaped, escaped};
 ghost use Rattle.picture.specs.Scenes.{AreInOrder, IsOnePathEach};
 
-/// A name as it is written has no `<`, no U+FFFE and no U+FFFF, and `&` only where an entity begins.
+/// An escaped name has no `<`, no U+FFFE and no U+FFFF, and `&` only where an entity begins.
 pub fn escaped_names()
     ensures { (name : List ℕ) → IsEscaped (escaped name) }
 {}
 
-/// A name as it is written is at most five times as long.
+/// An escaped name is at most five times as long as the name.
 pub fn escaped_lengths()
     ensures { (name : List ℕ) → length (escaped name) ≤ 5 * length name }
 {}
 
-/// Of pads in order of kind and size each kind and size is one path.
+/// Of pads in order of kind and size, each kind and size is one path.
 pub fn paths_of_kinds()
     ensures { (pads : List Pad) → AreInOrder pads → IsOnePathEach pads }
 {}

@@ -1,6 +1,6 @@
-//! The panel of a copper layer, as SVG: its pads, the other flashes, the holes, and what the rules find there.
+//! The panel of a copper layer, as SVG: its pads, its other flashes, the holes, and the findings under the rules.
 //!
-//! All lengths are whole picometres (pm), and are written in millimetres.
+//! All lengths are whole picometres (pm), and are printed in millimetres.
 #![tactic(auto)]
 
 mod drawn;

@@ -1,14 +1,14 @@
-//! Names in a picture.
+//! Names of files as XML.
 
 ghost use Rattle.std.specs.Prelude.{◌≡◌, ◌++◌, [], IfOk, OnOk};
 ghost use Rattle.picture.specs.Escapes.{ends_forbidden, escaped, escaped_byte, written_byte};
 
 use std::alloc::{AllocError, Global};
 
-/// How many bytes a byte of a name takes in a picture at the most: those of `&amp;`.
+/// The most bytes that a byte of a name takes in a picture: those of `&amp;`.
 const MOST_BYTES: usize = 5;
 
-/// The last byte of U+FFFD, whose first two are those of U+FFFE and U+FFFF.
+/// The last byte of U+FFFD (EF BF BD), which shares its first two with U+FFFE and U+FFFF.
 const LAST_OF_REPLACEMENT: u8 = 0xBD;
 
 /// Whether a byte is the last of U+FFFE or U+FFFF, by the two before it.
@@ -18,7 +18,7 @@ fn ends_forbidden(first: u8, second: u8, byte: u8) -> bool
     second == 0xBF && first == 0xEF && (byte == 0xBE || byte == 0xBF)
 }
 
-/// Appends a byte of a name without regard to those before it.
+/// Appends a byte of a name, as an entity if it is `&`, `<` or `>`.
 fn push_escaped(text: &mut Vec<u8>, byte: u8) -> Result<(), AllocError>
     ensures { OnOk result (text.new.items ≡ text.old.items ++ escaped_byte byte) }
 {
@@ -33,7 +33,7 @@ fn push_escaped(text: &mut Vec<u8>, byte: u8) -> Result<(), AllocError>
     }
 }
 
-/// Appends a byte of a name, by the two before it.
+/// Appends a byte of a name, as an entity or as the last of U+FFFD where needed, by the two bytes before it.
 fn push_byte(text: &mut Vec<u8>, first: u8, second: u8, byte: u8) -> Result<(), AllocError>
     ensures { OnOk result (text.new.items ≡ text.old.items ++ written_byte first second byte) }
 {
@@ -44,7 +44,7 @@ fn push_byte(text: &mut Vec<u8>, first: u8, second: u8, byte: u8) -> Result<(), 
     push_escaped(text, byte)
 }
 
-/// How many bytes the longest name has.
+/// The length of the longest name in bytes.
 fn longest(names: &[&str]) -> usize {
     let mut longest = 0;
     for name in names {
@@ -53,23 +53,23 @@ fn longest(names: &[&str]) -> usize {
     longest
 }
 
-/// An empty text with room for any one of these names as it stands in a picture.
+/// An empty buffer with room for any one of these names when it is escaped.
 ///
 /// # Errors
 ///
-/// An `AllocError` where there is no memory for it.
+/// An `AllocError` when memory runs out.
 pub fn name_room(alloc: Global, names: &[&str]) -> Result<Vec<u8>, AllocError>
     ensures { IfOk result (λ room. room.items ≡ []) }
 {
     Vec::with_capacity(alloc, longest(names).saturating_mul(MOST_BYTES))
 }
 
-/// Puts the bytes of a name as they stand in a picture in place of what `text` holds: `&`, `<` and `>` are written as entities, U+FFFE
-/// and U+FFFF as U+FFFD. No memory is taken where there is room for them.
+/// Replaces the contents of `text` by an escaped name: `&`, `<` and `>` become entities, U+FFFE and U+FFFF become U+FFFD. No memory
+/// is taken where `text` has the room.
 ///
 /// # Errors
 ///
-/// An `AllocError` where there is no memory for them.
+/// An `AllocError` when memory runs out.
 pub fn escape(text: &mut Vec<u8>, name: &[u8]) -> Result<(), AllocError>
     ensures { OnOk result (text.new.items ≡ escaped name.now) }
 {

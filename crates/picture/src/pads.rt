@@ -22,7 +22,7 @@ fn are_alike(one: &Pad, other: &Pad) -> bool
     }
 }
 
-/// The corner at the upper left of a rectangle as it stands in a picture, and its sides.
+/// The upper left corner of a rectangle in a picture, and its sides.
 fn corner_and_sides(rect: &Rect) -> (i64, i64, i64, i64)
     ensures x { result.0 ≡ rect.now.centre.x -ℤ pos rect.now.half_x }
     ensures y { result.1 ≡ neg_ℤ (rect.now.centre.y +ℤ pos rect.now.half_y) }
@@ -39,7 +39,7 @@ fn corner_and_sides(rect: &Rect) -> (i64, i64, i64, i64)
     )
 }
 
-/// Appends a rectangular pad.
+/// Appends a rectangular pad as a part of a path.
 fn push_rect(text: &mut String, rect: &Rect) -> Result<(), AllocError>
     ensures { OnOk result (string_bytes text.new ≡ string_bytes text.old ++ rect_box rect.now) }
 {
@@ -47,7 +47,7 @@ fn push_rect(text: &mut String, rect: &Rect) -> Result<(), AllocError>
     push_box(text, x, y, width, height, down(width))
 }
 
-/// Where the line of a broad obround begins in a picture, and how long it is.
+/// The left end of the line of a broad obround in a picture, and the length of the line.
 fn broad_line(obround: &Obround) -> (i64, i64, i64)
     requires { obround.now.half_y ≤ obround.now.half_x }
     ensures x { result.0 ≡ obround.now.centre.x -ℤ pos (obround.now.half_x - obround.now.half_y) }
@@ -58,7 +58,7 @@ fn broad_line(obround: &Obround) -> (i64, i64, i64)
     (at.x() - reach, down(at.y()), 2 * reach)
 }
 
-/// Where the line of a high obround begins in a picture, and how long it is.
+/// The upper end of the line of a high obround in a picture, and the length of the line.
 fn high_line(obround: &Obround) -> (i64, i64, i64)
     requires { obround.now.half_x ≤ obround.now.half_y }
     ensures x { result.0 ≡ obround.now.centre.x }
@@ -69,14 +69,14 @@ fn high_line(obround: &Obround) -> (i64, i64, i64)
     (at.x(), down(at.y() + reach), 2 * reach)
 }
 
-/// Whether an obround is at least as broad as high.
+/// Whether an obround is at least as wide as high.
 fn is_broad(obround: &Obround) -> bool
     ensures { result ≡ nat_le obround.now.half_y obround.now.half_x }
 {
     obround.half_y() <= obround.half_x()
 }
 
-/// Appends the line of an obround.
+/// Appends the line of an obround, from the centre of one round end to that of the other.
 fn push_obround(text: &mut String, obround: &Obround) -> Result<(), AllocError>
     ensures { OnOk result (string_bytes text.new ≡ string_bytes text.old ++ obround_line obround.now) }
 {
@@ -89,7 +89,7 @@ fn push_obround(text: &mut String, obround: &Obround) -> Result<(), AllocError>
     }
 }
 
-/// Appends the part of a path that a pad is.
+/// Appends a pad as a part of a path.
 fn push_outline(text: &mut String, pad: &Pad) -> Result<(), AllocError>
     ensures { OnOk result (string_bytes text.new ≡ string_bytes text.old ++ outline pad.now) }
 {
@@ -100,7 +100,7 @@ fn push_outline(text: &mut String, pad: &Pad) -> Result<(), AllocError>
     }
 }
 
-/// Appends the begin of the path of pads like this one.
+/// Appends the start of the path for pads like this one.
 fn push_path_start(text: &mut String, pad: &Pad) -> Result<(), AllocError>
     ensures { OnOk result (string_bytes text.new ≡ string_bytes text.old ++ path_start pad.now) }
 {
@@ -113,7 +113,7 @@ fn push_path_start(text: &mut String, pad: &Pad) -> Result<(), AllocError>
     }
 }
 
-/// Appends what stands between the pad before, if there is one, and a pad.
+/// Appends what stands between the pad before, if there is one, and a pad: nothing, or the start of a new path.
 fn push_turn(text: &mut String, before: Option<Pad>, pad: &Pad) -> Result<(), AllocError>
     ensures { OnOk result (string_bytes text.new ≡ string_bytes text.old ++ turn before pad.now) }
 {
@@ -126,7 +126,7 @@ fn push_turn(text: &mut String, before: Option<Pad>, pad: &Pad) -> Result<(), Al
     push_path_start(text, pad)
 }
 
-/// Appends a pad behind the pad before, if there is one.
+/// Appends a pad after the pad before, if there is one.
 pub(crate) fn push_pad(text: &mut String, before: Option<Pad>, pad: &Pad) -> Result<(), AllocError>
     ensures { OnOk result (string_bytes text.new ≡ string_bytes text.old ++ (turn before pad.now ++ outline pad.now)) }
 {

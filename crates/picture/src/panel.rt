@@ -23,23 +23,23 @@ use ring_rules::Drilled;
 use std::alloc::AllocError;
 use std::io::Write;
 
-/// How many findings of a panel are marked and numbered at the most.
+/// The most findings of a panel that are marked and numbered.
 const MOST_MARKED: usize = 100;
 
-/// Which panel it is, and where its origin stands on the page.
+/// The file of a panel, and the place of the panel's origin on the page.
 #[derive(Clone, Copy)]
 pub struct Place<'a> {
-    /// The number of its file in the package, from 1.
+    /// The number of the file in the package, from 1.
     pub file: usize,
-    /// The name of its file.
+    /// The name of the file, not escaped.
     pub name: &'a str,
-    /// How far to the right, in pm.
+    /// The distance of the origin from the left of the page, in pm.
     pub x: i64,
-    /// How far down, in pm.
+    /// The distance of the origin from the top of the page, in pm.
     pub y: i64,
 }
 
-/// Appends where a panel stands, and the end of its begin.
+/// Appends the place of a panel on the page.
 fn push_translated(text: &mut String, x: i64, y: i64) -> Result<(), AllocError>
     ensures { OnOk result (string_bytes text.new ≡ string_bytes text.old ++ translated x y) }
 {
@@ -48,7 +48,7 @@ fn push_translated(text: &mut String, x: i64, y: i64) -> Result<(), AllocError>
     push_words(text, ")\">\n")
 }
 
-/// Appends the begin of a panel.
+/// Appends the start of a panel.
 fn push_panel_start(text: &mut String, place: &Place) -> Result<(), AllocError>
     ensures { OnOk result (string_bytes text.new ≡ string_bytes text.old ++ panel_start place.now) }
 {
@@ -56,7 +56,7 @@ fn push_panel_start(text: &mut String, place: &Place) -> Result<(), AllocError>
     push_translated(text, place.x, place.y)
 }
 
-/// Appends a box.
+/// Appends a box, by its upper left corner and its sides.
 fn push_board_rect(
     text: &mut String,
     x: i64,
@@ -80,7 +80,7 @@ fn push_board_box(text: &mut String, frame: &Frame) -> Result<(), AllocError>
     push_board_rect(text, frame.left, down(frame.top), frame.width, frame.height)
 }
 
-/// The y in a picture of what stands so far above the box.
+/// The y in a picture of a point this far above the box.
 fn above(frame: &Frame, height: u64) -> i64
     requires { height ≤ 10 ^ 14 }
     ensures { result ≡ neg_ℤ (frame.now.top +ℤ pos height) }
@@ -88,7 +88,7 @@ fn above(frame: &Frame, height: u64) -> i64
     down(frame.top + height as i64)
 }
 
-/// Appends the begin of a name.
+/// Appends the start of a panel's name.
 fn push_name_start(text: &mut String, pen: &Pen, frame: &Frame) -> Result<(), AllocError>
     ensures { OnOk result (string_bytes text.new ≡ string_bytes text.old ++ name_start pen.now frame.now) }
 {
@@ -101,7 +101,7 @@ fn push_name_start(text: &mut String, pen: &Pen, frame: &Frame) -> Result<(), Al
     )
 }
 
-/// Appends the begin of a note.
+/// Appends the start of a panel's note.
 fn push_note_start(text: &mut String, pen: &Pen, frame: &Frame) -> Result<(), AllocError>
     ensures { OnOk result (string_bytes text.new ≡ string_bytes text.old ++ note_start pen.now frame.now) }
 {
@@ -114,7 +114,7 @@ fn push_note_start(text: &mut String, pen: &Pen, frame: &Frame) -> Result<(), Al
     )
 }
 
-/// How many rings are lacking.
+/// The number of insufficient rings.
 fn ring_count(lacks: &[Lack]) -> usize
     ensures { result ≡ ring_count lacks.now }
 {
@@ -124,21 +124,21 @@ fn ring_count(lacks: &[Lack]) -> usize
         .count()
 }
 
-/// The words for one thing or for more, by how many there are.
+/// The words for one item or for more, by a count.
 fn words_for<'a>(count: usize, one: &'a str, more: &'a str) -> &'a str
     ensures { result.now ≡ (if count == 1 then one.now else more.now) }
 {
     if count == 1 { one } else { more }
 }
 
-/// Appends a number of things, by the words for one and for more of them.
+/// Appends a count with the words for one item or for more.
 fn push_amount(text: &mut String, count: usize, one: &str, more: &str) -> Result<(), AllocError>
     ensures { OnOk result (string_bytes text.new ≡ string_bytes text.old ++ amount count one.now more.now) }
 {
     push_digits(text, count, words_for(count, one, more))
 }
 
-/// Appends how many pads and other flashes stand in a panel.
+/// Appends the number of pads and of other flashes: `361 pads, 1 other`.
 fn push_flashes(text: &mut String, pads: usize, other: usize) -> Result<(), AllocError>
     ensures { OnOk result (string_bytes text.new ≡ string_bytes text.old ++ flash_words pads other) }
 {
@@ -146,7 +146,7 @@ fn push_flashes(text: &mut String, pads: usize, other: usize) -> Result<(), Allo
     push_digits(text, other, " other")
 }
 
-/// Appends how many pads and other flashes stand in a panel, or that they are too many.
+/// Appends the number of pads and of other flashes, or that they are too many.
 fn push_drawn(text: &mut String, scene: &Scene) -> Result<(), AllocError>
     ensures { OnOk result (string_bytes text.new ≡ string_bytes text.old ++ drawn_words scene.now) }
 {
@@ -156,7 +156,7 @@ fn push_drawn(text: &mut String, scene: &Scene) -> Result<(), AllocError>
     push_flashes(text, scene.pads.len(), scene.crosses.len())
 }
 
-/// Appends how many rings are lacking, where there are rules.
+/// Appends the number of insufficient rings, if there are rules.
 fn push_lacking(text: &mut String, pen: &Pen, count: usize) -> Result<(), AllocError>
     ensures { OnOk result (string_bytes text.new ≡ string_bytes text.old ++ lacking_words pen.now count) }
 {
@@ -167,7 +167,7 @@ fn push_lacking(text: &mut String, pen: &Pen, count: usize) -> Result<(), AllocE
     push_amount(text, count, " ring lacking", " rings lacking")
 }
 
-/// Appends a note and its end.
+/// Appends the note of a panel, and the end of its element.
 fn push_note(text: &mut String, pen: &Pen, scene: &Scene) -> Result<(), AllocError>
     ensures { OnOk result (string_bytes text.new ≡ string_bytes text.old ++ note pen.now scene.now) }
 {
@@ -176,7 +176,7 @@ fn push_note(text: &mut String, pen: &Pen, scene: &Scene) -> Result<(), AllocErr
     push_words(text, "</text>\n")
 }
 
-/// Appends what stands behind the name of a panel.
+/// Appends the text after a panel's name: the note and the box.
 fn push_behind_name(
     text: &mut String,
     pen: &Pen,
@@ -191,7 +191,7 @@ fn push_behind_name(
     push_board_box(text, frame)
 }
 
-/// Appends what stands before the name of a panel.
+/// Appends the text before a panel's name.
 fn push_before_name(
     text: &mut String,
     place: &Place,
@@ -204,7 +204,7 @@ fn push_before_name(
     push_name_start(text, pen, frame)
 }
 
-/// Gathers what stands before the name of a panel.
+/// Gathers the text before a panel's name.
 fn gather_before_name<W: Write>(
     text: &mut String,
     place: &Place,
@@ -221,7 +221,6 @@ fn gather_before_name<W: Write>(
     }
 }
 
-/// Writes bytes.
 fn write_out<W: Write>(bytes: &[u8], out: &mut W) -> Result<(), Cut>
     ensures { OnOk result (Appends (W.contents out.old) (W.contents out.new) bytes.now) }
 {
@@ -231,7 +230,7 @@ fn write_out<W: Write>(bytes: &[u8], out: &mut W) -> Result<(), Cut>
     }
 }
 
-/// Writes what was gathered, and bytes behind it.
+/// Writes the gathered bytes, and then some more.
 fn write_bytes<W: Write>(text: &mut String, bytes: &[u8], out: &mut W) -> Result<(), Cut>
     ensures { OnOk result (PassesOn (W.contents out.old) (string_bytes text.old) (W.contents out.new) (string_bytes text.new) bytes.now) }
 {
@@ -239,7 +238,7 @@ fn write_bytes<W: Write>(text: &mut String, bytes: &[u8], out: &mut W) -> Result
     write_out(bytes, out)
 }
 
-/// Writes what was gathered, and a name behind it, which is put into `room` first.
+/// Writes the gathered bytes, and then a name that is escaped in `room`.
 fn write_name<W: Write>(
     text: &mut String,
     room: &mut Vec<u8>,
@@ -254,7 +253,7 @@ fn write_name<W: Write>(
     }
 }
 
-/// Gathers what stands behind the name of a panel.
+/// Gathers the text after a panel's name.
 fn gather_behind_name<W: Write>(
     text: &mut String,
     pen: &Pen,
@@ -271,7 +270,6 @@ fn gather_behind_name<W: Write>(
     }
 }
 
-/// Gathers words.
 fn gather_words<W: Write>(text: &mut String, words: &str, out: &mut W) -> Result<(), Cut>
     ensures { OnOk result (PassesOn (W.contents out.old) (string_bytes text.old) (W.contents out.new) (string_bytes text.new) words.now) }
 {
@@ -282,7 +280,7 @@ fn gather_words<W: Write>(text: &mut String, words: &str, out: &mut W) -> Result
     }
 }
 
-/// Gathers one thing, as it is drawn.
+/// Gathers one item, as its form draws it.
 fn gather<T, F: Form<T>, W: Write>(
     text: &mut String,
     form: &F,
@@ -299,7 +297,7 @@ fn gather<T, F: Form<T>, W: Write>(
     }
 }
 
-/// Gathers things one after the other, and writes those for which there is no room.
+/// Gathers items one after the other, and writes out what there is no more room for.
 fn gather_all<T, F: Form<T>, W: Write>(
     text: &mut String,
     form: &F,
@@ -315,7 +313,7 @@ fn gather_all<T, F: Form<T>, W: Write>(
     Ok(())
 }
 
-/// Gathers a pad behind the pad before, if there is one.
+/// Gathers a pad after the pad before, if there is one.
 fn gather_pad<W: Write>(
     text: &mut String,
     before: Option<Pad>,
@@ -342,7 +340,7 @@ fn gather_last_end<W: Write>(text: &mut String, before: Option<Pad>, out: &mut W
     }
 }
 
-/// Gathers the paths of pads.
+/// Gathers the paths of all pads.
 fn gather_pads<W: Write>(text: &mut String, pads: &[Pad], out: &mut W) -> Result<(), Cut>
     ensures { OnOk result (PassesOn (W.contents out.old) (string_bytes text.old) (W.contents out.new) (string_bytes text.new) (pads_behind None pads.now)) }
 {
@@ -354,7 +352,7 @@ fn gather_pads<W: Write>(text: &mut String, pads: &[Pad], out: &mut W) -> Result
     gather_last_end(text, before, out)
 }
 
-/// Gathers the begin of the path of crosses.
+/// Gathers the start of the path of crosses.
 fn gather_crosses_start<W: Write>(text: &mut String, pen: &Pen, out: &mut W) -> Result<(), Cut>
     ensures { OnOk result (PassesOn (W.contents out.old) (string_bytes text.old) (W.contents out.new) (string_bytes text.new) (crosses_start pen.now)) }
 {
@@ -365,7 +363,7 @@ fn gather_crosses_start<W: Write>(text: &mut String, pen: &Pen, out: &mut W) -> 
     }
 }
 
-/// Gathers the path of crosses.
+/// Gathers the path of some crosses, at least one.
 fn gather_some_crosses<W: Write>(
     text: &mut String,
     pen: &Pen,
@@ -394,7 +392,7 @@ fn gather_crosses<W: Write>(
     gather_some_crosses(text, pen, points, out)
 }
 
-/// Those that are marked.
+/// The findings that are marked: the first hundred.
 fn marked(lacks: &[Lack]) -> &[Lack]
     ensures { result.now ≡ marked lacks.now }
 {
@@ -404,7 +402,7 @@ fn marked(lacks: &[Lack]) -> &[Lack]
     &lacks[..MOST_MARKED]
 }
 
-/// Gathers the marks of some findings, and their numbers.
+/// Gathers the marks of some findings, then their numbers.
 fn gather_marks<W: Write>(
     text: &mut String,
     pen: &Pen,
@@ -417,7 +415,7 @@ fn gather_marks<W: Write>(
     gather_all(text, &Numbers, pen, lacks, out)
 }
 
-/// Gathers what is found, with marks and numbers.
+/// Gathers the findings, then marks and numbers.
 fn gather_lacks<W: Write>(
     text: &mut String,
     pen: &Pen,
@@ -431,7 +429,7 @@ fn gather_lacks<W: Write>(
     gather_marks(text, pen, first, out)
 }
 
-/// Gathers pads, crosses, holes and what is found.
+/// Gathers pads, crosses, holes and findings.
 fn gather_parts<W: Write>(
     text: &mut String,
     pen: &Pen,
@@ -449,7 +447,7 @@ fn gather_parts<W: Write>(
     gather_lacks(text, pen, lacks, out)
 }
 
-/// Gathers what stands in a panel.
+/// Gathers the contents of a panel.
 fn gather_scene<W: Write>(
     text: &mut String,
     pen: &Pen,
@@ -469,13 +467,13 @@ fn gather_scene<W: Write>(
     )
 }
 
-/// Prints what `text` holds and the text of a panel behind it. The elements are gathered in `text` and written in parts; what is left is
-/// for the next call. The name of the file is put into `room`, in place of what it held. No memory is taken where `text` is a
-/// [`buffer`](printing::buffer), and `room` was taken by [`name_room`](crate::name_room) for this name among others.
+/// Prints the bytes of `text`, and then the text of a panel. Elements are gathered in `text` and written in parts; the rest stays there
+/// for the next call. The name of the file is escaped in `room`, replacing its contents. No memory is taken where `text` is a
+/// [`buffer`](printing::buffer), and `room` comes from [`name_room`](crate::name_room) with this name among others.
 ///
 /// # Errors
 ///
-/// [`Cut`] where the writer fails, or where there is no memory for the name or an element.
+/// [`Cut`] when the writer fails, or when there is no memory for the name or an element.
 pub fn print_panel<W: Write>(
     text: &mut String,
     room: &mut Vec<u8>,

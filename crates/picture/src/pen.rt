@@ -1,15 +1,15 @@
-//! How wide lines are drawn.
+//! The unit of a picture, and the required ring.
 
 ghost use Rattle.std.specs.Prelude.{◌≤◌, ◌^◌};
 
-/// The unit that widths of lines and marks are fractions of, and the ring that holes ask, in pm; and whether there are rules.
+/// The unit, which sets the widths of lines and marks, and the required ring.
 #[derive(Clone, Copy)]
 pub struct Pen {
     /// The unit in pm, at most 10 m.
     pub unit: u64,
-    /// The ring that a rule asks in pm, at most 10 m; 0 where there is no rule.
+    /// The required ring in pm, at most 10 m; 0 without rules.
     pub ring: u64,
-    /// Whether there are rules; where there are none, nothing was looked for.
+    /// Whether there are rules; without them there are no findings.
     pub asked: bool,
     ghost small: { unit ≤ 10 ^ 13 },
     ghost near: { ring ≤ 10 ^ 13 },

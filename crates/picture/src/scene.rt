@@ -1,4 +1,4 @@
-//! What stands in the panel of a layer.
+//! The contents of a layer's panel.
 
 ghost use Rattle.std.specs.Prelude.{◌≡◌, ◌<◌, ◌^◌, ◌++◌, slice_get, IfOk, IsPermutation, OnOk};
 ghost use Rattle.layer_image.specs.Flashes.{pads_of};
@@ -10,20 +10,20 @@ use pad_shapes::Pad;
 use ring_rules::{Drilled, Finding};
 use std::alloc::{AllocError, Global};
 
-/// How many flashes and holes a panel draws at the most.
+/// The most flashes and holes that a panel draws.
 const MOST_DRAWN: usize = 100_000;
 
-/// What is lacking, and the number of its finding, from 1.
+/// An insufficient ring or gap, with the number of its finding, from 1.
 #[derive(Clone, Copy)]
 pub enum Lack {
-    /// A ring round a hole.
+    /// The ring of a hole.
     Ring {
         /// The number of the finding.
         number: usize,
         /// The hole.
         hole: Hole,
     },
-    /// A gap between two holes.
+    /// The gap between two holes.
     Gap {
         /// The number of the finding.
         number: usize,
@@ -34,22 +34,22 @@ pub enum Lack {
     },
 }
 
-/// What stands in a panel.
+/// The contents of a panel.
 #[derive(Drop)]
 pub struct Scene<'a> {
     /// Whether there are more than 100,000 flashes and holes: then none of them is drawn.
     pub crowded: bool,
-    /// The pads in order of kind and size, so that those of one kind and size stand behind one another.
+    /// The pads in order of kind and size, so that pads alike stand next to each other.
     pub pads: Vec<Pad>,
     /// The points of the flashes that are no pads.
     pub crosses: Vec<Point>,
     /// The holes.
     pub holes: &'a [Drilled],
-    /// What is lacking, in the order of the findings.
+    /// The insufficient rings and gaps, in the order of the findings.
     pub lacks: Vec<Lack>,
 }
 
-/// Whether a panel is to draw more than it does.
+/// Whether there are more flashes and holes than a panel draws.
 fn is_crowded(flashes: &[Flash], holes: &[Drilled]) -> bool
     ensures { result ≡ is_crowded flashes.now holes.now }
 {
@@ -59,21 +59,21 @@ fn is_crowded(flashes: &[Flash], holes: &[Drilled]) -> bool
     }
 }
 
-/// What is drawn of these flashes.
+/// The flashes that are drawn: none in a crowded panel.
 fn drawn_flashes(crowded: bool, flashes: &[Flash]) -> &[Flash]
     ensures { result.now ≡ unless_crowded crowded flashes.now }
 {
     if crowded { &[] } else { flashes }
 }
 
-/// What is drawn of these holes.
+/// The holes that are drawn: none in a crowded panel.
 fn drawn_holes(crowded: bool, holes: &[Drilled]) -> &[Drilled]
     ensures { result.now ≡ unless_crowded crowded holes.now }
 {
     if crowded { &[] } else { holes }
 }
 
-/// The kind of a pad, and its half sides in pm.
+/// The kind of a pad (0 disc, 1 rectangle, 2 obround), and its half sides in pm.
 fn kind_of(pad: &Pad) -> (u8, u64, u64)
     ensures { result ≡ kind_of pad.now }
 {
@@ -154,7 +154,7 @@ fn hole_at(holes: &[Drilled], place: usize) -> Option<Drilled>
     holes.get(place).copied()
 }
 
-/// Adds a ring that is lacking at a hole, if there is such a hole.
+/// Adds the insufficient ring of a hole, if there is such a hole.
 fn push_ring(lacks: &mut Vec<Lack>, number: usize, hole: Option<Drilled>) -> Result<(), AllocError>
     ensures { OnOk result (lacks.new.items ≡ lacks.old.items ++ ring_lack number hole) }
 {
@@ -167,7 +167,7 @@ fn push_ring(lacks: &mut Vec<Lack>, number: usize, hole: Option<Drilled>) -> Res
     Ok(())
 }
 
-/// Adds a gap that is lacking between two holes, if there are both.
+/// Adds the insufficient gap between two holes, if there are both.
 fn push_gap(
     lacks: &mut Vec<Lack>,
     number: usize,
@@ -186,7 +186,7 @@ fn push_gap(
     Ok(())
 }
 
-/// Adds what the finding at a place of their list shows on a layer.
+/// Adds what a finding shows in the panel of a layer, by the finding's place in the list.
 #[tactic(auto, unfolding(crate::specs::Scenes::lack_of))]
 fn push_lack(
     lacks: &mut Vec<Lack>,
@@ -214,7 +214,7 @@ fn push_lack(
     }
 }
 
-/// What the findings show on a layer.
+/// What the findings show in the panel of a layer.
 fn lacks_of(
     alloc: Global,
     layer: usize,
@@ -230,13 +230,13 @@ fn lacks_of(
     Ok(lacks)
 }
 
-/// What stands in the panel of a layer, by its place among the copper files from 0: its pads in order of kind and size, the other
-/// flashes and all holes, or none of them where they are more than 100,000; and what the findings show there, numbered from 1 in their order. A layer or a hole that a
-/// finding names is its place in the lists that were judged.
+/// The contents of a layer's panel, by the layer's place among the copper files, from 0: its pads in order of kind and size, its other
+/// flashes and all holes, or none of them where they are more than 100,000; and the insufficient rings and gaps, numbered from 1 in the
+/// order of the findings. A layer or a hole in a finding is a place in the lists that were checked.
 ///
 /// # Errors
 ///
-/// An `AllocError` where there is no memory for it.
+/// An `AllocError` when memory runs out.
 pub fn scene_of<'a>(
     alloc: Global,
     layer: usize,

@@ -6,7 +6,7 @@ use Rattle.std.proofs.lemmas.List.{append-nil, take_more}
 use Rattle.std.proofs.lemmas.List.Concat.{flat_map-append}
 use Rattle.printing.specs.Parts.{PassesOn}
 
--- bytes behind bytes
+-- a writer got some bytes, and then more
 appends_more : (a b c : Option (List ℕ)) (xs ys : List ℕ) → Appends a b xs → Appends b c ys → Appends a c (xs ++ ys)
 appends_more None b c xs ys h k = tt
 appends_more (Some a) None c xs ys h k = absurd h

@@ -8,7 +8,7 @@ use grid_units::{power_of_ten, write_mm};
 use std::alloc::AllocError;
 use std::fmt::Write;
 
-/// How many pm are a millimetre.
+/// One millimetre in pm.
 const MILLIMETRE: u64 = 1_000_000_000;
 
 /// Appends words as they stand.
@@ -22,7 +22,7 @@ pub fn push_words(text: &mut String, words: &str) -> Result<(), AllocError>
     text.push_str(words)
 }
 
-/// Appends the point and the decimals of so many pm, less than a millimetre.
+/// Appends a point and the nine decimals of a length below a millimetre, in pm.
 fn push_decimals(text: &mut String, below: u32) -> Result<(), AllocError>
     requires { below < 10 ^ 9 }
     ensures { OnOk result (string_bytes text.new ≡ string_bytes text.old ++ 46 ∷ places 9 below) }
@@ -44,14 +44,14 @@ fn push_whole(text: &mut String, minus: &str, whole: u64) -> Result<(), AllocErr
     }
 }
 
-/// The sign of a length: `-` below zero.
+/// The sign of a length: `-` below zero, else nothing.
 fn minus(length: i64) -> &'static str
     ensures { result.now ≡ minus length }
 {
     if length < 0 { "-" } else { "" }
 }
 
-/// Appends a length in pm as millimetres with nine decimals, whatever it is.
+/// Appends a length in pm as millimetres with nine decimals: `-2.540000000`. Any length will do.
 ///
 /// # Errors
 ///
@@ -64,7 +64,7 @@ pub fn push_mm(text: &mut String, length: i64) -> Result<(), AllocError>
     push_decimals(text, (size % MILLIMETRE) as u32)
 }
 
-/// A number without the zeros at its end, and how many of its nine digits are left.
+/// The number without the zeros at its end, and how many of its last nine digits are left.
 fn without_zeros(number: u32) -> (u32, u8)
     ensures places { places result.1 result.0 ≡ trimmed (places 9 number) }
     ensures width { result.1 ≤ 9 }
@@ -78,7 +78,7 @@ fn without_zeros(number: u32) -> (u32, u8)
     (rest, width)
 }
 
-/// One digit of a number: that of so many tens.
+/// The digit of a number at 10^`exponent`.
 fn digit_of(number: u32, exponent: u8) -> u8
     requires { exponent < 9 }
     ensures value { result ≡ number / 10 ^ exponent % 10 }
@@ -106,8 +106,8 @@ fn push_places(text: &mut String, number: u32, width: u8) -> Result<(), AllocErr
     Ok(())
 }
 
-/// Appends a point and the decimals of so many pm, less than a millimetre, without the zeros at their end; nothing where there are
-/// none.
+/// Appends a point and the decimals of a length below a millimetre, in pm, without the zeros at their end; nothing
+/// where there are none.
 fn push_short_decimals(text: &mut String, below: u32) -> Result<(), AllocError>
     ensures { OnOk result (string_bytes text.new ≡ string_bytes text.old ++ behind_point (trimmed (places 9 below))) }
 {
@@ -119,8 +119,8 @@ fn push_short_decimals(text: &mut String, below: u32) -> Result<(), AllocError>
     push_places(text, number, width)
 }
 
-/// Appends a length in pm as millimetres, whatever it is, without the zeros at the end of its decimals, and without a point where
-/// none is left.
+/// Appends a length in pm as millimetres, without the zeros at the end of its decimals: `-2.54`, or `10` where none is
+/// left. Any length will do.
 ///
 /// # Errors
 ///

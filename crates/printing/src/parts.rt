@@ -1,4 +1,4 @@
-//! Parts of a text: lines are gathered, and written where there is no more room.
+//! Parts of a text: lines are gathered, and written out when the buffer is full.
 
 ghost use Rattle.std.specs.Prelude.{◌≡◌, [], IfOk, OnOk, string_bytes};
 ghost use Rattle.std.specs.Io.KnownBytes.{Appends};
@@ -16,7 +16,7 @@ pub struct Cut;
 /// How many bytes are gathered before they are written.
 const FULL: usize = 65_536;
 
-/// More bytes than a line has.
+/// Room for one more line, in bytes. A longer line makes the buffer grow.
 const LINE: usize = 1_024;
 
 /// An empty text with room for what is gathered before it is written.
@@ -30,7 +30,7 @@ pub fn buffer(alloc: Global) -> Result<String, AllocError>
     String::with_capacity(alloc, FULL + LINE)
 }
 
-/// Writes what was gathered, and lets go of it.
+/// Writes what was gathered, and discards it.
 ///
 /// # Errors
 ///
@@ -46,7 +46,7 @@ pub fn pass_on<W: Write>(text: &mut String, out: &mut W) -> Result<(), Cut>
     }
 }
 
-/// Makes room for a line behind what is gathered.
+/// Makes room for one more line after what is gathered.
 ///
 /// # Errors
 ///

@@ -257,7 +257,7 @@ fn help_tells_the_options_of_a_command(rt: HostRuntime) {
     }
 }
 
-/// Whether the words ask for a manifest of `top.gbr` and `pth.drl`, or for the table of why.
+/// Whether the words ask for a manifest of `top.gbr` and `pth.drl`, `with_why` or without.
 fn asks_for_manifest(rt: HostRuntime, words: &[&str], with_why: bool) -> bool {
     match parse(rt.alloc(), words) {
         Ok(Request::Manifest { why, files }) => {
@@ -344,11 +344,11 @@ fn a_report_is_asked_for(rt: HostRuntime) {
     }
 }
 
-/// The number of findings that are told at most, the file of waivers and the format.
+/// The limit of findings, the file of waivers and the format.
 type Limits<'a> = (Option<&'a str>, Option<&'a str>, Option<&'a str>);
 
-/// What a report with a ring of 0.125, a gap of 0.2 and the manifest `m.csv` is asked for with: the number of findings that
-/// are told at most, the file of waivers and the format.
+/// The limit of findings, the file of waivers and the format of a report that the words ask for, with a ring of 0.125, a gap
+/// of 0.2 and the manifest `m.csv`.
 fn limits_of<'a>(rt: HostRuntime, words: &'a [&'a str]) -> Option<Limits<'a>> {
     match parse(rt.alloc(), words) {
         Ok(

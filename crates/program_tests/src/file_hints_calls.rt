@@ -1,4 +1,4 @@
-//! What names and texts say.
+//! What the names and the texts of files say of them.
 
 use file_hints::*;
 use std::test::Fail;

@@ -1,4 +1,4 @@
-//! Tests of the program and of what it stands on beside the check.
+//! Tests of the program, and of the crates that it stands on beside the check.
 #![tactic(auto)]
 
 #[cfg(test)]

@@ -1,7 +1,7 @@
 use loading::*;
 use std::io::{Error, ErrorKind, Read, Result as IoResult};
 
-/// Gives two bytes, and then fails.
+/// A reader that gives two bytes, and then fails.
 #[derive(Drop)]
 struct Failing {
     calls: u64,
@@ -19,7 +19,7 @@ impl Read for Failing {
     }
 }
 
-/// Is interrupted at each call.
+/// A reader that is interrupted at each call.
 #[derive(Drop)]
 struct Interrupted {
     calls: u64,
@@ -32,7 +32,7 @@ impl Read for Interrupted {
     }
 }
 
-/// Gives byte after byte, and is interrupted before each of them.
+/// A reader that gives byte after byte, and is interrupted before each of them.
 #[derive(Drop)]
 struct Hesitant<'a> {
     bytes: &'a [u8],
@@ -57,7 +57,7 @@ impl Read for Hesitant<'_> {
     }
 }
 
-/// Gives one byte at each call, for ever.
+/// A reader that gives one byte at each call, for ever.
 #[derive(Drop)]
 struct Endless {
     calls: u64,
@@ -74,13 +74,13 @@ impl Read for Endless {
     }
 }
 
-/// Whether all of a reader's bytes within a limit are just these.
+/// Whether a reader's bytes, read up to a limit, are just these.
 fn reads<R: Read>(rt: HostRuntime, reader: &mut R, limit: u64, bytes: &[u8]) -> bool {
     limit <= MAX_LIMIT
         && matches!(read_all(rt.alloc(), reader, limit), Ok(all) if all.as_slice() == bytes)
 }
 
-/// Why there are no bytes of a reader within a limit.
+/// The failure of reading a reader up to a limit.
 fn failure<R: Read>(rt: HostRuntime, reader: &mut R, limit: u64) -> Option<ReadFail> {
     if limit > MAX_LIMIT {
         return None;

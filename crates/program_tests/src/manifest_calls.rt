@@ -2,7 +2,7 @@ use grid_units::{Fail, Reason, Span};
 use manifest::*;
 use std::alloc::Global;
 
-/// The place, the byte and the reason of a refusal.
+/// The place, the byte and the reason with which a manifest is refused.
 fn refusal(rt: HostRuntime, text: &str) -> Option<(u64, u64, Reason)> {
     match read_manifest(rt.alloc(), text.as_bytes()) {
         Err(Fail::Refused(fault)) => Some((fault.place, fault.byte, fault.reason)),

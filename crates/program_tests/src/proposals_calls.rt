@@ -1,7 +1,7 @@
 use manifest::{Role, read_manifest};
 use proposals::*;
 
-/// A top layer whose text says that it is Gerber and not what it is for.
+/// A top layer whose text says that it is Gerber, but not what it is for.
 const LAYER: &[u8] = b"%FSLAX46Y46*%\n%MOMM*%\n%ADD10C,0.6*%\nD10*\nX0Y0D03*\nM02*\n";
 
 /// A drill file with one hole.
@@ -36,7 +36,7 @@ fn gives(rt: HostRuntime, files: &[(&str, &[u8])], text: &str) -> bool {
     }
 }
 
-/// Whether these are the reasons for these files.
+/// Whether this is the table of what the files are and why.
 fn tells(rt: HostRuntime, files: &[Named<'_>], text: &str) -> bool {
     let Ok(list) = propose(rt.alloc(), files) else {
         return false;

@@ -36,7 +36,7 @@ fn refuses(alloc: Global, kind: Kind, bytes: &[u8], reason: Reason, place: u64, 
     }
 }
 
-/// A layer in older words, and a comment among them.
+/// A layer in old words such as `G54D10*`, with a comment among them.
 #[test]
 fn a_layer_is_written_anew(rt: HostRuntime) {
     let alloc = rt.alloc();
@@ -44,7 +44,7 @@ fn a_layer_is_written_anew(rt: HostRuntime) {
     assert!(rt; gives(alloc, Kind::Layer, LAYER, LAYER));
 }
 
-/// A drill file with lines that spell nothing, and zeros left out.
+/// A drill file with lines that spell nothing, and with zeros left out.
 #[test]
 fn a_drill_file_is_written_anew(rt: HostRuntime) {
     let alloc = rt.alloc();
@@ -52,7 +52,7 @@ fn a_drill_file_is_written_anew(rt: HostRuntime) {
     assert!(rt; gives(alloc, Kind::Drill, DRILL, DRILL));
 }
 
-/// The fault of the text as its kind reads it.
+/// A refused text gives its fault, as its kind reads it.
 #[test]
 fn refused_texts_are_not_written(rt: HostRuntime) {
     for &(kind, text, reason) in &[
@@ -67,7 +67,7 @@ fn refused_texts_are_not_written(rt: HostRuntime) {
     }
 }
 
-/// A layer of more than one piece, in which items lie across the borders of pieces, and one that is refused in its last piece.
+/// A layer of many pieces, in which items cross the borders of pieces, and one that is refused in its last piece.
 #[test]
 fn a_layer_of_many_pieces(rt: HostRuntime) -> Result<(), TestFail> {
     let alloc = rt.alloc();

@@ -19,7 +19,7 @@ const MANIFEST: &str = "role,name,file\ncopper,top,top.gbr\nplated,pth,pth.drl\n
 
 const LAYER: &str = "%FSLAX46Y46*%\n%MOMM*%\n%ADD10C,0.65*%\nD10*\nX0Y0D03*\nM02*\n";
 
-/// The layer with its flash a nanometre aside.
+/// The layer with its flash a nanometre off the hole's centre.
 const MOVED: &str = "%FSLAX46Y46*%\n%MOMM*%\n%ADD10C,0.65*%\nD10*\nX1Y0D03*\nM02*\n";
 
 const DRILL: &str = "M48\nMETRIC\nT1C0.4\n%\nT1\nX0.0Y0.0\nM30\n";
@@ -36,7 +36,7 @@ ring layer=1 drill=2 diameter=0.400000000 holes=1 bare=0 least=0.125000000 hole=
 meets ring=0.125000000 gap=any held=0.125000000
 ";
 
-/// Files at hand by their names. The call by the number `fails_at` fails.
+/// Files at hand, by their names. The call numbered `fails_at` fails.
 #[derive(Drop)]
 struct Shelf<'a> {
     files: &'a [(&'a str, &'a str)],
@@ -134,7 +134,7 @@ impl Loader for LongShelf<'_> {
     }
 }
 
-/// Whether a run over a loader ends so and prints just this.
+/// Whether a run over this loader ends with this status and prints just this.
 fn prints<L: Loader>(
     alloc: Global,
     loader: &mut L,
@@ -146,7 +146,7 @@ fn prints<L: Loader>(
     run(alloc, words, loader, &mut out) == status && out.as_slice() == text.as_bytes()
 }
 
-/// Whether a run with these words ends so and prints first just this.
+/// Whether a run with these words ends with this status and what it prints begins with this.
 fn begins(alloc: Global, words: &[&str], status: Status, text: &str) -> bool {
     let files = &[("m.csv", MANIFEST), ("top.gbr", LAYER), ("pth.drl", DRILL)];
     let mut out: Vec<u8> = Vec::new(alloc);
@@ -156,5 +156,5 @@ fn begins(alloc: Global, words: &[&str], status: Status, text: &str) -> bool {
 
 const THREE: &str = "role,name,file\ncopper,top,top.gbr\ncopper,bot,bot.gbr\nplated,pth,pth.drl\n";
 
-/// A layer without a format, which is refused.
+/// A layer that is refused, as it has no format.
 const BARE: &str = "M02*\n";

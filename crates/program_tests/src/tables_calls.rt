@@ -11,7 +11,7 @@ const FLASHES: &[u8] = b"flash,what,x,y,width,height\n";
 /// The header of a drill file's table.
 const HOLES: &[u8] = b"hole,x1,y1,x2,y2,diameter\n";
 
-/// A format, a unit, an aperture, its selection, a flash and the end.
+/// The lines of a layer: a format, a unit, an aperture, its selection, a flash and the end.
 const LAYER: [&[u8]; 6] = [
     b"%FSLAX46Y46*%\n",
     b"%MOMM*%\n",
@@ -43,7 +43,7 @@ fn with(alloc: Global, place: usize, line: &[u8]) -> Result<Vec<u8>, AllocError>
     Ok(text)
 }
 
-/// The layer above with this aperture, and these lines in front of the flash.
+/// The layer above with this aperture, and these lines before the flash.
 fn with_aperture(alloc: Global, aperture: &[u8], lines: &[u8]) -> Result<Vec<u8>, AllocError> {
     joined(
         alloc,

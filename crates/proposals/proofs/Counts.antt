@@ -56,7 +56,7 @@ module _ {A : Type 0} where
       by more true e k = omega (arith, count_hit p x xs e)
       by more false e k = omega (arith, count_miss p x xs e, more k)
 
-  -- an element that passes behind another that does
+  -- an element that passes after another that does
   pub count_two : (p : A → Bool) (before : List A) (x : A) (after : List A) → list_any p before ≡ true → p x ≡ true → 1 < count_by p (before ++ x ∷ after)
   count_two p before x after h e = omega (arith, count_append p before (x ∷ after), count_hit p x after e, count_some p before h)
 

@@ -19,7 +19,7 @@ use Rattle.proposals.specs.declared.outcome.Because.TheVariants as because
 use Rattle.proposals.proofs.Counts.{count_filter, count_hit, count_miss, count_of_map}
 use Rattle.proposals.proofs.Labels.{IsOnce, has_name}
 
--- the files behind these, each name once
+-- the files after these, each name once
 abbrev after : List Named → List Named → List Named
 after first files = filter_map unless_named (positions_after first files)
 

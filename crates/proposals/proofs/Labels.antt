@@ -36,7 +36,7 @@ module _ (entries before : List Proposal) (p : Proposal) (after : List Proposal)
   two : (t : Proposal → Bool) → list_any t before ≡ true → t p ≡ true → 1 < count_by t entries
   two t h k = subst (λ (es : List Proposal). 1 < count_by t es) (sym split) (count_two t before p after h k)
 
-  -- what two files have behind the last slash is ambiguous
+  -- what two files have after the last slash is ambiguous
   twice : (name : List ℕ) → list_any (λ q. bytes_eq (short_name q.file) name) before ≡ true → bytes_eq (short_name p.file) name ≡ true → is_ambiguous entries name ≡ true
   twice name h k = second (length name == 0) (nat_lt 1 (named_so entries name)) (lt-ltb 1 (named_so entries name) (two (λ q. bytes_eq (short_name q.file) name) h k))
 

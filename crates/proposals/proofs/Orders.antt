@@ -18,11 +18,11 @@ filter_map_to {X} {Y} p f (x ∷ xs) = by (p (f x)) (filter_map_to p f xs)
     by true e = ap (λ ys. f x ∷ ys) e
     by false e = e
 
--- a file behind a reference
+-- the file of a reference
 abbrev pub now : Bor Proposal → Proposal
 now b = b.now
 
--- the rank of a file behind a reference
+-- the rank of the file of a reference
 abbrev pub key : Bor Proposal → ℕ
 key b = rank b.now.role
 

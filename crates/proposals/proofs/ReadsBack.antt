@@ -34,7 +34,7 @@ use Rattle.grid_units.proofs.BoolLemmas.{both_true}
 -- ---- lists
 
 module _ {A B R : Type 0} (f : A → B) (broken : List B → B → Option R) where
-  -- no element breaks a rule behind those before it
+  -- no element breaks a rule after those before it
   none_after : (first xs : List A) → ((before : List A) (x : A) (after : List A) → first ++ xs ≡ before ++ x ∷ after → broken (map f before) (f x) ≡ None)
       → filter_map (break_at broken) (positions_after (map f first) (map f xs)) ≡ []
   none_after first [] h = refl

@@ -15,7 +15,7 @@ module _ {A : Type 0} (row : A → List ℕ) (xs : List A) where
   pub rows_all : (i : ℕ) (start before : List ℕ) → length xs ≤ i → before ≡ start ++ flat_map row (take i xs) → before ≡ start ++ flat_map row xs
   rows_all i start before ge was = was ∙ ap (λ ys. start ++ flat_map row ys) (take_all i xs ge)
 
--- the rows of elements behind references
+-- the rows of the elements of references
 pub rows_of : {A B : Type 0} (row : B → List ℕ) (f : A → B) (xs : List A) → flat_map (λ x. row (f x)) xs ≡ flat_map row (map f xs)
 rows_of row f [] = refl
 rows_of row f (x ∷ xs) = ap (λ t. row (f x) ++ t) (rows_of row f xs)

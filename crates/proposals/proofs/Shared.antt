@@ -31,7 +31,7 @@ again false n m old had e is = let same : m ≡ n = omega (arith, is) in e ∙ a
 
 -- ---- the files so far
 
--- a file behind a reference
+-- the file of a reference
 abbrev pub now : Bor Proposal → Proposal
 now b = b.now
 
@@ -67,11 +67,11 @@ module _ (entries : List (Bor Proposal)) (i : ℕ) (entry : Bor Proposal) (lt : 
     at_key : {b : Bool} → nat_lt 0 (so_far entries i key) ≡ b → is_key name ≡ true → nat_lt 0 (so_far entries i name) ≡ b
     at_key h e = ap (λ (x : List ℕ). nat_lt 0 (so_far entries i x)) (sym ((bytes_eq-Decides key name).0 e)) ∙ h
 
-    -- a name is shared, where this file's is new
+    -- a name is shared, where this file's name is new
     pub shared_kept : (old : Bool) → nat_lt 0 (so_far entries i key) ≡ false → old ≡ nat_lt 1 (so_far entries i name) → old ≡ nat_lt 1 (so_far entries (i + 1) name)
     shared_kept old new was = kept (is_key name) (so_far entries i name) (so_far entries (i + 1) name) old (λ e. at_key new e) was (one_more name)
 
-    -- the same where this file's name was there
+    -- a name is shared, where this file's name was met before
     pub shared_more : (k : List ℕ) (old new : Bool) → k ≡ key → nat_lt 0 (so_far entries i key) ≡ true → new ≡ cond (is_eq (slice_cmp nat_cmp k name)) true old → old ≡ nat_lt 1 (so_far entries i name)
         → new ≡ nat_lt 1 (so_far entries (i + 1) name)
     shared_more k old new e had is was =

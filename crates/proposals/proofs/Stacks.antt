@@ -54,7 +54,7 @@ module _ {A : Type 0} (c : A → Bool) (f : A → ℕ) where
   many_values xs = length-map (filter c xs) f ∙ length-filter c xs
 
 module _ {A : Type 0} (good u v : A → Bool) (gives : (x : A) → good x ≡ true → u x ≡ true → v x ≡ true) where
-  -- a test that gives another one passes no oftener
+  -- a test that implies another one passes no more often
   no_more : (xs : List A) → list_all good xs ≡ true → count_by u xs ≤ count_by v xs
   no_more [] h = omega arith
   no_more (x ∷ xs) h = let k = both_true (good x) (list_all good xs) h in by (u x) refl k.0 (no_more xs k.1)
@@ -341,7 +341,7 @@ module _ (files : List Named) (entries : List Proposal) (same : IsPermutation (f
             ap (λ (s : Proposed). not (is_layer s) || is_within 1 count (layer_of here count s)) (role_is stack count p) ∙ as_role (settled_role stack count p.role) (same_layer stack count p.role e)
         by false e = ap (λ (s : Proposed). not (is_layer s) || is_within 1 count (layer_of here count s)) (role_is stack count p) ∙ ap (λ b. not b || is_within 1 count (layer_of here count (settled_role stack count p.role))) e
 
-    -- the same of the layer where no file is lacking
+    -- a copper file that has a layer by itself has one where no copper file is lacking
     known_too : (p : Proposal) → has_layer p ≡ true → (not (is_copper p) || is_within 1 count (layer p)) ≡ true
     known_too p h = by (is_copper p) h
       where

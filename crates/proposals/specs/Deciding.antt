@@ -1,4 +1,4 @@
--- What is proposed for a file, and why.
+-- What is proposed for a file, and why (docs/FORMATS.md, Proposals).
 use Rattle.std.specs.Prelude.{ℕ, Bool, true, false, ◌||◌, ◌&&◌, not, List, Option, Some, None, is_some, unwrap_or, take, drop, codes, if◌then◌else◌}
 use Rattle.std.specs.Option.{option_or, option_map}
 use Rattle.std.specs.Str.{bytes_eq}
@@ -14,41 +14,41 @@ use Rattle.proposals.specs.declared.outcome.Proposed.TheVariants.{Copper, Plated
 use Rattle.proposals.specs.declared.outcome.Because.{Because}
 use Rattle.proposals.specs.declared.outcome.Because.TheVariants as because
 
--- what is proposed, and why
+-- what is proposed for a file, and the reason for it
 abbrev pub Decision : Type 0
 Decision = Proposed × Because
 
 -- ---- drill files
 
--- the layers that two fields name, where both are one to nine digits
+-- the layers that two fields name, None where one of them is no number
 abbrev pub layers_named : Option ℕ → Option ℕ → Option Layers
 layers_named None last = None
 layers_named (Some first) None = None
 layers_named (Some first) (Some last) = Some (record { first = first; last = last })
 
--- the layers that a file function's second and third field name
+-- the layers that the second and the third field of a file function name, if both are numbers: 1 and 2 in `Plated,1,2,PTH`
 abbrev pub span_of : List ℕ → Option Layers
 span_of function = layers_named (number_of 9 (field 1 function)) (number_of 9 (field 2 function))
 
--- what a drill file's function says
+-- what the function of a drill file says: `Plated,1,2,PTH` plated with layers, `NonPlated` unplated, `MixedPlating` undecided
 abbrev pub drill_by_function : List ℕ → Option Decision
 drill_by_function function =
     if bytes_eq (field 0 function) (codes "Plated") then Some (Plated (span_of function), because.FileFunction (field 0 function))
     else if bytes_eq (field 0 function) (codes "NonPlated") then Some (Unplated (span_of function), because.FileFunction (field 0 function))
     else if bytes_eq (field 0 function) (codes "MixedPlating") then Some (Undecided, because.MixedHoles) else None
 
--- what a drill file's lines say, where they say that holes are plated or that they are not
+-- what the lines of a drill file say: whether one says that holes are plated, and whether one says that they are not
 abbrev pub drill_by_lines : Bool → Bool → Option Decision
 drill_by_lines true true = Some (Undecided, because.MixedHoles)
 drill_by_lines true false = Some (Plated None, because.PlatedType)
 drill_by_lines false true = Some (Unplated None, because.UnplatedType)
 drill_by_lines false false = None
 
--- what a drill file's name says
+-- what the name of a drill file says: `b-NPTH.drl` is unplated, and `b.drl` is plated by default
 abbrev pub drill_by_name : List ℕ → Decision
 drill_by_name name = if names_unplated (words_of name) then (Unplated None, because.ByName) else (Plated None, because.DrillByDefault)
 
--- what the function of a text says, if it has one that says something
+-- what a file function says, None where there is no function
 abbrev pub said : {A : Type 0} → (List ℕ → Option A) → Option (List ℕ) → Option A
 said says None = None
 said says (Some function) = says function
@@ -60,37 +60,37 @@ drill_decision name text =
 
 -- ---- Gerber files
 
--- the place in the stack that a field names: `L` and one to nine digits
+-- the place in the stack that a field names by `L` and one to nine digits: 2 of `L2`; else unknown
 abbrev pub stack_place : List ℕ → Place
 stack_place place = unwrap_or (option_map (λ n. Numbered n) (if bytes_eq (take 1 place) (codes "L") then number_of 9 (drop 1 place) else None)) Unknown
 
--- a function of drill files
+-- the first field of a drill file's function: `Plated`, `NonPlated` or `MixedPlating`
 abbrev pub is_drill_function : List ℕ → Bool
 is_drill_function first = bytes_eq first (codes "Plated") || (bytes_eq first (codes "NonPlated") || bytes_eq first (codes "MixedPlating"))
 
--- what a Gerber file's function says
+-- what the function of a Gerber file says: `Copper,L1,Top` is the layer 1, and `Soldermask,Top` is left out
 abbrev pub gerber_by_function : List ℕ → Decision
 gerber_by_function function =
     if bytes_eq (field 0 function) (codes "Copper") then (Copper (stack_place (field 1 function)), because.FileFunction (field 0 function))
     else if is_drill_function (field 0 function) then (Undecided, because.DrillInGerber) else (LeftOut, because.FileFunction (field 0 function))
 
--- copper at a place, by the name
+-- a copper layer at this place, by its name
 abbrev pub copper_at : Place → Option Decision
 copper_at place = Some (Copper place, because.ByName)
 
--- no copper, by the name
+-- a layer without copper, by its name: it is left out
 abbrev pub no_copper : Option Decision
 no_copper = Some (LeftOut, because.ByName)
 
--- an inner layer, by the number in the name, if there is one
+-- an inner copper layer, by the number in its name, if there is one
 abbrev pub inner_copper : Option ℕ → Option Decision
 inner_copper number = option_map (λ n. (Copper (Inner n), because.ByName)) number
 
--- the end of a name of a layer without copper
+-- the end of the name of a layer without copper: `gts`, or `gm1`
 abbrev pub is_other_end : List ℕ → Bool
 is_other_end end = is_among end other_ends || is_some (numbered numbered_other_ends end)
 
--- what the end of a Gerber file's name says
+-- what the end of the name of a Gerber file says: `gtl` is a top layer, `g1` the first inner layer, and `gp1` a plane
 abbrev pub gerber_by_end : List ℕ → Option Decision
 gerber_by_end end =
     if is_some (numbered plane_ends end) then Some (Undecided, because.Plane)
@@ -98,16 +98,16 @@ gerber_by_end end =
     else if is_among end top_ends then copper_at Top
     else if is_among end bottom_ends then copper_at Bottom else inner_copper (numbered inner_ends end)
 
--- a word of a top layer, where a word for copper was dropped behind it or none was
+-- a word of a top layer; `f` is one only where a word for copper that followed it was dropped: `b-F_Cu.gbr`
 abbrev pub is_top_word : Bool → List ℕ → Bool
 is_top_word dropped word = is_among word top_words || (dropped && bytes_eq word (codes "f"))
 
--- a word of a bottom layer
+-- a word of a bottom layer; `b` is one only where a word for copper that followed it was dropped
 abbrev pub is_bottom_word : Bool → List ℕ → Bool
 is_bottom_word dropped word = is_among word bottom_words || (dropped && bytes_eq word (codes "b"))
 
--- What the last word of a stem says, where a word for copper was dropped behind it or none was. Without such a word a layer
--- may be one of those without copper.
+-- What the last word of a stem says; `dropped` says whether words for copper that followed it were dropped. Where none was, the
+-- word may be that of a layer without copper.
 abbrev pub gerber_by_word : Bool → List ℕ → Option Decision
 gerber_by_word dropped word =
     if not dropped && is_among word other_words then no_copper
@@ -115,11 +115,11 @@ gerber_by_word dropped word =
     else if is_bottom_word dropped word then copper_at Bottom
     else option_or (inner_copper (numbered inner_words word)) (if dropped then copper_at Unknown else None)
 
--- what the stem of a Gerber file's name says: its last word
+-- what the stem of the name of a Gerber file says: its last word that is not one for copper
 abbrev pub gerber_by_stem : List (List ℕ) → Option Decision
 gerber_by_stem stem = gerber_by_word (ends_in_copper stem) (last_word stem)
 
--- what the name of a Gerber file says: its end, else the last word of its stem
+-- what the name of a Gerber file says: by its end, else by the last word of its stem
 abbrev pub gerber_by_words : Bool → List (List ℕ) → Decision
 gerber_by_words point words =
     unwrap_or (option_or (gerber_by_end (end_of point words)) (gerber_by_stem (stem_of point words))) (Undecided, because.NothingSays)
@@ -130,7 +130,7 @@ gerber_decision name text = unwrap_or (option_map gerber_by_function (function_o
 
 -- ---- each file
 
--- what a file of a kind is
+-- what a file of this kind is, by its name and its text
 abbrev pub by_kind : Kind → List ℕ → List ℕ → Decision
 by_kind Gerber name text = gerber_decision name text
 by_kind Drill name text = drill_decision name text

@@ -1,4 +1,4 @@
--- The manifest of proposals, and the table of why.
+-- The manifest of proposals, and the table of why (docs/FORMATS.md, Proposals).
 use Rattle.std.specs.Prelude.{◌≡◌, ℕ, ◌+◌, ◌-◌, ◌/◌, ◌%◌, Bool, true, false, not, ◌&&◌, ◌||◌, ◌==◌, nat_le, nat_lt, decimal, List, [], ◌∷◌, ◌++◌, length, codes, Option, Some, None, if◌then◌else◌}
 use Rattle.std.specs.List.{flat_map, filter, list_any, count_by}
 use Rattle.std.specs.List.Sorted.{IsPermutation, IsNonDecreasingBy, IsStableByKey}
@@ -18,7 +18,7 @@ use Rattle.proposals.specs.declared.outcome.Proposal.{Proposal}
 
 -- ---- words
 
--- the word of a role
+-- the word of a role: `copper`, or `?` for an undecided file, and `-` in the table of why for one that is left out
 abbrev pub role_word : Proposed → List ℕ
 role_word (Copper place) = codes "copper"
 role_word (Plated span) = codes "plated"
@@ -26,7 +26,7 @@ role_word (Unplated span) = codes "unplated"
 role_word Undecided = codes "?"
 role_word LeftOut = codes "-"
 
--- the words of a reason, without the file function
+-- the words of a reason, without the fields of a file function
 abbrev pub reason_words : Because → List ℕ
 reason_words because.NoKind = codes "neither a Gerber nor a drill file"
 reason_words because.NoHoles = codes "a drill file without holes"
@@ -43,7 +43,7 @@ reason_words because.UnclearLayers = codes "its layers are not clear from the co
 reason_words because.NotRead = codes "it cannot be read"
 reason_words because.TooLong = codes "it is too long"
 
--- the file function that a reason names, empty where it names none
+-- the first field of the file function that a reason names, empty where it names none
 abbrev pub named_function : Because → List ℕ
 named_function because.NoKind = []
 named_function because.NoHoles = []
@@ -68,7 +68,7 @@ backslash = 92
 abbrev pub lower_x : ℕ
 lower_x = 120
 
--- printable ASCII, but for the backslash
+-- a byte that is printed as it is: printable ASCII without the backslash
 abbrev pub is_printed : ℕ → Bool
 is_printed b = nat_le ascii.space b && (nat_lt b ascii.delete && not (b == backslash))
 
@@ -76,21 +76,21 @@ is_printed b = nat_le ascii.space b && (nat_lt b ascii.delete && not (b == backs
 abbrev pub hex_digit : ℕ → ℕ
 hex_digit n = if nat_lt n 10 then ascii.digit_zero + n else ascii.lower_a + (n - 10)
 
--- how a byte of a file is printed: as it is, or as `\xNN`
+-- how a byte of a file is printed: as it is, or as `\xNN` (`\x1b` for an escape)
 abbrev pub byte_text : ℕ → List ℕ
 byte_text b = if is_printed b then b ∷ [] else backslash ∷ lower_x ∷ hex_digit (b / 16) ∷ hex_digit (b % 16) ∷ []
 
--- the text of a reason: no byte of a file reaches a terminal but as printable ASCII
+-- the text of a reason, `file function Copper`: a file's bytes reach a terminal only as printable ASCII
 abbrev pub because_text : Because → List ℕ
 because_text why = reason_words why ++ flat_map byte_text (named_function why)
 
 -- ---- the table of why
 
--- the row of a file: its name, the word of its role and the reason
+-- the row of a file in the table of why, its name, the word of its role and the reason: `b.gtl,copper,name`
 abbrev pub reason_row : Proposal → List ℕ
 reason_row p = row_text default_writer (p.file ∷ role_word p.role ∷ because_text p.because ∷ [])
 
--- the first row of the table of why
+-- the first row of the table of why: `file,role,because`
 abbrev pub reasons_heading : List ℕ
 reasons_heading = row_text default_writer (codes "file" ∷ codes "role" ∷ codes "because" ∷ [])
 
@@ -100,8 +100,8 @@ reasons_text proposals = reasons_heading ++ flat_map reason_row proposals
 
 -- ---- the order of a manifest
 
--- the copper layers by their place: those with a number, which is below 2^32, by it (the top is 1, and the inner layer N the layer
--- N + 1), then those at an unknown place, then bottom layers
+-- The rank of a copper layer. Those with a number, which is below 2^32, come first by it; a top layer counts as 1, and the inner
+-- layer N as N + 1. Then come those at an unknown place, then bottom layers.
 abbrev pub place_rank : Place → ℕ
 place_rank (Numbered n) = n
 place_rank Top = 1
@@ -117,7 +117,7 @@ rank (Unplated span) = 4294967299
 rank Undecided = 4294967300
 rank LeftOut = 4294967301
 
--- what stands in the manifest
+-- a file of this role stands in the manifest
 abbrev pub stands : Proposed → Bool
 stands (Copper place) = true
 stands (Plated span) = true
@@ -129,7 +129,7 @@ stands LeftOut = false
 abbrev pub is_kept : Proposal → Bool
 is_kept p = stands p.role
 
--- the files by rank, and those of one rank as they stood
+-- the entries are the files by rank, and those of one rank in the order of the files
 pub record IsInOrder (files entries : List Proposal) : Type 0 where
   pub permutation : IsPermutation files entries
   pub ranked : IsNonDecreasingBy (λ (p : Proposal). rank p.role) entries
@@ -137,19 +137,19 @@ pub record IsInOrder (files entries : List Proposal) : Type 0 where
 
 -- ---- the manifest
 
--- how many files have this name behind their last slash
+-- how many files have this name after their last slash
 abbrev pub named_so : List Proposal → List ℕ → ℕ
 named_so entries name = count_by (λ q. bytes_eq (short_name q.file) name) entries
 
--- nothing stands behind the last slash, or another file has the same there
+-- the name after the last slash is empty, or two files or more have it
 abbrev pub is_ambiguous : List Proposal → List ℕ → Bool
 is_ambiguous entries name = (length name == 0) || nat_lt 1 (named_so entries name)
 
--- the name that reports print: what stands behind the last slash, or all of it where that is ambiguous
+-- the name that reports print: what follows the last slash (`b.gtl` of `out/b.gtl`), or the whole name where that is ambiguous
 abbrev pub label : List Proposal → Proposal → List ℕ
 label entries p = if is_ambiguous entries (short_name p.file) then p.file else short_name p.file
 
--- the layers that a file names, if it names any
+-- the layers that a drill file names, if it names any
 abbrev pub span_in : Proposed → Option Layers
 span_in (Copper place) = None
 span_in (Plated span) = span
@@ -169,29 +169,29 @@ is_layer LeftOut = false
 abbrev pub is_copper : Proposal → Bool
 is_copper p = is_layer p.role
 
--- the layers are not all of so many
+-- layers are named that are not 1 to this number of layers
 abbrev pub is_partial : ℕ → Option Layers → Bool
 is_partial layers None = false
 is_partial layers (Some span) = not ((span.first == 1) && (span.last == layers))
 
--- some file's holes go through other layers than all: then the manifest has version 2
+-- some file names other layers than all copper layers: then the manifest has version 2
 abbrev pub has_spans : List Proposal → Bool
 has_spans entries = list_any (λ p. is_partial (count_by is_copper entries) (span_in p.role)) entries
 
--- the two fields of the layers, empty where none are named
+-- the fields of the first and the last layer, both empty where no layers are named
 abbrev pub span_fields : Option Layers → List (List ℕ)
 span_fields None = [] ∷ [] ∷ []
 span_fields (Some span) = decimal span.first ∷ decimal span.last ∷ []
 
--- the row of a file under a name, with its layers or without
+-- the row of a file under a name, with its layers or without: `copper,b.gtl,out/b.gtl`, or `plated,b.drl,out/b.drl,1,2`
 abbrev pub named_row : Bool → List ℕ → Proposal → List ℕ
 named_row spans name p = row_text default_writer (role_word p.role ∷ name ∷ p.file ∷ (if spans then span_fields (span_in p.role) else []))
 
--- the row of a file among others
+-- the row of a file under the name that reports print for it among these files
 abbrev pub entry_row : Bool → List Proposal → Proposal → List ℕ
 entry_row spans entries p = named_row spans (label entries p) p
 
--- the first row
+-- the first row of a manifest: `role,name,file`, or `role,name,file,first,last`
 abbrev pub heading : Bool → List ℕ
 heading spans = row_text default_writer (codes "role" ∷ codes "name" ∷ codes "file" ∷ (if spans then codes "first" ∷ codes "last" ∷ [] else []))
 
@@ -199,6 +199,6 @@ heading spans = row_text default_writer (codes "role" ∷ codes "name" ∷ codes
 abbrev pub manifest_text : List Proposal → List ℕ
 manifest_text entries = heading (has_spans entries) ++ flat_map (entry_row (has_spans entries) entries) entries
 
--- the text is the manifest of the files that stand in it, in its order
+-- the text is the manifest of the files that are not left out, in the order of a manifest
 abbrev pub IsManifestOf : List Proposal → List ℕ → Type 0
 IsManifestOf proposals text = (entries : List Proposal) × IsInOrder (filter is_kept proposals) entries × (text ≡ manifest_text entries)

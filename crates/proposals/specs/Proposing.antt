@@ -1,4 +1,4 @@
--- The proposals for a list of files.
+-- The proposals for a list of files (docs/FORMATS.md, Proposals).
 use Rattle.std.specs.Prelude.{ℕ, Bool, List, map, Option, Some, None, if◌then◌else◌}
 use Rattle.std.specs.List.{list_any, filter_map}
 use Rattle.std.specs.Str.{bytes_eq}
@@ -12,17 +12,17 @@ use Rattle.proposals.specs.declared.outcome.Named.{Named}
 use Rattle.proposals.specs.declared.outcome.Content.{Content}
 use Rattle.proposals.specs.declared.outcome.Content.TheVariants as content
 
--- what a file of this name is, where it can be read and where it cannot
+-- what a file of this name is: by its bytes, or undecided where it cannot be read or is too long
 abbrev pub decided : List ℕ → Content → Decision
 decided name (content.Bytes bytes) = decision name bytes.now
 decided name content.NotRead = (Undecided, because.NotRead)
 decided name content.TooLong = (Undecided, because.TooLong)
 
--- the name of a file
+-- the name of a file, as it was asked for
 abbrev pub name_of : Named → List ℕ
 name_of file = file.name.now
 
--- the proposal for a file by itself
+-- the proposal for a file, taken by itself
 abbrev pub proposal : Named → Proposal
 proposal file = record { file = name_of file; role = (decided (name_of file) file.content).0; because = (decided (name_of file) file.content).1 }
 
@@ -30,7 +30,7 @@ proposal file = record { file = name_of file; role = (decided (name_of file) fil
 abbrev pub is_named : List ℕ → List Named → Bool
 is_named name files = list_any (λ file. bytes_eq (name_of file) name) files
 
--- a file, if none before it has its name
+-- a file, if none of those before it has its name
 abbrev pub unless_named : List Named × Named → Option Named
 unless_named p = if is_named (name_of p.1) p.0 then None else Some p.1
 
@@ -38,7 +38,7 @@ unless_named p = if is_named (name_of p.1) p.0 then None else Some p.1
 abbrev pub once : List Named → List Named
 once files = filter_map unless_named (positions files)
 
--- what each file is by itself, each name once
+-- the proposal for each file, taken by itself, each name once
 abbrev pub by_itself : List Named → List Proposal
 by_itself files = map proposal (once files)
 

@@ -1,4 +1,4 @@
--- What the manifest of proposals that are all decided reads back as.
+-- What a manifest of proposals reads back as, where all of them are decided.
 use Rattle.std.specs.Prelude.{◌≡◌, ℕ, Bool, true, false, not, ◌&&◌, ◌==◌, nat_le, List, length, Option, Some, None, if◌then◌else◌}
 use Rattle.std.specs.List.{list_all, list_any, count_by}
 use Rattle.grid_units.specs.Spans.{LayerSpan}
@@ -12,7 +12,7 @@ use Rattle.proposals.specs.declared.outcome.Proposed.TheVariants.{Copper, Plated
 use Rattle.proposals.specs.declared.outcome.Proposal.{Proposal}
 use Rattle.proposals.specs.Manifests.{has_spans, is_copper, label, span_in}
 
--- the role of a manifest that is proposed; of what is undecided or left out it is not asked for
+-- the role that a manifest gives a proposal; for one that is undecided or left out, a value that is never used
 abbrev pub role_of : Proposed → Role
 role_of (Copper place) = roles.Copper
 role_of (Plated span) = roles.Plated
@@ -20,16 +20,16 @@ role_of (Unplated span) = roles.Unplated
 role_of Undecided = roles.Unplated
 role_of LeftOut = roles.Unplated
 
--- the layers as a span
+-- the layers as a span of a manifest
 abbrev pub as_span : Option Layers → Option LayerSpan
 as_span None = None
 as_span (Some layers) = Some (record { first = layers.first; last = layers.last })
 
--- the file of a manifest that a proposal stands for among others: it names its layers where the manifest has version 2
+-- the file that a proposal becomes in the manifest of these entries; it has its layers only where the manifest has version 2
 abbrev pub entry_in : List Proposal → Proposal → Entry
 entry_in entries p = record { role = role_of p.role; name = label entries p; file = p.file; span = if has_spans entries then as_span (span_in p.role) else None }
 
--- a copper layer, or a drill file of which the plating is known
+-- a copper layer, or a drill file whose plating is known
 abbrev pub is_decided : Proposed → Bool
 is_decided (Copper place) = true
 is_decided (Plated span) = true
@@ -37,11 +37,11 @@ is_decided (Unplated span) = true
 is_decided Undecided = false
 is_decided LeftOut = false
 
--- a name that may stand in a manifest: some text without control bytes
+-- a name that may stand in a manifest: UTF-8 without control bytes, and not empty
 abbrev pub may_stand : List ℕ → Bool
 may_stand name = is_plain_text name && not (length name == 0)
 
--- nothing is left to decide: no role is, some file is copper and some is not, and each name may stand
+-- nothing is left to decide: each role is decided, some file is copper and some is not, and each file name may stand
 pub record AreDecided (entries : List Proposal) : Type 0 where
   pub roles : list_all (λ p. is_decided p.role) entries ≡ true
   pub copper : list_any is_copper entries ≡ true

@@ -1,4 +1,5 @@
--- Which layers the copper files of some proposals are, and which drill files name layers that they do not make clear.
+-- Which layers the copper files of some proposals are, and which drill files name layers that they do not make clear
+-- (docs/FORMATS.md, Proposals).
 use Rattle.std.specs.Prelude.{◌≡◌, ℕ, zero, suc, ◌+◌, Bool, true, false, not, ◌&&◌, ◌||◌, ◌==◌, nat_le, nat_lt, List, [], ◌∷◌, length, map, Option, Some, None, is_some, if◌then◌else◌}
 use Rattle.std.specs.List.{list_all, list_any, filter, count_by}
 use Rattle.proposals.specs.declared.outcome.Place.{Place}
@@ -13,7 +14,7 @@ use Rattle.proposals.specs.Manifests.{is_copper, span_in}
 
 -- ---- the layers of copper files
 
--- of a file that is undecided for this reason it is not known whether it is a copper layer
+-- a file that is undecided for this reason may be a copper layer
 abbrev pub may_be_copper : Because → Bool
 may_be_copper because.NoKind = false
 may_be_copper because.NoHoles = false
@@ -30,21 +31,21 @@ may_be_copper because.UnclearLayers = false
 may_be_copper because.NotRead = true
 may_be_copper because.TooLong = true
 
--- holes that go through a layer beyond so many
+-- the last layer that is named lies beyond so many layers
 abbrev pub goes_beyond : ℕ → Option Layers → Bool
 goes_beyond count None = false
 goes_beyond count (Some span) = nat_lt count span.last
 
--- a sign that a layer is lacking among so many copper files: a file that may be one more, or holes that go through one beyond them
+-- a sign that so many copper files are not all: a file that may be a copper layer, or one that names a layer beyond them
 abbrev pub is_sign : ℕ → Proposal → Bool
 is_sign count p = may_be_copper p.because || goes_beyond count (span_in p.role)
 
--- no file is such a sign, so that names say which layers the copper files are
+-- no file is a sign that a copper file is missing, so that names say which layers the copper files are
 abbrev pub are_all_here : List Proposal → Bool
 are_all_here ps = not (list_any (is_sign (count_by is_copper ps)) ps)
 
--- The layer at a place, from 1 at the top, among so many copper files that are all here or not; 0 where it is not known. The
--- inner layer N by its name is the layer N + 1, since the top is the first.
+-- The number of the layer at a place, from 1 at the top; 0 where it is not known. `here` says whether the copper files, `count`
+-- of them, are all here. The inner layer N by its name is the layer N + 1, since the top is the first.
 abbrev pub layer_at : Bool → ℕ → Place → ℕ
 layer_at here count (Numbered n) = n
 layer_at here count Top = 1
@@ -52,7 +53,7 @@ layer_at here count (Inner n) = if here then n + 1 else 0
 layer_at here count Unknown = 0
 layer_at here count Bottom = if here then count else 0
 
--- the layer that a file is, 0 where it is no copper file
+-- the number of the layer that a file is; 0 where it is no copper file, or where its layer is not known
 abbrev pub layer_of : Bool → ℕ → Proposed → ℕ
 layer_of here count (Copper place) = layer_at here count place
 layer_of here count (Plated span) = 0
@@ -60,15 +61,15 @@ layer_of here count (Unplated span) = 0
 layer_of here count Undecided = 0
 layer_of here count LeftOut = 0
 
--- the layers that the copper files are
+-- the number of the layer of each copper file, 0 where it is not known
 abbrev pub copper_layers : List Proposal → List ℕ
 copper_layers ps = map (λ p. layer_of (are_all_here ps) (count_by is_copper ps) p.role) (filter is_copper ps)
 
--- one of the numbers from 1 to how many there are, which stands among them once
+-- n is from 1 to the length of the list, and stands in it once
 abbrev pub has_its_own : List ℕ → ℕ → Bool
 has_its_own ns n = nat_le 1 n && (nat_le n (length ns) && (count_by (λ m. m == n) ns == 1))
 
--- just the numbers from 1 to how many there are, each once
+-- the numbers are just those from 1 to the length of the list, each once, in any order
 abbrev pub are_counted : List ℕ → Bool
 are_counted ns = list_all (has_its_own ns) ns
 
@@ -78,33 +79,33 @@ is_stack ps = are_counted (copper_layers ps)
 
 -- ---- the layers of drill files
 
--- the layers are a first one, from 1, and a last one, among so many
+-- the layers, if any are named, are a first one from 1 and a last one that is not below it, among so many
 abbrev pub are_among : ℕ → Option Layers → Bool
 are_among count None = true
 are_among count (Some layers) = nat_le 1 layers.first && (nat_le layers.first layers.last && nat_le layers.last count)
 
--- no layers are named, or just some of those that the copper files are, if these are a stack
+-- no layers are named, or the copper files are a stack and these are some of its layers
 abbrev pub are_clear : Bool → ℕ → Option Layers → Bool
 are_clear stack count None = true
 are_clear stack count (Some layers) = stack && are_among count (Some layers)
 
--- a proposal, undecided where it names layers that are not clear
+-- a proposal, made undecided where it names layers that are not clear
 abbrev pub settled_in : Bool → ℕ → Proposal → Proposal
 settled_in stack count p = if are_clear stack count (span_in p.role) then p else record { file = p.file; role = Undecided; because = because.UnclearLayers }
 
--- the same among the proposals of which it is one
+-- a proposal, made undecided where it names layers that are not clear among all proposals `ps`
 abbrev pub settled : List Proposal → Proposal → Proposal
 settled ps p = settled_in (is_stack ps) (count_by is_copper ps) p
 
 -- ---- the layers of a manifest
 
--- so many numbers that count up from a first one
+-- so many numbers that count up from a first one: three from 1 are 1, 2, 3
 abbrev pub numbers_from : ℕ → ℕ → List ℕ
 numbers_from first zero = []
 numbers_from first (suc more) = first ∷ numbers_from (first + 1) more
 
--- The copper files of a manifest are the layers 1, 2 and so on, in their order: so the layers that it gives a drill file are those
--- that the drill file names.
+-- The copper files of a manifest are the layers 1, 2 and so on, in order. So the layers that a manifest gives a drill file are
+-- those that the drill file names.
 abbrev pub AreInPlace : List Proposal → Type 0
 AreInPlace entries = map (λ p. layer_of true (count_by is_copper entries) p.role) (filter is_copper entries) ≡ numbers_from 1 (count_by is_copper entries)
 

@@ -13,10 +13,10 @@ use file_hints::{
 use grid_units::Text;
 use std::alloc::{AllocError, Global};
 
-/// What is proposed, and why.
+/// What is proposed for a file, and the reason for it.
 type Decision = (Proposed, Because);
 
-/// The layers that two fields name, where both are one to nine digits.
+/// The layers that two fields name, if both are one to nine digits.
 fn layers_named(first: &[u8], last: &[u8]) -> Option<Layers>
     ensures { result ≡ says.layers_named (naming.number_of 9 first.now) (naming.number_of 9 last.now) }
 {
@@ -26,7 +26,7 @@ fn layers_named(first: &[u8], last: &[u8]) -> Option<Layers>
     })
 }
 
-/// The reason that the first field of a file function is.
+/// The reason that names the first field of a file function.
 fn by_function(alloc: Global, first: &[u8]) -> Result<Because, AllocError>
     ensures { IfOk result (λ because. because ≡ Because.FileFunction first.now) }
 {
@@ -52,7 +52,7 @@ fn drill_by_function(alloc: Global, function: &[u8]) -> Result<Option<Decision>,
     Ok(None)
 }
 
-/// What a drill file's lines say, where they say that holes are plated or that they are not.
+/// What a drill file's lines say: whether one says that holes are plated, and whether one says that they are not.
 fn drill_by_lines(plated: bool, unplated: bool) -> Option<Decision>
     ensures { result ≡ says.drill_by_lines plated unplated }
 {
@@ -226,7 +226,7 @@ fn is_other_word(word: &[u8]) -> bool
     )
 }
 
-/// Whether a word is one of a top layer, where a word for copper was dropped behind it or not.
+/// Whether a word is one of a top layer; `dropped` says whether a word for copper that followed it was dropped.
 fn is_top_word(dropped: bool, word: &[u8]) -> bool
     ensures { result ≡ says.is_top_word dropped word.now }
 {
@@ -236,7 +236,7 @@ fn is_top_word(dropped: bool, word: &[u8]) -> bool
     ) || (dropped && word == b"f".as_slice())
 }
 
-/// Whether a word is one of a bottom layer, where a word for copper was dropped behind it or not.
+/// Whether a word is one of a bottom layer; `dropped` says whether a word for copper that followed it was dropped.
 fn is_bottom_word(dropped: bool, word: &[u8]) -> bool
     ensures { result ≡ says.is_bottom_word dropped word.now }
 {
@@ -253,7 +253,7 @@ fn is_bottom_word(dropped: bool, word: &[u8]) -> bool
     ) || (dropped && word == b"b".as_slice())
 }
 
-/// What the last word of a stem says, where a word for copper was dropped behind it or none was.
+/// What the last word of a stem says; `dropped` says whether a word for copper that followed it was dropped.
 fn gerber_by_word(dropped: bool, word: &[u8]) -> Option<Decision>
     ensures { result ≡ says.gerber_by_word dropped word.now }
 {
@@ -287,7 +287,7 @@ fn gerber_by_stem(stem: &[&[u8]]) -> Option<Decision>
     gerber_by_word(ends_in_copper(stem), last_word(stem))
 }
 
-/// What the name of a Gerber file says: its end, else the last word of its stem.
+/// What the words of a Gerber file's name say: the end, else the last word of the stem.
 fn gerber_by_words(point: bool, words: &[&[u8]]) -> Decision
     ensures { result ≡ says.gerber_by_words point (map (λ word. word.now) words.now) }
 {

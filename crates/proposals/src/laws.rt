@@ -1,4 +1,4 @@
-//! Laws of proposals. A call of one does nothing, and gives its clause.
+//! Laws of proposals. Calling a law does nothing but give its clause.
 
 ghost use Rattle.std.specs.Prelude.{◌≡◌, ◌||◌, ◌&&◌, true, ℕ, List, Ok, Some, map, nat_le, nat_lt};
 ghost use Rattle.std.specs.List.{count_by, filter, list_all, list_any};
@@ -16,16 +16,16 @@ ghost use Rattle.proposals.specs.declared.outcome.Layers.{Layers as Spans};
 ghost use Rattle.proposals.specs.declared.outcome.Named.{Named as Files};
 ghost use Rattle.proposals.specs.declared.outcome.Proposal.{Proposal as Proposals};
 
-/// A drill file with a hole stands in the manifest, and so does a Gerber file, unless its function is that of a layer without
-/// copper, or it has none and its name is that of one. What stands by itself stands among others.
+/// A drill file with a hole stands in the manifest. So does a Gerber file, unless its function is that of a layer without
+/// copper, or it has none and its name is that of one. A file that stands by itself stands among others.
 pub fn keeps()
     ensures drill { (name text : List ℕ) → kind_of text ≡ Drill → stands (decision name text).0 ≡ true }
     ensures gerber { (name text : List ℕ) → kind_of text ≡ Gerber → (stands (decision name text).0 || names_no_copper name text) ≡ true }
     ensures others { (files : List Proposals) (file : Proposals) → stands file.role ≡ true → stands (settled files file).role ≡ true }
 {}
 
-/// The layers that a manifest gives a drill file are those that its file function names. Where it gives a drill file layers, the
-/// copper files stand in it as the layers 1, 2 and so on, and the drill file's are among them.
+/// The layers that a manifest gives a drill file are those that its file function names. Where a manifest gives some, its
+/// copper files are the layers 1, 2 and so on, and the drill file's layers are among them.
 pub fn names_their_layers()
     ensures own { (name text : List ℕ) (span : Spans) → span_in (decision name text).0 ≡ Some span → said span_of (function_of text) ≡ Some span }
     ensures among { (files : List Files) (entries : List Proposals) → IsInOrder (filter is_kept (proposals files)) entries

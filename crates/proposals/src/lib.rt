@@ -1,8 +1,8 @@
 //! Proposals for a manifest: which of a folder's files are copper layers and drill files, and why.
 //!
-//! The text of a file decides what kind it is, its file function what it is for, and its name last. A proposal may be wrong: the
-//! user reads it. A Gerber file of which nothing says what it is stands with the role `?`, and so does a drill file whose plating or
-//! whose layers are not clear.
+//! The text of a file decides what kind it is, its file function what it is for, and its name comes last. A proposal may be
+//! wrong: the user has to read it. Where nothing says what a Gerber file is, it has the role `?`. So has a drill file whose
+//! plating or whose layers are not clear.
 #![tactic(auto)]
 
 mod deciding;

@@ -1,4 +1,4 @@
-//! The text of a manifest.
+//! The text of a proposed manifest.
 
 ghost use Rattle.std.specs.Prelude.{◌≡◌, ◌++◌, ◌∷◌, [], ◌==◌, nat_lt, decimal, true, false, length, IfOk, map};
 ghost use Rattle.std.specs.List.{count_by, list_any};
@@ -20,14 +20,14 @@ pub(crate) fn is_copper(file: &Proposal) -> bool
     matches!(file.role, Proposed::Copper(_))
 }
 
-/// How many copper layers there are.
+/// How many of the files are copper layers.
 fn layers(entries: &[&Proposal]) -> usize
     ensures { result ≡ count_by says.is_copper (map (λ entry. entry.now) entries.now) }
 {
     entries.iter().filter(|entry| is_copper(entry)).count()
 }
 
-/// The layers that a file names, if it names any.
+/// The layers that a drill file names, if it names any.
 pub(crate) fn span_in(role: Proposed) -> Option<Layers>
     ensures { result ≡ says.span_in role }
 {
@@ -37,7 +37,7 @@ pub(crate) fn span_in(role: Proposed) -> Option<Layers>
     }
 }
 
-/// Whether layers are not all of so many.
+/// Whether layers are named that are not 1 to this number of layers.
 fn is_partial(layers: usize, span: Option<Layers>) -> bool
     ensures { result ≡ says.is_partial layers span }
 {
@@ -47,7 +47,7 @@ fn is_partial(layers: usize, span: Option<Layers>) -> bool
     }
 }
 
-/// Whether some file's holes go through other layers than all.
+/// Whether some file names other layers than all copper layers.
 fn has_spans(entries: &[&Proposal]) -> bool
     ensures { result ≡ says.has_spans (map (λ entry. entry.now) entries.now) }
 {
@@ -57,7 +57,7 @@ fn has_spans(entries: &[&Proposal]) -> bool
         .any(|entry| is_partial(layers, span_in(entry.role)))
 }
 
-/// The table with a row of three fields.
+/// The table with one more row, of three fields.
 fn with_three<'f>(
     table: Table,
     role: &'f [u8],
@@ -69,7 +69,7 @@ fn with_three<'f>(
     table.with_row(&[role, name, file])
 }
 
-/// The table with a row of five fields.
+/// The table with one more row, of five fields.
 fn with_five<'f>(
     table: Table,
     role: &'f [u8],
@@ -83,7 +83,7 @@ fn with_five<'f>(
     table.with_row(&[role, name, file, first, last])
 }
 
-/// The table with a row of three fields and the two of these layers.
+/// The table with one more row, of three fields and the two fields of these layers.
 fn with_span<'f>(
     table: Table,
     role: &'f [u8],
@@ -104,7 +104,7 @@ fn with_span<'f>(
     }
 }
 
-/// The table with the row of a file under a name.
+/// The table with one more row, that of a file under a name.
 fn with_entry<'f>(
     table: Table,
     spans: bool,
@@ -122,7 +122,7 @@ fn with_entry<'f>(
     }
 }
 
-/// The first row.
+/// A table with the first row of a manifest: `role,name,file`, or with spans `role,name,file,first,last`.
 fn heading(alloc: Global, spans: bool) -> Result<Table, AllocError>
     ensures { IfOk result (λ table. table ≡ says.heading spans) }
 {
@@ -147,9 +147,9 @@ fn manifest_text(alloc: Global, entries: &[&Proposal]) -> Result<Vec<u8>, AllocE
     table.into_bytes()
 }
 
-/// The manifest of the files that are not left out: copper layers by their place, then plated, unplated and undecided drill
+/// The manifest of the files that are not left out: copper layers by their place, then plated, unplated and undecided
 /// files, those of one kind in the order of the proposals. An undecided file has the role `?`, which no manifest may have. The
-/// manifest has version 1, unless some file's holes go through other layers than all.
+/// manifest has version 1, unless some file names other layers than all copper layers.
 ///
 /// # Errors
 ///

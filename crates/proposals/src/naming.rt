@@ -1,4 +1,4 @@
-//! The names that a manifest gives its files.
+//! The names that reports print for the files of a proposed manifest.
 
 ghost use Rattle.std.specs.Prelude.{◌≡◌, ◌==◌, ◌||◌, IfOk, List, length, map, nat_lt, ℕ, if◌then◌else◌};
 ghost use Rattle.std.specs.BTreeSet.{contains_by};
@@ -19,7 +19,8 @@ fn short(file: &Proposal) -> &[u8]
     short_name(file.file.as_str().as_bytes())
 }
 
-/// The names after the last slash that two of these files have, or more. They are ordered, so that many files are no square.
+/// The names after the last slash that two or more of these files share. A set holds them, so that time does not grow with
+/// the square of the number of files.
 pub(crate) fn shared_names<'e>(
     alloc: Global,
     entries: &[&'e Proposal],
@@ -39,7 +40,7 @@ pub(crate) fn shared_names<'e>(
     Ok(shared)
 }
 
-/// The name that reports print, where these names are those of two files or more.
+/// The name that reports print for a file: what follows its last slash, or its whole name where this is empty or shared.
 pub(crate) fn label<'e>(shared: &BTreeSet<&'e [u8]>, file: &'e Proposal) -> &'e [u8]
     ensures { result.now ≡ (if (length (naming.short_name file.now.file) == 0) || contains_by (λ key. slice_cmp nat_cmp (naming.short_name file.now.file) key.now) shared.now then file.now.file else naming.short_name file.now.file) }
 {

@@ -20,7 +20,7 @@ fn place_rank(place: Place) -> u64
     }
 }
 
-/// Where a file stands among the others.
+/// The rank of a file in a manifest: the lower one stands first.
 fn rank(role: Proposed) -> u64
     ensures { result ≡ says.rank role }
 {
@@ -39,14 +39,14 @@ fn is_kept(file: &Proposal) -> bool
     !matches!(file.role, Proposed::LeftOut)
 }
 
-/// The files that stand in a manifest, as they stood.
+/// The files that stand in a manifest, in the order of the proposals.
 fn kept(alloc: Global, files: &[Proposal]) -> Result<Vec<&Proposal>, AllocError>
     ensures { IfOk result (λ entries. map (λ entry. entry.now) entries.items ≡ filter says.is_kept files.now) }
 {
     files.iter().filter(|file| is_kept(file)).collect(alloc)
 }
 
-/// The files that stand in a manifest, in its order.
+/// The files that stand in a manifest, in the order of the manifest.
 pub(crate) fn in_order(alloc: Global, files: &[Proposal]) -> Result<Vec<&Proposal>, AllocError>
     ensures { IfOk result (λ entries. IsInOrder (filter says.is_kept files.now) (map (λ entry. entry.now) entries.items)) }
 {

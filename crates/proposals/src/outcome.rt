@@ -1,4 +1,4 @@
-//! Files as they are given, and what is proposed for them.
+//! The files that are given, and what is proposed for them.
 
 use grid_units::Text;
 use manifest::Name;
@@ -10,11 +10,11 @@ pub enum Content<'a> {
     Bytes(&'a [u8]),
     /// The file cannot be read.
     NotRead,
-    /// The file has more bytes than are read of a file.
+    /// The file has more bytes than the limit of a file.
     TooLong,
 }
 
-/// A file by the name that it was asked for, and what is known of its bytes.
+/// A file: the name under which it was asked for, and what is known of its bytes.
 #[derive(Clone, Copy, Debug)]
 pub struct Named<'a> {
     pub name: &'a str,
@@ -24,13 +24,13 @@ pub struct Named<'a> {
 /// Where a copper layer stands in the stack.
 #[derive(Clone, Copy, Debug, PartialEq, Eq)]
 pub enum Place {
-    /// By the number that its file function gives it, from 1 at the top; at most 999,999,999.
+    /// The number that its file function gives it, counted from 1 at the top; at most 999,999,999.
     Numbered(u32),
     /// The top layer, by its name.
     Top,
-    /// An inner layer, by the number in its name, at most 99: the first of them is the second layer.
+    /// An inner layer, by the number in its name, at most 99: the inner layer 1 is the second layer.
     Inner(u32),
-    /// After the layers with a number and before the bottom layer.
+    /// An unknown place, after the layers with a number and before the bottom layer.
     Unknown,
     /// The bottom layer, by its name.
     Bottom,
@@ -53,13 +53,13 @@ pub enum Proposed {
     Plated(Option<Layers>),
     /// A drill file whose holes are not plated.
     Unplated(Option<Layers>),
-    /// The user has to decide.
+    /// The user has to decide; the role is `?`.
     Undecided,
-    /// No file of the package.
+    /// No file of the package: it does not stand in the manifest.
     LeftOut,
 }
 
-/// Why it is proposed.
+/// Why something is proposed for a file.
 #[derive(Debug, Drop)]
 pub enum Because {
     /// The text is neither a Gerber file nor a drill file.
@@ -76,26 +76,26 @@ pub enum Because {
     UnplatedType,
     /// The name of the file.
     ByName,
-    /// A drill file of which nothing says whether its holes are plated.
+    /// Nothing says whether the holes of a drill file are plated, so it is taken as plated.
     DrillByDefault,
     /// A drill file in Gerber, which is not read.
     DrillInGerber,
     /// A plane, which may be a negative without a mark.
     Plane,
-    /// A Gerber file of which nothing says what it is.
+    /// Nothing says what a Gerber file is.
     NothingSays,
-    /// A drill file that names layers, and the copper files do not make clear which these are.
+    /// A drill file names layers, and the copper files do not make clear which these are.
     UnclearLayers,
     /// The file cannot be read.
     NotRead,
-    /// The file is too long.
+    /// The file has more bytes than the limit of a file.
     TooLong,
 }
 
 /// What is proposed for a file, and why.
 #[derive(Debug, Drop)]
 pub struct Proposal {
-    /// The name of the file, as it was asked for.
+    /// The name under which the file was asked for.
     pub file: Name,
     pub role: Proposed,
     pub because: Because,

@@ -22,7 +22,7 @@ fn decided(alloc: Global, file: &Named<'_>) -> Result<(Proposed, Because), Alloc
     }
 }
 
-/// The proposal for a file.
+/// The proposal for a file, taken by itself.
 fn proposal(alloc: Global, file: &Named<'_>) -> Result<Proposal, AllocError>
     ensures { IfOk result (λ proposal. proposal ≡ says.proposal file.now) }
 {
@@ -34,7 +34,7 @@ fn proposal(alloc: Global, file: &Named<'_>) -> Result<Proposal, AllocError>
     })
 }
 
-/// What each file is by itself, in their order. A file whose name stood before is passed over.
+/// The proposal for each file, taken by itself, in the order of the files. A file whose name came before is skipped.
 fn propose_each(alloc: Global, files: &[Named<'_>]) -> Result<Vec<Proposal>, AllocError>
     ensures { IfOk result (λ list. list.items ≡ by_itself files.now) }
 {
@@ -50,8 +50,9 @@ fn propose_each(alloc: Global, files: &[Named<'_>]) -> Result<Vec<Proposal>, All
     Ok(list)
 }
 
-/// The proposals for these files, in their order. A file whose name stood before is passed over. A drill file that names layers is
-/// undecided, unless the copper files are the layers 1 to their number, each once, and those that it names are among them.
+/// The proposals for these files, in their order. A file whose name came before is skipped. A drill file that names layers
+/// is undecided where these are not clear. They are clear where the copper files are the layers 1 to their number, each
+/// once, and the layers named are among them.
 ///
 /// # Errors
 ///

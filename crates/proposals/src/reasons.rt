@@ -1,4 +1,4 @@
-//! The table of why.
+//! The table of why, `file,role,because`, which `ringcheck manifest --why` prints.
 
 ghost use Rattle.std.specs.Prelude.{◌≡◌, ◌<◌, ◌++◌, ◌∷◌, [], IfOk, OnOk};
 ghost use Rattle.csv.specs.Writing.{default_writer, row_text};
@@ -8,7 +8,7 @@ use crate::outcome::{Because, Proposal, Proposed};
 use manifest::table::Table;
 use std::alloc::{AllocError, Global};
 
-/// The word of a role.
+/// The word of a role: `copper`, `plated`, `unplated`, `?`, or `-` for a file that is left out.
 pub(crate) fn role_word(role: Proposed) -> &'static str
     ensures { result.now ≡ says.role_word role }
 {
@@ -21,7 +21,7 @@ pub(crate) fn role_word(role: Proposed) -> &'static str
     }
 }
 
-/// The words of a reason, without the file function.
+/// The words of a reason, without the fields of a file function.
 fn reason_words(because: &Because) -> &'static str
     ensures { result.now ≡ says.reason_words because.now }
 {
@@ -43,7 +43,7 @@ fn reason_words(because: &Because) -> &'static str
     }
 }
 
-/// The file function that a reason names, empty where it names none.
+/// The first field of the file function that a reason names, empty where it names none.
 fn named_function(because: &Because) -> &[u8]
     ensures { result.now ≡ says.named_function because.now }
 {
@@ -53,7 +53,7 @@ fn named_function(because: &Because) -> &[u8]
     }
 }
 
-/// Whether a byte is printed as it is: printable ASCII, but for the backslash.
+/// Whether a byte is printed as it is: printable ASCII without the backslash.
 fn is_printed(byte: u8) -> bool
     ensures { result ≡ says.is_printed byte }
 {
@@ -72,7 +72,7 @@ fn hex_digit(value: u8) -> u8
     }
 }
 
-/// Appends a byte of a file: what is not printed as it is as `\xNN`.
+/// Appends a byte of a file: as it is where it may be printed so, else as `\xNN`.
 fn push_byte(text: &mut Vec<u8>, byte: u8) -> Result<(), AllocError>
     ensures { OnOk result (text.new.items ≡ text.old.items ++ says.byte_text byte) }
 {
@@ -84,7 +84,7 @@ fn push_byte(text: &mut Vec<u8>, byte: u8) -> Result<(), AllocError>
     text.extend_from_slice(&escape)
 }
 
-/// The text of a reason. The bytes of a file stand in it as printable ASCII, so that none of them reaches a terminal.
+/// The text of a reason. The bytes of a file stand in it as printable ASCII, so that no other byte reaches a terminal.
 fn because_text(alloc: Global, because: &Because) -> Result<Vec<u8>, AllocError>
     ensures { IfOk result (λ text. text.items ≡ says.because_text because.now) }
 {
@@ -95,7 +95,7 @@ fn because_text(alloc: Global, because: &Because) -> Result<Vec<u8>, AllocError>
     Ok(text)
 }
 
-/// The table with a row of three fields.
+/// The table with one more row, of three fields.
 fn with_fields<'f>(
     table: Table,
     file: &'f [u8],
@@ -107,7 +107,7 @@ fn with_fields<'f>(
     table.with_row(&[file, role, because])
 }
 
-/// The table with the row of a file.
+/// The table with one more row, that of a file.
 fn with_reason(alloc: Global, table: Table, file: &Proposal) -> Result<Table, AllocError>
     ensures { IfOk result (λ more. more ≡ table ++ says.reason_row file.now) }
 {
@@ -121,7 +121,7 @@ fn with_reason(alloc: Global, table: Table, file: &Proposal) -> Result<Table, Al
     )
 }
 
-/// The first row.
+/// A table with the first row, `file,role,because`.
 fn heading(alloc: Global) -> Result<Table, AllocError>
     ensures { IfOk result (λ table. table ≡ says.reasons_heading) }
 {
@@ -129,8 +129,8 @@ fn heading(alloc: Global) -> Result<Table, AllocError>
 }
 
 /// The table of why: a first row `file,role,because`, and a row for each file in the order of the proposals, as `csv` writes
-/// them. The role of a file that is left out is `-`. Of what a file function has, a byte that is no printable ASCII, and a
-/// backslash, stands as `\xNN`; the names of files stand as they are.
+/// them. The role of a file that is left out is `-`. In the field of a file function, a backslash and each byte that is not
+/// printable ASCII stand as `\xNN`; the names of files stand as they are.
 ///
 /// # Errors
 ///

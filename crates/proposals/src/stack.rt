@@ -10,7 +10,7 @@ use crate::manifests::{is_copper, span_in};
 use crate::outcome::{Because, Layers, Place, Proposal, Proposed};
 use std::alloc::{AllocError, Global};
 
-/// Whether it is not known of a file that is undecided for this reason whether it is a copper layer.
+/// Whether a file that is undecided for this reason may be a copper layer.
 fn may_be_copper(because: &Because) -> bool
     ensures { result ≡ says.may_be_copper because.now }
 {
@@ -20,7 +20,7 @@ fn may_be_copper(because: &Because) -> bool
     )
 }
 
-/// Whether holes go through a layer beyond so many.
+/// Whether the last layer that is named lies beyond so many layers.
 fn goes_beyond(count: usize, span: Option<Layers>) -> bool
     ensures { result ≡ says.goes_beyond count span }
 {
@@ -30,7 +30,7 @@ fn goes_beyond(count: usize, span: Option<Layers>) -> bool
     }
 }
 
-/// Whether a file is a sign that a layer is lacking among so many copper files.
+/// Whether a file is a sign that so many copper files are not all.
 fn is_sign(count: usize, file: &Proposal) -> bool
     ensures { result ≡ says.is_sign count file.now }
 {
@@ -44,7 +44,7 @@ fn copper_count(files: &[Proposal]) -> usize
     files.iter().filter(|file| is_copper(file)).count()
 }
 
-/// Whether no file is a sign that a copper file is lacking.
+/// Whether no file is a sign that a copper file is missing.
 fn are_all_here(count: usize, files: &[Proposal]) -> bool
     requires { count ≡ count_by manifests.is_copper files.now }
     ensures { result ≡ says.are_all_here files.now }
@@ -52,7 +52,8 @@ fn are_all_here(count: usize, files: &[Proposal]) -> bool
     !files.iter().any(|file| is_sign(count, file))
 }
 
-/// The layer at a place, from 1 at the top, among so many copper files that are all here or not; 0 where it is not known.
+/// The number of the layer at a place, from 1 at the top; 0 where it is not known. `here` says whether the copper files,
+/// `count` of them, are all here.
 fn layer_at(here: bool, count: usize, place: Place) -> usize
     ensures { result ≡ says.layer_at here count place }
 {
@@ -65,7 +66,7 @@ fn layer_at(here: bool, count: usize, place: Place) -> usize
     }
 }
 
-/// The layer that a file is, 0 where it is no copper file.
+/// The number of the layer that a file is; 0 where it is no copper file, or where its layer is not known.
 fn layer_of(here: bool, count: usize, role: Proposed) -> usize
     ensures { result ≡ says.layer_of here count role }
 {
@@ -75,7 +76,7 @@ fn layer_of(here: bool, count: usize, role: Proposed) -> usize
     }
 }
 
-/// The layers that the copper files are.
+/// The number of the layer of each copper file, 0 where it is not known.
 fn copper_layers(alloc: Global, files: &[Proposal]) -> Result<Vec<usize>, AllocError>
     ensures { IfOk result (λ layers. layers.items ≡ says.copper_layers files.now) }
 {
@@ -88,7 +89,7 @@ fn copper_layers(alloc: Global, files: &[Proposal]) -> Result<Vec<usize>, AllocE
         .collect(alloc)
 }
 
-/// Whether sorted numbers are just those from 1 to how many there are, each once.
+/// Whether sorted numbers are just those from 1 to their count, each once.
 fn count_up(numbers: &[usize]) -> bool
     requires { IsNonDecreasing numbers.now }
     ensures { result ≡ says.are_counted numbers.now }
@@ -101,7 +102,7 @@ fn count_up(numbers: &[usize]) -> bool
     true
 }
 
-/// Whether numbers are just those from 1 to how many there are, each once.
+/// Whether numbers, in any order, are just those from 1 to their count, each once.
 fn are_counted(mut numbers: Vec<usize>) -> bool
     ensures { result ≡ says.are_counted numbers.items }
 {
@@ -116,14 +117,14 @@ fn is_stack(alloc: Global, files: &[Proposal]) -> Result<bool, AllocError>
     Ok(are_counted(copper_layers(alloc, files)?))
 }
 
-/// Whether layers are a first one, from 1, and a last one, among so many.
+/// Whether layers are a first one from 1 and a last one that is not below it, among so many.
 fn are_among(count: usize, layers: Layers) -> bool
     ensures { result ≡ says.are_among count (Some layers) }
 {
     1 <= layers.first && layers.first <= layers.last && layers.last as usize <= count
 }
 
-/// Whether no layers are named, or just some of those that the copper files are, if these are a stack.
+/// Whether no layers are named, or the copper files are a stack and these are some of its layers.
 fn are_clear(stack: bool, count: usize, span: Option<Layers>) -> bool
     ensures { result ≡ says.are_clear stack count span }
 {
@@ -133,7 +134,7 @@ fn are_clear(stack: bool, count: usize, span: Option<Layers>) -> bool
     }
 }
 
-/// Leaves a proposal undecided where it names layers that are not clear.
+/// Makes a proposal undecided where it names layers that are not clear.
 fn settle(stack: bool, count: usize, file: &mut Proposal)
     ensures { file.new ≡ says.settled_in stack count file.old }
 {
@@ -143,7 +144,7 @@ fn settle(stack: bool, count: usize, file: &mut Proposal)
     }
 }
 
-/// Leaves undecided the drill files that name layers which the copper files do not make clear.
+/// Makes each drill file undecided that names layers which the copper files do not make clear.
 pub(crate) fn settle_all(alloc: Global, files: &mut Vec<Proposal>) -> Result<(), AllocError>
     ensures { OnOk result (files.new.items ≡ map (says.settled files.old.items) files.old.items) }
 {

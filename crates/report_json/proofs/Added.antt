@@ -1,4 +1,4 @@
--- Tokens behind tokens, step by step.
+-- Tokens added to tokens, step by step.
 use Rattle.std.proofs.Common.{◌≡◌, ◌++◌, ◌∙◌, List, ap, append_assoc}
 use Rattle.json.specs.Token.{Token}
 

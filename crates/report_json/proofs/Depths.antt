@@ -1,4 +1,4 @@
--- How deep the values nest.
+-- The depth to which values nest.
 use Rattle.std.proofs.Common.{◌≤◌, ℕ, List, [], ◌∷◌, Option, Some, None, arith}
 use Rattle.std.specs.Borrow.{Bor}
 use Rattle.std.specs.Prelude.{codes}
@@ -22,7 +22,7 @@ use Rattle.report_text.specs.Texts.{lack_of}
 use Rattle.report_json.specs.Values.{drill_value, file_value, flash_of, gap_value, hole_value, hole_there, if_there, layer_number, layer_value, least_gap_value, least_hole, least_ring, meets_value, met_value, picometres, place_value, point_value, ring_of, ring_value, row_value, scale_value, whole, why_value, word}
 use Rattle.report_json.proofs.Whole.{members_within}
 
--- what may be null
+-- an optional value
 pub there_within : {A : Type 0} (d : ℕ) (value : A → Json) → ((a : A) → depth (value a) ≤ d) → (there : Option A) → depth (if_there value there) ≤ d
 there_within d value h None = omega arith
 there_within d value h (Some a) = h a

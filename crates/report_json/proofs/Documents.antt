@@ -1,4 +1,4 @@
--- A report and a measure, as their tokens are printed, and that they read back.
+-- The tokens of a report and of a measure as they are printed, and that they read back.
 use Rattle.std.proofs.Common.{◌≡◌, ◌≤◌, ◌+◌, ◌++◌, ◌∙◌, ℕ, true, false, List, [], ◌∷◌, Some, map, Option, ap, append_assoc, arith}
 use Rattle.std.specs.Borrow.{Bor}
 use Rattle.std.specs.Prelude.{codes}
@@ -30,7 +30,7 @@ use Rattle.report_json.proofs.Gathering.{ended_more}
 use Rattle.report_json.proofs.Numerals.{decimal_number}
 use Rattle.report_json.proofs.Whole.{array_and, begun, items_numbers, items_within, told_numbers, told_tokens, told_within}
 
--- no value ends before the first file
+-- before the first file no value ends
 pub telling_begins : (telling : Telling) (rings gaps : List (Option (Bor (List ℕ)))) → ended_by false (telling_head telling rings gaps) ≡ false
 unfolding telling_head
 telling_begins telling rings gaps =
@@ -42,14 +42,14 @@ pub measure_begins : (meets : Meets) → ended_by false (measure_head meets) ≡
 unfolding measure_head
 measure_begins meets = begun (member_tokens (codes "meets") (meets_value meets)) true (codes "files")
 
--- the members of a report behind its rules, part by part
+-- the members of a report after its rules, part by part
 report_tokens : (rules meets scales found : List Token) (k1 k2 k3 k4 : Token) (fs ss gs : List Json) → flat_map json_tokens ss ≡ scales → flat_map json_tokens gs ≡ found
     → rules ++ (k1 ∷ (meets ++ (k2 ∷ Token.begin_array ∷ (items_tokens (items_of fs) ++ (k3 ∷ Token.begin_array ∷ (items_tokens (items_of ss) ++ (k4 ∷ Token.begin_array ∷ (items_tokens (items_of gs) ++ (Token.end_object ∷ [])))))))))
     ≡ (rules ++ (k1 ∷ (meets ++ (k2 ∷ Token.begin_array ∷ []))))
     ++ (((flat_map json_tokens fs ++ (Token.end_array ∷ k3 ∷ Token.begin_array ∷ (scales ++ (Token.end_array ∷ k4 ∷ Token.begin_array ∷ [])))) ++ found) ++ (Token.end_array ∷ Token.end_object ∷ []))
 report_tokens rules meets scales found k1 k2 k3 k4 fs ss gs es eg = rw (← es, ← eg) (simp (array_and, append_assoc))
 
--- the members of a measure behind its result, part by part
+-- the members of a measure after its result, part by part
 table_tokens : (meets scales rows gap : List Token) (k2 k3 k4 k5 : Token) (fs ss rs : List Json) → flat_map json_tokens ss ≡ scales → flat_map json_tokens rs ≡ rows
     → meets ++ (k2 ∷ Token.begin_array ∷ (items_tokens (items_of fs) ++ (k3 ∷ Token.begin_array ∷ (items_tokens (items_of ss) ++ (k4 ∷ Token.begin_array ∷ (items_tokens (items_of rs) ++ (k5 ∷ (gap ++ (Token.end_object ∷ [])))))))))
     ≡ (meets ++ (k2 ∷ Token.begin_array ∷ []))
@@ -87,11 +87,11 @@ measure_parts names board measure =
     (file_values names board.files) (map scale_value measure.scales.items) (map row_value measure.rings.items)
     (told_tokens scale_value measure.scales.items) (told_tokens row_value measure.rings.items))
 
--- how deep the files nest
+-- the depth of the files
 files_within : (names : List (List ℕ)) (files : List FileSum) → items_depth (items_of (file_values names files)) ≤ 1
 files_within names files = told_within (λ file. file_value (file.0 + 1) (texts.name_of names file.0) file.1) 1 (λ file. file_within (file.0 + 1) (texts.name_of names file.0) file.1) (enumerate_from 0 files)
 
--- how deep the findings nest
+-- the depth of the findings
 rings_within : (layers : List LayerHead) (rings : List RingLack) (whys : List (Option (Bor (List ℕ)))) → All (λ v. depth v ≤ 3) (ring_values layers rings whys)
 rings_within layers rings whys =
     All-map (λ v. depth v ≤ 3) (λ (one : ℕ × RingLack). ring_value layers one.1 (texts.why_at whys one.0)) (enumerate_from 0 rings) (λ k d l. ring_within layers _ _)
@@ -182,7 +182,7 @@ module _ (names : List (List ℕ)) (board : Survey) (measure : Measure) where
   pub measure_reads_back : HasNumbers (measure_value names board measure) → document (print (json_tokens (measure_value names board measure))) ≡ Some (measure_value names board measure)
   measure_reads_back h = document-print (measure_value names board measure) h measure_within
 
--- how deep a refusal nests
+-- the depth of a refusal
 pub stop_within : (stop : Stop) → depth (stop_value stop) ≤ max_depth
 stop_within (stops.RefusedManifest place reason) = omega arith
 stop_within (stops.Refused index name fault) = omega arith

@@ -17,12 +17,12 @@ use Rattle.printing.specs.Parts.{PassesOn}
 use Rattle.printing.proofs.Printed.{passes_more}
 use Rattle.report_json.specs.Inner.Parts.{Prints, ended_by}
 
--- whether a value ends behind some tokens and others
+-- whether a value ends after some tokens and others
 pub ended_more : (c : Bool) (ts us : List Token) → ended_by c (ts ++ us) ≡ ended_by (ended_by c ts) us
 ended_more c ts us = fold-append (λ (_ : Bool) (t : Token). ends t) c ts us
 
 mutual
-  -- a value ends behind its tokens
+  -- a value ends after its tokens
   pub ended_value : (c : Bool) (j : Json) → ended_by c (json_tokens j) ≡ true
   ended_value c null = refl
   ended_value c (boolean b) = refl
@@ -39,7 +39,7 @@ mutual
   ended_members c no_members = refl
   ended_members c (member k j ms) = ended_more false (json_tokens j) (members_tokens ms) ∙ ended_members (ended_by false (json_tokens j)) ms
 
--- a comma stands before a value behind another
+-- a comma comes before a value that follows another
 pub comma_value : (c : Bool) (j : Json) → print_from c (json_tokens j) ≡ (if c then 44 ∷ [] else []) ++ print (json_tokens j)
 unfolding print_from
 comma_value false j = refl
@@ -50,7 +50,7 @@ comma_value true (string s) = refl
 comma_value true (array js) = refl
 comma_value true (object ms) = refl
 
--- a value behind what is gathered
+-- a value after the gathered bytes
 pub value_pushed : (g h k : List ℕ) (c : Bool) (ts : List Token) (j : Json) → h ≡ g ++ (if c then 44 ∷ [] else []) → ts ≡ json_tokens j → k ≡ h ++ print ts → k ≡ g ++ print_from c (json_tokens j)
 value_pushed g h k c ts j was are is =
     is ∙ (ap (λ (t : List ℕ). t ++ print ts) was
@@ -63,7 +63,7 @@ unfolding print_from
 array_end true ts = refl
 array_end false ts = refl
 
--- tokens behind tokens
+-- tokens after tokens
 pub prints_more : (a b c : Option (List ℕ)) (g h k : List ℕ) (p q r : Bool) (ts us : List Token) → Prints a g p b h q ts → Prints b h q c k r us → Prints a g p c k r (ts ++ us)
 prints_more a b c g h k p q r ts us x y = record {
   passes = subst (λ (t : List ℕ). PassesOn a g c k t) (ap (λ (e : Bool). print_from p ts ++ print_from e us) x.ends ∙ sym (print_from-append p ts us))
@@ -80,15 +80,15 @@ pub prints_none : (a : Option (List ℕ)) (g : List ℕ) (p : Bool) → Prints a
 unfolding print_from
 prints_none a g p = record { passes = ([], appends_none a, sym (append-nil g)); ends = refl }
 
--- a text behind what is gathered, for which room was made
+-- a text after the gathered bytes, once room is made
 pub passes_push : (a b : Option (List ℕ)) (g h k m : List ℕ) → PassesOn a g b h [] → k ≡ h ++ m → PassesOn a g b k m
 passes_push a b g h k m p is = (p.0, p.1, ap (λ (t : List ℕ). p.0 ++ t) is ∙ (sym (append_assoc p.0 h m) ∙ (ap (λ (t : List ℕ). t ++ m) p.2 ∙ ap (λ (t : List ℕ). t ++ m) (append-nil g))))
 
--- a value, for which room was made
+-- a value, once room is made
 pub value_printed : (a b : Option (List ℕ)) (g h k : List ℕ) (c : Bool) (j : Json) → PassesOn a g b h [] → k ≡ h ++ print_from c (json_tokens j) → Prints a g c b k true (json_tokens j)
 value_printed a b g h k c j p is = record { passes = passes_push a b g h k (print_from c (json_tokens j)) p is; ends = sym (ended_value c j) }
 
--- the end of an array and the begin of another, for which room was made
+-- the end of an array and the start of another, once room is made
 pub next_printed : (a b : Option (List ℕ)) (g h k name : List ℕ) (c : Bool) → PassesOn a g b h [] → k ≡ h ++ print (Token.end_array ∷ Token.key name ∷ Token.begin_array ∷ [])
     → Prints a g c b k false (Token.end_array ∷ Token.key name ∷ Token.begin_array ∷ [])
 next_printed a b g h k name c p is = record {
@@ -102,7 +102,7 @@ flat_more {X} {Y} f xs i d lt =
     ap (flat_map f) (take_more xs i d lt)
     ∙ (flat_map-append f (take i xs) (get_or xs i d ∷ []) ∙ ap (λ (t : List Y). flat_map f (take i xs) ++ t) (flat_map-cons f (get_or xs i d) [] ∙ append-nil (f (get_or xs i d))))
 
--- what holds of the elements so far, and of one more
+-- a property of the elements so far, and of one more
 pub all_more : {X : Type 0} (P : X → Type 0) (xs : List X) (i : ℕ) (d : X) → i < length xs → All P (take i xs) → P (get_or xs i d) → All P (take (i + 1) xs)
 all_more P xs i d lt before here = subst (All P) (sym (take_more xs i d lt)) (All-push P (take i xs) (get_or xs i d) before here)
 
@@ -121,7 +121,7 @@ module _ {X : Type 0} (xs : List X) (i : ℕ) where
   placed_more {Y} f d lt =
       flat_more f (enumerate_from 0 xs) i (i, d) (placed_below lt) ∙ ap (λ (p : ℕ × X). flat_map f (take i (enumerate_from 0 xs)) ++ f p) (placed_here d lt)
 
-  -- what holds of the elements so far and of one more, by their places
+  -- a property of the elements so far and of one more, by their places
   pub all_placed_more : (P : ℕ × X → Type 0) (d : X) → i < length xs → All P (take i (enumerate_from 0 xs)) → P (i, get_or xs i d) → All P (take (i + 1) (enumerate_from 0 xs))
   all_placed_more P d lt before here = all_more P (enumerate_from 0 xs) i (i, d) (placed_below lt) before (subst P (sym (placed_here d lt)) here)
 

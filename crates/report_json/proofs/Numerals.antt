@@ -1,4 +1,4 @@
--- Numbers as JSON writes them.
+-- Numbers as JSON prints them.
 use Rattle.std.proofs.Common.{◌≡◌, ℕ, ℤ, zero, suc, ◌+◌, ◌%◌, ◌^◌, ◌<◌, ◌≤◌, false, cond, ◌==◌, List, [], ◌∷◌, length, drop, get_or, Some, option_and_then, decimal, refl, ap, ◌∙◌, arith, length-append}
 use Rattle.std.proofs.lemmas.Bool.{ne_eqb, le-leb, and_from}
 use Rattle.std.proofs.lemmas.List.{drop_all}
@@ -27,7 +27,7 @@ whole_digits (d ∷ ds) first all = (
   ne_eqb d 45 (λ e. omega arith),
 )
 
--- the first digit of a number above 0 is none
+-- the first digit of a number above 0 is not `0`
 first_digit : (n : ℕ) → 0 < n → n < 10 ^ 64 → 48 < get_or (decimal n) 0 0
 first_digit n some small = (decimal_by_steps_wide (λ m ds. (0 < length ds) × (0 < m → 48 < get_or ds 0 0)) (λ m l. (omega arith, λ a. omega arith))
     (λ m ds l h. (omega (arith, length-append ds ((48 + m % 10) ∷ [])), λ a. omega (arith, get_or-append ds ((48 + m % 10) ∷ []) 0 0 h.0, h.1 (omega arith)))) n small).1 some
@@ -37,7 +37,7 @@ whole_decimal zero h = let e = decimal_digit 0 (omega arith) in (ap after_whole 
 whole_decimal (suc n) h =
     whole_digits (decimal (suc n)) (first_digit (suc n) (omega arith) h) (all_digits _ (λ i l. digit_at _ i (decimal_is_IsNumeral_wide (suc n) h).0.1 l))
 
--- the digits of a number of 128 bits are a number
+-- the digits of a number below 10^64 are a number of JSON
 pub decimal_number : (n : ℕ) → n < 10 ^ 64 → IsNumber (decimal n)
 unfolding after_number
 decimal_number n h =
@@ -45,6 +45,6 @@ decimal_number n h =
     ap (λ o. option_and_then after_exponent (option_and_then after_fraction o))
     (ap (λ b. after_whole (cond b (drop 1 (decimal n)) (decimal n))) w.1 ∙ w.0)
 
--- the digits of a length are a number
+-- the digits of a length are a number of JSON
 pub length_number : (z : ℤ) → mag z < 2 ^ 63 → IsNumber (signed_decimal z)
 length_number = IsNumber-signed_decimal

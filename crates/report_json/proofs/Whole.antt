@@ -26,11 +26,11 @@ pub items_are : (vs : List Json) → items_tokens (items_of vs) ≡ flat_map jso
 items_are [] = refl
 items_are (v ∷ vs) = ap (λ (ts : List Token). json_tokens v ++ ts) (items_are vs) ∙ sym (append_assoc (json_tokens v) (flat_map json_tokens vs) (Token.end_array ∷ []))
 
--- an array and what stands behind it
+-- an array and what follows it
 pub array_and : (vs : List Json) (rest : List Token) → items_tokens (items_of vs) ++ rest ≡ flat_map json_tokens vs ++ (Token.end_array ∷ rest)
 array_and vs rest = ap (λ (ts : List Token). ts ++ rest) (items_are vs) ∙ append_assoc (flat_map json_tokens vs) (Token.end_array ∷ []) rest
 
--- no value ends where an array begins
+-- where an array starts no value ends
 pub begun : (ts : List Token) (c : Bool) (name : List ℕ) → ended_by c (ts ++ (Token.key name ∷ Token.begin_array ∷ [])) ≡ false
 begun ts c name = ended_more c ts (Token.key name ∷ Token.begin_array ∷ [])
 
@@ -61,7 +61,7 @@ pub items_numbers : (vs : List Json) → All HasNumbers vs → ItemsHaveNumbers 
 items_numbers [] h = tt
 items_numbers (v ∷ vs) h = (h 0 v (omega arith), items_numbers vs (λ k d l. h (suc k) d (omega arith)))
 
--- how deep an array nests
+-- the depth of an array
 pub items_within : (d : ℕ) (vs : List Json) → All (λ v. depth v ≤ d) vs → items_depth (items_of vs) ≤ d
 items_within d [] h = omega arith
 items_within d (v ∷ vs) h = let first : depth v ≤ d = h 0 v (omega arith) in let rest = items_within d vs (λ k e l. h (suc k) e (omega arith)) in omega arith
@@ -71,25 +71,25 @@ abbrev pub AreWithin : ℕ → List (List ℕ × Json) → Type 0
 AreWithin d [] = ⊤
 AreWithin d (one ∷ rest) = (depth one.1 ≤ d) × AreWithin d rest
 
--- how deep an object nests
+-- the depth of an object
 pub members_within : (d : ℕ) (all : List (List ℕ × Json)) → AreWithin d all → members_depth (members_of all) ≤ d
 members_within d [] h = omega arith
 members_within d (one ∷ rest) h = let more = members_within d rest h.1 in omega (arith, h.0)
 
 module _ {X : Type 0} (value : X → Json) where
-  -- the tokens of what some things are told by
+  -- the tokens of the values of some items
   pub told_tokens : (xs : List X) → flat_map json_tokens (map value xs) ≡ flat_map (λ x. json_tokens (value x)) xs
   told_tokens xs = flat_map-map json_tokens value xs
 
-  -- the numbers in what some things are told by
+  -- the numbers in the values of some items
   pub told_numbers : (xs : List X) → All (λ x. HasNumbers (value x)) xs → ItemsHaveNumbers (items_of (map value xs))
   told_numbers xs h = items_numbers (map value xs) (All-map HasNumbers value xs h)
 
-  -- how deep what some things are told by nests
+  -- the depth of the values of some items
   pub told_within : (d : ℕ) → ((x : X) → depth (value x) ≤ d) → (xs : List X) → items_depth (items_of (map value xs)) ≤ d
   told_within d h xs = items_within d (map value xs) (All-map (λ v. depth v ≤ d) value xs (λ k e l. h _))
 
--- the holes behind those of one file more
+-- the holes after those of one more file
 pub behind_next : (files : List FileSum) (holes rest : List Drilled) (i count : ℕ) (one : FileSum) → i < length files → one ≡ get_or files i one → rest ≡ drop (holes_before files i) holes → count ≡ min (hole_count one) (length rest)
     → drop count rest ≡ drop (holes_before files (i + 1)) holes
 behind_next files holes rest i count one lt is was counted =

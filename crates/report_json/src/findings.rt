@@ -1,4 +1,4 @@
-//! The values of findings.
+//! The JSON of findings.
 
 ghost use Rattle.std.specs.Prelude.{◌≡◌, ◌++◌, codes, OnOk};
 ghost use Rattle.json.specs.Tree.{json_tokens, HasNumbers};
@@ -13,7 +13,7 @@ use layer_image::Why;
 use report_text::{GapLack, LayerHead, RingCause, RingLack, lack_of};
 use std::alloc::AllocError;
 
-/// The word for why a flash is no pad.
+/// The word for the reason why a flash is no pad.
 fn why_word(why: Why) -> &'static str
     ensures { result.now ≡ why_word why }
 {
@@ -26,7 +26,7 @@ fn why_word(why: Why) -> &'static str
     }
 }
 
-/// The word for why a hole lacks its ring.
+/// The word for the reason why a hole lacks its ring.
 fn cause_word(cause: &RingCause) -> &'static str
     ensures { result.now ≡ cause_word cause.now }
 {
@@ -39,7 +39,7 @@ fn cause_word(cause: &RingCause) -> &'static str
     }
 }
 
-/// The ring that a hole has, where it lies in a pad.
+/// The ring of a hole in its best pad, if it has one, in pm.
 fn ring_of(cause: &RingCause) -> Option<i64>
     ensures { result ≡ ring_of cause.now }
 {
@@ -49,7 +49,7 @@ fn ring_of(cause: &RingCause) -> Option<i64>
     }
 }
 
-/// The number of the flash in which a hole lies, where there is one.
+/// The number of the flash of a hole's best pad, or of the flash that is no pad.
 fn flash_of(cause: &RingCause) -> Option<u128>
     ensures { result ≡ flash_of cause.now }
 {
@@ -60,7 +60,7 @@ fn flash_of(cause: &RingCause) -> Option<u128>
     }
 }
 
-/// The number of the file of a layer, by its place among the copper files.
+/// The number of a layer's file, by the layer's place among the copper files.
 fn layer_number(layers: &[LayerHead], layer: usize) -> Option<u128>
     ensures { result ≡ layer_number layers.now layer }
 {
@@ -70,7 +70,7 @@ fn layer_number(layers: &[LayerHead], layer: usize) -> Option<u128>
     }
 }
 
-/// Appends the member of the number of a layer, or null.
+/// Appends the member `layer`: a number, or null.
 fn put_layer(to: &mut Writer, layers: &[LayerHead], layer: usize) -> Result<(), AllocError>
     ensures before { to.new.before ≡ to.old.before }
     ensures tokens { OnOk result (to.new.tokens ≡ to.old.tokens ++ member_tokens (codes "layer") (if_there whole (layer_number layers.now layer))) }
@@ -79,7 +79,7 @@ fn put_layer(to: &mut Writer, layers: &[LayerHead], layer: usize) -> Result<(), 
     put_count_there(to, "layer", layer_number(layers, layer))
 }
 
-/// Appends the member of the ring that a hole has, or null.
+/// Appends the member `has_pm` of a ring, or null.
 fn put_ring(to: &mut Writer, cause: &RingCause) -> Result<(), AllocError>
     ensures before { to.new.before ≡ to.old.before }
     ensures tokens { OnOk result (to.new.tokens ≡ to.old.tokens ++ member_tokens (codes "has_pm") (if_there picometres (ring_of cause.now))) }
@@ -88,7 +88,7 @@ fn put_ring(to: &mut Writer, cause: &RingCause) -> Result<(), AllocError>
     put_length_there(to, "has_pm", ring_of(cause))
 }
 
-/// Appends the member of what a ring lacks, or null.
+/// Appends the member `lacks_pm` of a ring, or null.
 fn put_lack(to: &mut Writer, cause: &RingCause) -> Result<(), AllocError>
     ensures before { to.new.before ≡ to.old.before }
     ensures tokens { OnOk result (to.new.tokens ≡ to.old.tokens ++ member_tokens (codes "lacks_pm") (if_there picometres (lack_of cause.now))) }
@@ -97,7 +97,7 @@ fn put_lack(to: &mut Writer, cause: &RingCause) -> Result<(), AllocError>
     put_length_there(to, "lacks_pm", lack_of(cause))
 }
 
-/// Appends the member of the cause.
+/// Appends the member `cause`.
 fn put_cause(to: &mut Writer, cause: &RingCause) -> Result<(), AllocError>
     ensures before { to.new.before ≡ to.old.before }
     ensures tokens { OnOk result (to.new.tokens ≡ to.old.tokens ++ member_tokens (codes "cause") (word (cause_word cause.now))) }
@@ -105,7 +105,7 @@ fn put_cause(to: &mut Writer, cause: &RingCause) -> Result<(), AllocError>
     put_text(to, "cause", cause_word(cause))
 }
 
-/// Appends the member of the flash, or null.
+/// Appends the member `flash`, or null.
 fn put_flash(to: &mut Writer, cause: &RingCause) -> Result<(), AllocError>
     ensures before { to.new.before ≡ to.old.before }
     ensures tokens { OnOk result (to.new.tokens ≡ to.old.tokens ++ member_tokens (codes "flash") (if_there whole (flash_of cause.now))) }
@@ -114,7 +114,7 @@ fn put_flash(to: &mut Writer, cause: &RingCause) -> Result<(), AllocError>
     put_count_there(to, "flash", flash_of(cause))
 }
 
-/// Appends the members of the gap of two holes and of what it lacks.
+/// Appends the members `has_pm` and `lacks_pm` of a gap.
 fn put_gap(to: &mut Writer, lack: &GapLack) -> Result<(), AllocError>
     ensures before { to.new.before ≡ to.old.before }
     ensures tokens { OnOk result (to.new.tokens ≡ to.old.tokens ++ (member_tokens (codes "has_pm") (picometres lack.now.gap) ++ member_tokens (codes "lacks_pm") (picometres lack.now.lack))) }
@@ -125,7 +125,7 @@ fn put_gap(to: &mut Writer, lack: &GapLack) -> Result<(), AllocError>
     put_length(to, "lacks_pm", lack.lack)
 }
 
-/// Appends the member of the reason why a finding is accepted, or null.
+/// Appends the member `waived`: the reason why a finding is accepted, or null.
 fn put_waived(to: &mut Writer, why: Option<&str>) -> Result<(), AllocError>
     ensures before { to.new.before ≡ to.old.before }
     ensures tokens { OnOk result (to.new.tokens ≡ to.old.tokens ++ member_tokens (codes "waived") (why_value why.entry)) }
@@ -138,7 +138,7 @@ fn put_waived(to: &mut Writer, why: Option<&str>) -> Result<(), AllocError>
     }
 }
 
-/// Appends a hole that lacks its ring on one of these layers, and why that is accepted.
+/// Appends an insufficient ring on one of these layers, with the reason why it is accepted.
 #[tactic(auto, unfolding(crate::specs::Values::ring_value))]
 pub(crate) fn write_ring(
     to: &mut Writer,
@@ -162,7 +162,7 @@ pub(crate) fn write_ring(
     put_end(to)
 }
 
-/// Appends two holes that lack their gap, and why that is accepted.
+/// Appends an insufficient gap, with the reason why it is accepted.
 #[tactic(auto, unfolding(crate::specs::Values::gap_value))]
 pub(crate) fn write_gap(
     to: &mut Writer,

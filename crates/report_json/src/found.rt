@@ -24,7 +24,7 @@ use report_text::{
 use std::alloc::{AllocError, Global};
 use std::io::Write;
 
-/// The result of a report with so many findings, so many of them waived.
+/// The result of a report, by the number of its findings and of those that are waived.
 fn result_word(findings: u128, waived: u128) -> &'static str
     ensures { result.now ≡ result_word findings waived }
 {
@@ -53,7 +53,7 @@ fn put_first(to: &mut Writer, telling: &Telling, whys: &Whys) -> Result<(), Allo
     put_opening(to, told_result(telling, whys))
 }
 
-/// Appends a report up to its files.
+/// Appends a report up to its list of files.
 #[tactic(auto, unfolding(crate::specs::Inner::Heads::telling_head))]
 fn write_head(to: &mut Writer, telling: &Telling, whys: &Whys) -> Result<(), AllocError>
     ensures before { to.new.before ≡ to.old.before }
@@ -67,7 +67,7 @@ fn write_head(to: &mut Writer, telling: &Telling, whys: &Whys) -> Result<(), All
     put_array(to, "files")
 }
 
-/// A report up to its files, with room for what is gathered behind it.
+/// A report up to its list of files, in a buffer with room for what is gathered after it.
 fn head(
     alloc: Global,
     names: &[&str],
@@ -84,7 +84,7 @@ fn head(
     Ok(to.into_inner())
 }
 
-/// Gathers the findings: rings on these layers, and gaps.
+/// Gathers the findings: rings on these layers, then gaps.
 fn gather_findings<W: Write>(
     part: Part,
     layers: &[LayerHead],
@@ -113,7 +113,7 @@ fn push_end(gathered: Vec<u8>) -> Result<Vec<u8>, AllocError>
     Ok(text)
 }
 
-/// Prints what is gathered and the end of a report.
+/// Prints what is gathered, and the end of a report.
 fn print_end<W: Write>(part: Part, out: &mut W) -> Result<(), Cut>
     ensures { OnOk result (Appends (W.contents out.old) (W.contents out.new) (part.text.items ++ (print telling_end ++ 10 ∷ []))) }
 {
@@ -123,7 +123,7 @@ fn print_end<W: Write>(part: Part, out: &mut W) -> Result<(), Cut>
     }
 }
 
-/// Prints a report behind its head.
+/// Prints the rest of a report, after its head.
 fn print_behind<W: Write>(
     text: Vec<u8>,
     names: &[&str],
@@ -148,14 +148,14 @@ fn print_behind<W: Write>(
     print_end(findings, out)
 }
 
-/// Prints the JSON of a report by the names of the files of the package and how much each holds, with the reasons why findings are
-/// accepted: one line with its line end. All findings are told. It is written in parts, with room for the longest reason, so no more
-/// memory is taken for a long report than for a short one.
+/// Prints the JSON of a report with the reasons why findings are accepted: one line with its line end, and all findings in it. `names`
+/// are those of the package's files, `files` their contents. It is written in parts, with room for the longest reason, so a long report
+/// takes no more memory than a short one.
 ///
 /// # Errors
 ///
-/// [`PrintFault::Memory`] where there is no memory, and then nothing was written; [`PrintFault::Cut`] where the writer fails, or
-/// where there is no memory for a part.
+/// [`PrintFault::Memory`] when memory runs out, and then nothing was written; [`PrintFault::Cut`] when the writer fails, or when memory
+/// runs out for a part.
 pub fn print_waived_json<W: Write>(
     alloc: Global,
     names: &[&str],
@@ -177,13 +177,13 @@ pub fn print_waived_json<W: Write>(
     }
 }
 
-/// Prints the JSON of a report by the names of the files of the package and how much each holds: one line with its line end. All
-/// findings are told. It is written in parts, so no more memory is taken for a long report than for a short one.
+/// Prints the JSON of a report: one line with its line end, and all findings in it. `names` are those of the package's files, `files` their
+/// contents. It is written in parts, so a long report takes no more memory than a short one.
 ///
 /// # Errors
 ///
-/// [`PrintFault::Memory`] where there is no memory, and then nothing was written; [`PrintFault::Cut`] where the writer fails, or
-/// where there is no memory for a part.
+/// [`PrintFault::Memory`] when memory runs out, and then nothing was written; [`PrintFault::Cut`] when the writer fails, or when memory
+/// runs out for a part.
 pub fn print_telling_json<W: Write>(
     alloc: Global,
     names: &[&str],
@@ -203,11 +203,11 @@ pub fn print_telling_json<W: Write>(
     print_waived_json(alloc, names, files, telling, &none, out)
 }
 
-/// The JSON of a report.
+/// The JSON of a report, one line with its line end.
 ///
 /// # Errors
 ///
-/// An `AllocError` where there is no memory for it.
+/// An `AllocError` when memory runs out.
 pub fn write_telling_json(
     alloc: Global,
     names: &[&str],

@@ -25,7 +25,7 @@ use ring_rules::Drilled;
 use std::alloc::{AllocError, Global};
 use std::io::Write;
 
-/// The holes behind those of the files before one.
+/// The holes after those of the files before one.
 fn holes_from<'a>(files: &[FileSum], holes: &'a [Drilled], file: usize) -> &'a [Drilled]
     ensures { result.now ≡ drop (holes_before files.now file) holes.now }
 {
@@ -37,7 +37,7 @@ fn holes_from<'a>(files: &[FileSum], holes: &'a [Drilled], file: usize) -> &'a [
     rest
 }
 
-/// The hole at a place.
+/// The hole of a place, if there is one.
 fn hole_there(files: &[FileSum], holes: &[Drilled], place: &HolePlace) -> Option<Drilled>
     ensures { result ≡ hole_there files.now holes.now place.now }
 {
@@ -47,7 +47,7 @@ fn hole_there(files: &[FileSum], holes: &[Drilled], place: &HolePlace) -> Option
     }
 }
 
-/// Appends a member that is the hole at a place of a board, or null.
+/// Appends a member that is the hole of a place, or null.
 fn put_place(
     to: &mut Writer,
     name: &str,
@@ -74,7 +74,7 @@ fn put_place(
     }
 }
 
-/// Appends the member of the length of the least gap.
+/// Appends the member `least_pm` of the least gap.
 fn put_least(to: &mut Writer, line: &GapLine) -> Result<(), AllocError>
     ensures before { to.new.before ≡ to.old.before }
     ensures tokens { OnOk result (to.new.tokens ≡ to.old.tokens ++ member_tokens (codes "least_pm") (picometres line.now.gap)) }
@@ -83,7 +83,7 @@ fn put_least(to: &mut Writer, line: &GapLine) -> Result<(), AllocError>
     put_length(to, "least_pm", line.gap)
 }
 
-/// Appends the least gap.
+/// Appends the least gap and its two holes.
 #[tactic(auto, unfolding(crate::specs::Values::least_gap_value))]
 fn write_gap(to: &mut Writer, board: &Board, line: &GapLine) -> Result<(), AllocError>
     ensures before { to.new.before ≡ to.old.before }
@@ -97,7 +97,7 @@ fn write_gap(to: &mut Writer, board: &Board, line: &GapLine) -> Result<(), Alloc
     put_end(to)
 }
 
-/// Appends the member of the least gap, or null where there are no two holes.
+/// Appends the member `gap`, null where there are no two holes.
 fn put_gap(to: &mut Writer, board: &Board, gap: Option<GapLine>) -> Result<(), AllocError>
     ensures before { to.new.before ≡ to.old.before }
     ensures tokens { OnOk result (to.new.tokens ≡ to.old.tokens ++ member_tokens (codes "gap") (if_there (least_gap_value board.now.files board.now.holes) gap)) }
@@ -110,7 +110,7 @@ fn put_gap(to: &mut Writer, board: &Board, gap: Option<GapLine>) -> Result<(), A
     }
 }
 
-/// Appends a measure up to its files.
+/// Appends a measure up to its list of files.
 #[tactic(auto, unfolding(crate::specs::Inner::Heads::measure_head))]
 fn write_head(to: &mut Writer, meets: &Meets) -> Result<(), AllocError>
     ensures before { to.new.before ≡ to.old.before }
@@ -122,7 +122,7 @@ fn write_head(to: &mut Writer, meets: &Meets) -> Result<(), AllocError>
     put_array(to, "files")
 }
 
-/// A measure up to its files, with room for what is gathered behind it.
+/// A measure up to its list of files, in a buffer with room for what is gathered after it.
 fn head(alloc: Global, names: &[&str], meets: &Meets) -> Result<Vec<u8>, AllocError>
     ensures text { IfOk result (λ text. text.items ≡ print (measure_head meets.now)) }
     ensures meets { IfOk result (λ _. HasNumbers (meets_value meets.now)) }
@@ -132,7 +132,7 @@ fn head(alloc: Global, names: &[&str], meets: &Meets) -> Result<Vec<u8>, AllocEr
     Ok(to.into_inner())
 }
 
-/// Gathers the rings of layers, drill files and diameters.
+/// Gathers the rows of rings, by layer, drill file and diameter.
 fn gather_rows<W: Write>(part: Part, rows: &[RingLine], out: &mut W) -> Result<Part, Cut>
     ensures parts { IfOk result (λ left. Prints (W.contents out.old) part.text.items part.ended (W.contents out.new) left.text.items left.ended (flat_map (λ line. json_tokens (row_value line)) rows.now)) }
     ensures numbers { IfOk result (λ _. All (λ line. HasNumbers (row_value line)) rows.now) }
@@ -154,7 +154,7 @@ fn push_end(gathered: Vec<u8>, board: &Board, gap: Option<GapLine>) -> Result<Ve
     Ok(text)
 }
 
-/// Prints what is gathered and the end of a measure.
+/// Prints what is gathered, and the end of a measure.
 fn print_end<W: Write>(
     part: Part,
     board: &Board,
@@ -170,7 +170,7 @@ fn print_end<W: Write>(
     }
 }
 
-/// Prints a measure behind its head.
+/// Prints the rest of a measure, after its head.
 fn print_behind<W: Write>(
     text: Vec<u8>,
     names: &[&str],
@@ -192,13 +192,13 @@ fn print_behind<W: Write>(
     print_end(rows, board, measure.gap, out)
 }
 
-/// Prints the JSON of the measure of a board by the names of its files: one line with its line end. It is written in parts, so no
-/// more memory is taken for a long measure than for a short one.
+/// Prints the JSON of the measure of a board, by the names of its files: one line with its line end. It is written in parts, so a
+/// long measure takes no more memory than a short one.
 ///
 /// # Errors
 ///
-/// [`PrintFault::Memory`] where there is no memory, and then nothing was written; [`PrintFault::Cut`] where the writer fails, or
-/// where there is no memory for a part.
+/// [`PrintFault::Memory`] when memory runs out, and then nothing was written; [`PrintFault::Cut`] when the writer fails, or when memory
+/// runs out for a part.
 pub fn print_measure_json<W: Write>(
     alloc: Global,
     names: &[&str],
@@ -219,11 +219,11 @@ pub fn print_measure_json<W: Write>(
     }
 }
 
-/// The JSON of the measure of a board.
+/// The JSON of the measure of a board, one line with its line end.
 ///
 /// # Errors
 ///
-/// An `AllocError` where there is no memory for it.
+/// An `AllocError` when memory runs out.
 pub fn write_measure_json(
     alloc: Global,
     names: &[&str],

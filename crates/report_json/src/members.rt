@@ -1,4 +1,4 @@
-//! The members of objects, one by one.
+//! The members of objects: a name and a value.
 
 ghost use Rattle.std.specs.Prelude.{◌≡◌, ◌++◌, ◌∷◌, [], true, OnOk};
 ghost use Rattle.json.specs.Json.{boolean};
@@ -55,7 +55,7 @@ pub(crate) fn put_length(to: &mut Writer, name: &str, pm: i64) -> Result<(), All
     write_length(to, pm)
 }
 
-/// Appends a member that is a word.
+/// Appends a member that is a string.
 pub(crate) fn put_text(to: &mut Writer, name: &str, letters: &str) -> Result<(), AllocError>
     ensures before { to.new.before ≡ to.old.before }
     ensures tokens { OnOk result (to.new.tokens ≡ to.old.tokens ++ member_tokens name.now (word letters.now)) }
@@ -64,7 +64,7 @@ pub(crate) fn put_text(to: &mut Writer, name: &str, letters: &str) -> Result<(),
     to.string(letters)
 }
 
-/// Appends a member that is true.
+/// Appends a member that is `true`.
 pub(crate) fn put_true(to: &mut Writer, name: &str) -> Result<(), AllocError>
     ensures before { to.new.before ≡ to.old.before }
     ensures tokens { OnOk result (to.new.tokens ≡ to.old.tokens ++ member_tokens name.now (boolean true)) }
@@ -107,7 +107,7 @@ pub(crate) fn put_length_there(
     }
 }
 
-/// Appends a member that tells what is met.
+/// Appends a member that is a rule that is met: a length, `"any"` or `"none"`.
 pub(crate) fn put_met(to: &mut Writer, name: &str, met: Met) -> Result<(), AllocError>
     ensures before { to.new.before ≡ to.old.before }
     ensures tokens { OnOk result (to.new.tokens ≡ to.old.tokens ++ member_tokens name.now (met_value met)) }
@@ -121,7 +121,7 @@ pub(crate) fn put_met(to: &mut Writer, name: &str, met: Met) -> Result<(), Alloc
     }
 }
 
-/// Appends the begin of an object.
+/// Appends the start of an object.
 pub(crate) fn put_begin(to: &mut Writer) -> Result<(), AllocError>
     ensures before { to.new.before ≡ to.old.before }
     ensures tokens { OnOk result (to.new.tokens ≡ to.old.tokens ++ begin_object ∷ []) }
@@ -137,7 +137,7 @@ pub(crate) fn put_end(to: &mut Writer) -> Result<(), AllocError>
     to.end_object()
 }
 
-/// Appends the begin of an object and its first members.
+/// Appends the start of an object with its first members.
 pub(crate) fn put_opening(to: &mut Writer, result_word: &str) -> Result<(), AllocError>
     ensures before { to.new.before ≡ to.old.before }
     ensures tokens { OnOk result (to.new.tokens ≡ to.old.tokens ++ begin_object ∷ members_tokens (opening result_word.now)) }
@@ -149,7 +149,7 @@ pub(crate) fn put_opening(to: &mut Writer, result_word: &str) -> Result<(), Allo
     put_text(to, "result", result_word)
 }
 
-/// Appends the name of a member whose array begins.
+/// Appends the name of a member, and the start of its array.
 pub(crate) fn put_array(to: &mut Writer, name: &str) -> Result<(), AllocError>
     ensures before { to.new.before ≡ to.old.before }
     ensures tokens { OnOk result (to.new.tokens ≡ to.old.tokens ++ key name.now ∷ begin_array ∷ []) }

@@ -1,4 +1,4 @@
-//! Values that are printed part by part: they are gathered, and written where there is no more room.
+//! Values that are printed part by part: gathered in a buffer, which is written out when it is full.
 
 ghost use Rattle.std.specs.Prelude.{◌≡◌, ◌+◌, ◌++◌, ◌∷◌, [], if◌then◌else◌, IfOk, OnOk, map};
 ghost use Rattle.std.specs.List.{All, enumerate_from, flat_map};
@@ -25,13 +25,13 @@ use report_text::{GapLack, LayerHead, RingLack, name_of, why_of};
 use std::alloc::{AllocError, Global};
 use std::io::Write;
 
-/// How many bytes are gathered before they are written. Each value begins on what is gathered anew, and clears room as large as that.
+/// Once more bytes than this are gathered, they are written out before the next value.
 const FULL: usize = 4_096;
 
-/// More bytes than a value has beside a name or a reason in it, and six for each byte of those.
+/// More bytes than a value has without its name or reason. A byte of those takes at most six.
 const VALUE: usize = 2_048;
 
-/// How many bytes the longest name has.
+/// The length of the longest name in bytes.
 fn longest(names: &[&str]) -> usize {
     let mut longest = 0;
     for name in names {
@@ -40,7 +40,7 @@ fn longest(names: &[&str]) -> usize {
     longest
 }
 
-/// An empty text with room for what is gathered before it is written, with a reason of so many bytes.
+/// An empty buffer with room for what is gathered before it is written, and for a reason of `why` bytes.
 pub(crate) fn buffer(alloc: Global, names: &[&str], why: usize) -> Result<Vec<u8>, AllocError>
     ensures { IfOk result (λ text. text.items ≡ []) }
 {
@@ -48,14 +48,14 @@ pub(crate) fn buffer(alloc: Global, names: &[&str], why: usize) -> Result<Vec<u8
     Vec::with_capacity(alloc, (FULL + VALUE).saturating_add(more))
 }
 
-/// What is gathered, and whether a value ends there.
+/// The gathered bytes, and whether a value ends with them.
 #[derive(Drop)]
 pub(crate) struct Part {
     pub(crate) text: Vec<u8>,
     pub(crate) ended: bool,
 }
 
-/// Writes what was gathered where it is much.
+/// Writes the gathered bytes if they are many.
 fn make_room<W: Write>(gathered: Vec<u8>, out: &mut W) -> Result<Vec<u8>, Cut>
     ensures { IfOk result (λ left. PassesOn (W.contents out.old) gathered.items (W.contents out.new) left.items []) }
 {
@@ -72,7 +72,7 @@ fn make_room<W: Write>(gathered: Vec<u8>, out: &mut W) -> Result<Vec<u8>, Cut>
     }
 }
 
-/// Writes what was gathered.
+/// Writes the gathered bytes.
 pub(crate) fn end<W: Write>(text: &[u8], out: &mut W) -> Result<(), Cut>
     ensures { OnOk result (Appends (W.contents out.old) (W.contents out.new) text.now) }
 {
@@ -82,19 +82,19 @@ pub(crate) fn end<W: Write>(text: &[u8], out: &mut W) -> Result<(), Cut>
     }
 }
 
-/// How each of some things is told by a value.
+/// How an item is printed as a value.
 pub(crate) trait Form<T> {
-    /// The value of one.
+    /// The value of one item.
     ghost value: { Self → T → Json };
 
-    /// Appends the value of one.
+    /// Appends the value of one item.
     fn write(&self, to: &mut Writer, one: &T) -> Result<(), AllocError>
         ensures before { to.new.before ≡ to.old.before }
         ensures tokens { OnOk result (to.new.tokens ≡ to.old.tokens ++ json_tokens (value self.now one.now)) }
         ensures numbers { OnOk result (HasNumbers (value self.now one.now)) };
 }
 
-/// Drill files whose coordinates seem to be off.
+/// Drill files whose coordinates seem to be off by a factor.
 struct Scales;
 
 impl Form<ScaleLine> for Scales {
@@ -105,7 +105,7 @@ impl Form<ScaleLine> for Scales {
     }
 }
 
-/// The rings of layers, drill files and diameters.
+/// The rows of rings.
 pub(crate) struct Rows;
 
 impl Form<RingLine> for Rows {
@@ -116,7 +116,7 @@ impl Form<RingLine> for Rows {
     }
 }
 
-/// A ring that is lacking on one of some layers, and why that is accepted.
+/// An insufficient ring on one of some layers, with the reason why it is accepted.
 #[derive(Drop)]
 struct RingAt<'a> {
     layers: &'a [LayerHead],
@@ -131,7 +131,7 @@ impl<'a> Form<RingLack> for RingAt<'a> {
     }
 }
 
-/// A gap that is lacking, and why that is accepted.
+/// An insufficient gap, with the reason why it is accepted.
 #[derive(Drop)]
 struct GapAt<'a> {
     why: Option<&'a str>,
@@ -145,7 +145,7 @@ impl<'a> Form<GapLack> for GapAt<'a> {
     }
 }
 
-/// A file of a number and a name.
+/// The number and the name of a file.
 #[derive(Drop)]
 struct FileAt<'a> {
     number: u128,
@@ -160,7 +160,7 @@ impl<'a> Form<FileSum> for FileAt<'a> {
     }
 }
 
-/// Appends a comma where a value ended.
+/// Appends a comma if a value ended.
 fn push_comma(gathered: Vec<u8>, ended: bool) -> Result<Vec<u8>, AllocError>
     ensures { IfOk result (λ left. left.items ≡ gathered.items ++ (if ended then 44 ∷ [] else [])) }
 {
@@ -171,7 +171,7 @@ fn push_comma(gathered: Vec<u8>, ended: bool) -> Result<Vec<u8>, AllocError>
     Ok(text)
 }
 
-/// Appends a value, behind a comma where one ended before it.
+/// Appends a value, after a comma if a value ended before it.
 fn push<T, F: Form<T>>(
     gathered: Vec<u8>,
     ended: bool,
@@ -200,7 +200,7 @@ fn gather<T, F: Form<T>, W: Write>(part: Part, form: &F, one: &T, out: &mut W) -
     }
 }
 
-/// Gathers values one after the other, and writes those for which there is no room.
+/// Gathers values one after the other, and writes out what there is no more room for.
 pub(crate) fn gather_all<T, F: Form<T>, W: Write>(
     part: Part,
     form: &F,
@@ -217,7 +217,7 @@ pub(crate) fn gather_all<T, F: Form<T>, W: Write>(
     Ok(left)
 }
 
-/// Gathers a file, by its index.
+/// Gathers a file, by its index, from 0.
 fn gather_file<W: Write>(
     part: Part,
     names: &[&str],
@@ -235,7 +235,7 @@ fn gather_file<W: Write>(
     gather(part, &form, sum, out)
 }
 
-/// Gathers the files, by their names.
+/// Gathers the files, with their names.
 fn gather_files<W: Write>(
     part: Part,
     names: &[&str],
@@ -252,7 +252,7 @@ fn gather_files<W: Write>(
     Ok(left)
 }
 
-/// Gathers a ring that is lacking, by its place.
+/// Gathers an insufficient ring, by its place.
 fn gather_ring<W: Write>(
     part: Part,
     layers: &[LayerHead],
@@ -271,7 +271,7 @@ fn gather_ring<W: Write>(
     gather(part, &form, lack, out)
 }
 
-/// Gathers the rings that are lacking on some layers, each with the reason at its place.
+/// Gathers the insufficient rings on some layers, each with the reason at its place.
 pub(crate) fn gather_rings<W: Write>(
     part: Part,
     layers: &[LayerHead],
@@ -289,7 +289,7 @@ pub(crate) fn gather_rings<W: Write>(
     Ok(left)
 }
 
-/// Gathers a gap that is lacking, by its place.
+/// Gathers an insufficient gap, by its place.
 fn gather_gap<W: Write>(
     part: Part,
     whys: &[Option<&str>],
@@ -306,7 +306,7 @@ fn gather_gap<W: Write>(
     gather(part, &form, lack, out)
 }
 
-/// Gathers the gaps that are lacking, each with the reason at its place.
+/// Gathers the insufficient gaps, each with the reason at its place.
 pub(crate) fn gather_gaps<W: Write>(
     part: Part,
     gaps: &[GapLack],
@@ -323,7 +323,7 @@ pub(crate) fn gather_gaps<W: Write>(
     Ok(left)
 }
 
-/// Appends the end of an array, and the begin of the next one.
+/// Appends the end of an array, and the start of the next one.
 fn push_next(gathered: Vec<u8>, name: &str) -> Result<Vec<u8>, AllocError>
     ensures { IfOk result (λ left. left.items ≡ gathered.items ++ print (end_array ∷ key name.now ∷ begin_array ∷ [])) }
 {
@@ -333,7 +333,7 @@ fn push_next(gathered: Vec<u8>, name: &str) -> Result<Vec<u8>, AllocError>
     Ok(to.into_inner())
 }
 
-/// Gathers the end of an array, and the begin of the next one.
+/// Gathers the end of an array, and the start of the next one.
 fn gather_next<W: Write>(part: Part, name: &str, out: &mut W) -> Result<Part, Cut>
     ensures { IfOk result (λ left. Prints (W.contents out.old) part.text.items part.ended (W.contents out.new) left.text.items left.ended (end_array ∷ key name.now ∷ begin_array ∷ [])) }
 {
@@ -344,7 +344,7 @@ fn gather_next<W: Write>(part: Part, name: &str, out: &mut W) -> Result<Part, Cu
     }
 }
 
-/// Gathers the files, the scales, and the begin of the array of a name.
+/// Gathers the files, the scales, and the start of the array of a name.
 pub(crate) fn gather_lists<W: Write>(
     part: Part,
     names: &[&str],

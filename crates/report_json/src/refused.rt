@@ -1,4 +1,4 @@
-//! The JSON of a refusal, and of what cannot be read.
+//! The JSON of a refusal, and of a file that cannot be read.
 
 ghost use Rattle.std.specs.Prelude.{◌≡◌, ◌+◌, ◌++◌, ◌∷◌, Some, IfOk, OnOk, codes, string_bytes};
 ghost use Rattle.std.specs.Str.{IsUtf8};
@@ -21,9 +21,9 @@ use std::alloc::{AllocError, Global};
 pub enum Stop<'a> {
     /// The manifest is refused.
     RefusedManifest {
-        /// The number of its record from 1; 0 where the whole of it is refused.
+        /// The number of its record, from 1; 0 where it is refused as a whole.
         place: u64,
-        /// Why.
+        /// The reason of the refusal.
         reason: Reason,
     },
     /// A file is refused.
@@ -32,7 +32,7 @@ pub enum Stop<'a> {
         index: usize,
         /// Its name in the manifest.
         name: &'a str,
-        /// Where and why.
+        /// The place, the byte and the reason of the refusal.
         fault: Fault,
     },
     /// The manifest cannot be read.
@@ -46,16 +46,16 @@ pub enum Stop<'a> {
     },
     /// The file of waivers is refused.
     RefusedWaivers {
-        /// The number of its record from 1; 0 where the whole of it is refused.
+        /// The number of its record, from 1; 0 where it is refused as a whole.
         place: u64,
-        /// Why.
+        /// The reason of the refusal.
         reason: Reason,
     },
     /// The file of waivers cannot be read.
     WaiversDevice,
 }
 
-/// Appends the number and the name of a file.
+/// Appends the members `file` and `name`.
 fn put_named(to: &mut Writer, index: usize, name: &str) -> Result<(), AllocError>
     ensures before { to.new.before ≡ to.old.before }
     ensures tokens { OnOk result (to.new.tokens ≡ to.old.tokens ++ (member_tokens (codes "file") (whole (index + 1)) ++ member_tokens (codes "name") (word name.now))) }
@@ -65,7 +65,7 @@ fn put_named(to: &mut Writer, index: usize, name: &str) -> Result<(), AllocError
     put_text(to, "name", name)
 }
 
-/// Appends the name of a reason.
+/// Appends the member `reason`.
 fn put_reason(to: &mut Writer, reason: Reason) -> Result<(), AllocError>
     ensures before { to.new.before ≡ to.old.before }
     ensures tokens { OnOk result (to.new.tokens ≡ to.old.tokens ++ member_tokens (codes "reason") (word (name_of reason))) }
@@ -73,7 +73,7 @@ fn put_reason(to: &mut Writer, reason: Reason) -> Result<(), AllocError>
     put_text(to, "reason", reason.name())
 }
 
-/// Appends the number of an item, a line or a record.
+/// Appends the member `place`: the number of an item, a line or a record, from 1.
 fn put_place(to: &mut Writer, place: u64) -> Result<(), AllocError>
     ensures before { to.new.before ≡ to.old.before }
     ensures tokens { OnOk result (to.new.tokens ≡ to.old.tokens ++ member_tokens (codes "place") (whole place)) }
@@ -82,7 +82,7 @@ fn put_place(to: &mut Writer, place: u64) -> Result<(), AllocError>
     put_count(to, "place", u128::from(place))
 }
 
-/// Appends a fault.
+/// Appends the members of a fault: its place, its byte and its reason.
 fn put_fault(to: &mut Writer, fault: Fault) -> Result<(), AllocError>
     ensures before { to.new.before ≡ to.old.before }
     ensures tokens { OnOk result (to.new.tokens ≡ to.old.tokens ++ (member_tokens (codes "place") (whole fault.place) ++ (member_tokens (codes "byte") (whole fault.byte) ++ member_tokens (codes "reason") (word (name_of fault.reason))))) }
@@ -94,7 +94,7 @@ fn put_fault(to: &mut Writer, fault: Fault) -> Result<(), AllocError>
     put_reason(to, fault.reason)
 }
 
-/// Appends that the manifest is refused.
+/// Appends the object of a refused manifest.
 fn write_refused_manifest(to: &mut Writer, place: u64, reason: Reason) -> Result<(), AllocError>
     ensures before { to.new.before ≡ to.old.before }
     ensures tokens { OnOk result (to.new.tokens ≡ to.old.tokens ++ json_tokens (refused_manifest_value place reason)) }
@@ -106,7 +106,7 @@ fn write_refused_manifest(to: &mut Writer, place: u64, reason: Reason) -> Result
     put_end(to)
 }
 
-/// Appends that a file is refused.
+/// Appends the object of a refused file.
 fn write_refused(to: &mut Writer, index: usize, name: &str, fault: Fault) -> Result<(), AllocError>
     ensures before { to.new.before ≡ to.old.before }
     ensures tokens { OnOk result (to.new.tokens ≡ to.old.tokens ++ json_tokens (refused_value index name.now fault)) }
@@ -118,7 +118,7 @@ fn write_refused(to: &mut Writer, index: usize, name: &str, fault: Fault) -> Res
     put_end(to)
 }
 
-/// Appends that the manifest cannot be read.
+/// Appends the object of a manifest that cannot be read.
 fn write_manifest_device(to: &mut Writer) -> Result<(), AllocError>
     ensures before { to.new.before ≡ to.old.before }
     ensures tokens { OnOk result (to.new.tokens ≡ to.old.tokens ++ json_tokens (manifest_device_value)) }
@@ -128,7 +128,7 @@ fn write_manifest_device(to: &mut Writer) -> Result<(), AllocError>
     put_end(to)
 }
 
-/// Appends that a file cannot be read.
+/// Appends the object of a file that cannot be read.
 fn write_device(to: &mut Writer, index: usize, name: &str) -> Result<(), AllocError>
     ensures before { to.new.before ≡ to.old.before }
     ensures tokens { OnOk result (to.new.tokens ≡ to.old.tokens ++ json_tokens (device_value index name.now)) }
@@ -139,7 +139,7 @@ fn write_device(to: &mut Writer, index: usize, name: &str) -> Result<(), AllocEr
     put_end(to)
 }
 
-/// Appends the begin of an object that tells of the file of waivers.
+/// Appends the start of an object about the file of waivers.
 fn put_waivers(to: &mut Writer, result_word: &str) -> Result<(), AllocError>
     ensures before { to.new.before ≡ to.old.before }
     ensures tokens { OnOk result (to.new.tokens ≡ to.old.tokens ++ begin_object ∷ members_tokens (waivers_opening result_word.now)) }
@@ -149,7 +149,7 @@ fn put_waivers(to: &mut Writer, result_word: &str) -> Result<(), AllocError>
     put_true(to, "waivers")
 }
 
-/// Appends that the file of waivers is refused.
+/// Appends the object of a refused file of waivers.
 fn write_refused_waivers(to: &mut Writer, place: u64, reason: Reason) -> Result<(), AllocError>
     ensures before { to.new.before ≡ to.old.before }
     ensures tokens { OnOk result (to.new.tokens ≡ to.old.tokens ++ json_tokens (refused_waivers_value place reason)) }
@@ -161,7 +161,7 @@ fn write_refused_waivers(to: &mut Writer, place: u64, reason: Reason) -> Result<
     put_end(to)
 }
 
-/// Appends that the file of waivers cannot be read.
+/// Appends the object of a file of waivers that cannot be read.
 fn write_waivers_device(to: &mut Writer) -> Result<(), AllocError>
     ensures before { to.new.before ≡ to.old.before }
     ensures tokens { OnOk result (to.new.tokens ≡ to.old.tokens ++ json_tokens (waivers_device_value)) }
@@ -171,7 +171,7 @@ fn write_waivers_device(to: &mut Writer) -> Result<(), AllocError>
     put_end(to)
 }
 
-/// Appends what is refused, or what cannot be read.
+/// Appends the object of a refusal, or of a file that cannot be read.
 fn write_stop(to: &mut Writer, stop: &Stop) -> Result<(), AllocError>
     ensures before { to.new.before ≡ to.old.before }
     ensures tokens { OnOk result (to.new.tokens ≡ to.old.tokens ++ json_tokens (stop_value stop.now)) }
@@ -187,7 +187,7 @@ fn write_stop(to: &mut Writer, stop: &Stop) -> Result<(), AllocError>
     }
 }
 
-/// The bytes of the JSON of what is refused, or of what cannot be read.
+/// The bytes of the JSON of a refusal, or of a file that cannot be read.
 fn stop_bytes(alloc: Global, stop: &Stop) -> Result<Vec<u8>, AllocError>
     ensures text { IfOk result (λ text. text.items ≡ print (json_tokens (stop_value stop.now))) }
     ensures numbers { IfOk result (λ _. HasNumbers (stop_value stop.now)) }
@@ -198,11 +198,11 @@ fn stop_bytes(alloc: Global, stop: &Stop) -> Result<Vec<u8>, AllocError>
     Ok(to.into_inner())
 }
 
-/// The JSON of what is refused, or of what cannot be read: one line with its line end.
+/// The JSON of a refusal, or of a file that cannot be read: one line with its line end.
 ///
 /// # Errors
 ///
-/// An `AllocError` where there is no memory for it.
+/// An `AllocError` when memory runs out.
 pub fn refusal_json(alloc: Global, stop: &Stop) -> Result<String, AllocError>
     ensures text { IfOk result (λ text. string_bytes text ≡ json_text (stop_value stop.now)) }
     ensures reads_back { IfOk result (λ text. document (print (json_tokens (stop_value stop.now))) ≡ Some (stop_value stop.now)) }

@@ -31,7 +31,7 @@ fn write_meets(to: &mut Writer, meets: &Meets) -> Result<(), AllocError>
     put_end(to)
 }
 
-/// Appends the member of the ring that is asked.
+/// Appends the member `ring_pm` of the rules.
 fn put_ring(to: &mut Writer, rules: &Rules) -> Result<(), AllocError>
     ensures before { to.new.before ≡ to.old.before }
     ensures tokens { OnOk result (to.new.tokens ≡ to.old.tokens ++ member_tokens (codes "ring_pm") (picometres (pos rules.now.ring))) }
@@ -40,7 +40,7 @@ fn put_ring(to: &mut Writer, rules: &Rules) -> Result<(), AllocError>
     put_length(to, "ring_pm", rules.ring())
 }
 
-/// Appends the member of the gap that is asked.
+/// Appends the member `gap_pm` of the rules.
 fn put_gap(to: &mut Writer, rules: &Rules) -> Result<(), AllocError>
     ensures before { to.new.before ≡ to.old.before }
     ensures tokens { OnOk result (to.new.tokens ≡ to.old.tokens ++ member_tokens (codes "gap_pm") (picometres (pos rules.now.gap))) }
@@ -49,7 +49,7 @@ fn put_gap(to: &mut Writer, rules: &Rules) -> Result<(), AllocError>
     put_length(to, "gap_pm", rules.gap())
 }
 
-/// Appends the rules that are asked.
+/// Appends the rules of a check.
 #[tactic(auto, unfolding(crate::specs::Values::rules_value))]
 fn write_rules(to: &mut Writer, rules: &Rules) -> Result<(), AllocError>
     ensures before { to.new.before ≡ to.old.before }
@@ -72,7 +72,7 @@ pub(crate) fn put_meets(to: &mut Writer, name: &str, meets: &Meets) -> Result<()
     write_meets(to, meets)
 }
 
-/// Appends a member that is the rules that are asked.
+/// Appends a member that is the rules of a check.
 pub(crate) fn put_rules(to: &mut Writer, name: &str, rules: &Rules) -> Result<(), AllocError>
     ensures before { to.new.before ≡ to.old.before }
     ensures tokens { OnOk result (to.new.tokens ≡ to.old.tokens ++ member_tokens name.now (rules_value rules.now)) }
@@ -82,7 +82,7 @@ pub(crate) fn put_rules(to: &mut Writer, name: &str, rules: &Rules) -> Result<()
     write_rules(to, rules)
 }
 
-/// Appends a point.
+/// Appends a point as an array of two lengths.
 #[tactic(auto, unfolding(crate::specs::Values::point_value))]
 fn write_point(to: &mut Writer, at: Point) -> Result<(), AllocError>
     ensures before { to.new.before ≡ to.old.before }
@@ -105,7 +105,7 @@ fn put_point(to: &mut Writer, name: &str, at: Point) -> Result<(), AllocError>
     write_point(to, at)
 }
 
-/// The diameter of a hole.
+/// The diameter of a hole in pm.
 #[tactic(auto, unfolding(crate::specs::Values::diameter_of))]
 fn diameter(hole: &Hole) -> i64
     ensures { result ≡ pos (diameter_of hole.now) }
@@ -113,7 +113,7 @@ fn diameter(hole: &Hole) -> i64
     2 * hole.radius()
 }
 
-/// Appends the member of the first end of a hole.
+/// Appends the member `from_pm` of a hole.
 fn put_from(to: &mut Writer, hole: &Hole) -> Result<(), AllocError>
     ensures before { to.new.before ≡ to.old.before }
     ensures tokens { OnOk result (to.new.tokens ≡ to.old.tokens ++ member_tokens (codes "from_pm") (point_value hole.now.from)) }
@@ -122,7 +122,7 @@ fn put_from(to: &mut Writer, hole: &Hole) -> Result<(), AllocError>
     put_point(to, "from_pm", hole.from())
 }
 
-/// Appends the member of the other end of a hole.
+/// Appends the member `to_pm` of a hole.
 fn put_to(to: &mut Writer, hole: &Hole) -> Result<(), AllocError>
     ensures before { to.new.before ≡ to.old.before }
     ensures tokens { OnOk result (to.new.tokens ≡ to.old.tokens ++ member_tokens (codes "to_pm") (point_value hole.now.to)) }
@@ -131,7 +131,7 @@ fn put_to(to: &mut Writer, hole: &Hole) -> Result<(), AllocError>
     put_point(to, "to_pm", hole.to())
 }
 
-/// Appends the member of the diameter of a hole.
+/// Appends the member `diameter_pm` of a hole.
 fn put_diameter(to: &mut Writer, hole: &Hole) -> Result<(), AllocError>
     ensures before { to.new.before ≡ to.old.before }
     ensures tokens { OnOk result (to.new.tokens ≡ to.old.tokens ++ member_tokens (codes "diameter_pm") (picometres (pos (diameter_of hole.now)))) }
@@ -166,7 +166,7 @@ pub(crate) fn put_hole(to: &mut Writer, name: &str, at: &HoleAt) -> Result<(), A
     write_hole(to, at)
 }
 
-/// Appends the number, the role and the name of a file.
+/// Appends the members `number`, `role` and `name` of a file.
 fn put_file(to: &mut Writer, number: u128, role: &str, name: &str) -> Result<(), AllocError>
     ensures before { to.new.before ≡ to.old.before }
     ensures tokens { OnOk result (to.new.tokens ≡ to.old.tokens ++ (member_tokens (codes "number") (whole number) ++ (member_tokens (codes "role") (word role.now) ++ member_tokens (codes "name") (word name.now)))) }
@@ -177,7 +177,7 @@ fn put_file(to: &mut Writer, number: u128, role: &str, name: &str) -> Result<(),
     put_text(to, "name", name)
 }
 
-/// Appends how much a copper file holds.
+/// Appends the object of a copper file.
 #[tactic(auto, unfolding(crate::specs::Values::layer_value))]
 fn write_layer(
     to: &mut Writer,
@@ -197,14 +197,14 @@ fn write_layer(
     put_end(to)
 }
 
-/// The word for what a drill file is.
+/// The role of a drill file: `plated` or `unplated`.
 fn drill_role(plated: bool) -> &'static str
     ensures { result.now ≡ drill_role plated }
 {
     if plated { "plated" } else { "unplated" }
 }
 
-/// Appends how much a drill file holds.
+/// Appends the object of a drill file.
 #[tactic(auto, unfolding(crate::specs::Values::drill_value))]
 fn write_drill(
     to: &mut Writer,
@@ -225,7 +225,7 @@ fn write_drill(
     put_end(to)
 }
 
-/// Appends how much a file holds, by its number and its name.
+/// Appends the object of a file, by its number and its name.
 pub(crate) fn write_file(
     to: &mut Writer,
     number: u128,
@@ -247,7 +247,7 @@ pub(crate) fn write_file(
     }
 }
 
-/// Appends the member of a factor.
+/// Appends the member `factor`.
 fn put_factor(to: &mut Writer, factor: Factor) -> Result<(), AllocError>
     ensures before { to.new.before ≡ to.old.before }
     ensures tokens { OnOk result (to.new.tokens ≡ to.old.tokens ++ member_tokens (codes "factor") (word (factor_word factor))) }
@@ -270,7 +270,7 @@ pub(crate) fn write_scale(to: &mut Writer, line: &ScaleLine) -> Result<(), Alloc
     put_end(to)
 }
 
-/// The least ring, where there is one.
+/// The least ring of a row, if not all its holes are bare.
 fn least_ring(line: &RingLine) -> Option<i64>
     ensures { result ≡ least_ring line.now }
 {
@@ -280,7 +280,7 @@ fn least_ring(line: &RingLine) -> Option<i64>
     }
 }
 
-/// The first hole that has the least ring, where there is one.
+/// The number of the first hole with the least ring, if there is one.
 fn least_hole(line: &RingLine) -> Option<u128>
     ensures { result ≡ least_hole line.now }
 {
@@ -290,7 +290,7 @@ fn least_hole(line: &RingLine) -> Option<u128>
     }
 }
 
-/// Appends the member of the least ring, or null.
+/// Appends the member `least_pm` of a row, or null.
 fn put_least_ring(to: &mut Writer, line: &RingLine) -> Result<(), AllocError>
     ensures before { to.new.before ≡ to.old.before }
     ensures tokens { OnOk result (to.new.tokens ≡ to.old.tokens ++ member_tokens (codes "least_pm") (if_there picometres (least_ring line.now))) }
@@ -299,7 +299,7 @@ fn put_least_ring(to: &mut Writer, line: &RingLine) -> Result<(), AllocError>
     put_length_there(to, "least_pm", least_ring(line))
 }
 
-/// Appends the member of the first hole that has the least ring, or null.
+/// Appends the member `hole` of a row, or null.
 fn put_least_hole(to: &mut Writer, line: &RingLine) -> Result<(), AllocError>
     ensures before { to.new.before ≡ to.old.before }
     ensures tokens { OnOk result (to.new.tokens ≡ to.old.tokens ++ member_tokens (codes "hole") (if_there whole (least_hole line.now))) }
@@ -308,7 +308,7 @@ fn put_least_hole(to: &mut Writer, line: &RingLine) -> Result<(), AllocError>
     put_count_there(to, "hole", least_hole(line))
 }
 
-/// Appends where the rings of a row are: the layer, the drill file and the diameter.
+/// Appends the members of a row that say where it is: the layer, the drill file and the diameter.
 fn put_row(to: &mut Writer, line: &RingLine) -> Result<(), AllocError>
     ensures before { to.new.before ≡ to.old.before }
     ensures tokens { OnOk result (to.new.tokens ≡ to.old.tokens ++ (member_tokens (codes "layer") (whole (line.now.layer + 1)) ++ (member_tokens (codes "drill") (whole (line.now.drill + 1)) ++ member_tokens (codes "diameter_pm") (picometres line.now.diameter)))) }
@@ -321,7 +321,7 @@ fn put_row(to: &mut Writer, line: &RingLine) -> Result<(), AllocError>
     put_length(to, "diameter_pm", line.diameter)
 }
 
-/// Appends the rings of one layer, drill file and diameter.
+/// Appends a row of rings.
 #[tactic(auto, unfolding(crate::specs::Values::row_value))]
 pub(crate) fn write_row(to: &mut Writer, line: &RingLine) -> Result<(), AllocError>
     ensures before { to.new.before ≡ to.old.before }

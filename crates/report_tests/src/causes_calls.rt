@@ -42,7 +42,7 @@ fn other(x: i64, y: i64, why: Why) -> Result<Flash, Fail> {
     })
 }
 
-/// The words for a cause: its name, the number of its flash, the ring and the lack.
+/// The word for a cause, the number of its flash, the ring and the lack.
 fn told_by(cause: RingCause) -> (&'static str, usize, i64, i64) {
     match cause {
         RingCause::Small(pad) => ("small", pad.flash, pad.ring, pad.lack),
@@ -56,7 +56,7 @@ fn told_by(cause: RingCause) -> (&'static str, usize, i64, i64) {
     }
 }
 
-/// What is told of a hole that lacks a ring of so many pm.
+/// The cause of the first hole, for a required ring in pm.
 fn told_of(
     rt: HostRuntime,
     flashes: &[Flash],
@@ -75,7 +75,7 @@ fn told_of(
     Ok(told_by(known.cause(flashes, &holes, 0, rules)))
 }
 
-/// What is told of a round hole that lacks a ring of so many pm.
+/// The cause of a round hole, for a required ring in pm.
 fn told(
     rt: HostRuntime,
     flashes: &[Flash],
@@ -98,7 +98,7 @@ fn a_hole_off_its_centre(rt: HostRuntime) -> Result<(), Fail> {
     Ok(())
 }
 
-/// A macro flash, a disc elsewhere, and one at a hole of the worked example.
+/// A macro flash, a disc elsewhere, and a disc at a hole of the worked example.
 fn small_pads() -> Result<[Flash; 3], Fail> {
     Ok([
         other(0, 0, Why::Macro)?,
@@ -125,7 +125,7 @@ fn a_pad_that_is_too_small(rt: HostRuntime) -> Result<(), Fail> {
     Ok(())
 }
 
-/// A pad elsewhere, and three other flashes: one out of the hole by 1 pm, one at its rim, one at its middle.
+/// A pad elsewhere, and three other flashes: one 1 pm outside the hole, one at its rim, one at its middle.
 fn other_flashes() -> Result<[Flash; 4], Fail> {
     Ok([
         disc(5_000_000_000, 0, 500_000_000)?,
@@ -152,7 +152,7 @@ fn a_hole_in_nothing(rt: HostRuntime) -> Result<(), Fail> {
     Ok(())
 }
 
-/// 40 macro flashes, a millimetre from one to the next along x: the last one stands at 0.
+/// 40 macro flashes along x, a millimetre apart, from 39 mm down to 0.
 fn flashes_in_a_row(rt: HostRuntime) -> Result<Vec<Flash>, Fail> {
     let mut flashes = Vec::new(rt.alloc());
     for place in (0..40_u8).rev() {
@@ -162,7 +162,7 @@ fn flashes_in_a_row(rt: HostRuntime) -> Result<Vec<Flash>, Fail> {
     Ok(flashes)
 }
 
-/// Holes that one flash, some of them and all of them are in: those from 30 mm on to 34 mm stand in two groups of 32.
+/// Holes with one, some and all of the flashes in them: those from 30 mm to 34 mm are in two groups of 32.
 #[test]
 fn holes_in_a_row_of_flashes(rt: HostRuntime) -> Result<(), Fail> {
     let flashes = flashes_in_a_row(rt)?;
@@ -180,7 +180,7 @@ fn holes_in_a_row_of_flashes(rt: HostRuntime) -> Result<(), Fail> {
     Ok(())
 }
 
-/// A hole beside a row of flashes, further from it by 1 pm than its radius.
+/// A hole beside a row of flashes: their line is 1 pm further from its centre than its radius.
 #[test]
 fn a_hole_beside_a_row_of_flashes(rt: HostRuntime) -> Result<(), Fail> {
     let flashes = flashes_in_a_row(rt)?;
@@ -196,12 +196,11 @@ fn a_hole_beside_a_row_of_flashes(rt: HostRuntime) -> Result<(), Fail> {
     Ok(())
 }
 
-/// A slot.
 fn slot(from: Point, to: Point) -> Result<Hole, Fail> {
     Ok(Hole::new(from, to, 200_000_000).ok_or("hole")?)
 }
 
-/// What is told of a slot that lies along no axis.
+/// The cause of a slot that lies along no axis.
 fn told_of_slot(rt: HostRuntime, flashes: &[Flash]) -> Result<&'static str, Fail> {
     let from = point(0, 0)?;
     let to = point(1_000_000, 1_000_000)?;
@@ -216,7 +215,7 @@ fn an_oblique_slot(rt: HostRuntime) -> Result<(), Fail> {
     Ok(())
 }
 
-/// What is told of a hole of 0.4 mm at the origin that lacks a ring of 0.125 mm, where the best of some pads are known.
+/// The cause of a hole of 0.4 mm at the origin for a ring of 0.125 mm, with the best of some pads given.
 fn told_by_bests(
     rt: HostRuntime,
     flashes: &[Flash],
@@ -257,7 +256,7 @@ fn best_pads_of_another_layer_are_known(rt: HostRuntime) -> Result<(), Fail> {
     Ok(())
 }
 
-/// What is told of a slot of 1 um along x among these flashes.
+/// The cause of a slot of 1 um along x among these flashes, and the number of its flash.
 fn told_along_x(rt: HostRuntime, flashes: &[Flash]) -> Result<(&'static str, usize), Fail> {
     let from = point(0, 0)?;
     let to = point(1_000_000, 0)?;
@@ -291,7 +290,7 @@ fn a_flash_at_the_left_rim_of_a_slot(rt: HostRuntime) -> Result<(), Fail> {
     Ok(())
 }
 
-/// What is told of a slot of 0.5 mm from 0,0 to 2,0 that lacks a ring of 0.125 mm in a pad.
+/// The cause of a slot of 0.5 mm from 0,0 to 2,0 in a pad, for a ring of 0.125 mm, with the ring and the lack.
 fn told_of_slot_in(rt: HostRuntime, at: Point, pad: Pad) -> Result<(&'static str, i64, i64), Fail> {
     let slot = Hole::new(point(0, 0)?, point(2_000_000_000, 0)?, 250_000_000).ok_or("hole")?;
     let flashes = [Flash {

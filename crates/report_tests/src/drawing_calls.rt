@@ -18,7 +18,7 @@ const WIDE: &[u8] =
 const MANY: &[u8] =
     b"%FSLAX46Y46*%\n%MOMM*%\n%ADD10C,1.0*%\nD10*\n%SRX1000Y101I1.0J1.0*%\nX0Y0D03*\n%SR*%\nM02*\n";
 
-/// A region, and no flash.
+/// A drawn line, and no flash.
 const NOTHING: &[u8] =
     b"%FSLAX46Y46*%\n%MOMM*%\n%ADD10C,1.0*%\nD10*\nX0Y0D02*\nX1000000Y0D01*\nM02*\n";
 
@@ -26,7 +26,7 @@ const NOTHING: &[u8] =
 const MACRO: &[u8] =
     b"%FSLAX46Y46*%\n%MOMM*%\n%AMSPOT*1,1,1.0,0,0*%\n%ADD10SPOT*%\nD10*\nX0Y0D03*\nM02*\n";
 
-/// Two flashes of a macro, 9 mm from each other.
+/// Two flashes of a macro, 9 mm apart.
 const MACROS: &[u8] =
     b"%FSLAX46Y46*%\n%MOMM*%\n%AMSPOT*1,1,1.0,0,0*%\n%ADD10SPOT*%\nD10*\nX1000000Y2000000D03*\nX10000000Y2000000D03*\nM02*\n";
 
@@ -93,7 +93,7 @@ fn drawn(
     }
 }
 
-/// Whether a page has these words.
+/// Whether a page contains these words.
 fn has(page: &[u8], words: &str) -> bool {
     match str::from_utf8(page) {
         Ok(text) => text.contains(words),
@@ -237,7 +237,7 @@ fn characters_that_xml_forbids_are_replaced(rt: HostRuntime) -> Result<(), Fail>
     Ok(())
 }
 
-/// Names that are no UTF-8 too, which no manifest can have.
+/// Also names that are not UTF-8, which no manifest can have.
 #[test]
 fn names_have_entities(rt: HostRuntime) -> Result<(), Fail> {
     let mut name = name_room(rt.alloc(), &["&", "12345678"])?;

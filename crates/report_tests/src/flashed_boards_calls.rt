@@ -1,4 +1,4 @@
-//! Flashes of the files of a package.
+//! The flashes of a package's files.
 
 use flashed_boards::read_flashed;
 use package_check::{File, PackageFault, Role};

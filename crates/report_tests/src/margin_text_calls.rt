@@ -3,7 +3,7 @@
 use margin_text::*;
 use std::test::Fail;
 
-/// Whether the line of rings with these bare holes and this least ring is this one.
+/// Whether the line of a row with these bare holes and this least ring is this one.
 fn is_ring_line(
     rt: HostRuntime,
     bare: usize,
@@ -55,7 +55,7 @@ fn rings_are_told(rt: HostRuntime) -> Result<(), Fail> {
     Ok(())
 }
 
-/// The line of the gap of hole 1 of file 3 and hole 47 of file 4.
+/// The line of the gap between hole 1 of file 3 and hole 47 of file 4.
 fn gap_of(gap: i64) -> GapLine {
     GapLine {
         gap,
@@ -64,7 +64,7 @@ fn gap_of(gap: i64) -> GapLine {
     }
 }
 
-/// Whether this is the line of such a gap.
+/// Whether the line of this gap is this one.
 fn is_gap_line(rt: HostRuntime, gap: i64, text: &str) -> Result<bool, Fail> {
     let mut written = String::new(rt.alloc());
     push_gap(&mut written, &gap_of(gap))?;

@@ -1,4 +1,4 @@
-//! What small packages meet, in pm; and that their check agrees.
+//! The rules that small packages meet, in pm; and that their check agrees.
 
 mod made;
 
@@ -10,7 +10,7 @@ use package_check::{File, PackageFault, Role, check_bytes, read_package};
 use std::alloc::Global;
 use std::test::Fail as Failure;
 
-/// A layer in millimetres with six decimals.
+/// A layer in millimetres with six decimals: a square of 0.65 mm.
 const SQUARE: &[u8] = b"%FSLAX46Y46*%\n%MOMM*%\n%ADD10R,0.65X0.65*%\nD10*\nX0Y0D03*\nM02*\n";
 
 const MOVED: &[u8] = b"%FSLAX46Y46*%\n%MOMM*%\n%ADD10R,0.65X0.65*%\nD10*\nX1Y0D03*\nM02*\n";
@@ -71,14 +71,14 @@ fn files<'a>(layer: &'a [u8], holes: &'a [u8]) -> [File<'a>; 2] {
     files_as(Role::Plated, layer, holes)
 }
 
-/// Whether the check of the files finds nothing.
+/// Whether the check of the files passes.
 fn passes(alloc: Global, files: &[File], ring: i64, gap: i64) -> Option<bool> {
     let rules = Rules::new(ring, gap).ok()?;
     let report = check_bytes(alloc, files, rules).ok()?;
     Some(report.findings().is_empty())
 }
 
-/// Whether the check agrees with what is met of rings: it passes at the greatest one, and not 1 pm above.
+/// Whether the check agrees with the greatest ring: it passes with this ring, and not with 1 pm more.
 fn agrees_on_rings(alloc: Global, files: &[File], ring: Met) -> Option<bool> {
     match ring {
         Met::Any => passes(alloc, files, 5_000_000_000_000, 1),
@@ -186,7 +186,7 @@ fn scale_of(
     Ok(measure.scales.first().copied())
 }
 
-/// The scale of a plated file is told by the pads of the first layer.
+/// The scale of a plated file is judged by the pads of the first layer.
 #[test]
 fn a_scale(rt: HostRuntime) -> Result<(), Failure> {
     let tenth = ScaleLine {
@@ -201,7 +201,7 @@ fn a_scale(rt: HostRuntime) -> Result<(), Failure> {
     Ok(())
 }
 
-/// Four plated records of one drill file in doubt, an unplated one, and a file without holes: each of the four has its line.
+/// Four plated records of one drill file that is off by a factor, an unplated one, and a file without holes: each of the four has its line.
 #[test]
 fn scales_of_many_records(rt: HostRuntime) -> Result<(), Failure> {
     let files = [
@@ -228,7 +228,7 @@ fn scales_of_many_records(rt: HostRuntime) -> Result<(), Failure> {
     Ok(())
 }
 
-/// The nearest holes stand in two files, and neither is the first of its own.
+/// The nearest holes are in two files, and neither is the first of its file.
 #[test]
 fn a_gap_between_files(rt: HostRuntime) -> Result<(), Failure> {
     let two = b"M48\nMETRIC\nT1C0.2\n%\nT1\nX9.0Y9.0\nX1.0Y1.5\nM30\n";
@@ -242,7 +242,7 @@ fn a_gap_between_files(rt: HostRuntime) -> Result<(), Failure> {
     Ok(())
 }
 
-/// What the holes meet that are not bare.
+/// The greatest ring of the holes that are not bare.
 #[test]
 fn rings_that_are_held(rt: HostRuntime) -> Result<(), Failure> {
     let alloc = rt.alloc();
@@ -307,7 +307,7 @@ fn lines_of_rings(rt: HostRuntime) -> Result<(), Failure> {
     Ok(())
 }
 
-/// Three layers and four drill files, of which one has no holes and one is unplated.
+/// Three layers and four drill files; one of these has no holes, and one is unplated.
 fn seven_files<'a>() -> [File<'a>; 7] {
     [
         file(Role::Plated, "first", TWO_TOOLS),
@@ -320,7 +320,7 @@ fn seven_files<'a>() -> [File<'a>; 7] {
     ]
 }
 
-/// The lines go by layer, then by drill file, then by diameter; unplated holes have none.
+/// The lines are in order of layer, drill file and diameter; unplated holes have none.
 #[test]
 fn lines_in_their_order(rt: HostRuntime) -> Result<(), Failure> {
     let measure = measure_bytes(rt.alloc(), &seven_files())
@@ -350,7 +350,7 @@ fn lines_in_their_order(rt: HostRuntime) -> Result<(), Failure> {
     Ok(())
 }
 
-/// Each hole stands in the same file by the files that have holes as by a walk over all of them.
+/// `place_among` and `place_of` agree on each hole.
 #[test]
 fn places_of_holes(rt: HostRuntime) -> Result<(), Failure> {
     let board = read_package(rt.alloc(), &seven_files())
@@ -371,7 +371,7 @@ fn places_of_holes(rt: HostRuntime) -> Result<(), Failure> {
     Ok(())
 }
 
-/// Unplated holes ask no ring, and keep a gap like all others.
+/// Unplated holes need no ring, but a gap like all others.
 #[test]
 fn unplated_holes(rt: HostRuntime) -> Result<(), Failure> {
     let files = files_as(Role::Unplated, SMALL, FAR);
@@ -395,7 +395,7 @@ fn what_is_refused_has_no_measure(rt: HostRuntime) {
     assert_eq!(rt; refused, Some(PackageFault::File { index: 0, fault }));
 }
 
-/// How deep the first hole lies in the best pad of a layer, by the place of the layer.
+/// The depth of the first hole in the best pad of a layer, by the layer's place.
 fn first_depth(bests: &[Vec<Option<Best>>], layer: usize) -> Option<u64> {
     let best = *bests.get(layer)?.first()?;
     Some(best?.depth)

@@ -126,7 +126,7 @@ fn file<'a>(role: Role, name: &'a str, bytes: &'a [u8]) -> File<'a> {
     }
 }
 
-/// Whether the measure of a layer and a plated drill file has this JSON behind its first members.
+/// Whether the measure of a layer and a plated drill file has this JSON after its first members.
 fn is_measured(rt: HostRuntime, layer: &[u8], holes: &[u8], text: &str) -> Result<bool, Fail> {
     let alloc = rt.alloc();
     let files = [
@@ -196,7 +196,7 @@ fn hole_at(
     })
 }
 
-/// What a package of one layer that meets these rules is told.
+/// The report without findings on a package of one layer, which meets these rules.
 fn nothing(alloc: Global, ring: i64, gap: i64, meets: Meets) -> Result<Telling, Fail> {
     let mut layers = Vec::new(alloc);
     layers.push(LayerHead { file: 0, asked: 1 })?;
@@ -216,11 +216,11 @@ const NO_RING: Meets = Meets {
     held: Met::Most(275_000_000),
 };
 
-/// The head of a report under a ring of 0.1 and a gap of 0.25 on a board whose holes are bare.
+/// The head of a report under a ring of 0.1 mm and a gap of 0.25 mm, on a board with a bare hole.
 const HEAD: &str =
     "\"rules\":{\"ring_pm\":100000000,\"gap_pm\":250000000},\"meets\":{\"ring_pm\":\"none\",\"gap_pm\":1046051224,\"held_pm\":275000000},\"files\":[{\"number\":1,\"role\":\"copper\",\"name\":\"top_layer\",\"pads\":242,\"other\":3}],\"scales\":[],\"findings\":[";
 
-/// Whether the report has this JSON: the result, and the findings behind the head.
+/// Whether the report has this JSON: the result, and the findings after the head.
 fn is_told(rt: HostRuntime, telling: &Telling, word: &str, findings: &str) -> Result<bool, Fail> {
     let alloc = rt.alloc();
     let files = &[FileSum::Layer {
@@ -234,7 +234,7 @@ fn is_told(rt: HostRuntime, telling: &Telling, word: &str, findings: &str) -> Re
     Ok(written.as_slice() == wanted.as_bytes())
 }
 
-/// Tells of a bare hole, in which a macro is flashed.
+/// Adds a bare hole in a macro flash to the report.
 fn tell_in_macro(telling: &mut Telling) -> Result<(), Fail> {
     let at = (142_240_000_000, -97_790_000_000);
     telling.rings.push(RingLack {
@@ -260,7 +260,7 @@ fn reports_are_told(rt: HostRuntime) -> Result<(), Fail> {
     Ok(())
 }
 
-/// A disc at the origin in which a hole has no ring at all, to 1 pm.
+/// A disc at the origin in which a hole has a ring of exactly 0.
 fn in_disc() -> Result<InPad, Fail> {
     let disc = Disc::new(point(0, 0)?, 200_000_000).ok_or("disc")?;
     Ok(InPad {
@@ -349,14 +349,14 @@ fn close_pair() -> Result<GapLack, Fail> {
     })
 }
 
-/// A ring and a gap that are lacking, as JSON up to the reasons.
+/// A ring and a gap that are lacking, as JSON up to their reasons.
 const RING: &str =
     "{\"kind\":\"ring\",\"layer\":1,\"at\":{\"drill\":4,\"hole\":7,\"from_pm\":[142240000000,-97790000000],\"to_pm\":[142240000000,-97790000000],\"diameter_pm\":750000000},\"has_pm\":null,\"lacks_pm\":null,\"cause\":\"macro\",\"flash\":156,\"waived\":";
 
 const GAP: &str =
     "{\"kind\":\"gap\",\"at\":{\"drill\":2,\"hole\":1,\"from_pm\":[0,0],\"to_pm\":[0,0],\"diameter_pm\":400000000},\"and\":{\"drill\":2,\"hole\":2,\"from_pm\":[0,0],\"to_pm\":[0,0],\"diameter_pm\":400000000},\"has_pm\":-400000000,\"lacks_pm\":650000000,\"waived\":";
 
-/// Whether a report with waivers has this JSON: the result, and the findings behind the head.
+/// Whether a report with waivers has this JSON: the result, and the findings after the head.
 fn is_waived_told(
     rt: HostRuntime,
     telling: &Telling,

@@ -23,7 +23,7 @@ fn hole_at(drill: usize, number: usize, at: (i64, i64), diameter: i64) -> Result
     })
 }
 
-/// What a hole has in a disc.
+/// The figures of a hole in a disc.
 fn in_disc(
     flash: usize,
     centre: (i64, i64),
@@ -40,7 +40,7 @@ fn in_disc(
     })
 }
 
-/// What a package of no layers that meets these rules is told.
+/// The report without findings on a package without layers, which meets these rules.
 fn nothing(alloc: Global, ring: i64, gap: i64, meets: Meets) -> Result<Telling, Fail> {
     Ok(Telling {
         rules: Rules::new(ring, gap)?,
@@ -52,7 +52,7 @@ fn nothing(alloc: Global, ring: i64, gap: i64, meets: Meets) -> Result<Telling, 
     })
 }
 
-/// A package that meets a ring and a gap.
+/// The rules of a package that meets a ring and a gap.
 fn meets(ring: i64, gap: i64) -> Meets {
     Meets {
         ring: Met::Most(ring),
@@ -61,7 +61,7 @@ fn meets(ring: i64, gap: i64) -> Meets {
     }
 }
 
-/// Whether a report of files of these names has this text.
+/// Whether a report on files of these names has this text.
 fn is_told(
     rt: HostRuntime,
     names: &[&str],
@@ -75,7 +75,7 @@ fn is_told(
 
 const STICK: [&str; 4] = ["F_Cu", "B_Cu", "StickHub-NPTH", "StickHub-PTH"];
 
-/// The figures of a hole of 0.3 that lacks its ring, off the centre of a disc of 0.5.
+/// The figures of a hole of 0.3 mm that lacks its ring, off the centre of a disc of 0.5 mm.
 #[derive(Clone, Copy)]
 struct Figures {
     number: usize,
@@ -86,7 +86,7 @@ struct Figures {
     lack: i64,
 }
 
-/// The figures of one of the 24 holes of a layer: the first two of the worked example, the least lack, and the greatest.
+/// The figures of one of a layer's 24 holes: the first two of the worked example, the least lack, and the greatest.
 fn figures_of(index: usize) -> Figures {
     let greatest = Figures {
         number: 24,
@@ -153,7 +153,7 @@ fn a_limited_report_is_told(rt: HostRuntime) -> Result<(), Fail> {
     Ok(())
 }
 
-/// Whether a report of files of these names begins with these lines.
+/// Whether a report on files of these names begins with these lines.
 fn begins_with(
     rt: HostRuntime,
     names: &[&str],
@@ -168,7 +168,7 @@ fn begins_with(
     Ok(written.as_slice().starts_with(front.as_slice()))
 }
 
-/// Whether the line of a hole that lacks its ring, which stands alone in a list, is this one.
+/// Whether the line of a single hole that lacks its ring is this one.
 fn is_ring_line(
     rt: HostRuntime,
     drill: &str,
@@ -274,7 +274,7 @@ fn slot_at() -> Result<HoleAt, Fail> {
     })
 }
 
-/// What this slot lacks, by its cause.
+/// The insufficient ring of this slot, with a cause.
 fn slot_lack(cause: RingCause) -> Result<RingLack, Fail> {
     Ok(RingLack {
         layer: 0,
@@ -308,7 +308,7 @@ fn a_slot_is_told_off_by_its_middle(rt: HostRuntime) -> Result<(), Fail> {
     Ok(())
 }
 
-/// Whether the line of a slot in a flash that leaves no pad is this one.
+/// Whether the line of a slot in a flash that is no pad is this one.
 fn is_flash_line(rt: HostRuntime, why: Why, text: &str) -> Result<bool, Fail> {
     let lack = slot_lack(RingCause::Other { why, flash: 7 })?;
     is_ring_line(rt, "pth", &[lack], text)
@@ -373,7 +373,7 @@ fn factors_are_told(rt: HostRuntime) -> Result<(), Fail> {
     Ok(())
 }
 
-/// Two layers of which each other ring is on the second.
+/// Two layers; every other ring is on the second.
 fn mixed_layers(alloc: Global) -> Result<Telling, Fail> {
     let mut telling = nothing(alloc, 100_000_000, 250_000_000, meets(0, 250_000_000))?;
     telling.layers.push(LayerHead { file: 0, asked: 9 })?;
@@ -447,7 +447,7 @@ fn a_package_that_passes_is_told(rt: HostRuntime) -> Result<(), Fail> {
     Ok(())
 }
 
-/// A hole that lacks its ring on a layer that has no head.
+/// A hole that lacks its ring on a layer without a head.
 fn unseen(cause: RingCause) -> Result<RingLack, Fail> {
     Ok(RingLack {
         layer: 9,
@@ -456,7 +456,7 @@ fn unseen(cause: RingCause) -> Result<RingLack, Fail> {
     })
 }
 
-/// A drill file at a tenth of its size.
+/// A drill file whose coordinates are a tenth of the right ones.
 const TENTH: ScaleLine = ScaleLine {
     drill: 1,
     bare: 3,
@@ -464,7 +464,7 @@ const TENTH: ScaleLine = ScaleLine {
     then: 0,
 };
 
-/// Tells of a hole for each cause, and of two in a macro flash.
+/// Adds a hole for each cause, and two for a macro flash.
 fn tell_each_cause(telling: &mut Telling) -> Result<(), Fail> {
     for &why in &[
         Why::Turned,
@@ -520,12 +520,12 @@ fn causes_and_scales_are_told(rt: HostRuntime) -> Result<(), Fail> {
 
 const HOLED: [&str; 2] = ["top_layer", "pth"];
 
-/// The reasons of the rings and of the gaps of a board of three of each.
+/// The reasons for the rings and gaps of a board with three of each.
 const RINGS: [Option<&str>; 3] = [Some("milled"), Some("milled"), Some("by hand")];
 
 const GAPS: [Option<&str>; 3] = [Some("drilled \"twice\""), Some("x"), Some("y")];
 
-/// Tells of a hole that lies in no pad, and that is hit twice.
+/// Adds a hole that lies in no pad, and is drilled twice.
 fn tell_twice_hit(telling: &mut Telling, number: usize) -> Result<(), Fail> {
     telling.rings.push(RingLack {
         layer: 0,

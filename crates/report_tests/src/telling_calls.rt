@@ -1,4 +1,4 @@
-//! What is told of small packages, with the figures of the worked examples, in pm.
+//! Reports on small packages, with the figures of the worked examples, in pm.
 
 use grid_units::Rules;
 use package_check::{File, Role};
@@ -6,7 +6,7 @@ use report_text::RingCause;
 use std::test::Fail;
 use telling::*;
 
-/// A square of 0.65 mm at 1 nm beside the origin.
+/// A square of 0.65 mm, 1 nm off the origin.
 const MOVED: &[u8] = b"%FSLAX46Y46*%\n%MOMM*%\n%ADD10R,0.65X0.65*%\nD10*\nX1Y0D03*\nM02*\n";
 
 /// A macro flash at the origin, and a disc of 1 mm at 5 mm.
@@ -34,7 +34,7 @@ fn file<'a>(role: Role, bytes: &'a [u8]) -> File<'a> {
     }
 }
 
-/// What is told of a layer and a plated drill file under a ring in pm and a gap of 0.25 mm.
+/// The report on a layer and a plated drill file, under a ring in pm and a gap of 0.25 mm.
 fn told_of(rt: HostRuntime, layer: &[u8], drill: &[u8], ring: i64) -> Result<Telling, Fail> {
     let files = [file(Role::Copper, layer), file(Role::Plated, drill)];
     let Ok(rules) = Rules::new(ring, 250_000_000) else {
@@ -57,7 +57,7 @@ fn cause_words(cause: RingCause) -> (&'static str, usize, i64, i64) {
     }
 }
 
-/// How many rings are told of, and the words for the first of them.
+/// The number of rings in a report, and the words for the first of them.
 fn first_ring(told: &Telling) -> (usize, (&'static str, usize, i64, i64)) {
     match told.rings.first() {
         Some(lack) => (told.rings.len(), cause_words(lack.cause)),
@@ -65,7 +65,7 @@ fn first_ring(told: &Telling) -> (usize, (&'static str, usize, i64, i64)) {
     }
 }
 
-/// How many gaps are told of, and the first gap and its lack.
+/// The number of gaps in a report, and the first gap and its lack.
 fn first_gap(told: &Telling) -> (usize, i64, i64) {
     match told.gaps.first() {
         Some(lack) => (told.gaps.len(), lack.gap, lack.lack),
@@ -104,8 +104,8 @@ fn a_hole_that_is_hit_twice_is_told(rt: HostRuntime) -> Result<(), Fail> {
     Ok(())
 }
 
-/// What is told of three layers and of three drill files, of which one has no holes: no disc leaves the ring that is asked, and each
-/// pair of holes is told.
+/// Three layers and three drill files; one of these has no holes. No disc leaves the required ring, and each pair of holes
+/// is in the report.
 #[test]
 fn three_layers_and_three_drill_files_are_told(rt: HostRuntime) -> Result<(), Fail> {
     let files = [

@@ -102,7 +102,7 @@ fn files_that_break_a_rule_are_refused(rt: HostRuntime) {
     assert_eq!(rt; refusal(rt, bytes), Some((2, 0, Reason::BadManifest)));
 }
 
-/// Two records, of which the second has so many of these letters as its reason, in quotes.
+/// Two records; the reason of the second is this letter, `count` times, in quotes.
 fn with_letters(rt: HostRuntime, letter: &str, count: usize) -> Result<String, AllocError> {
     let reason = letter.repeat(rt.alloc(), count)?;
     let mut text = String::from_str(rt.alloc(), "kind,layer,hole,and,has,why\n")?;
@@ -130,7 +130,7 @@ fn reasons_have_at_most_1000_bytes(rt: HostRuntime) -> Result<(), Failed> {
     Ok(())
 }
 
-/// Six records, of which one, from 0, has no reason.
+/// Six records; those before one, counted from 0, have a reason, the others none.
 fn six_records(rt: HostRuntime, wrong: usize) -> Result<String, AllocError> {
     let mut text = String::from_str(rt.alloc(), "kind,layer,hole,and,has,why\n\n")?;
     for index in 0..6 {
@@ -155,7 +155,7 @@ fn a_refusal_has_the_number_of_its_record(rt: HostRuntime) -> Result<(), Failed>
     Ok(())
 }
 
-/// How many waivers a text has.
+/// The number of waivers of a text.
 fn count_read(rt: HostRuntime, text: &[u8]) -> Option<usize> {
     match read_waivers(rt.alloc(), text) {
         Ok(read) => Some(read.len()),
@@ -196,7 +196,7 @@ fn hole_at(drill: usize, at: (i64, i64), diameter: i64) -> Result<HoleAt, Failed
     })
 }
 
-/// Tells of a hole that lies in no pad of a layer.
+/// Adds a hole that lies in no pad of a layer.
 fn tell_bare(told: &mut Telling, layer: usize, at: HoleAt) -> Result<(), Failed> {
     told.rings.push(RingLack {
         layer,
@@ -206,7 +206,7 @@ fn tell_bare(told: &mut Telling, layer: usize, at: HoleAt) -> Result<(), Failed>
     Ok(())
 }
 
-/// Tells of a hole that has this ring in a disc.
+/// Adds a hole that has this ring in a disc.
 fn tell_in_disc(told: &mut Telling, layer: usize, at: HoleAt, ring: i64) -> Result<(), Failed> {
     let disc = Disc::new(at.hole.from(), 250_000_000).ok_or("disc")?;
     let place = InPad {
@@ -223,7 +223,7 @@ fn tell_in_disc(told: &mut Telling, layer: usize, at: HoleAt, ring: i64) -> Resu
     Ok(())
 }
 
-/// Tells of three rings on a layer.
+/// Adds three rings on a layer.
 fn tell_layer(told: &mut Telling, layer: usize) -> Result<(), Failed> {
     let first = hole_at(2, (142_240_000_000, -97_790_000_000), 750_000_000)?;
     tell_bare(told, layer, first)?;
@@ -233,7 +233,7 @@ fn tell_layer(told: &mut Telling, layer: usize) -> Result<(), Failed> {
     tell_in_disc(told, layer, third, -101_600_000)
 }
 
-/// Tells of two holes that lack their gap.
+/// Adds two holes that lack their gap.
 fn tell_gap(told: &mut Telling) -> Result<(), Failed> {
     told.gaps.push(GapLack {
         first: hole_at(3, (50_546_000_000, 67_310_000_000), 609_600_000)?,
@@ -271,7 +271,7 @@ fn no_findings(rt: HostRuntime) -> Result<Telling, Failed> {
     Ok(told)
 }
 
-/// A report of six rings on two layers and of one gap.
+/// A report with six rings on two layers and with one gap.
 fn seven_findings(rt: HostRuntime) -> Result<Telling, Failed> {
     let mut told = no_findings(rt)?;
     tell_layer(&mut told, 0)?;
@@ -280,7 +280,7 @@ fn seven_findings(rt: HostRuntime) -> Result<Telling, Failed> {
     Ok(told)
 }
 
-/// The text of the findings of a report.
+/// The file of waivers that is printed for a report.
 fn printed(rt: HostRuntime, names: &[&str], told: &Telling) -> Result<Vec<u8>, Failed> {
     let mut text = Vec::new(rt.alloc());
     print_waivers(rt.alloc(), names, told, &mut text)?;
@@ -347,7 +347,7 @@ fn slots_and_names_are_printed_as_they_are(rt: HostRuntime) -> Result<(), Failed
     Ok(())
 }
 
-/// The text of the seven findings, each with a reason, and records behind them.
+/// The text of the seven findings, each with a reason, and records after them.
 fn with_reasons(rt: HostRuntime, behind: &str) -> Result<String, AllocError> {
     let mut text = String::new(rt.alloc());
     for (index, line) in SEVEN.lines().enumerate() {
@@ -367,12 +367,12 @@ fn waived_in(rt: HostRuntime, told: &Telling, text: &str) -> Result<(Vec<Waiver>
     Ok((read, waived))
 }
 
-/// The same of the seven findings.
+/// The waivers of a file, and which of them waive the seven findings.
 fn waived_by(rt: HostRuntime, text: &str) -> Result<(Vec<Waiver>, Waived), Failed> {
     waived_in(rt, &seven_findings(rt)?, text)
 }
 
-/// Whether these are the numbers of the waivers of the rings and of the gaps, and these of those that waive nothing.
+/// Whether the rings and gaps have these waivers, and just the waivers of these numbers waive nothing.
 fn is_waived_so(
     rt: HostRuntime,
     read: &[Waiver],
@@ -401,7 +401,7 @@ fn the_first_waiver_of_a_finding_is_told(rt: HostRuntime) -> Result<(), Failed> 
     Ok(())
 }
 
-/// A report of two rings and two gaps that are alike.
+/// A report with two equal rings and two equal gaps.
 fn two_of_each(rt: HostRuntime) -> Result<Telling, Failed> {
     let mut told = no_findings(rt)?;
     for _ in 0..2 {

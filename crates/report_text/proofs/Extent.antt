@@ -1,4 +1,4 @@
--- The least and the greatest of some lengths and one more.
+-- The least and the greatest of some lengths, and of one more.
 use Rattle.std.proofs.Common.{◌≡◌, ◌∙◌, ◌<◌, ◌+◌, ◌++◌, ℕ, ℤ, List, [], ◌∷◌, Option, Some, None, length, map, take, get_or, refl, ap, ap₂}
 use Rattle.std.specs.Int.{int_min, int_max}
 use Rattle.std.specs.List.{cons_option, filter_map}

@@ -33,7 +33,7 @@ lines_push p f xs x =
     ap (flat_map f) (filter-append p xs (x ∷ []))
     ∙ (flat_map-append f (filter p xs) (filter p (x ∷ [])) ∙ ap (λ (t : List ℕ). flat_map f (filter p xs) ++ t) (one_text f x (p x)))
 
--- the same of those that pass two tests
+-- the lines of those that pass two tests
 pub lines_push_both : {A : Type 0} (q p : A → Bool) (f : A → List ℕ) (xs : List A) (x : A)
     → flat_map f (filter p (filter q (xs ++ x ∷ []))) ≡ flat_map f (filter p (filter q xs)) ++ (if q x && p x then f x else [])
 lines_push_both {A} q p f xs x = ap (λ (ys : List A). flat_map f (filter p ys)) (filter-append q xs (x ∷ [])) ∙ by_test (q x) where
@@ -43,7 +43,7 @@ lines_push_both {A} q p f xs x = ap (λ (ys : List A). flat_map f (filter p ys))
     nothing : (t : List ℕ) → t ≡ t ++ []
     nothing t = grind (arith, append-nil)
 
--- how many of those that pass a test pass another
+-- the number of those that pass two tests
 pub count_push_both : {A : Type 0} (q p : A → Bool) (xs : List A) (x : A)
     → count_by p (filter q (xs ++ x ∷ [])) ≡ count_by p (filter q xs) + (if q x && p x then 1 else 0)
 count_push_both {A} q p xs x = ap (count_by p) (filter-append q xs (x ∷ [])) ∙ by_test (q x) where
@@ -53,11 +53,11 @@ count_push_both {A} q p xs x = ap (count_by p) (filter-append q xs (x ∷ [])) �
     nothing : (n : ℕ) → n ≡ n + 0
     nothing n = omega arith
 
--- the place of a gap among the gaps, by its place behind the rings
+-- the place of a gap among the gaps, by its position after the rings
 pub behind : (first i : ℕ) → (first + i) - first ≡ i
 behind first i = omega arith
 
--- the line of a finding, where it is shown
+-- the line of a finding, if it is shown
 pub same_line : {X Y : Type 0} {a b : Bool} {x y : X} {v w : Y} (line : X → Y → List ℕ) → a ≡ b → x ≡ y → v ≡ w → (if a then line x v else []) ≡ (if b then line y w else [])
 same_line line shown is why = λ j. if shown j then line (is j) (why j) else []
 
@@ -65,7 +65,7 @@ same_line line shown is why = λ j. if shown j then line (is j) (why j) else []
 abbrev pub rings_text : (ℕ × RingLack → List ℕ) → ℕ → Option ℕ → List (ℕ × RingLack) → List ℕ
 rings_text line layer most marks = flat_map line (filter (λ finding. is_shown most finding.0) (filter (λ finding. finding.1.layer == layer) marks))
 
--- how many rings on a layer are at a place that passes a test
+-- the number of rings on a layer whose positions pass a test
 abbrev pub rings_counted : (ℕ → Bool) → ℕ → List (ℕ × RingLack) → ℕ
 rings_counted p layer marks = count_by (λ finding. p finding.0) (filter (λ finding. finding.1.layer == layer) marks)
 
@@ -73,7 +73,7 @@ rings_counted p layer marks = count_by (λ finding. p finding.0) (filter (λ fin
 abbrev pub gap_lines : (ℕ × GapLack → List ℕ) → Option ℕ → List (ℕ × GapLack) → List ℕ
 gap_lines line most marks = flat_map line (filter (λ finding. is_shown most finding.0) marks)
 
--- how many gaps are not shown
+-- the number of gaps that are not shown
 abbrev pub gaps_hidden : Option ℕ → List (ℕ × GapLack) → ℕ
 gaps_hidden most marks = count_by (λ finding. not (is_shown most finding.0)) marks
 
@@ -85,7 +85,7 @@ rings_more line layer most rings i d lt =
     ap (rings_text line layer most) (marks_more 0 rings i i d (omega arith) lt)
     ∙ lines_push_both (λ (finding : ℕ × RingLack). finding.1.layer == layer) (λ (finding : ℕ × RingLack). is_shown most finding.0) line (take i (enumerate_from 0 rings)) (i, get_or rings i d)
 
--- how many of the rings on a layer are at such a place, and of one more
+-- the number of rings on a layer whose positions pass a test, with one more ring
 pub rings_counted_more : (p : ℕ → Bool) (layer : ℕ) (rings : List RingLack) (i : ℕ) (d : RingLack) → i < length rings
     → rings_counted p layer (take (i + 1) (enumerate_from 0 rings))
     ≡ rings_counted p layer (take i (enumerate_from 0 rings)) + (if ((get_or rings i d).layer == layer) && p i then 1 else 0)
@@ -106,7 +106,7 @@ gaps_left_at most first gaps i d lt =
     ap (gaps_hidden most) (marks_more first gaps i (first + i) d refl lt)
     ∙ fold-append (λ (a : ℕ) (y : ℕ × GapLack). a + cond (not (is_shown most y.0)) 1 0) 0 (take i (enumerate_from first gaps)) ((first + i, get_or gaps i d) ∷ [])
 
--- how many gaps are not shown, and of one more
+-- the number of gaps that are not shown, with one more gap
 pub gaps_left_more : (most : Option ℕ) (first : ℕ) (gaps : List GapLack) (i : ℕ) → i < length gaps
     → gaps_hidden most (take (i + 1) (enumerate_from first gaps)) ≡ gaps_hidden most (take i (enumerate_from first gaps)) + (if not (is_shown most (first + i)) then 1 else 0)
 gaps_left_more most first [] i lt = absurd (omega (arith, lt))

@@ -1,4 +1,4 @@
--- The rings of a layer stand at the places of its run.
+-- The rings of a layer are at the places of its run.
 use Rattle.std.proofs.Common.{◌≡◌, ◌∙◌, ◌<◌, ◌≤◌, ◌+◌, ◌++◌, ℕ, suc, Bool, false, cond, List, [], ◌∷◌, length, take, drop, get_or, min, refl, ap, ap₂, subst, sym, ⊎_elim, arith, length-drop}
 use Rattle.std.specs.Prelude.{◌==◌, slice_range}
 use Rattle.std.specs.List.{count_by, enumerate_from, filter}
@@ -49,13 +49,13 @@ off_behind rings layer run h i d behind within = ne_eqb (get_or rings i d).layer
 marked : (rings : List RingLack) (layer i : ℕ) (d : ℕ × RingLack) → i < length (enumerate_from 0 rings) → ((get_or rings i d.1).layer == layer) ≡ false → ((get_or (enumerate_from 0 rings) i d).1.layer == layer) ≡ false
 marked rings layer i d within off = ap (λ (mark : ℕ × RingLack). mark.1.layer == layer) (get_or-enumerate_from 0 rings i d (omega (arith, within, length-enumerate_from 0 rings))) ∙ off
 
--- before the run of a layer no ring is on it
+-- no ring before the run of a layer is on the layer
 pub none_before : (rings : List RingLack) (layer : ℕ) (run : Run) → IsRun rings (length rings) layer run → filter (λ finding. finding.1.layer == layer) (take run.first (enumerate_from 0 rings)) ≡ []
 none_before rings layer run h =
     filter_first (λ (finding : ℕ × RingLack). finding.1.layer == layer) (enumerate_from 0 rings) run.first
     (λ i d before within. marked rings layer i d within (off_before rings layer run h i d.1 before (omega (arith, within, length-enumerate_from 0 rings))))
 
--- the rings up to the end of the run of a layer are all that are on it
+-- the rings up to the end of a layer's run include all rings on the layer
 pub all_behind : (rings : List RingLack) (layer : ℕ) (run : Run) (i : ℕ) → IsRun rings (length rings) layer run → run.behind ≤ i
     → filter (λ finding. finding.1.layer == layer) (take i (enumerate_from 0 rings)) ≡ filter (λ finding. finding.1.layer == layer) (enumerate_from 0 rings)
 all_behind rings layer run i h at =
@@ -63,7 +63,7 @@ all_behind rings layer run i h at =
     (filter_behind (λ (finding : ℕ × RingLack). finding.1.layer == layer) (enumerate_from 0 rings) i
     (λ j d behind within. marked rings layer j d within (off_behind rings layer run h j d.1 (omega (arith, at, behind)) (omega (arith, within, length-enumerate_from 0 rings)))))
 
--- in the run of a layer are as many rings of it as in all
+-- the run of a layer has as many rings of the layer as the whole list
 pub count_in_run : (rings : List RingLack) (layer : ℕ) (run : Run) → IsRun rings (length rings) layer run
     → count_by (λ lack. lack.layer == layer) (slice_range rings run.first run.behind) ≡ count_by (λ lack. lack.layer == layer) rings
 count_in_run rings layer run h =
@@ -74,7 +74,7 @@ count_in_run rings layer run h =
     (filter_behind on rings run.behind (off_behind rings layer run h)))
     ∙ length-filter on rings)
 
--- a ring that is not on a layer leaves its run
+-- a ring on another layer does not change a run
 pub kept_run : (rings : List RingLack) (place layer : ℕ) (run : Run) → ((d : RingLack) → (get_or rings place d).layer ≡ layer → ⊥) → IsRun rings place layer run → IsRun rings (place + 1) layer run
 kept_run rings place layer run off h = record {
   own = h.own;

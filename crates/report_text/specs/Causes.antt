@@ -1,4 +1,4 @@
--- Why holes lack their rings, as it is told.
+-- The kinds of causes why holes lack their rings, and their words (docs/FORMATS.md, Report for people).
 use Rattle.std.specs.Prelude.{◌==◌, ℕ, Bool, List, [], ◌∷◌, codes}
 use Rattle.layer_image.specs.declared.flash.Why.{Why}
 use Rattle.layer_image.specs.declared.flash.Why.TheVariants as whys
@@ -7,7 +7,7 @@ use Rattle.report_text.specs.declared.RingCause.TheVariants as causes
 use Rattle.report_text.specs.declared.kind.Kind.{Kind}
 use Rattle.report_text.specs.declared.kind.Kind.TheVariants as kinds
 
--- the kind of a flash that is no pad (docs/FORMATS.md, Report for people)
+-- the kind of a flash that is no pad
 abbrev pub flash_kind : Why → Kind
 flash_kind whys.Macro = kinds.Macro
 flash_kind whys.Polygon = kinds.Polygon
@@ -15,7 +15,7 @@ flash_kind whys.Holed = kinds.Holed
 flash_kind whys.Scaled = kinds.Scaled
 flash_kind whys.Turned = kinds.Turned
 
--- the kind of a cause (docs/FORMATS.md, Report for people)
+-- the kind of a cause
 abbrev pub kind_of : RingCause → Kind
 kind_of (causes.Small place) = kinds.Small
 kind_of (causes.Off place) = kinds.Off
@@ -23,12 +23,12 @@ kind_of (causes.Other why flash) = flash_kind why
 kind_of causes.Nothing = kinds.Bare
 kind_of causes.Oblique = kinds.Oblique
 
--- the kinds, in the order in which they are told (docs/FORMATS.md, Report for people)
+-- the kinds, in the order in which a report counts them
 abbrev pub all_kinds : List Kind
 all_kinds =
     kinds.Small ∷ kinds.Off ∷ kinds.Macro ∷ kinds.Polygon ∷ kinds.Holed ∷ kinds.Scaled ∷ kinds.Turned ∷ kinds.Bare ∷ kinds.Oblique ∷ []
 
--- the place of a kind in that order (docs/FORMATS.md, Report for people)
+-- the place of a kind in that order, from 0
 abbrev pub place_of : Kind → ℕ
 place_of kinds.Small = 0
 place_of kinds.Off = 1
@@ -40,11 +40,11 @@ place_of kinds.Turned = 6
 place_of kinds.Bare = 7
 place_of kinds.Oblique = 8
 
--- a cause is of a kind (docs/FORMATS.md, Report for people)
+-- a cause is of a kind
 abbrev pub is_of_kind : Kind → RingCause → Bool
 is_of_kind kind cause = place_of (kind_of cause) == place_of kind
 
--- the words of a kind (docs/FORMATS.md, Report for people)
+-- the words for a kind, as in a line of a hole
 abbrev pub kind_words : Kind → List ℕ
 kind_words kinds.Small = codes "pad too small"
 kind_words kinds.Off = codes "off centre"
@@ -56,7 +56,7 @@ kind_words kinds.Turned = codes "only a turned flash"
 kind_words kinds.Bare = codes "no pad"
 kind_words kinds.Oblique = codes "oblique slot"
 
--- what is said of a kind (docs/FORMATS.md, Report for people)
+-- the hint that a report prints for a kind
 abbrev pub hint : Kind → List ℕ
 hint kinds.Small = codes "the pad's own radius or half side is less than the hole's radius and the ring"
 hint kinds.Off = codes "the pad is large enough for a hole at its centre; drill files are rounded: see `ringcheck explain ring`"

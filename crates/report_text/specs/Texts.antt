@@ -1,4 +1,5 @@
--- The text of a report for people. Findings are counted over the whole report: those of rings first, then those of gaps.
+-- The text of a report for people (docs/FORMATS.md, Report for people). Lengths are whole picometres, printed in millimetres.
+-- Positions count all findings of a report from 0: the rings first, then the gaps.
 use Rattle.std.specs.Prelude.{ℕ, ℤ, pos, ◌+◌, ◌-◌, ◌*◌, ◌==◌, ◌+ℤ◌, ◌-ℤ◌, ◌++◌, Bool, true, false, not, nat_lt, List, [], ◌∷◌, length, map, max, take, codes, decimal, Option, Some, None, is_some, get_or, int_div, if◌then◌else◌}
 use Rattle.std.specs.Borrow.{Bor}
 use Rattle.std.specs.Int.{int_min, int_max}
@@ -29,98 +30,98 @@ use Rattle.report_text.specs.Causes.{all_kinds, flash_kind, hint, is_of_kind, ki
 use Rattle.report_text.specs.declared.kind.Kind.TheVariants as kinds
 use Rattle.grid_units.specs.Ascii as ascii
 
--- the name of a file of the package, by its index; empty where it has none (docs/FORMATS.md, Report for people)
+-- the name of a file of the package, by its index from 0; empty where it has none
 abbrev pub name_of : List (List ℕ) → ℕ → List ℕ
 name_of names file = get_or names file []
 
--- two lengths and what stands between them (docs/FORMATS.md, Report for people)
+-- two lengths with words between: `0.15, gap 0.25`
 unfoldable pub two_lengths : ℤ → List ℕ → ℤ → List ℕ
 two_lengths first between second = short_millimetres first ++ (between ++ short_millimetres second)
 
--- a point (docs/FORMATS.md, Report for people)
+-- a point: `142.24,-97.79`
 abbrev pub point_words : GridPoint → List ℕ
 point_words at = two_lengths at.x (codes ",") at.y
 
--- the centre of a round hole, or both ends of a slot (docs/FORMATS.md, Report for people)
+-- the centre of a round hole, or both ends of a slot: `0,0 to 2,0`
 abbrev pub ends_words : GridHole → List ℕ
 ends_words hole = if is_round hole then point_words hole.from else point_words hole.from ++ (codes " to " ++ point_words hole.to)
 
--- the diameter of a hole, and where it is (docs/FORMATS.md, Report for people)
+-- a hole's diameter and where it is: `0.75 at 142.24,-97.79`
 unfoldable pub drilled_words : GridHole → List ℕ
 drilled_words hole = short_millimetres (pos (2 * hole.radius)) ++ (codes " at " ++ ends_words hole)
 
--- the number of a hole, and the name of its drill file (docs/FORMATS.md, Report for people)
+-- the number of a hole and the name of its drill file: `hole 17 of board-PTH.drl, `
 unfoldable pub number_words : ℕ → List ℕ → List ℕ
 number_words number name = codes "hole " ++ (decimal number ++ (codes " of " ++ (name ++ codes ", ")))
 
--- a hole: its number, the name of its drill file, its diameter and where it is (docs/FORMATS.md, Report for people)
+-- a hole: `hole 17 of board-PTH.drl, 0.3 at 15.001,13`
 abbrev pub hole_words : List (List ℕ) → HoleAt → List ℕ
 hole_words names at = number_words at.number (name_of names at.drill) ++ drilled_words at.hole
 
--- words, and two lengths behind them (docs/FORMATS.md, Report for people)
+-- words, then two lengths with words between: `ring 0.149, lacks 0.001`
 abbrev pub told_words : List ℕ → ℤ → List ℕ → ℤ → List ℕ
 told_words words first between second = words ++ two_lengths first between second
 
--- the length that a ring or a gap has, and the one that it lacks (docs/FORMATS.md, Report for people)
+-- the length of a ring or a gap, and what it lacks: `gap 0.382301708, lacks 0.017698292`
 abbrev pub measured_words : List ℕ → ℤ → ℤ → List ℕ
 measured_words word has lack = told_words word has (codes ", lacks ") lack
 
--- the word of a pad's shape (docs/FORMATS.md, Report for people)
+-- the word for the shape of a pad
 abbrev pub shape_word : Pad → List ℕ
 shape_word (pads.Disc disc) = codes "disc "
 shape_word (pads.Rect rect) = codes "rect "
 shape_word (pads.Obround obround) = codes "obround "
 
--- the full side of a pad along x, the diameter of a disc (docs/FORMATS.md, Report for people)
+-- the side of a pad along x; for a disc its diameter
 abbrev pub width_of : Pad → ℕ
 width_of (pads.Disc disc) = 2 * disc.radius
 width_of (pads.Rect rect) = 2 * rect.half_x
 width_of (pads.Obround obround) = 2 * obround.half_x
 
--- the full side of a pad along y, the diameter of a disc (docs/FORMATS.md, Report for people)
+-- the side of a pad along y; for a disc its diameter
 abbrev pub height_of : Pad → ℕ
 height_of (pads.Disc disc) = 2 * disc.radius
 height_of (pads.Rect rect) = 2 * rect.half_y
 height_of (pads.Obround obround) = 2 * obround.half_y
 
--- halfway between two coordinates, rounded towards 0 (docs/FORMATS.md, Report for people)
+-- halfway between two coordinates, rounded towards 0: of 1 and 4 it is 2
 abbrev pub halfway : ℤ → ℤ → ℤ
 halfway a b = int_div (a +ℤ b) (pos 2)
 
--- the middle of a hole, halfway between its ends: its centre where it is round (docs/FORMATS.md, Report for people)
+-- the middle of a hole, halfway between its ends: of a round hole its centre
 abbrev pub hole_middle : GridHole → GridPoint
 hole_middle hole = record { x = halfway hole.from.x hole.to.x; y = halfway hole.from.y hole.to.y }
 
--- the shape and the sides of a pad (docs/FORMATS.md, Report for people)
+-- the shape and the sides of a pad: `disc 0.6x0.6`
 abbrev pub pad_words : Pad → List ℕ
 pad_words pad = shape_word pad ++ two_lengths (pos (width_of pad)) (codes "x") (pos (height_of pad))
 
--- how far the middle of a hole is from the middle of a pad (docs/FORMATS.md, Report for people)
+-- the middle of a hole less that of a pad, along x and y: `, hole off by 0.001,0`
 abbrev pub off_words : GridPoint → GridPoint → List ℕ
 off_words at middle = told_words (codes ", hole off by ") (at.x -ℤ middle.x) (codes ",") (at.y -ℤ middle.y)
 
--- a pad, and how far the middle of a hole is from its own (docs/FORMATS.md, Report for people)
+-- a pad and how far the hole is off: `disc 0.6x0.6, hole off by 0.001,0`
 abbrev pub place_words : GridHole → Pad → List ℕ
 place_words hole pad = pad_words pad ++ off_words (hole_middle hole) (pad_middle pad)
 
--- why the ring in a pad is too little, and the number of the pad's flash (docs/FORMATS.md, Report for people)
+-- the reason why a ring is too small, and the number of the pad's flash: `, off centre: flash 17, `
 unfoldable pub flash_words : List ℕ → ℕ → List ℕ
 flash_words words flash = codes ", " ++ (words ++ (codes ": flash " ++ (decimal flash ++ codes ", ")))
 
--- a hole that lacks its ring in a pad: the ring that it has there, why it is too little, and the pad (docs/FORMATS.md, Report for people)
+-- a ring in a pad: `ring 0.149, lacks 0.001, off centre: flash 17, disc 0.6x0.6, hole off by 0.001,0`
 abbrev pub in_pad_words : Kind → GridHole → InPad → List ℕ
 in_pad_words kind hole place =
     measured_words (codes "ring ") place.ring place.lack ++ (flash_words (kind_words kind) place.flash ++ place_words hole place.pad)
 
--- a hole that lies in no pad (docs/FORMATS.md, Report for people)
+-- a hole that lies in no pad: `no ring, no pad`
 abbrev pub bare_words : Kind → List ℕ
 bare_words kind = codes "no ring, " ++ kind_words kind
 
--- a hole that lies in no pad, but in another flash (docs/FORMATS.md, Report for people)
+-- a hole that lies in no pad, but in another flash: `no ring, only a macro flash: flash 156`
 abbrev pub other_words : List ℕ → ℕ → List ℕ
 other_words words flash = codes "no ring, " ++ (words ++ (codes ": flash " ++ decimal flash))
 
--- why a hole lacks its ring (docs/FORMATS.md, Report for people)
+-- the reason why a hole lacks its ring, with the figures that it has
 abbrev pub cause_words : GridHole → RingCause → List ℕ
 cause_words hole (causes.Small place) = in_pad_words kinds.Small hole place
 cause_words hole (causes.Off place) = in_pad_words kinds.Off hole place
@@ -128,124 +129,124 @@ cause_words hole (causes.Other why flash) = other_words (kind_words (flash_kind 
 cause_words hole causes.Nothing = bare_words kinds.Bare
 cause_words hole causes.Oblique = bare_words kinds.Oblique
 
--- why a finding is accepted, by its place among the rings or among the gaps: not told where the list has no such place (docs/FORMATS.md, Report for people)
+-- the reason why a finding is accepted, by its place among the rings or among the gaps; nothing past the end of the list
 abbrev pub why_at : List (Option (Bor (List ℕ))) → ℕ → Option (Bor (List ℕ))
 why_at whys place = get_or whys place None
 
--- the finding at a place is waived (docs/FORMATS.md, Report for people)
+-- the finding at a place is waived
 abbrev pub is_waived : List (Option (Bor (List ℕ))) → ℕ → Bool
 is_waived whys place = is_some (why_at whys place)
 
--- how many bytes a reason has, 0 where there is none (docs/FORMATS.md, Report for people)
+-- the length of a reason in bytes, 0 where there is none
 abbrev pub why_length : Option (Bor (List ℕ)) → ℕ
 why_length None = 0
 why_length (Some why) = length why.now
 
--- how many bytes the longest of some reasons has, 0 where there is none (docs/FORMATS.md, Report for people)
+-- the length of the longest reason in bytes, 0 where there is none
 abbrev pub longest_why : List (Option (Bor (List ℕ))) → ℕ
 longest_why whys = fold (λ (longest : ℕ) why. max longest (why_length why)) 0 whys
 
--- how many of so many findings are waived (docs/FORMATS.md, Report for people)
+-- the number of the first `findings` ones that are waived
 abbrev pub waived_of : List (Option (Bor (List ℕ))) → ℕ → ℕ
 waived_of whys findings = count_by is_some (take findings whys)
 
--- why a finding is accepted, at the end of its line (docs/FORMATS.md, Report for people)
+-- the reason at the end of the line of a waived finding: `, waived: drawn so`
 abbrev pub why_words : Option (Bor (List ℕ)) → List ℕ
 why_words None = []
 why_words (Some why) = codes ", waived: " ++ why.now
 
--- how many of the findings that a line counts are waived, where there are some (docs/FORMATS.md, Report for people)
+-- the number of waived findings at the end of a line that counts findings: `, 3 waived`; nothing where it is 0
 abbrev pub waived_words : ℕ → List ℕ
 waived_words waived = if waived == 0 then [] else codes ", " ++ (decimal waived ++ codes " waived")
 
--- a hole that lacks its ring (docs/FORMATS.md, Report for people)
+-- a hole that lacks its ring: `  hole 7 of pic_programmer-PTH, 0.75 at 142.24,-97.79: no ring, only a macro flash: flash 156`
 unfoldable pub ring_words : List (List ℕ) → RingLack → List ℕ
 ring_words names lack = codes "  " ++ (hole_words names lack.at ++ (codes ": " ++ cause_words lack.at.hole lack.cause))
 
--- the line of a hole that lacks its ring, and why that is accepted (docs/FORMATS.md, Report for people)
+-- the line of a hole that lacks its ring: these words, the reason if it is waived, and a line end
 unfoldable pub ring_line : List (List ℕ) → RingLack → Option (Bor (List ℕ)) → List ℕ
 ring_line names lack why = ring_words names lack ++ (why_words why ++ ascii.line_feed ∷ [])
 
--- two holes (docs/FORMATS.md, Report for people)
+-- two holes: `  hole 1 of pth, 0.4 at 0,0, and hole 2 of pth, 0.4 at 0,0`
 abbrev pub pair_words : List (List ℕ) → HoleAt → HoleAt → List ℕ
 pair_words names first second = codes "  " ++ (hole_words names first ++ (codes ", and " ++ hole_words names second))
 
--- the gap that two holes have, and what it lacks (docs/FORMATS.md, Report for people)
+-- the gap of two holes and what it lacks: `: gap -0.4, lacks 0.65`
 abbrev pub gap_words : ℤ → ℤ → List ℕ
 gap_words gap lack = codes ": " ++ measured_words (codes "gap ") gap lack
 
--- two holes that lack their gap (docs/FORMATS.md, Report for people)
+-- two holes that lack their gap: `  hole 1 of pth, 0.4 at 0,0, and hole 2 of pth, 0.4 at 0,0: gap -0.4, lacks 0.65`
 unfoldable pub near_words : List (List ℕ) → GapLack → List ℕ
 near_words names lack = pair_words names lack.first lack.second ++ gap_words lack.gap lack.lack
 
--- the line of two holes that lack their gap, and why that is accepted (docs/FORMATS.md, Report for people)
+-- the line of two holes that lack their gap: these words, the reason if it is waived, and a line end
 unfoldable pub gap_line : List (List ℕ) → GapLack → Option (Bor (List ℕ)) → List ℕ
 gap_line names lack why = near_words names lack ++ (why_words why ++ ascii.line_feed ∷ [])
 
--- a finding at this position of the whole report is shown: each where there is no limit, else those below it (docs/FORMATS.md, Report for people)
+-- a finding at this position has its line: each below the limit, or every one where there is no limit
 abbrev pub is_shown : Option ℕ → ℕ → Bool
 is_shown None position = true
 is_shown (Some most) position = nat_lt position most
 
--- the line that tells how many are not shown, where there are some (docs/FORMATS.md, Report for people)
+-- the line for the findings without a line: `  and 4 more`; nothing where there are none
 abbrev pub more_line : ℕ → List ℕ
 more_line left = if left == 0 then [] else codes "  and " ++ (decimal left ++ codes " more\n")
 
--- the lines of some findings with their positions: of those that are shown, and of how many are not (docs/FORMATS.md, Report for people)
+-- the lines of some findings with their positions: of those that are shown, then the number of the others
 abbrev pub shown_lines : {X : Type 0} → (ℕ × X → List ℕ) → Option ℕ → List (ℕ × X) → List ℕ
 shown_lines line most findings =
     flat_map line (filter (λ finding. is_shown most finding.0) findings)
     ++ more_line (count_by (λ finding. not (is_shown most finding.0)) findings)
 
--- how many of the holes that ask a ring on a layer lack it (docs/FORMATS.md, Report for people)
+-- the number of holes on a layer that lack their ring, and of those that need one: `top_layer: 3 of 245 rings lacking`
 abbrev pub layer_words : List ℕ → ℕ → ℕ → List ℕ
 layer_words name lacking asked = name ++ (codes ": " ++ (decimal lacking ++ (codes " of " ++ (decimal asked ++ codes " rings lacking"))))
 
--- the line of a layer: how many of the holes that ask a ring there lack it, and of how many that is waived (docs/FORMATS.md, Report for people)
+-- the line of a layer: `top_layer: 3 of 245 rings lacking, 3 waived`
 abbrev pub layer_line : List ℕ → ℕ → ℕ → ℕ → List ℕ
 layer_line name lacking asked waived = layer_words name lacking asked ++ (waived_words waived ++ ascii.line_feed ∷ [])
 
--- the rings that are lacking on a layer, with their places among all rings (docs/FORMATS.md, Report for people)
+-- the holes that lack their ring on a layer, with their places among all rings
 abbrev pub rings_on : ℕ → List RingLack → List (ℕ × RingLack)
 rings_on layer rings = filter (λ finding. finding.1.layer == layer) (enumerate_from 0 rings)
 
--- how many of the rings that are lacking on a layer are waived (docs/FORMATS.md, Report for people)
+-- the number of these that are waived
 abbrev pub waived_on : List (Option (Bor (List ℕ))) → ℕ → List RingLack → ℕ
 waived_on whys layer rings = count_by (λ finding. is_waived whys finding.0) (rings_on layer rings)
 
--- a layer, by its place and its head: its line, and those of the rings that are lacking there (docs/FORMATS.md, Report for people)
+-- a layer, by its place and its head: its line, then those of the holes that lack their ring there
 abbrev pub layer_text : List (List ℕ) → Option ℕ → List RingLack → List (Option (Bor (List ℕ))) → ℕ × LayerHead → List ℕ
 layer_text names most rings whys layer =
     layer_line (name_of names layer.1.file) (count_by (λ lack. lack.layer == layer.0) rings) layer.1.asked (waived_on whys layer.0 rings)
     ++ shown_lines (λ finding. ring_line names finding.1 (why_at whys finding.0)) most (rings_on layer.0 rings)
 
--- how many gaps are lacking (docs/FORMATS.md, Report for people)
+-- the number of gaps lacking: `6 gaps lacking`
 abbrev pub gaps_words : ℕ → List ℕ
 gaps_words lacking = decimal lacking ++ codes " gaps lacking"
 
--- the line of the gaps: how many are lacking, and how many of them are waived (docs/FORMATS.md, Report for people)
+-- the line of the gaps: `6 gaps lacking, 2 waived`
 abbrev pub gaps_line : ℕ → ℕ → List ℕ
 gaps_line lacking waived = gaps_words lacking ++ (waived_words waived ++ ascii.line_feed ∷ [])
 
--- the gaps that are lacking, behind so many rings (docs/FORMATS.md, Report for people)
+-- the gaps that are lacking, after this many rings: their positions come after those of the rings
 abbrev pub gaps_text : List (List ℕ) → Option ℕ → ℕ → List GapLack → List (Option (Bor (List ℕ))) → List ℕ
 gaps_text names most rings gaps whys =
     gaps_line (length gaps) (waived_of whys (length gaps))
     ++ shown_lines (λ finding. gap_line names finding.1 (why_at whys (finding.0 - rings))) most (enumerate_from rings gaps)
 
--- how many rings are lacking, why, and what is said of it (docs/FORMATS.md, Report for people)
+-- the line of a cause: `4 pad too small: ` and the hint
 abbrev pub counted_words : ℕ → List ℕ → List ℕ → List ℕ
 counted_words count words hint = decimal count ++ (codes " " ++ (words ++ (codes ": " ++ (hint ++ ascii.line_feed ∷ []))))
 
--- the line of a kind, by how many rings are lacking by it: none where there is none (docs/FORMATS.md, Report for people)
+-- the line of a kind of cause, by the number of its rings; nothing where it is 0
 abbrev pub count_line : Kind → ℕ → List ℕ
 count_line kind count = if count == 0 then [] else counted_words count (kind_words kind) (hint kind)
 
--- the line of a kind of cause (docs/FORMATS.md, Report for people)
+-- the line of a kind of cause, for these rings
 abbrev pub kind_line : List RingLack → Kind → List ℕ
 kind_line rings kind = count_line kind (count_by (λ lack. is_of_kind kind lack.cause) rings)
 
--- what a ring lacks, where its hole lies in a pad (docs/FORMATS.md, Report for people)
+-- the length that a ring lacks; nothing where the hole lies in no pad or is an oblique slot
 abbrev pub lack_of : RingCause → Option ℤ
 lack_of (causes.Small place) = Some place.lack
 lack_of (causes.Off place) = Some place.lack
@@ -253,110 +254,110 @@ lack_of (causes.Other why flash) = None
 lack_of causes.Nothing = None
 lack_of causes.Oblique = None
 
--- the least and the greatest of some lengths (docs/FORMATS.md, Report for people)
+-- the least and the greatest of some lengths; nothing where there is none
 abbrev pub least_and_greatest : List ℤ → Option (ℤ × ℤ)
 least_and_greatest [] = None
 least_and_greatest (first ∷ rest) = Some (fold int_min first rest, fold int_max first rest)
 
--- the line of the least and the greatest lack, where there is one (docs/FORMATS.md, Report for people)
+-- the line of the least and the greatest lack: `rings lack 0.001 to 0.375`; nothing where there is none
 abbrev pub lacks_line : List ℕ → Option (ℤ × ℤ) → List ℕ
 lacks_line word None = []
 lacks_line word (Some lacks) = word ++ (two_lengths lacks.0 (codes " to ") lacks.1 ++ ascii.line_feed ∷ [])
 
--- the line of a drill file by its name: how many holes are bare, and how many would be with their coordinates times a factor (docs/FORMATS.md, Report for people)
+-- the line of a drill file by its name: `pth: 3 holes have no pad; at 0.1 times their coordinates 0 would have none`
 unfoldable pub scale_words : List ℕ → ℕ → List ℕ → ℕ → List ℕ
 scale_words name bare factor still =
     name ++ (codes ": " ++ (decimal bare ++ (codes " holes have no pad; at " ++ (factor ++ (codes " times their coordinates " ++ (decimal still ++ codes " would have none\n"))))))
 
--- the line of a drill file whose coordinates seem to be off by a factor (docs/FORMATS.md, Report for people)
+-- the line of a drill file whose coordinates seem to be off by a factor
 abbrev pub scale_line : List (List ℕ) → ScaleLine → List ℕ
 scale_line names line = scale_words (name_of names line.drill) line.bare (factor_word line.factor) line.then
 
--- the rules that are met: those up to a length, all or none (docs/FORMATS.md, Report for people)
+-- the greatest rule that is met: a length, `any` where every rule is met, or `none`
 abbrev pub met_words : Met → List ℕ
 met_words mets.Any = codes "any"
 met_words (mets.Most length) = short_millimetres length
 met_words mets.None = codes "none"
 
--- the same rules are met (docs/FORMATS.md, Report for people)
+-- equal rules are met
 abbrev pub are_same : Met → Met → Bool
 are_same mets.Any mets.Any = true
 are_same (mets.Most first) (mets.Most second) = int_eq first second
 are_same mets.None mets.None = true
 are_same _ _ = false
 
--- words, and what is met behind them (docs/FORMATS.md, Report for people)
+-- words, then the greatest rule that is met: `; where a pad is, ring 0.275`
 abbrev pub named_met : List ℕ → Met → List ℕ
 named_met words met = words ++ met_words met
 
--- the ring where a pad is (docs/FORMATS.md, Report for people)
+-- the greatest ring for holes that lie in pads: `; where a pad is, ring 0.275`
 abbrev pub held_ring : Met → List ℕ
 held_ring held = named_met (codes "; where a pad is, ring ") held
 
--- the ring where a pad is, where it is another (docs/FORMATS.md, Report for people)
+-- these words, if that ring differs from the one of all holes
 abbrev pub held_words : Met → Met → List ℕ
 held_words ring held = if are_same ring held then [] else held_ring held
 
--- the ring and the gap that the package meets (docs/FORMATS.md, Report for people)
+-- the greatest ring and gap that the package meets: `this board meets ring none, gap 1.046051224`
 abbrev pub both_words : Met → Met → List ℕ
 both_words ring gap = codes "this board meets ring " ++ (met_words ring ++ (codes ", gap " ++ met_words gap))
 
--- the line of the rules that the package meets (docs/FORMATS.md, Report for people)
+-- the line of these: `this board meets ring none, gap 1.046051224; where a pad is, ring 0.275`
 unfoldable pub meets_line : Meets → List ℕ
 meets_line meets = both_words meets.ring meets.gap ++ (held_words meets.ring meets.held ++ ascii.line_feed ∷ [])
 
--- the first line: the rules that are asked (docs/FORMATS.md, Report for people)
+-- the first line, with the rules of the check: `ring 0.15, gap 0.25`
 unfoldable pub rules_line : GridRules → List ℕ
 rules_line rules = codes "ring " ++ (two_lengths (pos rules.ring) (codes ", gap ") (pos rules.gap) ++ ascii.line_feed ∷ [])
 
--- the line of a waiver that waives nothing, by the number of its record (docs/FORMATS.md, Report for people)
+-- the line of a waiver that waives nothing, by the number of its record: `waiver 8 waives nothing`
 abbrev pub idle_line : ℕ → List ℕ
 idle_line number = codes "waiver " ++ (decimal number ++ codes " waives nothing\n")
 
--- the last line: that nothing is lacking, that all findings are waived, or how many are not (docs/FORMATS.md, Report for people)
+-- the last line: `PASS` without findings, `WAIVED 6` where all are waived, else `FINDINGS 6` with the number of the others
 abbrev pub last_line : ℕ → ℕ → List ℕ
 last_line findings waived =
     if findings == 0 then codes "PASS\n"
     else if waived == findings then codes "WAIVED " ++ (decimal findings ++ ascii.line_feed ∷ [])
     else codes "FINDINGS " ++ (decimal (findings - waived) ++ ascii.line_feed ∷ [])
 
--- the lines of the least and the greatest lacks, of rings and of gaps (docs/FORMATS.md, Report for people)
+-- the lines `rings lack` and `gaps lack`
 abbrev pub lacks_text : List RingLack → List GapLack → List ℕ
 lacks_text rings gaps =
     lacks_line (codes "rings lack ") (least_and_greatest (filter_map (λ lack. lack_of lack.cause) rings))
     ++ lacks_line (codes "gaps lack ") (least_and_greatest (map (λ lack. lack.lack) gaps))
 
--- the rules, and the findings (docs/FORMATS.md, Report for people)
+-- the first part of a report: the rules and the findings
 abbrev pub findings_text : List (List ℕ) → Telling → Option ℕ → List (Option (Bor (List ℕ))) → List (Option (Bor (List ℕ))) → List ℕ
 findings_text names telling most rings gaps =
     rules_line telling.rules
     ++ (flat_map (layer_text names most telling.rings.items rings) (enumerate_from 0 telling.layers.items)
     ++ gaps_text names most (length telling.rings.items) telling.gaps.items gaps)
 
--- why rings are lacking, how much is lacking, and what coordinates seem to be off (docs/FORMATS.md, Report for people)
+-- the second part: the causes, the lacks, and the drill files whose coordinates seem to be off
 abbrev pub causes_text : List (List ℕ) → Telling → List ℕ
 causes_text names telling =
     flat_map (kind_line telling.rings.items) all_kinds
     ++ (lacks_text telling.rings.items telling.gaps.items ++ flat_map (scale_line names) telling.scales.items)
 
--- how many findings are waived, rings and gaps, by the reasons of each (docs/FORMATS.md, Report for people)
+-- the number of findings that are waived, rings and gaps, by their reasons
 abbrev pub waived_in : Telling → List (Option (Bor (List ℕ))) → List (Option (Bor (List ℕ))) → ℕ
 waived_in telling rings gaps = waived_of rings (length telling.rings.items) + waived_of gaps (length telling.gaps.items)
 
--- the rules that the package meets, the waivers that waive nothing, and the last line (docs/FORMATS.md, Report for people)
+-- the last part: the rules that the package meets, the waivers that waive nothing, and the last line
 abbrev pub last_lines : Telling → List (Option (Bor (List ℕ))) → List (Option (Bor (List ℕ))) → List ℕ → List ℕ
 last_lines telling rings gaps idle =
     meets_line telling.meets ++ (flat_map idle_line idle ++ last_line (length telling.rings.items + length telling.gaps.items) (waived_in telling rings gaps))
 
--- the text of a report by the reasons of its rings and of its gaps, and by the numbers of the waivers that waive nothing (docs/FORMATS.md, Report for people)
+-- the text of a report, by the reasons of its rings and gaps, and the numbers of the waivers that waive nothing
 abbrev pub told_text : List (List ℕ) → Telling → Option ℕ → List (Option (Bor (List ℕ))) → List (Option (Bor (List ℕ))) → List ℕ → List ℕ
 told_text names telling most rings gaps idle =
     findings_text names telling most rings gaps ++ (causes_text names telling ++ last_lines telling rings gaps idle)
 
--- the text of a report for people with waivers, by the names of the files and how many findings are shown at most (docs/FORMATS.md, Report for people)
+-- the text of a report with waivers; `names` are those of the files, `most` is how many findings are shown at most
 abbrev pub waived_text : List (List ℕ) → Telling → Option ℕ → Whys → List ℕ
 waived_text names telling most whys = told_text names telling most whys.rings.now whys.gaps.now whys.idle.now
 
--- the same without waivers (docs/FORMATS.md, Report for people)
+-- the text of a report without waivers
 abbrev pub telling_text : List (List ℕ) → Telling → Option ℕ → List ℕ
 telling_text names telling most = told_text names telling most [] [] []

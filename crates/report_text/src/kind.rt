@@ -1,4 +1,4 @@
-//! The kinds of causes, in the order in which they are told.
+//! The kinds of causes, in the order in which a report counts them.
 
 ghost use Rattle.std.specs.Prelude.{◌≡◌};
 ghost use Rattle.report_text.specs.Causes.{flash_kind, hint, is_of_kind, kind_of, kind_words};
@@ -6,7 +6,7 @@ ghost use Rattle.report_text.specs.Causes.{flash_kind, hint, is_of_kind, kind_of
 use crate::RingCause;
 use layer_image::Why;
 
-/// What causes have in common that are counted together.
+/// The kind of a cause, by which a report counts causes.
 #[derive(Clone, Copy, Debug, PartialEq, Eq)]
 pub(crate) enum Kind {
     Small,
@@ -20,7 +20,7 @@ pub(crate) enum Kind {
     Oblique,
 }
 
-/// The kinds, in the order in which they are told.
+/// The kinds, in the order in which a report counts them.
 pub(crate) const KINDS: [Kind; 9] = [
     Kind::Small,
     Kind::Off,
@@ -66,7 +66,7 @@ pub(crate) fn is_of_kind(kind: Kind, cause: &RingCause) -> bool
     kind_of(cause) == kind
 }
 
-/// The words of a kind.
+/// The words for a kind, as in a line of a hole.
 pub(crate) fn kind_words(kind: Kind) -> &'static str
     ensures { result.now ≡ kind_words kind }
 {
@@ -83,7 +83,7 @@ pub(crate) fn kind_words(kind: Kind) -> &'static str
     }
 }
 
-/// What is said of a kind.
+/// The hint that a report prints for a kind.
 pub(crate) fn hint(kind: Kind) -> &'static str
     ensures { result.now ≡ hint kind }
 {

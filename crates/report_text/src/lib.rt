@@ -1,6 +1,6 @@
 //! The text of a report for people: by how much each ring or gap of a package is lacking, and why.
 //!
-//! All lengths are whole picometres (pm), and are written in millimetres without the zeros at their end.
+//! All lengths are whole picometres (pm), and are printed in millimetres without zeros at the end.
 #![tactic(auto)]
 
 mod kind;
@@ -20,40 +20,40 @@ pub use tallies::lack_of;
 pub use waived::{count_waived, longest_why, why_of};
 pub use words::{name_of, push_drilled};
 
-/// The pad in which a hole lies deepest, and the ring that it has there.
+/// The best pad of a hole, in which it lies deepest, and the hole's ring there.
 #[derive(Clone, Copy, Debug, PartialEq, Eq)]
 pub struct InPad {
     /// The number of its flash on the layer, from 1.
     pub flash: usize,
-    /// The pad.
+    /// The pad itself.
     pub pad: Pad,
-    /// The ring in pm, from -5 m to 5 m. Below 0 the hole is wider than the copper round its centre.
+    /// The ring in pm, from -5 m to 5 m. Below 0 the hole's edge lies outside the pad.
     pub ring: i64,
-    /// The ring that is asked less this one, in pm: from 1 pm to 15 m.
+    /// The required ring less this one, in pm: from 1 pm to 15 m.
     pub lack: i64,
 }
 
-/// Why a hole lacks its ring on a layer: the first that applies.
+/// Why a hole lacks its ring on a layer: the first cause that applies.
 #[derive(Clone, Copy, Debug, PartialEq, Eq)]
 pub enum RingCause {
     /// The pad is too small for the hole and its ring, wherever the hole stands in it.
     Small(InPad),
-    /// The pad is large enough, and the hole stands off its centre.
+    /// The pad is large enough, but the hole stands off its centre.
     Off(InPad),
-    /// The hole lies in no pad, and a flash that is none stands in it: why it is none, and its number on the layer, from 1.
+    /// The hole lies in no pad, but a flash that is no pad has its point in the hole.
     Other {
         /// Why the flash is no pad.
         why: Why,
         /// The number of the flash on the layer, from 1.
         flash: usize,
     },
-    /// The hole lies in no pad, and no other flash stands in it.
+    /// The hole lies in no pad, and no other flash has its point in it.
     Nothing,
     /// The hole is a plated slot that lies along no axis.
     Oblique,
 }
 
-/// A hole and where it stands in a package.
+/// A hole with its place in a package.
 #[derive(Clone, Copy, Debug, PartialEq, Eq)]
 pub struct HoleAt {
     /// The index of the drill file in the package, from 0.
@@ -84,23 +84,23 @@ pub struct GapLack {
     pub second: HoleAt,
     /// The gap in pm, from -10 m to 10 m. Below 0 the holes overlap.
     pub gap: i64,
-    /// The gap that is asked less this one, in pm: from 1 pm to 20 m.
+    /// The required gap less this one, in pm: from 1 pm to 20 m.
     pub lack: i64,
 }
 
-/// A layer, before the holes that lack their ring there.
+/// The head of a layer: its file, and how many holes need a ring there.
 #[derive(Clone, Copy, Debug, PartialEq, Eq)]
 pub struct LayerHead {
     /// The index of the copper file in the package, from 0.
     pub file: usize,
-    /// How many holes ask a ring there.
+    /// The number of holes that need a ring there.
     pub asked: usize,
 }
 
-/// What a report tells of a package.
+/// The report on a package.
 #[derive(Debug, Drop)]
 pub struct Telling {
-    /// The ring and the gap that are asked.
+    /// The required ring and gap.
     pub rules: Rules,
     /// The layers, in the order of the copper files.
     pub layers: Vec<LayerHead>,
@@ -114,12 +114,12 @@ pub struct Telling {
     pub meets: Meets,
 }
 
-/// Why findings of a report are accepted. A list that is shorter than the findings says `None` of the others.
+/// The reasons why findings of a report are accepted. Findings past the end of a list have none.
 #[derive(Clone, Copy, Debug)]
 pub struct Whys<'a> {
-    /// Of each ring that is lacking, in the order of [`Telling::rings`], the reason why it is accepted, or `None`.
+    /// For each ring, in the order of [`Telling::rings`], the reason why it is accepted, or `None`.
     pub rings: &'a [Option<&'a str>],
-    /// The same of each gap.
+    /// For each gap, in the order of [`Telling::gaps`], the reason why it is accepted, or `None`.
     pub gaps: &'a [Option<&'a str>],
     /// The numbers of the records of the file of waivers that waive nothing, in order.
     pub idle: &'a [usize],

@@ -12,7 +12,7 @@ use printing::{push_short_mm, push_words};
 use std::alloc::AllocError;
 use std::fmt::Write;
 
-/// Appends the first line: the rules that are asked.
+/// Appends the first line: the rules of the check.
 #[tactic(auto, unfolding(crate::specs::Texts::rules_line))]
 pub(crate) fn push_rules(text: &mut String, rules: &Rules) -> Result<(), AllocError>
     ensures { OnOk result (string_bytes text.new ≡ string_bytes text.old ++ rules_line rules.now) }
@@ -22,7 +22,7 @@ pub(crate) fn push_rules(text: &mut String, rules: &Rules) -> Result<(), AllocEr
     push_words(text, "\n")
 }
 
-/// Appends how many of the holes that ask a ring on a layer lack it.
+/// Appends the number of holes on a layer that lack their ring, and of those that need one.
 fn push_layer_words(
     text: &mut String,
     name: &str,
@@ -37,7 +37,7 @@ fn push_layer_words(
     }
 }
 
-/// Appends how many findings are waived, where there are some.
+/// Appends the number of waived findings, if it is not 0.
 fn push_waived(text: &mut String, waived: usize) -> Result<(), AllocError>
     ensures { OnOk result (string_bytes text.new ≡ string_bytes text.old ++ waived_words waived) }
 {
@@ -50,7 +50,7 @@ fn push_waived(text: &mut String, waived: usize) -> Result<(), AllocError>
     }
 }
 
-/// Appends why a finding is accepted, where it is.
+/// Appends the reason why a finding is accepted, if it is.
 fn push_why(text: &mut String, why: Option<&str>) -> Result<(), AllocError>
     ensures { OnOk result (string_bytes text.new ≡ string_bytes text.old ++ why_words why.entry) }
 {
@@ -87,7 +87,7 @@ fn push_ring_words(text: &mut String, names: &[&str], lack: &RingLack) -> Result
     push_cause(text, &lack.at.hole, &lack.cause)
 }
 
-/// Appends the line of a hole that lacks its ring, and why that is accepted.
+/// Appends the line of a hole that lacks its ring, with the reason if it is waived.
 #[tactic(auto, unfolding(crate::specs::Texts::ring_line))]
 pub(crate) fn push_ring(
     text: &mut String,
@@ -102,7 +102,7 @@ pub(crate) fn push_ring(
     push_words(text, "\n")
 }
 
-/// Appends how many findings are not shown.
+/// Appends the line `and N more`, if N is not 0.
 pub(crate) fn push_more(text: &mut String, left: usize) -> Result<(), AllocError>
     ensures { OnOk result (string_bytes text.new ≡ string_bytes text.old ++ more_line left) }
 {
@@ -115,7 +115,7 @@ pub(crate) fn push_more(text: &mut String, left: usize) -> Result<(), AllocError
     }
 }
 
-/// Appends how many gaps are lacking.
+/// Appends the number of gaps lacking.
 fn push_gaps_words(text: &mut String, lacking: usize) -> Result<(), AllocError>
     ensures { OnOk result (string_bytes text.new ≡ string_bytes text.old ++ gaps_words lacking) }
 {
@@ -125,7 +125,7 @@ fn push_gaps_words(text: &mut String, lacking: usize) -> Result<(), AllocError>
     }
 }
 
-/// Appends how many gaps are lacking, and how many of them are waived.
+/// Appends the line of the gaps: how many are lacking, and how many of them are waived.
 pub(crate) fn push_gaps(text: &mut String, lacking: usize, waived: usize) -> Result<(), AllocError>
     ensures { OnOk result (string_bytes text.new ≡ string_bytes text.old ++ gaps_line lacking waived) }
 {
@@ -149,7 +149,7 @@ fn push_pair(
     push_hole(text, names, second)
 }
 
-/// Appends the gap that two holes have, and what it lacks.
+/// Appends the gap of two holes, and what it lacks.
 fn push_gap_words(text: &mut String, gap: i64, lack: i64) -> Result<(), AllocError>
     ensures { OnOk result (string_bytes text.new ≡ string_bytes text.old ++ gap_words gap lack) }
 {
@@ -166,7 +166,7 @@ fn push_near(text: &mut String, names: &[&str], lack: &GapLack) -> Result<(), Al
     push_gap_words(text, lack.gap, lack.lack)
 }
 
-/// Appends the line of two holes that lack their gap, and why that is accepted.
+/// Appends the line of two holes that lack their gap, with the reason if it is waived.
 #[tactic(auto, unfolding(crate::specs::Texts::gap_line))]
 pub(crate) fn push_gap(
     text: &mut String,
@@ -181,7 +181,7 @@ pub(crate) fn push_gap(
     push_words(text, "\n")
 }
 
-/// Appends how many rings are lacking, why, and what is said of it.
+/// Appends the line of a cause: the number of its rings, its words and its hint.
 fn push_counted(text: &mut String, count: usize, words: &str, hint: &str) -> Result<(), AllocError>
     ensures { OnOk result (string_bytes text.new ≡ string_bytes text.old ++ counted_words count words.now hint.now) }
 {
@@ -191,7 +191,7 @@ fn push_counted(text: &mut String, count: usize, words: &str, hint: &str) -> Res
     }
 }
 
-/// Appends the line of a kind, by how many rings are lacking by it.
+/// Appends the line of a kind of cause, by the number of its rings.
 pub(crate) fn push_count(text: &mut String, kind: Kind, count: usize) -> Result<(), AllocError>
     ensures { OnOk result (string_bytes text.new ≡ string_bytes text.old ++ count_line kind count) }
 {
@@ -201,7 +201,7 @@ pub(crate) fn push_count(text: &mut String, kind: Kind, count: usize) -> Result<
     push_counted(text, count, kind_words(kind), hint(kind))
 }
 
-/// Appends the line of the least and the greatest lack, where there is one.
+/// Appends the line of the least and the greatest lack, if there is one.
 pub(crate) fn push_lacks(
     text: &mut String,
     word: &str,
@@ -217,7 +217,7 @@ pub(crate) fn push_lacks(
     push_words(text, "\n")
 }
 
-/// Appends the line of a drill file by its name and the word of the factor.
+/// Appends the line of a drill file, by its name and the word of the factor.
 #[tactic(auto, unfolding(crate::specs::Texts::scale_words))]
 fn push_factor(
     text: &mut String,
@@ -255,7 +255,7 @@ pub(crate) fn push_scale(
     )
 }
 
-/// Appends what is met: a length, `any` or `none`.
+/// Appends the greatest rule that is met: a length, `any` or `none`.
 fn push_met(text: &mut String, met: Met) -> Result<(), AllocError>
     ensures { OnOk result (string_bytes text.new ≡ string_bytes text.old ++ met_words met) }
 {
@@ -266,14 +266,13 @@ fn push_met(text: &mut String, met: Met) -> Result<(), AllocError>
     }
 }
 
-/// Whether the same rules are met.
 fn are_same(first: Met, second: Met) -> bool
     ensures { result ≡ are_same first second }
 {
     first == second
 }
 
-/// Appends words, and what is met behind them.
+/// Appends words, then the greatest rule that is met.
 fn push_named(text: &mut String, words: &str, met: Met) -> Result<(), AllocError>
     ensures { OnOk result (string_bytes text.new ≡ string_bytes text.old ++ named_met words.now met) }
 {
@@ -281,14 +280,14 @@ fn push_named(text: &mut String, words: &str, met: Met) -> Result<(), AllocError
     push_met(text, met)
 }
 
-/// Appends the ring where a pad is.
+/// Appends the greatest ring for holes that lie in pads.
 fn push_held_ring(text: &mut String, held: Met) -> Result<(), AllocError>
     ensures { OnOk result (string_bytes text.new ≡ string_bytes text.old ++ held_ring held) }
 {
     push_named(text, "; where a pad is, ring ", held)
 }
 
-/// Appends the ring where a pad is, where it is another.
+/// Appends the greatest ring for holes that lie in pads, if it differs from that of all holes.
 fn push_held(text: &mut String, ring: Met, held: Met) -> Result<(), AllocError>
     ensures { OnOk result (string_bytes text.new ≡ string_bytes text.old ++ held_words ring held) }
 {
@@ -298,7 +297,7 @@ fn push_held(text: &mut String, ring: Met, held: Met) -> Result<(), AllocError>
     push_held_ring(text, held)
 }
 
-/// Appends the ring and the gap that the package meets.
+/// Appends the greatest ring and gap that the package meets.
 fn push_both(text: &mut String, ring: Met, gap: Met) -> Result<(), AllocError>
     ensures { OnOk result (string_bytes text.new ≡ string_bytes text.old ++ both_words ring gap) }
 {
@@ -338,7 +337,7 @@ fn push_result(text: &mut String, word: &str, count: u128) -> Result<(), AllocEr
     }
 }
 
-/// Appends the last line: that nothing is lacking, that all findings are waived, or how many are not.
+/// Appends the last line: `PASS`, `WAIVED n` or `FINDINGS n`.
 pub(crate) fn push_last(text: &mut String, findings: u128, waived: u128) -> Result<(), AllocError>
     requires { waived ≤ findings }
     ensures { OnOk result (string_bytes text.new ≡ string_bytes text.old ++ last_line findings waived) }

@@ -30,10 +30,10 @@ use thiserror::Error;
 /// Why a report was not printed.
 #[derive(Clone, Copy, Debug, PartialEq, Eq, Error)]
 pub enum PrintFault {
-    /// There was no memory, and nothing was written.
+    /// Memory ran out, and nothing was written.
     #[error("out of memory before the report was written")]
     Memory,
-    /// The writer failed, and it is not known what it took.
+    /// The writer failed. It may have taken a part of the text.
     #[error("the report was not written to its end")]
     Cut,
 }
@@ -86,7 +86,7 @@ fn gather_head<W: Write>(
     }
 }
 
-/// Gathers the line of a hole that lacks its ring, where it is shown.
+/// Gathers the line of a hole that lacks its ring, if it is shown.
 fn gather_ring<W: Write>(
     text: &mut String,
     names: &[&str],
@@ -107,7 +107,7 @@ fn gather_ring<W: Write>(
     }
 }
 
-/// Gathers the lines of the rings on the layer of a run that are shown.
+/// Gathers the lines of those rings on the layer of a run that are shown.
 fn gather_rings<W: Write>(
     text: &mut String,
     names: &[&str],
@@ -127,7 +127,7 @@ fn gather_rings<W: Write>(
     Ok(())
 }
 
-/// Gathers how many of the rings that are lacking on the layer of a run are not shown.
+/// Gathers the number of those rings on the layer of a run that are not shown.
 fn gather_rings_left<W: Write>(
     text: &mut String,
     rings: &[RingLack],
@@ -185,7 +185,7 @@ fn gather_layers<W: Write>(
     Ok(())
 }
 
-/// Appends how many gaps are lacking, and how many of them are waived.
+/// Appends the line of the gaps: how many are lacking, and how many of them are waived.
 fn push_gaps_line(
     text: &mut String,
     gaps: &[GapLack],
@@ -197,7 +197,7 @@ fn push_gaps_line(
     push_gaps(text, gaps.len(), waived)
 }
 
-/// Gathers how many gaps are lacking, and how many of them are waived.
+/// Gathers the line of the gaps.
 fn gather_gaps_line<W: Write>(
     text: &mut String,
     gaps: &[GapLack],
@@ -213,7 +213,7 @@ fn gather_gaps_line<W: Write>(
     }
 }
 
-/// Gathers how many of the gaps that are lacking, behind so many rings, are not shown.
+/// Gathers the number of the gaps that are not shown, after this many rings.
 fn gather_gaps_left<W: Write>(
     text: &mut String,
     gaps: &[GapLack],
@@ -230,7 +230,7 @@ fn gather_gaps_left<W: Write>(
     }
 }
 
-/// Gathers the line of two holes that lack their gap, where it is shown.
+/// Gathers the line of two holes that lack their gap, if it is shown.
 fn gather_gap<W: Write>(
     text: &mut String,
     names: &[&str],
@@ -251,7 +251,7 @@ fn gather_gap<W: Write>(
     }
 }
 
-/// Gathers the lines of the gaps that are shown, behind so many rings.
+/// Gathers the lines of the gaps that are shown, after this many rings.
 fn gather_gaps<W: Write>(
     text: &mut String,
     names: &[&str],
@@ -379,7 +379,7 @@ fn gather_lacks<W: Write>(
     }
 }
 
-/// Gathers the line of a drill file whose coordinates seem to be off.
+/// Gathers the line of a drill file whose coordinates seem to be off by a factor.
 fn gather_scale<W: Write>(
     text: &mut String,
     names: &[&str],
@@ -395,7 +395,7 @@ fn gather_scale<W: Write>(
     }
 }
 
-/// Gathers the lines of the drill files whose coordinates seem to be off.
+/// Gathers the lines of the drill files whose coordinates seem to be off by a factor.
 fn gather_scales<W: Write>(
     text: &mut String,
     names: &[&str],
@@ -410,7 +410,7 @@ fn gather_scales<W: Write>(
     Ok(())
 }
 
-/// Gathers why rings are lacking, how much is lacking, and what coordinates seem to be off.
+/// Gathers the causes, the lacks, and the drill files whose coordinates seem to be off by a factor.
 fn gather_causes<W: Write>(
     text: &mut String,
     names: &[&str],
@@ -465,7 +465,7 @@ fn push_end(text: &mut String, telling: &Telling, whys: &Whys) -> Result<(), All
     push_last(text, findings, count_waived(telling, whys))
 }
 
-/// Gathers the last line, and writes what is left.
+/// Gathers the last line, and writes the rest.
 fn end<W: Write>(text: &mut String, telling: &Telling, whys: &Whys, out: &mut W) -> Result<(), Cut>
     ensures { OnOk result (Appends (W.contents out.old) (W.contents out.new) (string_bytes text.old ++ last_line (length telling.now.rings.items + length telling.now.gaps.items) (waived_in telling.now whys.now.rings.now whys.now.gaps.now))) }
 {
@@ -475,7 +475,7 @@ fn end<W: Write>(text: &mut String, telling: &Telling, whys: &Whys, out: &mut W)
     }
 }
 
-/// Gathers the last lines, and writes what is left.
+/// Gathers the last lines, and writes the rest.
 fn print_last<W: Write>(
     text: &mut String,
     telling: &Telling,
@@ -489,7 +489,7 @@ fn print_last<W: Write>(
     end(text, telling, whys, out)
 }
 
-/// Prints what `text` holds, and the text of a report behind it, by the runs of the layers.
+/// Prints the bytes of `text`, and then the text of a report, by the runs of its layers.
 fn print_lines<W: Write>(
     text: &mut String,
     names: &[&str],
@@ -508,7 +508,7 @@ fn print_lines<W: Write>(
     print_last(text, telling, whys, out)
 }
 
-/// How many bytes the longest name has.
+/// The length of the longest name in bytes.
 fn longest(names: &[&str]) -> usize {
     let mut longest = 0;
     for name in names {
@@ -517,13 +517,13 @@ fn longest(names: &[&str]) -> usize {
     longest
 }
 
-/// How many bytes the names and the reason in a line have at most.
+/// The most bytes that the names and the reason of a line have.
 fn longest_told(names: &[&str], whys: &Whys) -> usize {
     let why = longest_why(whys.rings).max(longest_why(whys.gaps));
     longest(names).saturating_mul(2).saturating_add(why)
 }
 
-/// An empty text with room for the lines that are gathered before they are written, with two names and a reason in each.
+/// An empty buffer with room for the lines that are gathered before they are written, with two names and a reason in each.
 fn room(alloc: Global, names: &[&str], whys: &Whys) -> Result<String, AllocError>
     ensures { IfOk result (λ text. string_bytes text ≡ []) }
 {
@@ -533,15 +533,15 @@ fn room(alloc: Global, names: &[&str], whys: &Whys) -> Result<String, AllocError
     Ok(text)
 }
 
-/// Prints the text of a report for people, by the names of the files of the package, with at most so many findings, and with the
-/// reasons why findings are accepted. A finding that has a reason is told with it, and is not counted in the last line; it is
-/// `WAIVED` where each finding has one. The report is written in parts: what they are gathered in is taken before the first of them
-/// is written, with room for the longest reason, and a place for each layer, so no more memory is taken for a long report than for a
-/// short one. The rings may stand in any order; of a layer only those from its first to its last one are gone over.
+/// Prints the text of a report for people, with the reasons why findings are accepted. `names` are those of the package's files, `most`
+/// is how many findings are shown at most. A finding with a reason has it in its line, and is not counted in the last line, which is
+/// `WAIVED` where each finding has a reason. The text is written in parts: the buffer, with room for the longest reason, and a place for
+/// each layer are taken before the first of them is written, so a long report takes no more memory than a short one. The rings may be
+/// in any order; for each layer only those from its first to its last one are visited.
 ///
 /// # Errors
 ///
-/// [`PrintFault::Memory`] where there is no memory, and then nothing was written; [`PrintFault::Cut`] where the writer fails.
+/// [`PrintFault::Memory`] when memory runs out, and then nothing was written; [`PrintFault::Cut`] when the writer fails.
 pub fn print_waived<W: Write>(
     alloc: Global,
     names: &[&str],
@@ -565,13 +565,13 @@ pub fn print_waived<W: Write>(
     }
 }
 
-/// Prints the text of a report for people, by the names of the files of the package, with at most so many findings. It is written
-/// in parts: what they are gathered in is taken before the first of them is written, with a place for each layer, so no more memory
-/// is taken for a long report than for a short one.
+/// Prints the text of a report for people. `names` are those of the package's files, `most` is how many findings are shown at most. The
+/// text is written in parts: the buffer and a place for each layer are taken before the first of them is written, so a long report takes
+/// no more memory than a short one.
 ///
 /// # Errors
 ///
-/// [`PrintFault::Memory`] where there is no memory, and then nothing was written; [`PrintFault::Cut`] where the writer fails.
+/// [`PrintFault::Memory`] when memory runs out, and then nothing was written; [`PrintFault::Cut`] when the writer fails.
 pub fn print_telling<W: Write>(
     alloc: Global,
     names: &[&str],
@@ -590,11 +590,11 @@ pub fn print_telling<W: Write>(
     print_waived(alloc, names, telling, most, &none, out)
 }
 
-/// The text of a report for people, by the names of the files of the package, with at most so many findings.
+/// The text of a report for people. `names` are those of the package's files, `most` is how many findings are shown at most.
 ///
 /// # Errors
 ///
-/// An `AllocError` where there is no memory for it.
+/// An `AllocError` when memory runs out.
 pub fn write_telling(
     alloc: Global,
     names: &[&str],

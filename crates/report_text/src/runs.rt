@@ -1,4 +1,4 @@
-//! Where the rings of each layer stand in the list of all rings.
+//! The places of each layer's rings in the list of all rings.
 
 ghost use Rattle.std.specs.Prelude.{◌≡◌, ◌+◌, ◌<◌, ◌^◌, ℕ, IfOk, List, length};
 ghost use Rattle.report_text.specs.Inner.{AreRuns, IsRun};
@@ -6,18 +6,18 @@ ghost use Rattle.report_text.specs.Inner.{AreRuns, IsRun};
 use crate::RingLack;
 use std::alloc::{AllocError, Global};
 
-/// A layer, and the places in the list of rings among which all of its rings stand.
+/// A layer, and a range of places in the list of rings that has all of its rings.
 #[derive(Clone, Copy)]
 pub(crate) struct Run {
     /// The place of the layer among the copper files, from 0.
     pub(crate) layer: usize,
-    /// The first of the places.
+    /// The first place.
     pub(crate) first: usize,
-    /// The place behind the last of them.
+    /// The end of the places: one past the last.
     pub(crate) behind: usize,
 }
 
-/// A run of each of so many layers, without a ring: behind all rings.
+/// An empty run for each layer, at the end of all rings.
 fn empty_runs(alloc: Global, layers: usize, rings: &[RingLack]) -> Result<Vec<Run>, AllocError>
     ensures { IfOk result (λ runs. (length runs.items ≡ layers) × AreRuns rings.now 0 runs.items) }
 {
@@ -32,7 +32,7 @@ fn empty_runs(alloc: Global, layers: usize, rings: &[RingLack]) -> Result<Vec<Ru
     Ok(runs)
 }
 
-/// The run of a layer among the rings before a place, and of one more that stands there.
+/// The run of a layer among the rings before a place, and of one more at this place.
 fn longer(run: Run, place: usize) -> Run
     requires { place + 1 < 2 ^ 64 }
     ensures { (rings : List RingLack) (layer : ℕ) → place < length rings → IsRun rings place layer run → IsRun rings (place + 1) layer result }
@@ -44,7 +44,7 @@ fn longer(run: Run, place: usize) -> Run
     }
 }
 
-/// Takes one more ring into the run of its layer, where there is one.
+/// Adds the ring at a place to the run of its layer, if the layer has one.
 fn note(runs: &mut [Run], rings: &[RingLack], place: usize)
     requires { place < length rings.now }
     ensures length { length runs.new ≡ length runs.old }
@@ -56,7 +56,7 @@ fn note(runs: &mut [Run], rings: &[RingLack], place: usize)
     }
 }
 
-/// The runs of so many layers.
+/// The runs of this many layers.
 pub(crate) fn runs_of(
     alloc: Global,
     layers: usize,

@@ -1,4 +1,4 @@
-//! How many findings there are, which of them are shown, and how much they lack.
+//! Counts of findings and of those that are shown, and the least and greatest lacks.
 
 ghost use Rattle.std.specs.Prelude.{◌≡◌, ◌≤◌, ◌==◌, ◌&&◌, if◌then◌else◌, length, map, not};
 ghost use Rattle.std.specs.List.{count_by, enumerate_from, filter, filter_map};
@@ -10,7 +10,7 @@ use crate::kind::{Kind, is_of_kind};
 use crate::runs::Run;
 use crate::{GapLack, RingCause, RingLack};
 
-/// Whether a finding at this position of the whole report is shown.
+/// Whether the finding at a position of the whole report, from 0, is shown.
 pub(crate) fn is_shown(most: Option<usize>, position: u128) -> bool
     ensures { result ≡ is_shown most position }
 {
@@ -20,14 +20,14 @@ pub(crate) fn is_shown(most: Option<usize>, position: u128) -> bool
     }
 }
 
-/// How many of some rings are lacking on a layer.
+/// The number of rings in a list that are on a layer.
 fn rings_among(rings: &[RingLack], layer: usize) -> usize
     ensures { result ≡ count_by (λ lack. lack.layer == layer) rings.now }
 {
     rings.iter().filter(|lack| lack.layer == layer).count()
 }
 
-/// How many rings are lacking on the layer of a run.
+/// The number of rings on the layer of a run.
 pub(crate) fn rings_on(rings: &[RingLack], run: Run) -> usize
     requires { IsRun rings.now (length rings.now) run.layer run }
     ensures { result ≡ count_by (λ lack. lack.layer == run.layer) rings.now }
@@ -35,7 +35,7 @@ pub(crate) fn rings_on(rings: &[RingLack], run: Run) -> usize
     rings_among(&rings[run.first..run.behind], run.layer)
 }
 
-/// How many rings are lacking by a kind.
+/// The number of rings whose cause is of a kind.
 pub(crate) fn rings_by(rings: &[RingLack], kind: Kind) -> usize
     ensures { result ≡ count_by (λ lack. is_of_kind kind lack.cause) rings.now }
 {
@@ -45,7 +45,7 @@ pub(crate) fn rings_by(rings: &[RingLack], kind: Kind) -> usize
         .count()
 }
 
-/// Whether a ring at this position of the whole report is lacking on a layer, and shown.
+/// Whether a ring at a position of the whole report is on a layer, and shown.
 pub(crate) fn is_shown_on(
     lack: &RingLack,
     layer: usize,
@@ -57,14 +57,14 @@ pub(crate) fn is_shown_on(
     lack.layer == layer && is_shown(most, position)
 }
 
-/// Whether a ring at this position of the whole report is lacking on a layer, and not shown.
+/// Whether a ring at a position of the whole report is on a layer, and not shown.
 fn is_left_on(lack: &RingLack, layer: usize, most: Option<usize>, position: u128) -> bool
     ensures { result ≡ ((lack.now.layer == layer) && not (is_shown most position)) }
 {
     lack.layer == layer && !is_shown(most, position)
 }
 
-/// One where a test passes, else none.
+/// 1 if a test passes, else 0.
 pub(crate) fn one_if(passes: bool) -> usize
     ensures value { result ≡ (if passes then 1 else 0) }
     ensures within { result ≤ 1 }
@@ -72,7 +72,7 @@ pub(crate) fn one_if(passes: bool) -> usize
     if passes { 1 } else { 0 }
 }
 
-/// How many of the rings that are lacking on the layer of a run are not shown.
+/// The number of rings on the layer of a run that are not shown.
 pub(crate) fn rings_left(rings: &[RingLack], run: Run, most: Option<usize>) -> usize
     requires { IsRun rings.now (length rings.now) run.layer run }
     ensures { result ≡ count_by (λ finding. not (is_shown most finding.0)) (filter (λ finding. finding.1.layer == run.layer) (enumerate_from 0 rings.now)) }
@@ -84,7 +84,7 @@ pub(crate) fn rings_left(rings: &[RingLack], run: Run, most: Option<usize>) -> u
     left
 }
 
-/// How many of the gaps that are lacking, behind so many rings, are not shown.
+/// The number of gaps that are not shown, after this many rings.
 pub(crate) fn gaps_left(gaps: &[GapLack], rings: usize, most: Option<usize>) -> usize
     ensures { result ≡ count_by (λ finding. not (is_shown most finding.0)) (enumerate_from rings gaps.now) }
 {
@@ -95,7 +95,7 @@ pub(crate) fn gaps_left(gaps: &[GapLack], rings: usize, most: Option<usize>) -> 
     left
 }
 
-/// What a ring lacks, in pm, where its hole lies in a pad.
+/// The length that a ring lacks, in pm, if its hole lies in a pad.
 pub fn lack_of(cause: &RingCause) -> Option<i64>
     ensures { result ≡ lack_of cause.now }
 {
@@ -105,7 +105,7 @@ pub fn lack_of(cause: &RingCause) -> Option<i64>
     }
 }
 
-/// The least and the greatest of some lengths, and of one more where there is one.
+/// The least and the greatest of some lengths and one more, if there is one.
 fn widened(lacks: Option<(i64, i64)>, lack: Option<i64>) -> Option<(i64, i64)>
     ensures { result ≡ widened lacks lack }
 {

@@ -1,4 +1,4 @@
-//! Which findings are waived, and why.
+//! The findings that are waived, and the reasons.
 
 ghost use Rattle.std.specs.Prelude.{◌≡◌, ◌≤◌, ◌==◌, ◌&&◌, ◌+◌, length};
 ghost use Rattle.report_text.specs.Inner.{IsRun};
@@ -8,7 +8,7 @@ use crate::runs::Run;
 use crate::tallies::one_if;
 use crate::{RingLack, Telling, Whys};
 
-/// Why the finding at a place, from 0, among the rings or among the gaps is accepted, or `None`.
+/// The reason why the finding at a place, from 0, among the rings or among the gaps is accepted, or `None`.
 pub fn why_of<'a>(whys: &[Option<&'a str>], place: usize) -> Option<&'a str>
     ensures { result ≡ why_at whys.now place }
 {
@@ -18,7 +18,7 @@ pub fn why_of<'a>(whys: &[Option<&'a str>], place: usize) -> Option<&'a str>
     }
 }
 
-/// How many bytes a reason has, 0 where there is none.
+/// The length of a reason in bytes, 0 where there is none.
 fn why_length(why: Option<&str>) -> usize
     ensures { result ≡ why_length why.entry }
 {
@@ -28,7 +28,7 @@ fn why_length(why: Option<&str>) -> usize
     }
 }
 
-/// How many bytes the longest reason has, 0 where there is none.
+/// The length of the longest reason in bytes, 0 where there is none.
 pub fn longest_why(whys: &[Option<&str>]) -> usize
     ensures { result ≡ longest_why whys.now }
 {
@@ -46,7 +46,7 @@ fn is_waived(whys: &[Option<&str>], place: usize) -> bool
     why_of(whys, place).is_some()
 }
 
-/// How many of so many findings are waived.
+/// The number of the first `findings` ones that are waived.
 pub(crate) fn waived_of(whys: &[Option<&str>], findings: usize) -> usize
     ensures value { result ≡ waived_of whys.now findings }
     ensures within { result ≤ findings }
@@ -57,14 +57,14 @@ pub(crate) fn waived_of(whys: &[Option<&str>], findings: usize) -> usize
         .count()
 }
 
-/// Whether a ring at a place is lacking on a layer, and waived.
+/// Whether a ring at a place is on a layer, and waived.
 fn is_waived_on(lack: &RingLack, layer: usize, whys: &[Option<&str>], place: usize) -> bool
     ensures { result ≡ ((lack.now.layer == layer) && is_waived whys.now place) }
 {
     lack.layer == layer && is_waived(whys, place)
 }
 
-/// How many of the rings that are lacking on the layer of a run are waived.
+/// The number of rings on the layer of a run that are waived.
 pub(crate) fn waived_on(whys: &[Option<&str>], run: Run, rings: &[RingLack]) -> usize
     requires { IsRun rings.now (length rings.now) run.layer run }
     ensures { result ≡ waived_on whys.now run.layer rings.now }
@@ -76,7 +76,7 @@ pub(crate) fn waived_on(whys: &[Option<&str>], run: Run, rings: &[RingLack]) -> 
     waived
 }
 
-/// How many findings of a report are waived.
+/// The number of findings of a report that are waived.
 pub fn count_waived(telling: &Telling, whys: &Whys) -> u128
     ensures value { result ≡ waived_in telling.now whys.now.rings.now whys.now.gaps.now }
     ensures within { result ≤ length telling.now.rings.items + length telling.now.gaps.items }

@@ -1,4 +1,4 @@
-//! The words of holes, pads and causes.
+//! The words for holes, pads and causes.
 
 ghost use Rattle.std.specs.Prelude.{◌≡◌, ◌*◌, ◌-ℤ◌, ◌++◌, pos, codes, map, OnOk, string_bytes};
 ghost use Rattle.grid_units.specs.Points.{IsCoordinate};
@@ -13,7 +13,7 @@ use printing::{push_short_mm, push_words};
 use std::alloc::AllocError;
 use std::fmt::Write;
 
-/// The name of a file of the package; empty where it has none.
+/// The name of a file of the package, by its index; empty where it has none.
 pub fn name_of<'a>(names: &[&'a str], file: usize) -> &'a str
     ensures { result.now ≡ name_of (map (λ name. name.now) names.now) file }
 {
@@ -23,7 +23,7 @@ pub fn name_of<'a>(names: &[&'a str], file: usize) -> &'a str
     }
 }
 
-/// Appends two lengths in pm, and what stands between them.
+/// Appends two lengths in pm, with words between.
 #[tactic(auto, unfolding(crate::specs::Texts::two_lengths))]
 pub(crate) fn push_two(
     text: &mut String,
@@ -38,7 +38,7 @@ pub(crate) fn push_two(
     push_short_mm(text, second)
 }
 
-/// Appends a point.
+/// Appends a point: `142.24,-97.79`.
 fn push_point(text: &mut String, at: Point) -> Result<(), AllocError>
     ensures { OnOk result (string_bytes text.new ≡ string_bytes text.old ++ point_words at) }
 {
@@ -57,7 +57,7 @@ fn push_ends(text: &mut String, hole: &Hole) -> Result<(), AllocError>
     push_point(text, hole.to())
 }
 
-/// The diameter of a hole.
+/// The diameter of a hole in pm.
 fn diameter(hole: &Hole) -> i64
     ensures { result ≡ pos (2 * hole.now.radius) }
 {
@@ -68,7 +68,7 @@ fn diameter(hole: &Hole) -> i64
 ///
 /// # Errors
 ///
-/// Where there is no memory.
+/// An `AllocError` when memory runs out.
 #[tactic(auto, unfolding(crate::specs::Texts::drilled_words))]
 pub fn push_drilled(text: &mut String, hole: &Hole) -> Result<(), AllocError>
     ensures { OnOk result (string_bytes text.new ≡ string_bytes text.old ++ drilled_words hole.now) }
@@ -78,7 +78,7 @@ pub fn push_drilled(text: &mut String, hole: &Hole) -> Result<(), AllocError>
     push_ends(text, hole)
 }
 
-/// Appends the number of a hole in its drill file.
+/// Appends the number of a hole, and the name of its drill file.
 #[tactic(auto, unfolding(crate::specs::Texts::number_words))]
 fn push_number(text: &mut String, number: usize, name: &str) -> Result<(), AllocError>
     ensures { OnOk result (string_bytes text.new ≡ string_bytes text.old ++ number_words number name.now) }
@@ -97,7 +97,7 @@ pub(crate) fn push_hole(text: &mut String, names: &[&str], at: &HoleAt) -> Resul
     push_drilled(text, &at.hole)
 }
 
-/// Appends words, and two lengths in pm with what stands between them.
+/// Appends words, then two lengths in pm with words between.
 fn push_told(
     text: &mut String,
     words: &str,
@@ -111,7 +111,7 @@ fn push_told(
     push_two(text, first, between, second)
 }
 
-/// Appends the length that a ring or a gap has, and the one that it lacks.
+/// Appends the length of a ring or a gap, and what it lacks.
 pub(crate) fn push_measured(
     text: &mut String,
     word: &str,
@@ -123,7 +123,7 @@ pub(crate) fn push_measured(
     push_told(text, word, has, ", lacks ", lack)
 }
 
-/// The word of a pad's shape.
+/// The word for the shape of a pad.
 fn shape_word(pad: &Pad) -> &'static str
     ensures { result.now ≡ shape_word pad.now }
 {
@@ -134,7 +134,7 @@ fn shape_word(pad: &Pad) -> &'static str
     }
 }
 
-/// The full side of a pad along x, the diameter of a disc.
+/// The side of a pad along x in pm; for a disc its diameter.
 fn width_of(pad: &Pad) -> i64
     ensures { result ≡ pos (width_of pad.now) }
 {
@@ -145,7 +145,7 @@ fn width_of(pad: &Pad) -> i64
     }
 }
 
-/// The full side of a pad along y, the diameter of a disc.
+/// The side of a pad along y in pm; for a disc its diameter.
 fn height_of(pad: &Pad) -> i64
     ensures { result ≡ pos (height_of pad.now) }
 {
@@ -174,7 +174,7 @@ fn halfway(a: i64, b: i64) -> i64
     (a + b) / 2
 }
 
-/// The middle of a hole.
+/// The middle of a hole, halfway between its ends.
 fn hole_middle(hole: &Hole) -> Point
     ensures { result ≡ hole_middle hole.now }
 {
@@ -182,21 +182,21 @@ fn hole_middle(hole: &Hole) -> Point
     Point::new(halfway(from.x(), to.x()), halfway(from.y(), to.y())).unwrap()
 }
 
-/// How far the middle of a hole is from the middle of a pad, along x.
+/// The middle of a hole less that of a pad, along x, in pm.
 fn off_x(at: Point, middle: Point) -> i64
     ensures { result ≡ at.x -ℤ middle.x }
 {
     at.x() - middle.x()
 }
 
-/// How far the middle of a hole is from the middle of a pad, along y.
+/// The middle of a hole less that of a pad, along y, in pm.
 fn off_y(at: Point, middle: Point) -> i64
     ensures { result ≡ at.y -ℤ middle.y }
 {
     at.y() - middle.y()
 }
 
-/// Appends how far the middle of a hole is from the middle of a pad.
+/// Appends the middle of a hole less that of a pad, along x and y.
 fn push_off(text: &mut String, at: Point, middle: Point) -> Result<(), AllocError>
     ensures { OnOk result (string_bytes text.new ≡ string_bytes text.old ++ off_words at middle) }
 {
@@ -204,7 +204,7 @@ fn push_off(text: &mut String, at: Point, middle: Point) -> Result<(), AllocErro
     push_told(text, ", hole off by ", x, ",", y)
 }
 
-/// Appends a pad, and how far the middle of a hole is from its own.
+/// Appends a pad, and how far the hole is off its middle.
 fn push_place(text: &mut String, hole: &Hole, pad: &Pad) -> Result<(), AllocError>
     ensures { OnOk result (string_bytes text.new ≡ string_bytes text.old ++ place_words hole.now pad.now) }
 {
@@ -212,7 +212,7 @@ fn push_place(text: &mut String, hole: &Hole, pad: &Pad) -> Result<(), AllocErro
     push_off(text, hole_middle(hole), pad.middle())
 }
 
-/// Appends why a hole in a pad lacks its ring, and the number of the pad's flash.
+/// Appends the reason why a hole in a pad lacks its ring, and the number of the pad's flash.
 #[tactic(auto, unfolding(crate::specs::Texts::flash_words))]
 fn push_flash(text: &mut String, words: &str, flash: usize) -> Result<(), AllocError>
     ensures { OnOk result (string_bytes text.new ≡ string_bytes text.old ++ flash_words words.now flash) }
@@ -223,7 +223,7 @@ fn push_flash(text: &mut String, words: &str, flash: usize) -> Result<(), AllocE
     }
 }
 
-/// Appends the ring that a hole has in a pad, why it is too little, and the pad.
+/// Appends the ring of a hole in a pad, why it is too small, and the pad.
 fn push_in_pad(text: &mut String, kind: Kind, hole: &Hole, place: &InPad) -> Result<(), AllocError>
     ensures { OnOk result (string_bytes text.new ≡ string_bytes text.old ++ in_pad_words kind hole.now place.now) }
 {
@@ -232,7 +232,7 @@ fn push_in_pad(text: &mut String, kind: Kind, hole: &Hole, place: &InPad) -> Res
     push_place(text, hole, &place.pad)
 }
 
-/// Appends that a hole lies in no pad, and what flash it lies in.
+/// Appends that a hole lies in no pad, and in which flash it lies.
 fn push_other(text: &mut String, words: &str, flash: usize) -> Result<(), AllocError>
     ensures { OnOk result (string_bytes text.new ≡ string_bytes text.old ++ other_words words.now flash) }
 {
@@ -250,7 +250,7 @@ fn push_bare(text: &mut String, kind: Kind) -> Result<(), AllocError>
     push_words(text, kind_words(kind))
 }
 
-/// Appends why a hole lacks its ring.
+/// Appends the reason why a hole lacks its ring, with its figures.
 pub(crate) fn push_cause(
     text: &mut String,
     hole: &Hole,

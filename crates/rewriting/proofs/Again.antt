@@ -1,4 +1,4 @@
--- A text that is written anew has the same commands.
+-- A rewritten text has the same commands.
 use Rattle.std.proofs.Common.{◌≡◌, ℕ, ◌≤◌, Bool, true, false, cond, ltb, List, length, Ok, Err, refl, sym, ap, subst, ◌∙◌}
 use Rattle.std.proofs.lemmas.Bool.{ltb-false}
 use Rattle.grid_units.specs.declared.fault.Reason.TheVariants.{TooLong}
@@ -20,7 +20,7 @@ use Rattle.rewriting.specs.Rewriting.{KeepsCommands, StaysAsItIs}
 use Rattle.rewriting.proofs.Typed.{text_typed}
 use Rattle.layer_image.specs.Rules.{broken_rule}
 
--- a text that was written is the canonical one, and not too long
+-- a rewritten text is the canonical one, and not too long
 short_text : (text written : List ℕ) → cond (ltb text_limit (length text)) (Err (fault 0 0 TooLong)) (Ok text) ≡ Ok written → (text ≡ written) × (length text ≤ text_limit)
 short_text text written e = by (ltb text_limit (length text)) refl e
   where
@@ -28,7 +28,7 @@ short_text text written e = by (ltb text_limit (length text)) refl e
     by true h k = absurd cc
     by false h k = (cc, ltb-false text_limit (length text) h)
 
--- the layer that the new text is
+-- the layer that the rewritten text is
 layer_back : (bytes text : List ℕ) (a : LayerImage) → ReadsLayer bytes (Ok a) → canonical_text (without_places a.commands) ≡ Ok text → (b : LayerImage) × ReadsLayer text (Ok b) × (without_places a.commands ≡ without_places b.commands)
 layer_back bytes text a h e =
     let cs = without_places a.commands in

@@ -1,4 +1,4 @@
--- Files that are written anew say the same.
+-- Rewritten files say the same.
 use Rattle.std.proofs.Common.{◌≡◌, ◌↔◌, ℕ, Bool, true, false, List, [], ◌∷◌, Option, Result, Ok, Err, sym, ap, subst, ◌∙◌, inl, inr}
 use Rattle.grid_units.specs.Holes.{GridHole}
 use Rattle.grid_units.specs.Spans.{LayerSpan}

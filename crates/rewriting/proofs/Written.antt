@@ -1,4 +1,4 @@
--- A legal layer that is read again, and written as it is read.
+-- A legal layer that is read again, and rewritten as it is read.
 use Rattle.std.proofs.Common.{◌≡◌, ℕ, List, ◌++◌, Result, Ok, Err, sym, ap, subst, append-nil, [], ◌∙◌, inl, inr}
 use Rattle.std.specs.Global.{Vec}
 use Rattle.grid_units.specs.declared.fault.Fault.{Fault}
@@ -51,13 +51,13 @@ from_always view P (Ok x) h = h
 from_always view P (Err fails.Memory) h = tt
 from_always view P (Err (fails.Refused f)) h = h
 
--- the fault that a layer shows so far is that of the whole text
+-- the fault that a layer's text shows so far is that of the whole text
 pub joined : ((text more : List ℕ) (f : Fault) → ShowsLayerFault text f → ReadsLayer (text ++ more) (Err f)) → (text more whole : List ℕ) (e : Fail) → text ++ more ≡ whole → Tells (ShowsLayerFault text) e
     → Tells (λ f. ReadsLayer whole (Err f)) e
 joined law text more whole fails.Memory is h = tt
 joined law text more whole (fails.Refused f) is h = subst (λ (t : List ℕ). ReadsLayer t (Err f)) is (law text more f h)
 
--- the canonical text of a layer is what it is written anew as
+-- a layer is rewritten as the canonical text of its commands
 pub layer_written : (bytes : List ℕ) (image : LayerImage) (r : Result (Vec ℕ) Fail) → ReadsLayer bytes (Ok image) → Answers (λ (v : Vec ℕ). v.items) (λ answer. answer ≡ canonical_text (without_places image.commands)) r
     → Answers (λ (v : Vec ℕ). v.items) (RewritesLayer bytes) r
 layer_written bytes image (Ok v) h is = (image, h, sym is)

@@ -1,4 +1,4 @@
--- Packages whose files are written anew.
+-- Packages whose files are rewritten.
 use Rattle.std.specs.Prelude.{◌≡◌, ◌⊎◌, ◌↔◌, ℕ, List, [], ◌∷◌, Result, Ok, ⊤}
 use Rattle.grid_units.specs.Holes.{GridRules}
 use Rattle.grid_units.specs.declared.fault.Fault.{Fault}
@@ -10,27 +10,27 @@ use Rattle.rewriting.specs.Rewriting.{Rewrites}
 use Rattle.package_check.specs.Reports.{Account}
 use Rattle.package_check.specs.Package.{Source, IsAnswer}
 
--- what the text of a file of this role is read as (docs/DEFINITIONS.md, Packages)
+-- the kind of text that a file of this role has: a layer, or a drill file
 abbrev pub kind_of : Role → Kind
 kind_of role.Copper = kind.Layer
 kind_of role.Plated = kind.Drill
 kind_of role.Unplated = kind.Drill
 
--- the same file with other bytes (docs/DEFINITIONS.md, Packages)
+-- a file with these bytes in place of its own
 abbrev pub with_bytes : Source → List ℕ → Source
 with_bytes source bytes = record { role = source.role; name = source.name; span = source.span; bytes = bytes; layers = source.layers }
 
--- a file as it was, or with its text written anew (docs/DEFINITIONS.md, Packages)
+-- a file is left as it was, or its text is rewritten
 abbrev pub IsRewritten : Source → Source → Type 0
 IsRewritten x y = (y ≡ x) ⊎ ((text : List ℕ) × Rewrites (kind_of x.role) x.bytes (Ok text) × (y ≡ with_bytes x text))
 
--- any of the files are rewritten (docs/DEFINITIONS.md, Packages)
+-- two lists of files: of the first any files, all or none, are rewritten in the second
 abbrev pub AreRewritten : List Source → List Source → Type 0
 AreRewritten [] [] = ⊤
 AreRewritten [] (y ∷ ys) = ⊥
 AreRewritten (x ∷ xs) [] = ⊥
 AreRewritten (x ∷ xs) (y ∷ ys) = IsRewritten x y × AreRewritten xs ys
 
--- a package any of whose files are rewritten has the same answer (docs/DEFINITIONS.md, Packages)
+-- a package in which any files are rewritten has the same answer
 abbrev pub RewritingChangesNothing : Type 0
 RewritingChangesNothing = (xs ys : List Source) (rules : GridRules) (answer : Result Account (ℕ × Fault)) → AreRewritten xs ys → IsAnswer xs rules answer ↔ IsAnswer ys rules answer

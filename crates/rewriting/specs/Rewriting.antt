@@ -1,4 +1,4 @@
--- Texts that are written anew, as the canonical text of what they spell.
+-- Texts that are rewritten as the canonical text of what they spell.
 use Rattle.std.specs.Prelude.{◌≡◌, ◌⊎◌, ℕ, List, Result, Ok, Err}
 use Rattle.grid_units.specs.declared.fault.Fault.{Fault}
 use Rattle.gerber_text.specs.Writing.{canonical_text, without_places}
@@ -9,33 +9,33 @@ use Rattle.drill_text.specs.Writing.{ReadsWritten}
 use Rattle.rewriting.specs.declared.Kind.{Kind}
 use Rattle.rewriting.specs.declared.Kind.TheVariants as kind
 
--- the bytes are a layer whose commands have this canonical text; or they have this fault, or that text is too long (docs/DEFINITIONS.md, Rewriting)
+-- the bytes read as a layer whose commands have this canonical text; or they have this fault, or that text is too long
 abbrev pub RewritesLayer : List ℕ → Result (List ℕ) Fault → Type 0
 RewritesLayer bytes (Ok text) = (layer : LayerImage) × ReadsLayer bytes (Ok layer) × (canonical_text (without_places layer.commands) ≡ Ok text)
 RewritesLayer bytes (Err fault) = ReadsLayer bytes (Err fault) ⊎ ((layer : LayerImage) × ReadsLayer bytes (Ok layer) × (canonical_text (without_places layer.commands) ≡ Err fault))
 
--- the bytes are a drill text of commands that have this canonical text; or they have this fault, or that text is too long (docs/DEFINITIONS.md, Rewriting)
+-- the bytes are a drill text of commands that have this canonical text; or they have this fault, or that text is too long
 abbrev pub RewritesDrill : List ℕ → Result (List ℕ) Fault → Type 0
 RewritesDrill bytes answer = ReadsWritten bytes answer
 
--- the bytes, read as a file of this kind, are written anew as this text, or there is this fault (docs/DEFINITIONS.md, Rewriting)
+-- the bytes, read as a file of this kind, are rewritten as this text, or there is this fault
 abbrev pub Rewrites : Kind → List ℕ → Result (List ℕ) Fault → Type 0
 Rewrites kind.Layer bytes answer = RewritesLayer bytes answer
 Rewrites kind.Drill bytes answer = RewritesDrill bytes answer
 
--- the two texts are of this kind and spell the same commands, whatever the places of these (docs/DEFINITIONS.md, Rewriting)
+-- two texts of this kind spell the same commands, at whatever places
 abbrev pub SpellAlike : Kind → List ℕ → List ℕ → Type 0
 SpellAlike kind.Layer s t = (a b : LayerImage) × ReadsLayer s (Ok a) × ReadsLayer t (Ok b) × (without_places a.commands ≡ without_places b.commands)
 SpellAlike kind.Drill s t = (commands : List DrillCommand) × IsDrillText s commands × IsDrillText t commands
 
--- a text that was written anew spells the commands of the text that it was written from (docs/DEFINITIONS.md, Rewriting)
+-- a rewritten text spells the commands of the text that it was rewritten from
 abbrev pub KeepsCommands : Type 0
 KeepsCommands = (kind : Kind) (bytes text : List ℕ) → Rewrites kind bytes (Ok text) → SpellAlike kind bytes text
 
--- a text that was written anew is written anew as it is (docs/DEFINITIONS.md, Rewriting)
+-- a rewritten text is rewritten as itself
 abbrev pub StaysAsItIs : Type 0
 StaysAsItIs = (kind : Kind) (bytes text : List ℕ) → Rewrites kind bytes (Ok text) → Rewrites kind text (Ok text)
 
--- bytes are written anew in one way, or have one fault (docs/DEFINITIONS.md, Rewriting)
+-- bytes are rewritten in one way, or have one fault
 abbrev pub OneRewriting : Type 0
 OneRewriting = (kind : Kind) (bytes : List ℕ) (a b : Result (List ℕ) Fault) → Rewrites kind bytes a → Rewrites kind bytes b → a ≡ b

@@ -1,19 +1,19 @@
-//! Laws of texts that are written anew. A call of one does nothing, and gives its clause.
+//! Laws of rewritten texts. A call of one does nothing, and gives its clause.
 
 ghost use Rattle.rewriting.specs.Packages.{RewritingChangesNothing};
 ghost use Rattle.rewriting.specs.Rewriting.{KeepsCommands, OneRewriting, StaysAsItIs};
 
-/// A text that was written anew spells the commands of the text that it was written from.
+/// A rewritten text spells the commands of the text that it was rewritten from.
 pub fn keeps_commands()
     ensures { KeepsCommands }
 {}
 
-/// A text that was written anew is written anew as it is.
+/// A rewritten text is rewritten as itself.
 pub fn stays_as_it_is()
     ensures { StaysAsItIs }
 {}
 
-/// Bytes are written anew in one way, or have one fault.
+/// Bytes are rewritten in one way, or have one fault.
 pub fn one_rewriting()
     ensures { OneRewriting }
 {
@@ -22,7 +22,7 @@ pub fn one_rewriting()
     drill_text::laws::drill_texts();
 }
 
-/// A package any of whose files are written anew, by the kind of text that their roles want, has the same answer.
+/// A package in which any files are rewritten, each by the kind of text of its role, has the same answer.
 pub fn rewriting_changes_nothing()
     ensures { RewritingChangesNothing }
 {

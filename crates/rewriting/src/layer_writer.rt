@@ -1,4 +1,4 @@
-//! A legal layer that is written anew as it is read, a piece at a time.
+//! A legal layer that is rewritten as it is read, a piece at a time.
 
 ghost use Rattle.std.specs.Prelude.{◌≡◌, ◌++◌, [], ℕ, List, Ok, OnOk, IfErr};
 ghost use Rattle.grid_units.specs.Results.{Answers, Tells};
@@ -9,7 +9,7 @@ use gerber_text::WordReader;
 use grid_units::Fail;
 use std::alloc::Global;
 
-/// The lines of the items that have ended so far. Their commands are let go of.
+/// Holds the canonical lines of the items that have ended so far. Their commands are dropped.
 #[derive(Drop)]
 pub(crate) struct LayerWriter {
     alloc: Global,
@@ -21,7 +21,7 @@ impl LayerWriter {
     ghost use Rattle.layer_image.specs.Layers.{LayerImage, ReadsLayer};
     ghost use Rattle.rewriting.specs.Inner.Writing.{WritesAfter, StopsIn};
 
-    /// Nothing is read.
+    /// A writer that has read nothing.
     pub(crate) fn new(alloc: Global) -> LayerWriter
         ensures { WritesAfter result [] }
     {
@@ -43,7 +43,7 @@ impl LayerWriter {
         Ok(())
     }
 
-    /// The canonical text of the layer.
+    /// The canonical text of the whole layer, after its last piece.
     pub(crate) fn finish(self) -> Result<Vec<u8>, Fail>
         ensures { (text : List ℕ) (image : LayerImage) → WritesAfter self text → ReadsLayer text (Ok image) → Answers (λ v. v.items) (λ answer. answer ≡ canonical_text (without_places image.commands)) result }
     {

@@ -1,4 +1,4 @@
-//! A layer or a drill file, read and written anew as its canonical text.
+//! A layer or a drill file, rewritten as its canonical text.
 #![tactic(auto)]
 
 pub mod laws;

@@ -9,7 +9,7 @@ use gerber_text::{Command, Placed, write_placed};
 use grid_units::{Fail, Fault, Reason, TEXT_LIMIT};
 use std::alloc::{AllocError, Global};
 
-/// The canonical lines of some commands, or that they are longer than a text may be. Of lines that are too long none are held.
+/// The canonical lines of some commands, or just that they are longer than a text may be.
 #[derive(Drop)]
 pub(crate) struct Lines {
     text: Vec<u8>,
@@ -51,7 +51,7 @@ impl Lines {
         }
     }
 
-    /// Appends lines, unless the text is too long with them.
+    /// Appends lines. Where the text is too long with them, it holds none any more.
     fn append(&mut self, lines: &[u8]) -> Result<(), AllocError>
         requires { self.old.is_long ≡ false }
         ensures { (text : List ℕ) → HoldsText self.old text → OnOk result (HoldsText self.new (text ++ lines.now)) }
@@ -64,7 +64,7 @@ impl Lines {
         Ok(())
     }
 
-    /// The text of the lines.
+    /// The text of the lines, or TooLong at place 0 and byte 0.
     pub(crate) fn finish(self) -> Result<Vec<u8>, Fail>
         ensures { (commands : Entries) → HoldsLines self commands → AnswersAlways bytes_of_vector (λ answer. answer ≡ canonical_text (without_places commands)) result }
     {

@@ -1,4 +1,4 @@
-//! A text, read and written anew.
+//! A text, rewritten as its canonical text.
 
 ghost use Rattle.std.specs.Prelude.{◌≡◌, ◌++◌, ℕ, List, Ok, Err, OnOk, IfErr};
 ghost use Rattle.grid_units.specs.Results.{Answers, Tells};
@@ -17,7 +17,7 @@ use std::alloc::Global;
 /// How many bytes of a layer are read at a time, so that no more of its commands are held.
 const PIECE: usize = 65_536;
 
-/// Whether the bytes are a legal layer.
+/// Reads a layer, and returns its first fault, if it has one.
 fn check_layer(alloc: Global, bytes: &[u8]) -> Result<(), Fail>
     ensures ok { OnOk result ((image : LayerImage) × ReadsLayer bytes.now (Ok image)) }
     ensures err { IfErr result (Tells (λ f. ReadsLayer bytes.now (Err f))) }
@@ -31,7 +31,7 @@ fn check_layer(alloc: Global, bytes: &[u8]) -> Result<(), Fail>
     Ok(())
 }
 
-/// The canonical text of a legal layer.
+/// The canonical text of a legal layer, which is read again piece by piece.
 fn write_layer(alloc: Global, bytes: &[u8]) -> Result<Vec<u8>, Fail>
     ensures { (image : LayerImage) → ReadsLayer bytes.now (Ok image) → Answers (λ text. text.items) (λ answer. answer ≡ canonical_text (without_places image.commands)) result }
 {
@@ -42,8 +42,8 @@ fn write_layer(alloc: Global, bytes: &[u8]) -> Result<Vec<u8>, Fail>
     writer.finish()
 }
 
-/// The canonical text of a layer. The bytes are read twice, and nothing is kept of the first reading, so that the commands of
-/// a piece of them alone are held at a time.
+/// The canonical text of a layer. The bytes are read twice, and nothing is kept of the first reading. So only the commands of
+/// one piece are held at a time.
 fn rewrite_layer(alloc: Global, bytes: &[u8]) -> Result<Vec<u8>, Fail>
     ensures { Answers (λ text. text.items) (RewritesLayer bytes.now) result }
 {
@@ -51,7 +51,7 @@ fn rewrite_layer(alloc: Global, bytes: &[u8]) -> Result<Vec<u8>, Fail>
     write_layer(alloc, bytes)
 }
 
-/// The canonical text of a drill file, of which no command is kept.
+/// The canonical text of a drill file. No command is kept.
 fn rewrite_drill(alloc: Global, bytes: &[u8]) -> Result<Vec<u8>, Fail>
     ensures { Answers (λ text. text.items) (RewritesDrill bytes.now) result }
 {

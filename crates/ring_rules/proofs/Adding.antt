@@ -11,7 +11,7 @@ use Rattle.ring_rules.specs.Inner.Meeting.{in_order, IsClash, AddsClashes, IsFou
 use Rattle.ring_rules.specs.declared.finding.Drilled.{Drilled}
 use Rattle.ring_rules.proofs.Clashing.{clash_of, clear_flips}
 
--- what is in a list with one more is in the list, or is that one
+-- what is in a list with one more at its end is in the list, or is that one
 pub contains_last : {X : Type 0} (xs : List X) (y x : X) → Contains (xs ++ y ∷ []) x → Contains xs x ⊎ (y ≡ x)
 contains_last {X} [] y x among = inr (first among.0 among.1 among.2) where
   first : (k : ℕ) → k < 1 → get_or (y ∷ []) k x ≡ x → y ≡ x
@@ -57,7 +57,7 @@ found_more gap holes place others count a b adds before here i h = elim (cases_l
   | inr more ↦ subst (λ (n : ℕ). IsFound gap holes place (get_or others n 0) b) (let is : count ≡ i = omega (arith, h, more) in is) here
 ]
 
--- one of the two holes is no larger than the other one
+-- of two holes one is no larger than the other
 pub clash_found : (gap : ℕ) (holes : List Drilled) (pairs : List (ℕ × ℕ)) (p : ℕ × ℕ) → IsClash gap holes p
     → ((k : ℕ) → k < length holes → (o : ℕ) → o < length holes → size_of (hole_at holes o) ≤ size_of (hole_at holes k) → IsFound gap holes k o pairs) → Contains pairs p
 clash_found gap holes pairs p clash found = elim (cases_lt (size_of (hole_at holes p.0)) (size_of (hole_at holes p.1))) [

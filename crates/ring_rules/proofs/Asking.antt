@@ -60,7 +60,7 @@ module _ (holes : List Drilled) (zone : Zone) where
         ]
       ]
 
-  -- where nothing was before, each place is of a hole within the zone
+  -- where the list was empty before, each place is of a hole with its entry point in the zone
   pub all_within : (b : List ℕ) → AddsPlaces holes zone [] b → All (GoesInAt holes zone) b
   all_within b adds =
       All-from_get_or (GoesInAt holes zone) b 0

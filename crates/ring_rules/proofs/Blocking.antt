@@ -14,7 +14,7 @@ in_more x y bs b p some = (some.0, Contains-append_left bs (b ∷ []) some.0 som
 pub in_last : (x y : Scale) (bs : List Block) (b : Block) (p : GridPoint) → IsInBlock x y b p → IsInSome x y (bs ++ b ∷ []) p
 in_last x y bs b p inside = (b, Contains-push bs b, inside)
 
--- a point of the rows of a block and before its end is in the block or before it
+-- a point of the rows of a block and left of its end is in the block or left of it
 pub in_columns : (x y : Scale) (bs : List Block) (b : Block) (left : ℕ) (p : GridPoint) → b.left ≡ left → b.top ≤ row_of y p → row_of y p < b.bottom → column_of x p < b.right → (column_of x p < left → IsInSome x y bs p) → IsInSome x y (bs ++ b ∷ []) p
 in_columns x y bs b left p same from below right before = elim (cases_lt (column_of x p) left) [
   | inl less ↦ in_more x y bs b p (before less)

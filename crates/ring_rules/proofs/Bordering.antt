@@ -42,11 +42,11 @@ steps_to-le (b ∷ bs) low shift v w h = up_to-le (b ∷ bs) v w h
 pub place-le : (s : Scale) (v w : ℤ) → v ≤ℤ w → place_of s v ≤ place_of s w
 place-le s v w h = let steps = steps_to-le s.borders.items s.low s.shift v w h in omega (arith, steps)
 
--- what passes stands before what fails
+-- what passes comes before what fails
 pub parted : (bs : List ℤ) (v : ℤ) → Rises bs → IsPartitionedBy (λ b. int_le b v) bs
 parted bs v rises i j d h k e = tested (get_or bs i d) v (let low = rises i j d h k in let high = at_most (get_or bs j d) v e in omega (arith, ints))
 
--- where the elements before a place pass and those from it on fail, so many pass at the front
+-- where the elements before a place pass and those from it on fail, the place is the number of those that pass
 pub point_is : (p : ℤ → Bool) (bs : List ℤ) (i : ℕ) → i ≤ length bs → IsPartitionPoint (λ y. p y ≡ true) (λ y. p y ≡ false) bs i → i ≡ prefix_len p bs
 point_is p bs i h point = elim (cases_lt (prefix_len p bs) i) [
   | inl less ↦ absurd (let stops = prefix_len_stops p bs zero_border (omega (arith, less, h)) in let passes = point.0 (prefix_len p bs) zero_border (omega arith) less in let both : true ≡ false = sym passes ∙ stops in cc)

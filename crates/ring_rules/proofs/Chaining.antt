@@ -85,7 +85,7 @@ module _ (cell : ℕ → ℕ) (n : ℕ) (head next : List ℕ) (was : IsChained 
     links_in = links_in_more;
   }
 
--- a link falls
+-- a link leads to a lower place
 pub chain_falls : (cell : ℕ → ℕ) (n : ℕ) (head next : List ℕ) → IsChained cell n head next → (j : ℕ) → j < n → get_or next j 0 ≤ j
 chain_falls cell n head next chained j h = by_link (get_or next j 0) refl where
   by_link : (x : ℕ) → get_or next j 0 ≡ x → get_or next j 0 ≤ j

@@ -1,4 +1,4 @@
--- The pairs of holes that are not clear: those of the definition, and those that a sweep meets, have the same members.
+-- The pairs of holes that are not clear: those of the definition and those that the code finds have the same members.
 use Rattle.std.proofs.Common.{◌≡◌, ℕ, ◌+◌, ◌<◌, ◌≤◌, ◌-ℤ◌, inl, inr, min, max, Bool, true, false, cond, List, [], ◌∷◌, ◌++◌, map, length, get_or, refl, sym, ap, ◌∙◌, subst, arith}
 use Rattle.std.specs.Prelude.{not, ◌&&◌, nat_lt, nat_le}
 use Rattle.std.specs.Int.{int_min, int_max}
@@ -208,7 +208,7 @@ clash_of gap holes a b here there differ test =
       ]
     ]
 
--- the findings at pairs that were sorted, without those that are equal to the one before
+-- the findings at pairs that were sorted, without repetitions
 pub gaps_listed : (gap : ℕ) (holes : List Drilled) (ps qs rs : List (ℕ × ℕ)) → ((p : ℕ × ℕ) → Contains ps p → IsClash gap holes p) → ((p : ℕ × ℕ) → IsClash gap holes p → Contains ps p)
     → IsPermutation ps qs → AllPairs Before rs → ((p : ℕ × ℕ) → Contains qs p → Contains rs p) → ((p : ℕ × ℕ) → Contains rs p → Contains qs p) → map (λ (p : ℕ × ℕ). Gap p.0 p.1) rs ≡ gap_findings gap holes
 gaps_listed gap holes ps qs rs sound complete moved rises kept none =

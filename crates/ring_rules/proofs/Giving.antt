@@ -20,7 +20,7 @@ nobody : {X : Type 0} (xs : List X) → list_any (λ (x : X). false) xs ≡ fals
 nobody [] = refl
 nobody (x ∷ xs) = nobody xs
 
--- a test behind a condition, of none of the elements
+-- a test with a further condition that fails passes for none of the elements
 guarded : {X : Type 0} (b : Bool) (test : X → Bool) (xs : List X) → not (list_any (λ (x : X). not b && test x) xs) ≡ (b || not (list_any test xs))
 guarded true test xs = ap not (nobody xs)
 guarded false test xs = refl

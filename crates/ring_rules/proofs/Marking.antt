@@ -1,4 +1,4 @@
--- Marks that are taken back along the chain of a cell.
+-- Marks that are removed along the chain of a cell.
 use Rattle.std.proofs.Common.{◌≡◌, ◌≢◌, ℕ, ◌+◌, ◌<◌, ◌≤◌, ◌⊎◌, inl, inr, Bool, true, false, List, length, get_or, set, refl, sym, ap, ◌∙◌, arith}
 use Rattle.std.specs.Prelude.{◌&&◌, ◌||◌, not}
 use Rattle.std.proofs.lemmas.Bool.{cases_eq, cases_lt}
@@ -7,7 +7,7 @@ use Rattle.ring_rules.specs.Places.{IsChained}
 use Rattle.ring_rules.specs.Inner.Marks.{is_marked, TakesBack, IsTried}
 use Rattle.grid_units.proofs.BoolLemmas.{neither, either}
 
--- both parts of what is true of a mark that stays
+-- both parts of what holds of a mark that stays
 pub stays_true : (m t : Bool) → (m && not t) ≡ true → (m ≡ true) × (t ≡ false)
 stays_true true true e = absurd cc
 stays_true true false e = (refl, refl)
@@ -60,7 +60,7 @@ module _ (test : ℕ → Bool) (before marks : List Bool) (p : ℕ) (inside : p 
   takes_more takes = takes_both test before marks (set marks p stays) takes takes_one
 
   module _ (cell : ℕ → ℕ) (n c : ℕ) (head next : List ℕ) (chained : IsChained cell n head next) (below : p < n) (here : cell p ≡ c) where
-    -- the places of the cell that a step passes over are none
+    -- the places that a step passes over are not of the cell
     pub stepped : (k : ℕ) → k < n → cell k ≡ c → get_or next p 0 ≤ k → (k ≡ p) ⊎ (p + 1 ≤ k)
     stepped k h e past = elim (cases_lt k p) [
       | inl less ↦ absurd (let l : k < get_or next p 0 = chained.links p k below less (e ∙ sym here) in omega (arith, l, past))

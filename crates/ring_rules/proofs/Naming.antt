@@ -11,7 +11,7 @@ use Rattle.ring_rules.specs.declared.finding.Finding.TheVariants.{Gap}
 use Rattle.ring_rules.specs.Inner.Meeting.{IsClash}
 use Rattle.ring_rules.proofs.Clashing.{IsPlaced, placed_right, all_flat_map, gap_pairs, gap_pairs_listed, gap_pairs_clash}
 
--- what is found at a hole names it and the layer, whatever its kind
+-- the finding at a hole names the hole and the layer, whatever its kind
 finding_names : (layers holes layer : ℕ) (hole : ℕ × Drilled) → layer < layers → hole.0 < holes → NamesPlaces layers holes (finding_of layer hole)
 finding_names layers holes layer hole h k = by_kind (is_oblique hole.1.hole) refl where
   by_kind : (b : Bool) → is_oblique hole.1.hole ≡ b → NamesPlaces layers holes (finding_of layer hole)

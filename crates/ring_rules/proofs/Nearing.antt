@@ -1,4 +1,4 @@
--- How far a hole goes in from one that it is not clear of.
+-- How far from a hole the entry point of one may lie that is not clear of it.
 use Rattle.std.proofs.Common.{◌∙◌, ap, subst, ◌≡◌, ℕ, ℤ, pos, ◌+◌, ◌*◌, ◌<◌, ◌≤◌, inl, inr, ◌+ℤ◌, ◌-ℤ◌, ◌≤ℤ◌, ◌<ℤ◌, false, arith}
 use Rattle.std.specs.Int.{int_min, int_max}
 use Rattle.std.proofs.lemmas.Int.{ints, clamps, to_z-of_z}
@@ -28,7 +28,7 @@ near_from_test gap a b e =
     let y = below_square (range_distance a.from.y a.to.y b.from.y b.to.y) (range_distance a.from.x a.to.x b.from.x b.to.x) (a.radius + b.radius + gap) (omega (arith, h)) in
     record { x = omega (arith, ints, x); y = omega (arith, ints, y) }
 
--- a range that ends less than so far before another one begins no more than its own length before that
+-- a range that ends less than so far before another one starts no more than its own length further away
 pub starts_near : (a b c d : ℤ) (far margin : ℕ) → range_distance a b c d < far → far + apart a b ≤ margin → ((int_min c d -ℤ pos margin) ≤ℤ a) × (a ≤ℤ (int_max c d +ℤ pos margin))
 starts_near a b c d far margin near fits =
     (low (int_min c d) a b far margin (omega (arith, near)) fits, high (int_max c d) a b far margin (omega (arith, near)) fits) where
@@ -49,7 +49,7 @@ all_within gap far n a b most is near = let x = near.x in let y = near.y in reco
 passed_is : (z : ℤ) → IsCoordinate z → to_z w64 (of_z w64 z) ≡ z
 passed_is z h = to_z-of_z w64 z (omega (arith, ints))
 
--- the lesser of two coordinates less a number, as the program computes it
+-- the lesser of two coordinates less a number, as the code computes it
 pub passed_less : (least a b c d : ℤ) (margin : ℕ) → margin ≤ 70000000000000 → least ≡ int_min (to_z w64 (of_z w64 a)) (to_z w64 (of_z w64 b)) → IsCoordinate a → IsCoordinate b → a ≡ c → b ≡ d
     → to_z w64 (of_z w64 (to_z w64 (of_z w64 least) -ℤ to_z w64 margin)) ≡ int_min c d -ℤ pos margin
 passed_less least a b c d margin h e p q at at' =
@@ -58,6 +58,6 @@ passed_less least a b c d margin h e p q at at' =
     let back : to_z w64 (of_z w64 least) ≡ int_min a b = ap (λ z. to_z w64 (of_z w64 z)) is ∙ to_z-of_z w64 (int_min a b) (omega (arith, ints, clamps)) in
     (λ i. to_z w64 (of_z w64 (back i -ℤ k i))) ∙ (to_z-of_z w64 (int_min a b -ℤ pos margin) (omega (arith, ints, clamps)) ∙ (λ i. int_min (at i) (at' i) -ℤ pos margin))
 
--- what holds of a gap holds of it as the program passes it on
+-- what holds of a gap holds of it as a call passes it on
 pub passed_on : (P : ℤ → Type 0) (z : ℤ) (n : ℕ) → n ≤ 10000000000000 → z ≡ pos n → P (pos n) → P (to_z w64 (of_z w64 z))
 passed_on P z n fits is h = subst P (let e : pos n ≡ to_z w64 (of_z w64 z) = omega (arith, ints) in e) h

@@ -10,7 +10,7 @@ use Rattle.ring_rules.specs.declared.finding.Finding.TheVariants.{Oblique}
 use Rattle.ring_rules.proofs.Clashing.{enumerated_at}
 use Rattle.grid_units.proofs.ListLemmas.{flat_at, map_among}
 
--- one more before it
+-- an element of a list is also one of the list with one more at its start
 behind : {X : Type 0} (z : X) (xs : List X) (x : X) → Contains xs x → Contains (z ∷ xs) x
 behind z xs x h = let lt = h.1 in (suc h.0, omega (arith, lt), h.2)
 

@@ -11,7 +11,7 @@ use Rattle.ring_rules.specs.Inner.Marks.{is_marked, gives_ring}
 use Rattle.ring_rules.specs.declared.finding.Drilled.{Drilled}
 use Rattle.ring_rules.proofs.Giving.{given_by_none}
 
--- the marks that want a ring, less those of the holes that a pad gives their ring, are those of the holes that lack it
+-- of the holes that need a ring, those to which no pad gives it are the ones that lack it
 pub lacking_marks : {S : Type 0} (covers : S → GridPoint → ℕ → Bool) (ring layer : ℕ) (pads : List S) (holes : List Drilled) (first left : List Bool) → first ≡ map (λ d. d.plated && is_in_span layer d.span) holes → length left ≡ length holes
     → ((k : ℕ) → k < length holes → is_marked left k ≡ (is_marked first k && not (list_any (gives_ring covers ring (get_or holes k nowhere).hole) pads)))
     → left ≡ map (is_ring_finding covers ring layer pads) holes

@@ -96,7 +96,7 @@ same_rising (p ∷ ps) (q ∷ qs) up up' there back =
     ] in
     ap (λ x. x ∷ ps) first ∙ ap (λ xs. q ∷ xs) (same_rising ps qs (pairs_tail Before p ps up) (pairs_tail Before q qs up') there' back')
 
--- the order of two pairs of places, as a sort has it
+-- the order of two pairs of places, as the sort compares them
 abbrev pub pair_cmp : ℕ × ℕ → ℕ × ℕ → Ordering
 pair_cmp p q = ordering_then (nat_cmp p.0 q.0) (nat_cmp p.1 q.1)
 

@@ -1,11 +1,11 @@
--- Borders that cut an axis into places, which need not be equally wide.
+-- Borders that cut an axis into places. The places need not be equally wide.
 use Rattle.std.specs.Prelude.{ℕ, ℤ, ◌≤◌, ◌<◌, ◌≤ℤ◌, int_le, List, length, get_or}
 use Rattle.std.specs.List.{prefix_len}
 
--- no later border is lower (docs/DEFINITIONS.md, Cells)
+-- the borders are in ascending order; equal ones may follow each other
 abbrev pub Rises : List ℤ → Type 0
 Rises borders = (j k : ℕ) (d : ℤ) → j ≤ k → k < length borders → get_or borders j d ≤ℤ get_or borders k d
 
--- how many borders, from the first one on, are not above a coordinate (docs/DEFINITIONS.md, Cells)
+-- how many borders, from the first on, are not above a coordinate
 abbrev pub borders_up_to : List ℤ → ℤ → ℕ
 borders_up_to borders v = prefix_len (λ b. int_le b v) borders

@@ -6,27 +6,27 @@ use Rattle.ring_rules.specs.Places.{steps_above, point_at}
 use Rattle.ring_rules.specs.declared.finding.Drilled.{Drilled}
 use Rattle.ring_rules.specs.declared.scale.Scale.{Scale}
 
--- how many borders are not above a coordinate, or where there are none how many steps it lies above the low end (docs/DEFINITIONS.md, Cells)
+-- how many borders are not above a coordinate; on a scale without borders, how many steps it lies above the low end
 abbrev pub steps_to : List ℤ → ℤ → ℕ → ℤ → ℕ
 steps_to [] low shift v = steps_above low shift v
 steps_to (b ∷ bs) low shift v = borders_up_to (b ∷ bs) v
 
--- the place of a coordinate on a scale, at most the last one (docs/DEFINITIONS.md, Cells)
+-- the place of a coordinate on a scale, at most the last one
 abbrev pub place_of : Scale → ℤ → ℕ
 place_of s v = min (steps_to s.borders.items s.low s.shift v) s.last
 
--- the column of a point (docs/DEFINITIONS.md, Cells)
+-- the column of a point: the place of its x
 abbrev pub column_of : Scale → GridPoint → ℕ
 column_of s p = place_of s p.x
 
--- the row of a point (docs/DEFINITIONS.md, Cells)
+-- the row of a point: the place of its y
 abbrev pub row_of : Scale → GridPoint → ℕ
 row_of s p = place_of s p.y
 
--- the cell of a point, row by row (docs/DEFINITIONS.md, Cells)
+-- the number of the cell of a point, counted row by row from 0
 abbrev pub cell_of : Scale → Scale → GridPoint → ℕ
 cell_of x y p = row_of y p * (x.last + 1) + column_of x p
 
--- the cell of a hole by its place in the list (docs/DEFINITIONS.md, Cells)
+-- the number of the cell of the hole at a place of the list
 abbrev pub cell_at : Scale → Scale → List Drilled → ℕ → ℕ
 cell_at x y holes k = cell_of x y (point_at holes k)

@@ -1,4 +1,4 @@
--- What the rules find at the holes of a board, in order.
+-- What the rules find at the holes of a board, in order (docs/FORMATS.md, The check). Layers and holes are named by their places from 0.
 use Rattle.std.specs.Prelude.{ℕ, ◌+◌, Bool, not, ◌&&◌, ◌||◌, nat_lt, List, map, if◌then◌else◌}
 use Rattle.std.specs.Ordering.{int_eq}
 use Rattle.std.specs.List.{filter, flat_map, enumerate_from, list_any}
@@ -11,41 +11,41 @@ use Rattle.ring_rules.specs.declared.finding.Drilled.{Drilled}
 use Rattle.ring_rules.specs.declared.finding.Finding.{Finding}
 use Rattle.ring_rules.specs.declared.finding.Finding.TheVariants.{Ring, Oblique, Gap}
 
--- the ends of a hole differ in x and in y (docs/DEFINITIONS.md, Findings)
+-- the ends of a hole differ in x and in y: a slot from (0, 0) to (1, 2), say
 abbrev pub is_oblique : GridHole → Bool
 is_oblique h = not (int_eq h.from.x h.to.x) && not (int_eq h.from.y h.to.y)
 
--- a shape covers a hole with the ring round it: it covers both ends, which are one point where the hole is round (docs/DEFINITIONS.md, Findings)
+-- a shape covers a hole with the ring round it: it covers both ends, which are one point where the hole is round
 abbrev pub covers_hole : {S : Type 0} → (S → GridPoint → ℕ → Bool) → ℕ → GridHole → S → Bool
 covers_hole covers ring h pad = covers_ends covers pad h.from h.to (h.radius + ring)
 
--- an oblique slot, or a hole that no single pad covers with the ring round it (docs/DEFINITIONS.md, Findings)
+-- an oblique slot, or a hole that no single pad covers with the ring round it
 abbrev pub lacks_ring : {S : Type 0} → (S → GridPoint → ℕ → Bool) → ℕ → List S → GridHole → Bool
 lacks_ring covers ring pads h = is_oblique h || not (list_any (covers_hole covers ring h) pads)
 
--- a plated hole that goes through the layer and lacks its ring among the pads (docs/DEFINITIONS.md, Findings)
+-- a plated hole that goes through the layer and lacks its ring among the pads
 abbrev pub is_ring_finding : {S : Type 0} → (S → GridPoint → ℕ → Bool) → ℕ → ℕ → List S → Drilled → Bool
 is_ring_finding covers ring layer pads d = (d.plated && is_in_span layer d.span) && lacks_ring covers ring pads d.hole
 
--- what is found on a layer at a hole that lacks its ring there (docs/DEFINITIONS.md, Findings)
+-- the finding at a hole that lacks its ring on a layer: `Oblique` for an oblique slot, else `Ring`
 abbrev pub finding_of : ℕ → ℕ × Drilled → Finding
 finding_of layer hole = if is_oblique hole.1.hole then Oblique layer hole.0 else Ring layer hole.0
 
--- the findings on one layer, by hole (docs/DEFINITIONS.md, Findings)
+-- the findings of rings on one layer, by hole
 abbrev pub layer_findings : {S : Type 0} → (S → GridPoint → ℕ → Bool) → ℕ → List Drilled → ℕ → List S → List Finding
 layer_findings covers ring holes layer pads =
     map (finding_of layer) (filter (λ hole. is_ring_finding covers ring layer pads hole.1) (enumerate_from 0 holes))
 
--- the findings on all layers, by layer and then by hole (docs/DEFINITIONS.md, Findings)
+-- the findings of rings on all layers, by layer and then by hole
 abbrev pub ring_findings : {S : Type 0} → (S → GridPoint → ℕ → Bool) → ℕ → List (List S) → List Drilled → List Finding
 ring_findings covers ring layers holes =
     flat_map (λ layer. layer_findings covers ring holes layer.0 layer.1) (enumerate_from 0 layers)
 
--- the findings of one hole with those after it (docs/DEFINITIONS.md, Findings)
+-- the findings of gaps between one hole and those after it in the list
 abbrev pub hole_findings : ℕ → List Drilled → ℕ → Drilled → List Finding
 hole_findings gap holes first a =
     map (λ hole. Gap first hole.0) (filter (λ hole. nat_lt first hole.0 && not (are_clear gap a.hole hole.1.hole)) (enumerate_from 0 holes))
 
--- the pairs of holes that are not clear, by the first of them and then by the second (docs/DEFINITIONS.md, Findings)
+-- the pairs of holes that are not clear, by the first and then by the second hole; plated or not, all holes count, one drilled twice as two
 abbrev pub gap_findings : ℕ → List Drilled → List Finding
 gap_findings gap holes = flat_map (λ hole. hole_findings gap holes hole.0 hole.1) (enumerate_from 0 holes)

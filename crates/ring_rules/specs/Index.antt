@@ -1,4 +1,4 @@
--- An index of the holes of a list by where they go in.
+-- An index of the holes of a list by their entry points: the first end of a slot, the centre of a round hole.
 use Rattle.std.specs.Prelude.{ℕ, ◌+◌, ◌*◌, ◌^◌, ◌<◌, ◌≤◌, List, length}
 use Rattle.std.specs.List.{Contains}
 use Rattle.grid_units.specs.Points.{GridPoint}
@@ -10,17 +10,17 @@ use Rattle.ring_rules.specs.Inner.Regions.{IsOnBoard}
 use Rattle.ring_rules.specs.declared.finding.Drilled.{Drilled}
 use Rattle.ring_rules.specs.declared.index.HoleIndex.{HoleIndex}
 
--- an index of just these holes: each of its cells tells the holes that go in there (docs/DEFINITIONS.md, Cells)
+-- an index of just these holes: the chain of each cell has the holes with their entry point there
 pub record IsIndexOf (holes : List Drilled) (index : HoleIndex) : Type 0 where
   pub chained : IsChained (cell_at index.cells.x index.cells.y holes) (length holes) index.cells.head.items index.cells.next.items
   pub ends : (k : ℕ) → k < length holes → IsOnBoard index.cells.x index.cells.y (point_at holes k)
   pub fits : (index.cells.y.last + 1) * (index.cells.x.last + 1) ≤ 2 ^ 62
 
--- the place of a hole of the list that goes in within a zone (docs/DEFINITIONS.md, Cells)
+-- the place of a hole of the list with its entry point in a zone
 pub record GoesInAt (holes : List Drilled) (zone : Zone) (k : ℕ) : Type 0 where
   pub listed : k < length holes
   pub within : IsInZone zone (point_at holes k)
 
--- a point of one of some zones (docs/DEFINITIONS.md, Zones)
+-- a point in one of some zones
 abbrev pub IsInOneOf : List Zone → GridPoint → Type 0
 IsInOneOf zones p = (zone : Zone) × Contains zones zone × IsInZone zone p

@@ -5,11 +5,11 @@ use Rattle.grid_units.specs.Points.{GridPoint}
 use Rattle.ring_rules.specs.Cores.{positive_part}
 use Rattle.ring_rules.specs.declared.finding.Drilled.{Drilled}
 
--- how many whole steps of 2^shift a coordinate lies above the low end of an axis (docs/DEFINITIONS.md, Cells)
+-- how many whole steps of 2^shift pm a coordinate lies above the low end of an axis, 0 below it
 abbrev pub steps_above : ℤ → ℕ → ℤ → ℕ
 steps_above low shift v = positive_part (v -ℤ low) / 2 ^ shift
 
--- a hole at no place of a list
+-- the hole that stands for a place past the end of a list
 abbrev pub nowhere : Drilled
 nowhere = record { hole = record { from = record { x = pos 0; y = pos 0 }; to = record { x = pos 0; y = pos 0 }; radius = 1 }; plated = false; span = None }
 
@@ -17,11 +17,12 @@ nowhere = record { hole = record { from = record { x = pos 0; y = pos 0 }; to = 
 abbrev pub hole_at : List Drilled → ℕ → GridHole
 hole_at holes k = (get_or holes k nowhere).hole
 
--- the hole at a place of the list goes in here
+-- the entry point of the hole at a place: the first end of a slot, the centre of a round hole
 abbrev pub point_at : List Drilled → ℕ → GridPoint
 point_at holes k = (get_or holes k nowhere).hole.from
 
--- Chains of the first n places: each cell tells its greatest place and one, and each place the next lower of its cell and one, or 0 (docs/DEFINITIONS.md, Cells).
+-- Chains of the first n places. A link is a place plus one, or 0 at the end: that of a cell leads to its greatest place, that of
+-- a place to the next lower place of its cell.
 pub record IsChained (cell : ℕ → ℕ) (n : ℕ) (head next : List ℕ) : Type 0 where
   pub size : length next ≡ n
   pub heads : (k : ℕ) → k < n → k < get_or head (cell k) 0

@@ -1,4 +1,4 @@
-//! Blocks of cells: a large pad passes over those that are closed, and those that it can't cover.
+//! Blocks of cells. A large pad skips those that are closed, and those that it can't cover.
 
 ghost use Rattle.std.specs.Prelude.{◌≡◌, ◌+◌, ◌≤◌, ◌<◌, false, length};
 ghost use Rattle.std.specs.List.{All};
@@ -12,7 +12,7 @@ use crate::regions::try_rows;
 use grid_units::Rules;
 use pad_shapes::{PadShape, Zone};
 
-/// A block of cells: its rows from one to below another, its columns, and a zone that holds its points.
+/// A block of cells: rows from `top` to `bottom` and columns from `left` to `right`, ends excluded, and a zone that contains its points.
 #[derive(Clone, Copy)]
 pub(crate) struct Block {
     pub top: usize,
@@ -22,7 +22,7 @@ pub(crate) struct Block {
     pub zone: Zone,
 }
 
-/// Tries a pad at the holes of a block, and says whether it stays open.
+/// Tries a pad at the holes of a block, and returns whether the block stays open: a mark may be left in it.
 fn try_block<S: PadShape>(
     cells: &Cells,
     holes: &[Drilled],
@@ -62,7 +62,7 @@ fn try_block<S: PadShape>(
     )
 }
 
-/// Tries a pad at the holes of all blocks.
+/// Tries a pad at the holes of all open blocks.
 pub(crate) fn try_blocks<S: PadShape>(
     cells: &Cells,
     holes: &[Drilled],

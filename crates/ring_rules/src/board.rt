@@ -1,4 +1,4 @@
-//! The holes of a board in cells, and what is asked of all of them.
+//! The holes of a board in cells and blocks, and the least reach that they ask for.
 
 ghost use Rattle.std.specs.Prelude.{◌≡◌, ℕ, ◌+◌, ◌<◌, ◌≤◌, IfOk, length, get_or};
 ghost use Rattle.std.specs.List.{All};
@@ -15,7 +15,7 @@ use crate::layout::laid_out;
 use grid_units::Rules;
 use std::alloc::{AllocError, Global};
 
-/// The holes of a board in cells, blocks of these, and a reach that each hole has at least.
+/// The holes of a board in cells, the blocks of these cells, and a reach that no hole falls short of, in pm.
 #[derive(Drop)]
 pub(crate) struct Board {
     pub cells: Cells,
@@ -23,7 +23,7 @@ pub(crate) struct Board {
     pub least: u64,
 }
 
-/// The reach that a hole asks for.
+/// The reach that a hole asks for: its radius and the ring, in pm.
 fn reach(drilled: &Drilled, rules: Rules) -> u64
     ensures value { result ≡ drilled.now.hole.radius + rules.ring }
     ensures bound { result ≤ 15000000000000 }
@@ -31,7 +31,7 @@ fn reach(drilled: &Drilled, rules: Rules) -> u64
     (drilled.hole.radius() + rules.ring()).unsigned_abs()
 }
 
-/// A reach that each hole asks for at least.
+/// A reach that each hole asks for at least, in pm.
 fn least_reach(holes: &[Drilled], rules: Rules) -> u64
     ensures least { (k : ℕ) → k < length holes.now → result ≤ (get_or holes.now k nowhere).hole.radius + rules.ring }
     ensures bound { result ≤ 15000000000000 }
@@ -43,7 +43,7 @@ fn least_reach(holes: &[Drilled], rules: Rules) -> u64
     least
 }
 
-/// How many cells a block has in a row and in a column: about the fourth root of all cells, a power of two.
+/// How many rows and columns of cells a block has: a power of two, about the fourth root of all cells.
 pub(crate) fn block_side(cells: usize) -> usize
     ensures { 1 ≤ result }
 {
@@ -51,7 +51,7 @@ pub(crate) fn block_side(cells: usize) -> usize
     1 << (bits / 4)
 }
 
-/// The holes in cells that suit what is so wide and so high, and these cells in blocks.
+/// The holes in cells that suit zones about so wide and so high, in pm, and these cells in blocks.
 pub(crate) fn lay_out(
     alloc: Global,
     holes: &[Drilled],

@@ -1,5 +1,5 @@
-//! Holes in the cells of a grid, by chains: each cell tells the last of its holes in the list, and each hole the one before it
-//! in its cell. Nothing is sorted or moved.
+//! Holes in the cells of a grid, by chains. Each cell has a link to the last of its holes in the list, and each hole
+//! one to the hole before it in its cell. Nothing is sorted or moved.
 
 ghost use Rattle.std.specs.Prelude.{◌≡◌, ◌+◌, ◌*◌, ◌^◌, ◌<◌, ◌≤◌, IfOk, length};
 ghost use Rattle.ring_rules.specs.Places.{IsChained};
@@ -11,7 +11,7 @@ use crate::scale::Scale;
 use grid_units::Point;
 use std::alloc::{AllocError, Global};
 
-/// The chains of the holes of a board: 0 ends a chain, and else a link is one more than a hole's place.
+/// The holes of a board in chains. A link is one more than a hole's place, or 0 at the end of a chain.
 #[derive(Drop)]
 pub(crate) struct Cells {
     pub x: Scale,
@@ -36,7 +36,7 @@ pub(crate) fn row(scale: &Scale, at: Point) -> usize
     place(scale, at.y())
 }
 
-/// The cell in a row and a column.
+/// The number of the cell in a row and a column, counted row by row from 0.
 pub(crate) fn cell_in(x: &Scale, y: &Scale, row: usize, column: usize) -> usize
     requires row { row ≤ y.now.last }
     requires column { column ≤ x.now.last }
@@ -47,7 +47,7 @@ pub(crate) fn cell_in(x: &Scale, y: &Scale, row: usize, column: usize) -> usize
     row * (x.last + 1) + column
 }
 
-/// The cell of a point.
+/// The number of the cell of a point.
 pub(crate) fn cell_of(x: &Scale, y: &Scale, at: Point) -> usize
     requires { (y.now.last + 1) * (x.now.last + 1) ≤ 2 ^ 62 }
     ensures value { result ≡ cell_of x.now y.now at }
@@ -56,7 +56,7 @@ pub(crate) fn cell_of(x: &Scale, y: &Scale, at: Point) -> usize
     cell_in(x, y, row(y, at), column(x, at))
 }
 
-/// The chains of holes in a grid.
+/// The holes in the cells of a grid, each in the cell of its entry point.
 pub(crate) fn chained(
     alloc: Global,
     x: Scale,

@@ -9,7 +9,7 @@ use crate::finding::Drilled;
 use grid_units::Rules;
 use std::alloc::AllocError;
 
-/// The lesser of two places, and the greater.
+/// Two places as a pair, the lesser one first.
 fn in_order(a: usize, b: usize) -> (usize, usize)
     ensures { result ≡ in_order a b }
 {
@@ -35,7 +35,7 @@ fn add_pair(
     Ok(())
 }
 
-/// Appends the pairs of a hole with those at some places.
+/// Appends the pairs of a hole with those at some places, where they are not clear.
 pub(crate) fn add_pairs(
     holes: &[Drilled],
     rules: Rules,

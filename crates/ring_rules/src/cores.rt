@@ -6,14 +6,14 @@ ghost use Rattle.ring_rules.specs.Cores.{positive_part, range_distance, are_clea
 
 use grid_units::{Hole, Rules, square, square_length};
 
-/// How far a number lies above another one, or nothing.
+/// How far a number lies above another one, 0 where it does not.
 fn excess(high: i64, low: i64) -> u64
     ensures { result ≡ positive_part (high -ℤ low) }
 {
     if low < high { high.abs_diff(low) } else { 0 }
 }
 
-/// How far two ranges are apart, each given by its ends in any order.
+/// How far two ranges are apart, 0 where they meet. The ends of each may stand in any order.
 fn range_distance(a: i64, b: i64, c: i64, d: i64) -> u64
     ensures { result ≡ range_distance a b c d }
 {
@@ -38,7 +38,7 @@ pub fn core_distance_y(a: &Hole, b: &Hole) -> u64
     range_distance(a.from().y(), a.to().y(), b.from().y(), b.to().y())
 }
 
-/// How far the cores of two clear holes are at least apart.
+/// How far apart the cores of two holes must be at least, in pm: both radii and the gap.
 fn clear_distance(a: &Hole, b: &Hole, rules: Rules) -> u64
     ensures value { result ≡ a.now.radius + b.now.radius + rules.gap }
     ensures in_range { result ≤ 20000000000000 }
@@ -46,7 +46,7 @@ fn clear_distance(a: &Hole, b: &Hole, rules: Rules) -> u64
     (a.radius() + b.radius() + rules.gap()).unsigned_abs()
 }
 
-/// Whether the computed distance of the cores of two holes is as large as the radii and the gap together.
+/// Whether the distance of the cores of two holes is at least the radii and the gap together.
 pub fn are_clear(a: &Hole, b: &Hole, rules: Rules) -> bool
     ensures { result ≡ are_clear rules.gap a.now b.now }
 {
@@ -54,8 +54,8 @@ pub fn are_clear(a: &Hole, b: &Hole, rules: Rules) -> bool
     square(clear_distance(a, b, rules)) <= cores
 }
 
-/// Whether each point of the core of one hole is as far from each point of the core of the other as the radii
-/// and the gap together. Then no points of the two holes are nearer than the gap.
+/// Whether no point of one core is nearer to a point of the other than the radii and the gap together. Then no points
+/// of the two holes are nearer than the gap.
 pub fn clear_of(a: &Hole, b: &Hole, rules: Rules) -> bool
     ensures test { result ≡ are_clear rules.gap a.now b.now }
     ensures exact { IsTrue result ↔ AreClear rules.gap a.now b.now }

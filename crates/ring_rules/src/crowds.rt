@@ -1,4 +1,4 @@
-//! Boards on which many holes crowd into few cells of an even grid, and the uneven scales that part them.
+//! Boards with many holes in few cells of an even grid, and uneven scales that divide these holes.
 
 ghost use Rattle.std.specs.Prelude.{◌≡◌, ◌+◌, ◌*◌, ◌^◌, ◌≤◌, IfOk};
 ghost use Rattle.ring_rules.specs.Borders.{Rises};
@@ -11,10 +11,10 @@ use crate::shape::drawn;
 use pad_shapes::Zone;
 use std::alloc::{AllocError, Global};
 
-/// How many holes of a cell are counted at most.
+/// The most holes of a cell that are counted.
 const ENOUGH: usize = 256;
 
-/// How many holes a cell has, or enough of them. Any answer is right: only the time depends on it.
+/// How many holes a cell has, counted up to `ENOUGH`. Any answer is right: only the time depends on it.
 fn count_in(cells: &Cells, cell: usize) -> usize {
     let mut count: usize = 0;
     let mut link = link_at(&cells.head, cell);
@@ -27,7 +27,7 @@ fn count_in(cells: &Cells, cell: usize) -> usize {
     count
 }
 
-/// Whether the holes of a sample share their cells with more than eight holes, in the middle. Any answer is right.
+/// Whether the holes of a sample share their cells with more than eight holes on average. Any answer is right.
 pub(crate) fn is_crowded(cells: &Cells, holes: &[Drilled]) -> bool
     requires { (cells.now.y.last + 1) * (cells.now.x.last + 1) ≤ 2 ^ 62 }
 {
@@ -42,13 +42,13 @@ pub(crate) fn is_crowded(cells: &Cells, holes: &[Drilled]) -> bool
     sum > draws * 8
 }
 
-/// About the root of a number: a power of two.
+/// A power of two near the square root of a number.
 fn root_of(count: usize) -> usize {
     let bits = 64 - (count as u64).leading_zeros();
     1 << (bits / 2)
 }
 
-/// Each so many-th of the values, equal ones once.
+/// Each so many-th of the sorted values, without repetitions.
 fn picked(alloc: Global, values: &[i64]) -> Result<Vec<i64>, AllocError> {
     let parts = root_of(values.len());
     let step = values.len() / parts.max(1);
@@ -63,7 +63,7 @@ fn picked(alloc: Global, values: &[i64]) -> Result<Vec<i64>, AllocError> {
     Ok(picked)
 }
 
-/// Borders that leave about as many of the values between each two of them.
+/// Borders with about equally many of the values between each two of them.
 fn borders_of(alloc: Global, values: &mut Vec<i64>) -> Result<Vec<i64>, AllocError>
     ensures { IfOk result (λ v. Rises v.items) }
 {
@@ -73,7 +73,7 @@ fn borders_of(alloc: Global, values: &mut Vec<i64>) -> Result<Vec<i64>, AllocErr
     Ok(borders)
 }
 
-/// The scale of these borders.
+/// The uneven scale with these borders.
 fn scale_of(borders: Vec<i64>, least: i64, greatest: i64) -> Scale
     requires { Rises borders.items }
     ensures least { result.least ≡ least }
@@ -89,7 +89,7 @@ fn scale_of(borders: Vec<i64>, least: i64, greatest: i64) -> Scale
     }
 }
 
-/// A scale that parts the holes along x, for the points of a zone.
+/// A scale along x that divides the holes evenly, for the points of a zone.
 pub(crate) fn uneven_x(alloc: Global, zone: &Zone, holes: &[Drilled]) -> Result<Scale, AllocError>
     ensures least { IfOk result (λ s. s.least ≡ zone.now.left) }
     ensures greatest { IfOk result (λ s. s.greatest ≡ zone.now.right) }
@@ -102,7 +102,7 @@ pub(crate) fn uneven_x(alloc: Global, zone: &Zone, holes: &[Drilled]) -> Result<
     Ok(scale_of(borders, zone.left, zone.right))
 }
 
-/// A scale that parts the holes along y, for the points of a zone.
+/// A scale along y that divides the holes evenly, for the points of a zone.
 pub(crate) fn uneven_y(alloc: Global, zone: &Zone, holes: &[Drilled]) -> Result<Scale, AllocError>
     ensures least { IfOk result (λ s. s.least ≡ zone.now.bottom) }
     ensures greatest { IfOk result (λ s. s.greatest ≡ zone.now.top) }

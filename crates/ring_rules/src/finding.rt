@@ -9,7 +9,7 @@ use grid_units::{Hole, Span};
 /// A hole of a board, whether its wall is plated, and the layers that it goes through.
 #[derive(Clone, Copy, Debug, PartialEq, Eq)]
 pub struct Drilled {
-    /// The hole.
+    /// Its two ends, which are one point where it is round, and its radius.
     pub hole: Hole,
     /// Whether its wall is plated.
     pub plated: bool,
@@ -22,23 +22,23 @@ pub struct Drilled {
 pub enum Finding {
     /// A plated hole, round or a slot along an axis, that no single pad of a layer covers with the ring round it.
     Ring {
-        /// The layer.
+        /// The layer, by its place from 0.
         layer: usize,
-        /// The hole.
+        /// The hole, by its place from 0.
         hole: usize,
     },
     /// A plated slot whose ends differ in x and in y.
     Oblique {
-        /// The layer.
+        /// The layer, by its place from 0.
         layer: usize,
-        /// The hole.
+        /// The hole, by its place from 0.
         hole: usize,
     },
     /// Two holes that are not clear of each other.
     Gap {
-        /// The hole that comes first in the list.
+        /// The hole that comes first in the list, by its place from 0.
         first: usize,
-        /// The hole that comes later.
+        /// The hole that comes later, by its place from 0.
         second: usize,
     },
 }

@@ -20,7 +20,7 @@ fn sort_pairs(pairs: &mut Vec<(usize, usize)>)
     pairs.sort_unstable();
 }
 
-/// Keeps one of each of the pairs that are equal.
+/// Drops all but one of equal pairs.
 fn keep_one_of_each(pairs: &mut Vec<(usize, usize)>)
     requires { IsSorted (λ p q. ordering_then (nat_cmp p.0 q.0) (nat_cmp p.1 q.1)) pairs.old.items }
     ensures rising { AllPairs Before pairs.new.items }
@@ -30,7 +30,7 @@ fn keep_one_of_each(pairs: &mut Vec<(usize, usize)>)
     pairs.dedup();
 }
 
-/// The findings at pairs of places.
+/// The findings of gaps at pairs of places.
 fn gaps_at(alloc: Global, pairs: &[(usize, usize)]) -> Result<Vec<Finding>, AllocError>
     ensures { IfOk result (λ findings. findings.items ≡ map (λ p. Finding.Gap p.0 p.1) pairs.now) }
 {
@@ -41,7 +41,7 @@ fn gaps_at(alloc: Global, pairs: &[(usize, usize)]) -> Result<Vec<Finding>, Allo
     gaps.collect(alloc)
 }
 
-/// Lists, by the first and then by the second of them, each two holes that are not clear.
+/// Lists each two holes that are not clear, by the first of them and then by the second.
 ///
 /// # Errors
 ///

@@ -1,4 +1,4 @@
-//! An index of holes by where they go in, for questions with a zone.
+//! An index of holes by their entry points, to find the holes in a zone.
 
 ghost use Rattle.std.specs.Prelude.{◌≡◌, ℕ, ◌+◌, ◌<◌, ◌≤◌, ◌≤ℤ◌, true, length, IfOk, OnOk};
 ghost use Rattle.std.specs.List.{All, Contains};
@@ -18,8 +18,8 @@ use grid_units::Point;
 use pad_shapes::Zone;
 use std::alloc::{AllocError, Global};
 
-/// The holes of a list by where they go in: by the first end of a slot, by the centre of a round hole. A hole is named by its place in the
-/// list, from 0.
+/// The holes of a list by their entry points: the first end of a slot, the centre of a round hole. A hole is named by
+/// its place in the list, from 0.
 #[derive(Drop)]
 pub struct HoleIndex {
     pub(crate) cells: Cells,
@@ -49,7 +49,7 @@ fn is_in_zone(zone: &Zone, at: Point) -> bool
     is_across(zone, at) && is_along(zone, at)
 }
 
-/// Appends the place of a hole, where it goes in within the zone.
+/// Appends the place of a hole, where its entry point lies in the zone.
 fn add_place(
     holes: &[Drilled],
     zone: &Zone,
@@ -66,7 +66,7 @@ fn add_place(
     Ok(())
 }
 
-/// Appends the places of the holes of a cell that go in within the zone.
+/// Appends the places of the holes of a cell with their entry point in the zone.
 fn add_cell(
     index: &HoleIndex,
     holes: &[Drilled],
@@ -87,7 +87,7 @@ fn add_cell(
     Ok(())
 }
 
-/// Appends such places of a row, from a column to below another.
+/// Appends such places of the cells of a row, in columns from `left` to `right`, end excluded.
 fn add_row(
     index: &HoleIndex,
     holes: &[Drilled],
@@ -110,7 +110,7 @@ fn add_row(
     Ok(())
 }
 
-/// Appends such places of the rows from one to below another, and of such columns.
+/// Appends such places of the cells in rows from `top` to `bottom` and columns from `left` to `right`, ends excluded.
 fn add_rows(
     index: &HoleIndex,
     holes: &[Drilled],
@@ -134,7 +134,7 @@ fn add_rows(
 }
 
 impl HoleIndex {
-    /// The index of these holes. It is quick for zones that are about so wide and so high, in pm, and right for all.
+    /// The index of these holes. It is quick for zones about so wide and so high, in pm, and right for all.
     ///
     /// # Errors
     ///
@@ -151,8 +151,7 @@ impl HoleIndex {
         Ok(HoleIndex { cells })
     }
 
-    /// Puts into `places`, in place of what was there, the places of those holes that go in within a zone. The holes are those that the
-    /// index was made of.
+    /// Replaces `places` by the places of the holes with their entry point in a zone. The holes are those that the index was made of.
     ///
     /// # Errors
     ///

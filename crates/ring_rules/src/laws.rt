@@ -1,4 +1,4 @@
-//! Laws of what the rules find. A call of one does nothing, and gives its clause.
+//! Laws of what the rules find. A call of one does nothing; its clauses are what is proved.
 
 ghost use Rattle.ring_rules.specs.Cores.{ClearHolesAreApart};
 ghost use Rattle.ring_rules.specs.Passing.{RingsHoldWithoutFindings, SlotsHoldWithoutFindings, StraightWithoutFindings, FindsOblique, ApartWhenNoneClash, RingsNamePlaces, GapsNamePlaces};
@@ -10,20 +10,20 @@ pub fn clear_holes_are_apart()
     ensures { ClearHolesAreApart }
 {}
 
-/// Where no hole lacks its ring, on each layer of its span one pad holds each plated round hole and each plated
-/// slot along an axis with the ring round it, and no plated slot is oblique.
+/// Where no hole lacks its ring, one pad holds each plated round hole, on each layer of its span, with the ring round
+/// it. So it is with each plated slot along an axis, and no plated slot is oblique.
 pub fn rings_hold<S: PadShape>()
     ensures rounds { RingsHoldWithoutFindings S.points S.covers }
     ensures slots { SlotsHoldWithoutFindings S.points S.covers }
     ensures straight { StraightWithoutFindings S.covers }
 {}
 
-/// An oblique plated slot is a finding of a kind of its own on each layer of its span.
+/// A plated oblique slot is a finding of its own kind on each layer of its span.
 pub fn oblique_slots_are_found<S: PadShape>()
     ensures { FindsOblique S.covers }
 {}
 
-/// Where no two holes lack their gap, each two places in the list of holes have holes that are clear, hence apart.
+/// Where no gap is a finding, the holes at any two places of the list are clear, hence apart.
 pub fn gaps_hold()
     ensures { ApartWhenNoneClash }
 {}

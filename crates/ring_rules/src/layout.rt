@@ -1,4 +1,4 @@
-//! Cells that suit the holes of a board, and what is looked for among them.
+//! Cells that suit the holes of a board and the zones that are looked for.
 
 ghost use Rattle.std.specs.Prelude.{◌≡◌, ℕ, ◌+◌, ◌*◌, ◌^◌, ◌<◌, ◌≤◌, true, IfOk, length};
 ghost use Rattle.std.specs.List.{All, Contains};
@@ -16,7 +16,7 @@ use grid_units::Point;
 use pad_shapes::Zone;
 use std::alloc::{AllocError, Global};
 
-/// The zone and a point.
+/// The least zone that contains a zone and a point.
 fn joined(zone: Zone, at: Point) -> Zone
     ensures old { (p : GridPoint) → IsInZone zone p → IsInZone result p }
     ensures new { IsInZone result at }
@@ -39,7 +39,7 @@ pub(crate) fn no_zone() -> Zone {
     }
 }
 
-/// A zone that holds where each hole goes in.
+/// A zone that contains the entry point of each hole.
 fn bounds(holes: &[Drilled]) -> Zone
     ensures { (k : ℕ) → k < length holes.now → IsInZone result (point_at holes.now k) }
 {
@@ -50,7 +50,7 @@ fn bounds(holes: &[Drilled]) -> Zone
     zone
 }
 
-/// A zone that holds where the holes at some places go in.
+/// A zone that contains the entry points of the holes at some places.
 pub(crate) fn bounds_at(holes: &[Drilled], places: &[usize]) -> Zone
     requires { All (λ k. k < length holes.now) places.now }
     ensures { (k : ℕ) → Contains places.now k → IsInZone result (point_at holes.now k) }
@@ -62,7 +62,7 @@ pub(crate) fn bounds_at(holes: &[Drilled], places: &[usize]) -> Zone
     zone
 }
 
-/// Places along x, of these bits, for the points of a zone.
+/// An even scale along x for the points of a zone, with places of 2^shift pm.
 fn across(alloc: Global, zone: &Zone, spread: &Spread, shift: u32) -> Scale
     ensures least { result.least ≡ zone.now.left }
     ensures greatest { result.greatest ≡ zone.now.right }
@@ -78,7 +78,7 @@ fn across(alloc: Global, zone: &Zone, spread: &Spread, shift: u32) -> Scale
     }
 }
 
-/// Places along y, of these bits, for the points of a zone.
+/// An even scale along y for the points of a zone, with places of 2^shift pm.
 fn along(alloc: Global, zone: &Zone, spread: &Spread, shift: u32) -> Scale
     ensures least { result.least ≡ zone.now.bottom }
     ensures greatest { result.greatest ≡ zone.now.top }
@@ -94,7 +94,7 @@ fn along(alloc: Global, zone: &Zone, spread: &Spread, shift: u32) -> Scale
     }
 }
 
-/// The same scale with one place.
+/// A scale with the same ends and a single place.
 fn single(alloc: Global, scale: &Scale) -> Scale
     ensures last { result.last ≡ 0 }
     ensures least { result.least ≡ scale.now.least }
@@ -110,14 +110,14 @@ fn single(alloc: Global, scale: &Scale) -> Scale
     }
 }
 
-/// Whether two scales make no more than 2^62 cells.
+/// Whether two scales make at most 2^62 cells.
 fn fits(x: &Scale, y: &Scale) -> bool
     ensures { result ≡ true → (y.now.last + 1) * (x.now.last + 1) ≤ 2 ^ 62 }
 {
     (y.last as u128 + 1) * (x.last as u128 + 1) <= 1 << 62
 }
 
-/// The holes in cells of such scales, or in one cell where these would make too many.
+/// The holes in the cells of two scales, or in one cell where the scales would make too many.
 fn cells_on(
     alloc: Global,
     holes: &[Drilled],
@@ -140,7 +140,8 @@ fn cells_on(
     }
 }
 
-/// The holes in cells that suit what is so wide and so high: even ones, or uneven ones where holes crowd into few of the even.
+/// The holes in cells that suit zones about so wide and so high, in pm. The cells are even, or uneven where holes
+/// crowd into few of the even ones.
 pub(crate) fn laid_out(
     alloc: Global,
     holes: &[Drilled],

@@ -2,7 +2,7 @@
 
 ghost use Rattle.std.specs.Prelude.{◌≤◌};
 
-/// Lengths that no hole of a list exceeds, in pm: by its radius, and by its core along each axis.
+/// Lengths that no hole of a list exceeds, in pm: the radius, and the length of the core along each axis.
 #[derive(Clone, Copy)]
 pub struct Limits {
     pub(crate) radius: u64,

@@ -1,4 +1,4 @@
-//! The holes of a cell that a pad covers.
+//! Marks of the holes that a pad has not covered so far, and the chain of a cell.
 
 ghost use Rattle.std.specs.Prelude.{◌≡◌, ◌&&◌, false, not, length, get_or};
 ghost use Rattle.pad_shapes.specs.Shapes.{IsAlongAxis};
@@ -22,8 +22,8 @@ pub(crate) fn link_at(links: &[usize], place: usize) -> usize
     }
 }
 
-/// Whether a pad covers a hole with the ring round it, at both ends. A hole whose first end is not between the least and the
-/// greatest x of the pad is not asked for.
+/// Whether a pad covers a hole with the ring round it, at both ends. The pad is not asked where the first end is not
+/// between its least and greatest x.
 fn covers_hole<S: PadShape>(pad: &S, hole: &Hole, rules: Rules) -> bool
     requires { IsAlongAxis hole.now.from hole.now.to }
     ensures { result ≡ covers_hole S.covers rules.ring hole.now pad.now }
@@ -33,21 +33,21 @@ fn covers_hole<S: PadShape>(pad: &S, hole: &Hole, rules: Rules) -> bool
     pad.left() <= from.x() && from.x() <= pad.right() && pad.covers_slot(from, hole.to(), reach)
 }
 
-/// Whether a pad gives a hole its ring. No pad does that for an oblique slot.
+/// Whether a pad gives a hole its ring. No pad does so for an oblique slot.
 fn gives_ring<S: PadShape>(pad: &S, hole: &Hole, rules: Rules) -> bool
     ensures { result ≡ gives_ring S.covers rules.ring hole.now pad.now }
 {
     !is_oblique(hole) && covers_hole(pad, hole, rules)
 }
 
-/// The mark of a hole once a pad was tried.
+/// Whether a hole keeps its mark after a pad was tried.
 fn stays<S: PadShape>(pad: &S, drilled: &Drilled, rules: Rules, mark: bool) -> bool
     ensures { result ≡ (mark && not (gives_ring S.covers rules.ring drilled.now.hole pad.now)) }
 {
     mark && !gives_ring(pad, &drilled.hole, rules)
 }
 
-/// Takes back the marks of those holes of a cell to which the pad gives their ring, and says whether one is left.
+/// Removes the marks of the holes of a cell to which the pad gives their ring, and returns whether a mark is left.
 pub(crate) fn try_cell<S: PadShape>(
     cells: &Cells,
     holes: &[Drilled],

@@ -1,4 +1,4 @@
-//! Where holes may stand that are not clear of a hole.
+//! Where the holes may be that are not clear of a hole.
 
 ghost use Rattle.std.specs.Prelude.{◌≡◌, ℕ, ◌+◌, ◌<◌, ◌≤◌, ◌+ℤ◌, ◌-ℤ◌, ◌≤ℤ◌, pos, length, IfOk, OnOk};
 ghost use Rattle.std.specs.Int.{int_min, int_max};
@@ -23,7 +23,7 @@ use grid_units::{Hole, Rules};
 use pad_shapes::Zone;
 use std::alloc::{AllocError, Global};
 
-/// The longer side of a hole's core.
+/// The longer side of a hole's core, in pm.
 fn length_of(hole: &Hole) -> u64
     ensures value { result ≡ length_of hole.now }
     ensures in_range { result ≤ 20000000000000 }
@@ -33,7 +33,7 @@ fn length_of(hole: &Hole) -> u64
     x.max(y)
 }
 
-/// How long a hole's core is along x.
+/// The length of a hole's core along x, in pm.
 fn length_x(hole: &Hole) -> u64
     ensures value { result ≡ apart hole.now.from.x hole.now.to.x }
     ensures in_range { result ≤ 20000000000000 }
@@ -41,7 +41,7 @@ fn length_x(hole: &Hole) -> u64
     hole.from().x().abs_diff(hole.to().x())
 }
 
-/// How long a hole's core is along y.
+/// The length of a hole's core along y, in pm.
 fn length_y(hole: &Hole) -> u64
     ensures value { result ≡ apart hole.now.from.y hole.now.to.y }
     ensures in_range { result ≤ 20000000000000 }
@@ -49,14 +49,14 @@ fn length_y(hole: &Hole) -> u64
     hole.from().y().abs_diff(hole.to().y())
 }
 
-/// The radius of a hole, or the longer side of its core where that is more.
+/// The radius of a hole, or the longer side of its core where that is more, in pm.
 fn size_of(hole: &Hole) -> u64
     ensures { result ≡ size_of hole.now }
 {
     length_of(hole).max(hole.radius().unsigned_abs())
 }
 
-/// A radius that no hole exceeds.
+/// A radius that no hole exceeds, in pm.
 fn widest(holes: &[Drilled]) -> u64
     ensures all { (k : ℕ) → k < length holes.now → (hole_at holes.now k).radius ≤ result }
     ensures in_range { result ≤ 5000000000000 }
@@ -68,7 +68,7 @@ fn widest(holes: &[Drilled]) -> u64
     widest
 }
 
-/// A length along x that the core of no hole exceeds.
+/// A length along x that the core of no hole exceeds, in pm.
 fn longest_x(holes: &[Drilled]) -> u64
     ensures all { (k : ℕ) → k < length holes.now → apart (hole_at holes.now k).from.x (hole_at holes.now k).to.x ≤ result }
     ensures in_range { result ≤ 20000000000000 }
@@ -80,7 +80,7 @@ fn longest_x(holes: &[Drilled]) -> u64
     longest
 }
 
-/// A length along y that the core of no hole exceeds.
+/// A length along y that the core of no hole exceeds, in pm.
 fn longest_y(holes: &[Drilled]) -> u64
     ensures all { (k : ℕ) → k < length holes.now → apart (hole_at holes.now k).from.y (hole_at holes.now k).to.y ≤ result }
     ensures in_range { result ≤ 20000000000000 }
@@ -103,8 +103,8 @@ pub fn limits_of(holes: &[Drilled]) -> Limits
     }
 }
 
-/// How far the core of a hole may be at most from that of one that is no larger and has less than a gap from it. Where it is 0 or less
-/// there is no such hole.
+/// How far the core of a hole may be at most from that of another one, in pm. The other is no larger and has less
+/// than a gap from it. At 0 or below there is no such hole.
 fn farthest(hole: &Hole, gap: i64, widest: u64) -> i64
     requires gap { IsGapBound gap }
     requires widest { widest ≤ 5000000000000 }
@@ -116,8 +116,8 @@ fn farthest(hole: &Hole, gap: i64, widest: u64) -> i64
     radii as i64 + gap
 }
 
-/// How far from the core of a hole along an axis such a one may go in, where its core is so far off and none is longer than this along the
-/// axis.
+/// How far from the core of a hole the entry point of such a hole may lie along an axis. Its core is at most `far`
+/// away, and no core is longer than `longest` along that axis.
 fn margin(hole: &Hole, far: u64, longest: u64) -> u64
     requires far { far ≤ 50000000000000 }
     requires longest { longest ≤ 20000000000000 }
@@ -127,7 +127,7 @@ fn margin(hole: &Hole, far: u64, longest: u64) -> u64
     far + size_of(hole).min(longest)
 }
 
-/// So far left of the core of a hole.
+/// The x that lies `margin` pm left of the core of a hole.
 fn left_of(hole: &Hole, margin: u64) -> i64
     requires { margin ≤ 70000000000000 }
     ensures { result ≡ int_min hole.now.from.x hole.now.to.x -ℤ pos margin }
@@ -135,7 +135,7 @@ fn left_of(hole: &Hole, margin: u64) -> i64
     hole.from().x().min(hole.to().x()) - margin as i64
 }
 
-/// So far right of the core of a hole.
+/// The x that lies `margin` pm right of the core of a hole.
 fn right_of(hole: &Hole, margin: u64) -> i64
     requires { margin ≤ 70000000000000 }
     ensures { result ≡ int_max hole.now.from.x hole.now.to.x +ℤ pos margin }
@@ -143,7 +143,7 @@ fn right_of(hole: &Hole, margin: u64) -> i64
     hole.from().x().max(hole.to().x()) + margin as i64
 }
 
-/// So far below the core of a hole.
+/// The y that lies `margin` pm below the core of a hole.
 fn below(hole: &Hole, margin: u64) -> i64
     requires { margin ≤ 70000000000000 }
     ensures { result ≡ int_min hole.now.from.y hole.now.to.y -ℤ pos margin }
@@ -151,7 +151,7 @@ fn below(hole: &Hole, margin: u64) -> i64
     hole.from().y().min(hole.to().y()) - margin as i64
 }
 
-/// So far above the core of a hole.
+/// The y that lies `margin` pm above the core of a hole.
 fn above(hole: &Hole, margin: u64) -> i64
     requires { margin ≤ 70000000000000 }
     ensures { result ≡ int_max hole.now.from.y hole.now.to.y +ℤ pos margin }
@@ -159,7 +159,7 @@ fn above(hole: &Hole, margin: u64) -> i64
     hole.from().y().max(hole.to().y()) + margin as i64
 }
 
-/// A zone of where holes go in whose cores are so far at most from that of a hole and that are no larger.
+/// A zone that contains the entry point of each hole that is no larger than this one and has its core nearer than `far`.
 fn zone_round(hole: &Hole, far: u64, limits: Limits) -> Zone
     requires { far ≤ 50000000000000 }
     ensures { (o : GridHole) → IsUnder limits o → size_of o ≤ size_of hole.now → AreWithin far o hole.now → IsInZone result o.from }
@@ -174,7 +174,8 @@ fn zone_round(hole: &Hole, far: u64, limits: Limits) -> Zone
     }
 }
 
-/// Where those holes go in that are no larger than a hole and have less than a gap from it, in pm. Holes with a gap below 0 overlap.
+/// A zone with the entry point of each hole that is no larger than this one and has less than `gap` pm from it. Two
+/// holes with a gap below 0 overlap.
 pub fn near_zone(hole: &Hole, gap: i64, limits: Limits) -> Zone
     requires { IsGapBound gap }
     ensures { (o : GridHole) → IsUnder limits o → size_of o ≤ size_of hole.now → AreNearer gap o hole.now → IsInZone result o.from }
@@ -186,7 +187,7 @@ pub fn near_zone(hole: &Hole, gap: i64, limits: Limits) -> Zone
     zone_round(hole, far.unsigned_abs(), limits)
 }
 
-/// Appends the pairs of a hole with those that are no larger.
+/// Appends the pairs of a hole with those that are no larger and not clear of it.
 fn add_near(
     index: &HoleIndex,
     holes: &[Drilled],
@@ -208,7 +209,7 @@ fn add_near(
     Ok(())
 }
 
-/// Appends the pairs of the holes of a cell with those that are no larger.
+/// Appends such pairs of each hole of a cell.
 fn add_cell_pairs(
     index: &HoleIndex,
     holes: &[Drilled],
@@ -232,8 +233,7 @@ fn add_cell_pairs(
     Ok(())
 }
 
-/// Appends the pairs of all holes with those that are no larger, cell by cell: so holes that are near each other are looked for one
-/// after the other.
+/// Appends such pairs of all holes, cell by cell: so holes that are near each other are looked for one after the other.
 fn add_all_pairs(
     index: &HoleIndex,
     holes: &[Drilled],
@@ -253,7 +253,7 @@ fn add_all_pairs(
     Ok(())
 }
 
-/// How wide the zones of holes are in the middle, of a sample. Any answer is right.
+/// The mean width or height of the zones of a sample of the holes, in pm. Any answer is right: only the time depends on it.
 fn asked(holes: &[Drilled], rules: Rules, widest: u64, longest: u64) -> u64 {
     let mut sum: u64 = 0;
     let mut count: u64 = 0;
@@ -268,7 +268,7 @@ fn asked(holes: &[Drilled], rules: Rules, widest: u64, longest: u64) -> u64 {
     (sum / count.max(1)).saturating_mul(2)
 }
 
-/// The pairs of holes that are not clear, some of them perhaps twice.
+/// The pairs of holes that are not clear. Some may stand twice.
 pub(crate) fn clashes(
     alloc: Global,
     holes: &[Drilled],

@@ -21,10 +21,10 @@ use grid_units::{Rules, is_in_span};
 use pad_shapes::{PadShape, Zone};
 use std::alloc::{AllocError, Global};
 
-/// The most cells that are tried one by one.
+/// The most cells of a range that are tried one by one.
 const FEW: usize = 24;
 
-/// The rows from one to below another, and such columns. A pad that tells no zone has strips of all rows.
+/// Rows from `top` to `bottom` and columns from `left` to `right`, ends excluded. A pad without a zone has strips of all rows.
 #[derive(Clone, Copy)]
 struct Range {
     top: usize,
@@ -76,7 +76,7 @@ fn right_column<S: PadShape>(scale: &Scale, pad: &S) -> usize
     place(scale, pad.right())
 }
 
-/// The rows and columns where a pad may cover a centre with this reach or a greater one.
+/// The rows and columns where a pad may cover a centre with at least this reach.
 fn range_of<S: PadShape>(x: &Scale, y: &Scale, pad: &S, least: u64) -> Range
     requires { least ≤ 15000000000000 }
     ensures holds { (p : GridPoint) (r : ℕ) → least ≤ r → S.covers pad.now p r ≡ true → IsInRegion x.now y.now result.top result.bottom result.left result.right p }
@@ -101,7 +101,7 @@ fn range_of<S: PadShape>(x: &Scale, y: &Scale, pad: &S, least: u64) -> Range
     }
 }
 
-/// Takes back the marks of the holes of a range to which a pad gives their ring, where it covers none outside of it.
+/// Removes the marks of the holes in a range to which a pad gives their ring. The pad covers no hole outside the range.
 fn try_range<S: PadShape>(
     board: &Board,
     holes: &[Drilled],
@@ -144,7 +144,7 @@ fn try_range<S: PadShape>(
     );
 }
 
-/// Takes back the marks of all holes to which a pad gives their ring, block by block.
+/// Removes the marks of all holes to which a pad gives their ring, block by block.
 fn try_all<S: PadShape>(
     board: &Board,
     holes: &[Drilled],
@@ -175,14 +175,14 @@ fn try_all<S: PadShape>(
     );
 }
 
-/// Whether all cells of a range are tried: they are few, or a strip.
+/// Whether the cells of a range are tried one by one: they are few, or a strip.
 fn is_small(range: Range) -> bool {
     let rows = range.bottom.saturating_sub(range.top);
     let columns = range.right.saturating_sub(range.left);
     range.is_strip || rows.saturating_mul(columns) <= FEW
 }
 
-/// Takes back the marks of the holes to which a pad gives their ring.
+/// Removes the marks of the holes to which a pad gives their ring.
 fn try_pad<S: PadShape>(
     board: &Board,
     holes: &[Drilled],
@@ -210,7 +210,7 @@ fn try_pad<S: PadShape>(
     }
 }
 
-/// The marks of the holes that want a ring on a layer: those that are plated and go through it.
+/// The marks of the holes that need a ring on a layer: those that are plated and go through it.
 fn first_marks(alloc: Global, layer: usize, holes: &[Drilled]) -> Result<Vec<bool>, AllocError>
     ensures { IfOk result (λ v. v.items ≡ map (λ d. d.plated && is_in_span layer d.span) holes.now) }
 {
@@ -220,7 +220,7 @@ fn first_marks(alloc: Global, layer: usize, holes: &[Drilled]) -> Result<Vec<boo
         .collect(alloc)
 }
 
-/// Takes back the marks of the holes to which one of the pads gives their ring.
+/// Removes the marks of the holes to which one of the pads gives their ring.
 fn try_pads<S: PadShape>(
     board: &Board,
     holes: &[Drilled],
@@ -243,7 +243,7 @@ fn try_pads<S: PadShape>(
     }
 }
 
-/// Whether each hole lacks its ring on a layer of these pads.
+/// Whether each hole lacks its ring on a layer with these pads.
 pub(crate) fn lacking<S: PadShape>(
     alloc: Global,
     layer: usize,

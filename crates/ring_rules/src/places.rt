@@ -1,4 +1,4 @@
-//! The places of coordinates on a scale, even or not.
+//! The places of coordinates on a scale, even or uneven.
 
 ghost use Rattle.std.specs.Prelude.{◌≡◌, ℤ, ◌≤◌, ◌<◌, ◌≤ℤ◌};
 ghost use Rattle.ring_rules.specs.Cells.{steps_to, place_of};
@@ -7,7 +7,7 @@ use crate::scale::{
     Scale, even_end, even_start, even_steps, uneven_end, uneven_start, uneven_steps,
 };
 
-/// How many borders are not above a coordinate, or where there are none how many steps it lies above the low end.
+/// How many borders are not above a coordinate; on a scale without borders, how many steps it lies above the low end.
 fn steps_to(scale: &Scale, v: i64) -> u64
     ensures { result ≡ steps_to scale.now.borders.items scale.now.low scale.now.shift v }
 {
@@ -18,7 +18,7 @@ fn steps_to(scale: &Scale, v: i64) -> u64
     }
 }
 
-/// The place of a coordinate.
+/// The place of a coordinate, at most the last one.
 pub(crate) fn place(scale: &Scale, v: i64) -> usize
     ensures value { result ≡ place_of scale.now v }
     ensures within { result ≤ scale.now.last }
@@ -26,7 +26,7 @@ pub(crate) fn place(scale: &Scale, v: i64) -> usize
     steps_to(scale, v).min(scale.last as u64) as usize
 }
 
-/// No coordinate at this place or a later one is less than this.
+/// A lower bound of the coordinates at this place and later ones.
 pub(crate) fn place_start(scale: &Scale, place: usize) -> i64
     requires { place ≤ scale.now.last }
     ensures { (v : ℤ) → scale.now.least ≤ℤ v → place ≤ place_of scale.now v → result ≤ℤ v }
@@ -38,7 +38,7 @@ pub(crate) fn place_start(scale: &Scale, place: usize) -> i64
     }
 }
 
-/// No coordinate at a place before the last, or at an earlier one, is greater than this.
+/// An upper bound of the coordinates at this place, which is not the last one, and earlier ones.
 fn inner_end(scale: &Scale, place: usize) -> i64
     requires { place < scale.now.last }
     ensures { (v : ℤ) → v ≤ℤ scale.now.greatest → place_of scale.now v ≤ place → v ≤ℤ result }
@@ -50,7 +50,7 @@ fn inner_end(scale: &Scale, place: usize) -> i64
     }
 }
 
-/// No coordinate at this place or an earlier one is greater than this.
+/// An upper bound of the coordinates at this place and earlier ones.
 pub(crate) fn place_end(scale: &Scale, place: usize) -> i64
     ensures { (v : ℤ) → v ≤ℤ scale.now.greatest → place_of scale.now v ≤ place → v ≤ℤ result }
 {

@@ -1,4 +1,4 @@
-//! Pads and the regions of a grid.
+//! Pads at the cells of a region of a grid.
 
 ghost use Rattle.std.specs.Prelude.{◌≡◌, ◌+◌, ◌≤◌, ◌<◌, false, length};
 ghost use Rattle.grid_units.specs.Points.{GridPoint};
@@ -14,7 +14,7 @@ use crate::scale::Scale;
 use grid_units::Rules;
 use pad_shapes::{PadShape, Zone};
 
-/// A zone that holds each point of a region of a board.
+/// A zone that contains each point of a region of a board.
 pub(crate) fn zone_of(
     x: &Scale,
     y: &Scale,
@@ -37,7 +37,7 @@ pub(crate) fn zone_of(
     }
 }
 
-/// Tries a pad at the holes of the cell in a row and a column. Where asked to look, cells that the pad can't cover are left.
+/// Tries a pad at the holes of the cell in a row and a column. If `looks` is set, a cell that the pad can't cover is skipped.
 fn try_at<S: PadShape>(
     cells: &Cells,
     holes: &[Drilled],
@@ -72,7 +72,7 @@ fn try_at<S: PadShape>(
     try_cell(cells, holes, rules, pad, cell, marks)
 }
 
-/// Tries a pad at the holes of a row, from a column to below another.
+/// Tries a pad at the holes of a row, in columns from `left` to `right`, end excluded.
 fn try_row<S: PadShape>(
     cells: &Cells,
     holes: &[Drilled],
@@ -101,7 +101,8 @@ fn try_row<S: PadShape>(
     is_left
 }
 
-/// Tries a pad at the holes of the rows from one to below another, and of such columns. Says whether a mark may be left there.
+/// Tries a pad at the holes in rows from `top` to `bottom` and columns from `left` to `right`, ends excluded. Returns
+/// whether a mark may be left there.
 pub(crate) fn try_rows<S: PadShape>(
     cells: &Cells,
     holes: &[Drilled],

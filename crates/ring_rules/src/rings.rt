@@ -13,7 +13,7 @@ use grid_units::Rules;
 use pad_shapes::{PadShape, Zone};
 use std::alloc::{AllocError, Global};
 
-/// What is found at a hole that lacks its ring.
+/// The finding at a hole that lacks its ring: `Oblique` for an oblique slot, else `Ring`.
 fn finding_of(layer: usize, hole: usize, drilled: &Drilled) -> Finding
     ensures { result ≡ finding_of layer (hole, drilled.now) }
 {
@@ -24,7 +24,7 @@ fn finding_of(layer: usize, hole: usize, drilled: &Drilled) -> Finding
     }
 }
 
-/// Appends the findings of one layer, by the mark of each hole that lacks its ring there.
+/// Appends the findings of one layer, given of each hole whether it lacks its ring there.
 ///
 /// # Errors
 ///
@@ -46,7 +46,7 @@ pub fn layer_findings(
     Ok(())
 }
 
-/// The zone of the pad at a place, where there is one.
+/// The zone of the pad at a place, if there is such a pad and it has one.
 fn zone_at<S: PadShape>(pads: &[S], place: usize) -> Option<Zone> {
     match pads.get(place) {
         Some(pad) => pad.zone(0),
@@ -54,8 +54,7 @@ fn zone_at<S: PadShape>(pads: &[S], place: usize) -> Option<Zone> {
     }
 }
 
-/// How wide and how high the zones of the pads are in the middle, of a sample, in pm. Any answer is right: an index of holes is only
-/// quicker by it.
+/// The mean width and height of the zones of a sample of the pads, in pm. Any answer is right: an index of holes is only quicker by it.
 pub fn usual_zone<S: PadShape>(layers: &[&[S]]) -> (u64, u64) {
     let mut width: u64 = 0;
     let mut height: u64 = 0;
@@ -72,8 +71,8 @@ pub fn usual_zone<S: PadShape>(layers: &[&[S]]) -> (u64, u64) {
     (width / count.max(1), height / count.max(1))
 }
 
-/// Lists, layer by layer and hole by hole, each plated hole that goes through the layer and is an oblique slot, or
-/// that no single pad of the layer covers with the ring round it.
+/// Lists, layer by layer and hole by hole, each plated hole that goes through the layer and has no ring there. It is
+/// an oblique slot, or no single pad of the layer covers it with the ring round it.
 ///
 /// # Errors
 ///

@@ -1,13 +1,13 @@
-//! Places along an axis: a rising map of coordinates to the columns or rows of a grid.
+//! Places along an axis, which map coordinates to the columns or rows of a grid.
 
 ghost use Rattle.std.specs.Prelude.{◌≡◌, ℤ, pos, ◌+◌, ◌*◌, ◌/◌, ◌^◌, ◌<◌, ◌≤◌, ◌≤ℤ◌, ◌+ℤ◌, ◌-ℤ◌, unsigned_abs};
 ghost use Rattle.ring_rules.specs.Cores.{positive_part};
 ghost use Rattle.ring_rules.specs.Borders.{Rises, borders_up_to};
 ghost use Rattle.ring_rules.specs.Places.{steps_above};
 
-/// Places on an axis. An uneven scale has borders, and a place begins at each of them. An even one has none: its places are
-/// 2^shift pm each from the low end on, what lies below that stands at the first place, and what lies beyond the last one at
-/// the last. All coordinates lie between the least and the greatest.
+/// Places on an axis. An uneven scale has borders, and a place begins at each of them. An even one has none: its
+/// places are 2^shift pm each, from the low end up. What lies below that is at the first place, and what lies past
+/// the last place is at the last. All coordinates lie between the least and the greatest.
 #[derive(Drop)]
 pub(crate) struct Scale {
     pub low: i64,
@@ -23,14 +23,14 @@ pub(crate) struct Scale {
     ghost rises: { Rises borders.items },
 }
 
-/// How far a number lies above another one, or nothing.
+/// How far a number lies above another one, 0 where it does not.
 fn excess(high: i64, low: i64) -> u64
     ensures { result ≡ positive_part (high -ℤ low) }
 {
     if low < high { high.abs_diff(low) } else { 0 }
 }
 
-/// How many whole steps a coordinate lies above the low end.
+/// How many whole steps a coordinate lies above the low end, 0 below it.
 pub(crate) fn even_steps(scale: &Scale, v: i64) -> u64
     ensures { result ≡ steps_above scale.now.low scale.now.shift v }
 {
@@ -45,7 +45,7 @@ pub(crate) fn uneven_steps(borders: &[i64], v: i64) -> usize
     borders.partition_point(|border| *border <= v)
 }
 
-/// So many places above the low end.
+/// The coordinate so many places above the low end.
 fn above(scale: &Scale, count: u64) -> i64
     requires { count ≤ scale.now.last }
     ensures { result ≡ scale.now.low +ℤ pos (count * 2 ^ scale.now.shift) }
@@ -53,7 +53,7 @@ fn above(scale: &Scale, count: u64) -> i64
     scale.low + (count << scale.shift) as i64
 }
 
-/// No coordinate so many steps above the low end or more is less than this.
+/// A lower bound of the coordinates at this place of an even scale and later ones.
 pub(crate) fn even_start(scale: &Scale, place: usize) -> i64
     requires { place ≤ scale.now.last }
     ensures { (v : ℤ) → scale.now.least ≤ℤ v → place ≤ steps_above scale.now.low scale.now.shift v → result ≤ℤ v }
@@ -64,7 +64,7 @@ pub(crate) fn even_start(scale: &Scale, place: usize) -> i64
     above(scale, place as u64)
 }
 
-/// No coordinate so many steps above the low end or fewer is greater than this.
+/// An upper bound of the coordinates at this place of an even scale and earlier ones.
 pub(crate) fn even_end(scale: &Scale, place: usize) -> i64
     requires { place < scale.now.last }
     ensures { (v : ℤ) → steps_above scale.now.low scale.now.shift v ≤ place → v ≤ℤ result }
@@ -72,7 +72,7 @@ pub(crate) fn even_end(scale: &Scale, place: usize) -> i64
     above(scale, place as u64 + 1)
 }
 
-/// No coordinate with so many borders not above it or more is less than this.
+/// A lower bound of the coordinates at this place of an uneven scale and later ones.
 pub(crate) fn uneven_start(borders: &[i64], least: i64, place: usize) -> i64
     ensures { (v : ℤ) → least ≤ℤ v → place ≤ borders_up_to borders.now v → result ≤ℤ v }
 {
@@ -85,7 +85,7 @@ pub(crate) fn uneven_start(borders: &[i64], least: i64, place: usize) -> i64
     }
 }
 
-/// No coordinate with so many borders not above it or fewer is greater than this.
+/// An upper bound of the coordinates at this place of an uneven scale and earlier ones.
 pub(crate) fn uneven_end(borders: &[i64], greatest: i64, place: usize) -> i64
     requires { Rises borders.now }
     ensures { (v : ℤ) → v ≤ℤ greatest → borders_up_to borders.now v ≤ place → v ≤ℤ result }

@@ -5,7 +5,7 @@ ghost use Rattle.std.specs.Prelude.{◌^◌, ◌≤◌, unsigned_abs};
 use crate::finding::Drilled;
 use std::alloc::{AllocError, Global};
 
-/// Where most holes lie along an axis: from the low end on, over a span.
+/// Where most holes lie along an axis: from `low` up, over `span` pm.
 #[derive(Clone, Copy)]
 pub(crate) struct Spread {
     pub low: i64,
@@ -14,7 +14,7 @@ pub(crate) struct Spread {
     ghost length: { span ≤ 2 ^ 60 },
 }
 
-/// The range of most of the values of a sample, and a little beside it.
+/// The range of most values of a sample, with a margin on both sides.
 fn spread_of(values: &mut Vec<i64>) -> Spread {
     values.sort_unstable();
     let cut = values.len() / 64;
@@ -28,7 +28,7 @@ fn spread_of(values: &mut Vec<i64>) -> Spread {
     widened(low, high)
 }
 
-/// From one number to another, and a little beside them.
+/// The range from one number to another, with a margin of a sixteenth on both sides.
 fn widened(low: i64, high: i64) -> Spread {
     if low < -20_000_000_000_000 || high < low || 20_000_000_000_000 < high {
         return Spread { low: 0, span: 0 };
@@ -41,7 +41,7 @@ fn widened(low: i64, high: i64) -> Spread {
     }
 }
 
-/// The place in a list of so many that a draw of a sample takes: the draws are spread evenly, and follow no period.
+/// The place that a draw of a sample takes in a list of `count` elements. The draws are spread evenly, and follow no period.
 pub(crate) fn drawn(draw: u64, count: usize) -> usize {
     let part = draw.wrapping_mul(0x9E37_79B9_7F4A_7C15);
     ((u128::from(part) * count as u128) >> 64) as usize
@@ -69,7 +69,7 @@ pub(crate) fn spread_y(alloc: Global, holes: &[Drilled]) -> Result<Spread, Alloc
     Ok(spread_of(&mut values))
 }
 
-/// The least bits of the height of a row that leave no more cells than holes, with so many columns.
+/// The least bits of a row's height that leave no more cells than holes, with so many columns.
 fn height_bits(columns: u64, span: u64, count: usize) -> u32 {
     for shift in 0..63 {
         if u128::from(columns) * (u128::from(span >> shift) + 1) <= count as u128 {
@@ -79,7 +79,7 @@ fn height_bits(columns: u64, span: u64, count: usize) -> u32 {
     63
 }
 
-/// How much work it is to look for what is so wide and high, in cells of so many bits, 16 for a cell.
+/// An estimate of the work to look for what is `width` wide and `height` high, in cells of so many bits. A visit to a cell counts 16.
 fn work(
     x: &Spread,
     y: &Spread,
@@ -101,7 +101,7 @@ fn work(
         .saturating_mul(skew)
 }
 
-/// The bits of the width and of the height of a cell, where most that is looked for is so wide and so high.
+/// The bits of the width and of the height of a cell that suit zones about so wide and so high.
 pub(crate) fn shifts(x: &Spread, y: &Spread, count: usize, width: u64, height: u64) -> (u32, u32) {
     let mut best = (63, 63);
     let mut least = u128::MAX;

@@ -1,4 +1,4 @@
-//! Zones that together hold the holes of an index.
+//! Zones that together contain the entry points of the holes of an index.
 
 ghost use Rattle.std.specs.Prelude.{◌≡◌, ℕ, ◌<◌, length, get_or, IfOk, OnOk};
 ghost use Rattle.grid_units.specs.Points.{GridPoint};
@@ -17,7 +17,7 @@ use crate::pads::{first_column, first_row, last_column, last_row};
 use pad_shapes::Zone;
 use std::alloc::{AllocError, Global};
 
-/// Appends a zone that holds the holes that go in within another one, if there are any.
+/// Appends a zone that contains the entry points that lie in another zone, if there are any.
 fn add_zone(
     index: &HoleIndex,
     holes: &[Drilled],
@@ -54,8 +54,9 @@ fn add_zones(
 }
 
 impl HoleIndex {
-    /// Zones that together hold where each hole of the list goes in. They are about as many as the square root of the holes, and each
-    /// is as small as its holes allow; of both nothing is claimed. The holes are those that the index was made of.
+    /// Zones that together contain the entry point of each hole of the list. Their number is about the square root of
+    /// the number of holes, and each is as small as its holes allow; nothing is claimed of either. The holes are
+    /// those that the index was made of.
     ///
     /// # Errors
     ///
@@ -72,7 +73,7 @@ impl HoleIndex {
         Ok(zones)
     }
 
-    /// How many cells `find` looks through for a zone. Any answer is right: it only tells how long that takes.
+    /// How many cells `find` looks through for a zone. Any answer is right: it only says how long that takes.
     pub fn cells_in(&self, zone: &Zone) -> usize {
         let rows = last_row(&self.cells.y, zone) + 1;
         let columns = last_column(&self.cells.x, zone) + 1;

@@ -1,4 +1,4 @@
--- What the parts of a check say together.
+-- What follows for a check from what is said of its parts.
 use Rattle.std.proofs.Common.{◌≡◌, ◌≢◌, ◌<◌, ◌≤◌, ℕ, List, [], ◌∷◌, Option, Ok, length, ◌⊎◌, inl, inr, arith, refl}
 use Rattle.std.specs.Io.KnownBytes.{Appends}
 use Rattle.grid_units.specs.Holes.{GridRules}
@@ -51,7 +51,7 @@ reported all rules before after report ended.LoaderFailed answer sound h = cc (h
 reported all rules before after report ended.OutOfMemory answer sound h = tt
 reported all rules before after report ended.WriterFailed answer sound h = tt
 
--- what is said of files at hand does not end by the loader
+-- with files at hand the loader never fails, and so an end has its cause
 pub answered_cause : (all : List Source) (rules : GridRules) (before after : Option (List ℕ)) (e : Ended) (old new : ℕ) → Answered all rules before after e → HasCause old new e
 answered_cause all rules before after (ended.Said status.Pass) old new a = tt
 answered_cause all rules before after (ended.Said status.Findings) old new a = tt

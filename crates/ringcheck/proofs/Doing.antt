@@ -1,4 +1,4 @@
--- What the parts of a work that looks for no findings say together.
+-- What follows for a command that gives no status Findings from what is said of its parts.
 use Rattle.std.proofs.Common.{◌≡◌, ◌≢◌, ◌≤◌, ℕ, List, Option, Ok, length}
 use Rattle.manifest.specs.declared.Entry.{Entry}
 use Rattle.manifest.specs.Manifest.{manifest}
@@ -28,7 +28,7 @@ module _ (Done : List Source → Type 0) (in_style : Style) (before after : Opti
   done all ended.OutOfMemory h = tt
   done all ended.WriterFailed h = tt
 
-  -- what is said of files at hand does not end by the loader
+  -- with files at hand the loader never fails, and so an end has its cause
   pub cause : (all : List Source) (e : Ended) (old new : ℕ) → AnsweredDone all Done in_style before after e → HasCause old new e
   cause all (ended.Said status.Pass) old new a = tt
   cause all (ended.Said status.Findings) old new a = tt

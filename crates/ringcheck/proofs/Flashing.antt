@@ -1,4 +1,4 @@
--- What the parts of a report for people or of a picture say together.
+-- What follows for a report or a picture from what is said of its parts.
 use Rattle.std.proofs.Common.{◌≡◌, ◌≤◌, ℕ, List, Option, Ok, length}
 use Rattle.manifest.specs.declared.Entry.{Entry}
 use Rattle.manifest.specs.Manifest.{manifest}
@@ -20,7 +20,7 @@ use Rattle.ringcheck.specs.Inner.Working.{AnsweredFlashed, SaysFlashed, flashed_
 use Rattle.ringcheck.proofs.Doing as doing
 use Rattle.ringcheck.proofs.Reporting as reporting
 
--- a refusal, and where memory or the writer failed
+-- a refusal was printed, or memory ran out, or the writer failed
 pub refused : (w : FlashedWork) (all : List Source) (before after : Option (List ℕ)) → RefusesFiles all (flashed_style w) before after → AnsweredFlashed w all before after (ended.Said status.Refused)
 refused (flashed.Report order) all before after h = h
 refused (flashed.Draw rules) all before after h = h
@@ -33,7 +33,7 @@ pub writer : (w : FlashedWork) (all : List Source) (before after : Option (List 
 writer (flashed.Report order) all before after = tt
 writer (flashed.Draw rules) all before after = tt
 
--- what is said of files at hand does not end by the loader
+-- with files at hand the loader never fails, and so an end has its cause
 pub answered_cause : (w : FlashedWork) (all : List Source) (before after : Option (List ℕ)) (e : Ended) (old new : ℕ) → AnsweredFlashed w all before after e → HasCause old new e
 answered_cause (flashed.Report order) all before after e old new a = reporting.answered_cause all order.rules order.most order.format (given order.waivers) before after e old new a
 answered_cause (flashed.Draw rules) all before after e old new a = doing.cause (λ all. Draws all rules before after) style.Line before after all e old new a

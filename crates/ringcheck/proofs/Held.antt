@@ -77,7 +77,7 @@ met_as_held m l d (Ok form) before after status.Refused says is = cc
 met_as_held m l d (Ok form) before after status.Usage says is = cc
 met_as_held m l d (Ok form) before after status.Device says is = cc
 
--- the files that the manifest names are sound, where a report tells of no finding
+-- the files that the manifest names are sound, where a report has no finding
 pub told_as_held : (m l d : List ℕ) (r : Result (GridRules × Option ℕ × ReportFormat) Reason) (before after : Option (List ℕ)) (s : Status) → SaysReportOf (lies m l d) (codes "m.csv") r None before after s → s ≡ status.Pass
     → (asked : GridRules × Option ℕ × ReportFormat) × (r ≡ Ok asked) × (entries : List Entry) × (manifest m ≡ Ok entries) × (files : List (List ℕ)) × HasFiles (lies m l d) entries files × IsSound (sources entries files) asked.0
 told_as_held m l d (Err why) before after s says is = absurd (never why before after s says is)

@@ -1,4 +1,4 @@
--- What is told of a refusal, and where it ends.
+-- What is printed of a refusal, and how the run ends.
 use Rattle.std.proofs.Common.{◌≡◌, ◌<◌, ◌∙◌, ◌++◌, ◌∷◌, [], inl, inr, ℕ, zero, suc, List, Option, Some, Result, Ok, Err, IfOk, MatchResult, length, map, take, get_or, arith, ap, refl, subst, sym}
 use Rattle.std.specs.Prelude.{slice_get}
 use Rattle.std.proofs.lemmas.List.{flat_map_more}
@@ -44,7 +44,7 @@ rows_of_lent row_of (r ∷ rs) = ap (λ (t : List ℕ). row_of r.now ++ t) (rows
 
 -- ---- endings
 
--- what holds of a refusal that was told, and where memory or the writer failed
+-- what holds where a refusal was printed, and where memory or the writer failed
 pub by_refusal : (P : Ended → Type 0) (in_style : Style) (why : Refusal) (before after : Option (List ℕ)) → P ended.OutOfMemory → P ended.WriterFailed → (TellsRefusal in_style why before after → P (ended.Said status.Refused))
     → (e : Ended) → EndsAsRefused in_style why before after e → P e
 by_refusal P in_style why before after memory writer refused (ended.Said s) h = let (is, told) = h (λ x. cc x) (λ x. cc x) in subst P (sym is) (refused told)
@@ -52,7 +52,7 @@ by_refusal P in_style why before after memory writer refused ended.LoaderFailed 
 by_refusal P in_style why before after memory writer refused ended.OutOfMemory h = memory
 by_refusal P in_style why before after memory writer refused ended.WriterFailed h = writer
 
--- what holds of a refusal that was told of a stop, and where the loader, memory or the writer failed
+-- what holds where the refusal of a stop was printed, and where the loader, memory or the writer failed
 pub by_stop : (P : Ended → Type 0) (in_style : Style) (entries : List Entry) (s : Stop) (before after : Option (List ℕ)) → P ended.LoaderFailed → P ended.OutOfMemory → P ended.WriterFailed
     → ((why : Refusal) → IsRefusal entries s why → TellsRefusal in_style why before after → P (ended.Said status.Refused)) → (e : Ended) → TellsOf in_style entries s before after e → P e
 by_stop P in_style entries s before after loader memory writer refused (ended.Said status.Pass) t = absurd t
@@ -64,11 +64,11 @@ by_stop P in_style entries s before after loader memory writer refused ended.Loa
 by_stop P in_style entries s before after loader memory writer refused ended.OutOfMemory t = memory
 by_stop P in_style entries s before after loader memory writer refused ended.WriterFailed t = writer
 
--- the refusal of a stop was told
+-- the refusal of a stop was printed
 pub refusal_told : (in_style : Style) (entries : List Entry) (s : Stop) (why : Refusal) (before after : Option (List ℕ)) → IsRefusal entries s why → (e : Ended) → EndsAsRefused in_style why before after e → TellsOf in_style entries s before after e
 refusal_told in_style entries s why before after is e h = by_refusal (TellsOf in_style entries s before after) in_style why before after tt tt (λ told. (why, is, told)) e h
 
--- a stop whose file can't be read has its cause
+-- a stop at a file that cannot be read has its cause
 pub stopped_cause : (in_style : Style) (entries : List Entry) (s : Stop) (before after : Option (List ℕ)) (e : Ended) (old new : ℕ) → TellsOf in_style entries s before after e → (IsUnread s → HasRisen old new) → HasCause old new e
 stopped_cause in_style entries s before after (ended.Said status.Pass) old new t h = tt
 stopped_cause in_style entries s before after (ended.Said status.Findings) old new t h = tt
@@ -100,7 +100,7 @@ named_at n (e ∷ es) [] i same lt = absurd (omega (arith, lt))
 named_at n (e ∷ es) (f ∷ fs) zero same lt = (source n e f, refl, e, refl, refl)
 named_at n (e ∷ es) (f ∷ fs) (suc i) same lt = named_at n es fs i (omega (arith, same)) (omega (arith, lt))
 
--- what holds of a refusal of files that was told, and where memory or the writer failed
+-- what holds where the refusal of one of the files was printed, and where memory or the writer failed
 pub by_files : (P : Ended → Type 0) (in_style : Style) (entries : List Entry) (files : List (List ℕ)) (index : ℕ) (fault : Fault) (before after : Option (List ℕ)) → length entries ≡ length files
     → IsFirstRefused (sources entries files) index fault → P ended.OutOfMemory → P ended.WriterFailed → (RefusesFiles (sources entries files) in_style before after → P (ended.Said status.Refused))
     → (e : Ended) → (name : List ℕ) × IsNameAt entries index name × EndsAsRefused in_style (of_file index name fault) before after e → P e

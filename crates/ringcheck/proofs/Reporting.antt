@@ -1,4 +1,4 @@
--- What the parts of a report for people say together.
+-- What follows for a report for people from what is said of its parts.
 use Rattle.std.proofs.Common.{◌≡◌, ◌≢◌, ◌<◌, ◌≤◌, ◌+◌, ℕ, Bool, true, false, List, [], ◌∷◌, Option, Some, None, Ok, length, ◌⊎◌, inl, inr, arith, refl, subst}
 use Rattle.std.specs.Prelude.{if◌then◌else◌}
 use Rattle.grid_units.specs.Holes.{GridRules}
@@ -97,7 +97,7 @@ module _ (all : List Source) (rules : GridRules) (most : Option ℕ) (form : Rep
   waived_told waivers t ended.WriterFailed h = tt
 
 module _ (all : List Source) (rules : GridRules) (most : Option ℕ) (form : ReportFormat) (waivers : Option (List Waiver)) (before after : Option (List ℕ)) where
-  -- what is said of files at hand does not end by the loader
+  -- with files at hand the loader never fails, and so an end has its cause
   pub answered_cause : (e : Ended) (old new : ℕ) → AnsweredReport all rules most form waivers before after e → HasCause old new e
   answered_cause (ended.Said status.Pass) old new a = tt
   answered_cause (ended.Said status.Findings) old new a = tt

@@ -1,4 +1,4 @@
--- What the parts of a check or a measure say together.
+-- What follows for a check or a measure from what is said of its parts.
 use Rattle.std.proofs.Common.{◌≡◌, ◌≢◌, ◌≤◌, ℕ, List, Option, Ok, length}
 use Rattle.manifest.specs.declared.Entry.{Entry}
 use Rattle.manifest.specs.Manifest.{manifest}

@@ -1,4 +1,4 @@
--- What is said of a request of the command line, and of any words.
+-- What a status says of a request of the command line, and of any words (docs/FORMATS.md, The program).
 use Rattle.std.specs.Prelude.{◌≡◌, ◌++◌, ◌⊎◌, ℕ, List, Option, Result, Ok, Err, codes, map, option_map}
 use Rattle.std.specs.Borrow.{Bor}
 use Rattle.std.specs.Io.KnownBytes.{Appends}
@@ -21,11 +21,11 @@ use Rattle.ringcheck.specs.Reporting.{SaysReportOf}
 use Rattle.ringcheck.specs.Running.{SaysOf}
 use Rattle.ringcheck_files.specs.Loading.{Relation}
 
--- the bytes of a word, where it is there (docs/FORMATS.md, The program)
+-- the bytes of a word that may be left out
 abbrev pub codes_of : Option (Bor (List ℕ)) → Option (List ℕ)
 codes_of word = option_map (λ w. w.now) word
 
--- what a status says of what a request asks for, by what it says of each command; the loader had failed so often before and so often after (docs/DEFINITIONS.md, Runs)
+-- what a status says of a request, command by command; `failed_before` and `failed_after` count the loader's failures
 abbrev pub SaysRequest : Request → Relation → ℕ → ℕ → Option (List ℕ) → Option (List ℕ) → Status → Type 0
 SaysRequest (Check ring gap manifest) has failed_before failed_after before after s = SaysOf has manifest.now (rules_named ring.now gap.now) before after s
 SaysRequest (Measure format manifest) has failed_before failed_after before after s = SaysMeasureOf has manifest.now (format_named (codes_of format)) before after s
@@ -38,19 +38,19 @@ SaysRequest (Manifest why files) has failed_before failed_after before after s =
     SaysManifest why has failed_before failed_after (map (λ file. file.now) files.items) before after s
 SaysRequest (Explain word) has failed_before failed_after before after s = SaysPage (codes_of word) before after s
 
--- what a status says of words that ask for nothing that is done: help, the version's line, or a line with what is wrong below it was written, and nothing else (docs/DEFINITIONS.md, Runs)
+-- what a status says of words that are no request: just the help, the version's line, or `usage` and what is wrong was written, or it is Device
 abbrev pub SaysRefusal : Refusal → Option (List ℕ) → Option (List ℕ) → Status → Type 0
 SaysRefusal (Help text) before after s = ((s ≡ status.Pass) × Appends before after (string_bytes text)) ⊎ (s ≡ status.Device)
 SaysRefusal Version before after s = ((s ≡ status.Pass) × Appends before after VERSION_LINE.now) ⊎ (s ≡ status.Device)
 SaysRefusal (Usage text) before after s = ((s ≡ status.Usage) × Appends before after (codes "usage\n" ++ string_bytes text)) ⊎ (s ≡ status.Device)
 SaysRefusal Memory before after s = s ≡ status.Device
 
--- what a status says of an answer to words: of the request, or of words that ask for nothing that is done (docs/DEFINITIONS.md, Runs)
+-- what a status says of the answer to words: of a request, or of words that are none
 abbrev pub SaysAnswer : Result Request Refusal → Relation → ℕ → ℕ → Option (List ℕ) → Option (List ℕ) → Status → Type 0
 SaysAnswer (Ok asked) has failed_before failed_after before after s = SaysRequest asked has failed_before failed_after before after s
 SaysAnswer (Err refusal) has failed_before failed_after before after s = SaysRefusal refusal before after s
 
--- what a status says of any words: by an answer to them, which `clap` by its definition gives, what it says of this answer (docs/DEFINITIONS.md, Runs)
+-- what a status says of any words: what it says of an answer that `clap` by its definition gives to them
 abbrev pub SaysLine : List (List ℕ) → Relation → ℕ → ℕ → Option (List ℕ) → Option (List ℕ) → Status → Type 0
 SaysLine words has failed_before failed_after before after s =
     (answer : Result Request Refusal) × AnswersLine words answer × SaysAnswer answer has failed_before failed_after before after s

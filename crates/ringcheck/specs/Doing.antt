@@ -1,4 +1,4 @@
--- What is said of a work on a package that looks for no findings.
+-- What a status says of a command that gives no status Findings: `measure` and `draw`.
 use Rattle.std.specs.Prelude.{◌≡◌, ℕ, List, slice_get, ⊤, Option, Some}
 use Rattle.grid_units.specs.Holes.{GridRules}
 use Rattle.grid_units.specs.declared.fault.Fault.{Fault}
@@ -12,13 +12,13 @@ use Rattle.ringcheck.specs.Refusing.{Refusal, TellsRefusal, of_file}
 use Rattle.ringcheck_files.specs.Loading.{Relation}
 use Rattle.ringcheck.specs.Running.{OfPackage, RefusedIn}
 
--- a package that is refused just where a check would refuse it, whatever the rules, of which the writer got just the text of the refusal (docs/DEFINITIONS.md, Runs)
+-- a package that is refused as by a check under any rules, where the writer got just the text of the refusal
 pub record RefusesAnyway (has : Relation) (name : List ℕ) (in_style : Style) (before after : Option (List ℕ)) : Type 0 where
   pub why : Refusal
   pub refused : (rules : GridRules) → RefusedIn has name rules why
   pub told : TellsRefusal in_style why before after
 
--- files that are refused, of which the writer got just the text of the refusal (docs/DEFINITIONS.md, Runs)
+-- files at hand of which one is the first that is refused, where the writer got just the text of its refusal
 pub record RefusesFiles (all : List Source) (in_style : Style) (before after : Option (List ℕ)) : Type 0 where
   pub index : ℕ
   pub fault : Fault
@@ -27,8 +27,7 @@ pub record RefusesFiles (all : List Source) (in_style : Style) (before after : O
   pub at : slice_get all index ≡ Some source
   pub told : TellsRefusal in_style (of_file index source.name fault) before after
 
--- What a status says of such a work on a package, where this holds of its files when it is done, and a refusal has this style
--- (docs/DEFINITIONS.md, Runs).
+-- what a status says of such a command: it passes where `Done` holds of the package's files, and a refusal was printed in this style
 abbrev pub SaysDone : Relation → List ℕ → (List Source → Type 0) → Style → Option (List ℕ) → Option (List ℕ) → Status → Type 0
 SaysDone has name Done in_style before after status.Pass = OfPackage has name Done
 SaysDone has name Done in_style before after status.Findings = ⊥
@@ -36,7 +35,7 @@ SaysDone has name Done in_style before after status.Refused = RefusesAnyway has 
 SaysDone has name Done in_style before after status.Usage = ⊥
 SaysDone has name Done in_style before after status.Device = ⊤
 
--- the same of an end, for files that are at hand (docs/DEFINITIONS.md, Runs)
+-- what an end says of such a command on files that are at hand
 abbrev pub AnsweredDone : List Source → (List Source → Type 0) → Style → Option (List ℕ) → Option (List ℕ) → Ended → Type 0
 AnsweredDone all Done in_style before after (ended.Said status.Pass) = Done all
 AnsweredDone all Done in_style before after (ended.Said status.Findings) = ⊥

@@ -1,4 +1,4 @@
--- What a run says of the picture of a package.
+-- What a status says of the picture of a package.
 use Rattle.std.specs.Prelude.{◌≡◌, ℕ, List, [], map, Option, Some, Result, Ok, Err}
 use Rattle.std.specs.Io.KnownBytes.{Appends}
 use Rattle.grid_units.specs.Holes.{GridRules}
@@ -15,8 +15,7 @@ use Rattle.ringcheck.specs.Doing.{AnsweredDone, SaysDone}
 use Rattle.ringcheck_files.specs.Loading.{Relation}
 use Rattle.ringcheck_files.specs.Words.{SaysUsage}
 
--- The writer got the page of the board of files, with what is found under the rules, if there are any. Where nothing is found, so that the
--- page says PASS, the files are sound (docs/DEFINITIONS.md, Runs).
+-- the writer got just the picture of the files' board, with what is found under the rules, if there are any; without findings the files are sound
 pub record Draws (all : List Source) (rules : Option GridRules) (before after : Option (List ℕ)) : Type 0 where
   pub flashed : FlashedSurvey
   pub read : IsFlashed all flashed
@@ -25,15 +24,15 @@ pub record Draws (all : List Source) (rules : Option GridRules) (before after : 
   pub written : Appends before after text
   pub sound : (asked : GridRules) → rules ≡ Some asked → board_findings asked flashed.board ≡ [] → IsSound all asked
 
--- what a status says of the picture of a package (docs/DEFINITIONS.md, Runs)
+-- what a status says of the picture of a package
 abbrev pub SaysDraw : Relation → List ℕ → Option GridRules → Option (List ℕ) → Option (List ℕ) → Status → Type 0
 SaysDraw has name rules before after s = SaysDone has name (λ all. Draws all rules before after) style.Line before after s
 
--- the same, of rules that words name, or that they do not name (docs/DEFINITIONS.md, Runs)
+-- what a status says of a picture under the rules that words name, or where these are refused
 abbrev pub SaysDrawOf : Relation → List ℕ → Result (Option GridRules) Reason → Option (List ℕ) → Option (List ℕ) → Status → Type 0
 SaysDrawOf has name (Ok rules) before after s = SaysDraw has name rules before after s
 SaysDrawOf has name (Err why) before after s = SaysUsage why before after s
 
--- what an end says of the picture of files that are at hand (docs/DEFINITIONS.md, Runs)
+-- what an end says of the picture of files that are at hand
 abbrev pub AnsweredDraw : List Source → Option GridRules → Option (List ℕ) → Option (List ℕ) → Ended → Type 0
 AnsweredDraw all rules before after e = AnsweredDone all (λ all. Draws all rules before after) style.Line before after e

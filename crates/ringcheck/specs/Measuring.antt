@@ -1,4 +1,4 @@
--- What a run says of the measure of a package.
+-- What a status says of the measure of a package (docs/FORMATS.md, Measure; JSON).
 use Rattle.std.specs.Prelude.{◌++◌, ℕ, List, map, Option, Result, Ok, Err}
 use Rattle.std.specs.Io.KnownBytes.{Appends}
 use Rattle.grid_units.specs.declared.fault.Reason.{Reason}
@@ -20,21 +20,20 @@ use Rattle.ringcheck.specs.Doing.{AnsweredDone, SaysDone}
 use Rattle.ringcheck_files.specs.Loading.{Relation}
 use Rattle.ringcheck_files.specs.Words.{SaysUsage}
 
--- the lines of a measure (docs/FORMATS.md, Measure)
+-- the lines of a measure below those of the files: `ring`, `scale`, `gap` and, last, `meets`
 abbrev pub lines_of : Measure → List ℕ
 lines_of measure = measure_text measure.rings.items measure.scales.items measure.gap measure.meets
 
--- the text of the measure of a board with files of these names (docs/FORMATS.md, Measure)
+-- the text of the measure of a board: the lines of its files, which have these names, and those of the measure
 abbrev pub board_text : List (List ℕ) → Survey → Measure → List ℕ
 board_text names board measure = file_lines 1 names board.files ++ lines_of measure
 
--- what is printed of a measure in a format (docs/FORMATS.md, Measure; JSON)
+-- what is printed of a measure: its text, or its JSON
 abbrev pub measure_page : Format → List (List ℕ) → Survey → Measure → List ℕ
 measure_page format.Text names board measure = board_text names board measure
 measure_page format.Json names board measure = json_text (measure_value names board measure)
 
--- The writer got the measure of files in a format: that of the board that they make. A check of them finds nothing under just the rules
--- that are met (docs/DEFINITIONS.md, Runs).
+-- the writer got just the measure of the files' board, in a format; a check of them finds nothing under exactly the rules that are met
 pub record Measures (all : List Source) (form : Format) (before after : Option (List ℕ)) : Type 0 where
   pub board : Survey
   pub read : IsBoard all board
@@ -43,20 +42,20 @@ pub record Measures (all : List Source) (form : Format) (before after : Option (
   pub written : Appends before after (measure_page form (map (λ source. source.name) all) board measure)
   pub passes : PackagePasses all measure.meets.ring measure.meets.gap
 
--- how it is told why there is no measure: by a line, or as JSON (docs/FORMATS.md, Measure; JSON)
+-- how a refusal is printed in place of a measure: by a line, or as JSON
 abbrev pub style_of : Format → Style
 style_of format.Text = style.Line
 style_of format.Json = style.Json
 
--- what a status says of the measure of a package (docs/DEFINITIONS.md, Runs)
+-- what a status says of the measure of a package
 abbrev pub SaysMeasure : Relation → List ℕ → Format → Option (List ℕ) → Option (List ℕ) → Status → Type 0
 SaysMeasure has name form before after s = SaysDone has name (λ all. Measures all form before after) (style_of form) before after s
 
--- the same, in a format that a word names, or that it does not name (docs/DEFINITIONS.md, Runs)
+-- what a status says of a measure in the format that a word names, or where the word is refused
 abbrev pub SaysMeasureOf : Relation → List ℕ → Result Format Reason → Option (List ℕ) → Option (List ℕ) → Status → Type 0
 SaysMeasureOf has name (Ok form) before after s = SaysMeasure has name form before after s
 SaysMeasureOf has name (Err why) before after s = SaysUsage why before after s
 
--- what an end says of the measure of files that are at hand (docs/DEFINITIONS.md, Runs)
+-- what an end says of the measure of files that are at hand
 abbrev pub AnsweredMeasure : List Source → Format → Option (List ℕ) → Option (List ℕ) → Ended → Type 0
 AnsweredMeasure all form before after e = AnsweredDone all (λ all. Measures all form before after) (style_of form) before after e

@@ -1,4 +1,4 @@
--- The rules, how many findings are told, and the format, that words of a command line name.
+-- The rules, the limit of findings and the format that words of the command line name (docs/FORMATS.md, The program).
 use Rattle.std.specs.Prelude.{ℕ, ℤ, pos, Bool, ◌&&◌, not, is_some, List, Option, Some, None, Result, Ok, Err, length, codes, nat_le, unsigned_abs, int_le, if◌then◌else◌}
 use Rattle.std.specs.Str.{bytes_eq}
 use Rattle.grid_units.specs.declared.fault.Reason.{Reason}
@@ -13,37 +13,37 @@ use Rattle.ringcheck.specs.declared.naming.Format.TheVariants as format
 use Rattle.ringcheck.specs.declared.naming.ReportFormat.{ReportFormat}
 use Rattle.ringcheck.specs.declared.naming.ReportFormat.TheVariants as told
 
--- the length in pm that a word names in millimetres, or why it names none (docs/FORMATS.md, The program)
+-- the length in pm of a word in millimetres, such as `0.125`, or why it has none: BadNumber, TooFine or TooFar
 unfoldable pub length_named : List ℕ → Result ℤ Reason
 length_named word = dec_of word >>= λ v. within_limit (picometres Millimetre 8 v)
 
--- a ring of at least nothing and a gap of at least one, neither above ten metres (docs/FORMATS.md, The program)
+-- whether a ring is 0 to 10^13 pm and a gap 1 to 10^13 pm
 abbrev pub are_rules : ℤ → ℤ → Bool
 are_rules ring gap = (int_le (pos 0) ring && int_le ring (pos max_coordinate)) && (int_le (pos 1) gap && int_le gap (pos max_coordinate))
 
--- the rules of a ring and a gap (docs/FORMATS.md, The program)
+-- the rules of a ring and a gap in pm, or BadRule
 unfoldable pub rules_of : ℤ → ℤ → Result GridRules Reason
 rules_of ring gap = if are_rules ring gap then Ok (record { ring = unsigned_abs ring; gap = unsigned_abs gap }) else Err BadRule
 
--- the rules that two words name in millimetres, or the first refusal, the ring's before the gap's (docs/FORMATS.md, The program)
+-- the rules that two words name in millimetres, or the first refusal: the ring's, the gap's, then that of both
 unfoldable pub rules_named : List ℕ → List ℕ → Result GridRules Reason
 rules_named ring gap = length_named ring >>= λ r. (length_named gap >>= λ g. rules_of r g)
 
--- how many findings a word of one to nine digits names (docs/FORMATS.md, The program)
+-- the number of findings that a word of one to nine digits names, such as `20`; another word is BadNumber
 unfoldable pub count_named : List ℕ → Result ℕ Reason
 count_named word = if is_digits word && nat_le (length word) 9 then Ok (value word) else Err BadNumber
 
--- how many findings are told at most, where a word says so: else all of them (docs/FORMATS.md, The program)
+-- the most findings that a report shows, where a word names it; without a word it shows all of them
 unfoldable pub most_named : Option (List ℕ) → Result (Option ℕ) Reason
 most_named None = Ok None
 most_named (Some word) = count_named word >>= λ n. Ok (Some n)
 
--- the format that a word names: text where there is none (docs/FORMATS.md, The program)
+-- the format that a word names, `text` or `json`; text without a word, BadRole for any other
 unfoldable pub format_named : Option (List ℕ) → Result Format Reason
 format_named None = Ok format.Text
 format_named (Some word) = if bytes_eq word (codes "text") then Ok format.Text else if bytes_eq word (codes "json") then Ok format.Json else Err BadRole
 
--- the format of a report that a word names: text where there is none; it prints no waivers where it is given some (docs/FORMATS.md, The program)
+-- the format of a report: `text`, also without a word, `json`, or `waivers`, which is BadRole where a file of waivers is given too
 unfoldable pub report_format_named : Bool → Option (List ℕ) → Result ReportFormat Reason
 report_format_named waives None = Ok told.Text
 report_format_named waives (Some word) =
@@ -51,11 +51,11 @@ report_format_named waives (Some word) =
     else if bytes_eq word (codes "json") then Ok told.Json
     else if bytes_eq word (codes "waivers") && not waives then Ok told.Waivers else Err BadRole
 
--- the rules of a report, how many findings it tells at most, and its format, or the first refusal in this order; a file of waivers may be given (docs/FORMATS.md, The program)
+-- the rules, the limit of findings and the format of a report, or the first refusal in this order; `waive` is the file of waivers, if there is one
 unfoldable pub report_named : List ℕ → List ℕ → Option (List ℕ) → Option (List ℕ) → Option (List ℕ) → Result (GridRules × Option ℕ × ReportFormat) Reason
 report_named ring gap most waive form = rules_named ring gap >>= λ rules. (most_named most >>= λ n. (report_format_named (is_some waive) form >>= λ f. Ok (rules, n, f)))
 
--- the rules of a picture: those of a ring and a gap, or none; one of these alone names none (docs/FORMATS.md, The program)
+-- the rules of a picture: those of a ring and a gap, or none; one of these alone is BadRule
 unfoldable pub draw_named : Option (List ℕ) → Option (List ℕ) → Result (Option GridRules) Reason
 draw_named None None = Ok None
 draw_named (Some ring) (Some gap) = rules_named ring gap >>= λ rules. Ok (Some rules)

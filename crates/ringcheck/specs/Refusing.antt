@@ -1,4 +1,4 @@
--- Why a package is refused, and what is told of it.
+-- Why a package is refused, and what is printed of it (docs/FORMATS.md, The program).
 use Rattle.std.specs.Prelude.{◌≡◌, ◌+◌, ◌++◌, ◌∷◌, [], ℕ, List, Option, codes, decimal}
 use Rattle.std.specs.Io.KnownBytes.{Appends}
 use Rattle.std.specs.List.{flat_map}
@@ -15,19 +15,19 @@ use Rattle.ringcheck.specs.declared.refusing.Style.TheVariants as style
 
 -- ---- refusals
 
--- what is refused, and why: the manifest, the file of waivers, or a file by its index, from 0, and its name (docs/DEFINITIONS.md, Runs)
+-- what is refused, and why: the manifest, the file of waivers, or a file, by its index from 0 and its name
 pub data Refusal : Type 0 where
   of_manifest : Fault → Refusal
   of_waivers : Fault → Refusal
   of_file : ℕ → List ℕ → Fault → Refusal
 
--- the reason of a refusal (docs/DEFINITIONS.md, Runs)
+-- the reason of a refusal, such as TooLong
 abbrev pub reason_of : Refusal → Reason
 reason_of (of_manifest why) = why.reason
 reason_of (of_waivers why) = why.reason
 reason_of (of_file index name why) = why.reason
 
--- the line of a refusal, in which files are numbered from 1 (docs/FORMATS.md, The program)
+-- the line of a refusal, with files numbered from 1: `refused file=1 place=0 byte=0 reason=TooLong name=top`
 abbrev pub refusal_line : Refusal → List ℕ
 refusal_line (of_manifest why) = codes "refused manifest place=" ++ (decimal why.place ++ (codes " reason=" ++ (name_of why.reason ++ ascii.line_feed ∷ [])))
 refusal_line (of_waivers why) = codes "refused waivers place=" ++ (decimal why.place ++ (codes " reason=" ++ (name_of why.reason ++ ascii.line_feed ∷ [])))
@@ -35,30 +35,30 @@ refusal_line (of_file index name why) =
     codes "refused file=" ++ (decimal (index + 1) ++ (codes " place=" ++ (decimal why.place ++ (codes " byte=" ++ (decimal why.byte
     ++ (codes " reason=" ++ (name_of why.reason ++ (codes " name=" ++ (name ++ ascii.line_feed ∷ [])))))))))
 
--- the JSON of a refusal (docs/DEFINITIONS.md, JSON)
+-- the JSON of a refusal: one object on one line (docs/FORMATS.md, JSON)
 abbrev pub refusal_json : Refusal → List ℕ
 refusal_json (of_manifest why) = json_text (refused_manifest_value why.place why.reason)
 refusal_json (of_waivers why) = json_text (refused_waivers_value why.place why.reason)
 refusal_json (of_file index name why) = json_text (refused_value index name why)
 
--- a line after two spaces (docs/FORMATS.md, Report)
+-- a line of a page below a refusal: two spaces, the line, and LF
 abbrev pub indented_row : List ℕ → List ℕ
 indented_row row = codes "  " ++ (row ++ ascii.line_feed ∷ [])
 
--- the lines of a page, each after two spaces (docs/FORMATS.md, Report)
+-- the lines of a page, each after two spaces
 abbrev pub indented : List ℕ → List ℕ
 indented page = flat_map indented_row (lines page)
 
--- a line with the page of a reason below it (docs/FORMATS.md, Report)
+-- the text is a line with the page of this reason below it, which begins with the reason's name and fits a screen
 abbrev pub HasPage : Reason → List ℕ → List ℕ → Type 0
 HasPage why line text = (page : List ℕ) × Heads (name_of why) page × FitsScreen page × (text ≡ line ++ indented page)
 
--- the text of a refusal: its line, this with the page of its reason below it, or its JSON (docs/DEFINITIONS.md, Runs)
+-- the text of a refusal in a style: its line, this line with the page of its reason below it, or its JSON
 abbrev pub IsRefusalText : Style → Refusal → List ℕ → Type 0
 IsRefusalText style.Line why text = text ≡ refusal_line why
 IsRefusalText style.Page why text = HasPage (reason_of why) (refusal_line why) text
 IsRefusalText style.Json why text = text ≡ refusal_json why
 
--- the writer got just the text of a refusal (docs/DEFINITIONS.md, Runs)
+-- the writer got just the text of a refusal
 abbrev pub TellsRefusal : Style → Refusal → Option (List ℕ) → Option (List ℕ) → Type 0
 TellsRefusal in_style why before after = (text : List ℕ) × IsRefusalText in_style why text × Appends before after text

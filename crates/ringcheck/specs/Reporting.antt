@@ -1,4 +1,4 @@
--- What is said of a report on findings.
+-- What a status says of a report for people (docs/FORMATS.md, Report for people; JSON; Waivers).
 use Rattle.std.specs.Prelude.{◌≡◌, ◌<◌, ◌+◌, ◌⊎◌, ℕ, true, false, List, [], ◌∷◌, Option, Some, None, Result, Ok, Err, length, map, ⊤, if◌then◌else◌}
 use Rattle.std.specs.Io.KnownBytes.{Appends}
 use Rattle.grid_units.specs.Holes.{GridRules}
@@ -34,25 +34,25 @@ use Rattle.waivers.specs.Waiving.{AreReasons, IsWaived, are_all_waived}
 use Rattle.waivers.specs.declared.Waiver.{Waiver}
 use Rattle.waivers.specs.declared.waiving.Waived.{Waived}
 
--- what is printed of a report in a format: as text with so many findings at most, as JSON or as a file of waivers with all of them (docs/FORMATS.md, Report; JSON; Waivers)
+-- what is printed of a report: its text with at most `most` findings, or its JSON or its file of waivers with all of them
 abbrev pub telling_page : ReportFormat → List (List ℕ) → List FileSum → Telling → Option ℕ → List ℕ
 telling_page format.Text names files told most = telling_text names told most
 telling_page format.Json names files told most = json_text (telling_value names files told)
 telling_page format.Waivers names files told most = findings_text names told
 
--- the same with the reasons why findings are accepted (docs/FORMATS.md, Report; JSON; Waivers)
+-- what is printed of a report with the reasons why findings are waived
 abbrev pub waived_page : ReportFormat → List (List ℕ) → List FileSum → Telling → Option ℕ → Whys → List ℕ
 waived_page format.Text names files told most whys = waived_text names told most whys
 waived_page format.Json names files told most whys = json_text (waived_value names files told whys)
 waived_page format.Waivers names files told most whys = findings_text names told
 
--- The writer got the report of files under rules, in a format. It has just as many findings as the check of them (docs/DEFINITIONS.md, Runs).
+-- the writer got just the report of the files under the rules, in a format; its findings are those of the check of them, one for one
 pub record Tells (all : List Source) (rules : GridRules) (most : Option ℕ) (form : ReportFormat) (before after : Option (List ℕ)) (told : Telling) : Type 0 where
   pub is : IsTellingOf all rules told
   pub as_check : IsAsCheck all rules told
   pub written : Appends before after (telling_page form (map (λ source. source.name) all) is.flashed.board.files told most)
 
--- The same with the waivers of a file: which of them waives each finding, and why (docs/DEFINITIONS.md, Runs).
+-- the writer got just that report with the waivers of a file: which of them waives each finding, and why
 pub record TellsAccepted (all : List Source) (rules : GridRules) (most : Option ℕ) (form : ReportFormat) (waivers : List Waiver) (before after : Option (List ℕ)) (told : Telling) (waived : Waived) : Type 0 where
   pub is : IsTellingOf all rules told
   pub as_check : IsAsCheck all rules told
@@ -61,13 +61,13 @@ pub record TellsAccepted (all : List Source) (rules : GridRules) (most : Option 
   pub reasons : AreReasons waivers waived whys
   pub written : Appends before after (waived_page form (map (λ source. source.name) all) is.flashed.board.files told most whys)
 
--- the status of a report with these findings (docs/DEFINITIONS.md, Runs)
+-- the status of a report with these findings: Pass where there is none, else Findings
 abbrev pub telling_status : List RingLack → List GapLack → Status
 telling_status [] [] = status.Pass
 telling_status [] (gap ∷ gaps) = status.Findings
 telling_status (ring ∷ rings) gaps = status.Findings
 
--- the writer got a report without a finding, and the files are sound (docs/DEFINITIONS.md, Runs)
+-- the writer got a report without a finding, and the files are sound
 pub record TellsSound (all : List Source) (rules : GridRules) (most : Option ℕ) (form : ReportFormat) (before after : Option (List ℕ)) : Type 0 where
   pub told : Telling
   pub tells : Tells all rules most form before after told
@@ -75,17 +75,17 @@ pub record TellsSound (all : List Source) (rules : GridRules) (most : Option ℕ
   pub gaps : told.gaps.items ≡ []
   pub sound : IsSound all rules
 
--- the writer got a report with some finding (docs/DEFINITIONS.md, Runs)
+-- the writer got a report with some finding
 pub record TellsFindings (all : List Source) (rules : GridRules) (most : Option ℕ) (form : ReportFormat) (before after : Option (List ℕ)) : Type 0 where
   pub told : Telling
   pub tells : Tells all rules most form before after told
   pub some : 0 < length told.rings.items + length told.gaps.items
 
--- the status of a report by which waiver waives each finding (docs/DEFINITIONS.md, Runs)
+-- the status of a report with waivers: Pass where each finding is waived, else Findings
 abbrev pub waived_status : Waived → Status
 waived_status waived = if are_all_waived waived then status.Pass else status.Findings
 
--- the writer got a report whose findings are all waived, each by some record; without findings the files are sound (docs/DEFINITIONS.md, Runs)
+-- the writer got a report whose findings are all waived, each by some record; without findings the files are sound
 pub record TellsWaived (all : List Source) (rules : GridRules) (most : Option ℕ) (form : ReportFormat) (waivers : List Waiver) (before after : Option (List ℕ)) : Type 0 where
   pub told : Telling
   pub waived : Waived
@@ -93,34 +93,34 @@ pub record TellsWaived (all : List Source) (rules : GridRules) (most : Option �
   pub each : are_all_waived waived ≡ true
   pub sound : told.rings.items ≡ [] → told.gaps.items ≡ [] → IsSound all rules
 
--- the writer got a report with some finding that no record waives (docs/DEFINITIONS.md, Runs)
+-- the writer got a report with some finding that no record waives
 pub record TellsUnwaived (all : List Source) (rules : GridRules) (most : Option ℕ) (form : ReportFormat) (waivers : List Waiver) (before after : Option (List ℕ)) : Type 0 where
   pub told : Telling
   pub waived : Waived
   pub tells : TellsAccepted all rules most form waivers before after told waived
   pub some : are_all_waived waived ≡ false
 
--- the writer got a report that passes, without a file of waivers or with the waivers of one (docs/DEFINITIONS.md, Runs)
+-- the writer got a report that passes, without a file of waivers or with one
 abbrev pub TellsPass : List Source → GridRules → Option ℕ → ReportFormat → Option (List Waiver) → Option (List ℕ) → Option (List ℕ) → Type 0
 TellsPass all rules most form None before after = TellsSound all rules most form before after
 TellsPass all rules most form (Some waivers) before after = TellsWaived all rules most form waivers before after
 
--- the writer got a report that does not pass, without a file of waivers or with the waivers of one (docs/DEFINITIONS.md, Runs)
+-- the writer got a report that does not pass, without a file of waivers or with one
 abbrev pub TellsLacks : List Source → GridRules → Option ℕ → ReportFormat → Option (List Waiver) → Option (List ℕ) → Option (List ℕ) → Type 0
 TellsLacks all rules most form None before after = TellsFindings all rules most form before after
 TellsLacks all rules most form (Some waivers) before after = TellsUnwaived all rules most form waivers before after
 
--- how it is told why there is no report: by a line and its page, as JSON, or by a line alone (docs/FORMATS.md, Report; JSON; Waivers)
+-- how a refusal is printed in place of a report: by a line with its page, as JSON, or by a line alone
 abbrev pub report_style : ReportFormat → Style
 report_style format.Text = style.Page
 report_style format.Json = style.Json
 report_style format.Waivers = style.Line
 
--- a file of waivers that is refused, of which the writer got just the text of the refusal (docs/DEFINITIONS.md, Runs)
+-- a file of waivers is refused, and the writer got just the text of the refusal
 abbrev pub RefusesWaivers : Relation → List ℕ → Style → Option (List ℕ) → Option (List ℕ) → Type 0
 RefusesWaivers has file in_style before after = (why : Fault) × RefusedWaivers has file why × TellsRefusal in_style (of_waivers why) before after
 
--- What a status says of the report for people of a package. It is refused just where the check is (docs/DEFINITIONS.md, Runs).
+-- what a status says of the report on a package; Refused only where a check under these rules would refuse it
 abbrev pub SaysReport : Relation → List ℕ → GridRules → Option ℕ → ReportFormat → Option (List Waiver) → Option (List ℕ) → Option (List ℕ) → Status → Type 0
 SaysReport has name rules most form waivers before after status.Pass = OfPackage has name (λ all. TellsPass all rules most form waivers before after)
 SaysReport has name rules most form waivers before after status.Findings = OfPackage has name (λ all. TellsLacks all rules most form waivers before after)
@@ -128,19 +128,19 @@ SaysReport has name rules most form waivers before after status.Refused = Refuse
 SaysReport has name rules most form waivers before after status.Usage = ⊥
 SaysReport has name rules most form waivers before after status.Device = ⊤
 
--- The same with the file of waivers that is named, if one is: this file is refused, it cannot be read or memory ran out, or it has waivers
--- and the report is made with them (docs/DEFINITIONS.md, Runs).
+-- what a status says of a report for which a file of waivers may be named: that file is refused, or the status is Device,
+-- or the file has waivers and the report is made with them
 abbrev pub SaysWaiving : Relation → List ℕ → GridRules → Option ℕ → ReportFormat → Option (List ℕ) → Option (List ℕ) → Option (List ℕ) → Status → Type 0
 SaysWaiving has name rules most form None before after s = SaysReport has name rules most form None before after s
 SaysWaiving has name rules most form (Some file) before after s =
     ((s ≡ status.Refused) × RefusesWaivers has file (report_style form) before after) ⊎ ((s ≡ status.Device) ⊎ ((waivers : List Waiver) × HasWaivers has file waivers × SaysReport has name rules most form (Some waivers) before after s))
 
--- the same, of rules, a count and a format that words name, or that they do not name (docs/DEFINITIONS.md, Runs)
+-- what a status says of a report with the rules, the limit and the format that words name, or where these are refused
 abbrev pub SaysReportOf : Relation → List ℕ → Result (GridRules × Option ℕ × ReportFormat) Reason → Option (List ℕ) → Option (List ℕ) → Option (List ℕ) → Status → Type 0
 SaysReportOf has name (Ok (rules, most, form)) waive before after s = SaysWaiving has name rules most form waive before after s
 SaysReportOf has name (Err why) waive before after s = SaysUsage why before after s
 
--- what an end says of the report of files that are at hand (docs/DEFINITIONS.md, Runs)
+-- what an end says of the report of files that are at hand
 abbrev pub AnsweredReport : List Source → GridRules → Option ℕ → ReportFormat → Option (List Waiver) → Option (List ℕ) → Option (List ℕ) → Ended → Type 0
 AnsweredReport all rules most form waivers before after (ended.Said status.Pass) = TellsPass all rules most form waivers before after
 AnsweredReport all rules most form waivers before after (ended.Said status.Findings) = TellsLacks all rules most form waivers before after

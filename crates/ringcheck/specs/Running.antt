@@ -1,4 +1,4 @@
--- What a loader has under names, and what a run says over it.
+-- What a loader has under names, and what a status says of a check of it.
 use Rattle.std.specs.Prelude.{◌≡◌, ◌<◌, ◌≤◌, ℕ, List, [], ◌∷◌, length, take, slice_get, Result, Ok, Err, ⊤, Option, Some}
 use Rattle.std.specs.List.{count_by}
 use Rattle.std.specs.Io.KnownBytes.{Appends}
@@ -19,29 +19,29 @@ use Rattle.package_check.specs.Package.{Source, IsAnswer, is_copper}
 use Rattle.package_check.specs.Soundness.{IsSound}
 use Rattle.package_check.specs.Texts.{report_text}
 
--- the files that entries and their bytes make, in a package of so many copper files (docs/DEFINITIONS.md, Runs)
+-- the sources that entries and the bytes of their files make, in a package of so many copper files
 abbrev pub sources_among : ℕ → List Entry → List (List ℕ) → List Source
 sources_among layers [] bytes = []
 sources_among layers (entry ∷ entries) [] = []
 sources_among layers (entry ∷ entries) (bytes ∷ rest) =
     record { role = entry.role; name = entry.name; span = entry.span; bytes = bytes; layers = layers } ∷ sources_among layers entries rest
 
--- the files that a manifest's entries and their bytes make (docs/DEFINITIONS.md, Runs)
+-- the sources that the entries of a manifest and the bytes of their files make
 abbrev pub sources : List Entry → List (List ℕ) → List Source
 sources entries files = sources_among (count_by (λ entry. is_copper entry.role) entries) entries files
 
--- the loader has these bytes for the files of these entries, one by one (docs/DEFINITIONS.md, Runs)
+-- the loader has these bytes for the files of these entries, one by one
 abbrev pub HasFiles : Relation → List Entry → List (List ℕ) → Type 0
 HasFiles has [] [] = ⊤
 HasFiles has [] (bytes ∷ rest) = ⊥
 HasFiles has (entry ∷ entries) [] = ⊥
 HasFiles has (entry ∷ entries) (bytes ∷ rest) = has entry.file bytes × HasFiles has entries rest
 
--- the most bytes of a manifest (docs/FORMATS.md, Limits)
+-- the most bytes of a manifest, and of a file of waivers (docs/FORMATS.md, Limits)
 abbrev pub manifest_limit : ℕ
 manifest_limit = 1048576
 
--- the manifest and the files of a package, as the loader has them, none above its limit (docs/DEFINITIONS.md, Runs)
+-- the loader has under this name a manifest with these entries, and these bytes for their files, none above its limit
 pub record HasPackage (has : Relation) (name : List ℕ) (entries : List Entry) (files : List (List ℕ)) : Type 0 where
   pub text : List ℕ
   pub held : has name text
@@ -49,14 +49,14 @@ pub record HasPackage (has : Relation) (name : List ℕ) (entries : List Entry) 
   pub short : length text ≤ manifest_limit
   pub loaded : HasFiles (within file_limit has) entries files
 
--- a package that the loader has, of whose files this holds (docs/DEFINITIONS.md, Runs)
+-- a package that the loader has, where `Holds` is true of its files
 pub record OfPackage (has : Relation) (name : List ℕ) (Holds : List Source → Type 0) : Type 0 where
   pub entries : List Entry
   pub files : List (List ℕ)
   pub held : HasPackage has name entries files
   pub holds : Holds (sources entries files)
 
--- a package that the loader has, whose report the writer got (docs/DEFINITIONS.md, Runs)
+-- a package that the loader has, where the writer got just the text of its report
 pub record Reported (has : Relation) (name : List ℕ) (rules : GridRules) (before after : Option (List ℕ)) (report : Account) : Type 0 where
   pub entries : List Entry
   pub files : List (List ℕ)
@@ -64,14 +64,14 @@ pub record Reported (has : Relation) (name : List ℕ) (rules : GridRules) (befo
   pub answer : IsAnswer (sources entries files) rules (Ok report)
   pub written : Appends before after (report_text (sources entries files) report)
 
--- The same of a package that passes: nothing was found, and the package is sound (docs/DEFINITIONS.md, Runs).
+-- a package that passes, where the writer got just the text of its report: nothing was found, and the package is sound
 pub record Passed (has : Relation) (name : List ℕ) (rules : GridRules) (before after : Option (List ℕ)) : Type 0 where
   pub report : Account
   pub reported : Reported has name rules before after report
   pub passes : report.findings ≡ []
   pub sound : IsSound (sources reported.entries reported.files) rules
 
--- a file of a package is above its limit: so many bytes the loader has for the entry at this index, and bytes within the limit for each before it (docs/DEFINITIONS.md, Runs)
+-- the loader has bytes above the limit for the entry at this index, and bytes within the limit for each entry before it
 pub record LongFile (has : Relation) (entries : List Entry) (index : ℕ) (entry : Entry) : Type 0 where
   pub files : List (List ℕ)
   pub before : HasFiles (within file_limit has) (take index entries) files
@@ -80,8 +80,7 @@ pub record LongFile (has : Relation) (entries : List Entry) (index : ℕ) (entry
   pub loaded : has entry.file bytes
   pub long : file_limit < length bytes
 
--- Bytes that the loader has are refused, and why: those of the manifest for their length or their records, those of a file for
--- their length, or the package for a file (docs/DEFINITIONS.md, Runs).
+-- bytes that the loader has are refused: a manifest that is too long or wrong, a file that is too long, or the first file that the check refuses
 pub data RefusedIn (has : Relation) (name : List ℕ) (rules : GridRules) (why : Refusal) : Type 0 where
   long_manifest : (text : List ℕ) → has name text → manifest_limit < length text → why ≡ of_manifest too_long → RefusedIn has name rules why
   bad_manifest : (text : List ℕ) (fault : Fault) → has name text → manifest text ≡ Err fault → why ≡ of_manifest fault → RefusedIn has name rules why
@@ -91,13 +90,13 @@ pub data RefusedIn (has : Relation) (name : List ℕ) (rules : GridRules) (why :
       → IsAnswer (sources entries files) rules (Err (index, fault)) → slice_get (sources entries files) index ≡ Some source
       → why ≡ of_file index source.name fault → RefusedIn has name rules why
 
--- such bytes, of which the writer got just the text of the refusal (docs/DEFINITIONS.md, Runs)
+-- such bytes are refused, and the writer got just the text of the refusal
 pub record RefusesPackage (has : Relation) (name : List ℕ) (rules : GridRules) (in_style : Style) (before after : Option (List ℕ)) : Type 0 where
   pub why : Refusal
   pub refused : RefusedIn has name rules why
   pub told : TellsRefusal in_style why before after
 
--- what a status says of a check under rules that were named (docs/DEFINITIONS.md, Runs)
+-- what a status says of a check of a package under these rules
 abbrev pub Says : Relation → List ℕ → GridRules → Option (List ℕ) → Option (List ℕ) → Status → Type 0
 Says has name rules before after status.Pass = Passed has name rules before after
 Says has name rules before after status.Findings = (report : Account) × Reported has name rules before after report × (0 < length report.findings)
@@ -105,7 +104,7 @@ Says has name rules before after status.Refused = RefusesPackage has name rules 
 Says has name rules before after status.Usage = ⊥
 Says has name rules before after status.Device = ⊤
 
--- the same, of rules that two words name, or that they do not name (docs/DEFINITIONS.md, Runs)
+-- what a status says of a check under the rules that two words name, or where these are refused
 abbrev pub SaysOf : Relation → List ℕ → Result GridRules Reason → Option (List ℕ) → Option (List ℕ) → Status → Type 0
 SaysOf has name (Ok rules) before after s = Says has name rules before after s
 SaysOf has name (Err why) before after s = SaysUsage why before after s

@@ -1,4 +1,4 @@
-//! Draws a board.
+//! Prints the picture of a board.
 
 ghost use Rattle.std.specs.Prelude.{◌≡◌, ℕ, List, length};
 ghost use Rattle.flashed_boards.specs.Flashed.{IsFlashed};

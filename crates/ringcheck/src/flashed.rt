@@ -1,4 +1,4 @@
-//! Tells of the package of a manifest, or draws it: what wants the flashes of its layers too.
+//! The commands that need the flashes of the layers too: reports on the package of a manifest, and pictures of it.
 
 ghost use Rattle.std.specs.Prelude.{◌≡◌, ℕ, List, None, Some, length, option_map};
 ghost use Rattle.flashed_boards.specs.Flashed.{FlashedStandsAfter, IsFlashed};
@@ -22,19 +22,19 @@ use std::alloc::Global;
 use std::io::Write;
 use waivers::Waiver;
 
-/// What a report is asked for.
+/// What a request for a report asks.
 #[derive(Debug, Drop)]
 pub(crate) struct ReportOrder {
-    /// The ring and the gap that are asked.
+    /// The ring and the gap to check, in pm.
     pub(crate) rules: Rules,
-    /// How many findings are told at most.
+    /// The most findings that a text shows; it shows all of them where there is no limit.
     pub(crate) most: Option<usize>,
     pub(crate) format: ReportFormat,
-    /// The waivers of the file that was named, if one was.
+    /// The waivers of the file that was named, if one was named.
     pub(crate) waivers: Option<Vec<Waiver>>,
 }
 
-/// How it is told why there is no report.
+/// How a refusal is printed in place of a report in this format.
 fn style_of(format: ReportFormat) -> Style
     ensures { result ≡ report_style format }
 {
@@ -45,17 +45,17 @@ fn style_of(format: ReportFormat) -> Style
     }
 }
 
-/// What is done with a package whose flashes are wanted too.
+/// What is done with a package whose flashes are needed too.
 #[derive(Debug, Drop)]
 pub(crate) enum FlashedWork {
-    /// Its findings are told.
+    /// A report on its findings is printed.
     Report(ReportOrder),
-    /// It is drawn, with what is found under the rules, if there are any.
+    /// Its picture is printed, with what is found under the rules, if there are any.
     Draw(Option<Rules>),
 }
 
 impl FlashedWork {
-    /// How it is told why it was not done.
+    /// How a refusal is printed in its place.
     fn style(&self) -> Style
         ensures { result ≡ flashed_style self.now }
     {
@@ -124,7 +124,7 @@ fn work_on<L: Loader, W: Write>(
     }
 }
 
-/// Tells of the package of a manifest without waivers.
+/// Reports on the package of a manifest without waivers.
 fn report_plain<L: Loader, W: Write>(
     alloc: Global,
     rules: Rules,
@@ -146,7 +146,7 @@ fn report_plain<L: Loader, W: Write>(
     work_on(alloc, &FlashedWork::Report(order), name, loader, out)
 }
 
-/// Tells of the package of a manifest with the waivers of a file, which is loaded first.
+/// Reports on the package of a manifest with the waivers of a file, which is loaded first.
 fn report_waived<L: Loader, W: Write>(
     alloc: Global,
     rules: Rules,
@@ -173,8 +173,8 @@ fn report_waived<L: Loader, W: Write>(
     work_on(alloc, &FlashedWork::Report(order), name, loader, out)
 }
 
-/// Tells of the package of a manifest as these words ask: each finding under the rules, by how much, why, and whether it is
-/// waived.
+/// Reports on the package of a manifest as these words ask: each finding under the rules, what is lacking, why, and whether
+/// it is waived.
 pub(crate) fn report<L: Loader, W: Write>(
     alloc: Global,
     asked: &ReportWords,
@@ -195,7 +195,7 @@ pub(crate) fn report<L: Loader, W: Write>(
     }
 }
 
-/// Draws the package of a manifest, with what is found under the rules that two words name, where they are there.
+/// Prints the picture of the package of a manifest, with what is found under the rules that two words name, if they are given.
 pub(crate) fn draw<L: Loader, W: Write>(
     alloc: Global,
     ring: Option<&str>,

@@ -1,4 +1,4 @@
-//! The lines that tell of refusals and failures. Numbers of files begin with 1.
+//! The lines of refusals and failures. Files are numbered from 1.
 
 ghost use Rattle.std.specs.Prelude.{◌≡◌, ◌++◌, ℕ, List, IfOk, OnOk, codes};
 ghost use Rattle.std.specs.String.{string_bytes};
@@ -8,7 +8,7 @@ use explanations::explanation;
 use grid_units::{Fault, Reason};
 use std::alloc::{AllocError, Global};
 
-/// The line of a file that is refused.
+/// The line of a refused file, such as `refused file=1 place=0 byte=0 reason=TooLong name=top`.
 pub(crate) fn refused(
     alloc: Global,
     index: usize,
@@ -25,7 +25,7 @@ pub(crate) fn refused(
     )
 }
 
-/// The line of a manifest that is refused.
+/// The line of a refused manifest, such as `refused manifest place=0 reason=TooLong`.
 pub(crate) fn refused_manifest(alloc: Global, fault: Fault) -> Result<String, AllocError>
     ensures { IfOk result (λ line. string_bytes line ≡ refusal_line (of_manifest fault)) }
 {
@@ -34,7 +34,7 @@ pub(crate) fn refused_manifest(alloc: Global, fault: Fault) -> Result<String, Al
     format!(in alloc; "refused manifest place={place} reason={reason}\n")
 }
 
-/// The line of a file of waivers that is refused.
+/// The line of a refused file of waivers, such as `refused waivers place=0 reason=TooLong`.
 pub(crate) fn refused_waivers(alloc: Global, fault: Fault) -> Result<String, AllocError>
     ensures { IfOk result (λ line. string_bytes line ≡ refusal_line (of_waivers fault)) }
 {
@@ -43,13 +43,13 @@ pub(crate) fn refused_waivers(alloc: Global, fault: Fault) -> Result<String, All
     format!(in alloc; "refused waivers place={place} reason={reason}\n")
 }
 
-/// The line of a file that can't be read.
+/// The line of a file that cannot be read: `device file=N name=NAME`.
 pub(crate) fn device(alloc: Global, index: usize, name: &str) -> Result<String, AllocError> {
     let number = index as u128 + 1;
     format!(in alloc; "device file={number} name={name}\n")
 }
 
-/// The line, and `clap`'s text below it, of words that are no command.
+/// The line `usage`, and below it what `clap` says of words that are no command.
 pub(crate) fn usage_with(alloc: Global, text: &str) -> Result<String, AllocError>
     ensures { IfOk result (λ line. string_bytes line ≡ codes "usage\n" ++ text.now) }
 {

@@ -24,9 +24,9 @@ const MANIFEST_LIMIT: u64 = 1_048_576;
 #[derive(Clone, Copy)]
 pub(crate) enum Stop {
     Memory,
-    /// The manifest can't be read.
+    /// The manifest cannot be read.
     Device,
-    /// The file of this entry can't be read.
+    /// The file of this entry cannot be read.
     DeviceFile(usize),
     /// The manifest is refused.
     Manifest(Fault),
@@ -34,7 +34,7 @@ pub(crate) enum Stop {
     LongFile(usize),
     /// The file of waivers is refused.
     Waivers(Fault),
-    /// The file of waivers can't be read.
+    /// The file of waivers cannot be read.
     DeviceWaivers,
 }
 
@@ -98,7 +98,7 @@ fn layer_count(entries: &[Entry]) -> usize
     entries.iter().filter(|entry| is_copper(entry.role)).count()
 }
 
-/// Takes the file of an entry, whose bytes are loaded.
+/// Hands the loaded bytes of an entry's file to the reader.
 fn take_file<R: TakesFiles>(reader: &mut R, entry: &Entry, bytes: &[u8]) -> Result<(), Stop>
     ensures stands { (sources : List Source) → R.stands reader.old sources → OnOk result (R.stands reader.new (sources
         ++ record { role = entry.now.role; name = entry.now.name; span = entry.now.span; bytes = bytes.now; layers = R.copper reader.old } ∷ [])) }
@@ -111,8 +111,8 @@ fn take_file<R: TakesFiles>(reader: &mut R, entry: &Entry, bytes: &[u8]) -> Resu
     }
 }
 
-/// What has taken the files of the entries, in order. They are loaded one after the other, and the bytes of each are let
-/// go of before the next is loaded.
+/// A reader that has taken the files of the entries, in order. They are loaded one after the other, and the bytes of each are
+/// freed before the next is loaded.
 pub(crate) fn take_files<L: Loader, R: TakesFiles + Drop>(
     alloc: Global,
     loader: &mut L,

@@ -1,4 +1,4 @@
-//! Measures the files of a package, and says by how much it meets its rules.
+//! Measures a package, and prints by how much it meets its rules.
 
 ghost use Rattle.std.specs.Prelude.{◌≡◌, ◌≢◌, ◌++◌, ℕ, List, map, length, string_bytes};
 ghost use Rattle.std.specs.Io.KnownBytes.{Appends};
@@ -22,7 +22,7 @@ use ringcheck_files::{Ended, Status, say_out_of_memory};
 use std::alloc::Global;
 use std::io::Write;
 
-/// Prints the lines of a measure by a text that is empty.
+/// Prints the lines of a measure through `text`, a buffer that is empty.
 fn print_lines<W: Write>(text: &mut String, measure: &Measure, out: &mut W) -> Ended
     ensures written { result ≢ Ended.WriterFailed → Appends (W.contents out.old) (W.contents out.new) (string_bytes text.old ++ lines_of measure.now) }
     ensures ends { result ≢ Ended.WriterFailed → result ≡ Ended.Said Status.Pass }
@@ -40,7 +40,7 @@ fn print_lines<W: Write>(text: &mut String, measure: &Measure, out: &mut W) -> E
     }
 }
 
-/// Prints the lines on the files of these names and those of the measure.
+/// Prints the lines of the files, which have these names, and those of the measure.
 fn print_text<W: Write>(
     alloc: Global,
     names: &[&str],
@@ -61,7 +61,7 @@ fn print_text<W: Write>(
     }
 }
 
-/// Prints the measure of a board with files of these names as JSON.
+/// Prints the measure of a board as JSON. Its files have these names.
 fn print_json<W: Write>(
     alloc: Global,
     names: &[&str],
@@ -79,7 +79,7 @@ fn print_json<W: Write>(
     }
 }
 
-/// Prints the measure of a board with files of these entries.
+/// Prints the measure of a board in this format. Its files are those of these entries.
 fn print<W: Write>(
     alloc: Global,
     entries: &[Entry],
@@ -100,7 +100,7 @@ fn print<W: Write>(
     }
 }
 
-/// How it is told why there is no measure.
+/// How a refusal is printed in place of a measure in this format.
 pub(crate) fn style_of(format: Format) -> Style
     ensures { result ≡ saying.style_of format }
 {

@@ -1,4 +1,4 @@
-//! The rules, how many findings are told, and the format, that words of a command line name.
+//! The rules, the limit of findings and the format that words of the command line name.
 
 ghost use Rattle.std.specs.Prelude.{◌≡◌, option_map};
 ghost use Rattle.ringcheck.specs.Naming as words;
@@ -6,7 +6,7 @@ ghost use Rattle.ringcheck.specs.Naming as words;
 use grid_units::numbers::{capped_value, is_digits};
 use grid_units::{Dec, Reason, Rules, Unit};
 
-/// The length in pm that a word names in millimetres.
+/// The length in pm that a word names in millimetres, such as `0.125`.
 #[tactic(auto, unfolding(crate::specs::Naming::length_named))]
 fn length_named(word: &str) -> Result<i64, Reason>
     ensures { result ≡ words.length_named word.now }
@@ -21,7 +21,7 @@ fn rules_of(ring: i64, gap: i64) -> Result<Rules, Reason>
     Rules::new(ring, gap)
 }
 
-/// The rules of a ring and a gap in millimetres, the ring read first.
+/// The rules of a ring and a gap in millimetres. The ring is read first.
 #[tactic(auto, unfolding(crate::specs::Naming::rules_named))]
 pub(crate) fn rules_named(ring: &str, gap: &str) -> Result<Rules, Reason>
     ensures { result ≡ words.rules_named ring.now gap.now }
@@ -40,7 +40,7 @@ pub enum Format {
     Json,
 }
 
-/// The format that a word names: text where there is none.
+/// The format that a word names, `text` or `json`; text where there is no word.
 #[tactic(auto, unfolding(crate::specs::Naming::format_named))]
 pub(crate) fn format_named(word: Option<&str>) -> Result<Format, Reason>
     ensures { result ≡ words.format_named (option_map (λ w. w.now) word.entry) }
@@ -59,11 +59,11 @@ pub enum ReportFormat {
     Text,
     /// One object of JSON on one line.
     Json,
-    /// Its findings as a file of waivers, whose reasons are left to the user.
+    /// Its findings as a file of waivers, in which the user fills in the reasons.
     Waivers,
 }
 
-/// The format of a report that a word names: text where there is none. It prints no waivers where it is given some.
+/// The format of a report that a word names; text where there is no word. `waivers` is refused where a file of waivers is given.
 #[tactic(auto, unfolding(crate::specs::Naming::report_format_named))]
 fn report_format_named(waives: bool, word: Option<&str>) -> Result<ReportFormat, Reason>
     ensures { result ≡ words.report_format_named waives (option_map (λ w. w.now) word.entry) }
@@ -76,7 +76,7 @@ fn report_format_named(waives: bool, word: Option<&str>) -> Result<ReportFormat,
     }
 }
 
-/// How many findings a word of one to nine digits names.
+/// The number that a word of one to nine digits names, such as `20`.
 #[tactic(auto, unfolding(crate::specs::Naming::count_named))]
 fn count_named(word: &str) -> Result<usize, Reason>
     ensures { result ≡ words.count_named word.now }
@@ -87,7 +87,7 @@ fn count_named(word: &str) -> Result<usize, Reason>
     Ok(capped_value(word.as_bytes(), 999_999_999) as usize)
 }
 
-/// How many findings are told at most: all where no word says it.
+/// The most findings that a text shows; it shows all of them where there is no word.
 #[tactic(auto, unfolding(crate::specs::Naming::most_named))]
 fn most_named(word: Option<&str>) -> Result<Option<usize>, Reason>
     ensures { result ≡ words.most_named (option_map (λ w. w.now) word.entry) }
@@ -108,7 +108,7 @@ pub(crate) struct ReportWords<'a> {
     pub(crate) format: Option<&'a str>,
 }
 
-/// The rules of a report, how many findings it tells at most, and its format, read in this order.
+/// The rules, the limit of findings and the format of a report, read in this order.
 #[tactic(auto, unfolding(crate::specs::Naming::report_named))]
 pub(crate) fn report_named(
     asked: &ReportWords,

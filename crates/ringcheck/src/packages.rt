@@ -1,4 +1,4 @@
-//! Checks or measures the package of a manifest, and says what was found.
+//! Checks or measures the package of a manifest, and prints the result.
 
 ghost use Rattle.std.specs.Prelude.{◌≡◌, ◌≢◌, ℕ, List, IfOk, map, length, option_map};
 ghost use Rattle.std.specs.Io.KnownBytes.{Appends};
@@ -22,7 +22,7 @@ use ringcheck_files::{Ended, Status, say_out_of_memory, say_refused_word};
 use std::alloc::{AllocError, Global};
 use std::io::Write;
 
-/// What is done with a package.
+/// What is done with a package whose flashes are not kept.
 #[derive(Clone, Copy, Debug, PartialEq, Eq)]
 pub(crate) enum Work {
     /// It is checked under these rules.
@@ -32,7 +32,7 @@ pub(crate) enum Work {
 }
 
 impl Work {
-    /// How it is told why it was not done.
+    /// How a refusal is printed in its place.
     fn style(self) -> Style
         ensures { result ≡ work_style self }
     {

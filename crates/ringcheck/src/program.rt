@@ -24,7 +24,7 @@ use ringcheck_files::{
 use std::alloc::Global;
 use std::io::Write;
 
-/// Does what a request asks for, and tells why it ended.
+/// Does what a request asks for, and returns how the run ended.
 fn answer<L: Loader, W: Write>(
     alloc: Global,
     request: &Request,
@@ -72,7 +72,7 @@ fn answer<L: Loader, W: Write>(
     }
 }
 
-/// Says that the words are no command, and what is wrong with them.
+/// Prints `usage` and what is wrong with the words, which are no command.
 fn say_usage<W: Write>(alloc: Global, text: &str, out: &mut W) -> Ended
     ensures ends { result ≢ Ended.WriterFailed → result ≢ Ended.OutOfMemory → result ≡ Ended.Said Status.Usage }
     ensures tells { result ≢ Ended.WriterFailed → result ≢ Ended.OutOfMemory → Appends (W.contents out.old) (W.contents out.new) (codes "usage\n" ++ text.now) }
@@ -84,7 +84,7 @@ fn say_usage<W: Write>(alloc: Global, text: &str, out: &mut W) -> Ended
     )
 }
 
-/// Does what the words ask for, and tells why it ended.
+/// Does what the words ask for, and returns how the run ended.
 fn run_to_end<L: Loader, W: Write>(
     alloc: Global,
     words: &[&str],
@@ -121,8 +121,8 @@ fn run_to_end<L: Loader, W: Write>(
     }
 }
 
-/// The whole program: what the words, without the program's name, ask for. Everything is printed to `out`, a long report
-/// in parts; where that fails the status is Device and nothing is said of what it took.
+/// The whole program: does what the words ask for, which come without the program's name. Everything is printed to `out`, a
+/// long report in parts. Where that fails the status is Device, and it is not known what was written.
 pub fn run<L: Loader, W: Write>(
     alloc: Global,
     words: &[&str],

@@ -1,4 +1,4 @@
-//! Tells why nothing was done with a package.
+//! Prints why nothing was done with a package.
 
 ghost use Rattle.std.specs.Prelude.{◌≡◌, ◌≢◌, ℕ, List, IfOk};
 ghost use Rattle.std.specs.String.{string_bytes};
@@ -13,18 +13,18 @@ use ringcheck_files::{ABOVE_LIMIT, Ended, Status, say, say_line, say_out_of_memo
 use std::alloc::{AllocError, Global};
 use std::io::Write;
 
-/// How it is told.
+/// How a refusal is printed.
 #[derive(Clone, Copy, Debug, PartialEq, Eq)]
 pub(crate) enum Style {
-    /// By a line.
+    /// As a line.
     Line,
-    /// By a line, with the page of a refusal's reason below it.
+    /// As a line, with the page of its reason below.
     Page,
-    /// By one object of JSON.
+    /// As one object of JSON on one line.
     Json,
 }
 
-/// The name of the entry at an index.
+/// The name of the entry at an index; empty where there is none.
 fn name_at(entries: &[Entry], index: usize) -> &str
     ensures { IsNameAt entries.now index result.now }
 {
@@ -34,7 +34,7 @@ fn name_at(entries: &[Entry], index: usize) -> &str
     }
 }
 
-/// What is said of a file that is refused.
+/// The text of the refusal of a file.
 fn refused(
     alloc: Global,
     style: Style,
@@ -51,7 +51,7 @@ fn refused(
     }
 }
 
-/// What is said of a manifest that is refused.
+/// The text of the refusal of a manifest.
 fn refused_manifest(alloc: Global, style: Style, fault: Fault) -> Result<String, AllocError>
     ensures { IfOk result (λ text. IsRefusalText style (of_manifest fault) (string_bytes text)) }
 {
@@ -63,7 +63,7 @@ fn refused_manifest(alloc: Global, style: Style, fault: Fault) -> Result<String,
     }
 }
 
-/// What is said of a file of waivers that is refused.
+/// The text of the refusal of a file of waivers.
 fn refused_waivers(alloc: Global, style: Style, fault: Fault) -> Result<String, AllocError>
     ensures { IfOk result (λ text. IsRefusalText style (of_waivers fault) (string_bytes text)) }
 {
@@ -75,7 +75,7 @@ fn refused_waivers(alloc: Global, style: Style, fault: Fault) -> Result<String, 
     }
 }
 
-/// What is said of a file that can't be read.
+/// The text for a file that cannot be read.
 fn unread(alloc: Global, style: Style, index: usize, name: &str) -> Result<String, AllocError> {
     match style {
         Style::Line | Style::Page => lines::device(alloc, index, name),
@@ -83,7 +83,7 @@ fn unread(alloc: Global, style: Style, index: usize, name: &str) -> Result<Strin
     }
 }
 
-/// Says that a manifest or a file of waivers can't be read.
+/// Prints that a manifest or a file of waivers cannot be read.
 fn say_unread<W: Write>(alloc: Global, style: Style, stop: &report_json::Stop, out: &mut W) -> Ended
     ensures { result ≢ Ended.WriterFailed → result ≢ Ended.OutOfMemory → result ≡ Ended.LoaderFailed }
 {
@@ -101,7 +101,7 @@ fn say_text<W: Write>(out: &mut W, text: Result<String, AllocError>) -> Ended
     say_line(out, text, Ended::Said(Status::Refused))
 }
 
-/// Says why a file is refused.
+/// Prints the refusal of the file at an index.
 pub(crate) fn say_refused<W: Write>(
     alloc: Global,
     style: Style,
@@ -116,7 +116,7 @@ pub(crate) fn say_refused<W: Write>(
     say_text(out, text)
 }
 
-/// Tells why nothing was done.
+/// Prints why the files were not loaded, and returns how the run ended.
 pub(crate) fn tell<W: Write>(
     alloc: Global,
     style: Style,

@@ -1,4 +1,4 @@
-//! Tells of the findings of a board.
+//! Prints the report on a board.
 
 ghost use Rattle.std.specs.Prelude.{◌≡◌, ◌≢◌, ℕ, List, Option, OnOk, map, length};
 ghost use Rattle.std.specs.Io.KnownBytes.{Appends};
@@ -26,7 +26,7 @@ use telling::laws::tells_as_checks;
 use telling::tell_board;
 use waivers::{Waived, Waiver, idle, print_waivers, reasons, waive};
 
-/// The status of a report: whether it has a finding.
+/// The status of a report: Pass without findings, else Findings.
 fn status_of(told: &Telling) -> Status
     ensures { result ≡ telling_status told.now.rings.items told.now.gaps.items }
 {
@@ -37,7 +37,7 @@ fn status_of(told: &Telling) -> Status
     }
 }
 
-/// The status of a report with waivers: whether it has a finding that none of them waives.
+/// The status of a report with waivers: Pass where each finding is waived, else Findings.
 fn waived_status(waived: &Waived) -> Status
     ensures { result ≡ reporting.waived_status waived.now }
 {
@@ -48,7 +48,7 @@ fn waived_status(waived: &Waived) -> Status
     }
 }
 
-/// Prints a report in a format. As text it has so many findings at most.
+/// Prints a report in its format. Only the text has a limit of findings.
 fn print<W: Write>(
     alloc: Global,
     names: &[&str],
@@ -66,7 +66,7 @@ fn print<W: Write>(
     }
 }
 
-/// Prints a report with the reasons why findings are accepted.
+/// Prints a report with the reasons why findings are waived.
 fn print_accepted<W: Write>(
     alloc: Global,
     names: &[&str],
@@ -85,7 +85,7 @@ fn print_accepted<W: Write>(
     }
 }
 
-/// Prints a report, and tells its status.
+/// Prints a report without waivers, and returns how the run ended.
 fn answer_plain<W: Write>(
     alloc: Global,
     names: &[&str],
@@ -104,7 +104,7 @@ fn answer_plain<W: Write>(
     }
 }
 
-/// Prints a report with the reasons of these waivers, by which of them waives each finding.
+/// Prints a report with the reasons that these waivers give; `waived` names the waiver of each finding.
 fn print_reasons<W: Write>(
     alloc: Global,
     names: &[&str],
@@ -135,7 +135,7 @@ fn print_reasons<W: Write>(
     print_accepted(alloc, names, files, told, order, &whys, out)
 }
 
-/// Prints a report with these waivers, and tells its status.
+/// Prints a report with these waivers, and returns how the run ended.
 fn answer_waived<W: Write>(
     alloc: Global,
     names: &[&str],
@@ -159,7 +159,7 @@ fn answer_waived<W: Write>(
     }
 }
 
-/// How much each file of the board holds.
+/// The counts of each file of the board.
 fn files_of(flashed: &FlashedBoard) -> &[FileSum]
     ensures { result.now ≡ flashed.now.board.files }
 {

@@ -1,4 +1,4 @@
-//! What takes the files of a package one after the other.
+//! Readers that take the files of a package one after the other.
 
 ghost use Rattle.std.specs.Prelude.{◌≡◌, ◌++◌, ◌∷◌, [], ℕ, List, OnOk};
 ghost use Rattle.package_check.specs.Package.{Source};
@@ -9,15 +9,15 @@ use crate::{Entry, PackageReader};
 use flashed_boards::FlashedReader;
 use std::alloc::{AllocError, Global};
 
-/// Takes the files of a package one after the other.
+/// A reader that takes the files of a package one after the other.
 pub(crate) trait TakesFiles {
-    /// It has taken just these files.
+    /// The reader has taken just these files.
     ghost stands: { Self → List Source → Type 0 };
 
-    /// Of how many copper files it was told.
+    /// How many copper files the package has, as the reader was given it at the start.
     ghost copper: { Self → ℕ };
 
-    /// One that has taken no file, of a package with so many copper files.
+    /// A reader that has taken no file, of a package with so many copper files.
     fn of_layers(alloc: Global, layers: usize) -> Self
         ensures stands { stands result [] }
         ensures layers { copper result ≡ layers };

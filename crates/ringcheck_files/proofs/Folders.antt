@@ -89,7 +89,7 @@ all_of_map : (names : List (Bor (List ℕ))) → list_all can_stand (texts names
 all_of_map [] = refl
 all_of_map (x ∷ xs) = ap (λ b. can_stand x.now && b) (all_of_map xs)
 
--- what was told of files that are at hand, as a status says it
+-- what was printed of files that are at hand, as a status says it
 pub told : (why : Bool) (has : List ℕ → List ℕ → Type 0) (failed_before failed_after : ℕ) (names : List (Bor (List ℕ))) (all : List Held) (before after : Option (List ℕ)) (e : Ended) → length names ≡ length all
     → list_all (λ n. can_stand n.now) names ≡ true → HasPairs has (pairs names all) → RoseBy (count_unread (pairs names all)) failed_before failed_after → TellsFolder why (pairs names all) before after e
     → SaysManifest why has failed_before failed_after (texts names) before after (status_after e)
@@ -113,7 +113,7 @@ told why has failed_before failed_after names all before after ended.LoaderFaile
 told why has failed_before failed_after names all before after ended.OutOfMemory n fit h rose t = tt
 told why has failed_before failed_after names all before after ended.WriterFailed n fit h rose t = tt
 
--- names that may not stand were told
+-- the refusal of names that may not stand in a manifest was printed
 pub refused : (why : Bool) (has : List ℕ → List ℕ → Type 0) (failed_before failed_after : ℕ) (names : List (Bor (List ℕ))) (before after : Option (List ℕ)) (e : Ended)
     → list_all (λ n. can_stand n.now) names ≡ false → (e ≢ ended.WriterFailed → e ≢ ended.OutOfMemory → e ≡ ended.Said status.Usage)
     → (e ≢ ended.WriterFailed → e ≢ ended.OutOfMemory → Appends before after (usage_line BadManifest))
@@ -133,7 +133,7 @@ known_before has before to name (bytes b) h = (to name b h.0, h.1)
 known_before has before to name unread h = tt
 known_before has before to name long h = (h.0, to name h.0 h.1, h.2)
 
--- a word without a page was told
+-- the refusal of a word without a page was printed
 pub unexplained : (word : List ℕ) (before after : Option (List ℕ)) (e : Ended) → (IsWord word → ⊥) → (e ≢ ended.WriterFailed → e ≢ ended.OutOfMemory → e ≡ ended.Said status.Usage)
     → (e ≢ ended.WriterFailed → e ≢ ended.OutOfMemory → Appends before after (usage_line BadRole)) → TellsPage (Some word) before after e
 unexplained word before after (ended.Said status.Pass) none h t = cc (h (λ x. cc x) (λ x. cc x))

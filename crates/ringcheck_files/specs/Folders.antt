@@ -1,4 +1,4 @@
--- What a loader has of files that a manifest is made of, and what a run says of them and of explanations.
+-- What a loader has of the files of a proposed manifest, and what a status says of that manifest and of explanations.
 use Rattle.std.specs.Prelude.{◌≡◌, ◌<◌, ◌≤◌, ◌+◌, ◌-◌, ◌^◌, ◌⊎◌, ◌==◌, ◌&&◌, ℕ, Bool, true, false, not, List, [], ◌∷◌, length, map, Option, Some, None, ⊤}
 use Rattle.std.specs.Borrow.{Bor}
 use Rattle.std.specs.List.{count_by, list_all, list_any}
@@ -23,54 +23,54 @@ use Rattle.ringcheck_files.specs.Words.{usage_line}
 
 -- ---- files by their names
 
--- what is known of the bytes of a file (docs/DEFINITIONS.md, Runs)
+-- what is known of the bytes of a file: the bytes, or that they cannot be read, or that they are above the limit
 pub data Known : Type 0 where
   bytes : List ℕ → Known
   unread : Known
   long : Known
 
--- what a file says of its bytes (docs/DEFINITIONS.md, Runs)
+-- what is known of a file, by its content
 abbrev pub known_of : Content → Known
 known_of (content.Bytes text) = bytes text.now
 known_of content.NotRead = unread
 known_of content.TooLong = long
 
--- the same of what was loaded (docs/DEFINITIONS.md, Runs)
+-- what is known of a file, by what was loaded
 abbrev pub held_as : Held → Known
 held_as (held.Bytes text) = bytes text.items
 held_as held.NotRead = unread
 held_as held.TooLong = long
 
--- the loader has these bytes under the name, or bytes above the limit; of what cannot be read only the loader's failures tell (docs/DEFINITIONS.md, Runs)
+-- the loader has these bytes within the limit, or bytes above it; of a file that cannot be read nothing is said
 abbrev pub HasKnown : Relation → List ℕ → Known → Type 0
 HasKnown has name (bytes text) = within file_limit has name text
 HasKnown has name unread = ⊤
 HasKnown has name long = (text : List ℕ) × has name text × (file_limit < length text)
 
--- the same of each name (docs/DEFINITIONS.md, Runs)
+-- the loader has what is known of each of these names
 abbrev pub HasPairs : Relation → List (List ℕ × Known) → Type 0
 HasPairs has [] = ⊤
 HasPairs has (p ∷ ps) = HasKnown has p.0 p.1 × HasPairs has ps
 
--- a file by its name, and what is known of its bytes (docs/DEFINITIONS.md, Runs)
+-- the name of a file, and what is known of its bytes
 abbrev pub pair_of : Named → List ℕ × Known
 pair_of file = (name_of file, known_of file.content)
 
--- a file that cannot be read (docs/DEFINITIONS.md, Runs)
+-- whether a file cannot be read
 abbrev pub is_unread : Known → Bool
 is_unread (bytes text) = false
 is_unread unread = true
 is_unread long = false
 
--- how many of the files cannot be read (docs/DEFINITIONS.md, Runs)
+-- how many of the files cannot be read
 abbrev pub count_unread : List (List ℕ × Known) → ℕ
 count_unread all = count_by (λ p. is_unread p.1) all
 
--- a count of failures rose by at least so many, or stands at its last value (docs/DEFINITIONS.md, Runs)
+-- a count of failures rose by at least so many, or stands at its greatest value, 2^64 - 1
 abbrev pub RoseBy : ℕ → ℕ → ℕ → Type 0
 RoseBy many before after = (before + many ≤ after) ⊎ (2 ^ 64 - 1 ≤ after)
 
--- names with what was loaded under them (docs/DEFINITIONS.md, Runs)
+-- each name with what was loaded under it
 abbrev pub pairs : List (Bor (List ℕ)) → List Held → List (List ℕ × Known)
 pairs [] all = []
 pairs (name ∷ names) [] = []
@@ -78,17 +78,16 @@ pairs (name ∷ names) (one ∷ all) = (name.now, held_as one) ∷ pairs names a
 
 -- ---- a manifest
 
--- a name that may stand in a manifest: it is not empty, and has no control byte (docs/FORMATS.md, Judging)
+-- whether a name may stand in a manifest: it is not empty, and has no control byte (docs/FORMATS.md, Judging)
 abbrev pub can_stand : List ℕ → Bool
 can_stand name = not (length name == 0) && not (list_any is_control name)
 
--- the table of what the files are, and why, or a manifest of them (docs/FORMATS.md, Proposals)
+-- with `why` the table of what each file is and why, else a manifest of the files (docs/FORMATS.md, Proposals)
 abbrev pub IsTextOf : Bool → List Named → List ℕ → Type 0
 IsTextOf true files text = text ≡ reasons_text (proposals files)
 IsTextOf false files text = IsManifestOf (proposals files) text
 
--- Files with these names, as the loader has them, whose manifest or table the writer got. For each that cannot be read a load failed: the
--- loader had failed so often before and so often after (docs/DEFINITIONS.md, Runs).
+-- the writer got just the manifest or the table of files with these names, as the loader has them; a load failed for each that cannot be read
 pub record Proposed (why : Bool) (has : Relation) (failed_before failed_after : ℕ) (names : List (List ℕ)) (before after : Option (List ℕ)) : Type 0 where
   pub files : List Named
   pub named : map name_of files ≡ names
@@ -98,7 +97,7 @@ pub record Proposed (why : Bool) (has : Relation) (failed_before failed_after : 
   pub is : IsTextOf why files text
   pub written : Appends before after text
 
--- what a status says of a manifest of files with these names, by a loader that had failed so often before and so often after (docs/DEFINITIONS.md, Runs)
+-- what a status says of a manifest of files with these names; `failed_before` and `failed_after` count the loader's failures
 abbrev pub SaysManifest : Bool → Relation → ℕ → ℕ → List (List ℕ) → Option (List ℕ) → Option (List ℕ) → Status → Type 0
 SaysManifest why has failed_before failed_after names before after status.Pass = (list_all can_stand names ≡ true) × Proposed why has failed_before failed_after names before after
 SaysManifest why has failed_before failed_after names before after status.Findings = ⊥
@@ -106,7 +105,7 @@ SaysManifest why has failed_before failed_after names before after status.Refuse
 SaysManifest why has failed_before failed_after names before after status.Usage = (list_all can_stand names ≡ false) × Appends before after (usage_line BadManifest)
 SaysManifest why has failed_before failed_after names before after status.Device = ⊤
 
--- what an end says of files that are at hand (docs/DEFINITIONS.md, Runs)
+-- what an end says of a manifest of files that are at hand
 abbrev pub TellsFolder : Bool → List (List ℕ × Known) → Option (List ℕ) → Option (List ℕ) → Ended → Type 0
 TellsFolder why all before after (ended.Said status.Pass) = (files : List Named) × (map pair_of files ≡ all) × (text : List ℕ) × IsTextOf why files text × Appends before after text
 TellsFolder why all before after (ended.Said status.Findings) = ⊥
@@ -119,7 +118,7 @@ TellsFolder why all before after ended.WriterFailed = ⊤
 
 -- ---- explanations
 
--- the writer got the page of a word (docs/FORMATS.md, Explanations)
+-- the writer got just the page of a word, which begins with that word and fits a screen (docs/FORMATS.md, Explanations)
 pub record Explained (word : List ℕ) (before after : Option (List ℕ)) : Type 0 where
   pub known : IsWord word
   pub page : List ℕ
@@ -127,7 +126,7 @@ pub record Explained (word : List ℕ) (before after : Option (List ℕ)) : Type
   pub fits : FitsScreen page
   pub written : Appends before after page
 
--- what a status says of the page of a word, or of the list of the words that have one (docs/DEFINITIONS.md, Runs)
+-- what a status says of the page of a word, or, without a word, of the list of those that have one
 abbrev pub SaysPage : Option (List ℕ) → Option (List ℕ) → Option (List ℕ) → Status → Type 0
 SaysPage (Some word) before after status.Pass = Explained word before after
 SaysPage None before after status.Pass = (list : List ℕ) × ListsWords list × Appends before after list
@@ -137,14 +136,14 @@ SaysPage (Some word) before after status.Usage = (¬ IsWord word) × Appends bef
 SaysPage None before after status.Usage = ⊥
 SaysPage word before after status.Device = ⊤
 
--- the same of an end (docs/DEFINITIONS.md, Runs)
+-- what an end says of the page of a word, or of that list
 abbrev pub TellsPage : Option (List ℕ) → Option (List ℕ) → Option (List ℕ) → Ended → Type 0
 TellsPage word before after (ended.Said s) = SaysPage word before after s
 TellsPage word before after ended.LoaderFailed = ⊥
 TellsPage word before after ended.OutOfMemory = ⊤
 TellsPage word before after ended.WriterFailed = ⊤
 
--- what a status says of the version: just its line was written, or nothing is said (docs/FORMATS.md, The program)
+-- what a status says of the version: on Pass just its line was written, such as `ringcheck 0.1.0` (docs/FORMATS.md, The program)
 abbrev pub SaysVersion : Option (List ℕ) → Option (List ℕ) → Status → Type 0
 SaysVersion before after status.Pass = Appends before after VERSION_LINE.now
 SaysVersion before after status.Findings = ⊥

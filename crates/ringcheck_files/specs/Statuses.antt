@@ -3,7 +3,7 @@ use Rattle.std.specs.Prelude.{ℕ}
 use Rattle.ringcheck_files.specs.declared.Status.{Status}
 use Rattle.ringcheck_files.specs.declared.Status.TheVariants as status
 
--- the exit status of a run (docs/FORMATS.md, The program)
+-- the exit code of each status, from 0 to 4 (docs/FORMATS.md, The program)
 abbrev pub code_of : Status → ℕ
 code_of status.Pass = 0
 code_of status.Findings = 1

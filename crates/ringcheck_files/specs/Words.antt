@@ -1,4 +1,4 @@
--- What is told of words that are no command.
+-- What is printed where a word is refused (docs/FORMATS.md, The program).
 use Rattle.std.specs.Prelude.{◌≡◌, ◌++◌, ◌∷◌, ◌⊎◌, [], ℕ, List, Option, codes}
 use Rattle.std.specs.Io.KnownBytes.{Appends}
 use Rattle.grid_units.specs.Ascii as ascii
@@ -7,10 +7,10 @@ use Rattle.grid_units.specs.declared.fault.Reason.{Reason}
 use Rattle.ringcheck_files.specs.declared.Status.{Status}
 use Rattle.ringcheck_files.specs.declared.Status.TheVariants as status
 
--- the line of a word that is refused (docs/FORMATS.md, The program)
+-- the line of a word that is refused: `usage reason=BadRole`
 abbrev pub usage_line : Reason → List ℕ
 usage_line why = codes "usage reason=" ++ (name_of why ++ ascii.line_feed ∷ [])
 
--- what is said where a word is refused: the writer got just its line, or it can't be written or memory ran out (docs/DEFINITIONS.md, Runs)
+-- what a status says where a word is refused: just its line was written, or the status is Device
 abbrev pub SaysUsage : Reason → Option (List ℕ) → Option (List ℕ) → Status → Type 0
 SaysUsage why before after s = ((s ≡ status.Usage) × Appends before after (usage_line why)) ⊎ (s ≡ status.Device)

@@ -1,4 +1,4 @@
-//! Why a run ended, and what it says last.
+//! Why a run ended, and what it prints last.
 
 ghost use Rattle.std.specs.Prelude.{◌≡◌, ◌≢◌, MatchResult};
 ghost use Rattle.std.specs.String.{string_bytes};
@@ -14,18 +14,18 @@ use std::io::Write;
 /// Why a run ended.
 #[derive(Clone, Copy, Debug, PartialEq, Eq)]
 pub enum Ended {
-    /// What was asked for was said, or why it can't be done.
+    /// What was asked for was printed, or why it cannot be done.
     Said(Status),
-    /// The loader can't read a file, which was said.
+    /// The loader cannot read a file, and that was printed.
     LoaderFailed,
-    /// Memory ran out, which was said.
+    /// Memory ran out, and that was printed.
     OutOfMemory,
-    /// The writer failed, and nothing is known of what it took.
+    /// The writer failed, and it is not known what was written.
     WriterFailed,
 }
 
 impl Ended {
-    /// The status that tells of this end.
+    /// The status of a run that ended so.
     pub fn status(self) -> Status
         ensures { result ≡ status_after self }
     {
@@ -36,7 +36,7 @@ impl Ended {
     }
 }
 
-/// Writes a text, and gives this end, unless the writer fails.
+/// Writes a text, and returns `ended`, or `WriterFailed` where the writer fails.
 pub fn say<W: Write>(out: &mut W, text: &[u8], ended: Ended) -> Ended
     ensures { result ≢ Ended.WriterFailed → (result ≡ ended) × Appends (W.contents out.old) (W.contents out.new) text.now }
 {
@@ -46,14 +46,14 @@ pub fn say<W: Write>(out: &mut W, text: &[u8], ended: Ended) -> Ended
     }
 }
 
-/// Says that memory ran out.
+/// Prints the line `memory`.
 pub fn say_out_of_memory<W: Write>(out: &mut W) -> Ended
     ensures { result ≢ Ended.WriterFailed → result ≡ Ended.OutOfMemory }
 {
     say(out, b"memory\n", Ended::OutOfMemory)
 }
 
-/// Writes a line, and gives this end, unless memory ran out for the line or the writer fails.
+/// Writes a line, and returns `ended`. Where memory ran out for the line it prints that instead.
 pub fn say_line<W: Write>(out: &mut W, line: Result<String, AllocError>, ended: Ended) -> Ended
     ensures ends { result ≢ Ended.WriterFailed → result ≢ Ended.OutOfMemory → result ≡ ended }
     ensures tells { result ≢ Ended.WriterFailed → result ≢ Ended.OutOfMemory
@@ -65,7 +65,7 @@ pub fn say_line<W: Write>(out: &mut W, line: Result<String, AllocError>, ended: 
     }
 }
 
-/// Says that a word is refused, and for which reason.
+/// Prints the line of a refused word, such as `usage reason=BadRole`.
 pub fn say_refused_word<W: Write>(alloc: Global, reason: Reason, out: &mut W) -> Ended
     ensures says { SaysUsage reason (W.contents out.old) (W.contents out.new) (status_after result) }
     ensures ends { result ≢ Ended.WriterFailed → result ≢ Ended.OutOfMemory → result ≡ Ended.Said Status.Usage }

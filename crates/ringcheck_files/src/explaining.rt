@@ -11,7 +11,7 @@ use grid_units::Reason;
 use std::alloc::Global;
 use std::io::Write;
 
-/// Prints the page of a word, and says BadRole where it has none.
+/// Prints the page of a word, or the refusal BadRole where it has none.
 fn explain_word<W: Write>(alloc: Global, word: &str, out: &mut W) -> Ended
     ensures tells { TellsPage (Some word.now) (W.contents out.old) (W.contents out.new) result }
     ensures cause { (before after : ℕ) → HasCause before after result }
@@ -22,7 +22,7 @@ fn explain_word<W: Write>(alloc: Global, word: &str, out: &mut W) -> Ended
     }
 }
 
-/// Prints the page of a word, or without a word the list of those that have one.
+/// Prints the page of a word, or, without a word, the list of the words that have one.
 pub fn explain<W: Write>(alloc: Global, word: Option<&str>, out: &mut W) -> Ended
     ensures tells { TellsPage (option_map (λ w. w.now) word.entry) (W.contents out.old) (W.contents out.new) result }
     ensures cause { (before after : ℕ) → HasCause before after result }

@@ -20,15 +20,15 @@ pub use single_files::{Task, print};
 /// How a run ended.
 #[derive(Clone, Copy, Debug, PartialEq, Eq)]
 pub enum Status {
-    /// Nothing was found, all that was found is waived, or a command that finds nothing is done.
+    /// Nothing was found, each finding is waived, or a command that looks for no findings is done.
     Pass,
-    /// Some ring or gap is lacking.
+    /// Some ring or gap is lacking, and is not waived.
     Findings,
     /// The manifest or a file is refused.
     Refused,
     /// The words are no command.
     Usage,
-    /// Something can't be read or written, or memory ran out.
+    /// Something cannot be read or written, or memory ran out.
     Device,
 }
 

@@ -5,7 +5,7 @@ use grid_units::{Fault, Reason};
 /// The most bytes of a file.
 pub const FILE_LIMIT: u64 = 268_435_456;
 
-/// The fault of a text that is above its limit.
+/// The fault of a text above its limit: TooLong at place 0 and byte 0.
 pub const ABOVE_LIMIT: Fault = Fault {
     place: 0,
     byte: 0,

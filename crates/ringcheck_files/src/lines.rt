@@ -1,4 +1,4 @@
-//! The lines that tell of a refused file that is the only one, and of a refused word.
+//! The lines of a refusal: of the file of `show` and `rewrite`, and of a word.
 
 ghost use Rattle.std.specs.Prelude.{◌≡◌, IfOk};
 ghost use Rattle.std.specs.String.{string_bytes};
@@ -8,7 +8,7 @@ ghost use Rattle.ringcheck_files.specs.Words.{usage_line};
 use grid_units::{Fault, Reason};
 use std::alloc::{AllocError, Global};
 
-/// The line of a file that is refused and is the only one.
+/// The line of a single refused file, such as `refused place=0 byte=0 reason=TooLong`.
 pub(crate) fn refused_alone(alloc: Global, fault: Fault) -> Result<String, AllocError>
     ensures { IfOk result (λ line. string_bytes line ≡ refusal fault) }
 {
@@ -17,7 +17,7 @@ pub(crate) fn refused_alone(alloc: Global, fault: Fault) -> Result<String, Alloc
     format!(in alloc; "refused place={place} byte={byte} reason={reason}\n")
 }
 
-/// The line of a word that is refused.
+/// The line of a refused word, such as `usage reason=BadRole`.
 pub(crate) fn usage(alloc: Global, reason: Reason) -> Result<String, AllocError>
     ensures { IfOk result (λ line. string_bytes line ≡ usage_line reason) }
 {

@@ -24,14 +24,14 @@ pub enum Held {
     TooLong,
 }
 
-/// Whether some byte may not stand in a manifest.
+/// Whether a name has a control byte: one below 0x20, or 0x7F.
 fn has_control(name: &[u8]) -> bool
     ensures { result ≡ list_any is_control name.now }
 {
     name.iter().any(|byte| *byte < 0x20 || *byte == 0x7F)
 }
 
-/// Whether a name may stand in a manifest.
+/// Whether a name may stand in a manifest: it is not empty and has no control byte.
 fn can_stand(name: &str) -> bool
     ensures { result ≡ folders.can_stand name.now }
 {
@@ -77,7 +77,7 @@ fn load_all<L: Loader>(
     Ok(all)
 }
 
-/// The file of a name, with what is known of its bytes.
+/// A file by its name, with what is known of its bytes.
 fn file_of<'a>(name: &'a str, held: &'a Held) -> Named<'a>
     ensures { pair_of result ≡ (name.entry.now, held_as held.entry.now) }
 {
@@ -89,7 +89,7 @@ fn file_of<'a>(name: &'a str, held: &'a Held) -> Named<'a>
     Named { name, content }
 }
 
-/// The files of these names.
+/// The files of these names, each with what is known of its bytes.
 fn files_of<'a>(
     alloc: Global,
     names: &[&'a str],
@@ -120,7 +120,7 @@ fn text_of(alloc: Global, why: bool, files: &[Named<'_>]) -> Result<Vec<u8>, All
     }
 }
 
-/// Prints the text of files that are at hand.
+/// Prints the manifest or the table of files that are at hand.
 fn print_held<W: Write>(
     alloc: Global,
     why: bool,

@@ -25,7 +25,7 @@ pub enum Task {
     Rewrite,
 }
 
-/// The kind that a word names.
+/// The kind that a word names: `layer` or `drill`.
 fn kind_named(word: &str) -> Option<Kind>
     ensures { result ≡ printing.kind_named word.now }
 {

@@ -1,4 +1,4 @@
-//! `ringcheck` over the files of the working directory.
+//! The program `ringcheck` over the files of the working directory.
 #![tactic(auto)]
 
 ghost use Rattle.std.specs.Prelude.{◌≡◌, ℕ, List, IfOk, drop, map};
@@ -64,7 +64,7 @@ fn without_name(arguments: &[String]) -> &[String]
     }
 }
 
-/// The texts of these arguments.
+/// The arguments as texts.
 fn texts_of(alloc: Global, arguments: &[String]) -> Result<Vec<&str>, AllocError>
     ensures { IfOk result (λ texts. map (λ text. text.now) texts.items ≡ map string_bytes arguments.now) }
 {
@@ -82,7 +82,7 @@ fn words_of(alloc: Global, arguments: &[String]) -> Result<Vec<&str>, AllocError
     texts_of(alloc, without_name(arguments))
 }
 
-/// Runs the words of the command line. InvalidData where one of them is no text.
+/// Runs the program on the words of the command line, or returns InvalidData where one of them is not UTF-8.
 fn run_words(rt: &HostRuntime) -> io::Result<Status> {
     let alloc = rt.alloc();
     let arguments: Vec<String> = env::args(rt)?.collect(alloc)?;
@@ -98,7 +98,7 @@ error: a word of the command line is not UTF-8
 For more information, try '--help'.
 ";
 
-/// Tells why there are no words: one of them is no text, or memory ran out.
+/// Prints why there are no words: one of them is not UTF-8, or memory ran out.
 fn without_words(rt: &HostRuntime, error: &io::Error) -> Status {
     let (line, status) = match error.kind() {
         io::ErrorKind::InvalidData => (NO_TEXT, Status::Usage),

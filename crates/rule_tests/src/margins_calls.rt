@@ -110,21 +110,21 @@ fn rect(x: i64, y: i64, half_x: i64, half_y: i64) -> Result<Pad, Fail> {
     Ok(pad((Shape::Rect, x, y, half_x, half_y)).ok_or("rect")?)
 }
 
-/// One whose middle lies 0.5 mm from there.
+/// A hole with its middle 0.5 mm from there.
 const BESIDE: HoleRow = (
     (300_000_000, 400_000_000),
     (300_000_000, 400_000_000),
     200_000_000,
 );
 
-/// One further off.
+/// A hole further off.
 const FURTHER: HoleRow = (
     (1_000_000_000, 1_000_000_000),
     (1_000_000_000, 1_000_000_000),
     200_000_000,
 );
 
-/// The ring that a hole of 0.4 mm at this point has in a pad.
+/// The ring that a hole of 0.4 mm with its middle at this point has in a pad.
 fn ring_at(row: PadRow, x: i64, y: i64) -> Option<i64> {
     let hole = slot((x, y), (x, y), 200_000_000)?;
     Some(depth_of_hole(&pad(row)?, &hole).saturating_sub(200_000_000))
@@ -209,14 +209,14 @@ fn rooms_of_pads(rt: HostRuntime) {
     }
 }
 
-/// How deep a hole lies in a disc of 1 mm whose middle is 5 mm right of the origin: no depth below 0.
+/// How deep a hole lies in a disc of 1 mm with its middle 5 mm right of the origin: no depth below 0.
 fn depth_in_disc(row: HoleRow) -> Option<Option<i64>> {
     let disc = pad((Shape::Disc, 5_000_000_000, 0, 500_000_000, 0))?;
     let depth = depth_of_hole(&disc, &slot(row.0, row.1, row.2)?);
     Some((depth >= 0).then_some(depth))
 }
 
-/// What lies outside of a pad is covered with no reach, and a slot is no deeper than either of its ends.
+/// What lies outside a pad is covered with no reach, and a slot is no deeper than either of its ends.
 #[test]
 fn holes_outside(rt: HostRuntime) {
     for &(row, depth) in &[
@@ -285,7 +285,7 @@ fn best_in(alloc: Global, rows: &[PadRow], row: HoleRow) -> Option<Option<(usize
     }
 }
 
-/// Of two pads in which a hole lies equally deep the first is the best. A hole is bare without a pad, and an oblique slot is.
+/// Of two pads in which a hole lies equally deep the first is the best. A hole without a pad is bare, and so is an oblique slot.
 #[test]
 fn best_pads_of_holes(rt: HostRuntime) {
     let rows: &[(&[PadRow], HoleRow, Option<(usize, u64)>); 3] = &[
@@ -399,7 +399,7 @@ fn nearest_pairs(rt: HostRuntime) {
     }
 }
 
-/// A pair far from the others is found among many.
+/// A pair whose holes stand far apart in a long list is found.
 #[test]
 fn nearest_of_many(rt: HostRuntime) -> Result<(), Fail> {
     let mut holes = Vec::new(rt.alloc());
@@ -418,7 +418,7 @@ fn nearest_of_many(rt: HostRuntime) -> Result<(), Fail> {
     Ok(())
 }
 
-/// What a board of one layer meets: of rings, of rings that are held, alone too, and of gaps.
+/// What a board of one layer meets: rings; rings of the holes that are not bare, with the others and on their own; and gaps.
 type BoardMeets = (Met, Met, Met, Met);
 
 /// What a board of one layer meets. None where the rings that are met are others when they are asked for alone.
@@ -529,7 +529,7 @@ fn rows_of_rings(rt: HostRuntime) -> Result<(), Fail> {
     Ok(())
 }
 
-/// Holes whose coordinates are ten times too small are all bare.
+/// Holes with coordinates that are ten times too small are all bare.
 #[test]
 fn row_of_bare_holes(rt: HostRuntime) -> Result<(), Fail> {
     let pads = [
@@ -557,7 +557,7 @@ fn best_at(bests: &[Option<Best>], hole: usize) -> Result<Best, Fail> {
     }
 }
 
-/// On a board of many pads each hole has its own pad, and the pad over all of them where that is the deeper one.
+/// On a board of many pads each hole has its own pad as its best, or the pad over all of them where that is deeper.
 #[test]
 fn best_of_many_pads(rt: HostRuntime) -> Result<(), Fail> {
     let mut pads = Vec::new(rt.alloc());
@@ -577,7 +577,7 @@ fn best_of_many_pads(rt: HostRuntime) -> Result<(), Fail> {
     Ok(())
 }
 
-/// Discs of 50 mm radius, nearly at the middle: 2,000 of them, the first one larger by so much.
+/// 2,000 discs of 50 mm radius, centred nearly at the origin; the first one is larger by `more`.
 fn counted_discs(alloc: Global, calls: &Rc<Cell<u64>>, more: i64) -> Result<Vec<Counted>, Fail> {
     let mut pads = Vec::new(alloc);
     for number in 0..2_000u16 {
@@ -600,7 +600,7 @@ fn add_hole(holes: &mut Vec<Drilled>, hole: Hole, span: Option<Span>) -> Result<
     Ok(())
 }
 
-/// A square of 2,000 holes, from 37 mm to 49 mm along each axis, or so far from there.
+/// A square of 2,000 holes, from 37 mm to 49 mm along each axis, moved by `off`.
 fn square_of_holes(alloc: Global, off: i64) -> Result<Vec<Drilled>, Fail> {
     let mut holes = Vec::new(alloc);
     for number in 0..2_000u16 {
@@ -612,7 +612,7 @@ fn square_of_holes(alloc: Global, off: i64) -> Result<Vec<Drilled>, Fail> {
     Ok(holes)
 }
 
-/// How many of some best pads are the first one.
+/// How many best pads are the first pad.
 fn count_of_first(bests: &[Option<Best>]) -> usize {
     let mut count: usize = 0;
     for best in bests {
@@ -624,7 +624,7 @@ fn count_of_first(bests: &[Option<Best>]) -> usize {
     count
 }
 
-/// Discs with all holes in their boxes, and none in themselves, are asked for whole zones of holes.
+/// Discs that have all holes in their boxes and none in themselves are skipped for whole zones of holes.
 #[test]
 fn holes_in_corners_are_passed_over(rt: HostRuntime) -> Result<(), Fail> {
     let calls = Rc::new(rt.alloc(), Cell::new(0))?;
@@ -636,7 +636,7 @@ fn holes_in_corners_are_passed_over(rt: HostRuntime) -> Result<(), Fail> {
     Ok(())
 }
 
-/// So are discs over all holes that are no deeper there than the first one.
+/// Discs over all holes that are no deeper there than the first one are skipped in the same way.
 #[test]
 fn pads_that_are_no_deeper_are_passed_over(rt: HostRuntime) -> Result<(), Fail> {
     let calls = Rc::new(rt.alloc(), Cell::new(0))?;
@@ -648,7 +648,7 @@ fn pads_that_are_no_deeper_are_passed_over(rt: HostRuntime) -> Result<(), Fail> 
     Ok(())
 }
 
-/// Of equal pads that lie over many holes the first is the best of each, and a deeper one behind them is better.
+/// Of equal pads that lie over many holes the first is the best of each, and a deeper one after them is better.
 #[test]
 fn first_of_equal_pads_over_many_holes(rt: HostRuntime) -> Result<(), Fail> {
     let mut pads = Vec::new(rt.alloc());

@@ -63,7 +63,7 @@ fn told(alloc: Global, files: &[File]) -> Option<Vec<u8>> {
     }
 }
 
-/// The text's bytes one by one, with an empty piece behind each.
+/// The text's bytes one by one, each followed by an empty piece.
 fn in_bytes<'a>(alloc: Global, text: &'a [u8]) -> Option<Vec<&'a [u8]>> {
     let mut pieces = Vec::new(alloc);
     for piece in text.chunks(1) {
@@ -100,7 +100,7 @@ fn told_in_bytes<'a>(alloc: Global, top: &'a [u8], pth: &'a [u8]) -> Option<Vec<
     }
 }
 
-/// What refuses the files, under the same rules.
+/// The fault for which the files are refused, under these rules.
 fn refused(alloc: Global, files: &[File]) -> Option<PackageFault> {
     let rules = Rules::new(125_000_000, 250_000_000).ok()?;
     check_bytes(alloc, files, rules).err()
@@ -240,7 +240,7 @@ fn a_span_beyond_the_layers_is_refused(rt: HostRuntime) {
     );
 }
 
-/// The lines on files of these names and sums.
+/// The lines of a report on files with these names and sums.
 fn lines(alloc: Global, names: &[&str], files: &[FileSum]) -> Option<Vec<u8>> {
     let mut text = Vec::new(alloc);
     print_files(alloc, names, files, &mut text).ok()?;

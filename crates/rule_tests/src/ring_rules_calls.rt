@@ -130,8 +130,8 @@ const LARGE: PadRow = (Shape::Rect, 0, 0, 50 * MM, 50 * MM);
 
 const RING: Finding = Finding::Ring { layer: 0, hole: 0 };
 
-/// Pads of a layer, holes, and the findings: up to equality, by discs, obrounds and rectangles; two pads together hold nothing; a
-/// wide pad holds what is far from its centre; a slot along an axis needs one pad at both ends.
+/// Pads of a layer, holes, and the findings. Discs, obrounds and rectangles hold up to equality. Two pads together
+/// hold nothing. A wide pad holds a hole far from its centre. A slot along an axis needs one pad at both ends.
 const RINGS: [(&[PadRow], &[HoleRow], &[Finding]); 16] = [
     (&[(Shape::Disc, 0, 0, 325_000_000, 0)], &[HOLE], &[]),
     (&[(Shape::Disc, 1_000, 0, 325_000_000, 0)], &[HOLE], &[RING]),
@@ -232,7 +232,7 @@ fn rings_on_a_layer(rt: HostRuntime) {
     }
 }
 
-/// Findings stand by layer and hole, oblique slots among rings.
+/// Findings come by layer and then by hole, oblique slots among rings.
 #[test]
 fn rings_on_two_layers(rt: HostRuntime) {
     let holes = &[HOLE, OBLIQUE, ((MM, 0), (MM, 0), 200_000_000)];
@@ -295,8 +295,8 @@ const LAST_TWO: Finding = Finding::Gap {
     second: 2,
 };
 
-/// Holes, and the findings: by first and second; a hole far off in y hides none; holes are clear up to equality; a slot is measured
-/// along its whole length.
+/// Holes, and the findings: by the first and then by the second hole; a hole far off in y hides none; holes are clear
+/// up to equality; a slot is measured along its whole length.
 const GAPS: [(&[HoleRow], &[Finding]); 7] = [
     (
         &[
@@ -389,7 +389,7 @@ fn add_hole(holes: &mut Vec<Drilled>, hole: Hole, span: Option<Span>) -> Result<
     Ok(())
 }
 
-/// The centres of the discs, in falling order of x and then of y.
+/// The centres of the discs, in descending order of x and then of y.
 fn centres(alloc: Global) -> Result<Vec<Point>, Fail> {
     let mut centres = Vec::new(alloc);
     for column in (0..100u8).rev() {
@@ -425,7 +425,7 @@ fn a_large_pad_holds_what_lies_in_it(rt: HostRuntime) -> Result<(), Fail> {
     Ok(())
 }
 
-/// A thousand points in a crowd, and a thousand others over 18 m, in turn.
+/// A thousand points in a crowd and a thousand others spread over 18 m, by turns.
 fn crowd(alloc: Global) -> Result<Vec<Point>, Fail> {
     let mut points = Vec::new(alloc);
     for number in 0..1_000u16 {
@@ -482,7 +482,7 @@ fn a_hole_drilled_twice_is_two_holes(rt: HostRuntime) -> Result<(), Fail> {
     Ok(())
 }
 
-/// The findings of rings of a hole of 0.4 mm through these layers of two, of which the first alone holds it.
+/// The findings of rings of a hole of 0.4 mm through these of two layers; only the first of the two holds it.
 fn rings_through(alloc: Global, span: Option<Span>) -> Result<Vec<Finding>, Fail> {
     let top = [disc(0, 0, 325_000_000)?];
     let bottom = [disc(1_000, 0, 325_000_000)?];
@@ -550,7 +550,7 @@ fn a_hole_needs_its_ring_on_the_layers_of_its_span(rt: HostRuntime) -> Result<()
     Ok(())
 }
 
-/// The places of the holes that an index finds within a zone, in their order.
+/// The places of the holes that an index finds in a zone, in ascending order.
 fn found(
     alloc: Global,
     holes: &[Drilled],
@@ -564,7 +564,8 @@ fn found(
     Ok(places)
 }
 
-/// A zone has the holes that go in on its border, and a slot by its first end; the sizes that the index is made for change nothing.
+/// A zone has the holes with their entry point on its border, for a slot its first end; the sizes that the index is
+/// made for change nothing.
 #[test]
 fn holes_of_a_zone(rt: HostRuntime) -> Result<(), Fail> {
     let holes = [

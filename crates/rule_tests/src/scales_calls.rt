@@ -9,19 +9,19 @@ use scales::*;
 use std::alloc::Global;
 use std::test::Fail;
 
-/// A millimetre.
+/// A millimetre, in pm.
 const MM: i64 = 1_000_000_000;
 
 fn point(x: i64, y: i64) -> Result<Point, Fail> {
     Ok(Point::new(x, y).ok_or("point")?)
 }
 
-/// The point at a place in millimetres.
+/// The point at a place, in millimetres.
 fn millimetres(x: i64, y: i64) -> Result<Point, Fail> {
     point(x.saturating_mul(MM), y.saturating_mul(MM))
 }
 
-/// A disc of 0.6 mm at a place in millimetres.
+/// A disc of 0.6 mm diameter at a place in millimetres.
 fn disc(x: i64, y: i64) -> Result<Pad, Fail> {
     Ok(Pad::Disc(Disc::new(millimetres(x, y)?, 300_000_000).ok_or("disc")?))
 }
@@ -43,7 +43,7 @@ fn hit(x: i64, y: i64) -> Result<Drilled, Fail> {
     slot((x, y), (x, y))
 }
 
-/// The line of a drill file with the index 1.
+/// The line of a drill file with the index 1, if it has one.
 fn line(alloc: Global, pads: &[Pad], holes: &[Drilled]) -> Result<Option<ScaleLine>, Fail> {
     let bests = best_pads(alloc, pads, holes)?;
     Ok(scale_line(alloc, 1, pads, holes, &bests)?)
@@ -67,7 +67,7 @@ fn a_tenth_of_the_places(rt: HostRuntime) -> Result<(), Fail> {
     Ok(())
 }
 
-/// One hole has its pad by ten and by an inch: the first is told.
+/// One hole has its pad by ten and by an inch: the line names the first of these.
 #[test]
 fn the_first_of_equals(rt: HostRuntime) -> Result<(), Fail> {
     let pads = [disc(254, 0)?, disc(100, 0)?];
@@ -94,7 +94,7 @@ fn halves(rt: HostRuntime) -> Result<(), Fail> {
     Ok(())
 }
 
-/// Two slots have their pads. Of the round holes each is bare.
+/// Two slots have their pads, and all round holes are bare.
 #[test]
 fn slots_do_not_count(rt: HostRuntime) -> Result<(), Fail> {
     let pads = [disc(0, 0)?, disc(10, 0)?];
@@ -104,7 +104,7 @@ fn slots_do_not_count(rt: HostRuntime) -> Result<(), Fail> {
     Ok(())
 }
 
-/// The second hole stands in its pad, and the others have one by ten. The files have the first, the second, both, the last two, and none.
+/// The second hole lies in its pad, and the others would by ten. The files have the first hole, the second, both, the last two, and none.
 #[test]
 fn files_of_shared_holes(rt: HostRuntime) -> Result<(), Fail> {
     let pads = [disc(10, 0)?, disc(5, 5)?];
@@ -171,7 +171,7 @@ fn rounded_down(rt: HostRuntime) -> Result<(), Fail> {
     Ok(())
 }
 
-/// Ten metres is a place, and 10 pm more is none.
+/// Ten metres is a place; 10 pm more is not.
 #[test]
 fn beyond_ten_metres(rt: HostRuntime) -> Result<(), Fail> {
     let metre = 1_000 * MM;

@@ -68,7 +68,7 @@ one_point h round =
     λ i. record { x = x i; y = y i }
 
 module _ (pads : List Pad) (h : GridHole) (round : is_round h ≡ true) where
-  -- what covers a round hole covers its centre with no reach
+  -- what covers a round hole covers its centre with a reach of 0
   covered : (p : Pad) (reach : ℕ) → covers_ends pad_covers p h.from h.to reach ≡ true → pad_covers p h.from 0 ≡ true
   covered p reach e = pad_covers_less p h.from 0 reach (omega arith) (both_true (pad_covers p h.from reach) (pad_covers p h.to reach) e).0
 
@@ -90,7 +90,7 @@ module _ (pads : List Pad) (h : GridHole) (round : is_round h ≡ true) where
   uncovered (inr none) = not_false (list_any (λ (pad : Pad). pad_covers pad h.from 0) pads) (list_any_none (λ (pad : Pad). pad_covers pad h.from 0) pads (λ k d inside.
       refused (pad_covers (get_or pads k d) h.from 0) (λ e. either_way (covers_ends pad_covers (get_or pads k d) h.from h.to 0) (ends (get_or pads k d) e) (none d k 0 inside))))
 
-  -- the best pad of a round hole tells whether it is bare
+  -- the best pad of a round hole decides whether it is bare
   told : (b : Option Best) → IsBestPad pad_covers pads h b → is_uncovered pads h.from ≡ has_none b
   told None k = uncovered k
   told (Some best) k =
@@ -100,7 +100,7 @@ module _ (pads : List Pad) (h : GridHole) (round : is_round h ≡ true) where
 pub bare_is_uncovered : BareIsUncovered
 bare_is_uncovered pads h round = (λ bare. uncovered pads h round bare, λ none. inr (shallow pads h round none))
 
--- so does that of the hole at a place
+-- so does the best pad of the hole at a place
 by_best : (pads : List Pad) (h : GridHole) (b : Option Best) → IsBestPad pad_covers pads h b → (is_round h && is_uncovered pads h.from) ≡ (is_round h && has_none b)
 by_best pads h b is = by (is_round h) refl
   where

@@ -81,11 +81,11 @@ module _ (count : Factor → ℕ) where
       };
     }
 
--- the lesser of the fewest so far and the next, whatever is counted and whatever was tried
+-- of the factor so far and the next the one with fewer, whatever is counted and whatever was tried
 abbrev pub IsLesser : Fewest → Fewest → Fewest → Type 0
 IsLesser old next result = (count : Factor → ℕ) (tried : List Factor) → IsFewest count tried old → next.bare ≡ count next.factor → IsFewest count (tried ++ next.factor ∷ []) result
 
--- what one factor counts
+-- how many holes one factor leaves bare
 abbrev pub IsCounted : (Factor → ℕ) → Factor → Fewest → Type 0
 IsCounted count factor fewest = (fewest.factor ≡ factor) × (fewest.bare ≡ count factor)
 

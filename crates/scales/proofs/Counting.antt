@@ -35,13 +35,13 @@ round_at a e = same (int_eq a.from.x a.to.x) (int_eq a.from.y a.to.y) ((Decides-
 abbrev one_if : Bool → ℕ
 one_if t = cond t 1 0
 
--- a round hole that has no place is bare, and a slot is none
+-- a round hole without a place counts as bare, and a slot does not
 not_moved : (round place uncovered : Bool) → (round && place) ≡ false → (round && (not place || uncovered)) ≡ round
 not_moved true true u e = absurd cc
 not_moved true false u e = refl
 not_moved false p u e = refl
 
--- any other is bare where its new place is
+-- any other hole is bare where its new place is uncovered
 as_moved : (round place uncovered : Bool) → round ≡ true → place ≡ true → (round && (not place || uncovered)) ≡ uncovered
 as_moved true true u e f = refl
 as_moved true false u e f = absurd cc
@@ -60,7 +60,7 @@ module _ (factor : Factor) (holes : List Drilled) (i : ℕ) (d : Drilled) (insid
       let at : one_if (is_round d.hole) ≡ one_if (is_round (get_or holes i d).hole) = ap (λ (e : Drilled). one_if (is_round e.hole)) is in
       omega (arith, more, at)
 
-  -- a hole is passed over
+  -- a hole without a place is skipped
   pub passed_over : (moved : List Drilled) → IsMoved factor d None → AreMoved factor (take i holes) moved → AreMoved factor (take (i + 1) holes) moved
   passed_over moved none was = record {
     bare = λ pads.
@@ -70,7 +70,7 @@ module _ (factor : Factor) (holes : List Drilled) (i : ℕ) (d : Drilled) (insid
     few = omega (arith, round_next, was.few);
   }
 
-  -- a hole is listed
+  -- a hole with a place is added
   pub taken_in : (old new : List Drilled) (x : Drilled) → IsMoved factor d (Some x) → new ≡ old ++ x ∷ [] → AreMoved factor (take i holes) old → AreMoved factor (take (i + 1) holes) new
   taken_in old new x at more was =
       let size : length new ≡ length old + 1 = ap length more ∙ length-append old (x ∷ []) in
@@ -92,7 +92,7 @@ none_yet factor holes = record { bare = λ pads. refl; few = omega arith }
 pub moved_all : (factor : Factor) (holes : List Drilled) (i : ℕ) (moved : List Drilled) → length holes ≤ i → AreMoved factor (take i holes) moved → AreMoved factor holes moved
 moved_all factor holes i moved past is = subst (λ (hs : List Drilled). AreMoved factor hs moved) (take_all i holes past) is
 
--- bare are those that are so at their new places, and the round ones that have none
+-- the bare holes are those that are bare at their new places, and the round ones without a place
 pub all_bare : (factor : Factor) (pads : List Pad) (holes moved : List Drilled) (round few bare : ℕ) → AreMoved factor holes moved → round ≡ round_count holes → few ≡ length moved → bare ≡ bare_count pads moved
     → round - few + bare ≡ bare_count_by pads holes factor
 all_bare factor pads holes moved round few bare is all size among = omega (arith, is.bare pads, is.few, all, size, among)

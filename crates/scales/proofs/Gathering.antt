@@ -45,7 +45,7 @@ module _ (factor : Factor) (holes : List Drilled) (stretches : List Stretch) (i 
   ended : get_or after (i + 1) 0 ≡ length new.holes.items
   ended = ap (λ (n : ℕ). get_or after n 0) (sym count) ∙ get_or-append_seam before (length new.holes.items) [] 0
 
-  -- the one that is added
+  -- the stretch that is added
   added : IsGatheredAt factor (holes_of holes s) new.holes.items (get_or after i 0) (get_or after (i + 1) 0)
   added =
       let from : get_or after i 0 ≡ length old.holes.items = kept i (omega arith) ∙ (ap (λ (n : ℕ). get_or before n 0) (sym few) ∙ was.last) in
@@ -60,7 +60,7 @@ module _ (factor : Factor) (holes : List Drilled) (stretches : List Stretch) (i 
             (subst (AreMoved factor (holes_of holes s)) (sym part) more.are));
       }
 
-  -- those before it
+  -- the stretches before it
   earlier : (k : ℕ) (d : Stretch) → k < i → IsGatheredAt factor (holes_of holes (get_or stretches k d)) new.holes.items (get_or after k 0) (get_or after (k + 1) 0)
   earlier k d less =
       let there = was.each k d (omega (arith, less, few)) in
@@ -103,7 +103,7 @@ module _ (factor : Factor) (holes : List Drilled) (stretches : List Stretch) (i 
 pub gathered_all : (factor : Factor) (holes : List Drilled) (stretches : List Stretch) (i : ℕ) (all : Gathered) → length stretches ≤ i → IsGathered factor holes (take i stretches) all → IsGathered factor holes stretches all
 gathered_all factor holes stretches i all past is = subst (λ (ss : List Stretch). IsGathered factor holes ss all) (take_all i stretches past) is
 
--- those of one stretch, where its bounds and the list have other names
+-- the holes of one stretch, where its bounds and the list have other names
 pub moved_part : (factor : Factor) (own all same : List Drilled) → same ≡ all → (a b from to : ℕ) → a ≡ from → b ≡ to → IsGatheredAt factor own all from to → AreMoved factor own (slice_range same a b)
 moved_part factor own all same e a b from to f t at =
     subst (λ (hs : List Drilled). AreMoved factor own (slice_range hs a b)) (sym e)

@@ -22,12 +22,12 @@ module _ {X : Type 0} (xs : List X) where
   slice_whole = take_all (length xs - 0) xs (omega arith)
 
   module _ (ys : List X) where
-    -- a part of what stands in front
+    -- a part of the first list
     pub slice_front : (a b : ℕ) → a ≤ b → b ≤ length xs → slice_range (xs ++ ys) a b ≡ slice_range xs a b
     slice_front a b ordered inside =
         ap (take (b - a)) (drop-append-le a xs ys (omega (arith, ordered, inside))) ∙ take-append-le (b - a) (drop a xs) ys (omega (arith, length-drop a xs, ordered, inside))
 
-    -- all that stands behind
+    -- all of the second list
     pub slice_back : slice_range (xs ++ ys) (length xs) (length (xs ++ ys)) ≡ ys
     slice_back =
         ap (take (length (xs ++ ys) - length xs)) (drop-append_seam xs ys) ∙ take_all (length (xs ++ ys) - length xs) ys (let size = length-append xs ys in omega (arith, size))

@@ -1,4 +1,4 @@
--- Whether the coordinates of a drill file's holes are off by a factor. Lengths are whole picometres.
+-- Whether the coordinates of a drill file's holes are off by a factor, in whole picometres (docs/FORMATS.md, Measure).
 use Rattle.std.specs.Prelude.{◌≡◌, ◌↔◌, ℕ, ℤ, pos, ◌*◌, ◌<◌, ◌≤◌, ◌*ℤ◌, ◌≤ℤ◌, Bool, true, not, ◌&&◌, ◌||◌, nat_le, unsigned_abs, Option, Some, None, List, [], ◌∷◌, length, get_or, count_by}
 use Rattle.std.specs.Int.{int_div_euclid}
 use Rattle.std.specs.List.{All, list_any, slice_range}
@@ -13,69 +13,69 @@ use Rattle.margin_text.specs.declared.Factor.TheVariants as kind
 use Rattle.margin_text.specs.declared.ScaleLine.{ScaleLine}
 use Rattle.scales.specs.declared.line.FileStretch.{FileStretch}
 
--- a factor as a fraction: the number above (docs/DEFINITIONS.md, Scales)
+-- the numerator of a factor: 254 of 25.4, which is 254/10
 abbrev pub multiplier : Factor → ℕ
 multiplier kind.Ten = 10
 multiplier kind.Tenth = 1
 multiplier kind.Inch = 254
 multiplier kind.PerInch = 10
 
--- and the number below (docs/DEFINITIONS.md, Scales)
+-- the denominator of a factor: 10 of 25.4, which is 254/10
 abbrev pub divisor : Factor → ℕ
 divisor kind.Ten = 1
 divisor kind.Tenth = 10
 divisor kind.Inch = 10
 divisor kind.PerInch = 254
 
--- a coordinate times a factor, rounded down (docs/DEFINITIONS.md, Scales)
+-- a coordinate times a factor, rounded down: 25 pm by 1/10 is 2 pm, -25 pm is -3 pm
 abbrev pub scaled : Factor → ℤ → ℤ
 scaled factor z = int_div_euclid (pos (multiplier factor) *ℤ z) (pos (divisor factor))
 
--- rounded down: a whole number is no more than a coordinate times a factor just where it is no more than that (docs/DEFINITIONS.md, Scales)
+-- rounded down: a whole number is at most a coordinate times a factor just where it is at most the scaled coordinate
 abbrev pub IsRoundedDown : Type 0
 IsRoundedDown = (factor : Factor) (z whole : ℤ) → ((pos (divisor factor) *ℤ whole) ≤ℤ (pos (multiplier factor) *ℤ z)) ↔ (whole ≤ℤ scaled factor z)
 
--- a point with its coordinates times a factor (docs/DEFINITIONS.md, Scales)
+-- a point with both coordinates times a factor, rounded down
 abbrev pub scaled_point : Factor → GridPoint → GridPoint
 scaled_point factor p = record { x = scaled factor p.x; y = scaled factor p.y }
 
--- no coordinate is beyond ten metres (docs/DEFINITIONS.md, Scales)
+-- no coordinate is beyond ten metres
 abbrev pub is_place : GridPoint → Bool
 is_place p = nat_le (unsigned_abs p.x) max_coordinate && nat_le (unsigned_abs p.y) max_coordinate
 
--- no pad covers a point, with whatever reach (docs/DEFINITIONS.md, Scales)
+-- no pad covers a point with a reach of 0, and so with none
 abbrev pub is_uncovered : List Pad → GridPoint → Bool
 is_uncovered pads p = not (list_any (λ pad. pad_covers pad p 0) pads)
 
--- a round hole is bare just where no pad covers its centre (docs/DEFINITIONS.md, Scales)
+-- a round hole is bare just where no pad covers its centre
 abbrev pub BareIsUncovered : Type 0
 BareIsUncovered = (pads : List Pad) (hole : GridHole) → is_round hole ≡ true → IsBare pad_covers pads hole ↔ (is_uncovered pads hole.from ≡ true)
 
--- a hole is round and bare (docs/DEFINITIONS.md, Scales)
+-- a hole is round and bare
 abbrev pub is_bare : List Pad → Drilled → Bool
 is_bare pads d = is_round d.hole && is_uncovered pads d.hole.from
 
--- a hole is round and would be bare with its coordinates times a factor, as it is where its place would be beyond ten metres (docs/DEFINITIONS.md, Scales)
+-- a hole is round and would be bare with its coordinates times a factor; it counts as bare where its place would be beyond ten metres
 abbrev pub is_bare_by : List Pad → Factor → Drilled → Bool
 is_bare_by pads factor d = is_round d.hole && (not (is_place (scaled_point factor d.hole.from)) || is_uncovered pads (scaled_point factor d.hole.from))
 
--- how many of some holes are round (docs/DEFINITIONS.md, Scales)
+-- how many of some holes are round
 abbrev pub round_count : List Drilled → ℕ
 round_count holes = count_by (λ d. is_round d.hole) holes
 
--- how many of them are round and bare (docs/DEFINITIONS.md, Scales)
+-- how many of some holes are round and bare
 abbrev pub bare_count : List Pad → List Drilled → ℕ
 bare_count pads holes = count_by (is_bare pads) holes
 
--- how many of them are round and would be bare with their coordinates times a factor (docs/DEFINITIONS.md, Scales)
+-- how many of some holes are round and would be bare with their coordinates times a factor
 abbrev pub bare_count_by : List Pad → List Drilled → Factor → ℕ
 bare_count_by pads holes factor = count_by (is_bare_by pads factor) holes
 
--- the factors, in the order in which they are tried (docs/DEFINITIONS.md, Scales)
+-- the factors in the order in which they are tried: 10, 1/10, 25.4 and 1/25.4
 abbrev pub factors : List Factor
 factors = kind.Ten ∷ kind.Tenth ∷ kind.Inch ∷ kind.PerInch ∷ []
 
--- the first of some factors with the fewest: fewer than each before it, and no more than each of them (docs/DEFINITIONS.md, Scales)
+-- the first of some factors with the fewest: fewer than each factor before it, and no more than each of them
 pub record IsFirstFewest (count : Factor → ℕ) (tried : List Factor) (factor : Factor) : Type 0 where
   pub place : ℕ
   pub inside : place < length tried
@@ -83,8 +83,8 @@ pub record IsFirstFewest (count : Factor → ℕ) (tried : List Factor) (factor 
   pub before : (d : Factor) (k : ℕ) → k < place → count factor < count (get_or tried k d)
   pub fewest : (d : Factor) (k : ℕ) → k < length tried → count factor ≤ count (get_or tried k d)
 
--- What is told of the holes of a drill file, by the pads of the first layer: of the round holes more than half are bare, and by the
--- first factor with the fewest less than half of these would be (docs/DEFINITIONS.md, Scales).
+-- The line of a drill file's holes among some pads. More than half of the round holes are bare; by the first of the factors that
+-- leave the fewest bare, less than half of these would be.
 pub record IsScale (pads : List Pad) (holes : List Drilled) (line : ScaleLine) : Type 0 where
   pub bare : line.bare ≡ bare_count pads holes
   pub most : round_count holes < 2 * line.bare
@@ -92,20 +92,20 @@ pub record IsScale (pads : List Pad) (holes : List Drilled) (line : ScaleLine) :
   pub then : line.then ≡ bare_count_by pads holes line.factor
   pub few : 2 * line.then < line.bare
 
--- the line of a drill file, or none where nothing is told of its holes (docs/DEFINITIONS.md, Scales)
+-- the line of a drill file, or none where its holes are not so; in the text: `scale drill=3 bare=40 factor=25.4 then=0`
 abbrev pub IsScaleLine : List Pad → List Drilled → ℕ → Option ScaleLine → Type 0
 IsScaleLine pads holes drill None = (line : ScaleLine) → IsScale pads holes line → ⊥
 IsScaleLine pads holes drill (Some line) = IsScale pads holes line × (line.drill ≡ drill)
 
--- the holes of a drill file, of a list of all holes (docs/DEFINITIONS.md, Scales)
+-- the holes of a drill file, as a stretch of the list of all holes
 abbrev pub holes_in : List Drilled → FileStretch → List Drilled
 holes_in holes file = slice_range holes file.start file.end
 
--- the holes of each of these files stand in the list (docs/DEFINITIONS.md, Scales)
+-- the holes of each of these files are a stretch of the list
 abbrev pub AreFileStretches : List Drilled → List FileStretch → Type 0
 AreFileStretches holes files = All (λ file. (file.start ≤ file.end) × (file.end ≤ length holes)) files
 
--- the line of each of some drill files, or none where nothing is told of its holes, in their order (docs/DEFINITIONS.md, Scales)
+-- the line of each of some drill files, where it has one, in their order
 pub record AreScaleLines (pads : List Pad) (holes : List Drilled) (files : List FileStretch) (lines : List (Option ScaleLine)) : Type 0 where
   pub size : length lines ≡ length files
   pub each : (k : ℕ) (file : FileStretch) (line : Option ScaleLine) → k < length files → IsScaleLine pads (holes_in holes (get_or files k file)) (get_or files k file).drill (get_or lines k line)

@@ -1,4 +1,4 @@
-//! How many round holes are bare, where they are and with their coordinates times a factor.
+//! How many round holes are bare, where they are, and with their coordinates times a factor.
 
 ghost use Rattle.std.specs.Prelude.{◌≡◌, ◌&&◌, ◌≤◌, length, List, IfOk};
 ghost use Rattle.grid_units.specs.Holes.{is_round};
@@ -48,14 +48,14 @@ pub fn bare_among(bests: &[Option<Best>], holes: &[Drilled]) -> usize
     bare
 }
 
-/// Whether a hole is round and bare, by what is told of it.
+/// Whether a hole is round and, as is given, bare.
 fn is_told(drilled: &Drilled, is_bare: bool) -> bool
     ensures { result ≡ (is_round drilled.now.hole && is_bare) }
 {
     drilled.hole.is_round() && is_bare
 }
 
-/// How many of some holes are round and bare, by whether each of them is bare.
+/// How many of some holes are round and bare, given of each whether it is bare.
 pub(crate) fn bare_in(bare: &[bool], holes: &[Drilled]) -> usize
     requires { length bare.now ≡ length holes.now }
     ensures exact { (pads : List ThePad) → AreBare pad_covers pads holes.now bare.now → result ≡ bare_count pads holes.now }
@@ -70,7 +70,7 @@ pub(crate) fn bare_in(bare: &[bool], holes: &[Drilled]) -> usize
     count
 }
 
-/// The hole round another centre.
+/// The hole as a round one at another centre.
 fn at_centre(drilled: &Drilled, centre: Point) -> Drilled
     ensures from { result.hole.from ≡ centre }
     ensures to { result.hole.to ≡ centre }
@@ -82,7 +82,7 @@ fn at_centre(drilled: &Drilled, centre: Point) -> Drilled
     }
 }
 
-/// A round hole with its coordinates times a factor; none where it is a slot, or would be beyond ten metres.
+/// A round hole with its coordinates times a factor; none for a slot, or where its place would be beyond ten metres.
 fn moved(drilled: &Drilled, factor: Factor) -> Option<Drilled>
     ensures { IsMoved factor drilled.now result }
 {
@@ -95,7 +95,7 @@ fn moved(drilled: &Drilled, factor: Factor) -> Option<Drilled>
     }
 }
 
-/// Those of the round holes that have a place with their coordinates times a factor, at these.
+/// The round holes that have a place with their coordinates times a factor, at these places.
 pub(crate) fn all_moved(
     alloc: Global,
     holes: &[Drilled],

@@ -1,4 +1,4 @@
-//! How many holes of some drill files would be bare with their coordinates times a factor, by one look at all of them together.
+//! How many holes of some drill files would be bare with their coordinates times a factor. All files are looked at together.
 
 ghost use Rattle.std.specs.Prelude.{◌≡◌, ◌++◌, ◌∷◌, [], ◌≤◌, ℕ, List, length, IfOk, OnOk};
 ghost use Rattle.std.specs.List.{slice_range};
@@ -16,17 +16,17 @@ use pad_shapes::Pad;
 use ring_rules::Drilled;
 use std::alloc::{AllocError, Global};
 
-/// Some of the holes of a list, which stand one after the other.
+/// Some consecutive holes of a list.
 #[derive(Clone, Copy)]
 pub(crate) struct Stretch {
-    /// The place of the first hole.
+    /// The place of the first hole, from 0.
     pub(crate) start: usize,
-    /// The place behind the last hole.
+    /// The place after the last hole.
     pub(crate) end: usize,
 }
 
-/// The round holes of some stretches with their coordinates times a factor, and where those of each stretch begin among them, with the end
-/// of the last at the end.
+/// The round holes of some stretches with their coordinates times a factor; and where those of each stretch begin,
+/// with the end of the last.
 #[derive(Drop)]
 struct Gathered {
     holes: Vec<Drilled>,
@@ -34,7 +34,7 @@ struct Gathered {
 }
 
 impl Gathered {
-    /// None so far.
+    /// No holes so far.
     fn new(alloc: Global) -> Result<Gathered, AllocError>
         ensures { IfOk result (λ gathered. (gathered.holes.items ≡ []) × (gathered.bounds.items ≡ 0 ∷ [])) }
     {
@@ -44,7 +44,7 @@ impl Gathered {
         })
     }
 
-    /// Adds those of one more stretch.
+    /// Adds the round holes of one more stretch.
     fn add(&mut self, alloc: Global, holes: &[Drilled], factor: Factor) -> Result<(), AllocError>
         ensures { OnOk result (IsMore factor holes.now self.old self.new) }
     {
@@ -55,7 +55,7 @@ impl Gathered {
     }
 }
 
-/// The round holes of all stretches.
+/// The round holes of all stretches with their coordinates times a factor.
 fn gather(
     alloc: Global,
     holes: &[Drilled],
@@ -72,7 +72,7 @@ fn gather(
     Ok(all)
 }
 
-/// Which holes are bare. Where there are none, no pad is looked at.
+/// Whether each hole is bare. Where there are no holes, no pad is looked at.
 fn bare_of(alloc: Global, pads: &[Pad], holes: &[Drilled]) -> Result<Vec<bool>, AllocError>
     ensures { IfOk result (λ bare. AreBare pad_covers pads.now holes.now bare.items) }
 {
@@ -82,8 +82,8 @@ fn bare_of(alloc: Global, pads: &[Pad], holes: &[Drilled]) -> Result<Vec<bool>, 
     bare_holes(alloc, pads, holes)
 }
 
-/// How many of some holes are round and would be bare, by those of them that have a place and by whether each of these is bare there. A
-/// place beyond ten metres is bare.
+/// How many of some holes are round and would be bare. Those with a place are at their new places, with whether each
+/// is bare there; a place beyond ten metres counts as bare.
 fn count_of(holes: &[Drilled], moved: &[Drilled], bare: &[bool]) -> usize
     requires few { length moved.now ≤ round_count holes.now }
     requires bare { length bare.now ≡ length moved.now }
@@ -92,7 +92,7 @@ fn count_of(holes: &[Drilled], moved: &[Drilled], bare: &[bool]) -> usize
     round_among(holes) - moved.len() + bare_in(bare, moved)
 }
 
-/// How many holes of each stretch would be bare, by whether each of the round ones is bare at its new place.
+/// How many holes of each stretch would be bare, given of each round one whether it is bare at its new place.
 fn counts_in(
     alloc: Global,
     holes: &[Drilled],
@@ -115,8 +115,8 @@ fn counts_in(
     Ok(counts)
 }
 
-/// How many holes of each stretch are round and would be bare among the pads with their coordinates times a factor, rounded down. It takes
-/// one look for the bare ones among the round holes of all stretches.
+/// How many holes of each stretch are round and would be bare among the pads with their coordinates times a factor,
+/// rounded down. The round holes of all stretches are looked at once, together.
 pub(crate) fn counts_by(
     alloc: Global,
     pads: &[Pad],
@@ -132,8 +132,8 @@ pub(crate) fn counts_by(
     counts_in(alloc, holes, stretches, &all, &bare)
 }
 
-/// How many of some holes are round and would be bare among the pads with their coordinates times a factor, rounded down. A place beyond
-/// ten metres is bare.
+/// How many of some holes are round and would be bare among the pads with their coordinates times a factor, rounded
+/// down. A place beyond ten metres counts as bare.
 ///
 /// # Errors
 ///

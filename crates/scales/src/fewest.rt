@@ -21,7 +21,7 @@ pub(crate) struct Fewest {
     pub(crate) bare: usize,
 }
 
-/// How many holes of each of some stretches would be bare, factor by factor.
+/// How many holes of each stretch would be bare, factor by factor.
 #[derive(Drop)]
 pub(crate) struct Counts {
     ten: Vec<usize>,
@@ -30,7 +30,7 @@ pub(crate) struct Counts {
     per_inch: Vec<usize>,
 }
 
-/// How many holes of each stretch would be bare by each factor.
+/// How many holes of each stretch are round and would be bare by each factor.
 pub(crate) fn counts_of(
     alloc: Global,
     pads: &[Pad],
@@ -59,7 +59,7 @@ fn lesser(fewest: Fewest, next: Fewest) -> Fewest
     }
 }
 
-/// The first of the factors with the fewest, by how many there are of each.
+/// The first of the factors with the fewest, given how many holes would be bare by each.
 fn fewest_of(ten: usize, tenth: usize, inch: usize, per_inch: usize) -> Fewest
     ensures { (count : TheFactor → ℕ) → ten ≡ count Factor.Ten → tenth ≡ count Factor.Tenth → inch ≡ count Factor.Inch → per_inch ≡ count Factor.PerInch → IsFewest count factors result }
 {

@@ -1,4 +1,4 @@
-//! What follows from the definitions alone. A call of a law does nothing, and gives its clause.
+//! What follows from the definitions alone. A call of a law does nothing; its clause is what is proved.
 
 ghost use Rattle.scales.specs.Scales.{BareIsUncovered, IsRoundedDown};
 

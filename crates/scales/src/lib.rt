@@ -1,5 +1,5 @@
-//! Whether the coordinates of a drill file's holes are off by a factor: where most of its round holes are bare, and hardly any would be with
-//! their coordinates times ten, a tenth, an inch's millimetres or the other way round.
+//! Whether the coordinates of a drill file's holes are off by a factor: where most of its round holes are bare, and
+//! hardly any would be with their coordinates times ten, a tenth, an inch's millimetres or the other way round.
 //!
 //! All lengths are whole picometres (pm).
 #![tactic(auto)]

@@ -18,14 +18,14 @@ use pad_shapes::Pad;
 use ring_rules::Drilled;
 use std::alloc::{AllocError, Global};
 
-/// A drill file, and where its holes stand in a list of holes.
+/// A drill file, and where its holes are in a list of holes.
 #[derive(Clone, Copy)]
 pub struct FileStretch {
-    /// The index of the drill file.
+    /// The index of the drill file, from 0.
     pub drill: usize,
     /// The place of its first hole, from 0.
     pub start: usize,
-    /// The place behind its last hole.
+    /// The place after its last hole.
     pub end: usize,
 }
 
@@ -96,14 +96,14 @@ fn doubts_of(
     Ok(doubts)
 }
 
-/// The stretches of doubts.
+/// The stretches of holes that are to be tried at other places.
 fn stretches_of(alloc: Global, doubts: &[Doubt]) -> Result<Vec<Stretch>, AllocError>
     ensures { IfOk result (λ stretches. stretches.items ≡ map (λ doubt. doubt.stretch) doubts.now) }
 {
     doubts.iter().map(|doubt| doubt.stretch).collect(alloc)
 }
 
-/// The line of a file, by the factor by which the fewest of its doubted holes would be bare.
+/// The line of a file, given the factor by which the fewest of its holes would be bare.
 fn line_of(drill: usize, doubt: Doubt, fewest: Fewest) -> Option<ScaleLine>
     ensures { (pads : List ThePad) (holes : List TheDrilled) (file : TheFileStretch) → file.drill ≡ drill → IsDoubt pads holes file doubt
         → IsFewest (bare_count_by pads (holes_of holes doubt.stretch)) factors fewest → IsScaleLine pads (holes_in holes file) drill result }
@@ -119,7 +119,7 @@ fn line_of(drill: usize, doubt: Doubt, fewest: Fewest) -> Option<ScaleLine>
     })
 }
 
-/// The line of each file, by how many of its doubted holes would be bare by each factor.
+/// The line of each file, given how many of its holes would be bare by each factor.
 fn lines_by(
     alloc: Global,
     files: &[FileStretch],
@@ -141,10 +141,10 @@ fn lines_by(
     Ok(lines)
 }
 
-/// The line of each of some drill files, in their order, by the pads of the first layer, the holes of all files and the best of these pads for
-/// each hole: there is one where more than half of the round holes of a file are bare, and less than half of these would be with their
-/// coordinates times a factor. It names the first of the factors by which the fewest would be. It takes four looks for bare holes, one for
-/// each factor, at the holes of all those files together of whose round holes more than half are bare, and none where there is no such file.
+/// The line of each of some drill files, in their order, by the pads of the first layer, all holes and their best
+/// pads there. A file has a line where more than half of its round holes are bare, and less than half of these would
+/// be by a factor. The line names the first of the factors by which the fewest would be. Bare holes are looked for
+/// once for each of the four factors, among the holes of all files that have more than half of theirs bare.
 ///
 /// # Errors
 ///

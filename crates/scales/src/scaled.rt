@@ -8,7 +8,7 @@ ghost use Rattle.scales.specs.Inner.Counting.{IsPlaced};
 use grid_units::Point;
 use margin_text::Factor;
 
-/// The number above in a factor as a fraction.
+/// The numerator of a factor.
 fn multiplier(factor: Factor) -> i64
     ensures value { result ≡ pos (multiplier factor) }
     ensures few { multiplier factor ≤ 254 }
@@ -20,7 +20,7 @@ fn multiplier(factor: Factor) -> i64
     }
 }
 
-/// The number below in a factor as a fraction.
+/// The denominator of a factor.
 fn divisor(factor: Factor) -> i64
     ensures value { result ≡ pos (divisor factor) }
     ensures some { 0 < divisor factor }
@@ -40,7 +40,7 @@ fn scaled(coordinate: i64, factor: Factor) -> i64
     (multiplier(factor) * coordinate).div_euclid(divisor(factor))
 }
 
-/// The point with its coordinates times a factor, each rounded down to whole pm; none where one of them is beyond ten metres.
+/// The point with its coordinates times a factor, each rounded down to whole pm; none where one of them would be beyond ten metres.
 pub fn scaled_point(point: Point, factor: Factor) -> Option<Point>
     ensures { IsPlaced factor point result }
 {

@@ -14,7 +14,7 @@ use Rattle.layer_image.specs.Layers.{ReadsLayer}
 use Rattle.layer_image.specs.Holding.{ShowsLayerFault, ReadsFlashes}
 use Rattle.tables.specs.Tables.{ShowsDrill, ShowsLayer}
 
--- the fault that a layer shows so far is that of the whole text
+-- the fault that a layer's text shows so far is that of the whole text
 pub flashes_joined : {T : Type 0} (view : T → List Flash) → ((text more : List ℕ) (f : Fault) → ShowsLayerFault text f → ReadsLayer (text ++ more) (Err f)) → (text more whole : List ℕ) (e : Fail) → text ++ more ≡ whole
     → Tells (ShowsLayerFault text) e → Answers view (ReadsFlashes whole) (Err e)
 flashes_joined view law text more whole fails.Memory is h = tt

@@ -1,23 +1,23 @@
--- Rows of fields.
+-- Rows of fields (docs/FORMATS.md, The tables).
 use Rattle.std.specs.Prelude.{◌≡◌, ◌+◌, ℕ, false, List, [], ◌∷◌, ◌++◌}
 use Rattle.std.specs.List.{flat_map, AllByRecursion}
 use Rattle.csv.specs.Writing.{default_writer, needs_quotes}
 use Rattle.grid_units.specs.Ascii as ascii
 
--- the fields of a row with a comma between each two, and LF (docs/FORMATS.md, The report and the tables)
+-- a row: its fields with a comma between each two, and LF, as in `1,macro,0.000000000,0.000000000,,`
 abbrev pub row : List (List ℕ) → List ℕ
 row [] = ascii.line_feed ∷ []
 row (field ∷ fields) = field ++ (flat_map (λ next. ascii.comma ∷ next) fields ++ ascii.line_feed ∷ [])
 
--- the rows of these elements, numbered from n on (docs/FORMATS.md, The report and the tables)
+-- the rows of these elements, numbered from n on
 unfoldable pub rows_from : {A : Type 0} → (ℕ → A → List (List ℕ)) → ℕ → List A → List ℕ
 rows_from fields n [] = []
 rows_from fields n (element ∷ elements) = row (fields n element) ++ rows_from fields (n + 1) elements
 
--- a field that stands in a row as it is: no comma, quote or end of a line is in it (docs/FORMATS.md, The report and the tables)
+-- a field that needs no quotes: no comma, quote or line end is in it
 abbrev pub IsPlain : List ℕ → Type 0
 IsPlain field = needs_quotes default_writer field ≡ false
 
--- such fields (docs/FORMATS.md, The report and the tables)
+-- fields that need no quotes
 abbrev pub ArePlain : List (List ℕ) → Type 0
 ArePlain fields = AllByRecursion IsPlain fields

@@ -47,7 +47,7 @@ fn what_word(what: &What) -> &'static str
     }
 }
 
-/// The width of a pad, in pm.
+/// The width of a pad in pm: its side along x, of a disc the diameter.
 fn pad_width(pad: &Pad) -> i64
     ensures value { result ≡ pos (pad_width pad.now) }
     ensures within { pad_width pad.now ≤ 10 ^ 13 }
@@ -59,7 +59,7 @@ fn pad_width(pad: &Pad) -> i64
     }
 }
 
-/// The height of a pad, in pm.
+/// The height of a pad in pm: its side along y, of a disc the diameter.
 fn pad_height(pad: &Pad) -> i64
     ensures value { result ≡ pos (pad_height pad.now) }
     ensures within { pad_height pad.now ≤ 10 ^ 13 }
@@ -71,7 +71,7 @@ fn pad_height(pad: &Pad) -> i64
     }
 }
 
-/// A length in pm as a field: millimetres with nine decimals.
+/// A length in pm as a field: millimetres with nine decimals, such as `0.650000000`.
 #[tactic(auto, using(crate::proofs::Plain::short_plain, crate::proofs::Plain::same_plain))]
 fn length_field(length: i64) -> ArrayString<16>
     requires { unsigned_abs length ≤ 10 ^ 13 }
@@ -90,7 +90,7 @@ fn number_field(number: u64, digits: &mut Buffer) -> &[u8]
     digits.format(number).as_bytes()
 }
 
-/// The width of a flash as it is printed.
+/// The field of a flash's width: empty where it is no pad.
 fn width_of(what: &What) -> ArrayString<16>
     ensures text { result.bytes ≡ width_of what.now }
     ensures plain { IsPlain result.bytes }
@@ -101,7 +101,7 @@ fn width_of(what: &What) -> ArrayString<16>
     }
 }
 
-/// The height of a flash as it is printed.
+/// The field of a flash's height: empty where it is no pad.
 fn height_of(what: &What) -> ArrayString<16>
     ensures text { result.bytes ≡ height_of what.now }
     ensures plain { IsPlain result.bytes }

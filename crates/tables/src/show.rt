@@ -71,7 +71,7 @@ fn drill_table(alloc: Global, holes: &[Hole]) -> Result<Vec<u8>, AllocError>
     table.into_bytes()
 }
 
-/// The flashes of a layer, of which no command is kept.
+/// The flashes of the layer that the bytes are. No command is kept.
 fn read_flashes(alloc: Global, bytes: &[u8]) -> Result<Vec<Flash>, Fail>
     ensures { Answers (λ flashes. flashes.items) (ReadsFlashes bytes.now) result }
 {
@@ -83,7 +83,7 @@ fn read_flashes(alloc: Global, bytes: &[u8]) -> Result<Vec<Flash>, Fail>
     reader.finish()
 }
 
-/// The holes of a drill file, of which no command is kept.
+/// The holes of the drill file that the bytes are. No command is kept.
 fn read_holes(alloc: Global, bytes: &[u8]) -> Result<Vec<Hole>, Fail>
     ensures { Answers (λ holes. holes.items) (ReadsHoles bytes.now) result }
 {

@@ -8,7 +8,7 @@ use std::alloc::{AllocError, Global};
 use std::marker::Model;
 
 /// The rows of a table so far. Contracts see their bytes.
-// A writer has kilobytes of buffers, which each move of a table would copy on the stack.
+// The writer is boxed: it has kilobytes of buffers, which each move of a table would otherwise copy on the stack.
 #[derive(Drop)]
 pub(crate) struct Table {
     writer: Box<Writer<Vec<u8>>>,
@@ -27,7 +27,7 @@ impl Model for Table {
 
 impl Table {
     /// A table without rows.
-    // The writer lies on the stack until it is boxed.
+    // It is not inlined, as the writer lies on the stack until it is boxed.
     #[inline(never)]
     pub(crate) fn new(alloc: Global) -> Result<Table, AllocError>
         ensures { IfOk result (λ table. table ≡ []) }
@@ -52,7 +52,7 @@ impl Table {
     }
 
     /// The bytes of the rows.
-    // As for a table without rows.
+    // It is not inlined, as the writer lies on the stack again.
     #[inline(never)]
     pub(crate) fn into_bytes(self) -> Result<Vec<u8>, AllocError>
         ensures { IfOk result (λ bytes. bytes.items ≡ self) }

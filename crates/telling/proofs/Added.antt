@@ -1,4 +1,4 @@
--- Findings that are told one after the other.
+-- The entries of findings, one after the other.
 use Rattle.std.proofs.Common.{◌++◌, ◌∷◌, Bool, true, false, cond, List, [], sym, subst}
 use Rattle.std.specs.List.{AllZip, filter}
 use Rattle.std.proofs.lemmas.List.{append-nil}
@@ -17,6 +17,6 @@ module _ {T : Type 0} (R : Finding → T → Type 0) where
   by_test true xs x old new h a = subst (AllZip R (xs ++ x ∷ [])) (sym a.2) (zip_more xs old x a.0 h a.1)
   by_test false xs x old new h a = subst (λ (ys : List Finding). AllZip R ys new) (sym (append-nil xs)) (subst (AllZip R xs) (sym a) h)
 
-  -- one finding more is told, or passed over
+  -- one more finding, with or without an entry
   pub added : (p : Finding → Bool) (xs : List Finding) (x : Finding) (old new : List T) → AllZip R (filter p xs) old → Adds (p x) R x old new → AllZip R (filter p (xs ++ x ∷ [])) new
   added p xs x old new h a = subst (λ (ys : List Finding). AllZip R ys new) (sym (filter-append p xs (x ∷ []))) (by_test (p x) (filter p xs) x old new h a)

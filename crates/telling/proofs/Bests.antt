@@ -11,7 +11,7 @@ use Rattle.package_check.specs.Boards.{Survey}
 use Rattle.telling.specs.Inner.Adding.{AreBoardBests}
 
 module _ (board : Survey) where
-  -- the best pads that stand at the place of a layer are those of its pads
+  -- the best pads at the place of a layer are those of its pads
   pub bests_at : (layers : List (Bor (List Pad))) (bests : List (Vec (Option Best))) (holes : List Drilled) (layer : ℕ) (pads : Bor (List Pad)) (its : Vec (Option Best)) (found : List (Option Best)) → map (λ pads. pads.now) layers ≡ board.layers → holes ≡ board.holes
       → AreBoardBests board bests → layer < length layers → pads ≡ get_or layers layer pads → layer < length bests → its ≡ get_or bests layer its → found ≡ its.items → AreBest pad_covers pads.now holes found
   bests_at layers bests holes layer pads its found all same are inside at within stands is =

@@ -1,4 +1,4 @@
--- What is told of a package are the findings of its check.
+-- The entries of a report and the findings of its check.
 use Rattle.std.proofs.Common.{◌≡◌, ◌+◌, ◌∷◌, ℕ, Bool, true, false, not, List, [], length, refl, sym, subst, ap, ap₂, ◌∙◌}
 use Rattle.std.specs.List.{AllZip, filter}
 use Rattle.std.proofs.lemmas.List.Filters.{length-filter_both}
@@ -22,14 +22,14 @@ twice : (b : Bool) → b ≡ not (not b)
 twice true = refl
 twice false = refl
 
--- as many findings of rings and of gaps as there are findings
+-- the findings of rings and of gaps together are as many as all findings
 parted : {T U : Type 0} (R : Finding → T → Type 0) (S : Finding → U → Type 0) (found : List Finding) (rings : List T) (gaps : List U)
     → AllZip R (filter (λ finding. not (is_gap finding)) found) rings → AllZip S (filter is_gap found) gaps → length found ≡ length rings + length gaps
 parted R S found rings gaps are_rings are_gaps =
     sym (length-filter_both (λ finding. not (is_gap finding)) is_gap (λ finding. twice (is_gap finding)) found)
     ∙ ap₂ (λ (n k : ℕ). n + k) (sym (AllZip-long R (filter (λ finding. not (is_gap finding)) found) rings are_rings)) (sym (AllZip-long S (filter is_gap found) gaps are_gaps))
 
--- what is told of each is told in a weaker sense, too
+-- entries that meet a statement meet a weaker one
 weaker : {T : Type 0} (R S : Finding → T → Type 0) → ((x : Finding) (t : T) → R x t → S x t) → (xs : List Finding) (ts : List T) → AllZip R xs ts → AllZip S xs ts
 weaker R S to [] [] h = tt
 weaker R S to [] (t ∷ ts) h = h

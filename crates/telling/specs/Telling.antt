@@ -1,4 +1,4 @@
--- What a report tells of a package. Lengths are whole picometres.
+-- The report on a package: each finding of its check with its place, its cause and its figures. Lengths are whole picometres.
 use Rattle.std.specs.Prelude.{◌≡◌, ℕ, pos, ◌+◌, ◌-ℤ◌, Bool, true, false, not, List, [], length, get_or, map, count_by, Result, Ok, Err, ⊤}
 use Rattle.std.specs.List.{AllZip, enumerate_from, filter}
 use Rattle.grid_units.specs.Holes.{GridRules}
@@ -27,51 +27,51 @@ use Rattle.report_text.specs.declared.LayerHead.{LayerHead}
 use Rattle.report_text.specs.declared.RingLack.{RingLack}
 use Rattle.report_text.specs.declared.Telling.{Telling}
 
--- a finding of a gap, and not of a ring (docs/DEFINITIONS.md, Reports)
+-- a finding of a gap, not of a ring
 abbrev pub is_gap : Finding → Bool
 is_gap (Ring layer hole) = false
 is_gap (Oblique layer hole) = false
 is_gap (Gap first second) = true
 
--- the flashes of a layer, by its place among the copper files (docs/DEFINITIONS.md, Reports)
+-- the flashes of a layer, by its place among the copper files, from 0
 abbrev pub layer_flashes : FlashedSurvey → ℕ → List Flash
 layer_flashes flashed layer = get_or flashed.flashes (get_or flashed.board.layer_indexes layer 0) []
 
--- a hole of a board, with its drill file and its number there (docs/DEFINITIONS.md, Reports)
+-- a hole of a board, by its place in the list of all holes: the index of its drill file, its number there from 1, and the hole itself
 pub record IsHoleAt (board : Survey) (place : ℕ) (at : HoleAt) : Type 0 where
   pub stands : IsPlace board.files place (record { drill = at.drill; hole = at.number })
   pub hole : at.hole ≡ hole_at board.holes place
 
--- what is told of a hole that lacks its ring on a layer: where it stands, and why (docs/DEFINITIONS.md, Reports)
+-- the entry of a hole that lacks its ring on a layer: the layer, the hole's place in the package, and the cause
 pub record TellsRingAt (flashed : FlashedSurvey) (ring layer hole : ℕ) (told : RingLack) : Type 0 where
   pub layer_is : told.layer ≡ layer
   pub at : IsHoleAt flashed.board hole told.at
   pub cause : IsCause (layer_flashes flashed layer) ring (hole_at flashed.board.holes hole) told.cause
 
--- what is told of a finding of a ring (docs/DEFINITIONS.md, Reports)
+-- the entry of a finding of a ring
 abbrev pub TellsRing : FlashedSurvey → ℕ → Finding → RingLack → Type 0
 TellsRing flashed ring (Ring layer hole) told = TellsRingAt flashed ring layer hole told
 TellsRing flashed ring (Oblique layer hole) told = TellsRingAt flashed ring layer hole told
 TellsRing flashed ring (Gap first second) told = ⊥
 
--- what is told of two holes that lack their gap: where they stand, the gap between them, and what it lacks of the one that is asked (docs/DEFINITIONS.md, Reports)
+-- the entry of two holes that lack their gap: their places, the gap between them, and the required gap less this one
 pub record TellsGapOf (board : Survey) (asked first second : ℕ) (told : GapLack) : Type 0 where
   pub first_at : IsHoleAt board first told.first
   pub second_at : IsHoleAt board second told.second
   pub gap : IsGap (hole_at board.holes first) (hole_at board.holes second) told.gap
   pub lack : told.lack ≡ pos asked -ℤ told.gap
 
--- what is told of a finding of a gap (docs/DEFINITIONS.md, Reports)
+-- the entry of a finding of a gap
 abbrev pub TellsGap : Survey → ℕ → Finding → GapLack → Type 0
 TellsGap board asked (Ring layer hole) told = ⊥
 TellsGap board asked (Oblique layer hole) told = ⊥
 TellsGap board asked (Gap first second) told = TellsGapOf board asked first second told
 
--- the head of a layer: its file, and how many holes ask a ring there (docs/DEFINITIONS.md, Reports)
+-- the head of a layer: the index of its file, and the number of holes that need a ring there
 abbrev pub head_of : List Drilled → ℕ × ℕ → LayerHead
 head_of holes (layer, file) = record { file = file; asked = count_by (asks_ring layer) holes }
 
--- what is told of a board under rules: each finding of its check, in order, and what the board meets (docs/DEFINITIONS.md, Reports)
+-- the report on a board under rules: an entry for each finding of its check, in order, and the rules that the board meets
 pub record IsTelling (asked : GridRules) (flashed : FlashedSurvey) (told : Telling) : Type 0 where
   pub rules : told.rules ≡ asked
   pub layers : told.layers.items ≡ map (head_of flashed.board.holes) (enumerate_from 0 flashed.board.layer_indexes)
@@ -82,35 +82,36 @@ pub record IsTelling (asked : GridRules) (flashed : FlashedSurvey) (told : Telli
   pub scales : told.scales.items ≡ measure.scales.items
   pub meets : told.meets ≡ measure.meets
 
--- what is told of a package: that of the board of its files with their flashes (docs/DEFINITIONS.md, Reports)
+-- the report on a package: that on the board of its files, with their flashes
 pub record IsTellingOf (sources : List Source) (asked : GridRules) (told : Telling) : Type 0 where
   pub flashed : FlashedSurvey
   pub read : IsFlashed sources flashed
   pub is : IsTelling asked flashed told
 
--- what is returned is what is told of the package, or the first file that is refused, running out of memory aside (docs/DEFINITIONS.md, Reports)
+-- the answer is the report on the package, or its first file that is refused; if memory runs out nothing is claimed
 abbrev pub AnswersTelling : List Source → GridRules → Result Telling PackageFault → Type 0
 AnswersTelling sources asked (Ok told) = IsTellingOf sources asked told
 AnswersTelling sources asked (Err stop.Memory) = ⊤
 AnswersTelling sources asked (Err (stop.File index fault)) = IsFirstRefused sources index fault
 
--- what is told of a hole is of the one at a place of the list of all holes: by its file and its number there (docs/DEFINITIONS.md, Reports)
+-- an entry has the drill file and the number of the hole at a place in the list of all holes
 abbrev pub IsOfHole : List FileSum → ℕ → HoleAt → Type 0
 IsOfHole files hole at = IsPlace files hole (record { drill = at.drill; hole = at.number })
 
--- what is told is of this finding of a ring: of its layer and of its hole (docs/DEFINITIONS.md, Reports)
+-- an entry is that of a finding of a ring: it has the finding's layer and hole
 abbrev pub IsOfRing : List FileSum → Finding → RingLack → Type 0
 IsOfRing files (Ring layer hole) told = (told.layer ≡ layer) × IsOfHole files hole told.at
 IsOfRing files (Oblique layer hole) told = (told.layer ≡ layer) × IsOfHole files hole told.at
 IsOfRing files (Gap first second) told = ⊥
 
--- what is told is of this finding of a gap: of its two holes (docs/DEFINITIONS.md, Reports)
+-- an entry is that of a finding of a gap: it has the finding's two holes
 abbrev pub IsOfGap : List FileSum → Finding → GapLack → Type 0
 IsOfGap files (Ring layer hole) told = ⊥
 IsOfGap files (Oblique layer hole) told = ⊥
 IsOfGap files (Gap first second) told = IsOfHole files first told.first × IsOfHole files second told.second
 
--- what is told of a package is as its check: the check reports on it; each of its findings is told, in its order, rings and gaps by themselves, and nothing else; so there are just as many; and a package of which none is told is sound (docs/DEFINITIONS.md, Reports)
+-- a report agrees with the check of its package: the check reports; its findings and the entries match one for one, in order, rings and gaps
+-- each by themselves, so there are as many; and a package whose report has no entry is sound
 pub record IsAsCheck (sources : List Source) (asked : GridRules) (told : Telling) : Type 0 where
   pub reported : (report : Account) × IsReport sources asked report
   pub rings : (report : Account) → IsReport sources asked report → AllZip (IsOfRing report.files) (filter (λ finding. not (is_gap finding)) report.findings) told.rings.items
@@ -118,6 +119,6 @@ pub record IsAsCheck (sources : List Source) (asked : GridRules) (told : Telling
   pub count : (report : Account) → IsReport sources asked report → length report.findings ≡ length told.rings.items + length told.gaps.items
   pub sound : told.rings.items ≡ [] → told.gaps.items ≡ [] → IsSound sources asked
 
--- what is told of any package is as its check (docs/DEFINITIONS.md, Reports)
+-- the report on any package agrees with its check
 abbrev pub TellsAsChecks : Type 0
 TellsAsChecks = (sources : List Source) (asked : GridRules) (told : Telling) → IsTellingOf sources asked told → IsAsCheck sources asked told

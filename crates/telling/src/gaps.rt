@@ -1,4 +1,4 @@
-//! What is told of the holes that lack their gap.
+//! The entries of holes that lack their gap.
 
 ghost use Rattle.std.specs.Prelude.{◌≡◌, ◌<◌, ◌≤ℤ◌, ◌-ℤ◌, IfOk, OnOk, length, neg_ℤ, pos};
 ghost use Rattle.std.specs.List.{All, AllZip, filter};
@@ -16,7 +16,7 @@ use report_text::GapLack;
 use ring_rules::Finding;
 use std::alloc::{AllocError, Global};
 
-/// What a gap lacks of the one that is asked.
+/// The required gap less this one, in pm.
 fn lack_of(rules: Rules, gap: i64) -> i64
     requires least { neg_ℤ (pos 10000000000000) ≤ℤ gap }
     requires most { gap ≤ℤ pos 30000000000000 }
@@ -25,7 +25,7 @@ fn lack_of(rules: Rules, gap: i64) -> i64
     rules.gap() - gap
 }
 
-/// What is told of two holes that lack their gap.
+/// The entry of two holes that lack their gap.
 fn gap_lack(
     board: &Board,
     files: &[FileHoles],
@@ -49,7 +49,7 @@ fn gap_lack(
     }
 }
 
-/// Tells of a finding, behind the others, if it is one of a gap.
+/// Adds the entry of a finding, if it is one of a gap.
 fn push(
     board: &Board,
     files: &[FileHoles],
@@ -70,7 +70,7 @@ fn push(
     }
 }
 
-/// What is told of those findings that are of gaps, in their order.
+/// The entries of those findings that are of gaps, in order.
 pub(crate) fn tell_gaps(
     alloc: Global,
     board: &Board,

@@ -1,4 +1,4 @@
-//! The layers of a board, and how many holes ask a ring on each.
+//! The layers of a board, with the number of holes that need a ring on each.
 
 ghost use Rattle.std.specs.Prelude.{◌≡◌, IfOk, count_by, map};
 ghost use Rattle.std.specs.List.{enumerate_from};
@@ -11,7 +11,7 @@ use report_text::LayerHead;
 use ring_rules::Drilled;
 use std::alloc::{AllocError, Global};
 
-/// How many holes ask a ring on a layer, by its place from 0.
+/// The number of holes that need a ring on a layer, by the layer's place from 0.
 fn asked_on(layer: usize, holes: &[Drilled]) -> usize
     ensures { result ≡ count_by (asks_ring layer) holes.now }
 {
@@ -31,7 +31,7 @@ fn head_of(holes: &[Drilled], layer: usize, file: usize) -> LayerHead
     }
 }
 
-/// The heads of the layers of a board.
+/// The heads of a board's layers.
 pub(crate) fn heads(alloc: Global, board: &Board) -> Result<Vec<LayerHead>, AllocError>
     ensures { IfOk result (λ heads. heads.items ≡ map (head_of board.now.holes) (enumerate_from 0 board.now.layer_indexes)) }
 {

@@ -1,4 +1,4 @@
-//! What a report tells of a package: by how much each ring or gap is lacking, and why.
+//! The report on a package: by how much each ring or gap is lacking, and why.
 //!
 //! All lengths are whole picometres (pm).
 #![tactic(auto)]

@@ -1,4 +1,4 @@
-//! Where the holes of a board stand.
+//! The places of a board's holes in its drill files.
 
 ghost use Rattle.std.specs.Prelude.{◌<◌, length};
 ghost use Rattle.measuring.specs.Rows.{AreFilledFiles};

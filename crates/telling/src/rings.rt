@@ -1,4 +1,4 @@
-//! What is told of the holes that lack their rings.
+//! The entries of holes that lack their rings.
 
 ghost use Rattle.std.specs.Prelude.{◌≡◌, ◌<◌, ◌++◌, ◌∷◌, [], IfOk, IfSome, OnOk, length, not};
 ghost use Rattle.std.specs.List.{All, AllZip, filter};
@@ -20,7 +20,7 @@ use report_text::RingLack;
 use ring_rules::Finding;
 use std::alloc::{AllocError, Global};
 
-/// What is made once of a board, for all that is told of its rings.
+/// The data made once for a board, for all entries of its rings.
 #[derive(Drop)]
 pub(crate) struct Prepared<'a> {
     /// The pads of each layer.
@@ -31,7 +31,7 @@ pub(crate) struct Prepared<'a> {
     pub(crate) files: &'a [FileHoles],
 }
 
-/// What is known of one layer.
+/// The data of one layer, for the causes of its holes.
 #[derive(Drop)]
 pub(crate) struct Known {
     /// The place of the layer among the copper files.
@@ -53,7 +53,7 @@ fn layer_flashes(flashed: &FlashedBoard, layer: usize) -> &[Flash]
     }
 }
 
-/// The causes of a layer, by its pads and the best of them for each hole.
+/// The data of a layer for its causes, by its pads and the best of them for each hole.
 fn causes_on(
     alloc: Global,
     flashed: &FlashedBoard,
@@ -71,7 +71,7 @@ fn causes_on(
     }
 }
 
-/// What is known of a layer.
+/// The data of a layer.
 fn known_on(
     alloc: Global,
     flashed: &FlashedBoard,
@@ -86,7 +86,7 @@ fn known_on(
     Ok(Known { layer, causes })
 }
 
-/// What is known of a layer: what is known already, if it is of this layer.
+/// The data of a layer: those at hand, if they are of this layer.
 fn turned_to(
     alloc: Global,
     flashed: &FlashedBoard,
@@ -111,7 +111,7 @@ fn turned_to(
     }
 }
 
-/// What is told of a hole that lacks its ring on a layer, of which it is known what must be.
+/// The entry of a hole that lacks its ring, by the data of the layer.
 fn ring_lack(
     flashed: &FlashedBoard,
     files: &[FileHoles],
@@ -134,7 +134,6 @@ fn ring_lack(
     }
 }
 
-/// Appends one item more.
 fn add<T: Copy>(all: &mut Vec<T>, item: T) -> Result<(), AllocError>
     ensures { OnOk result (all.new.items ≡ all.old.items ++ item ∷ []) }
 {
@@ -142,7 +141,7 @@ fn add<T: Copy>(all: &mut Vec<T>, item: T) -> Result<(), AllocError>
     Ok(())
 }
 
-/// Tells of a hole that lacks its ring on a layer of which it is known what must be, behind the others.
+/// Adds the entry of a hole that lacks its ring, by the data of the layer.
 fn push_known(
     flashed: &FlashedBoard,
     files: &[FileHoles],
@@ -159,7 +158,7 @@ fn push_known(
     add(told, ring_lack(flashed, files, known, hole, rules))
 }
 
-/// Tells of a hole that lacks its ring on a layer, behind the others.
+/// Adds the entry of a hole that lacks its ring on a layer.
 fn push_at(
     alloc: Global,
     flashed: &FlashedBoard,
@@ -181,7 +180,7 @@ fn push_at(
     Ok(Some(known))
 }
 
-/// Tells of a finding, behind the others, if it is one of a ring.
+/// Adds the entry of a finding, if it is one of a ring.
 fn push(
     alloc: Global,
     flashed: &FlashedBoard,
@@ -205,7 +204,7 @@ fn push(
     }
 }
 
-/// What is told of those findings that are of rings, in their order. What is known of a layer is kept until the next one is told of.
+/// The entries of those findings that are of rings, in order. The data of a layer are kept until a finding names another layer.
 fn tell_each(
     alloc: Global,
     flashed: &FlashedBoard,
@@ -225,7 +224,7 @@ fn tell_each(
     Ok(told)
 }
 
-/// What is told of those findings that are of rings, in their order, by the best pads of each layer and the drill files that have holes.
+/// The entries of those findings that are of rings, in order, by the best pads of each layer and the drill files that have holes.
 pub(crate) fn tell_rings(
     alloc: Global,
     flashed: &FlashedBoard,

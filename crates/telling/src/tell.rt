@@ -1,4 +1,4 @@
-//! What is told of a package.
+//! The report on a package.
 
 ghost use Rattle.std.specs.Prelude.{◌≡◌, IfOk, length};
 ghost use Rattle.std.specs.List.{All};
@@ -23,7 +23,7 @@ use ring_rules::laws::findings_name_places;
 use ring_rules::{Finding, gap_findings};
 use std::alloc::{AllocError, Global};
 
-/// What the rules find of rings on a board, by the best pads of its layers, and then of gaps.
+/// The findings of a board: those of rings, by the best pads of its layers, then those of gaps.
 fn rings_and_gaps(
     alloc: Global,
     board: &Board,
@@ -41,7 +41,7 @@ fn rings_and_gaps(
     Ok(findings)
 }
 
-/// What the check of a board finds, by the best pads of its layers.
+/// The findings of a board, by the best pads of its layers, and that they name layers and holes of the board.
 fn findings_on(
     alloc: Global,
     board: &Board,
@@ -56,11 +56,11 @@ fn findings_on(
     rings_and_gaps(alloc, board, bests, rules)
 }
 
-/// What is told of a board under these rules.
+/// The report on a board under these rules.
 ///
 /// # Errors
 ///
-/// Where there is no memory.
+/// An `AllocError` when memory runs out.
 pub fn tell_board(
     alloc: Global,
     flashed: &FlashedBoard,
@@ -82,13 +82,13 @@ pub fn tell_board(
     })
 }
 
-/// What is told of the package of these files: each finding of its check under these rules, in order, with what it lacks and why,
-/// and what the package meets.
+/// The report on the package of these files: an entry for each finding of its check under these rules, in order, with what it lacks and
+/// why, and the rules that the package meets.
 ///
 /// # Errors
 ///
 /// As those of [`package_check::check_bytes`] on these files: the first file that is refused, by its index, with its fault; `Memory`
-/// where there is no memory.
+/// when memory runs out.
 pub fn tell_bytes(alloc: Global, files: &[File], rules: Rules) -> Result<Telling, PackageFault>
     ensures { AnswersTelling (sources_of files.now) rules result }
 {

@@ -16,7 +16,7 @@ use Rattle.std.proofs.lemmas.Map.Text.{btree_map_updates_str}
 use Rattle.waivers.specs.Inner.{place_at}
 
 module _ {X : Type 0} (p : X → Bool) where
-  -- the first place in one more
+  -- the first place in a list with one more element
   more_from : (n : ℕ) (xs : List X) (x : X) → position_from p n (xs ++ x ∷ []) ≡ option_or (position_from p n xs) (if p x then Some (n + length xs) else None)
   more_from n [] x = let same : n + 0 ≡ n = omega arith in rw same refl
   more_from n (y ∷ ys) x = by (p y) (more_from (n + 1) ys x)
@@ -52,7 +52,7 @@ kept found key place some other = elim (cases_Bool (bytes_eq key other)) [
     by_none None = refl
     by_none (Some n) = refl
 
--- a key that has none gets one
+-- a key without a place gets one
 pub added : (found new : List ℕ → Option ℕ) (key : List ℕ) (place : ℕ) → is_some (found key) ≡ false → ((other : List ℕ) → new other ≡ cond (bytes_eq key other) (Some place) (found other))
     → (other : List ℕ) → new other ≡ option_or (found other) (if bytes_eq key other then Some place else None)
 added found new key place none is other = elim (cases_Bool (bytes_eq key other)) [
@@ -68,7 +68,7 @@ added found new key place none is other = elim (cases_Bool (bytes_eq key other))
     by_any None = refl
     by_any (Some n) = refl
 
--- what a table has after a key got a place
+-- the places in a table after a key got one
 pub placed : (bytes : List ℕ) (place : ℕ) (m n : BTreeMap (Bor (List ℕ)) ℕ)
     → tree.UpdatesBy (λ x y. slice_cmp nat_cmp x.now y.now) (λ k. slice_cmp nat_cmp bytes k.now) m n (Some place) → (other : List ℕ) → place_at n other ≡ cond (bytes_eq bytes other) (Some place) (place_at m other)
 placed bytes place m n u other = btree_map_updates_str bytes m n (Some place) u other

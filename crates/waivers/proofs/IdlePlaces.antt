@@ -1,4 +1,4 @@
--- The waivers that waive nothing: their numbers one after another, and that the first waiver alike tells of each.
+-- The numbers of the waivers that waive nothing, found by the first waiver alike of each.
 use Rattle.std.proofs.Common.{◌≡◌, ◌∙◌, ◌+◌, ◌++◌, ◌<◌, ◌||◌, ℕ, zero, suc, List, [], ◌∷◌, Bool, true, false, not, cond, Option, Some, None, is_some, length, take, get_or, map, arith, refl, ap, sym, subst}
 use Rattle.std.specs.Prelude.{if◌then◌else◌}
 use Rattle.std.specs.BTreeSet.{BTreeSet}
@@ -20,7 +20,7 @@ use Rattle.waivers.specs.declared.Waiver.{Waiver}
 use Rattle.waivers.specs.declared.waiving.Waived.{Waived}
 
 module _ {X : Type 0} (p : X → Bool) where
-  -- the elements that pass, each with its number from one on
+  -- the elements that pass, with their numbers from one on
   abbrev kept_from : ℕ → List X → List (ℕ × X)
   kept_from n xs = filter (λ (one : ℕ × X). p one.1) (enumerate_from n xs)
 
@@ -86,7 +86,7 @@ module _ (all : List Waiver) where
   waives_is : (finding : Row) (waiver : Waiver) → Decides (waives finding waiver) (compared waiver ≡ finding)
   waives_is finding waiver = slice_eq-Decides bytes_eq-Decides (compared waiver) finding (waives finding waiver) refl
 
-  -- the first waiver that is like another waives a finding just where that other does
+  -- the first waiver alike waives a finding just where the waiver does
   first_tells : (finding : Row) (waiver : Waiver) → is_some (waived_by all (compared waiver)) ≡ true → is_by_that (waived_by all (compared waiver)) (waived_by all finding) ≡ waives finding waiver
   first_tells finding waiver some =
       same_from_decides {P = compared waiver ≡ finding} (is_by_that (waived_by all (compared waiver)) (waived_by all finding)) (waives finding waiver)
@@ -108,7 +108,7 @@ module _ (all : List Waiver) where
           let waived = (waives_is finding (get_or all by waiver)).0 second.1 in
           sym alike ∙ (ap (λ (n : ℕ). compared (get_or all n waiver)) (sym place_is) ∙ waived)
 
-  -- the same of all findings
+  -- the same for all findings
   first_tells_all : (waiver : Waiver) → is_some (waived_by all (compared waiver)) ≡ true → (findings : List Row)
       → list_any (is_by_that (waived_by all (compared waiver))) (map (waived_by all) findings) ≡ list_any (λ finding. waives finding waiver) findings
   first_tells_all waiver some [] = refl
@@ -120,7 +120,7 @@ module _ (all : List Waiver) where
       let waiver = get_or all k d in
       ap is_some (position_from-zero (waives (compared waiver)) all) ∙ some_from (waives (compared waiver)) 0 all k d lt ((waives_is (compared waiver) waiver).1 refl)
 
-  -- the waivers whose first ones alike a set has not are those that are not used
+  -- the waivers whose first ones alike are not in a set are those that are not used
   unused_is : (used : BTreeSet ℕ) (waived : Waived) (firsts : List (Option ℕ)) (numbers : List ℕ)
       → ((place : ℕ) → has_place used place ≡ (list_any (is_by place) waived.rings.items || list_any (is_by place) waived.gaps.items))
       → firsts ≡ map (λ waiver. waived_by all (compared waiver)) all → numbers ≡ unused_numbers used firsts → numbers ≡ unused_records all waived
@@ -134,7 +134,7 @@ module _ (all : List Waiver) where
   map_twice f g [] = refl
   map_twice f g (x ∷ xs) = ap (λ rest. g (f x) ∷ rest) (map_twice f g xs)
 
-  -- the places of the findings of rings and of gaps are those of all findings
+  -- the places of the waivers of rings, then of gaps, are those for all findings
   pub places_told : (names : List (List ℕ)) (told : Telling) (waived : Waived) → IsWaived all names told waived → waived.rings.items ++ waived.gaps.items ≡ map (waived_by all) (fields_told names told)
   places_told names told waived is =
       (λ i. is.rings i ++ is.gaps i)
@@ -150,7 +150,7 @@ module _ (all : List Waiver) where
       ∙ numbers_same first test (waives_nothing (fields_told names told)) 2 all
       (λ k d lt. ap not (ap (list_any (is_by_that (first (get_or all k d)))) (places_told names told waived is) ∙ first_tells_all (get_or all k d) (has_alike k d lt) (fields_told names told)))
 
-  -- so the waivers whose first ones alike a set has not waive nothing
+  -- so the waivers whose first ones alike are not in a set waive nothing
   pub unused_is_idle : (used : BTreeSet ℕ) (waived : Waived) (firsts : List (Option ℕ)) (numbers : List ℕ)
       → ((place : ℕ) → has_place used place ≡ (list_any (is_by place) waived.rings.items || list_any (is_by place) waived.gaps.items))
       → firsts ≡ map (λ waiver. waived_by all (compared waiver)) all → numbers ≡ unused_numbers used firsts

@@ -15,7 +15,7 @@ use Rattle.waivers.specs.declared.Waiver.{Waiver}
 use Rattle.waivers.specs.Inner.{judged, unless_broken}
 use Rattle.waivers.specs.Reading.{broken_rule, unless_wrong, waiver_of, waivers_behind}
 
--- the rule of a record, whatever stands before it
+-- the rule of a record, whatever comes before it
 abbrev pub rule : List Row → Row → Option Reason
 rule before row = broken_rule row
 
@@ -35,7 +35,7 @@ refused_at : (before rest : List Row) (row : Row) (why : Reason) → breaks rule
 refused_at before rest row why none is =
     ap (λ (o : Option (ℕ × Reason)). unless_wrong o (map waiver_of (before ++ row ∷ rest))) (breaks-first rule before rest row why none is)
 
--- a record that is refused behind lawful ones, as a failure
+-- a record that is refused after lawful ones, as a failure
 pub refused : (before rest : List Row) (row : Row) (all : List Row) (i : ℕ) (e : Fail) → all ≡ before ++ row ∷ rest → i ≡ length before → breaks rule before ≡ []
     → Answers (λ (x : Waiver). x) (λ answer. answer ≡ at (i + 2) 0 (judged row)) (Err e) → Answers {T = Vec Waiver Global} (λ all. all.items) (λ answer. answer ≡ waivers_behind all) (Err e)
 refused before rest row all i fails.Memory split place none h = tt
@@ -43,7 +43,7 @@ refused before rest row all i (fails.Refused f) split place none h =
     let (why, is, same) = broken (broken_rule row) (waiver_of row) (i + 2) f h in
     ap (λ (g : Fault). Err g) (same ∙ ap (λ (n : ℕ). fault (n + 2) 0 why) place) ∙ (sym (refused_at before rest row why none is) ∙ ap waivers_behind (sym split))
 
--- a record that is accepted behind lawful ones
+-- a record that is accepted after lawful ones
 pub accepted_more : (before : List Row) (row : Row) (after : List Row) (earlier items : List Waiver) (waiver : Waiver) (place : ℕ) → after ≡ before ++ row ∷ [] → earlier ≡ map waiver_of before
     → items ≡ earlier ++ waiver ∷ [] → breaks rule before ≡ [] → Ok waiver ≡ at place 0 (judged row) → (items ≡ map waiver_of after) × (breaks rule after ≡ [])
 accepted_more before row after earlier items waiver place grown are more none e =

@@ -22,21 +22,21 @@ some_is p q e = cc
 abbrev after : Row → Read
 after row = (row, st.StartRecord, [])
 
--- records with one text are one record
+-- records with equal texts are equal
 same_row : (a b : Row) → read_back a ≡ a → read_back b ≡ b → key_of a ≡ key_of b → a ≡ b
 same_row a b full_a full_b e =
     let read : Some (after (read_back a)) ≡ Some (after (read_back b)) =
     sym (read-write a []) ∙ (ap (λ (text : List ℕ). next_record default_config st.StartRecord [] [] (text ++ [])) e ∙ read-write b []) in
     sym full_a ∙ (ap (λ (p : Read). p.0) (some_is (after (read_back a)) (after (read_back b)) read) ∙ full_b)
 
--- the keys are one just where all fields are
+-- keys are equal just where all fields are
 key_is : (a b : Row) → read_back a ≡ a → read_back b ≡ b → bytes_eq (key_of a) (key_of b) ≡ pointwise bytes_eq a b
 key_is a b full_a full_b =
     same_from_decides {P = a ≡ b} (bytes_eq (key_of a) (key_of b)) (pointwise bytes_eq a b)
     (Decides-like (bytes_eq (key_of a) (key_of b)) (same_row a b full_a full_b) (λ e. ap key_of e) (bytes_eq-Decides (key_of a) (key_of b)))
     (slice_eq-Decides bytes_eq-Decides a b (pointwise bytes_eq a b) refl)
 
--- the first place among images
+-- the first place in a list of images
 from_map : {A B : Type 0} (f : A → B) (p : B → Bool) (n : ℕ) (xs : List A) → position_from p n (map f xs) ≡ position_from (λ x. p (f x)) n xs
 from_map f p n [] = refl
 from_map f p n (x ∷ xs) = rw (from_map f p (n + 1) xs) refl
@@ -55,7 +55,7 @@ map_same f g same [] = refl
 map_same f g same (x ∷ xs) = λ i. (same x i ∷ map_same f g same xs i)
 
 module _ {K : Type 0} (bytes : K → List ℕ) (keys : List K) (all : List Waiver) (same : map bytes keys ≡ map (λ waiver. key_of (compared waiver)) all) where
-  -- the first key of a finding among those of the waivers stands at the place of the first waiver that waives it
+  -- the first key equal to a finding's is at the place of the first waiver that waives it
   first_is : (finding : Row) → read_back finding ≡ finding → position_from (λ key. bytes_eq (bytes key) (key_of finding)) 0 keys ≡ waived_by all finding
   first_is finding full =
       let test = λ (key : List ℕ). bytes_eq key (key_of finding) in
@@ -63,7 +63,7 @@ module _ {K : Type 0} (bytes : K → List ℕ) (keys : List K) (all : List Waive
       ∙ (from_same (λ (waiver : Waiver). bytes_eq (key_of (compared waiver)) (key_of finding)) (waives finding) (λ waiver. key_is (compared waiver) finding refl full) 0 all
       ∙ sym (position_from-zero (waives finding) all))))
 
-  -- the places that a table of first keys has for the keys of findings
+  -- the places that a table of first keys holds for the keys of findings
   pub all_found : {X : Type 0} (fields : X → Row) (lacks : List X) (wanted : List K) (places : List (Option ℕ)) (found : List ℕ → Option ℕ) → ((lack : X) → read_back (fields lack) ≡ fields lack)
       → ((key : List ℕ) → found key ≡ position_from (λ other. bytes_eq (bytes other) key) 0 keys) → map bytes wanted ≡ map (λ lack. key_of (fields lack)) lacks → places ≡ map (λ key. found (bytes key)) wanted
       → places ≡ map (λ lack. waived_by all (fields lack)) lacks

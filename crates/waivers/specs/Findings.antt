@@ -1,4 +1,4 @@
--- The five fields of a finding, and the text of all findings.
+-- The five fields of a finding, and the file of all findings (docs/FORMATS.md, Waivers).
 use Rattle.std.specs.Prelude.{ℕ, List, [], ◌∷◌, ◌++◌, codes, slice_get}
 use Rattle.std.specs.List.{flat_map}
 use Rattle.std.specs.Option.{option_map_or}
@@ -14,15 +14,15 @@ use Rattle.report_text.specs.declared.RingLack.{RingLack}
 use Rattle.report_text.specs.declared.Telling.{Telling}
 use Rattle.report_text.specs.Texts.{drilled_words, name_of}
 
--- a hole without its number: the name of its drill file, its diameter and where it is (docs/FORMATS.md, Waivers)
+-- a hole without its number: `pic_programmer-PTH, 0.75 at 142.24,-97.79`
 abbrev pub hole_field : List (List ℕ) → HoleAt → List ℕ
 hole_field names at = name_of names at.drill ++ (codes ", " ++ drilled_words at.hole)
 
--- the name of a layer's file, by the place of the layer; empty where the report has none there (docs/FORMATS.md, Waivers)
+-- the name of a layer's file, by the layer's place; empty where the report has no such layer
 abbrev pub layer_field : List (List ℕ) → List LayerHead → ℕ → List ℕ
 layer_field names layers place = option_map_or (λ head. name_of names head.file) (slice_get layers place) []
 
--- the ring that a hole has, or `none` where it lies in no pad (docs/FORMATS.md, Waivers)
+-- the ring of a hole in its best pad, such as `0.099625866`; `none` where it lies in no pad or is an oblique slot
 abbrev pub has_field : RingCause → List ℕ
 has_field (causes.Small place) = short_millimetres place.ring
 has_field (causes.Off place) = short_millimetres place.ring
@@ -30,23 +30,23 @@ has_field (causes.Other why flash) = codes "none"
 has_field causes.Nothing = codes "none"
 has_field causes.Oblique = codes "none"
 
--- the five fields of a hole that lacks its ring (docs/FORMATS.md, Waivers)
+-- the fields of a hole that lacks its ring: `ring,top_layer,"pic_programmer-PTH, 0.75 at 142.24,-97.79",,none`
 abbrev pub ring_fields : List (List ℕ) → List LayerHead → RingLack → Row
 ring_fields names layers lack = codes "ring" ∷ layer_field names layers lack.layer ∷ hole_field names lack.at ∷ [] ∷ has_field lack.cause ∷ []
 
--- the five fields of two holes that lack their gap (docs/FORMATS.md, Waivers)
+-- the fields of two holes that lack their gap: `gap,,"drill, 0.6096 at 50.546,67.31","drill, 0.6096 at 51.181,66.548",0.382301708`
 abbrev pub gap_fields : List (List ℕ) → GapLack → Row
 gap_fields names lack = codes "gap" ∷ [] ∷ hole_field names lack.first ∷ hole_field names lack.second ∷ short_millimetres lack.gap ∷ []
 
--- the record of a finding: its five fields, and an empty one for the reason (docs/FORMATS.md, Waivers)
+-- the record of a finding: its five fields, an empty reason, and a line end
 abbrev pub finding_record : Row → List ℕ
 finding_record finding = row_text default_writer (finding ++ [] ∷ [])
 
--- the head of a file of waivers (docs/FORMATS.md, Waivers)
+-- the head of a file of waivers: `kind,layer,hole,and,has,why`
 abbrev pub head_record : List ℕ
 head_record = row_text default_writer (codes "kind" ∷ codes "layer" ∷ codes "hole" ∷ codes "and" ∷ codes "has" ∷ codes "why" ∷ [])
 
--- the text of all findings, those of rings first (docs/FORMATS.md, Waivers)
+-- the file of all findings: the head, then a record of each, rings before gaps
 abbrev pub findings_text : List (List ℕ) → Telling → List ℕ
 findings_text names told =
     head_record

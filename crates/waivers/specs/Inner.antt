@@ -1,4 +1,4 @@
--- Words between the public ones and those of single steps.
+-- Definitions for single steps: of reading records, and of looking up waivers by a key.
 use Rattle.std.specs.Prelude.{◌==◌, ◌++◌, ℕ, Bool, false, not, List, map, Option, Some, None, Result, Ok, Err}
 use Rattle.std.specs.Borrow.{Bor}
 use Rattle.std.specs.BTreeMap.{BTreeMap, get_by}
@@ -14,50 +14,50 @@ use Rattle.waivers.specs.declared.waiving.Waived.{Waived}
 use Rattle.waivers.specs.Reading.{broken_rule, waiver_of}
 use Rattle.waivers.specs.Waiving.{compared, numbers_where, waived_by}
 
--- a waiver, if no rule is broken (docs/FORMATS.md, Waivers)
+-- the waiver, if no rule is broken
 abbrev pub unless_broken : Option Reason → Waiver → Result Waiver Reason
 unless_broken None waiver = Ok waiver
 unless_broken (Some why) waiver = Err why
 
--- what a record behind the head gives (docs/FORMATS.md, Waivers)
+-- the waiver of a record after the head, or the rule that it breaks
 abbrev pub judged : Row → Result Waiver Reason
 judged row = unless_broken (broken_rule row) (waiver_of row)
 
--- the text by which five fields are looked up: no two others have it (docs/FORMATS.md, Waivers)
+-- the key of five fields: their record as CSV, which no other fields have
 abbrev pub key_of : Row → List ℕ
 key_of fields = row_text default_writer fields
 
--- the place that a table has for a key (docs/FORMATS.md, Waivers)
+-- the place that a table holds for a key
 abbrev pub place_at : BTreeMap (Bor (List ℕ)) ℕ → List ℕ → Option ℕ
 place_at table key = get_by (λ k. slice_cmp nat_cmp key k.now) table
 
--- a set has a place (docs/FORMATS.md, Waivers)
+-- a set has a place
 abbrev pub has_place : BTreeSet ℕ → ℕ → Bool
 has_place places place = contains nat_cmp places place
 
--- a set has the place that there is (docs/FORMATS.md, Waivers)
+-- a set has the place, if there is one
 abbrev pub has_first : BTreeSet ℕ → Option ℕ → Bool
 has_first used None = false
 has_first used (Some place) = has_place used place
 
--- the numbers from 2 of the waivers whose first ones alike a set has not (docs/FORMATS.md, Waivers)
+-- the numbers, from 2, of the waivers whose first waiver alike is not in a set; `firsts` has the place of that one for each
 abbrev pub unused_numbers : BTreeSet ℕ → List (Option ℕ) → List ℕ
 unused_numbers used firsts = map (λ one. one.0) (filter (λ one. not (has_first used one.1)) (enumerate_from 2 firsts))
 
--- a finding is waived by the waiver at a place (docs/FORMATS.md, Waivers)
+-- a finding's waiver is the one at a place
 abbrev pub is_by : ℕ → Option ℕ → Bool
 is_by place None = false
 is_by place (Some by) = by == place
 
--- there is a place, and a finding is waived by the waiver there (docs/FORMATS.md, Waivers)
+-- a finding's waiver is the one at a place, if there is such a place
 abbrev pub is_by_that : Option ℕ → Option ℕ → Bool
 is_by_that None by = false
 is_by_that (Some place) by = is_by place by
 
--- the first waiver with the five fields of this one is that by which some finding is waived (docs/FORMATS.md, Waivers)
+-- the first waiver with the same five fields as this one waives some finding
 abbrev pub is_used : List Waiver → Waived → Waiver → Bool
 is_used all waived waiver = list_any (is_by_that (waived_by all (compared waiver))) (waived.rings.items ++ waived.gaps.items)
 
--- the numbers of the records of the waivers that are not used so (docs/FORMATS.md, Waivers)
+-- the numbers of the records of the other waivers
 abbrev pub unused_records : List Waiver → Waived → List ℕ
 unused_records all waived = numbers_where (λ waiver. not (is_used all waived waiver)) all

@@ -1,4 +1,4 @@
--- What the records of a file of waivers say, and by which rule it is refused.
+-- The waivers of a text, and the rules by which it is refused (docs/FORMATS.md, Waivers).
 use Rattle.std.specs.Prelude.{◌+◌, ◌==◌, nat_lt, ◌&&◌, ◌||◌, ℕ, Bool, true, false, not, if◌then◌else◌, List, [], ◌∷◌, length, codes, slice_get, map, Option, Some, None, Result, Ok, Err}
 use Rattle.std.specs.Str.{bytes_eq}
 use Rattle.grid_units.specs.Lists.{breaks}
@@ -9,27 +9,27 @@ use Rattle.grid_units.specs.declared.fault.Fault.{Fault}
 use Rattle.manifest.specs.Manifest.{Row, field, is_well_formed, rows_of}
 use Rattle.waivers.specs.declared.Waiver.{Waiver}
 
--- the first three fields are `kind`, `layer`, `hole` (docs/FORMATS.md, Waivers)
+-- the first three fields are `kind`, `layer`, `hole`
 abbrev pub names_place : Row → Bool
 names_place row = bytes_eq (field 0 row) (codes "kind") && (bytes_eq (field 1 row) (codes "layer") && bytes_eq (field 2 row) (codes "hole"))
 
--- the three fields behind them are `and`, `has`, `why` (docs/FORMATS.md, Waivers)
+-- the next three fields are `and`, `has`, `why`
 abbrev pub names_reason : Row → Bool
 names_reason row = bytes_eq (field 3 row) (codes "and") && (bytes_eq (field 4 row) (codes "has") && bytes_eq (field 5 row) (codes "why"))
 
--- just the fields `kind`, `layer`, `hole`, `and`, `has`, `why`: the head (docs/FORMATS.md, Waivers)
+-- the head: just the fields `kind`, `layer`, `hole`, `and`, `has`, `why`
 abbrev pub is_heading : Row → Bool
 is_heading row = (length row == 6) && (names_place row && names_reason row)
 
--- a kind of finding: `ring` or `gap` (docs/FORMATS.md, Waivers)
+-- a kind of finding: `ring` or `gap`
 abbrev pub is_kind : List ℕ → Bool
 is_kind word = bytes_eq word (codes "ring") || bytes_eq word (codes "gap")
 
--- the greatest length of a reason, in bytes (docs/FORMATS.md, Waivers)
+-- the greatest length of a reason, in bytes
 abbrev pub reason_limit : ℕ
 reason_limit = 1000
 
--- the first rule that a record behind the head breaks (docs/FORMATS.md, Waivers)
+-- the first rule that a record after the head breaks
 abbrev pub broken_rule : Row → Option Reason
 broken_rule row =
     if not (is_well_formed 6 row) then Some BadManifest
@@ -37,33 +37,33 @@ broken_rule row =
     else if length (field 5 row) == 0 then Some EmptyName
     else if nat_lt reason_limit (length (field 5 row)) then Some TooLong else None
 
--- the waiver that a record is (docs/FORMATS.md, Waivers)
+-- the fields of a record as a waiver: `ring,top,"pth, 0.4 at 0,0",,0.124999,drawn so`
 abbrev pub waiver_of : Row → Waiver
 waiver_of row = record { kind = field 0 row; layer = field 1 row; hole = field 2 row; and = field 3 row; has = field 4 row; why = field 5 row }
 
--- the first record behind the head that breaks a rule, counted from 0, and what it breaks (docs/FORMATS.md, Waivers)
+-- the first record after the head that breaks a rule, counted from 0, and the reason
 abbrev pub first_wrong : List Row → Option (ℕ × Reason)
 first_wrong rows = slice_get (breaks (λ before row. broken_rule row) rows) 0
 
--- these waivers where nothing is wrong; the first record behind the head has the number 2 (docs/FORMATS.md, Waivers)
+-- the waivers, if no record is wrong; the first record after the head has the number 2
 abbrev pub unless_wrong : Option (ℕ × Reason) → List Waiver → Result (List Waiver) Fault
 unless_wrong None all = Ok all
 unless_wrong (Some wrong) all = Err (fault (wrong.0 + 2) 0 wrong.1)
 
--- the waivers of the records behind the head (docs/FORMATS.md, Waivers)
+-- the waivers of the records after the head
 abbrev pub waivers_behind : List Row → Result (List Waiver) Fault
 waivers_behind rows = unless_wrong (first_wrong rows) (map waiver_of rows)
 
--- the waivers of a list of records (docs/FORMATS.md, Waivers)
+-- the waivers of all records, the head being the first
 abbrev pub waivers_of : List Row → Result (List Waiver) Fault
 waivers_of [] = Err (fault 1 0 BadManifest)
 waivers_of (first ∷ rows) = if is_heading first then waivers_behind rows else Err (fault 1 0 BadManifest)
 
--- the waivers of a text, or the first refusal (docs/FORMATS.md, Waivers)
+-- the waivers of a text, or its first refusal
 abbrev pub waivers : List ℕ → Result (List Waiver) Fault
 waivers text = waivers_of (rows_of text)
 
--- the reasons for which a file of waivers is refused (docs/FORMATS.md, Waivers)
+-- a reason for which a file of waivers is refused
 abbrev pub is_waiver_reason : Reason → Bool
 is_waiver_reason BadManifest = true
 is_waiver_reason BadRole = true

@@ -1,4 +1,4 @@
-//! The five fields by which a finding is known.
+//! The five fields that identify a finding.
 
 ghost use Rattle.std.specs.Prelude.{◌≡◌, ◌++◌, map, IfOk, OnOk, string_bytes};
 ghost use Rattle.printing.specs.Lengths.{short_millimetres};
@@ -10,7 +10,7 @@ use report_text::{GapLack, HoleAt, LayerHead, RingCause, RingLack, name_of, push
 use std::alloc::{AllocError, Global};
 use std::marker::Model;
 
-/// The five fields of a finding. Contracts see them as the list of their bytes.
+/// The five fields of a finding. In contracts it is the list of their bytes.
 #[derive(Drop)]
 pub(crate) struct Finding {
     pub(crate) kind: &'static str,
@@ -56,7 +56,7 @@ fn hole_text(alloc: Global, names: &[&str], at: &HoleAt) -> Result<String, Alloc
     Ok(text)
 }
 
-/// A length in pm as millimetres.
+/// A length in pm as millimetres, without zeros at the end.
 fn length_text(alloc: Global, length: i64) -> Result<String, AllocError>
     ensures { IfOk result (λ text. string_bytes text ≡ short_millimetres length) }
 {
@@ -65,7 +65,7 @@ fn length_text(alloc: Global, length: i64) -> Result<String, AllocError>
     Ok(text)
 }
 
-/// The ring that a hole has, or `none` where it lies in no pad.
+/// The ring of a hole in its best pad in mm, or `none`.
 fn ring_text(alloc: Global, cause: &RingCause) -> Result<String, AllocError>
     ensures { IfOk result (λ text. string_bytes text ≡ has_field cause.now) }
 {

@@ -1,4 +1,4 @@
-//! The texts by which findings and waivers are looked up.
+//! The keys by which findings and waivers are looked up.
 
 ghost use Rattle.std.specs.Prelude.{◌≡◌, IfOk, OnOk, ℕ, List, map, ◌∷◌, [], Some, None, if◌then◌else◌};
 ghost use Rattle.std.specs.List.{position_from};
@@ -15,7 +15,7 @@ use report_text::{GapLack, LayerHead, RingLack};
 use std::alloc::{AllocError, Global};
 use std::collections::BTreeMap;
 
-/// The key of five fields: their record, so that no other fields have it.
+/// The key of five fields: their record as CSV, which no other fields have.
 fn key_of<'f>(
     alloc: Global,
     kind: &'f str,
@@ -51,7 +51,7 @@ fn finding_key(alloc: Global, finding: &Finding) -> Result<Vec<u8>, AllocError>
     )
 }
 
-/// The key of a ring.
+/// The key of a hole that lacks its ring.
 fn ring_key(
     alloc: Global,
     names: &[&str],
@@ -64,7 +64,7 @@ fn ring_key(
     finding_key(alloc, &finding)
 }
 
-/// The keys of the rings that are lacking, in their order.
+/// The keys of the holes that lack their rings, in order.
 pub(crate) fn ring_keys(
     alloc: Global,
     names: &[&str],
@@ -80,7 +80,7 @@ pub(crate) fn ring_keys(
     Ok(keys)
 }
 
-/// The key of a gap.
+/// The key of two holes that lack their gap.
 fn gap_key(alloc: Global, names: &[&str], lack: &GapLack) -> Result<Vec<u8>, AllocError>
     ensures { IfOk result (λ key. key.items ≡ key_of (gap_fields (map (λ name. name.now) names.now) lack.now)) }
 {
@@ -88,7 +88,7 @@ fn gap_key(alloc: Global, names: &[&str], lack: &GapLack) -> Result<Vec<u8>, All
     finding_key(alloc, &finding)
 }
 
-/// The keys of the gaps that are lacking, in their order.
+/// The keys of the pairs that lack their gap, in order.
 pub(crate) fn gap_keys(
     alloc: Global,
     names: &[&str],
@@ -103,7 +103,7 @@ pub(crate) fn gap_keys(
     Ok(keys)
 }
 
-/// The key of the fields that a waiver compares.
+/// The key of the fields of a waiver that are compared.
 fn waiver_key(alloc: Global, waiver: &Waiver) -> Result<Vec<u8>, AllocError>
     ensures { IfOk result (λ key. key.items ≡ key_of (compared waiver.now)) }
 {
@@ -117,7 +117,7 @@ fn waiver_key(alloc: Global, waiver: &Waiver) -> Result<Vec<u8>, AllocError>
     )
 }
 
-/// The keys of waivers, in their order.
+/// The keys of waivers, in order.
 pub(crate) fn waiver_keys(alloc: Global, waivers: &[Waiver]) -> Result<Vec<Vec<u8>>, AllocError>
     ensures { IfOk result (λ keys. map (λ key. key.items) keys.items ≡ map (λ waiver. key_of (compared waiver)) waivers.now) }
 {
@@ -128,7 +128,7 @@ pub(crate) fn waiver_keys(alloc: Global, waivers: &[Waiver]) -> Result<Vec<Vec<u
     Ok(keys)
 }
 
-/// Gives a key a place, if it has none.
+/// Enters a key with a place, unless the table has it.
 fn add_first<'k>(
     table: &mut BTreeMap<&'k [u8], usize>,
     key: &'k [u8],
@@ -143,7 +143,7 @@ fn add_first<'k>(
     Ok(())
 }
 
-/// The place of the first of equal keys, by the key.
+/// For each key the place of the first one equal to it.
 pub(crate) fn first_places<'k>(
     alloc: Global,
     keys: &'k [Vec<u8>],
@@ -157,14 +157,14 @@ pub(crate) fn first_places<'k>(
     Ok(table)
 }
 
-/// The place that a table has for a key.
+/// The place that a table holds for a key.
 fn place_of<'k>(table: &BTreeMap<&'k [u8], usize>, key: &'k [u8]) -> Option<usize>
     ensures { result ≡ place_at table.now key.now }
 {
     table.get(&key).copied()
 }
 
-/// The place that a table has for each of some keys.
+/// For each key the place that a table holds for it.
 pub(crate) fn places_of<'k>(
     alloc: Global,
     table: &BTreeMap<&'k [u8], usize>,

@@ -1,7 +1,7 @@
 //! Waivers: the findings of a report that a user accepts, each with the reason why.
 //!
 //! A file of waivers is CSV text. Its first record is `kind,layer,hole,and,has,why`, and each further record waives the findings that
-//! have its first five fields, byte for byte. The same fields are printed of each finding of a report, for the user to fill in why.
+//! have its first five fields, byte for byte. For each finding the same fields are printed, and the user fills in the reason.
 #![tactic(auto)]
 
 ghost use Rattle.std.specs.Prelude.{◌≡◌};
@@ -23,32 +23,32 @@ pub use report_text::PrintFault;
 use std::alloc::Global;
 pub use waiving::{Waived, idle, reasons, waive};
 
-/// A finding that is accepted, as a file of waivers tells it.
+/// A finding that is accepted, as a record of a file of waivers.
 #[derive(Debug, Drop)]
 pub struct Waiver {
     /// What is lacking: `ring` or `gap`.
     pub kind: Name,
-    /// The name of the layer's file; empty of a gap.
+    /// The name of the layer's file; empty for a gap.
     pub layer: Name,
-    /// The hole: the name of its drill file, its diameter in mm and where it is, in mm.
+    /// The hole: the name of its drill file, its diameter and where it is, in mm: `pth, 0.4 at 0,0`.
     pub hole: Name,
-    /// The other hole of a gap; empty of a ring.
+    /// The other hole of a gap; empty for a ring.
     pub and: Name,
-    /// The ring or the gap that it has in mm, or `none`.
+    /// The ring or the gap of the finding in mm, or `none`.
     pub has: Name,
-    /// Why it is accepted; not empty, and at most 1,000 bytes.
+    /// The reason why it is accepted: 1 to 1,000 bytes.
     pub why: Name,
 }
 
-/// The waivers of a file, in its order. A byte order mark before its text is dropped.
+/// The waivers of a file, in order. A byte order mark at its start is dropped.
 ///
 /// # Errors
 ///
-/// The first refusal, with the number of its record from 1, the head being 1, as the place, and 0 as the byte. In this order:
-/// [`Reason::BadManifest`] where the first record is not `kind,layer,hole,and,has,why`, where there is none, or where a record has not
-/// six fields, each of UTF-8 without control bytes; [`Reason::BadRole`] where the kind is neither `ring` nor `gap`;
-/// [`Reason::EmptyName`] where no reason is given; [`Reason::TooLong`] where it has more than 1,000 bytes. [`Fail::Memory`] where there
-/// is no memory.
+/// The first refusal. Its place is the number of the record, the head being 1; its byte is 0. In this order:
+/// [`Reason::BadManifest`] if the first record is missing or not `kind,layer,hole,and,has,why`, or if a record has not
+/// six fields, each of UTF-8 without control bytes; [`Reason::BadRole`] if the kind is neither `ring` nor `gap`;
+/// [`Reason::EmptyName`] if there is no reason; [`Reason::TooLong`] if the reason has more than 1,000 bytes. [`Fail::Memory`] when
+/// memory runs out.
 ///
 /// [`Reason::BadManifest`]: grid_units::Reason::BadManifest
 /// [`Reason::BadRole`]: grid_units::Reason::BadRole

@@ -1,4 +1,4 @@
-//! The text of all findings, to be made a file of waivers.
+//! The file of waivers of all findings, with empty reasons.
 
 ghost use Rattle.std.specs.Prelude.{◌≡◌, ◌++◌, ◌∷◌, [], IfErr, IfOk, OnOk, map};
 ghost use Rattle.std.specs.List.{flat_map};
@@ -95,12 +95,12 @@ fn whole_text(alloc: Global, names: &[&str], told: &Telling) -> Result<Vec<u8>, 
     with_gaps(alloc, table, names, told.gaps.as_slice())?.into_bytes()
 }
 
-/// Prints all findings of a report as a file of waivers whose reasons are empty, by the names of the files of the package. The whole
+/// Prints all findings of a report as a file of waivers with empty reasons; `names` are those of the package's files. The whole
 /// text is gathered before its first byte is written.
 ///
 /// # Errors
 ///
-/// [`PrintFault::Memory`] where there is no memory, and then nothing was written; [`PrintFault::Cut`] where the writer fails.
+/// [`PrintFault::Memory`] when memory runs out, and then nothing was written; [`PrintFault::Cut`] when the writer fails.
 pub fn print_waivers<W: Write>(
     alloc: Global,
     names: &[&str],

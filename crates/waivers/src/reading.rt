@@ -1,4 +1,4 @@
-//! Which records are waivers, and by which rule the first wrong one is refused.
+//! The waivers of records, and the rules by which a record is refused.
 
 ghost use Rattle.std.specs.Prelude.{◌≡◌, map, true, false, MatchOption};
 ghost use Rattle.csv.specs.Records.{fields_of};
@@ -14,13 +14,13 @@ use manifest::Name;
 use manifest::rows::{has_field, text_field};
 use std::alloc::Global;
 
-/// How many fields each record has.
+/// The number of fields in each record.
 const FIELDS: usize = 6;
 
-/// The greatest length of a reason, in bytes: a report tells it of each finding that it accepts.
+/// The most bytes of a reason. A report prints it for each finding that it waives.
 const REASON_LIMIT: usize = 1000;
 
-/// The waivers that the records are.
+/// The waivers of all records, the head being the first.
 pub(crate) fn waivers_of(alloc: Global, rows: &[ByteRecord]) -> Result<Vec<Waiver>, Fail>
     ensures { Answers (λ all. all.items) (λ answer. answer ≡ naming.waivers_of (map fields_of rows.now)) result }
 {
@@ -33,7 +33,7 @@ pub(crate) fn waivers_of(alloc: Global, rows: &[ByteRecord]) -> Result<Vec<Waive
     waivers_behind(alloc, behind)
 }
 
-/// The waivers that the records behind the head are.
+/// The waivers of the records after the head.
 fn waivers_behind(alloc: Global, rows: &[ByteRecord]) -> Result<Vec<Waiver>, Fail>
     ensures { Answers (λ all. all.items) (λ answer. answer ≡ naming.waivers_behind (map fields_of rows.now)) result }
 {
@@ -56,7 +56,7 @@ fn refused(place: u64, reason: Reason) -> Fail
     })
 }
 
-/// The waiver that a record is.
+/// The waiver of a record.
 fn waiver_of(alloc: Global, place: u64, row: &ByteRecord) -> Result<Waiver, Fail>
     ensures { Answers (λ waiver. waiver) (λ answer. answer ≡ at place 0 (judged (fields_of row.now))) result }
 {
@@ -82,7 +82,7 @@ fn waiver_of(alloc: Global, place: u64, row: &ByteRecord) -> Result<Waiver, Fail
     })
 }
 
-/// The fields of a record, each of plain text.
+/// The fields of a record, each plain text.
 #[derive(Clone, Copy)]
 struct Fields<'a> {
     kind: &'a str,
@@ -113,7 +113,7 @@ fn text_fields<'a>(row: &'a ByteRecord) -> Option<Fields<'a>>
     })
 }
 
-/// Whether this is the head.
+/// Whether a record is the head.
 fn is_heading(row: &ByteRecord) -> bool
     ensures { result ≡ naming.is_heading (fields_of row.now) }
 {
@@ -132,7 +132,7 @@ fn names_reason(row: &ByteRecord) -> bool
     has_field(row, 3, "and") && has_field(row, 4, "has") && has_field(row, 5, "why")
 }
 
-/// Whether a word is a kind of finding.
+/// Whether a word is a kind of finding: `ring` or `gap`.
 fn is_kind(word: &str) -> bool
     ensures { result ≡ naming.is_kind word.now }
 {

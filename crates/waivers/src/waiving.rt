@@ -1,4 +1,4 @@
-//! Which findings are waived, and which waivers waive nothing.
+//! The waivers of findings, and the waivers that waive nothing.
 
 ghost use Rattle.std.specs.Prelude.{◌≡◌, ◌||◌, ◌++◌, ◌∷◌, [], ℕ, List, IfOk, OnOk, map, not, is_some, option_map, if◌then◌else◌};
 ghost use Rattle.std.specs.List.{list_all, list_any};
@@ -15,12 +15,12 @@ use report_text::Telling;
 use std::alloc::{AllocError, Global};
 use std::collections::BTreeSet;
 
-/// Which waiver waives each finding of a report.
+/// For each finding of a report the waiver that waives it.
 #[derive(Debug, Drop)]
 pub struct Waived {
-    /// Of each ring that is lacking, in the report's order, the index of the first waiver that waives it.
+    /// For each ring of the report, in order, the index of the first waiver that waives it.
     pub rings: Vec<Option<usize>>,
-    /// The same of each gap.
+    /// For each gap of the report, in order, the index of the first waiver that waives it.
     pub gaps: Vec<Option<usize>>,
 }
 
@@ -40,7 +40,7 @@ fn are_some(places: &[Option<usize>]) -> bool
     places.iter().all(|place| place.is_some())
 }
 
-/// Why the finding of the waiver at a place is accepted.
+/// The reason of the waiver at a place.
 fn reason_at(waivers: &[Waiver], place: Option<usize>) -> Option<&str>
     ensures { option_map (λ why. why.now) result ≡ naming.reason_at waivers.now place }
 {
@@ -48,11 +48,11 @@ fn reason_at(waivers: &[Waiver], place: Option<usize>) -> Option<&str>
     Some(waiver.why.as_str())
 }
 
-/// Why each finding is accepted, by the index of its waiver.
+/// The reason why each finding is accepted, by the index of its waiver.
 ///
 /// # Errors
 ///
-/// An `AllocError` where there is no memory.
+/// An `AllocError` when memory runs out.
 pub fn reasons<'a>(
     alloc: Global,
     waivers: &'a [Waiver],
@@ -67,12 +67,12 @@ pub fn reasons<'a>(
     Ok(whys)
 }
 
-/// Which waiver waives each finding of a report, by the names of the files of the package: the first whose first five fields are
-/// those of the finding, byte for byte.
+/// For each finding of a report the first waiver whose first five fields are those of the finding, byte for byte. `names` are those
+/// of the package's files.
 ///
 /// # Errors
 ///
-/// An `AllocError` where there is no memory.
+/// An `AllocError` when memory runs out.
 pub fn waive(
     alloc: Global,
     names: &[&str],
@@ -92,7 +92,7 @@ pub fn waive(
     })
 }
 
-/// The index of the first waiver with the same first five fields, of each waiver.
+/// For each waiver the index of the first one with the same first five fields.
 fn firsts_alike(alloc: Global, waivers: &[Waiver]) -> Result<Vec<Option<usize>>, AllocError>
     ensures { IfOk result (λ firsts. firsts.items ≡ map (λ waiver. waived_by waivers.now (compared waiver)) waivers.now) }
 {
@@ -101,7 +101,7 @@ fn firsts_alike(alloc: Global, waivers: &[Waiver]) -> Result<Vec<Option<usize>>,
     places_of(alloc, &table, keys.as_slice())
 }
 
-/// Adds the waivers that some findings have.
+/// Adds the waivers of some findings.
 fn add_used(used: &mut BTreeSet<usize>, places: &[Option<usize>]) -> Result<(), AllocError>
     ensures { OnOk result ((place : ℕ) → has_place used.new place ≡ (has_place used.old place || list_any (is_by place) places.now)) }
 {
@@ -113,7 +113,7 @@ fn add_used(used: &mut BTreeSet<usize>, places: &[Option<usize>]) -> Result<(), 
     Ok(())
 }
 
-/// The waivers that are the first of some finding.
+/// The waivers that are the first for some finding.
 fn used_by(alloc: Global, waived: &Waived) -> Result<BTreeSet<usize>, AllocError>
     ensures { IfOk result (λ used. (place : ℕ) → has_place used place ≡ (list_any (is_by place) waived.now.rings.items || list_any (is_by place) waived.now.gaps.items)) }
 {
@@ -123,7 +123,7 @@ fn used_by(alloc: Global, waived: &Waived) -> Result<BTreeSet<usize>, AllocError
     Ok(used)
 }
 
-/// Whether a set has the place that there is.
+/// Whether a set has a place, if there is one.
 fn has_first(used: &BTreeSet<usize>, first: Option<usize>) -> bool
     ensures { result ≡ inner.has_first used.now first }
 {
@@ -133,7 +133,7 @@ fn has_first(used: &BTreeSet<usize>, first: Option<usize>) -> bool
     }
 }
 
-/// Adds the number of the record of a waiver whose first one alike is not used.
+/// Adds the number of a waiver's record, if the first waiver alike is not used.
 fn push_idle(
     idle: &mut Vec<usize>,
     used: &BTreeSet<usize>,
@@ -149,7 +149,7 @@ fn push_idle(
     Ok(())
 }
 
-/// The numbers of the records of the waivers whose first ones alike are not used; the head of their file is the record 1.
+/// The numbers of the records of the waivers whose first ones alike are not used. The head is the record 1.
 fn unused(
     alloc: Global,
     used: &BTreeSet<usize>,
@@ -169,7 +169,7 @@ fn unused(
 ///
 /// # Errors
 ///
-/// An `AllocError` where there is no memory.
+/// An `AllocError` when memory runs out.
 pub fn idle(alloc: Global, waived: &Waived, waivers: &[Waiver]) -> Result<Vec<usize>, AllocError>
     ensures { IfOk result (λ numbers. (names : List (List ℕ)) (told : Told) → IsWaived waivers.now names told waived.now → numbers.items ≡ idle_numbers waivers.now (fields_told names told)) }
 {

@@ -1,8 +1,8 @@
-//! Texts of files, written line by line or as another text with some of its lines changed.
+//! Texts of files, written line by line, or as another text with some of its lines changed.
 
 use std::alloc::{AllocError, Global};
 
-/// One line of a text with its LF, and what is put before and after it.
+/// One line of a text with its LF, and the lines put before and after it.
 #[derive(Drop)]
 struct Line {
     before: Vec<u8>,
@@ -11,7 +11,7 @@ struct Line {
     is_replaced: bool,
 }
 
-/// Where a change of a line goes.
+/// Where the changed text of a line goes.
 #[derive(Clone, Copy, PartialEq, Eq)]
 pub(crate) enum Change {
     Before,
@@ -19,7 +19,7 @@ pub(crate) enum Change {
     After,
 }
 
-/// A text that is being written: the lines of the text that it began from, and what was appended.
+/// A text that is being written: the lines of the text it starts from, and what is appended.
 #[derive(Drop)]
 pub(crate) struct Draft {
     lines: Vec<Line>,
@@ -36,7 +36,7 @@ impl Draft {
         }
     }
 
-    /// The draft that begins from this text.
+    /// The draft that starts from this text.
     pub(crate) fn from_text(alloc: Global, text: &[u8]) -> Result<Draft, AllocError> {
         let mut draft = Draft::new(alloc);
         let mut own = Vec::new(alloc);
@@ -61,7 +61,7 @@ impl Draft {
         Ok(())
     }
 
-    /// Changes the line of this number, from 1. A text without such a line stays as it is, and false is the answer.
+    /// Changes the line of this number, from 1. Without such a line the text stays as it is, and the answer is false.
     pub(crate) fn change(
         &mut self,
         number: usize,
@@ -85,7 +85,7 @@ impl Draft {
         Ok(true)
     }
 
-    /// Takes a line out.
+    /// Takes a line out. Without such a line the answer is false.
     pub(crate) fn drop_line(&mut self, number: usize) -> bool {
         match self.lines.get_mut(number.saturating_sub(1)) {
             Some(line) => {
@@ -96,7 +96,7 @@ impl Draft {
         }
     }
 
-    /// Appends a text so many times.
+    /// Appends a text `count` times.
     pub(crate) fn append(&mut self, text: &[u8], count: usize) -> Result<(), AllocError> {
         for _ in 0..count {
             self.appended.extend_from_slice(text)?;
@@ -104,12 +104,12 @@ impl Draft {
         Ok(())
     }
 
-    /// Keeps no more than the first bytes.
+    /// Cuts the text to at most these bytes.
     pub(crate) fn cut(&mut self, length: usize) {
         self.length = Some(length);
     }
 
-    /// The text.
+    /// The text with all changes.
     pub(crate) fn text(&self, alloc: Global) -> Result<Vec<u8>, AllocError> {
         let mut text = Vec::new(alloc);
         for line in self.lines.iter() {

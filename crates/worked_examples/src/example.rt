@@ -1,4 +1,4 @@
-//! An example: what is asked of files, and what has to be the answer.
+//! An example: the question about some files, and the answer that is expected.
 
 use crate::draft::{Change, Draft};
 use crate::shelf::Shelf;
@@ -7,17 +7,17 @@ use grid_units::Fail;
 use ringcheck::{Status, run};
 use std::alloc::{AllocError, Global};
 
-/// What an example asks.
+/// The question of an example.
 #[derive(Drop)]
 enum Question {
     Nothing,
-    /// What the program answers to these words.
+    /// The answer of the program to these words.
     Run(String),
-    /// What the words of this Gerber file read as, without the rules of a layer.
+    /// The commands of this Gerber file, without the rules of a layer.
     Words(String),
 }
 
-/// An example, as far as its lines have come.
+/// An example, as far as its lines have been read.
 #[derive(Drop)]
 pub(crate) struct Example {
     title: String,
@@ -86,7 +86,7 @@ impl Example {
         Ok(())
     }
 
-    /// Whether the answer is another than the one that stands here, and that of no example. The files are taken away.
+    /// Whether the answer differs from the expected one; `None` if the example has no question. The files of the example are removed.
     pub(crate) fn judge(
         &self,
         alloc: Global,
@@ -115,13 +115,13 @@ impl Example {
     }
 }
 
-/// Whether a text has this line.
+/// Whether a text contains this line.
 fn has_line(text: &[u8], line: &str) -> bool {
     text.split(|byte| *byte == b'\n')
         .any(|one| one == line.as_bytes())
 }
 
-/// Whether a text has these bytes in it.
+/// Whether a text contains these bytes.
 fn has_part(text: &[u8], part: &[u8]) -> bool {
     text.windows(part.len().max(1)).any(|one| one == part)
 }
@@ -165,7 +165,7 @@ fn answer_of_words(alloc: Global, shelf: &mut Shelf, name: &str) -> Result<Answe
     })
 }
 
-/// Begins a file: `NAME`, or `NAME from BASE`. False where there is no such base text.
+/// Begins a file: `NAME`, or `NAME from BASE`. False if there is no such base text.
 fn begin_file(alloc: Global, shelf: &mut Shelf, rest: &str) -> Result<bool, AllocError> {
     let Some((name, base)) = rest.split_once(" from ") else {
         shelf.begin(alloc, rest, Draft::new(alloc))?;
@@ -179,7 +179,7 @@ fn begin_file(alloc: Global, shelf: &mut Shelf, rest: &str) -> Result<bool, Allo
     Ok(true)
 }
 
-/// Goes on with the file that was begun last. False where the line means nothing.
+/// Takes a line of the file that was begun last. False if the line means nothing.
 fn write_file(
     alloc: Global,
     shelf: &mut Shelf,

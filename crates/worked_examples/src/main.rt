@@ -1,5 +1,5 @@
-//! Runs the worked examples of `data/examples.txt` and the cases of `data/cases.txt`, and prints each whose answer is another than
-//! the one that stands there. How they are written is said at the head of the first file.
+//! Runs the worked examples of `data/examples.txt` and the cases of `data/cases.txt`, and prints each whose answer differs from the
+//! expected one. The head of the first file says how they are written.
 #![tactic(auto)]
 
 mod draft;
@@ -14,7 +14,7 @@ use std::{fs, io};
 /// The greatest size of a file of examples, in bytes.
 const GREATEST_SIZE: u64 = 1_048_576;
 
-/// Judges the examples of a file in their order: each is some lines, and an empty line ends it.
+/// Judges the examples of a file in order: each is lines up to an empty one.
 fn run_all(rt: &HostRuntime, name: &str, text: &str) -> io::Result<()> {
     let alloc = rt.alloc();
     let mut shelf = Shelf::new(alloc);
@@ -37,7 +37,7 @@ fn run_all(rt: &HostRuntime, name: &str, text: &str) -> io::Result<()> {
     println!(rt; "{name}: {all}, different: {different}")
 }
 
-/// Judges the examples of the file under a name.
+/// Judges the examples of the file of a name.
 fn run_file(rt: &HostRuntime, name: &str) -> io::Result<()> {
     let mut file = fs::open(rt, name)?;
     let Ok(bytes) = read_all(rt.alloc(), &mut file, GREATEST_SIZE) else {

@@ -13,7 +13,7 @@ struct Held {
     draft: Draft,
 }
 
-/// The files of an example, the last one being written, behind the base texts that all examples share.
+/// The files of an example, after the base texts that all examples share. The last file is the one being written.
 #[derive(Drop)]
 pub(crate) struct Shelf {
     files: Vec<Held>,
@@ -42,12 +42,12 @@ impl Shelf {
         Ok(())
     }
 
-    /// All files so far are base texts.
+    /// Makes all files so far base texts.
     pub(crate) fn keep_as_bases(&mut self) {
         self.bases = self.files.len();
     }
 
-    /// Takes all files away but the base texts.
+    /// Removes all files but the base texts.
     pub(crate) fn clear(&mut self) {
         self.files.truncate(self.bases);
     }
@@ -60,7 +60,7 @@ impl Shelf {
         }
     }
 
-    /// The text of the file that was begun last under this name.
+    /// The text of the last file begun under this name.
     pub(crate) fn text_of(&self, alloc: Global, name: &str) -> Result<Option<Vec<u8>>, AllocError> {
         for held in self.files.iter().rev() {
             if held.name.as_str() == name {

@@ -6,12 +6,12 @@ use Rattle.causes.specs.Causes.{is_in_hole}
 use Rattle.causes.specs.declared.groups.Search.{Search}
 use Rattle.causes.specs.declared.other.Other.{Other}
 
--- the first by its place of those flashes that have their points in a hole, or none where there is none (docs/DEFINITIONS.md, Causes)
+-- among the flashes whose points lie in a hole, the one of the lowest place; `None` where there is none
 abbrev pub IsFirstIn : List Other → GridHole → Option Other → Type 0
 IsFirstIn all h None = All (λ other. is_in_hole h other.at ≡ false) all
 IsFirstIn all h (Some first) = Contains all first × (is_in_hole h first.at ≡ true) × All (λ other. is_in_hole h other.at ≡ true → first.place ≤ other.place) all
 
--- a search has passed so many flashes at the front of a list, and has the first of them in a hole (docs/DEFINITIONS.md, Causes)
+-- a search has passed the first `passed` flashes of a list, and has the first of these in the hole, if there is one
 pub record HasPassed (all : List Other) (h : GridHole) (search : Search) : Type 0 where
   pub inside : search.passed ≤ length all
   pub first : IsFirstIn (take search.passed all) h search.first

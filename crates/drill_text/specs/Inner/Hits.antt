@@ -1,4 +1,4 @@
--- A hit in front of the bytes of a file, at decimals with points.
+-- A hit at the start of the bytes of a file, with decimals that have points (docs/FORMATS.md, Drill lines).
 use Rattle.std.specs.Prelude.{◌≡◌, ◌≤◌, ℕ, ℤ, true, not, ◌==◌, List, ◌∷◌, ◌++◌, length, Some, Ok}
 use Rattle.std.specs.List.{list_all}
 use Rattle.grid_units.specs.Fronts.{IsInFront}
@@ -10,13 +10,13 @@ use Rattle.drill_lines.specs.declared.command.Settings.{Settings}
 use Rattle.drill_lines.specs.declared.command.DrillCommand.TheVariants as command
 use Rattle.grid_units.specs.Ascii as ascii
 
--- The bytes are this letter, a decimal with a point, and the rest (docs/FORMATS.md, Drill lines).
+-- The bytes are this letter, a decimal with a point, and this rest: `X1.0Y2.0` is `X`, 1 and `Y2.0`.
 pub record NamesDecimal (letter : ℕ) (v : ℤ) (rest bytes : List ℕ) : Type 0 where
   pub behind : List ℕ
   pub whole : bytes ≡ letter ∷ behind
   pub is_decimal : IsInFront v rest behind
 
--- The bytes are so many blanks, an LF and more (docs/FORMATS.md, Drill lines).
+-- The bytes are so many blanks, none or one, then an LF, and more bytes.
 pub record EndsLine (n : ℕ) (bytes : List ℕ) : Type 0 where
   pub blanks : List ℕ
   pub more : List ℕ
@@ -26,7 +26,8 @@ pub record EndsLine (n : ℕ) (bytes : List ℕ) : Type 0 where
   pub count : length blanks ≡ n
   pub short : n ≤ 1
 
--- The bytes are a line of so many bytes that spells this hit in the body, its LF and more (docs/FORMATS.md, Drill lines).
+-- The bytes are a line of this length, at most 64, then its LF, and more. In the body the line spells this hit by `meaning`,
+-- whatever the other settings.
 pub record LeadsHit (point : Coordinates) (len : ℕ) (bytes : List ℕ) : Type 0 where
   pub line : List ℕ
   pub more : List ℕ

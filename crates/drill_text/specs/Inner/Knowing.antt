@@ -1,4 +1,4 @@
--- What a judge says of the commands that it has met.
+-- The judge, which is what a reader keeps of the commands that it has met, and what its steps do.
 use Rattle.std.specs.Prelude.{◌≡◌, ℕ, ℤ, Bool, false, ◌||◌, List, [], ◌∷◌, ◌++◌, length, ◌≤ℤ◌, ◌/◌, nat_le, int_le, pos, unsigned_abs, Result, Ok, Err, Option, None, Some, unwrap_or, nat_eq, if◌then◌else◌}
 use Rattle.std.specs.Option.{option_or, option_and_then, option_map, option_to_list}
 use Rattle.indexmap.specs.IndexMap.{get}
@@ -23,7 +23,7 @@ use Rattle.drill_text.specs.Lookback.{Standing, standing, part_named, unit_named
 use Rattle.drill_text.specs.Holes.{Drilled, coordinate_in, unit_or, hole_of, holes_of}
 use Rattle.drill_text.specs.Rules.{broken_rule, defines_again, has_no_tool, max_holes}
 
--- what the judge says to the next command (docs/DEFINITIONS.md, The judge of a drill file)
+-- what stands before the next command, by the fields of the judge
 abbrev pub told : Judge → Standing
 told judge = record {
   settings = judge.settings;
@@ -34,18 +34,18 @@ told judge = record {
   y = judge.y;
 }
 
--- the judge has met just these commands (docs/DEFINITIONS.md, The judge of a drill file)
+-- the judge has met just these commands: what stands, the holes and the tools are theirs
 pub record Knows (judge : Judge) (before : List DrillCommand) : Type 0 where
   pub standing : told judge ≡ standing before
   pub holes : judge.holes.items ≡ holes_of before
   pub tools : judge.tools.entries ≡ tools_of before
 
--- what is given last, where a header that has ended takes no more (docs/DEFINITIONS.md, The judge of a drill file)
+-- the value given last; once the header has ended, a new one is not taken
 abbrev pub given_last : {A : Type 0} → Bool → Option A → Option A → Option A
 given_last is_settled None before = before
 given_last is_settled (Some x) before = if is_settled then before else Some x
 
--- the settings after one more command, in a header that has ended or not (docs/DEFINITIONS.md, The judge of a drill file)
+-- the settings after one more command, once the header has ended or before
 abbrev pub settings_and : DrillCommand → Bool → Settings → Settings
 settings_and c is_settled s = record {
   part = unwrap_or (part_named c) s.part;
@@ -54,7 +54,7 @@ settings_and c is_settled s = record {
   format = given_last is_settled (format_named c) s.format;
 }
 
--- what stands after one more command (docs/DEFINITIONS.md, The judge of a drill file)
+-- what stands after one more command
 abbrev pub after : DrillCommand → Standing → Standing
 after c s = record {
   settings = settings_and c s.is_settled s.settings;
@@ -67,11 +67,11 @@ after c s = record {
 
 -- ---- the hole that a command drills, by what stands
 
--- where a point lies that names these coordinates, from a last point (docs/DEFINITIONS.md, The judge of a drill file)
+-- the point that names these coordinates; where it leaves one out, it has that of the last point (x, y)
 abbrev pub onto : Units → Option ℤ → Option ℤ → Coordinates → GridPoint
 onto unit x y point = record { x = coordinate_in unit (option_or point.x x); y = coordinate_in unit (option_or point.y y) }
 
--- the slot from a first point to a second, by what stands (docs/DEFINITIONS.md, The judge of a drill file)
+-- what a slot drills from a first point to a second, by what stands
 abbrev pub drilled_between : Standing → Coordinates → Coordinates → Drilled
 drilled_between s first second = record {
   from = onto (unit_or s.settings.unit) s.x s.y first;
@@ -79,52 +79,52 @@ drilled_between s first second = record {
   diameter = coordinate_in (unit_or s.settings.unit) (option_and_then s.diameter s.tool);
 }
 
--- no coordinates (docs/DEFINITIONS.md, The judge of a drill file)
+-- a point that names no coordinate
 abbrev pub nowhere : Coordinates
 nowhere = record { x = None; y = None }
 
--- what a command drills, by what stands (docs/DEFINITIONS.md, The judge of a drill file)
+-- what a command drills, by what stands: a hit from its point to itself
 abbrev pub drilled : Standing → DrillCommand → Option Drilled
 drilled s (command.Hit point) = Some (drilled_between s point nowhere)
 drilled s (command.Slot first second) = Some (drilled_between s first second)
 drilled s _ = None
 
--- a length in pm, unless it is too far (docs/DEFINITIONS.md, The judge of a drill file)
+-- a length in pm, unless it is above 10 m: TooFar
 abbrev pub length_in : Units → Option ℤ → Result ℤ Reason
 length_in unit v = within_limit (coordinate_in unit v)
 
--- the point at these coordinates, unless one of them is too far (docs/DEFINITIONS.md, The judge of a drill file)
+-- the point at these coordinates, unless one of them is above 10 m: TooFar
 abbrev pub point_in : Units → Option ℤ → Option ℤ → Result GridPoint Reason
 point_in unit x y = if is_far (coordinate_in unit x) || is_far (coordinate_in unit y) then Err TooFar else Ok (record { x = coordinate_in unit x; y = coordinate_in unit y })
 
--- the diameter of the picked tool in pm (docs/DEFINITIONS.md, The judge of a drill file)
+-- the diameter of the picked tool in pm, 0 where there is none
 abbrev pub width_in : Standing → ℤ
 width_in s = coordinate_in (unit_or s.settings.unit) (option_and_then s.diameter s.tool)
 
--- the same, unless it breaks a rule (docs/DEFINITIONS.md, The judge of a drill file)
+-- the diameter of the picked tool in pm; or NoTool, BadSize or TooFar, in this order
 abbrev pub width_of : Standing → Result ℤ Reason
 width_of s = if has_no_tool s then Err NoTool else if int_le (width_in s) (pos 0) then Err BadSize else within_limit (width_in s)
 
--- the diameter of a hole in pm (docs/DEFINITIONS.md, The judge of a drill file)
+-- a diameter that a hole can have: 2 pm to 10 m, so that half of it is at least 1 pm
 abbrev pub IsWidth : ℤ → Type 0
 IsWidth width = (pos 2 ≤ℤ width) × (width ≤ℤ pos max_coordinate)
 
--- the hole between two points, unless there are too many (docs/DEFINITIONS.md, The judge of a drill file)
+-- the hole between two points, unless there are 1,048,576 already: TooManyHoles
 abbrev pub hole_between : ℕ → ℤ → GridPoint → GridPoint → Result GridHole Reason
 hole_between count width from to = if nat_le max_holes count then Err TooManyHoles else Ok (record { from = from; to = to; radius = unsigned_abs width / 2 })
 
--- the hole from one point to another, or the first rule that it breaks (docs/DEFINITIONS.md, The judge of a drill file)
+-- the hole from one point to another, or the first rule that it breaks: NoTool, BadSize, TooFar, TooManyHoles
 abbrev pub hole_in : Standing → ℕ → Coordinates → Coordinates → Result GridHole Reason
 hole_in s count first second = width_of s >>= λ width.
     (point_in (unit_or s.settings.unit) (option_or first.x s.x) (option_or first.y s.y) >>= λ from.
     (point_in (unit_or s.settings.unit) (option_or second.x (option_or first.x s.x)) (option_or second.y (option_or first.y s.y)) >>= λ to.
     hole_between count width from to))
 
--- the round hole at these coordinates, or the first rule that it breaks (docs/DEFINITIONS.md, The judge of a drill file)
+-- the round hole at these coordinates, or the first rule that it breaks
 abbrev pub round_hole : Standing → ℕ → Option ℤ → Option ℤ → Result GridHole Reason
 round_hole s count x y = width_of s >>= λ width. (point_in (unit_or s.settings.unit) x y >>= λ at. hole_between count width at at)
 
--- what stands after a line that gives these settings (docs/DEFINITIONS.md, The judge of a drill file)
+-- what stands after a line that gives this unit, these zeros and this format
 abbrev pub given : Option Units → Option Zeros → Option Digits → Standing → Standing
 given unit zeros format s = record {
   settings = record {
@@ -140,17 +140,17 @@ given unit zeros format s = record {
   y = s.y;
 }
 
--- what stands at a point (docs/DEFINITIONS.md, The judge of a drill file)
+-- what stands once this is the last point; a coordinate that it leaves out stays
 abbrev pub moved : Coordinates → Standing → Standing
 moved point s = record { settings = s.settings; is_settled = s.is_settled; diameter = s.diameter; tool = s.tool; x = option_or point.x s.x; y = option_or point.y s.y }
 
--- new is old after one more command (docs/DEFINITIONS.md, The judge of a drill file)
+-- the new judge is the old one after one more command
 pub record Takes (old : Judge) (c : DrillCommand) (new : Judge) : Type 0 where
   pub standing : told new ≡ after c (told old)
   pub holes : new.holes.items ≡ old.holes.items ++ option_to_list (option_map hole_of (drilled (told old) c))
   pub tools : defines_again (told old) c ≡ false → new.tools.entries ≡ old.tools.entries ++ option_to_list (tool_defined c)
 
--- A hole was drilled from one point to another, or it breaks just this rule, or memory ran out (docs/DEFINITIONS.md, The judge of a drill file).
+-- A hole was drilled from one point to another, or it breaks just this rule, or memory ran out.
 abbrev pub Drills : Judge → Coordinates → Coordinates → Judge → Result (Unit {0}) Stop → Type 0
 Drills old first second new (Ok _) = (hole : GridHole) × (hole_in (told old) (length old.holes.items) first second ≡ Ok hole)
     × (told new ≡ moved second (moved first (told old)))
@@ -159,7 +159,7 @@ Drills old first second new (Ok _) = (hole : GridHole) × (hole_in (told old) (l
 Drills old first second new (Err (stops.Refused broken)) = hole_in (told old) (length old.holes.items) first second ≡ Err broken
 Drills old first second new (Err stops.Memory) = Unit {0}
 
--- The command breaks no rule and was taken in, or it breaks just this one, or memory ran out (docs/DEFINITIONS.md, The judge of a drill file).
+-- The command breaks no rule and was taken in, or it breaks just this one, or memory ran out.
 abbrev pub Judges : List DrillCommand → DrillCommand → Judge → Result (Unit {0}) Stop → Type 0
 Judges before c new (Ok _) = (broken_rule before c ≡ None) × Knows new (before ++ c ∷ [])
 Judges before c new (Err (stops.Refused broken)) = broken_rule before c ≡ Some broken

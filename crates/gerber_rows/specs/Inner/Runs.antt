@@ -1,9 +1,9 @@
--- The fields that a reader found, by the bytes of their runs.
+-- The fields of an operation, as the code finds them in a word.
 use Rattle.std.specs.Option.{option_copied}
 use Rattle.gerber_rows.specs.declared.word.Runs.{Runs}
 use Rattle.gerber_rows.specs.Words.{Fields}
 
--- the fields that a reader found, by the bytes of their runs (docs/FORMATS.md, How a row fits and is read)
+-- the fields that the code found, with each run as the list of its bytes (docs/FORMATS.md, How a row fits and is read)
 abbrev pub fields_of : Runs → Fields
 fields_of r = record {
   x = option_copied r.x;

@@ -2,7 +2,7 @@
 use Rattle.std.specs.Prelude.{◌≤◌, ◌^◌, unsigned_abs}
 use Rattle.layer_image.specs.declared.grid.Grid.{Grid}
 
--- no product or sum of a copy's coordinates leaves 128 bits (docs/DEFINITIONS.md, Flashes and pads)
+-- no product or sum of the coordinates of a copy leaves 128 bits
 pub record IsBounded (grid : Grid) : Type 0 where
   pub x : unsigned_abs grid.x ≤ 2 ^ 98
   pub y : unsigned_abs grid.y ≤ 2 ^ 98

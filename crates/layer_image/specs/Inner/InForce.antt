@@ -21,28 +21,26 @@ use Rattle.layer_image.specs.Flashes.{keeps_from_pad, why_order, what_at, unit_i
 use Rattle.layer_image.specs.Inner.Moved.{origin}
 use Rattle.layer_image.specs.Rules.{first_broken, is_far_side, max_flashes, sides}
 
--- the pm of a step in the unit and the format that are named, and a number that is neither too long nor too far
--- (docs/DEFINITIONS.md, Legal lists)
+-- unit and format are both named; `place` is the pm of one step of a coordinate, and a number up to `most` is not longer than the format
 pub record AreLengths (lengths : Lengths) (unit : Option Units) (format : Option Format) : Type 0 where
   pub unit_named : is_none unit ≡ false
   pub format_named : is_none format ≡ false
   pub place : lengths.place ≡ unit_length (unwrap_or unit Millimetre) / 10 ^ option_map_or (λ (f : Format). f.decimals) format 0
   pub short : lengths.most < 10 ^ option_map_or (λ (f : Format). f.whole + f.decimals) format 0
 
--- a number that is named is at most this (docs/DEFINITIONS.md, Legal lists)
+-- a number that is named is at most `most` in absolute value; so is one that is left out
 abbrev pub is_within : ℕ → Option ℤ → Bool
 is_within most named = option_map_or (λ n. nat_le (unsigned_abs n) most) named true
 
--- the point of two numbers (docs/DEFINITIONS.md, Flashes and pads)
+-- the point of two coordinates, `place` pm for each step
 abbrev pub point_of : Lengths → ℤ → ℤ → GridPoint
 point_of lengths x y = record { x = x *ℤ pos lengths.place; y = y *ℤ pos lengths.place }
 
--- a pad with a size beyond 10 m (docs/FORMATS.md, Rules of a layer)
+-- a flash of this aperture is a pad with a size above 10 m
 abbrev pub is_far_what : Units → ℤ → ℤ → Aperture → Bool
 is_far_what unit scale turn shape = is_none (find (keeps_from_pad shape scale turn) why_order) && list_any (is_far_side unit) (sides shape)
 
--- what the selected aperture leaves at the origin: there is one, no block repeats it, and it is no pad beyond 10 m
--- (docs/DEFINITIONS.md, Flashes and pads)
+-- what a flash of the selected aperture leaves at the origin, where no block repeats it and it is no pad with a size above 10 m
 pub record IsLoneWhat (w : What) (unit : Units) (selected : Option Aperture) (scale turn : ℤ) (block : Block) : Type 0 where
   pub some : is_none selected ≡ false
   pub columns : block.columns ≡ 1
@@ -50,13 +48,13 @@ pub record IsLoneWhat (w : What) (unit : Units) (selected : Option Aperture) (sc
   pub near : is_far_what unit scale turn (unwrap_or selected aperture.Polygon) ≡ false
   pub leaves : w ≡ what_at origin unit scale turn (unwrap_or selected aperture.Polygon)
 
--- what is in force for most operations, where it is known (docs/DEFINITIONS.md, Legal lists)
+-- what the fast path keeps is true of the state: the lengths where `ready`, and what a flash leaves where `lone`
 abbrev pub IsFastPath : FastPath → Standing → Type 0
 IsFastPath fast s =
     (fast.ready ≡ true → AreLengths fast.lengths s.unit s.format)
     × (fast.lone ≡ true → IsLoneWhat fast.what (unit_in_force s) (aperture_in s) s.scale s.turn s.block)
 
--- a command that changes it (docs/DEFINITIONS.md, Legal lists)
+-- a command that changes the unit, the format, an aperture, the selection, the turn, the scale or the block
 abbrev pub changes_force : Command → Bool
 changes_force (command.UnitIs unit) = true
 changes_force (command.FormatIs format) = true
@@ -68,7 +66,7 @@ changes_force (command.Repeat block) = true
 changes_force command.RepeatEnd = true
 changes_force _ = false
 
--- a command that breaks no rule and makes just this flash (docs/DEFINITIONS.md, Flashes and pads)
+-- a command that breaks no rule and makes this one flash, on a layer with room for it
 pub record IsFlashOf (s : Standing) (count : ℕ) (c : Command) (flash : Flash) : Type 0 where
   pub legal : first_broken s count c ≡ None
   pub flashes : flashes_at s c ≡ flash ∷ []

@@ -1,4 +1,4 @@
--- What a judge says of the commands that it has met.
+-- How the fields of a judge stand for the commands that it has met.
 use Rattle.std.specs.Prelude.{◌≡◌, ◌||◌, List, [], ◌∷◌, ◌++◌, Some, None, unwrap_or, Result, Ok, Err}
 use Rattle.std.specs.Option.{option_or}
 use Rattle.gerber_rows.specs.declared.command.Command.{Command}
@@ -12,7 +12,7 @@ use Rattle.layer_image.specs.Flashes.{flashes_of, flashes_at}
 use Rattle.layer_image.specs.Keeping.{KeepsFlashes, Adds}
 use Rattle.layer_image.specs.Tables.{aperture_at, has_name}
 
--- what the judge says to the next command (docs/DEFINITIONS.md, Legal lists)
+-- the fields of the judge as the state that the next command meets
 abbrev pub told : Judge → Standing
 told judge = record {
   unit = judge.unit;
@@ -28,12 +28,12 @@ told judge = record {
   block = judge.block;
 }
 
--- the judge has met just these commands (docs/DEFINITIONS.md, Legal lists)
+-- the judge has met just these commands: its state and its flashes are theirs
 pub record Knows (judge : Judge) (keep : Keep) (before : List Command) : Type 0 where
   pub standing : told judge ≡ standing before
   pub flashes : KeepsFlashes judge.flashes keep (flashes_of before)
 
--- what stands after one more command (docs/DEFINITIONS.md, Legal lists)
+-- the state after one more command
 abbrev pub after : Command → Standing → Standing
 after c s = record {
   unit = option_or (unit_named c) s.unit;
@@ -49,18 +49,17 @@ after c s = record {
   block = unwrap_or (block_named c) s.block;
 }
 
--- the new judge is the old one after one more command (docs/DEFINITIONS.md, Legal lists)
+-- the new judge is the old one after one more command
 pub record Takes (old : Judge) (c : Command) (new : Judge) : Type 0 where
   pub standing : told new ≡ after c (told old)
   pub flashes : Adds old.flashes (flashes_at (told old) c) new.flashes
 
--- this holds where a rule was broken (docs/DEFINITIONS.md, Legal lists)
+-- `P` holds where the stop is a broken rule; nothing is said where memory ran out
 abbrev pub IfRefused : Type 0 → Stop → Type 0
 IfRefused P (Refused reason) = P
 IfRefused P Memory = Unit {0}
 
--- The command breaks no rule and was taken in, or this is the first rule that it breaks, or memory ran out
--- (docs/DEFINITIONS.md, Legal lists).
+-- The command breaks no rule and was taken in, or this is the first rule that it breaks, or memory ran out.
 abbrev pub Judges : Keep → List Command → Command → Judge → Result (Unit {0}) Stop → Type 0
 Judges keep before c new (Ok _) = (broken_rule before c ≡ None) × Knows new keep (before ++ c ∷ [])
 Judges keep before c new (Err (Refused reason)) = broken_rule before c ≡ Some reason

@@ -1,4 +1,4 @@
--- What one record gives: words between the public ones and those of a single rule.
+-- What one record gives, in words for private functions alone (docs/FORMATS.md, Judging).
 use Rattle.std.specs.Prelude.{ℕ, Bool, List, Option, Some, None, Result, Ok, Err, if◌then◌else◌}
 use Rattle.grid_units.specs.Numbers.{value}
 use Rattle.grid_units.specs.Spans.{LayerSpan}
@@ -8,23 +8,23 @@ use Rattle.manifest.specs.declared.Entry.{Entry}
 use Rattle.manifest.specs.declared.Role.{Role}
 use Rattle.manifest.specs.Manifest.{Row, are_span_numbers, broken_rule, entry_of, is_bad_span, is_layer_number, span_named}
 
--- the number of a layer that a text spells (docs/FORMATS.md, Judging)
+-- the number of a layer that a text spells, None where it is not one to nine digits
 abbrev pub layer_number : List ℕ → Option ℕ
 layer_number text = if is_layer_number text then Some (value text) else None
 
--- the span of layers with these numbers (docs/FORMATS.md, Judging)
+-- the span of layers with these numbers, None where they are not those of a span
 abbrev pub numbered_span : List ℕ → List ℕ → Option LayerSpan
 numbered_span first last = if are_span_numbers first last then Some (record { first = value first; last = value last }) else None
 
--- the span that a file of the role names, if it may (docs/FORMATS.md, Judging)
+-- the span that the last two fields of a file of this role name, none where both are empty, or BadSpan
 abbrev pub span_of : Role → List ℕ → List ℕ → Result (Option LayerSpan) Reason
 span_of role first last = if is_bad_span role first last then Err BadSpan else Ok (span_named first last)
 
--- an entry, if no rule is broken (docs/FORMATS.md, Judging)
+-- the entry where no rule is broken, else the reason
 abbrev pub unless_broken : Option Reason → Entry → Result Entry Reason
 unless_broken None entry = Ok entry
 unless_broken (Some why) entry = Err why
 
--- what a file's record gives, where its name is repeated or not (docs/FORMATS.md, Judging)
+-- the file that a record names, or the first rule that it breaks; `repeated` says whether an earlier file has its name
 abbrev pub judged : ℕ → Bool → Row → Result Entry Reason
 judged width repeated row = unless_broken (broken_rule width repeated row) (entry_of row)

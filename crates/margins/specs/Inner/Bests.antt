@@ -12,17 +12,17 @@ use Rattle.margins.specs.Bests.{IsBestOf}
 use Rattle.margins.specs.declared.best.Best.{Best}
 use Rattle.margins.specs.declared.parts.Division.{Division}
 
--- how deep a hole must lie for a shape to be better than the best so far (docs/DEFINITIONS.md, Best pads)
+-- how deep a hole must lie at least in a shape that is better than its best so far, in pm; 0 where it has none
 abbrev pub asked : Option Best → ℕ
 asked None = 0
 asked (Some best) = best.depth + 1
 
--- the next shape, which covers with the reaches that a test tells, was not better than the best so far (docs/DEFINITIONS.md, Best pads)
+-- the best so far is kept: the next shape, which covers the hole with the reaches that pass `test`, is no better
 pub record IsKept (test : ℕ → Bool) (best result : Option Best) : Type 0 where
   pub same : result ≡ best
   pub below : (reach : ℕ) → test reach ≡ true → reach < asked best
 
--- or it was, and is the best now (docs/DEFINITIONS.md, Best pads)
+-- the next shape is better, and is the best now
 pub record IsTaken (test : ℕ → Bool) (best : Option Best) (place : ℕ) (result : Option Best) : Type 0 where
   pub now : Best
   pub is : result ≡ Some now
@@ -32,38 +32,38 @@ pub record IsTaken (test : ℕ → Bool) (best : Option Best) (place : ℕ) (res
   pub covered : test now.depth ≡ true
   pub deepest : (reach : ℕ) → test reach ≡ true → reach ≤ now.depth
 
--- the better of the two (docs/DEFINITIONS.md, Best pads)
+-- the better of the best so far and the next shape
 abbrev pub IsBetter : (ℕ → Bool) → Option Best → ℕ → Option Best → Type 0
 IsBetter test best place result = IsKept test best result ⊎ IsTaken test best place result
 
--- one more shape was tried at a hole: an oblique slot keeps what it has (docs/DEFINITIONS.md, Best pads)
+-- one more shape was tried at a hole; an oblique slot keeps what it has
 pub record IsStep {S : Type 0} (covers : S → GridPoint → ℕ → Bool) (pad : S) (place : ℕ) (h : GridHole) (before after : Option Best) : Type 0 where
   pub oblique : is_oblique h ≡ true → after ≡ before
   pub straight : is_oblique h ≡ false → IsBetter (λ reach. covers_ends covers pad h.from h.to reach) before place after
 
--- the best of the first so many shapes, and none for an oblique slot (docs/DEFINITIONS.md, Best pads)
+-- the best of the first `count` shapes, none for an oblique slot
 pub record IsBestSoFar {S : Type 0} (covers : S → GridPoint → ℕ → Bool) (pads : List S) (count : ℕ) (h : GridHole) (best : Option Best) : Type 0 where
   pub oblique : is_oblique h ≡ true → best ≡ None
   pub straight : is_oblique h ≡ false → IsBestOf covers pads count h best
 
--- a shape was tried at the first so many of some places, perhaps twice at one, and nothing else has changed (docs/DEFINITIONS.md, Best pads)
+-- a shape was tried at the first `count` of some places, perhaps twice at one, and nothing else has changed
 pub record IsTriedNear {S : Type 0} (covers : S → GridPoint → ℕ → Bool) (pad : S) (place : ℕ) (holes : List Drilled) (near : List ℕ) (count : ℕ) (before after : List (Option Best)) : Type 0 where
   pub size : length after ≡ length before
   pub kept : (k : ℕ) → (get_or after k None ≡ get_or before k None) ⊎ IsStep covers pad place (hole_at holes k) (get_or before k None) (get_or after k None)
   pub tried : (i : ℕ) → i < count → IsStep covers pad place (hole_at holes (get_or near i 0)) (get_or before (get_or near i 0) None) (get_or after (get_or near i 0) None)
 
--- a shape was tried at the holes of a list that go in at some points, perhaps at others too, and nothing else has changed (docs/DEFINITIONS.md, Best pads)
+-- a shape was tried at the holes with their entry point among some points, perhaps at others too, and nothing else has changed
 pub record IsTriedIn {S : Type 0} (covers : S → GridPoint → ℕ → Bool) (pad : S) (place : ℕ) (holes : List Drilled) (among : GridPoint → Type 0) (before after : List (Option Best)) : Type 0 where
   pub size : length after ≡ length before
   pub kept : (k : ℕ) → (get_or after k None ≡ get_or before k None) ⊎ IsStep covers pad place (hole_at holes k) (get_or before k None) (get_or after k None)
   pub tried : (k : ℕ) → k < length holes → among (point_at holes k) → IsStep covers pad place (hole_at holes k) (get_or before k None) (get_or after k None)
 
--- a shape was tried at all holes of a list (docs/DEFINITIONS.md, Best pads)
+-- a shape was tried at all holes of a list
 pub record IsTriedAll {S : Type 0} (covers : S → GridPoint → ℕ → Bool) (pad : S) (place : ℕ) (holes : List Drilled) (before after : List (Option Best)) : Type 0 where
   pub size : length after ≡ length before
   pub tried : (k : ℕ) → k < length holes → IsStep covers pad place (hole_at holes k) (get_or before k None) (get_or after k None)
 
--- a point of one of the zones from one to below another (docs/DEFINITIONS.md, Best pads)
+-- a point in one of the zones from the place `first` to `last`, end excluded
 pub record IsInSome (zones : List Zone) (first last : ℕ) (p : GridPoint) : Type 0 where
   pub i : ℕ
   pub zone : Zone
@@ -73,19 +73,19 @@ pub record IsInSome (zones : List Zone) (first last : ℕ) (p : GridPoint) : Typ
   pub is : get_or zones i zone ≡ zone
   pub within : IsInZone zone p
 
--- a hole that is no oblique slot asks for a bound or more of a shape that is better than its best so far (docs/DEFINITIONS.md, Best pads)
+-- a shape that is better for a hole than its best so far has at least this depth there; nothing is said of an oblique slot
 abbrev pub AsksFor : GridHole → Option Best → ℕ → Type 0
 AsksFor h best bound = is_oblique h ≡ false → bound ≤ asked best
 
--- so does each hole of a list that goes in at some points (docs/DEFINITIONS.md, Best pads)
+-- this is so with each hole of a list with its entry point among some points
 abbrev pub AskFor : List Drilled → List (Option Best) → (GridPoint → Type 0) → ℕ → Type 0
 AskFor holes bests among bound = (k : ℕ) → k < length holes → among (point_at holes k) → AsksFor (hole_at holes k) (get_or bests k None) bound
 
--- each of some zones has such a bound (docs/DEFINITIONS.md, Best pads)
+-- `bounds` has such a depth for the holes of each zone
 abbrev pub AreBounds : List Drilled → List (Option Best) → List Zone → List ℕ → Type 0
 AreBounds holes bests zones bounds = (i : ℕ) (zone : Zone) → i < length zones → get_or zones i zone ≡ zone → AskFor holes bests (IsInZone zone) (get_or bounds i 0)
 
--- zones that hold where the holes of a list go in, each with the parts that hold those that go in within it (docs/DEFINITIONS.md, Best pads)
+-- zones that contain the entry points of all holes, each with parts that together contain the entry points in it
 pub record IsDivision (holes : List Drilled) (d : Division) : Type 0 where
   pub whole : (k : ℕ) → k < length holes → IsInZone d.whole (point_at holes k)
   pub zones : (k : ℕ) → k < length holes → IsInSome d.zones.items 0 (length d.zones.items) (point_at holes k)

@@ -1,4 +1,4 @@
--- Proofs of the law that each shape with a depth meets. What they prove is stated in Depths.antt.
+-- Proofs of the law that each shape with a depth obeys. What they prove is stated in Depths.antt.
 use Rattle.std.proofs.Common.{◌≡◌, ℕ, ◌+◌, ◌-◌, ◌*◌, ◌≤◌, true, arith}
 use Rattle.std.specs.Prelude.{◌&&◌, nat_le}
 use Rattle.std.proofs.lemmas.Bool.Decides.{nat_tests}

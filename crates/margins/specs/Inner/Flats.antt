@@ -1,4 +1,5 @@
--- Shapes in which nothing lies deep: what they cover, and the laws that they meet.
+-- Flat shapes, in which nothing lies deep: what they cover, and the laws that they obey. A hole is bare among flat shapes just
+-- where it is bare among the shapes themselves.
 use Rattle.std.proofs.Common.{◌≡◌, ℕ, ℤ, ◌<◌, ◌≤◌, Bool, true, false, List, get_or, subst, arith}
 use Rattle.std.specs.Prelude.{◌&&◌, nat_le}
 use Rattle.std.proofs.lemmas.Bool.Decides.{nat_tests}
@@ -9,11 +10,11 @@ use Rattle.pad_shapes.specs.Zones.{CoversNone}
 use Rattle.pad_shapes.specs.declared.zone.Zone.{Zone}
 use Rattle.margins.specs.Depths.{CoversLess}
 
--- what a shape covers with no reach is covered with just that one (docs/DEFINITIONS.md, Best pads)
+-- what a shape covers with a reach of 0 its flat shape covers with that reach, and nothing with a greater one
 abbrev pub flat_covers : {S : Type 0} → (S → GridPoint → ℕ → Bool) → S → GridPoint → ℕ → Bool
 flat_covers covers s c reach = nat_le reach 0 && covers s c 0
 
--- none of the first so many shapes covers a centre of a zone, with whatever reach (docs/DEFINITIONS.md, Best pads)
+-- none of the first `count` shapes covers a point of a zone, with any reach
 abbrev pub CoverNone : {S : Type 0} → (S → GridPoint → ℕ → Bool) → List S → ℕ → Zone → Type 0
 CoverNone {S} covers shapes count zone = (s : S) (k : ℕ) → k < count → CoversNone covers (get_or shapes k s) 0 zone
 

@@ -5,11 +5,11 @@ use Rattle.margins.specs.Meets.{asks_ring}
 use Rattle.margins.specs.Rows.{ring_by}
 use Rattle.margins.specs.declared.best.Best.{Best}
 
--- a hole has no ring, or one that is less than the rule (docs/DEFINITIONS.md, What a board meets)
+-- a hole has no ring, or one below the rule
 abbrev pub is_short : ℕ → Option ℤ → Bool
 is_short rule None = true
 is_short rule (Some ring) = int_lt ring (pos rule)
 
--- a hole asks a ring on a layer, and has less than the rule by its best pad there (docs/DEFINITIONS.md, What a board meets)
+-- a hole needs a ring on a layer, and its best pad there gives it none or less than the rule
 abbrev pub falls_short : ℕ → ℕ → Drilled → Option Best → Bool
 falls_short rule layer d best = asks_ring layer d && is_short rule (ring_by best d.hole)

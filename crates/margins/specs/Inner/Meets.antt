@@ -7,14 +7,14 @@ use Rattle.margins.specs.Meets.{asks_ring, AsksRing}
 use Rattle.margins.specs.declared.met.Met.{Met}
 use Rattle.margins.specs.declared.met.Met.TheVariants as mets
 
--- one more length, or nothing, beside what is met so far (docs/DEFINITIONS.md, What a board meets)
+-- what is met with one more length: the lesser of it and the length so far; without a length nothing is met any more
 abbrev pub least_of : Met → Option ℤ → Met
 least_of met None = mets.None
 least_of mets.Any (Some length) = mets.Most length
 least_of (mets.Most held) (Some length) = mets.Most (int_min held length)
 least_of mets.None (Some length) = mets.None
 
--- one more length, or nothing, beside what is met so far where nothing is passed over (docs/DEFINITIONS.md, What a board meets)
+-- what is met with one more length, where a pair without a length is skipped once there is one with a length
 abbrev pub held_of : Met → Option ℤ → Met
 held_of mets.Any None = mets.None
 held_of (mets.Most held) None = mets.Most held
@@ -23,13 +23,13 @@ held_of mets.Any (Some length) = mets.Most length
 held_of (mets.Most held) (Some length) = mets.Most (int_min held length)
 held_of mets.None (Some length) = mets.Most length
 
--- the first so many holes that ask a ring on one layer (docs/DEFINITIONS.md, What a board meets)
+-- one of the first `count` holes that needs a ring on the layer `at`
 pub record AsksOn (at count : ℕ) (holes : List Drilled) (layer hole : ℕ) : Type 0 where
   pub here : layer ≡ at
   pub below : hole < count
   pub in_holes : hole < length holes
   pub asks : asks_ring at (get_or holes hole nowhere) ≡ true
 
--- the holes that ask a ring on the layers before one, and the first so many on that one (docs/DEFINITIONS.md, What a board meets)
+-- a hole that needs a ring on a layer before one, or one of the first `count` that does on that layer
 abbrev pub AsksBefore : ℕ → ℕ → List Drilled → ℕ → ℕ → Type 0
 AsksBefore layers count holes i j = AsksRing layers holes i j ⊎ AsksOn layers count holes i j

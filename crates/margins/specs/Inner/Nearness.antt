@@ -9,59 +9,62 @@ use Rattle.margins.specs.Nearness.{IsPair, IsNoFurther}
 use Rattle.margins.specs.declared.nearest.Nearest.{Nearest}
 use Rattle.margins.specs.declared.nearest.Prefix.{Prefix}
 
--- what the gap of two holes may be (docs/DEFINITIONS.md, Nearest holes)
+-- the range of the gap of two holes: from -10 m to 30 m
 abbrev pub IsPossible : ℤ → Type 0
 IsPossible gap = (neg_ℤ (pos 10000000000000) ≤ℤ gap) × (gap ≤ℤ pos 30000000000000)
 
--- the pair of the holes at two places (docs/DEFINITIONS.md, Nearest holes)
+-- the pair of the holes at two places, with its gap
 pub record IsPairAt (holes : List Drilled) (first second : ℕ) (pair : Nearest) : Type 0 where
   pub at_first : pair.first ≡ first
   pub at_second : pair.second ≡ second
   pub gap : IsGap (hole_at holes first) (hole_at holes second) pair.gap
   pub possible : IsPossible pair.gap
 
--- a pair of the list with its gap (docs/DEFINITIONS.md, Nearest holes)
+-- a pair of the list, with its gap
 pub record IsHeld (holes : List Drilled) (pair : Nearest) : Type 0 where
   pub listed : IsPair holes pair.first pair.second
   pub gap : IsGap (hole_at holes pair.first) (hole_at holes pair.second) pair.gap
   pub possible : IsPossible pair.gap
 
--- a pair of the list that is no further than another one, nor than the holes at two places if they are one (docs/DEFINITIONS.md, Nearest holes)
+-- a pair of the list that is no further than `best`, nor than the holes at two places where these are a pair
 pub record IsTried (holes : List Drilled) (first second : ℕ) (best result : Nearest) : Type 0 where
   pub held : IsHeld holes result
   pub back : IsNoFurther result best.first best.second best.gap
   pub new : (gap : ℤ) → IsPair holes first second → IsGap (hole_at holes first) (hole_at holes second) gap → IsNoFurther result first second gap
 
--- the gap of the holes at two places of the list that differ (docs/DEFINITIONS.md, Nearest holes)
+-- the gap of the holes at two different places of the list
 pub record IsGapOf (holes : List Drilled) (a b : ℕ) (z : ℤ) : Type 0 where
   pub listed : IsPair holes (min a b) (max a b)
   pub gap : IsGap (hole_at holes (min a b)) (hole_at holes (max a b)) z
 
--- a pair of the list that is no further than another one, nor than a hole and those at the first so many of some places (docs/DEFINITIONS.md, Nearest holes)
+-- a pair of the list that is no further than `before`, nor than a hole with the holes at the first `count` of some places
 pub record AreTried (holes : List Drilled) (place : ℕ) (near : List ℕ) (count : ℕ) (before after : Nearest) : Type 0 where
   pub held : IsHeld holes after
   pub back : IsNoFurther after before.first before.second before.gap
   pub seen : (i : ℕ) (gap : ℤ) → i < count → IsGapOf holes place (get_or near i 0) gap → IsNoFurther after (min place (get_or near i 0)) (max place (get_or near i 0)) gap
 
--- the first holes of a list, with an index of them and lengths that none of them exceeds (docs/DEFINITIONS.md, Nearest holes)
+-- the first holes of a list, with an index of them and lengths that none of them exceeds
 pub record IsPrefix (holes : List Drilled) (prefix : Prefix) : Type 0 where
   pub inside : prefix.count ≤ length holes
   pub index : IsIndexOf (take prefix.count holes) prefix.index
   pub limits : AreLimits (take prefix.count holes) prefix.limits
 
--- the same of a hole and those of the first so many that are no larger than it and have less than a gap (docs/DEFINITIONS.md, Nearest holes)
+-- A pair of the list that is no further than `before`, nor than a hole with any of the first `count`. Only those count that are
+-- no larger than it and have a gap less than `below`.
 pub record IsAsked (holes : List Drilled) (count place : ℕ) (below : ℤ) (before after : Nearest) : Type 0 where
   pub held : IsHeld holes after
   pub back : IsNoFurther after before.first before.second before.gap
   pub seen : (o : ℕ) (gap : ℤ) → o < count → size_of (hole_at holes o) ≤ size_of (hole_at holes place) → IsGapOf holes place o gap → gap <ℤ below → IsNoFurther after (min place o) (max place o) gap
 
--- a pair of the list that is no further than each of the first so many holes and those that are no larger, or at least no further by its gap, and then its first hole comes before that one (docs/DEFINITIONS.md, Nearest holes)
+-- A pair of the list that is no further than any of the first `count` holes with one that is no larger; or its gap is no greater,
+-- and its first hole comes before the larger one.
 pub record AreAsked (holes : List Drilled) (count : ℕ) (best : Nearest) : Type 0 where
   pub held : IsHeld holes best
   pub seen : (p o : ℕ) (gap : ℤ) → p < count → o < length holes → size_of (hole_at holes o) ≤ size_of (hole_at holes p) → IsGapOf holes p o gap
       → IsNoFurther best (min p o) (max p o) gap ⊎ ((best.gap ≤ℤ gap) × (best.first < p))
 
--- a pair of the list that is no further than another one, nor than the holes from one place to below another and those before them that are no larger and no further apart than that other pair (docs/DEFINITIONS.md, Nearest holes)
+-- A pair of the list that is no further than `before`, nor than a hole from `from` to `count` with one before `from`. Only those
+-- count that are no larger and whose gap is at most that of `before`.
 pub record AreAskedLater (holes : List Drilled) (from count : ℕ) (before after : Nearest) : Type 0 where
   pub held : IsHeld holes after
   pub back : IsNoFurther after before.first before.second before.gap

@@ -1,4 +1,4 @@
--- Proofs of the laws that the trait asks of each shape. What they prove is stated in Shapes.antt.
+-- Proofs of the laws that the trait asks of each shape. Shapes.antt states what they prove.
 use Rattle.std.proofs.Common.{◌≡◌, ℕ, ℤ, pos, ◌+◌, ◌-◌, ◌*◌, ◌≤◌, ◌<◌, ◌+ℤ◌, ◌-ℤ◌, ◌≤ℤ◌, ◌⊎◌, Bool, true, false, inl, inr, refl, ap, subst, arith}
 use Rattle.std.specs.Prelude.{◌&&◌, nat_le}
 use Rattle.std.proofs.lemmas.Int.{ints, clamps, by_lt_z}
@@ -22,14 +22,14 @@ not_both_le a b c d e = elim (cases_lt b a) [
   | inr within ↦ inr (grind (arith, nat_tests))
 ]
 
--- a side of a right triangle is no longer than the longest
+-- a side of a right triangle is no longer than a bound on the longest one
 side-le : (a b n : ℕ) → a * a + b * b ≤ n * n → a ≤ n
 side-le a b n h = le_from_squares a n (omega (arith, h))
 
 other_side-le : (a b n : ℕ) → a * a + b * b ≤ n * n → b ≤ n
 other_side-le a b n h = le_from_squares b n (omega (arith, h))
 
--- the square of a distance by the two distances along the axes
+-- a bound on the square of a distance, from the two distances along the axes
 square_distance_of : (p q : GridPoint) (a b n : ℕ) → apart p.x q.x ≡ a → apart p.y q.y ≡ b → square a + square b ≤ square n → square_distance p q ≤ square n
 square_distance_of p q a b n x y h = omega (arith, ap square x, ap square y, h)
 
@@ -85,7 +85,7 @@ rect_extent r = record {
   at_greatest = (r.centre.y, (omega (arith, apart_above r.centre.x r.half_x), omega (arith, apart_self r.centre.y)));
 }
 
--- from past an end along one axis, to that end
+-- the distance from a point past an end to that end, along one axis
 apart_past_above : (z c : ℤ) (a : ℕ) → c ≤ℤ z → a ≤ apart z c → apart z (c +ℤ pos a) ≡ apart z c - a
 apart_past_above z c a h k = omega (arith, ints)
 
@@ -112,7 +112,7 @@ in_end_y o p h past none = by_order o.centre.y p.y
     (λ k. inl (square_distance_of p (upper_end o).centre _ _ _ (apart_plus_none p.x o.centre.x (o.half_x - end_radius o) none) (apart_past_above p.y o.centre.y (o.half_y - end_radius o) k past) h))
     (λ k. inr (square_distance_of p (lower_end o).centre _ _ _ (apart_minus_none p.x o.centre.x (o.half_x - end_radius o) none) (apart_past_below p.y o.centre.y (o.half_y - end_radius o) k past) h))
 
--- what is no further than the radius from the axis is in the obround
+-- a point that is no further from the axis than the radius is in the obround
 near_axis : (o : GridObround) (p : GridPoint) → square_from_axis o p ≤ square (end_radius o) → IsInObround o p
 near_axis o p h =
     let past_x : apart p.x o.centre.x - (o.half_x - end_radius o) ≤ end_radius o = side-le _ (apart p.y o.centre.y - (o.half_y - end_radius o)) _ h in
@@ -182,11 +182,11 @@ pad_extent (Disc d) = disc_extent d
 pad_extent (Rect r) = rect_extent r
 pad_extent (Obround o) = obround_extent o
 
--- A point is no further from another one along both axes than an end is.
+-- along both axes, c is no further from o than the end is
 abbrev IsNearer : GridPoint → GridPoint → GridPoint → Type 0
 IsNearer o c end = (apart c.x o.x ≤ apart end.x o.x) × (apart c.y o.y ≤ apart end.y o.y)
 
--- what covers a centre covers each centre that is nearer to the middle
+-- a shape that covers an end covers each centre that is nearer to its middle along both axes
 abbrev CoversNearer : {S : Type 0} → (S → GridPoint) → (S → GridPoint → ℕ → Bool) → Type 0
 CoversNearer {S} middle covers = (s : S) (c end : GridPoint) (reach : ℕ) → IsNearer (middle s) c end → covers s end reach ≡ true → covers s c reach ≡ true
 
@@ -196,7 +196,7 @@ nearer_side a b o z h = by_order a b
     (λ up. by_order z o (λ low. inl (omega (arith, ints, clamps))) (λ high. inr (omega (arith, ints, clamps))))
     (λ down. by_order z o (λ low. inr (omega (arith, ints, clamps))) (λ high. inl (omega (arith, ints, clamps))))
 
--- between two equal numbers
+-- a number between two equal ones is no further from a third than either of them
 same_side : (a b o z : ℤ) → a ≡ b → IsBetween a b z → (apart z o ≤ apart a o) × (apart z o ≤ apart b o)
 same_side a b o z e h = (omega (arith, ints, clamps), omega (arith, ints, clamps))
 
@@ -214,7 +214,7 @@ both_true true true e = (refl, refl)
 both_true true false e = absurd cc
 both_true false b e = absurd cc
 
--- a shape that covers what is nearer holds slots
+-- a shape that covers nearer centres holds slots
 holds_slots : {S : Type 0} (middle : S → GridPoint) (points : S → GridPoint → Type 0) (covers : S → GridPoint → ℕ → Bool) → HoldsWhatItCovers points covers → CoversNearer middle covers → HoldsSlots points covers
 holds_slots middle points covers holds nearer s from to reach along ends c p inside h =
     let both = both_true (covers s from reach) (covers s to reach) ends in
@@ -257,7 +257,7 @@ pad_holds_slots (Disc d) = disc_holds_slots d
 pad_holds_slots (Rect r) = rect_holds_slots r
 pad_holds_slots (Obround o) = obround_holds_slots o
 
--- a point as far from c along one axis as the reach, on the side away from z
+-- the point that is the reach away from c along one axis, on the side away from z
 beyond : (c z : ℤ) (reach : ℕ) → (p : ℤ) × (apart p c ≡ reach) × (apart p z ≡ apart c z + reach)
 beyond c z reach = by_order z c
     (λ h. (c +ℤ pos reach, omega (arith, ints), omega (arith, ints)))

@@ -64,7 +64,7 @@ fn drill_of(alloc: Global, count: u64) -> Result<String, AllocError> {
     Ok(text)
 }
 
-/// The report on these holes and a layer whose pad holds the first of them alone.
+/// The report on these holes, over a layer whose pad holds only the first of them.
 fn report_of(alloc: Global, count: u64) -> Result<String, AllocError> {
     let mut text = format!(in alloc;
         "rules ring=0.125000000 gap=0.250000000\nfile 1 layer pads=1 other=0 name=top\nfile 2 drill plated=yes round={count} slots=0 name=pth\n"
@@ -82,7 +82,7 @@ fn report_of(alloc: Global, count: u64) -> Result<String, AllocError> {
     Ok(text)
 }
 
-/// A writer that takes at most forty bytes a call, and fails at the call by the number `fails_at`.
+/// A writer that takes at most forty bytes a call. The call numbered `fails_at` fails.
 #[derive(Drop)]
 struct Narrow {
     calls: u64,
@@ -185,7 +185,7 @@ fn a_long_measure_is_written_in_parts(rt: HostRuntime) -> Result<(), Failure> {
     Ok(())
 }
 
-/// How a run ends whose writer fails at this call, and how many calls it made.
+/// How a run ends whose writer fails at the call numbered `fails_at`, and how many calls it made.
 fn written(alloc: Global, words: &[&str], fails_at: u64) -> (Status, u64) {
     let files = &[("m.csv", MANIFEST), ("top.gbr", LAYER), ("pth.drl", DRILL)];
     let mut out = Narrow { calls: 0, fails_at };
@@ -206,7 +206,7 @@ fn a_writer_that_fails_is_told_at_each_write(rt: HostRuntime) {
     }
 }
 
-/// Whether a run passes and prints just this, or says just that memory ran out.
+/// Whether a run passes and prints just this, or prints just that memory ran out.
 fn passes_or_lacks_memory(alloc: Global, words: &[&str], text: &str) -> bool {
     let files = &[("m.csv", MANIFEST), ("top.gbr", LAYER), ("pth.drl", DRILL)];
     let mut out = [0; 256];

@@ -2,7 +2,7 @@
 
 use super::*;
 
-/// How a run ends over files of which the one under a name has this length, and what it prints.
+/// How a run ends where the file under a name has this length, and what it prints.
 fn written_at<'x>(alloc: Global, words: &[&str], name: &'x str, length: u64) -> (Status, Vec<u8>) {
     let files = &[
         ("m.csv", MANIFEST),
@@ -26,7 +26,7 @@ const LONG_LAYER: &str = "refused file=1 place=0 byte=0 reason=TooLong name=top\
 
 const LONG_DRILL: &str = "refused file=2 place=0 byte=0 reason=TooLong name=pth\n";
 
-/// How a run over a file of a length ends: the words, the file, its length, the status and what is printed.
+/// The words of a run, a file, its length, the status of the run and what it prints.
 type LengthRow<'x> = (&'x [&'x str], &'x str, u64, Status, &'x str);
 
 const LENGTHS: &[LengthRow] = &[
@@ -60,7 +60,7 @@ fn files_above_their_limit_are_told(rt: HostRuntime) {
     }
 }
 
-/// A single file is asked for only up to its limit: at its limit it is one that is not there.
+/// A single file is loaded only up to its limit. Within that limit this loader has no such file.
 #[test]
 fn single_files_above_their_limit_are_told(rt: HostRuntime) {
     for &words in &[

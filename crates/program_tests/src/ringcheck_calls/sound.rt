@@ -1,4 +1,4 @@
-//! What passes, and what is measured, is sound as it lies there.
+//! What passes, and what is measured, is sound as it stands.
 
 ghost use Rattle.std.specs.Prelude.{IsTrue, List, None, Ok, Option, [], codes, ℕ, ◌∷◌, ◌≡◌};
 ghost use Rattle.std.specs.List.{Contains};
@@ -14,7 +14,7 @@ ghost use Rattle.ringcheck.specs.declared.naming.ReportFormat.{ReportFormat};
 
 use super::*;
 
-/// Whether a package of three files at hand passes: then the files that its manifest names are sound as they lie there.
+/// Whether a package of three files at hand passes. Then the files that its manifest names, as they stand, are sound.
 fn is_passed<'x>(alloc: Global, records: &'x str, layer: &'x str, drill: &'x str) -> bool
     ensures { IsTrue result → (rules : GridRules) × (rules_named (codes "0.125") (codes "0.25") ≡ Ok rules) × (entries : List TheEntry) × (manifest records.now ≡ Ok entries)
         × (files : List (List ℕ)) × HasFiles (λ n b. Contains {X = List ℕ × List ℕ} ((codes "m.csv", records.now) ∷ (codes "top.gbr", layer.now) ∷ (codes "pth.drl", drill.now) ∷ []) (n, b)) entries files
@@ -31,8 +31,8 @@ fn what_passes_is_sound_as_it_lies_there(rt: HostRuntime) {
     assert!(rt; !is_passed(rt.alloc(), MANIFEST, MOVED, DRILL));
 }
 
-/// Whether a package of three files at hand is measured. Then the files that its manifest names, as they lie there, pass under just
-/// the rules of a measure.
+/// Whether a package of three files at hand is measured. Then the files that its manifest names, as they stand, pass under
+/// exactly the rules of a measure.
 fn is_measured<'x>(alloc: Global, records: &'x str, layer: &'x str, drill: &'x str) -> bool
     ensures { IsTrue result → (entries : List TheEntry) × (manifest records.now ≡ Ok entries) × (files : List (List ℕ))
         × HasFiles (λ n b. Contains {X = List ℕ × List ℕ} ((codes "m.csv", records.now) ∷ (codes "top.gbr", layer.now) ∷ (codes "pth.drl", drill.now) ∷ []) (n, b)) entries files
@@ -50,8 +50,8 @@ fn what_is_measured_passes_under_just_its_rules(rt: HostRuntime) {
     assert!(rt; !is_measured(rt.alloc(), MANIFEST, BARE, DRILL));
 }
 
-/// Whether a report finds nothing on a package of three files at hand. Then the files that its manifest names, as they lie there, are
-/// sound.
+/// Whether a report finds nothing on a package of three files at hand. Then the files that its manifest names, as they stand,
+/// are sound.
 fn is_told_sound<'x>(alloc: Global, records: &'x str, layer: &'x str, drill: &'x str) -> bool
     ensures { IsTrue result → (asked : GridRules × Option ℕ × ReportFormat) × (report_named (codes "0.125") (codes "0.25") None None None ≡ Ok asked) × (entries : List TheEntry) × (manifest records.now ≡ Ok entries) × (files : List (List ℕ))
         × HasFiles (λ n b. Contains {X = List ℕ × List ℕ} ((codes "m.csv", records.now) ∷ (codes "top.gbr", layer.now) ∷ (codes "pth.drl", drill.now) ∷ []) (n, b)) entries files

@@ -1,4 +1,4 @@
-//! Words that no line of a case can write, and what is read first.
+//! Words that no line of the worked cases can write, and what is read first.
 
 use super::*;
 use std::test::Fail as Failure;
@@ -36,7 +36,7 @@ fn each_status_has_its_number(rt: HostRuntime) {
     }
 }
 
-/// A refusal, and the page of its reason below.
+/// A report's refusal has the page of its reason below.
 #[test]
 fn refusals_come_with_their_page(rt: HostRuntime) -> Result<(), Failure> {
     let page = explanations::explanation("NoFormat").ok_or("no page")?;

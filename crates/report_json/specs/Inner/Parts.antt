@@ -15,11 +15,11 @@ member_tokens name value = Token.key name ∷ json_tokens value
 abbrev pub members_tokens : List (List ℕ × Json) → List Token
 members_tokens all = flat_map (λ one. member_tokens one.0 one.1) all
 
--- whether a value ends behind these tokens
+-- whether a value ends after these tokens, by whether one ended before them
 abbrev pub ended_by : Bool → List Token → Bool
 ended_by ended more = fold (λ _ t. ends t) ended more
 
--- some tokens are printed behind others, of which it is said whether a value ended there
+-- `more` is printed after other tokens; `ended` and `ends_there` say whether a value ends before and after it
 pub record Prints (before : Option (List ℕ)) (gathered : List ℕ) (ended : Bool) (after : Option (List ℕ)) (left : List ℕ) (ends_there : Bool) (more : List Token) : Type 0 where
   pub passes : PassesOn before gathered after left (print_from ended more)
   pub ends : ends_there ≡ ended_by ended more

@@ -1,4 +1,4 @@
-//! Packages that are made by a counter: under the rules that a measure names a check finds nothing, and 1 pm above it does.
+//! Packages that are made by a counter: a check passes under the rules that a measure allows, and fails 1 pm above.
 
 use super::{file, passes};
 use margin_text::Meets;
@@ -8,17 +8,17 @@ use package_check::{File, Role, Span};
 use std::alloc::{AllocError, Global};
 use std::test::Fail as Failure;
 
-/// How many packages are made.
+/// The number of packages.
 const PACKAGES: u32 = 160;
 
-/// Numbers that follow from a counter.
+/// Numbers that follow from a counter, as from a random generator.
 #[derive(Drop)]
 struct Draws {
     state: u64,
 }
 
 impl Draws {
-    /// The next number, below this one.
+    /// The next number, below `count`.
     fn below(&mut self, count: u32) -> u32 {
         self.state = self
             .state
@@ -34,7 +34,7 @@ fn decimal(alloc: Global, length: u64) -> Result<String, AllocError> {
     format!(in alloc; "{whole}.{rest:06}")
 }
 
-/// A place on one axis, in nanometres: the middle of a cell of 3 mm, up to 0.1 mm aside.
+/// A place on one axis, in nanometres: near the middle of a cell of 3 mm, at most 0.1 mm off.
 fn place(draws: &mut Draws, cell: u32) -> u64 {
     u64::from(cell) * 3_000_000 + 1_400_000 + u64::from(draws.below(200_001))
 }
@@ -63,7 +63,7 @@ fn layer(alloc: Global, draws: &mut Draws, sign: &str) -> Result<String, AllocEr
     Ok(text)
 }
 
-/// A round hole of a cell, or a slot along an axis.
+/// A round hole in a cell, or a slot along an axis.
 fn hit(alloc: Global, draws: &mut Draws, sign: &str, cell: u32) -> Result<String, AllocError> {
     let (left, low) = (place(draws, cell % 3), place(draws, cell / 3));
     let long = u64::from(draws.below(300_001));
@@ -77,7 +77,7 @@ fn hit(alloc: Global, draws: &mut Draws, sign: &str, cell: u32) -> Result<String
     }
 }
 
-/// A drill file of two tools, with holes in most of each third cell, from a first one on.
+/// A drill file with two tools, and holes in most cells of each third column, from `first` on.
 fn drill(alloc: Global, draws: &mut Draws, sign: &str, first: u32) -> Result<String, AllocError> {
     let one = decimal(alloc, 250_000 + u64::from(draws.below(350_001)))?;
     let two = decimal(alloc, 250_000 + u64::from(draws.below(350_001)))?;
@@ -107,7 +107,7 @@ fn texts(alloc: Global, draws: &mut Draws, layers: u32) -> Result<Vec<String>, A
     Ok(texts)
 }
 
-/// The part of a drill file: one of three is unplated, and one of three goes through some layers alone.
+/// The role and span of a drill file: one in three is unplated, and one in three goes through some layers only.
 fn part(draws: &mut Draws, layers: u32) -> (Role, Option<Span>) {
     let first = draws.below(layers);
     let last = first.saturating_add(draws.below(layers.saturating_sub(first)));
@@ -121,7 +121,7 @@ fn part(draws: &mut Draws, layers: u32) -> (Role, Option<Span>) {
     }
 }
 
-/// The parts of so many files, of which the first are layers.
+/// The roles and spans of `count` files; the first `layers` of them are layers.
 fn parts(
     alloc: Global,
     draws: &mut Draws,
@@ -139,7 +139,7 @@ fn parts(
     Ok(parts)
 }
 
-/// The file of a text and a part, by their index.
+/// The file of a text with its role and span, by their index.
 fn file_at<'a>(texts: &'a [String], parts: &[(Role, Option<Span>)], index: usize) -> File<'a> {
     match (texts.get(index), parts.get(index)) {
         (Some(text), Some((role, span))) => File {
@@ -152,7 +152,7 @@ fn file_at<'a>(texts: &'a [String], parts: &[(Role, Option<Span>)], index: usize
     }
 }
 
-/// Whether a rule is no more than what is met.
+/// Whether a rule is no more than the greatest one that is met.
 fn allows(met: Met, rule: i64) -> bool {
     match met {
         Met::Any => true,
@@ -161,7 +161,7 @@ fn allows(met: Met, rule: i64) -> bool {
     }
 }
 
-/// The rule that is tried: what is met, the least rule where that is less, and 1 m where any is met.
+/// The rule that is tried: the greatest that is met, the least rule where that is more, and 1 m where any is met.
 fn tried(met: Met, least: i64) -> i64 {
     match met {
         Met::Any => 1_000_000_000_000,
@@ -170,7 +170,7 @@ fn tried(met: Met, least: i64) -> i64 {
     }
 }
 
-/// Whether the check of the files passes under the rules that are met, and under no ring or gap of 1 pm more.
+/// Whether the check of the files passes under these rules if they are met, and fails with 1 pm more of ring or gap.
 fn agrees(alloc: Global, files: &[File], meets: Meets) -> bool {
     let (ring, gap) = (tried(meets.ring, 0), tried(meets.gap, 1));
     let (more_ring, more_gap) = (ring.saturating_add(1), gap.saturating_add(1));
@@ -183,7 +183,7 @@ fn agrees(alloc: Global, files: &[File], meets: Meets) -> bool {
     true
 }
 
-/// Whether the greatest ring and the greatest gap are both named, and both are rules.
+/// Whether the greatest ring and gap are both lengths, and both allowed as rules.
 fn is_told(meets: Meets) -> bool {
     match (meets.ring, meets.gap) {
         (Met::Most(ring), Met::Most(gap)) => ring >= 0 && gap >= 1,
@@ -191,13 +191,13 @@ fn is_told(meets: Meets) -> bool {
     }
 }
 
-/// What some files meet, and whether their check agrees.
+/// The rules that some files meet, and whether their check agrees.
 fn judged_files(alloc: Global, files: &[File]) -> Result<(Meets, bool), Failure> {
     let measure = measure_bytes(alloc, files).ok().ok_or("no measure")?;
     Ok((measure.meets, agrees(alloc, files, measure.meets)))
 }
 
-/// What a package meets, and whether its check agrees.
+/// The rules that a package meets, and whether its check agrees.
 fn judged(alloc: Global, counter: u32) -> Result<(Meets, bool), Failure> {
     let mut draws = Draws {
         state: u64::from(counter),
@@ -224,7 +224,7 @@ fn checks_agree_with_measures(rt: HostRuntime) -> Result<(), Failure> {
         assert!(rt; agreed, "package {counter}");
         told = told.saturating_add(usize::from(is_told(meets)));
     }
-    // Most of the packages meet a ring and a gap of their own.
+    // Most of the packages meet a ring and a gap that are lengths.
     assert!(rt; told > 100, "{told} packages");
     Ok(())
 }

@@ -1,4 +1,4 @@
--- Places of holes that an index is asked for, as they are appended to a list.
+-- Lists of places of holes, as an index appends to them.
 use Rattle.std.specs.Prelude.{ℕ, ◌⊎◌, List}
 use Rattle.std.specs.List.{Contains}
 use Rattle.pad_shapes.specs.Zones.{IsInZone}
@@ -7,11 +7,11 @@ use Rattle.ring_rules.specs.Places.{point_at}
 use Rattle.ring_rules.specs.Index.{GoesInAt}
 use Rattle.ring_rules.specs.declared.finding.Drilled.{Drilled}
 
--- places were added of holes that go in within a zone, and none was lost (docs/DEFINITIONS.md, Cells)
+-- only places of holes with their entry point in the zone were added, and none was lost
 pub record AddsPlaces (holes : List Drilled) (zone : Zone) (before after : List ℕ) : Type 0 where
   pub kept : (k : ℕ) → Contains before k → Contains after k
   pub sound : (k : ℕ) → Contains after k → Contains before k ⊎ GoesInAt holes zone k
 
--- a place is there, if its hole goes in within the zone (docs/DEFINITIONS.md, Cells)
+-- the list has this place, if the entry point of its hole lies in the zone
 pub record IsListed (holes : List Drilled) (zone : Zone) (k : ℕ) (places : List ℕ) : Type 0 where
   pub there : IsInZone zone (point_at holes k) → Contains places k

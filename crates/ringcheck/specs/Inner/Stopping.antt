@@ -1,4 +1,4 @@
--- Why a package was not loaded or not checked, and the end that tells of it.
+-- Why a package was not loaded or not checked, and the end of the run that it leads to.
 use Rattle.std.specs.Prelude.{◌≡◌, ◌≢◌, ◌<◌, ◌⊎◌, ℕ, List, [], ◌∷◌, length, slice_get, Ok, Err, ⊤, Option, Some}
 use Rattle.std.specs.Io.KnownBytes.{Appends}
 use Rattle.grid_units.specs.Holes.{GridRules}
@@ -24,11 +24,11 @@ use Rattle.ringcheck_files.specs.Loading.{Relation, too_long}
 use Rattle.ringcheck.specs.Running.{LongFile, manifest_limit}
 use Rattle.ringcheck.specs.Waiving.{RefusedWaivers}
 
--- bytes of a manifest that are refused, and their fault (docs/DEFINITIONS.md, Runs)
+-- the loader has under this name a manifest that is refused for its length or its records, with this fault
 abbrev pub RefusedManifest : Relation → List ℕ → Fault → Type 0
 RefusedManifest has name why = (text : List ℕ) × has name text × (((manifest_limit < length text) × (why ≡ too_long)) ⊎ (manifest text ≡ Err why))
 
--- what a stop says of the bytes that the loader has for a manifest (docs/DEFINITIONS.md, Runs)
+-- what a stop says of the bytes that the loader has for a manifest
 abbrev pub StopsManifest : Relation → List ℕ → Stop → Type 0
 StopsManifest has name (stop.Manifest fault) = RefusedManifest has name fault
 StopsManifest has name (stop.LongFile index) = ⊥
@@ -38,7 +38,7 @@ StopsManifest has name (stop.DeviceFile index) = ⊤
 StopsManifest has name (stop.Waivers fault) = ⊥
 StopsManifest has name stop.DeviceWaivers = ⊤
 
--- what a stop says of the bytes that the loader has for a file of waivers (docs/DEFINITIONS.md, Runs)
+-- what a stop says of the bytes that the loader has for a file of waivers
 abbrev pub StopsWaivers : Relation → List ℕ → Stop → Type 0
 StopsWaivers has name (stop.Waivers fault) = RefusedWaivers has name fault
 StopsWaivers has name (stop.Manifest fault) = ⊥
@@ -48,7 +48,7 @@ StopsWaivers has name stop.Device = ⊤
 StopsWaivers has name stop.DeviceWaivers = ⊤
 StopsWaivers has name (stop.DeviceFile index) = ⊤
 
--- and for the files of its entries (docs/DEFINITIONS.md, Runs)
+-- what a stop says of the bytes that the loader has for the files of these entries
 abbrev pub StopsFiles : Relation → List Entry → Stop → Type 0
 StopsFiles has entries (stop.LongFile index) = (entry : Entry) × LongFile has entries index entry
 StopsFiles has entries (stop.Manifest fault) = ⊥
@@ -58,11 +58,11 @@ StopsFiles has entries (stop.DeviceFile index) = ⊤
 StopsFiles has entries (stop.Waivers fault) = ⊥
 StopsFiles has entries stop.DeviceWaivers = ⊤
 
--- the name of the entry at this index, where there is one (docs/DEFINITIONS.md, Runs)
+-- the name of the entry at this index, if there is one
 abbrev pub IsNameAt : List Entry → ℕ → List ℕ → Type 0
 IsNameAt entries index name = (entry : Entry) → slice_get entries index ≡ Some entry → name ≡ entry.name
 
--- a stop that is this refusal of files of these entries (docs/DEFINITIONS.md, Runs)
+-- the refusal that a stop leads to, in a package with these entries
 abbrev pub IsRefusal : List Entry → Stop → Refusal → Type 0
 IsRefusal entries (stop.Manifest fault) why = why ≡ of_manifest fault
 IsRefusal entries (stop.LongFile index) why = (name : List ℕ) × IsNameAt entries index name × (why ≡ of_file index name too_long)
@@ -72,7 +72,7 @@ IsRefusal entries (stop.DeviceFile index) why = ⊥
 IsRefusal entries (stop.Waivers fault) why = why ≡ of_waivers fault
 IsRefusal entries stop.DeviceWaivers why = ⊥
 
--- a stop at a manifest, a file of waivers or a file that can't be read (docs/DEFINITIONS.md, Runs)
+-- a stop at a manifest, a file of waivers or a file that cannot be read
 abbrev pub IsUnread : Stop → Type 0
 IsUnread (stop.Manifest fault) = ⊥
 IsUnread (stop.LongFile index) = ⊥
@@ -82,11 +82,11 @@ IsUnread (stop.DeviceFile index) = ⊤
 IsUnread (stop.Waivers fault) = ⊥
 IsUnread stop.DeviceWaivers = ⊤
 
--- a refusal was told in this style, or memory ran out for it or the writer failed (docs/DEFINITIONS.md, Runs)
+-- unless the writer failed or memory ran out, the end is Refused and the writer got just the text of this refusal, in this style
 abbrev pub EndsAsRefused : Style → Refusal → Option (List ℕ) → Option (List ℕ) → Ended → Type 0
 EndsAsRefused in_style why before after e = e ≢ ended.WriterFailed → e ≢ ended.OutOfMemory → (e ≡ ended.Said status.Refused) × TellsRefusal in_style why before after
 
--- the end that tells of a stop at files of these entries, in this style (docs/DEFINITIONS.md, Runs)
+-- what an end says after a stop at files of these entries, where a refusal is printed in this style
 abbrev pub TellsOf : Style → List Entry → Stop → Option (List ℕ) → Option (List ℕ) → Ended → Type 0
 TellsOf in_style entries s before after (ended.Said status.Pass) = ⊥
 TellsOf in_style entries s before after (ended.Said status.Findings) = ⊥
@@ -97,12 +97,12 @@ TellsOf in_style entries s before after ended.LoaderFailed = IsUnread s
 TellsOf in_style entries s before after ended.OutOfMemory = ⊤
 TellsOf in_style entries s before after ended.WriterFailed = ⊤
 
--- the status of a report (docs/DEFINITIONS.md, Runs)
+-- the status of a check with these findings: Pass where there is none, else Findings
 abbrev pub status_of : List Finding → Status
 status_of [] = status.Pass
 status_of (finding ∷ findings) = status.Findings
 
--- what an end says of the check of files that are at hand (docs/DEFINITIONS.md, Runs)
+-- what an end says of the check of files that are at hand
 abbrev pub Answered : List Source → GridRules → Option (List ℕ) → Option (List ℕ) → Ended → Type 0
 Answered all rules before after (ended.Said status.Pass) =
     (report : Account) × IsAnswer all rules (Ok report) × Appends before after (report_text all report) × (report.findings ≡ []) × IsSound all rules

@@ -2,6 +2,6 @@ use Rattle.std.proofs.Common.{◌≡◌, [], get_or, map, take}
 use Rattle.ring_rules.specs.Findings.{is_ring_finding}
 use Rattle.margins.proofs.lacking.lacking_by.Given as goal
 
--- what is told so far is told of the holes so far
+-- the answers so far are those of the holes so far
 abbrev pub invariant-loop-hole : goal.invariant-loop-hole
 invariant-loop-hole g l = l.lacking.items ≡ map (is_ring_finding g.S.PadShape.covers l.rules.ring l.layer (get_or (map (λ pads. pads.now) l.layers) l.layer [])) (take l.hole l.holes)

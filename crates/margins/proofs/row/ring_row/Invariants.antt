@@ -3,7 +3,7 @@ use Rattle.std.specs.Prelude.{count_by}
 use Rattle.margins.specs.Rows.{has_none, IsLeastRingOf}
 use Rattle.margins.proofs.row.ring_row.Given as goal
 
--- the holes so far
+-- the counts and the least ring are those of the holes so far
 abbrev pub invariant-loop-hole : goal.invariant-loop-hole
 invariant-loop-hole l = record {
   bare : l.bare ≡ count_by (λ k. has_none (get_or l.bests k None)) (take l.hole-index l.chosen);

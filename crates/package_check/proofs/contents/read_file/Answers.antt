@@ -9,7 +9,7 @@ use Rattle.package_check.specs.Package.{Source, ReadsBytes, ReadsCopper, ReadsUn
 use Rattle.package_check.proofs.Joining.{joined}
 use Rattle.package_check.proofs.contents.read_file.Goals as goal
 
--- the span is no bad one
+-- the span is not bad
 by_bytes : (t : Bool) (s : Source) (r : Result Content Fail) → t ≡ false → Answers {T = Content} (λ x. x) (ReadsBytes s) r → Answers {T = Content} (λ x. x) (ReadsUnless t s) r
 by_bytes true s r e h = absurd cc
 by_bytes false s r e h = h

@@ -3,7 +3,7 @@ use Rattle.ring_rules.specs.Cells.{cell_at}
 use Rattle.ring_rules.specs.Inner.Asking.{AddsPlaces, IsListed}
 use Rattle.ring_rules.proofs.index.add_cell.Given as goal
 
--- the link is one of the cell, and the places from it on are tried
+-- the link is one of the cell, and the places passed so far are tried
 abbrev pub invariant-loop-link : goal.invariant-loop-link
 invariant-loop-link l = record {
   adds : AddsPlaces l.holes l.zone l.initial.places.items l.places.items;

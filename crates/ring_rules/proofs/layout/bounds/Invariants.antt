@@ -3,6 +3,6 @@ use Rattle.pad_shapes.specs.Zones.{IsInZone}
 use Rattle.ring_rules.specs.Places.{point_at}
 use Rattle.ring_rules.proofs.layout.bounds.Given as goal
 
--- the zone holds the holes so far
+-- the zone contains the entry points of the holes so far
 abbrev pub invariant-loop-drilled : goal.invariant-loop-drilled
 invariant-loop-drilled l = (k : ℕ) → k < l.drilled-index → IsInZone l.zone (point_at l.holes k)

@@ -3,6 +3,6 @@ use Rattle.pad_shapes.specs.Zones.{IsInZone}
 use Rattle.ring_rules.specs.Places.{point_at}
 use Rattle.ring_rules.proofs.layout.bounds_at.Given as goal
 
--- the zone holds the holes at the places so far
+-- the zone contains the entry points of the holes at the places so far
 abbrev pub invariant-loop-place : goal.invariant-loop-place
 invariant-loop-place l = (i : ℕ) → i < l.place-index → IsInZone l.zone (point_at l.holes (get_or l.places i 0))

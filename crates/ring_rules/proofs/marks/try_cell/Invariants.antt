@@ -3,7 +3,7 @@ use Rattle.ring_rules.specs.Cells.{cell_at}
 use Rattle.ring_rules.specs.Inner.Marks.{gives_ring_at, is_marked, TakesBack}
 use Rattle.ring_rules.proofs.marks.try_cell.Given as goal
 
--- the link is one of the cell, and the places from it on are tried
+-- the link is one of the cell, and the places passed so far are tried
 abbrev pub invariant-loop-link : goal.invariant-loop-link
 invariant-loop-link g l = record {
   takes : TakesBack (gives_ring_at g.S.PadShape.covers l.rules.ring l.holes l.pad) l.initial.marks l.marks;

@@ -3,7 +3,7 @@ use Rattle.ring_rules.specs.Cells.{cell_at}
 use Rattle.ring_rules.specs.Inner.Meeting.{AddsClashes, AreFound}
 use Rattle.ring_rules.proofs.near.add_cell_pairs.Given as goal
 
--- the link is one of the cell, and the pairs of the holes from it on are there
+-- the link is one of the cell, and the pairs of the holes passed so far are listed
 abbrev pub invariant-loop-link : goal.invariant-loop-link
 invariant-loop-link l = record {
   adds : AddsClashes l.rules.gap l.holes l.initial.pairs.items l.pairs.items;

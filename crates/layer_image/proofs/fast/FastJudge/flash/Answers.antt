@@ -1,4 +1,4 @@
--- What is in force says that no rule applies, and what is left.
+-- The fast path shows that no rule applies, and what the flash leaves.
 use Rattle.std.proofs.Common.{rules, ◌≡◌, ℤ, Option, unwrap_or, FitsSigned, to_z, of_z, nat_le, unsigned_abs, ap, sym, ◌∙◌}
 use Rattle.std.proofs.lemmas.Int.{to_z-of_z}
 use mir.Syntax.{w64}

@@ -1,4 +1,4 @@
--- What is in force says that no rule applies.
+-- The fast path shows that no rule applies.
 use Rattle.std.proofs.Common.{sym, ◌∙◌}
 use Rattle.layer_image.specs.Keeping.{flash_count}
 use Rattle.layer_image.specs.Inner.Knows.{told}

@@ -1,4 +1,4 @@
--- An operation on the fast path breaks no rule, and leaves what is in force.
+-- An operation on the fast path breaks no rule, and leaves the fast path as it is.
 use Rattle.std.proofs.Common.{sym, subst}
 use Rattle.gerber_rows.specs.declared.command.Command.TheVariants as command
 use Rattle.layer_image.specs.Inner.InForce.{IsFastPath, IsFlashOf}

@@ -1,4 +1,4 @@
--- A command that was taken in and changes nothing of it leaves what is in force.
+-- A command that was taken in and changes nothing of the fast path leaves it true.
 use Rattle.std.proofs.Common.{◌≡◌, false, Result, Ok, Err, OnOk, sym, subst, ◌∙◌}
 use Rattle.std.specs.Result.{is_err}
 use Rattle.layer_image.specs.Inner.InForce.{IsFastPath}

@@ -1,4 +1,4 @@
--- Each length is that of the number that is named, else of the last one.
+-- Each coordinate is the one that is named, else the last one.
 use Rattle.std.proofs.Common.{rules, arith, ◌≡◌, ◌≤◌, ◌^◌, unsigned_abs, ℤ, ℕ, FitsSigned, to_z, of_z, ◌∙◌, ap, unwrap_or, Option}
 use Rattle.std.proofs.lemmas.Int.{to_z-of_z}
 use mir.Syntax.{w128, w64}
