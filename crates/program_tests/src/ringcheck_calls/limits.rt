@@ -39,7 +39,13 @@ const LENGTHS: &[LengthRow] = &[
     (&MEASURE, "m.csv", 1_048_576, Status::Pass, MEASURED),
     (&MEASURE, "m.csv", 1_048_577, Status::Refused, LONG_MANIFEST),
     (&MEASURE, "pth.drl", 268_435_456, Status::Pass, MEASURED),
-    (&MEASURE, "pth.drl", 268_435_457, Status::Refused, LONG_DRILL),
+    (
+        &MEASURE,
+        "pth.drl",
+        268_435_457,
+        Status::Refused,
+        LONG_DRILL,
+    ),
     (
         &["manifest", "--why", "top.gbr"],
         "top.gbr",
