@@ -355,6 +355,11 @@ class Libraries:
     def __enter__(self):
         shutil.rmtree(self.top, ignore_errors=True)
         copy_crates(self.lines, self.top)
+        for name in self.lines:
+            # What stands built here is taken: `rt lib` builds a library again where its stamp is not that of its sources.
+            built = os.path.join("crates", name, "out/rlib")
+            if os.path.isfile(os.path.join(TOP, built, "stamp")):
+                shutil.copytree(os.path.join(TOP, built), os.path.join(self.top, built), copy_function=link_or_copy)
         return self
 
     def __exit__(self, *_):

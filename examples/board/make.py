@@ -308,7 +308,7 @@ def told(files):
         f"ring {length(RING)}, gap {length(GAP)}",
         *lacking(top, "board-F_Cu.gbr", []),
         *lacking(bottom, "board-B_Cu.gbr", [no_pad]),
-        "1 gaps lacking",
+        "1 gap lacking",
         f"  {at(59)}, and {at(60)}: gap 0.2, lacks 0.05",
         "2 off centre: the pad is large enough for a hole at its centre; drill files are rounded: see `ringcheck explain ring`",
         "2 only a macro flash: flashes by a macro are not judged: choose circle, oval or rectangle: see `ringcheck explain macro`",

@@ -1,12 +1,7 @@
 pub mod Answered
-pub mod FirstText
-pub mod Behind
-pub mod Words
-pub mod Files
-pub mod RewriteWords
-pub mod ShowWords
+pub mod GivenOptions
+pub mod OptionWords
+pub mod NamedCommand
+pub mod CommandWords
 pub mod ManifestWords
-pub mod OtherWords
-pub mod MeasureWords
-pub mod ReportWords
-pub mod DrawWords
+pub mod Requests

@@ -1,155 +1,86 @@
--- What the command makes of the words of `manifest`, one word after another.
-use Rattle.std.proofs.Common.{◌≡◌, ◌∙◌, ◌==◌, ◌&&◌, ◌++◌, ◌≤◌, true, false, refl, ap, List, [], ◌∷◌, Some, None, codes, not, Bool, get_or, length, append_assoc, arith, sym}
+-- What the program makes of the words of `manifest`: a flag, which may be left out, and then a file or more of them.
+use Rattle.std.proofs.Common.{◌≡◌, ◌∙◌, ◌==◌, ◌++◌, ◌≤◌, true, false, refl, List, [], ◌∷◌, Some, None, codes, not, Bool, get_or, length, append-nil, append_assoc, arith}
 use Rattle.std.specs.Prelude.{nat_le, if◌then◌else◌}
 use Rattle.std.specs.List.{list_all}
 use Rattle.std.proofs.lemmas.Bool.{false≢true, le-leb}
-use Rattle.std.proofs.lemmas.List.{append-nil}
+use Rattle.clap.proofs.OnLiterals.{clap_on_literals}
+use Rattle.clap.proofs.WalkLemmas.{both}
 use Rattle.clap.specs.Lexer.{usize_max}
-use Rattle.clap.specs.Words.{Row, Rule, Text, all_of, one_of, subcommand_of, takes}
-use Rattle.clap.specs.Walk.{Walk, nothing_held, walk_from, finished}
-use Rattle.clap.specs.Walk.{idle, positional}
-use Rattle.clap.specs.Simple.{Shape, built, help_rule}
-use Rattle.clap.specs.Takes.{value_passes}
+use Rattle.clap.specs.Simple.{Shape, help_rule}
+use Rattle.clap.specs.Takes.{settle_passes, value_passes}
 use Rattle.clap.specs.Values.{reading_of}
+use Rattle.clap.specs.Walk.{Walk, idle, positional}
+use Rattle.clap.specs.Words.{Row, Text}
 use Rattle.clap.specs.declared.builder.value_parser.ValueParser.TheVariants as parser
 use Rattle.clap.specs.declared.parser.matches.ValueSource.TheVariants as source
-use Rattle.clap.proofs.OnLiterals.{clap_on_literals}
-use Rattle.command_line.specs.Line.{are_plain_words, check_app, is_plain_word, manifest_words, ringcheck_app}
-use Rattle.command_line.proofs.Behind.{Goes, GoesByPlain, IsNamed, Runs, goes_on, is_found, is_taken, passes_end, plain_goes, standing, stays}
+use Rattle.command_line.specs.Line.{are_plain_words, is_plain_word, manifest_words}
+use Rattle.command_line.proofs.GivenOptions.{given, given_all}
+use Rattle.command_line.proofs.NamedCommand.{answer, command_of, is_answer}
+use Rattle.command_line.proofs.OptionWords.{Goes, Runs, bare, goes_on, pending, plain_turn, reads, standing, stays}
 
--- the subcommand, as the program's command is built
 abbrev listing : Shape
-listing = get_or (built ringcheck_app).subs 4 check_app.top
-
-named : IsNamed listing (codes "manifest")
-unfolding clap_on_literals
-named = record { taken_below = λ rest. refl; taken_here = λ rest. refl; found_below = λ rest. refl; found_here = λ rest. refl }
+listing = command_of (codes "manifest")
 
 -- ---- the walk
 
-abbrev switched : Row
-switched = record { id = codes "why"; values = codes "true" ∷ []; count = None; source = Some source.CommandLine; reading = reading_of parser.Bool }
+abbrev flag_rows : Bool → List Row
+flag_rows why = if why then given (codes "why") (codes "true") ∷ [] else []
 
-abbrev unswitched : Row
-unswitched = record { id = codes "why"; values = codes "false" ∷ []; count = None; source = Some source.DefaultValue; reading = reading_of parser.Bool }
+-- where the walk stands behind the flag and some files
+abbrev behind : Bool → List Text → Walk
+behind why [] = standing (bare (flag_rows why)) idle 1
+behind why (f ∷ fs) = standing (pending (flag_rows why) (codes "file") (f ∷ fs)) positional 1
 
-abbrev given_all : List Text → Row
-given_all files = record { id = codes "file"; values = files; count = None; source = Some source.CommandLine; reading = reading_of parser.String }
-
-abbrev rows_before : Bool → List Row
-rows_before why = if why then switched ∷ [] else []
-
-abbrev begun : Bool → Walk
-begun why = standing (rows_before why) None idle 1
-
-abbrev has_files : Bool → List Text → Walk
-has_files why files = standing (rows_before why) (Some (codes "file", files)) positional 1
-
-to_why : Goes listing (begun false) (codes "--why") (begun true)
+to_why : Goes listing (behind false []) (codes "--why") (behind true [])
 unfolding clap_on_literals
-to_why = (refl, refl)
+to_why = refl
 
-first_file : (why : Bool) → GoesByPlain listing (begun why) (λ f. has_files why (f ∷ []))
+to_file : (why : Bool) (files : List Text) (f : Text) → is_plain_word f ≡ true → Goes listing (behind why files) f (behind why (files ++ f ∷ []))
 unfolding clap_on_literals
-first_file true x xs p = (rw (p, p) refl, rw (p, p) refl)
-first_file false x xs p = (rw (p, p) refl, rw (p, p) refl)
-
-next_file : (why : Bool) (files : List Text) → GoesByPlain listing (has_files why files) (λ f. has_files why (files ++ f ∷ []))
-unfolding clap_on_literals
-next_file true files x xs p = (rw (p, p) refl, rw (p, p) refl)
-next_file false files x xs p = (rw (p, p) refl, rw (p, p) refl)
-
-both : (a b : Bool) → (a && b) ≡ true → (a ≡ true) × (b ≡ true)
-both true b h = (refl, h)
-both false b h = absurd (false≢true h)
+to_file why [] f p = plain_turn listing idle (bare (flag_rows why)) f p
+to_file why (g ∷ gs) f p = plain_turn listing positional (pending (flag_rows why) (codes "file") (g ∷ gs)) f p
 
 -- the walk over further files
-runs_more : (why : Bool) (files fs : List Text) → list_all is_plain_word fs ≡ true → Runs listing (has_files why files) fs (has_files why (files ++ fs))
-runs_more why files [] h = (ap (has_files why) (sym (append-nil files)), (stays listing (has_files why files)).1)
-runs_more why files (f ∷ fs) h =
+runs : (why : Bool) (files fs : List Text) → list_all is_plain_word fs ≡ true → Runs listing (behind why files) fs (behind why (files ++ fs))
+runs why files [] h = rw append-nil (stays listing (behind why files))
+runs why files (f ∷ fs) h =
     let k = both (is_plain_word f) (list_all is_plain_word fs) h in
-    let rest = runs_more why (files ++ f ∷ []) fs k.1 in
-    goes_on listing (has_files why files) f (has_files why (files ++ f ∷ [])) fs (has_files why (files ++ f ∷ fs))
-    (plain_goes listing (has_files why files) (λ g. has_files why (files ++ g ∷ [])) (next_file why files) f k.0)
-    (rest.0 ∙ ap (has_files why) (append_assoc files (f ∷ []) fs), rest.1)
-
-runs_files : (why : Bool) (f : Text) (fs : List Text) → list_all is_plain_word (f ∷ fs) ≡ true → Runs listing (begun why) (f ∷ fs) (has_files why (f ∷ fs))
-runs_files why f fs h =
-    let k = both (is_plain_word f) (list_all is_plain_word fs) h in
-    goes_on listing (begun why) f (has_files why (f ∷ [])) fs (has_files why (f ∷ fs))
-    (plain_goes listing (begun why) (λ g. has_files why (g ∷ [])) (first_file why) f k.0) (runs_more why (f ∷ []) fs k.1)
-
--- the words after the name
-abbrev values : Bool → List Text → List Text
-values why files = if why then codes "--why" ∷ files else files
-
-runs : (why : Bool) (f : Text) (fs : List Text) → list_all is_plain_word (f ∷ fs) ≡ true → Runs listing (walk_from nothing_held) (values why (f ∷ fs)) (has_files why (f ∷ fs))
-runs true f fs h = goes_on listing (begun false) (codes "--why") (begun true) (f ∷ fs) (has_files true (f ∷ fs)) to_why (runs_files true f fs h)
-runs false f fs h = runs_files false f fs h
+    goes_on listing _ _ _ _ (to_file why files f k.0) ∙ rw append_assoc at (runs why (files ++ f ∷ []) fs k.1)
 
 -- ---- its end
 
-abbrev file_rule : Rule
-file_rule = get_or listing.rules 1 help_rule
-
 -- any text is a value
-all_pass : (files : List Text) → list_all (value_passes file_rule) files ≡ true
+all_pass : (files : List Text) → list_all (value_passes (get_or listing.rules 1 help_rule)) files ≡ true
 unfolding clap_on_literals
 all_pass [] = refl
 all_pass (f ∷ fs) = all_pass fs
 
-end_passes : (why : Bool) (f : Text) (fs : List Text) → length (f ∷ fs) ≤ usize_max → passes_end listing (has_files why (f ∷ fs)).held ≡ true
+files_pass : (why : Bool) (f : Text) (fs : List Text) → length (f ∷ fs) ≤ usize_max → settle_passes listing.rules listing.args_override_self (behind why (f ∷ fs)).held ≡ true
 unfolding clap_on_literals
-end_passes true f fs few =
-    let least : nat_le 1 (length (f ∷ fs)) ≡ true = le-leb 1 (length (f ∷ fs)) (omega arith) in
-    let most : nat_le (length (f ∷ fs)) usize_max ≡ true = le-leb (length (f ∷ fs)) usize_max few in
-    rw (least, most, all_pass fs) refl
-end_passes false f fs few =
+files_pass why f fs few =
     let least : nat_le 1 (length (f ∷ fs)) ≡ true = le-leb 1 (length (f ∷ fs)) (omega arith) in
     let most : nat_le (length (f ∷ fs)) usize_max ≡ true = le-leb (length (f ∷ fs)) usize_max few in
     rw (least, most, all_pass fs) refl
 
--- the rows of the values
-abbrev rows_of_values : Bool → List Text → List Row
-rows_of_values why files = if why then switched ∷ given_all files ∷ [] else given_all files ∷ unswitched ∷ []
+-- the row of the flag where it is left out
+abbrev unswitched : Row
+unswitched = record { id = codes "why"; values = codes "false" ∷ []; count = None; source = Some source.DefaultValue; reading = reading_of parser.Bool }
 
-end_rows : (why : Bool) (f : Text) (fs : List Text) → finished listing.rules (has_files why (f ∷ fs)).held ≡ rows_of_values why (f ∷ fs)
+abbrev pub rows_of_manifest : Bool → List Text → List Row
+rows_of_manifest why files = if why then given (codes "why") (codes "true") ∷ given_all (codes "file") files ∷ [] else given_all (codes "file") files ∷ unswitched ∷ []
+
+pub manifest_answer : (why : Bool) (files : List Text) → are_plain_words files ≡ true → length files ≤ usize_max
+    → answer (manifest_words why files) ≡ (true, Some (codes "manifest", rows_of_manifest why files))
 unfolding clap_on_literals
-end_rows true f fs = refl
-end_rows false f fs = refl
-
-same_words : (why : Bool) (files : List Text) → manifest_words why files ≡ codes "manifest" ∷ values why files
-same_words true files = refl
-same_words false files = refl
-
--- the words of `manifest` are taken
-pub manifest_taken : (why : Bool) (files : List Text) → are_plain_words files ≡ true → length files ≤ usize_max → takes ringcheck_app (manifest_words why files) ≡ true
-manifest_taken why [] p few = absurd (false≢true p)
-manifest_taken why (f ∷ fs) p few =
+manifest_answer why [] p few = absurd (false≢true p)
+manifest_answer true (f ∷ fs) p few =
     let h = (both (not (length (f ∷ fs) == 0)) (list_all is_plain_word (f ∷ fs)) p).1 in
-    ap (takes ringcheck_app) (same_words why (f ∷ fs))
-    ∙ is_taken listing (codes "manifest") named (values why (f ∷ fs)) (has_files why (f ∷ fs)) (runs why f fs h) (end_passes why f fs few)
-
--- and give these rows
-pub manifest_found : (why : Bool) (files : List Text) → are_plain_words files ≡ true
-    → (rows : List Row) × (subcommand_of ringcheck_app (manifest_words why files) ≡ Some (codes "manifest", rows)) × (one_of (codes "why") rows ≡ Some (if why then codes "true" else codes "false"))
-    × (all_of (codes "file") rows ≡ Some files)
-manifest_found why [] p = absurd (false≢true p)
-manifest_found why (f ∷ fs) p =
+    is_answer (codes "manifest") (λ rest. refl, λ rest. refl) (codes "--why" ∷ f ∷ fs) (rows_of_manifest true (f ∷ fs))
+    (reads listing (codes "--why" ∷ f ∷ fs) (behind true (f ∷ fs)) (flag_rows true ++ given_all (codes "file") (f ∷ fs) ∷ []) (rows_of_manifest true (f ∷ fs))
+    (goes_on listing (behind false []) (codes "--why") (behind true []) (f ∷ fs) to_why ∙ runs true [] (f ∷ fs) h)
+    (record { comes_to = refl; none_skipped = refl; passes = files_pass true f fs few }) refl refl refl)
+manifest_answer false (f ∷ fs) p few =
     let h = (both (not (length (f ∷ fs) == 0)) (list_all is_plain_word (f ∷ fs)) p).1 in
-    let is = ap (subcommand_of ringcheck_app) (same_words why (f ∷ fs))
-    ∙ is_found listing (codes "manifest") named (values why (f ∷ fs)) (has_files why (f ∷ fs)) (runs why f fs h) (rows_of_values why (f ∷ fs)) (end_rows why f fs) in
-    (rows_of_values why (f ∷ fs), is, why_is why, files_are why)
-  where
-    why_is : (w : Bool) → one_of (codes "why") (rows_of_values w (f ∷ fs)) ≡ Some (if w then codes "true" else codes "false")
-    why_is true = refl
-    why_is false = refl
-
-    files_are : (w : Bool) → all_of (codes "file") (rows_of_values w (f ∷ fs)) ≡ Some (f ∷ fs)
-    files_are true = refl
-    files_are false = refl
-
--- there are no more files than words
-pub no_more_files : (why : Bool) (files : List Text) → length files ≤ length (manifest_words why files)
-no_more_files true files = omega arith
-no_more_files false files = omega arith
+    is_answer (codes "manifest") (λ rest. refl, λ rest. refl) (f ∷ fs) (rows_of_manifest false (f ∷ fs))
+    (reads listing (f ∷ fs) (behind false (f ∷ fs)) (flag_rows false ++ given_all (codes "file") (f ∷ fs) ∷ []) (rows_of_manifest false (f ∷ fs)) (runs false [] (f ∷ fs) h)
+    (record { comes_to = refl; none_skipped = refl; passes = files_pass false f fs few }) refl refl refl)

@@ -13,7 +13,7 @@ use Rattle.picture.specs.declared.scene.Scene.{Scene}
 use Rattle.drawing.specs.Boxes.{board_extent}
 use Rattle.drawing.specs.Pages.{page_text}
 use Rattle.drawing.specs.Layouts.{IsLayout, box_left, box_top}
-use Rattle.drawing.specs.declared.draw.Page.{Page}
+use Rattle.drawing.specs.declared.draw.Drawing.{Drawing}
 use Rattle.drawing.specs.declared.layout.Layout.{Layout}
 use Rattle.drawing.specs.declared.panels.Panel.{Panel}
 
@@ -44,13 +44,18 @@ pub record IsPanel (names : List (List ℕ)) (flashed : FlashedSurvey) (findings
   pub scene : IsScene at.0 (get_or flashed.flashes at.1 []) flashed.board.holes findings panel.scene
 
 -- the contents of a board's page, under rules if there are any; `names` are those of its files, in order
-pub record IsPage (names : List (List ℕ)) (flashed : FlashedSurvey) (asked : Option GridRules) (page : Page) : Type 0 where
-  pub laid : IsLayout (board_extent flashed) (length flashed.board.layer_indexes) asked page.layout
-  pub drawn : AllZip (IsPanel names flashed (found asked flashed.board) page.layout) (enumerate_from 0 flashed.board.layer_indexes) page.panels.items
-  pub told : page.count ≡ length (found asked flashed.board)
+pub record IsPage (names : List (List ℕ)) (flashed : FlashedSurvey) (asked : Option GridRules) (drawing : Drawing) : Type 0 where
+  pub laid : IsLayout (board_extent flashed) (length flashed.board.layer_indexes) asked drawing.layout
+  pub under : drawing.rules ≡ asked
+  pub drawn : AllZip (IsPanel names flashed (found asked flashed.board) drawing.layout) (enumerate_from 0 flashed.board.layer_indexes) drawing.panels.items
+  pub told : drawing.count ≡ length (found asked flashed.board)
+
+-- the text of a drawing: its page
+abbrev pub drawing_text : Drawing → List ℕ
+drawing_text d = page_text d.layout d.rules d.count d.panels.items
 
 -- a text is the page of a board, under rules if there are any; `names` are those of its files, in order
 pub record IsDrawn (names : List (List ℕ)) (flashed : FlashedSurvey) (asked : Option GridRules) (text : List ℕ) : Type 0 where
-  pub page : Page
-  pub shows : IsPage names flashed asked page
-  pub is : text ≡ page_text page.layout asked page.count page.panels.items
+  pub drawing : Drawing
+  pub shows : IsPage names flashed asked drawing
+  pub is : text ≡ drawing_text drawing

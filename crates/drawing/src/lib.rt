@@ -1,6 +1,6 @@
 //! A board drawn as a page: a title, a panel for each copper file, a scale and a legend, as SVG.
 //!
-//! All lengths are whole picometres (pm), and are written in millimetres.
+//! All lengths are whole picometres (pm), and are printed in millimetres.
 #![tactic(auto)]
 
 mod bounds;
@@ -15,4 +15,4 @@ mod places;
 mod scale;
 mod words;
 
-pub use draw::{PrintFault, print_drawing};
+pub use draw::Drawing;

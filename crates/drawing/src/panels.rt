@@ -4,21 +4,40 @@ ghost use Rattle.std.specs.Prelude.{◌≡◌, ◌++◌, ◌∷◌, ◌-ℤ◌, 
 ghost use Rattle.std.specs.List.{AllZip, enumerate_from};
 ghost use Rattle.drawing.specs.Drawings.{IsPanel, IsScene, number_of};
 ghost use Rattle.drawing.specs.Layouts.{box_left, box_top};
+ghost use Rattle.drawing.specs.Pages.{text_of_panel};
 
 use crate::layout::Layout;
 use flashed_boards::FlashedBoard;
 use layer_image::Flash;
 use picture::{Place, Scene, scene_of};
+use printing::Line;
 use ring_rules::{Drilled, Finding};
 use std::alloc::{AllocError, Global};
+use std::fmt;
+use std::fmt::Formatter;
 
 /// A panel: where it stands on the page, and its contents.
 #[derive(Drop)]
-pub(crate) struct Panel<'n, 'h> {
+pub(crate) struct Panel<'a> {
     /// Its place on the page, and the number and name of its file.
-    pub(crate) place: Place<'n>,
+    pub(crate) place: Place<'a>,
     /// Its pads, crosses, holes and findings.
-    pub(crate) scene: Scene<'h>,
+    pub(crate) scene: Scene<'a>,
+}
+
+/// A panel on a page with this layout.
+impl Line<Layout> for Panel<'_> {
+    ghost text = { text_of_panel };
+
+    fn fmt_on<W: fmt::Write>(&self, layout: &Layout, f: &mut Formatter<W>) -> fmt::Result {
+        let panel = picture::Panel {
+            place: &self.place,
+            frame: &layout.frame,
+            pen: &layout.pen,
+            scene: &self.scene,
+        };
+        write!(f, "{panel}")
+    }
 }
 
 /// The name of a file, by its index; empty where it has none.
@@ -70,15 +89,15 @@ fn scene_on<'a>(
 }
 
 /// The panel of a layer, by its place among the copper files and the index of its file.
-fn panel_of<'n, 'h>(
+fn panel_of<'a>(
     alloc: Global,
     layout: &Layout,
-    names: &[&'n str],
-    flashed: &'h FlashedBoard,
+    names: &[&'a str],
+    flashed: &'a FlashedBoard,
     findings: &[Finding],
     layer: usize,
     file: usize,
-) -> Result<Panel<'n, 'h>, AllocError>
+) -> Result<Panel<'a>, AllocError>
     ensures { IfOk result (IsPanel (map (λ name. name.now) names.now) flashed.now findings.now layout.now (layer, file)) }
 {
     let scene = scene_on(
@@ -94,7 +113,7 @@ fn panel_of<'n, 'h>(
     })
 }
 
-fn add<'n, 'h>(panels: &mut Vec<Panel<'n, 'h>>, panel: Panel<'n, 'h>) -> Result<(), AllocError>
+fn add<'a>(panels: &mut Vec<Panel<'a>>, panel: Panel<'a>) -> Result<(), AllocError>
     ensures { OnOk result (panels.new.items ≡ panels.old.items ++ panel.entry ∷ []) }
 {
     if panels.push(panel).is_err() {
@@ -108,13 +127,13 @@ fn add<'n, 'h>(panels: &mut Vec<Panel<'n, 'h>>, panel: Panel<'n, 'h>) -> Result<
 /// # Errors
 ///
 /// An `AllocError` when memory runs out.
-pub(crate) fn panels_of<'n, 'h>(
+pub(crate) fn panels_of<'a>(
     alloc: Global,
     layout: &Layout,
-    names: &[&'n str],
-    flashed: &'h FlashedBoard,
+    names: &[&'a str],
+    flashed: &'a FlashedBoard,
     findings: &[Finding],
-) -> Result<Vec<Panel<'n, 'h>>, AllocError>
+) -> Result<Vec<Panel<'a>>, AllocError>
     ensures { IfOk result (λ panels. AllZip (IsPanel (map (λ name. name.now) names.now) flashed.now findings.now layout.now) (enumerate_from 0 flashed.now.board.layer_indexes) panels.items) }
 {
     let files = flashed.board.layer_indexes();

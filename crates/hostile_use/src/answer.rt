@@ -133,10 +133,7 @@ impl Answer {
                 let mut digest = Digest::new();
                 digest_lines(&mut digest, drill.commands());
                 digest_holes(&mut digest, drill.holes());
-                for (number, diameter) in drill.tools().iter() {
-                    let units = diameter.units();
-                    let _ = write!(digest, "{number} {units} ");
-                }
+                digest_tools(&mut digest, &drill);
                 Answer::Given {
                     first: drill.commands().len(),
                     second: drill.holes().len(),
@@ -258,6 +255,13 @@ fn digest_line(digest: &mut Digest, command: &DrillCommand) {
         _ => {
             let _ = write!(digest, "{command:?}");
         }
+    }
+}
+
+fn digest_tools(digest: &mut Digest, drill: &Drill) {
+    for (number, diameter) in drill.tools().iter() {
+        let units = diameter.units();
+        let _ = write!(digest, "{number} {units} ");
     }
 }
 

@@ -66,12 +66,12 @@ fn file(role: Role, name: &'static str, span: Option<Span>, text: &'static str) 
 
 /// The answer of a check of whole files, or its report.
 fn whole(alloc: Global, board: &Board, rules: Rules, is_report: bool) -> Answer {
-    let top = file(Role::Copper, "top", None, board.top);
-    let drill = file(board.role, "pth", span_of(board), board.drill);
+    let top = file(Role::Copper, "top", None, board.top.text());
+    let drill = file(board.role, "pth", span_of(board), board.drill.text());
     match board.bottom {
         None => judged(alloc, &[top, drill], rules, is_report),
-        Some(text) => {
-            let bottom = file(Role::Copper, "bot", None, text);
+        Some(copper) => {
+            let bottom = file(Role::Copper, "bot", None, copper.text());
             judged(alloc, &[top, bottom, drill], rules, is_report)
         }
     }
@@ -124,19 +124,41 @@ fn in_pieces(alloc: Global, board: &Board, rules: Rules, length: usize) -> Answe
 }
 
 fn pieced(alloc: Global, board: &Board, rules: Rules, length: usize) -> Result<Answer, AllocError> {
-    let top = pieces_of(alloc, board.top, length)?;
-    let bottom = pieces_of(alloc, board.bottom.unwrap_or(""), length)?;
-    let drill = pieces_of(alloc, board.drill, length)?;
-    let top = pieced_file(Role::Copper, "top", None, &top);
-    let drill = pieced_file(board.role, "pth", span_of(board), &drill);
-    let outcome = match board.bottom {
-        None => check_pieces(alloc, &[top, drill], rules),
-        Some(_) => {
-            let bottom = pieced_file(Role::Copper, "bot", None, &bottom);
-            check_pieces(alloc, &[top, bottom, drill], rules)
-        }
+    let top = pieces_of(alloc, board.top.text(), length)?;
+    let drill = pieces_of(alloc, board.drill.text(), length)?;
+    let Some(bottom) = board.bottom else {
+        return Ok(of_two(alloc, board, rules, &top, &drill));
     };
-    Ok(checked(outcome))
+    let bottom = pieces_of(alloc, bottom.text(), length)?;
+    Ok(of_three(alloc, board, rules, &top, &bottom, &drill))
+}
+
+/// The answer of a check of one copper file and a drill file.
+fn of_two<'a>(
+    alloc: Global,
+    board: &Board,
+    rules: Rules,
+    top: &'a [&'static [u8]],
+    drill: &'a [&'static [u8]],
+) -> Answer {
+    let top = pieced_file(Role::Copper, "top", None, top);
+    let drill = pieced_file(board.role, "pth", span_of(board), drill);
+    checked(check_pieces(alloc, &[top, drill], rules))
+}
+
+/// The answer of a check of two copper files and a drill file.
+fn of_three<'a>(
+    alloc: Global,
+    board: &Board,
+    rules: Rules,
+    top: &'a [&'static [u8]],
+    bottom: &'a [&'static [u8]],
+    drill: &'a [&'static [u8]],
+) -> Answer {
+    let top = pieced_file(Role::Copper, "top", None, top);
+    let bottom = pieced_file(Role::Copper, "bot", None, bottom);
+    let drill = pieced_file(board.role, "pth", span_of(board), drill);
+    checked(check_pieces(alloc, &[top, bottom, drill], rules))
 }
 
 fn pieced_file<'a>(
@@ -163,7 +185,7 @@ fn found(outcome: Result<Vec<Finding>, Fail>) -> Answer {
 /// The holes of the drill file.
 fn drilled(alloc: Global, board: &Board) -> Result<Vec<Drilled>, Fail> {
     let plated = matches!(board.role, Role::Plated);
-    let drill = read_drill(alloc, board.drill.as_bytes())?;
+    let drill = read_drill(alloc, board.drill.text().as_bytes())?;
     all_drilled(alloc, drill.holes(), plated, &span_of(board)).map_err(|_| Fail::Memory)
 }
 
@@ -186,7 +208,7 @@ fn all_drilled(
 
 /// The findings of rings of the first layer.
 fn rings(alloc: Global, board: &Board, rules: Rules) -> Result<Vec<Finding>, Fail> {
-    let layer = read_layer(alloc, board.top.as_bytes())?;
+    let layer = read_layer(alloc, board.top.text().as_bytes())?;
     let holes = drilled(alloc, board)?;
     ring_findings(alloc, &[layer.pads()], &holes, rules).map_err(|_| Fail::Memory)
 }

@@ -1,5 +1,6 @@
 //! Texts that are cut: the answer to the pieces must be that to the whole.
 
+use crate::answer::Answer;
 use crate::readers::{READERS, Reader};
 use crate::texts::{Paragraph, Wanted};
 use std::alloc::{AllocError, Global};
@@ -73,18 +74,21 @@ fn is_front_same(reader: Reader, alloc: Global, front: &[u8]) -> bool {
     answer == reader.whole(alloc, front)
 }
 
+fn is_wanted(alloc: Global, answer: &Answer, wanted: &Wanted) -> Result<bool, AllocError> {
+    match wanted {
+        Wanted::Counts(first, second) => Ok(answer.has_counts((*first, *second))),
+        Wanted::Line(line) => Ok(format!(in alloc; "{answer}")?.as_str() == line.as_str()),
+    }
+}
+
 /// Whether a row has its stated answer: whole, in two pieces and byte by byte.
 pub(crate) fn is_answered(alloc: Global, row: &Paragraph) -> Result<bool, AllocError> {
     let (Some(reader), Some(wanted)) = (row.reader, &row.wanted) else {
         return Ok(false);
     };
     let answer = reader.whole(alloc, &row.text);
-    let is_right = match wanted {
-        Wanted::Counts(first, second) => answer.has_counts((*first, *second)),
-        Wanted::Line(line) => format!(in alloc; "{answer}")?.as_str() == line.as_str(),
-    };
     Ok(
-        is_right
+        is_wanted(alloc, &answer, wanted)?
             && reader.in_two(alloc, &row.text, row.text.len() / 2) == answer
             && reader.in_bytes(alloc, &row.text) == answer,
     )

@@ -142,26 +142,82 @@ pub(crate) const MANIFESTS: [&str; 12] = [
     "role,name,file,first,last\ncopper,top,top.gbr,,\ncopper,bot,bot.gbr,,\nplated,pth,pth.drl,1,3\n",
 ];
 
-/// A package: one copper file or two, and a drill file.
+/// The copper files of packages.
+#[derive(Clone, Copy)]
+pub(crate) enum Copper {
+    Layer,
+    Moved,
+    TwoFlashes,
+    Macro,
+    Soldermask,
+    LongPad,
+    ShortPad,
+    TwoPads,
+}
+
+impl Copper {
+    pub(crate) fn text(self) -> &'static str {
+        match self {
+            Copper::Layer => LAYER,
+            Copper::Moved => MOVED,
+            Copper::TwoFlashes => TWO_FLASHES,
+            Copper::Macro => MACRO,
+            Copper::Soldermask => SOLDERMASK,
+            Copper::LongPad => LONG_PAD,
+            Copper::ShortPad => SHORT_PAD,
+            Copper::TwoPads => TWO_PADS,
+        }
+    }
+}
+
+/// The drill files of packages.
+#[derive(Clone, Copy)]
+pub(crate) enum Holes {
+    One,
+    TwoHits,
+    HitTwice,
+    Slot,
+    Oblique,
+    SlotAndHole,
+    SlotNearHole,
+    ObliqueNearHole,
+}
+
+impl Holes {
+    pub(crate) fn text(self) -> &'static str {
+        match self {
+            Holes::One => DRILL,
+            Holes::TwoHits => TWO_HITS,
+            Holes::HitTwice => HIT_TWICE,
+            Holes::Slot => SLOT,
+            Holes::Oblique => OBLIQUE,
+            Holes::SlotAndHole => SLOT_AND_HOLE,
+            Holes::SlotNearHole => SLOT_NEAR_HOLE,
+            Holes::ObliqueNearHole => OBLIQUE_NEAR_HOLE,
+        }
+    }
+}
+
+/// A package: one copper file or two, and a drill file. The files have names, since a table of their texts is dear to prove.
 #[derive(Clone, Copy)]
 pub(crate) struct Board {
-    pub(crate) top: &'static str,
-    pub(crate) bottom: Option<&'static str>,
+    pub(crate) top: Copper,
+    pub(crate) bottom: Option<Copper>,
     pub(crate) role: Role,
-    pub(crate) drill: &'static str,
+    pub(crate) drill: Holes,
     pub(crate) span: Option<(usize, usize)>,
 }
 
 const BOARD: Board = Board {
-    top: LAYER,
+    top: Copper::Layer,
     bottom: None,
     role: Role::Plated,
-    drill: DRILL,
+    drill: Holes::One,
     span: None,
 };
 
 const THREE: Board = Board {
-    bottom: Some(MOVED),
+    bottom: Some(Copper::Moved),
     ..BOARD
 };
 
@@ -171,40 +227,40 @@ const UNPLATED: Board = Board {
 };
 
 const SLOTTED: Board = Board {
-    top: LONG_PAD,
-    drill: SLOT,
+    top: Copper::LongPad,
+    drill: Holes::Slot,
     ..BOARD
 };
 
 pub(crate) const BOARDS: [Board; 17] = [
     BOARD,
     Board {
-        top: TWO_FLASHES,
-        drill: TWO_HITS,
+        top: Copper::TwoFlashes,
+        drill: Holes::TwoHits,
         ..BOARD
     },
     Board {
-        drill: HIT_TWICE,
+        drill: Holes::HitTwice,
         ..BOARD
     },
     Board {
-        top: MACRO,
+        top: Copper::Macro,
         ..BOARD
     },
     Board {
-        top: SOLDERMASK,
+        top: Copper::Soldermask,
         ..BOARD
     },
     Board {
-        drill: SLOT_AND_HOLE,
+        drill: Holes::SlotAndHole,
         ..UNPLATED
     },
     Board {
-        drill: SLOT_NEAR_HOLE,
+        drill: Holes::SlotNearHole,
         ..UNPLATED
     },
     Board {
-        drill: OBLIQUE_NEAR_HOLE,
+        drill: Holes::ObliqueNearHole,
         ..UNPLATED
     },
     Board {
@@ -222,20 +278,20 @@ pub(crate) const BOARDS: [Board; 17] = [
     },
     SLOTTED,
     Board {
-        top: SHORT_PAD,
+        top: Copper::ShortPad,
         ..SLOTTED
     },
     Board {
-        drill: OBLIQUE,
+        drill: Holes::Oblique,
         ..SLOTTED
     },
     Board {
-        drill: OBLIQUE,
+        drill: Holes::Oblique,
         role: Role::Unplated,
         ..SLOTTED
     },
     Board {
-        top: TWO_PADS,
+        top: Copper::TwoPads,
         ..SLOTTED
     },
 ];

@@ -4,7 +4,7 @@
 use crate::answer::Answer;
 use crate::cuts::Tally;
 use crate::readers::Reader;
-use drill_text::{Drill, DrillReader, drill_sayable, write_drill};
+use drill_text::{Drill, DrillCommand, DrillReader, drill_sayable, write_drill};
 use grid_units::{Fail, Fault, Reason};
 use std::alloc::{AllocError, Global};
 
@@ -49,34 +49,43 @@ fn feed_again(reader: &mut DrillReader, piece: &[u8], count: u64) -> Result<(), 
     Ok(())
 }
 
+/// Feeds a drill file of these comments and hits.
+fn feed_all(reader: &mut DrillReader, comment: &[u8], hits: &[u8]) -> Result<(), Fail> {
+    reader.feed(b"M48\nMETRIC\nT1C0.4\n%\nT1\n")?;
+    feed_again(reader, comment, COMMENTS)?;
+    feed_again(reader, hits, HITS)?;
+    reader.feed(b"M30\n")
+}
+
 /// A drill file below the limit whose canonical text is above it.
 fn long_drill(alloc: Global) -> Result<Drill, Fail> {
     let comment = piece(alloc, ";", "\n")?;
     let hits = "X1.Y1.\n".repeat(alloc, 4_096)?;
     let mut reader = DrillReader::new(alloc);
-    reader.feed(b"M48\nMETRIC\nT1C0.4\n%\nT1\n")?;
-    feed_again(&mut reader, &comment, COMMENTS)?;
-    feed_again(&mut reader, hits.as_bytes(), HITS)?;
-    reader.feed(b"M30\n")?;
+    feed_all(&mut reader, &comment, hits.as_bytes())?;
     reader.finish()
 }
 
-/// Whether a drill file that can be read is refused when it is written.
-fn is_refused_written(alloc: Global) -> Result<bool, Fail> {
+/// Whether commands that can be written are refused for their length.
+fn are_too_long(alloc: Global, commands: &[DrillCommand]) -> bool {
     let wanted = Fault {
         place: 0,
         byte: 0,
         reason: Reason::TooLong,
     };
-    let drill = long_drill(alloc)?;
-    let commands = drill.commands();
     if !drill_sayable(commands) {
-        return Ok(false);
+        return false;
     }
     match write_drill(alloc, commands) {
-        Ok(_) => Ok(false),
-        Err(fail) => Ok(fail == Fail::Refused(wanted)),
+        Ok(_) => false,
+        Err(fail) => fail == Fail::Refused(wanted),
     }
+}
+
+/// Whether a drill file that can be read is refused when it is written.
+fn is_refused_written(alloc: Global) -> Result<bool, Fail> {
+    let drill = long_drill(alloc)?;
+    Ok(are_too_long(alloc, drill.commands()))
 }
 
 /// Tries the readers that keep no comment, and the writer of drill files.

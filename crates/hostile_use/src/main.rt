@@ -49,36 +49,58 @@ fn judge(rt: &HostRuntime, task: Task, paragraph: &Paragraph, tally: &mut Tally)
     Ok(())
 }
 
-/// Does the task with all paragraphs of a data file, which are lines up to an empty one.
-fn judge_all(rt: &HostRuntime, task: Task, text: &str) -> io::Result<Tally> {
-    let alloc = rt.alloc();
-    let mut tally = Tally::new();
-    let mut paragraph = Paragraph::new(alloc);
-    for line in text.split('\n') {
+/// A data file, as far as its lines have been read: the last paragraph, and what was counted of those before.
+#[derive(Drop)]
+struct Judged {
+    task: Task,
+    paragraph: Paragraph,
+    tally: Tally,
+}
+
+impl Judged {
+    /// Takes a line. An empty one ends a paragraph.
+    fn take(&mut self, rt: &HostRuntime, line: &str) -> io::Result<()> {
         if !line.is_empty() {
-            paragraph.take(alloc, line)?;
-        } else if paragraph.is_begun {
-            judge(rt, task, &paragraph, &mut tally)?;
-            paragraph = Paragraph::new(alloc);
+            self.paragraph.take(rt.alloc(), line)?;
+        } else if self.paragraph.is_begun {
+            judge(rt, self.task, &self.paragraph, &mut self.tally)?;
+            self.paragraph = Paragraph::new(rt.alloc());
         }
+        Ok(())
     }
-    Ok(tally)
+}
+
+/// Does the task with all paragraphs of a data file, which are lines up to an empty one.
+fn judge_all(rt: &HostRuntime, task: Task, text: &str) -> io::Result<()> {
+    let mut judged = Judged {
+        task,
+        paragraph: Paragraph::new(rt.alloc()),
+        tally: Tally::new(),
+    };
+    for line in text.split('\n') {
+        judged.take(rt, line)?;
+    }
+    let Tally { all, different } = judged.tally;
+    match task {
+        Task::Cuts => println!(rt; "cuts: {all}, different: {different}"),
+        Task::Rows => println!(rt; "rows: {all}, different: {different}"),
+    }
+}
+
+/// The bytes of a data file, or none where it cannot be read.
+fn bytes_of(rt: &HostRuntime, name: &str) -> io::Result<Option<Vec<u8>>> {
+    let mut file = fs::open(rt, name)?;
+    Ok(read_all(rt.alloc(), &mut file, GREATEST_SIZE).ok())
 }
 
 /// Does the task with a data file.
 fn run_file(rt: &HostRuntime, task: Task, name: &str) -> io::Result<()> {
-    let mut file = fs::open(rt, name)?;
-    let Ok(bytes) = read_all(rt.alloc(), &mut file, GREATEST_SIZE) else {
+    let Some(bytes) = bytes_of(rt, name)? else {
         return println!(rt; "{name} cannot be read");
     };
-    let Ok(text) = std::str::from_utf8(bytes.as_slice()) else {
-        return println!(rt; "{name} is no text");
-    };
-    let tally = judge_all(rt, task, text)?;
-    let (all, different) = (tally.all, tally.different);
-    match task {
-        Task::Cuts => println!(rt; "cuts: {all}, different: {different}"),
-        Task::Rows => println!(rt; "rows: {all}, different: {different}"),
+    match std::str::from_utf8(&bytes) {
+        Ok(text) => judge_all(rt, task, text),
+        Err(_) => println!(rt; "{name} is no text"),
     }
 }
 
@@ -103,20 +125,25 @@ fn word(words: &[String], at: usize) -> &str {
     }
 }
 
+/// Runs the rows, the cuts and the longest texts.
+fn run_all(rt: &HostRuntime) -> io::Result<()> {
+    run_file(rt, Task::Rows, "rows.txt")?;
+    run_file(rt, Task::Cuts, "texts.txt")?;
+    let Tally { all, different } = long::run(rt.alloc())?;
+    println!(rt; "long texts: {all}, different: {different}")
+}
+
 /// With `call NUMBER`, makes the calls over the input of that number; with `read READER FILE`, reads a file; with no words, runs
-/// the rows and the cuts.
+/// all texts.
 fn run_words(rt: &HostRuntime) -> io::Result<()> {
     let words: Vec<String> = env::args(rt)?.collect(rt.alloc())?;
     if word(&words, 1) == "call" {
         return groups::run(rt, word(&words, 2).parse().unwrap_or(usize::MAX));
     }
-    if let Some(reader) = Reader::named(word(&words, 2)) {
-        return read_file(rt, reader, word(&words, 3));
+    match Reader::named(word(&words, 2)) {
+        Some(reader) => read_file(rt, reader, word(&words, 3)),
+        None => run_all(rt),
     }
-    run_file(rt, Task::Rows, "rows.txt")?;
-    run_file(rt, Task::Cuts, "texts.txt")?;
-    let Tally { all, different } = long::run(rt.alloc())?;
-    println!(rt; "long texts: {all}, different: {different}")
 }
 
 fn main(rt: HostRuntime) -> ExitCode {

@@ -122,11 +122,15 @@ fn of_folder(alloc: Global, files: &[Held]) -> Result<Vec<Named<'static>>, Alloc
 }
 
 fn answered(call: FolderCall, alloc: Global, files: &[Held]) -> Result<Answer, AllocError> {
-    let proposals = propose(alloc, &of_folder(alloc, files)?)?;
+    let folder = of_folder(alloc, files)?;
+    of_call(call, alloc, &propose(alloc, &folder)?)
+}
+
+fn of_call(call: FolderCall, alloc: Global, proposals: &[Proposal]) -> Result<Answer, AllocError> {
     match call {
-        FolderCall::Propose => Ok(of_proposals(&proposals)),
-        FolderCall::WriteProposal => Ok(Answer::of_text(&write_proposal(alloc, &proposals)?)),
-        FolderCall::WriteReasons => Ok(Answer::of_text(&write_reasons(alloc, &proposals)?)),
+        FolderCall::Propose => Ok(of_proposals(proposals)),
+        FolderCall::WriteProposal => Ok(Answer::of_text(&write_proposal(alloc, proposals)?)),
+        FolderCall::WriteReasons => Ok(Answer::of_text(&write_reasons(alloc, proposals)?)),
     }
 }
 

@@ -41,13 +41,16 @@ impl Paragraph {
             "by" => self.reader = Reader::named(rest),
             ">" => self.wanted = Some(wanted_of(alloc, rest)?),
             "~" => self.append(alloc, 1, rest)?,
-            "*" => {
-                let (count, text) = rest.split_once(' ').unwrap_or((rest, ""));
-                self.append(alloc, count.parse().unwrap_or(0), text)?;
-            }
+            "*" => self.append_often(alloc, rest)?,
             _ => {}
         }
         Ok(())
+    }
+
+    /// Appends a text many times: `COUNT TEXT`.
+    fn append_often(&mut self, alloc: Global, rest: &str) -> Result<(), AllocError> {
+        let (count, text) = rest.split_once(' ').unwrap_or((rest, ""));
+        self.append(alloc, count.parse().unwrap_or(0), text)
     }
 
     /// Appends a text `count` times.
@@ -70,24 +73,27 @@ fn wanted_of(alloc: Global, line: &str) -> Result<Wanted, AllocError> {
     Ok(Wanted::Line(String::from_str(alloc, line)?))
 }
 
+/// The byte that a byte after a backslash stands for.
+fn escaped(byte: u8) -> u8 {
+    match byte {
+        b'n' => b'\n',
+        b't' => b'\t',
+        b's' => b' ',
+        other => other,
+    }
+}
+
 /// The bytes of a text in which `\n`, `\t`, `\s` and `\\` stand for a line feed, a tab, a space and a backslash.
 fn unescaped(alloc: Global, text: &str) -> Result<Vec<u8>, AllocError> {
     let mut bytes = Vec::new(alloc);
     let mut is_escape = false;
     for byte in text.bytes() {
-        if is_escape {
-            bytes.push(match byte {
-                b'n' => b'\n',
-                b't' => b'\t',
-                b's' => b' ',
-                other => other,
-            })?;
-            is_escape = false;
-        } else if byte == b'\\' {
+        if !is_escape && byte == b'\\' {
             is_escape = true;
-        } else {
-            bytes.push(byte)?;
+            continue;
         }
+        bytes.push(if is_escape { escaped(byte) } else { byte })?;
+        is_escape = false;
     }
     Ok(bytes)
 }

@@ -7,10 +7,9 @@
 mod lines;
 mod measures;
 
-pub use lines::{factor_word, push_gap, push_meets, push_ring, push_scale};
+pub use lines::factor_word;
 pub use margins::Met;
-pub use measures::{print_measure, write_measure};
-pub use printing::{Cut, buffer};
+pub use measures::MeasureText;
 
 /// The rings of the holes of one diameter in one drill file, on the layer of one copper file.
 #[derive(Clone, Copy, Debug, PartialEq, Eq)]

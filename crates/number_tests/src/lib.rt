@@ -1,9 +1,7 @@
-//! Tests of the crates `grid_units`, `pad_shapes` and `printing`: numbers, shapes of pads, and printed lengths.
+//! Tests of the crates `grid_units` and `printing`: numbers, and printed lengths and lines.
 #![tactic(auto)]
 
 #[cfg(test)]
 mod grid_units_calls;
-#[cfg(test)]
-mod pad_shapes_calls;
 #[cfg(test)]
 mod printing_calls;

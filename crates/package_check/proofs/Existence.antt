@@ -1,5 +1,5 @@
 -- Each file has a content or a fault, and so each package has an answer.
-use Rattle.std.proofs.Common.{◌≡◌, ◌↔◌, ◌<◌, ℕ, Bool, true, false, zero, suc, List, [], ◌∷◌, length, take, get_or, Option, Result, Ok, Err, refl, arith, ◌⊎◌, inl, inr}
+use Rattle.std.proofs.Common.{◌≡◌, ◌↔◌, ℕ, Bool, true, false, suc, List, [], ◌∷◌, Option, Result, Ok, Err, refl, arith, ◌⊎◌, inl, inr}
 use Rattle.grid_units.specs.Spans.{LayerSpan}
 use Rattle.grid_units.specs.Holes.{GridRules}
 use Rattle.grid_units.specs.declared.fault.Fault.{Fault}

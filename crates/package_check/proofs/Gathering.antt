@@ -1,22 +1,21 @@
 -- Lists that grow by one file or one hole at a time.
-use Rattle.std.proofs.Common.{◌≡◌, ◌<◌, ◌≤◌, ◌+◌, ◌++◌, ℕ, zero, suc, List, [], ◌∷◌, Ok, Err, Result, length, map, take, get_or, arith, refl, sym, ap, subst, ◌∙◌, Bool, true, false, Option}
+use Rattle.std.proofs.Common.{◌≡◌, ◌<◌, ◌+◌, ◌++◌, ℕ, zero, suc, List, [], ◌∷◌, Ok, Err, Result, length, map, take, get_or, arith, refl, sym, ap, subst, ◌∙◌, Bool, true, false, Option}
 use Rattle.std.specs.List.{flat_map, enumerate_from}
-use Rattle.std.proofs.lemmas.List.{append-nil, take_more, map-append, length-map}
+use Rattle.std.proofs.lemmas.List.{append-nil, take_more, length-map}
 use Rattle.std.proofs.lemmas.List.Concat.{flat_map-append}
-use Rattle.grid_units.specs.Holes.{GridHole, GridRules}
+use Rattle.grid_units.specs.Holes.{GridRules}
 use Rattle.grid_units.specs.Results.{Answers}
 use Rattle.grid_units.specs.declared.fault.Fault.{Fault}
 use Rattle.grid_units.specs.declared.fault.Fail.{Fail}
 use Rattle.grid_units.specs.declared.fault.Fail.TheVariants as fails
 use Rattle.ring_rules.proofs.Listing.{flat_listed_more}
 use Rattle.package_check.specs.declared.File.{File}
-use Rattle.package_check.specs.declared.Numbered.{Numbered}
 use Rattle.std.specs.Prelude.{Option}
 use Rattle.grid_units.specs.Spans.{LayerSpan}
 use Rattle.manifest.specs.declared.Role.{Role}
 use Rattle.package_check.specs.declared.contents.Content.{Content}
 use Rattle.package_check.specs.Reports.{Account}
-use Rattle.package_check.specs.Package.{Source, Reads, ReadsUnless, is_bad_span, nameless, AreRead, IsReport, layer_count, source_of, sources_of, file_holes, sum_of}
+use Rattle.package_check.specs.Package.{Source, Reads, ReadsUnless, is_bad_span, nameless, AreRead, IsReport, layer_count, source_of, sources_of, sum_of}
 use Rattle.package_check.proofs.Saying.{said_of}
 
 -- what one more element gives

@@ -39,19 +39,19 @@ no_sum [] (s ∷ sums) (suc i) n lt = no_line [] (s ∷ sums) (suc i) n (omega a
 no_sum (f ∷ names) (s ∷ sums) (suc i) n lt = no_sum names sums i n (omega arith)
 
 -- one more line
-pub line_more : (names : List (Bor (List ℕ))) (sums : List FileSum) (i n : ℕ) (d : Bor (List ℕ)) (e : FileSum) (told before after : List ℕ) → i < length names → i < length sums
-    → told ≡ before ++ file_lines n (drop i (texts_of names)) (drop i sums) → after ≡ before ++ file_line n (get_or names i d).now (get_or sums i e)
-    → told ≡ after ++ file_lines (n + 1) (drop (i + 1) (texts_of names)) (drop (i + 1) sums)
-line_more names sums i n d e told before after lt more was is =
+pub line_more : (names : List (Bor (List ℕ))) (sums : List FileSum) (i n : ℕ) (d : Bor (List ℕ)) (e : FileSum) (all before after : List ℕ) → i < length names → i < length sums
+    → all ≡ before ++ file_lines n (drop i (texts_of names)) (drop i sums) → after ≡ before ++ file_line n (get_or names i d).now (get_or sums i e)
+    → all ≡ after ++ file_lines (n + 1) (drop (i + 1) (texts_of names)) (drop (i + 1) sums)
+line_more names sums i n d e all before after lt more was is =
     was ∙ ap (λ t. before ++ t) (next_line names sums i n d e lt more)
     ∙ sym (append_assoc before (file_line n (get_or names i d).now (get_or sums i e)) (file_lines (n + 1) (drop (i + 1) (texts_of names)) (drop (i + 1) sums)))
     ∙ ap (λ t. t ++ file_lines (n + 1) (drop (i + 1) (texts_of names)) (drop (i + 1) sums)) (sym is)
 
-pub lines_end : (names : List (Bor (List ℕ))) (sums : List FileSum) (i n : ℕ) (told before : List ℕ) → length names ≤ i → told ≡ before ++ file_lines n (drop i (texts_of names)) (drop i sums) → before ≡ told
-lines_end names sums i n told before lt was = sym (was ∙ ap (λ t. before ++ t) (no_line names sums i n lt) ∙ append-nil before)
+pub lines_end : (names : List (Bor (List ℕ))) (sums : List FileSum) (i n : ℕ) (all before : List ℕ) → length names ≤ i → all ≡ before ++ file_lines n (drop i (texts_of names)) (drop i sums) → before ≡ all
+lines_end names sums i n all before lt was = sym (was ∙ ap (λ t. before ++ t) (no_line names sums i n lt) ∙ append-nil before)
 
-pub sums_end : (names : List (Bor (List ℕ))) (sums : List FileSum) (i n : ℕ) (told before : List ℕ) → length sums ≤ i → told ≡ before ++ file_lines n (drop i (texts_of names)) (drop i sums) → before ≡ told
-sums_end names sums i n told before lt was = sym (was ∙ ap (λ t. before ++ t) (no_sum names sums i n lt) ∙ append-nil before)
+pub sums_end : (names : List (Bor (List ℕ))) (sums : List FileSum) (i n : ℕ) (all before : List ℕ) → length sums ≤ i → all ≡ before ++ file_lines n (drop i (texts_of names)) (drop i sums) → before ≡ all
+sums_end names sums i n all before lt was = sym (was ∙ ap (λ t. before ++ t) (no_sum names sums i n lt) ∙ append-nil before)
 
 -- the names of the files, as the sources have them
 pub same_names : (n : ℕ) (files : List File) → map (λ source. source.name) (map (source_of n) files) ≡ map (λ file. file.name.now) files

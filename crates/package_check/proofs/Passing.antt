@@ -1,9 +1,8 @@
 -- A package that passes is sound.
-use Rattle.std.proofs.Common.{◌≡◌, ◌<◌, ◌+◌, ◌++◌, ℕ, zero, suc, Bool, true, List, [], ◌∷◌, length, map, get_or, ap, refl, sym, ◌∙◌, arith, subst}
+use Rattle.std.proofs.Common.{◌≡◌, ◌+◌, ◌++◌, ℕ, Bool, true, List, [], ◌∷◌, map, ap, refl, sym, ◌∙◌, subst}
 use Rattle.std.specs.List.{Contains, flat_map, enumerate_from}
-use Rattle.std.proofs.lemmas.List.{map-append, length-map, get_or-map}
+use Rattle.std.proofs.lemmas.List.{map-append}
 use Rattle.std.proofs.lemmas.List.Concat.{flat_map-cons}
-use Rattle.std.proofs.lemmas.List.Elements.{Contains-append_left, Contains-append_right}
 use Rattle.grid_units.specs.Holes.{GridHole}
 use Rattle.pad_shapes.specs.Pads.{IsInPad, pad_covers}
 use Rattle.ring_rules.specs.Passing.{RingsHoldWithoutFindings, SlotsHoldWithoutFindings, StraightWithoutFindings, ApartWhenNoneClash, AreAllApart}

@@ -10,10 +10,11 @@ mod package_reader;
 mod pieces;
 mod readers;
 mod report;
-mod streaming;
+mod text;
 
 pub use board::{Board, hole_count};
 use grid_units::Fault;
+pub use lines::FileLines;
 pub use manifest::Role;
 pub use package::{check_bytes, layer_count, read_package};
 pub use package_reader::PackageReader;
@@ -21,7 +22,7 @@ pub use pieces::check_pieces;
 pub use report::Report;
 use ring_rules::Drilled;
 pub use ring_rules::Span;
-pub use streaming::{PrintFault, print_files, print_report, write_report};
+pub use text::{CheckText, write_report};
 use thiserror::Error;
 
 /// A file of a package.

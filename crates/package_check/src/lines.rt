@@ -1,28 +1,26 @@
 //! The lines of a report.
 
-ghost use Rattle.std.specs.Prelude.{◌≡◌, ◌++◌, Some, OnOk, map, slice_get, string_bytes};
-ghost use Rattle.package_check.specs.Texts.{answer_word, drill_words, span_words, name_words, slot_words, file_line, file_lines, finding_line, gap_line, last_line, length_words, lengths_of, line_of, place_words, hole_line, rules_line, rules_words};
+ghost use Rattle.std.specs.Prelude.{◌≡◌, Some, map, slice_get};
+ghost use Rattle.std.specs.Fmt.{DisplaysOnOk};
+ghost use Rattle.package_check.specs.Texts.{answer_word, file_line, file_lines, finding_line, gap_line, hole_line, last_line, lengths_of, line_of, rules_line, span_words};
 
 use crate::{FileSum, Numbered, Report};
 use grid_units::{Hole, Rules, write_mm};
+use printing::Line;
 use ring_rules::{Finding, Span};
-use std::alloc::AllocError;
-use std::fmt::Write;
+use std::fmt;
+use std::fmt::{Display, Formatter};
 
-pub(crate) fn push_rules(text: &mut String, rules: Rules) -> Result<(), AllocError>
-    ensures { OnOk result (string_bytes text.new ≡ string_bytes text.old ++ rules_line rules) }
-{
-    let ring = write_mm(rules.ring());
-    let gap = write_mm(rules.gap());
-    push_rules_words(text, ring.as_str(), gap.as_str())
-}
+/// The first line, of the rules in millimetres: `rules ring=0.125000000 gap=0.250000000`.
+#[derive(Clone, Copy)]
+pub(crate) struct RulesLine(pub(crate) Rules);
 
-fn push_rules_words(text: &mut String, ring: &str, gap: &str) -> Result<(), AllocError>
-    ensures { OnOk result (string_bytes text.new ≡ string_bytes text.old ++ rules_words ring.now gap.now) }
-{
-    match write!(text, "rules ring={ring} gap={gap}\n") {
-        Ok(()) => Ok(()),
-        Err(e) => Err(e),
+impl Display for RulesLine {
+    ghost output = { λ line. Some (rules_line line.0) };
+
+    fn fmt<W: fmt::Write>(&self, f: &mut Formatter<W>) -> fmt::Result {
+        let (ring, gap) = (write_mm(self.0.ring()), write_mm(self.0.gap()));
+        write!(f, "rules ring={ring} gap={gap}\n")
     }
 }
 
@@ -32,218 +30,152 @@ fn answer_word(plated: bool) -> &'static str
     if plated { "yes" } else { "no" }
 }
 
-fn push_file(text: &mut String, number: u64, name: &str, sum: &FileSum) -> Result<(), AllocError>
-    ensures { OnOk result (string_bytes text.new ≡ string_bytes text.old ++ file_line number name.now sum.now) }
-{
-    match sum {
-        FileSum::Layer { pads, other } => push_layer(text, number, name, *pads, *other),
-        FileSum::Drill {
-            plated,
-            span,
-            round,
-            slots,
-        } => {
-            push_drill(text, number, answer_word(*plated), *round, *slots)?;
-            push_span(text, *span)?;
-            push_name(text, name)
+/// The span of a drill file: ` span=1-2`; nothing where it has none.
+#[derive(Clone, Copy)]
+struct SpanWords(Option<Span>);
+
+impl Display for SpanWords {
+    ghost output = { λ words. Some (span_words words.0) };
+
+    fn fmt<W: fmt::Write>(&self, f: &mut Formatter<W>) -> fmt::Result {
+        match self.0 {
+            Some(span) => write!(f, " span={}-{}", span.first(), span.last()),
+            None => Ok(()),
         }
     }
 }
 
-fn push_layer(
-    text: &mut String,
-    number: u64,
-    name: &str,
-    pads: usize,
-    other: usize,
-) -> Result<(), AllocError>
-    ensures { OnOk result (string_bytes text.new ≡ string_bytes text.old ++ file_line number name.now (FileSum.Layer pads other)) }
-{
-    match write!(
-        text,
-        "file {number} layer pads={pads} other={other} name={name}\n"
-    ) {
-        Ok(()) => Ok(()),
-        Err(e) => Err(e),
-    }
-}
-
-#[tactic(auto, unfolding(crate::specs::Texts::drill_words))]
-fn push_drill(
-    text: &mut String,
-    number: u64,
-    plated: &str,
-    round: usize,
-    slots: usize,
-) -> Result<(), AllocError>
-    ensures { OnOk result (string_bytes text.new ≡ string_bytes text.old ++ drill_words number plated.now round slots) }
-{
-    match write!(
-        text,
-        "file {number} drill plated={plated} round={round} slots={slots}"
-    ) {
-        Ok(()) => Ok(()),
-        Err(e) => Err(e),
-    }
-}
-
-fn push_span(text: &mut String, span: Option<Span>) -> Result<(), AllocError>
-    ensures { OnOk result (string_bytes text.new ≡ string_bytes text.old ++ span_words span) }
-{
-    match span {
-        Some(span) => push_numbers(text, span.first(), span.last()),
-        None => Ok(()),
-    }
-}
-
-fn push_numbers(text: &mut String, first: usize, last: usize) -> Result<(), AllocError>
-    ensures { OnOk result (string_bytes text.new ≡ string_bytes text.old ++ span_words (Some (record { first = first; last = last }))) }
-{
-    match write!(text, " span={first}-{last}") {
-        Ok(()) => Ok(()),
-        Err(e) => Err(e),
-    }
-}
-
-fn push_name(text: &mut String, name: &str) -> Result<(), AllocError>
-    ensures { OnOk result (string_bytes text.new ≡ string_bytes text.old ++ name_words name.now) }
-{
-    match write!(text, " name={name}\n") {
-        Ok(()) => Ok(()),
-        Err(e) => Err(e),
-    }
-}
-
-fn push_hole(text: &mut String, kind: &str, layer: usize, hole: &Numbered) -> Result<(), AllocError>
-    ensures { OnOk result (string_bytes text.new ≡ string_bytes text.old ++ hole_line kind.now layer hole.now) }
-{
-    push_place(
-        text,
-        kind,
-        layer as u128 + 1,
-        hole.file as u128 + 1,
-        hole.number,
-    )?;
-    push_lengths_of(text, &hole.drilled.hole)
-}
-
-fn push_lengths_of(text: &mut String, hole: &Hole) -> Result<(), AllocError>
-    ensures { OnOk result (string_bytes text.new ≡ string_bytes text.old ++ lengths_of hole.now) }
-{
-    let (from, to) = (hole.from(), hole.to());
-    let (x, y) = (write_mm(from.x()), write_mm(from.y()));
-    let diameter = write_mm(2 * hole.radius());
-    if hole.is_round() {
-        return push_lengths(text, x.as_str(), y.as_str(), diameter.as_str());
-    }
-    let (x2, y2) = (write_mm(to.x()), write_mm(to.y()));
-    push_ends(
-        text,
-        x.as_str(),
-        y.as_str(),
-        x2.as_str(),
-        y2.as_str(),
-        diameter.as_str(),
-    )
-}
-
-#[tactic(auto, unfolding(crate::specs::Texts::place_words))]
-fn push_place(
-    text: &mut String,
-    kind: &str,
-    layer: u128,
-    drill: u128,
+/// The line of a file, by its number from 1.
+#[derive(Clone, Copy)]
+struct FileLine<'a> {
     number: usize,
-) -> Result<(), AllocError>
-    ensures { OnOk result (string_bytes text.new ≡ string_bytes text.old ++ place_words kind.now layer drill number) }
-{
-    match write!(text, "{kind} layer={layer} drill={drill} hole={number}") {
-        Ok(()) => Ok(()),
-        Err(e) => Err(e),
+    name: &'a str,
+    sum: FileSum,
+}
+
+impl Display for FileLine<'_> {
+    ghost output = { λ line. Some (file_line line.number line.name.now line.sum) };
+
+    #[tactic(auto, unfolding(crate::specs::Texts::drill_words))]
+    fn fmt<W: fmt::Write>(&self, f: &mut Formatter<W>) -> fmt::Result {
+        let (number, name) = (self.number, self.name);
+        match self.sum {
+            FileSum::Layer { pads, other } => write!(
+                f,
+                "file {number} layer pads={pads} other={other} name={name}\n"
+            ),
+            FileSum::Drill {
+                plated,
+                span,
+                round,
+                slots,
+            } => {
+                let (plated, span) = (answer_word(plated), SpanWords(span));
+                write!(
+                    f,
+                    "file {number} drill plated={plated} round={round} slots={slots}"
+                )?;
+                write!(f, "{span} name={name}\n")
+            }
+        }
     }
 }
 
-#[tactic(auto, unfolding(crate::specs::Texts::length_words))]
-fn push_lengths(text: &mut String, x: &str, y: &str, diameter: &str) -> Result<(), AllocError>
-    ensures { OnOk result (string_bytes text.new ≡ string_bytes text.old ++ length_words x.now y.now diameter.now) }
-{
-    match write!(text, " x={x} y={y} diameter={diameter}\n") {
-        Ok(()) => Ok(()),
-        Err(e) => Err(e),
+/// The lines of the files of a package, numbered from 1, as long as there is both a name and a count:
+/// `file 1 layer pads=1 other=0 name=top`, `file 2 drill plated=yes round=1 slots=0 name=pth`.
+#[derive(Clone, Copy)]
+pub struct FileLines<'a> {
+    /// The names of the files.
+    pub names: &'a [&'a str],
+    /// The counts of the files.
+    pub files: &'a [FileSum],
+}
+
+impl Display for FileLines<'_> {
+    ghost output = { λ lines. Some (file_lines 1 (map (λ name. name.now) lines.names.now) lines.files.now) };
+
+    fn fmt<W: fmt::Write>(&self, f: &mut Formatter<W>) -> fmt::Result {
+        for (index, name) in self.names.iter().enumerate() {
+            if index >= self.files.len() {
+                return Ok(());
+            }
+            let (number, sum) = (index + 1, self.files[index]);
+            write!(f, "{}", FileLine { number, name, sum })?;
+        }
+        Ok(())
     }
 }
 
-#[tactic(auto, unfolding(crate::specs::Texts::slot_words))]
-fn push_ends(
-    text: &mut String,
-    x1: &str,
-    y1: &str,
-    x2: &str,
-    y2: &str,
-    diameter: &str,
-) -> Result<(), AllocError>
-    ensures { OnOk result (string_bytes text.new ≡ string_bytes text.old ++ slot_words x1.now y1.now x2.now y2.now diameter.now) }
-{
-    match write!(
-        text,
-        " x1={x1} y1={y1} x2={x2} y2={y2} diameter={diameter}\n"
-    ) {
-        Ok(()) => Ok(()),
-        Err(e) => Err(e),
+/// The centre of a round hole or the ends of a slot, and the diameter, in millimetres, with a line end.
+#[derive(Clone, Copy)]
+struct HoleLengths<'a>(&'a Hole);
+
+impl Display for HoleLengths<'_> {
+    ghost output = { λ lengths. Some (lengths_of lengths.0.now) };
+
+    #[tactic(auto, unfolding(crate::specs::Texts::length_words, crate::specs::Texts::slot_words))]
+    fn fmt<W: fmt::Write>(&self, f: &mut Formatter<W>) -> fmt::Result {
+        let hole = self.0;
+        let (from, to) = (hole.from(), hole.to());
+        let (x, y) = (write_mm(from.x()), write_mm(from.y()));
+        let diameter = write_mm(2 * hole.radius());
+        if hole.is_round() {
+            return write!(f, " x={x} y={y} diameter={diameter}\n");
+        }
+        let (x2, y2) = (write_mm(to.x()), write_mm(to.y()));
+        write!(f, " x1={x} y1={y} x2={x2} y2={y2} diameter={diameter}\n")
     }
 }
 
-fn push_gap(text: &mut String, first: &Numbered, second: &Numbered) -> Result<(), AllocError>
-    ensures { OnOk result (string_bytes text.new ≡ string_bytes text.old ++ gap_line first.now second.now) }
-{
-    let (drill, hole) = (first.file as u128 + 1, first.number);
-    let (other_drill, other_hole) = (second.file as u128 + 1, second.number);
-    match write!(
-        text,
-        "GAP drill={drill} hole={hole} drill={other_drill} hole={other_hole}\n"
-    ) {
-        Ok(()) => Ok(()),
-        Err(e) => Err(e),
+/// The line of a hole that lacks its ring on a layer, which is given by the index of its file, from 0: `RING layer=1 drill=2 hole=1`,
+/// and the lengths of the hole.
+#[derive(Clone, Copy)]
+struct HoleLine<'a> {
+    kind: &'a str,
+    layer: usize,
+    hole: &'a Numbered,
+}
+
+impl Display for HoleLine<'_> {
+    ghost output = { λ line. Some (hole_line line.kind.now line.layer line.hole.now) };
+
+    #[tactic(auto, unfolding(crate::specs::Texts::place_words))]
+    fn fmt<W: fmt::Write>(&self, f: &mut Formatter<W>) -> fmt::Result {
+        let (kind, hole) = (self.kind, self.hole);
+        let (layer, drill) = (self.layer as u128 + 1, hole.file as u128 + 1);
+        let number = hole.number;
+        write!(f, "{kind} layer={layer} drill={drill} hole={number}")?;
+        write!(f, "{}", HoleLengths(&hole.drilled.hole))
     }
 }
 
-pub(crate) fn push_last(text: &mut String, findings: usize) -> Result<(), AllocError>
-    ensures { OnOk result (string_bytes text.new ≡ string_bytes text.old ++ last_line findings) }
-{
-    if findings == 0 {
-        return text.push_str("PASS\n");
-    }
-    match write!(text, "FINDINGS {findings}\n") {
-        Ok(()) => Ok(()),
-        Err(e) => Err(e),
-    }
-}
-
-fn push_hole_at(
-    text: &mut String,
+/// Writes the line of a hole that lacks its ring on a layer. Writes nothing where the report has no such layer or hole.
+fn write_hole<W: fmt::Write>(
+    f: &mut Formatter<W>,
     kind: &str,
     report: &Report,
     layer: usize,
     hole: usize,
-) -> Result<(), AllocError>
-    ensures { OnOk result (string_bytes text.new ≡ string_bytes text.old ++ line_of (hole_line kind.now) (slice_get report.now.layers layer) (slice_get report.now.holes hole)) }
+) -> fmt::Result
+    ensures { DisplaysOnOk W.write_str_gives f.old result (Some (line_of (hole_line kind.now) (slice_get report.now.layers layer) (slice_get report.now.holes hole))) f.new }
 {
-    let Some(layer) = report.layers().get(layer) else {
+    let Some(layer) = report.layers().get(layer).copied() else {
         return Ok(());
     };
     let Some(hole) = report.holes().get(hole) else {
         return Ok(());
     };
-    push_hole(text, kind, *layer, hole)
+    write!(f, "{}", HoleLine { kind, layer, hole })
 }
 
-fn push_gap_at(
-    text: &mut String,
+/// Writes the line of two holes that lack their gap. Writes nothing where the report has no such hole.
+fn write_gap<W: fmt::Write>(
+    f: &mut Formatter<W>,
     report: &Report,
     first: usize,
     second: usize,
-) -> Result<(), AllocError>
-    ensures { OnOk result (string_bytes text.new ≡ string_bytes text.old ++ line_of gap_line (slice_get report.now.holes first) (slice_get report.now.holes second)) }
+) -> fmt::Result
+    ensures { DisplaysOnOk W.write_str_gives f.old result (Some (line_of gap_line (slice_get report.now.holes first) (slice_get report.now.holes second))) f.new }
 {
     let Some(first) = report.holes().get(first) else {
         return Ok(());
@@ -251,40 +183,40 @@ fn push_gap_at(
     let Some(second) = report.holes().get(second) else {
         return Ok(());
     };
-    push_gap(text, first, second)
+    let (drill, hole) = (first.file as u128 + 1, first.number);
+    let (other_drill, other_hole) = (second.file as u128 + 1, second.number);
+    write!(
+        f,
+        "GAP drill={drill} hole={hole} drill={other_drill} hole={other_hole}\n"
+    )
 }
 
-/// Appends the line of a finding. Appends nothing where it names no layer or hole of the report.
-#[tactic(auto, unfolding(crate::specs::Texts::finding_line))]
-pub(crate) fn push_finding(
-    text: &mut String,
-    report: &Report,
-    finding: Finding,
-) -> Result<(), AllocError>
-    ensures { OnOk result (string_bytes text.new ≡ string_bytes text.old ++ finding_line report.now.layers report.now.holes finding) }
-{
-    match finding {
-        Finding::Ring { layer, hole } => push_hole_at(text, "RING", report, layer, hole),
-        Finding::Oblique { layer, hole } => push_hole_at(text, "OBLIQUE", report, layer, hole),
-        Finding::Gap { first, second } => push_gap_at(text, report, first, second),
-    }
-}
+/// The line of a finding; nothing where it names no layer or hole of the report.
+impl Line<Report> for Finding {
+    ghost text = { λ report finding. finding_line report.layers report.holes finding };
 
-/// Appends the lines of the files, numbered from 1, as long as there is both a name and a count.
-pub(crate) fn push_files(
-    text: &mut String,
-    names: &[&str],
-    sums: &[FileSum],
-) -> Result<(), AllocError>
-    ensures { OnOk result (string_bytes text.new ≡ string_bytes text.old ++ file_lines 1 (map (λ name. name.now) names.now) sums.now) }
-{
-    let mut number: u64 = 1;
-    for (index, name) in names.iter().enumerate() {
-        if index >= sums.len() {
-            return Ok(());
+    #[tactic(auto, unfolding(crate::specs::Texts::finding_line))]
+    fn fmt_on<W: fmt::Write>(&self, report: &Report, f: &mut Formatter<W>) -> fmt::Result {
+        match *self {
+            Finding::Ring { layer, hole } => write_hole(f, "RING", report, layer, hole),
+            Finding::Oblique { layer, hole } => write_hole(f, "OBLIQUE", report, layer, hole),
+            Finding::Gap { first, second } => write_gap(f, report, first, second),
         }
-        push_file(text, number, name, &sums[index])?;
-        number += 1;
     }
-    Ok(())
+}
+
+/// The last line, by how many findings there are: `PASS` where there is none, else for example `FINDINGS 2`.
+#[derive(Clone, Copy)]
+pub(crate) struct LastLine(pub(crate) usize);
+
+impl Display for LastLine {
+    ghost output = { λ line. Some (last_line line.0) };
+
+    fn fmt<W: fmt::Write>(&self, f: &mut Formatter<W>) -> fmt::Result {
+        let findings = self.0;
+        if findings == 0 {
+            return f.write_str("PASS\n");
+        }
+        write!(f, "FINDINGS {findings}\n")
+    }
 }

@@ -1,8 +1,10 @@
 -- Names that are escaped.
-use Rattle.std.proofs.Common.{◌≡◌, ◌≢◌, ◌≤◌, ◌<◌, ◌+◌, ◌*◌, ◌==◌, ◌||◌, ◌++◌, ◌∷◌, ◌∙◌, [], ℕ, List, Bool, true, false, length, drop, get_or, refl, sym, subst, ap, arith, add-one, drop-cons, append-nil, codes, if◌then◌else◌, IsTrue, rules}
+use Rattle.std.proofs.Common.{◌≡◌, ◌≢◌, ◌≤◌, ◌<◌, ◌+◌, ◌/◌, ◌==◌, ◌&&◌, ◌||◌, inl, inr, ◌++◌, ◌∷◌, ◌∙◌, [], ℕ, List, Bool, true, false, cond, ltb, length, refl, sym, subst, ap, ap₂, arith, append-nil, codes, if◌then◌else◌, IsTrue, rules}
+use lib.Utf8.{encode, next}
+use Rattle.std.proofs.lemmas.Bool.{cases_lt}
 use Rattle.std.proofs.lemmas.Bool.Decides.{nat_tests}
-use Rattle.std.proofs.lemmas.List.{append_assoc, drop_all, length-append}
-use Rattle.picture.specs.Escapes.{IsEscaped, begins, begins_entity, begins_forbidden, ends_forbidden, escaped_behind, written_byte}
+use Rattle.std.proofs.lemmas.List.{append_assoc, nil_from_length}
+use Rattle.picture.specs.Escapes.{IsEscaped, begins, begins_entity, begins_forbidden, ends_forbidden, escaped, escaped_behind, escaped_byte, written_byte}
 
 -- ---- no byte begins U+FFFE or U+FFFF
 
@@ -85,39 +87,158 @@ escaped_safe first second [] = tt
 escaped_safe first second (b ∷ bs) =
     written (ends_forbidden first second b) (b == 38) (b == 60) (b == 62) b (escaped_behind second b bs) refl refl (alone (239 == b) second b bs refl) (escaped_safe second b bs)
 
--- ---- the length of a name
+-- ---- character by character
 
--- the length of a byte as it is printed
-byte_short : (last amp less more : Bool) (b : ℕ)
-    → length (if last then 189 ∷ [] else if amp then codes "&amp;" else if less then codes "&lt;" else if more then codes "&gt;" else b ∷ []) ≤ 5
-byte_short true amp less more b = search rules
-byte_short false true less more b = search rules
-byte_short false false true more b = search rules
-byte_short false false false true b = search rules
-byte_short false false false false b = search rules
+and_false : (s : Bool) → (s && false) ≡ false
+and_false true = refl
+and_false false = refl
 
--- the length of the rest of a name as it is printed
-pub escaped_short : (first second : ℕ) (name : List ℕ) → length (escaped_behind first second name) ≤ 5 * length name
+-- a byte that is the last neither of U+FFFE nor of U+FFFF
+byte_by_itself : (first second b : ℕ) → b ≢ 190 → b ≢ 191 → written_byte first second b ≡ escaped_byte b
+byte_by_itself first second b low high =
+    let is_low : (b == 190) ≡ false = grind (arith, nat_tests, low) in
+    let is_high : (b == 191) ≡ false = grind (arith, nat_tests, high) in
+    rw (is_low, is_high, and_false (first == 239), and_false (second == 191)) refl
+
+-- a byte after one that is not the second of U+FFFE
+byte_after : (first second b : ℕ) → second ≢ 191 → written_byte first second b ≡ escaped_byte b
+byte_after first second b other =
+    let is : (second == 191) ≡ false = grind (arith, nat_tests, other) in
+    rw is refl
+
+-- a byte after two of which the first is not that of U+FFFE
+byte_after_two : (first second b : ℕ) → first ≢ 239 → written_byte first second b ≡ escaped_byte b
+byte_after_two first second b other =
+    let is : (first == 239) ≡ false = grind (arith, nat_tests, other) in
+    rw (is, and_false (second == 191)) refl
+
+same_byte : (b : ℕ) → b ≢ 38 → b ≢ 60 → b ≢ 62 → escaped_byte b ≡ b ∷ []
+same_byte b and less more =
+    let is_and : (b == 38) ≡ false = grind (arith, nat_tests, and) in
+    let is_less : (b == 60) ≡ false = grind (arith, nat_tests, less) in
+    let is_more : (b == 62) ≡ false = grind (arith, nat_tests, more) in
+    rw (is_and, is_less, is_more) refl
+
+high_byte : (b : ℕ) → 128 ≤ b → escaped_byte b ≡ b ∷ []
+high_byte b high = same_byte b (λ e. omega arith) (λ e. omega arith) (λ e. omega arith)
+
+-- bytes in two parts
+in_parts : (first second : ℕ) (bytes rest : List ℕ)
+    → (f : ℕ) × (s : ℕ) × (escaped_behind first second (bytes ++ rest) ≡ escaped_behind first second bytes ++ escaped_behind f s rest)
 unfolding escaped_behind
-escaped_short first second [] = search rules
-escaped_short first second (b ∷ bs) =
-    omega (arith, length-append (written_byte first second b) (escaped_behind second b bs), byte_short (ends_forbidden first second b) (b == 38) (b == 60) (b == 62) b, escaped_short second b bs)
+in_parts first second [] rest = (first, second, refl)
+in_parts first second (b ∷ bytes) rest =
+    let more = in_parts second b bytes rest in
+    let shown = written_byte first second b in
+    (more.0, more.1, ap (λ (t : List ℕ). shown ++ t) more.2 ∙ sym (append_assoc shown (escaped_behind second b bytes) (escaped_behind more.0 more.1 rest)))
 
--- ---- byte by byte
-
--- one more byte
-pub one_more_byte : (before after all : List ℕ) (first second : ℕ) (name : List ℕ) (i : ℕ) → i < length name
-    → after ≡ before ++ written_byte first second (get_or name i 0) → before ++ escaped_behind first second (drop i name) ≡ all
-    → after ++ escaped_behind second (get_or name i 0) (drop (i + 1) name) ≡ all
+-- bytes that begin a character are printed alike after any two bytes
+one_byte : (first second a : ℕ) → a ≢ 190 → a ≢ 191 → escaped_behind first second (a ∷ []) ≡ escaped (a ∷ [])
 unfolding escaped_behind
-one_more_byte before after all first second name i lt is was =
-    let b : ℕ = get_or name i 0 in
-    let rest = escaped_behind second b (drop (i + 1) name) in
-    let split : drop i name ≡ b ∷ drop (i + 1) name = rw add-one (drop-cons name i 0 lt) in
-    ap (λ (t : List ℕ). t ++ rest) is ∙ (append_assoc before (written_byte first second b) rest ∙ (sym (ap (λ (t : List ℕ). before ++ escaped_behind first second t) split) ∙ was))
+one_byte first second a low high = ap (λ (t : List ℕ). t ++ []) (byte_by_itself first second a low high)
 
--- no more bytes
-pub no_more_bytes : (all done : List ℕ) (first second : ℕ) (name : List ℕ) (i : ℕ) → length name ≤ i → done ++ escaped_behind first second (drop i name) ≡ all → done ≡ all
+more_bytes : (first second a b : ℕ) (bytes : List ℕ) → a ≢ 190 → a ≢ 191 → escaped_behind first second (a ∷ b ∷ bytes) ≡ escaped (a ∷ b ∷ bytes)
 unfolding escaped_behind
-no_more_bytes all done first second name i h was =
-    sym (append-nil done) ∙ (sym (ap (λ (t : List ℕ). done ++ escaped_behind first second t) (drop_all i name h)) ∙ was)
+more_bytes first second a b bytes low high =
+    ap₂ (λ (x y : List ℕ). x ++ (y ++ escaped_behind a b bytes)) (byte_by_itself first second a low high) (byte_after second a b high ∙ sym (byte_after 0 a b high))
+
+-- the bytes of a character, by whether it has one, two or three of them
+abbrev bytes_of : Bool → Bool → Bool → ℕ → List ℕ
+bytes_of one two three c =
+    cond one (c ∷ []) (cond two ((192 + c / 64) ∷ next c ∷ []) (cond three ((224 + c / 4096) ∷ next (c / 64) ∷ next c ∷ []) ((240 + c / 262144) ∷ next (c / 4096) ∷ next (c / 64) ∷ next c ∷ [])))
+
+by_size : (one two three : Bool) (first second c : ℕ) → ltb c 128 ≡ one
+    → escaped_behind first second (bytes_of one two three c) ≡ escaped (bytes_of one two three c)
+by_size true two three first second c short =
+    let small : c < 128 = grind (arith, nat_tests, short) in
+    one_byte first second c (λ e. omega arith) (λ e. omega arith)
+by_size false true three first second c short = more_bytes first second _ _ _ (λ e. omega arith) (λ e. omega arith)
+by_size false false true first second c short = more_bytes first second _ _ _ (λ e. omega arith) (λ e. omega arith)
+by_size false false false first second c short = more_bytes first second _ _ _ (λ e. omega arith) (λ e. omega arith)
+
+-- a character is printed alike after any two bytes
+pub one_more_character : (first second c : ℕ) (rest : List ℕ)
+    → (f : ℕ) × (s : ℕ) × (escaped_behind first second (encode c ++ rest) ≡ escaped (encode c) ++ escaped_behind f s rest)
+unfolding encode
+one_more_character first second c rest =
+    let parts = in_parts first second (encode c) rest in
+    (parts.0, parts.1, parts.2 ∙ ap (λ (t : List ℕ). t ++ escaped_behind parts.0 parts.1 rest) (by_size (ltb c 128) (ltb c 2048) (ltb c 65536) first second c refl))
+
+-- no more characters
+pub no_more_characters : (done all : List ℕ) (first second : ℕ) (rest : List ℕ) → length rest ≡ 0 → done ++ escaped_behind first second rest ≡ all → done ≡ all
+unfolding escaped_behind
+no_more_characters done all first second rest none was =
+    sym (append-nil done) ∙ ap (λ (t : List ℕ). done ++ escaped_behind first second t) (sym (nil_from_length rest none)) ∙ was
+
+-- ---- a character that is printed as it stands
+
+not_forbidden : (p q r s : Bool) → (p ≡ true → q ≡ true → r ≡ true → ⊥) → (p ≡ true → q ≡ true → s ≡ true → ⊥) → (p && (q && (r || s))) ≡ false
+not_forbidden false q r s low high = refl
+not_forbidden true false r s low high = refl
+not_forbidden true true true s low high = absurd (low refl refl refl)
+not_forbidden true true false true low high = absurd (high refl refl refl)
+not_forbidden true true false false low high = refl
+
+number_of_test : (x y : ℕ) → (x == y) ≡ true → x ≡ y
+number_of_test x y e = grind (arith, nat_tests, e)
+
+-- the last of three bytes, where the character is not forbidden
+last_of_three : (c : ℕ) → c ≢ 65534 → c ≢ 65535 → ltb c 65536 ≡ true → written_byte (224 + c / 4096) (next (c / 64)) (next c) ≡ escaped_byte (next c)
+last_of_three c low high short =
+    let small : c < 65536 = grind (arith, nat_tests, short) in
+    let a : ℕ = 224 + c / 4096 in
+    let b : ℕ = next (c / 64) in
+    let d : ℕ = next c in
+    let never : ends_forbidden a b d ≡ false = not_forbidden (b == 191) (a == 239) (d == 190) (d == 191)
+    (λ p q r. let x = number_of_test b 191 p in let y = number_of_test a 239 q in let z = number_of_test d 190 r in let is : c ≡ 65534 = omega arith in low is)
+    (λ p q r. let x = number_of_test b 191 p in let y = number_of_test a 239 q in let z = number_of_test d 191 r in let is : c ≡ 65535 = omega arith in high is) in
+    rw never refl
+
+plain_by_size : (one two three : Bool) (c : ℕ) → c ≢ 38 → c ≢ 60 → c ≢ 62 → c ≢ 65534 → c ≢ 65535 → ltb c 65536 ≡ three
+    → escaped (bytes_of one two three c) ≡ bytes_of one two three c
+unfolding escaped_behind
+plain_by_size true two three c and less more low high short = ap (λ (t : List ℕ). t ++ []) (same_byte c and less more)
+plain_by_size false true three c and less more low high short =
+    let a : ℕ = 192 + c / 64 in
+    let b : ℕ = next c in
+    ap₂ (λ (x y : List ℕ). x ++ (y ++ [])) (high_byte a (omega arith)) (byte_after 0 a b (λ e. omega arith) ∙ high_byte b (omega arith))
+plain_by_size false false true c and less more low high short =
+    let a : ℕ = 224 + c / 4096 in
+    let b : ℕ = next (c / 64) in
+    let d : ℕ = next c in
+    ap₂ (λ (x y : List ℕ). x ++ y) (high_byte a (omega arith))
+    (ap₂ (λ (x y : List ℕ). x ++ (y ++ [])) (byte_after 0 a b (λ e. omega arith) ∙ high_byte b (omega arith)) (last_of_three c low high short ∙ high_byte d (omega arith)))
+plain_by_size false false false c and less more low high short =
+    let a : ℕ = 240 + c / 262144 in
+    let b : ℕ = next (c / 4096) in
+    let d : ℕ = next (c / 64) in
+    let e : ℕ = next c in
+    ap₂ (λ (x y : List ℕ). x ++ y) (high_byte a (omega arith))
+    (ap₂ (λ (x y : List ℕ). x ++ y) (byte_after 0 a b (λ e. omega arith) ∙ high_byte b (omega arith))
+    (ap₂ (λ (x y : List ℕ). x ++ (y ++ [])) (byte_after_two a b d (λ e. omega arith) ∙ high_byte d (omega arith)) (byte_after_two b d e (λ e. omega arith) ∙ high_byte e (omega arith))))
+
+pub plain_character : (c : ℕ) → c ≢ 38 → c ≢ 60 → c ≢ 62 → c ≢ 65534 → c ≢ 65535 → escaped (encode c) ≡ encode c
+unfolding encode
+plain_character c and less more low high = plain_by_size (ltb c 128) (ltb c 2048) (ltb c 65536) c and less more low high refl
+
+-- ---- the characters that are not
+
+pub and_character : (c : ℕ) → c ≡ 38 → codes "&amp;" ≡ escaped (encode c)
+unfolding encode escaped_behind
+and_character c is = subst (λ (x : ℕ). codes "&amp;" ≡ escaped (encode x)) (sym is) refl
+
+pub less_character : (c : ℕ) → c ≡ 60 → codes "&lt;" ≡ escaped (encode c)
+unfolding encode escaped_behind
+less_character c is = subst (λ (x : ℕ). codes "&lt;" ≡ escaped (encode x)) (sym is) refl
+
+pub more_character : (c : ℕ) → c ≡ 62 → codes "&gt;" ≡ escaped (encode c)
+unfolding encode escaped_behind
+more_character c is = subst (λ (x : ℕ). codes "&gt;" ≡ escaped (encode x)) (sym is) refl
+
+pub forbidden_character : (c : ℕ) → 65534 ≤ c → c < 65536 → encode 65533 ≡ escaped (encode c)
+unfolding encode escaped_behind
+forbidden_character c least most =
+    elim (cases_lt c 65535) [
+      | inl low ↦ let is : 65534 ≡ c = omega arith in subst (λ (x : ℕ). encode 65533 ≡ escaped (encode x)) is refl
+      | inr high ↦ let is : 65535 ≡ c = omega arith in subst (λ (x : ℕ). encode 65533 ≡ escaped (encode x)) is refl
+    ]

@@ -1,12 +1,9 @@
--- Lists that grow by what one element gives, and bytes after those that are gathered.
-use Rattle.std.proofs.Common.{◌≡◌, ◌<◌, ◌+◌, ◌++◌, ◌∙◌, ℕ, List, [], ◌∷◌, Option, Some, None, length, take, get_or, refl, ap, sym, subst, append-nil}
+-- Lists that grow by what one element gives.
+use Rattle.std.proofs.Common.{◌≡◌, ◌<◌, ◌+◌, ◌++◌, ◌∙◌, ℕ, List, [], ◌∷◌, Option, Some, None, length, take, get_or, refl, ap}
 use Rattle.std.specs.List.{cons_option, enumerate_from, flat_map}
-use Rattle.std.specs.Io.KnownBytes.{Appends}
 use Rattle.layer_image.specs.Flashes.{pads_of}
 use Rattle.layer_image.specs.declared.flash.Flash.{Flash}
 use Rattle.pad_shapes.specs.declared.pad.Pad.{Pad}
-use Rattle.printing.specs.Parts.{PassesOn}
-use Rattle.printing.proofs.Printed.{passes_more}
 use Rattle.ring_rules.proofs.Listing.{flat_listed_more}
 use Rattle.picture.specs.Scenes.{pad_of}
 
@@ -23,7 +20,3 @@ one_pad (Some p) rest = refl
 pub pads_flat : (flashes : List Flash) → flat_map pad_of flashes ≡ pads_of flashes
 pads_flat [] = refl
 pads_flat (f ∷ fs) = ap (λ ys. pad_of f ++ ys) (pads_flat fs) ∙ one_pad _ (pads_of fs)
-
--- bytes written after the gathered ones
-pub passes_bytes : (a b c : Option (List ℕ)) (g h m : List ℕ) → Appends a b g × (h ≡ []) → Appends b c m → PassesOn a g c h m
-passes_bytes a b c g h m p q = subst (λ (t : List ℕ). PassesOn a g c t m) (sym p.1) (passes_more a b c g [] [] [] m (g, p.0, refl) (m, q, append-nil m))

@@ -1,16 +1,23 @@
 //! The findings of a panel, their marks and their numbers. Lengths and coordinates are in pm.
 
-ghost use Rattle.std.specs.Prelude.{◌≡◌, ◌++◌, ◌*◌, ◌≤◌, ◌^◌, ◌+ℤ◌, neg_ℤ, pos, OnOk, string_bytes, unsigned_abs};
+ghost use Rattle.std.specs.Prelude.{◌≡◌, ◌*◌, ◌≤◌, ◌^◌, ◌+ℤ◌, neg_ℤ, pos, Some, unsigned_abs};
+ghost use Rattle.std.specs.Fmt.{DisplaysOnOk};
 ghost use Rattle.grid_units.specs.Points.{IsCoordinate};
-ghost use Rattle.picture.specs.Elements.{aside, gap, halfway, lack, mark, mark_radius, middle_x, middle_y, number, number_of, place_x, place_y, reach, ring};
+ghost use Rattle.picture.specs.Elements.{aside, gap, halfway, lack, line, mark, mark_radius, middle_x, middle_y, number, number_of, place_x, place_y, reach, ring};
+ghost use Rattle.picture.specs.Panels.{lacks_text, marked};
 
-use crate::elements::{down, push_circle, push_line, push_number_at};
-use crate::holes::push_slot;
+use crate::elements::{Circle, StraightLine, TextStart, down};
+use crate::holes::slot_line;
 use crate::pen::Pen;
 use crate::scene::Lack;
 use crate::widths::{gap_width, ring_rim, strong};
 use grid_units::Hole;
-use std::alloc::AllocError;
+use printing::{Line, Lines};
+use std::fmt;
+use std::fmt::{Display, Formatter};
+
+/// The most findings of a panel that are marked and numbered.
+const MOST_MARKED: usize = 100;
 
 /// Halfway between two coordinates, rounded towards 0.
 fn halfway(a: i64, b: i64) -> i64
@@ -36,48 +43,49 @@ fn middle_y(hole: &Hole) -> i64
     halfway(hole.from().y(), hole.to().y())
 }
 
-/// Appends the required ring of a hole: a circle, of a slot a wide line.
-fn push_ring(text: &mut String, pen: &Pen, hole: &Hole) -> Result<(), AllocError>
-    ensures { OnOk result (string_bytes text.new ≡ string_bytes text.old ++ ring pen.now hole.now) }
+/// Writes the required ring of a hole: a circle, of a slot a wide line.
+fn write_ring<W: fmt::Write>(f: &mut Formatter<W>, pen: &Pen, hole: &Hole) -> fmt::Result
+    ensures { DisplaysOnOk W.write_str_gives f.old result (Some (ring pen.now hole.now)) f.new }
 {
     let radius = hole.radius().unsigned_abs() + pen.ring;
     if !hole.is_round() {
-        return push_slot(text, "ring", hole, radius);
+        return write!(f, "{}", slot_line("ring", hole, radius));
     }
     let at = hole.from();
-    push_circle(
-        text,
-        "ring",
-        at.x(),
-        down(at.y()),
-        radius as i64,
-        ring_rim(pen, radius) as i64,
-    )
+    let circle = Circle {
+        class: "ring",
+        x: at.x(),
+        y: down(at.y()),
+        radius: radius as i64,
+        width: ring_rim(pen, radius) as i64,
+    };
+    write!(f, "{circle}")
 }
 
-/// Appends the insufficient gap between two holes: a line from middle to middle.
-fn push_gap(text: &mut String, pen: &Pen, first: &Hole, second: &Hole) -> Result<(), AllocError>
-    ensures { OnOk result (string_bytes text.new ≡ string_bytes text.old ++ gap pen.now first.now second.now) }
+/// The insufficient gap between two holes: a line from middle to middle.
+fn gap_line(pen: &Pen, first: &Hole, second: &Hole) -> StraightLine<'static>
+    ensures { line result.class.now result.width result.x result.y result.end_x result.end_y ≡ gap pen.now first.now second.now }
 {
-    push_line(
-        text,
-        "gap",
-        gap_width(pen),
-        middle_x(first),
-        down(middle_y(first)),
-        middle_x(second),
-        down(middle_y(second)),
-    )
+    StraightLine {
+        class: "gap",
+        width: gap_width(pen),
+        x: middle_x(first),
+        y: down(middle_y(first)),
+        end_x: middle_x(second),
+        end_y: down(middle_y(second)),
+    }
 }
 
-/// Appends the ring or the gap of a finding.
-#[tactic(auto, unfolding(crate::specs::Elements::lack))]
-pub(crate) fn push_lack(text: &mut String, pen: &Pen, found: &Lack) -> Result<(), AllocError>
-    ensures { OnOk result (string_bytes text.new ≡ string_bytes text.old ++ lack pen.now found.now) }
-{
-    match found {
-        Lack::Ring { hole, .. } => push_ring(text, pen, hole),
-        Lack::Gap { first, second, .. } => push_gap(text, pen, first, second),
+/// The ring or the gap of a finding.
+impl Line<Pen> for Lack {
+    ghost text = { lack };
+
+    #[tactic(auto, unfolding(crate::specs::Elements::lack))]
+    fn fmt_on<W: fmt::Write>(&self, pen: &Pen, f: &mut Formatter<W>) -> fmt::Result {
+        match self {
+            Lack::Ring { hole, .. } => write_ring(f, pen, hole),
+            Lack::Gap { first, second, .. } => write!(f, "{}", gap_line(pen, first, second)),
+        }
     }
 }
 
@@ -122,19 +130,26 @@ fn mark_radius(pen: &Pen, found: &Lack) -> u64
     (reach(pen, found) + pen.unit / 2).max(pen.unit)
 }
 
-/// Appends the mark round a finding.
-#[tactic(auto, unfolding(crate::specs::Elements::mark))]
-pub(crate) fn push_mark(text: &mut String, pen: &Pen, found: &Lack) -> Result<(), AllocError>
-    ensures { OnOk result (string_bytes text.new ≡ string_bytes text.old ++ mark pen.now found.now) }
-{
-    push_circle(
-        text,
-        "mark",
-        place_x(found),
-        down(place_y(found)),
-        mark_radius(pen, found) as i64,
-        strong(pen),
-    )
+/// The marks of findings, by the pen that draws them.
+#[derive(Clone, Copy)]
+struct Marks(Pen);
+
+/// The mark round a finding.
+impl Line<Marks> for Lack {
+    ghost text = { λ marks found. mark marks.0 found };
+
+    #[tactic(auto, unfolding(crate::specs::Elements::mark))]
+    fn fmt_on<W: fmt::Write>(&self, marks: &Marks, f: &mut Formatter<W>) -> fmt::Result {
+        let pen = &marks.0;
+        let circle = Circle {
+            class: "mark",
+            x: place_x(self),
+            y: down(place_y(self)),
+            radius: mark_radius(pen, self) as i64,
+            width: strong(pen),
+        };
+        write!(f, "{circle}")
+    }
 }
 
 /// The number of a finding among all, from 1.
@@ -164,11 +179,60 @@ fn number_place(pen: &Pen, found: &Lack) -> (i64, i64)
     (place_x(found) + aside, down(place_y(found) + aside))
 }
 
-/// Appends the number of a finding.
-#[tactic(auto, unfolding(crate::specs::Elements::number))]
-pub(crate) fn push_number(text: &mut String, pen: &Pen, found: &Lack) -> Result<(), AllocError>
-    ensures { OnOk result (string_bytes text.new ≡ string_bytes text.old ++ number pen.now found.now) }
+/// The numbers of findings, by the pen that draws them.
+#[derive(Clone, Copy)]
+struct Numbers(Pen);
+
+/// The number of a finding, at the upper right of its mark.
+impl Line<Numbers> for Lack {
+    ghost text = { λ numbers found. number numbers.0 found };
+
+    #[tactic(auto, unfolding(crate::specs::Elements::number, crate::specs::Elements::number_at))]
+    fn fmt_on<W: fmt::Write>(&self, numbers: &Numbers, f: &mut Formatter<W>) -> fmt::Result {
+        let pen = &numbers.0;
+        let (x, y) = number_place(pen, self);
+        let words = "<text class=\"number\" transform=\"translate(";
+        let start = TextStart { pen, words, x, y };
+        write!(f, "{start}{}</text>\n", number_of(self))
+    }
+}
+
+/// The findings that are marked: the first hundred.
+fn marked(lacks: &[Lack]) -> &[Lack]
+    ensures { result.now ≡ marked lacks.now }
 {
-    let (x, y) = number_place(pen, found);
-    push_number_at(text, pen, x, y, number_of(found))
+    if lacks.len() <= MOST_MARKED {
+        return lacks;
+    }
+    &lacks[..MOST_MARKED]
+}
+
+/// The findings of a panel: a ring or gap for each, then the marks, then the numbers.
+#[derive(Clone, Copy)]
+pub(crate) struct Findings<'a> {
+    pub(crate) pen: &'a Pen,
+    pub(crate) lacks: &'a [Lack],
+}
+
+impl Display for Findings<'_> {
+    ghost output = { λ all. Some (lacks_text all.pen.now all.lacks.now) };
+
+    fn fmt<W: fmt::Write>(&self, f: &mut Formatter<W>) -> fmt::Result {
+        let (pen, lacks) = (self.pen, self.lacks);
+        let (marks, numbers) = (Marks(*pen), Numbers(*pen));
+        let first = marked(lacks);
+        let found = Lines {
+            page: pen,
+            lines: lacks,
+        };
+        let marks = Lines {
+            page: &marks,
+            lines: first,
+        };
+        let numbers = Lines {
+            page: &numbers,
+            lines: first,
+        };
+        write!(f, "{found}{marks}{numbers}")
+    }
 }

@@ -1,15 +1,16 @@
 //! Holes and crosses in a picture. Lengths and coordinates are in pm.
 
-ghost use Rattle.std.specs.Prelude.{◌≡◌, ◌++◌, ◌*◌, ◌-◌, ◌≤◌, ◌^◌, ◌+ℤ◌, ◌-ℤ◌, neg_ℤ, pos, OnOk, codes, string_bytes};
-ghost use Rattle.picture.specs.Elements.{arm, cross, cross_bar, cross_post, crosses_start, hole, hole_class, rim, slot};
+ghost use Rattle.std.specs.Prelude.{◌≡◌, ◌*◌, ◌≤◌, ◌^◌, ◌+ℤ◌, ◌-ℤ◌, neg_ℤ, pos, Some};
+ghost use Rattle.picture.specs.Elements.{arm, cross, crosses, hole, hole_class, line, slot};
 
-use crate::elements::{down, push_across, push_after, push_along, push_circle, push_line};
+use crate::elements::{Across, Along, Circle, StraightLine, down};
 use crate::pen::Pen;
 use crate::widths::{arm, rim, strong};
 use grid_units::{Hole, Point};
-use printing::push_words;
+use printing::{Line, Lines, ShortMillimetres};
 use ring_rules::Drilled;
-use std::alloc::AllocError;
+use std::fmt;
+use std::fmt::{Display, Formatter};
 
 /// The x of the left end of a cross's horizontal line, the y in a picture of the upper end of the vertical one, and their length.
 fn cross_ends(pen: &Pen, at: Point) -> (i64, i64, i64)
@@ -21,38 +22,53 @@ fn cross_ends(pen: &Pen, at: Point) -> (i64, i64, i64)
     (at.x() - arm, down(at.y() + arm), 2 * arm)
 }
 
-/// Appends the horizontal line of a cross.
-fn push_cross_bar(text: &mut String, pen: &Pen, at: Point) -> Result<(), AllocError>
-    ensures { OnOk result (string_bytes text.new ≡ string_bytes text.old ++ cross_bar pen.now at) }
-{
-    let (left, _above, length) = cross_ends(pen, at);
-    push_across(text, left, down(at.y()), length)
+/// The two lines of a cross.
+impl Line<Pen> for Point {
+    ghost text = { cross };
+
+    #[tactic(auto, unfolding(crate::specs::Elements::cross))]
+    fn fmt_on<W: fmt::Write>(&self, pen: &Pen, f: &mut Formatter<W>) -> fmt::Result {
+        let at = *self;
+        let (left, above, length) = cross_ends(pen, at);
+        let bar = Across {
+            x: left,
+            y: down(at.y()),
+            length,
+        };
+        let post = Along {
+            x: at.x(),
+            y: above,
+            length,
+        };
+        write!(f, "{bar}{post}")
+    }
 }
 
-/// Appends the vertical line of a cross.
-fn push_cross_post(text: &mut String, pen: &Pen, at: Point) -> Result<(), AllocError>
-    ensures { OnOk result (string_bytes text.new ≡ string_bytes text.old ++ cross_post pen.now at) }
-{
-    let (_left, above, length) = cross_ends(pen, at);
-    push_along(text, at.x(), above, length)
+/// The path of crosses; nothing where there are none.
+#[derive(Clone, Copy)]
+pub(crate) struct Crosses<'a> {
+    pub(crate) pen: &'a Pen,
+    pub(crate) points: &'a [Point],
 }
 
-/// Appends the two lines of a cross.
-#[tactic(auto, unfolding(crate::specs::Elements::cross))]
-pub(crate) fn push_cross(text: &mut String, pen: &Pen, at: Point) -> Result<(), AllocError>
-    ensures { OnOk result (string_bytes text.new ≡ string_bytes text.old ++ cross pen.now at) }
-{
-    push_cross_bar(text, pen, at)?;
-    push_cross_post(text, pen, at)
-}
+impl Display for Crosses<'_> {
+    ghost output = { λ all. Some (crosses all.pen.now all.points.now) };
 
-/// Appends the start of the path of crosses.
-#[tactic(auto, unfolding(crate::specs::Elements::crosses_start))]
-pub(crate) fn push_crosses_start(text: &mut String, pen: &Pen) -> Result<(), AllocError>
-    ensures { OnOk result (string_bytes text.new ≡ string_bytes text.old ++ crosses_start pen.now) }
-{
-    push_after(text, "<path class=\"other\" stroke-width=\"", strong(pen))?;
-    push_words(text, "\" d=\"")
+    #[tactic(auto, unfolding(crate::specs::Elements::crosses_start))]
+    fn fmt<W: fmt::Write>(&self, f: &mut Formatter<W>) -> fmt::Result {
+        if self.points.is_empty() {
+            return Ok(());
+        }
+        let width = ShortMillimetres(strong(self.pen));
+        let lines = Lines {
+            page: self.pen,
+            lines: self.points,
+        };
+        write!(
+            f,
+            "<path class=\"other\" stroke-width=\"{width}\" d=\"{lines}\"/>\n"
+        )
+    }
 }
 
 /// The class of a round hole: `plated` or `unplated`.
@@ -62,54 +78,46 @@ fn hole_class(plated: bool) -> &'static str
     if plated { "plated" } else { "unplated" }
 }
 
-/// Appends the line of a slot from end to end, by its class and half its width.
-pub(crate) fn push_slot(
-    text: &mut String,
-    class: &str,
-    hole: &Hole,
-    half: u64,
-) -> Result<(), AllocError>
+/// The line of a slot from end to end, by its class and half its width.
+pub(crate) fn slot_line<'a>(class: &'a str, hole: &Hole, half: u64) -> StraightLine<'a>
     requires { half ≤ 10 ^ 14 }
-    ensures { OnOk result (string_bytes text.new ≡ string_bytes text.old ++ slot class.now hole.now half) }
+    ensures { line result.class.now result.width result.x result.y result.end_x result.end_y ≡ slot class.now hole.now half }
 {
     let (from, to) = (hole.from(), hole.to());
-    push_line(
-        text,
+    StraightLine {
         class,
-        2 * half as i64,
-        from.x(),
-        down(from.y()),
-        to.x(),
-        down(to.y()),
-    )
-}
-
-/// Appends the two lines of a slot: `rim` and the narrower `slot`.
-fn push_slots(text: &mut String, pen: &Pen, hole: &Hole) -> Result<(), AllocError>
-    ensures { OnOk result (string_bytes text.new ≡ string_bytes text.old ++ (slot (codes "rim") hole.now hole.now.radius ++ slot (codes "slot") hole.now (hole.now.radius - rim pen.now hole.now.radius))) }
-{
-    let radius = hole.radius().unsigned_abs();
-    push_slot(text, "rim", hole, radius)?;
-    push_slot(text, "slot", hole, radius - rim(pen, radius))
-}
-
-/// Appends a hole: a circle, or the two lines of a slot.
-#[tactic(auto, unfolding(crate::specs::Elements::hole))]
-pub(crate) fn push_hole(text: &mut String, pen: &Pen, drilled: &Drilled) -> Result<(), AllocError>
-    ensures { OnOk result (string_bytes text.new ≡ string_bytes text.old ++ hole pen.now drilled.now) }
-{
-    let hole = &drilled.hole;
-    if !hole.is_round() {
-        return push_slots(text, pen, hole);
+        width: 2 * half as i64,
+        x: from.x(),
+        y: down(from.y()),
+        end_x: to.x(),
+        end_y: down(to.y()),
     }
-    let at = hole.from();
-    let radius = hole.radius();
-    push_circle(
-        text,
-        hole_class(drilled.plated),
-        at.x(),
-        down(at.y()),
-        radius,
-        rim(pen, radius.unsigned_abs()) as i64,
-    )
+}
+
+/// A hole: a circle, or the two lines of a slot, `rim` and the narrower `slot`.
+impl Line<Pen> for Drilled {
+    ghost text = { hole };
+
+    #[tactic(auto, unfolding(crate::specs::Elements::hole))]
+    fn fmt_on<W: fmt::Write>(&self, pen: &Pen, f: &mut Formatter<W>) -> fmt::Result {
+        let (hole, radius) = (&self.hole, self.hole.radius());
+        let half = radius.unsigned_abs();
+        let rim = rim(pen, half);
+        if !hole.is_round() {
+            let (outer, inner) = (
+                slot_line("rim", hole, half),
+                slot_line("slot", hole, half - rim),
+            );
+            return write!(f, "{outer}{inner}");
+        }
+        let at = hole.from();
+        let circle = Circle {
+            class: hole_class(self.plated),
+            x: at.x(),
+            y: down(at.y()),
+            radius,
+            width: rim as i64,
+        };
+        write!(f, "{circle}")
+    }
 }

@@ -1,6 +1,6 @@
 //! What holds of all pictures.
 
-ghost use Rattle.std.specs.Prelude.{◌≤◌, ◌*◌, ℕ, List, length};
+ghost use Rattle.std.specs.Prelude.{ℕ, List};
 ghost use Rattle.pad_shapes.specs.declared.pad.Pad.{Pad};
 ghost use Rattle.picture.specs.Escapes.{IsEscaped, escaped};
 ghost use Rattle.picture.specs.Scenes.{AreInOrder, IsOnePathEach};
@@ -8,11 +8,6 @@ ghost use Rattle.picture.specs.Scenes.{AreInOrder, IsOnePathEach};
 /// An escaped name has no `<`, no U+FFFE and no U+FFFF, and `&` only where an entity begins.
 pub fn escaped_names()
     ensures { (name : List ℕ) → IsEscaped (escaped name) }
-{}
-
-/// An escaped name is at most five times as long as the name.
-pub fn escaped_lengths()
-    ensures { (name : List ℕ) → length (escaped name) ≤ 5 * length name }
 {}
 
 /// Of pads in order of kind and size, each kind and size is one path.

@@ -3,7 +3,6 @@
 //! All lengths are whole picometres (pm), and are printed in millimetres.
 #![tactic(auto)]
 
-mod drawn;
 mod elements;
 mod findings;
 mod frame;
@@ -17,8 +16,8 @@ mod scene;
 mod widths;
 
 pub use frame::Frame;
-pub use laws::{escaped_lengths, escaped_names, paths_of_kinds};
-pub use names::{escape, name_room};
-pub use panel::{Place, print_panel};
+pub use laws::{escaped_names, paths_of_kinds};
+pub use names::Escaped;
+pub use panel::{Panel, Place};
 pub use pen::Pen;
 pub use scene::{Lack, Scene, scene_of};

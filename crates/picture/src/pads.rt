@@ -1,12 +1,14 @@
 //! Pads in a picture: paths of rectangles and of lines with round ends.
 
-ghost use Rattle.std.specs.Prelude.{◌≡◌, ◌++◌, ◌*◌, ◌-◌, ◌≤◌, ◌^◌, ◌+ℤ◌, ◌-ℤ◌, neg_ℤ, pos, nat_le, OnOk, string_bytes, unsigned_abs};
-ghost use Rattle.picture.specs.Elements.{are_alike, last_end, obround_line, outline, path_end, path_start, rect_box, turn};
+ghost use Rattle.std.specs.Prelude.{◌≡◌, ◌*◌, ◌-◌, ◌≤◌, ◌^◌, ◌+ℤ◌, ◌-ℤ◌, neg_ℤ, pos, nat_le, None, Some, unsigned_abs};
+ghost use Rattle.std.specs.Fmt.{DisplaysOnOk};
+ghost use Rattle.picture.specs.Elements.{are_alike, box, last_end, lines_start, obround_line, outline, pads_behind, path_start, rect_box, turn};
 
-use crate::elements::{down, push_across, push_along, push_box, push_lines_start};
+use crate::elements::{Across, Along, Rectangle, down};
 use pad_shapes::{Obround, Pad, Rect};
-use printing::push_words;
-use std::alloc::AllocError;
+use printing::ShortMillimetres;
+use std::fmt;
+use std::fmt::{Display, Formatter};
 
 /// Whether two pads are of one kind and size.
 fn are_alike(one: &Pad, other: &Pad) -> bool
@@ -39,34 +41,48 @@ fn corner_and_sides(rect: &Rect) -> (i64, i64, i64, i64)
     )
 }
 
-/// Appends a rectangular pad as a part of a path.
-fn push_rect(text: &mut String, rect: &Rect) -> Result<(), AllocError>
-    ensures { OnOk result (string_bytes text.new ≡ string_bytes text.old ++ rect_box rect.now) }
+/// A rectangular pad as a part of a path.
+fn rectangle(rect: &Rect) -> Rectangle
+    ensures { box result.x result.y result.width result.height result.back ≡ rect_box rect.now }
 {
     let (x, y, width, height) = corner_and_sides(rect);
-    push_box(text, x, y, width, height, down(width))
+    Rectangle {
+        x,
+        y,
+        width,
+        height,
+        back: down(width),
+    }
 }
 
-/// The left end of the line of a broad obround in a picture, and the length of the line.
-fn broad_line(obround: &Obround) -> (i64, i64, i64)
+/// The line of a broad obround as a part of a path.
+fn broad_line(obround: &Obround) -> Across
     requires { obround.now.half_y ≤ obround.now.half_x }
-    ensures x { result.0 ≡ obround.now.centre.x -ℤ pos (obround.now.half_x - obround.now.half_y) }
-    ensures y { result.1 ≡ neg_ℤ obround.now.centre.y }
-    ensures length { result.2 ≡ pos (2 * (obround.now.half_x - obround.now.half_y)) }
+    ensures x { result.x ≡ obround.now.centre.x -ℤ pos (obround.now.half_x - obround.now.half_y) }
+    ensures y { result.y ≡ neg_ℤ obround.now.centre.y }
+    ensures length { result.length ≡ pos (2 * (obround.now.half_x - obround.now.half_y)) }
 {
     let (at, reach) = (obround.centre(), obround.half_x() - obround.half_y());
-    (at.x() - reach, down(at.y()), 2 * reach)
+    Across {
+        x: at.x() - reach,
+        y: down(at.y()),
+        length: 2 * reach,
+    }
 }
 
-/// The upper end of the line of a high obround in a picture, and the length of the line.
-fn high_line(obround: &Obround) -> (i64, i64, i64)
+/// The line of a high obround as a part of a path.
+fn high_line(obround: &Obround) -> Along
     requires { obround.now.half_x ≤ obround.now.half_y }
-    ensures x { result.0 ≡ obround.now.centre.x }
-    ensures y { result.1 ≡ neg_ℤ (obround.now.centre.y +ℤ pos (obround.now.half_y - obround.now.half_x)) }
-    ensures length { result.2 ≡ pos (2 * (obround.now.half_y - obround.now.half_x)) }
+    ensures x { result.x ≡ obround.now.centre.x }
+    ensures y { result.y ≡ neg_ℤ (obround.now.centre.y +ℤ pos (obround.now.half_y - obround.now.half_x)) }
+    ensures length { result.length ≡ pos (2 * (obround.now.half_y - obround.now.half_x)) }
 {
     let (at, reach) = (obround.centre(), obround.half_y() - obround.half_x());
-    (at.x(), down(at.y() + reach), 2 * reach)
+    Along {
+        x: at.x(),
+        y: down(at.y() + reach),
+        length: 2 * reach,
+    }
 }
 
 /// Whether an obround is at least as wide as high.
@@ -76,70 +92,103 @@ fn is_broad(obround: &Obround) -> bool
     obround.half_y() <= obround.half_x()
 }
 
-/// Appends the line of an obround, from the centre of one round end to that of the other.
-fn push_obround(text: &mut String, obround: &Obround) -> Result<(), AllocError>
-    ensures { OnOk result (string_bytes text.new ≡ string_bytes text.old ++ obround_line obround.now) }
+/// Writes the line of an obround, from the centre of one round end to that of the other.
+fn write_obround<W: fmt::Write>(f: &mut Formatter<W>, obround: &Obround) -> fmt::Result
+    ensures { DisplaysOnOk W.write_str_gives f.old result (Some (obround_line obround.now)) f.new }
 {
     if is_broad(obround) {
-        let (x, y, length) = broad_line(obround);
-        push_across(text, x, y, length)
+        write!(f, "{}", broad_line(obround))
     } else {
-        let (x, y, length) = high_line(obround);
-        push_along(text, x, y, length)
+        write!(f, "{}", high_line(obround))
     }
 }
 
-/// Appends a pad as a part of a path.
-fn push_outline(text: &mut String, pad: &Pad) -> Result<(), AllocError>
-    ensures { OnOk result (string_bytes text.new ≡ string_bytes text.old ++ outline pad.now) }
-{
-    match pad {
-        Pad::Disc(disc) => push_across(text, disc.centre().x(), down(disc.centre().y()), 0),
-        Pad::Rect(rect) => push_rect(text, rect),
-        Pad::Obround(obround) => push_obround(text, obround),
-    }
-}
+/// A pad as a part of a path.
+#[derive(Clone, Copy)]
+struct Outline<'a>(&'a Pad);
 
-/// Appends the start of the path for pads like this one.
-fn push_path_start(text: &mut String, pad: &Pad) -> Result<(), AllocError>
-    ensures { OnOk result (string_bytes text.new ≡ string_bytes text.old ++ path_start pad.now) }
-{
-    match pad {
-        Pad::Disc(disc) => push_lines_start(text, 2 * disc.radius()),
-        Pad::Rect(_) => push_words(text, "<path class=\"pad\" d=\""),
-        Pad::Obround(obround) => {
-            push_lines_start(text, 2 * obround.half_x().min(obround.half_y()))
+impl Display for Outline<'_> {
+    ghost output = { λ pad. Some (outline pad.0.now) };
+
+    fn fmt<W: fmt::Write>(&self, f: &mut Formatter<W>) -> fmt::Result {
+        match self.0 {
+            Pad::Disc(disc) => {
+                let at = disc.centre();
+                let (x, y) = (at.x(), down(at.y()));
+                write!(f, "{}", Across { x, y, length: 0 })
+            }
+            Pad::Rect(rect) => write!(f, "{}", rectangle(rect)),
+            Pad::Obround(obround) => write_obround(f, obround),
         }
     }
 }
 
-/// Appends what stands between the pad before, if there is one, and a pad: nothing, or the start of a new path.
-fn push_turn(text: &mut String, before: Option<Pad>, pad: &Pad) -> Result<(), AllocError>
-    ensures { OnOk result (string_bytes text.new ≡ string_bytes text.old ++ turn before pad.now) }
+/// Writes the start of a path of lines, by their width.
+#[tactic(auto, unfolding(crate::specs::Elements::lines_start))]
+fn write_lines_start<W: fmt::Write>(f: &mut Formatter<W>, width: i64) -> fmt::Result
+    ensures { DisplaysOnOk W.write_str_gives f.old result (Some (lines_start width)) f.new }
 {
-    if let Some(before) = before {
-        if are_alike(&before, pad) {
-            return Ok(());
+    let width = ShortMillimetres(width);
+    write!(f, "<path class=\"line\" stroke-width=\"{width}\" d=\"")
+}
+
+/// The start of the path for pads like this one.
+#[derive(Clone, Copy)]
+struct PathStart<'a>(&'a Pad);
+
+impl Display for PathStart<'_> {
+    ghost output = { λ pad. Some (path_start pad.0.now) };
+
+    fn fmt<W: fmt::Write>(&self, f: &mut Formatter<W>) -> fmt::Result {
+        match self.0 {
+            Pad::Disc(disc) => write_lines_start(f, 2 * disc.radius()),
+            Pad::Rect(_) => f.write_str("<path class=\"pad\" d=\""),
+            Pad::Obround(obround) => {
+                write_lines_start(f, 2 * obround.half_x().min(obround.half_y()))
+            }
         }
-        push_words(text, "\"/>\n")?;
     }
-    push_path_start(text, pad)
 }
 
-/// Appends a pad after the pad before, if there is one.
-pub(crate) fn push_pad(text: &mut String, before: Option<Pad>, pad: &Pad) -> Result<(), AllocError>
-    ensures { OnOk result (string_bytes text.new ≡ string_bytes text.old ++ (turn before pad.now ++ outline pad.now)) }
-{
-    push_turn(text, before, pad)?;
-    push_outline(text, pad)
-}
-
-/// Appends the end of the last path, if there is one.
-pub(crate) fn push_last_end(text: &mut String, before: Option<Pad>) -> Result<(), AllocError>
-    ensures { OnOk result (string_bytes text.new ≡ string_bytes text.old ++ last_end before) }
+/// Writes what stands between the pad before, if there is one, and a pad: nothing, or the start of a new path.
+fn write_turn<W: fmt::Write>(f: &mut Formatter<W>, before: Option<Pad>, pad: &Pad) -> fmt::Result
+    ensures { DisplaysOnOk W.write_str_gives f.old result (Some (turn before pad.now)) f.new }
 {
     match before {
-        Some(_) => push_words(text, "\"/>\n"),
+        None => write!(f, "{}", PathStart(pad)),
+        Some(before) => {
+            if are_alike(&before, pad) {
+                return Ok(());
+            }
+            write!(f, "\"/>\n{}", PathStart(pad))
+        }
+    }
+}
+
+/// Writes the end of the last path, if there is one.
+fn write_last_end<W: fmt::Write>(f: &mut Formatter<W>, before: Option<Pad>) -> fmt::Result
+    ensures { DisplaysOnOk W.write_str_gives f.old result (Some (last_end before)) f.new }
+{
+    match before {
+        Some(_) => f.write_str("\"/>\n"),
         None => Ok(()),
+    }
+}
+
+/// The paths of pads: one for each run of pads alike.
+#[derive(Clone, Copy)]
+pub(crate) struct Paths<'a>(pub(crate) &'a [Pad]);
+
+impl Display for Paths<'_> {
+    ghost output = { λ pads. Some (pads_behind None pads.0.now) };
+
+    fn fmt<W: fmt::Write>(&self, f: &mut Formatter<W>) -> fmt::Result {
+        let mut before = None;
+        for pad in self.0 {
+            write_turn(f, before, pad)?;
+            write!(f, "{}", Outline(pad))?;
+            before = Some(*pad);
+        }
+        write_last_end(f, before)
     }
 }

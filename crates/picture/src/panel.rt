@@ -1,30 +1,21 @@
-//! The text of a panel, printed part by part.
+//! The panel of a layer, printed as SVG.
 
-ghost use Rattle.std.specs.Prelude.{◌≡◌, ◌++◌, ◌≤◌, ◌^◌, ◌+ℤ◌, ◌==◌, neg_ℤ, pos, OnOk, None, string_bytes, if◌then◌else◌};
-ghost use Rattle.std.specs.List.{flat_map};
-ghost use Rattle.std.specs.Io.KnownBytes.{Appends};
-ghost use Rattle.printing.specs.Parts.{PassesOn};
-ghost use Rattle.picture.specs.Elements.{cross, crosses, crosses_start, last_end, outline, pads_behind, path_end, turn};
-ghost use Rattle.picture.specs.Panels.{behind_name, board_box, board_rect, amount, drawn_words, flash_words, lacking_words, lacks_text, marked, marks_text, name_start, note, note_start, panel_start, panel_text, ring_count, scene_text, translated};
+ghost use Rattle.std.specs.Prelude.{◌≡◌, ◌≤◌, ◌^◌, ◌++◌, ◌+ℤ◌, ◌==◌, neg_ℤ, pos, Some, if◌then◌else◌};
+ghost use Rattle.std.specs.Fmt.{DisplaysOnOk};
 ghost use Rattle.picture.specs.Escapes.{escaped};
+ghost use Rattle.picture.specs.Panels.{behind_name, board_box, drawn_words, lacking_words, name_start, note, panel_start, panel_text, ring_count, scene_text};
 
-use crate::drawn::{Crosses, Form, Holes, Lacks, Marks, Numbers};
-use crate::elements::{down, push_after, push_decimal, push_digits, push_text_start};
+use crate::elements::{TextStart, down};
+use crate::findings::Findings;
 use crate::frame::Frame;
-use crate::holes::push_crosses_start;
-use crate::names::escape;
-use crate::pads::{push_last_end, push_pad};
+use crate::holes::Crosses;
+use crate::names::Escaped;
+use crate::pads::Paths;
 use crate::pen::Pen;
 use crate::scene::{Lack, Scene};
-use grid_units::Point;
-use pad_shapes::Pad;
-use printing::{Cut, make_room, pass_on, push_words};
-use ring_rules::Drilled;
-use std::alloc::AllocError;
-use std::io::Write;
-
-/// The most findings of a panel that are marked and numbered.
-const MOST_MARKED: usize = 100;
+use printing::{Lines, ShortMillimetres};
+use std::fmt;
+use std::fmt::{Display, Formatter};
 
 /// The file of a panel, and the place of the panel's origin on the page.
 #[derive(Clone, Copy)]
@@ -39,45 +30,46 @@ pub struct Place<'a> {
     pub y: i64,
 }
 
-/// Appends the place of a panel on the page.
-fn push_translated(text: &mut String, x: i64, y: i64) -> Result<(), AllocError>
-    ensures { OnOk result (string_bytes text.new ≡ string_bytes text.old ++ translated x y) }
-{
-    push_after(text, "\" transform=\"translate(", x)?;
-    push_after(text, " ", y)?;
-    push_words(text, ")\">\n")
+/// The start of a panel.
+#[derive(Clone, Copy)]
+struct PanelStart<'a>(&'a Place<'a>);
+
+impl Display for PanelStart<'_> {
+    ghost output = { λ start. Some (panel_start start.0.now) };
+
+    fn fmt<W: fmt::Write>(&self, f: &mut Formatter<W>) -> fmt::Result {
+        let (x, y) = (ShortMillimetres(self.0.x), ShortMillimetres(self.0.y));
+        write!(
+            f,
+            "<g class=\"layer\" data-file=\"{}\" transform=\"translate({x} {y})\">\n",
+            self.0.file
+        )
+    }
 }
 
-/// Appends the start of a panel.
-fn push_panel_start(text: &mut String, place: &Place) -> Result<(), AllocError>
-    ensures { OnOk result (string_bytes text.new ≡ string_bytes text.old ++ panel_start place.now) }
-{
-    push_decimal(text, "<g class=\"layer\" data-file=\"", place.file)?;
-    push_translated(text, place.x, place.y)
-}
+/// The box of the board.
+#[derive(Clone, Copy)]
+struct BoardBox<'a>(&'a Frame);
 
-/// Appends a box, by its upper left corner and its sides.
-fn push_board_rect(
-    text: &mut String,
-    x: i64,
-    y: i64,
-    width: i64,
-    height: i64,
-) -> Result<(), AllocError>
-    ensures { OnOk result (string_bytes text.new ≡ string_bytes text.old ++ board_rect x y width height) }
-{
-    push_after(text, "<rect class=\"board\" x=\"", x)?;
-    push_after(text, "\" y=\"", y)?;
-    push_after(text, "\" width=\"", width)?;
-    push_after(text, "\" height=\"", height)?;
-    push_words(text, "\"/>\n")
-}
+impl Display for BoardBox<'_> {
+    ghost output = { λ frame. Some (board_box frame.0.now) };
 
-/// Appends the box of the board.
-fn push_board_box(text: &mut String, frame: &Frame) -> Result<(), AllocError>
-    ensures { OnOk result (string_bytes text.new ≡ string_bytes text.old ++ board_box frame.now) }
-{
-    push_board_rect(text, frame.left, down(frame.top), frame.width, frame.height)
+    #[tactic(auto, unfolding(crate::specs::Panels::board_rect))]
+    fn fmt<W: fmt::Write>(&self, f: &mut Formatter<W>) -> fmt::Result {
+        let frame = self.0;
+        let (x, y) = (
+            ShortMillimetres(frame.left),
+            ShortMillimetres(down(frame.top)),
+        );
+        let (width, height) = (
+            ShortMillimetres(frame.width),
+            ShortMillimetres(frame.height),
+        );
+        write!(
+            f,
+            "<rect class=\"board\" x=\"{x}\" y=\"{y}\" width=\"{width}\" height=\"{height}\"/>\n"
+        )
+    }
 }
 
 /// The y in a picture of a point this far above the box.
@@ -86,32 +78,6 @@ fn above(frame: &Frame, height: u64) -> i64
     ensures { result ≡ neg_ℤ (frame.now.top +ℤ pos height) }
 {
     down(frame.top + height as i64)
-}
-
-/// Appends the start of a panel's name.
-fn push_name_start(text: &mut String, pen: &Pen, frame: &Frame) -> Result<(), AllocError>
-    ensures { OnOk result (string_bytes text.new ≡ string_bytes text.old ++ name_start pen.now frame.now) }
-{
-    push_text_start(
-        text,
-        pen,
-        "<text class=\"name\" transform=\"translate(",
-        frame.left,
-        above(frame, pen.unit * 5 / 2),
-    )
-}
-
-/// Appends the start of a panel's note.
-fn push_note_start(text: &mut String, pen: &Pen, frame: &Frame) -> Result<(), AllocError>
-    ensures { OnOk result (string_bytes text.new ≡ string_bytes text.old ++ note_start pen.now frame.now) }
-{
-    push_text_start(
-        text,
-        pen,
-        "<text class=\"note\" transform=\"translate(",
-        frame.left,
-        above(frame, pen.unit * 4 / 5),
-    )
 }
 
 /// The number of insufficient rings.
@@ -131,363 +97,145 @@ fn words_for<'a>(count: usize, one: &'a str, more: &'a str) -> &'a str
     if count == 1 { one } else { more }
 }
 
-/// Appends a count with the words for one item or for more.
-fn push_amount(text: &mut String, count: usize, one: &str, more: &str) -> Result<(), AllocError>
-    ensures { OnOk result (string_bytes text.new ≡ string_bytes text.old ++ amount count one.now more.now) }
-{
-    push_digits(text, count, words_for(count, one, more))
-}
-
-/// Appends the number of pads and of other flashes: `361 pads, 1 other`.
-fn push_flashes(text: &mut String, pads: usize, other: usize) -> Result<(), AllocError>
-    ensures { OnOk result (string_bytes text.new ≡ string_bytes text.old ++ flash_words pads other) }
-{
-    push_amount(text, pads, " pad, ", " pads, ")?;
-    push_digits(text, other, " other")
-}
-
-/// Appends the number of pads and of other flashes, or that they are too many.
-fn push_drawn(text: &mut String, scene: &Scene) -> Result<(), AllocError>
-    ensures { OnOk result (string_bytes text.new ≡ string_bytes text.old ++ drawn_words scene.now) }
+/// Writes the number of pads and of other flashes, `361 pads, 1 other`, or that they are too many.
+fn write_drawn<W: fmt::Write>(f: &mut Formatter<W>, scene: &Scene) -> fmt::Result
+    ensures { DisplaysOnOk W.write_str_gives f.old result (Some (drawn_words scene.now)) f.new }
 {
     if scene.crowded {
-        return push_words(text, "more than 100000 flashes and holes");
+        return f.write_str("more than 100000 flashes and holes");
     }
-    push_flashes(text, scene.pads.len(), scene.crosses.len())
+    let (pads, other) = (scene.pads.len(), scene.crosses.len());
+    let word = words_for(pads, " pad, ", " pads, ");
+    write!(f, "{pads}{word}{other} other")
 }
 
-/// Appends the number of insufficient rings, if there are rules.
-fn push_lacking(text: &mut String, pen: &Pen, count: usize) -> Result<(), AllocError>
-    ensures { OnOk result (string_bytes text.new ≡ string_bytes text.old ++ lacking_words pen.now count) }
+/// Writes the number of insufficient rings, if there are rules.
+fn write_lacking<W: fmt::Write>(f: &mut Formatter<W>, pen: &Pen, count: usize) -> fmt::Result
+    ensures { DisplaysOnOk W.write_str_gives f.old result (Some (lacking_words pen.now count)) f.new }
 {
     if !pen.asked {
         return Ok(());
     }
-    push_words(text, ", ")?;
-    push_amount(text, count, " ring lacking", " rings lacking")
+    let word = words_for(count, " ring lacking", " rings lacking");
+    write!(f, ", {count}{word}")
 }
 
-/// Appends the note of a panel, and the end of its element.
-fn push_note(text: &mut String, pen: &Pen, scene: &Scene) -> Result<(), AllocError>
-    ensures { OnOk result (string_bytes text.new ≡ string_bytes text.old ++ note pen.now scene.now) }
-{
-    push_drawn(text, scene)?;
-    push_lacking(text, pen, ring_count(&scene.lacks))?;
-    push_words(text, "</text>\n")
+/// The note of a panel, and the end of its element: `361 pads, 1 other, 2 rings lacking</text>`.
+#[derive(Clone, Copy)]
+struct Note<'a> {
+    pen: &'a Pen,
+    scene: &'a Scene<'a>,
 }
 
-/// Appends the text after a panel's name: the note and the box.
-fn push_behind_name(
-    text: &mut String,
-    pen: &Pen,
-    frame: &Frame,
-    scene: &Scene,
-) -> Result<(), AllocError>
-    ensures { OnOk result (string_bytes text.new ≡ string_bytes text.old ++ (behind_name pen.now frame.now scene.now)) }
-{
-    push_words(text, "</text>\n")?;
-    push_note_start(text, pen, frame)?;
-    push_note(text, pen, scene)?;
-    push_board_box(text, frame)
-}
+impl Display for Note<'_> {
+    ghost output = { λ words. Some (note words.pen.now words.scene.now) };
 
-/// Appends the text before a panel's name.
-fn push_before_name(
-    text: &mut String,
-    place: &Place,
-    pen: &Pen,
-    frame: &Frame,
-) -> Result<(), AllocError>
-    ensures { OnOk result (string_bytes text.new ≡ string_bytes text.old ++ (panel_start place.now ++ name_start pen.now frame.now)) }
-{
-    push_panel_start(text, place)?;
-    push_name_start(text, pen, frame)
-}
-
-/// Gathers the text before a panel's name.
-fn gather_before_name<W: Write>(
-    text: &mut String,
-    place: &Place,
-    pen: &Pen,
-    frame: &Frame,
-    out: &mut W,
-) -> Result<(), Cut>
-    ensures { OnOk result (PassesOn (W.contents out.old) (string_bytes text.old) (W.contents out.new) (string_bytes text.new) (panel_start place.now ++ name_start pen.now frame.now)) }
-{
-    make_room(text, out)?;
-    match push_before_name(text, place, pen, frame) {
-        Ok(()) => Ok(()),
-        Err(_) => Err(Cut),
+    #[tactic(auto, unfolding(crate::specs::Panels::note))]
+    fn fmt<W: fmt::Write>(&self, f: &mut Formatter<W>) -> fmt::Result {
+        write_drawn(f, self.scene)?;
+        write_lacking(f, self.pen, ring_count(&self.scene.lacks))?;
+        f.write_str("</text>\n")
     }
 }
 
-fn write_out<W: Write>(bytes: &[u8], out: &mut W) -> Result<(), Cut>
-    ensures { OnOk result (Appends (W.contents out.old) (W.contents out.new) bytes.now) }
-{
-    match out.write_all(bytes) {
-        Ok(()) => Ok(()),
-        Err(_) => Err(Cut),
+/// The contents of a panel: pads, crosses, holes and findings.
+#[derive(Clone, Copy)]
+struct Contents<'a> {
+    pen: &'a Pen,
+    scene: &'a Scene<'a>,
+}
+
+impl Display for Contents<'_> {
+    ghost output = { λ all. Some (scene_text all.pen.now all.scene.now.pads.items all.scene.now.crosses.items all.scene.now.holes.now all.scene.now.lacks.items) };
+
+    fn fmt<W: fmt::Write>(&self, f: &mut Formatter<W>) -> fmt::Result {
+        let (pen, scene) = (self.pen, self.scene);
+        let pads = Paths(&scene.pads);
+        let crosses = Crosses {
+            pen,
+            points: &scene.crosses,
+        };
+        let holes = Lines {
+            page: pen,
+            lines: scene.holes,
+        };
+        let findings = Findings {
+            pen,
+            lacks: &scene.lacks,
+        };
+        write!(f, "{pads}{crosses}{holes}{findings}")
     }
 }
 
-/// Writes the gathered bytes, and then some more.
-fn write_bytes<W: Write>(text: &mut String, bytes: &[u8], out: &mut W) -> Result<(), Cut>
-    ensures { OnOk result (PassesOn (W.contents out.old) (string_bytes text.old) (W.contents out.new) (string_bytes text.new) bytes.now) }
-{
-    pass_on(text, out)?;
-    write_out(bytes, out)
+/// What stands in a panel to the end of its name.
+#[derive(Clone, Copy)]
+struct PanelHead<'a> {
+    place: &'a Place<'a>,
+    frame: &'a Frame,
+    pen: &'a Pen,
 }
 
-/// Writes the gathered bytes, and then a name that is escaped in `room`.
-fn write_name<W: Write>(
-    text: &mut String,
-    room: &mut Vec<u8>,
-    name: &str,
-    out: &mut W,
-) -> Result<(), Cut>
-    ensures { OnOk result (PassesOn (W.contents out.old) (string_bytes text.old) (W.contents out.new) (string_bytes text.new) (escaped name.now)) }
-{
-    match escape(room, name.as_bytes()) {
-        Ok(()) => write_bytes(text, room, out),
-        Err(_) => Err(Cut),
+impl Display for PanelHead<'_> {
+    ghost output = { λ head. Some ((panel_start head.place.now ++ name_start head.pen.now head.frame.now) ++ escaped head.place.now.name.now) };
+
+    fn fmt<W: fmt::Write>(&self, f: &mut Formatter<W>) -> fmt::Result {
+        let (place, frame, pen) = (self.place, self.frame, self.pen);
+        let start = TextStart {
+            pen,
+            words: "<text class=\"name\" transform=\"translate(",
+            x: frame.left,
+            y: above(frame, pen.unit * 5 / 2),
+        };
+        write!(f, "{}{start}{}", PanelStart(place), Escaped(place.name))
     }
 }
 
-/// Gathers the text after a panel's name.
-fn gather_behind_name<W: Write>(
-    text: &mut String,
-    pen: &Pen,
-    frame: &Frame,
-    scene: &Scene,
-    out: &mut W,
-) -> Result<(), Cut>
-    ensures { OnOk result (PassesOn (W.contents out.old) (string_bytes text.old) (W.contents out.new) (string_bytes text.new) (behind_name pen.now frame.now scene.now)) }
-{
-    make_room(text, out)?;
-    match push_behind_name(text, pen, frame, scene) {
-        Ok(()) => Ok(()),
-        Err(_) => Err(Cut),
+/// What stands in a panel after its name: the note and the box.
+#[derive(Clone, Copy)]
+struct AfterName<'a> {
+    frame: &'a Frame,
+    pen: &'a Pen,
+    scene: &'a Scene<'a>,
+}
+
+impl Display for AfterName<'_> {
+    ghost output = { λ rest. Some (behind_name rest.pen.now rest.frame.now rest.scene.now) };
+
+    fn fmt<W: fmt::Write>(&self, f: &mut Formatter<W>) -> fmt::Result {
+        let (frame, pen, scene) = (self.frame, self.pen, self.scene);
+        let start = TextStart {
+            pen,
+            words: "<text class=\"note\" transform=\"translate(",
+            x: frame.left,
+            y: above(frame, pen.unit * 4 / 5),
+        };
+        let note = Note { pen, scene };
+        write!(f, "</text>\n{start}{note}{}", BoardBox(frame))
     }
 }
 
-fn gather_words<W: Write>(text: &mut String, words: &str, out: &mut W) -> Result<(), Cut>
-    ensures { OnOk result (PassesOn (W.contents out.old) (string_bytes text.old) (W.contents out.new) (string_bytes text.new) words.now) }
-{
-    make_room(text, out)?;
-    match push_words(text, words) {
-        Ok(()) => Ok(()),
-        Err(_) => Err(Cut),
+/// The panel of a layer, printed as an element `g` of SVG: its name, a note, the box of the board, and its pads, crosses, holes and
+/// findings. Lengths are printed in millimetres.
+#[derive(Clone, Copy)]
+pub struct Panel<'a> {
+    /// The file, and the place of the panel on the page.
+    pub place: &'a Place<'a>,
+    /// The box of the board.
+    pub frame: &'a Frame,
+    /// The unit and the required ring.
+    pub pen: &'a Pen,
+    /// What stands in the panel.
+    pub scene: &'a Scene<'a>,
+}
+
+impl Display for Panel<'_> {
+    ghost output = { λ panel. Some (panel_text panel.place.now panel.frame.now panel.pen.now panel.scene.now) };
+
+    fn fmt<W: fmt::Write>(&self, f: &mut Formatter<W>) -> fmt::Result {
+        let (place, frame, pen, scene) = (self.place, self.frame, self.pen, self.scene);
+        let head = PanelHead { place, frame, pen };
+        let rest = AfterName { frame, pen, scene };
+        let contents = Contents { pen, scene };
+        write!(f, "{head}{rest}{contents}</g>\n")
     }
-}
-
-/// Gathers one item, as its form draws it.
-fn gather<T, F: Form<T>, W: Write>(
-    text: &mut String,
-    form: &F,
-    pen: &Pen,
-    one: &T,
-    out: &mut W,
-) -> Result<(), Cut>
-    ensures { OnOk result (PassesOn (W.contents out.old) (string_bytes text.old) (W.contents out.new) (string_bytes text.new) (F.written pen.now one.now)) }
-{
-    make_room(text, out)?;
-    match form.push(text, pen, one) {
-        Ok(()) => Ok(()),
-        Err(_) => Err(Cut),
-    }
-}
-
-/// Gathers items one after the other, and writes out what there is no more room for.
-fn gather_all<T, F: Form<T>, W: Write>(
-    text: &mut String,
-    form: &F,
-    pen: &Pen,
-    things: &[T],
-    out: &mut W,
-) -> Result<(), Cut>
-    ensures { OnOk result (PassesOn (W.contents out.old) (string_bytes text.old) (W.contents out.new) (string_bytes text.new) (flat_map (F.written pen.now) things.now)) }
-{
-    for one in things {
-        gather(text, form, pen, one, out)?;
-    }
-    Ok(())
-}
-
-/// Gathers a pad after the pad before, if there is one.
-fn gather_pad<W: Write>(
-    text: &mut String,
-    before: Option<Pad>,
-    pad: &Pad,
-    out: &mut W,
-) -> Result<(), Cut>
-    ensures { OnOk result (PassesOn (W.contents out.old) (string_bytes text.old) (W.contents out.new) (string_bytes text.new) (turn before pad.now ++ outline pad.now)) }
-{
-    make_room(text, out)?;
-    match push_pad(text, before, pad) {
-        Ok(()) => Ok(()),
-        Err(_) => Err(Cut),
-    }
-}
-
-/// Gathers the end of the last path, if there is one.
-fn gather_last_end<W: Write>(text: &mut String, before: Option<Pad>, out: &mut W) -> Result<(), Cut>
-    ensures { OnOk result (PassesOn (W.contents out.old) (string_bytes text.old) (W.contents out.new) (string_bytes text.new) (last_end before)) }
-{
-    make_room(text, out)?;
-    match push_last_end(text, before) {
-        Ok(()) => Ok(()),
-        Err(_) => Err(Cut),
-    }
-}
-
-/// Gathers the paths of all pads.
-fn gather_pads<W: Write>(text: &mut String, pads: &[Pad], out: &mut W) -> Result<(), Cut>
-    ensures { OnOk result (PassesOn (W.contents out.old) (string_bytes text.old) (W.contents out.new) (string_bytes text.new) (pads_behind None pads.now)) }
-{
-    let mut before = None;
-    for pad in pads {
-        gather_pad(text, before, pad, out)?;
-        before = Some(*pad);
-    }
-    gather_last_end(text, before, out)
-}
-
-/// Gathers the start of the path of crosses.
-fn gather_crosses_start<W: Write>(text: &mut String, pen: &Pen, out: &mut W) -> Result<(), Cut>
-    ensures { OnOk result (PassesOn (W.contents out.old) (string_bytes text.old) (W.contents out.new) (string_bytes text.new) (crosses_start pen.now)) }
-{
-    make_room(text, out)?;
-    match push_crosses_start(text, pen) {
-        Ok(()) => Ok(()),
-        Err(_) => Err(Cut),
-    }
-}
-
-/// Gathers the path of some crosses, at least one.
-fn gather_some_crosses<W: Write>(
-    text: &mut String,
-    pen: &Pen,
-    points: &[Point],
-    out: &mut W,
-) -> Result<(), Cut>
-    ensures { OnOk result (PassesOn (W.contents out.old) (string_bytes text.old) (W.contents out.new) (string_bytes text.new) ((crosses_start pen.now ++ flat_map (cross pen.now) points.now) ++ path_end)) }
-{
-    gather_crosses_start(text, pen, out)?;
-    gather_all(text, &Crosses, pen, points, out)?;
-    gather_words(text, "\"/>\n", out)
-}
-
-/// Gathers the path of crosses, if there are any.
-fn gather_crosses<W: Write>(
-    text: &mut String,
-    pen: &Pen,
-    points: &[Point],
-    out: &mut W,
-) -> Result<(), Cut>
-    ensures { OnOk result (PassesOn (W.contents out.old) (string_bytes text.old) (W.contents out.new) (string_bytes text.new) (crosses pen.now points.now)) }
-{
-    if points.is_empty() {
-        return Ok(());
-    }
-    gather_some_crosses(text, pen, points, out)
-}
-
-/// The findings that are marked: the first hundred.
-fn marked(lacks: &[Lack]) -> &[Lack]
-    ensures { result.now ≡ marked lacks.now }
-{
-    if lacks.len() <= MOST_MARKED {
-        return lacks;
-    }
-    &lacks[..MOST_MARKED]
-}
-
-/// Gathers the marks of some findings, then their numbers.
-fn gather_marks<W: Write>(
-    text: &mut String,
-    pen: &Pen,
-    lacks: &[Lack],
-    out: &mut W,
-) -> Result<(), Cut>
-    ensures { OnOk result (PassesOn (W.contents out.old) (string_bytes text.old) (W.contents out.new) (string_bytes text.new) (marks_text pen.now lacks.now)) }
-{
-    gather_all(text, &Marks, pen, lacks, out)?;
-    gather_all(text, &Numbers, pen, lacks, out)
-}
-
-/// Gathers the findings, then marks and numbers.
-fn gather_lacks<W: Write>(
-    text: &mut String,
-    pen: &Pen,
-    lacks: &[Lack],
-    out: &mut W,
-) -> Result<(), Cut>
-    ensures { OnOk result (PassesOn (W.contents out.old) (string_bytes text.old) (W.contents out.new) (string_bytes text.new) (lacks_text pen.now lacks.now)) }
-{
-    let first = marked(lacks);
-    gather_all(text, &Lacks, pen, lacks, out)?;
-    gather_marks(text, pen, first, out)
-}
-
-/// Gathers pads, crosses, holes and findings.
-fn gather_parts<W: Write>(
-    text: &mut String,
-    pen: &Pen,
-    pads: &[Pad],
-    points: &[Point],
-    holes: &[Drilled],
-    lacks: &[Lack],
-    out: &mut W,
-) -> Result<(), Cut>
-    ensures { OnOk result (PassesOn (W.contents out.old) (string_bytes text.old) (W.contents out.new) (string_bytes text.new) (scene_text pen.now pads.now points.now holes.now lacks.now)) }
-{
-    gather_pads(text, pads, out)?;
-    gather_crosses(text, pen, points, out)?;
-    gather_all(text, &Holes, pen, holes, out)?;
-    gather_lacks(text, pen, lacks, out)
-}
-
-/// Gathers the contents of a panel.
-fn gather_scene<W: Write>(
-    text: &mut String,
-    pen: &Pen,
-    scene: &Scene,
-    out: &mut W,
-) -> Result<(), Cut>
-    ensures { OnOk result (PassesOn (W.contents out.old) (string_bytes text.old) (W.contents out.new) (string_bytes text.new) (scene_text pen.now scene.now.pads.items scene.now.crosses.items scene.now.holes.now scene.now.lacks.items)) }
-{
-    gather_parts(
-        text,
-        pen,
-        &scene.pads,
-        &scene.crosses,
-        scene.holes,
-        &scene.lacks,
-        out,
-    )
-}
-
-/// Prints the bytes of `text`, and then the text of a panel. Elements are gathered in `text` and written in parts; the rest stays there
-/// for the next call. The name of the file is escaped in `room`, replacing its contents. No memory is taken where `text` is a
-/// [`buffer`](printing::buffer), and `room` comes from [`name_room`](crate::name_room) with this name among others.
-///
-/// # Errors
-///
-/// [`Cut`] when the writer fails, or when there is no memory for the name or an element.
-pub fn print_panel<W: Write>(
-    text: &mut String,
-    room: &mut Vec<u8>,
-    place: &Place,
-    frame: &Frame,
-    pen: &Pen,
-    scene: &Scene,
-    out: &mut W,
-) -> Result<(), Cut>
-    ensures { OnOk result (PassesOn (W.contents out.old) (string_bytes text.old) (W.contents out.new) (string_bytes text.new) (panel_text place.now frame.now pen.now scene.now)) }
-{
-    gather_before_name(text, place, pen, frame, out)?;
-    write_name(text, room, place.name, out)?;
-    gather_behind_name(text, pen, frame, scene, out)?;
-    gather_scene(text, pen, scene, out)?;
-    gather_words(text, "</g>\n", out)
 }

@@ -1,7 +1,6 @@
 //! Every word has a page that fits a screen.
 
 use explanations::{explanation, words};
-use std::test::Fail as TestFail;
 
 /// Whether a page begins with its word and a colon.
 fn is_headed(page: &str, word: &str) -> bool {
@@ -29,37 +28,57 @@ fn has_page(word: &str) -> bool {
     }
 }
 
+/// Whether a line of the list of words begins with a word that has a page, and a colon.
+fn names_page(line: &str) -> bool {
+    match line.split_once(": ") {
+        Some((word, _)) => has_page(word),
+        None => false,
+    }
+}
+
 #[test]
-fn each_word_has_a_page(rt: HostRuntime) -> Result<(), TestFail> {
+fn each_word_has_a_page(rt: HostRuntime) {
     for line in words().lines() {
-        let (word, _) = line.split_once(": ").ok_or("no colon")?;
-        assert!(rt; has_page(word), "{word}");
+        assert!(rt; names_page(line), "{line}");
     }
-    assert_eq!(rt; words().lines().count(), 46 + 14);
-    Ok(())
 }
 
 #[test]
-fn pages_name_settings(rt: HostRuntime) -> Result<(), TestFail> {
-    for &(word, setting) in &[
-        ("Routed", "use alternate drill mode"),
-        ("ring", "less 0.001 mm"),
-        ("none", "keep pads on all layers"),
-        ("oblique", "OBLIQUE"),
-        ("RING", "What to do"),
-        ("GAP", "What to do"),
-        ("OBLIQUE", "What to do"),
-    ] {
-        let page = explanation(word).ok_or("no page")?;
-        assert!(rt; page.contains(setting), "{word}");
+fn there_are_so_many_words(rt: HostRuntime) {
+    assert!(rt; words().lines().count() == 46 + 14);
+}
+
+/// A word, and a setting that its page names.
+const SETTINGS: [(&str, &str); 7] = [
+    ("Routed", "use alternate drill mode"),
+    ("ring", "less 0.001 mm"),
+    ("none", "keep pads on all layers"),
+    ("oblique", "OBLIQUE"),
+    ("RING", "What to do"),
+    ("GAP", "What to do"),
+    ("OBLIQUE", "What to do"),
+];
+
+/// Whether a word has a page that names this setting.
+fn names_setting(word: &str, setting: &str) -> bool {
+    match explanation(word) {
+        Some(page) => page.contains(setting),
+        None => false,
     }
-    Ok(())
 }
 
 #[test]
-fn other_words_have_none(rt: HostRuntime) -> Result<(), TestFail> {
-    for &word in &["", "routed", "Routed ", "Routed:", "Ring", "gap", "pass"] {
-        assert!(rt; explanation(word).is_none());
+fn pages_name_settings(rt: HostRuntime) {
+    for &(word, setting) in &SETTINGS {
+        assert!(rt; names_setting(word, setting), "{word}");
     }
-    Ok(())
+}
+
+const OTHER_WORDS: [&str; 7] = ["", "routed", "Routed ", "Routed:", "Ring", "gap", "pass"];
+
+#[test]
+fn other_words_have_none(rt: HostRuntime) {
+    for &word in &OTHER_WORDS {
+        assert!(rt; explanation(word).is_none(), "{word}");
+    }
 }

@@ -3,67 +3,88 @@
 use file_hints::*;
 use std::test::Fail;
 
+/// A text, and the kind of file that it is.
+const KINDS: [(&str, Kind); 5] = [
+    ("%FSLAX46Y46*%\nM02*\n", Kind::Gerber),
+    ("M48\r\nT1C0.4\r\n%\r\nT1\r\nX0Y0\r\nM30\r\n", Kind::Drill),
+    ("M30\n", Kind::Empty),
+    ("%\nX0Y0\nM30\n", Kind::Drill),
+    ("role,name,file\n", Kind::Neither),
+];
+
 #[test]
 fn texts_have_their_kinds(rt: HostRuntime) {
-    for &(text, kind) in &[
-        ("%FSLAX46Y46*%\nM02*\n", Kind::Gerber),
-        ("M48\r\nT1C0.4\r\n%\r\nT1\r\nX0Y0\r\nM30\r\n", Kind::Drill),
-        ("M30\n", Kind::Empty),
-        ("%\nX0Y0\nM30\n", Kind::Drill),
-        ("role,name,file\n", Kind::Neither),
-    ] {
-        assert_eq!(rt; kind_of(text.as_bytes()), kind, "of {text}");
+    for &(text, kind) in &KINDS {
+        assert!(rt; kind_of(text.as_bytes()) == kind, "of {text}");
+    }
+}
+
+/// Whether the file function of a text has these fields.
+fn has_fields(text: &[u8], fields: (&[u8], &[u8], &[u8])) -> bool {
+    match function_of(text) {
+        Some(function) => {
+            let found = fields_of(function);
+            (found.first, found.second, found.third) == fields
+        }
+        None => false,
     }
 }
 
 #[test]
 fn the_last_file_function_counts(rt: HostRuntime) {
     let text = b"G04 #@! TF.FileFunction,Legend,Top*\n%TF.FileFunction,Copper,L2,Bot*%\nM02*\n";
-    let Some(function) = function_of(text) else {
-        assert!(rt; false);
-        return;
-    };
-    let fields = fields_of(function);
-    assert_eq!(rt;
-        (fields.first, fields.second, fields.third),
-        (b"Copper".as_slice(), b"L2".as_slice(), b"Bot".as_slice())
-    );
+    assert!(rt; has_fields(text, (b"Copper", b"L2", b"Bot")));
 }
+
+/// Digits, and the number of the layer.
+const NUMBERS: [(&str, Option<u32>); 2] = [("12", Some(12)), ("1234567890", None)];
 
 #[test]
 fn layers_have_numbers_of_at_most_nine_digits(rt: HostRuntime) {
-    for &(digits, number) in &[("12", Some(12)), ("1234567890", None)] {
-        assert_eq!(rt; layer_number(digits.as_bytes()), number, "of {digits}");
+    for &(digits, number) in &NUMBERS {
+        assert!(rt; layer_number(digits.as_bytes()) == number, "of {digits}");
     }
 }
 
 #[test]
-fn names_have_a_short_form_and_a_point(rt: HostRuntime) {
+fn names_have_a_short_form(rt: HostRuntime) {
     assert!(rt; short_name(b"a/b/Board-F_Cu.gbr") == b"Board-F_Cu.gbr".as_slice());
-    for &(name, is_there) in &[("a.b/c.d", true), ("a.b/c", false)] {
-        assert_eq!(rt; has_point(name.as_bytes()), is_there, "of {name}");
+}
+
+/// A name, and whether its short form has a point.
+const POINTS: [(&str, bool); 2] = [("a.b/c.d", true), ("a.b/c", false)];
+
+#[test]
+fn names_have_a_point(rt: HostRuntime) {
+    for &(name, is_there) in &POINTS {
+        assert!(rt; has_point(name.as_bytes()) == is_there, "of {name}");
     }
+}
+
+/// Whether these are the four words of a copper layer in Gerber, the last of them after the point.
+fn are_copper_words(words: &[&[u8]]) -> bool {
+    let stem = stem_of(true, words);
+    words.len() == 4
+        && end_of(true, words) == b"gbr".as_slice()
+        && last_word(stem) == b"f".as_slice()
+        && ends_in_copper(stem)
+        && !names_unplated(words)
 }
 
 #[test]
 fn names_have_words(rt: HostRuntime) -> Result<(), Fail> {
     let lower = lower_name(rt.alloc(), b"a/Board-F_Cu.gbr")?;
     let words = runs(rt.alloc(), lower.as_slice())?;
-    assert_eq!(rt; words.len(), 4);
-    let stem = stem_of(true, words.as_slice());
-    assert_eq!(rt;
-        (end_of(true, words.as_slice()), last_word(stem)),
-        (b"gbr".as_slice(), b"f".as_slice())
-    );
-    assert_eq!(rt;
-        (ends_in_copper(stem), names_unplated(words.as_slice())),
-        (true, false)
-    );
+    assert!(rt; are_copper_words(words.as_slice()));
     Ok(())
 }
 
 #[test]
-fn words_and_lines_are_looked_for(rt: HostRuntime) {
-    assert_eq!(rt; numbered(&["in", "group"], b"group2"), Some(2));
+fn words_have_a_number(rt: HostRuntime) {
+    assert!(rt; numbered(&["in", "group"], b"group2") == Some(2));
+}
+
+#[test]
+fn lines_are_looked_for(rt: HostRuntime) {
     assert!(rt; has_line(b";TYPE=PLATED", b"M48\n;TYPE=PLATED\r\n"));
 }

@@ -1,5 +1,8 @@
+//! Readers that are read up to a limit, and how they fail.
+
 use loading::*;
 use std::io::{Error, ErrorKind, Read, Result as IoResult};
+use std::test::Fail;
 
 /// A reader that gives two bytes, and then fails.
 #[derive(Drop)]
@@ -88,15 +91,22 @@ fn failure<R: Read>(rt: HostRuntime, reader: &mut R, limit: u64) -> Option<ReadF
     read_all(rt.alloc(), reader, limit).err()
 }
 
+/// A text, and a limit that it is within.
+const WITHIN: [(&str, u64); 3] = [("abcd", 4), ("abcd", MAX_LIMIT), ("", 0)];
+
 #[test]
 fn bytes_within_the_limit_are_read(rt: HostRuntime) {
-    for &(text, limit) in &[("abcd", 4), ("abcd", MAX_LIMIT), ("", 0)] {
+    for &(text, limit) in &WITHIN {
         let mut reader = text.as_bytes();
         assert!(rt;
             reads(rt, &mut reader, limit, text.as_bytes()),
             "of {limit}"
         );
     }
+}
+
+#[test]
+fn a_reader_may_be_interrupted(rt: HostRuntime) {
     let mut hesitant = Hesitant {
         bytes: b"abcd",
         gives: false,
@@ -104,49 +114,60 @@ fn bytes_within_the_limit_are_read(rt: HostRuntime) {
     assert!(rt; reads(rt, &mut hesitant, 4, b"abcd"));
 }
 
+/// A text, and a limit that it is above.
+const ABOVE: [(&str, u64); 2] = [("abcd", 3), ("a", 0)];
+
 #[test]
 fn bytes_above_the_limit_are_too_long(rt: HostRuntime) {
-    for &(text, limit) in &[("abcd", 3), ("a", 0)] {
+    for &(text, limit) in &ABOVE {
         let mut reader = text.as_bytes();
-        assert_eq!(rt;
-            failure(rt, &mut reader, limit),
-            Some(ReadFail::TooLong),
+        assert!(rt;
+            failure(rt, &mut reader, limit) == Some(ReadFail::TooLong),
             "of {limit}"
         );
     }
-    let mut endless = Endless { calls: 0 };
-    assert_eq!(rt; failure(rt, &mut endless, 1000), Some(ReadFail::TooLong));
-    assert_eq!(rt; endless.calls, 1001);
 }
 
 #[test]
-fn many_blocks_are_read(rt: HostRuntime) {
-    let Ok(text) = "0123456789".repeat(rt.alloc(), 30_000) else {
-        assert!(rt; false, "memory ran out");
-        return;
-    };
-    let bytes = text.as_bytes();
+fn an_endless_reader_is_left_above_the_limit(rt: HostRuntime) {
+    let mut endless = Endless { calls: 0 };
+    let failed = failure(rt, &mut endless, 1000);
+    assert!(rt; failed == Some(ReadFail::TooLong) && endless.calls == 1001);
+}
+
+/// Whether bytes are read up to their number, and are too long for a limit below it.
+fn are_many_read(rt: HostRuntime, bytes: &[u8]) -> bool {
     let mut reader: &[u8] = bytes;
-    assert!(rt; reads(rt, &mut reader, 300_000, bytes));
+    let is_read = reads(rt, &mut reader, 300_000, bytes);
     let mut reader: &[u8] = bytes;
-    assert_eq!(rt; failure(rt, &mut reader, 299_999), Some(ReadFail::TooLong));
+    is_read && failure(rt, &mut reader, 299_999) == Some(ReadFail::TooLong)
+}
+
+#[test]
+fn many_blocks_are_read(rt: HostRuntime) -> Result<(), Fail> {
+    let text = "0123456789".repeat(rt.alloc(), 30_000)?;
+    assert!(rt; are_many_read(rt, text.as_bytes()));
+    Ok(())
 }
 
 #[test]
 fn a_read_that_fails_is_told(rt: HostRuntime) {
     let mut failing = Failing { calls: 0 };
-    assert_eq!(rt; failure(rt, &mut failing, 4), Some(ReadFail::ReadFault));
-    assert_eq!(rt; failing.calls, 2);
+    let failed = failure(rt, &mut failing, 4);
+    assert!(rt; failed == Some(ReadFail::ReadFault) && failing.calls == 2);
 }
+
+/// A limit, and how often a reader is called that is interrupted each time.
+const CALLS: [(u64, u64); 2] = [(0, 65_536), (1000, 66_536)];
 
 #[test]
 fn reads_are_called_no_more_than_so_often(rt: HostRuntime) {
-    for &(limit, calls) in &[(0, 65_536), (1000, 66_536)] {
+    for &(limit, calls) in &CALLS {
         let mut interrupted = Interrupted { calls: 0 };
-        assert_eq!(rt;
-            failure(rt, &mut interrupted, limit),
-            Some(ReadFail::ReadFault)
+        let failed = failure(rt, &mut interrupted, limit);
+        assert!(rt;
+            failed == Some(ReadFail::ReadFault) && interrupted.calls == calls,
+            "of {limit}"
         );
-        assert_eq!(rt; interrupted.calls, calls);
     }
 }

@@ -146,14 +146,6 @@ fn prints<L: Loader>(
     run(alloc, words, loader, &mut out) == status && out.as_slice() == text.as_bytes()
 }
 
-/// Whether a run with these words ends with this status and what it prints begins with this.
-fn begins(alloc: Global, words: &[&str], status: Status, text: &str) -> bool {
-    let files = &[("m.csv", MANIFEST), ("top.gbr", LAYER), ("pth.drl", DRILL)];
-    let mut out: Vec<u8> = Vec::new(alloc);
-    run(alloc, words, &mut Shelf::new(files), &mut out) == status
-        && out.as_slice().starts_with(text.as_bytes())
-}
-
 const THREE: &str = "role,name,file\ncopper,top,top.gbr\ncopper,bot,bot.gbr\nplated,pth,pth.drl\n";
 
 /// A layer that is refused, as it has no format.

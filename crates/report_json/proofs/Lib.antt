@@ -1,6 +1,5 @@
-pub mod Added
 pub mod Numerals
-pub mod Gathering
-pub mod Whole
+pub mod Escapes
+pub mod Texts
+pub mod Lists
 pub mod Depths
-pub mod Documents

@@ -1,2 +1,2 @@
-pub mod Parts
-pub mod Heads
+pub mod Texts
+pub mod Rests

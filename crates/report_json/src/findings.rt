@@ -1,17 +1,67 @@
-//! The JSON of findings.
+//! The values of findings.
 
-ghost use Rattle.std.specs.Prelude.{◌≡◌, ◌++◌, codes, OnOk};
-ghost use Rattle.json.specs.Tree.{json_tokens, HasNumbers};
-ghost use Rattle.report_json.specs.Inner.Parts.{member_tokens};
-ghost use Rattle.report_json.specs.Values.{cause_word, flash_of, gap_value, if_there, layer_number, picometres, ring_of, ring_value, whole, why_value, why_word, word};
+ghost use Rattle.std.specs.Prelude.{◌≡◌, Some};
+ghost use Rattle.report_json.specs.Inner.Rests.{ring_rest};
+ghost use Rattle.report_json.specs.Inner.Texts.{more_members, value_text};
+ghost use Rattle.report_json.specs.Values.{cause_word, flash_of, gap_value, if_there, layer_number, members_of, picometres, ring_of, ring_value, whole, why_value, why_word, word};
 ghost use Rattle.report_text.specs.Texts.{lack_of};
 
-use crate::members::{put_begin, put_count_there, put_end, put_length, put_length_there, put_text};
-use crate::values::put_hole;
-use json::Writer;
+use crate::strings::Escaped;
+use crate::values::HoleJson;
 use layer_image::Why;
 use report_text::{GapLack, LayerHead, RingCause, RingLack, lack_of};
-use std::alloc::AllocError;
+use std::fmt;
+use std::fmt::{Display, Formatter};
+
+/// The number of a layer's file, by the layer's place among the copper files; null where there is no such layer.
+#[derive(Clone, Copy)]
+struct LayerJson<'a> {
+    layers: &'a [LayerHead],
+    layer: usize,
+}
+
+impl Display for LayerJson<'_> {
+    ghost output = { λ json. Some (value_text (if_there whole (layer_number json.layers.now json.layer))) };
+
+    fn fmt<W: fmt::Write>(&self, f: &mut Formatter<W>) -> fmt::Result {
+        match self.layers.get(self.layer) {
+            Some(head) => write!(f, "{}", head.file as u128 + 1),
+            None => f.write_str("null"),
+        }
+    }
+}
+
+/// The ring of a hole in its best pad in pm, or null.
+#[derive(Clone, Copy)]
+struct HasJson<'a>(&'a RingCause);
+
+impl Display for HasJson<'_> {
+    ghost output = { λ json. Some (value_text (if_there picometres (ring_of json.0.now))) };
+
+    fn fmt<W: fmt::Write>(&self, f: &mut Formatter<W>) -> fmt::Result {
+        match self.0 {
+            RingCause::Small(place) | RingCause::Off(place) => write!(f, "{}", place.ring),
+            RingCause::Other { .. } | RingCause::Nothing | RingCause::Oblique => {
+                f.write_str("null")
+            }
+        }
+    }
+}
+
+/// By how much a ring is lacking in pm, or null.
+#[derive(Clone, Copy)]
+struct LacksJson<'a>(&'a RingCause);
+
+impl Display for LacksJson<'_> {
+    ghost output = { λ json. Some (value_text (if_there picometres (lack_of json.0.now))) };
+
+    fn fmt<W: fmt::Write>(&self, f: &mut Formatter<W>) -> fmt::Result {
+        match lack_of(self.0) {
+            Some(lack) => write!(f, "{lack}"),
+            None => f.write_str("null"),
+        }
+    }
+}
 
 /// The word for the reason why a flash is no pad.
 fn why_word(why: Why) -> &'static str
@@ -39,145 +89,116 @@ fn cause_word(cause: &RingCause) -> &'static str
     }
 }
 
-/// The ring of a hole in its best pad, if it has one, in pm.
-fn ring_of(cause: &RingCause) -> Option<i64>
-    ensures { result ≡ ring_of cause.now }
-{
-    match cause {
-        RingCause::Small(place) | RingCause::Off(place) => Some(place.ring),
-        RingCause::Other { .. } | RingCause::Nothing | RingCause::Oblique => None,
+/// The reason why a hole lacks its ring: `"small"`, `"off"`, `"macro"`, `"none"`.
+#[derive(Clone, Copy)]
+struct CauseJson<'a>(&'a RingCause);
+
+impl Display for CauseJson<'_> {
+    ghost output = { λ json. Some (value_text (word (cause_word json.0.now))) };
+
+    fn fmt<W: fmt::Write>(&self, f: &mut Formatter<W>) -> fmt::Result {
+        write!(f, "\"{}\"", Escaped(cause_word(self.0)))
     }
 }
 
-/// The number of the flash of a hole's best pad, or of the flash that is no pad.
-fn flash_of(cause: &RingCause) -> Option<u128>
-    ensures { result ≡ flash_of cause.now }
-{
-    match cause {
-        RingCause::Small(place) | RingCause::Off(place) => Some(place.flash as u128),
-        RingCause::Other { flash, .. } => Some(*flash as u128),
-        RingCause::Nothing | RingCause::Oblique => None,
+/// The number of the flash of a hole's best pad, or of the flash that is no pad, or null.
+#[derive(Clone, Copy)]
+struct FlashJson<'a>(&'a RingCause);
+
+impl Display for FlashJson<'_> {
+    ghost output = { λ json. Some (value_text (if_there whole (flash_of json.0.now))) };
+
+    fn fmt<W: fmt::Write>(&self, f: &mut Formatter<W>) -> fmt::Result {
+        match self.0 {
+            RingCause::Small(place) | RingCause::Off(place) => write!(f, "{}", place.flash),
+            RingCause::Other { flash, .. } => write!(f, "{flash}"),
+            RingCause::Nothing | RingCause::Oblique => f.write_str("null"),
+        }
     }
 }
 
-/// The number of a layer's file, by the layer's place among the copper files.
-fn layer_number(layers: &[LayerHead], layer: usize) -> Option<u128>
-    ensures { result ≡ layer_number layers.now layer }
-{
-    match layers.get(layer) {
-        Some(head) => Some(head.file as u128 + 1),
-        None => None,
+/// The reason why a finding is accepted, or null.
+#[derive(Clone, Copy)]
+struct WaivedJson<'a>(Option<&'a str>);
+
+impl Display for WaivedJson<'_> {
+    ghost output = { λ json. Some (value_text (why_value json.0)) };
+
+    fn fmt<W: fmt::Write>(&self, f: &mut Formatter<W>) -> fmt::Result {
+        match self.0 {
+            Some(why) => write!(f, "\"{}\"", Escaped(why)),
+            None => f.write_str("null"),
+        }
     }
 }
 
-/// Appends the member `layer`: a number, or null.
-fn put_layer(to: &mut Writer, layers: &[LayerHead], layer: usize) -> Result<(), AllocError>
-    ensures before { to.new.before ≡ to.old.before }
-    ensures tokens { OnOk result (to.new.tokens ≡ to.old.tokens ++ member_tokens (codes "layer") (if_there whole (layer_number layers.now layer))) }
-    ensures numbers { OnOk result (HasNumbers (if_there whole (layer_number layers.now layer))) }
-{
-    put_count_there(to, "layer", layer_number(layers, layer))
+/// The last members of an insufficient ring, from `has_pm` on, with the closing bracket.
+#[derive(Clone, Copy)]
+struct RingRest<'a> {
+    cause: &'a RingCause,
+    why: Option<&'a str>,
 }
 
-/// Appends the member `has_pm` of a ring, or null.
-fn put_ring(to: &mut Writer, cause: &RingCause) -> Result<(), AllocError>
-    ensures before { to.new.before ≡ to.old.before }
-    ensures tokens { OnOk result (to.new.tokens ≡ to.old.tokens ++ member_tokens (codes "has_pm") (if_there picometres (ring_of cause.now))) }
-    ensures numbers { OnOk result (HasNumbers (if_there picometres (ring_of cause.now))) }
-{
-    put_length_there(to, "has_pm", ring_of(cause))
-}
+impl Display for RingRest<'_> {
+    ghost output = { λ rest. Some (more_members (members_of (ring_rest rest.cause.now rest.why))) };
 
-/// Appends the member `lacks_pm` of a ring, or null.
-fn put_lack(to: &mut Writer, cause: &RingCause) -> Result<(), AllocError>
-    ensures before { to.new.before ≡ to.old.before }
-    ensures tokens { OnOk result (to.new.tokens ≡ to.old.tokens ++ member_tokens (codes "lacks_pm") (if_there picometres (lack_of cause.now))) }
-    ensures numbers { OnOk result (HasNumbers (if_there picometres (lack_of cause.now))) }
-{
-    put_length_there(to, "lacks_pm", lack_of(cause))
-}
-
-/// Appends the member `cause`.
-fn put_cause(to: &mut Writer, cause: &RingCause) -> Result<(), AllocError>
-    ensures before { to.new.before ≡ to.old.before }
-    ensures tokens { OnOk result (to.new.tokens ≡ to.old.tokens ++ member_tokens (codes "cause") (word (cause_word cause.now))) }
-{
-    put_text(to, "cause", cause_word(cause))
-}
-
-/// Appends the member `flash`, or null.
-fn put_flash(to: &mut Writer, cause: &RingCause) -> Result<(), AllocError>
-    ensures before { to.new.before ≡ to.old.before }
-    ensures tokens { OnOk result (to.new.tokens ≡ to.old.tokens ++ member_tokens (codes "flash") (if_there whole (flash_of cause.now))) }
-    ensures numbers { OnOk result (HasNumbers (if_there whole (flash_of cause.now))) }
-{
-    put_count_there(to, "flash", flash_of(cause))
-}
-
-/// Appends the members `has_pm` and `lacks_pm` of a gap.
-fn put_gap(to: &mut Writer, lack: &GapLack) -> Result<(), AllocError>
-    ensures before { to.new.before ≡ to.old.before }
-    ensures tokens { OnOk result (to.new.tokens ≡ to.old.tokens ++ (member_tokens (codes "has_pm") (picometres lack.now.gap) ++ member_tokens (codes "lacks_pm") (picometres lack.now.lack))) }
-    ensures gap { OnOk result (HasNumbers (picometres lack.now.gap)) }
-    ensures lack { OnOk result (HasNumbers (picometres lack.now.lack)) }
-{
-    put_length(to, "has_pm", lack.gap)?;
-    put_length(to, "lacks_pm", lack.lack)
-}
-
-/// Appends the member `waived`: the reason why a finding is accepted, or null.
-fn put_waived(to: &mut Writer, why: Option<&str>) -> Result<(), AllocError>
-    ensures before { to.new.before ≡ to.old.before }
-    ensures tokens { OnOk result (to.new.tokens ≡ to.old.tokens ++ member_tokens (codes "waived") (why_value why.entry)) }
-    ensures numbers { OnOk result (HasNumbers (why_value why.entry)) }
-{
-    to.key("waived")?;
-    match why {
-        Some(why) => to.string(why),
-        None => to.null(),
+    #[tactic(auto, unfolding(json::specs::Print::escape_byte))]
+    fn fmt<W: fmt::Write>(&self, f: &mut Formatter<W>) -> fmt::Result {
+        let cause = self.cause;
+        let (has, lacks, flash) = (HasJson(cause), LacksJson(cause), FlashJson(cause));
+        let (cause, waived) = (CauseJson(cause), WaivedJson(self.why));
+        write!(
+            f,
+            r#","has_pm":{has},"lacks_pm":{lacks},"cause":{cause},"flash":{flash},"waived":{waived}}}"#
+        )
     }
 }
 
-/// Appends an insufficient ring on one of these layers, with the reason why it is accepted.
-#[tactic(auto, unfolding(crate::specs::Values::ring_value))]
-pub(crate) fn write_ring(
-    to: &mut Writer,
-    layers: &[LayerHead],
-    lack: &RingLack,
-    why: Option<&str>,
-) -> Result<(), AllocError>
-    ensures before { to.new.before ≡ to.old.before }
-    ensures tokens { OnOk result (to.new.tokens ≡ to.old.tokens ++ json_tokens (ring_value layers.now lack.now why.entry)) }
-    ensures numbers { OnOk result (HasNumbers (ring_value layers.now lack.now why.entry)) }
-{
-    put_begin(to)?;
-    put_text(to, "kind", "ring")?;
-    put_layer(to, layers, lack.layer)?;
-    put_hole(to, "at", &lack.at)?;
-    put_ring(to, &lack.cause)?;
-    put_lack(to, &lack.cause)?;
-    put_cause(to, &lack.cause)?;
-    put_flash(to, &lack.cause)?;
-    put_waived(to, why)?;
-    put_end(to)
+/// An insufficient ring on one of some layers, with the reason why it is accepted:
+/// `{"kind":"ring","layer":1,"at":{..},"has_pm":124999000,"lacks_pm":1000,"cause":"off","flash":1,"waived":"drawn so"}`.
+#[derive(Clone, Copy)]
+pub(crate) struct RingJson<'a> {
+    pub(crate) layers: &'a [LayerHead],
+    pub(crate) lack: &'a RingLack,
+    pub(crate) why: Option<&'a str>,
 }
 
-/// Appends an insufficient gap, with the reason why it is accepted.
-#[tactic(auto, unfolding(crate::specs::Values::gap_value))]
-pub(crate) fn write_gap(
-    to: &mut Writer,
-    lack: &GapLack,
-    why: Option<&str>,
-) -> Result<(), AllocError>
-    ensures before { to.new.before ≡ to.old.before }
-    ensures tokens { OnOk result (to.new.tokens ≡ to.old.tokens ++ json_tokens (gap_value lack.now why.entry)) }
-    ensures numbers { OnOk result (HasNumbers (gap_value lack.now why.entry)) }
-{
-    put_begin(to)?;
-    put_text(to, "kind", "gap")?;
-    put_hole(to, "at", &lack.first)?;
-    put_hole(to, "and", &lack.second)?;
-    put_gap(to, lack)?;
-    put_waived(to, why)?;
-    put_end(to)
+impl Display for RingJson<'_> {
+    ghost output = { λ json. Some (value_text (ring_value json.layers.now json.lack.now json.why)) };
+
+    #[tactic(auto, unfolding(crate::specs::Values::ring_value, json::specs::Print::escape_byte))]
+    fn fmt<W: fmt::Write>(&self, f: &mut Formatter<W>) -> fmt::Result {
+        let (layers, lack) = (self.layers, self.lack);
+        let (layer, cause, why) = (lack.layer, &lack.cause, self.why);
+        let (layer, at) = (LayerJson { layers, layer }, HoleJson(&lack.at));
+        let rest = RingRest { cause, why };
+        write!(f, r#"{{"kind":"ring","layer":{layer},"at":{at}{rest}"#)
+    }
+}
+
+/// An insufficient gap, with the reason why it is accepted:
+/// `{"kind":"gap","at":{..},"and":{..},"has_pm":382301708,"lacks_pm":17698292,"waived":null}`.
+#[derive(Clone, Copy)]
+pub(crate) struct GapJson<'a> {
+    pub(crate) lack: &'a GapLack,
+    pub(crate) why: Option<&'a str>,
+}
+
+impl Display for GapJson<'_> {
+    ghost output = { λ json. Some (value_text (gap_value json.lack.now json.why)) };
+
+    #[tactic(auto, unfolding(crate::specs::Values::gap_value, json::specs::Print::escape_byte))]
+    fn fmt<W: fmt::Write>(&self, f: &mut Formatter<W>) -> fmt::Result {
+        let lack = self.lack;
+        let (at, and, waived) = (
+            HoleJson(&lack.first),
+            HoleJson(&lack.second),
+            WaivedJson(self.why),
+        );
+        write!(
+            f,
+            r#"{{"kind":"gap","at":{at},"and":{and},"has_pm":{},"lacks_pm":{},"waived":{waived}}}"#,
+            lack.gap, lack.lack
+        )
+    }
 }

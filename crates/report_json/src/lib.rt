@@ -3,15 +3,18 @@
 //! All lengths are whole picometres (pm). Files, layers and holes are numbered from 1.
 #![tactic(auto)]
 
+mod arrays;
 mod findings;
 mod found;
 mod measured;
-mod members;
-mod parts;
+mod numbers;
 mod refused;
+mod strings;
 mod values;
 
-pub use found::{print_telling_json, print_waived_json, write_telling_json};
-pub use measured::{print_measure_json, write_measure_json};
-pub use refused::{Stop, refusal_json};
-pub use report_text::PrintFault;
+pub use found::ReportJson;
+pub use measured::MeasureJson;
+pub use refused::Stop;
+
+/// The version of the format.
+const VERSION: u8 = 1;

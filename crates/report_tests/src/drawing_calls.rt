@@ -1,10 +1,11 @@
 //! Pages of small boards, with figures that are worked out by hand: on a board of 75 mm the unit is 1 mm.
 
-use drawing::*;
+use drawing::Drawing;
 use flashed_boards::read_flashed;
 use grid_units::Rules;
 use package_check::{File, Role};
-use picture::{escape, name_room};
+use picture::Escaped;
+use std::alloc::AllocError;
 use std::test::Fail;
 
 /// A square of 75 mm at the origin.
@@ -50,8 +51,8 @@ fn page_of(
     first: (&str, &[u8]),
     second: (&str, &[u8]),
     drill: &[u8],
-    rules: &Option<Rules>,
-) -> Result<Vec<u8>, Fail> {
+    rules: Option<Rules>,
+) -> Result<String, Fail> {
     let files = [
         File {
             role: Role::Copper,
@@ -81,25 +82,22 @@ fn drawn(
     rt: HostRuntime,
     files: &[File],
     names: &[&str],
-    rules: &Option<Rules>,
-) -> Result<Vec<u8>, Fail> {
-    let mut out: Vec<u8> = Vec::new(rt.alloc());
-    match read_flashed(rt.alloc(), files) {
-        Ok(flashed) => match print_drawing(rt.alloc(), names, &flashed, rules, &mut out) {
-            Ok(()) => Ok(out),
-            Err(_) => Err(Fail::from("not printed")),
-        },
-        Err(_) => Err(Fail::from("refused")),
-    }
+    rules: Option<Rules>,
+) -> Result<String, Fail> {
+    let flashed = read_flashed(rt.alloc(), files).ok().ok_or("refused")?;
+    let drawing = Drawing::new(rt.alloc(), names, &flashed, rules)?;
+    Ok(format!(in rt.alloc(); "{drawing}")?)
 }
 
-/// Whether a page contains these words.
-fn has(page: &[u8], words: &str) -> bool {
-    match str::from_utf8(page) {
-        Ok(text) => text.contains(words),
-        Err(_) => false,
-    }
-}
+/// How a page of a square begins, what stands in it, and how it ends.
+const START: &str =
+    "<?xml version=\"1.0\" encoding=\"UTF-8\"?>\n<svg xmlns=\"http://www.w3.org/2000/svg\" font-family=\"sans-serif\" font-size=\"1.25\" width=\"1034\" height=\"1200\" viewBox=\"0 0 81 94\">\n<style>text{fill:#222;font-size:1.25px}";
+
+const MIDDLE: &str =
+    "</style>\n<rect width=\"100%\" height=\"100%\" fill=\"#fff\"/>\n<text class=\"title\" transform=\"translate(3 3) scale(1)\">no rules</text>\n<g class=\"layer\" data-file=\"1\" transform=\"translate(40.5 46.5)\">\n<text class=\"name\" transform=\"translate(-37.5 -40) scale(1)\">top</text>\n<text class=\"note\" transform=\"translate(-37.5 -38.3) scale(1)\">1 pad, 0 other</text>\n<rect class=\"board\" x=\"-37.5\" y=\"-37.5\" width=\"75\" height=\"75\"/>\n<path class=\"pad\" d=\"M-37.5 -37.5h75v75h-75z\"/>\n<circle class=\"plated\" cx=\"0\" cy=\"0\" r=\"5\" stroke-width=\"0.1\"/>\n</g>\n<path class=\"scale\" d=\"M3 87h10\"/>\n<text transform=\"translate(14 87.4) scale(1)\">10 mm</text>\n<g class=\"legend\" font-size=\"1.25\" transform=\"translate(4 90) scale(1)\">\n<circle class=\"pad\" r=\".6\"/>\n<text x=\"1.2\" y=\".4\">pad</text>\n";
+
+const END: &str =
+    "<path class=\"gap\" stroke-width=\".3\" d=\"M28.5 2.5h1\"/>\n<text x=\"30.2\" y=\"2.9\">gap lacking</text>\n</g>\n</svg>\n";
 
 #[test]
 fn a_page_has_a_title_a_panel_a_scale_and_a_legend(rt: HostRuntime) -> Result<(), Fail> {
@@ -117,141 +115,158 @@ fn a_page_has_a_title_a_panel_a_scale_and_a_legend(rt: HostRuntime) -> Result<()
             bytes: HOLE,
         },
     ];
-    let page = drawn(rt, files, &["top", "pth"], &None)?;
-    assert!(rt;
-        page.starts_with(
-            b"<?xml version=\"1.0\" encoding=\"UTF-8\"?>\n<svg xmlns=\"http://www.w3.org/2000/svg\" font-family=\"sans-serif\" font-size=\"1.25\" width=\"1034\" height=\"1200\" viewBox=\"0 0 81 94\">\n<style>text{fill:#222;font-size:1.25px}"
-        )
-    );
-    assert!(rt;
-        has(
-            &page,
-            "</style>\n<rect width=\"100%\" height=\"100%\" fill=\"#fff\"/>\n<text class=\"title\" transform=\"translate(3 3) scale(1)\">no rules</text>\n<g class=\"layer\" data-file=\"1\" transform=\"translate(40.5 46.5)\">\n<text class=\"name\" transform=\"translate(-37.5 -40) scale(1)\">top</text>\n<text class=\"note\" transform=\"translate(-37.5 -38.3) scale(1)\">1 pad, 0 other</text>\n<rect class=\"board\" x=\"-37.5\" y=\"-37.5\" width=\"75\" height=\"75\"/>\n<path class=\"pad\" d=\"M-37.5 -37.5h75v75h-75z\"/>\n<circle class=\"plated\" cx=\"0\" cy=\"0\" r=\"5\" stroke-width=\"0.1\"/>\n</g>\n<path class=\"scale\" d=\"M3 87h10\"/>\n<text transform=\"translate(14 87.4) scale(1)\">10 mm</text>\n<g class=\"legend\" font-size=\"1.25\" transform=\"translate(4 90) scale(1)\">\n<circle class=\"pad\" r=\".6\"/>\n<text x=\"1.2\" y=\".4\">pad</text>\n"
-        )
-    );
-    assert!(rt;
-        page.ends_with(
-            b"<path class=\"gap\" stroke-width=\".3\" d=\"M28.5 2.5h1\"/>\n<text x=\"30.2\" y=\"2.9\">gap lacking</text>\n</g>\n</svg>\n"
-        )
-    );
+    let page = drawn(rt, files, &["top", "pth"], None)?;
+    let is_whole = page.starts_with(START) && page.contains(MIDDLE) && page.ends_with(END);
+    assert!(rt; is_whole);
     Ok(())
 }
 
-#[test]
-fn panels_stand_below_each_other_on_a_wide_board(rt: HostRuntime) -> Result<(), Fail> {
-    let page = page_of(rt, ("a<b>&\"c\"", WIDE), ("bottom", WIDE), SMALL, &rules())?;
-    for &words in &[
-        " viewBox=\"0 0 81 26\">",
-        ">ring 0.2 mm, gap 0.25 mm: 2 findings</text>",
-        "<g class=\"layer\" data-file=\"1\" transform=\"translate(3.5 9.5)\">\n<text class=\"name\" transform=\"translate(-0.5 -3) scale(1)\">a&lt;b&gt;&amp;\"c\"</text>\n<text class=\"note\" transform=\"translate(-0.5 -1.3) scale(1)\">2 pads, 0 other, 1 ring lacking</text>\n",
-        "<g class=\"layer\" data-file=\"3\" transform=\"translate(3.5 15.5)\">\n<text class=\"name\" transform=\"translate(-0.5 -3) scale(1)\">bottom</text>\n",
-        "<text class=\"number\" transform=\"translate(0.77 -0.77) scale(1)\">1</text>\n</g>\n",
-        "<text class=\"number\" transform=\"translate(0.77 -0.77) scale(1)\">2</text>\n</g>\n",
-    ] {
-        assert!(rt; has(&page, words), "{words}");
-    }
-    Ok(())
-}
+/// Two copper files by name and text, a drill file, whether there are rules, and what stands in the page.
+type PageRow = (
+    (&'static str, &'static [u8]),
+    (&'static str, &'static [u8]),
+    &'static [u8],
+    bool,
+    &'static [&'static str],
+);
 
-#[test]
-fn a_ring_is_lacking_in_its_panel_alone(rt: HostRuntime) -> Result<(), Fail> {
-    let page = page_of(rt, ("top", SQUARE), ("bottom", WIDE), SMALL, &rules())?;
-    for &words in &[
-        ">ring 0.2 mm, gap 0.25 mm: 1 finding</text>",
-        ">1 pad, 0 other, 0 rings lacking</text>",
-        ">2 pads, 0 other, 1 ring lacking</text>",
-    ] {
-        assert!(rt; has(&page, words), "{words}");
-    }
-    Ok(())
-}
-
-#[test]
-fn a_board_that_passes_says_so(rt: HostRuntime) -> Result<(), Fail> {
-    let page = page_of(rt, ("top", SQUARE), ("bottom", SQUARE), SMALL, &rules())?;
-    assert!(rt; has(&page, ">ring 0.2 mm, gap 0.25 mm: PASS</text>"));
-    Ok(())
-}
-
-#[test]
-fn a_crowded_panel_has_its_box_alone(rt: HostRuntime) -> Result<(), Fail> {
-    let page = page_of(rt, ("top", MANY), ("bottom", WIDE), SMALL, &None)?;
-    assert!(rt;
-        has(
-            &page,
-            ">more than 100000 flashes and holes</text>\n<rect class=\"board\" x=\"-0.5\" y=\"-100.5\" width=\"1000\" height=\"101\"/>\n</g>\n"
-        )
-    );
-    assert!(rt; has(&page, ">2 pads, 0 other</text>"));
-    Ok(())
-}
-
-#[test]
-fn where_there_is_nothing_the_box_is_a_square_millimetre(rt: HostRuntime) -> Result<(), Fail> {
-    let page = page_of(rt, ("top", NOTHING), ("bottom", NOTHING), NO_HOLE, &rules())?;
-    assert!(rt;
-        has(
-            &page,
-            "<rect class=\"board\" x=\"0\" y=\"-1\" width=\"1\" height=\"1\"/>\n</g>\n"
-        )
-    );
-    assert!(rt; has(&page, "h0.2\"/>\n"));
-    Ok(())
-}
-
-#[test]
-fn where_there_are_other_flashes_alone_the_box_is_theirs(rt: HostRuntime) -> Result<(), Fail> {
-    for &(top, bottom, words) in &[
-        (
-            NOTHING,
-            MACRO,
+const PAGES: [PageRow; 9] = [
+    // A wide board has its panels below each other.
+    (
+        ("a<b>&\"c\"", WIDE),
+        ("bottom", WIDE),
+        SMALL,
+        true,
+        &[
+            " viewBox=\"0 0 81 26\">",
+            ">ring 0.2 mm, gap 0.25 mm: 2 findings</text>",
+            "<g class=\"layer\" data-file=\"1\" transform=\"translate(3.5 9.5)\">\n<text class=\"name\" transform=\"translate(-0.5 -3) scale(1)\">a&lt;b&gt;&amp;\"c\"</text>\n<text class=\"note\" transform=\"translate(-0.5 -1.3) scale(1)\">2 pads, 0 other, 1 ring lacking</text>\n",
+            "<g class=\"layer\" data-file=\"3\" transform=\"translate(3.5 15.5)\">\n<text class=\"name\" transform=\"translate(-0.5 -3) scale(1)\">bottom</text>\n",
+            "<text class=\"number\" transform=\"translate(0.77 -0.77) scale(1)\">1</text>\n</g>\n",
+            "<text class=\"number\" transform=\"translate(0.77 -0.77) scale(1)\">2</text>\n</g>\n",
+        ],
+    ),
+    // A ring is lacking in its panel alone.
+    (
+        ("top", SQUARE),
+        ("bottom", WIDE),
+        SMALL,
+        true,
+        &[
+            ">ring 0.2 mm, gap 0.25 mm: 1 finding</text>",
+            ">1 pad, 0 other, 0 rings lacking</text>",
+            ">2 pads, 0 other, 1 ring lacking</text>",
+        ],
+    ),
+    // A board that passes says so.
+    (
+        ("top", SQUARE),
+        ("bottom", SQUARE),
+        SMALL,
+        true,
+        &[">ring 0.2 mm, gap 0.25 mm: PASS</text>"],
+    ),
+    // A crowded panel has its box alone.
+    (
+        ("top", MANY),
+        ("bottom", WIDE),
+        SMALL,
+        false,
+        &[
+            ">more than 100000 flashes and holes</text>\n<rect class=\"board\" x=\"-0.5\" y=\"-100.5\" width=\"1000\" height=\"101\"/>\n</g>\n",
+            ">2 pads, 0 other</text>",
+        ],
+    ),
+    // Where there is nothing, the box is a square millimetre.
+    (
+        ("top", NOTHING),
+        ("bottom", NOTHING),
+        NO_HOLE,
+        true,
+        &[
+            "<rect class=\"board\" x=\"0\" y=\"-1\" width=\"1\" height=\"1\"/>\n</g>\n",
+            "h0.2\"/>\n",
+        ],
+    ),
+    // Where there are other flashes alone, the box is theirs.
+    (
+        ("top", NOTHING),
+        ("bottom", MACRO),
+        NO_HOLE,
+        false,
+        &[
             "<rect class=\"board\" x=\"-0.5\" y=\"-0.5\" width=\"1\" height=\"1\"/>\n<path class=\"other\"",
-        ),
-        (
-            MACRO,
-            MACROS,
+        ],
+    ),
+    (
+        ("top", MACRO),
+        ("bottom", MACROS),
+        NO_HOLE,
+        false,
+        &[
             ">0 pads, 1 other</text>\n<rect class=\"board\" x=\"-0.5\" y=\"-2.5\" width=\"11\" height=\"3\"/>\n<path class=\"other\"",
-        ),
-        (
-            WIDE,
-            MACROS,
+        ],
+    ),
+    (
+        ("top", WIDE),
+        ("bottom", MACROS),
+        NO_HOLE,
+        false,
+        &[
             ">0 pads, 2 other</text>\n<rect class=\"board\" x=\"-0.5\" y=\"-0.5\" width=\"75\" height=\"1\"/>\n<path class=\"other\"",
-        ),
-    ] {
-        let page = page_of(rt, ("top", top), ("bottom", bottom), NO_HOLE, &None)?;
-        assert!(rt; has(&page, words), "{words}");
-    }
-    Ok(())
-}
-
-#[test]
-fn characters_that_xml_forbids_are_replaced(rt: HostRuntime) -> Result<(), Fail> {
-    let page = page_of(
-        rt,
+        ],
+    ),
+    // Characters that XML forbids are replaced.
+    (
         ("a\u{FFFE}b\u{FFFF}", WIDE),
         ("bottom", WIDE),
         NO_HOLE,
-        &None,
-    )?;
-    assert!(rt; has(&page, ">a\u{FFFD}b\u{FFFD}</text>\n"));
+        false,
+        &[">a\u{FFFD}b\u{FFFD}</text>\n"],
+    ),
+];
+
+/// The first of some words that a text lacks.
+fn missing_in<'a>(text: &str, words: &[&'a str]) -> Option<&'a str> {
+    for word in words {
+        if !text.contains(*word) {
+            return Some(*word);
+        }
+    }
+    None
+}
+
+#[test]
+fn pages_have_what_belongs_to_their_boards(rt: HostRuntime) -> Result<(), Fail> {
+    for &(first, second, drill, has_rules, words) in &PAGES {
+        let rules = if has_rules { rules() } else { None };
+        let page = page_of(rt, first, second, drill, rules)?;
+        let missing = missing_in(page.as_str(), words);
+        assert!(rt; missing.is_none(), "{missing:?}");
+    }
     Ok(())
 }
 
-/// Also names that are not UTF-8, which no manifest can have.
+/// Names, and how they stand on a page.
+const NAMES: [(&str, &str); 3] = [
+    ("a<b>&\"c\"", "a&lt;b&gt;&amp;\"c\""),
+    (
+        "\u{FFFE}\u{FFFF}\u{FFFD}\u{FFFF}",
+        "\u{FFFD}\u{FFFD}\u{FFFD}\u{FFFD}",
+    ),
+    ("&&&&&&&&", "&amp;&amp;&amp;&amp;&amp;&amp;&amp;&amp;"),
+];
+
+/// Whether a name stands on a page as this text.
+fn is_escaped(rt: HostRuntime, name: &str, text: &str) -> Result<bool, AllocError> {
+    let escaped = format!(in rt.alloc(); "{}", Escaped(name))?;
+    Ok(escaped.as_str() == text)
+}
+
 #[test]
 fn names_have_entities(rt: HostRuntime) -> Result<(), Fail> {
-    let mut name = name_room(rt.alloc(), &["&", "12345678"])?;
-    let rows: &[(&[u8], &[u8]); 3] = &[
-        (b"a<b>&\"c\"", b"a&lt;b&gt;&amp;\"c\""),
-        (
-            b"\xEF\xBF\xBE\xEF\xBF\xBF\xEF\xBF\xBD\xEF\xBF\xBF\xBF",
-            b"\xEF\xBF\xBD\xEF\xBF\xBD\xEF\xBF\xBD\xEF\xBF\xBD\xBF",
-        ),
-        (b"&&&&&&&&", b"&amp;&amp;&amp;&amp;&amp;&amp;&amp;&amp;"),
-    ];
-    for &(bytes, escaped) in rows {
-        escape(&mut name, bytes)?;
-        assert!(rt; name.as_slice() == escaped);
+    for &(name, text) in &NAMES {
+        assert!(rt; is_escaped(rt, name, text)?, "of {text}");
     }
     Ok(())
 }

@@ -27,8 +27,8 @@ fn flashes_stand_in_the_order_of_the_files(rt: HostRuntime) -> Result<(), Failur
         .iter()
         .map(|flashes| flashes.len())
         .collect(rt.alloc())?;
-    assert_eq!(rt; counts.as_slice(), [0, 2].as_slice());
-    assert_eq!(rt; flashed.board.layers(rt.alloc())?.len(), 1);
+    let layers = flashed.board.layers(rt.alloc())?.len();
+    assert!(rt; counts.as_slice() == [0, 2].as_slice() && layers == 1);
     Ok(())
 }
 

@@ -16,6 +16,8 @@ mod report_json_calls;
 #[cfg(test)]
 mod report_text_calls;
 #[cfg(test)]
+mod rows;
+#[cfg(test)]
 mod telling_calls;
 #[cfg(test)]
 mod waivers_calls;

@@ -1,173 +1,207 @@
 //! Lines with the figures of the worked examples.
 
 use margin_text::*;
+use std::alloc::AllocError;
 use std::test::Fail;
 
-/// Whether the line of a row with these bare holes and this least ring is this one.
-fn is_ring_line(
-    rt: HostRuntime,
-    bare: usize,
-    least: Option<LeastRing>,
-    text: &str,
-) -> Result<bool, Fail> {
-    let line = RingLine {
+/// The rings of 81 holes of 0.3 mm.
+const RING: RingLine = RingLine {
+    layer: 0,
+    drill: 3,
+    diameter: 300_000_000,
+    holes: 81,
+    bare: 0,
+    least: Some(LeastRing {
+        ring: 99_394_596,
+        hole: 68,
+    }),
+};
+
+/// Rings, the least of them above 0, none, and below 0.
+const RINGS: [RingLine; 3] = [
+    RING,
+    RingLine {
         layer: 0,
         drill: 3,
         diameter: 300_000_000,
         holes: 81,
-        bare,
-        least,
-    };
-    let mut written = String::new(rt.alloc());
-    push_ring(&mut written, &line)?;
-    Ok(written.as_str() == text)
-}
+        bare: 81,
+        least: None,
+    },
+    RingLine {
+        layer: 0,
+        drill: 3,
+        diameter: 300_000_000,
+        holes: 81,
+        bare: 0,
+        least: Some(LeastRing {
+            ring: -50_000_000,
+            hole: 1,
+        }),
+    },
+];
 
-#[test]
-fn rings_are_told(rt: HostRuntime) -> Result<(), Fail> {
-    let most = LeastRing {
-        ring: 99_394_596,
-        hole: 68,
-    };
-    let below = LeastRing {
-        ring: -50_000_000,
-        hole: 1,
-    };
-    for (bare, least, text) in [
-        (
-            0,
-            Some(most),
-            "ring layer=1 drill=4 diameter=0.300000000 holes=81 bare=0 least=0.099394596 hole=68\n",
-        ),
-        (
-            81,
-            None,
-            "ring layer=1 drill=4 diameter=0.300000000 holes=81 bare=81 least=none\n",
-        ),
-        (
-            0,
-            Some(below),
-            "ring layer=1 drill=4 diameter=0.300000000 holes=81 bare=0 least=-0.050000000 hole=1\n",
-        ),
-    ] {
-        assert!(rt; is_ring_line(rt, bare, least, text)?, "{text}");
-    }
-    Ok(())
-}
+/// Three bare holes of 0.2 mm.
+const BARE: RingLine = RingLine {
+    layer: 0,
+    drill: 1,
+    diameter: 200_000_000,
+    holes: 3,
+    bare: 3,
+    least: None,
+};
 
-/// The line of the gap between hole 1 of file 3 and hole 47 of file 4.
-fn gap_of(gap: i64) -> GapLine {
-    GapLine {
-        gap,
-        first: HolePlace { drill: 2, hole: 1 },
-        second: HolePlace { drill: 3, hole: 47 },
-    }
-}
+/// A drill file whose coordinates seem to be off by ten.
+const TENTHS: ScaleLine = ScaleLine {
+    drill: 1,
+    bare: 3,
+    factor: Factor::Ten,
+    then: 0,
+};
 
-/// Whether the line of this gap is this one.
-fn is_gap_line(rt: HostRuntime, gap: i64, text: &str) -> Result<bool, Fail> {
-    let mut written = String::new(rt.alloc());
-    push_gap(&mut written, &gap_of(gap))?;
-    Ok(written.as_str() == text)
-}
+/// A drill file for each factor.
+const SCALES: [ScaleLine; 4] = [
+    TENTHS,
+    ScaleLine {
+        drill: 1,
+        bare: 3,
+        factor: Factor::Tenth,
+        then: 0,
+    },
+    ScaleLine {
+        drill: 1,
+        bare: 3,
+        factor: Factor::Inch,
+        then: 0,
+    },
+    ScaleLine {
+        drill: 1,
+        bare: 3,
+        factor: Factor::PerInch,
+        then: 0,
+    },
+];
 
-#[test]
-fn gaps_are_told(rt: HostRuntime) -> Result<(), Fail> {
-    for &(gap, text) in &[
-        (
-            300_000_000,
-            "gap least=0.300000000 drill=3 hole=1 drill=4 hole=47\n",
-        ),
-        (
-            -400_000_000,
-            "gap least=-0.400000000 drill=3 hole=1 drill=4 hole=47\n",
-        ),
-        (
-            28_284_271_247_461,
-            "gap least=28284.271247461 drill=3 hole=1 drill=4 hole=47\n",
-        ),
-    ] {
-        assert!(rt; is_gap_line(rt, gap, text)?, "{text}");
-    }
-    Ok(())
-}
+const ANY: Meets = Meets {
+    ring: Met::Any,
+    gap: Met::Any,
+    held: Met::Any,
+};
 
-#[test]
-fn what_is_met_is_told(rt: HostRuntime) -> Result<(), Fail> {
-    let meets = Meets {
-        ring: Met::None,
-        gap: Met::Most(1_046_051_224),
-        held: Met::Most(275_000_000),
-    };
-    let mut text = String::new(rt.alloc());
-    push_meets(&mut text, &meets)?;
-    let any = Meets {
-        ring: Met::Any,
-        gap: Met::Any,
-        held: Met::Any,
-    };
-    push_meets(&mut text, &any)?;
-    assert_eq!(rt;
-        text.as_str(),
-        "meets ring=none gap=1.046051224 held=0.275000000\nmeets ring=any gap=any held=any\n"
-    );
-    Ok(())
-}
+/// What a package with a bare hole meets.
+const HELD: Meets = Meets {
+    ring: Met::None,
+    gap: Met::Most(1_046_051_224),
+    held: Met::Most(275_000_000),
+};
 
-#[test]
-fn scales_are_told(rt: HostRuntime) -> Result<(), Fail> {
-    let mut text = String::new(rt.alloc());
-    for &factor in &[Factor::Ten, Factor::Tenth, Factor::Inch, Factor::PerInch] {
-        let line = ScaleLine {
-            drill: 1,
-            bare: 3,
-            factor,
-            then: 0,
-        };
-        push_scale(&mut text, &line)?;
-    }
-    assert_eq!(rt;
-        text.as_str(),
+/// What a package without a hole in a pad meets.
+const NO_RING: Meets = Meets {
+    ring: Met::None,
+    gap: Met::Most(600_000_000),
+    held: Met::None,
+};
+
+/// Rings, scales, the gap between hole 1 of file 3 and hole 47 of file 4, what is met, and the text.
+type MeasureRow = (
+    &'static [RingLine],
+    &'static [ScaleLine],
+    Option<i64>,
+    Meets,
+    &'static str,
+);
+
+const MEASURES: [MeasureRow; 7] = [
+    (
+        &RINGS,
+        &[],
+        None,
+        ANY,
+        "ring layer=1 drill=4 diameter=0.300000000 holes=81 bare=0 least=0.099394596 hole=68\n\
+         ring layer=1 drill=4 diameter=0.300000000 holes=81 bare=81 least=none\n\
+         ring layer=1 drill=4 diameter=0.300000000 holes=81 bare=0 least=-0.050000000 hole=1\n\
+         meets ring=any gap=any held=any\n",
+    ),
+    (
+        &[],
+        &[],
+        Some(300_000_000),
+        ANY,
+        "gap least=0.300000000 drill=3 hole=1 drill=4 hole=47\nmeets ring=any gap=any held=any\n",
+    ),
+    (
+        &[],
+        &[],
+        Some(-400_000_000),
+        ANY,
+        "gap least=-0.400000000 drill=3 hole=1 drill=4 hole=47\nmeets ring=any gap=any held=any\n",
+    ),
+    (
+        &[],
+        &[],
+        Some(28_284_271_247_461),
+        ANY,
+        "gap least=28284.271247461 drill=3 hole=1 drill=4 hole=47\nmeets ring=any gap=any held=any\n",
+    ),
+    (
+        &[],
+        &[],
+        None,
+        HELD,
+        "meets ring=none gap=1.046051224 held=0.275000000\n",
+    ),
+    (
+        &[],
+        &SCALES,
+        None,
+        ANY,
         "scale drill=2 bare=3 factor=10 then=0\n\
          scale drill=2 bare=3 factor=0.1 then=0\n\
          scale drill=2 bare=3 factor=25.4 then=0\n\
-         scale drill=2 bare=3 factor=1/25.4 then=0\n"
-    );
-    Ok(())
+         scale drill=2 bare=3 factor=1/25.4 then=0\n\
+         meets ring=any gap=any held=any\n",
+    ),
+    (
+        &[BARE],
+        &[TENTHS],
+        Some(600_000_000),
+        NO_RING,
+        "ring layer=1 drill=2 diameter=0.200000000 holes=3 bare=3 least=none\n\
+         scale drill=2 bare=3 factor=10 then=0\n\
+         gap least=0.600000000 drill=3 hole=1 drill=4 hole=47\n\
+         meets ring=none gap=0.600000000 held=none\n",
+    ),
+];
+
+/// The measure of a row.
+fn measure_of(row: MeasureRow) -> MeasureText<'static> {
+    let (rings, scales, gap, meets, _) = row;
+    let gap = match gap {
+        Some(gap) => Some(GapLine {
+            gap,
+            first: HolePlace { drill: 2, hole: 1 },
+            second: HolePlace { drill: 3, hole: 47 },
+        }),
+        None => None,
+    };
+    MeasureText {
+        rings,
+        scales,
+        gap,
+        meets,
+    }
+}
+
+/// Whether the measure of a row is printed as its text.
+fn is_printed(rt: HostRuntime, row: MeasureRow) -> Result<bool, AllocError> {
+    let written = format!(in rt.alloc(); "{}", measure_of(row))?;
+    Ok(written.as_str() == row.4)
 }
 
 #[test]
-fn a_measure_is_told_in_order(rt: HostRuntime) -> Result<(), Fail> {
-    let ring = RingLine {
-        layer: 0,
-        drill: 1,
-        diameter: 200_000_000,
-        holes: 3,
-        bare: 3,
-        least: None,
-    };
-    let scale = ScaleLine {
-        drill: 1,
-        bare: 3,
-        factor: Factor::Ten,
-        then: 0,
-    };
-    let meets = Meets {
-        ring: Met::None,
-        gap: Met::Most(600_000_000),
-        held: Met::None,
-    };
-    let text = write_measure(
-        rt.alloc(),
-        &[ring],
-        &[scale],
-        Some(gap_of(600_000_000)),
-        &meets,
-    )?;
-    let expected = "ring layer=1 drill=2 diameter=0.200000000 holes=3 bare=3 least=none\n\
-                    scale drill=2 bare=3 factor=10 then=0\n\
-                    gap least=0.600000000 drill=3 hole=1 drill=4 hole=47\n\
-                    meets ring=none gap=0.600000000 held=none\n";
-    assert!(rt; text.as_slice() == expected.as_bytes());
+fn measures_are_printed_in_order(rt: HostRuntime) -> Result<(), Fail> {
+    for row in &MEASURES {
+        assert!(rt; is_printed(rt, *row)?, "{}", row.4);
+    }
     Ok(())
 }

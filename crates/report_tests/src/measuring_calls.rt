@@ -3,7 +3,7 @@
 mod made;
 
 use grid_units::{Fault, Reason, Rules};
-use margin_text::{Factor, GapLine, HolePlace, LeastRing, RingLine, ScaleLine};
+use margin_text::{Factor, GapLine, HolePlace, LeastRing, Meets, RingLine, ScaleLine};
 use margins::{Best, Met};
 use measuring::{filled_files, measure_bytes, measure_with_bests, place_among, place_of};
 use package_check::{File, PackageFault, Role, check_bytes, read_package};
@@ -91,45 +91,59 @@ fn agrees_on_rings(alloc: Global, files: &[File], ring: Met) -> Option<bool> {
     }
 }
 
+/// The rules that a layer and a plated drill file meet, and their least gap.
+fn measured(
+    alloc: Global,
+    layer: &[u8],
+    drill: &[u8],
+) -> Result<(Meets, Option<GapLine>), Failure> {
+    let files = files(layer, drill);
+    let measure = measure_bytes(alloc, &files).ok().ok_or("no measure")?;
+    Ok((measure.meets, measure.gap))
+}
+
+/// A layer, a drill file, and the greatest ring of its one hole.
+const RINGS: [(&[u8], &[u8], Met); 5] = [
+    (SQUARE, HIT, Met::Most(125_000_000)),
+    (MOVED, HIT, Met::Most(124_999_000)),
+    (SMALL, HIT, Met::Most(-50_000_000)),
+    (NO_FLASH, HIT, Met::None),
+    (SQUARE, NO_HIT, Met::Any),
+];
+
 #[test]
 fn rings_of_one_hole(rt: HostRuntime) -> Result<(), Failure> {
     let alloc = rt.alloc();
-    for &(layer, drill, ring) in &[
-        (SQUARE, HIT, Met::Most(125_000_000)),
-        (MOVED, HIT, Met::Most(124_999_000)),
-        (SMALL, HIT, Met::Most(-50_000_000)),
-        (NO_FLASH, HIT, Met::None),
-        (SQUARE, NO_HIT, Met::Any),
-    ] {
-        let files = files(layer, drill);
-        let measure = measure_bytes(alloc, &files).ok().ok_or("no measure")?;
-        assert_eq!(rt; (measure.meets.ring, measure.meets.gap), (ring, Met::Any));
-        assert_eq!(rt; agrees_on_rings(alloc, &files, ring), Some(true));
+    for &(layer, drill, ring) in &RINGS {
+        let (meets, gap) = measured(alloc, layer, drill)?;
+        let agrees = agrees_on_rings(alloc, &files(layer, drill), ring) == Some(true);
+        assert!(rt; (meets.ring, meets.gap) == (ring, Met::Any) && gap.is_none() && agrees);
     }
     Ok(())
 }
 
+/// Whether the check agrees with the greatest ring and gap: it passes under both, and not with 1 pm more of either. A gap below 0 passes
+/// under none.
+fn agrees_on_both(alloc: Global, files: &[File], ring: i64, gap: i64) -> bool {
+    passes(alloc, files, ring, gap.max(1)) == Some(gap > 0)
+        && passes(alloc, files, ring, gap.max(0).saturating_add(1)) == Some(false)
+        && passes(alloc, files, ring.saturating_add(1), gap.max(1)) == Some(false)
+}
+
+/// A layer, a drill file, and the greatest ring and gap of its two holes.
+const BOTH: [(&[u8], &[u8], i64, i64); 3] = [
+    (DISC, TWICE, 125_000_000, -400_000_000),
+    (TWO, NEAR, 300_000_000, 100_000_000),
+    (FOUR, FAR, 385_786_437, 1_014_213_562),
+];
+
 #[test]
 fn gaps_of_two_holes(rt: HostRuntime) -> Result<(), Failure> {
     let alloc = rt.alloc();
-    for &(layer, drill, ring, gap) in &[
-        (DISC, TWICE, 125_000_000, -400_000_000),
-        (TWO, NEAR, 300_000_000, 100_000_000),
-        (FOUR, FAR, 385_786_437, 1_014_213_562),
-    ] {
-        let files = files(layer, drill);
-        let measure = measure_bytes(alloc, &files).ok().ok_or("no measure")?;
-        let meets = measure.meets;
-        assert_eq!(rt; (meets.ring, meets.gap), (Met::Most(ring), Met::Most(gap)));
-        assert_eq!(rt; passes(alloc, &files, ring, gap.max(1)), Some(gap > 0));
-        assert_eq!(rt;
-            passes(alloc, &files, ring, gap.max(0).saturating_add(1)),
-            Some(false)
-        );
-        assert_eq!(rt;
-            passes(alloc, &files, ring.saturating_add(1), gap.max(1)),
-            Some(false)
-        );
+    for &(layer, drill, ring, gap) in &BOTH {
+        let (meets, _) = measured(alloc, layer, drill)?;
+        let are_met = (meets.ring, meets.gap) == (Met::Most(ring), Met::Most(gap));
+        assert!(rt; are_met && agrees_on_both(alloc, &files(layer, drill), ring, gap));
     }
     Ok(())
 }
@@ -148,25 +162,21 @@ fn gap_line(gap: i64, first: (usize, usize), second: (usize, usize)) -> GapLine 
     }
 }
 
+/// A layer, a drill file, and the gap between its first two holes.
+const GAPS: [(&[u8], &[u8], i64); 5] = [
+    (DISC, TWICE, -400_000_000),
+    (TWO, NEAR, 100_000_000),
+    (FOUR, FAR, 1_014_213_562),
+    (FOUR, SLOT, 250_000_000),
+    (DISCS, TENTHS, 600_000_000),
+];
+
 #[test]
 fn lines_of_gaps(rt: HostRuntime) -> Result<(), Failure> {
-    let alloc = rt.alloc();
-    for &(layer, drill, gap) in &[
-        (DISC, TWICE, -400_000_000),
-        (TWO, NEAR, 100_000_000),
-        (FOUR, FAR, 1_014_213_562),
-        (FOUR, SLOT, 250_000_000),
-        (DISCS, TENTHS, 600_000_000),
-    ] {
-        let measure = measure_bytes(alloc, &files(layer, drill))
-            .ok()
-            .ok_or("no measure")?;
-        assert_eq!(rt; measure.gap, Some(gap_line(gap, (1, 1), (1, 2))));
+    for &(layer, drill, gap) in &GAPS {
+        let (_, line) = measured(rt.alloc(), layer, drill)?;
+        assert!(rt; line == Some(gap_line(gap, (1, 1), (1, 2))), "of {gap}");
     }
-    let measure = measure_bytes(alloc, &files(SQUARE, HIT))
-        .ok()
-        .ok_or("no measure")?;
-    assert_eq!(rt; measure.gap, None);
     Ok(())
 }
 
@@ -186,18 +196,26 @@ fn scale_of(
     Ok(measure.scales.first().copied())
 }
 
-/// The scale of a plated file is judged by the pads of the first layer.
-#[test]
-fn a_scale(rt: HostRuntime) -> Result<(), Failure> {
-    let tenth = ScaleLine {
-        drill: 1,
+/// The scale of a plated file, three holes that are bare and have their pads by ten, is judged by the pads of the first layer.
+fn tenth(drill: usize) -> ScaleLine {
+    ScaleLine {
+        drill,
         bare: 3,
         factor: Factor::Ten,
         then: 0,
-    };
-    assert_eq!(rt; scale_of(rt, DISCS, Role::Plated, NO_FLASH)?, Some(tenth));
-    assert_eq!(rt; scale_of(rt, DISCS, Role::Unplated, NO_FLASH)?, None);
-    assert_eq!(rt; scale_of(rt, NO_FLASH, Role::Plated, DISCS)?, None);
+    }
+}
+
+#[test]
+fn a_scale(rt: HostRuntime) -> Result<(), Failure> {
+    for &(first, role, second, is_scaled) in &[
+        (DISCS, Role::Plated, NO_FLASH, true),
+        (DISCS, Role::Unplated, NO_FLASH, false),
+        (NO_FLASH, Role::Plated, DISCS, false),
+    ] {
+        let wanted = is_scaled.then_some(tenth(1));
+        assert!(rt; scale_of(rt, first, role, second)? == wanted);
+    }
     Ok(())
 }
 
@@ -214,17 +232,8 @@ fn scales_of_many_records(rt: HostRuntime) -> Result<(), Failure> {
         file(Role::Plated, "five", TENTHS),
     ];
     let measure = measure_bytes(rt.alloc(), &files).ok().ok_or("no measure")?;
-    let mut scales = measure.scales.iter();
-    for &drill in &[0, 1, 4, 6] {
-        let scale = ScaleLine {
-            drill,
-            bare: 3,
-            factor: Factor::Ten,
-            then: 0,
-        };
-        assert_eq!(rt; scales.next().copied(), Some(scale));
-    }
-    assert_eq!(rt; measure.scales.len(), 4);
+    let wanted = [tenth(0), tenth(1), tenth(4), tenth(6)];
+    assert!(rt; measure.scales.as_slice() == wanted.as_slice());
     Ok(())
 }
 
@@ -238,24 +247,23 @@ fn a_gap_between_files(rt: HostRuntime) -> Result<(), Failure> {
         file(Role::Unplated, "second", two),
     ];
     let measure = measure_bytes(rt.alloc(), &files).ok().ok_or("no measure")?;
-    assert_eq!(rt; measure.gap, Some(gap_line(200_000_000, (0, 2), (2, 2))));
+    assert!(rt; measure.gap == Some(gap_line(200_000_000, (0, 2), (2, 2))));
     Ok(())
 }
 
-/// The greatest ring of the holes that are not bare.
+/// A layer, a drill file, the greatest ring, and that of the holes that are not bare.
+const HELD: [(&[u8], &[u8], Met, Met); 4] = [
+    (FOUR, FAR, Met::Most(385_786_437), Met::Most(385_786_437)),
+    (FOUR, ONE_BARE, Met::None, Met::Most(1_800_000_000)),
+    (DISCS, TENTHS, Met::None, Met::None),
+    (SQUARE, NO_HIT, Met::Any, Met::Any),
+];
+
 #[test]
 fn rings_that_are_held(rt: HostRuntime) -> Result<(), Failure> {
-    let alloc = rt.alloc();
-    for &(layer, drill, ring, held) in &[
-        (FOUR, FAR, Met::Most(385_786_437), Met::Most(385_786_437)),
-        (FOUR, ONE_BARE, Met::None, Met::Most(1_800_000_000)),
-        (DISCS, TENTHS, Met::None, Met::None),
-        (SQUARE, NO_HIT, Met::Any, Met::Any),
-    ] {
-        let measure = measure_bytes(alloc, &files(layer, drill))
-            .ok()
-            .ok_or("no measure")?;
-        assert_eq!(rt; (measure.meets.ring, measure.meets.held), (ring, held));
+    for &(layer, drill, ring, held) in &HELD {
+        let (meets, _) = measured(rt.alloc(), layer, drill)?;
+        assert!(rt; (meets.ring, meets.held) == (ring, held));
     }
     Ok(())
 }
@@ -275,35 +283,39 @@ fn ring_line(diameter: i64, holes: usize, bare: usize, least: Option<(i64, usize
     }
 }
 
+/// A layer, a drill file with holes of 0.4 mm, how many they are, how many of them are bare, and the least ring with its hole.
+const ROWS: [(&[u8], &[u8], usize, usize, Option<(i64, usize)>); 11] = [
+    (SQUARE, HIT, 1, 0, Some((125_000_000, 1))),
+    (MOVED, HIT, 1, 0, Some((124_999_000, 1))),
+    (SMALL, HIT, 1, 0, Some((-50_000_000, 1))),
+    (WIDE, BESIDE, 1, 0, Some((124_999_399, 1))),
+    (PAIR, HIT, 1, 0, Some((0, 1))),
+    (NO_FLASH, HIT, 1, 1, None),
+    (DISC, TWICE, 2, 0, Some((125_000_000, 1))),
+    (TWO, NEAR, 2, 0, Some((300_000_000, 2))),
+    (FOUR, FAR, 2, 0, Some((385_786_437, 2))),
+    (FOUR, ONE_BARE, 2, 1, Some((1_800_000_000, 1))),
+    (DISCS, TENTHS, 3, 3, None),
+];
+
+/// The number of the lines of rings, and the first of them.
+fn first_row(
+    alloc: Global,
+    layer: &[u8],
+    drill: &[u8],
+) -> Result<(usize, Option<RingLine>), Failure> {
+    let files = files(layer, drill);
+    let measure = measure_bytes(alloc, &files).ok().ok_or("no measure")?;
+    Ok((measure.rings.len(), measure.rings.first().copied()))
+}
+
 #[test]
 fn lines_of_rings(rt: HostRuntime) -> Result<(), Failure> {
-    let alloc = rt.alloc();
-    for &(layer, drill, holes, bare, least) in &[
-        (SQUARE, HIT, 1, 0, Some((125_000_000, 1))),
-        (MOVED, HIT, 1, 0, Some((124_999_000, 1))),
-        (SMALL, HIT, 1, 0, Some((-50_000_000, 1))),
-        (WIDE, BESIDE, 1, 0, Some((124_999_399, 1))),
-        (PAIR, HIT, 1, 0, Some((0, 1))),
-        (NO_FLASH, HIT, 1, 1, None),
-        (DISC, TWICE, 2, 0, Some((125_000_000, 1))),
-        (TWO, NEAR, 2, 0, Some((300_000_000, 2))),
-        (FOUR, FAR, 2, 0, Some((385_786_437, 2))),
-        (FOUR, ONE_BARE, 2, 1, Some((1_800_000_000, 1))),
-        (DISCS, TENTHS, 3, 3, None),
-    ] {
-        let measure = measure_bytes(alloc, &files(layer, drill))
-            .ok()
-            .ok_or("no measure")?;
+    for &(layer, drill, holes, bare, least) in &ROWS {
         let line = ring_line(400_000_000, holes, bare, least);
-        assert_eq!(rt;
-            (measure.rings.len(), measure.rings.first().copied()),
-            (1, Some(line))
-        );
+        assert!(rt; first_row(rt.alloc(), layer, drill)? == (1, Some(line)));
     }
-    let measure = measure_bytes(alloc, &files(SQUARE, NO_HIT))
-        .ok()
-        .ok_or("no measure")?;
-    assert_eq!(rt; measure.rings.len(), 0);
+    assert!(rt; first_row(rt.alloc(), SQUARE, NO_HIT)? == (0, None));
     Ok(())
 }
 
@@ -320,35 +332,49 @@ fn seven_files<'a>() -> [File<'a>; 7] {
     ]
 }
 
-/// The lines are in order of layer, drill file and diameter; unplated holes have none.
+/// The layer, the drill file, the diameter, the least ring, and its hole. The lines are in order of layer, drill file and diameter;
+/// unplated holes have none.
+const LINES: [(usize, usize, i64, i64, usize); 9] = [
+    (1, 0, 300_000_000, 750_000_000, 2),
+    (1, 0, 400_000_000, 800_000_000, 1),
+    (1, 4, 400_000_000, 800_000_000, 1),
+    (3, 0, 300_000_000, 75_000_000, 2),
+    (3, 0, 400_000_000, 125_000_000, 1),
+    (3, 4, 400_000_000, 125_000_000, 1),
+    (5, 0, 300_000_000, 1_750_000_000, 2),
+    (5, 0, 400_000_000, 1_800_000_000, 1),
+    (5, 4, 400_000_000, 1_800_000_000, 1),
+];
+
+/// The figures of a line. `None` where it has no least ring.
+fn row_of(line: &RingLine) -> Option<(usize, usize, i64, i64, usize)> {
+    let least = line.least?;
+    Some((
+        line.layer,
+        line.drill,
+        line.diameter,
+        least.ring,
+        least.hole,
+    ))
+}
+
 #[test]
 fn lines_in_their_order(rt: HostRuntime) -> Result<(), Failure> {
     let measure = measure_bytes(rt.alloc(), &seven_files())
         .ok()
         .ok_or("no measure")?;
     let mut lines = measure.rings.iter();
-    for &(layer, drill, diameter, ring, hole) in &[
-        (1, 0, 300_000_000, 750_000_000, 2),
-        (1, 0, 400_000_000, 800_000_000, 1),
-        (1, 4, 400_000_000, 800_000_000, 1),
-        (3, 0, 300_000_000, 75_000_000, 2),
-        (3, 0, 400_000_000, 125_000_000, 1),
-        (3, 4, 400_000_000, 125_000_000, 1),
-        (5, 0, 300_000_000, 1_750_000_000, 2),
-        (5, 0, 400_000_000, 1_800_000_000, 1),
-        (5, 4, 400_000_000, 1_800_000_000, 1),
-    ] {
+    for &row in &LINES {
         let line = lines.next().ok_or("a line is missing")?;
-        assert_eq!(rt;
-            (line.layer, line.drill, line.diameter),
-            (layer, drill, diameter)
-        );
-        assert_eq!(rt; line.least, Some(LeastRing { ring, hole }));
+        assert!(rt; row_of(line) == Some(row), "of layer {}", row.0);
     }
-    assert_eq!(rt; measure.rings.len(), 9);
-    assert_eq!(rt; measure.gap, Some(gap_line(-400_000_000, (0, 1), (4, 1))));
+    let gap = Some(gap_line(-400_000_000, (0, 1), (4, 1)));
+    assert!(rt; measure.rings.len() == 9 && measure.gap == gap);
     Ok(())
 }
+
+/// The index of the drill file of each hole, and the number of the hole in it.
+const PLACES: [(usize, usize); 5] = [(0, 1), (0, 2), (4, 1), (6, 1), (6, 2)];
 
 /// `place_among` and `place_of` agree on each hole.
 #[test]
@@ -357,16 +383,14 @@ fn places_of_holes(rt: HostRuntime) -> Result<(), Failure> {
         .ok()
         .ok_or("no board")?;
     let filled = filled_files(rt.alloc(), &board)?;
-    let places = &[(0, 1), (0, 2), (4, 1), (6, 1), (6, 2)];
-    assert_eq!(rt; (filled.len(), board.holes().len()), (3, 5));
+    assert!(rt; (filled.len(), board.holes().len()) == (3, 5));
     for hole in 0..board.holes().len() {
-        let (drill, number) = places.get(hole).copied().unwrap_or((0, 0));
+        let (drill, number) = PLACES.get(hole).copied().unwrap_or((0, 0));
         let place = HolePlace {
             drill,
             hole: number,
         };
-        assert_eq!(rt; place_of(&board, hole), place);
-        assert_eq!(rt; place_among(&filled, hole), place);
+        assert!(rt; place_of(&board, hole) == place && place_among(&filled, hole) == place);
     }
     Ok(())
 }
@@ -377,10 +401,7 @@ fn unplated_holes(rt: HostRuntime) -> Result<(), Failure> {
     let files = files_as(Role::Unplated, SMALL, FAR);
     let measure = measure_bytes(rt.alloc(), &files).ok().ok_or("no measure")?;
     let meets = measure.meets;
-    assert_eq!(rt;
-        (meets.ring, meets.gap),
-        (Met::Any, Met::Most(1_014_213_562))
-    );
+    assert!(rt; (meets.ring, meets.gap) == (Met::Any, Met::Most(1_014_213_562)));
     Ok(())
 }
 
@@ -392,7 +413,7 @@ fn what_is_refused_has_no_measure(rt: HostRuntime) {
         byte: 0,
         reason: Reason::Truncated,
     };
-    assert_eq!(rt; refused, Some(PackageFault::File { index: 0, fault }));
+    assert!(rt; refused == Some(PackageFault::File { index: 0, fault }));
 }
 
 /// The depth of the first hole in the best pad of a layer, by the layer's place.
@@ -412,9 +433,8 @@ fn best_pads_of_each_layer(rt: HostRuntime) -> Result<(), Failure> {
     ];
     let board = read_package(alloc, &files).ok().ok_or("no board")?;
     let (measure, bests) = measure_with_bests(alloc, &board)?;
-    assert_eq!(rt; (measure.rings.len(), bests.len()), (3, 3));
-    assert_eq!(rt; first_depth(&bests, 0), Some(325_000_000));
-    assert_eq!(rt; first_depth(&bests, 1), None);
-    assert_eq!(rt; first_depth(&bests, 2), Some(1_000_000_000));
+    let depths = [0, 1, 2].map(|layer| first_depth(&bests, layer));
+    let wanted = [Some(325_000_000), None, Some(1_000_000_000)];
+    assert!(rt; (measure.rings.len(), bests.len()) == (3, 3) && depths == wanted);
     Ok(())
 }

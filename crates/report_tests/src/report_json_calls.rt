@@ -1,83 +1,72 @@
 //! The JSON of worked examples.
 
-use grid_units::{Fault, Hole, Point, Reason, Rules};
+use crate::rows::{Form, in_pad, slot_at};
+use grid_units::{Fault, Reason, Rules};
 use layer_image::Why;
 use margin_text::{Meets, Met};
 use measuring::measure_board;
 use package_check::{File, FileSum, Role, read_package};
-use pad_shapes::{Disc, Pad};
 use report_json::*;
-use report_text::{GapLack, HoleAt, InPad, LayerHead, RingCause, RingLack, Telling, Whys};
-use std::alloc::Global;
+use report_text::{GapLack, InPad, LayerHead, RingCause, RingLack, Telling, Whys};
+use std::alloc::{AllocError, Global};
 use std::test::Fail;
 
 /// Whether a refusal has this text.
 fn is_refused(rt: HostRuntime, stop: &Stop, text: &str) -> Result<bool, Fail> {
-    Ok(refusal_json(rt.alloc(), stop)?.as_str() == text)
+    let written = format!(in rt.alloc(); "{stop}")?;
+    Ok(written.as_str() == text)
 }
 
-#[test]
-fn refusals_are_told(rt: HostRuntime) -> Result<(), Fail> {
-    let refused = Stop::Refused {
-        index: 0,
-        name: "top",
-        fault: Fault {
-            place: 11,
-            byte: 100,
-            reason: Reason::BadWord,
+/// Why there is no report, and its JSON.
+const STOPS: [(Stop, &str); 6] = [
+    (
+        Stop::Refused {
+            index: 0,
+            name: "top",
+            fault: Fault {
+                place: 11,
+                byte: 100,
+                reason: Reason::BadWord,
+            },
         },
-    };
-    let manifest = Stop::RefusedManifest {
-        place: 3,
-        reason: Reason::BadRole,
-    };
-    let device = Stop::Device {
-        index: 1,
-        name: "pth",
-    };
-    for (stop, text) in [
-        (
-            refused,
-            "{\"format\":\"ringcheck\",\"version\":1,\"result\":\"refused\",\"file\":1,\"name\":\"top\",\"place\":11,\"byte\":100,\"reason\":\"BadWord\"}\n",
-        ),
-        (
-            manifest,
-            "{\"format\":\"ringcheck\",\"version\":1,\"result\":\"refused\",\"place\":3,\"reason\":\"BadRole\"}\n",
-        ),
-        (
-            device,
-            "{\"format\":\"ringcheck\",\"version\":1,\"result\":\"device\",\"file\":2,\"name\":\"pth\"}\n",
-        ),
-        (
-            Stop::ManifestDevice,
-            "{\"format\":\"ringcheck\",\"version\":1,\"result\":\"device\"}\n",
-        ),
-    ] {
+        "{\"format\":\"ringcheck\",\"version\":1,\"result\":\"refused\",\"file\":1,\"name\":\"top\",\"place\":11,\"byte\":100,\"reason\":\"BadWord\"}\n",
+    ),
+    (
+        Stop::RefusedManifest {
+            place: 3,
+            reason: Reason::BadRole,
+        },
+        "{\"format\":\"ringcheck\",\"version\":1,\"result\":\"refused\",\"place\":3,\"reason\":\"BadRole\"}\n",
+    ),
+    (
+        Stop::Device {
+            index: 1,
+            name: "pth",
+        },
+        "{\"format\":\"ringcheck\",\"version\":1,\"result\":\"device\",\"file\":2,\"name\":\"pth\"}\n",
+    ),
+    (
+        Stop::ManifestDevice,
+        "{\"format\":\"ringcheck\",\"version\":1,\"result\":\"device\"}\n",
+    ),
+    (
+        Stop::RefusedWaivers {
+            place: 2,
+            reason: Reason::EmptyName,
+        },
+        "{\"format\":\"ringcheck\",\"version\":1,\"result\":\"refused\",\"waivers\":true,\"place\":2,\"reason\":\"EmptyName\"}\n",
+    ),
+    (
+        Stop::WaiversDevice,
+        "{\"format\":\"ringcheck\",\"version\":1,\"result\":\"device\",\"waivers\":true}\n",
+    ),
+];
+
+#[test]
+fn refusals_are_printed(rt: HostRuntime) -> Result<(), Fail> {
+    for &(stop, text) in &STOPS {
         assert!(rt; is_refused(rt, &stop, text)?, "{text}");
     }
-    Ok(())
-}
-
-#[test]
-fn files_of_waivers_are_told(rt: HostRuntime) -> Result<(), Fail> {
-    let refused = Stop::RefusedWaivers {
-        place: 2,
-        reason: Reason::EmptyName,
-    };
-    assert!(rt;
-        is_refused(
-            rt,
-            &refused,
-            "{\"format\":\"ringcheck\",\"version\":1,\"result\":\"refused\",\"waivers\":true,\"place\":2,\"reason\":\"EmptyName\"}\n"
-        )?
-    );
-    assert!(rt;
-        is_refused(
-            rt,
-            &Stop::WaiversDevice,
-            "{\"format\":\"ringcheck\",\"version\":1,\"result\":\"device\",\"waivers\":true}\n"
-        )?
-    );
     Ok(())
 }
 
@@ -135,15 +124,20 @@ fn is_measured(rt: HostRuntime, layer: &[u8], holes: &[u8], text: &str) -> Resul
     ];
     let board = read_package(alloc, &files).ok().ok_or("no board")?;
     let measure = measure_board(alloc, &board)?;
-    let written = write_measure_json(alloc, &["top", "pth"], &board, &measure)?;
+    let json = MeasureJson {
+        names: &["top", "pth"],
+        board: &board,
+        measure: &measure,
+    };
+    let written = format!(in alloc; "{json}")?;
     let wanted = format!(in alloc;
         "{{\"format\":\"ringcheck\",\"version\":1,\"result\":\"measured\",{text}}}\n"
     )?;
-    Ok(written.as_slice() == wanted.as_bytes())
+    Ok(written.as_str() == wanted.as_str())
 }
 
 #[test]
-fn measures_are_told(rt: HostRuntime) -> Result<(), Fail> {
+fn measures_are_printed(rt: HostRuntime) -> Result<(), Fail> {
     for &(layer, holes, text) in &[
         (
             SQUARE,
@@ -176,26 +170,6 @@ fn measures_are_told(rt: HostRuntime) -> Result<(), Fail> {
     Ok(())
 }
 
-fn point(x: i64, y: i64) -> Result<Point, Fail> {
-    Ok(Point::new(x, y).ok_or("point")?)
-}
-
-/// A hole of a drill file.
-fn hole_at(
-    drill: usize,
-    number: usize,
-    from: (i64, i64),
-    to: (i64, i64),
-    diameter: i64,
-) -> Result<HoleAt, Fail> {
-    let hole = Hole::new(point(from.0, from.1)?, point(to.0, to.1)?, diameter / 2).ok_or("hole")?;
-    Ok(HoleAt {
-        drill,
-        number,
-        hole,
-    })
-}
-
 /// The report without findings on a package of one layer, which meets these rules.
 fn nothing(alloc: Global, ring: i64, gap: i64, meets: Meets) -> Result<Telling, Fail> {
     let mut layers = Vec::new(alloc);
@@ -220,18 +194,39 @@ const NO_RING: Meets = Meets {
 const HEAD: &str =
     "\"rules\":{\"ring_pm\":100000000,\"gap_pm\":250000000},\"meets\":{\"ring_pm\":\"none\",\"gap_pm\":1046051224,\"held_pm\":275000000},\"files\":[{\"number\":1,\"role\":\"copper\",\"name\":\"top_layer\",\"pads\":242,\"other\":3}],\"scales\":[],\"findings\":[";
 
-/// Whether the report has this JSON: the result, and the findings after the head.
-fn is_told(rt: HostRuntime, telling: &Telling, word: &str, findings: &str) -> Result<bool, Fail> {
-    let alloc = rt.alloc();
+/// Whether a report with waivers has this JSON: the result, and the findings after the head.
+fn is_waived_so<'a>(
+    rt: HostRuntime,
+    telling: &'a Telling,
+    whys: &'a Whys<'a>,
+    word: &str,
+    findings: &str,
+) -> Result<bool, AllocError> {
     let files = &[FileSum::Layer {
         pads: 242,
         other: 3,
     }];
-    let written = write_telling_json(alloc, &["top_layer"], files, telling)?;
-    let wanted = format!(in alloc;
+    let json = ReportJson {
+        names: &["top_layer"],
+        files,
+        telling,
+        whys,
+    };
+    let written = format!(in rt.alloc(); "{json}")?;
+    let wanted = format!(in rt.alloc();
         "{{\"format\":\"ringcheck\",\"version\":1,\"result\":\"{word}\",{HEAD}{findings}]}}\n"
     )?;
-    Ok(written.as_slice() == wanted.as_bytes())
+    Ok(written.as_str() == wanted.as_str())
+}
+
+/// Whether a report has this JSON: the result, and the findings after the head.
+fn is_printed(
+    rt: HostRuntime,
+    telling: &Telling,
+    word: &str,
+    findings: &str,
+) -> Result<bool, AllocError> {
+    is_waived_so(rt, telling, &Whys::none(), word, findings)
 }
 
 /// Adds a bare hole in a macro flash to the report.
@@ -239,7 +234,7 @@ fn tell_in_macro(telling: &mut Telling) -> Result<(), Fail> {
     let at = (142_240_000_000, -97_790_000_000);
     telling.rings.push(RingLack {
         layer: 0,
-        at: hole_at(3, 7, at, at, 750_000_000)?,
+        at: slot_at(3, 7, at, at, 750_000_000)?,
         cause: RingCause::Other {
             why: Why::Macro,
             flash: 156,
@@ -252,29 +247,23 @@ const IN_MACRO: &str =
     "{\"kind\":\"ring\",\"layer\":1,\"at\":{\"drill\":4,\"hole\":7,\"from_pm\":[142240000000,-97790000000],\"to_pm\":[142240000000,-97790000000],\"diameter_pm\":750000000},\"has_pm\":null,\"lacks_pm\":null,\"cause\":\"macro\",\"flash\":156,\"waived\":null}";
 
 #[test]
-fn reports_are_told(rt: HostRuntime) -> Result<(), Fail> {
+fn reports_are_printed(rt: HostRuntime) -> Result<(), Fail> {
     let mut telling = nothing(rt.alloc(), 100_000_000, 250_000_000, NO_RING)?;
-    assert!(rt; is_told(rt, &telling, "pass", "")?);
+    assert!(rt; is_printed(rt, &telling, "pass", "")?);
     tell_in_macro(&mut telling)?;
-    assert!(rt; is_told(rt, &telling, "findings", IN_MACRO)?);
+    assert!(rt; is_printed(rt, &telling, "findings", IN_MACRO)?);
     Ok(())
 }
 
 /// A disc at the origin in which a hole has a ring of exactly 0.
 fn in_disc() -> Result<InPad, Fail> {
-    let disc = Disc::new(point(0, 0)?, 200_000_000).ok_or("disc")?;
-    Ok(InPad {
-        flash: 1,
-        pad: Pad::Disc(disc),
-        ring: 0,
-        lack: 100_000_000,
-    })
+    in_pad(1, Form::Disc(200_000_000), (0, 0), 0, 100_000_000)
 }
 
 #[test]
 fn nothing_is_no_zero(rt: HostRuntime) -> Result<(), Fail> {
-    let round = hole_at(1, 1, (0, 0), (0, 0), 400_000_000)?;
-    let slot = hole_at(1, 2, (0, 0), (1_000_000, 2_000_000), 400_000_000)?;
+    let round = slot_at(1, 1, (0, 0), (0, 0), 400_000_000)?;
+    let slot = slot_at(1, 2, (0, 0), (1_000_000, 2_000_000), 400_000_000)?;
     for (at, cause, text) in [
         (
             round,
@@ -307,13 +296,13 @@ fn nothing_is_no_zero(rt: HostRuntime) -> Result<(), Fail> {
         let finding = format!(in rt.alloc();
             "{{\"kind\":\"ring\",\"layer\":1,\"at\":{{\"drill\":2,\"hole\":{number},{text},\"waived\":null}}"
         )?;
-        assert!(rt; is_told(rt, &telling, "findings", finding.as_str())?);
+        assert!(rt; is_printed(rt, &telling, "findings", finding.as_str())?);
     }
     Ok(())
 }
 
 #[test]
-fn a_long_report_is_told(rt: HostRuntime) -> Result<(), Fail> {
+fn a_long_report_is_printed(rt: HostRuntime) -> Result<(), Fail> {
     let alloc = rt.alloc();
     let mut telling = nothing(alloc, 100_000_000, 250_000_000, NO_RING)?;
     let mut findings = String::new(alloc);
@@ -327,23 +316,23 @@ fn a_long_report_is_told(rt: HostRuntime) -> Result<(), Fail> {
         (51_181_000_000, 66_548_000_000),
     );
     telling.gaps.push(GapLack {
-        first: hole_at(2, 213, here, here, 609_600_000)?,
-        second: hole_at(2, 214, there, there, 609_600_000)?,
+        first: slot_at(2, 213, here, here, 609_600_000)?,
+        second: slot_at(2, 214, there, there, 609_600_000)?,
         gap: 382_301_708,
         lack: 1,
     })?;
     findings.push_str(
         "{\"kind\":\"gap\",\"at\":{\"drill\":3,\"hole\":213,\"from_pm\":[50546000000,67310000000],\"to_pm\":[50546000000,67310000000],\"diameter_pm\":609600000},\"and\":{\"drill\":3,\"hole\":214,\"from_pm\":[51181000000,66548000000],\"to_pm\":[51181000000,66548000000],\"diameter_pm\":609600000},\"has_pm\":382301708,\"lacks_pm\":1,\"waived\":null}",
     )?;
-    assert!(rt; is_told(rt, &telling, "findings", findings.as_str())?);
+    assert!(rt; is_printed(rt, &telling, "findings", findings.as_str())?);
     Ok(())
 }
 
 /// Two holes that lack their gap.
 fn close_pair() -> Result<GapLack, Fail> {
     Ok(GapLack {
-        first: hole_at(1, 1, (0, 0), (0, 0), 400_000_000)?,
-        second: hole_at(1, 2, (0, 0), (0, 0), 400_000_000)?,
+        first: slot_at(1, 1, (0, 0), (0, 0), 400_000_000)?,
+        second: slot_at(1, 2, (0, 0), (0, 0), 400_000_000)?,
         gap: -400_000_000,
         lack: 650_000_000,
     })
@@ -356,27 +345,6 @@ const RING: &str =
 const GAP: &str =
     "{\"kind\":\"gap\",\"at\":{\"drill\":2,\"hole\":1,\"from_pm\":[0,0],\"to_pm\":[0,0],\"diameter_pm\":400000000},\"and\":{\"drill\":2,\"hole\":2,\"from_pm\":[0,0],\"to_pm\":[0,0],\"diameter_pm\":400000000},\"has_pm\":-400000000,\"lacks_pm\":650000000,\"waived\":";
 
-/// Whether a report with waivers has this JSON: the result, and the findings after the head.
-fn is_waived_told(
-    rt: HostRuntime,
-    telling: &Telling,
-    whys: &Whys,
-    word: &str,
-    findings: &str,
-) -> Result<bool, Fail> {
-    let alloc = rt.alloc();
-    let files = &[FileSum::Layer {
-        pads: 242,
-        other: 3,
-    }];
-    let mut written: Vec<u8> = Vec::new(alloc);
-    let answer = print_waived_json(alloc, &["top_layer"], files, telling, whys, &mut written);
-    let wanted = format!(in alloc;
-        "{{\"format\":\"ringcheck\",\"version\":1,\"result\":\"{word}\",{HEAD}{findings}]}}\n"
-    )?;
-    Ok(answer.is_ok() && written.as_slice() == wanted.as_bytes())
-}
-
 #[test]
 fn a_waiver_of_nothing_leaves_a_pass(rt: HostRuntime) -> Result<(), Fail> {
     let telling = nothing(rt.alloc(), 100_000_000, 250_000_000, NO_RING)?;
@@ -385,12 +353,12 @@ fn a_waiver_of_nothing_leaves_a_pass(rt: HostRuntime) -> Result<(), Fail> {
         gaps: &[Some("slot")],
         idle: &[8],
     };
-    assert!(rt; is_waived_told(rt, &telling, &whys, "pass", "")?);
+    assert!(rt; is_waived_so(rt, &telling, &whys, "pass", "")?);
     Ok(())
 }
 
 #[test]
-fn waivers_are_told(rt: HostRuntime) -> Result<(), Fail> {
+fn waivers_are_printed(rt: HostRuntime) -> Result<(), Fail> {
     let mut telling = nothing(rt.alloc(), 100_000_000, 250_000_000, NO_RING)?;
     tell_in_macro(&mut telling)?;
     telling.gaps.push(close_pair()?)?;
@@ -423,7 +391,7 @@ fn waivers_are_told(rt: HostRuntime) -> Result<(), Fail> {
     ] {
         let findings = format!(in rt.alloc(); "{RING}{ring}}},{GAP}{gap}}}")?;
         let whys = Whys { rings, gaps, idle };
-        assert!(rt; is_waived_told(rt, &telling, &whys, word, findings.as_str())?);
+        assert!(rt; is_waived_so(rt, &telling, &whys, word, findings.as_str())?);
     }
     Ok(())
 }

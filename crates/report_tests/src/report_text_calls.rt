@@ -1,44 +1,14 @@
 //! Reports with the figures of the worked examples.
 
-use grid_units::{Hole, Point, Rules};
+use crate::rows::{Form, hole_at, in_pad, slot_at};
+use grid_units::Rules;
 use layer_image::Why;
 use margin_text::{Factor, Meets, Met, ScaleLine};
-use pad_shapes::{Disc, Obround, Pad, Rect};
 use report_text::*;
-use std::alloc::Global;
+use std::alloc::{AllocError, Global};
+use std::fmt;
+use std::fmt::Write;
 use std::test::Fail;
-
-fn point(x: i64, y: i64) -> Result<Point, Fail> {
-    Ok(Point::new(x, y).ok_or("point")?)
-}
-
-/// A round hole of a drill file.
-fn hole_at(drill: usize, number: usize, at: (i64, i64), diameter: i64) -> Result<HoleAt, Fail> {
-    let centre = point(at.0, at.1)?;
-    let hole = Hole::new(centre, centre, diameter / 2).ok_or("hole")?;
-    Ok(HoleAt {
-        drill,
-        number,
-        hole,
-    })
-}
-
-/// The figures of a hole in a disc.
-fn in_disc(
-    flash: usize,
-    centre: (i64, i64),
-    radius: i64,
-    ring: i64,
-    lack: i64,
-) -> Result<InPad, Fail> {
-    let disc = Disc::new(point(centre.0, centre.1)?, radius).ok_or("disc")?;
-    Ok(InPad {
-        flash,
-        pad: Pad::Disc(disc),
-        ring,
-        lack,
-    })
-}
 
 /// The report without findings on a package without layers, which meets these rules.
 fn nothing(alloc: Global, ring: i64, gap: i64, meets: Meets) -> Result<Telling, Fail> {
@@ -61,16 +31,28 @@ fn meets(ring: i64, gap: i64) -> Meets {
     }
 }
 
-/// Whether a report on files of these names has this text.
-fn is_told(
+/// The text of a report on files of these names.
+fn text_of(
     rt: HostRuntime,
     names: &[&str],
     telling: &Telling,
-    most: Option<usize>,
+    limit: Option<usize>,
+    whys: &Whys,
+) -> Result<String, AllocError> {
+    let text = ReportText::new(rt.alloc(), names, telling, limit, whys)?;
+    format!(in rt.alloc(); "{text}")
+}
+
+/// Whether a report on files of these names has this text.
+fn is_printed(
+    rt: HostRuntime,
+    names: &[&str],
+    telling: &Telling,
+    limit: Option<usize>,
     text: &str,
-) -> Result<bool, Fail> {
-    let written = write_telling(rt.alloc(), names, telling, most)?;
-    Ok(written.as_slice() == text.as_bytes())
+) -> Result<bool, AllocError> {
+    let written = text_of(rt, names, telling, limit, &Whys::none())?;
+    Ok(written.as_str() == text)
 }
 
 const STICK: [&str; 4] = ["F_Cu", "B_Cu", "StickHub-NPTH", "StickHub-PTH"];
@@ -123,14 +105,15 @@ fn figures_of(index: usize) -> Figures {
 }
 
 #[test]
-fn a_limited_report_is_told(rt: HostRuntime) -> Result<(), Fail> {
+fn a_limited_report_is_printed(rt: HostRuntime) -> Result<(), Fail> {
     let board = meets(99_394_596, 300_000_000);
     let mut telling = nothing(rt.alloc(), 100_000_000, 250_000_000, board)?;
     telling.layers.push(LayerHead { file: 0, asked: 87 })?;
     telling.layers.push(LayerHead { file: 1, asked: 87 })?;
     for index in 0..48 {
         let it = figures_of(index % 24);
-        let place = in_disc(it.flash, it.centre, 250_000_000, it.ring, it.lack)?;
+        let disc = Form::Disc(250_000_000);
+        let place = in_pad(it.flash, disc, it.centre, it.ring, it.lack)?;
         telling.rings.push(RingLack {
             layer: index / 24,
             at: hole_at(3, it.number, it.at, 300_000_000)?,
@@ -149,192 +132,177 @@ fn a_limited_report_is_told(rt: HostRuntime) -> Result<(), Fail> {
         rings lack 0.000001415 to 0.000605404\n\
         this board meets ring 0.099394596, gap 0.3\n\
         FINDINGS 48\n";
-    assert!(rt; is_told(rt, &STICK, &telling, Some(2), text)?);
+    assert!(rt; is_printed(rt, &STICK, &telling, Some(2), text)?);
     Ok(())
 }
 
-/// Whether a report on files of these names begins with these lines.
+/// Whether a report on files of these names begins with these rules, a line, and another.
 fn begins_with(
     rt: HostRuntime,
     names: &[&str],
     telling: &Telling,
-    lines: &[&str],
-) -> Result<bool, Fail> {
-    let mut front: Vec<u8> = Vec::new(rt.alloc());
-    for line in lines {
-        front.extend_from_slice(line.as_bytes())?;
+    first: &str,
+    line: &str,
+) -> Result<bool, AllocError> {
+    let written = text_of(rt, names, telling, None, &Whys::none())?;
+    match written.as_str().strip_prefix(first) {
+        Some(rest) => Ok(rest.starts_with(line)),
+        None => Ok(false),
     }
-    let written = write_telling(rt.alloc(), names, telling, None)?;
-    Ok(written.as_slice().starts_with(front.as_slice()))
 }
 
-/// Whether the line of a single hole that lacks its ring is this one.
-fn is_ring_line(
-    rt: HostRuntime,
-    drill: &str,
-    lacks: &[RingLack],
-    text: &str,
-) -> Result<bool, Fail> {
-    let mut telling = nothing(rt.alloc(), 0, 1, meets(0, 1))?;
-    telling.layers.push(LayerHead { file: 0, asked: 1 })?;
-    telling.rings.extend_from_slice(lacks)?;
-    begins_with(
-        rt,
-        &["top", drill],
-        &telling,
-        &["ring 0, gap 0.000000001\ntop: 1 of 1 rings lacking\n", text],
-    )
+/// Why a hole lacks its ring. For a hole in a pad: the number of its flash, its form and centre, the ring and the lack.
+#[derive(Clone, Copy)]
+enum CauseRow {
+    Small(usize, Form, (i64, i64), i64, i64),
+    Off(usize, Form, (i64, i64), i64, i64),
+    Other(Why, usize),
+    Nothing,
+    Oblique,
 }
 
-#[test]
-fn a_pad_that_is_too_small_is_told(rt: HostRuntime) -> Result<(), Fail> {
-    let at = (50_546_000_000, 67_310_000_000);
-    let small = RingLack {
-        layer: 0,
-        at: hole_at(1, 213, at, 609_600_000)?,
-        cause: RingCause::Small(in_disc(947, at, 203_200_000, -101_600_000, 201_600_000)?),
-    };
-    let text =
-        "  hole 213 of drill, 0.6096 at 50.546,67.31: ring -0.1016, lacks 0.2016, pad too small: flash 947, disc 0.4064x0.4064, hole off by 0,0\n";
-    assert!(rt; is_ring_line(rt, "drill", &[small], text)?);
-    Ok(())
-}
-
-#[test]
-fn a_hole_in_a_macro_flash_is_told(rt: HostRuntime) -> Result<(), Fail> {
-    let bare = RingLack {
-        layer: 0,
-        at: hole_at(1, 7, (142_240_000_000, -97_790_000_000), 750_000_000)?,
-        cause: RingCause::Other {
-            why: Why::Macro,
-            flash: 156,
-        },
-    };
-    let text =
-        "  hole 7 of pic_programmer-PTH, 0.75 at 142.24,-97.79: no ring, only a macro flash: flash 156\n";
-    assert!(rt; is_ring_line(rt, "pic_programmer-PTH", &[bare], text)?);
-    Ok(())
-}
-
-#[test]
-fn a_hole_off_a_centre_is_told(rt: HostRuntime) -> Result<(), Fail> {
-    let square = Rect::new(point(1_000, 0)?, 325_000_000, 325_000_000).ok_or("rect")?;
-    let moved = RingLack {
-        layer: 0,
-        at: hole_at(1, 1, (0, 0), 400_000_000)?,
-        cause: RingCause::Off(InPad {
-            flash: 1,
-            pad: Pad::Rect(square),
-            ring: 124_999_000,
-            lack: 1_000,
-        }),
-    };
-    let text =
-        "  hole 1 of pth, 0.4 at 0,0: ring 0.124999, lacks 0.000001, off centre: flash 1, rect 0.65x0.65, hole off by -0.000001,0\n";
-    assert!(rt; is_ring_line(rt, "pth", &[moved], text)?);
-    Ok(())
-}
-
-#[test]
-fn a_slot_is_told_by_both_ends(rt: HostRuntime) -> Result<(), Fail> {
-    let to = point(2_000_000_000, 1_000_000_000)?;
-    let hole = Hole::new(point(0, 0)?, to, 250_000_000).ok_or("hole")?;
-    let at = HoleAt {
-        drill: 1,
-        number: 3,
-        hole,
-    };
-    for &(cause, text) in &[
-        (
-            RingCause::Oblique,
-            "  hole 3 of pth, 0.5 at 0,0 to 2,1: no ring, oblique slot\n",
-        ),
-        (
-            RingCause::Nothing,
-            "  hole 3 of pth, 0.5 at 0,0 to 2,1: no ring, no pad\n",
-        ),
-    ] {
-        let lack = RingLack {
-            layer: 0,
-            at,
-            cause,
-        };
-        assert!(rt; is_ring_line(rt, "pth", &[lack], text)?, "{text}");
+fn cause_of(row: CauseRow) -> Result<RingCause, Fail> {
+    match row {
+        CauseRow::Small(flash, form, centre, ring, lack) => {
+            Ok(RingCause::Small(in_pad(flash, form, centre, ring, lack)?))
+        }
+        CauseRow::Off(flash, form, centre, ring, lack) => {
+            Ok(RingCause::Off(in_pad(flash, form, centre, ring, lack)?))
+        }
+        CauseRow::Other(why, flash) => Ok(RingCause::Other { why, flash }),
+        CauseRow::Nothing => Ok(RingCause::Nothing),
+        CauseRow::Oblique => Ok(RingCause::Oblique),
     }
-    Ok(())
 }
+
+/// A hole: the name of its file, its number there, its ends and its diameter.
+type HoleRow = (&'static str, usize, (i64, i64), (i64, i64), i64);
 
 /// A slot of 0.5 mm from 0,0 to 2,0.
-fn slot_at() -> Result<HoleAt, Fail> {
-    let hole = Hole::new(point(0, 0)?, point(2_000_000_000, 0)?, 250_000_000).ok_or("hole")?;
-    Ok(HoleAt {
-        drill: 1,
-        number: 1,
-        hole,
-    })
-}
+const SLOT: HoleRow = ("pth", 1, (0, 0), (2_000_000_000, 0), 500_000_000);
 
-/// The insufficient ring of this slot, with a cause.
-fn slot_lack(cause: RingCause) -> Result<RingLack, Fail> {
-    Ok(RingLack {
+/// A slot of 0.5 mm that lies along no axis.
+const OBLIQUE: HoleRow = (
+    "pth",
+    3,
+    (0, 0),
+    (2_000_000_000, 1_000_000_000),
+    500_000_000,
+);
+
+/// Holes that lack their ring, why, and their lines. A slot is off by its middle.
+const LINES: [(HoleRow, CauseRow, &str); 11] = [
+    (
+        (
+            "drill",
+            213,
+            (50_546_000_000, 67_310_000_000),
+            (50_546_000_000, 67_310_000_000),
+            609_600_000,
+        ),
+        CauseRow::Small(
+            947,
+            Form::Disc(203_200_000),
+            (50_546_000_000, 67_310_000_000),
+            -101_600_000,
+            201_600_000,
+        ),
+        "  hole 213 of drill, 0.6096 at 50.546,67.31: ring -0.1016, lacks 0.2016, pad too small: flash 947, disc 0.4064x0.4064, hole off by 0,0\n",
+    ),
+    (
+        (
+            "pic_programmer-PTH",
+            7,
+            (142_240_000_000, -97_790_000_000),
+            (142_240_000_000, -97_790_000_000),
+            750_000_000,
+        ),
+        CauseRow::Other(Why::Macro, 156),
+        "  hole 7 of pic_programmer-PTH, 0.75 at 142.24,-97.79: no ring, only a macro flash: flash 156\n",
+    ),
+    (
+        ("pth", 1, (0, 0), (0, 0), 400_000_000),
+        CauseRow::Off(
+            1,
+            Form::Rect(325_000_000, 325_000_000),
+            (1_000, 0),
+            124_999_000,
+            1_000,
+        ),
+        "  hole 1 of pth, 0.4 at 0,0: ring 0.124999, lacks 0.000001, off centre: flash 1, rect 0.65x0.65, hole off by -0.000001,0\n",
+    ),
+    (
+        OBLIQUE,
+        CauseRow::Oblique,
+        "  hole 3 of pth, 0.5 at 0,0 to 2,1: no ring, oblique slot\n",
+    ),
+    (
+        OBLIQUE,
+        CauseRow::Nothing,
+        "  hole 3 of pth, 0.5 at 0,0 to 2,1: no ring, no pad\n",
+    ),
+    (
+        SLOT,
+        CauseRow::Small(
+            1,
+            Form::Obround(1_370_000_000, 375_000_000),
+            (1_000_000_000, 0),
+            120_000_000,
+            5_000_000,
+        ),
+        "  hole 1 of pth, 0.5 at 0,0 to 2,0: ring 0.12, lacks 0.005, pad too small: flash 1, obround 2.74x0.75, hole off by 0,0\n",
+    ),
+    (
+        SLOT,
+        CauseRow::Off(
+            1,
+            Form::Disc(2_000_000_000),
+            (0, 0),
+            -250_000_000,
+            375_000_000,
+        ),
+        "  hole 1 of pth, 0.5 at 0,0 to 2,0: ring -0.25, lacks 0.375, off centre: flash 1, disc 4x4, hole off by 1,0\n",
+    ),
+    (
+        SLOT,
+        CauseRow::Other(Why::Polygon, 7),
+        "  hole 1 of pth, 0.5 at 0,0 to 2,0: no ring, only a polygon flash: flash 7\n",
+    ),
+    (
+        SLOT,
+        CauseRow::Other(Why::Holed, 7),
+        "  hole 1 of pth, 0.5 at 0,0 to 2,0: no ring, only a holed flash: flash 7\n",
+    ),
+    (
+        SLOT,
+        CauseRow::Other(Why::Scaled, 7),
+        "  hole 1 of pth, 0.5 at 0,0 to 2,0: no ring, only a scaled flash: flash 7\n",
+    ),
+    (
+        SLOT,
+        CauseRow::Other(Why::Turned, 7),
+        "  hole 1 of pth, 0.5 at 0,0 to 2,0: no ring, only a turned flash: flash 7\n",
+    ),
+];
+
+/// Whether the line of a single hole that lacks its ring is this one.
+fn is_ring_line(rt: HostRuntime, hole: HoleRow, cause: CauseRow, text: &str) -> Result<bool, Fail> {
+    let (drill, number, from, to, diameter) = hole;
+    let mut telling = nothing(rt.alloc(), 0, 1, meets(0, 1))?;
+    telling.layers.push(LayerHead { file: 0, asked: 1 })?;
+    telling.rings.push(RingLack {
         layer: 0,
-        at: slot_at()?,
-        cause,
-    })
+        at: slot_at(1, number, from, to, diameter)?,
+        cause: cause_of(cause)?,
+    })?;
+    let first = "ring 0, gap 0.000000001\ntop: 1 of 1 rings lacking\n";
+    Ok(begins_with(rt, &["top", drill], &telling, first, text)?)
 }
 
 #[test]
-fn a_slot_in_a_short_obround_is_told(rt: HostRuntime) -> Result<(), Fail> {
-    let short = Obround::new(point(1_000_000_000, 0)?, 1_370_000_000, 375_000_000);
-    let small = slot_lack(RingCause::Small(InPad {
-        flash: 1,
-        pad: Pad::Obround(short.ok_or("obround")?),
-        ring: 120_000_000,
-        lack: 5_000_000,
-    }))?;
-    let text =
-        "  hole 1 of pth, 0.5 at 0,0 to 2,0: ring 0.12, lacks 0.005, pad too small: flash 1, obround 2.74x0.75, hole off by 0,0\n";
-    assert!(rt; is_ring_line(rt, "pth", &[small], text)?);
-    Ok(())
-}
-
-#[test]
-fn a_slot_is_told_off_by_its_middle(rt: HostRuntime) -> Result<(), Fail> {
-    let place = in_disc(1, (0, 0), 2_000_000_000, -250_000_000, 375_000_000)?;
-    let off = slot_lack(RingCause::Off(place))?;
-    let text =
-        "  hole 1 of pth, 0.5 at 0,0 to 2,0: ring -0.25, lacks 0.375, off centre: flash 1, disc 4x4, hole off by 1,0\n";
-    assert!(rt; is_ring_line(rt, "pth", &[off], text)?);
-    Ok(())
-}
-
-/// Whether the line of a slot in a flash that is no pad is this one.
-fn is_flash_line(rt: HostRuntime, why: Why, text: &str) -> Result<bool, Fail> {
-    let lack = slot_lack(RingCause::Other { why, flash: 7 })?;
-    is_ring_line(rt, "pth", &[lack], text)
-}
-
-#[test]
-fn flashes_that_are_no_pads_are_told(rt: HostRuntime) -> Result<(), Fail> {
-    for &(why, text) in &[
-        (
-            Why::Polygon,
-            "  hole 1 of pth, 0.5 at 0,0 to 2,0: no ring, only a polygon flash: flash 7\n",
-        ),
-        (
-            Why::Holed,
-            "  hole 1 of pth, 0.5 at 0,0 to 2,0: no ring, only a holed flash: flash 7\n",
-        ),
-        (
-            Why::Scaled,
-            "  hole 1 of pth, 0.5 at 0,0 to 2,0: no ring, only a scaled flash: flash 7\n",
-        ),
-        (
-            Why::Turned,
-            "  hole 1 of pth, 0.5 at 0,0 to 2,0: no ring, only a turned flash: flash 7\n",
-        ),
-    ] {
-        assert!(rt; is_flash_line(rt, why, text)?, "{text}");
+fn lines_of_rings_have_their_cause(rt: HostRuntime) -> Result<(), Fail> {
+    for &(hole, cause, text) in &LINES {
+        assert!(rt; is_ring_line(rt, hole, cause, text)?, "{text}");
     }
     Ok(())
 }
@@ -344,16 +312,12 @@ fn is_scale_line(rt: HostRuntime, factor: Factor, text: &str) -> Result<bool, Fa
     let line = ScaleLine { factor, ..TENTH };
     let mut telling = nothing(rt.alloc(), 0, 1, meets(0, 1))?;
     telling.scales.push(line)?;
-    begins_with(
-        rt,
-        &["top", "pth"],
-        &telling,
-        &["ring 0, gap 0.000000001\n0 gaps lacking\n", text],
-    )
+    let first = "ring 0, gap 0.000000001\n0 gaps lacking\n";
+    Ok(begins_with(rt, &["top", "pth"], &telling, first, text)?)
 }
 
 #[test]
-fn factors_are_told(rt: HostRuntime) -> Result<(), Fail> {
+fn factors_are_printed(rt: HostRuntime) -> Result<(), Fail> {
     for &(factor, text) in &[
         (
             Factor::Tenth,
@@ -389,7 +353,7 @@ fn mixed_layers(alloc: Global) -> Result<Telling, Fail> {
 }
 
 #[test]
-fn mixed_layers_are_told_one_by_one(rt: HostRuntime) -> Result<(), Fail> {
+fn mixed_layers_are_printed_one_by_one(rt: HostRuntime) -> Result<(), Fail> {
     let telling = mixed_layers(rt.alloc())?;
     let text = "ring 0.1, gap 0.25\n\
         F_Cu: 2 of 9 rings lacking\n  \
@@ -403,12 +367,12 @@ fn mixed_layers_are_told_one_by_one(rt: HostRuntime) -> Result<(), Fail> {
         5 no pad: no pad reaches the hole's centre: removed or painted pad, plane, other origin or format: see `ringcheck explain none`\n\
         this board meets ring 0, gap 0.25\n\
         FINDINGS 5\n";
-    assert!(rt; is_told(rt, &STICK, &telling, Some(4), text)?);
+    assert!(rt; is_printed(rt, &STICK, &telling, Some(4), text)?);
     Ok(())
 }
 
 #[test]
-fn a_hole_hit_twice_is_told(rt: HostRuntime) -> Result<(), Fail> {
+fn a_hole_hit_twice_is_printed(rt: HostRuntime) -> Result<(), Fail> {
     let mut telling = nothing(
         rt.alloc(),
         125_000_000,
@@ -424,17 +388,17 @@ fn a_hole_hit_twice_is_told(rt: HostRuntime) -> Result<(), Fail> {
     })?;
     let text = "ring 0.125, gap 0.25\n\
         top: 0 of 2 rings lacking\n\
-        1 gaps lacking\n  \
+        1 gap lacking\n  \
         hole 1 of pth, 0.4 at 0,0, and hole 2 of pth, 0.4 at 0,0: gap -0.4, lacks 0.65\n\
         gaps lack 0.65 to 0.65\n\
         this board meets ring 0.125, gap -0.4\n\
         FINDINGS 1\n";
-    assert!(rt; is_told(rt, &["top", "pth"], &telling, None, text)?);
+    assert!(rt; is_printed(rt, &["top", "pth"], &telling, None, text)?);
     Ok(())
 }
 
 #[test]
-fn a_package_that_passes_is_told(rt: HostRuntime) -> Result<(), Fail> {
+fn a_package_that_passes_is_printed(rt: HostRuntime) -> Result<(), Fail> {
     let any = Meets {
         ring: Met::Any,
         gap: Met::Any,
@@ -443,7 +407,7 @@ fn a_package_that_passes_is_told(rt: HostRuntime) -> Result<(), Fail> {
     let telling = nothing(rt.alloc(), 0, 1, any)?;
     let text =
         "ring 0, gap 0.000000001\n0 gaps lacking\nthis board meets ring any, gap any\nPASS\n";
-    assert!(rt; is_told(rt, &[], &telling, Some(0), text)?);
+    assert!(rt; is_printed(rt, &[], &telling, Some(0), text)?);
     Ok(())
 }
 
@@ -478,11 +442,12 @@ fn tell_each_cause(telling: &mut Telling) -> Result<(), Fail> {
             .rings
             .push(unseen(RingCause::Other { why, flash: 1 })?)?;
     }
+    let disc = Form::Disc(250_000_000);
     for cause in [
         RingCause::Oblique,
         RingCause::Nothing,
-        RingCause::Off(in_disc(1, (0, 0), 250_000_000, 100_000_000, 50_000_000)?),
-        RingCause::Small(in_disc(1, (0, 0), 250_000_000, 99_394_596, 50_605_404)?),
+        RingCause::Off(in_pad(1, disc, (0, 0), 100_000_000, 50_000_000)?),
+        RingCause::Small(in_pad(1, disc, (0, 0), 99_394_596, 50_605_404)?),
     ] {
         telling.rings.push(unseen(cause)?)?;
     }
@@ -490,7 +455,7 @@ fn tell_each_cause(telling: &mut Telling) -> Result<(), Fail> {
 }
 
 #[test]
-fn causes_and_scales_are_told(rt: HostRuntime) -> Result<(), Fail> {
+fn causes_and_scales_are_printed(rt: HostRuntime) -> Result<(), Fail> {
     let board = Meets {
         ring: Met::None,
         gap: Met::Most(1_046_051_224),
@@ -514,7 +479,7 @@ fn causes_and_scales_are_told(rt: HostRuntime) -> Result<(), Fail> {
         pth: 3 holes have no pad; at 10 times their coordinates 0 would have none\n\
         this board meets ring none, gap 1.046051224; where a pad is, ring 0.275\n\
         FINDINGS 10\n";
-    assert!(rt; is_told(rt, &["top", "pth"], &telling, None, text)?);
+    assert!(rt; is_printed(rt, &["top", "pth"], &telling, None, text)?);
     Ok(())
 }
 
@@ -555,28 +520,21 @@ fn three_of_each(alloc: Global) -> Result<Telling, Fail> {
     Ok(telling)
 }
 
-/// Whether a report with waivers has this text.
-fn is_waived_told(
-    rt: HostRuntime,
-    telling: &Telling,
-    most: Option<usize>,
-    whys: &Whys,
-    text: &str,
-) -> Result<bool, Fail> {
-    let mut written: Vec<u8> = Vec::new(rt.alloc());
-    let answer = print_waived(rt.alloc(), &HOLED, telling, most, whys, &mut written);
-    Ok(answer.is_ok() && written.as_slice() == text.as_bytes())
-}
+/// Reasons for rings and for gaps, the waivers that waive nothing, a limit, how many findings are waived, and the text.
+type WaivedRow = (Whys<'static>, Option<usize>, u128, &'static str);
 
-#[test]
-fn a_board_whose_findings_are_waived_is_told(rt: HostRuntime) -> Result<(), Fail> {
-    let telling = three_of_each(rt.alloc())?;
-    let whys = Whys {
-        rings: &RINGS,
-        gaps: &GAPS,
-        idle: &[8],
-    };
-    let text = "ring 0.1, gap 0.25\n\
+/// Reports with waivers of three rings and three gaps: all are waived; one is not; a limit cuts among the gaps; and reasons for fewer
+/// findings than there are waive no more.
+const WAIVED: [WaivedRow; 4] = [
+    (
+        Whys {
+            rings: &RINGS,
+            gaps: &GAPS,
+            idle: &[8],
+        },
+        None,
+        6,
+        "ring 0.1, gap 0.25\n\
         top_layer: 3 of 245 rings lacking, 3 waived\n  \
         hole 1 of pth, 0.4 at 0,0: no ring, no pad, waived: milled\n  \
         hole 2 of pth, 0.4 at 0,0: no ring, no pad, waived: milled\n  \
@@ -589,21 +547,17 @@ fn a_board_whose_findings_are_waived_is_told(rt: HostRuntime) -> Result<(), Fail
         gaps lack 0.65 to 0.65\n\
         this board meets ring 0.1, gap -0.4\n\
         waiver 8 waives nothing\n\
-        WAIVED 6\n";
-    assert!(rt; is_waived_told(rt, &telling, None, &whys, text)?);
-    assert_eq!(rt; count_waived(&telling, &whys), 6);
-    Ok(())
-}
-
-#[test]
-fn a_finding_that_is_not_waived_is_counted(rt: HostRuntime) -> Result<(), Fail> {
-    let telling = three_of_each(rt.alloc())?;
-    let whys = Whys {
-        rings: &[Some("milled"), None, Some("by hand")],
-        gaps: &GAPS,
-        idle: &[2, 9],
-    };
-    let text = "ring 0.1, gap 0.25\n\
+        WAIVED 6\n",
+    ),
+    (
+        Whys {
+            rings: &[Some("milled"), None, Some("by hand")],
+            gaps: &GAPS,
+            idle: &[2, 9],
+        },
+        Some(2),
+        5,
+        "ring 0.1, gap 0.25\n\
         top_layer: 3 of 245 rings lacking, 2 waived\n  \
         hole 1 of pth, 0.4 at 0,0: no ring, no pad, waived: milled\n  \
         hole 2 of pth, 0.4 at 0,0: no ring, no pad\n  \
@@ -615,20 +569,17 @@ fn a_finding_that_is_not_waived_is_counted(rt: HostRuntime) -> Result<(), Fail> 
         this board meets ring 0.1, gap -0.4\n\
         waiver 2 waives nothing\n\
         waiver 9 waives nothing\n\
-        FINDINGS 1\n";
-    assert!(rt; is_waived_told(rt, &telling, Some(2), &whys, text)?);
-    Ok(())
-}
-
-#[test]
-fn a_limit_cuts_among_the_gaps(rt: HostRuntime) -> Result<(), Fail> {
-    let telling = three_of_each(rt.alloc())?;
-    let whys = Whys {
-        rings: &RINGS,
-        gaps: &[],
-        idle: &[],
-    };
-    let text = "ring 0.1, gap 0.25\n\
+        FINDINGS 1\n",
+    ),
+    (
+        Whys {
+            rings: &RINGS,
+            gaps: &[],
+            idle: &[],
+        },
+        Some(4),
+        3,
+        "ring 0.1, gap 0.25\n\
         top_layer: 3 of 245 rings lacking, 3 waived\n  \
         hole 1 of pth, 0.4 at 0,0: no ring, no pad, waived: milled\n  \
         hole 2 of pth, 0.4 at 0,0: no ring, no pad, waived: milled\n  \
@@ -639,20 +590,17 @@ fn a_limit_cuts_among_the_gaps(rt: HostRuntime) -> Result<(), Fail> {
         3 no pad: no pad reaches the hole's centre: removed or painted pad, plane, other origin or format: see `ringcheck explain none`\n\
         gaps lack 0.65 to 0.65\n\
         this board meets ring 0.1, gap -0.4\n\
-        FINDINGS 3\n";
-    assert!(rt; is_waived_told(rt, &telling, Some(4), &whys, text)?);
-    Ok(())
-}
-
-#[test]
-fn a_shorter_list_waives_no_more(rt: HostRuntime) -> Result<(), Fail> {
-    let telling = three_of_each(rt.alloc())?;
-    let whys = Whys {
-        rings: &[],
-        gaps: &[None, Some("milled")],
-        idle: &[],
-    };
-    let text = "ring 0.1, gap 0.25\n\
+        FINDINGS 3\n",
+    ),
+    (
+        Whys {
+            rings: &[],
+            gaps: &[None, Some("milled")],
+            idle: &[],
+        },
+        Some(0),
+        1,
+        "ring 0.1, gap 0.25\n\
         top_layer: 3 of 245 rings lacking\n  \
         and 3 more\n\
         3 gaps lacking, 1 waived\n  \
@@ -660,21 +608,87 @@ fn a_shorter_list_waives_no_more(rt: HostRuntime) -> Result<(), Fail> {
         3 no pad: no pad reaches the hole's centre: removed or painted pad, plane, other origin or format: see `ringcheck explain none`\n\
         gaps lack 0.65 to 0.65\n\
         this board meets ring 0.1, gap -0.4\n\
-        FINDINGS 5\n";
-    assert!(rt; is_waived_told(rt, &telling, Some(0), &whys, text)?);
+        FINDINGS 5\n",
+    ),
+];
+
+/// Whether a report with waivers has the text and the count of a row.
+fn is_waived_so(rt: HostRuntime, telling: &Telling, row: &WaivedRow) -> Result<bool, AllocError> {
+    let (whys, limit, waived, text) = row;
+    let written = text_of(rt, &HOLED, telling, *limit, whys)?;
+    Ok(written.as_str() == *text && count_waived(telling, whys) == *waived)
+}
+
+#[test]
+fn reasons_stand_in_the_lines_of_waived_findings(rt: HostRuntime) -> Result<(), Fail> {
+    let telling = three_of_each(rt.alloc())?;
+    for row in &WAIVED {
+        assert!(rt; is_waived_so(rt, &telling, row)?, "{}", row.3);
+    }
     Ok(())
 }
 
 #[test]
 fn a_waiver_that_waives_nothing_leaves_a_pass(rt: HostRuntime) -> Result<(), Fail> {
     let telling = nothing(rt.alloc(), 0, 1, meets(0, 1))?;
-    let whys = Whys {
+    let row = &(
+        Whys {
+            rings: &RINGS,
+            gaps: &[],
+            idle: &[2],
+        },
+        None,
+        0,
+        "ring 0, gap 0.000000001\n0 gaps lacking\nthis board meets ring 0, gap 0.000000001\nwaiver 2 waives nothing\nPASS\n",
+    );
+    assert!(rt; is_waived_so(rt, &telling, row)?);
+    Ok(())
+}
+
+/// A writer that fails at one call, and takes what comes before and after it.
+#[derive(Drop)]
+struct Failing {
+    calls: usize,
+    fails_at: usize,
+}
+
+impl Write for Failing {
+    fn write_str(&mut self, _text: &str) -> fmt::Result {
+        self.calls = self.calls.saturating_add(1);
+        if self.calls == self.fails_at {
+            return Err(fmt::Error);
+        }
+        Ok(())
+    }
+}
+
+/// Whether a report on files of these names is cut where a writer fails at this call, and nothing is written after it.
+fn is_cut_at(
+    rt: HostRuntime,
+    names: &[&str],
+    telling: &Telling,
+    whys: &Whys,
+    fails_at: usize,
+) -> Result<bool, AllocError> {
+    let text = ReportText::new(rt.alloc(), names, telling, None, whys)?;
+    let mut out = Failing { calls: 0, fails_at };
+    let is_cut = write!(out, "{text}").is_err();
+    Ok(is_cut && out.calls == fails_at)
+}
+
+#[test]
+fn nothing_is_printed_after_a_write_that_fails(rt: HostRuntime) -> Result<(), Fail> {
+    let telling = three_of_each(rt.alloc())?;
+    let whys = &Whys {
         rings: &RINGS,
-        gaps: &[],
-        idle: &[2],
+        gaps: &GAPS,
+        idle: &[8],
     };
-    let text =
-        "ring 0, gap 0.000000001\n0 gaps lacking\nthis board meets ring 0, gap 0.000000001\nwaiver 2 waives nothing\nPASS\n";
-    assert!(rt; is_waived_told(rt, &telling, None, &whys, text)?);
+    for fails_at in 1..=100 {
+        assert!(rt;
+            is_cut_at(rt, &HOLED, &telling, whys, fails_at)?,
+            "at {fails_at}"
+        );
+    }
     Ok(())
 }

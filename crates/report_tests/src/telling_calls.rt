@@ -2,7 +2,7 @@
 
 use grid_units::Rules;
 use package_check::{File, Role};
-use report_text::RingCause;
+use report_text::{RingCause, RingLack};
 use std::test::Fail;
 use telling::*;
 
@@ -35,15 +35,10 @@ fn file<'a>(role: Role, bytes: &'a [u8]) -> File<'a> {
 }
 
 /// The report on a layer and a plated drill file, under a ring in pm and a gap of 0.25 mm.
-fn told_of(rt: HostRuntime, layer: &[u8], drill: &[u8], ring: i64) -> Result<Telling, Fail> {
+fn report_on(rt: HostRuntime, layer: &[u8], drill: &[u8], ring: i64) -> Result<Telling, Fail> {
     let files = [file(Role::Copper, layer), file(Role::Plated, drill)];
-    let Ok(rules) = Rules::new(ring, 250_000_000) else {
-        return Err(Fail::from("rules"));
-    };
-    match tell_bytes(rt.alloc(), &files, rules) {
-        Ok(told) => Ok(told),
-        Err(_) => Err(Fail::from("refused")),
-    }
+    let rules = Rules::new(ring, 250_000_000).ok().ok_or("rules")?;
+    Ok(tell_bytes(rt.alloc(), &files, rules).ok().ok_or("refused")?)
 }
 
 /// The word for a cause, the number of its flash, the ring and the lack.
@@ -58,56 +53,58 @@ fn cause_words(cause: RingCause) -> (&'static str, usize, i64, i64) {
 }
 
 /// The number of rings in a report, and the words for the first of them.
-fn first_ring(told: &Telling) -> (usize, (&'static str, usize, i64, i64)) {
-    match told.rings.first() {
-        Some(lack) => (told.rings.len(), cause_words(lack.cause)),
-        None => (0, ("none", 0, 0, 0)),
+fn first_ring(report: &Telling) -> RingRow {
+    match report.rings.first() {
+        Some(lack) => (report.rings.len(), cause_words(lack.cause)),
+        None => NO_RING,
     }
 }
 
 /// The number of gaps in a report, and the first gap and its lack.
-fn first_gap(told: &Telling) -> (usize, i64, i64) {
-    match told.gaps.first() {
-        Some(lack) => (told.gaps.len(), lack.gap, lack.lack),
+fn first_gap(report: &Telling) -> (usize, i64, i64) {
+    match report.gaps.first() {
+        Some(lack) => (report.gaps.len(), lack.gap, lack.lack),
         None => (0, 0, 0),
     }
 }
 
+/// The number of rings, and the words for the first of them.
+type RingRow = (usize, (&'static str, usize, i64, i64));
+
+const NO_RING: RingRow = (0, ("none", 0, 0, 0));
+
+/// A layer, a drill file, the ring, and the number and the first of the rings and of the gaps: a hole off the centre of its pad, a board
+/// that passes, a hole in a macro flash, and a hole that is hit twice.
+const REPORTS: [(&[u8], &[u8], i64, RingRow, (usize, i64, i64)); 4] = [
+    (
+        MOVED,
+        HIT,
+        125_000_000,
+        (1, ("off", 1, 124_999_000, 1_000)),
+        (0, 0, 0),
+    ),
+    (MOVED, HIT, 124_999_000, NO_RING, (0, 0, 0)),
+    (MACRO, HIT, 100_000_000, (1, ("other", 1, 0, 0)), (0, 0, 0)),
+    (
+        DISC,
+        TWICE,
+        125_000_000,
+        NO_RING,
+        (1, -400_000_000, 650_000_000),
+    ),
+];
+
 #[test]
-fn a_hole_off_its_centre_is_told(rt: HostRuntime) -> Result<(), Fail> {
-    let told = told_of(rt, MOVED, HIT, 125_000_000)?;
-    assert_eq!(rt; first_ring(&told), (1, ("off", 1, 124_999_000, 1_000)));
-    assert_eq!(rt; first_gap(&told).0, 0);
+fn reports_have_their_rings_and_gaps(rt: HostRuntime) -> Result<(), Fail> {
+    for &(layer, drill, ring, first, gap) in &REPORTS {
+        let report = report_on(rt, layer, drill, ring)?;
+        assert!(rt; first_ring(&report) == first && first_gap(&report) == gap);
+    }
     Ok(())
 }
 
-#[test]
-fn nothing_is_told_of_a_board_that_passes(rt: HostRuntime) -> Result<(), Fail> {
-    let told = told_of(rt, MOVED, HIT, 124_999_000)?;
-    assert_eq!(rt; first_ring(&told).0, 0);
-    assert_eq!(rt; first_gap(&told).0, 0);
-    Ok(())
-}
-
-#[test]
-fn a_hole_in_a_macro_flash_is_told(rt: HostRuntime) -> Result<(), Fail> {
-    let told = told_of(rt, MACRO, HIT, 100_000_000)?;
-    assert_eq!(rt; first_ring(&told), (1, ("other", 1, 0, 0)));
-    Ok(())
-}
-
-#[test]
-fn a_hole_that_is_hit_twice_is_told(rt: HostRuntime) -> Result<(), Fail> {
-    let told = told_of(rt, DISC, TWICE, 125_000_000)?;
-    assert_eq!(rt; first_gap(&told), (1, -400_000_000, 650_000_000));
-    assert_eq!(rt; first_ring(&told).0, 0);
-    Ok(())
-}
-
-/// Three layers and three drill files; one of these has no holes. No disc leaves the required ring, and each pair of holes
-/// is in the report.
-#[test]
-fn three_layers_and_three_drill_files_are_told(rt: HostRuntime) -> Result<(), Fail> {
+/// The report on three layers and three drill files, the second of them without holes.
+fn report_on_six(rt: HostRuntime) -> Result<Telling, Fail> {
     let files = [
         file(Role::Copper, DISC),
         file(Role::Plated, HIT),
@@ -117,21 +114,37 @@ fn three_layers_and_three_drill_files_are_told(rt: HostRuntime) -> Result<(), Fa
         file(Role::Copper, DISC),
     ];
     let rules = Rules::new(150_000_000, 1).ok().ok_or("rules")?;
-    let told = tell_bytes(rt.alloc(), &files, rules).ok().ok_or("refused")?;
-    let mut rings = told.rings.iter();
-    for layer in 0..3 {
-        for &(drill, number) in &[(1, 1), (4, 1), (4, 2)] {
-            let lack = rings.next().ok_or("a ring is missing")?;
-            assert_eq!(rt;
-                (lack.layer, lack.at.drill, lack.at.number),
-                (layer, drill, number)
-            );
-            assert_eq!(rt;
-                cause_words(lack.cause),
-                ("small", 1, 125_000_000, 25_000_000)
-            );
-        }
+    Ok(tell_bytes(rt.alloc(), &files, rules).ok().ok_or("refused")?)
+}
+
+/// By layer and then by hole: the layer, the index of the drill file, and the number of the hole.
+const PLACES: [(usize, usize, usize); 9] = [
+    (0, 1, 1),
+    (0, 4, 1),
+    (0, 4, 2),
+    (1, 1, 1),
+    (1, 4, 1),
+    (1, 4, 2),
+    (2, 1, 1),
+    (2, 4, 1),
+    (2, 4, 2),
+];
+
+/// Whether a hole at this place lacks its ring in the disc.
+fn is_small_at(lack: &RingLack, place: (usize, usize, usize)) -> bool {
+    (lack.layer, lack.at.drill, lack.at.number) == place
+        && cause_words(lack.cause) == ("small", 1, 125_000_000, 25_000_000)
+}
+
+/// No disc leaves the required ring, and each pair of holes is in the report.
+#[test]
+fn findings_come_by_layer_and_hole(rt: HostRuntime) -> Result<(), Fail> {
+    let report = report_on_six(rt)?;
+    let mut rings = report.rings.iter();
+    for &place in &PLACES {
+        let lack = rings.next().ok_or("a ring is missing")?;
+        assert!(rt; is_small_at(lack, place), "of {}", place.0);
     }
-    assert_eq!(rt; (told.rings.len(), told.gaps.len()), (9, 3));
+    assert!(rt; (report.rings.len(), report.gaps.len()) == (9, 3));
     Ok(())
 }

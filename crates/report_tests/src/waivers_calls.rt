@@ -1,12 +1,13 @@
 //! Files of waivers, and findings with the figures of the worked examples.
 
-use grid_units::{Fail, Hole, Point, Reason, Rules};
+use crate::rows::{Form, hole_at, in_pad, slot_at};
+use grid_units::{Fail, Reason, Rules};
 use manifest::Name;
 use manifest::rows::all_rows;
 use margin_text::{Meets, Met};
-use pad_shapes::{Disc, Pad};
-use report_text::{GapLack, HoleAt, InPad, LayerHead, RingCause, RingLack, Telling};
+use report_text::{GapLack, HoleAt, LayerHead, RingCause, RingLack, Telling};
 use std::alloc::{AllocError, Global};
+use std::io::Write;
 use std::test::Fail as Failed;
 use waivers::*;
 
@@ -28,6 +29,16 @@ fn is_waiver(waiver: &Waiver, fields: &[&str; 6]) -> bool {
         && waiver.why.as_str() == fields[5]
 }
 
+/// Whether these waivers have these fields, in order.
+fn are_waivers(read: &[Waiver], all: &[[&str; 6]]) -> bool {
+    for (waiver, fields) in read.iter().zip(all) {
+        if !is_waiver(waiver, fields) {
+            return false;
+        }
+    }
+    read.len() == all.len()
+}
+
 #[test]
 fn waivers_are_read_in_order(rt: HostRuntime) -> Result<(), Failed> {
     let text = "kind,layer,hole,and,has,why\n\
@@ -36,8 +47,7 @@ fn waivers_are_read_in_order(rt: HostRuntime) -> Result<(), Failed> {
     let Ok(read) = read_waivers(rt.alloc(), text.as_bytes()) else {
         return Err("refused".into());
     };
-    assert_eq!(rt; read.len(), 2);
-    let ring = &[
+    let ring = [
         "ring",
         "top_layer",
         "pic_programmer-PTH, 0.75 at 142.24,-97.79",
@@ -45,7 +55,7 @@ fn waivers_are_read_in_order(rt: HostRuntime) -> Result<(), Failed> {
         "none",
         "rounded pin 1; seen by eye",
     ];
-    let gap = &[
+    let gap = [
         "gap",
         "",
         "drill, 0.6096 at 50.546,67.31",
@@ -53,53 +63,95 @@ fn waivers_are_read_in_order(rt: HostRuntime) -> Result<(), Failed> {
         "0.382301708",
         "as drawn",
     ];
-    assert!(rt; is_waiver(&read[0], ring));
-    assert!(rt; is_waiver(&read[1], gap));
+    assert!(rt; are_waivers(&read, &[ring, gap]));
     Ok(())
 }
 
+/// Files that break a rule, with the number of the record and the reason.
+const REFUSED: [(&[u8], u64, Reason); 20] = [
+    (b"", 1, Reason::BadManifest),
+    (b"\xEF\xBB\xBF", 1, Reason::BadManifest),
+    (b"kind,layer,hole,and,has\n", 1, Reason::BadManifest),
+    (b"kind,layer,hole,and,has,why,\n", 1, Reason::BadManifest),
+    (b"kind,layer,hole,has,and,why\n", 1, Reason::BadManifest),
+    (b"Kind,layer,hole,and,has,why\n", 1, Reason::BadManifest),
+    (b"ring,top,h,,none,seen\n", 1, Reason::BadManifest),
+    (
+        b"kind,layer,hole,and,has,why\nring,top,h,,none\n",
+        2,
+        Reason::BadManifest,
+    ),
+    (
+        b"kind,layer,hole,and,has,why\nring,top,h,,none,seen,\n",
+        2,
+        Reason::BadManifest,
+    ),
+    (
+        b"kind,layer,hole,and,has,why\n\"\"\n",
+        2,
+        Reason::BadManifest,
+    ),
+    (
+        b"kind,layer,hole,and,has,why\nring,top,h,,none,see\tn\n",
+        2,
+        Reason::BadManifest,
+    ),
+    (
+        b"kind,layer,hole,and,has,why\nring,top,h,,none,\"see\nn\"\n",
+        2,
+        Reason::BadManifest,
+    ),
+    (
+        b"kind,layer,hole,and,has,why\nring,top,h\x7F,,none,seen\n",
+        2,
+        Reason::BadManifest,
+    ),
+    (
+        b"kind,layer,hole,and,has,why\nhole,\x01,h,,none,\n",
+        2,
+        Reason::BadManifest,
+    ),
+    (
+        b"kind,layer,hole,and,has,why\nhole,top,h,,none,\n",
+        2,
+        Reason::BadRole,
+    ),
+    (
+        b"kind,layer,hole,and,has,why\nRing,top,h,,none,seen\n",
+        2,
+        Reason::BadRole,
+    ),
+    (
+        b"kind,layer,hole,and,has,why\n,top,h,,none,seen\n",
+        2,
+        Reason::BadRole,
+    ),
+    (
+        b"kind,layer,hole,and,has,why\nring,top,h,,none,\n",
+        2,
+        Reason::EmptyName,
+    ),
+    (
+        b"kind,layer,hole,and,has,why\ngap,,h,i,0.1,\"\"\n",
+        2,
+        Reason::EmptyName,
+    ),
+    (
+        b"kind,layer,hole,and,has,why\nring,top,h\xFF,,none,seen\n",
+        2,
+        Reason::BadManifest,
+    ),
+];
+
 #[test]
 fn files_that_break_a_rule_are_refused(rt: HostRuntime) {
-    for &(text, place, reason) in &[
-        ("", 1, Reason::BadManifest),
-        ("\u{FEFF}", 1, Reason::BadManifest),
-        ("kind,layer,hole,and,has\n", 1, Reason::BadManifest),
-        ("kind,layer,hole,and,has,why,\n", 1, Reason::BadManifest),
-        ("kind,layer,hole,has,and,why\n", 1, Reason::BadManifest),
-        ("Kind,layer,hole,and,has,why\n", 1, Reason::BadManifest),
-        ("ring,top,h,,none,seen\n", 1, Reason::BadManifest),
-    ] {
-        assert_eq!(rt;
-            refusal(rt, text.as_bytes()),
-            Some((place, 0, reason)),
-            "of {text}"
+    for &(text, place, reason) in &REFUSED {
+        assert!(rt;
+            refusal(rt, text) == Some((place, 0, reason)),
+            "of {} bytes",
+            text.len()
         );
     }
-    for &(record, reason) in &[
-        ("ring,top,h,,none", Reason::BadManifest),
-        ("ring,top,h,,none,seen,", Reason::BadManifest),
-        ("\"\"", Reason::BadManifest),
-        ("ring,top,h,,none,see\tn", Reason::BadManifest),
-        ("ring,top,h,,none,\"see\nn\"", Reason::BadManifest),
-        ("ring,top,h\u{7F},,none,seen", Reason::BadManifest),
-        ("hole,\u{1},h,,none,", Reason::BadManifest),
-        ("hole,top,h,,none,", Reason::BadRole),
-        ("Ring,top,h,,none,seen", Reason::BadRole),
-        (",top,h,,none,seen", Reason::BadRole),
-        ("ring,top,h,,none,", Reason::EmptyName),
-        ("gap,,h,i,0.1,\"\"", Reason::EmptyName),
-    ] {
-        let Ok(text) = format!(in rt.alloc(); "kind,layer,hole,and,has,why\n{record}\n") else {
-            continue;
-        };
-        assert_eq!(rt;
-            refusal(rt, text.as_bytes()),
-            Some((2, 0, reason)),
-            "of {record}"
-        );
-    }
-    let bytes = b"kind,layer,hole,and,has,why\nring,top,h\xFF,,none,seen\n";
-    assert_eq!(rt; refusal(rt, bytes), Some((2, 0, Reason::BadManifest)));
 }
 
 /// Two records; the reason of the second is this letter, `count` times, in quotes.
@@ -125,7 +177,7 @@ fn reasons_have_at_most_1000_bytes(rt: HostRuntime) -> Result<(), Failed> {
         ("a", 100_000, long),
     ] {
         let text = with_letters(rt, letter, count)?;
-        assert_eq!(rt; refusal(rt, text.as_bytes()), answer, "of {count}");
+        assert!(rt; refusal(rt, text.as_bytes()) == answer, "of {count}");
     }
     Ok(())
 }
@@ -140,18 +192,28 @@ fn six_records(rt: HostRuntime, wrong: usize) -> Result<String, AllocError> {
     Ok(text)
 }
 
+/// How many of six records have a reason, the number of the record that is refused, and how many are read where none is.
+const NUMBERS: [(usize, Option<u64>, Option<usize>); 7] = [
+    (0, Some(2), None),
+    (1, Some(3), None),
+    (2, Some(4), None),
+    (3, Some(5), None),
+    (4, Some(6), None),
+    (5, Some(7), None),
+    (6, None, Some(6)),
+];
+
 #[test]
 fn a_refusal_has_the_number_of_its_record(rt: HostRuntime) -> Result<(), Failed> {
-    for &(wrong, place) in &[(0, 2), (1, 3), (2, 4), (3, 5), (4, 6), (5, 7)] {
+    for &(wrong, place, count) in &NUMBERS {
         let text = six_records(rt, wrong)?;
-        assert_eq!(rt;
-            refusal(rt, text.as_bytes()),
-            Some((place, 0, Reason::EmptyName))
-        );
+        let refused = match place {
+            Some(place) => Some((place, 0, Reason::EmptyName)),
+            None => None,
+        };
+        let bytes = text.as_bytes();
+        assert!(rt; refusal(rt, bytes) == refused && count_read(rt, bytes) == count);
     }
-    let text = six_records(rt, 6)?;
-    assert_eq!(rt; refusal(rt, text.as_bytes()), None);
-    assert_eq!(rt; count_read(rt, text.as_bytes()), Some(6));
     Ok(())
 }
 
@@ -177,23 +239,8 @@ fn files_are_read_as_manifests_are(rt: HostRuntime) {
             1,
         ),
     ] {
-        assert_eq!(rt; count_read(rt, text.as_bytes()), Some(count), "of {text}");
+        assert!(rt; count_read(rt, text.as_bytes()) == Some(count), "of {text}");
     }
-}
-
-fn point(x: i64, y: i64) -> Result<Point, Failed> {
-    Ok(Point::new(x, y).ok_or("point")?)
-}
-
-/// A round hole of a drill file.
-fn hole_at(drill: usize, at: (i64, i64), diameter: i64) -> Result<HoleAt, Failed> {
-    let centre = point(at.0, at.1)?;
-    let hole = Hole::new(centre, centre, diameter / 2).ok_or("hole")?;
-    Ok(HoleAt {
-        drill,
-        number: 1,
-        hole,
-    })
 }
 
 /// Adds a hole that lies in no pad of a layer.
@@ -208,13 +255,14 @@ fn tell_bare(told: &mut Telling, layer: usize, at: HoleAt) -> Result<(), Failed>
 
 /// Adds a hole that has this ring in a disc.
 fn tell_in_disc(told: &mut Telling, layer: usize, at: HoleAt, ring: i64) -> Result<(), Failed> {
-    let disc = Disc::new(at.hole.from(), 250_000_000).ok_or("disc")?;
-    let place = InPad {
-        flash: 1,
-        pad: Pad::Disc(disc),
+    let centre = at.hole.from();
+    let place = in_pad(
+        1,
+        Form::Disc(250_000_000),
+        (centre.x(), centre.y()),
         ring,
-        lack: 1,
-    };
+        1,
+    )?;
     told.rings.push(RingLack {
         layer,
         at,
@@ -225,19 +273,19 @@ fn tell_in_disc(told: &mut Telling, layer: usize, at: HoleAt, ring: i64) -> Resu
 
 /// Adds three rings on a layer.
 fn tell_layer(told: &mut Telling, layer: usize) -> Result<(), Failed> {
-    let first = hole_at(2, (142_240_000_000, -97_790_000_000), 750_000_000)?;
+    let first = hole_at(2, 1, (142_240_000_000, -97_790_000_000), 750_000_000)?;
     tell_bare(told, layer, first)?;
-    let second = hole_at(2, (0, 0), 1_000_000_000)?;
+    let second = hole_at(2, 1, (0, 0), 1_000_000_000)?;
     tell_in_disc(told, layer, second, 99_625_866)?;
-    let third = hole_at(3, (1, -1), 609_600_000)?;
+    let third = hole_at(3, 1, (1, -1), 609_600_000)?;
     tell_in_disc(told, layer, third, -101_600_000)
 }
 
 /// Adds two holes that lack their gap.
 fn tell_gap(told: &mut Telling) -> Result<(), Failed> {
     told.gaps.push(GapLack {
-        first: hole_at(3, (50_546_000_000, 67_310_000_000), 609_600_000)?,
-        second: hole_at(3, (51_181_000_000, 66_548_000_000), 609_600_000)?,
+        first: hole_at(3, 1, (50_546_000_000, 67_310_000_000), 609_600_000)?,
+        second: hole_at(3, 1, (51_181_000_000, 66_548_000_000), 609_600_000)?,
         gap: 382_301_708,
         lack: 1,
     })?;
@@ -281,10 +329,8 @@ fn seven_findings(rt: HostRuntime) -> Result<Telling, Failed> {
 }
 
 /// The file of waivers that is printed for a report.
-fn printed(rt: HostRuntime, names: &[&str], told: &Telling) -> Result<Vec<u8>, Failed> {
-    let mut text = Vec::new(rt.alloc());
-    print_waivers(rt.alloc(), names, told, &mut text)?;
-    Ok(text)
+fn printed(rt: HostRuntime, names: &[&str], telling: &Telling) -> Result<String, AllocError> {
+    format!(in rt.alloc(); "{}", WaiverText { names, telling })
 }
 
 const SEVEN: &str = "kind,layer,hole,and,has,why
@@ -299,51 +345,43 @@ gap,,\"drill, 0.6096 at 50.546,67.31\",\"drill, 0.6096 at 51.181,66.548\",0.3823
 
 #[test]
 fn findings_are_printed_with_empty_reasons(rt: HostRuntime) -> Result<(), Failed> {
-    let told = seven_findings(rt)?;
-    let text = printed(rt, &NAMES, &told)?;
-    assert!(rt; text.as_slice() == SEVEN.as_bytes());
-    assert_eq!(rt;
-        refusal(rt, text.as_slice()),
-        Some((2, 0, Reason::EmptyName))
-    );
-    let text = printed(rt, &[], &no_findings(rt)?)?;
-    assert!(rt; text.as_slice() == b"kind,layer,hole,and,has,why\n".as_slice());
+    let text = printed(rt, &NAMES, &seven_findings(rt)?)?;
+    let refused = refusal(rt, text.as_bytes());
+    let head = printed(rt, &[], &no_findings(rt)?)?;
+    let are_printed = text.as_str() == SEVEN && head.as_str() == "kind,layer,hole,and,has,why\n";
+    assert!(rt; are_printed && refused == Some((2, 0, Reason::EmptyName)));
     Ok(())
 }
 
 #[test]
 fn a_writer_without_room_cuts_the_text(rt: HostRuntime) -> Result<(), Failed> {
+    let telling = &seven_findings(rt)?;
     let mut room = [0; 40];
     let mut out = room.as_mut_slice();
-    let cut = print_waivers(rt.alloc(), &NAMES, &seven_findings(rt)?, &mut out);
-    assert_eq!(rt; cut, Err(PrintFault::Cut));
+    let text = WaiverText {
+        names: &NAMES,
+        telling,
+    };
+    let is_cut = write!(out, "{text}").is_err();
+    assert!(rt; is_cut && SEVEN.as_bytes().starts_with(&room));
     Ok(())
 }
 
 #[test]
 fn slots_and_names_are_printed_as_they_are(rt: HostRuntime) -> Result<(), Failed> {
     let mut told = no_findings(rt)?;
-    let slot = Hole::new(
-        point(0, 0)?,
-        point(2_000_000_000, 1_000_000_000)?,
-        250_000_000,
-    );
-    let at = HoleAt {
-        drill: 1,
-        number: 3,
-        hole: slot.ok_or("hole")?,
-    };
+    let at = slot_at(1, 3, (0, 0), (2_000_000_000, 1_000_000_000), 500_000_000)?;
     told.rings.push(RingLack {
         layer: 0,
         at,
         cause: RingCause::Oblique,
     })?;
-    tell_bare(&mut told, 9, hole_at(9, (0, 0), 400_000_000)?)?;
+    tell_bare(&mut told, 9, hole_at(9, 1, (0, 0), 400_000_000)?)?;
     let text = printed(rt, &["\"top\"", "p,th"], &told)?;
     let expected = "kind,layer,hole,and,has,why\n\
         ring,\"\"\"top\"\"\",\"p,th, 0.5 at 0,0 to 2,1\",,none,\n\
         ring,,\", 0.4 at 0,0\",,none,\n";
-    assert!(rt; text.as_slice() == expected.as_bytes());
+    assert!(rt; text.as_str() == expected);
     Ok(())
 }
 
@@ -396,8 +434,8 @@ fn the_first_waiver_of_a_finding_is_told(rt: HostRuntime) -> Result<(), Failed> 
     let text = with_reasons(rt, stale)?;
     let (read, waived) = waived_by(rt, text.as_str())?;
     let rings = &[Some(0), Some(1), Some(2), Some(3), Some(4), Some(5)];
-    assert!(rt; waived.all());
-    assert!(rt; is_waived_so(rt, &read, &waived, rings, &[Some(6)], &[9])?);
+    let is_so = is_waived_so(rt, &read, &waived, rings, &[Some(6)], &[9])?;
+    assert!(rt; is_so && waived.all());
     Ok(())
 }
 
@@ -405,7 +443,7 @@ fn the_first_waiver_of_a_finding_is_told(rt: HostRuntime) -> Result<(), Failed> 
 fn two_of_each(rt: HostRuntime) -> Result<Telling, Failed> {
     let mut told = no_findings(rt)?;
     for _ in 0..2 {
-        tell_bare(&mut told, 0, hole_at(2, (0, 0), 750_000_000)?)?;
+        tell_bare(&mut told, 0, hole_at(2, 1, (0, 0), 750_000_000)?)?;
         tell_gap(&mut told)?;
     }
     Ok(told)
@@ -421,17 +459,9 @@ fn a_file_of_findings_that_are_alike_has_no_idle_waiver(rt: HostRuntime) -> Resu
         gap,,\"drill, 0.6096 at 50.546,67.31\",\"drill, 0.6096 at 51.181,66.548\",0.382301708,third\n\
         ring,top_layer,\"pic_programmer-PTH, 0.75 at 0,0\",,0,stale\n";
     let (read, waived) = waived_in(rt, &two_of_each(rt)?, records)?;
-    assert!(rt; waived.all());
-    assert!(rt;
-        is_waived_so(
-            rt,
-            &read,
-            &waived,
-            &[Some(0), Some(0)],
-            &[Some(3), Some(3)],
-            &[4, 7]
-        )?
-    );
+    let (rings, gaps) = (&[Some(0), Some(0)], &[Some(3), Some(3)]);
+    let is_so = is_waived_so(rt, &read, &waived, rings, gaps, &[4, 7])?;
+    assert!(rt; is_so && waived.all());
     Ok(())
 }
 
@@ -444,8 +474,8 @@ fn a_finding_has_the_reason_of_its_waiver(rt: HostRuntime) -> Result<(), Failed>
     let rings = reasons(rt.alloc(), read.as_slice(), waived.rings.as_slice())?;
     let gaps = reasons(rt.alloc(), read.as_slice(), waived.gaps.as_slice())?;
     let first = Some("rounded pin 1; seen by eye");
-    assert!(rt; rings.as_slice() == [first, None, None, None, None, None].as_slice());
-    assert!(rt; gaps.as_slice() == [Some("as drawn")].as_slice());
+    let are_rings = rings.as_slice() == [first, None, None, None, None, None].as_slice();
+    assert!(rt; are_rings && gaps.as_slice() == [Some("as drawn")].as_slice());
     Ok(())
 }
 
@@ -460,11 +490,8 @@ fn every_field_but_the_reason_is_compared(rt: HostRuntime) -> Result<(), Failed>
     ] {
         let text = format!(in rt.alloc(); "kind,layer,hole,and,has,why\n{record}")?;
         let (read, waived) = waived_by(rt, text.as_str())?;
-        assert!(rt; !waived.all(), "of {record}");
-        assert!(rt;
-            is_waived_so(rt, &read, &waived, &[None; 6], &[None], &[2])?,
-            "of {record}"
-        );
+        let is_so = is_waived_so(rt, &read, &waived, &[None; 6], &[None], &[2])?;
+        assert!(rt; is_so && !waived.all(), "of {record}");
     }
     Ok(())
 }
@@ -472,7 +499,6 @@ fn every_field_but_the_reason_is_compared(rt: HostRuntime) -> Result<(), Failed>
 #[test]
 fn a_report_without_findings_is_waived(rt: HostRuntime) -> Result<(), Failed> {
     let waived = waive(rt.alloc(), &NAMES, &no_findings(rt)?, &[])?;
-    assert!(rt; waived.all());
-    assert_eq!(rt; idle(rt.alloc(), &waived, &[])?.len(), 0);
+    assert!(rt; waived.all() && idle(rt.alloc(), &waived, &[])?.is_empty());
     Ok(())
 }

@@ -1,4 +1,3 @@
 pub mod Extent
-pub mod Passing
 pub mod Showing
 pub mod Standing

@@ -1,6 +1,7 @@
 -- One more finding of a report, with its position.
 use Rattle.std.proofs.Common.{◌≡◌, ◌<◌, ◌≤◌, ◌+◌, ◌++◌, ℕ, Bool, true, false, cond, List, [], ◌∷◌, Option, length, take, get_or, refl, ap, ◌∙◌, arith}
 use Rattle.std.specs.Prelude.{◌-◌, ◌==◌, ◌&&◌, not, if◌then◌else◌}
+use Rattle.std.specs.Borrow.{Bor}
 use Rattle.std.specs.List.{count_by, enumerate_from, filter, flat_map}
 use Rattle.std.proofs.lemmas.List.{append-nil, take_all, take_more}
 use Rattle.std.proofs.lemmas.List.Concat.{flat_map-append, flat_map-cons}
@@ -10,7 +11,8 @@ use Rattle.std.proofs.lemmas.List.Sums.{fold-append}
 use Rattle.report_text.specs.declared.GapLack.{GapLack}
 use Rattle.report_text.specs.declared.LayerHead.{LayerHead}
 use Rattle.report_text.specs.declared.RingLack.{RingLack}
-use Rattle.report_text.specs.Texts.{is_shown}
+use Rattle.report_text.specs.Inner.{gap_lines, ring_lines}
+use Rattle.report_text.specs.Texts.{gap_line, is_shown, ring_line, why_at}
 
 -- the findings so far and one more, with their positions
 pub marks_more : {X : Type 0} (n : ℕ) (xs : List X) (i p : ℕ) (d : X) → n + i ≡ p → i < length xs → take (i + 1) (enumerate_from n xs) ≡ take i (enumerate_from n xs) ++ (p, get_or xs i d) ∷ []
@@ -53,37 +55,39 @@ count_push_both {A} q p xs x = ap (count_by p) (filter-append q xs (x ∷ [])) �
     nothing : (n : ℕ) → n ≡ n + 0
     nothing n = omega arith
 
--- the place of a gap among the gaps, by its position after the rings
-pub behind : (first i : ℕ) → (first + i) - first ≡ i
-behind first i = omega arith
-
--- the line of a finding, if it is shown
-pub same_line : {X Y : Type 0} {a b : Bool} {x y : X} {v w : Y} (line : X → Y → List ℕ) → a ≡ b → x ≡ y → v ≡ w → (if a then line x v else []) ≡ (if b then line y w else [])
-same_line line shown is why = λ j. if shown j then line (is j) (why j) else []
-
--- the lines of the rings on a layer that are shown
-abbrev pub rings_text : (ℕ × RingLack → List ℕ) → ℕ → Option ℕ → List (ℕ × RingLack) → List ℕ
-rings_text line layer most marks = flat_map line (filter (λ finding. is_shown most finding.0) (filter (λ finding. finding.1.layer == layer) marks))
-
 -- the number of rings on a layer whose positions pass a test
 abbrev pub rings_counted : (ℕ → Bool) → ℕ → List (ℕ × RingLack) → ℕ
 rings_counted p layer marks = count_by (λ finding. p finding.0) (filter (λ finding. finding.1.layer == layer) marks)
-
--- the lines of the gaps that are shown
-abbrev pub gap_lines : (ℕ × GapLack → List ℕ) → Option ℕ → List (ℕ × GapLack) → List ℕ
-gap_lines line most marks = flat_map line (filter (λ finding. is_shown most finding.0) marks)
 
 -- the number of gaps that are not shown
 abbrev pub gaps_hidden : Option ℕ → List (ℕ × GapLack) → ℕ
 gaps_hidden most marks = count_by (λ finding. not (is_shown most finding.0)) marks
 
--- the lines of the rings on a layer that are shown, and of one more
-pub rings_more : (line : ℕ × RingLack → List ℕ) (layer : ℕ) (most : Option ℕ) (rings : List RingLack) (i : ℕ) (d : RingLack) → i < length rings
-    → rings_text line layer most (take (i + 1) (enumerate_from 0 rings))
-    ≡ rings_text line layer most (take i (enumerate_from 0 rings)) ++ (if ((get_or rings i d).layer == layer) && is_shown most i then line (i, get_or rings i d) else [])
-rings_more line layer most rings i d lt =
-    ap (rings_text line layer most) (marks_more 0 rings i i d (omega arith) lt)
-    ∙ lines_push_both (λ (finding : ℕ × RingLack). finding.1.layer == layer) (λ (finding : ℕ × RingLack). is_shown most finding.0) line (take i (enumerate_from 0 rings)) (i, get_or rings i d)
+-- the lines of the rings on a layer, and of one more if it is shown
+rings_more : (names : List (List ℕ)) (whys : List (Option (Bor (List ℕ)))) (limit : Option ℕ) (layer : ℕ) (rings : List RingLack) (i : ℕ) (d : RingLack) → i < length rings
+    → ring_lines names whys limit layer (take (i + 1) (enumerate_from 0 rings))
+    ≡ ring_lines names whys limit layer (take i (enumerate_from 0 rings)) ++ (if ((get_or rings i d).layer == layer) && is_shown limit i then ring_line names (get_or rings i d) (why_at whys i) else [])
+rings_more names whys limit layer rings i d lt =
+    ap (ring_lines names whys limit layer) (marks_more 0 rings i i d (omega arith) lt)
+    ∙ lines_push_both (λ (finding : ℕ × RingLack). finding.1.layer == layer) (λ (finding : ℕ × RingLack). is_shown limit finding.0) (λ (finding : ℕ × RingLack). ring_line names finding.1 (why_at whys finding.0))
+    (take i (enumerate_from 0 rings)) (i, get_or rings i d)
+
+-- one more ring that is shown
+pub ring_added : (names : List (List ℕ)) (whys : List (Option (Bor (List ℕ)))) (limit : Option ℕ) (layer : ℕ) (rings : List RingLack) (i : ℕ) (d : RingLack) → i < length rings
+    → (((get_or rings i d).layer == layer) && is_shown limit i) ≡ true
+    → ring_lines names whys limit layer (take (i + 1) (enumerate_from 0 rings)) ≡ ring_lines names whys limit layer (take i (enumerate_from 0 rings)) ++ ring_line names (get_or rings i d) (why_at whys i)
+ring_added names whys limit layer rings i d lt on =
+    rings_more names whys limit layer rings i d lt
+    ∙ ap (λ (b : Bool). ring_lines names whys limit layer (take i (enumerate_from 0 rings)) ++ (if b then ring_line names (get_or rings i d) (why_at whys i) else [])) on
+
+-- one more ring that is on another layer, or not shown
+pub ring_left_out : (names : List (List ℕ)) (whys : List (Option (Bor (List ℕ)))) (limit : Option ℕ) (layer : ℕ) (rings : List RingLack) (i : ℕ) (d : RingLack) → i < length rings
+    → (((get_or rings i d).layer == layer) && is_shown limit i) ≡ false
+    → ring_lines names whys limit layer (take (i + 1) (enumerate_from 0 rings)) ≡ ring_lines names whys limit layer (take i (enumerate_from 0 rings))
+ring_left_out names whys limit layer rings i d lt off =
+    rings_more names whys limit layer rings i d lt
+    ∙ (ap (λ (b : Bool). ring_lines names whys limit layer (take i (enumerate_from 0 rings)) ++ (if b then ring_line names (get_or rings i d) (why_at whys i) else [])) off
+    ∙ append-nil (ring_lines names whys limit layer (take i (enumerate_from 0 rings))))
 
 -- the number of rings on a layer whose positions pass a test, with one more ring
 pub rings_counted_more : (p : ℕ → Bool) (layer : ℕ) (rings : List RingLack) (i : ℕ) (d : RingLack) → i < length rings
@@ -93,12 +97,32 @@ rings_counted_more p layer rings i d lt =
     ap (rings_counted p layer) (marks_more 0 rings i i d (omega arith) lt)
     ∙ count_push_both (λ (finding : ℕ × RingLack). finding.1.layer == layer) (λ (finding : ℕ × RingLack). p finding.0) (take i (enumerate_from 0 rings)) (i, get_or rings i d)
 
--- the lines of the gaps that are shown, and of one more
-pub gaps_more : (line : ℕ × GapLack → List ℕ) (most : Option ℕ) (first : ℕ) (gaps : List GapLack) (i : ℕ) (d : GapLack) → i < length gaps
-    → gap_lines line most (take (i + 1) (enumerate_from first gaps)) ≡ gap_lines line most (take i (enumerate_from first gaps)) ++ (if is_shown most (first + i) then line (first + i, get_or gaps i d) else [])
-gaps_more line most first gaps i d lt =
-    ap (gap_lines line most) (marks_more first gaps i (first + i) d refl lt)
-    ∙ lines_push (λ (finding : ℕ × GapLack). is_shown most finding.0) line (take i (enumerate_from first gaps)) (first + i, get_or gaps i d)
+-- the lines of the gaps, and of one more if it is shown
+gaps_more : (names : List (List ℕ)) (whys : List (Option (Bor (List ℕ)))) (limit : Option ℕ) (first : ℕ) (gaps : List GapLack) (i : ℕ) (d : GapLack) → i < length gaps
+    → gap_lines names whys limit first (take (i + 1) (enumerate_from first gaps))
+    ≡ gap_lines names whys limit first (take i (enumerate_from first gaps)) ++ (if is_shown limit (first + i) then gap_line names (get_or gaps i d) (why_at whys i) else [])
+gaps_more names whys limit first gaps i d lt =
+    let place : (first + i) - first ≡ i = omega arith in
+    ap (gap_lines names whys limit first) (marks_more first gaps i (first + i) d refl lt)
+    ∙ (lines_push (λ (finding : ℕ × GapLack). is_shown limit finding.0) (λ (finding : ℕ × GapLack). gap_line names finding.1 (why_at whys (finding.0 - first))) (take i (enumerate_from first gaps)) (first + i, get_or gaps i d)
+    ∙ ap (λ (j : ℕ). gap_lines names whys limit first (take i (enumerate_from first gaps)) ++ (if is_shown limit (first + i) then gap_line names (get_or gaps i d) (why_at whys j) else [])) place)
+
+-- one more gap that is shown
+pub gap_added : (names : List (List ℕ)) (whys : List (Option (Bor (List ℕ)))) (limit : Option ℕ) (first : ℕ) (gaps : List GapLack) (i : ℕ) (d : GapLack) → i < length gaps
+    → is_shown limit (first + i) ≡ true
+    → gap_lines names whys limit first (take (i + 1) (enumerate_from first gaps)) ≡ gap_lines names whys limit first (take i (enumerate_from first gaps)) ++ gap_line names (get_or gaps i d) (why_at whys i)
+gap_added names whys limit first gaps i d lt on =
+    gaps_more names whys limit first gaps i d lt
+    ∙ ap (λ (b : Bool). gap_lines names whys limit first (take i (enumerate_from first gaps)) ++ (if b then gap_line names (get_or gaps i d) (why_at whys i) else [])) on
+
+-- one more gap that is not shown
+pub gap_left_out : (names : List (List ℕ)) (whys : List (Option (Bor (List ℕ)))) (limit : Option ℕ) (first : ℕ) (gaps : List GapLack) (i : ℕ) (d : GapLack) → i < length gaps
+    → is_shown limit (first + i) ≡ false
+    → gap_lines names whys limit first (take (i + 1) (enumerate_from first gaps)) ≡ gap_lines names whys limit first (take i (enumerate_from first gaps))
+gap_left_out names whys limit first gaps i d lt off =
+    gaps_more names whys limit first gaps i d lt
+    ∙ (ap (λ (b : Bool). gap_lines names whys limit first (take i (enumerate_from first gaps)) ++ (if b then gap_line names (get_or gaps i d) (why_at whys i) else [])) off
+    ∙ append-nil (gap_lines names whys limit first (take i (enumerate_from first gaps))))
 
 gaps_left_at : (most : Option ℕ) (first : ℕ) (gaps : List GapLack) (i : ℕ) (d : GapLack) → i < length gaps
     → gaps_hidden most (take (i + 1) (enumerate_from first gaps)) ≡ gaps_hidden most (take i (enumerate_from first gaps)) + (if not (is_shown most (first + i)) then 1 else 0)

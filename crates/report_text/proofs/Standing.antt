@@ -1,5 +1,5 @@
 -- The rings of a layer are at the places of its run.
-use Rattle.std.proofs.Common.{◌≡◌, ◌∙◌, ◌<◌, ◌≤◌, ◌+◌, ◌++◌, ℕ, suc, Bool, false, cond, List, [], ◌∷◌, length, take, drop, get_or, min, refl, ap, ap₂, subst, sym, ⊎_elim, arith, length-drop}
+use Rattle.std.proofs.Common.{◌≡◌, ◌∙◌, ◌<◌, ◌≤◌, ◌+◌, ◌++◌, ℕ, suc, Bool, false, cond, List, [], ◌∷◌, length, take, drop, get_or, min, refl, ap, ap₂, sym, ⊎_elim, arith, length-drop}
 use Rattle.std.specs.Prelude.{◌==◌, slice_range}
 use Rattle.std.specs.List.{count_by, enumerate_from, filter}
 use Rattle.std.proofs.lemmas.Bool.{cases_eq, ne_eqb}
@@ -73,15 +73,6 @@ count_in_run rings layer run h =
     (filter_first on rings run.first (off_before rings layer run h))
     (filter_behind on rings run.behind (off_behind rings layer run h)))
     ∙ length-filter on rings)
-
--- a ring on another layer does not change a run
-pub kept_run : (rings : List RingLack) (place layer : ℕ) (run : Run) → ((d : RingLack) → (get_or rings place d).layer ≡ layer → ⊥) → IsRun rings place layer run → IsRun rings (place + 1) layer run
-kept_run rings place layer run off h = record {
-  own = h.own;
-  ordered = h.ordered;
-  inside = h.inside;
-  holds = λ i d below on. ⊎_elim (λ e. absurd (off d (subst (λ (k : ℕ). (get_or rings k d).layer ≡ layer) e on))) (λ n. h.holds i d (omega (arith, n, below)) on) (cases_eq i place);
-}
 
 -- the run of a layer, and one more ring
 pub longer_run : (rings : List RingLack) (place layer : ℕ) (run : Run) (first : ℕ) → first ≡ min run.first place → place < length rings → IsRun rings place layer run

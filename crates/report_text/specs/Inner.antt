@@ -1,8 +1,12 @@
--- The least and the greatest lack so far, with one more; and the places of the rings of a layer.
-use Rattle.std.specs.Prelude.{◌≡◌, ◌<◌, ◌≤◌, ℕ, ℤ, List, length, get_or, Option, Some, None}
+-- The least and the greatest lack so far, with one more; the places of the rings of a layer; and the lines of the findings so far.
+use Rattle.std.specs.Prelude.{◌≡◌, ◌<◌, ◌≤◌, ◌-◌, ◌==◌, ℕ, ℤ, List, length, get_or, Option, Some, None}
+use Rattle.std.specs.Borrow.{Bor}
 use Rattle.std.specs.Int.{int_min, int_max}
+use Rattle.std.specs.List.{filter, flat_map}
+use Rattle.report_text.specs.declared.GapLack.{GapLack}
 use Rattle.report_text.specs.declared.RingLack.{RingLack}
 use Rattle.report_text.specs.declared.runs.Run.{Run}
+use Rattle.report_text.specs.Texts.{gap_line, is_shown, ring_line, why_at}
 
 -- the least and the greatest of some lengths and one more, if there is one
 abbrev pub widened : Option (ℤ × ℤ) → Option ℤ → Option (ℤ × ℤ)
@@ -20,3 +24,13 @@ pub record IsRun (rings : List RingLack) (count layer : ℕ) (run : Run) : Type 
 -- the runs of all layers, for the first `count` rings
 abbrev pub AreRuns : List RingLack → ℕ → List Run → Type 0
 AreRuns rings count runs = (layer : ℕ) (d : Run) → layer < length runs → IsRun rings count layer (get_or runs layer d)
+
+-- of some rings with their places, the lines of those on a layer that are shown
+abbrev pub ring_lines : List (List ℕ) → List (Option (Bor (List ℕ))) → Option ℕ → ℕ → List (ℕ × RingLack) → List ℕ
+ring_lines names whys limit layer findings =
+    flat_map (λ finding. ring_line names finding.1 (why_at whys finding.0)) (filter (λ finding. is_shown limit finding.0) (filter (λ finding. finding.1.layer == layer) findings))
+
+-- of some gaps with their positions, which come after those of this many rings, the lines of those that are shown
+abbrev pub gap_lines : List (List ℕ) → List (Option (Bor (List ℕ))) → Option ℕ → ℕ → List (ℕ × GapLack) → List ℕ
+gap_lines names whys limit rings findings =
+    flat_map (λ finding. gap_line names finding.1 (why_at whys (finding.0 - rings))) (filter (λ finding. is_shown limit finding.0) findings)

@@ -1,6 +1,6 @@
 -- The text of a report for people (docs/FORMATS.md, Report for people). Lengths are whole picometres, printed in millimetres.
 -- Positions count all findings of a report from 0: the rings first, then the gaps.
-use Rattle.std.specs.Prelude.{ℕ, ℤ, pos, ◌+◌, ◌-◌, ◌*◌, ◌==◌, ◌+ℤ◌, ◌-ℤ◌, ◌++◌, Bool, true, false, not, nat_lt, List, [], ◌∷◌, length, map, max, take, codes, decimal, Option, Some, None, is_some, get_or, int_div, if◌then◌else◌}
+use Rattle.std.specs.Prelude.{ℕ, ℤ, pos, ◌+◌, ◌-◌, ◌*◌, ◌==◌, ◌+ℤ◌, ◌-ℤ◌, ◌++◌, Bool, true, false, not, nat_lt, List, [], ◌∷◌, length, map, take, codes, decimal, Option, Some, None, is_some, get_or, int_div, if◌then◌else◌}
 use Rattle.std.specs.Borrow.{Bor}
 use Rattle.std.specs.Int.{int_min, int_max}
 use Rattle.std.specs.List.{count_by, enumerate_from, filter, filter_map, flat_map, fold}
@@ -137,15 +137,6 @@ why_at whys place = get_or whys place None
 abbrev pub is_waived : List (Option (Bor (List ℕ))) → ℕ → Bool
 is_waived whys place = is_some (why_at whys place)
 
--- the length of a reason in bytes, 0 where there is none
-abbrev pub why_length : Option (Bor (List ℕ)) → ℕ
-why_length None = 0
-why_length (Some why) = length why.now
-
--- the length of the longest reason in bytes, 0 where there is none
-abbrev pub longest_why : List (Option (Bor (List ℕ))) → ℕ
-longest_why whys = fold (λ (longest : ℕ) why. max longest (why_length why)) 0 whys
-
 -- the number of the first `findings` ones that are waived
 abbrev pub waived_of : List (Option (Bor (List ℕ))) → ℕ → ℕ
 waived_of whys findings = count_by is_some (take findings whys)
@@ -220,9 +211,13 @@ layer_text names most rings whys layer =
     layer_line (name_of names layer.1.file) (count_by (λ lack. lack.layer == layer.0) rings) layer.1.asked (waived_on whys layer.0 rings)
     ++ shown_lines (λ finding. ring_line names finding.1 (why_at whys finding.0)) most (rings_on layer.0 rings)
 
+-- what is lacking, after the number of gaps: ` gap lacking` after 1
+abbrev pub lacking_words : ℕ → List ℕ
+lacking_words gaps = if gaps == 1 then codes " gap lacking" else codes " gaps lacking"
+
 -- the number of gaps lacking: `6 gaps lacking`
 abbrev pub gaps_words : ℕ → List ℕ
-gaps_words lacking = decimal lacking ++ codes " gaps lacking"
+gaps_words lacking = decimal lacking ++ lacking_words lacking
 
 -- the line of the gaps: `6 gaps lacking, 2 waived`
 abbrev pub gaps_line : ℕ → ℕ → List ℕ

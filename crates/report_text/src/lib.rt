@@ -3,6 +3,10 @@
 //! All lengths are whole picometres (pm), and are printed in millimetres without zeros at the end.
 #![tactic(auto)]
 
+ghost use Rattle.std.specs.Prelude.{◌≡◌, ℕ, List, Option};
+ghost use Rattle.report_text.specs.declared.Telling.{Telling as TheTelling};
+ghost use Rattle.report_text.specs.Texts.{telling_text, waived_text};
+
 mod kind;
 mod lines;
 mod report;
@@ -15,10 +19,10 @@ use grid_units::{Hole, Rules};
 use layer_image::Why;
 use margin_text::{Meets, ScaleLine};
 use pad_shapes::Pad;
-pub use report::{PrintFault, print_telling, print_waived, write_telling};
+pub use report::ReportText;
 pub use tallies::lack_of;
-pub use waived::{count_waived, longest_why, why_of};
-pub use words::{name_of, push_drilled};
+pub use waived::{count_waived, why_of};
+pub use words::{DrilledWords, name_of};
 
 /// The best pad of a hole, in which it lies deepest, and the hole's ring there.
 #[derive(Clone, Copy, Debug, PartialEq, Eq)]
@@ -123,4 +127,17 @@ pub struct Whys<'a> {
     pub gaps: &'a [Option<&'a str>],
     /// The numbers of the records of the file of waivers that waive nothing, in order.
     pub idle: &'a [usize],
+}
+
+impl Whys<'_> {
+    /// No reasons: the text of a report with these is that of a report without waivers.
+    pub fn none() -> Whys<'static>
+        ensures { (names : List (List ℕ)) (telling : TheTelling) (limit : Option ℕ) → waived_text names telling limit result ≡ telling_text names telling limit }
+    {
+        Whys {
+            rings: &[],
+            gaps: &[],
+            idle: &[],
+        }
+    }
 }

@@ -1,268 +1,244 @@
 //! The lines of a report, one by one.
 
-ghost use Rattle.std.specs.Prelude.{◌≡◌, ◌≤◌, ◌++◌, ◌∷◌, [], codes, decimal, map, OnOk, string_bytes};
-ghost use Rattle.report_text.specs.Texts.{are_same, both_words, count_line, counted_words, gap_line, gap_words, gaps_line, gaps_words, held_ring, held_words, idle_line, lacks_line, last_line, layer_line, layer_words, meets_line, met_words, more_line, named_met, near_words, pair_words, ring_line, ring_words, rules_line, scale_line, scale_words, waived_words, why_words};
+ghost use Rattle.std.specs.Prelude.{◌≡◌, ◌≤◌, map, Some};
+ghost use Rattle.report_text.specs.Texts.{are_same, gap_line, gaps_line, held_words, idle_line, kind_line, lacking_words, lacks_line, last_line, layer_line, meets_line, met_words, more_line, ring_line, rules_line, scale_line, waived_words, why_words};
 
 use crate::kind::{Kind, hint, kind_words};
-use crate::words::{name_of, push_cause, push_hole, push_measured, push_two};
-use crate::{GapLack, HoleAt, RingLack};
+use crate::tallies::rings_by;
+use crate::words::{CauseWords, HoleWords, name_of};
+use crate::{GapLack, RingLack};
 use grid_units::Rules;
 use margin_text::{Meets, Met, ScaleLine, factor_word};
-use printing::{push_short_mm, push_words};
-use std::alloc::AllocError;
-use std::fmt::Write;
+use printing::{Line, ShortMillimetres};
+use std::fmt;
+use std::fmt::{Display, Formatter};
 
-/// Appends the first line: the rules of the check.
-#[tactic(auto, unfolding(crate::specs::Texts::rules_line))]
-pub(crate) fn push_rules(text: &mut String, rules: &Rules) -> Result<(), AllocError>
-    ensures { OnOk result (string_bytes text.new ≡ string_bytes text.old ++ rules_line rules.now) }
-{
-    push_words(text, "ring ")?;
-    push_two(text, rules.ring(), ", gap ", rules.gap())?;
-    push_words(text, "\n")
-}
+/// The names of the files of the package.
+#[derive(Clone, Copy)]
+pub(crate) struct FileNames<'a>(pub(crate) &'a [&'a str]);
 
-/// Appends the number of holes on a layer that lack their ring, and of those that need one.
-fn push_layer_words(
-    text: &mut String,
-    name: &str,
-    lacking: usize,
-    asked: usize,
-) -> Result<(), AllocError>
-    ensures { OnOk result (string_bytes text.new ≡ string_bytes text.old ++ layer_words name.now lacking asked) }
-{
-    match write!(text, "{name}: {lacking} of {asked} rings lacking") {
-        Ok(()) => Ok(()),
-        Err(e) => Err(e),
+/// The first line, with the rules of the check: `ring 0.15, gap 0.25`.
+#[derive(Clone, Copy)]
+pub(crate) struct RulesLine<'a>(pub(crate) &'a Rules);
+
+impl Display for RulesLine<'_> {
+    ghost output = { λ line. Some (rules_line line.0.now) };
+
+    #[tactic(auto, unfolding(crate::specs::Texts::rules_line, crate::specs::Texts::two_lengths))]
+    fn fmt<W: fmt::Write>(&self, f: &mut Formatter<W>) -> fmt::Result {
+        let ring = ShortMillimetres(self.0.ring());
+        let gap = ShortMillimetres(self.0.gap());
+        write!(f, "ring {ring}, gap {gap}\n")
     }
 }
 
-/// Appends the number of waived findings, if it is not 0.
-fn push_waived(text: &mut String, waived: usize) -> Result<(), AllocError>
-    ensures { OnOk result (string_bytes text.new ≡ string_bytes text.old ++ waived_words waived) }
-{
-    if waived == 0 {
-        return Ok(());
-    }
-    match write!(text, ", {waived} waived") {
-        Ok(()) => Ok(()),
-        Err(e) => Err(e),
-    }
-}
+/// The number of waived findings, if it is not 0: `, 3 waived`.
+#[derive(Clone, Copy)]
+struct WaivedWords(usize);
 
-/// Appends the reason why a finding is accepted, if it is.
-fn push_why(text: &mut String, why: Option<&str>) -> Result<(), AllocError>
-    ensures { OnOk result (string_bytes text.new ≡ string_bytes text.old ++ why_words why.entry) }
-{
-    let Some(why) = why else {
-        return Ok(());
-    };
-    push_words(text, ", waived: ")?;
-    push_words(text, why)
-}
+impl Display for WaivedWords {
+    ghost output = { λ waived. Some (waived_words waived.0) };
 
-/// Appends the line of a layer.
-pub(crate) fn push_layer(
-    text: &mut String,
-    name: &str,
-    lacking: usize,
-    asked: usize,
-    waived: usize,
-) -> Result<(), AllocError>
-    ensures { OnOk result (string_bytes text.new ≡ string_bytes text.old ++ layer_line name.now lacking asked waived) }
-{
-    push_layer_words(text, name, lacking, asked)?;
-    push_waived(text, waived)?;
-    push_words(text, "\n")
-}
-
-/// Appends a hole that lacks its ring.
-#[tactic(auto, unfolding(crate::specs::Texts::ring_words))]
-fn push_ring_words(text: &mut String, names: &[&str], lack: &RingLack) -> Result<(), AllocError>
-    ensures { OnOk result (string_bytes text.new ≡ string_bytes text.old ++ ring_words (map (λ name. name.now) names.now) lack.now) }
-{
-    push_words(text, "  ")?;
-    push_hole(text, names, &lack.at)?;
-    push_words(text, ": ")?;
-    push_cause(text, &lack.at.hole, &lack.cause)
-}
-
-/// Appends the line of a hole that lacks its ring, with the reason if it is waived.
-#[tactic(auto, unfolding(crate::specs::Texts::ring_line))]
-pub(crate) fn push_ring(
-    text: &mut String,
-    names: &[&str],
-    lack: &RingLack,
-    why: Option<&str>,
-) -> Result<(), AllocError>
-    ensures { OnOk result (string_bytes text.new ≡ string_bytes text.old ++ ring_line (map (λ name. name.now) names.now) lack.now why.entry) }
-{
-    push_ring_words(text, names, lack)?;
-    push_why(text, why)?;
-    push_words(text, "\n")
-}
-
-/// Appends the line `and N more`, if N is not 0.
-pub(crate) fn push_more(text: &mut String, left: usize) -> Result<(), AllocError>
-    ensures { OnOk result (string_bytes text.new ≡ string_bytes text.old ++ more_line left) }
-{
-    if left == 0 {
-        return Ok(());
-    }
-    match write!(text, "  and {left} more\n") {
-        Ok(()) => Ok(()),
-        Err(e) => Err(e),
+    fn fmt<W: fmt::Write>(&self, f: &mut Formatter<W>) -> fmt::Result {
+        if self.0 == 0 {
+            return Ok(());
+        }
+        write!(f, ", {} waived", self.0)
     }
 }
 
-/// Appends the number of gaps lacking.
-fn push_gaps_words(text: &mut String, lacking: usize) -> Result<(), AllocError>
-    ensures { OnOk result (string_bytes text.new ≡ string_bytes text.old ++ gaps_words lacking) }
-{
-    match write!(text, "{lacking} gaps lacking") {
-        Ok(()) => Ok(()),
-        Err(e) => Err(e),
+/// The reason why a finding is accepted, if it is: `, waived: drawn so`.
+#[derive(Clone, Copy)]
+struct WhyWords<'a>(Option<&'a str>);
+
+impl Display for WhyWords<'_> {
+    ghost output = { λ why. Some (why_words why.0) };
+
+    fn fmt<W: fmt::Write>(&self, f: &mut Formatter<W>) -> fmt::Result {
+        match self.0 {
+            Some(why) => write!(f, ", waived: {why}"),
+            None => Ok(()),
+        }
     }
 }
 
-/// Appends the line of the gaps: how many are lacking, and how many of them are waived.
-pub(crate) fn push_gaps(text: &mut String, lacking: usize, waived: usize) -> Result<(), AllocError>
-    ensures { OnOk result (string_bytes text.new ≡ string_bytes text.old ++ gaps_line lacking waived) }
-{
-    push_gaps_words(text, lacking)?;
-    push_waived(text, waived)?;
-    push_words(text, "\n")
+/// The line of a layer, with the numbers of its rings: `top_layer: 3 of 245 rings lacking, 3 waived`.
+#[derive(Clone, Copy)]
+pub(crate) struct LayerLine<'a> {
+    /// The name of its file.
+    pub(crate) name: &'a str,
+    pub(crate) lacking: usize,
+    /// How many holes need a ring.
+    pub(crate) asked: usize,
+    pub(crate) waived: usize,
 }
 
-/// Appends two holes.
-fn push_pair(
-    text: &mut String,
-    names: &[&str],
-    first: &HoleAt,
-    second: &HoleAt,
-) -> Result<(), AllocError>
-    ensures { OnOk result (string_bytes text.new ≡ string_bytes text.old ++ pair_words (map (λ name. name.now) names.now) first.now second.now) }
-{
-    push_words(text, "  ")?;
-    push_hole(text, names, first)?;
-    push_words(text, ", and ")?;
-    push_hole(text, names, second)
-}
+impl Display for LayerLine<'_> {
+    ghost output = { λ line. Some (layer_line line.name.now line.lacking line.asked line.waived) };
 
-/// Appends the gap of two holes, and what it lacks.
-fn push_gap_words(text: &mut String, gap: i64, lack: i64) -> Result<(), AllocError>
-    ensures { OnOk result (string_bytes text.new ≡ string_bytes text.old ++ gap_words gap lack) }
-{
-    push_words(text, ": ")?;
-    push_measured(text, "gap ", gap, lack)
-}
-
-/// Appends two holes that lack their gap.
-#[tactic(auto, unfolding(crate::specs::Texts::near_words))]
-fn push_near(text: &mut String, names: &[&str], lack: &GapLack) -> Result<(), AllocError>
-    ensures { OnOk result (string_bytes text.new ≡ string_bytes text.old ++ near_words (map (λ name. name.now) names.now) lack.now) }
-{
-    push_pair(text, names, &lack.first, &lack.second)?;
-    push_gap_words(text, lack.gap, lack.lack)
-}
-
-/// Appends the line of two holes that lack their gap, with the reason if it is waived.
-#[tactic(auto, unfolding(crate::specs::Texts::gap_line))]
-pub(crate) fn push_gap(
-    text: &mut String,
-    names: &[&str],
-    lack: &GapLack,
-    why: Option<&str>,
-) -> Result<(), AllocError>
-    ensures { OnOk result (string_bytes text.new ≡ string_bytes text.old ++ gap_line (map (λ name. name.now) names.now) lack.now why.entry) }
-{
-    push_near(text, names, lack)?;
-    push_why(text, why)?;
-    push_words(text, "\n")
-}
-
-/// Appends the line of a cause: the number of its rings, its words and its hint.
-fn push_counted(text: &mut String, count: usize, words: &str, hint: &str) -> Result<(), AllocError>
-    ensures { OnOk result (string_bytes text.new ≡ string_bytes text.old ++ counted_words count words.now hint.now) }
-{
-    match write!(text, "{count} {words}: {hint}\n") {
-        Ok(()) => Ok(()),
-        Err(e) => Err(e),
+    fn fmt<W: fmt::Write>(&self, f: &mut Formatter<W>) -> fmt::Result {
+        let (name, lacking, asked) = (self.name, self.lacking, self.asked);
+        write!(f, "{name}: {lacking} of {asked} rings lacking")?;
+        write!(f, "{}\n", WaivedWords(self.waived))
     }
 }
 
-/// Appends the line of a kind of cause, by the number of its rings.
-pub(crate) fn push_count(text: &mut String, kind: Kind, count: usize) -> Result<(), AllocError>
-    ensures { OnOk result (string_bytes text.new ≡ string_bytes text.old ++ count_line kind count) }
-{
-    if count == 0 {
-        return Ok(());
-    }
-    push_counted(text, count, kind_words(kind), hint(kind))
+/// The line of a hole that lacks its ring, with the reason if it is waived.
+#[derive(Clone, Copy)]
+pub(crate) struct RingLine<'a> {
+    pub(crate) names: &'a [&'a str],
+    pub(crate) lack: &'a RingLack,
+    pub(crate) why: Option<&'a str>,
 }
 
-/// Appends the line of the least and the greatest lack, if there is one.
-pub(crate) fn push_lacks(
-    text: &mut String,
-    word: &str,
-    lacks: Option<(i64, i64)>,
-) -> Result<(), AllocError>
-    ensures { OnOk result (string_bytes text.new ≡ string_bytes text.old ++ lacks_line word.now lacks) }
-{
-    let Some((least, greatest)) = lacks else {
-        return Ok(());
-    };
-    push_words(text, word)?;
-    push_two(text, least, " to ", greatest)?;
-    push_words(text, "\n")
-}
+impl Display for RingLine<'_> {
+    ghost output = { λ line. Some (ring_line (map (λ name. name.now) line.names.now) line.lack.now line.why) };
 
-/// Appends the line of a drill file, by its name and the word of the factor.
-#[tactic(auto, unfolding(crate::specs::Texts::scale_words))]
-fn push_factor(
-    text: &mut String,
-    name: &str,
-    bare: usize,
-    factor: &str,
-    then: usize,
-) -> Result<(), AllocError>
-    ensures { OnOk result (string_bytes text.new ≡ string_bytes text.old ++ scale_words name.now bare factor.now then) }
-{
-    match write!(
-        text,
-        "{name}: {bare} holes have no pad; at {factor} times their coordinates {then} would have none\n"
-    ) {
-        Ok(()) => Ok(()),
-        Err(e) => Err(e),
+    #[tactic(auto, unfolding(crate::specs::Texts::ring_line, crate::specs::Texts::ring_words))]
+    fn fmt<W: fmt::Write>(&self, f: &mut Formatter<W>) -> fmt::Result {
+        let at = HoleWords {
+            names: self.names,
+            at: &self.lack.at,
+        };
+        let cause = CauseWords {
+            hole: &self.lack.at.hole,
+            cause: &self.lack.cause,
+        };
+        write!(f, "  {at}: {cause}{}\n", WhyWords(self.why))
     }
 }
 
-/// Appends the line of a drill file whose coordinates seem to be off by a factor.
-pub(crate) fn push_scale(
-    text: &mut String,
-    names: &[&str],
-    line: &ScaleLine,
-) -> Result<(), AllocError>
-    ensures { OnOk result (string_bytes text.new ≡ string_bytes text.old ++ scale_line (map (λ name. name.now) names.now) line.now) }
-{
-    let factor = factor_word(line.factor);
-    push_factor(
-        text,
-        name_of(names, line.drill),
-        line.bare,
-        factor,
-        line.then,
-    )
+/// The line of the findings that are not shown, if there are any: `  and 4 more`.
+#[derive(Clone, Copy)]
+pub(crate) struct MoreLine(pub(crate) usize);
+
+impl Display for MoreLine {
+    ghost output = { λ left. Some (more_line left.0) };
+
+    fn fmt<W: fmt::Write>(&self, f: &mut Formatter<W>) -> fmt::Result {
+        if self.0 == 0 {
+            return Ok(());
+        }
+        write!(f, "  and {} more\n", self.0)
+    }
 }
 
-/// Appends the greatest rule that is met: a length, `any` or `none`.
-fn push_met(text: &mut String, met: Met) -> Result<(), AllocError>
-    ensures { OnOk result (string_bytes text.new ≡ string_bytes text.old ++ met_words met) }
+/// What is lacking, after the number of gaps: ` gap lacking` after 1.
+fn lacking_words(gaps: usize) -> &'static str
+    ensures { result.now ≡ lacking_words gaps }
 {
-    match met {
-        Met::Any => push_words(text, "any"),
-        Met::Most(length) => push_short_mm(text, length),
-        Met::None => push_words(text, "none"),
+    if gaps == 1 {
+        " gap lacking"
+    } else {
+        " gaps lacking"
+    }
+}
+
+/// The line of the gaps: `6 gaps lacking, 2 waived`.
+#[derive(Clone, Copy)]
+pub(crate) struct GapsLine {
+    pub(crate) lacking: usize,
+    pub(crate) waived: usize,
+}
+
+impl Display for GapsLine {
+    ghost output = { λ line. Some (gaps_line line.lacking line.waived) };
+
+    fn fmt<W: fmt::Write>(&self, f: &mut Formatter<W>) -> fmt::Result {
+        let (lacking, words) = (self.lacking, lacking_words(self.lacking));
+        write!(f, "{lacking}{words}{}\n", WaivedWords(self.waived))
+    }
+}
+
+/// The line of two holes that lack their gap, with the reason if it is waived.
+#[derive(Clone, Copy)]
+pub(crate) struct GapLine<'a> {
+    pub(crate) names: &'a [&'a str],
+    pub(crate) lack: &'a GapLack,
+    pub(crate) why: Option<&'a str>,
+}
+
+impl Display for GapLine<'_> {
+    ghost output = { λ line. Some (gap_line (map (λ name. name.now) line.names.now) line.lack.now line.why) };
+
+    #[tactic(auto, unfolding(crate::specs::Texts::gap_line, crate::specs::Texts::near_words, crate::specs::Texts::two_lengths))]
+    fn fmt<W: fmt::Write>(&self, f: &mut Formatter<W>) -> fmt::Result {
+        let (names, lack) = (self.names, self.lack);
+        let (first, second) = (&lack.first, &lack.second);
+        let first = HoleWords { names, at: first };
+        let second = HoleWords { names, at: second };
+        let gap = ShortMillimetres(lack.gap);
+        let lacks = ShortMillimetres(lack.lack);
+        write!(f, "  {first}, and {second}")?;
+        write!(f, ": gap {gap}, lacks {lacks}")?;
+        write!(f, "{}\n", WhyWords(self.why))
+    }
+}
+
+/// The line of a kind of cause, by the rings of the report: their number, the words and the hint; nothing where there are none.
+impl Line<&[RingLack]> for Kind {
+    ghost text = { λ rings kind. kind_line rings.now kind };
+
+    fn fmt_on<W: fmt::Write>(&self, page: &&[RingLack], f: &mut Formatter<W>) -> fmt::Result {
+        let count = rings_by(page, *self);
+        if count == 0 {
+            return Ok(());
+        }
+        write!(f, "{count} {}: {}\n", kind_words(*self), hint(*self))
+    }
+}
+
+/// The line of the least and the greatest lack, if there is one: `rings lack 0.001 to 0.375`.
+#[derive(Clone, Copy)]
+pub(crate) struct LacksLine<'a> {
+    /// The words before them: `rings lack ` or `gaps lack `.
+    pub(crate) words: &'a str,
+    pub(crate) lacks: Option<(i64, i64)>,
+}
+
+impl Display for LacksLine<'_> {
+    ghost output = { λ line. Some (lacks_line line.words.now line.lacks) };
+
+    #[tactic(auto, unfolding(crate::specs::Texts::two_lengths))]
+    fn fmt<W: fmt::Write>(&self, f: &mut Formatter<W>) -> fmt::Result {
+        let Some((least, greatest)) = self.lacks else {
+            return Ok(());
+        };
+        let least = ShortMillimetres(least);
+        let greatest = ShortMillimetres(greatest);
+        write!(f, "{}{least} to {greatest}\n", self.words)
+    }
+}
+
+/// The line of a drill file whose coordinates seem to be off by a factor:
+/// `pth: 3 holes have no pad; at 0.1 times their coordinates 0 would have none`.
+impl Line<FileNames<'_>> for ScaleLine {
+    ghost text = { λ names line. scale_line (map (λ name. name.now) names.0.now) line };
+
+    #[tactic(auto, unfolding(crate::specs::Texts::scale_words))]
+    fn fmt_on<W: fmt::Write>(&self, page: &FileNames<'_>, f: &mut Formatter<W>) -> fmt::Result {
+        let (name, bare) = (name_of(page.0, self.drill), self.bare);
+        let (factor, then) = (factor_word(self.factor), self.then);
+        write!(
+            f,
+            "{name}: {bare} holes have no pad; at {factor} times their coordinates {then} would have none\n"
+        )
+    }
+}
+
+/// The greatest rule that is met: a length, `any` or `none`.
+#[derive(Clone, Copy)]
+struct MetWords(Met);
+
+impl Display for MetWords {
+    ghost output = { λ met. Some (met_words met.0) };
+
+    fn fmt<W: fmt::Write>(&self, f: &mut Formatter<W>) -> fmt::Result {
+        match self.0 {
+            Met::Any => f.write_str("any"),
+            Met::Most(length) => write!(f, "{}", ShortMillimetres(length)),
+            Met::None => f.write_str("none"),
+        }
     }
 }
 
@@ -272,81 +248,74 @@ fn are_same(first: Met, second: Met) -> bool
     first == second
 }
 
-/// Appends words, then the greatest rule that is met.
-fn push_named(text: &mut String, words: &str, met: Met) -> Result<(), AllocError>
-    ensures { OnOk result (string_bytes text.new ≡ string_bytes text.old ++ named_met words.now met) }
-{
-    push_words(text, words)?;
-    push_met(text, met)
+/// The greatest ring for holes that lie in pads, if it differs from that of all holes: `; where a pad is, ring 0.275`.
+#[derive(Clone, Copy)]
+struct HeldWords {
+    /// The greatest ring of all holes.
+    ring: Met,
+    /// The greatest ring for holes that lie in pads.
+    held: Met,
 }
 
-/// Appends the greatest ring for holes that lie in pads.
-fn push_held_ring(text: &mut String, held: Met) -> Result<(), AllocError>
-    ensures { OnOk result (string_bytes text.new ≡ string_bytes text.old ++ held_ring held) }
-{
-    push_named(text, "; where a pad is, ring ", held)
-}
+impl Display for HeldWords {
+    ghost output = { λ words. Some (held_words words.ring words.held) };
 
-/// Appends the greatest ring for holes that lie in pads, if it differs from that of all holes.
-fn push_held(text: &mut String, ring: Met, held: Met) -> Result<(), AllocError>
-    ensures { OnOk result (string_bytes text.new ≡ string_bytes text.old ++ held_words ring held) }
-{
-    if are_same(ring, held) {
-        return Ok(());
-    }
-    push_held_ring(text, held)
-}
-
-/// Appends the greatest ring and gap that the package meets.
-fn push_both(text: &mut String, ring: Met, gap: Met) -> Result<(), AllocError>
-    ensures { OnOk result (string_bytes text.new ≡ string_bytes text.old ++ both_words ring gap) }
-{
-    push_words(text, "this board meets ring ")?;
-    push_met(text, ring)?;
-    push_words(text, ", gap ")?;
-    push_met(text, gap)
-}
-
-/// Appends the line of the rules that the package meets.
-#[tactic(auto, unfolding(crate::specs::Texts::meets_line))]
-pub(crate) fn push_meets(text: &mut String, meets: &Meets) -> Result<(), AllocError>
-    ensures { OnOk result (string_bytes text.new ≡ string_bytes text.old ++ meets_line meets.now) }
-{
-    push_both(text, meets.ring, meets.gap)?;
-    push_held(text, meets.ring, meets.held)?;
-    push_words(text, "\n")
-}
-
-/// Appends the line of a waiver that waives nothing.
-pub(crate) fn push_idle(text: &mut String, number: usize) -> Result<(), AllocError>
-    ensures { OnOk result (string_bytes text.new ≡ string_bytes text.old ++ idle_line number) }
-{
-    match write!(text, "waiver {number} waives nothing\n") {
-        Ok(()) => Ok(()),
-        Err(e) => Err(e),
+    fn fmt<W: fmt::Write>(&self, f: &mut Formatter<W>) -> fmt::Result {
+        if are_same(self.ring, self.held) {
+            return Ok(());
+        }
+        write!(f, "; where a pad is, ring {}", MetWords(self.held))
     }
 }
 
-/// Appends a word, a count and a line end.
-fn push_result(text: &mut String, word: &str, count: u128) -> Result<(), AllocError>
-    ensures { OnOk result (string_bytes text.new ≡ string_bytes text.old ++ (word.now ++ (decimal count ++ 10 ∷ []))) }
-{
-    match write!(text, "{word}{count}\n") {
-        Ok(()) => Ok(()),
-        Err(e) => Err(e),
+/// The line of the rules that the package meets: `this board meets ring none, gap 1.046051224; where a pad is, ring 0.275`.
+#[derive(Clone, Copy)]
+pub(crate) struct MeetsLine(pub(crate) Meets);
+
+impl Display for MeetsLine {
+    ghost output = { λ line. Some (meets_line line.0) };
+
+    #[tactic(auto, unfolding(crate::specs::Texts::meets_line))]
+    fn fmt<W: fmt::Write>(&self, f: &mut Formatter<W>) -> fmt::Result {
+        let (ring, held) = (self.0.ring, self.0.held);
+        let words = HeldWords { ring, held };
+        let (ring, gap) = (MetWords(ring), MetWords(self.0.gap));
+        write!(f, "this board meets ring {ring}, gap {gap}{words}\n")
     }
 }
 
-/// Appends the last line: `PASS`, `WAIVED n` or `FINDINGS n`.
-pub(crate) fn push_last(text: &mut String, findings: u128, waived: u128) -> Result<(), AllocError>
-    requires { waived ≤ findings }
-    ensures { OnOk result (string_bytes text.new ≡ string_bytes text.old ++ last_line findings waived) }
-{
-    if findings == 0 {
-        return push_words(text, "PASS\n");
+/// The file of waivers, as the page of the lines of its records.
+#[derive(Clone, Copy)]
+pub(crate) struct WaiverFile;
+
+/// The line of a waiver that waives nothing, by the number of its record: `waiver 8 waives nothing`.
+impl Line<WaiverFile> for usize {
+    ghost text = { λ _ number. idle_line number };
+
+    fn fmt_on<W: fmt::Write>(&self, _page: &WaiverFile, f: &mut Formatter<W>) -> fmt::Result {
+        write!(f, "waiver {self} waives nothing\n")
     }
-    if waived == findings {
-        return push_result(text, "WAIVED ", findings);
+}
+
+/// The last line: `PASS` without findings, `WAIVED 6` where all are waived, else `FINDINGS 6` with the number of the others.
+#[derive(Clone, Copy)]
+pub(crate) struct LastLine {
+    pub(crate) findings: u128,
+    /// How many of them are waived.
+    pub(crate) waived: u128,
+    ghost within: { waived ≤ findings },
+}
+
+impl Display for LastLine {
+    ghost output = { λ line. Some (last_line line.findings line.waived) };
+
+    fn fmt<W: fmt::Write>(&self, f: &mut Formatter<W>) -> fmt::Result {
+        if self.findings == 0 {
+            return f.write_str("PASS\n");
+        }
+        if self.waived == self.findings {
+            return write!(f, "WAIVED {}\n", self.findings);
+        }
+        write!(f, "FINDINGS {}\n", self.findings - self.waived)
     }
-    push_result(text, "FINDINGS ", findings - waived)
 }

@@ -1,611 +1,265 @@
-//! The text of a report, printed part by part.
+//! The text of a report.
 
-ghost use Rattle.std.specs.Prelude.{◌≡◌, ◌==◌, ◌+◌, ◌-◌, ◌++◌, [], if◌then◌else◌, length, map, not, IfErr, IfOk, OnOk, string_bytes};
-ghost use Rattle.std.specs.List.{count_by, enumerate_from, filter, flat_map};
-ghost use Rattle.std.specs.Io.KnownBytes.{Appends};
-ghost use Rattle.printing.specs.Parts.{PassesOn};
-ghost use Rattle.report_text.specs.Causes.{all_kinds};
-ghost use Rattle.report_text.specs.Inner.{AreRuns, IsRun};
-ghost use Rattle.report_text.specs.Texts.{causes_text, findings_text, gap_line, gaps_line, gaps_text, idle_line, is_shown, kind_line, lacks_text, last_line, last_lines, layer_line, layer_text, meets_line, more_line, name_of, ring_line, rings_on, rules_line, scale_line, telling_text, waived_in, waived_of, waived_on, waived_text, why_at};
+ghost use Rattle.std.specs.Prelude.{◌≡◌, ℕ, IfOk, List, Some, length, map};
+ghost use Rattle.std.specs.Fmt.{DisplaysOnOk};
+ghost use Rattle.std.specs.List.{enumerate_from, flat_map};
+ghost use Rattle.report_text.specs.Inner.{AreRuns, IsRun, gap_lines, ring_lines};
+ghost use Rattle.report_text.specs.Texts.{causes_text, gaps_text, last_lines, layer_text, waived_text};
 
-use crate::kind::{KINDS, Kind};
+use crate::kind::KINDS;
 use crate::lines::{
-    push_count, push_gap, push_gaps, push_idle, push_lacks, push_last, push_layer, push_meets,
-    push_more, push_ring, push_rules, push_scale,
+    FileNames, GapLine, GapsLine, LacksLine, LastLine, LayerLine, MeetsLine, MoreLine, RingLine,
+    RulesLine, WaiverFile,
 };
 use crate::runs::{Run, runs_of};
 use crate::tallies::{
-    gap_lacks, gaps_left, is_shown, is_shown_on, ring_lacks, rings_by, rings_left, rings_on,
+    gap_lacks, gaps_left, is_shown, is_shown_on, ring_lacks, rings_left, rings_on,
 };
-use crate::waived::{count_waived, longest_why, waived_of, waived_on, why_of};
+use crate::waived::{count_waived, waived_of, waived_on, why_of};
 use crate::words::name_of;
 use crate::{GapLack, LayerHead, RingLack, Telling, Whys};
-use grid_units::Rules;
-use margin_text::{Meets, ScaleLine};
-use printing::{Cut, buffer, make_room, pass_on};
+use printing::Lines;
 use std::alloc::{AllocError, Global};
-use std::io::Write;
-use thiserror::Error;
+use std::fmt;
+use std::fmt::{Display, Formatter};
+use std::marker::Model;
 
-/// Why a report was not printed.
-#[derive(Clone, Copy, Debug, PartialEq, Eq, Error)]
-pub enum PrintFault {
-    /// Memory ran out, and nothing was written.
-    #[error("out of memory before the report was written")]
-    Memory,
-    /// The writer failed. It may have taken a part of the text.
-    #[error("the report was not written to its end")]
-    Cut,
+/// The rings of a report, and what their lines need.
+#[derive(Clone, Copy)]
+struct RingPage<'a> {
+    /// The names of the files of the package.
+    names: &'a [&'a str],
+    /// All holes that lack their ring.
+    rings: &'a [RingLack],
+    /// The reasons why they are accepted.
+    whys: &'a [Option<&'a str>],
+    /// How many findings are shown at most.
+    limit: Option<usize>,
 }
 
-/// Gathers the first line.
-fn gather_rules<W: Write>(text: &mut String, rules: &Rules, out: &mut W) -> Result<(), Cut>
-    ensures { OnOk result (PassesOn (W.contents out.old) (string_bytes text.old) (W.contents out.new) (string_bytes text.new) (rules_line rules.now)) }
+/// Writes the lines of those rings on the layer of a run that are shown.
+fn write_rings<W: fmt::Write>(f: &mut Formatter<W>, page: &RingPage, run: Run) -> fmt::Result
+    requires { IsRun page.now.rings.now (length page.now.rings.now) run.layer run }
+    ensures { DisplaysOnOk W.write_str_gives f.old result (Some (ring_lines (map (λ name. name.now) page.now.names.now) page.now.whys.now page.now.limit run.layer (enumerate_from 0 page.now.rings.now))) f.new }
 {
-    make_room(text, out)?;
-    match push_rules(text, rules) {
-        Ok(()) => Ok(()),
-        Err(_) => Err(Cut),
-    }
-}
-
-/// Appends the line of a layer, by its run and its head.
-fn push_head(
-    text: &mut String,
-    names: &[&str],
-    rings: &[RingLack],
-    whys: &[Option<&str>],
-    run: Run,
-    head: &LayerHead,
-) -> Result<(), AllocError>
-    requires { IsRun rings.now (length rings.now) run.layer run }
-    ensures { OnOk result (string_bytes text.new ≡ string_bytes text.old ++ layer_line (name_of (map (λ name. name.now) names.now) head.now.file) (count_by (λ lack. lack.layer == run.layer) rings.now) head.now.asked (waived_on whys.now run.layer rings.now)) }
-{
-    let lacking = rings_on(rings, run);
-    let waived = waived_on(whys, run, rings);
-    push_layer(text, name_of(names, head.file), lacking, head.asked, waived)
-}
-
-/// Gathers the line of a layer, by its run and its head.
-fn gather_head<W: Write>(
-    text: &mut String,
-    names: &[&str],
-    rings: &[RingLack],
-    whys: &[Option<&str>],
-    run: Run,
-    head: &LayerHead,
-    out: &mut W,
-) -> Result<(), Cut>
-    requires { IsRun rings.now (length rings.now) run.layer run }
-    ensures { OnOk result (PassesOn (W.contents out.old) (string_bytes text.old) (W.contents out.new) (string_bytes text.new) (layer_line (name_of (map (λ name. name.now) names.now) head.now.file) (count_by (λ lack. lack.layer == run.layer) rings.now) head.now.asked (waived_on whys.now run.layer rings.now))) }
-{
-    make_room(text, out)?;
-    match push_head(text, names, rings, whys, run, head) {
-        Ok(()) => Ok(()),
-        Err(_) => Err(Cut),
-    }
-}
-
-/// Gathers the line of a hole that lacks its ring, if it is shown.
-fn gather_ring<W: Write>(
-    text: &mut String,
-    names: &[&str],
-    lack: &RingLack,
-    why: Option<&str>,
-    shown: bool,
-    out: &mut W,
-) -> Result<(), Cut>
-    ensures { OnOk result (PassesOn (W.contents out.old) (string_bytes text.old) (W.contents out.new) (string_bytes text.new) (if shown then ring_line (map (λ name. name.now) names.now) lack.now why.entry else [])) }
-{
-    if !shown {
-        return Ok(());
-    }
-    make_room(text, out)?;
-    match push_ring(text, names, lack, why) {
-        Ok(()) => Ok(()),
-        Err(_) => Err(Cut),
-    }
-}
-
-/// Gathers the lines of those rings on the layer of a run that are shown.
-fn gather_rings<W: Write>(
-    text: &mut String,
-    names: &[&str],
-    rings: &[RingLack],
-    whys: &[Option<&str>],
-    run: Run,
-    most: Option<usize>,
-    out: &mut W,
-) -> Result<(), Cut>
-    requires { IsRun rings.now (length rings.now) run.layer run }
-    ensures { OnOk result (PassesOn (W.contents out.old) (string_bytes text.old) (W.contents out.new) (string_bytes text.new) (flat_map (λ finding. ring_line (map (λ name. name.now) names.now) finding.1 (why_at whys.now finding.0)) (filter (λ finding. is_shown most finding.0) (rings_on run.layer rings.now)))) }
-{
+    let (names, rings) = (page.names, page.rings);
     for i in run.first..run.behind {
-        let shown = is_shown_on(&rings[i], run.layer, most, i as u128);
-        gather_ring(text, names, &rings[i], why_of(whys, i), shown, out)?;
+        let lack = &rings[i];
+        if !is_shown_on(lack, run.layer, page.limit, i as u128) {
+            continue;
+        }
+        let why = why_of(page.whys, i);
+        write!(f, "{}", RingLine { names, lack, why })?;
     }
     Ok(())
 }
 
-/// Gathers the number of those rings on the layer of a run that are not shown.
-fn gather_rings_left<W: Write>(
-    text: &mut String,
-    rings: &[RingLack],
-    run: Run,
-    most: Option<usize>,
-    out: &mut W,
-) -> Result<(), Cut>
-    requires { IsRun rings.now (length rings.now) run.layer run }
-    ensures { OnOk result (PassesOn (W.contents out.old) (string_bytes text.old) (W.contents out.new) (string_bytes text.new) (more_line (count_by (λ finding. not (is_shown most finding.0)) (filter (λ finding. finding.1.layer == run.layer) (enumerate_from 0 rings.now))))) }
-{
-    make_room(text, out)?;
-    match push_more(text, rings_left(rings, run, most)) {
-        Ok(()) => Ok(()),
-        Err(_) => Err(Cut),
-    }
-}
-
-/// Gathers a layer, by its run and its head.
-fn gather_layer<W: Write>(
-    text: &mut String,
-    names: &[&str],
-    rings: &[RingLack],
-    whys: &[Option<&str>],
+/// Writes a layer, by its run and its head: its line, the lines of its rings that are shown, and how many others there are.
+fn write_layer<W: fmt::Write>(
+    f: &mut Formatter<W>,
+    page: &RingPage,
     run: Run,
     head: &LayerHead,
-    most: Option<usize>,
-    out: &mut W,
-) -> Result<(), Cut>
-    requires { IsRun rings.now (length rings.now) run.layer run }
-    ensures { OnOk result (PassesOn (W.contents out.old) (string_bytes text.old) (W.contents out.new) (string_bytes text.new) (layer_text (map (λ name. name.now) names.now) most rings.now whys.now (run.layer, head.now))) }
+) -> fmt::Result
+    requires { IsRun page.now.rings.now (length page.now.rings.now) run.layer run }
+    ensures { DisplaysOnOk W.write_str_gives f.old result (Some (layer_text (map (λ name. name.now) page.now.names.now) page.now.limit page.now.rings.now page.now.whys.now (run.layer, head.now))) f.new }
 {
-    gather_head(text, names, rings, whys, run, head, out)?;
-    gather_rings(text, names, rings, whys, run, most, out)?;
-    gather_rings_left(text, rings, run, most, out)
+    let line = LayerLine {
+        name: name_of(page.names, head.file),
+        lacking: rings_on(page.rings, run),
+        asked: head.asked,
+        waived: waived_on(page.whys, run, page.rings),
+    };
+    write!(f, "{line}")?;
+    write_rings(f, page, run)?;
+    write!(f, "{}", MoreLine(rings_left(page.rings, run, page.limit)))
 }
 
-/// Gathers the layers, by their runs and their heads.
-fn gather_layers<W: Write>(
-    text: &mut String,
-    names: &[&str],
-    layers: &[LayerHead],
+/// Writes the layers, by their runs and their heads.
+fn write_layers<W: fmt::Write>(
+    f: &mut Formatter<W>,
+    page: &RingPage,
     runs: &[Run],
-    rings: &[RingLack],
-    whys: &[Option<&str>],
-    most: Option<usize>,
-    out: &mut W,
-) -> Result<(), Cut>
+    layers: &[LayerHead],
+) -> fmt::Result
     requires length { length runs.now ≡ length layers.now }
-    requires runs { AreRuns rings.now (length rings.now) runs.now }
-    ensures { OnOk result (PassesOn (W.contents out.old) (string_bytes text.old) (W.contents out.new) (string_bytes text.new) (flat_map (layer_text (map (λ name. name.now) names.now) most rings.now whys.now) (enumerate_from 0 layers.now))) }
+    requires runs { AreRuns page.now.rings.now (length page.now.rings.now) runs.now }
+    ensures { DisplaysOnOk W.write_str_gives f.old result (Some (flat_map (layer_text (map (λ name. name.now) page.now.names.now) page.now.limit page.now.rings.now page.now.whys.now) (enumerate_from 0 layers.now))) f.new }
 {
     for i in 0..layers.len() {
-        gather_layer(text, names, rings, whys, runs[i], &layers[i], most, out)?;
+        write_layer(f, page, runs[i], &layers[i])?;
     }
     Ok(())
 }
 
-/// Appends the line of the gaps: how many are lacking, and how many of them are waived.
-fn push_gaps_line(
-    text: &mut String,
-    gaps: &[GapLack],
-    whys: &[Option<&str>],
-) -> Result<(), AllocError>
-    ensures { OnOk result (string_bytes text.new ≡ string_bytes text.old ++ gaps_line (length gaps.now) (waived_of whys.now (length gaps.now))) }
-{
-    let waived = waived_of(whys, gaps.len());
-    push_gaps(text, gaps.len(), waived)
-}
-
-/// Gathers the line of the gaps.
-fn gather_gaps_line<W: Write>(
-    text: &mut String,
-    gaps: &[GapLack],
-    whys: &[Option<&str>],
-    out: &mut W,
-) -> Result<(), Cut>
-    ensures { OnOk result (PassesOn (W.contents out.old) (string_bytes text.old) (W.contents out.new) (string_bytes text.new) (gaps_line (length gaps.now) (waived_of whys.now (length gaps.now)))) }
-{
-    make_room(text, out)?;
-    match push_gaps_line(text, gaps, whys) {
-        Ok(()) => Ok(()),
-        Err(_) => Err(Cut),
-    }
-}
-
-/// Gathers the number of the gaps that are not shown, after this many rings.
-fn gather_gaps_left<W: Write>(
-    text: &mut String,
-    gaps: &[GapLack],
+/// The gaps that are lacking, after the rings: their number, the lines of those that are shown, and how many others there are.
+#[derive(Clone, Copy)]
+struct GapsText<'a> {
+    /// The names of the files of the package.
+    names: &'a [&'a str],
+    gaps: &'a [GapLack],
+    /// The reasons why they are accepted.
+    whys: &'a [Option<&'a str>],
+    /// How many rings come before them.
     rings: usize,
-    most: Option<usize>,
-    out: &mut W,
-) -> Result<(), Cut>
-    ensures { OnOk result (PassesOn (W.contents out.old) (string_bytes text.old) (W.contents out.new) (string_bytes text.new) (more_line (count_by (λ finding. not (is_shown most finding.0)) (enumerate_from rings gaps.now)))) }
-{
-    make_room(text, out)?;
-    match push_more(text, gaps_left(gaps, rings, most)) {
-        Ok(()) => Ok(()),
-        Err(_) => Err(Cut),
-    }
+    /// How many findings are shown at most.
+    limit: Option<usize>,
 }
 
-/// Gathers the line of two holes that lack their gap, if it is shown.
-fn gather_gap<W: Write>(
-    text: &mut String,
-    names: &[&str],
-    lack: &GapLack,
-    why: Option<&str>,
-    shown: bool,
-    out: &mut W,
-) -> Result<(), Cut>
-    ensures { OnOk result (PassesOn (W.contents out.old) (string_bytes text.old) (W.contents out.new) (string_bytes text.new) (if shown then gap_line (map (λ name. name.now) names.now) lack.now why.entry else [])) }
+/// Writes the lines of the gaps that are shown.
+fn write_gaps<W: fmt::Write>(f: &mut Formatter<W>, text: &GapsText) -> fmt::Result
+    ensures { DisplaysOnOk W.write_str_gives f.old result (Some (gap_lines (map (λ name. name.now) text.now.names.now) text.now.whys.now text.now.limit text.now.rings (enumerate_from text.now.rings text.now.gaps.now))) f.new }
 {
-    if !shown {
-        return Ok(());
-    }
-    make_room(text, out)?;
-    match push_gap(text, names, lack, why) {
-        Ok(()) => Ok(()),
-        Err(_) => Err(Cut),
-    }
-}
-
-/// Gathers the lines of the gaps that are shown, after this many rings.
-fn gather_gaps<W: Write>(
-    text: &mut String,
-    names: &[&str],
-    gaps: &[GapLack],
-    whys: &[Option<&str>],
-    rings: usize,
-    most: Option<usize>,
-    out: &mut W,
-) -> Result<(), Cut>
-    ensures { OnOk result (PassesOn (W.contents out.old) (string_bytes text.old) (W.contents out.new) (string_bytes text.new) (flat_map (λ finding. gap_line (map (λ name. name.now) names.now) finding.1 (why_at whys.now (finding.0 - rings))) (filter (λ finding. is_shown most finding.0) (enumerate_from rings gaps.now)))) }
-{
+    let (names, gaps) = (text.names, text.gaps);
     for i in 0..gaps.len() {
-        let shown = is_shown(most, rings as u128 + i as u128);
-        gather_gap(text, names, &gaps[i], why_of(whys, i), shown, out)?;
+        let lack = &gaps[i];
+        if !is_shown(text.limit, text.rings as u128 + i as u128) {
+            continue;
+        }
+        let why = why_of(text.whys, i);
+        write!(f, "{}", GapLine { names, lack, why })?;
     }
     Ok(())
 }
 
-/// Gathers the gaps.
-fn gather_all_gaps<W: Write>(
-    text: &mut String,
-    names: &[&str],
-    gaps: &[GapLack],
-    whys: &[Option<&str>],
-    rings: usize,
-    most: Option<usize>,
-    out: &mut W,
-) -> Result<(), Cut>
-    ensures { OnOk result (PassesOn (W.contents out.old) (string_bytes text.old) (W.contents out.new) (string_bytes text.new) (gaps_text (map (λ name. name.now) names.now) most rings gaps.now whys.now)) }
-{
-    gather_gaps_line(text, gaps, whys, out)?;
-    gather_gaps(text, names, gaps, whys, rings, most, out)?;
-    gather_gaps_left(text, gaps, rings, most, out)
-}
+impl Display for GapsText<'_> {
+    ghost output = { λ text. Some (gaps_text (map (λ name. name.now) text.names.now) text.limit text.rings text.gaps.now text.whys.now) };
 
-/// Gathers the rules and the findings, by the runs of the layers.
-fn gather_findings<W: Write>(
-    text: &mut String,
-    names: &[&str],
-    telling: &Telling,
-    runs: &[Run],
-    most: Option<usize>,
-    whys: &Whys,
-    out: &mut W,
-) -> Result<(), Cut>
-    requires length { length runs.now ≡ length telling.now.layers.items }
-    requires runs { AreRuns telling.now.rings.items (length telling.now.rings.items) runs.now }
-    ensures { OnOk result (PassesOn (W.contents out.old) (string_bytes text.old) (W.contents out.new) (string_bytes text.new) (findings_text (map (λ name. name.now) names.now) telling.now most whys.now.rings.now whys.now.gaps.now)) }
-{
-    let rings = telling.rings.as_slice();
-    gather_rules(text, &telling.rules, out)?;
-    gather_layers(
-        text,
-        names,
-        &telling.layers,
-        runs,
-        rings,
-        whys.rings,
-        most,
-        out,
-    )?;
-    gather_all_gaps(
-        text,
-        names,
-        &telling.gaps,
-        whys.gaps,
-        rings.len(),
-        most,
-        out,
-    )
-}
-
-/// Gathers the line of a kind of cause.
-fn gather_kind<W: Write>(
-    text: &mut String,
-    rings: &[RingLack],
-    kind: Kind,
-    out: &mut W,
-) -> Result<(), Cut>
-    ensures { OnOk result (PassesOn (W.contents out.old) (string_bytes text.old) (W.contents out.new) (string_bytes text.new) (kind_line rings.now kind)) }
-{
-    make_room(text, out)?;
-    match push_count(text, kind, rings_by(rings, kind)) {
-        Ok(()) => Ok(()),
-        Err(_) => Err(Cut),
+    fn fmt<W: fmt::Write>(&self, f: &mut Formatter<W>) -> fmt::Result {
+        let lacking = self.gaps.len();
+        let waived = waived_of(self.whys, lacking);
+        write!(f, "{}", GapsLine { lacking, waived })?;
+        write_gaps(f, self)?;
+        let left = gaps_left(self.gaps, self.rings, self.limit);
+        write!(f, "{}", MoreLine(left))
     }
 }
 
-/// Gathers the lines of some kinds of causes.
-fn gather_kinds<W: Write>(
-    text: &mut String,
-    rings: &[RingLack],
-    kinds: &[Kind],
-    out: &mut W,
-) -> Result<(), Cut>
-    ensures { OnOk result (PassesOn (W.contents out.old) (string_bytes text.old) (W.contents out.new) (string_bytes text.new) (flat_map (kind_line rings.now) kinds.now)) }
-{
-    for kind in kinds {
-        gather_kind(text, rings, *kind, out)?;
-    }
-    Ok(())
+/// The causes, the lacks, and the drill files whose coordinates seem to be off by a factor.
+#[derive(Clone, Copy)]
+struct CausesText<'a> {
+    /// The names of the files of the package.
+    names: &'a [&'a str],
+    telling: &'a Telling,
 }
 
-/// Appends the lines of the least and the greatest lacks.
-fn push_all_lacks(text: &mut String, rings: &[RingLack], gaps: &[GapLack]) -> Result<(), AllocError>
-    ensures { OnOk result (string_bytes text.new ≡ string_bytes text.old ++ lacks_text rings.now gaps.now) }
-{
-    push_lacks(text, "rings lack ", ring_lacks(rings))?;
-    push_lacks(text, "gaps lack ", gap_lacks(gaps))
-}
+impl Display for CausesText<'_> {
+    ghost output = { λ text. Some (causes_text (map (λ name. name.now) text.names.now) text.telling.now) };
 
-/// Gathers the lines of the least and the greatest lacks.
-fn gather_lacks<W: Write>(
-    text: &mut String,
-    rings: &[RingLack],
-    gaps: &[GapLack],
-    out: &mut W,
-) -> Result<(), Cut>
-    ensures { OnOk result (PassesOn (W.contents out.old) (string_bytes text.old) (W.contents out.new) (string_bytes text.new) (lacks_text rings.now gaps.now)) }
-{
-    make_room(text, out)?;
-    match push_all_lacks(text, rings, gaps) {
-        Ok(()) => Ok(()),
-        Err(_) => Err(Cut),
+    fn fmt<W: fmt::Write>(&self, f: &mut Formatter<W>) -> fmt::Result {
+        let rings = self.telling.rings.as_slice();
+        let kinds = Lines {
+            page: &rings,
+            lines: &KINDS,
+        };
+        let ring_lacks = LacksLine {
+            words: "rings lack ",
+            lacks: ring_lacks(rings),
+        };
+        let gap_lacks = LacksLine {
+            words: "gaps lack ",
+            lacks: gap_lacks(&self.telling.gaps),
+        };
+        let scales = Lines {
+            page: &FileNames(self.names),
+            lines: &self.telling.scales,
+        };
+        write!(f, "{kinds}{ring_lacks}{gap_lacks}{scales}")
     }
 }
 
-/// Gathers the line of a drill file whose coordinates seem to be off by a factor.
-fn gather_scale<W: Write>(
-    text: &mut String,
-    names: &[&str],
-    line: &ScaleLine,
-    out: &mut W,
-) -> Result<(), Cut>
-    ensures { OnOk result (PassesOn (W.contents out.old) (string_bytes text.old) (W.contents out.new) (string_bytes text.new) (scale_line (map (λ name. name.now) names.now) line.now)) }
-{
-    make_room(text, out)?;
-    match push_scale(text, names, line) {
-        Ok(()) => Ok(()),
-        Err(_) => Err(Cut),
+/// The last lines: the rules that the package meets, the waivers that waive nothing, and the result.
+#[derive(Clone, Copy)]
+struct LastLines<'a> {
+    telling: &'a Telling,
+    whys: &'a Whys<'a>,
+}
+
+impl Display for LastLines<'_> {
+    ghost output = { λ text. Some (last_lines text.telling.now text.whys.now.rings.now text.whys.now.gaps.now text.whys.now.idle.now) };
+
+    fn fmt<W: fmt::Write>(&self, f: &mut Formatter<W>) -> fmt::Result {
+        let (rings, gaps) = (self.telling.rings.len(), self.telling.gaps.len());
+        let findings = rings as u128 + gaps as u128;
+        let waived = count_waived(self.telling, self.whys);
+        let idle = Lines {
+            page: &WaiverFile,
+            lines: self.whys.idle,
+        };
+        let last = LastLine { findings, waived };
+        write!(f, "{}{idle}{last}", MeetsLine(self.telling.meets))
     }
 }
 
-/// Gathers the lines of the drill files whose coordinates seem to be off by a factor.
-fn gather_scales<W: Write>(
-    text: &mut String,
-    names: &[&str],
-    lines: &[ScaleLine],
-    out: &mut W,
-) -> Result<(), Cut>
-    ensures { OnOk result (PassesOn (W.contents out.old) (string_bytes text.old) (W.contents out.new) (string_bytes text.new) (flat_map (scale_line (map (λ name. name.now) names.now)) lines.now)) }
-{
-    for line in lines {
-        gather_scale(text, names, line, out)?;
-    }
-    Ok(())
+/// The text of a report for people, for clauses the bytes that are printed. A finding with a reason has it in its line, and is not
+/// counted in the last line, which is `WAIVED 6` where each of the 6 findings has a reason. Without findings it is `PASS`.
+#[derive(Drop)]
+pub struct ReportText<'a> {
+    names: &'a [&'a str],
+    telling: &'a Telling,
+    limit: Option<usize>,
+    whys: &'a Whys<'a>,
+    runs: Vec<Run>,
 }
 
-/// Gathers the causes, the lacks, and the drill files whose coordinates seem to be off by a factor.
-fn gather_causes<W: Write>(
-    text: &mut String,
-    names: &[&str],
-    telling: &Telling,
-    out: &mut W,
-) -> Result<(), Cut>
-    ensures { OnOk result (PassesOn (W.contents out.old) (string_bytes text.old) (W.contents out.new) (string_bytes text.new) (causes_text (map (λ name. name.now) names.now) telling.now)) }
-{
-    let rings = telling.rings.as_slice();
-    gather_kinds(text, rings, &KINDS, out)?;
-    gather_lacks(text, rings, &telling.gaps, out)?;
-    gather_scales(text, names, &telling.scales, out)
+impl<'a> Model for ReportText<'a> {
+    ghost Value = { List ℕ };
+
+    ghost view = { λ text. waived_text (map (λ name. name.now) text.names.now) text.telling.now text.limit text.whys.now };
+
+    ghost invariant = { λ text. (length text.runs.items ≡ length text.telling.now.layers.items) × AreRuns text.telling.now.rings.items (length text.telling.now.rings.items) text.runs.items };
 }
 
-/// Gathers the line of the rules that the package meets.
-fn gather_meets<W: Write>(text: &mut String, meets: &Meets, out: &mut W) -> Result<(), Cut>
-    ensures { OnOk result (PassesOn (W.contents out.old) (string_bytes text.old) (W.contents out.new) (string_bytes text.new) (meets_line meets.now)) }
-{
-    make_room(text, out)?;
-    match push_meets(text, meets) {
-        Ok(()) => Ok(()),
-        Err(_) => Err(Cut),
-    }
-}
-
-/// Gathers the line of a waiver that waives nothing.
-fn gather_idle<W: Write>(text: &mut String, number: usize, out: &mut W) -> Result<(), Cut>
-    ensures { OnOk result (PassesOn (W.contents out.old) (string_bytes text.old) (W.contents out.new) (string_bytes text.new) (idle_line number)) }
-{
-    make_room(text, out)?;
-    match push_idle(text, number) {
-        Ok(()) => Ok(()),
-        Err(_) => Err(Cut),
+impl<'a> ReportText<'a> {
+    /// The text of a report for people, with the reasons why findings are accepted. `names` are those of the package's files, `limit`
+    /// is how many findings are shown at most. The rings may be in any order: what is allocated is a place for each layer, with the
+    /// range from its first to its last ring, and only these are visited for its lines. Printing allocates nothing.
+    ///
+    /// # Errors
+    ///
+    /// An `AllocError` when memory runs out.
+    pub fn new(
+        alloc: Global,
+        names: &'a [&'a str],
+        telling: &'a Telling,
+        limit: Option<usize>,
+        whys: &'a Whys<'a>,
+    ) -> Result<ReportText<'a>, AllocError>
+        ensures { IfOk result (λ text. text ≡ waived_text (map (λ name. name.now) names.now) telling.now limit whys.now) }
+    {
+        let runs = runs_of(alloc, telling.layers.len(), &telling.rings)?;
+        Ok(ReportText {
+            names,
+            telling,
+            limit,
+            whys,
+            runs,
+        })
     }
 }
 
-/// Gathers the lines of the waivers that waive nothing.
-fn gather_all_idle<W: Write>(text: &mut String, idle: &[usize], out: &mut W) -> Result<(), Cut>
-    ensures { OnOk result (PassesOn (W.contents out.old) (string_bytes text.old) (W.contents out.new) (string_bytes text.new) (flat_map idle_line idle.now)) }
-{
-    for number in idle {
-        gather_idle(text, *number, out)?;
-    }
-    Ok(())
-}
+impl Display for ReportText<'_> {
+    ghost output = { λ text. Some text };
 
-/// Appends the last line.
-fn push_end(text: &mut String, telling: &Telling, whys: &Whys) -> Result<(), AllocError>
-    ensures { OnOk result (string_bytes text.new ≡ string_bytes text.old ++ last_line (length telling.now.rings.items + length telling.now.gaps.items) (waived_in telling.now whys.now.rings.now whys.now.gaps.now)) }
-{
-    let findings = telling.rings.len() as u128 + telling.gaps.len() as u128;
-    push_last(text, findings, count_waived(telling, whys))
-}
-
-/// Gathers the last line, and writes the rest.
-fn end<W: Write>(text: &mut String, telling: &Telling, whys: &Whys, out: &mut W) -> Result<(), Cut>
-    ensures { OnOk result (Appends (W.contents out.old) (W.contents out.new) (string_bytes text.old ++ last_line (length telling.now.rings.items + length telling.now.gaps.items) (waived_in telling.now whys.now.rings.now whys.now.gaps.now))) }
-{
-    match push_end(text, telling, whys) {
-        Ok(()) => pass_on(text, out),
-        Err(_) => Err(Cut),
-    }
-}
-
-/// Gathers the last lines, and writes the rest.
-fn print_last<W: Write>(
-    text: &mut String,
-    telling: &Telling,
-    whys: &Whys,
-    out: &mut W,
-) -> Result<(), Cut>
-    ensures { OnOk result (Appends (W.contents out.old) (W.contents out.new) (string_bytes text.old ++ last_lines telling.now whys.now.rings.now whys.now.gaps.now whys.now.idle.now)) }
-{
-    gather_meets(text, &telling.meets, out)?;
-    gather_all_idle(text, whys.idle, out)?;
-    end(text, telling, whys, out)
-}
-
-/// Prints the bytes of `text`, and then the text of a report, by the runs of its layers.
-fn print_lines<W: Write>(
-    text: &mut String,
-    names: &[&str],
-    telling: &Telling,
-    runs: &[Run],
-    most: Option<usize>,
-    whys: &Whys,
-    out: &mut W,
-) -> Result<(), Cut>
-    requires length { length runs.now ≡ length telling.now.layers.items }
-    requires runs { AreRuns telling.now.rings.items (length telling.now.rings.items) runs.now }
-    ensures { OnOk result (Appends (W.contents out.old) (W.contents out.new) (string_bytes text.old ++ waived_text (map (λ name. name.now) names.now) telling.now most whys.now)) }
-{
-    gather_findings(text, names, telling, runs, most, whys, out)?;
-    gather_causes(text, names, telling, out)?;
-    print_last(text, telling, whys, out)
-}
-
-/// The length of the longest name in bytes.
-fn longest(names: &[&str]) -> usize {
-    let mut longest = 0;
-    for name in names {
-        longest = longest.max(name.len());
-    }
-    longest
-}
-
-/// The most bytes that the names and the reason of a line have.
-fn longest_told(names: &[&str], whys: &Whys) -> usize {
-    let why = longest_why(whys.rings).max(longest_why(whys.gaps));
-    longest(names).saturating_mul(2).saturating_add(why)
-}
-
-/// An empty buffer with room for the lines that are gathered before they are written, with two names and a reason in each.
-fn room(alloc: Global, names: &[&str], whys: &Whys) -> Result<String, AllocError>
-    ensures { IfOk result (λ text. string_bytes text ≡ []) }
-{
-    let mut text = buffer(alloc)?;
-    let more = longest_told(names, whys);
-    text.reserve(text.capacity().saturating_add(more))?;
-    Ok(text)
-}
-
-/// Prints the text of a report for people, with the reasons why findings are accepted. `names` are those of the package's files, `most`
-/// is how many findings are shown at most. A finding with a reason has it in its line, and is not counted in the last line, which is
-/// `WAIVED` where each finding has a reason. The text is written in parts: the buffer, with room for the longest reason, and a place for
-/// each layer are taken before the first of them is written, so a long report takes no more memory than a short one. The rings may be
-/// in any order; for each layer only those from its first to its last one are visited.
-///
-/// # Errors
-///
-/// [`PrintFault::Memory`] when memory runs out, and then nothing was written; [`PrintFault::Cut`] when the writer fails.
-pub fn print_waived<W: Write>(
-    alloc: Global,
-    names: &[&str],
-    telling: &Telling,
-    most: Option<usize>,
-    whys: &Whys,
-    out: &mut W,
-) -> Result<(), PrintFault>
-    ensures ok { OnOk result (Appends (W.contents out.old) (W.contents out.new) (waived_text (map (λ name. name.now) names.now) telling.now most whys.now)) }
-    ensures memory { IfErr result (λ e. e ≡ PrintFault.Memory → W.contents out.new ≡ W.contents out.old) }
-{
-    let Ok(mut text) = room(alloc, names, whys) else {
-        return Err(PrintFault::Memory);
-    };
-    let Ok(runs) = runs_of(alloc, telling.layers.len(), &telling.rings) else {
-        return Err(PrintFault::Memory);
-    };
-    match print_lines(&mut text, names, telling, &runs, most, whys, out) {
-        Ok(()) => Ok(()),
-        Err(_) => Err(PrintFault::Cut),
-    }
-}
-
-/// Prints the text of a report for people. `names` are those of the package's files, `most` is how many findings are shown at most. The
-/// text is written in parts: the buffer and a place for each layer are taken before the first of them is written, so a long report takes
-/// no more memory than a short one.
-///
-/// # Errors
-///
-/// [`PrintFault::Memory`] when memory runs out, and then nothing was written; [`PrintFault::Cut`] when the writer fails.
-pub fn print_telling<W: Write>(
-    alloc: Global,
-    names: &[&str],
-    telling: &Telling,
-    most: Option<usize>,
-    out: &mut W,
-) -> Result<(), PrintFault>
-    ensures ok { OnOk result (Appends (W.contents out.old) (W.contents out.new) (telling_text (map (λ name. name.now) names.now) telling.now most)) }
-    ensures memory { IfErr result (λ e. e ≡ PrintFault.Memory → W.contents out.new ≡ W.contents out.old) }
-{
-    let none = Whys {
-        rings: &[],
-        gaps: &[],
-        idle: &[],
-    };
-    print_waived(alloc, names, telling, most, &none, out)
-}
-
-/// The text of a report for people. `names` are those of the package's files, `most` is how many findings are shown at most.
-///
-/// # Errors
-///
-/// An `AllocError` when memory runs out.
-pub fn write_telling(
-    alloc: Global,
-    names: &[&str],
-    telling: &Telling,
-    most: Option<usize>,
-) -> Result<Vec<u8>, AllocError>
-    ensures { IfOk result (λ text. text.items ≡ telling_text (map (λ name. name.now) names.now) telling.now most) }
-{
-    let mut text = Vec::new(alloc);
-    match print_telling(alloc, names, telling, most, &mut text) {
-        Ok(()) => Ok(text),
-        Err(_) => Err(AllocError),
+    fn fmt<W: fmt::Write>(&self, f: &mut Formatter<W>) -> fmt::Result {
+        let (names, telling) = (self.names, self.telling);
+        let (limit, whys) = (self.limit, self.whys);
+        let rings = RingPage {
+            names,
+            rings: &telling.rings,
+            whys: whys.rings,
+            limit,
+        };
+        let gaps = GapsText {
+            names,
+            gaps: &telling.gaps,
+            whys: whys.gaps,
+            rings: telling.rings.len(),
+            limit,
+        };
+        let causes = CausesText { names, telling };
+        write!(f, "{}", RulesLine(&telling.rules))?;
+        write_layers(f, &rings, &self.runs, &telling.layers)?;
+        write!(f, "{gaps}{causes}{}", LastLines { telling, whys })
     }
 }

@@ -2,7 +2,7 @@
 
 ghost use Rattle.std.specs.Prelude.{◌≡◌, ◌≤◌, ◌==◌, ◌&&◌, ◌+◌, length};
 ghost use Rattle.report_text.specs.Inner.{IsRun};
-ghost use Rattle.report_text.specs.Texts.{is_waived, longest_why, waived_in, waived_of, waived_on, why_at, why_length};
+ghost use Rattle.report_text.specs.Texts.{is_waived, waived_in, waived_of, waived_on, why_at};
 
 use crate::runs::Run;
 use crate::tallies::one_if;
@@ -16,27 +16,6 @@ pub fn why_of<'a>(whys: &[Option<&'a str>], place: usize) -> Option<&'a str>
         Some(why) => *why,
         None => None,
     }
-}
-
-/// The length of a reason in bytes, 0 where there is none.
-fn why_length(why: Option<&str>) -> usize
-    ensures { result ≡ why_length why.entry }
-{
-    match why {
-        Some(why) => why.len(),
-        None => 0,
-    }
-}
-
-/// The length of the longest reason in bytes, 0 where there is none.
-pub fn longest_why(whys: &[Option<&str>]) -> usize
-    ensures { result ≡ longest_why whys.now }
-{
-    let mut longest = 0;
-    for why in whys {
-        longest = longest.max(why_length(*why));
-    }
-    longest
 }
 
 /// Whether the finding at a place is waived.

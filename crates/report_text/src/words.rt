@@ -1,17 +1,17 @@
 //! The words for holes, pads and causes.
 
-ghost use Rattle.std.specs.Prelude.{◌≡◌, ◌*◌, ◌-ℤ◌, ◌++◌, pos, codes, map, OnOk, string_bytes};
+ghost use Rattle.std.specs.Prelude.{◌≡◌, ◌*◌, ◌-ℤ◌, pos, map, Some};
 ghost use Rattle.grid_units.specs.Points.{IsCoordinate};
-ghost use Rattle.report_text.specs.Texts.{bare_words, cause_words, drilled_words, ends_words, flash_words, halfway, height_of, hole_middle, hole_words, in_pad_words, measured_words, name_of, number_words, off_words, other_words, pad_words, place_words, point_words, shape_word, told_words, two_lengths, width_of};
+ghost use Rattle.report_text.specs.Texts.{cause_words, drilled_words, halfway, height_of, hole_middle, hole_words, in_pad_words, name_of, pad_words, place_words, point_words, shape_word, width_of};
 
 use crate::kind::{Kind, flash_kind, kind_words};
 use crate::{HoleAt, InPad, RingCause};
 use grid_units::{Hole, Point};
 use margins::Deep;
 use pad_shapes::Pad;
-use printing::{push_short_mm, push_words};
-use std::alloc::AllocError;
-use std::fmt::Write;
+use printing::ShortMillimetres;
+use std::fmt;
+use std::fmt::{Display, Formatter};
 
 /// The name of a file of the package, by its index; empty where it has none.
 pub fn name_of<'a>(names: &[&'a str], file: usize) -> &'a str
@@ -23,38 +23,18 @@ pub fn name_of<'a>(names: &[&'a str], file: usize) -> &'a str
     }
 }
 
-/// Appends two lengths in pm, with words between.
-#[tactic(auto, unfolding(crate::specs::Texts::two_lengths))]
-pub(crate) fn push_two(
-    text: &mut String,
-    first: i64,
-    between: &str,
-    second: i64,
-) -> Result<(), AllocError>
-    ensures { OnOk result (string_bytes text.new ≡ string_bytes text.old ++ two_lengths first between.now second) }
-{
-    push_short_mm(text, first)?;
-    push_words(text, between)?;
-    push_short_mm(text, second)
-}
+/// A point: `142.24,-97.79`.
+#[derive(Clone, Copy)]
+struct PointWords(Point);
 
-/// Appends a point: `142.24,-97.79`.
-fn push_point(text: &mut String, at: Point) -> Result<(), AllocError>
-    ensures { OnOk result (string_bytes text.new ≡ string_bytes text.old ++ point_words at) }
-{
-    push_two(text, at.x(), ",", at.y())
-}
+impl Display for PointWords {
+    ghost output = { λ words. Some (point_words words.0) };
 
-/// Appends the centre of a round hole, or both ends of a slot.
-fn push_ends(text: &mut String, hole: &Hole) -> Result<(), AllocError>
-    ensures { OnOk result (string_bytes text.new ≡ string_bytes text.old ++ ends_words hole.now) }
-{
-    push_point(text, hole.from())?;
-    if hole.is_round() {
-        return Ok(());
+    #[tactic(auto, unfolding(crate::specs::Texts::two_lengths))]
+    fn fmt<W: fmt::Write>(&self, f: &mut Formatter<W>) -> fmt::Result {
+        let (x, y) = (self.0.x(), self.0.y());
+        write!(f, "{},{}", ShortMillimetres(x), ShortMillimetres(y))
     }
-    push_words(text, " to ")?;
-    push_point(text, hole.to())
 }
 
 /// The diameter of a hole in pm.
@@ -64,63 +44,44 @@ fn diameter(hole: &Hole) -> i64
     2 * hole.radius()
 }
 
-/// Appends the diameter of a hole, and where it is.
-///
-/// # Errors
-///
-/// An `AllocError` when memory runs out.
-#[tactic(auto, unfolding(crate::specs::Texts::drilled_words))]
-pub fn push_drilled(text: &mut String, hole: &Hole) -> Result<(), AllocError>
-    ensures { OnOk result (string_bytes text.new ≡ string_bytes text.old ++ drilled_words hole.now) }
-{
-    push_short_mm(text, diameter(hole))?;
-    push_words(text, " at ")?;
-    push_ends(text, hole)
-}
+/// The diameter of a hole in millimetres, and where it is: the centre of a round hole, or both ends of a slot, as `1 at 0,0 to 2,0`.
+#[derive(Clone, Copy)]
+pub struct DrilledWords<'a>(pub &'a Hole);
 
-/// Appends the number of a hole, and the name of its drill file.
-#[tactic(auto, unfolding(crate::specs::Texts::number_words))]
-fn push_number(text: &mut String, number: usize, name: &str) -> Result<(), AllocError>
-    ensures { OnOk result (string_bytes text.new ≡ string_bytes text.old ++ number_words number name.now) }
-{
-    match write!(text, "hole {number} of {name}, ") {
-        Ok(()) => Ok(()),
-        Err(e) => Err(e),
+impl Display for DrilledWords<'_> {
+    ghost output = { λ words. Some (drilled_words words.0.now) };
+
+    #[tactic(auto, unfolding(crate::specs::Texts::drilled_words))]
+    fn fmt<W: fmt::Write>(&self, f: &mut Formatter<W>) -> fmt::Result {
+        let hole = self.0;
+        let size = ShortMillimetres(diameter(hole));
+        let (from, to) = (PointWords(hole.from()), PointWords(hole.to()));
+        if hole.is_round() {
+            write!(f, "{size} at {from}")
+        } else {
+            write!(f, "{size} at {from} to {to}")
+        }
     }
 }
 
-/// Appends a hole: its number, the name of its drill file, its diameter and where it is.
-pub(crate) fn push_hole(text: &mut String, names: &[&str], at: &HoleAt) -> Result<(), AllocError>
-    ensures { OnOk result (string_bytes text.new ≡ string_bytes text.old ++ hole_words (map (λ name. name.now) names.now) at.now) }
-{
-    push_number(text, at.number, name_of(names, at.drill))?;
-    push_drilled(text, &at.hole)
+/// A hole, with the name of its drill file: `hole 17 of board-PTH.drl, 0.3 at 15.001,13`.
+#[derive(Clone, Copy)]
+pub(crate) struct HoleWords<'a> {
+    /// The names of the files of the package.
+    pub(crate) names: &'a [&'a str],
+    /// The hole.
+    pub(crate) at: &'a HoleAt,
 }
 
-/// Appends words, then two lengths in pm with words between.
-fn push_told(
-    text: &mut String,
-    words: &str,
-    first: i64,
-    between: &str,
-    second: i64,
-) -> Result<(), AllocError>
-    ensures { OnOk result (string_bytes text.new ≡ string_bytes text.old ++ told_words words.now first between.now second) }
-{
-    push_words(text, words)?;
-    push_two(text, first, between, second)
-}
+impl Display for HoleWords<'_> {
+    ghost output = { λ words. Some (hole_words (map (λ name. name.now) words.names.now) words.at.now) };
 
-/// Appends the length of a ring or a gap, and what it lacks.
-pub(crate) fn push_measured(
-    text: &mut String,
-    word: &str,
-    has: i64,
-    lack: i64,
-) -> Result<(), AllocError>
-    ensures { OnOk result (string_bytes text.new ≡ string_bytes text.old ++ measured_words word.now has lack) }
-{
-    push_told(text, word, has, ", lacks ", lack)
+    #[tactic(auto, unfolding(crate::specs::Texts::number_words))]
+    fn fmt<W: fmt::Write>(&self, f: &mut Formatter<W>) -> fmt::Result {
+        let (number, name) = (self.at.number, name_of(self.names, self.at.drill));
+        let drilled = DrilledWords(&self.at.hole);
+        write!(f, "hole {number} of {name}, {drilled}")
+    }
 }
 
 /// The word for the shape of a pad.
@@ -156,12 +117,19 @@ fn height_of(pad: &Pad) -> i64
     }
 }
 
-/// Appends the shape and the sides of a pad.
-fn push_pad(text: &mut String, pad: &Pad) -> Result<(), AllocError>
-    ensures { OnOk result (string_bytes text.new ≡ string_bytes text.old ++ pad_words pad.now) }
-{
-    push_words(text, shape_word(pad))?;
-    push_two(text, width_of(pad), "x", height_of(pad))
+/// The shape and the sides of a pad: `disc 0.6x0.6`.
+#[derive(Clone, Copy)]
+struct PadWords<'a>(&'a Pad);
+
+impl Display for PadWords<'_> {
+    ghost output = { λ words. Some (pad_words words.0.now) };
+
+    #[tactic(auto, unfolding(crate::specs::Texts::two_lengths))]
+    fn fmt<W: fmt::Write>(&self, f: &mut Formatter<W>) -> fmt::Result {
+        let width = ShortMillimetres(width_of(self.0));
+        let height = ShortMillimetres(height_of(self.0));
+        write!(f, "{}{width}x{height}", shape_word(self.0))
+    }
 }
 
 /// Halfway between two coordinates, rounded towards 0.
@@ -196,73 +164,81 @@ fn off_y(at: Point, middle: Point) -> i64
     at.y() - middle.y()
 }
 
-/// Appends the middle of a hole less that of a pad, along x and y.
-fn push_off(text: &mut String, at: Point, middle: Point) -> Result<(), AllocError>
-    ensures { OnOk result (string_bytes text.new ≡ string_bytes text.old ++ off_words at middle) }
-{
-    let (x, y) = (off_x(at, middle), off_y(at, middle));
-    push_told(text, ", hole off by ", x, ",", y)
+/// A pad, and how far the middle of the hole is off its middle: `disc 0.6x0.6, hole off by 0.001,0`.
+#[derive(Clone, Copy)]
+struct PlaceWords<'a> {
+    hole: &'a Hole,
+    pad: &'a Pad,
 }
 
-/// Appends a pad, and how far the hole is off its middle.
-fn push_place(text: &mut String, hole: &Hole, pad: &Pad) -> Result<(), AllocError>
-    ensures { OnOk result (string_bytes text.new ≡ string_bytes text.old ++ place_words hole.now pad.now) }
-{
-    push_pad(text, pad)?;
-    push_off(text, hole_middle(hole), pad.middle())
-}
+impl Display for PlaceWords<'_> {
+    ghost output = { λ words. Some (place_words words.hole.now words.pad.now) };
 
-/// Appends the reason why a hole in a pad lacks its ring, and the number of the pad's flash.
-#[tactic(auto, unfolding(crate::specs::Texts::flash_words))]
-fn push_flash(text: &mut String, words: &str, flash: usize) -> Result<(), AllocError>
-    ensures { OnOk result (string_bytes text.new ≡ string_bytes text.old ++ flash_words words.now flash) }
-{
-    match write!(text, ", {words}: flash {flash}, ") {
-        Ok(()) => Ok(()),
-        Err(e) => Err(e),
+    #[tactic(auto, unfolding(crate::specs::Texts::two_lengths))]
+    fn fmt<W: fmt::Write>(&self, f: &mut Formatter<W>) -> fmt::Result {
+        let (at, middle) = (hole_middle(self.hole), self.pad.middle());
+        let x = ShortMillimetres(off_x(at, middle));
+        let y = ShortMillimetres(off_y(at, middle));
+        write!(f, "{}, hole off by {x},{y}", PadWords(self.pad))
     }
 }
 
-/// Appends the ring of a hole in a pad, why it is too small, and the pad.
-fn push_in_pad(text: &mut String, kind: Kind, hole: &Hole, place: &InPad) -> Result<(), AllocError>
-    ensures { OnOk result (string_bytes text.new ≡ string_bytes text.old ++ in_pad_words kind hole.now place.now) }
-{
-    push_measured(text, "ring ", place.ring, place.lack)?;
-    push_flash(text, kind_words(kind), place.flash)?;
-    push_place(text, hole, &place.pad)
+/// A ring in a pad, and why it is too small: `ring 0.149, lacks 0.001, off centre: flash 17, disc 0.6x0.6, hole off by 0.001,0`.
+#[derive(Clone, Copy)]
+struct InPadWords<'a> {
+    kind: Kind,
+    hole: &'a Hole,
+    place: &'a InPad,
 }
 
-/// Appends that a hole lies in no pad, and in which flash it lies.
-fn push_other(text: &mut String, words: &str, flash: usize) -> Result<(), AllocError>
-    ensures { OnOk result (string_bytes text.new ≡ string_bytes text.old ++ other_words words.now flash) }
-{
-    match write!(text, "no ring, {words}: flash {flash}") {
-        Ok(()) => Ok(()),
-        Err(e) => Err(e),
+impl Display for InPadWords<'_> {
+    ghost output = { λ words. Some (in_pad_words words.kind words.hole.now words.place.now) };
+
+    #[tactic(auto, unfolding(crate::specs::Texts::two_lengths, crate::specs::Texts::flash_words))]
+    fn fmt<W: fmt::Write>(&self, f: &mut Formatter<W>) -> fmt::Result {
+        let place = PlaceWords {
+            hole: self.hole,
+            pad: &self.place.pad,
+        };
+        let ring = ShortMillimetres(self.place.ring);
+        let lacks = ShortMillimetres(self.place.lack);
+        let (words, flash) = (kind_words(self.kind), self.place.flash);
+        write!(f, "ring {ring}, lacks {lacks}")?;
+        write!(f, ", {words}: flash {flash}, ")?;
+        write!(f, "{place}")
     }
 }
 
-/// Appends that a hole has no ring.
-fn push_bare(text: &mut String, kind: Kind) -> Result<(), AllocError>
-    ensures { OnOk result (string_bytes text.new ≡ string_bytes text.old ++ bare_words kind) }
-{
-    push_words(text, "no ring, ")?;
-    push_words(text, kind_words(kind))
+/// Why a hole lacks its ring, with the figures of the cause: `no ring, only a macro flash: flash 156`.
+#[derive(Clone, Copy)]
+pub(crate) struct CauseWords<'a> {
+    pub(crate) hole: &'a Hole,
+    pub(crate) cause: &'a RingCause,
 }
 
-/// Appends the reason why a hole lacks its ring, with its figures.
-pub(crate) fn push_cause(
-    text: &mut String,
-    hole: &Hole,
-    cause: &RingCause,
-) -> Result<(), AllocError>
-    ensures { OnOk result (string_bytes text.new ≡ string_bytes text.old ++ cause_words hole.now cause.now) }
-{
-    match cause {
-        RingCause::Small(place) => push_in_pad(text, Kind::Small, hole, place),
-        RingCause::Off(place) => push_in_pad(text, Kind::Off, hole, place),
-        RingCause::Other { why, flash } => push_other(text, kind_words(flash_kind(*why)), *flash),
-        RingCause::Nothing => push_bare(text, Kind::Bare),
-        RingCause::Oblique => push_bare(text, Kind::Oblique),
+impl Display for CauseWords<'_> {
+    ghost output = { λ words. Some (cause_words words.hole.now words.cause.now) };
+
+    fn fmt<W: fmt::Write>(&self, f: &mut Formatter<W>) -> fmt::Result {
+        let hole = self.hole;
+        match self.cause {
+            RingCause::Small(place) => {
+                let kind = Kind::Small;
+                write!(f, "{}", InPadWords { kind, hole, place })
+            }
+            RingCause::Off(place) => {
+                let kind = Kind::Off;
+                write!(f, "{}", InPadWords { kind, hole, place })
+            }
+            RingCause::Other { why, flash } => {
+                write!(
+                    f,
+                    "no ring, {}: flash {flash}",
+                    kind_words(flash_kind(*why))
+                )
+            }
+            RingCause::Nothing => write!(f, "no ring, {}", kind_words(Kind::Bare)),
+            RingCause::Oblique => write!(f, "no ring, {}", kind_words(Kind::Oblique)),
+        }
     }
 }

@@ -1,9 +1,4 @@
 pub mod Loaded
-pub mod Refused
-pub mod Checking
+pub mod Outcomes
 pub mod Held
-pub mod Working
-pub mod Reporting
-pub mod Doing
-pub mod Flashing
 pub mod Counting

@@ -5,6 +5,5 @@ pub mod Running
 pub mod Waiving
 pub mod Measuring
 pub mod Reporting
-pub mod Doing
 pub mod Drawing
 pub mod Inner

@@ -1,5 +1,5 @@
 -- What a status says of the measure of a package (docs/FORMATS.md, Measure; JSON).
-use Rattle.std.specs.Prelude.{◌++◌, ℕ, List, map, Option, Result, Ok, Err}
+use Rattle.std.specs.Prelude.{◌≡◌, ◌++◌, ℕ, Bool, true, List, map, Option, Result, Ok, Err}
 use Rattle.std.specs.Io.KnownBytes.{Appends}
 use Rattle.grid_units.specs.declared.fault.Reason.{Reason}
 use Rattle.margin_text.specs.Lines.{measure_text}
@@ -11,12 +11,11 @@ use Rattle.package_check.specs.Texts.{file_lines}
 use Rattle.report_json.specs.Packages.{measure_value}
 use Rattle.report_json.specs.Values.{json_text}
 use Rattle.ringcheck_files.specs.declared.Status.{Status}
-use Rattle.ringcheck_files.specs.declared.ending.Ended.{Ended}
 use Rattle.ringcheck.specs.declared.naming.Format.{Format}
 use Rattle.ringcheck.specs.declared.naming.Format.TheVariants as format
 use Rattle.ringcheck.specs.declared.refusing.Style.{Style}
 use Rattle.ringcheck.specs.declared.refusing.Style.TheVariants as style
-use Rattle.ringcheck.specs.Doing.{AnsweredDone, SaysDone}
+use Rattle.ringcheck.specs.Running.{SaysPackage}
 use Rattle.ringcheck_files.specs.Loading.{Relation}
 use Rattle.ringcheck_files.specs.Words.{SaysUsage}
 
@@ -28,34 +27,33 @@ lines_of measure = measure_text measure.rings.items measure.scales.items measure
 abbrev pub board_text : List (List ℕ) → Survey → Measure → List ℕ
 board_text names board measure = file_lines 1 names board.files ++ lines_of measure
 
--- what is printed of a measure: its text, or its JSON
+-- what is printed of a measure: its text, or its JSON; no word names a file of waivers for it
 abbrev pub measure_page : Format → List (List ℕ) → Survey → Measure → List ℕ
 measure_page format.Text names board measure = board_text names board measure
 measure_page format.Json names board measure = json_text (measure_value names board measure)
+measure_page format.Waivers names board measure = board_text names board measure
 
 -- the writer got just the measure of the files' board, in a format; a check of them finds nothing under exactly the rules that are met
-pub record Measures (all : List Source) (form : Format) (before after : Option (List ℕ)) : Type 0 where
+pub record Measures (form : Format) (before after : Option (List ℕ)) (passes : Bool) (all : List Source) : Type 0 where
   pub board : Survey
   pub read : IsBoard all board
   pub measure : Measure
   pub is : IsMeasure board measure
   pub written : Appends before after (measure_page form (map (λ source. source.name) all) board measure)
-  pub passes : PackagePasses all measure.meets.ring measure.meets.gap
+  pub met : PackagePasses all measure.meets.ring measure.meets.gap
+  pub passed : passes ≡ true
 
 -- how a refusal is printed in place of a measure: by a line, or as JSON
 abbrev pub style_of : Format → Style
 style_of format.Text = style.Line
 style_of format.Json = style.Json
+style_of format.Waivers = style.Line
 
--- what a status says of the measure of a package
+-- what a status says of the measure of a package; it is never Findings
 abbrev pub SaysMeasure : Relation → List ℕ → Format → Option (List ℕ) → Option (List ℕ) → Status → Type 0
-SaysMeasure has name form before after s = SaysDone has name (λ all. Measures all form before after) (style_of form) before after s
+SaysMeasure has name form before after s = SaysPackage has name (Measures form before after) (style_of form) before after s
 
 -- what a status says of a measure in the format that a word names, or where the word is refused
 abbrev pub SaysMeasureOf : Relation → List ℕ → Result Format Reason → Option (List ℕ) → Option (List ℕ) → Status → Type 0
 SaysMeasureOf has name (Ok form) before after s = SaysMeasure has name form before after s
 SaysMeasureOf has name (Err why) before after s = SaysUsage why before after s
-
--- what an end says of the measure of files that are at hand
-abbrev pub AnsweredMeasure : List Source → Format → Option (List ℕ) → Option (List ℕ) → Ended → Type 0
-AnsweredMeasure all form before after e = AnsweredDone all (λ all. Measures all form before after) (style_of form) before after e

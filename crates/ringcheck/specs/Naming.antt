@@ -1,5 +1,5 @@
 -- The rules, the limit of findings and the format that words of the command line name (docs/FORMATS.md, The program).
-use Rattle.std.specs.Prelude.{ℕ, ℤ, pos, Bool, ◌&&◌, not, is_some, List, Option, Some, None, Result, Ok, Err, length, codes, nat_le, unsigned_abs, int_le, if◌then◌else◌}
+use Rattle.std.specs.Prelude.{ℕ, ℤ, pos, Bool, true, ◌&&◌, not, is_some, List, Option, Some, None, Result, Ok, Err, length, codes, nat_le, unsigned_abs, int_le, if◌then◌else◌}
 use Rattle.std.specs.Str.{bytes_eq}
 use Rattle.grid_units.specs.declared.fault.Reason.{Reason}
 use Rattle.grid_units.specs.declared.fault.Reason.TheVariants.{BadNumber, BadRole, BadRule}
@@ -10,8 +10,6 @@ use Rattle.grid_units.specs.Numbers.{dec_of, is_digits, picometres, value, withi
 use Rattle.grid_units.specs.Results.{◌>>=◌}
 use Rattle.ringcheck.specs.declared.naming.Format.{Format}
 use Rattle.ringcheck.specs.declared.naming.Format.TheVariants as format
-use Rattle.ringcheck.specs.declared.naming.ReportFormat.{ReportFormat}
-use Rattle.ringcheck.specs.declared.naming.ReportFormat.TheVariants as told
 
 -- the length in pm of a word in millimetres, such as `0.125`, or why it has none: BadNumber, TooFine or TooFar
 unfoldable pub length_named : List ℕ → Result ℤ Reason
@@ -38,21 +36,20 @@ unfoldable pub most_named : Option (List ℕ) → Result (Option ℕ) Reason
 most_named None = Ok None
 most_named (Some word) = count_named word >>= λ n. Ok (Some n)
 
--- the format that a word names, `text` or `json`; text without a word, BadRole for any other
-unfoldable pub format_named : Option (List ℕ) → Result Format Reason
-format_named None = Ok format.Text
-format_named (Some word) = if bytes_eq word (codes "text") then Ok format.Text else if bytes_eq word (codes "json") then Ok format.Json else Err BadRole
-
 -- the format of a report: `text`, also without a word, `json`, or `waivers`, which is BadRole where a file of waivers is given too
-unfoldable pub report_format_named : Bool → Option (List ℕ) → Result ReportFormat Reason
-report_format_named waives None = Ok told.Text
+unfoldable pub report_format_named : Bool → Option (List ℕ) → Result Format Reason
+report_format_named waives None = Ok format.Text
 report_format_named waives (Some word) =
-    if bytes_eq word (codes "text") then Ok told.Text
-    else if bytes_eq word (codes "json") then Ok told.Json
-    else if bytes_eq word (codes "waivers") && not waives then Ok told.Waivers else Err BadRole
+    if bytes_eq word (codes "text") then Ok format.Text
+    else if bytes_eq word (codes "json") then Ok format.Json
+    else if bytes_eq word (codes "waivers") && not waives then Ok format.Waivers else Err BadRole
+
+-- the format of a measure: `text`, also without a word, or `json`; BadRole for any other
+abbrev pub format_named : Option (List ℕ) → Result Format Reason
+format_named word = report_format_named true word
 
 -- the rules, the limit of findings and the format of a report, or the first refusal in this order; `waive` is the file of waivers, if there is one
-unfoldable pub report_named : List ℕ → List ℕ → Option (List ℕ) → Option (List ℕ) → Option (List ℕ) → Result (GridRules × Option ℕ × ReportFormat) Reason
+unfoldable pub report_named : List ℕ → List ℕ → Option (List ℕ) → Option (List ℕ) → Option (List ℕ) → Result (GridRules × Option ℕ × Format) Reason
 report_named ring gap most waive form = rules_named ring gap >>= λ rules. (most_named most >>= λ n. (report_format_named (is_some waive) form >>= λ f. Ok (rules, n, f)))
 
 -- the rules of a picture: those of a ring and a gap, or none; one of these alone is BadRule

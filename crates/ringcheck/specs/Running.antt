@@ -1,5 +1,5 @@
--- What a loader has under names, and what a status says of a check of it.
-use Rattle.std.specs.Prelude.{◌≡◌, ◌<◌, ◌≤◌, ℕ, List, [], ◌∷◌, length, take, slice_get, Result, Ok, Err, ⊤, Option, Some}
+-- What a loader has under names, and what a status says of a command on a package.
+use Rattle.std.specs.Prelude.{◌≡◌, ◌<◌, ◌≤◌, ◌⊎◌, ◌==◌, ℕ, Bool, true, false, List, [], ◌∷◌, length, take, slice_get, Result, Ok, Err, ⊤, Option, Some, if◌then◌else◌}
 use Rattle.std.specs.List.{count_by}
 use Rattle.std.specs.Io.KnownBytes.{Appends}
 use Rattle.grid_units.specs.Holes.{GridRules}
@@ -15,7 +15,7 @@ use Rattle.ringcheck.specs.Refusing.{Refusal, TellsRefusal, of_file, of_manifest
 use Rattle.ringcheck_files.specs.Loading.{Relation, file_limit, too_long, within}
 use Rattle.ringcheck_files.specs.Words.{SaysUsage}
 use Rattle.package_check.specs.Reports.{Account}
-use Rattle.package_check.specs.Package.{Source, IsAnswer, is_copper}
+use Rattle.package_check.specs.Package.{Source, IsFirstRefused, IsReport, is_copper}
 use Rattle.package_check.specs.Soundness.{IsSound}
 use Rattle.package_check.specs.Texts.{report_text}
 
@@ -37,39 +37,25 @@ HasFiles has [] (bytes ∷ rest) = ⊥
 HasFiles has (entry ∷ entries) [] = ⊥
 HasFiles has (entry ∷ entries) (bytes ∷ rest) = has entry.file bytes × HasFiles has entries rest
 
--- the most bytes of a manifest, and of a file of waivers (docs/FORMATS.md, Limits)
+-- the most bytes of a table: a manifest, or a file of waivers (docs/FORMATS.md, Limits)
 abbrev pub manifest_limit : ℕ
 manifest_limit = 1048576
 
--- the loader has under this name a manifest with these entries, and these bytes for their files, none above its limit
-pub record HasPackage (has : Relation) (name : List ℕ) (entries : List Entry) (files : List (List ℕ)) : Type 0 where
-  pub text : List ℕ
-  pub held : has name text
-  pub names : manifest text ≡ Ok entries
-  pub short : length text ≤ manifest_limit
-  pub loaded : HasFiles (within file_limit has) entries files
+-- the loader has under this name a table with just these rows, not above its limit; `parse` reads its text
+abbrev pub HasTable : {A : Type 0} → (List ℕ → Result (List A) Fault) → Relation → List ℕ → List A → Type 0
+HasTable parse has name rows = (text : List ℕ) × has name text × (length text ≤ manifest_limit) × (parse text ≡ Ok rows)
 
--- a package that the loader has, where `Holds` is true of its files
+-- the loader has under this name a table that is refused for its length or its rows, with this fault
+abbrev pub RefusedTable : {A : Type 0} → (List ℕ → Result (List A) Fault) → Relation → List ℕ → Fault → Type 0
+RefusedTable parse has name why = (text : List ℕ) × has name text × (((manifest_limit < length text) × (why ≡ too_long)) ⊎ (parse text ≡ Err why))
+
+-- a package that the loader has under this name: its manifest, and files of which none is above its limit; `Holds` is true of the files
 pub record OfPackage (has : Relation) (name : List ℕ) (Holds : List Source → Type 0) : Type 0 where
   pub entries : List Entry
+  pub listed : HasTable manifest has name entries
   pub files : List (List ℕ)
-  pub held : HasPackage has name entries files
+  pub loaded : HasFiles (within file_limit has) entries files
   pub holds : Holds (sources entries files)
-
--- a package that the loader has, where the writer got just the text of its report
-pub record Reported (has : Relation) (name : List ℕ) (rules : GridRules) (before after : Option (List ℕ)) (report : Account) : Type 0 where
-  pub entries : List Entry
-  pub files : List (List ℕ)
-  pub held : HasPackage has name entries files
-  pub answer : IsAnswer (sources entries files) rules (Ok report)
-  pub written : Appends before after (report_text (sources entries files) report)
-
--- a package that passes, where the writer got just the text of its report: nothing was found, and the package is sound
-pub record Passed (has : Relation) (name : List ℕ) (rules : GridRules) (before after : Option (List ℕ)) : Type 0 where
-  pub report : Account
-  pub reported : Reported has name rules before after report
-  pub passes : report.findings ≡ []
-  pub sound : IsSound (sources reported.entries reported.files) rules
 
 -- the loader has bytes above the limit for the entry at this index, and bytes within the limit for each entry before it
 pub record LongFile (has : Relation) (entries : List Entry) (index : ℕ) (entry : Entry) : Type 0 where
@@ -80,29 +66,55 @@ pub record LongFile (has : Relation) (entries : List Entry) (index : ℕ) (entry
   pub loaded : has entry.file bytes
   pub long : file_limit < length bytes
 
--- bytes that the loader has are refused: a manifest that is too long or wrong, a file that is too long, or the first file that the check refuses
-pub data RefusedIn (has : Relation) (name : List ℕ) (rules : GridRules) (why : Refusal) : Type 0 where
-  long_manifest : (text : List ℕ) → has name text → manifest_limit < length text → why ≡ of_manifest too_long → RefusedIn has name rules why
-  bad_manifest : (text : List ℕ) (fault : Fault) → has name text → manifest text ≡ Err fault → why ≡ of_manifest fault → RefusedIn has name rules why
-  long_file : (text : List ℕ) (entries : List Entry) (index : ℕ) (entry : Entry) → has name text → manifest text ≡ Ok entries
-      → LongFile has entries index entry → why ≡ of_file index entry.name too_long → RefusedIn has name rules why
-  bad_file : (entries : List Entry) (files : List (List ℕ)) (index : ℕ) (fault : Fault) (source : Source) → HasPackage has name entries files
-      → IsAnswer (sources entries files) rules (Err (index, fault)) → slice_get (sources entries files) index ≡ Some source
-      → why ≡ of_file index source.name fault → RefusedIn has name rules why
+-- the first of these files that is refused, by its index, its name and its fault
+pub record RefusedAmong (all : List Source) (why : Refusal) : Type 0 where
+  pub index : ℕ
+  pub fault : Fault
+  pub first : IsFirstRefused all index fault
+  pub source : Source
+  pub at : slice_get all index ≡ Some source
+  pub is : why ≡ of_file index source.name fault
+
+-- the file of one of these entries is refused: the loader has bytes above the limit for it, or it is the first file that a check refuses
+pub data RefusedFile (has : Relation) (entries : List Entry) (why : Refusal) : Type 0 where
+  long_file : (index : ℕ) (entry : Entry) → LongFile has entries index entry → why ≡ of_file index entry.name too_long → RefusedFile has entries why
+  bad_file : (files : List (List ℕ)) → HasFiles (within file_limit has) entries files → RefusedAmong (sources entries files) why → RefusedFile has entries why
+
+-- bytes that the loader has are refused: the manifest under this name, or a file that it names
+pub data RefusedIn (has : Relation) (name : List ℕ) (why : Refusal) : Type 0 where
+  refused_manifest : (fault : Fault) → RefusedTable manifest has name fault → why ≡ of_manifest fault → RefusedIn has name why
+  refused_file : (entries : List Entry) → HasTable manifest has name entries → RefusedFile has entries why → RefusedIn has name why
 
 -- such bytes are refused, and the writer got just the text of the refusal
-pub record RefusesPackage (has : Relation) (name : List ℕ) (rules : GridRules) (in_style : Style) (before after : Option (List ℕ)) : Type 0 where
+pub record RefusesPackage (has : Relation) (name : List ℕ) (in_style : Style) (before after : Option (List ℕ)) : Type 0 where
   pub why : Refusal
-  pub refused : RefusedIn has name rules why
-  pub told : TellsRefusal in_style why before after
+  pub refused : RefusedIn has name why
+  pub printed : TellsRefusal in_style why before after
+
+-- what a status says of a command on a package: where it passes, or has findings, `Holds` says so of the package's files; a refusal,
+-- which is the same under any rules, was printed in this style
+abbrev pub SaysPackage : Relation → List ℕ → (Bool → List Source → Type 0) → Style → Option (List ℕ) → Option (List ℕ) → Status → Type 0
+SaysPackage has name Holds in_style before after status.Pass = OfPackage has name (Holds true)
+SaysPackage has name Holds in_style before after status.Findings = OfPackage has name (Holds false)
+SaysPackage has name Holds in_style before after status.Refused = RefusesPackage has name in_style before after
+SaysPackage has name Holds in_style before after status.Usage = ⊥
+SaysPackage has name Holds in_style before after status.Device = ⊤
+
+-- the status of a command on a package that passes, or that has findings
+abbrev pub status_of : Bool → Status
+status_of passes = if passes then status.Pass else status.Findings
+
+-- the writer got just the text of the report on these files; the check passes where it has no finding, and then the files are sound
+pub record Checks (rules : GridRules) (before after : Option (List ℕ)) (passes : Bool) (all : List Source) : Type 0 where
+  pub report : Account
+  pub is : IsReport all rules report
+  pub written : Appends before after (report_text all report)
+  pub passed : passes ≡ (length report.findings == 0)
+  pub sound : passes ≡ true → IsSound all rules
 
 -- what a status says of a check of a package under these rules
 abbrev pub Says : Relation → List ℕ → GridRules → Option (List ℕ) → Option (List ℕ) → Status → Type 0
-Says has name rules before after status.Pass = Passed has name rules before after
-Says has name rules before after status.Findings = (report : Account) × Reported has name rules before after report × (0 < length report.findings)
-Says has name rules before after status.Refused = RefusesPackage has name rules style.Line before after
-Says has name rules before after status.Usage = ⊥
-Says has name rules before after status.Device = ⊤
+Says has name rules before after s = SaysPackage has name (Checks rules before after) style.Line before after s
 
 -- what a status says of a check under the rules that two words name, or where these are refused
 abbrev pub SaysOf : Relation → List ℕ → Result GridRules Reason → Option (List ℕ) → Option (List ℕ) → Status → Type 0

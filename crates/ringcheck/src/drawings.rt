@@ -1,38 +1,42 @@
-//! Prints the picture of a board.
+//! Draws a package.
 
-ghost use Rattle.std.specs.Prelude.{◌≡◌, ℕ, List, length};
-ghost use Rattle.flashed_boards.specs.Flashed.{IsFlashed};
-ghost use Rattle.ringcheck.specs.Drawing.{AnsweredDraw};
-ghost use Rattle.ringcheck.specs.Running.{sources};
+ghost use Rattle.std.specs.Prelude.{◌≡◌, List, IfErr, IfOk, map};
+ghost use Rattle.flashed_boards.specs.Flashed.{FlashedStandsAfter};
+ghost use Rattle.package_check.specs.Package.{Source};
+ghost use Rattle.ringcheck.specs.Drawing.{Draws};
+ghost use Rattle.ringcheck.specs.Inner.Halting.{OfTaken};
 
-use crate::Entry;
-use crate::packages::names_of;
-use drawing::{PrintFault, print_drawing};
-use flashed_boards::FlashedBoard;
+use crate::PackageFault;
+use crate::refusing::{Halt, refused};
+use drawing::Drawing;
+use flashed_boards::FlashedReader;
 use grid_units::Rules;
 use package_check::laws::passing_is_sound;
-use ringcheck_files::{Ended, Status, say_out_of_memory};
+use ringcheck_files::Failure;
 use std::alloc::Global;
 use std::io::Write;
 
-/// Prints the picture of a board of the files of these entries, with what is found under the rules, if there are any.
-pub(crate) fn answer_draw<W: Write>(
+/// Prints the picture of the files of these names, which a reader has taken, with what is found under the rules, if there are any.
+pub(crate) fn draw<'a, W: Write>(
     alloc: Global,
-    board: &FlashedBoard,
-    entries: &[Entry],
+    reader: FlashedReader,
+    names: &[&'a str],
     rules: Option<Rules>,
     out: &mut W,
-) -> Ended
-    ensures { (files : List (List ℕ)) → length entries.now ≡ length files → IsFlashed (sources entries.now files) board.now
-        → AnsweredDraw (sources entries.now files) rules (W.contents out.old) (W.contents out.new) result }
+) -> Result<Result<bool, Halt<'a>>, Failure>
+    ensures answers { (all : List Source) → map (λ name. name.now) names.now ≡ map (λ source. source.name) all → FlashedStandsAfter reader all
+        → IfOk result (OfTaken (Draws rules (W.contents out.old) (W.contents out.new)) all) }
+    ensures silent { IfOk result (λ done. IfErr done (λ halt. W.contents out.new ≡ W.contents out.old)) }
 {
     passing_is_sound();
-    let Ok(names) = names_of(alloc, entries) else {
-        return say_out_of_memory(out);
+    let board = match reader.finish() {
+        Ok(board) => board,
+        Err(PackageFault::Memory) => return Err(Failure::Memory),
+        Err(PackageFault::File { index, fault }) => {
+            return Ok(Err(refused(names, index, fault)));
+        }
     };
-    match print_drawing(alloc, names.as_slice(), board, &rules, out) {
-        Ok(()) => Ended::Said(Status::Pass),
-        Err(PrintFault::Memory) => say_out_of_memory(out),
-        Err(PrintFault::Cut) => Ended::WriterFailed,
-    }
+    let drawing = Drawing::new(alloc, names, &board, rules)?;
+    write!(out, "{drawing}")?;
+    Ok(Ok(true))
 }

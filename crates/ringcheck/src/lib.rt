@@ -1,9 +1,9 @@
 //! The program: packages, layers and drill files from a loader, and what is printed of them to a writer.
 #![tactic(auto)]
 
+mod checks;
 mod drawings;
-mod flashed;
-mod lines;
+mod jobs;
 mod loading_files;
 mod measures;
 mod naming;
@@ -15,10 +15,10 @@ mod taking;
 
 pub use loading::{LoadFault, Loader, MAX_LIMIT, ReadFail, read_all};
 pub use manifest::{Entry, Name, Role, read_manifest};
-pub use naming::{Format, ReportFormat};
+pub use naming::Format;
 pub use package_check::{
-    File, FileSum, Numbered, PackageFault, PackageReader, PiecedFile, PrintFault, Report, Span,
-    check_bytes, check_pieces, laws, print_report, write_report,
+    CheckText, File, FileSum, Numbered, PackageFault, PackageReader, PiecedFile, Report, Span,
+    check_bytes, check_pieces, laws, write_report,
 };
 pub use program::run;
 pub use rewriting::{Kind, rewrite_bytes};

@@ -1,88 +1,76 @@
-//! The files of a package, from a loader.
+//! The manifest, the waivers and the files of a package, from a loader.
 
-ghost use Rattle.std.specs.Prelude.{◌≡◌, ◌≤◌, ◌++◌, ◌∷◌, [], length, ◌↔◌, ℕ, List, Ok, IfOk, IfErr, OnOk};
+ghost use Rattle.std.specs.Prelude.{◌≡◌, ◌≤◌, ℕ, List, IfOk, Result};
 ghost use Rattle.std.specs.List.{count_by};
+ghost use Rattle.grid_units.specs.Results.{Answers};
+ghost use Rattle.grid_units.specs.declared.fault.Fault.{Fault as TheFault};
 ghost use Rattle.manifest.specs.Manifest.{manifest};
-ghost use Rattle.package_check.specs.Package.{Source, is_copper};
+ghost use Rattle.package_check.specs.Package.{is_copper};
 ghost use Rattle.ringcheck_files.specs.Endings.{HasRisen};
-ghost use Rattle.ringcheck.specs.Running.{HasFiles, manifest_limit, sources};
-ghost use Rattle.ringcheck_files.specs.Loading.{file_limit, within};
-ghost use Rattle.ringcheck.specs.Inner.Stopping.{IsUnread, StopsManifest, StopsFiles, StopsWaivers};
-ghost use Rattle.ringcheck.specs.Waiving.{HasWaivers};
+ghost use Rattle.ringcheck.specs.Inner.Halting.{OfFiles, OfTable};
+ghost use Rattle.waivers.specs.Reading.{waivers};
 
+use crate::refusing::{Halt, Subject};
 use crate::taking::TakesFiles;
 use crate::{Entry, LoadFault, Loader, Role, read_manifest};
-use grid_units::{Fail, Fault};
-use ringcheck_files::{ABOVE_LIMIT, FILE_LIMIT};
+use grid_units::Fail;
+use ringcheck_files::{ABOVE_LIMIT, FILE_LIMIT, Failure};
 use std::alloc::Global;
 use waivers::{Waiver, read_waivers};
 
 /// The most bytes of a manifest, and of a file of waivers.
 const MANIFEST_LIMIT: u64 = 1_048_576;
 
-/// Why a package was not loaded.
-#[derive(Clone, Copy)]
-pub(crate) enum Stop {
-    Memory,
-    /// The manifest cannot be read.
-    Device,
-    /// The file of this entry cannot be read.
-    DeviceFile(usize),
-    /// The manifest is refused.
-    Manifest(Fault),
-    /// The file of this entry is above the limit.
-    LongFile(usize),
-    /// The file of waivers is refused.
-    Waivers(Fault),
-    /// The file of waivers cannot be read.
-    DeviceWaivers,
+/// What a row of a table is read as: an entry of a manifest, or a waiver.
+pub(crate) trait Row: Sized {
+    /// The rows of a table by its text, or the fault of the text.
+    ghost rows: { List ℕ → Result (List Self) TheFault };
+
+    /// The rows of a table by its text.
+    ///
+    /// # Errors
+    ///
+    /// The fault of the text; `Memory` where memory runs out.
+    fn read(alloc: Global, text: &[u8]) -> Result<Vec<Self>, Fail>
+        ensures { Answers (λ read. read.items) (λ answer. answer ≡ rows text.now) result };
 }
 
-/// The entries of the manifest under a name.
-pub(crate) fn load_manifest<L: Loader>(
-    alloc: Global,
-    loader: &mut L,
-    name: &str,
-) -> Result<Vec<Entry>, Stop>
-    ensures keeps { (n b : List ℕ) → L.has loader.new n b ↔ L.has loader.old n b }
-    ensures ok { IfOk result (λ v. (text : List ℕ) × L.has loader.old name.now text × (manifest text ≡ Ok v.items) × (length text ≤ manifest_limit)) }
-    ensures err { IfErr result (StopsManifest (L.has loader.old) name.now) }
-    ensures counts { L.failed loader.old ≤ L.failed loader.new }
-    ensures unread { IfErr result (λ stop. IsUnread stop → HasRisen (L.failed loader.old) (L.failed loader.new)) }
-{
-    match loader.load(alloc, name, MANIFEST_LIMIT) {
-        Ok(bytes) => match read_manifest(alloc, bytes.as_slice()) {
-            Ok(entries) => Ok(entries),
-            Err(Fail::Memory) => Err(Stop::Memory),
-            Err(Fail::Refused(fault)) => Err(Stop::Manifest(fault)),
-        },
-        Err(LoadFault::Device) => Err(Stop::Device),
-        Err(LoadFault::Memory) => Err(Stop::Memory),
-        Err(LoadFault::TooLong) => Err(Stop::Manifest(ABOVE_LIMIT)),
+impl Row for Entry {
+    ghost rows = { manifest };
+
+    fn read(alloc: Global, text: &[u8]) -> Result<Vec<Entry>, Fail> {
+        read_manifest(alloc, text)
     }
 }
 
-/// The waivers of the file under a name.
-pub(crate) fn load_waivers<L: Loader>(
+impl Row for Waiver {
+    ghost rows = { waivers };
+
+    fn read(alloc: Global, text: &[u8]) -> Result<Vec<Waiver>, Fail> {
+        read_waivers(alloc, text)
+    }
+}
+
+/// The rows of the table under a name, which is this subject of a refusal.
+pub(crate) fn load_table<'a, L: Loader, R: Row + Drop>(
     alloc: Global,
     loader: &mut L,
-    file: &str,
-) -> Result<Vec<Waiver>, Stop>
-    ensures keeps { (n b : List ℕ) → L.has loader.new n b ↔ L.has loader.old n b }
-    ensures ok { IfOk result (λ all. HasWaivers (L.has loader.old) file.now all.items) }
-    ensures err { IfErr result (StopsWaivers (L.has loader.old) file.now) }
+    name: &str,
+    subject: Subject<'a>,
+) -> Result<Result<Vec<R>, Halt<'a>>, Failure>
+    ensures keeps { (n b : List ℕ) → L.has loader.new n b → L.has loader.old n b }
     ensures counts { L.failed loader.old ≤ L.failed loader.new }
-    ensures unread { IfErr result (λ stop. IsUnread stop → HasRisen (L.failed loader.old) (L.failed loader.new)) }
+    ensures loaded { IfOk result (OfTable R.rows (L.has loader.old) name.now subject.entry (HasRisen (L.failed loader.old) (L.failed loader.new))) }
 {
-    match loader.load(alloc, file, MANIFEST_LIMIT) {
-        Ok(bytes) => match read_waivers(alloc, bytes.as_slice()) {
-            Ok(waivers) => Ok(waivers),
-            Err(Fail::Memory) => Err(Stop::Memory),
-            Err(Fail::Refused(fault)) => Err(Stop::Waivers(fault)),
+    match loader.load(alloc, name, MANIFEST_LIMIT) {
+        Ok(text) => match R::read(alloc, text.as_slice()) {
+            Ok(rows) => Ok(Ok(rows)),
+            Err(Fail::Memory) => Err(Failure::Memory),
+            Err(Fail::Refused(fault)) => Ok(Err(Halt::Refused(subject, fault))),
         },
-        Err(LoadFault::Device) => Err(Stop::DeviceWaivers),
-        Err(LoadFault::Memory) => Err(Stop::Memory),
-        Err(LoadFault::TooLong) => Err(Stop::Waivers(ABOVE_LIMIT)),
+        Err(LoadFault::Device) => Ok(Err(Halt::Unread(subject))),
+        Err(LoadFault::Memory) => Err(Failure::Memory),
+        Err(LoadFault::TooLong) => Ok(Err(Halt::Refused(subject, ABOVE_LIMIT))),
     }
 }
 
@@ -98,40 +86,26 @@ fn layer_count(entries: &[Entry]) -> usize
     entries.iter().filter(|entry| is_copper(entry.role)).count()
 }
 
-/// Hands the loaded bytes of an entry's file to the reader.
-fn take_file<R: TakesFiles>(reader: &mut R, entry: &Entry, bytes: &[u8]) -> Result<(), Stop>
-    ensures stands { (sources : List Source) → R.stands reader.old sources → OnOk result (R.stands reader.new (sources
-        ++ record { role = entry.now.role; name = entry.now.name; span = entry.now.span; bytes = bytes.now; layers = R.copper reader.old } ∷ [])) }
-    ensures layers { R.copper reader.new ≡ R.copper reader.old }
-    ensures err { IfErr result (λ stop. stop ≡ Stop.Memory) }
-{
-    match reader.take_file(entry, bytes) {
-        Ok(()) => Ok(()),
-        Err(_) => Err(Stop::Memory),
-    }
-}
-
 /// A reader that has taken the files of the entries, in order. They are loaded one after the other, and the bytes of each are
 /// freed before the next is loaded.
-pub(crate) fn take_files<L: Loader, R: TakesFiles + Drop>(
+pub(crate) fn take_files<'a, L: Loader, R: TakesFiles + Drop>(
     alloc: Global,
     loader: &mut L,
-    entries: &[Entry],
-) -> Result<R, Stop>
-    ensures keeps { (n b : List ℕ) → L.has loader.new n b ↔ L.has loader.old n b }
-    ensures ok { IfOk result (λ reader. (files : List (List ℕ)) × HasFiles (within file_limit (L.has loader.old)) entries.now files × R.stands reader (sources entries.now files)) }
-    ensures err { IfErr result (StopsFiles (L.has loader.old) entries.now) }
-    ensures counts { L.failed loader.old ≤ L.failed loader.new }
-    ensures unread { IfErr result (λ stop. IsUnread stop → HasRisen (L.failed loader.old) (L.failed loader.new)) }
+    entries: &'a [Entry],
+) -> Result<Result<R, Halt<'a>>, Failure>
+    ensures { IfOk result (OfFiles (L.has loader.old) entries.now (HasRisen (L.failed loader.old) (L.failed loader.new)) R.stands) }
 {
     let mut reader = R::of_layers(alloc, layer_count(entries));
     for (index, entry) in entries.iter().enumerate() {
+        let name = entry.name.as_str();
         match loader.load(alloc, entry.file.as_str(), FILE_LIMIT) {
-            Ok(bytes) => take_file(&mut reader, entry, bytes.as_slice())?,
-            Err(LoadFault::Device) => return Err(Stop::DeviceFile(index)),
-            Err(LoadFault::Memory) => return Err(Stop::Memory),
-            Err(LoadFault::TooLong) => return Err(Stop::LongFile(index)),
+            Ok(bytes) => reader.take_file(entry, bytes.as_slice())?,
+            Err(LoadFault::Device) => return Ok(Err(Halt::Unread(Subject::File { index, name }))),
+            Err(LoadFault::Memory) => return Err(Failure::Memory),
+            Err(LoadFault::TooLong) => {
+                return Ok(Err(Halt::Refused(Subject::File { index, name }, ABOVE_LIMIT)));
+            }
         }
     }
-    Ok(reader)
+    Ok(Ok(reader))
 }

@@ -38,42 +38,28 @@ pub enum Format {
     Text,
     /// One object of JSON on one line.
     Json,
-}
-
-/// The format that a word names, `text` or `json`; text where there is no word.
-#[tactic(auto, unfolding(crate::specs::Naming::format_named))]
-pub(crate) fn format_named(word: Option<&str>) -> Result<Format, Reason>
-    ensures { result ≡ words.format_named (option_map (λ w. w.now) word.entry) }
-{
-    match word {
-        None | Some("text") => Ok(Format::Text),
-        Some("json") => Ok(Format::Json),
-        Some(_) => Err(Reason::BadRole),
-    }
-}
-
-/// How a report is printed.
-#[derive(Clone, Copy, Debug, PartialEq, Eq)]
-pub enum ReportFormat {
-    /// Lines for people.
-    Text,
-    /// One object of JSON on one line.
-    Json,
-    /// Its findings as a file of waivers, in which the user fills in the reasons.
+    /// The findings of a report as a file of waivers, in which the user fills in the reasons. No word names it for a measure.
     Waivers,
 }
 
 /// The format of a report that a word names; text where there is no word. `waivers` is refused where a file of waivers is given.
 #[tactic(auto, unfolding(crate::specs::Naming::report_format_named))]
-fn report_format_named(waives: bool, word: Option<&str>) -> Result<ReportFormat, Reason>
+fn report_format_named(waives: bool, word: Option<&str>) -> Result<Format, Reason>
     ensures { result ≡ words.report_format_named waives (option_map (λ w. w.now) word.entry) }
 {
     match word {
-        None | Some("text") => Ok(ReportFormat::Text),
-        Some("json") => Ok(ReportFormat::Json),
-        Some(word) if word == "waivers" && !waives => Ok(ReportFormat::Waivers),
+        None | Some("text") => Ok(Format::Text),
+        Some("json") => Ok(Format::Json),
+        Some(word) if word == "waivers" && !waives => Ok(Format::Waivers),
         Some(_) => Err(Reason::BadRole),
     }
+}
+
+/// The format of a measure that a word names, `text` or `json`; text where there is no word.
+pub(crate) fn format_named(word: Option<&str>) -> Result<Format, Reason>
+    ensures { result ≡ words.format_named (option_map (λ w. w.now) word.entry) }
+{
+    report_format_named(true, word)
 }
 
 /// The number that a word of one to nine digits names, such as `20`.
@@ -110,9 +96,7 @@ pub(crate) struct ReportWords<'a> {
 
 /// The rules, the limit of findings and the format of a report, read in this order.
 #[tactic(auto, unfolding(crate::specs::Naming::report_named))]
-pub(crate) fn report_named(
-    asked: &ReportWords,
-) -> Result<(Rules, Option<usize>, ReportFormat), Reason>
+pub(crate) fn report_named(asked: &ReportWords) -> Result<(Rules, Option<usize>, Format), Reason>
     ensures { result ≡ words.report_named asked.now.ring.now asked.now.gap.now (option_map (λ w. w.now) asked.now.most) (option_map (λ w. w.now) asked.now.waive) (option_map (λ w. w.now) asked.now.format) }
 {
     let rules = rules_named(asked.ring, asked.gap)?;

@@ -1,59 +1,28 @@
-//! Checks or measures the package of a manifest, and prints the result.
+//! The commands on the package of a manifest: each does a job on it, or prints why it cannot be done.
 
-ghost use Rattle.std.specs.Prelude.{◌≡◌, ◌≢◌, ℕ, List, IfOk, map, length, option_map};
-ghost use Rattle.std.specs.Io.KnownBytes.{Appends};
-ghost use Rattle.ringcheck_files.specs.Endings.{HasCause, status_after};
-ghost use Rattle.ringcheck.specs.Naming as named;
-ghost use Rattle.package_check.specs.Holding.{PackageStandsAfter};
-ghost use Rattle.package_check.specs.Texts.{text_of};
+ghost use Rattle.std.specs.Prelude.{◌≡◌, IfErr, IfOk, map, option_map};
+ghost use Rattle.ringcheck_files.specs.Endings.{HasCause, HasRisen};
+ghost use Rattle.ringcheck.specs.Drawing.{SaysDrawOf};
+ghost use Rattle.ringcheck.specs.Inner.Halting.{OfFiles};
+ghost use Rattle.ringcheck.specs.Inner.Working.{Holds, SaysJob};
 ghost use Rattle.ringcheck.specs.Measuring.{SaysMeasureOf};
-ghost use Rattle.ringcheck.specs.Running.{SaysOf, sources};
-ghost use Rattle.ringcheck.specs.Inner.Stopping.{Answered};
-ghost use Rattle.ringcheck.specs.Inner.Working.{AnsweredBy, SaysBy, work_style};
-ghost use Rattle.ringcheck.specs.Inner.Stopping as stopping;
+ghost use Rattle.ringcheck.specs.Naming as named;
+ghost use Rattle.ringcheck.specs.Reporting.{SaysReportOf};
+ghost use Rattle.ringcheck.specs.Running.{SaysOf, status_of};
 
-use crate::loading_files::{load_manifest, take_files};
-use crate::measures::{answer_measure, style_of};
-use crate::naming::{Format, format_named, rules_named};
-use crate::refusing::{Style, say_refused, tell};
-use crate::{Entry, Loader, PackageFault, PackageReader, PrintFault, Report, print_report};
-use grid_units::Rules;
-use ringcheck_files::{Ended, Status, say_out_of_memory, say_refused_word};
+use crate::jobs::{Job, Order, report_style};
+use crate::loading_files::{load_table, take_files};
+use crate::naming::{ReportWords, draw_named, format_named, report_named, rules_named};
+use crate::refusing::{Halt, Subject, print_halt};
+use crate::{Entry, Loader, PackageReader, checks, drawings, measures, reports};
+use flashed_boards::FlashedReader;
+use ringcheck_files::{Failure, Status, refuse_word};
 use std::alloc::{AllocError, Global};
 use std::io::Write;
+use waivers::Waiver;
 
-/// What is done with a package whose flashes are not kept.
-#[derive(Clone, Copy, Debug, PartialEq, Eq)]
-pub(crate) enum Work {
-    /// It is checked under these rules.
-    Check(Rules),
-    /// It is measured, and the measure is printed in this format.
-    Measure(Format),
-}
-
-impl Work {
-    /// How a refusal is printed in its place.
-    fn style(self) -> Style
-        ensures { result ≡ work_style self }
-    {
-        match self {
-            Work::Check(_) => Style::Line,
-            Work::Measure(format) => style_of(format),
-        }
-    }
-}
-
-fn status_of(report: &Report) -> Status
-    ensures { result ≡ stopping.status_of report.now.findings }
-{
-    if report.findings().is_empty() {
-        Status::Pass
-    } else {
-        Status::Findings
-    }
-}
-
-pub(crate) fn names_of(alloc: Global, entries: &[Entry]) -> Result<Vec<&str>, AllocError>
+/// The names of the files of these entries.
+fn names_of<'a>(alloc: Global, entries: &'a [Entry]) -> Result<Vec<&'a str>, AllocError>
     ensures { IfOk result (λ names. map (λ name. name.now) names.items ≡ map (λ entry. entry.name) entries.now) }
 {
     let mut names = Vec::new(alloc);
@@ -63,76 +32,67 @@ pub(crate) fn names_of(alloc: Global, entries: &[Entry]) -> Result<Vec<&str>, Al
     Ok(names)
 }
 
-/// Prints the report on files of these entries.
-fn print<W: Write>(alloc: Global, entries: &[Entry], report: &Report, out: &mut W) -> Ended
-    ensures written { result ≢ Ended.WriterFailed → result ≢ Ended.OutOfMemory → Appends (W.contents out.old) (W.contents out.new) (text_of (map (λ entry. entry.name) entries.now) report.now) }
-    ensures ends { result ≢ Ended.WriterFailed → result ≢ Ended.OutOfMemory → result ≡ Ended.Said (stopping.status_of report.now.findings) }
-{
-    let Ok(names) = names_of(alloc, entries) else {
-        return say_out_of_memory(out);
-    };
-    match print_report(alloc, names.as_slice(), report, out) {
-        Ok(()) => Ended::Said(status_of(report)),
-        Err(PrintFault::Memory) => say_out_of_memory(out),
-        Err(PrintFault::Cut) => Ended::WriterFailed,
-    }
-}
-
-/// Checks the files of these entries, which a reader has taken, and prints the report.
-fn answer_check<W: Write>(
+/// Loads the files of these entries, does a job on them, and returns whether it passes.
+fn answer<'a, L: Loader, W: Write>(
     alloc: Global,
-    reader: PackageReader,
-    entries: &[Entry],
-    rules: Rules,
+    job: &Job,
+    entries: &'a [Entry],
+    loader: &mut L,
     out: &mut W,
-) -> Ended
-    ensures { (files : List (List ℕ)) → length entries.now ≡ length files → PackageStandsAfter reader (sources entries.now files)
-        → Answered (sources entries.now files) rules (W.contents out.old) (W.contents out.new) result }
+) -> Result<Result<bool, Halt<'a>>, Failure>
+    ensures answers { IfOk result (OfFiles (L.has loader.old) entries.now (HasRisen (L.failed loader.old) (L.failed loader.new)) (Holds job.now (W.contents out.old) (W.contents out.new))) }
+    ensures silent { IfOk result (λ done. IfErr done (λ halt. W.contents out.new ≡ W.contents out.old)) }
 {
-    match reader.finish(rules) {
-        Ok(report) => print(alloc, entries, &report, out),
-        Err(PackageFault::Memory) => say_out_of_memory(out),
-        Err(PackageFault::File { index, fault }) => {
-            say_refused(alloc, Style::Line, entries, index, fault, out)
-        }
+    let names = names_of(alloc, entries)?;
+    match job {
+        Job::Check(rules) => match take_files::<L, PackageReader>(alloc, loader, entries)? {
+            Ok(reader) => checks::check(reader, names.as_slice(), *rules, out),
+            Err(halt) => Ok(Err(halt)),
+        },
+        Job::Measure(format) => match take_files::<L, PackageReader>(alloc, loader, entries)? {
+            Ok(reader) => measures::measure(alloc, reader, names.as_slice(), *format, out),
+            Err(halt) => Ok(Err(halt)),
+        },
+        Job::Report(order) => match take_files::<L, FlashedReader>(alloc, loader, entries)? {
+            Ok(reader) => reports::report(alloc, reader, names.as_slice(), order, out),
+            Err(halt) => Ok(Err(halt)),
+        },
+        Job::Draw(rules) => match take_files::<L, FlashedReader>(alloc, loader, entries)? {
+            Ok(reader) => drawings::draw(alloc, reader, names.as_slice(), *rules, out),
+            Err(halt) => Ok(Err(halt)),
+        },
     }
 }
 
-/// Does this work on the files of these entries, which a reader has taken.
-fn answer<W: Write>(
-    alloc: Global,
-    work: Work,
-    reader: PackageReader,
-    entries: &[Entry],
-    out: &mut W,
-) -> Ended
-    ensures { (files : List (List ℕ)) → length entries.now ≡ length files → PackageStandsAfter reader (sources entries.now files)
-        → AnsweredBy work (sources entries.now files) (W.contents out.old) (W.contents out.new) result }
+/// The status of a job: Pass, or Findings where it does not pass.
+fn status_of(passes: bool) -> Status
+    ensures { result ≡ status_of passes }
 {
-    match work {
-        Work::Check(rules) => answer_check(alloc, reader, entries, rules, out),
-        Work::Measure(format) => answer_measure(alloc, reader, entries, format, out),
+    if passes {
+        Status::Pass
+    } else {
+        Status::Findings
     }
 }
 
-/// Does this work on the package of a manifest.
+/// Does a job on the package of a manifest.
 fn work_on<L: Loader, W: Write>(
     alloc: Global,
-    work: Work,
+    job: &Job,
     name: &str,
     loader: &mut L,
     out: &mut W,
-) -> Ended
-    ensures says { SaysBy work (L.has loader.old) name.now (W.contents out.old) (W.contents out.new) (status_after result) }
-    ensures cause { HasCause (L.failed loader.old) (L.failed loader.new) result }
+) -> Result<Status, Failure>
+    ensures says { IfOk result (SaysJob job.now (L.has loader.old) name.now (W.contents out.old) (W.contents out.new)) }
+    ensures cause { IfOk result (HasCause (L.failed loader.old) (L.failed loader.new)) }
 {
-    let entries = match load_manifest(alloc, loader, name) {
+    let entries = match load_table::<L, Entry>(alloc, loader, name, Subject::Manifest)? {
         Ok(entries) => entries,
-        Err(stop) => return tell(alloc, work.style(), &[], stop, out),
+        Err(halt) => return print_halt(out, job.style(), halt),
     };
-    match take_files::<L, PackageReader>(alloc, loader, entries.as_slice()) {
-        Ok(reader) => answer(alloc, work, reader, entries.as_slice(), out),
-        Err(stop) => tell(alloc, work.style(), entries.as_slice(), stop, out),
+    match answer(alloc, job, entries.as_slice(), loader, out)? {
+        Ok(passes) => Ok(status_of(passes)),
+        Err(halt) => print_halt(out, job.style(), halt),
     }
 }
 
@@ -144,13 +104,16 @@ pub(crate) fn check<L: Loader, W: Write>(
     name: &str,
     loader: &mut L,
     out: &mut W,
-) -> Ended
-    ensures says { SaysOf (L.has loader.old) name.now (named.rules_named ring.now gap.now) (W.contents out.old) (W.contents out.new) (status_after result) }
-    ensures cause { HasCause (L.failed loader.old) (L.failed loader.new) result }
+) -> Result<Status, Failure>
+    ensures says { IfOk result (SaysOf (L.has loader.old) name.now (named.rules_named ring.now gap.now) (W.contents out.old) (W.contents out.new)) }
+    ensures cause { IfOk result (HasCause (L.failed loader.old) (L.failed loader.new)) }
 {
     match rules_named(ring, gap) {
-        Ok(rules) => work_on(alloc, Work::Check(rules), name, loader, out),
-        Err(reason) => say_refused_word(alloc, reason, out),
+        Ok(rules) => work_on(alloc, &Job::Check(rules), name, loader, out),
+        Err(reason) => {
+            refuse_word(out, reason)?;
+            Ok(Status::Usage)
+        }
     }
 }
 
@@ -161,12 +124,80 @@ pub(crate) fn measure<L: Loader, W: Write>(
     name: &str,
     loader: &mut L,
     out: &mut W,
-) -> Ended
-    ensures says { SaysMeasureOf (L.has loader.old) name.now (named.format_named (option_map (λ w. w.now) format.entry)) (W.contents out.old) (W.contents out.new) (status_after result) }
-    ensures cause { HasCause (L.failed loader.old) (L.failed loader.new) result }
+) -> Result<Status, Failure>
+    ensures says { IfOk result (SaysMeasureOf (L.has loader.old) name.now (named.format_named (option_map (λ w. w.now) format.entry)) (W.contents out.old) (W.contents out.new)) }
+    ensures cause { IfOk result (HasCause (L.failed loader.old) (L.failed loader.new)) }
 {
     match format_named(format) {
-        Ok(format) => work_on(alloc, Work::Measure(format), name, loader, out),
-        Err(reason) => say_refused_word(alloc, reason, out),
+        Ok(format) => work_on(alloc, &Job::Measure(format), name, loader, out),
+        Err(reason) => {
+            refuse_word(out, reason)?;
+            Ok(Status::Usage)
+        }
+    }
+}
+
+/// Prints the picture of the package of a manifest, with what is found under the rules that two words name, if they are given.
+pub(crate) fn draw<L: Loader, W: Write>(
+    alloc: Global,
+    ring: Option<&str>,
+    gap: Option<&str>,
+    name: &str,
+    loader: &mut L,
+    out: &mut W,
+) -> Result<Status, Failure>
+    ensures says { IfOk result (SaysDrawOf (L.has loader.old) name.now (named.draw_named (option_map (λ w. w.now) ring.entry) (option_map (λ w. w.now) gap.entry)) (W.contents out.old) (W.contents out.new)) }
+    ensures cause { IfOk result (HasCause (L.failed loader.old) (L.failed loader.new)) }
+{
+    match draw_named(ring, gap) {
+        Ok(rules) => work_on(alloc, &Job::Draw(rules), name, loader, out),
+        Err(reason) => {
+            refuse_word(out, reason)?;
+            Ok(Status::Usage)
+        }
+    }
+}
+
+/// Reports on the package of a manifest as these words ask: each finding under the rules, what is lacking, why, and whether it is
+/// waived. A file of waivers is loaded first.
+pub(crate) fn report<L: Loader, W: Write>(
+    alloc: Global,
+    asked: &ReportWords,
+    name: &str,
+    loader: &mut L,
+    out: &mut W,
+) -> Result<Status, Failure>
+    ensures says { IfOk result (SaysReportOf (L.has loader.old) name.now (named.report_named asked.now.ring.now asked.now.gap.now (option_map (λ w. w.now) asked.now.most) (option_map (λ w. w.now) asked.now.waive) (option_map (λ w. w.now) asked.now.format)) (option_map (λ w. w.now) asked.now.waive) (W.contents out.old) (W.contents out.new)) }
+    ensures cause { IfOk result (HasCause (L.failed loader.old) (L.failed loader.new)) }
+{
+    let (rules, most, format) = match report_named(asked) {
+        Ok(named) => named,
+        Err(reason) => {
+            refuse_word(out, reason)?;
+            return Ok(Status::Usage);
+        }
+    };
+    match asked.waive {
+        None => {
+            let order = Order {
+                rules,
+                most,
+                format,
+                waivers: None,
+            };
+            work_on(alloc, &Job::Report(order), name, loader, out)
+        }
+        Some(file) => match load_table::<L, Waiver>(alloc, loader, file, Subject::Waivers)? {
+            Ok(waivers) => {
+                let order = Order {
+                    rules,
+                    most,
+                    format,
+                    waivers: Some(waivers),
+                };
+                work_on(alloc, &Job::Report(order), name, loader, out)
+            }
+            Err(halt) => print_halt(out, report_style(format), halt),
+        },
     }
 }

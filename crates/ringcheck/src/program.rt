@@ -1,11 +1,11 @@
 //! The whole program, over a loader and a writer.
 
-ghost use Rattle.std.specs.Prelude.{◌≡◌, ◌≢◌, ◌++◌, ◌∷◌, [], map, true, ℕ, Bool, List, Option, Some, None, codes, option_map};
+ghost use Rattle.std.specs.Prelude.{◌≡◌, ◌++◌, ◌∷◌, ◌⊎◌, [], map, true, ℕ, Bool, IfOk, IfSome, List, Option, Some, None, codes, option_map};
 ghost use Rattle.std.specs.Io.KnownBytes.{Appends};
 ghost use Rattle.command_line.specs.Line.{are_plain_rules, are_plain_words, check_words, draw_words, explain_words, file_words, is_plain_if_some, is_plain_word, manifest_words, measure_words, report_words};
 ghost use Rattle.ringcheck.specs.Asking.{SaysLine, SaysRequest};
 ghost use Rattle.ringcheck.specs.Drawing.{SaysDrawOf};
-ghost use Rattle.ringcheck_files.specs.Endings.{HasCause, status_after};
+ghost use Rattle.ringcheck_files.specs.Endings.{HasCause};
 ghost use Rattle.ringcheck_files.specs.Folders.{SaysManifest, SaysPage, SaysVersion};
 ghost use Rattle.ringcheck.specs.Measuring.{SaysMeasureOf};
 ghost use Rattle.ringcheck.specs.Naming as named;
@@ -13,26 +13,25 @@ ghost use Rattle.ringcheck_files.specs.Printing.{SaysFileOf, kind_named};
 ghost use Rattle.ringcheck.specs.Reporting.{SaysReportOf};
 ghost use Rattle.ringcheck.specs.Running.{SaysOf};
 
-use crate::flashed::{draw, report};
+use crate::Loader;
 use crate::naming::ReportWords;
-use crate::packages::{check, measure};
-use crate::{Loader, lines};
+use crate::packages::{check, draw, measure, report};
 use command_line::{Refusal, Request, VERSION_LINE, parse};
-use ringcheck_files::{
-    Ended, Status, Task, explain, print, print_manifest, say, say_line, say_out_of_memory,
-};
+use ringcheck_files::{Failure, Status, Task, explain, print, print_manifest};
 use std::alloc::Global;
+use std::fmt;
+use std::fmt::{Display, Formatter};
 use std::io::Write;
 
-/// Does what a request asks for, and returns how the run ended.
-fn answer<L: Loader, W: Write>(
+/// Does what a request asks for.
+fn carry_out<L: Loader, W: Write>(
     alloc: Global,
     request: &Request,
     loader: &mut L,
     out: &mut W,
-) -> Ended
-    ensures says { SaysRequest request.now (L.has loader.old) (L.failed loader.old) (L.failed loader.new) (W.contents out.old) (W.contents out.new) (status_after result) }
-    ensures cause { HasCause (L.failed loader.old) (L.failed loader.new) result }
+) -> Result<Status, Failure>
+    ensures says { IfOk result (SaysRequest request.now (L.has loader.old) (L.failed loader.old) (L.failed loader.new) (W.contents out.old) (W.contents out.new)) }
+    ensures cause { IfOk result (HasCause (L.failed loader.old) (L.failed loader.new)) }
 {
     match request {
         Request::Check {
@@ -68,61 +67,50 @@ fn answer<L: Loader, W: Write>(
         Request::Manifest { why, files } => {
             print_manifest(alloc, *why, files.as_slice(), loader, out)
         }
-        Request::Explain { word } => explain(alloc, *word, out),
+        Request::Explain { word } => explain(*word, out),
     }
 }
 
-/// Prints `usage` and what is wrong with the words, which are no command.
-fn say_usage<W: Write>(alloc: Global, text: &str, out: &mut W) -> Ended
-    ensures ends { result ≢ Ended.WriterFailed → result ≢ Ended.OutOfMemory → result ≡ Ended.Said Status.Usage }
-    ensures tells { result ≢ Ended.WriterFailed → result ≢ Ended.OutOfMemory → Appends (W.contents out.old) (W.contents out.new) (codes "usage\n" ++ text.now) }
+/// Prints a text, and returns this status, or Device where the writer fails.
+fn say<T: Display, W: Write>(out: &mut W, text: &T, status: Status) -> Status
+    ensures { ((result ≡ status) × IfSome (T.output text.now) (λ bs. Appends (W.contents out.old) (W.contents out.new) bs)) ⊎ (result ≡ Status.Device) }
 {
-    say_line(
-        out,
-        lines::usage_with(alloc, text),
-        Ended::Said(Status::Usage),
-    )
+    match write!(out, "{text}") {
+        Ok(()) => status,
+        Err(_) => Status::Device,
+    }
 }
 
-/// Does what the words ask for, and returns how the run ended.
-fn run_to_end<L: Loader, W: Write>(
+/// Does what a request asks for, and prints the line `memory` where memory runs out.
+fn answer<L: Loader, W: Write>(
     alloc: Global,
-    words: &[&str],
+    request: &Request,
     loader: &mut L,
     out: &mut W,
-) -> Ended
-    ensures check { (r g m : List ℕ) → map (λ w. w.now) words.now ≡ check_words r g m → is_plain_word r ≡ true → is_plain_word g ≡ true
-        → is_plain_word m ≡ true → SaysOf (L.has loader.old) m (named.rules_named r g) (W.contents out.old) (W.contents out.new) (status_after result) }
-    ensures report { (r g : List ℕ) (most waive format : Option (List ℕ)) (m : List ℕ) → map (λ w. w.now) words.now ≡ report_words r g most waive format m → is_plain_word r ≡ true → is_plain_word g ≡ true
-        → is_plain_if_some most ≡ true → is_plain_if_some waive ≡ true → is_plain_if_some format ≡ true → is_plain_word m ≡ true → SaysReportOf (L.has loader.old) m (named.report_named r g most waive format) waive (W.contents out.old) (W.contents out.new) (status_after result) }
-    ensures measure { (format : Option (List ℕ)) (m : List ℕ) → map (λ w. w.now) words.now ≡ measure_words format m → is_plain_if_some format ≡ true → is_plain_word m ≡ true
-        → SaysMeasureOf (L.has loader.old) m (named.format_named format) (W.contents out.old) (W.contents out.new) (status_after result) }
-    ensures draw { (rules : Option (List ℕ × List ℕ)) (m : List ℕ) → map (λ w. w.now) words.now ≡ draw_words rules m → are_plain_rules rules ≡ true → is_plain_word m ≡ true
-        → SaysDrawOf (L.has loader.old) m (named.draw_named (option_map (λ both. both.0) rules) (option_map (λ both. both.1) rules)) (W.contents out.old) (W.contents out.new) (status_after result) }
-    ensures show { (k f : List ℕ) → map (λ w. w.now) words.now ≡ file_words (codes "show") k f → is_plain_word k ≡ true → is_plain_word f ≡ true
-        → SaysFileOf Task.Show (kind_named k) (L.has loader.old) f (W.contents out.old) (W.contents out.new) (status_after result) }
-    ensures rewrite { (k f : List ℕ) → map (λ w. w.now) words.now ≡ file_words (codes "rewrite") k f → is_plain_word k ≡ true → is_plain_word f ≡ true
-        → SaysFileOf Task.Rewrite (kind_named k) (L.has loader.old) f (W.contents out.old) (W.contents out.new) (status_after result) }
-    ensures manifest { (why : Bool) (fs : List (List ℕ)) → map (λ w. w.now) words.now ≡ manifest_words why fs → are_plain_words fs ≡ true
-        → SaysManifest why (L.has loader.old) (L.failed loader.old) (L.failed loader.new) fs (W.contents out.old) (W.contents out.new) (status_after result) }
-    ensures list { map (λ w. w.now) words.now ≡ explain_words None → SaysPage None (W.contents out.old) (W.contents out.new) (status_after result) }
-    ensures explain { (w : List ℕ) → map (λ w. w.now) words.now ≡ explain_words (Some w) → is_plain_word w ≡ true
-        → SaysPage (Some w) (W.contents out.old) (W.contents out.new) (status_after result) }
-    ensures version { map (λ w. w.now) words.now ≡ codes "--version" ∷ [] → SaysVersion (W.contents out.old) (W.contents out.new) (status_after result) }
-    ensures line { SaysLine (map (λ w. w.now) words.now) (L.has loader.old) (L.failed loader.old) (L.failed loader.new) (W.contents out.old) (W.contents out.new) (status_after result) }
-    ensures cause { HasCause (L.failed loader.old) (L.failed loader.new) result }
+) -> Status
+    ensures { SaysRequest request.now (L.has loader.old) (L.failed loader.old) (L.failed loader.new) (W.contents out.old) (W.contents out.new) result }
 {
-    match parse(alloc, words) {
-        Ok(request) => answer(alloc, &request, loader, out),
-        Err(Refusal::Memory) => say_out_of_memory(out),
-        Err(Refusal::Version) => say(out, VERSION_LINE.as_bytes(), Ended::Said(Status::Pass)),
-        Err(Refusal::Help(text)) => say(out, text.as_str().as_bytes(), Ended::Said(Status::Pass)),
-        Err(Refusal::Usage(text)) => say_usage(alloc, text.as_str(), out),
+    match carry_out(alloc, request, loader, out) {
+        Ok(status) => status,
+        Err(Failure::Memory) => say(out, &"memory\n", Status::Device),
+        Err(Failure::Writer) => Status::Device,
+    }
+}
+
+/// Words that are no command, as they are reported: `usage`, and below it what is wrong with them.
+#[derive(Clone, Copy)]
+struct UsageText<'a>(&'a str);
+
+impl Display for UsageText<'_> {
+    ghost output = { λ text. Some (codes "usage\n" ++ text.0.now) };
+
+    fn fmt<W: fmt::Write>(&self, f: &mut Formatter<W>) -> fmt::Result {
+        write!(f, "usage\n{}", self.0)
     }
 }
 
 /// The whole program: does what the words ask for, which come without the program's name. Everything is printed to `out`, a
-/// long report in parts. Where that fails the status is Device, and it is not known what was written.
+/// long report in many small writes. Where that fails the status is Device, and it is not known what was written.
 pub fn run<L: Loader, W: Write>(
     alloc: Global,
     words: &[&str],
@@ -149,5 +137,11 @@ pub fn run<L: Loader, W: Write>(
     ensures version { map (λ w. w.now) words.now ≡ codes "--version" ∷ [] → SaysVersion (W.contents out.old) (W.contents out.new) result }
     ensures line { SaysLine (map (λ w. w.now) words.now) (L.has loader.old) (L.failed loader.old) (L.failed loader.new) (W.contents out.old) (W.contents out.new) result }
 {
-    run_to_end(alloc, words, loader, out).status()
+    match parse(alloc, words) {
+        Ok(request) => answer(alloc, &request, loader, out),
+        Err(Refusal::Memory) => say(out, &"memory\n", Status::Device),
+        Err(Refusal::Version) => say(out, &VERSION_LINE, Status::Pass),
+        Err(Refusal::Help(text)) => say(out, &text, Status::Pass),
+        Err(Refusal::Usage(text)) => say(out, &UsageText(text.as_str()), Status::Usage),
+    }
 }

@@ -1,16 +1,21 @@
-//! Prints why nothing was done with a package.
+//! Why nothing is done with a package, and what is printed of it. Files are numbered from 1.
 
-ghost use Rattle.std.specs.Prelude.{◌≡◌, ◌≢◌, ℕ, List, IfOk};
-ghost use Rattle.std.specs.String.{string_bytes};
-ghost use Rattle.ringcheck.specs.Inner.Stopping.{EndsAsRefused, IsNameAt, TellsOf};
-ghost use Rattle.ringcheck.specs.Refusing.{IsRefusalText, Refusal, of_file, of_manifest, of_waivers};
+ghost use Rattle.std.specs.Prelude.{◌≡◌, ℕ, List, IfOk, OnOk, Some, map, slice_get};
+ghost use Rattle.explanations.specs.Words.{FitsScreen, Heads};
+ghost use Rattle.grid_units.specs.Reasons.{name_of};
+ghost use Rattle.package_check.specs.Package.{Source, IsFirstRefused};
+ghost use Rattle.report_json.specs.Packages.{stop_value};
+ghost use Rattle.report_json.specs.Values.{json_text};
+ghost use Rattle.ringcheck.specs.Inner.Halting.{AfterHalt, Halts, refusal};
+ghost use Rattle.ringcheck.specs.Refusing.{TellsRefusal, indented, refusal_json, refusal_line};
+ghost use Rattle.ringcheck.specs.Running.{RefusedAmong};
 
-use crate::loading_files::Stop;
-use crate::{Entry, lines};
-use grid_units::Fault;
-use report_json::refusal_json;
-use ringcheck_files::{ABOVE_LIMIT, Ended, Status, say, say_line, say_out_of_memory};
-use std::alloc::{AllocError, Global};
+use explanations::explanation;
+use grid_units::{Fault, Reason};
+use report_json::Stop;
+use ringcheck_files::{Failure, Status};
+use std::fmt;
+use std::fmt::{Display, Formatter};
 use std::io::Write;
 
 /// How a refusal is printed.
@@ -24,118 +29,161 @@ pub(crate) enum Style {
     Json,
 }
 
-/// The name of the entry at an index; empty where there is none.
-fn name_at(entries: &[Entry], index: usize) -> &str
-    ensures { IsNameAt entries.now index result.now }
+/// What is refused, or cannot be read.
+#[derive(Clone, Copy)]
+pub(crate) enum Subject<'a> {
+    /// The manifest of a package.
+    Manifest,
+    /// A file of waivers.
+    Waivers,
+    /// A file of a package, by its index from 0 and its name in the manifest.
+    File { index: usize, name: &'a str },
+}
+
+/// Why nothing is done with a package.
+#[derive(Clone, Copy)]
+pub(crate) enum Halt<'a> {
+    /// This is refused, with its fault.
+    Refused(Subject<'a>, Fault),
+    /// This cannot be read.
+    Unread(Subject<'a>),
+}
+
+/// The name at an index; empty where there is none.
+fn name_at<'a>(names: &[&'a str], index: usize) -> &'a str
+    ensures { (name : List ℕ) → slice_get (map (λ name. name.now) names.now) index ≡ Some name → result.now ≡ name }
 {
-    match entries.get(index) {
-        Some(entry) => entry.name.as_str(),
+    match names.get(index) {
+        Some(name) => *name,
         None => "",
     }
 }
 
-/// The text of the refusal of a file.
-fn refused(
-    alloc: Global,
-    style: Style,
-    index: usize,
+/// The refusal of the file at an index of a package whose files have these names.
+pub(crate) fn refused<'a>(names: &[&'a str], index: usize, fault: Fault) -> Halt<'a>
+    ensures { (all : List Source) → map (λ name. name.now) names.now ≡ map (λ source. source.name) all → IsFirstRefused all index fault → Halts (RefusedAmong all) ⊥ result }
+{
+    let name = name_at(names, index);
+    Halt::Refused(Subject::File { index, name }, fault)
+}
+
+/// A refusal as a line, such as `refused file=1 place=0 byte=0 reason=TooLong name=top` or `refused manifest place=0 reason=TooLong`.
+#[derive(Clone, Copy)]
+struct RefusalLine<'a> {
+    subject: Subject<'a>,
     fault: Fault,
-    name: &str,
-) -> Result<String, AllocError>
-    ensures { IfOk result (λ text. IsRefusalText style (of_file index name.now fault) (string_bytes text)) }
-{
-    match style {
-        Style::Line => lines::refused(alloc, index, fault, name),
-        Style::Page => lines::with_page(lines::refused(alloc, index, fault, name), fault.reason),
-        Style::Json => refusal_json(alloc, &report_json::Stop::Refused { index, name, fault }),
-    }
 }
 
-/// The text of the refusal of a manifest.
-fn refused_manifest(alloc: Global, style: Style, fault: Fault) -> Result<String, AllocError>
-    ensures { IfOk result (λ text. IsRefusalText style (of_manifest fault) (string_bytes text)) }
-{
-    let Fault { place, reason, .. } = fault;
-    match style {
-        Style::Line => lines::refused_manifest(alloc, fault),
-        Style::Page => lines::with_page(lines::refused_manifest(alloc, fault), reason),
-        Style::Json => refusal_json(alloc, &report_json::Stop::RefusedManifest { place, reason }),
-    }
-}
+impl Display for RefusalLine<'_> {
+    ghost output = { λ line. Some (refusal_line (refusal line.subject line.fault)) };
 
-/// The text of the refusal of a file of waivers.
-fn refused_waivers(alloc: Global, style: Style, fault: Fault) -> Result<String, AllocError>
-    ensures { IfOk result (λ text. IsRefusalText style (of_waivers fault) (string_bytes text)) }
-{
-    let Fault { place, reason, .. } = fault;
-    match style {
-        Style::Line => lines::refused_waivers(alloc, fault),
-        Style::Page => lines::with_page(lines::refused_waivers(alloc, fault), reason),
-        Style::Json => refusal_json(alloc, &report_json::Stop::RefusedWaivers { place, reason }),
-    }
-}
-
-/// The text for a file that cannot be read.
-fn unread(alloc: Global, style: Style, index: usize, name: &str) -> Result<String, AllocError> {
-    match style {
-        Style::Line | Style::Page => lines::device(alloc, index, name),
-        Style::Json => refusal_json(alloc, &report_json::Stop::Device { index, name }),
-    }
-}
-
-/// Prints that a manifest or a file of waivers cannot be read.
-fn say_unread<W: Write>(alloc: Global, style: Style, stop: &report_json::Stop, out: &mut W) -> Ended
-    ensures { result ≢ Ended.WriterFailed → result ≢ Ended.OutOfMemory → result ≡ Ended.LoaderFailed }
-{
-    match style {
-        Style::Line | Style::Page => say(out, b"device\n", Ended::LoaderFailed),
-        Style::Json => say_line(out, refusal_json(alloc, stop), Ended::LoaderFailed),
-    }
-}
-
-/// Writes the text of a refusal.
-fn say_text<W: Write>(out: &mut W, text: Result<String, AllocError>) -> Ended
-    ensures { (style : Style) (why : Refusal) → IfOk text (λ text. IsRefusalText style why (string_bytes text))
-        → EndsAsRefused style why (W.contents out.old) (W.contents out.new) result }
-{
-    say_line(out, text, Ended::Said(Status::Refused))
-}
-
-/// Prints the refusal of the file at an index.
-pub(crate) fn say_refused<W: Write>(
-    alloc: Global,
-    style: Style,
-    entries: &[Entry],
-    index: usize,
-    fault: Fault,
-    out: &mut W,
-) -> Ended
-    ensures { (name : List ℕ) × IsNameAt entries.now index name × EndsAsRefused style (of_file index name fault) (W.contents out.old) (W.contents out.new) result }
-{
-    let text = refused(alloc, style, index, fault, name_at(entries, index));
-    say_text(out, text)
-}
-
-/// Prints why the files were not loaded, and returns how the run ended.
-pub(crate) fn tell<W: Write>(
-    alloc: Global,
-    style: Style,
-    entries: &[Entry],
-    stop: Stop,
-    out: &mut W,
-) -> Ended
-    ensures { TellsOf style entries.now stop (W.contents out.old) (W.contents out.new) result }
-{
-    match stop {
-        Stop::Memory => say_out_of_memory(out),
-        Stop::Device => say_unread(alloc, style, &report_json::Stop::ManifestDevice, out),
-        Stop::DeviceWaivers => say_unread(alloc, style, &report_json::Stop::WaiversDevice, out),
-        Stop::DeviceFile(index) => {
-            let text = unread(alloc, style, index, name_at(entries, index));
-            say_line(out, text, Ended::LoaderFailed)
+    fn fmt<W: fmt::Write>(&self, f: &mut Formatter<W>) -> fmt::Result {
+        let reason = self.fault.reason.name();
+        let (place, byte) = (self.fault.place, self.fault.byte);
+        match self.subject {
+            Subject::Manifest => write!(f, "refused manifest place={place} reason={reason}\n"),
+            Subject::Waivers => write!(f, "refused waivers place={place} reason={reason}\n"),
+            Subject::File { index, name } => {
+                let number = index as u128 + 1;
+                write!(
+                    f,
+                    "refused file={number} place={place} byte={byte} reason={reason} name={name}\n"
+                )
+            }
         }
-        Stop::Manifest(fault) => say_text(out, refused_manifest(alloc, style, fault)),
-        Stop::Waivers(fault) => say_text(out, refused_waivers(alloc, style, fault)),
-        Stop::LongFile(index) => say_refused(alloc, style, entries, index, ABOVE_LIMIT, out),
+    }
+}
+
+/// The lines of a page, each after two spaces.
+#[derive(Clone, Copy)]
+struct Indented<'a>(&'a str);
+
+impl Display for Indented<'_> {
+    ghost output = { λ page. Some (indented page.0.now) };
+
+    fn fmt<W: fmt::Write>(&self, f: &mut Formatter<W>) -> fmt::Result {
+        for row in self.0.lines() {
+            write!(f, "  {row}\n")?;
+        }
+        Ok(())
+    }
+}
+
+/// The page of a reason.
+fn page_of(reason: Reason) -> &'static str
+    ensures headed { Heads (name_of reason) result.now }
+    ensures fits { FitsScreen result.now }
+{
+    match explanation(reason.name()) {
+        Some(page) => page,
+        None => "",
+    }
+}
+
+/// A refusal for its JSON.
+fn refused_stop<'a>(subject: Subject<'a>, fault: Fault) -> Stop<'a>
+    ensures { json_text (stop_value result) ≡ refusal_json (refusal subject.entry fault) }
+{
+    let Fault { place, reason, .. } = fault;
+    match subject {
+        Subject::Manifest => Stop::RefusedManifest { place, reason },
+        Subject::Waivers => Stop::RefusedWaivers { place, reason },
+        Subject::File { index, name } => Stop::Refused { index, name, fault },
+    }
+}
+
+/// What cannot be read, for its JSON.
+fn unread_stop<'a>(subject: Subject<'a>) -> Stop<'a> {
+    match subject {
+        Subject::Manifest => Stop::ManifestDevice,
+        Subject::Waivers => Stop::WaiversDevice,
+        Subject::File { index, name } => Stop::Device { index, name },
+    }
+}
+
+/// Prints a refusal in this style.
+fn print_refusal<W: Write>(
+    out: &mut W,
+    style: Style,
+    subject: Subject,
+    fault: Fault,
+) -> Result<(), Failure>
+    ensures { OnOk result (TellsRefusal style (refusal subject.entry fault) (W.contents out.old) (W.contents out.new)) }
+{
+    let line = RefusalLine { subject, fault };
+    match style {
+        Style::Line => write!(out, "{line}")?,
+        Style::Page => write!(out, "{line}{}", Indented(page_of(fault.reason)))?,
+        Style::Json => write!(out, "{}", refused_stop(subject, fault))?,
+    }
+    Ok(())
+}
+
+/// Prints in this style that something cannot be read.
+fn print_unread<W: Write>(out: &mut W, style: Style, subject: Subject) -> Result<(), Failure> {
+    match (style, subject) {
+        (Style::Json, _) => write!(out, "{}", unread_stop(subject))?,
+        (_, Subject::File { index, name }) => {
+            let number = index as u128 + 1;
+            write!(out, "device file={number} name={name}\n")?;
+        }
+        (_, Subject::Manifest | Subject::Waivers) => write!(out, "device\n")?,
+    }
+    Ok(())
+}
+
+/// Prints why nothing is done with a package, and returns the status of the run.
+pub(crate) fn print_halt<W: Write>(out: &mut W, style: Style, halt: Halt) -> Result<Status, Failure>
+    ensures { IfOk result (AfterHalt style halt.entry (W.contents out.old) (W.contents out.new)) }
+{
+    match halt {
+        Halt::Refused(subject, fault) => {
+            print_refusal(out, style, subject, fault)?;
+            Ok(Status::Refused)
+        }
+        Halt::Unread(subject) => {
+            print_unread(out, style, subject)?;
+            Ok(Status::Device)
+        }
     }
 }

@@ -1,19 +1,13 @@
 -- Files that were loaded one by one, by their names.
-use Rattle.std.proofs.Common.{◌≡◌, ◌≢◌, ◌∙◌, ◌<◌, ◌≤◌, ◌+◌, ◌++◌, ◌&&◌, inl, inr, ℕ, zero, suc, Bool, true, false, cond, List, [], ◌∷◌, length, map, take, get_or, Bor, Option, Some, arith, refl, ap, sym, subst}
+use Rattle.std.proofs.Common.{◌≡◌, ◌∙◌, ◌<◌, ◌≤◌, ◌+◌, ◌++◌, ◌&&◌, inl, inr, ℕ, zero, suc, Bool, true, false, cond, List, [], ◌∷◌, length, map, take, get_or, Bor, Option, arith, refl, ap, sym, subst}
 use Rattle.std.specs.Io.KnownBytes.{Appends}
 use Rattle.std.specs.List.{list_all}
 use Rattle.std.proofs.lemmas.List.Sums.{sum_by_push}
-use Rattle.grid_units.specs.declared.fault.Reason.TheVariants.{BadManifest, BadRole}
-use Rattle.explanations.specs.Words.{IsWord}
 use Rattle.proposals.specs.Proposing.{name_of}
 use Rattle.proposals.specs.declared.outcome.Named.{Named}
-use Rattle.ringcheck_files.specs.declared.ending.Ended.{Ended}
-use Rattle.ringcheck_files.specs.declared.ending.Ended.TheVariants as ended
-use Rattle.ringcheck_files.specs.declared.Status.TheVariants as status
 use Rattle.ringcheck_files.specs.declared.proposing.Held.{Held}
-use Rattle.ringcheck_files.specs.Endings.{HasRisen, status_after}
-use Rattle.ringcheck_files.specs.Folders.{HasKnown, HasPairs, Known, RoseBy, bytes, unread, long, SaysManifest, TellsFolder, TellsPage, can_stand, count_unread, held_as, is_unread, pair_of, pairs}
-use Rattle.ringcheck_files.specs.Words.{usage_line}
+use Rattle.ringcheck_files.specs.Endings.{HasRisen}
+use Rattle.ringcheck_files.specs.Folders.{HasKnown, HasPairs, IsTextOf, Known, Proposed, RoseBy, bytes, unread, long, can_stand, count_unread, held_as, is_unread, pair_of, pairs}
 
 -- the names
 abbrev pub texts : List (Bor (List ℕ)) → List (List ℕ)
@@ -85,62 +79,26 @@ names_of_files : (files : List Named) → map (λ (p : List ℕ × Known). p.0) 
 names_of_files [] = refl
 names_of_files (f ∷ fs) = ap (λ (t : List (List ℕ)). name_of f ∷ t) (names_of_files fs)
 
-all_of_map : (names : List (Bor (List ℕ))) → list_all can_stand (texts names) ≡ list_all (λ n. can_stand n.now) names
+pub all_of_map : (names : List (Bor (List ℕ))) → list_all can_stand (texts names) ≡ list_all (λ n. can_stand n.now) names
 all_of_map [] = refl
 all_of_map (x ∷ xs) = ap (λ b. can_stand x.now && b) (all_of_map xs)
 
--- what was printed of files that are at hand, as a status says it
-pub told : (why : Bool) (has : List ℕ → List ℕ → Type 0) (failed_before failed_after : ℕ) (names : List (Bor (List ℕ))) (all : List Held) (before after : Option (List ℕ)) (e : Ended) → length names ≡ length all
-    → list_all (λ n. can_stand n.now) names ≡ true → HasPairs has (pairs names all) → RoseBy (count_unread (pairs names all)) failed_before failed_after → TellsFolder why (pairs names all) before after e
-    → SaysManifest why has failed_before failed_after (texts names) before after (status_after e)
-told why has failed_before failed_after names all before after (ended.Said status.Pass) n fit h rose t = (
-  all_of_map names ∙ fit,
-  record {
-    files = t.0;
-    named = sym (names_of_files t.0) ∙ ap (map (λ (p : List ℕ × Known). p.0)) t.1 ∙ names_of_pairs names all n;
-    held = subst (λ ps. HasPairs has ps) (sym t.1) h;
-    failed = subst (λ ps. RoseBy (count_unread ps) failed_before failed_after) (sym t.1) rose;
-    text = t.2;
-    is = t.3;
-    written = t.4;
-  },
-)
-told why has failed_before failed_after names all before after (ended.Said status.Findings) n fit h rose t = absurd t
-told why has failed_before failed_after names all before after (ended.Said status.Refused) n fit h rose t = absurd t
-told why has failed_before failed_after names all before after (ended.Said status.Usage) n fit h rose t = absurd t
-told why has failed_before failed_after names all before after (ended.Said status.Device) n fit h rose t = absurd t
-told why has failed_before failed_after names all before after ended.LoaderFailed n fit h rose t = absurd t
-told why has failed_before failed_after names all before after ended.OutOfMemory n fit h rose t = tt
-told why has failed_before failed_after names all before after ended.WriterFailed n fit h rose t = tt
-
--- the refusal of names that may not stand in a manifest was printed
-pub refused : (why : Bool) (has : List ℕ → List ℕ → Type 0) (failed_before failed_after : ℕ) (names : List (Bor (List ℕ))) (before after : Option (List ℕ)) (e : Ended)
-    → list_all (λ n. can_stand n.now) names ≡ false → (e ≢ ended.WriterFailed → e ≢ ended.OutOfMemory → e ≡ ended.Said status.Usage)
-    → (e ≢ ended.WriterFailed → e ≢ ended.OutOfMemory → Appends before after (usage_line BadManifest))
-    → SaysManifest why has failed_before failed_after (texts names) before after (status_after e)
-refused why has failed_before failed_after names before after (ended.Said status.Pass) fit h t = cc (h (λ x. cc x) (λ x. cc x))
-refused why has failed_before failed_after names before after (ended.Said status.Findings) fit h t = cc (h (λ x. cc x) (λ x. cc x))
-refused why has failed_before failed_after names before after (ended.Said status.Refused) fit h t = cc (h (λ x. cc x) (λ x. cc x))
-refused why has failed_before failed_after names before after (ended.Said status.Usage) fit h t = (all_of_map names ∙ fit, t (λ x. cc x) (λ x. cc x))
-refused why has failed_before failed_after names before after (ended.Said status.Device) fit h t = tt
-refused why has failed_before failed_after names before after ended.LoaderFailed fit h t = tt
-refused why has failed_before failed_after names before after ended.OutOfMemory fit h t = tt
-refused why has failed_before failed_after names before after ended.WriterFailed fit h t = tt
+-- a manifest or a table of files that are at hand was printed
+pub proposed : (why : Bool) (has : List ℕ → List ℕ → Type 0) (failed_before failed_after : ℕ) (names : List (Bor (List ℕ))) (all : List Held) (before after : Option (List ℕ)) (files : List Named) (text : List ℕ)
+    → length names ≡ length all → map pair_of files ≡ pairs names all → HasPairs has (pairs names all) → RoseBy (count_unread (pairs names all)) failed_before failed_after
+    → IsTextOf why files text → Appends before after text → Proposed why has failed_before failed_after (texts names) before after
+proposed why has failed_before failed_after names all before after files text many same held rose is written = record {
+  files = files;
+  named = sym (names_of_files files) ∙ ap (map (λ (p : List ℕ × Known). p.0)) same ∙ names_of_pairs names all many;
+  held = subst (λ ps. HasPairs has ps) (sym same) held;
+  failed = subst (λ ps. RoseBy (count_unread ps) failed_before failed_after) (sym same) rose;
+  text = text;
+  is = is;
+  written = written;
+}
 
 -- what the loader has later it had before
 pub known_before : (has before : List ℕ → List ℕ → Type 0) → ((n b : List ℕ) → has n b → before n b) → (name : List ℕ) (k : Known) → HasKnown has name k → HasKnown before name k
 known_before has before to name (bytes b) h = (to name b h.0, h.1)
 known_before has before to name unread h = tt
 known_before has before to name long h = (h.0, to name h.0 h.1, h.2)
-
--- the refusal of a word without a page was printed
-pub unexplained : (word : List ℕ) (before after : Option (List ℕ)) (e : Ended) → (IsWord word → ⊥) → (e ≢ ended.WriterFailed → e ≢ ended.OutOfMemory → e ≡ ended.Said status.Usage)
-    → (e ≢ ended.WriterFailed → e ≢ ended.OutOfMemory → Appends before after (usage_line BadRole)) → TellsPage (Some word) before after e
-unexplained word before after (ended.Said status.Pass) none h t = cc (h (λ x. cc x) (λ x. cc x))
-unexplained word before after (ended.Said status.Findings) none h t = cc (h (λ x. cc x) (λ x. cc x))
-unexplained word before after (ended.Said status.Refused) none h t = cc (h (λ x. cc x) (λ x. cc x))
-unexplained word before after (ended.Said status.Usage) none h t = (none, t (λ x. cc x) (λ x. cc x))
-unexplained word before after (ended.Said status.Device) none h t = tt
-unexplained word before after ended.LoaderFailed none h t = cc (h (λ x. cc x) (λ x. cc x))
-unexplained word before after ended.OutOfMemory none h t = tt
-unexplained word before after ended.WriterFailed none h t = tt

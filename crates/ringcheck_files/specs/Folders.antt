@@ -14,8 +14,6 @@ use Rattle.proposals.specs.declared.outcome.Content.TheVariants as content
 use Rattle.proposals.specs.declared.outcome.Named.{Named}
 use Rattle.ringcheck_files.specs.declared.Status.{Status}
 use Rattle.ringcheck_files.specs.declared.Status.TheVariants as status
-use Rattle.ringcheck_files.specs.declared.ending.Ended.{Ended}
-use Rattle.ringcheck_files.specs.declared.ending.Ended.TheVariants as ended
 use Rattle.ringcheck_files.specs.declared.proposing.Held.{Held}
 use Rattle.ringcheck_files.specs.declared.proposing.Held.TheVariants as held
 use Rattle.ringcheck_files.specs.Loading.{Relation, file_limit, within}
@@ -105,17 +103,6 @@ SaysManifest why has failed_before failed_after names before after status.Refuse
 SaysManifest why has failed_before failed_after names before after status.Usage = (list_all can_stand names ≡ false) × Appends before after (usage_line BadManifest)
 SaysManifest why has failed_before failed_after names before after status.Device = ⊤
 
--- what an end says of a manifest of files that are at hand
-abbrev pub TellsFolder : Bool → List (List ℕ × Known) → Option (List ℕ) → Option (List ℕ) → Ended → Type 0
-TellsFolder why all before after (ended.Said status.Pass) = (files : List Named) × (map pair_of files ≡ all) × (text : List ℕ) × IsTextOf why files text × Appends before after text
-TellsFolder why all before after (ended.Said status.Findings) = ⊥
-TellsFolder why all before after (ended.Said status.Refused) = ⊥
-TellsFolder why all before after (ended.Said status.Usage) = ⊥
-TellsFolder why all before after (ended.Said status.Device) = ⊥
-TellsFolder why all before after ended.LoaderFailed = ⊥
-TellsFolder why all before after ended.OutOfMemory = ⊤
-TellsFolder why all before after ended.WriterFailed = ⊤
-
 -- ---- explanations
 
 -- the writer got just the page of a word, which begins with that word and fits a screen (docs/FORMATS.md, Explanations)
@@ -135,13 +122,6 @@ SaysPage word before after status.Refused = ⊥
 SaysPage (Some word) before after status.Usage = (¬ IsWord word) × Appends before after (usage_line BadRole)
 SaysPage None before after status.Usage = ⊥
 SaysPage word before after status.Device = ⊤
-
--- what an end says of the page of a word, or of that list
-abbrev pub TellsPage : Option (List ℕ) → Option (List ℕ) → Option (List ℕ) → Ended → Type 0
-TellsPage word before after (ended.Said s) = SaysPage word before after s
-TellsPage word before after ended.LoaderFailed = ⊥
-TellsPage word before after ended.OutOfMemory = ⊤
-TellsPage word before after ended.WriterFailed = ⊤
 
 -- what a status says of the version: on Pass just its line was written, such as `ringcheck 0.1.0` (docs/FORMATS.md, The program)
 abbrev pub SaysVersion : Option (List ℕ) → Option (List ℕ) → Status → Type 0

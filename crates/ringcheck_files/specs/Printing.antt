@@ -11,8 +11,6 @@ use Rattle.rewriting.specs.Rewriting.{Rewrites}
 use Rattle.tables.specs.Tables.{ShowsDrill, ShowsLayer}
 use Rattle.ringcheck_files.specs.declared.Status.{Status}
 use Rattle.ringcheck_files.specs.declared.Status.TheVariants as status
-use Rattle.ringcheck_files.specs.declared.ending.Ended.{Ended}
-use Rattle.ringcheck_files.specs.declared.ending.Ended.TheVariants as ended
 use Rattle.ringcheck_files.specs.declared.single_files.Task.{Task}
 use Rattle.ringcheck_files.specs.declared.single_files.Task.TheVariants as task
 use Rattle.ringcheck_files.specs.Loading.{Relation, file_limit, too_long, within}
@@ -70,14 +68,3 @@ SaysFile what kind has name before after status.Device = ⊤
 abbrev pub SaysFileOf : Task → Option Kind → Relation → List ℕ → Option (List ℕ) → Option (List ℕ) → Status → Type 0
 SaysFileOf what (Some kind) has name before after s = SaysFile what kind has name before after s
 SaysFileOf what None has name before after s = SaysUsage BadRole before after s
-
--- what an end says of `show` or `rewrite` on bytes that are at hand
-abbrev pub PrintsBytes : Task → Kind → List ℕ → Option (List ℕ) → Option (List ℕ) → Ended → Type 0
-PrintsBytes what kind bytes before after (ended.Said status.Pass) = (text : List ℕ) × Prints what kind bytes (Ok text) × Appends before after text
-PrintsBytes what kind bytes before after (ended.Said status.Findings) = ⊥
-PrintsBytes what kind bytes before after (ended.Said status.Refused) = (why : Fault) × Prints what kind bytes (Err why) × Appends before after (refusal why)
-PrintsBytes what kind bytes before after (ended.Said status.Usage) = ⊥
-PrintsBytes what kind bytes before after (ended.Said status.Device) = ⊥
-PrintsBytes what kind bytes before after ended.LoaderFailed = ⊥
-PrintsBytes what kind bytes before after ended.OutOfMemory = ⊤
-PrintsBytes what kind bytes before after ended.WriterFailed = ⊤

@@ -1,34 +1,36 @@
 //! Prints the page of a word, or the words that have one.
 
-ghost use Rattle.std.specs.Prelude.{ℕ, Some, option_map};
+ghost use Rattle.std.specs.Prelude.{ℕ, IfOk, option_map};
 ghost use Rattle.ringcheck_files.specs.Endings.{HasCause};
-ghost use Rattle.ringcheck_files.specs.Folders.{TellsPage};
+ghost use Rattle.ringcheck_files.specs.Folders.{SaysPage};
 
 use crate::Status;
-use crate::ending::{Ended, say, say_refused_word};
+use crate::ending::{Failure, refuse_word};
 use explanations::{explanation, words};
 use grid_units::Reason;
-use std::alloc::Global;
 use std::io::Write;
 
-/// Prints the page of a word, or the refusal BadRole where it has none.
-fn explain_word<W: Write>(alloc: Global, word: &str, out: &mut W) -> Ended
-    ensures tells { TellsPage (Some word.now) (W.contents out.old) (W.contents out.new) result }
-    ensures cause { (before after : ℕ) → HasCause before after result }
+/// Prints the page of a word, or the refusal BadRole where it has none. Without a word it prints the list of the words that have one.
+///
+/// # Errors
+///
+/// [`Failure::Writer`] where the writer fails.
+pub fn explain<W: Write>(word: Option<&str>, out: &mut W) -> Result<Status, Failure>
+    ensures says { IfOk result (λ status. SaysPage (option_map (λ w. w.now) word.entry) (W.contents out.old) (W.contents out.new) status) }
+    ensures cause { (before after : ℕ) → IfOk result (HasCause before after) }
 {
+    let Some(word) = word else {
+        write!(out, "{}", words())?;
+        return Ok(Status::Pass);
+    };
     match explanation(word) {
-        Some(page) => say(out, page.as_bytes(), Ended::Said(Status::Pass)),
-        None => say_refused_word(alloc, Reason::BadRole, out),
-    }
-}
-
-/// Prints the page of a word, or, without a word, the list of the words that have one.
-pub fn explain<W: Write>(alloc: Global, word: Option<&str>, out: &mut W) -> Ended
-    ensures tells { TellsPage (option_map (λ w. w.now) word.entry) (W.contents out.old) (W.contents out.new) result }
-    ensures cause { (before after : ℕ) → HasCause before after result }
-{
-    match word {
-        Some(word) => explain_word(alloc, word, out),
-        None => say(out, words().as_bytes(), Ended::Said(Status::Pass)),
+        Some(page) => {
+            write!(out, "{page}")?;
+            Ok(Status::Pass)
+        }
+        None => {
+            refuse_word(out, Reason::BadRole)?;
+            Ok(Status::Usage)
+        }
     }
 }

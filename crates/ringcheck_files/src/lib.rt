@@ -7,11 +7,10 @@ ghost use Rattle.ringcheck_files.specs.Statuses.{code_of};
 mod ending;
 mod explaining;
 mod limits;
-mod lines;
 mod proposing;
 mod single_files;
 
-pub use ending::{Ended, say, say_line, say_out_of_memory, say_refused_word};
+pub use ending::{Failure, refuse_word};
 pub use explaining::explain;
 pub use limits::{ABOVE_LIMIT, FILE_LIMIT};
 pub use proposing::print_manifest;

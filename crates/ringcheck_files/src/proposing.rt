@@ -3,12 +3,13 @@
 ghost use Rattle.std.specs.Prelude.{◌≡◌, ◌≤◌, ◌↔◌, ℕ, List, IfOk, length, map, true};
 ghost use Rattle.std.specs.List.{list_all, list_any};
 ghost use Rattle.manifest.specs.Manifest.{is_control};
-ghost use Rattle.ringcheck_files.specs.Endings.{HasCause, HasRisen, status_after};
+ghost use Rattle.ringcheck_files.specs.Endings.{HasCause, HasRisen};
 ghost use Rattle.ringcheck_files.specs.Folders as folders;
-ghost use Rattle.ringcheck_files.specs.Folders.{HasKnown, HasPairs, IsTextOf, RoseBy, SaysManifest, TellsFolder, count_unread, held_as, is_unread, pair_of, pairs};
+ghost use Rattle.ringcheck_files.specs.Folders.{HasKnown, HasPairs, IsTextOf, RoseBy, SaysManifest, count_unread, held_as, is_unread, pair_of, pairs};
+ghost use Rattle.proposals.specs.declared.outcome.Named.{Named as TheNamed};
 
 use crate::Status;
-use crate::ending::{Ended, say, say_out_of_memory, say_refused_word};
+use crate::ending::{Failure, refuse_word};
 use crate::limits::FILE_LIMIT;
 use grid_units::Reason;
 use loading::{LoadFault, Loader};
@@ -120,43 +121,41 @@ fn text_of(alloc: Global, why: bool, files: &[Named<'_>]) -> Result<Vec<u8>, All
     }
 }
 
-/// Prints the manifest or the table of files that are at hand.
-fn print_held<W: Write>(
+/// The manifest or the table of files that are at hand.
+fn text_of_held(
     alloc: Global,
     why: bool,
     names: &[&str],
     held: &[Held],
-    out: &mut W,
-) -> Ended
+) -> Result<Vec<u8>, AllocError>
     requires { length names.now ≡ length held.now }
-    ensures tells { TellsFolder why (pairs names.now held.now) (W.contents out.old) (W.contents out.new) result }
-    ensures cause { (before after : ℕ) → HasCause before after result }
+    ensures { IfOk result (λ text. (files : List TheNamed) × (map pair_of files ≡ pairs names.now held.now) × IsTextOf why files text.items) }
 {
-    let Ok(files) = files_of(alloc, names, held) else {
-        return say_out_of_memory(out);
-    };
-    match text_of(alloc, why, files.as_slice()) {
-        Ok(text) => say(out, text.as_slice(), Ended::Said(Status::Pass)),
-        Err(_) => say_out_of_memory(out),
-    }
+    let files = files_of(alloc, names, held)?;
+    text_of(alloc, why, files.as_slice())
 }
 
 /// Loads files and prints a manifest of them, or the table of what each of them is, and why.
+///
+/// # Errors
+///
+/// [`Failure::Memory`] where memory runs out, and [`Failure::Writer`] where the writer fails.
 pub fn print_manifest<L: Loader, W: Write>(
     alloc: Global,
     why: bool,
     names: &[&str],
     loader: &mut L,
     out: &mut W,
-) -> Ended
-    ensures says { SaysManifest why (L.has loader.old) (L.failed loader.old) (L.failed loader.new) (map (λ name. name.now) names.now) (W.contents out.old) (W.contents out.new) (status_after result) }
-    ensures cause { (before after : ℕ) → HasCause before after result }
+) -> Result<Status, Failure>
+    ensures says { IfOk result (λ status. SaysManifest why (L.has loader.old) (L.failed loader.old) (L.failed loader.new) (map (λ name. name.now) names.now) (W.contents out.old) (W.contents out.new) status) }
+    ensures cause { (before after : ℕ) → IfOk result (HasCause before after) }
 {
     if !can_all_stand(names) {
-        return say_refused_word(alloc, Reason::BadManifest, out);
+        refuse_word(out, Reason::BadManifest)?;
+        return Ok(Status::Usage);
     }
-    match load_all(alloc, loader, names) {
-        Ok(held) => print_held(alloc, why, names, held.as_slice(), out),
-        Err(_) => say_out_of_memory(out),
-    }
+    let held = load_all(alloc, loader, names)?;
+    let text = text_of_held(alloc, why, names, held.as_slice())?;
+    out.write_all(text.as_slice())?;
+    Ok(Status::Pass)
 }

@@ -1,15 +1,16 @@
 //! Prints the table or the canonical text of one file.
 
-ghost use Rattle.std.specs.Prelude.{◌≡◌, ℕ, List};
+ghost use Rattle.std.specs.Prelude.{◌≡◌, IfOk, OnOk};
+ghost use Rattle.std.specs.Io.KnownBytes.{Appends};
 ghost use Rattle.grid_units.specs.Results.{Answers};
-ghost use Rattle.ringcheck_files.specs.Endings.{HasCause, status_after};
-ghost use Rattle.ringcheck_files.specs.Printing.{Prints, PrintsBytes, SaysFileOf, Shows};
+ghost use Rattle.ringcheck_files.specs.Endings.{HasCause};
+ghost use Rattle.ringcheck_files.specs.Printing.{Prints, SaysFile, SaysFileOf, Shows, refusal};
 ghost use Rattle.ringcheck_files.specs.Printing as printing;
 
-use crate::ending::{Ended, say, say_line, say_out_of_memory, say_refused_word};
+use crate::Status;
+use crate::ending::{Failure, refuse_word};
 use crate::limits::{ABOVE_LIMIT, FILE_LIMIT};
-use crate::{Status, lines};
-use grid_units::{Fail, Reason};
+use grid_units::{Fail, Fault, Reason};
 use loading::{LoadFault, Loader};
 use rewriting::{Kind, rewrite_bytes};
 use std::alloc::Global;
@@ -55,17 +56,14 @@ fn text_of(alloc: Global, task: Task, kind: Kind, bytes: &[u8]) -> Result<Vec<u8
     }
 }
 
-fn print_bytes<W: Write>(alloc: Global, task: Task, kind: Kind, bytes: &[u8], out: &mut W) -> Ended
-    ensures { PrintsBytes task kind bytes.now (W.contents out.old) (W.contents out.new) result }
+/// Prints the line of a single refused file, such as `refused place=0 byte=0 reason=TooLong`.
+fn refuse_file<W: Write>(out: &mut W, fault: Fault) -> Result<(), Failure>
+    ensures { OnOk result (Appends (W.contents out.old) (W.contents out.new) (refusal fault)) }
 {
-    match text_of(alloc, task, kind, bytes) {
-        Ok(text) => say(out, text.as_slice(), Ended::Said(Status::Pass)),
-        Err(Fail::Memory) => say_out_of_memory(out),
-        Err(Fail::Refused(fault)) => {
-            let line = lines::refused_alone(alloc, fault);
-            say_line(out, line, Ended::Said(Status::Refused))
-        }
-    }
+    let reason = fault.reason.name();
+    let (place, byte) = (fault.place, fault.byte);
+    write!(out, "refused place={place} byte={byte} reason={reason}\n")?;
+    Ok(())
 }
 
 /// Loads a file and prints its table or its canonical text.
@@ -76,22 +74,39 @@ fn print_as<L: Loader, W: Write>(
     name: &str,
     loader: &mut L,
     out: &mut W,
-) -> Ended
-    ensures says { printing.SaysFile task kind (L.has loader.old) name.now (W.contents out.old) (W.contents out.new) (status_after result) }
-    ensures cause { HasCause (L.failed loader.old) (L.failed loader.new) result }
+) -> Result<Status, Failure>
+    ensures says { IfOk result (λ status. SaysFile task kind (L.has loader.old) name.now (W.contents out.old) (W.contents out.new) status) }
+    ensures cause { IfOk result (HasCause (L.failed loader.old) (L.failed loader.new)) }
 {
     match loader.load(alloc, name, FILE_LIMIT) {
-        Ok(bytes) => print_bytes(alloc, task, kind, bytes.as_slice(), out),
-        Err(LoadFault::Device) => say(out, b"device\n", Ended::LoaderFailed),
-        Err(LoadFault::Memory) => say_out_of_memory(out),
+        Ok(bytes) => match text_of(alloc, task, kind, bytes.as_slice()) {
+            Ok(text) => {
+                out.write_all(text.as_slice())?;
+                Ok(Status::Pass)
+            }
+            Err(Fail::Memory) => Err(Failure::Memory),
+            Err(Fail::Refused(fault)) => {
+                refuse_file(out, fault)?;
+                Ok(Status::Refused)
+            }
+        },
+        Err(LoadFault::Device) => {
+            write!(out, "device\n")?;
+            Ok(Status::Device)
+        }
+        Err(LoadFault::Memory) => Err(Failure::Memory),
         Err(LoadFault::TooLong) => {
-            let line = lines::refused_alone(alloc, ABOVE_LIMIT);
-            say_line(out, line, Ended::Said(Status::Refused))
+            refuse_file(out, ABOVE_LIMIT)?;
+            Ok(Status::Refused)
         }
     }
 }
 
 /// Prints the table or the canonical text of a file of the kind that a word names. The kind is read first.
+///
+/// # Errors
+///
+/// [`Failure::Memory`] where memory runs out, and [`Failure::Writer`] where the writer fails.
 pub fn print<L: Loader, W: Write>(
     alloc: Global,
     task: Task,
@@ -99,12 +114,15 @@ pub fn print<L: Loader, W: Write>(
     name: &str,
     loader: &mut L,
     out: &mut W,
-) -> Ended
-    ensures says { SaysFileOf task (printing.kind_named kind.now) (L.has loader.old) name.now (W.contents out.old) (W.contents out.new) (status_after result) }
-    ensures cause { HasCause (L.failed loader.old) (L.failed loader.new) result }
+) -> Result<Status, Failure>
+    ensures says { IfOk result (λ status. SaysFileOf task (printing.kind_named kind.now) (L.has loader.old) name.now (W.contents out.old) (W.contents out.new) status) }
+    ensures cause { IfOk result (HasCause (L.failed loader.old) (L.failed loader.new)) }
 {
     match kind_named(kind) {
         Some(kind) => print_as(alloc, task, kind, name, loader, out),
-        None => say_refused_word(alloc, Reason::BadRole, out),
+        None => {
+            refuse_word(out, Reason::BadRole)?;
+            Ok(Status::Usage)
+        }
     }
 }

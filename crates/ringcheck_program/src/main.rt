@@ -8,7 +8,7 @@ ghost use Rattle.ringcheck_files.specs.Statuses.{code_of};
 
 use ringcheck::{LoadFault, Loader, MAX_LIMIT, ReadFail, Status, read_all, run};
 use std::alloc::{AllocError, Global};
-use std::io::Write;
+use std::io::{BufWriter, Write};
 use std::process::ExitCode;
 use std::rt::Files;
 use std::{env, fs, io};
@@ -47,6 +47,46 @@ impl<R: Files> Loader for Disk<'_, R> {
     }
 }
 
+/// The most bytes that are held back for one write.
+const BUFFER: usize = 65_536;
+
+/// A device that is no longer written to after the first write that failed. A write that was interrupted is tried again.
+#[derive(Drop)]
+struct Device<W> {
+    to: W,
+    has_failed: bool,
+}
+
+impl<W: Write> Write for Device<W> {
+    fn write(&mut self, bytes: &[u8]) -> io::Result<usize> {
+        if self.has_failed {
+            return Err(io::Error::from(io::ErrorKind::BrokenPipe));
+        }
+        let written = self.to.write(bytes);
+        self.has_failed = match &written {
+            Ok(count) => *count == 0,
+            Err(error) => error.kind() != io::ErrorKind::Interrupted,
+        };
+        written
+    }
+
+    fn flush(&mut self) -> io::Result<()> {
+        self.to.flush()
+    }
+}
+
+/// The status of a run that ended with `status`, once the bytes that were held back are written; Device where they cannot be.
+fn written_out<W: Write + Drop>(out: BufWriter<W>, status: Status) -> Status {
+    match out.into_inner() {
+        Ok(_) => status,
+        Err(error) => {
+            // What is left is discarded: dropped as a buffer, it would be written again.
+            let (_device, _left) = error.into_inner().into_parts();
+            Status::Device
+        }
+    }
+}
+
 /// The exit code of a run that ended with this status.
 fn exit_code(status: Status) -> ExitCode
     ensures { exit_status result ≡ code_of status }
@@ -82,13 +122,20 @@ fn words_of(alloc: Global, arguments: &[String]) -> Result<Vec<&str>, AllocError
     texts_of(alloc, without_name(arguments))
 }
 
-/// Runs the program on the words of the command line, or returns InvalidData where one of them is not UTF-8.
+/// Runs the program on the words of the command line. It is InvalidData where one of them is not UTF-8, and OutOfMemory where there is
+/// no memory for them or for the buffer of what is printed.
 fn run_words(rt: &HostRuntime) -> io::Result<Status> {
     let alloc = rt.alloc();
     let arguments: Vec<String> = env::args(rt)?.collect(alloc)?;
     let words = words_of(alloc, arguments.as_slice())?;
+    let device = Device {
+        to: io::writer(rt),
+        has_failed: false,
+    };
+    let mut out = BufWriter::with_capacity(alloc, BUFFER, device)?;
     let mut loader = Disk { rt, failures: 0 };
-    Ok(run(alloc, words.as_slice(), &mut loader, &mut io::writer(rt)))
+    let status = run(alloc, words.as_slice(), &mut loader, &mut out);
+    Ok(written_out(out, status))
 }
 
 /// What is printed where a word is not UTF-8.

@@ -5,12 +5,15 @@ ghost use Rattle.pad_shapes.specs.Shapes.{IsInDisc, disc_covers};
 ghost use Rattle.pad_shapes.specs.Inner.ShapeLaws.{disc_holds, disc_holds_slots, disc_between, disc_extent};
 ghost use Rattle.margins.specs.Inner.DepthLaws.{disc_covers_less};
 
-use crate::rows::{HOLE, HoleRow, PadRow, Shape, add_holes, add_pads, pad, slot};
-use grid_units::{Hole, Point};
+use crate::rows::{
+    HOLE, HoleRow, PadRow, Shape, add_holes, add_pads, add_round, disc, pad, point, rect, round,
+    slot,
+};
+use grid_units::Point;
 use margins::*;
 use pad_shapes::{Disc, Pad, PadShape, Zone};
-use ring_rules::{Drilled, Span};
-use std::alloc::{AllocError, Global};
+use ring_rules::Drilled;
+use std::alloc::Global;
 use std::cell::Cell;
 use std::rc::Rc;
 use std::test::Fail;
@@ -82,32 +85,6 @@ impl Deep for Counted {
     fn middle(&self) -> Point {
         self.disc.centre()
     }
-}
-
-fn point(x: i64, y: i64) -> Result<Point, Fail> {
-    Ok(Point::new(x, y).ok_or("point")?)
-}
-
-/// A round hole.
-fn round(x: i64, y: i64, radius: i64) -> Result<Hole, Fail> {
-    Ok(slot((x, y), (x, y), radius).ok_or("hole")?)
-}
-
-/// A plated hole.
-fn drilled(hole: Hole) -> Drilled {
-    Drilled {
-        hole,
-        plated: true,
-        span: None,
-    }
-}
-
-fn disc(x: i64, y: i64, radius: i64) -> Result<Pad, Fail> {
-    Ok(pad((Shape::Disc, x, y, radius, radius)).ok_or("disc")?)
-}
-
-fn rect(x: i64, y: i64, half_x: i64, half_y: i64) -> Result<Pad, Fail> {
-    Ok(pad((Shape::Rect, x, y, half_x, half_y)).ok_or("rect")?)
 }
 
 /// A hole with its middle 0.5 mm from there.
@@ -298,19 +275,27 @@ fn best_pads_of_holes(rt: HostRuntime) {
     }
 }
 
+/// The place of the best pad of the hole at a place, and how deep the hole lies in it. `None` for a hole without a pad.
+fn best_at(bests: &[Option<Best>], hole: usize) -> Option<(usize, u64)> {
+    let best = (*bests.get(hole)?)?;
+    Some((best.pad, best.depth))
+}
+
 /// A deeper pad is better wherever it stands.
 #[test]
 fn deepest_pad(rt: HostRuntime) -> Result<(), Fail> {
-    let far = disc(5_000_000_000, 0, 500_000_000)?;
-    let left = disc(-100_000_000, 0, 300_000_000)?;
-    let wide = rect(0, 0, 325_000_000, 325_000_000)?;
-    let hole = drilled(round(0, 0, 200_000_000)?);
-    let outside = drilled(round(9_000_000_000, 0, 200_000_000)?);
-    let bests = best_pads(rt.alloc(), &[far, left, wide], &[hole, outside])?;
-    assert_eq!(rt; bests.len(), 2);
-    let best = bests[0].ok_or("bare")?;
-    assert!(rt; (best.pad, best.depth) == (2, 325_000_000));
-    assert!(rt; bests[1].is_none());
+    let pads = [
+        disc(5_000_000_000, 0, 500_000_000)?,
+        disc(-100_000_000, 0, 300_000_000)?,
+        rect(0, 0, 325_000_000, 325_000_000)?,
+    ];
+    let holes = [
+        round(0, 0, 200_000_000)?,
+        round(9_000_000_000, 0, 200_000_000)?,
+    ];
+    let bests = best_pads(rt.alloc(), &pads, &holes)?;
+    let found = (bests.len(), best_at(&bests, 0), best_at(&bests, 1));
+    assert!(rt; found == (2, Some((2, 325_000_000)), None));
     Ok(())
 }
 
@@ -405,9 +390,9 @@ fn nearest_of_many(rt: HostRuntime) -> Result<(), Fail> {
     let mut holes = Vec::new(rt.alloc());
     for place in 0..200 {
         let x = i64::from(place) * 1_000_000_000;
-        holes.push(drilled(round(x, x, 200_000_000)?))?;
+        add_round(&mut holes, x, x, 200_000_000)?;
     }
-    holes.push(drilled(round(5_000_000_000, 4_500_000_000, 1_000)?))?;
+    add_round(&mut holes, 5_000_000_000, 4_500_000_000, 1_000)?;
     let near = nearest_holes(rt.alloc(), &holes)?;
     let expected = Nearest {
         first: 5,
@@ -514,19 +499,23 @@ fn rules_that_boards_meet(rt: HostRuntime) {
 #[test]
 fn rows_of_rings(rt: HostRuntime) -> Result<(), Fail> {
     let pads = [disc(0, 0, 2_000_000_000)?];
-    let middle = drilled(round(0, 0, 200_000_000)?);
-    let beside = drilled(round(1_000_000_000, 1_000_000_000, 200_000_000)?);
-    let holes = [middle, beside, beside];
+    let beside = round(1_000_000_000, 1_000_000_000, 200_000_000)?;
+    let holes = [round(0, 0, 200_000_000)?, beside, beside];
     let bests = best_pads(rt.alloc(), &pads, &holes)?;
-    let row = ring_row(&bests, &holes, &[0, 1, 2]);
-    assert_eq!(rt; row.holes, 3);
-    assert_eq!(rt; row.bare, 0);
-    let least = row.least.ok_or("least")?;
-    assert_eq!(rt; least.ring, 385_786_437);
-    assert_eq!(rt; least.hole, 1);
-    let row = ring_row(&bests, &holes, &[0]);
-    assert_eq!(rt; row.least.ok_or("least")?.ring, 1_800_000_000);
+    let all = ring_row(&bests, &holes, &[0, 1, 2]);
+    let first = ring_row(&bests, &holes, &[0]);
+    assert!(rt; all == row_of(3, 0, Some((385_786_437, 1))));
+    assert!(rt; first == row_of(1, 0, Some((1_800_000_000, 0))));
     Ok(())
+}
+
+/// A row: how many holes, how many of them are bare, the least ring, and the place of the first hole that has it.
+fn row_of(holes: usize, bare: usize, least: Option<(i64, usize)>) -> RingRow {
+    let least = match least {
+        Some((ring, hole)) => Some(LeastRing { ring, hole }),
+        None => None,
+    };
+    RingRow { holes, bare, least }
 }
 
 /// Holes with coordinates that are ten times too small are all bare.
@@ -538,23 +527,13 @@ fn row_of_bare_holes(rt: HostRuntime) -> Result<(), Fail> {
         disc(30_000_000_000, 10_000_000_000, 300_000_000)?,
     ];
     let holes = [
-        drilled(round(1_000_000_000, 0, 200_000_000)?),
-        drilled(round(2_000_000_000, 0, 200_000_000)?),
-        drilled(round(3_000_000_000, 1_000_000_000, 200_000_000)?),
+        round(1_000_000_000, 0, 200_000_000)?,
+        round(2_000_000_000, 0, 200_000_000)?,
+        round(3_000_000_000, 1_000_000_000, 200_000_000)?,
     ];
     let bests = best_pads(rt.alloc(), &pads, &holes)?;
-    let row = ring_row(&bests, &holes, &[0, 1, 2]);
-    assert_eq!(rt; row.bare, 3);
-    assert_eq!(rt; row.least.is_none(), true);
+    assert!(rt; ring_row(&bests, &holes, &[0, 1, 2]) == row_of(3, 3, None));
     Ok(())
-}
-
-/// The best pad of the hole at a place.
-fn best_at(bests: &[Option<Best>], hole: usize) -> Result<Best, Fail> {
-    match bests.get(hole) {
-        Some(Some(best)) => Ok(*best),
-        _ => Err("bare")?,
-    }
 }
 
 /// On a board of many pads each hole has its own pad as its best, or the pad over all of them where that is deeper.
@@ -565,15 +544,13 @@ fn best_of_many_pads(rt: HostRuntime) -> Result<(), Fail> {
     for place in 0..100 {
         let x = i64::from(place) * 1_000_000_000;
         pads.push(disc(x, 0, 300_000_000)?)?;
-        holes.push(drilled(round(x, 0, 200_000_000)?))?;
+        add_round(&mut holes, x, 0, 200_000_000)?;
     }
     pads.push(rect(50_000_000_000, 0, 60_000_000_000, 250_000_000)?)?;
-    holes.push(drilled(round(500_000_000, 0, 200_000_000)?))?;
+    add_round(&mut holes, 500_000_000, 0, 200_000_000)?;
     let bests = best_pads(rt.alloc(), &pads, &holes)?;
-    assert_eq!(rt; best_at(&bests, 37)?.pad, 37);
-    let between = best_at(&bests, 100)?;
-    assert_eq!(rt; between.pad, 100);
-    assert_eq!(rt; between.depth, 250_000_000);
+    let found = (best_at(&bests, 37), best_at(&bests, 100));
+    assert!(rt; found == (Some((37, 300_000_000)), Some((100, 250_000_000))));
     Ok(())
 }
 
@@ -590,24 +567,14 @@ fn counted_discs(alloc: Global, calls: &Rc<Cell<u64>>, more: i64) -> Result<Vec<
     Ok(pads)
 }
 
-/// Appends a plated hole.
-fn add_hole(holes: &mut Vec<Drilled>, hole: Hole, span: Option<Span>) -> Result<(), AllocError> {
-    holes.push(Drilled {
-        hole,
-        plated: true,
-        span,
-    })?;
-    Ok(())
-}
-
 /// A square of 2,000 holes, from 37 mm to 49 mm along each axis, moved by `off`.
 fn square_of_holes(alloc: Global, off: i64) -> Result<Vec<Drilled>, Fail> {
     let mut holes = Vec::new(alloc);
     for number in 0..2_000u16 {
         let x = i64::from(number % 45) * 270_000_000 + 37_000_000_000;
         let y = i64::from(number / 45) * 270_000_000 + 37_000_000_000;
-        let hole = round(x.saturating_add(off), y.saturating_add(off), 1_000)?;
-        add_hole(&mut holes, hole, None)?;
+        let (x, y) = (x.saturating_add(off), y.saturating_add(off));
+        add_round(&mut holes, x, y, 1_000)?;
     }
     Ok(holes)
 }
@@ -631,8 +598,8 @@ fn holes_in_corners_are_passed_over(rt: HostRuntime) -> Result<(), Fail> {
     let pads = counted_discs(rt.alloc(), &calls, 0)?;
     let holes = square_of_holes(rt.alloc(), 0)?;
     let bests = best_pads(rt.alloc(), &pads, &holes)?;
-    assert_eq!(rt; bests.iter().filter(|best| best.is_some()).count(), 0);
-    assert!(rt; calls.get() <= 400_000);
+    let found = bests.iter().filter(|best| best.is_some()).count();
+    assert!(rt; found == 0 && calls.get() <= 400_000);
     Ok(())
 }
 
@@ -643,9 +610,14 @@ fn pads_that_are_no_deeper_are_passed_over(rt: HostRuntime) -> Result<(), Fail> 
     let pads = counted_discs(rt.alloc(), &calls, 30_000_000_000)?;
     let holes = square_of_holes(rt.alloc(), -43_000_000_000)?;
     let bests = best_pads(rt.alloc(), &pads, &holes)?;
-    assert_eq!(rt; count_of_first(&bests), 2_000);
-    assert!(rt; calls.get() <= 400_000);
+    assert!(rt; count_of_first(&bests) == 2_000 && calls.get() <= 400_000);
     Ok(())
+}
+
+/// The best pads of the first and the last of a square of holes, and how deep these lie in them.
+fn bests_at_ends(alloc: Global, pads: &[Pad]) -> Result<[Option<(usize, u64)>; 2], Fail> {
+    let bests = best_pads(alloc, pads, &square_of_holes(alloc, 0)?)?;
+    Ok([best_at(&bests, 0), best_at(&bests, 1_999)])
 }
 
 /// Of equal pads that lie over many holes the first is the best of each, and a deeper one after them is better.
@@ -660,15 +632,9 @@ fn first_of_equal_pads_over_many_holes(rt: HostRuntime) -> Result<(), Fail> {
             20_000_000_000,
         )?)?;
     }
-    let holes = square_of_holes(rt.alloc(), 0)?;
-    let bests = best_pads(rt.alloc(), &pads, &holes)?;
-    assert_eq!(rt; best_at(&bests, 0)?.pad, 0);
-    assert_eq!(rt; best_at(&bests, 0)?.depth, 14_000_000_000);
-    assert_eq!(rt; best_at(&bests, 1_999)?.pad, 0);
+    let last = Some((0, 14_120_000_000));
+    assert!(rt; bests_at_ends(rt.alloc(), &pads)? == [Some((0, 14_000_000_000)), last]);
     pads.push(disc(37_000_000_000, 37_000_000_000, 14_000_000_001)?)?;
-    let bests = best_pads(rt.alloc(), &pads, &holes)?;
-    assert_eq!(rt; best_at(&bests, 0)?.pad, 20);
-    assert_eq!(rt; best_at(&bests, 0)?.depth, 14_000_000_001);
-    assert_eq!(rt; best_at(&bests, 1_999)?.pad, 0);
+    assert!(rt; bests_at_ends(rt.alloc(), &pads)? == [Some((20, 14_000_000_001)), last]);
     Ok(())
 }

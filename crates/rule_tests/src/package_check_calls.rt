@@ -1,9 +1,11 @@
+//! Reports on small packages, and what their boards hold.
+
 use grid_units::{Fault, Reason, Rules};
 use package_check::{
-    File, FileSum, PackageFault, PackageReader, PiecedFile, Role, Span, check_bytes, check_pieces,
-    print_files, read_package, write_report,
+    Board, CheckText, File, FileLines, FileSum, PackageFault, PackageReader, PiecedFile, Report,
+    Role, Span, check_bytes, check_pieces, read_package, write_report,
 };
-use std::alloc::Global;
+use std::alloc::{AllocError, Global};
 use std::test::Fail as Failure;
 
 const LAYER: &[u8] = b"%FSLAX46Y46*%\n%MOMM*%\n%ADD10C,0.65*%\nD10*\nX0Y0D03*\nM02*\n";
@@ -25,8 +27,15 @@ const OBLIQUE: &[u8] = b"M48\nMETRIC\nT1C0.5\n%\nT1\nX0.0Y5.0G85X2.0Y6.0\nM30\n"
 
 const RULES: &str = "rules ring=0.125000000 gap=0.250000000\n";
 
-const RING: &str =
-    "RING layer=1 drill=2 hole=1 x1=0.000000000 y1=0.000000000 x2=2.000000000 y2=0.000000000 diameter=0.500000000\nFINDINGS 1\n";
+/// A file: its role, its name, the first and the last layer of its span, and its bytes.
+type FileRow<'a> = (Role, &'a str, Option<(usize, usize)>, &'a [u8]);
+
+const TOP: FileRow = (Role::Copper, "top", None, LAYER);
+
+/// A layer whose disc is 1 nm off its hole.
+const BOTTOM: FileRow = (Role::Copper, "bot", None, MOVED);
+
+const PTH: FileRow = (Role::Plated, "pth", None, DRILL);
 
 const FAULT: Fault = Fault {
     place: 0,
@@ -34,48 +43,156 @@ const FAULT: Fault = Fault {
     reason: Reason::BadSpan,
 };
 
-fn layer<'a>(name: &'a str, bytes: &'a [u8]) -> File<'a> {
-    File {
-        role: Role::Copper,
-        name,
-        span: None,
-        bytes,
-    }
-}
-
-fn drill<'a>(role: Role, span: Option<Span>, bytes: &'a [u8]) -> File<'a> {
+fn file<'a>(row: FileRow<'a>) -> File<'a> {
+    let (role, name, span, bytes) = row;
+    let span = match span {
+        Some((first, last)) => Span::new(first, last),
+        None => None,
+    };
     File {
         role,
-        name: "pth",
+        name,
         span,
         bytes,
     }
 }
 
-/// The text of the report on the files, under a ring of 0.125 mm and a gap of 0.25 mm.
-fn told(alloc: Global, files: &[File]) -> Option<Vec<u8>> {
-    let rules = Rules::new(125_000_000, 250_000_000).ok()?;
-    let report = check_bytes(alloc, files, rules).ok()?;
-    if report.files().len() == files.len() {
-        write_report(alloc, files, &report).ok()
-    } else {
-        None
+fn files_of<'a>(alloc: Global, rows: &[FileRow<'a>]) -> Result<Vec<File<'a>>, AllocError> {
+    let mut files = Vec::new(alloc);
+    for row in rows {
+        if files.push(file(*row)).is_err() {
+            return Err(AllocError);
+        }
     }
+    Ok(files)
+}
+
+fn names_of<'a>(alloc: Global, rows: &[FileRow<'a>]) -> Result<Vec<&'a str>, AllocError> {
+    let mut names = Vec::new(alloc);
+    for row in rows {
+        names.push(row.1)?;
+    }
+    Ok(names)
+}
+
+/// A ring of 0.125 mm and a gap of 0.25 mm.
+fn rules() -> Result<Rules, Failure> {
+    Ok(Rules::new(125_000_000, 250_000_000).ok().ok_or("rules")?)
+}
+
+/// The text of a report on files of these names.
+fn text_of<'a>(
+    alloc: Global,
+    names: &'a [&'a str],
+    report: &'a Report,
+) -> Result<String, AllocError> {
+    format!(in alloc; "{}", CheckText { names, report })
+}
+
+/// Whether the report on the files has this text after its first line, written as bytes and printed by the names of the files.
+fn is_reported(alloc: Global, rows: &[FileRow], lines: &str) -> Result<bool, Failure> {
+    let (files, names) = (files_of(alloc, rows)?, names_of(alloc, rows)?);
+    let report = check_bytes(alloc, &files, rules()?).ok().ok_or("refused")?;
+    if report.files().len() != files.len() {
+        return Ok(false);
+    }
+    let written = write_report(alloc, &files, &report)?;
+    let printed = text_of(alloc, &names, &report)?;
+    Ok(
+        printed.as_str().strip_prefix(RULES) == Some(lines)
+            && written.as_slice() == printed.as_bytes(),
+    )
+}
+
+/// Files, and the report on them after its first line.
+const REPORTS: [(&[FileRow], &str); 12] = [
+    (
+        &[TOP, PTH],
+        "file 1 layer pads=1 other=0 name=top\nfile 2 drill plated=yes round=1 slots=0 name=pth\nPASS\n",
+    ),
+    // Plated slots need their ring in one pad, and lie along an axis.
+    (
+        &[
+            (Role::Copper, "top", None, OBROUND),
+            (Role::Plated, "pth", None, SLOT),
+        ],
+        "file 1 layer pads=1 other=0 name=top\nfile 2 drill plated=yes round=0 slots=1 name=pth\nPASS\n",
+    ),
+    (
+        &[
+            (Role::Copper, "top", None, OBROUND),
+            (Role::Plated, "pth", None, OBLIQUE),
+        ],
+        "file 1 layer pads=1 other=0 name=top\nfile 2 drill plated=yes round=0 slots=1 name=pth\nOBLIQUE layer=1 drill=2 hole=1 x1=0.000000000 y1=5.000000000 x2=2.000000000 y2=6.000000000 diameter=0.500000000\nFINDINGS 1\n",
+    ),
+    (
+        &[
+            (Role::Copper, "top", None, OBROUND),
+            (Role::Unplated, "pth", None, OBLIQUE),
+        ],
+        "file 1 layer pads=1 other=0 name=top\nfile 2 drill plated=no round=0 slots=1 name=pth\nPASS\n",
+    ),
+    (
+        &[
+            (Role::Copper, "top", None, SHORT),
+            (Role::Plated, "pth", None, SLOT),
+        ],
+        "file 1 layer pads=1 other=0 name=top\nfile 2 drill plated=yes round=0 slots=1 name=pth\nRING layer=1 drill=2 hole=1 x1=0.000000000 y1=0.000000000 x2=2.000000000 y2=0.000000000 diameter=0.500000000\nFINDINGS 1\n",
+    ),
+    (
+        &[
+            (Role::Copper, "top", None, TWO),
+            (Role::Plated, "pth", None, SLOT),
+        ],
+        "file 1 layer pads=2 other=0 name=top\nfile 2 drill plated=yes round=0 slots=1 name=pth\nRING layer=1 drill=2 hole=1 x1=0.000000000 y1=0.000000000 x2=2.000000000 y2=0.000000000 diameter=0.500000000\nFINDINGS 1\n",
+    ),
+    // A span is printed, and names the layers that need a ring; a hole lacks it on the second.
+    (
+        &[TOP, BOTTOM, (Role::Plated, "pth", Some((1, 1)), DRILL)],
+        "file 1 layer pads=1 other=0 name=top\nfile 2 layer pads=1 other=0 name=bot\nfile 3 drill plated=yes round=1 slots=0 span=1-1 name=pth\nPASS\n",
+    ),
+    (
+        &[TOP, BOTTOM, (Role::Plated, "pth", Some((2, 2)), DRILL)],
+        "file 1 layer pads=1 other=0 name=top\nfile 2 layer pads=1 other=0 name=bot\nfile 3 drill plated=yes round=1 slots=0 span=2-2 name=pth\nRING layer=2 drill=3 hole=1 x=0.000000000 y=0.000000000 diameter=0.400000000\nFINDINGS 1\n",
+    ),
+    (
+        &[TOP, BOTTOM, (Role::Plated, "pth", Some((1, 2)), DRILL)],
+        "file 1 layer pads=1 other=0 name=top\nfile 2 layer pads=1 other=0 name=bot\nfile 3 drill plated=yes round=1 slots=0 span=1-2 name=pth\nRING layer=2 drill=3 hole=1 x=0.000000000 y=0.000000000 diameter=0.400000000\nFINDINGS 1\n",
+    ),
+    (
+        &[TOP, BOTTOM, PTH],
+        "file 1 layer pads=1 other=0 name=top\nfile 2 layer pads=1 other=0 name=bot\nfile 3 drill plated=yes round=1 slots=0 name=pth\nRING layer=2 drill=3 hole=1 x=0.000000000 y=0.000000000 diameter=0.400000000\nFINDINGS 1\n",
+    ),
+    (
+        &[TOP, BOTTOM, (Role::Unplated, "pth", Some((1, 2)), DRILL)],
+        "file 1 layer pads=1 other=0 name=top\nfile 2 layer pads=1 other=0 name=bot\nfile 3 drill plated=no round=1 slots=0 span=1-2 name=pth\nPASS\n",
+    ),
+    (
+        &[TOP, BOTTOM, (Role::Unplated, "pth", None, DRILL)],
+        "file 1 layer pads=1 other=0 name=top\nfile 2 layer pads=1 other=0 name=bot\nfile 3 drill plated=no round=1 slots=0 name=pth\nPASS\n",
+    ),
+];
+
+#[test]
+fn reports_are_printed(rt: HostRuntime) -> Result<(), Failure> {
+    for &(rows, lines) in &REPORTS {
+        assert!(rt; is_reported(rt.alloc(), rows, lines)?, "{lines}");
+    }
+    Ok(())
 }
 
 /// The text's bytes one by one, each followed by an empty piece.
-fn in_bytes<'a>(alloc: Global, text: &'a [u8]) -> Option<Vec<&'a [u8]>> {
+fn in_bytes<'a>(alloc: Global, text: &'a [u8]) -> Result<Vec<&'a [u8]>, AllocError> {
     let mut pieces = Vec::new(alloc);
     for piece in text.chunks(1) {
-        pieces.push(piece).ok()?;
-        pieces.push(&text[..0]).ok()?;
+        pieces.push(piece)?;
+        pieces.push(&text[..0])?;
     }
-    Some(pieces)
+    Ok(pieces)
 }
 
-/// The text of the report on a layer and a plated drill file in such pieces, under the same rules.
-fn told_in_bytes<'a>(alloc: Global, top: &'a [u8], pth: &'a [u8]) -> Option<Vec<u8>> {
-    let rules = Rules::new(125_000_000, 250_000_000).ok()?;
+/// The report on a layer and a plated drill file in such pieces.
+fn report_in_bytes<'a>(alloc: Global, top: &'a [u8], pth: &'a [u8]) -> Result<Report, Failure> {
     let (top_pieces, pth_pieces) = (in_bytes(alloc, top)?, in_bytes(alloc, pth)?);
     let files = [
         PiecedFile {
@@ -91,261 +208,173 @@ fn told_in_bytes<'a>(alloc: Global, top: &'a [u8], pth: &'a [u8]) -> Option<Vec<
             pieces: &pth_pieces,
         },
     ];
-    let report = check_pieces(alloc, &files, rules).ok()?;
-    let named = [layer("top", top), drill(Role::Plated, None, pth)];
-    if report.files().len() == named.len() {
-        write_report(alloc, &named, &report).ok()
-    } else {
-        None
-    }
-}
-
-/// The fault for which the files are refused, under these rules.
-fn refused(alloc: Global, files: &[File]) -> Option<PackageFault> {
-    let rules = Rules::new(125_000_000, 250_000_000).ok()?;
-    check_bytes(alloc, files, rules).err()
+    Ok(check_pieces(alloc, &files, rules()?).ok().ok_or("refused")?)
 }
 
 #[test]
 fn pieces_give_the_report_of_the_whole(rt: HostRuntime) -> Result<(), Failure> {
-    let wanted = format!(in rt.alloc();
-        "{RULES}file 1 layer pads=1 other=0 name=top\nfile 2 drill plated=yes round=1 slots=0 name=pth\nPASS\n"
-    )?;
-    let files = [layer("top", LAYER), drill(Role::Plated, None, DRILL)];
-    assert_eq!(rt;
-        told(rt.alloc(), &files).ok_or("no report")?.as_slice(),
-        wanted.as_bytes()
-    );
-    assert_eq!(rt;
-        told_in_bytes(rt.alloc(), LAYER, DRILL)
-            .ok_or("no report")?
-            .as_slice(),
-        wanted.as_bytes()
-    );
+    let report = report_in_bytes(rt.alloc(), LAYER, DRILL)?;
+    let whole = check_bytes(rt.alloc(), &[file(TOP), file(PTH)], rules()?);
+    let whole = whole.ok().ok_or("refused")?;
+    let wanted = text_of(rt.alloc(), &["top", "pth"], &whole)?;
+    let found = text_of(rt.alloc(), &["top", "pth"], &report)?;
+    assert!(rt; report.files().len() == 2 && found.as_str() == wanted.as_str());
     Ok(())
 }
 
-#[test]
-fn plated_slots_need_their_ring(rt: HostRuntime) -> Result<(), Failure> {
-    for &(bytes, role, slots, lines) in &[
-        (
-            OBROUND,
-            Role::Plated,
-            SLOT,
-            "file 1 layer pads=1 other=0 name=top\nfile 2 drill plated=yes round=0 slots=1 name=pth\nPASS\n",
-        ),
-        (
-            OBROUND,
-            Role::Plated,
-            OBLIQUE,
-            "file 1 layer pads=1 other=0 name=top\nfile 2 drill plated=yes round=0 slots=1 name=pth\nOBLIQUE layer=1 drill=2 hole=1 x1=0.000000000 y1=5.000000000 x2=2.000000000 y2=6.000000000 diameter=0.500000000\nFINDINGS 1\n",
-        ),
-        (
-            OBROUND,
-            Role::Unplated,
-            OBLIQUE,
-            "file 1 layer pads=1 other=0 name=top\nfile 2 drill plated=no round=0 slots=1 name=pth\nPASS\n",
-        ),
-    ] {
-        let wanted = format!(in rt.alloc(); "{RULES}{lines}")?;
-        let files = [layer("top", bytes), drill(role, None, slots)];
-        assert_eq!(rt;
-            told(rt.alloc(), &files).ok_or("no report")?.as_slice(),
-            wanted.as_bytes()
-        );
-    }
-    for &(bytes, pads) in &[(SHORT, "1"), (TWO, "2")] {
-        let wanted = format!(in rt.alloc();
-            "{RULES}file 1 layer pads={pads} other=0 name=top\nfile 2 drill plated=yes round=0 slots=1 name=pth\n{RING}"
-        )?;
-        let files = [layer("top", bytes), drill(Role::Plated, None, SLOT)];
-        assert_eq!(rt;
-            told(rt.alloc(), &files).ok_or("no report")?.as_slice(),
-            wanted.as_bytes()
-        );
-    }
-    Ok(())
+/// A file's number, from 0, and the reason why the package is refused for it, in place of a report and of a board.
+fn is_refused(alloc: Global, rows: &[FileRow], fault: PackageFault) -> Result<bool, Failure> {
+    let files = files_of(alloc, rows)?;
+    let report = check_bytes(alloc, &files, rules()?).err();
+    Ok(report == Some(fault) && read_package(alloc, &files).err() == Some(fault))
 }
 
-#[test]
-fn a_span_is_told_and_obeyed(rt: HostRuntime) -> Result<(), Failure> {
-    let found =
-        "RING layer=2 drill=3 hole=1 x=0.000000000 y=0.000000000 diameter=0.400000000\nFINDINGS 1\n";
-    for (role, plated, span, word, last) in [
-        (Role::Plated, "yes", Span::new(1, 1), " span=1-1", "PASS\n"),
-        (Role::Plated, "yes", Span::new(2, 2), " span=2-2", found),
-        (Role::Plated, "yes", Span::new(1, 2), " span=1-2", found),
-        (Role::Plated, "yes", None, "", found),
-        (Role::Unplated, "no", Span::new(1, 2), " span=1-2", "PASS\n"),
-        (Role::Unplated, "no", None, "", "PASS\n"),
-    ] {
-        let wanted = format!(in rt.alloc();
-            "{RULES}file 1 layer pads=1 other=0 name=top\nfile 2 layer pads=1 other=0 name=bot\nfile 3 drill plated={plated} round=1 slots=0{word} name=pth\n{last}"
-        )?;
-        let files = [
-            layer("top", LAYER),
-            layer("bot", MOVED),
-            drill(role, span, DRILL),
-        ];
-        assert_eq!(rt;
-            told(rt.alloc(), &files).ok_or("no report")?.as_slice(),
-            wanted.as_bytes()
-        );
-    }
-    Ok(())
-}
-
-#[test]
-fn a_span_beyond_the_layers_is_refused(rt: HostRuntime) {
-    let alloc = rt.alloc();
-    let at = |index| Some(PackageFault::File {
-        index,
-        fault: FAULT,
-    });
-    let beyond = [
-        layer("top", LAYER),
-        drill(Role::Plated, Span::new(1, 2), DRILL),
-    ];
-    assert_eq!(rt; refused(alloc, &beyond), at(1));
-    let unplated = [
-        drill(Role::Unplated, Span::new(2, 2), b""),
-        layer("top", LAYER),
-    ];
-    assert_eq!(rt; refused(alloc, &unplated), at(0));
-    let no_layer = [drill(Role::Plated, Span::new(1, 1), DRILL)];
-    assert_eq!(rt; refused(alloc, &no_layer), at(0));
-    let copper = [
-        File {
-            span: Span::new(1, 1),
-            ..layer("top", b"")
+/// A span has layers of the package, and no layer has one. The first file that is refused counts, whatever stands after it.
+const REFUSALS: [(&[FileRow], usize, Fault); 5] = [
+    (&[TOP, (Role::Plated, "pth", Some((1, 2)), DRILL)], 1, FAULT),
+    (&[(Role::Unplated, "pth", Some((2, 2)), b""), TOP], 0, FAULT),
+    (&[(Role::Plated, "pth", Some((1, 1)), DRILL)], 0, FAULT),
+    (&[(Role::Copper, "top", Some((1, 1)), b""), PTH], 0, FAULT),
+    (
+        &[
+            (Role::Copper, "top", None, b""),
+            (Role::Plated, "pth", Some((1, 2)), DRILL),
+        ],
+        0,
+        Fault {
+            place: 1,
+            byte: 0,
+            reason: Reason::Truncated,
         },
-        drill(Role::Plated, None, DRILL),
-    ];
-    assert_eq!(rt; refused(alloc, &copper), at(0));
-    let earlier = [
-        layer("top", b""),
-        drill(Role::Plated, Span::new(1, 2), DRILL),
-    ];
-    let truncated = Fault {
-        place: 1,
-        byte: 0,
-        reason: Reason::Truncated,
-    };
-    assert_eq!(rt;
-        refused(alloc, &earlier),
-        Some(PackageFault::File {
-            index: 0,
-            fault: truncated,
-        })
-    );
+    ),
+];
+
+#[test]
+fn the_first_file_that_is_refused_counts(rt: HostRuntime) -> Result<(), Failure> {
+    for &(rows, index, fault) in &REFUSALS {
+        let fault = PackageFault::File { index, fault };
+        assert!(rt; is_refused(rt.alloc(), rows, fault)?);
+    }
+    Ok(())
 }
 
-/// The lines of a report on files with these names and sums.
-fn lines(alloc: Global, names: &[&str], files: &[FileSum]) -> Option<Vec<u8>> {
-    let mut text = Vec::new(alloc);
-    print_files(alloc, names, files, &mut text).ok()?;
-    Some(text)
+/// The files of a board with two layers, each between two drill files.
+const FOUR: [FileRow; 4] = [
+    (Role::Unplated, "npth", None, DRILL),
+    TOP,
+    (Role::Plated, "pth", Some((1, 2)), SLOT),
+    BOTTOM,
+];
+
+/// Whether a hole is plated, whether it is round, and its span.
+type Hole = (bool, bool, Option<Span>);
+
+/// The hole of a board at a place.
+fn hole_of(board: &Board, place: usize) -> Option<Hole> {
+    let drilled = board.holes().get(place)?;
+    Some((drilled.plated, drilled.hole.is_round(), drilled.span))
+}
+
+/// The number of pads on each layer of a board.
+fn pad_counts(alloc: Global, board: &Board) -> Result<Vec<usize>, AllocError> {
+    let layers = board.layers(alloc)?;
+    layers.iter().map(|pads| pads.len()).collect(alloc)
 }
 
 #[test]
-fn a_board_has_what_its_files_say(rt: HostRuntime) -> Result<(), Failure> {
-    let alloc = rt.alloc();
-    let files = [
-        drill(Role::Unplated, None, DRILL),
-        layer("top", LAYER),
-        drill(Role::Plated, Span::new(1, 2), SLOT),
-        layer("bot", MOVED),
-    ];
-    let board = read_package(alloc, &files).ok().ok_or("no board")?;
-    assert_eq!(rt; board.layer_indexes(), [1, 3].as_slice());
-    let layers = board.layers(alloc)?;
-    let counts: Vec<usize> = layers.iter().map(|pads| pads.len()).collect(alloc)?;
-    assert_eq!(rt; counts.as_slice(), [1, 1].as_slice());
-    assert_eq!(rt; board.holes().len(), 2);
-    let (first, second) = (&board.holes()[0], &board.holes()[1]);
-    assert_eq!(rt;
-        (first.plated, first.hole.is_round(), first.span),
-        (false, true, None)
+fn a_board_has_the_layers_of_its_files(rt: HostRuntime) -> Result<(), Failure> {
+    let files = files_of(rt.alloc(), &FOUR)?;
+    let board = read_package(rt.alloc(), &files).ok().ok_or("no board")?;
+    let counts = pad_counts(rt.alloc(), &board)?;
+    assert!(rt;
+        board.layer_indexes() == [1, 3].as_slice() && counts.as_slice() == [1, 1].as_slice()
     );
-    assert_eq!(rt;
-        (second.plated, second.hole.is_round(), second.span),
-        (true, false, Span::new(1, 2))
-    );
-    let text = lines(alloc, &["npth", "top", "pth", "bot"], board.files()).ok_or("no lines")?;
+    Ok(())
+}
+
+#[test]
+fn a_board_has_the_holes_of_its_files(rt: HostRuntime) -> Result<(), Failure> {
+    let files = files_of(rt.alloc(), &FOUR)?;
+    let board = read_package(rt.alloc(), &files).ok().ok_or("no board")?;
+    for (place, hole) in [
+        (0, Some((false, true, None))),
+        (1, Some((true, false, Span::new(1, 2)))),
+        (2, None),
+    ] {
+        assert!(rt; hole_of(&board, place) == hole, "at {place}");
+    }
+    Ok(())
+}
+
+#[test]
+fn the_lines_of_files_are_printed_alone(rt: HostRuntime) -> Result<(), Failure> {
+    let files = files_of(rt.alloc(), &FOUR)?;
+    let board = read_package(rt.alloc(), &files).ok().ok_or("no board")?;
+    let lines = FileLines {
+        names: &["npth", "top", "pth", "bot"],
+        files: board.files(),
+    };
+    let text = format!(in rt.alloc(); "{lines}")?;
     let wanted =
         "file 1 drill plated=no round=1 slots=0 name=npth\nfile 2 layer pads=1 other=0 name=top\nfile 3 drill plated=yes round=0 slots=1 span=1-2 name=pth\nfile 4 layer pads=1 other=0 name=bot\n";
-    assert_eq!(rt; text.as_slice(), wanted.as_bytes());
+    assert_eq!(rt; text.as_str(), wanted);
     Ok(())
 }
 
 #[test]
 fn a_board_has_the_findings_of_its_report(rt: HostRuntime) -> Result<(), Failure> {
     let alloc = rt.alloc();
-    let rules = Rules::new(125_000_000, 250_000_000).ok().ok_or("no rules")?;
-    let files = [
-        layer("top", MOVED),
-        drill(Role::Plated, None, DRILL),
-        drill(Role::Unplated, None, DRILL),
-    ];
+    let (top, npth) = (
+        (Role::Copper, "top", None, MOVED),
+        (Role::Unplated, "pth", None, DRILL),
+    );
+    let files = [file(top), file(PTH), file(npth)];
     let board = read_package(alloc, &files).ok().ok_or("no board")?;
-    let report = check_bytes(alloc, &files, rules).ok().ok_or("no report")?;
-    assert_eq!(rt; board.findings(alloc, rules)?.as_slice(), report.findings());
-    assert_eq!(rt; report.findings().len(), 2);
+    let report = check_bytes(alloc, &files, rules()?)
+        .ok()
+        .ok_or("no report")?;
+    let found = board.findings(alloc, rules()?)?;
     let last = report.holes().get(1).ok_or("no hole")?;
-    assert_eq!(rt; (last.file, last.number), (2, 1));
+    assert!(rt; found.len() == 2 && found.as_slice() == report.findings());
+    assert!(rt; (last.file, last.number) == (2, 1));
     Ok(())
 }
 
-#[test]
-fn a_refused_file_has_no_board(rt: HostRuntime) {
-    let files = [drill(Role::Plated, Span::new(1, 1), DRILL)];
-    let refused = read_package(rt.alloc(), &files).err();
-    assert_eq!(rt;
-        refused,
-        Some(PackageFault::File {
-            index: 0,
-            fault: FAULT
-        })
-    );
+/// How many flashes a reader gives for each of two files: a layer in two pieces, and a drill file.
+fn flash_counts(reader: &mut PackageReader) -> Result<(usize, usize), Failure> {
+    let (start, end) = TWO.split_at(50);
+    let layer = reader.take_with_flashes(Role::Copper, &None, &[start, end])?;
+    let drill = reader.take_with_flashes(Role::Plated, &None, &[DRILL])?;
+    Ok((layer.len(), drill.len()))
 }
+
+const LAYER_OF_TWO: FileSum = FileSum::Layer { pads: 2, other: 0 };
 
 #[test]
 fn a_reader_gives_the_flashes_of_copper(rt: HostRuntime) -> Result<(), Failure> {
     let alloc = rt.alloc();
     let mut reader = PackageReader::new(alloc, 2);
-    let (start, end) = TWO.split_at(50);
-    let flashes = reader.take_with_flashes(Role::Copper, &None, &[start, end])?;
-    assert_eq!(rt; flashes.len(), 2);
-    let flashes = reader.take_with_flashes(Role::Plated, &None, &[DRILL])?;
-    assert_eq!(rt; flashes.len(), 0);
+    let counts = flash_counts(&mut reader)?;
     reader.take(Role::Copper, &None, &[TWO])?;
     let board = reader.board().ok().ok_or("no board")?;
-    let wanted = &[
-        FileSum::Layer { pads: 2, other: 0 },
-        FileSum::Drill {
-            plated: true,
-            span: None,
-            round: 1,
-            slots: 0,
-        },
-        FileSum::Layer { pads: 2, other: 0 },
-    ];
-    assert_eq!(rt; board.files(), wanted.as_slice());
-    assert_eq!(rt; board.layers(alloc)?.len(), 2);
+    let drill = FileSum::Drill {
+        plated: true,
+        span: None,
+        round: 1,
+        slots: 0,
+    };
+    let wanted = &[LAYER_OF_TWO, drill, LAYER_OF_TWO];
+    assert!(rt; board.files() == wanted.as_slice());
+    assert!(rt; (counts, board.layers(alloc)?.len()) == ((2, 0), 2));
     Ok(())
 }
 
 #[test]
-fn a_reader_with_flashes_tells_of_the_first_refusal(rt: HostRuntime) -> Result<(), Failure> {
+fn a_reader_with_flashes_keeps_the_first_refusal(rt: HostRuntime) -> Result<(), Failure> {
     let mut reader = PackageReader::new(rt.alloc(), 2);
     reader.take_with_flashes(Role::Copper, &Span::new(1, 1), &[TWO])?;
     reader.take_with_flashes(Role::Copper, &None, &[DRILL])?;
-    assert_eq!(rt;
-        reader.board().err(),
-        Some(PackageFault::File {
-            index: 0,
-            fault: FAULT
-        })
-    );
+    let (index, fault) = (0, FAULT);
+    assert!(rt; reader.board().err() == Some(PackageFault::File { index, fault }));
     Ok(())
 }

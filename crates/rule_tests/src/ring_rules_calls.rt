@@ -4,9 +4,11 @@ ghost use Rattle.std.specs.Prelude.{◌≡◌, pos, ◌+ℤ◌, ◌-ℤ◌};
 ghost use Rattle.pad_shapes.specs.Shapes.{IsInDisc, disc_covers};
 ghost use Rattle.pad_shapes.specs.Inner.ShapeLaws.{disc_holds, disc_holds_slots, disc_between, disc_extent};
 
-use crate::rows::{HOLE, HoleRow, PadRow, Shape, add_holes, add_pads};
-use grid_units::{Hole, Point, Rules};
-use pad_shapes::{Disc, Pad, PadShape, Rect, Zone};
+use crate::rows::{
+    HOLE, HoleRow, PadRow, Shape, add_holes, add_pads, add_round, disc, drilled, point, rect, round,
+};
+use grid_units::{Point, Rules};
+use pad_shapes::{Disc, Pad, PadShape, Zone};
 use ring_rules::*;
 use std::alloc::{AllocError, Global};
 use std::cell::Cell;
@@ -57,33 +59,6 @@ impl PadShape for Counted {
 /// A ring of 0.125 mm and a gap of 0.25 mm.
 fn usual_rules() -> Result<Rules, Fail> {
     Ok(Rules::new(125_000_000, 250_000_000).ok().ok_or("rules")?)
-}
-
-/// A plated hole between two points, all in pm.
-fn drilled(from: (i64, i64), to: (i64, i64), radius: i64) -> Result<Drilled, Fail> {
-    let from = Point::new(from.0, from.1).ok_or("from")?;
-    let to = Point::new(to.0, to.1).ok_or("to")?;
-    let hole = Hole::new(from, to, radius).ok_or("hole")?;
-    Ok(Drilled {
-        hole,
-        plated: true,
-        span: None,
-    })
-}
-
-/// A plated round hole.
-fn round(x: i64, y: i64, radius: i64) -> Result<Drilled, Fail> {
-    drilled((x, y), (x, y), radius)
-}
-
-fn disc(x: i64, y: i64, radius: i64) -> Result<Pad, Fail> {
-    let centre = Point::new(x, y).ok_or("centre")?;
-    Ok(Pad::Disc(Disc::new(centre, radius).ok_or("disc")?))
-}
-
-fn rect(x: i64, y: i64, half_x: i64, half_y: i64) -> Result<Pad, Fail> {
-    let centre = Point::new(x, y).ok_or("centre")?;
-    Ok(Pad::Rect(Rect::new(centre, half_x, half_y).ok_or("rect")?))
 }
 
 /// Whether these are just the findings of rings on some layers.
@@ -356,11 +331,11 @@ fn holes_are_clear_up_to_equality(rt: HostRuntime) -> Result<(), Fail> {
 }
 
 /// A hundred times a hundred discs, a millimetre apart.
-fn counted_discs(alloc: Global, calls: &Rc<Cell<u64>>) -> Result<Vec<Counted>, Fail> {
+fn grid_of_discs(alloc: Global, calls: &Rc<Cell<u64>>) -> Result<Vec<Counted>, Fail> {
     let mut pads = Vec::new(alloc);
     for column in 0..100u8 {
         for row in 0..100u8 {
-            let at = Point::new(i64::from(column) * MM, i64::from(row) * MM).ok_or("point")?;
+            let at = point(i64::from(column) * MM, i64::from(row) * MM)?;
             let disc = Disc::new(at, 325_000_000).ok_or("disc")?;
             let calls = calls.clone()?;
             pads.push(Counted { disc, calls })?;
@@ -373,20 +348,9 @@ fn counted_discs(alloc: Global, calls: &Rc<Cell<u64>>) -> Result<Vec<Counted>, F
 fn plated_at(alloc: Global, centres: &[Point]) -> Result<Vec<Drilled>, Fail> {
     let mut holes = Vec::new(alloc);
     for centre in centres {
-        let hole = Hole::new(*centre, *centre, 200_000_000).ok_or("hole")?;
-        add_hole(&mut holes, hole, None)?;
+        add_round(&mut holes, centre.x(), centre.y(), 200_000_000)?;
     }
     Ok(holes)
-}
-
-/// Appends a plated hole.
-fn add_hole(holes: &mut Vec<Drilled>, hole: Hole, span: Option<Span>) -> Result<(), AllocError> {
-    holes.push(Drilled {
-        hole,
-        plated: true,
-        span,
-    })?;
-    Ok(())
 }
 
 /// The centres of the discs, in descending order of x and then of y.
@@ -394,8 +358,7 @@ fn centres(alloc: Global) -> Result<Vec<Point>, Fail> {
     let mut centres = Vec::new(alloc);
     for column in (0..100u8).rev() {
         for row in (0..100u8).rev() {
-            let at = Point::new(i64::from(column) * MM, i64::from(row) * MM).ok_or("point")?;
-            centres.push(at)?;
+            centres.push(point(i64::from(column) * MM, i64::from(row) * MM)?)?;
         }
     }
     Ok(centres)
@@ -404,24 +367,31 @@ fn centres(alloc: Global) -> Result<Vec<Point>, Fail> {
 #[test]
 fn few_pads_are_asked(rt: HostRuntime) -> Result<(), Fail> {
     let calls = Rc::new(rt.alloc(), Cell::new(0))?;
-    let pads = counted_discs(rt.alloc(), &calls)?;
+    let pads = grid_of_discs(rt.alloc(), &calls)?;
     let holes = plated_at(rt.alloc(), &centres(rt.alloc())?)?;
     let found = ring_findings(rt.alloc(), &[pads.as_slice()], &holes, usual_rules()?)?;
-    assert_eq!(rt; found.len(), 0);
-    assert!(rt; calls.get() <= 1_000_000);
+    assert!(rt; found.is_empty() && calls.get() <= 1_000_000);
     Ok(())
+}
+
+/// How many findings there are, and the first of them.
+fn count_and_first(found: &[Finding]) -> (usize, Option<Finding>) {
+    (found.len(), found.first().copied())
+}
+
+/// The number of findings of rings of ten thousand holes on a pad, and the first of them.
+fn rings_in(alloc: Global, pad: Pad) -> Result<(usize, Option<Finding>), Fail> {
+    let holes = plated_at(alloc, &centres(alloc)?)?;
+    let found = ring_findings(alloc, &[[pad].as_slice()], &holes, usual_rules()?)?;
+    Ok(count_and_first(&found))
 }
 
 #[test]
 fn a_large_pad_holds_what_lies_in_it(rt: HostRuntime) -> Result<(), Fail> {
-    let holes = plated_at(rt.alloc(), &centres(rt.alloc())?)?;
-    let all = [rect(50 * MM, 50 * MM, 51 * MM, 51 * MM)?];
-    let found = ring_findings(rt.alloc(), &[all.as_slice()], &holes, usual_rules()?)?;
-    assert_eq!(rt; found.len(), 0);
-    let less = [rect(49 * MM, 50 * MM, 49_400_000_000, 51 * MM)?];
-    let found = ring_findings(rt.alloc(), &[less.as_slice()], &holes, usual_rules()?)?;
-    assert_eq!(rt; found.len(), 100);
-    assert_eq!(rt; found.first(), Some(&Finding::Ring { layer: 0, hole: 0 }));
+    let all = rect(50 * MM, 50 * MM, 51 * MM, 51 * MM)?;
+    assert!(rt; rings_in(rt.alloc(), all)? == (0, None));
+    let less = rect(49 * MM, 50 * MM, 49_400_000_000, 51 * MM)?;
+    assert!(rt; rings_in(rt.alloc(), less)? == (100, Some(RING)));
     Ok(())
 }
 
@@ -430,55 +400,65 @@ fn crowd(alloc: Global) -> Result<Vec<Point>, Fail> {
     let mut points = Vec::new(alloc);
     for number in 0..1_000u16 {
         let k = i64::from(number);
-        points.push(Point::new(k % 32 * MM, k / 32 * MM).ok_or("near")?)?;
+        points.push(point(k % 32 * MM, k / 32 * MM)?)?;
         let x = k % 40 * 450_000_000_000 - 9_000_000_000_000;
         let y = k / 40 * 700_000_000_000 - 9_000_000_000_000;
-        points.push(Point::new(x, y).ok_or("far")?)?;
+        points.push(point(x, y)?)?;
     }
     Ok(points)
 }
 
-#[test]
-fn a_crowd_hides_no_finding(rt: HostRuntime) -> Result<(), Fail> {
-    let mut points = crowd(rt.alloc())?;
-    let mut pads = Vec::new(rt.alloc());
-    for point in &points {
+/// The number of findings of rings on two layers of holes at these points, and the first of them. The first layer has a disc at each
+/// point, and the second at the first thousand.
+fn rings_at(alloc: Global, points: &[Point]) -> Result<(usize, Option<Finding>), Fail> {
+    let mut pads = Vec::new(alloc);
+    for point in points {
         pads.push(Disc::new(*point, 325_000_000).ok_or("disc")?)?;
     }
-    let holes = plated_at(rt.alloc(), &points)?;
     let layers = [pads.as_slice(), &pads[..pads.len().min(1_000)]];
-    let found = ring_findings(rt.alloc(), &layers, &holes, usual_rules()?)?;
-    assert_eq!(rt; found.len(), 1_000);
+    let found = ring_findings(alloc, &layers, &plated_at(alloc, points)?, usual_rules()?)?;
+    Ok(count_and_first(&found))
+}
+
+/// The number of findings of gaps between holes at these points, and the first of them.
+fn gaps_at(alloc: Global, points: &[Point]) -> Result<(usize, Option<Finding>), Fail> {
+    let found = gap_findings(alloc, &plated_at(alloc, points)?, usual_rules()?)?;
+    Ok(count_and_first(&found))
+}
+
+#[test]
+fn a_crowd_hides_no_ring(rt: HostRuntime) -> Result<(), Fail> {
     let wanted = Finding::Ring {
         layer: 1,
         hole: 1_000,
     };
-    assert_eq!(rt; found.first(), Some(&wanted));
-    assert_eq!(rt; gap_findings(rt.alloc(), &holes, usual_rules()?)?.len(), 0);
-    points.push(Point::new(5 * MM, 5 * MM).ok_or("point")?)?;
-    let holes = plated_at(rt.alloc(), &points)?;
-    let found = gap_findings(rt.alloc(), &holes, usual_rules()?)?;
-    let wanted = &[Finding::Gap {
+    assert!(rt; rings_at(rt.alloc(), &crowd(rt.alloc())?)? == (1_000, Some(wanted)));
+    Ok(())
+}
+
+#[test]
+fn a_crowd_hides_no_gap(rt: HostRuntime) -> Result<(), Fail> {
+    let mut points = crowd(rt.alloc())?;
+    assert!(rt; gaps_at(rt.alloc(), &points)? == (0, None));
+    points.push(point(5 * MM, 5 * MM)?)?;
+    let wanted = Finding::Gap {
         first: 330,
         second: 2_000,
-    }];
-    assert_eq!(rt; found.as_slice(), wanted.as_slice());
+    };
+    assert!(rt; gaps_at(rt.alloc(), &points)? == (1, Some(wanted)));
     Ok(())
 }
 
 #[test]
 fn a_hole_drilled_twice_is_two_holes(rt: HostRuntime) -> Result<(), Fail> {
     let mut centres = centres(rt.alloc())?;
-    let holes = plated_at(rt.alloc(), &centres)?;
-    assert_eq!(rt; gap_findings(rt.alloc(), &holes, usual_rules()?)?.len(), 0);
-    centres.push(Point::new(0, 0).ok_or("point")?)?;
-    let holes = plated_at(rt.alloc(), &centres)?;
-    let found = gap_findings(rt.alloc(), &holes, usual_rules()?)?;
-    let wanted = &[Finding::Gap {
+    assert!(rt; gaps_at(rt.alloc(), &centres)? == (0, None));
+    centres.push(point(0, 0)?)?;
+    let wanted = Finding::Gap {
         first: 9_999,
         second: 10_000,
-    }];
-    assert_eq!(rt; found.as_slice(), wanted.as_slice());
+    };
+    assert!(rt; gaps_at(rt.alloc(), &centres)? == (1, Some(wanted)));
     Ok(())
 }
 
@@ -494,14 +474,22 @@ fn rings_through(alloc: Global, span: Option<Span>) -> Result<Vec<Finding>, Fail
     Ok(ring_findings(alloc, &layers, &[hole], usual_rules()?)?)
 }
 
+/// Spans, and the findings of rings on two layers.
+const SPANS: [(Option<(usize, usize)>, &[Finding]); 3] = [
+    (Some((1, 1)), &[]),
+    (Some((1, 2)), &[Finding::Ring { layer: 1, hole: 0 }]),
+    (None, &[Finding::Ring { layer: 1, hole: 0 }]),
+];
+
 #[test]
 fn a_span_names_the_layers_that_need_a_ring(rt: HostRuntime) -> Result<(), Fail> {
-    assert_eq!(rt; rings_through(rt.alloc(), Span::new(1, 1))?.len(), 0);
-    let wanted = &[Finding::Ring { layer: 1, hole: 0 }];
-    let found = rings_through(rt.alloc(), Span::new(1, 2))?;
-    assert_eq!(rt; found.as_slice(), wanted.as_slice());
-    let found = rings_through(rt.alloc(), None)?;
-    assert_eq!(rt; found.as_slice(), wanted.as_slice());
+    for &(span, wanted) in &SPANS {
+        let span = match span {
+            Some((first, last)) => Span::new(first, last),
+            None => None,
+        };
+        assert!(rt; rings_through(rt.alloc(), span)?.as_slice() == wanted);
+    }
     Ok(())
 }
 
@@ -516,11 +504,7 @@ fn a_span_changes_no_gap(rt: HostRuntime) -> Result<(), Fail> {
         ..round(100_000_000, 0, 200_000_000)?
     };
     let found = gap_findings(rt.alloc(), &[upper, lower], usual_rules()?)?;
-    let wanted = &[Finding::Gap {
-        first: 0,
-        second: 1,
-    }];
-    assert_eq!(rt; found.as_slice(), wanted.as_slice());
+    assert!(rt; found.as_slice() == [FIRST_TWO].as_slice());
     Ok(())
 }
 
@@ -534,7 +518,7 @@ fn spans_run_from_1_upwards(rt: HostRuntime) {
 #[test]
 fn a_hole_needs_its_ring_on_the_layers_of_its_span(rt: HostRuntime) -> Result<(), Fail> {
     let span = Span::new(2, 3).ok_or("span")?;
-    assert_eq!(rt; (span.first(), span.last()), (2, 3));
+    let ends = (span.first(), span.last());
     let hole = Drilled {
         span: Some(span),
         ..round(0, 0, 200_000_000)?
@@ -546,7 +530,7 @@ fn a_hole_needs_its_ring_on_the_layers_of_its_span(rt: HostRuntime) -> Result<()
         Finding::Ring { layer: 1, hole: 0 },
         Finding::Ring { layer: 2, hole: 0 },
     ];
-    assert_eq!(rt; found.as_slice(), wanted.as_slice());
+    assert!(rt; ends == (2, 3) && found.as_slice() == wanted.as_slice());
     Ok(())
 }
 
@@ -582,11 +566,13 @@ fn holes_of_a_zone(rt: HostRuntime) -> Result<(), Fail> {
         bottom: 0,
         top: MM,
     };
-    let near = found(rt.alloc(), &holes, &zone, 0)?;
-    assert_eq!(rt; near.as_slice() == [0, 1, 2, 4].as_slice(), true);
-    let same = found(rt.alloc(), &holes, &zone, 1_000_000_000_000)?;
-    assert_eq!(rt; same.as_slice() == near.as_slice(), true);
-    let none: [Drilled; 0] = [];
-    assert_eq!(rt; found(rt.alloc(), &none, &zone, 1)?.len(), 0);
+    let near = &[0, 1, 2, 4];
+    for &(held, size, places) in &[
+        (holes.as_slice(), 0, near.as_slice()),
+        (holes.as_slice(), 1_000_000_000_000, near.as_slice()),
+        (&[], 1, &[]),
+    ] {
+        assert!(rt; found(rt.alloc(), held, &zone, size)?.as_slice() == places);
+    }
     Ok(())
 }

@@ -3,6 +3,7 @@
 use grid_units::{Hole, Point};
 use pad_shapes::{Disc, Obround, Pad, Rect};
 use ring_rules::Drilled;
+use std::test::Fail;
 
 #[derive(Clone, Copy)]
 pub(crate) enum Shape {
@@ -17,6 +18,10 @@ pub(crate) type PadRow = (Shape, i64, i64, i64, i64);
 /// A hole: the point that it goes from, the point that it goes to, and its radius, in pm.
 pub(crate) type HoleRow = ((i64, i64), (i64, i64), i64);
 
+pub(crate) fn point(x: i64, y: i64) -> Result<Point, Fail> {
+    Ok(Point::new(x, y).ok_or("point")?)
+}
+
 pub(crate) fn pad(row: PadRow) -> Option<Pad> {
     let (shape, x, y, half_x, half_y) = row;
     let centre = Point::new(x, y)?;
@@ -27,9 +32,42 @@ pub(crate) fn pad(row: PadRow) -> Option<Pad> {
     }
 }
 
+pub(crate) fn disc(x: i64, y: i64, radius: i64) -> Result<Pad, Fail> {
+    Ok(pad((Shape::Disc, x, y, radius, radius)).ok_or("disc")?)
+}
+
+pub(crate) fn rect(x: i64, y: i64, half_x: i64, half_y: i64) -> Result<Pad, Fail> {
+    Ok(pad((Shape::Rect, x, y, half_x, half_y)).ok_or("rect")?)
+}
+
 /// A hole between two points.
 pub(crate) fn slot(from: (i64, i64), to: (i64, i64), radius: i64) -> Option<Hole> {
     Hole::new(Point::new(from.0, from.1)?, Point::new(to.0, to.1)?, radius)
+}
+
+/// A plated hole between two points.
+pub(crate) fn drilled(from: (i64, i64), to: (i64, i64), radius: i64) -> Result<Drilled, Fail> {
+    Ok(Drilled {
+        hole: slot(from, to, radius).ok_or("hole")?,
+        plated: true,
+        span: None,
+    })
+}
+
+/// A plated round hole.
+pub(crate) fn round(x: i64, y: i64, radius: i64) -> Result<Drilled, Fail> {
+    drilled((x, y), (x, y), radius)
+}
+
+/// Adds a plated round hole to a list.
+pub(crate) fn add_round(list: &mut Vec<Drilled>, x: i64, y: i64, radius: i64) -> Result<(), Fail> {
+    let hole = slot((x, y), (x, y), radius).ok_or("hole")?;
+    list.push(Drilled {
+        hole,
+        plated: true,
+        span: None,
+    })?;
+    Ok(())
 }
 
 /// Adds pads to a list.

@@ -1,9 +1,9 @@
 //! Scales of small files, in pm.
 
-use grid_units::{Hole, Point};
+use crate::rows::{add_round, disc, drilled, point};
 use margin_text::{Factor, ScaleLine};
 use margins::best_pads;
-use pad_shapes::{Disc, Pad};
+use pad_shapes::Pad;
 use ring_rules::Drilled;
 use scales::*;
 use std::alloc::Global;
@@ -12,29 +12,14 @@ use std::test::Fail;
 /// A millimetre, in pm.
 const MM: i64 = 1_000_000_000;
 
-fn point(x: i64, y: i64) -> Result<Point, Fail> {
-    Ok(Point::new(x, y).ok_or("point")?)
-}
-
-/// The point at a place, in millimetres.
-fn millimetres(x: i64, y: i64) -> Result<Point, Fail> {
-    point(x.saturating_mul(MM), y.saturating_mul(MM))
-}
-
 /// A disc of 0.6 mm diameter at a place in millimetres.
-fn disc(x: i64, y: i64) -> Result<Pad, Fail> {
-    Ok(Pad::Disc(Disc::new(millimetres(x, y)?, 300_000_000).ok_or("disc")?))
+fn disc_at(x: i64, y: i64) -> Result<Pad, Fail> {
+    disc(x.saturating_mul(MM), y.saturating_mul(MM), 300_000_000)
 }
 
 /// A hole of 0.4 mm between two points, in pm.
 fn slot(from: (i64, i64), to: (i64, i64)) -> Result<Drilled, Fail> {
-    let (from, to) = (point(from.0, from.1)?, point(to.0, to.1)?);
-    let hole = Hole::new(from, to, 200_000_000).ok_or("hole")?;
-    Ok(Drilled {
-        hole,
-        plated: true,
-        span: None,
-    })
+    drilled(from, to, 200_000_000)
 }
 
 /// A round hole at a place in millimetres.
@@ -58,56 +43,87 @@ fn told(bare: usize, factor: Factor, then: usize) -> Option<ScaleLine> {
     })
 }
 
-#[test]
-fn a_tenth_of_the_places(rt: HostRuntime) -> Result<(), Fail> {
-    let pads = [disc(10, 0)?, disc(20, 0)?, disc(30, 10)?];
-    let holes = [hit(1, 0)?, hit(2, 0)?, hit(3, 1)?];
-    assert_eq!(rt; line(rt.alloc(), &pads, &holes)?, told(3, Factor::Ten, 0));
-    assert_eq!(rt; line(rt.alloc(), &[], &holes)?, None);
-    Ok(())
+/// What a line says of bare holes: how many there are, the factor, and how many there are then.
+type LineRow = (usize, Factor, usize);
+
+/// Places in millimetres.
+type Places = &'static [(i64, i64)];
+
+/// Discs of 0.6 mm diameter at places in millimetres.
+fn discs_at(alloc: Global, places: Places) -> Result<Vec<Pad>, Fail> {
+    let mut pads = Vec::new(alloc);
+    for &(x, y) in places {
+        pads.push(disc_at(x, y)?)?;
+    }
+    Ok(pads)
 }
 
-/// One hole has its pad by ten and by an inch: the line names the first of these.
-#[test]
-fn the_first_of_equals(rt: HostRuntime) -> Result<(), Fail> {
-    let pads = [disc(254, 0)?, disc(100, 0)?];
-    let holes = [hit(10, 0)?];
-    assert_eq!(rt; line(rt.alloc(), &pads, &holes)?, told(1, Factor::Ten, 0));
-    assert_eq!(rt;
-        line(rt.alloc(), &pads[..1], &holes)?,
-        told(1, Factor::Inch, 0)
-    );
-    Ok(())
+/// Round holes of 0.4 mm at places in millimetres.
+fn hits_at(alloc: Global, places: Places) -> Result<Vec<Drilled>, Fail> {
+    let mut holes = Vec::new(alloc);
+    for &(x, y) in places {
+        add_round(
+            &mut holes,
+            x.saturating_mul(MM),
+            y.saturating_mul(MM),
+            200_000_000,
+        )?;
+    }
+    Ok(holes)
 }
 
+/// The line of a drill file with round holes at these places, over discs at others.
+fn line_at(alloc: Global, discs: Places, hits: Places) -> Result<Option<ScaleLine>, Fail> {
+    line(alloc, &discs_at(alloc, discs)?, &hits_at(alloc, hits)?)
+}
+
+/// Discs, holes, and the line. All holes have their pads by ten, or there is no pad; a hole has its pad by ten and by an inch, and the
+/// line names ten, or it has its pad by an inch alone; one hole of two is bare, and has its pad by ten; both are bare, and one of them
+/// has its pad by ten; then two of three.
+const LINES: [(Places, Places, Option<LineRow>); 7] = [
+    (
+        &[(10, 0), (20, 0), (30, 10)],
+        &[(1, 0), (2, 0), (3, 1)],
+        Some((3, Factor::Ten, 0)),
+    ),
+    (&[], &[(1, 0), (2, 0), (3, 1)], None),
+    (&[(254, 0), (100, 0)], &[(10, 0)], Some((1, Factor::Ten, 0))),
+    (&[(254, 0)], &[(10, 0)], Some((1, Factor::Inch, 0))),
+    (&[(5, 5), (10, 0)], &[(5, 5), (1, 0)], None),
+    (&[(5, 5), (10, 0)], &[(1, 0), (3, 3)], None),
+    (
+        &[(5, 5), (10, 0)],
+        &[(1, 0), (3, 3), (1, 0)],
+        Some((3, Factor::Ten, 1)),
+    ),
+];
+
 #[test]
-fn halves(rt: HostRuntime) -> Result<(), Fail> {
-    let alloc = rt.alloc();
-    // One hole of two is bare, and has its pad by ten.
-    let pads = [disc(5, 5)?, disc(10, 0)?];
-    assert_eq!(rt; line(alloc, &pads, &[hit(5, 5)?, hit(1, 0)?])?, None);
-    // Both are bare, and one of them has its pad by ten; then two of three.
-    let both = [hit(1, 0)?, hit(3, 3)?];
-    assert_eq!(rt; line(alloc, &pads, &both)?, None);
-    let three = [hit(1, 0)?, hit(3, 3)?, hit(1, 0)?];
-    assert_eq!(rt; line(alloc, &pads, &three)?, told(3, Factor::Ten, 1));
+fn lines_of_round_holes(rt: HostRuntime) -> Result<(), Fail> {
+    for &(discs, hits, row) in &LINES {
+        let wanted = match row {
+            Some((bare, factor, then)) => told(bare, factor, then),
+            None => None,
+        };
+        assert!(rt; line_at(rt.alloc(), discs, hits)? == wanted);
+    }
     Ok(())
 }
 
 /// Two slots have their pads, and all round holes are bare.
 #[test]
 fn slots_do_not_count(rt: HostRuntime) -> Result<(), Fail> {
-    let pads = [disc(0, 0)?, disc(10, 0)?];
+    let pads = [disc_at(0, 0)?, disc_at(10, 0)?];
     let long = slot((0, 0), (1, 0))?;
     let holes = [long, hit(1, 0)?, long];
-    assert_eq!(rt; line(rt.alloc(), &pads, &holes)?, told(1, Factor::Ten, 0));
+    assert!(rt; line(rt.alloc(), &pads, &holes)? == told(1, Factor::Ten, 0));
     Ok(())
 }
 
 /// The second hole lies in its pad, and the others would by ten. The files have the first hole, the second, both, the last two, and none.
 #[test]
 fn files_of_shared_holes(rt: HostRuntime) -> Result<(), Fail> {
-    let pads = [disc(10, 0)?, disc(5, 5)?];
+    let pads = [disc_at(10, 0)?, disc_at(5, 5)?];
     let holes = [hit(1, 0)?, hit(5, 5)?, hit(1, 0)?, hit(1, 0)?];
     let bests = best_pads(rt.alloc(), &pads, &holes)?;
     let files = &[
@@ -138,18 +154,20 @@ fn files_of_shared_holes(rt: HostRuntime) -> Result<(), Fail> {
         },
     ];
     let lines = scale_lines(rt.alloc(), &pads, &holes, &bests, files)?;
-    let mut found = lines.iter();
-    for line in [
+    let wanted = &[
         told(1, Factor::Ten, 0),
         None,
         None,
         told(2, Factor::Ten, 0),
         None,
-    ] {
-        assert_eq!(rt; found.next().copied(), Some(line));
-    }
-    assert_eq!(rt; lines.len(), 5);
+    ];
+    assert!(rt; lines.as_slice() == wanted.as_slice());
     Ok(())
+}
+
+/// The x of a point with this x, scaled.
+fn scaled_x(x: i64, factor: Factor) -> Result<Option<i64>, Fail> {
+    Ok(scaled_point(point(x, -10)?, factor).map(|place| place.x()))
 }
 
 #[test]
@@ -163,10 +181,7 @@ fn rounded_down(rt: HostRuntime) -> Result<(), Fail> {
         (254, Factor::PerInch, 10),
         (-255, Factor::PerInch, -11),
     ] {
-        assert_eq!(rt;
-            scaled_point(point(x, -10)?, factor).ok_or("no place")?.x(),
-            scaled
-        );
+        assert!(rt; scaled_x(x, factor)? == Some(scaled), "of {x}");
     }
     Ok(())
 }
@@ -175,12 +190,10 @@ fn rounded_down(rt: HostRuntime) -> Result<(), Fail> {
 #[test]
 fn beyond_ten_metres(rt: HostRuntime) -> Result<(), Fail> {
     let metre = 1_000 * MM;
-    assert!(rt; scaled_point(point(0, metre)?, Factor::Ten).is_some());
-    assert!(rt; scaled_point(point(0, metre + 1)?, Factor::Ten).is_none());
+    let near = scaled_point(point(0, metre)?, Factor::Ten).is_some();
+    let beyond = scaled_point(point(0, metre + 1)?, Factor::Ten).is_some();
     let far = slot((2 * metre, 0), (2 * metre, 0))?;
-    assert_eq!(rt;
-        bare_by(rt.alloc(), &[disc(0, 0)?], &[far], Factor::Ten)?,
-        1
-    );
+    let bare = bare_by(rt.alloc(), &[disc_at(0, 0)?], &[far], Factor::Ten)?;
+    assert!(rt; (near, beyond, bare) == (true, false, 1));
     Ok(())
 }

@@ -1,12 +1,12 @@
 -- Definitions for single steps: of reading records, and of looking up waivers by a key.
-use Rattle.std.specs.Prelude.{◌==◌, ◌++◌, ℕ, Bool, false, not, List, map, Option, Some, None, Result, Ok, Err}
+use Rattle.std.specs.Prelude.{◌==◌, ◌++◌, ◌∷◌, [], ℕ, Bool, false, not, List, map, Option, Some, None, Result, Ok, Err}
 use Rattle.std.specs.Borrow.{Bor}
 use Rattle.std.specs.BTreeMap.{BTreeMap, get_by}
 use Rattle.std.specs.BTreeSet.{BTreeSet, contains}
 use Rattle.std.specs.Cmp.Lexicographic.{slice_cmp}
 use Rattle.std.specs.List.{enumerate_from, filter, list_any}
 use Rattle.std.specs.Ordering.{nat_cmp}
-use Rattle.csv.specs.Writing.{default_writer, row_text}
+use Rattle.csv.specs.Writing.{comma, default_writer, field_text}
 use Rattle.grid_units.specs.declared.fault.Reason.{Reason}
 use Rattle.manifest.specs.Manifest.{Row}
 use Rattle.waivers.specs.declared.Waiver.{Waiver}
@@ -23,9 +23,12 @@ unless_broken (Some why) waiver = Err why
 abbrev pub judged : Row → Result Waiver Reason
 judged row = unless_broken (broken_rule row) (waiver_of row)
 
--- the key of five fields: their record as CSV, which no other fields have
-abbrev pub key_of : Row → List ℕ
-key_of fields = row_text default_writer fields
+-- the fields of a record as CSV, with a comma after each but the last, and no line end: `gap,,"pth, 0.4 at 0,0","pth, 0.4 at 0.5,0",0.1`.
+-- It is the key of five fields, which no other fields have
+abbrev pub joined : Row → List ℕ
+joined [] = []
+joined (field ∷ []) = field_text default_writer field
+joined (field ∷ next ∷ rest) = field_text default_writer field ++ comma ∷ joined (next ∷ rest)
 
 -- the place that a table holds for a key
 abbrev pub place_at : BTreeMap (Bor (List ℕ)) ℕ → List ℕ → Option ℕ

@@ -1,31 +1,64 @@
-//! The five fields that identify a finding.
+//! The five fields that identify a finding, as a file of waivers has them.
 
-ghost use Rattle.std.specs.Prelude.{◌≡◌, ◌++◌, map, IfOk, OnOk, string_bytes};
+ghost use Rattle.std.specs.Prelude.{◌≡◌, Some, map};
+ghost use Rattle.csv.specs.Writing as Spec;
+ghost use Rattle.csv.specs.Writing.{default_writer, escaped, field_text, needs_byte};
 ghost use Rattle.printing.specs.Lengths.{short_millimetres};
-ghost use Rattle.report_text.specs.Texts.{name_of};
 ghost use Rattle.waivers.specs.Findings.{gap_fields, has_field, hole_field, layer_field, ring_fields};
+ghost use Rattle.waivers.specs.Inner.{joined};
+ghost use Rattle.waivers.specs.Waiving.{compared};
 
-use printing::{push_short_mm, push_words};
-use report_text::{GapLack, HoleAt, LayerHead, RingCause, RingLack, name_of, push_drilled};
-use std::alloc::{AllocError, Global};
-use std::marker::Model;
+use crate::Waiver;
+use printing::ShortMillimetres;
+use report_text::{DrilledWords, GapLack, HoleAt, LayerHead, RingCause, RingLack, name_of};
+use std::fmt;
+use std::fmt::{Display, Formatter};
 
-/// The five fields of a finding. In contracts it is the list of their bytes.
-#[derive(Drop)]
-pub(crate) struct Finding {
-    pub(crate) kind: &'static str,
-    pub(crate) layer: String,
-    pub(crate) hole: String,
-    pub(crate) and: String,
-    pub(crate) has: String,
+/// A text with each quote doubled, as it stands between quotes.
+#[derive(Clone, Copy)]
+struct Escaped<'a>(&'a str);
+
+impl Display for Escaped<'_> {
+    ghost output = { λ text. Some (escaped default_writer text.0.now) };
+
+    fn fmt<W: fmt::Write>(&self, f: &mut Formatter<W>) -> fmt::Result {
+        let mut rest = self.0;
+        'quotes: while let Some((before, after)) = rest.split_once('"') {
+            write!(f, "{before}\"\"")?;
+            rest = after;
+        }
+        f.write_str(rest)
+    }
 }
 
-impl Model for Finding {
-    ghost use Rattle.std.specs.Prelude.{ℕ, List, [], ◌∷◌, string_bytes};
+/// Whether a byte of a field calls for quotes: a comma, a quote, and a byte of a line end.
+fn needs_byte(b: u8) -> bool
+    ensures { result ≡ needs_byte default_writer b }
+{
+    matches!(b, b',' | b'"' | b'\r' | b'\n')
+}
 
-    ghost Value = { List (List ℕ) };
+/// Whether a field calls for quotes.
+fn needs_quotes(field: &str) -> bool
+    ensures { result ≡ Spec.needs_quotes default_writer field.now }
+{
+    field.as_bytes().iter().any(|b| needs_byte(*b))
+}
 
-    ghost view = { λ finding. finding.kind.now ∷ string_bytes finding.layer ∷ string_bytes finding.hole ∷ string_bytes finding.and ∷ string_bytes finding.has ∷ [] };
+/// A text as a field, between quotes where it calls for them.
+#[derive(Clone, Copy)]
+struct TextField<'a>(&'a str);
+
+impl Display for TextField<'_> {
+    ghost output = { λ field. Some (field_text default_writer field.0.now) };
+
+    fn fmt<W: fmt::Write>(&self, f: &mut Formatter<W>) -> fmt::Result {
+        if needs_quotes(self.0) {
+            write!(f, "\"{}\"", Escaped(self.0))
+        } else {
+            f.write_str(self.0)
+        }
+    }
 }
 
 /// The name of a layer's file; empty where the report has no such layer.
@@ -38,76 +71,106 @@ fn layer_name<'a>(names: &[&'a str], layers: &[LayerHead], place: usize) -> &'a 
     }
 }
 
-/// Appends a hole: the name of its drill file, its diameter and where it is.
-fn push_hole(text: &mut String, names: &[&str], at: &HoleAt) -> Result<(), AllocError>
-    ensures { OnOk result (string_bytes text.new ≡ string_bytes text.old ++ hole_field (map (λ name. name.now) names.now) at.now) }
-{
-    push_words(text, name_of(names, at.drill))?;
-    push_words(text, ", ")?;
-    push_drilled(text, &at.hole)
+/// A hole as a field: the name of its drill file, its diameter and where it is in mm, as `"pth, 0.4 at 0,0"`. Its comma calls for the
+/// quotes.
+#[derive(Clone, Copy)]
+struct HoleField<'a> {
+    names: &'a [&'a str],
+    at: HoleAt,
 }
 
-/// A hole: the name of its drill file, its diameter and where it is.
-fn hole_text(alloc: Global, names: &[&str], at: &HoleAt) -> Result<String, AllocError>
-    ensures { IfOk result (λ text. string_bytes text ≡ hole_field (map (λ name. name.now) names.now) at.now) }
-{
-    let mut text = String::new(alloc);
-    push_hole(&mut text, names, at)?;
-    Ok(text)
+impl Display for HoleField<'_> {
+    ghost output = { λ field. Some (field_text default_writer (hole_field (map (λ name. name.now) field.names.now) field.at)) };
+
+    fn fmt<W: fmt::Write>(&self, f: &mut Formatter<W>) -> fmt::Result {
+        let name = Escaped(name_of(self.names, self.at.drill));
+        write!(f, "\"{name}, {}\"", DrilledWords(&self.at.hole))
+    }
 }
 
-/// A length in pm as millimetres, without zeros at the end.
-fn length_text(alloc: Global, length: i64) -> Result<String, AllocError>
-    ensures { IfOk result (λ text. string_bytes text ≡ short_millimetres length) }
-{
-    let mut text = String::new(alloc);
-    push_short_mm(&mut text, length)?;
-    Ok(text)
+/// A length in pm as a field, in millimetres.
+#[derive(Clone, Copy)]
+struct LengthField(i64);
+
+impl Display for LengthField {
+    ghost output = { λ field. Some (field_text default_writer (short_millimetres field.0)) };
+
+    fn fmt<W: fmt::Write>(&self, f: &mut Formatter<W>) -> fmt::Result {
+        write!(f, "{}", ShortMillimetres(self.0))
+    }
 }
 
-/// The ring of a hole in its best pad in mm, or `none`.
-fn ring_text(alloc: Global, cause: &RingCause) -> Result<String, AllocError>
-    ensures { IfOk result (λ text. string_bytes text ≡ has_field cause.now) }
-{
-    match cause {
-        RingCause::Small(place) | RingCause::Off(place) => length_text(alloc, place.ring),
-        RingCause::Other { .. } | RingCause::Nothing | RingCause::Oblique => {
-            String::from_str(alloc, "none")
+/// The ring of a hole in its best pad as a field, in millimetres, or `none`.
+#[derive(Clone, Copy)]
+struct RingField(RingCause);
+
+impl Display for RingField {
+    ghost output = { λ field. Some (field_text default_writer (has_field field.0)) };
+
+    fn fmt<W: fmt::Write>(&self, f: &mut Formatter<W>) -> fmt::Result {
+        match self.0 {
+            RingCause::Small(place) | RingCause::Off(place) => {
+                write!(f, "{}", LengthField(place.ring))
+            }
+            RingCause::Other { .. } | RingCause::Nothing | RingCause::Oblique => {
+                f.write_str("none")
+            }
         }
     }
 }
 
-/// The fields of a hole that lacks its ring.
-pub(crate) fn ring_finding(
-    alloc: Global,
-    names: &[&str],
-    layers: &[LayerHead],
-    lack: &RingLack,
-) -> Result<Finding, AllocError>
-    ensures { IfOk result (λ finding. finding ≡ ring_fields (map (λ name. name.now) names.now) layers.now lack.now) }
-{
-    Ok(Finding {
-        kind: "ring",
-        layer: String::from_str(alloc, layer_name(names, layers, lack.layer))?,
-        hole: hole_text(alloc, names, &lack.at)?,
-        and: String::new(alloc),
-        has: ring_text(alloc, &lack.cause)?,
-    })
+/// The fields of a hole that lacks its ring: `ring,top,"pth, 0.4 at 0,0",,0.124999`.
+#[derive(Clone, Copy)]
+pub(crate) struct RingFields<'a> {
+    pub(crate) names: &'a [&'a str],
+    pub(crate) layers: &'a [LayerHead],
+    pub(crate) lack: RingLack,
 }
 
-/// The fields of two holes that lack their gap.
-pub(crate) fn gap_finding(
-    alloc: Global,
-    names: &[&str],
-    lack: &GapLack,
-) -> Result<Finding, AllocError>
-    ensures { IfOk result (λ finding. finding ≡ gap_fields (map (λ name. name.now) names.now) lack.now) }
-{
-    Ok(Finding {
-        kind: "gap",
-        layer: String::new(alloc),
-        hole: hole_text(alloc, names, &lack.first)?,
-        and: hole_text(alloc, names, &lack.second)?,
-        has: length_text(alloc, lack.gap)?,
-    })
+impl Display for RingFields<'_> {
+    ghost output = { λ fields. Some (joined (ring_fields (map (λ name. name.now) fields.names.now) fields.layers.now fields.lack)) };
+
+    fn fmt<W: fmt::Write>(&self, f: &mut Formatter<W>) -> fmt::Result {
+        let (names, at) = (self.names, self.lack.at);
+        let layer = TextField(layer_name(names, self.layers, self.lack.layer));
+        let (hole, has) = (HoleField { names, at }, RingField(self.lack.cause));
+        write!(f, "ring,{layer},{hole},,{has}")
+    }
+}
+
+/// The fields of two holes that lack their gap: `gap,,"pth, 0.4 at 0,0","pth, 0.4 at 0.5,0",0.1`.
+#[derive(Clone, Copy)]
+pub(crate) struct GapFields<'a> {
+    pub(crate) names: &'a [&'a str],
+    pub(crate) lack: GapLack,
+}
+
+impl Display for GapFields<'_> {
+    ghost output = { λ fields. Some (joined (gap_fields (map (λ name. name.now) fields.names.now) fields.lack)) };
+
+    fn fmt<W: fmt::Write>(&self, f: &mut Formatter<W>) -> fmt::Result {
+        let (names, at) = (self.names, self.lack.first);
+        let hole = HoleField { names, at };
+        let at = self.lack.second;
+        let and = HoleField { names, at };
+        write!(f, "gap,,{hole},{and},{}", LengthField(self.lack.gap))
+    }
+}
+
+/// The fields of a waiver that are compared: all but the reason.
+#[derive(Clone, Copy)]
+pub(crate) struct WaiverFields<'a>(pub(crate) &'a Waiver);
+
+impl Display for WaiverFields<'_> {
+    ghost output = { λ fields. Some (joined (compared fields.0.now)) };
+
+    fn fmt<W: fmt::Write>(&self, f: &mut Formatter<W>) -> fmt::Result {
+        let waiver = self.0;
+        let kind = TextField(waiver.kind.as_str());
+        let layer = TextField(waiver.layer.as_str());
+        let hole = TextField(waiver.hole.as_str());
+        let and = TextField(waiver.and.as_str());
+        let has = TextField(waiver.has.as_str());
+        write!(f, "{kind},{layer},{hole},{and},{has}")
+    }
 }

@@ -1,67 +1,35 @@
 //! The keys by which findings and waivers are looked up.
 
-ghost use Rattle.std.specs.Prelude.{◌≡◌, IfOk, OnOk, ℕ, List, map, ◌∷◌, [], Some, None, if◌then◌else◌};
+ghost use Rattle.std.specs.Prelude.{◌≡◌, IfOk, OnOk, ℕ, List, map, Some, None, if◌then◌else◌};
 ghost use Rattle.std.specs.List.{position_from};
 ghost use Rattle.std.specs.Option.{option_or};
 ghost use Rattle.std.specs.Str.{bytes_eq};
 ghost use Rattle.waivers.specs.Findings.{gap_fields, ring_fields};
-ghost use Rattle.waivers.specs.Inner.{key_of, place_at};
+ghost use Rattle.waivers.specs.Inner.{joined, place_at};
 ghost use Rattle.waivers.specs.Waiving.{compared};
 
 use crate::Waiver;
-use crate::findings::{Finding, gap_finding, ring_finding};
-use manifest::table::Table;
+use crate::findings::{GapFields, RingFields, WaiverFields};
 use report_text::{GapLack, LayerHead, RingLack};
 use std::alloc::{AllocError, Global};
 use std::collections::BTreeMap;
 
-/// The key of five fields: their record as CSV, which no other fields have.
-fn key_of<'f>(
+/// The key of a hole that lacks its ring: its fields as CSV.
+fn ring_key<'a>(
     alloc: Global,
-    kind: &'f str,
-    layer: &'f str,
-    hole: &'f str,
-    and: &'f str,
-    has: &'f str,
-) -> Result<Vec<u8>, AllocError>
-    ensures { IfOk result (λ key. key.items ≡ key_of (kind.now ∷ layer.now ∷ hole.now ∷ and.now ∷ has.now ∷ [])) }
-{
-    let table = Table::new(alloc)?;
-    let fields = [
-        kind.as_bytes(),
-        layer.as_bytes(),
-        hole.as_bytes(),
-        and.as_bytes(),
-        has.as_bytes(),
-    ];
-    table.with_row(&fields)?.into_bytes()
-}
-
-/// The key of a finding.
-fn finding_key(alloc: Global, finding: &Finding) -> Result<Vec<u8>, AllocError>
-    ensures { IfOk result (λ key. key.items ≡ key_of finding.now) }
-{
-    key_of(
-        alloc,
-        finding.kind,
-        finding.layer.as_str(),
-        finding.hole.as_str(),
-        finding.and.as_str(),
-        finding.has.as_str(),
-    )
-}
-
-/// The key of a hole that lacks its ring.
-fn ring_key(
-    alloc: Global,
-    names: &[&str],
-    layers: &[LayerHead],
+    names: &'a [&'a str],
+    layers: &'a [LayerHead],
     lack: &RingLack,
 ) -> Result<Vec<u8>, AllocError>
-    ensures { IfOk result (λ key. key.items ≡ key_of (ring_fields (map (λ name. name.now) names.now) layers.now lack.now)) }
+    ensures { IfOk result (λ key. key.items ≡ joined (ring_fields (map (λ name. name.now) names.now) layers.now lack.now)) }
 {
-    let finding = ring_finding(alloc, names, layers, lack)?;
-    finding_key(alloc, &finding)
+    let lack = *lack;
+    let fields = RingFields {
+        names,
+        layers,
+        lack,
+    };
+    Ok(format!(in alloc; "{fields}")?.into_bytes())
 }
 
 /// The keys of the holes that lack their rings, in order.
@@ -71,7 +39,7 @@ pub(crate) fn ring_keys(
     layers: &[LayerHead],
     rings: &[RingLack],
 ) -> Result<Vec<Vec<u8>>, AllocError>
-    ensures { IfOk result (λ keys. map (λ key. key.items) keys.items ≡ map (λ lack. key_of (ring_fields (map (λ name. name.now) names.now) layers.now lack)) rings.now) }
+    ensures { IfOk result (λ keys. map (λ key. key.items) keys.items ≡ map (λ lack. joined (ring_fields (map (λ name. name.now) names.now) layers.now lack)) rings.now) }
 {
     let mut keys = Vec::new(alloc);
     for lack in rings {
@@ -81,11 +49,12 @@ pub(crate) fn ring_keys(
 }
 
 /// The key of two holes that lack their gap.
-fn gap_key(alloc: Global, names: &[&str], lack: &GapLack) -> Result<Vec<u8>, AllocError>
-    ensures { IfOk result (λ key. key.items ≡ key_of (gap_fields (map (λ name. name.now) names.now) lack.now)) }
+fn gap_key<'a>(alloc: Global, names: &'a [&'a str], lack: &GapLack) -> Result<Vec<u8>, AllocError>
+    ensures { IfOk result (λ key. key.items ≡ joined (gap_fields (map (λ name. name.now) names.now) lack.now)) }
 {
-    let finding = gap_finding(alloc, names, lack)?;
-    finding_key(alloc, &finding)
+    let lack = *lack;
+    let fields = GapFields { names, lack };
+    Ok(format!(in alloc; "{fields}")?.into_bytes())
 }
 
 /// The keys of the pairs that lack their gap, in order.
@@ -94,7 +63,7 @@ pub(crate) fn gap_keys(
     names: &[&str],
     gaps: &[GapLack],
 ) -> Result<Vec<Vec<u8>>, AllocError>
-    ensures { IfOk result (λ keys. map (λ key. key.items) keys.items ≡ map (λ lack. key_of (gap_fields (map (λ name. name.now) names.now) lack)) gaps.now) }
+    ensures { IfOk result (λ keys. map (λ key. key.items) keys.items ≡ map (λ lack. joined (gap_fields (map (λ name. name.now) names.now) lack)) gaps.now) }
 {
     let mut keys = Vec::new(alloc);
     for lack in gaps {
@@ -105,21 +74,15 @@ pub(crate) fn gap_keys(
 
 /// The key of the fields of a waiver that are compared.
 fn waiver_key(alloc: Global, waiver: &Waiver) -> Result<Vec<u8>, AllocError>
-    ensures { IfOk result (λ key. key.items ≡ key_of (compared waiver.now)) }
+    ensures { IfOk result (λ key. key.items ≡ joined (compared waiver.now)) }
 {
-    key_of(
-        alloc,
-        waiver.kind.as_str(),
-        waiver.layer.as_str(),
-        waiver.hole.as_str(),
-        waiver.and.as_str(),
-        waiver.has.as_str(),
-    )
+    let fields = WaiverFields(waiver);
+    Ok(format!(in alloc; "{fields}")?.into_bytes())
 }
 
 /// The keys of waivers, in order.
 pub(crate) fn waiver_keys(alloc: Global, waivers: &[Waiver]) -> Result<Vec<Vec<u8>>, AllocError>
-    ensures { IfOk result (λ keys. map (λ key. key.items) keys.items ≡ map (λ waiver. key_of (compared waiver)) waivers.now) }
+    ensures { IfOk result (λ keys. map (λ key. key.items) keys.items ≡ map (λ waiver. joined (compared waiver)) waivers.now) }
 {
     let mut keys = Vec::new(alloc);
     for waiver in waivers {

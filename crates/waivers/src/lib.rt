@@ -18,8 +18,7 @@ mod waiving;
 use grid_units::Fail;
 use manifest::Name;
 use manifest::rows::all_rows;
-pub use printed::print_waivers;
-pub use report_text::PrintFault;
+pub use printed::WaiverText;
 use std::alloc::Global;
 pub use waiving::{Waived, idle, reasons, waive};
 

@@ -12,11 +12,47 @@ struct Line {
 }
 
 /// Where the changed text of a line goes.
-#[derive(Clone, Copy, PartialEq, Eq)]
+#[derive(Clone, Copy)]
 pub(crate) enum Change {
     Before,
     Instead,
     After,
+}
+
+impl Line {
+    /// Puts a line before this one, in its place, or after it.
+    fn change(&mut self, change: Change, text: &str) -> Result<(), AllocError> {
+        match change {
+            Change::Before => push_line(&mut self.before, text),
+            Change::Instead => {
+                self.replace();
+                push_line(&mut self.own, text)
+            }
+            Change::After => push_line(&mut self.after, text),
+        }
+    }
+
+    /// Takes the line out, but not the lines that came in its place.
+    fn replace(&mut self) {
+        if !self.is_replaced {
+            self.own.clear();
+            self.is_replaced = true;
+        }
+    }
+
+    /// Appends the line and those before and after it to a text.
+    fn write(&self, text: &mut Vec<u8>) -> Result<(), AllocError> {
+        text.extend_from_slice(&self.before)?;
+        text.extend_from_slice(&self.own)?;
+        text.extend_from_slice(&self.after)
+    }
+}
+
+/// Appends a line and its LF.
+fn push_line(text: &mut Vec<u8>, line: &str) -> Result<(), AllocError> {
+    text.extend_from_slice(line.as_bytes())?;
+    text.push(b'\n')?;
+    Ok(())
 }
 
 /// A text that is being written: the lines of the text it starts from, and what is appended.
@@ -36,22 +72,18 @@ impl Draft {
         }
     }
 
-    /// The draft that starts from this text.
+    /// The draft that starts from this text. Its last line is what stands after the last LF.
     pub(crate) fn from_text(alloc: Global, text: &[u8]) -> Result<Draft, AllocError> {
         let mut draft = Draft::new(alloc);
-        let mut own = Vec::new(alloc);
-        for byte in text {
-            own.push(*byte)?;
-            if *byte == b'\n' {
-                let line = std::mem::replace(&mut own, Vec::new(alloc));
-                draft.push_line(alloc, line)?;
-            }
+        for own in text.split_inclusive(|byte| *byte == b'\n') {
+            draft.push_line(alloc, own)?;
         }
-        draft.push_line(alloc, own)?;
+        draft.push_line(alloc, b"")?;
         Ok(draft)
     }
 
-    fn push_line(&mut self, alloc: Global, own: Vec<u8>) -> Result<(), AllocError> {
+    fn push_line(&mut self, alloc: Global, own: &[u8]) -> Result<(), AllocError> {
+        let own = Vec::from_slice(alloc, own)?;
         self.lines.push(Line {
             before: Vec::new(alloc),
             own,
@@ -68,21 +100,10 @@ impl Draft {
         change: Change,
         text: &str,
     ) -> Result<bool, AllocError> {
-        let Some(line) = self.lines.get_mut(number.saturating_sub(1)) else {
-            return Ok(false);
-        };
-        if change == Change::Instead && !line.is_replaced {
-            line.own.clear();
-            line.is_replaced = true;
+        match self.lines.get_mut(number.saturating_sub(1)) {
+            Some(line) => line.change(change, text).map(|_| true),
+            None => Ok(false),
         }
-        let part = match change {
-            Change::Before => &mut line.before,
-            Change::Instead => &mut line.own,
-            Change::After => &mut line.after,
-        };
-        part.extend_from_slice(text.as_bytes())?;
-        part.push(b'\n')?;
-        Ok(true)
     }
 
     /// Takes a line out. Without such a line the answer is false.
@@ -94,6 +115,11 @@ impl Draft {
             }
             None => false,
         }
+    }
+
+    /// Appends a line and its LF.
+    pub(crate) fn append_line(&mut self, line: &str) -> Result<(), AllocError> {
+        push_line(&mut self.appended, line)
     }
 
     /// Appends a text `count` times.
@@ -112,15 +138,18 @@ impl Draft {
     /// The text with all changes.
     pub(crate) fn text(&self, alloc: Global) -> Result<Vec<u8>, AllocError> {
         let mut text = Vec::new(alloc);
-        for line in self.lines.iter() {
-            text.extend_from_slice(line.before.as_slice())?;
-            text.extend_from_slice(line.own.as_slice())?;
-            text.extend_from_slice(line.after.as_slice())?;
-        }
-        text.extend_from_slice(self.appended.as_slice())?;
+        self.write(&mut text)?;
         if let Some(length) = self.length {
             text.truncate(length);
         }
         Ok(text)
+    }
+
+    /// Appends the lines, and what was appended to them.
+    fn write(&self, text: &mut Vec<u8>) -> Result<(), AllocError> {
+        for line in self.lines.iter() {
+            line.write(text)?;
+        }
+        text.extend_from_slice(&self.appended)
     }
 }

@@ -6,6 +6,7 @@ use gerber_text::read_words;
 use grid_units::Fail;
 use ringcheck::{Status, run};
 use std::alloc::{AllocError, Global};
+use std::fmt;
 
 /// The question of an example.
 #[derive(Drop)]
@@ -64,24 +65,36 @@ impl Example {
     ) -> Result<(), AllocError> {
         let (word, rest) = line.split_once(' ').unwrap_or((line, ""));
         match word {
-            "#" => {}
-            "example" => self.title.push_str(rest)?,
-            "run" => self.question = Question::Run(String::from_str(alloc, rest)?),
-            "words" => self.question = Question::Words(String::from_str(alloc, rest)?),
-            "status" => self.status = rest.parse().unwrap_or(u8::MAX),
-            ">" => {
-                self.wanted.push_str(rest)?;
-                self.wanted.push_str("\n")?;
+            "#" => Ok(()),
+            "example" => self.title.push_str(rest),
+            "run" | "words" => self.ask(alloc, word, rest),
+            "status" | ">" | "has" | "part" | "begins" => self.want(alloc, word, rest),
+            _ => {
+                let is_clear = write_file(alloc, shelf, word, rest)?;
+                self.is_clear &= is_clear;
+                Ok(())
             }
+        }
+    }
+
+    /// Takes the question.
+    fn ask(&mut self, alloc: Global, word: &str, rest: &str) -> Result<(), AllocError> {
+        let rest = String::from_str(alloc, rest)?;
+        self.question = match word {
+            "run" => Question::Run(rest),
+            _ => Question::Words(rest),
+        };
+        Ok(())
+    }
+
+    /// Takes a line of the expected answer.
+    fn want(&mut self, alloc: Global, word: &str, rest: &str) -> Result<(), AllocError> {
+        match word {
+            "status" => self.status = rest.parse().unwrap_or(u8::MAX),
+            ">" => push_line(&mut self.wanted, rest)?,
             "has" => self.lines.push(String::from_str(alloc, rest)?)?,
             "part" => self.parts.push(unescaped(alloc, rest)?)?,
-            "begins" => self.head = unescaped(alloc, rest)?,
-            "base" => {
-                shelf.begin(alloc, rest, Draft::new(alloc))?;
-                shelf.keep_as_bases();
-            }
-            "file" => self.is_clear &= begin_file(alloc, shelf, rest)?,
-            _ => self.is_clear &= write_file(alloc, shelf, word, rest)?,
+            _ => self.head = unescaped(alloc, rest)?,
         }
         Ok(())
     }
@@ -113,6 +126,12 @@ impl Example {
                 .all(|line| has_line(&answer.text, line.as_str()))
             && self.parts.iter().all(|part| has_part(&answer.text, part))
     }
+}
+
+/// Appends a line and its LF.
+fn push_line(text: &mut String, line: &str) -> Result<(), AllocError> {
+    text.push_str(line)?;
+    text.push('\n')
 }
 
 /// Whether a text contains this line.
@@ -149,19 +168,32 @@ fn answer_of_run(alloc: Global, shelf: &mut Shelf, words: &str) -> Result<Answer
     })
 }
 
-fn answer_of_words(alloc: Global, shelf: &mut Shelf, name: &str) -> Result<Answer, AllocError> {
-    let text = shelf.text_of(alloc, name)?.unwrap_or(Vec::new(alloc));
-    let line = match read_words(alloc, text.as_slice()) {
-        Ok(_) => String::from_str(alloc, "accepted\n")?,
-        Err(Fail::Memory) => String::from_str(alloc, "memory\n")?,
-        Err(Fail::Refused(fault)) => {
-            let (reason, place, byte) = (fault.reason.name(), fault.place, fault.byte);
-            format!(in alloc; "{reason} at {place}, {byte}\n")?
+/// How the reading of a file's words ended.
+#[derive(Clone, Copy)]
+struct Ended(Option<Fail>);
+
+impl fmt::Display for Ended {
+    fn fmt<W: fmt::Write>(&self, f: &mut fmt::Formatter<W>) -> fmt::Result {
+        match self.0 {
+            None => f.write_str("accepted\n"),
+            Some(Fail::Memory) => f.write_str("memory\n"),
+            Some(Fail::Refused(fault)) => {
+                let (reason, place, byte) = (fault.reason.name(), fault.place, fault.byte);
+                write!(f, "{reason} at {place}, {byte}\n")
+            }
         }
+    }
+}
+
+fn answer_of_words(alloc: Global, shelf: &mut Shelf, name: &str) -> Result<Answer, AllocError> {
+    let read = match shelf.text_of(alloc, name)? {
+        Some(text) => read_words(alloc, &text),
+        None => read_words(alloc, b""),
     };
+    let text = format!(in alloc; "{}", Ended(read.err()))?;
     Ok(Answer {
         status: 0,
-        text: line.into_bytes(),
+        text: text.into_bytes(),
     })
 }
 
@@ -174,38 +206,52 @@ fn begin_file(alloc: Global, shelf: &mut Shelf, rest: &str) -> Result<bool, Allo
     let Some(text) = shelf.text_of(alloc, base)? else {
         return Ok(false);
     };
-    let draft = Draft::from_text(alloc, text.as_slice())?;
-    shelf.begin(alloc, name, draft)?;
+    shelf.begin(alloc, name, Draft::from_text(alloc, &text)?)?;
     Ok(true)
 }
 
-/// Takes a line of the file that was begun last. False if the line means nothing.
+/// Takes a line of the examples' files. False if the line means nothing.
 fn write_file(
     alloc: Global,
     shelf: &mut Shelf,
     word: &str,
     rest: &str,
 ) -> Result<bool, AllocError> {
-    let Some(draft) = shelf.last() else {
-        return Ok(false);
-    };
     match word {
-        "|" => {
-            draft.append(rest.as_bytes(), 1)?;
-            draft.append(b"\n", 1)?;
+        "base" => {
+            shelf.begin(alloc, rest, Draft::new(alloc))?;
+            shelf.keep_as_bases();
             Ok(true)
         }
-        "~" => {
-            draft.append(unescaped(alloc, rest)?.as_slice(), 1)?;
-            Ok(true)
-        }
-        "cut" => {
-            draft.cut(rest.parse().unwrap_or(0));
-            Ok(true)
-        }
-        "*" => repeat(alloc, draft, rest),
-        _ => change_line(draft, word, rest),
+        "file" => begin_file(alloc, shelf, rest),
+        _ => match shelf.last() {
+            Some(draft) => write_draft(alloc, draft, word, rest),
+            None => Ok(false),
+        },
     }
+}
+
+/// Takes a line of the file that was begun last. False if the line means nothing.
+fn write_draft(
+    alloc: Global,
+    draft: &mut Draft,
+    word: &str,
+    rest: &str,
+) -> Result<bool, AllocError> {
+    match word {
+        "|" => draft.append_line(rest)?,
+        "~" => append(alloc, draft, rest, 1)?,
+        "cut" => draft.cut(rest.parse().unwrap_or(0)),
+        "*" => return repeat(alloc, draft, rest),
+        _ => return change_line(draft, word, rest),
+    }
+    Ok(true)
+}
+
+/// Appends a text `count` times.
+fn append(alloc: Global, draft: &mut Draft, text: &str, count: usize) -> Result<(), AllocError> {
+    let text = unescaped(alloc, text)?;
+    draft.append(&text, count)
 }
 
 /// Appends a text many times: `COUNT TEXT`.
@@ -213,8 +259,7 @@ fn repeat(alloc: Global, draft: &mut Draft, rest: &str) -> Result<bool, AllocErr
     let Some((count, text)) = rest.split_once(' ') else {
         return Ok(false);
     };
-    let text = unescaped(alloc, text)?;
-    draft.append(text.as_slice(), count.parse().unwrap_or(0))?;
+    append(alloc, draft, text, count.parse().unwrap_or(0))?;
     Ok(true)
 }
 
@@ -236,24 +281,27 @@ fn change_line(draft: &mut Draft, word: &str, rest: &str) -> Result<bool, AllocE
     }
 }
 
+/// The byte that a byte after a backslash stands for.
+fn escaped(byte: u8) -> u8 {
+    match byte {
+        b'n' => b'\n',
+        b't' => b'\t',
+        b's' => b' ',
+        other => other,
+    }
+}
+
 /// The bytes of a text in which `\n`, `\t` and `\s` stand for a line feed, a tab and a space.
 fn unescaped(alloc: Global, text: &str) -> Result<Vec<u8>, AllocError> {
     let mut bytes = Vec::new(alloc);
     let mut is_escape = false;
     for byte in text.bytes() {
-        if is_escape {
-            bytes.push(match byte {
-                b'n' => b'\n',
-                b't' => b'\t',
-                b's' => b' ',
-                other => other,
-            })?;
-            is_escape = false;
-        } else if byte == b'\\' {
+        if !is_escape && byte == b'\\' {
             is_escape = true;
-        } else {
-            bytes.push(byte)?;
+            continue;
         }
+        bytes.push(if is_escape { escaped(byte) } else { byte })?;
+        is_escape = false;
     }
     Ok(bytes)
 }

@@ -1,64 +1,90 @@
 //! Loaders and writers that fail, and running out of memory.
 
 use super::*;
+use std::fmt::Write as FmtWrite;
 use std::io::{self, Write};
 use std::test::Fail as Failure;
 
-#[test]
-fn a_loader_that_fails_is_told_at_each_call(rt: HostRuntime) {
+/// A call of the loader that fails, and what is printed.
+const CALLS: [(u64, &str); 4] = [
+    (1, "device\n"),
+    (2, "device file=1 name=top\n"),
+    (3, "device file=2 name=bot\n"),
+    (4, "device file=3 name=pth\n"),
+];
+
+const COMMANDS: [&[&str]; 2] = [&WORDS, &MEASURE];
+
+/// Whether a run prints just this where the call of the loader with this number fails.
+fn fails_at(alloc: Global, words: &[&str], call: u64, text: &str) -> bool {
     let files = &[
         ("m.csv", THREE),
         ("top.gbr", LAYER),
         ("bot.gbr", LAYER),
         ("pth.drl", DRILL),
     ];
-    for &(call, text) in &[
-        (1, "device\n"),
-        (2, "device file=1 name=top\n"),
-        (3, "device file=2 name=bot\n"),
-        (4, "device file=3 name=pth\n"),
-    ] {
-        for words in [WORDS.as_slice(), MEASURE.as_slice()] {
-            let mut shelf = Shelf::new(files);
-            shelf.fails_at = call;
-            assert!(rt; prints(rt.alloc(), &mut shelf, words, Status::Device, text));
-            assert_eq!(rt; shelf.failures(), 1);
+    let mut shelf = Shelf::new(files);
+    shelf.fails_at = call;
+    prints(alloc, &mut shelf, words, Status::Device, text) && shelf.failures() == 1
+}
+
+#[test]
+fn a_loader_that_fails_is_told_at_each_call(rt: HostRuntime) {
+    for &words in &COMMANDS {
+        for &(call, text) in &CALLS {
+            assert!(rt; fails_at(rt.alloc(), words, call, text), "{text}");
         }
     }
 }
 
+/// The files of a package whose first layer is refused.
+const REFUSED_LAYER: [(&str, &str); 4] = [
+    ("m.csv", THREE),
+    ("top.gbr", BARE),
+    ("bot.gbr", LAYER),
+    ("pth.drl", DRILL),
+];
+
+/// The call of the loader that fails, if one does, and the status and the text of a check of this package.
+const AFTER_ALL_FILES: [(u64, Status, &str); 2] = [
+    (4, Status::Device, "device file=3 name=pth\n"),
+    (
+        0,
+        Status::Refused,
+        "refused file=1 place=1 byte=0 reason=NoFormat name=top\n",
+    ),
+];
+
+/// Whether a check of this package loads all files, and prints just this.
+fn ends_after_all(alloc: Global, call: u64, status: Status, text: &str) -> bool {
+    let mut shelf = Shelf::new(&REFUSED_LAYER);
+    shelf.fails_at = call;
+    prints(alloc, &mut shelf, &WORDS, status, text) && shelf.calls == 4
+}
+
 #[test]
 fn a_file_that_is_not_loaded_is_told_before_a_refusal(rt: HostRuntime) {
-    let files = &[
-        ("m.csv", THREE),
-        ("top.gbr", BARE),
-        ("bot.gbr", LAYER),
-        ("pth.drl", DRILL),
-    ];
-    let mut shelf = Shelf::new(files);
-    shelf.fails_at = 4;
-    let text = "device file=3 name=pth\n";
-    assert!(rt; prints(rt.alloc(), &mut shelf, &WORDS, Status::Device, text));
-    assert_eq!(rt; shelf.calls, 4);
+    for &(call, status, text) in &AFTER_ALL_FILES {
+        assert!(rt; ends_after_all(rt.alloc(), call, status, text), "{text}");
+    }
+}
+
+#[test]
+fn a_file_that_is_too_long_is_told_before_a_refusal(rt: HostRuntime) {
     let mut shelf = LongShelf {
-        shelf: Shelf::new(files),
+        shelf: Shelf::new(&REFUSED_LAYER),
         name: "pth.drl",
         length: 268_435_457,
     };
     let text = "refused file=3 place=0 byte=0 reason=TooLong name=pth\n";
     assert!(rt; prints(rt.alloc(), &mut shelf, &WORDS, Status::Refused, text));
-    let mut shelf = Shelf::new(files);
-    let text = "refused file=1 place=1 byte=0 reason=NoFormat name=top\n";
-    assert!(rt; prints(rt.alloc(), &mut shelf, &WORDS, Status::Refused, text));
-    assert_eq!(rt; shelf.calls, 4);
 }
 
 /// A drill file of so many holes, a millimetre apart.
 fn drill_of(alloc: Global, count: u64) -> Result<String, AllocError> {
-    let mut text = format!(in alloc; "M48\nMETRIC\nT1C0.4\n%\nT1\n")?;
+    let mut text = String::from_str(alloc, "M48\nMETRIC\nT1C0.4\n%\nT1\n")?;
     for i in 0..count {
-        let line = format!(in alloc; "X{i}.0Y0.0\n")?;
-        text.push_str(line.as_str())?;
+        write!(text, "X{i}.0Y0.0\n")?;
     }
     text.push_str("M30\n")?;
     Ok(text)
@@ -71,14 +97,13 @@ fn report_of(alloc: Global, count: u64) -> Result<String, AllocError> {
     )?;
     for i in 1..count {
         let hole = i.saturating_add(1);
-        let line = format!(in alloc;
+        write!(
+            text,
             "RING layer=1 drill=2 hole={hole} x={i}.000000000 y=0.000000000 diameter=0.400000000\n"
         )?;
-        text.push_str(line.as_str())?;
     }
     let findings = count.saturating_sub(1);
-    let line = format!(in alloc; "FINDINGS {findings}\n")?;
-    text.push_str(line.as_str())?;
+    write!(text, "FINDINGS {findings}\n")?;
     Ok(text)
 }
 
@@ -103,115 +128,132 @@ impl Write for Narrow {
     }
 }
 
+/// How a run over these files ends whose writer fails at the call numbered `fails_at`, and how many calls it made.
+fn narrowed(alloc: Global, files: &[(&str, &str)], words: &[&str], fails_at: u64) -> (Status, u64) {
+    let mut out = Narrow { calls: 0, fails_at };
+    let status = run(alloc, words, &mut Shelf::new(files), &mut out);
+    (status, out.calls)
+}
+
+/// Whether a run whose writer fails at this call ends there.
+fn ends_at(alloc: Global, files: &[(&str, &str)], words: &[&str], call: u64) -> bool {
+    narrowed(alloc, files, words, call) == (Status::Device, call)
+}
+
+/// Whether a check of these holes prints just this, and ends where a call fails: the first, one between, and the last.
+fn is_reported(alloc: Global, drill: &str, text: &str) -> bool {
+    let files = [("m.csv", MANIFEST), ("top.gbr", LAYER), ("pth.drl", drill)];
+    let (status, calls) = narrowed(alloc, &files, &WORDS, 0);
+    let is_whole = prints(
+        alloc,
+        &mut Shelf::new(&files),
+        &WORDS,
+        Status::Findings,
+        text,
+    );
+    is_whole
+        && status == Status::Findings
+        && calls > 1_700
+        && ends_at(alloc, &files, &WORDS, 1)
+        && ends_at(alloc, &files, &WORDS, 1_700)
+        && ends_at(alloc, &files, &WORDS, calls)
+}
+
 #[test]
 fn a_long_report_is_written_in_parts(rt: HostRuntime) -> Result<(), Failure> {
-    let alloc = rt.alloc();
-    let (drill, text) = (drill_of(alloc, 2_000)?, report_of(alloc, 2_000)?);
-    let files = [
-        ("m.csv", MANIFEST),
-        ("top.gbr", LAYER),
-        ("pth.drl", drill.as_str()),
-    ];
-    assert!(rt;
-        prints(
-            alloc,
-            &mut Shelf::new(&files),
-            &WORDS,
-            Status::Findings,
-            text.as_str()
-        )
-    );
-    let calls = text.len().div_ceil(40) as u64;
-    for fails_at in [1, 1_700, calls] {
-        let mut out = Narrow { calls: 0, fails_at };
-        let status = run(alloc, &WORDS, &mut Shelf::new(&files), &mut out);
-        assert_eq!(rt; (status, out.calls), (Status::Device, fails_at));
-    }
+    let drill = drill_of(rt.alloc(), 2_000)?;
+    let text = report_of(rt.alloc(), 2_000)?;
+    assert!(rt; is_reported(rt.alloc(), drill.as_str(), text.as_str()));
     Ok(())
 }
 
 /// A drill file of 900 tools, each with a hole, a centimetre apart.
 fn tools(alloc: Global) -> Result<String, AllocError> {
-    let mut text = format!(in alloc; "M48\nMETRIC\n")?;
+    let mut text = String::from_str(alloc, "M48\nMETRIC\n")?;
     for i in 100..1_000 {
-        let line = format!(in alloc; "T{i}C0.{i}\n")?;
-        text.push_str(line.as_str())?;
+        write!(text, "T{i}C0.{i}\n")?;
     }
     text.push_str("%\n")?;
     for i in 100..1_000 {
-        let line = format!(in alloc; "T{i}\nX{i}0.0Y0.0\n")?;
-        text.push_str(line.as_str())?;
+        write!(text, "T{i}\nX{i}0.0Y0.0\n")?;
     }
     text.push_str("M30\n")?;
     Ok(text)
 }
 
+/// Appends the lines of the tools' rings on a layer.
+fn push_rings(text: &mut String, layer: u64) -> Result<(), AllocError> {
+    for i in 100..1_000 {
+        write!(
+            text,
+            "ring layer={layer} drill=3 diameter=0.{i}000000 holes=1 bare=1 least=none\n"
+        )?;
+    }
+    Ok(())
+}
+
 /// The measure of these holes and two layers whose pads hold none of them.
 fn measure_of_tools(alloc: Global) -> Result<String, AllocError> {
-    let mut text = format!(in alloc;
-        "file 1 layer pads=1 other=0 name=top\nfile 2 layer pads=1 other=0 name=bot\nfile 3 drill plated=yes round=900 slots=0 name=pth\n"
+    let mut text = String::from_str(
+        alloc,
+        "file 1 layer pads=1 other=0 name=top\nfile 2 layer pads=1 other=0 name=bot\nfile 3 drill plated=yes round=900 slots=0 name=pth\n",
     )?;
-    for layer in 1..=2 {
-        for i in 100..1_000 {
-            let line = format!(in alloc;
-                "ring layer={layer} drill=3 diameter=0.{i}000000 holes=1 bare=1 least=none\n"
-            )?;
-            text.push_str(line.as_str())?;
-        }
-    }
+    push_rings(&mut text, 1)?;
+    push_rings(&mut text, 2)?;
     text.push_str(
         "gap least=9.001500000 drill=3 hole=899 drill=3 hole=900\nmeets ring=none gap=9.001500000 held=none\n",
     )?;
     Ok(text)
 }
 
-#[test]
-fn a_long_measure_is_written_in_parts(rt: HostRuntime) -> Result<(), Failure> {
-    let alloc = rt.alloc();
-    let (drill, text) = (tools(alloc)?, measure_of_tools(alloc)?);
+/// Whether a measure of these holes prints just this, and ends where a call fails.
+fn is_measured(alloc: Global, drill: &str, text: &str) -> bool {
     let files = [
         ("m.csv", THREE),
         ("top.gbr", LAYER),
         ("bot.gbr", LAYER),
-        ("pth.drl", drill.as_str()),
+        ("pth.drl", drill),
     ];
-    let mut shelf = Shelf::new(&files);
-    assert!(rt; prints(alloc, &mut shelf, &MEASURE, Status::Pass, text.as_str()));
-    for &fails_at in &[1, 4, 2_000] {
-        let mut out = Narrow { calls: 0, fails_at };
-        let status = run(alloc, &MEASURE, &mut Shelf::new(&files), &mut out);
-        assert_eq!(rt; (status, out.calls), (Status::Device, fails_at));
-    }
+    let is_whole = prints(alloc, &mut Shelf::new(&files), &MEASURE, Status::Pass, text);
+    is_whole
+        && ends_at(alloc, &files, &MEASURE, 1)
+        && ends_at(alloc, &files, &MEASURE, 4)
+        && ends_at(alloc, &files, &MEASURE, 2_000)
+}
+
+#[test]
+fn a_long_measure_is_written_in_parts(rt: HostRuntime) -> Result<(), Failure> {
+    let drill = tools(rt.alloc())?;
+    let text = measure_of_tools(rt.alloc())?;
+    assert!(rt; is_measured(rt.alloc(), drill.as_str(), text.as_str()));
     Ok(())
 }
 
-/// How a run ends whose writer fails at the call numbered `fails_at`, and how many calls it made.
-fn written(alloc: Global, words: &[&str], fails_at: u64) -> (Status, u64) {
-    let files = &[("m.csv", MANIFEST), ("top.gbr", LAYER), ("pth.drl", DRILL)];
-    let mut out = Narrow { calls: 0, fails_at };
-    let status = run(alloc, words, &mut Shelf::new(files), &mut out);
-    (status, out.calls)
+const PACKAGE: [(&str, &str); 3] = [("m.csv", MANIFEST), ("top.gbr", LAYER), ("pth.drl", DRILL)];
+
+/// Whether a run passes with more than three calls of its writer, and ends at each of them that fails.
+fn ends_at_each(alloc: Global, words: &[&str]) -> bool {
+    let (status, calls) = narrowed(alloc, &PACKAGE, words, 0);
+    for call in 1..=calls {
+        if !ends_at(alloc, &PACKAGE, words, call) {
+            return false;
+        }
+    }
+    status == Status::Pass && calls >= 4
 }
 
 #[test]
 fn a_writer_that_fails_is_told_at_each_write(rt: HostRuntime) {
-    for call in 1..=4 {
-        assert_eq!(rt; written(rt.alloc(), &WORDS, call), (Status::Device, call));
-    }
-    assert_eq!(rt; written(rt.alloc(), &WORDS, 5), (Status::Pass, 4));
-    let (status, calls) = written(rt.alloc(), &MEASURE, 0);
-    assert!(rt; status == Status::Pass && calls > 4);
-    for call in 1..=calls {
-        assert_eq!(rt; written(rt.alloc(), &MEASURE, call), (Status::Device, call));
+    for &words in &COMMANDS {
+        assert!(rt; ends_at_each(rt.alloc(), words), "{words:?}");
     }
 }
 
 /// Whether a run passes and prints just this, or prints just that memory ran out.
 fn passes_or_lacks_memory(alloc: Global, words: &[&str], text: &str) -> bool {
-    let files = &[("m.csv", MANIFEST), ("top.gbr", LAYER), ("pth.drl", DRILL)];
     let mut out = [0; 256];
     let mut rest = out.as_mut_slice();
-    let status = run(alloc, words, &mut Shelf::new(files), &mut rest);
+    let status = run(alloc, words, &mut Shelf::new(&PACKAGE), &mut rest);
     let len = 256_usize.saturating_sub(rest.len());
     match status {
         Status::Pass => &out[..len] == text.as_bytes(),
@@ -220,8 +262,15 @@ fn passes_or_lacks_memory(alloc: Global, words: &[&str], text: &str) -> bool {
     }
 }
 
+/// Words, and what a run with them prints.
+const ANSWERS: [(&[&str], &str); 2] = [(&WORDS, REPORT), (&MEASURE, MEASURED)];
+
 #[test]
 fn out_of_memory_changes_no_answer(rt: HostRuntime) {
-    assert!(rt; passes_or_lacks_memory(rt.alloc(), &WORDS, REPORT));
-    assert!(rt; passes_or_lacks_memory(rt.alloc(), &MEASURE, MEASURED));
+    for &(words, text) in &ANSWERS {
+        assert!(rt;
+            passes_or_lacks_memory(rt.alloc(), words, text),
+            "{words:?}"
+        );
+    }
 }

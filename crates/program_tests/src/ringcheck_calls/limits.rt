@@ -66,40 +66,47 @@ fn files_above_their_limit_are_told(rt: HostRuntime) {
     }
 }
 
-/// A single file is loaded only up to its limit. Within that limit this loader has no such file.
+/// Words that ask for a single file, which this loader does not have.
+pub(super) const SINGLE_FILES: [[&str; 4]; 4] = [
+    ["show", "--kind", "layer", "file"],
+    ["show", "--kind", "drill", "file"],
+    ["rewrite", "--kind", "layer", "file"],
+    ["rewrite", "--kind", "drill", "file"],
+];
+
+/// Whether a run prints just this where a single file is within its limit, but not there, and where it is above the limit.
+fn is_limited(alloc: Global, words: &[&str]) -> bool {
+    let (within, missing) = written_at(alloc, words, "file", 268_435_456);
+    let (above, refused) = written_at(alloc, words, "file", 268_435_457);
+    within == Status::Device
+        && missing.as_slice() == b"device\n".as_slice()
+        && above == Status::Refused
+        && refused.as_slice() == b"refused place=0 byte=0 reason=TooLong\n".as_slice()
+}
+
+/// A single file is loaded only up to its limit.
 #[test]
 fn single_files_above_their_limit_are_told(rt: HostRuntime) {
-    for &words in &[
-        ["show", "--kind", "layer", "file"],
-        ["show", "--kind", "drill", "file"],
-        ["rewrite", "--kind", "layer", "file"],
-        ["rewrite", "--kind", "drill", "file"],
-    ] {
-        for &(length, status, text) in &[
-            (268_435_456, Status::Device, "device\n"),
-            (
-                268_435_457,
-                Status::Refused,
-                "refused place=0 byte=0 reason=TooLong\n",
-            ),
-        ] {
-            let (ended, out) = written_at(rt.alloc(), &words, "file", length);
-            assert!(rt; ended == status && out.as_slice() == text.as_bytes());
-        }
+    for words in &SINGLE_FILES {
+        assert!(rt; is_limited(rt.alloc(), words), "{words:?}");
     }
 }
+
+const WAIVED: [&str; 8] = [
+    "report", "--ring", "0.125", "--gap", "0.25", "--waive", "w.csv", "m.csv",
+];
+
+/// The length of a file of waivers, and the first line of what is printed.
+const WAIVERS: [(u64, &str); 2] = [
+    (1_048_576, "refused waivers place=1 reason=BadManifest\n"),
+    (1_048_577, "refused waivers place=0 reason=TooLong\n"),
+];
 
 /// A file of waivers of 1,048,576 bytes is read, and one of a byte more is refused.
 #[test]
 fn files_of_waivers_have_a_limit(rt: HostRuntime) {
-    let words = &[
-        "report", "--ring", "0.125", "--gap", "0.25", "--waive", "w.csv", "m.csv",
-    ];
-    for &(length, line) in &[
-        (1_048_576, "refused waivers place=1 reason=BadManifest\n"),
-        (1_048_577, "refused waivers place=0 reason=TooLong\n"),
-    ] {
-        let (ended, out) = written_at(rt.alloc(), words, "w.csv", length);
+    for &(length, line) in &WAIVERS {
+        let (ended, out) = written_at(rt.alloc(), &WAIVED, "w.csv", length);
         assert!(rt;
             ended == Status::Refused && out.as_slice().starts_with(line.as_bytes()),
             "{line}"

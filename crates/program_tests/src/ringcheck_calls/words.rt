@@ -1,89 +1,120 @@
 //! Words that no line of the worked cases can write, and what is read first.
 
+use super::limits::SINGLE_FILES;
 use super::*;
 use std::test::Fail as Failure;
+
+const NO_NAMES: [&str; 5] = ["a\tb.gbr", "a\u{7F}", "\n", "", "top\u{1F}"];
 
 #[test]
 fn words_that_name_no_file_are_told(rt: HostRuntime) {
     let refusal = "usage reason=BadManifest\n";
-    let files = &[("top.gbr", LAYER)];
-    for &word in &["a\tb.gbr", "a\u{7F}", "\n", "", "top\u{1F}"] {
+    for &word in &NO_NAMES {
         let words = ["manifest", "top.gbr", word];
-        let mut shelf = Shelf::new(files);
+        let mut shelf = Shelf::new(&[("top.gbr", LAYER)]);
         assert!(rt; prints(rt.alloc(), &mut shelf, &words, Status::Usage, refusal));
     }
 }
 
-#[test]
-fn help_is_given(rt: HostRuntime) {
-    for &words in &[["--help", "check"], ["check", "--help"], ["help", "check"]] {
-        assert!(rt; begins(rt.alloc(), &words, Status::Pass, ""));
-        assert!(rt; !begins(rt.alloc(), &words, Status::Pass, "usage\n"));
-        assert!(rt; !prints(rt.alloc(), &mut Shelf::new(&[]), &words, Status::Pass, ""));
-    }
+const HELP: [&[&str]; 3] = [
+    &["--help", "check"],
+    &["check", "--help"],
+    &["help", "check"],
+];
+
+/// Whether a run passes and prints some text that is no refusal of its words.
+fn gives_help(alloc: Global, words: &[&str]) -> bool {
+    let mut out: Vec<u8> = Vec::new(alloc);
+    let status = run(alloc, words, &mut Shelf::new(&[]), &mut out);
+    status == Status::Pass && !out.is_empty() && !out.as_slice().starts_with(b"usage\n")
 }
 
 #[test]
-fn each_status_has_its_number(rt: HostRuntime) {
-    for &(status, code) in &[
-        (Status::Pass, 0),
-        (Status::Findings, 1),
-        (Status::Refused, 2),
-        (Status::Usage, 3),
-        (Status::Device, 4),
-    ] {
-        assert!(rt; status.code() == code);
+fn help_is_given(rt: HostRuntime) {
+    for &words in &HELP {
+        assert!(rt; gives_help(rt.alloc(), words), "{words:?}");
     }
+}
+
+const CODES: [(Status, u8); 5] = [
+    (Status::Pass, 0),
+    (Status::Findings, 1),
+    (Status::Refused, 2),
+    (Status::Usage, 3),
+    (Status::Device, 4),
+];
+
+#[test]
+fn each_status_has_its_number(rt: HostRuntime) {
+    for &(status, code) in &CODES {
+        assert!(rt; status.code() == code, "{code}");
+    }
+}
+
+/// Appends a line, two spaces to the right.
+fn push_indented(text: &mut String, line: &str) -> Result<(), AllocError> {
+    text.push_str("  ")?;
+    text.push_str(line)?;
+    text.push('\n')
+}
+
+/// The refusal of a layer without a format, and below it the page of its reason.
+fn refusal_with_page(alloc: Global, page: &str) -> Result<String, AllocError> {
+    let mut text = String::from_str(
+        alloc,
+        "refused file=1 place=1 byte=0 reason=NoFormat name=top\n",
+    )?;
+    for line in page.lines() {
+        push_indented(&mut text, line)?;
+    }
+    Ok(text)
+}
+
+/// Whether a report on a layer without a format prints just this.
+fn refuses_bare(alloc: Global, text: &str) -> bool {
+    let files = &[("m.csv", MANIFEST), ("top.gbr", BARE), ("pth.drl", DRILL)];
+    let mut shelf = Shelf::new(files);
+    prints(alloc, &mut shelf, &REPORT_WORDS, Status::Refused, text)
 }
 
 /// A report's refusal has the page of its reason below.
 #[test]
 fn refusals_come_with_their_page(rt: HostRuntime) -> Result<(), Failure> {
     let page = explanations::explanation("NoFormat").ok_or("no page")?;
-    let mut text = String::new(rt.alloc());
-    text.push_str("refused file=1 place=1 byte=0 reason=NoFormat name=top\n")?;
-    for row in page.lines() {
-        text.push_str("  ")?;
-        text.push_str(row)?;
-        text.push('\n')?;
-    }
-    let files = &[("m.csv", MANIFEST), ("top.gbr", BARE), ("pth.drl", DRILL)];
-    let mut shelf = Shelf::new(files);
-    assert!(rt;
-        prints(
-            rt.alloc(),
-            &mut shelf,
-            &REPORT_WORDS,
-            Status::Refused,
-            text.as_str()
-        )
-    );
+    let text = refusal_with_page(rt.alloc(), page)?;
+    assert!(rt; refuses_bare(rt.alloc(), text.as_str()));
     Ok(())
+}
+
+const COMMANDS: [&str; 2] = ["show", "rewrite"];
+
+/// Whether a command refuses a kind, and loads no file.
+fn refuses_kind(alloc: Global, command: &str) -> bool {
+    let mut shelf = Shelf::new(&[("top.gbr", LAYER)]);
+    let words = [command, "--kind", "via", "top.gbr"];
+    let text = "usage reason=BadRole\n";
+    prints(alloc, &mut shelf, &words, Status::Usage, text) && shelf.calls == 0
 }
 
 #[test]
 fn a_kind_is_read_before_its_file(rt: HostRuntime) {
-    let files = &[("top.gbr", LAYER)];
-    for &command in &["show", "rewrite"] {
-        let mut shelf = Shelf::new(files);
-        let words = [command, "--kind", "via", "top.gbr"];
-        let text = "usage reason=BadRole\n";
-        assert!(rt; prints(rt.alloc(), &mut shelf, &words, Status::Usage, text));
-        assert_eq!(rt; shelf.calls, 0);
+    for &command in &COMMANDS {
+        assert!(rt; refuses_kind(rt.alloc(), command), "{command}");
     }
+}
+
+/// Whether a run asks once for its file, which is not there, and says so.
+fn lacks_file(alloc: Global, words: &[&str]) -> bool {
+    let mut shelf = Shelf::new(&[]);
+    prints(alloc, &mut shelf, words, Status::Device, "device\n")
+        && shelf.calls == 1
+        && shelf.failures() == 1
 }
 
 #[test]
 fn a_file_that_is_not_loaded_is_told(rt: HostRuntime) {
-    for &words in &[
-        ["show", "--kind", "layer", "file"],
-        ["show", "--kind", "drill", "file"],
-        ["rewrite", "--kind", "layer", "file"],
-        ["rewrite", "--kind", "drill", "file"],
-    ] {
-        let mut shelf = Shelf::new(&[]);
-        assert!(rt; prints(rt.alloc(), &mut shelf, &words, Status::Device, "device\n"));
-        assert_eq!(rt; (shelf.calls, shelf.failures()), (1, 1));
+    for words in &SINGLE_FILES {
+        assert!(rt; lacks_file(rt.alloc(), words), "{words:?}");
     }
 }
 

@@ -1,10 +1,11 @@
-use Rattle.std.proofs.Common.{IfOk, sym, subst}
-use Rattle.std.specs.String.{string_bytes}
-use Rattle.ringcheck.specs.Refusing.{IsRefusalText, of_file, refusal_line}
-use Rattle.ringcheck.specs.declared.refusing.Style.{Style}
+use Rattle.std.proofs.Common.{◌∙◌, ap, List, ℕ}
+use Rattle.std.specs.Prelude.{slice_get}
+use Rattle.ringcheck.specs.Refusing.{of_file}
+use Rattle.ringcheck.proofs.Outcomes.{source_at}
 use Rattle.ringcheck.proofs.refusing.refused.Goals as goal
 
-pub returns-in-Page : goal.returns-in-Page
-returns-in-Page c =
-    subst (λ (in_style : Style). IfOk c.with_page.result (λ text. IsRefusalText in_style (of_file c.args.index c.args.name.now c.args.fault) (string_bytes text))) (sym c.in-Page.is)
-    (c.with_page.ensures (refusal_line (of_file c.args.index c.args.name.now c.args.fault)) c.refused-in-Page.ensures)
+pub returns : goal.returns
+returns c all named first =
+    let (it, at, is) = source_at all c.args.index first.inside in
+    let same = c.name_at-name.ensures it.name (ap (λ (ns : List (List ℕ)). slice_get ns c.args.index) named ∙ is) in
+    record { index = c.args.index; fault = c.args.fault; first = first; source = it; at = at; is = ap (λ (n : List ℕ). of_file c.args.index n c.args.fault) same }

@@ -1,7 +1,7 @@
 use Rattle.std.proofs.Common.{◌≡◌, map, take}
 use Rattle.waivers.specs.Findings.{gap_fields}
-use Rattle.waivers.specs.Inner.{key_of}
+use Rattle.waivers.specs.Inner.{joined}
 use Rattle.waivers.proofs.keys.gap_keys.Given as goal
 
 abbrev pub invariant-loop-lack : goal.invariant-loop-lack
-invariant-loop-lack l = map (λ key. key.items) l.keys.items ≡ map (λ lack. key_of (gap_fields (map (λ name. name.now) l.names) lack)) (take l.lack-index l.gaps)
+invariant-loop-lack l = map (λ key. key.items) l.keys.items ≡ map (λ lack. joined (gap_fields (map (λ name. name.now) l.names) lack)) (take l.lack-index l.gaps)

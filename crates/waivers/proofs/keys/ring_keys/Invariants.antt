@@ -1,7 +1,7 @@
 use Rattle.std.proofs.Common.{◌≡◌, map, take}
 use Rattle.waivers.specs.Findings.{ring_fields}
-use Rattle.waivers.specs.Inner.{key_of}
+use Rattle.waivers.specs.Inner.{joined}
 use Rattle.waivers.proofs.keys.ring_keys.Given as goal
 
 abbrev pub invariant-loop-lack : goal.invariant-loop-lack
-invariant-loop-lack l = map (λ key. key.items) l.keys.items ≡ map (λ lack. key_of (ring_fields (map (λ name. name.now) l.names) l.layers lack)) (take l.lack-index l.rings)
+invariant-loop-lack l = map (λ key. key.items) l.keys.items ≡ map (λ lack. joined (ring_fields (map (λ name. name.now) l.names) l.layers lack)) (take l.lack-index l.rings)

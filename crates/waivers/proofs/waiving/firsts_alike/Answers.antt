@@ -1,4 +1,4 @@
-use Rattle.std.proofs.Common.{◌≡◌, ◌∙◌, ℕ, map, ap, refl}
+use Rattle.std.proofs.Common.{◌≡◌, ◌∙◌, ℕ, ap, arith, map}
 use Rattle.std.specs.Global.{Vec}
 use Rattle.std.proofs.lemmas.Result.{IfOk-weaker}
 use Rattle.waivers.specs.Inner.{place_at}
@@ -15,5 +15,5 @@ returns c =
     let same = ap (map bytes) c.as_slice.ensures.value ∙ c.in_ok-keys.ensures in
     let wanted = ap (map bytes) c.as_slice-2.ensures.value ∙ c.in_ok-keys.ensures in
     IfOk-weaker c.places_of.result (λ places. places.items ≡ map (λ key. place_at table key.items) keys) (λ firsts. firsts.items ≡ map (λ waiver. waived_by all (compared waiver)) all)
-    (λ places is. all_found bytes c.as_slice.result.now all same compared all keys places.items (place_at table) (λ waiver. refl) c.in_ok-table.ensures wanted is)
+    (λ places is. all_found bytes c.as_slice.result.now all same compared all keys places.items (place_at table) (λ waiver. omega arith) c.in_ok-table.ensures wanted is)
     c.places_of.ensures

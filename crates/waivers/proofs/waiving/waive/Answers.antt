@@ -1,7 +1,7 @@
-use Rattle.std.proofs.Common.{◌∙◌, ℕ, map, ap, refl}
+use Rattle.std.proofs.Common.{◌∙◌, ℕ, ap, arith, map}
 use Rattle.std.specs.Global.{Vec}
 use Rattle.waivers.specs.Findings.{gap_fields, ring_fields}
-use Rattle.waivers.specs.Inner.{key_of, place_at}
+use Rattle.waivers.specs.Inner.{joined, place_at}
 use Rattle.waivers.proofs.Matches.{all_found}
 use Rattle.waivers.proofs.waiving.waive.Goals as goal
 
@@ -10,8 +10,8 @@ returns-clause-rings c =
     let bytes = λ (key : Vec ℕ). key.items in
     let names = map (λ name. name.now) c.args.names.now in
     let same = ap (map bytes) c.as_slice-4.ensures.value ∙ c.in_ok-keys.ensures in
-    let wanted = ap (map bytes) c.as_slice-5.ensures.value ∙ (c.in_ok-rings.ensures ∙ (λ i. map (λ lack. key_of (ring_fields names (c.as_slice.ensures.value i) lack)) (c.as_slice-2.ensures.value i))) in
-    all_found bytes c.as_slice-4.result.now c.args.waivers.now same (ring_fields names c.args.told.now.layers.items) c.args.told.now.rings.items c.as_slice-5.result.now _ (place_at c.in_ok-table.table) (λ lack. refl)
+    let wanted = ap (map bytes) c.as_slice-5.ensures.value ∙ (c.in_ok-rings.ensures ∙ (λ i. map (λ lack. joined (ring_fields names (c.as_slice.ensures.value i) lack)) (c.as_slice-2.ensures.value i))) in
+    all_found bytes c.as_slice-4.result.now c.args.waivers.now same (ring_fields names c.args.told.now.layers.items) c.args.told.now.rings.items c.as_slice-5.result.now _ (place_at c.in_ok-table.table) (λ lack. omega arith)
     c.in_ok-table.ensures wanted c.in_ok-places_of.ensures
 
 pub returns-clause-gaps : goal.returns-clause-gaps
@@ -19,6 +19,6 @@ returns-clause-gaps c =
     let bytes = λ (key : Vec ℕ). key.items in
     let names = map (λ name. name.now) c.args.names.now in
     let same = ap (map bytes) c.as_slice-4.ensures.value ∙ c.in_ok-keys.ensures in
-    let wanted = ap (map bytes) c.as_slice-6.ensures.value ∙ (c.in_ok-gaps.ensures ∙ (λ i. map (λ lack. key_of (gap_fields names lack)) (c.as_slice-3.ensures.value i))) in
-    all_found bytes c.as_slice-4.result.now c.args.waivers.now same (gap_fields names) c.args.told.now.gaps.items c.as_slice-6.result.now _ (place_at c.in_ok-table.table) (λ lack. refl)
+    let wanted = ap (map bytes) c.as_slice-6.ensures.value ∙ (c.in_ok-gaps.ensures ∙ (λ i. map (λ lack. joined (gap_fields names lack)) (c.as_slice-3.ensures.value i))) in
+    all_found bytes c.as_slice-4.result.now c.args.waivers.now same (gap_fields names) c.args.told.now.gaps.items c.as_slice-6.result.now _ (place_at c.in_ok-table.table) (λ lack. omega arith)
     c.in_ok-table.ensures wanted c.in_ok-places_of-2.ensures

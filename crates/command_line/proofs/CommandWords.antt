@@ -1,0 +1,101 @@
+-- What the program makes of the words of each command but `manifest`: they are taken, and give the rows of their values.
+use Rattle.std.proofs.Common.{◌≡◌, true, refl, [], ◌∷◌, Option, Some, None, codes, option_map}
+use Rattle.clap.proofs.OnLiterals.{clap_on_literals}
+use Rattle.clap.proofs.WalkLemmas.{both}
+use Rattle.clap.specs.Words.{Text, fault_of, is_simple, is_simple_and_free}
+use Rattle.clap.specs.declared.error.kind.ErrorKind.TheVariants.{DisplayVersion}
+use Rattle.command_line.specs.Line.{are_plain_rules, check_words, draw_words, explain_words, file_words, is_plain_if_some, is_plain_word, measure_words, report_words, ringcheck_app}
+use Rattle.command_line.proofs.GivenOptions.{Options, rows_of}
+use Rattle.command_line.proofs.NamedCommand.{IsCommand, answer, command_answer}
+
+pub is_plain_command : is_simple ringcheck_app ≡ true
+unfolding clap_on_literals
+is_plain_command = refl
+
+pub is_free_command : is_simple_and_free ringcheck_app ≡ true
+unfolding clap_on_literals
+is_free_command = refl
+
+pub version_fault : fault_of ringcheck_app (codes "--version" ∷ []) ≡ DisplayVersion ∷ []
+unfolding clap_on_literals
+version_fault = refl
+
+-- ---- `check`
+
+abbrev pub check_options : Text → Text → Text → Options
+check_options r g m = (codes "ring", Some r) ∷ (codes "gap", Some g) ∷ (codes "manifest", Some m) ∷ []
+
+pub check_answer : (r g m : Text) → is_plain_word r ≡ true → is_plain_word g ≡ true → is_plain_word m ≡ true
+    → answer (check_words r g m) ≡ (true, Some (codes "check", rows_of (check_options r g m)))
+unfolding clap_on_literals
+check_answer r g m p q s =
+    command_answer (codes "check") ((codes "ring", Some r) ∷ (codes "gap", Some g) ∷ []) (codes "manifest") m
+    (record { named = (λ rest. refl, λ rest. refl); options = (refl, (refl, tt)); end = refl }) (p, (q, tt)) s
+
+-- ---- `report`
+
+abbrev pub report_options : Text → Text → Option Text → Option Text → Option Text → Text → Options
+report_options r g n l o m = (codes "ring", Some r) ∷ (codes "gap", Some g) ∷ (codes "max", n) ∷ (codes "waive", l) ∷ (codes "format", o) ∷ (codes "manifest", Some m) ∷ []
+
+pub report_answer : (r g : Text) (n l o : Option Text) (m : Text) → is_plain_word r ≡ true → is_plain_word g ≡ true → is_plain_if_some n ≡ true → is_plain_if_some l ≡ true
+    → is_plain_if_some o ≡ true → is_plain_word m ≡ true → answer (report_words r g n l o m) ≡ (true, Some (codes "report", rows_of (report_options r g n l o m)))
+unfolding clap_on_literals
+report_answer r g n l o m p q t v u s =
+    command_answer (codes "report") ((codes "ring", Some r) ∷ (codes "gap", Some g) ∷ (codes "max", n) ∷ (codes "waive", l) ∷ (codes "format", o) ∷ []) (codes "manifest") m
+    (record { named = (λ rest. refl, λ rest. refl); options = (refl, (refl, (refl, (refl, (refl, tt))))); end = refl }) (p, (q, (t, (v, (u, tt))))) s
+
+-- ---- `measure`
+
+abbrev pub measure_options : Option Text → Text → Options
+measure_options o m = (codes "format", o) ∷ (codes "manifest", Some m) ∷ []
+
+pub measure_answer : (o : Option Text) (m : Text) → is_plain_if_some o ≡ true → is_plain_word m ≡ true
+    → answer (measure_words o m) ≡ (true, Some (codes "measure", rows_of (measure_options o m)))
+unfolding clap_on_literals
+measure_answer o m t s =
+    command_answer (codes "measure") ((codes "format", o) ∷ []) (codes "manifest") m
+    (record { named = (λ rest. refl, λ rest. refl); options = (refl, tt); end = refl }) (t, tt) s
+
+-- ---- `draw`
+
+abbrev rules : Option (Text × Text) → Options
+rules o = (codes "ring", option_map (λ rules. rules.0) o) ∷ (codes "gap", option_map (λ rules. rules.1) o) ∷ []
+
+abbrev pub draw_options : Option (Text × Text) → Text → Options
+draw_options o m = (codes "ring", option_map (λ rules. rules.0) o) ∷ (codes "gap", option_map (λ rules. rules.1) o) ∷ (codes "manifest", Some m) ∷ []
+
+is_draw : (o : Option (Text × Text)) (m : Text) → IsCommand (codes "draw") (rules o) (codes "manifest") m
+unfolding clap_on_literals
+is_draw o m = record { named = (λ rest. refl, λ rest. refl); options = (refl, (refl, tt)); end = refl }
+
+pub draw_answer : (o : Option (Text × Text)) (m : Text) → are_plain_rules o ≡ true → is_plain_word m ≡ true
+    → answer (draw_words o m) ≡ (true, Some (codes "draw", rows_of (draw_options o m)))
+draw_answer None m p s = command_answer (codes "draw") (rules None) (codes "manifest") m (is_draw None m) (refl, (refl, tt)) s
+draw_answer (Some (r, g)) m p s =
+    let k = both (is_plain_word r) (is_plain_word g) p in
+    command_answer (codes "draw") (rules (Some (r, g))) (codes "manifest") m (is_draw (Some (r, g)) m) (k.0, (k.1, tt)) s
+
+-- ---- `show` and `rewrite`
+
+abbrev pub file_options : Text → Text → Options
+file_options k f = (codes "kind", Some k) ∷ (codes "file", Some f) ∷ []
+
+pub show_answer : (k f : Text) → is_plain_word k ≡ true → is_plain_word f ≡ true → answer (file_words (codes "show") k f) ≡ (true, Some (codes "show", rows_of (file_options k f)))
+unfolding clap_on_literals
+show_answer k f p q =
+    command_answer (codes "show") ((codes "kind", Some k) ∷ []) (codes "file") f (record { named = (λ rest. refl, λ rest. refl); options = (refl, tt); end = refl }) (p, tt) q
+
+pub rewrite_answer : (k f : Text) → is_plain_word k ≡ true → is_plain_word f ≡ true → answer (file_words (codes "rewrite") k f) ≡ (true, Some (codes "rewrite", rows_of (file_options k f)))
+unfolding clap_on_literals
+rewrite_answer k f p q =
+    command_answer (codes "rewrite") ((codes "kind", Some k) ∷ []) (codes "file") f (record { named = (λ rest. refl, λ rest. refl); options = (refl, tt); end = refl }) (p, tt) q
+
+-- ---- `explain`
+
+abbrev pub word_options : Option Text → Options
+word_options o = (codes "word", o) ∷ []
+
+pub explain_answer : (o : Option Text) → is_plain_if_some o ≡ true → answer (explain_words o) ≡ (true, Some (codes "explain", rows_of (word_options o)))
+unfolding clap_on_literals
+explain_answer None p = refl
+explain_answer (Some w) p = command_answer (codes "explain") [] (codes "word") w (record { named = (λ rest. refl, λ rest. refl); options = tt; end = refl }) tt p

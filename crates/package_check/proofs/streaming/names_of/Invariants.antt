@@ -1,5 +1,0 @@
-use Rattle.std.proofs.Common.{◌≡◌, map, take}
-use Rattle.package_check.proofs.streaming.names_of.Given as goal
-
-abbrev pub invariant-loop-file : goal.invariant-loop-file
-invariant-loop-file l = map (λ name. name.now) l.names.items ≡ map (λ file. file.name.now) (take l.file-index l.files)

@@ -1,0 +1,124 @@
+-- What follows for a package from what is said of its manifest and of its files.
+use Rattle.std.proofs.Common.{◌≡◌, ◌∙◌, ◌<◌, ◌≤◌, ◌∷◌, [], inl, inr, ℕ, zero, suc, Bool, true, false, List, Option, Some, Result, Ok, Err, IfOk, length, map, take, arith, refl, subst, sym}
+use Rattle.std.specs.Prelude.{◌==◌, ◌&&◌, slice_get}
+use Rattle.std.specs.Borrow.{Bor}
+use Rattle.std.specs.List.{count_by}
+use Rattle.std.proofs.lemmas.Bool.{eqb-true, false≢true}
+use Rattle.std.proofs.lemmas.List.{nil_from_length}
+use Rattle.std.proofs.lemmas.Result.{IfOk-weaker}
+use Rattle.manifest.specs.declared.Entry.{Entry}
+use Rattle.manifest.specs.Manifest.{manifest}
+use Rattle.package_check.specs.Package.{Source, is_copper}
+use Rattle.ringcheck_files.specs.declared.Status.{Status}
+use Rattle.ringcheck_files.specs.declared.Status.TheVariants as status
+use Rattle.ringcheck_files.specs.declared.ending.Failure.{Failure}
+use Rattle.ringcheck_files.specs.Endings.{HasRisen}
+use Rattle.ringcheck_files.specs.Loading.{file_limit, within}
+use Rattle.ringcheck.specs.declared.refusing.Halt.{Halt}
+use Rattle.ringcheck.specs.declared.refusing.Halt.TheVariants as halt
+use Rattle.ringcheck.specs.declared.refusing.Style.{Style}
+use Rattle.ringcheck.specs.Inner.Halting.{AfterHalt, Halts, OfFiles, OfTaken, refusal}
+use Rattle.ringcheck.specs.Refusing.{Refusal, TellsRefusal}
+use Rattle.ringcheck.specs.Running.{HasFiles, HasTable, OfPackage, RefusedFile, RefusedIn, SaysPackage, bad_file, long_file, refused_file, refused_manifest, sources, status_of}
+use Rattle.ringcheck.proofs.Loaded.{along, names_among, same_length}
+
+-- ---- findings
+
+-- two that are true
+both_true : (a b : Bool) → (a && b) ≡ true → (a ≡ true) × (b ≡ true)
+both_true true b is = (refl, is)
+both_true false b is = absurd (false≢true is)
+
+-- a list that is empty by its length
+pub none_left : {X : Type 0} (xs : List X) → (length xs == 0) ≡ true → xs ≡ []
+none_left xs is = nil_from_length xs (eqb-true (length xs) 0 is)
+
+-- two lists that are empty by their lengths
+pub neither_left : {X Y : Type 0} (xs : List X) (ys : List Y) → ((length xs == 0) && (length ys == 0)) ≡ true → (xs ≡ []) × (ys ≡ [])
+neither_left xs ys is = let (first, second) = both_true (length xs == 0) (length ys == 0) is in (none_left xs first, none_left ys second)
+
+-- ---- files
+
+-- the file at a place, and its name
+pub source_at : (all : List Source) (i : ℕ) → i < length all → (it : Source) × (slice_get all i ≡ Some it) × (slice_get (map (λ (s : Source). s.name) all) i ≡ Some it.name)
+source_at [] i lt = absurd (omega (arith, lt))
+source_at (s ∷ ss) zero lt = (s, refl, refl)
+source_at (s ∷ ss) (suc i) lt = source_at ss i (omega (arith, lt))
+
+-- the names of files that were loaded are those of their entries
+pub named : (has : List ℕ → List ℕ → Type 0) (entries : List Entry) (files : List (List ℕ)) (names : List (Bor (List ℕ))) → HasFiles has entries files
+    → map (λ (n : Bor (List ℕ)). n.now) names ≡ map (λ (e : Entry). e.name) entries → map (λ (n : Bor (List ℕ)). n.now) names ≡ map (λ (s : Source). s.name) (sources entries files)
+named has entries files names held same = same ∙ sym (names_among (count_by (λ (e : Entry). is_copper e.role) entries) entries files (same_length has entries files held))
+
+-- ---- what came of files
+
+module _ (has : List ℕ → List ℕ → Type 0) (entries : List Entry) (Risen : Type 0) (Holds : Bool → List Source → Type 0) (files : List (List ℕ)) (held : HasFiles (within file_limit has) entries files) where
+  of_taken : (done : Result Bool Halt) → OfTaken Holds (sources entries files) done → OfFiles has entries Risen Holds done
+  of_taken (Ok passes) h = (files, held, h)
+  of_taken (Err (halt.Refused what why)) h = bad_file files held h
+  of_taken (Err (halt.Unread what)) h = absurd h
+
+  -- files were loaded, and a reader has taken them
+  pub taken : (r : Result (Result Bool Halt) Failure) → IfOk r (OfTaken Holds (sources entries files)) → IfOk r (OfFiles has entries Risen Holds)
+  taken r h = IfOk-weaker r (OfTaken Holds (sources entries files)) (OfFiles has entries Risen Holds) of_taken h
+
+-- files were loaded, and something was done with the reader that has taken them
+module _ (has : List ℕ → List ℕ → Type 0) (entries : List Entry) (Risen : Type 0) (Holds : Bool → List Source → Type 0) where
+  pub done_with : {R : Type 0} (stands : R → List Source → Type 0) (reader : R) (names : List (Bor (List ℕ))) → map (λ (n : Bor (List ℕ)). n.now) names ≡ map (λ (e : Entry). e.name) entries
+      → OfFiles has entries Risen stands (Ok reader) → (r : Result (Result Bool Halt) Failure)
+      → ((all : List Source) → map (λ (n : Bor (List ℕ)). n.now) names ≡ map (λ (s : Source). s.name) all → stands reader all → IfOk r (OfTaken Holds all))
+      → IfOk r (OfFiles has entries Risen Holds)
+  done_with stands reader names same (files, held, stood) r answered =
+      taken has entries Risen Holds files held r (answered (sources entries files) (named (within file_limit has) entries files names held same) stood)
+
+-- a halt was printed
+module _ (Is : Refusal → Type 0) (Risen : Type 0) (in_style : Style) (before after : Option (List ℕ)) (P : Status → Type 0) where
+  pub halted : (Risen → P status.Device) → ((why : Refusal) → Is why → TellsRefusal in_style why before after → P status.Refused) → (h : Halt) → Halts Is Risen h
+      → (r : Result Status Failure) → IfOk r (AfterHalt in_style h before after) → IfOk r P
+  halted device refused (halt.Refused what why) is r printed =
+      IfOk-weaker r (AfterHalt in_style (halt.Refused what why) before after) P (λ s p. subst P (sym p.0) (refused (refusal what why) is p.1)) printed
+  halted device refused (halt.Unread what) risen r printed = IfOk-weaker r (AfterHalt in_style (halt.Unread what) before after) P (λ s p. subst P (sym p) (device risen)) printed
+
+-- ---- what a loader has
+
+-- a count that rose since a later time rose since an earlier one
+pub risen_since : (old middle new : ℕ) → old ≤ middle → HasRisen middle new → HasRisen old new
+risen_since old middle new le (inl more) = inl (omega arith)
+risen_since old middle new le (inr last) = inr last
+
+-- what is held or refused by a loader that has no more is so by one that has more
+module _ (later has : List ℕ → List ℕ → Type 0) (to : (n b : List ℕ) → later n b → has n b) where
+  pub files_along : (entries : List Entry) (files : List (List ℕ)) → HasFiles (within file_limit later) entries files → HasFiles (within file_limit has) entries files
+  files_along entries files h = along (within file_limit later) (within file_limit has) (λ n b w. (to n b w.0, w.1)) entries files h
+
+  pub file_along : (entries : List Entry) (why : Refusal) → RefusedFile later entries why → RefusedFile has entries why
+  file_along entries why (long_file index entry h is) =
+      long_file index entry
+      (record { files = h.files; before = files_along (take index entries) h.files h.before; at = h.at; bytes = h.bytes; loaded = to entry.file h.bytes h.loaded; long = h.long }) is
+  file_along entries why (bad_file files held refused) = bad_file files (files_along entries files held) refused
+
+  module _ (name : List ℕ) where
+    listed_along : (entries : List Entry) → HasTable manifest later name entries → HasTable manifest has name entries
+    listed_along entries h = (h.0, to name h.0 h.1, h.2, h.3)
+
+    package_along : (Holds : List Source → Type 0) → OfPackage later name Holds → OfPackage has name Holds
+    package_along Holds h = record { entries = h.entries; listed = listed_along h.entries h.listed; files = h.files; loaded = files_along h.entries h.files h.loaded; holds = h.holds }
+
+    refused_along : (why : Refusal) → RefusedIn later name why → RefusedIn has name why
+    refused_along why (refused_manifest fault h is) = refused_manifest fault (h.0, to name h.0 h.1, h.2) is
+    refused_along why (refused_file entries listed file) = refused_file entries (listed_along entries listed) (file_along entries why file)
+
+    pub says_along : (Holds : Bool → List Source → Type 0) (in_style : Style) (before after : Option (List ℕ)) (s : Status) → SaysPackage later name Holds in_style before after s
+        → SaysPackage has name Holds in_style before after s
+    says_along Holds in_style before after status.Pass h = package_along (Holds true) h
+    says_along Holds in_style before after status.Findings h = package_along (Holds false) h
+    says_along Holds in_style before after status.Refused h = record { why = h.why; refused = refused_along h.why h.refused; printed = h.printed }
+    says_along Holds in_style before after status.Usage h = absurd h
+    says_along Holds in_style before after status.Device h = tt
+
+-- a command passes on a package, or has findings
+pub worked : (has : List ℕ → List ℕ → Type 0) (name : List ℕ) (Holds : Bool → List Source → Type 0) (in_style : Style) (before after : Option (List ℕ)) (entries : List Entry) (files : List (List ℕ))
+    → HasTable manifest has name entries → HasFiles (within file_limit has) entries files → (passes : Bool) → Holds passes (sources entries files)
+    → SaysPackage has name Holds in_style before after (status_of passes)
+worked has name Holds in_style before after entries files listed loaded true h = record { entries = entries; listed = listed; files = files; loaded = loaded; holds = h }
+worked has name Holds in_style before after entries files listed loaded false h = record { entries = entries; listed = listed; files = files; loaded = loaded; holds = h }

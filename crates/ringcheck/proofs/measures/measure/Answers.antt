@@ -1,0 +1,21 @@
+use Rattle.std.proofs.Common.{List, ℕ, refl, subst}
+use Rattle.std.specs.Io.KnownBytes.{Appends}
+use Rattle.ringcheck.specs.Measuring.{measure_page}
+use Rattle.ringcheck.proofs.measures.measure.Goals as goal
+
+pub returns-clause-answers : goal.returns-clause-answers
+returns-clause-answers g c all named stands =
+    let board = c.in-Ok.board in
+    let measure = c.in_ok-measure.measure in
+    let contents = g.W.Write.contents in
+    let read = c.in-Ok.ensures all stands in
+    let is = c.in_ok-measure.ensures.exact in
+    record {
+      board = board;
+      read = read;
+      measure = measure;
+      is = is;
+      written = subst (λ (ns : List (List ℕ)). Appends (contents c.args.out.now) (contents c.print.new.out) (measure_page c.args.format ns board measure)) named c.in_ok-print.ensures;
+      met = c.measured_passes.ensures all board measure.meets.ring measure.meets.gap read is.rings is.gaps;
+      passed = refl;
+    }

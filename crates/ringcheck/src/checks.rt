@@ -1,0 +1,45 @@
+//! Checks a package.
+
+ghost use Rattle.std.specs.Prelude.{◌≡◌, List, IfErr, IfOk, OnOk, map};
+ghost use Rattle.std.specs.Io.KnownBytes.{Appends};
+ghost use Rattle.package_check.specs.Holding.{PackageStandsAfter};
+ghost use Rattle.package_check.specs.Package.{Source};
+ghost use Rattle.package_check.specs.Texts.{text_of};
+ghost use Rattle.ringcheck.specs.Inner.Halting.{OfTaken};
+ghost use Rattle.ringcheck.specs.Running.{Checks};
+
+use crate::refusing::{Halt, refused};
+use crate::{CheckText, PackageFault, PackageReader, Report};
+use grid_units::Rules;
+use ringcheck_files::Failure;
+use std::io::Write;
+
+/// Prints the text of a report on files of these names.
+fn print<W: Write>(names: &[&str], report: &Report, out: &mut W) -> Result<(), Failure>
+    ensures { OnOk result (Appends (W.contents out.old) (W.contents out.new) (text_of (map (λ name. name.now) names.now) report.now)) }
+{
+    write!(out, "{}", CheckText { names, report })?;
+    Ok(())
+}
+
+/// Checks the files of these names, which a reader has taken, prints the report, and returns whether it has no finding.
+pub(crate) fn check<'a, W: Write>(
+    reader: PackageReader,
+    names: &[&'a str],
+    rules: Rules,
+    out: &mut W,
+) -> Result<Result<bool, Halt<'a>>, Failure>
+    ensures answers { (all : List Source) → map (λ name. name.now) names.now ≡ map (λ source. source.name) all → PackageStandsAfter reader all
+        → IfOk result (OfTaken (Checks rules (W.contents out.old) (W.contents out.new)) all) }
+    ensures silent { IfOk result (λ done. IfErr done (λ halt. W.contents out.new ≡ W.contents out.old)) }
+{
+    let report = match reader.finish(rules) {
+        Ok(report) => report,
+        Err(PackageFault::Memory) => return Err(Failure::Memory),
+        Err(PackageFault::File { index, fault }) => {
+            return Ok(Err(refused(names, index, fault)));
+        }
+    };
+    print(names, &report, out)?;
+    Ok(Ok(report.findings().is_empty()))
+}

@@ -1,0 +1,10 @@
+use Rattle.std.proofs.Common.{arith, map, sym}
+use Rattle.std.proofs.Output.{has_written_of_eq}
+use Rattle.waivers.specs.Findings.{ring_fields}
+use Rattle.waivers.proofs.Quoted.{record_joined}
+use Rattle.waivers.proofs.printed.RingLackLinePage.fmt_on.Goals as goal
+
+pub returns : goal.returns
+returns g c =
+    let fields = ring_fields (map (λ name. name.now) c.args.page.now.names.now) c.args.page.now.layers.now c.args.self.now in
+    record { writes = λ plain ok. has_written_of_eq _ _ _ _ _ (sym (record_joined fields (omega arith))) (c.write.ensures.writes plain ok) }
