@@ -1,8 +1,6 @@
 use crate::drill_writing::{NEW, OLD};
 use drill_lines::DrillCommand;
-use drill_text::{
-    Coordinates, Drill, DrillReader, HolesReader, drill_sayable, read_drill, write_drill,
-};
+use drill_text::{Coordinates, Drill, DrillReader, Keep, drill_sayable, read_drill, write_drill};
 use grid_units::{Fail, Fault, Hole, Reason, Text};
 use std::alloc::{AllocError, Global};
 use std::test::Fail as TestFail;
@@ -84,12 +82,12 @@ fn byte_by_byte(alloc: Global, text: &[u8]) -> Result<Drill, Fail> {
 
 /// Reads the holes alone, byte by byte, with an empty piece after each byte.
 fn holes_byte_by_byte(alloc: Global, text: &[u8]) -> Result<Vec<Hole>, Fail> {
-    let mut reader = HolesReader::new(alloc);
+    let mut reader = DrillReader::keeping(alloc, Keep::Holes);
     for i in 0..text.len() {
         reader.feed(&text[i..i + 1])?;
         reader.feed(&[])?;
     }
-    reader.finish()
+    Ok(reader.finish()?.into_holes())
 }
 
 /// Whether the holes are those of a drill file, or both failed alike.
@@ -460,15 +458,11 @@ fn a_fault_stays(rt: HostRuntime) {
 /// A reader of the holes alone that has failed gives its fault again at each later call.
 #[test]
 fn a_fault_of_holes_stays(rt: HostRuntime) {
-    let mut reader = HolesReader::new(rt.alloc());
+    let mut reader = DrillReader::keeping(rt.alloc(), Keep::Holes);
     for &(piece, answer) in &REFUSED_PIECES {
         assert!(rt; reader.feed(piece.as_bytes()).err() == answer, "{piece}");
     }
-    let failure = match reader.finish() {
-        Ok(_) => None,
-        Err(fail) => Some(fail),
-    };
-    assert!(rt; failure == OLD_FORMAT);
+    assert!(rt; failure_of(reader.finish()) == OLD_FORMAT);
 }
 
 /// Holes that are read alone are those that are moved out of a file.

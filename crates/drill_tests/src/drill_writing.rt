@@ -1,6 +1,6 @@
 //! Texts that are written anew as they are read, and tool diameters at the limit.
 
-use drill_text::{RewriteReader, read_drill};
+use drill_text::{DrillReader, Keep, read_drill};
 use grid_units::{Fail, Fault, Reason};
 use std::alloc::Global;
 use std::test::Fail as TestFail;
@@ -19,23 +19,28 @@ fn refusal(reason: Reason, place: u64, byte: u64) -> Fail {
     })
 }
 
+/// The canonical text of what a reader was fed, or its fault.
+fn text_of(reader: DrillReader) -> Result<Vec<u8>, Fail> {
+    reader.finish()?.into_text()
+}
+
 /// Writes a text anew, byte by byte and with an empty piece after each byte.
 fn rewritten(alloc: Global, text: &[u8]) -> Result<Vec<u8>, Fail> {
-    let mut reader = RewriteReader::new(alloc);
+    let mut reader = DrillReader::keeping(alloc, Keep::Text);
     for i in 0..text.len() {
         reader.feed(&text[i..i + 1])?;
         reader.feed(&[])?;
     }
-    reader.finish()
+    text_of(reader)
 }
 
 /// Writes a text anew that comes in two pieces.
 fn in_two(alloc: Global, text: &[u8], at: usize) -> Result<Vec<u8>, Fail> {
-    let mut reader = RewriteReader::new(alloc);
+    let mut reader = DrillReader::keeping(alloc, Keep::Text);
     let at = at.min(text.len());
     reader.feed(&text[..at])?;
     reader.feed(&text[at..])?;
-    reader.finish()
+    text_of(reader)
 }
 
 fn is_text(answer: &Result<Vec<u8>, Fail>, wanted: &[u8]) -> bool {
@@ -79,7 +84,7 @@ fn refused_as_it_is_read(rt: HostRuntime) {
 #[test]
 fn a_fault_of_writing_stays(rt: HostRuntime) {
     let fault = refusal(Reason::OldFormat, 1, 0);
-    let mut reader = RewriteReader::new(rt.alloc());
+    let mut reader = DrillReader::keeping(rt.alloc(), Keep::Text);
     for (piece, answer) in [
         ("INCH", Ok(())),
         ("\nM48\n", Err(fault)),
@@ -87,7 +92,7 @@ fn a_fault_of_writing_stays(rt: HostRuntime) {
     ] {
         assert!(rt; reader.feed(piece.as_bytes()) == answer, "{piece}");
     }
-    assert!(rt; is_fault(&reader.finish(), fault));
+    assert!(rt; is_fault(&text_of(reader), fault));
 }
 
 /// A diameter of at most 10 m, and one above it, in both units.

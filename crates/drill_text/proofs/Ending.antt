@@ -1,5 +1,5 @@
 -- The end of a text, from what a reader holds.
-use Rattle.std.proofs.Common.{◌≡◌, ℕ, suc, ◌+◌, ◌≤◌, true, false, cond, ltb, List, length, Result, Ok, Err, IfOk, sym, ap, subst, ◌∙◌, arith, inl, inr}
+use Rattle.std.proofs.Common.{◌≡◌, ℕ, suc, ◌+◌, ◌≤◌, true, false, cond, ltb, List, length, Result, Ok, Err, sym, ap, subst, ◌∙◌, arith, inl, inr}
 use Rattle.std.specs.List.{list_any}
 use Rattle.std.proofs.lemmas.List.{take_all}
 use Rattle.std.proofs.lemmas.Bool.{le-ltb}
@@ -8,17 +8,14 @@ use Rattle.grid_units.specs.declared.fault.Fault.{Fault}
 use Rattle.grid_units.specs.declared.fault.Fail.{Fail}
 use Rattle.grid_units.specs.declared.fault.Fail.TheVariants as fails
 use Rattle.grid_units.specs.declared.fault.Reason.TheVariants.{TooLong, Truncated}
-use Rattle.drill_text.specs.declared.judge.Judge.{Judge}
+use Rattle.drill_text.specs.declared.kept.Keep.{Keep}
 use Rattle.drill_text.specs.declared.reader.Progress.{Progress}
 use Rattle.drill_text.specs.Lines.{bytes_of, Splits}
 use Rattle.grid_units.specs.Results.{◌>>=◌, fault, Answers, Tells}
 use Rattle.drill_text.specs.Reading.{shown, spelled, ended, is_finish, place_behind_count, Reads, Shows}
-use Rattle.drill_text.specs.declared.kept.Kept.{Kept}
-use Rattle.drill_text.specs.Inner.Knowing.{Knows}
-use Rattle.drill_text.specs.Keeping.{Met, Leaves, Ends}
-use Rattle.drill_text.specs.Outcome.{DrillFile, commands_in, file_of}
-use Rattle.grid_units.specs.Holes.{GridHole}
-use Rattle.drill_text.specs.Texts.{ReadsHoles}
+use Rattle.drill_text.specs.Keeping.{Met}
+use Rattle.drill_text.specs.Outcome.{DrillFile, file_of}
+use Rattle.drill_text.specs.Texts.{ReadsAs}
 use Rattle.drill_text.specs.Holding.{Holds}
 use Rattle.grid_units.proofs.Binds.{bind_err, guard_err}
 use Rattle.grid_units.specs.Limits.{text_limit}
@@ -27,7 +24,7 @@ ends_with : ℕ → List (List ℕ) → List ℕ → List DrillCommand → Resul
 ends_with len lines rest commands = cond (ltb text_limit len) (Err (fault (suc (length lines)) text_limit TooLong)) (spelled (suc (length lines)) (length (bytes_of lines)) rest commands >>= ended len lines rest)
 
 -- a whole text reads as its last line leaves it
-pub reads_is : (r : Progress) (text : List ℕ) (h : Holds r text) (answer : Result (List DrillCommand) Fault) → r.offset ≤ text_limit
+pub reads_is : {keep : Keep} (r : Progress) (text : List ℕ) (h : Holds r keep text) (answer : Result (List DrillCommand) Fault) → r.offset ≤ text_limit
     → (spelled (r.lines + 1) r.start r.line.items h.commands >>= ended (length text) h.lines r.line.items) ≡ answer → Reads text answer
 unfolding ends_with
 reads_is r text h answer le e =
@@ -46,17 +43,17 @@ reads_is r text h answer le e =
     }
 
 -- the last line has a fault
-pub reads_fault : (r : Progress) (text : List ℕ) (e : Fail) (judge : Judge) (new : Kept) → r.offset ≤ text_limit
-    → ((before : List DrillCommand) → Met r.judge r.kept before → Leaves {X = Unit {0}} (Err e) judge new (spelled (r.lines + 1) r.start r.line.items before)) → Holds r text → Ends text (Err e)
-reads_fault r text fails.Memory judge new le k h = tt
-reads_fault r text (fails.Refused f) judge new le k h = reads_is r text h (Err f) le (ap (λ s. s >>= ended (length text) h.lines r.line.items) (k h.commands h.met))
+pub reads_fault : (keep : Keep) (r : Progress) (text : List ℕ) (e : Fail) → r.offset ≤ text_limit
+    → ((before : List DrillCommand) → Met r.judge r.kept keep before → Tells (λ f. spelled (r.lines + 1) r.start r.line.items before ≡ Err f) e) → Holds r keep text → Answers (λ (d : DrillFile). d) (ReadsAs (file_of keep) text) (Err e)
+reads_fault keep r text fails.Memory le k h = tt
+reads_fault keep r text (fails.Refused f) le k h = reads_is r text h (Err f) le (ap (λ s. s >>= ended (length text) h.lines r.line.items) (k h.commands h.met))
 
 -- the last line leaves the end of the file among the commands, or not
-pub reads_ended : (r : Progress) (text : List ℕ) (h : Holds r text) (new : List DrillCommand) → r.offset ≤ text_limit → spelled (r.lines + 1) r.start r.line.items h.commands ≡ Ok new → list_any is_finish new ≡ true → Reads text (Ok new)
+pub reads_ended : {keep : Keep} (r : Progress) (text : List ℕ) (h : Holds r keep text) (new : List DrillCommand) → r.offset ≤ text_limit → spelled (r.lines + 1) r.start r.line.items h.commands ≡ Ok new → list_any is_finish new ≡ true → Reads text (Ok new)
 reads_ended r text h new le e some =
     reads_is r text h (Ok new) le (ap (λ s. s >>= ended (length text) h.lines r.line.items) e ∙ ap (λ t. cond t (Ok new) (Err (fault (place_behind_count (length h.lines) r.line.items) (length text) Truncated))) some)
 
-pub reads_truncated : (r : Progress) (text : List ℕ) (h : Holds r text) (new : List DrillCommand) → r.offset ≤ text_limit → spelled (r.lines + 1) r.start r.line.items h.commands ≡ Ok new → list_any is_finish new ≡ false
+pub reads_truncated : {keep : Keep} (r : Progress) (text : List ℕ) (h : Holds r keep text) (new : List DrillCommand) → r.offset ≤ text_limit → spelled (r.lines + 1) r.start r.line.items h.commands ≡ Ok new → list_any is_finish new ≡ false
     → Reads text (Err (fault (place_behind_count r.lines r.line.items) r.offset Truncated))
 reads_truncated r text h new le e none =
     reads_is r text h (Err (fault (place_behind_count r.lines r.line.items) r.offset Truncated)) le (ap (λ s. s >>= ended (length text) h.lines r.line.items) e
@@ -80,23 +77,7 @@ shows_reads text f s = record {
   ];
 }
 
-pub answers_err : (text : List ℕ) (e : Fail) → Tells (λ f. Shows text (Err f)) e → Answers commands_in (Reads text) (Err e)
-answers_err text fails.Memory h = tt
-answers_err text (fails.Refused f) h = shows_reads text f h
-
--- a text that has ended with a failure
-pub ends_answers : (text : List ℕ) (e : Fail) → Ends text (Err e) → Answers commands_in (Reads text) (Err e)
-ends_answers text fails.Memory h = tt
-ends_answers text (fails.Refused f) h = h
-
-pub ends_holes : {T : Type 0} (view : T → List GridHole) (text : List ℕ) (e : Fail) → Ends text (Err e) → Answers view (ReadsHoles text) (Err e)
-ends_holes view text fails.Memory h = tt
-ends_holes view text (fails.Refused f) h = h
-
--- what a judge holds is the file of its commands
-pub file_is : (judge : Judge) (cs : List DrillCommand) → Knows judge cs → (let d : DrillFile = record { commands = cs; holes = judge.holes.items; tools = judge.tools.entries } in d ≡ file_of cs)
-file_is judge cs knows = λ i. record { commands = cs; holes = knows.holes i; tools = knows.tools i }
-
--- a refusal holds no file
-pub no_file : (r : Result DrillFile Fail) (e : Fail) → r ≡ Err e → IfOk r (λ (d : DrillFile). d ≡ file_of d.commands)
-no_file r e is = subst (λ (x : Result DrillFile Fail). IfOk x (λ (d : DrillFile). d ≡ file_of d.commands)) (sym is) tt
+-- a fault that a text shows refuses it, however its commands would be seen
+pub shown_refused : {T V : Type 0} (view : T → V) (see : List DrillCommand → V) (text : List ℕ) (e : Fail) → Tells (λ f. Shows text (Err f)) e → Answers view (ReadsAs see text) (Err e)
+shown_refused view see text fails.Memory h = tt
+shown_refused view see text (fails.Refused f) h = shows_reads text f h

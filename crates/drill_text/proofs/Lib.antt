@@ -14,6 +14,5 @@ pub mod RoundTrip
 pub mod Sayable
 pub mod LeadingHits
 pub mod WholeLines
-pub mod Rewritten
 pub mod FirstFaults
 pub mod Reasons

@@ -18,11 +18,12 @@ use Rattle.drill_lines.proofs.Said.{line_said}
 use Rattle.drill_text.specs.Lines.{HasNoBreak}
 use Rattle.drill_text.specs.Lookback.{settings_after, part_after}
 use Rattle.drill_text.specs.Reading.{is_finish, Reads}
-use Rattle.drill_text.specs.Texts.{spelled_behind, AreShort, SpellsText, IsDrillText}
+use Rattle.drill_text.specs.Texts.{spelled_behind, AreShort, SpellsText, IsDrillText, ReadsAs}
 use Rattle.drill_text.specs.Writing.{part_behind, part_from, are_sayable, is_over, drill_sayable}
-use Rattle.drill_text.specs.Outcome.{DrillFile, commands_in}
+use Rattle.drill_text.specs.declared.kept.Keep.TheVariants.{Commands}
+use Rattle.drill_text.specs.Outcome.{DrillFile, commands_in, file_of}
 use Rattle.drill_text.proofs.Splitting.{AllR-append}
-use Rattle.drill_text.proofs.Spelling.{reads_drill_text, drill_text_reads}
+use Rattle.drill_text.proofs.Spelling.{drill_text_reads}
 use Rattle.drill_text.proofs.Unique.{one_read}
 use Rattle.drill_text.proofs.RoundTrip.{part_more}
 use Rattle.grid_units.proofs.BoolLemmas.{both_true, and_true}
@@ -81,17 +82,29 @@ text_said text cs s =
     let h : are_sayable part.Before cs ≡ true = ap (are_sayable part.Before) said.whole ∙ said.said in
     and_true (are_sayable part.Before cs) (is_over (part_from part.Before cs)) h (comes_to_end part.Before cs h s.ends)
 
--- ---- what a call answered
+-- ---- what a call answered that kept the commands
 
-pub answers_said : (text : List ℕ) (r : Result DrillFile Fail) → Answers commands_in (Reads text) r → IfOk r (λ (d : DrillFile). drill_sayable d.commands ≡ true)
-answers_said text (Ok d) h = text_said text d.commands (reads_drill_text text d.commands h).spells
-answers_said text (Err e) h = tt
+abbrev Gave : List ℕ → Result DrillFile Fail → Type 0
+Gave text r = Answers (λ (d : DrillFile). d) (ReadsAs (file_of Commands) text) r
 
-pub answers_found : (text : List ℕ) (r : Result DrillFile Fail) → Answers commands_in (Reads text) r → IfOk r (λ (d : DrillFile). IsDrillText text d.commands)
-answers_found text (Ok d) h = reads_drill_text text d.commands h
+pub answers_reads : (text : List ℕ) (r : Result DrillFile Fail) → Gave text r → Answers commands_in (Reads text) r
+answers_reads text (Ok d) h = subst (λ (cs : List DrillCommand). Reads text (Ok cs)) (sym (ap commands_in h.2)) (drill_text_reads text h.0 h.1)
+answers_reads text (Err fails.Memory) h = tt
+answers_reads text (Err (fails.Refused f)) h = h
+
+pub answers_found : (text : List ℕ) (r : Result DrillFile Fail) → Gave text r → IfOk r (λ (d : DrillFile). IsDrillText text d.commands)
+answers_found text (Ok d) h = subst (IsDrillText text) (sym (ap commands_in h.2)) h.1
 answers_found text (Err e) h = tt
 
-pub answers_only : (text : List ℕ) (cs : List DrillCommand) (r : Result DrillFile Fail) → IsDrillText text cs → Answers commands_in (Reads text) r → Answers commands_in (λ answer. answer ≡ Ok cs) r
-answers_only text cs (Ok d) i h = one_read text (Ok d.commands) (Ok cs) h (drill_text_reads text cs i)
+pub answers_only : (text : List ℕ) (cs : List DrillCommand) (r : Result DrillFile Fail) → IsDrillText text cs → Gave text r → Answers commands_in (λ answer. answer ≡ Ok cs) r
+answers_only text cs (Ok d) i h = one_read text (Ok d.commands) (Ok cs) (answers_reads text (Ok d) h) (drill_text_reads text cs i)
 answers_only text cs (Err fails.Memory) i h = tt
 answers_only text cs (Err (fails.Refused f)) i h = one_read text (Err f) (Ok cs) h (drill_text_reads text cs i)
+
+pub answers_file : (text : List ℕ) (r : Result DrillFile Fail) → Gave text r → IfOk r (λ (d : DrillFile). d ≡ file_of Commands d.commands)
+answers_file text (Ok d) h = h.2 ∙ sym (ap (λ (e : DrillFile). file_of Commands e.commands) h.2)
+answers_file text (Err e) h = tt
+
+pub answers_said : (text : List ℕ) (r : Result DrillFile Fail) → Gave text r → IfOk r (λ (d : DrillFile). drill_sayable d.commands ≡ true)
+answers_said text (Ok d) h = ap (λ (e : DrillFile). drill_sayable e.commands) h.2 ∙ text_said text h.0 h.1.spells
+answers_said text (Err e) h = tt

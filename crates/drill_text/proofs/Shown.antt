@@ -7,6 +7,7 @@ use Rattle.grid_units.specs.declared.fault.Fault.{Fault}
 use Rattle.grid_units.specs.declared.fault.Fail.{Fail}
 use Rattle.grid_units.specs.declared.fault.Fail.TheVariants as fails
 use Rattle.grid_units.specs.declared.fault.Reason.TheVariants.{TooLong}
+use Rattle.drill_text.specs.declared.kept.Keep.{Keep}
 use Rattle.drill_text.specs.declared.reader.Progress.{Progress}
 use Rattle.drill_text.specs.Lines.{bytes_of}
 use Rattle.grid_units.specs.Results.{◌>>=◌, fault}
@@ -105,7 +106,7 @@ fault_stays text (b ∷ more) f h =
 -- ---- readers
 
 -- what is shown with one more line, by a reader that holds this text
-pub closed : (old : Progress) (text line : List ℕ) (h : Holds old text) → shown (h.lines ++ line ∷ []) [] ≡ spelled (old.lines + 1) old.start line h.commands
+pub closed : {keep : Keep} (old : Progress) (text line : List ℕ) (h : Holds old keep text) → shown (h.lines ++ line ∷ []) [] ≡ spelled (old.lines + 1) old.start line h.commands
 closed old text line h =
     let cs = h.commands in
     let place : suc (length h.lines) ≡ old.lines + 1 = omega (arith, h.count) in
@@ -114,14 +115,14 @@ closed old text line h =
 
 pub Refuses-longer : (old : Progress) (xs ys : List ℕ) (e : Fail) → Refuses old xs e → Refuses old (xs ++ ys) e
 Refuses-longer old xs ys fails.Memory h = tt
-Refuses-longer old xs ys (fails.Refused f) h = λ text holds. subst (λ (x : List ℕ). HasFault x f) (append_assoc text xs ys) (fault_stays (text ++ xs) ys f (h text holds))
+Refuses-longer old xs ys (fails.Refused f) h = λ keep text holds. subst (λ (x : List ℕ). HasFault x f) (append_assoc text xs ys) (fault_stays (text ++ xs) ys f (h keep text holds))
 
 pub Advances-then : (a b c : Progress) (xs ys : List ℕ) → Advances a b xs → Advances b c ys → Advances a c (xs ++ ys)
-Advances-then a b c xs ys h k = λ text holds. subst (Holds c) (append_assoc text xs ys) (k (text ++ xs) (h text holds))
+Advances-then a b c xs ys h k = λ keep text holds. subst (Holds c keep) (append_assoc text xs ys) (k keep (text ++ xs) (h keep text holds))
 
 pub Refuses-then : (a b : Progress) (xs ys : List ℕ) (e : Fail) → Advances a b xs → Refuses b ys e → Refuses a (xs ++ ys) e
 Refuses-then a b xs ys fails.Memory h k = tt
-Refuses-then a b xs ys (fails.Refused f) h k = λ text holds. subst (λ (x : List ℕ). HasFault x f) (append_assoc text xs ys) (k (text ++ xs) (h text holds))
+Refuses-then a b xs ys (fails.Refused f) h k = λ keep text holds. subst (λ (x : List ℕ). HasFault x f) (append_assoc text xs ys) (k keep (text ++ xs) (h keep text holds))
 
 pub Refuses-front : (old : Progress) (bytes : List ℕ) (n : ℕ) (e : Fail) → Refuses old (take n bytes) e → Refuses old bytes e
 Refuses-front old bytes n e h = subst (λ (x : List ℕ). Refuses old x e) (take-append-drop n bytes) (Refuses-longer old (take n bytes) (drop n bytes) e h)

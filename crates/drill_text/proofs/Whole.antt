@@ -7,6 +7,7 @@ use Rattle.grid_units.specs.declared.fault.Fault.{Fault}
 use Rattle.grid_units.specs.declared.fault.Fail.{Fail}
 use Rattle.grid_units.specs.declared.fault.Fail.TheVariants as fails
 use Rattle.grid_units.specs.declared.fault.Reason.TheVariants.{TooLong}
+use Rattle.drill_text.specs.declared.kept.Keep.{Keep}
 use Rattle.drill_text.specs.declared.reader.Progress.{Progress}
 use Rattle.drill_text.specs.Lines.{Splits}
 use Rattle.grid_units.specs.Results.{◌>>=◌}
@@ -37,7 +38,7 @@ fault_of_front front more f e h = record {
   answer_is = sym (ap (λ r. r >>= checks_len (length (front ++ more)) h.lines) h.fault);
 }
 
-pub too_long_text : (r : Progress) (front more : List ℕ) → length front ≡ text_limit → 0 < length more → Holds r front → Shows (front ++ more) (Err (fault (r.lines + 1) text_limit TooLong))
+pub too_long_text : {keep : Keep} (r : Progress) (front more : List ℕ) → length front ≡ text_limit → 0 < length more → Holds r keep front → Shows (front ++ more) (Err (fault (r.lines + 1) text_limit TooLong))
 unfolding checks_len
 too_long_text r front more e some h =
     let long : text_limit < length (front ++ more) = omega (arith, length-append front more) in
@@ -50,10 +51,10 @@ too_long_text r front more e some h =
     }
 
 pub refuses_within : (old : Progress) (piece : List ℕ) (e : Fail) → old.offset + length piece ≤ text_limit → Refuses old piece e → RefusesText old piece e
-refuses_within old piece fails.Memory le h = λ text holds. tt
-refuses_within old piece (fails.Refused f) le h = λ text holds. fault_within (text ++ piece) f (omega (arith, holds.offset, length-append text piece)) (h text holds)
+refuses_within old piece fails.Memory le h = λ keep text holds. tt
+refuses_within old piece (fails.Refused f) le h = λ keep text holds. fault_within (text ++ piece) f (omega (arith, holds.offset, length-append text piece)) (h keep text holds)
 
 pub refuses_beyond : (old : Progress) (front more : List ℕ) (e : Fail) → old.offset + length front ≡ text_limit → Refuses old front e → RefusesText old (front ++ more) e
-refuses_beyond old front more fails.Memory len h = λ text holds. tt
-refuses_beyond old front more (fails.Refused f) len h = λ text holds.
-    subst (λ (t : List ℕ). Shows t (Err f)) (append_assoc text front more) (fault_of_front (text ++ front) more f (omega (arith, holds.offset, length-append text front)) (h text holds))
+refuses_beyond old front more fails.Memory len h = λ keep text holds. tt
+refuses_beyond old front more (fails.Refused f) len h = λ keep text holds.
+    subst (λ (t : List ℕ). Shows t (Err f)) (append_assoc text front more) (fault_of_front (text ++ front) more f (omega (arith, holds.offset, length-append text front)) (h keep text holds))

@@ -7,12 +7,12 @@ use Rattle.grid_units.proofs.BoolLemmas.{both_true}
 use Rattle.drill_lines.specs.declared.command.DrillCommand.{DrillCommand}
 use Rattle.grid_units.specs.declared.fault.Fail.{Fail}
 use Rattle.grid_units.specs.declared.fault.Fail.TheVariants.{Memory, Refused}
-use Rattle.drill_text.specs.declared.judge.Judge.{Judge}
+use Rattle.grid_units.specs.Results.{Tells}
 use Rattle.drill_text.specs.declared.reader.Progress.{Progress}
 use Rattle.drill_text.specs.Lines.{HasNoBreak, Splits, bytes_of}
 use Rattle.drill_text.specs.Reading.{shown, spelled}
-use Rattle.drill_text.specs.declared.kept.Kept.{Kept}
-use Rattle.drill_text.specs.Keeping.{Met, Leaves}
+use Rattle.drill_text.specs.declared.kept.Keep.{Keep}
+use Rattle.drill_text.specs.Keeping.{Met}
 use Rattle.drill_text.specs.Holding.{Holds, Refuses}
 use Rattle.drill_text.proofs.Splitting.{Splits-grow, Splits-close, bytes_of-push}
 use Rattle.drill_text.proofs.Shown.{closed}
@@ -26,15 +26,15 @@ no_break (b ∷ bs) h = let k = both_true (not (eqb b 10)) (list_all (λ b. not 
     negated false e = refl
 
 -- the text, followed by this line and its LF
-whole_splits : (old : Progress) (text line : List ℕ) (h : Holds old text) → old.line.items ≡ [] → HasNoBreak line → Splits (text ++ (line ++ 10 ∷ [])) (h.lines ++ line ∷ []) []
+whole_splits : {keep : Keep} (old : Progress) (text line : List ℕ) (h : Holds old keep text) → old.line.items ≡ [] → HasNoBreak line → Splits (text ++ (line ++ 10 ∷ [])) (h.lines ++ line ∷ []) []
 whole_splits old text line h none inside =
     let alone : Splits text h.lines [] = subst (λ (x : List ℕ). Splits text h.lines x) none h.splits in
     subst (λ (x : List ℕ). Splits x (h.lines ++ line ∷ []) []) (append_assoc text line (10 ∷ []))
     (Splits-close (text ++ line) h.lines line (Splits-grow text h.lines [] line alone inside))
 
 -- the reader that took the line in
-pub whole_holds : (old new : Progress) (text line : List ℕ) (after : List DrillCommand) (h : Holds old text) → old.line.items ≡ [] → HasNoBreak line → new.line.items ≡ old.line.items → spelled (old.lines + 1) old.start line h.commands ≡ Ok after → Met new.judge new.kept after
-    → new.lines ≡ old.lines + 1 → new.start ≡ new.offset → new.offset ≡ old.offset + (length line + 1) → Holds new (text ++ (line ++ 10 ∷ []))
+pub whole_holds : {keep : Keep} (old new : Progress) (text line : List ℕ) (after : List DrillCommand) (h : Holds old keep text) → old.line.items ≡ [] → HasNoBreak line → new.line.items ≡ old.line.items → spelled (old.lines + 1) old.start line h.commands ≡ Ok after → Met new.judge new.kept keep after
+    → new.lines ≡ old.lines + 1 → new.start ≡ new.offset → new.offset ≡ old.offset + (length line + 1) → Holds new keep (text ++ (line ++ 10 ∷ []))
 whole_holds old new text line after h none inside kept spells met count start offset =
     let lines : List (List ℕ) = h.lines ++ line ∷ [] in
     let empty : new.line.items ≡ [] = kept ∙ none in
@@ -50,13 +50,13 @@ whole_holds old new text line after h none inside kept spells met count start of
     }
 
 -- the taken bytes are this line and its LF
-pub whole_taken : (old new : Progress) (text line taken : List ℕ) (after : List DrillCommand) (h : Holds old text) → line ++ 10 ∷ [] ≡ taken → old.line.items ≡ [] → HasNoBreak line → new.line.items ≡ old.line.items → spelled (old.lines + 1) old.start line h.commands ≡ Ok after
-    → Met new.judge new.kept after → new.lines ≡ old.lines + 1 → new.start ≡ new.offset → new.offset ≡ old.offset + (length line + 1) → Holds new (text ++ taken)
-whole_taken old new text line taken after h is none inside kept spells met count start offset =
-    subst (λ (x : List ℕ). Holds new (text ++ x)) is (whole_holds old new text line after h none inside kept spells met count start offset)
+pub whole_taken : {keep : Keep} (old new : Progress) (text line taken : List ℕ) (after : List DrillCommand) (h : Holds old keep text) → line ++ 10 ∷ [] ≡ taken → old.line.items ≡ [] → HasNoBreak line → new.line.items ≡ old.line.items → spelled (old.lines + 1) old.start line h.commands ≡ Ok after
+    → Met new.judge new.kept keep after → new.lines ≡ old.lines + 1 → new.start ≡ new.offset → new.offset ≡ old.offset + (length line + 1) → Holds new keep (text ++ taken)
+whole_taken {keep = keep} old new text line taken after h is none inside kept spells met count start offset =
+    subst (λ (x : List ℕ). Holds new keep (text ++ x)) is (whole_holds old new text line after h none inside kept spells met count start offset)
 
 -- the fault that the line shows
-pub whole_refused : (old : Progress) (line : List ℕ) (e : Fail) (judge : Judge) (new : Kept) → old.line.items ≡ [] → HasNoBreak line
-    → ((before : List DrillCommand) → Met old.judge old.kept before → Leaves {X = Unit {0}} (Err e) judge new (spelled (old.lines + 1) old.start line before)) → Refuses old (line ++ 10 ∷ []) e
-whole_refused old line Memory judge new none inside k = tt
-whole_refused old line (Refused f) judge new none inside k = λ text h. record { lines = h.lines ++ line ∷ []; rest = []; splits = whole_splits old text line h none inside; fault = closed old text line h ∙ k h.commands h.met }
+pub whole_refused : (old : Progress) (line : List ℕ) (e : Fail) → old.line.items ≡ [] → HasNoBreak line
+    → ((keep : Keep) (before : List DrillCommand) → Met old.judge old.kept keep before → Tells (λ f. spelled (old.lines + 1) old.start line before ≡ Err f) e) → Refuses old (line ++ 10 ∷ []) e
+whole_refused old line Memory none inside k = tt
+whole_refused old line (Refused f) none inside k = λ keep text h. record { lines = h.lines ++ line ∷ []; rest = []; splits = whole_splits old text line h none inside; fault = closed old text line h ∙ k keep h.commands h.met }

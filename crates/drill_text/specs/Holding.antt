@@ -7,21 +7,19 @@ use Rattle.grid_units.specs.declared.fault.Fail.TheVariants as fails
 use Rattle.drill_lines.specs.declared.command.DrillCommand.{DrillCommand}
 use Rattle.drill_text.specs.declared.reader.Progress.{Progress}
 use Rattle.drill_text.specs.declared.reader.DrillReader.{DrillReader}
-use Rattle.drill_text.specs.declared.holes_reader.HolesReader.{HolesReader}
-use Rattle.drill_text.specs.declared.rewrite_reader.RewriteReader.{RewriteReader}
-use Rattle.drill_text.specs.declared.kept.Keeping.TheVariants as keep
+use Rattle.drill_text.specs.declared.kept.Keep.{Keep}
 use Rattle.grid_units.specs.Results.{Tells}
 use Rattle.drill_text.specs.Lines.{bytes_of, Splits}
 use Rattle.drill_text.specs.Reading.{shown, Shows}
 use Rattle.drill_text.specs.Keeping.{Met}
 
 -- The text is cut into lines, which spell the commands that the reader has met, and into a rest, the line that has not ended.
-pub record Holds (reader : Progress) (text : List ℕ) : Type 0 where
+pub record Holds (reader : Progress) (keep : Keep) (text : List ℕ) : Type 0 where
   pub lines : List (List ℕ)
   pub commands : List DrillCommand
   pub splits : Splits text lines reader.line.items
   pub spelled : shown lines reader.line.items ≡ Ok commands
-  pub met : Met reader.judge reader.kept commands
+  pub met : Met reader.judge reader.kept keep commands
   pub count : reader.lines ≡ length lines
   pub start : reader.start ≡ length (bytes_of lines)
   pub offset : reader.offset ≡ length text
@@ -35,43 +33,22 @@ pub record HasFault (text : List ℕ) (f : Fault) : Type 0 where
 
 -- whatever text the old reader has read, the new one has read that text and these bytes
 abbrev pub Advances : Progress → Progress → List ℕ → Type 0
-Advances old new bytes = (text : List ℕ) → Holds old text → Holds new (text ++ bytes)
+Advances old new bytes = (keep : Keep) (text : List ℕ) → Holds old keep text → Holds new keep (text ++ bytes)
 
 -- whatever text the reader has read, that text with these bytes shows this fault; or memory ran out
 abbrev pub Refuses : Progress → List ℕ → Fail → Type 0
 Refuses old bytes fails.Memory = Unit {0}
-Refuses old bytes (fails.Refused f) = (text : List ℕ) → Holds old text → HasFault (text ++ bytes) f
+Refuses old bytes (fails.Refused f) = (keep : Keep) (text : List ℕ) → Holds old keep text → HasFault (text ++ bytes) f
 
 -- whatever text the reader has read, that text with this piece shows this fault; or memory ran out
 abbrev pub RefusesText : Progress → List ℕ → Fail → Type 0
-RefusesText old piece e = (text : List ℕ) → Holds old text → Tells (λ f. Shows (text ++ piece) (Err f)) e
+RefusesText old piece e = (keep : Keep) (text : List ℕ) → Holds old keep text → Tells (λ f. Shows (text ++ piece) (Err f)) e
 
 -- the failure of a reader, `None` where it has not failed
 abbrev pub failure : DrillReader → Option Fail
 failure reader = reader.failed
 
--- The reader has read this text, which shows no fault, and keeps its commands.
-pub record StandsAfter (reader : DrillReader) (text : List ℕ) : Type 0 where
+-- The reader has read this text, which shows no fault, and keeps what was asked for.
+pub record StandsAfter (reader : DrillReader) (keep : Keep) (text : List ℕ) : Type 0 where
   pub sound : failure reader ≡ None
-  pub holds : Holds reader.progress text
-  pub whole : reader.progress.kept.keeping ≡ keep.Commands
-
--- the failure of a reader of the holes alone, `None` where it has not failed
-abbrev pub holes_failure : HolesReader → Option Fail
-holes_failure reader = reader.failed
-
--- The reader of the holes has read this text, which shows no fault, and keeps none of its commands.
-pub record HolesStandAfter (reader : HolesReader) (text : List ℕ) : Type 0 where
-  pub sound : holes_failure reader ≡ None
-  pub holds : Holds reader.progress text
-  pub light : reader.progress.kept.keeping ≡ keep.Nothing
-
--- the failure of a reader that writes the file anew, `None` where it has not failed
-abbrev pub rewrite_failure : RewriteReader → Option Fail
-rewrite_failure reader = reader.failed
-
--- The reader has read this text, which shows no fault, and keeps the canonical lines of its commands.
-pub record LinesStandAfter (reader : RewriteReader) (text : List ℕ) : Type 0 where
-  pub sound : rewrite_failure reader ≡ None
-  pub holds : Holds reader.progress text
-  pub written : reader.progress.kept.keeping ≡ keep.Lines
+  pub holds : Holds reader.progress keep text

@@ -1,19 +1,39 @@
--- What a drill file holds: commands, holes and tools.
-use Rattle.std.specs.Prelude.{ℕ, ℤ, List}
+-- What a drill file holds: commands or their canonical text, holes and tools.
+use Rattle.std.specs.Prelude.{ℕ, ℤ, List, [], Result}
 use Rattle.grid_units.specs.Holes.{GridHole}
+use Rattle.grid_units.specs.declared.fault.Fault.{Fault}
 use Rattle.drill_lines.specs.declared.command.DrillCommand.{DrillCommand}
+use Rattle.drill_text.specs.declared.kept.Keep.{Keep}
+use Rattle.drill_text.specs.declared.kept.Keep.TheVariants as keep
 use Rattle.drill_text.specs.Lookback.{tools_of}
 use Rattle.drill_text.specs.Holes.{holes_of}
+use Rattle.drill_text.specs.Writing.{canonical_text, text_or_fault}
 
--- the commands of a drill file, the holes that they drill, and its tools with their diameters in order of definition
+-- the commands of a drill file, their canonical text, the holes that they drill, and the tools with their diameters in order of definition
 pub record DrillFile : Type 0 where
   pub commands : List DrillCommand
+  pub text : Result (List ℕ) Fault
   pub holes : List GridHole
   pub tools : List (ℕ × ℤ)
 
--- the drill file of these commands: its holes and tools follow from them
-abbrev pub file_of : List DrillCommand → DrillFile
-file_of commands = record { commands = commands; holes = holes_of commands; tools = tools_of commands }
+-- the commands, if they are kept
+abbrev pub kept_commands : Keep → List DrillCommand → List DrillCommand
+kept_commands keep.Commands commands = commands
+kept_commands _ commands = []
+
+-- the canonical text of the commands, if it is kept
+abbrev pub kept_text : Keep → List DrillCommand → List ℕ
+kept_text keep.Text commands = canonical_text commands
+kept_text _ commands = []
+
+-- the drill file of these commands, with what is kept of them; its holes and tools follow from them
+abbrev pub file_of : Keep → List DrillCommand → DrillFile
+file_of keep commands = record {
+  commands = kept_commands keep commands;
+  text = text_or_fault (kept_text keep commands);
+  holes = holes_of commands;
+  tools = tools_of commands;
+}
 
 -- the commands of a drill file, without its holes and tools
 abbrev pub commands_in : DrillFile → List DrillCommand

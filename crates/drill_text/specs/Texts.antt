@@ -4,7 +4,6 @@ use Rattle.std.specs.List.{list_any, AllByRecursion}
 use Rattle.std.specs.Option.{option_to_list}
 use Rattle.grid_units.specs.declared.fault.Reason.{Reason}
 use Rattle.grid_units.specs.declared.fault.Fault.{Fault}
-use Rattle.grid_units.specs.Holes.{GridHole}
 use Rattle.grid_units.specs.Results.{◌>>=◌}
 use Rattle.grid_units.specs.Lists.{IsLegal}
 use Rattle.drill_lines.specs.declared.command.DrillCommand.{DrillCommand}
@@ -12,7 +11,6 @@ use Rattle.drill_lines.specs.Lines.{trimmed}
 use Rattle.drill_lines.specs.Meaning.{meaning}
 use Rattle.drill_text.specs.Lines.{Splits}
 use Rattle.drill_text.specs.Lookback.{settings_after}
-use Rattle.drill_text.specs.Holes.{holes_of}
 use Rattle.drill_text.specs.Reading.{is_finish, Reads}
 use Rattle.grid_units.specs.Limits.{text_limit, line_limit}
 use Rattle.drill_text.specs.Rules.{broken_rule}
@@ -42,11 +40,7 @@ pub record IsDrillText (text : List ℕ) (commands : List DrillCommand) : Type 0
   pub spells : SpellsText text commands
   pub legal : IsLegal broken_rule commands
 
--- a drill text whose commands drill just these holes
-abbrev pub DrillsHoles : List ℕ → List GridHole → Type 0
-DrillsHoles text holes = (commands : List DrillCommand) × IsDrillText text commands × (holes ≡ holes_of commands)
-
--- A whole text drills these holes, or has this as its first fault.
-abbrev pub ReadsHoles : List ℕ → Result (List GridHole) Fault → Type 0
-ReadsHoles text (Ok holes) = DrillsHoles text holes
-ReadsHoles text (Err fault) = Reads text (Err fault)
+-- a whole text is a drill text of commands that are seen as this (by `holes_of` as holes), or has this as its first fault
+abbrev pub ReadsAs : {V : Type 0} → (List DrillCommand → V) → List ℕ → Result V Fault → Type 0
+ReadsAs see text (Ok seen) = (commands : List DrillCommand) × IsDrillText text commands × (seen ≡ see commands)
+ReadsAs see text (Err fault) = Reads text (Err fault)

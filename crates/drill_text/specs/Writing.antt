@@ -1,5 +1,5 @@
 -- The canonical text of a list of commands (docs/FORMATS.md, Canonical drill text).
-use Rattle.std.specs.Prelude.{◌≡◌, ◌⊎◌, ℕ, Bool, true, false, ◌&&◌, nat_lt, List, [], ◌∷◌, length, map, unwrap_or, if◌then◌else◌, Result, Ok, Err}
+use Rattle.std.specs.Prelude.{ℕ, Bool, true, false, ◌&&◌, nat_lt, List, [], ◌∷◌, length, map, unwrap_or, if◌then◌else◌, Result, Ok, Err}
 use Rattle.std.specs.Global.{Vec}
 use Rattle.grid_units.specs.declared.fault.Fault.{Fault}
 use Rattle.grid_units.specs.declared.fault.Reason.TheVariants.{TooLong}
@@ -10,8 +10,6 @@ use Rattle.drill_lines.specs.declared.command.DrillCommand.{DrillCommand}
 use Rattle.drill_lines.specs.Writing.{canonical, is_sayable}
 use Rattle.drill_text.specs.Lines.{bytes_of}
 use Rattle.drill_text.specs.Lookback.{part_named}
-use Rattle.drill_text.specs.Reading.{Reads}
-use Rattle.drill_text.specs.Texts.{IsDrillText}
 use Rattle.grid_units.specs.Limits.{text_limit}
 
 -- the part of a file after one more command
@@ -42,15 +40,14 @@ drill_sayable commands = are_sayable part.Before commands && is_over (part_from 
 abbrev pub canonical_text : List DrillCommand → List ℕ
 canonical_text commands = bytes_of (map canonical commands)
 
--- the canonical text; one above 268,435,456 bytes is TooLong at place 0 and byte 0
+-- these bytes; above 268,435,456 of them are TooLong at place 0 and byte 0
+abbrev pub text_or_fault : List ℕ → Result (List ℕ) Fault
+text_or_fault bytes = if nat_lt text_limit (length bytes) then Err (fault 0 0 TooLong) else Ok bytes
+
+-- the canonical text, unless it is too long
 abbrev pub written : List DrillCommand → Result (List ℕ) Fault
-written commands = if nat_lt text_limit (length (canonical_text commands)) then Err (fault 0 0 TooLong) else Ok (canonical_text commands)
+written commands = text_or_fault (canonical_text commands)
 
 -- the bytes that a vector holds, in order
 abbrev pub bytes_in : Vec ℕ → List ℕ
 bytes_in bytes = bytes.items
-
--- A whole text is a drill text whose commands have this canonical text; or it has this fault, or that text is too long.
-abbrev pub ReadsWritten : List ℕ → Result (List ℕ) Fault → Type 0
-ReadsWritten text (Ok new) = (commands : List DrillCommand) × IsDrillText text commands × (written commands ≡ Ok new)
-ReadsWritten text (Err fault) = Reads text (Err fault) ⊎ ((commands : List DrillCommand) × IsDrillText text commands × (written commands ≡ Err fault))

@@ -1,45 +1,56 @@
 //! A drill file that was read.
 
-ghost use Rattle.std.specs.Prelude.{◌≡◌};
+ghost use Rattle.std.specs.Prelude.{◌≡◌, List};
+ghost use Rattle.grid_units.specs.Results.{AnswersAlways};
+ghost use Rattle.drill_lines.specs.declared.command.DrillCommand.{DrillCommand as TheCommand};
+ghost use Rattle.drill_text.specs.declared.kept.Keep.{Keep};
+ghost use Rattle.drill_text.specs.Keeping.{Met};
+ghost use Rattle.drill_text.specs.Outcome.{file_of};
+ghost use Rattle.drill_text.specs.Writing.{bytes_in};
 
+use crate::judge::Judge;
+use crate::kept::Kept;
+use crate::writer::too_long;
 use drill_lines::DrillCommand;
-use grid_units::{Dec, Hole};
+use grid_units::{Dec, Fail, Hole, TEXT_LIMIT};
 use indexmap::IndexMap;
 use std::marker::Model;
 
-/// A drill file: its commands, the holes that they drill and the tools that they define. The commands have
-/// coordinates and diameters in the unit of the file; the holes are in pm.
+/// A drill file: its commands or their canonical text, the holes that they drill and the tools that they define. The commands
+/// have coordinates and diameters in the unit of the file; the holes are in pm.
 #[derive(Drop)]
 pub struct Drill {
     commands: Vec<DrillCommand>,
+    text: Vec<u8>,
     holes: Vec<Hole>,
     tools: IndexMap<u16, Dec>,
 }
 
 impl Model for Drill {
     ghost use Rattle.drill_text.specs.Outcome.{DrillFile};
+    ghost use Rattle.drill_text.specs.Writing.{text_or_fault};
 
     ghost Value = { DrillFile };
 
-    ghost view = { λ d. record { commands = d.commands.items; holes = d.holes.items; tools = d.tools.entries } };
+    ghost view = { λ d. record { commands = d.commands.items; text = text_or_fault d.text.items; holes = d.holes.items; tools = d.tools.entries } };
 }
 
 impl Drill {
-    pub(crate) fn new(
-        commands: Vec<DrillCommand>,
-        holes: Vec<Hole>,
-        tools: IndexMap<u16, Dec>,
-    ) -> Drill
-        ensures { result ≡ record { commands = commands.items; holes = holes.items; tools = tools.entries } }
+    /// The drill file of the commands that a judge has met, with what was kept of them.
+    pub(crate) fn new(judge: Judge, kept: Kept) -> Drill
+        ensures { (keep : Keep) (commands : List TheCommand) → Met judge kept keep commands → result ≡ file_of keep commands }
     {
+        let (commands, text) = kept.into_parts();
+        let (holes, tools) = judge.into_parts();
         Drill {
             commands,
+            text,
             holes,
             tools,
         }
     }
 
-    /// The commands, in the order of their lines.
+    /// The commands, in the order of their lines; none if they were not kept.
     pub fn commands(&self) -> &[DrillCommand]
         ensures { result.now ≡ self.now.commands }
     {
@@ -59,6 +70,21 @@ impl Drill {
     {
         let Drill { holes, .. } = self;
         holes
+    }
+
+    /// The canonical text of the commands, as `write_drill` gives it, moved out of the file; no bytes if it was not kept.
+    ///
+    /// # Errors
+    ///
+    /// [`grid_units::Reason::TooLong`] at place 0 and byte 0 where the text would be above 268,435,456 bytes.
+    pub fn into_text(self) -> Result<Vec<u8>, Fail>
+        ensures { AnswersAlways bytes_in (λ answer. answer ≡ self.text) result }
+    {
+        let Drill { text, .. } = self;
+        if text.len() > TEXT_LIMIT {
+            return Err(too_long());
+        }
+        Ok(text)
     }
 
     /// The diameters by tool number, in order of definition and in the unit of the file.

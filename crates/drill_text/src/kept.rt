@@ -1,66 +1,64 @@
 //! What is kept of the commands of a drill file.
 
 ghost use Rattle.std.specs.Prelude.{◌≡◌, [], ◌∷◌, ◌++◌, List, OnOk};
-ghost use Rattle.grid_units.specs.Results.{AnswersAlways};
 ghost use Rattle.drill_lines.specs.declared.command.DrillCommand.{DrillCommand as TheCommand};
-ghost use Rattle.drill_text.specs.Writing.{written, bytes_in};
+ghost use Rattle.drill_text.specs.declared.kept.Keep.{Keep as TheKeep};
 
-use crate::lines::Lines;
+use crate::writer::push_line;
 use drill_lines::DrillCommand;
-use grid_units::Fail;
+use grid_units::TEXT_LIMIT;
 use std::alloc::{AllocError, Global};
 
-/// What a reader keeps of the commands.
+/// What a reader keeps of a drill file.
 #[derive(Clone, Copy, Debug, PartialEq, Eq)]
-pub(crate) enum Keeping {
-    /// Nothing but whether the end of the file is among the commands.
-    Nothing,
-    /// All of the commands.
+pub enum Keep {
+    /// The holes, the tools and the commands.
     Commands,
-    /// The canonical lines of the commands.
-    Lines,
+    /// The holes, the tools and the canonical text of the commands, but no command.
+    Text,
+    /// The holes and the tools alone.
+    Holes,
 }
 
-/// The commands that were read, or their canonical lines, or neither; and whether the end of the file is among them.
+/// The commands that were read, or their canonical text, or neither; and whether the end of the file is among them. Once the
+/// text is longer than a text may be, nothing is added to it.
 #[derive(Drop)]
 pub(crate) struct Kept {
-    keeping: Keeping,
+    keep: Keep,
     commands: Vec<DrillCommand>,
-    lines: Lines,
+    text: Vec<u8>,
     is_finished: bool,
 }
 
 impl Kept {
-    ghost use Rattle.drill_text.specs.Keeping.{Keeps, HoldsLines};
+    ghost use Rattle.drill_text.specs.Keeping.{Keeps};
 
     /// Keeps nothing yet.
-    pub(crate) fn new(alloc: Global, keeping: Keeping) -> Kept
-        ensures keeps { Keeps result [] }
-        ensures same { result.keeping ≡ keeping }
+    pub(crate) fn new(alloc: Global, keep: Keep) -> Kept
+        ensures { Keeps result keep [] }
     {
         Kept {
-            keeping,
+            keep,
             commands: Vec::new(alloc),
-            lines: Lines::new(alloc),
+            text: Vec::new(alloc),
             is_finished: false,
         }
     }
 
     /// Adds a command, or its line.
     pub(crate) fn add(&mut self, command: DrillCommand) -> Result<(), AllocError>
-        ensures keeps { (before : List TheCommand) → Keeps self.old before → OnOk result (Keeps self.new (before ++ command ∷ [])) }
-        ensures same { self.new.keeping ≡ self.old.keeping }
+        ensures { (keep : TheKeep) (before : List TheCommand) → Keeps self.old keep before → OnOk result (Keeps self.new keep (before ++ command ∷ [])) }
     {
         if matches!(command, DrillCommand::Finish) {
             self.is_finished = true;
         }
-        match self.keeping {
-            Keeping::Nothing => Ok(()),
-            Keeping::Commands => {
+        match self.keep {
+            Keep::Commands => {
                 self.commands.push(command)?;
                 Ok(())
             }
-            Keeping::Lines => self.lines.add(&command),
+            Keep::Text if self.text.len() <= TEXT_LIMIT => push_line(&mut self.text, &command),
+            Keep::Text | Keep::Holes => Ok(()),
         }
     }
 
@@ -71,19 +69,11 @@ impl Kept {
         self.is_finished
     }
 
-    /// The commands that are kept.
-    pub(crate) fn into_commands(self) -> Vec<DrillCommand>
-        ensures { result.items ≡ self.commands.items }
+    /// The commands and the text that are kept.
+    pub(crate) fn into_parts(self) -> (Vec<DrillCommand>, Vec<u8>)
+        ensures { result ≡ (self.commands, self.text) }
     {
-        let Kept { commands, .. } = self;
-        commands
-    }
-
-    /// The canonical text of the commands, if their lines are kept.
-    pub(crate) fn into_text(self) -> Result<Vec<u8>, Fail>
-        ensures { (commands : List TheCommand) → HoldsLines self.lines commands → AnswersAlways bytes_in (λ answer. answer ≡ written commands) result }
-    {
-        let Kept { lines, .. } = self;
-        lines.finish()
+        let Kept { commands, text, .. } = self;
+        (commands, text)
     }
 }

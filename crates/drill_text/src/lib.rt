@@ -3,21 +3,17 @@
 
 mod drill;
 mod hits;
-mod holes_reader;
 mod judge;
 mod kept;
 pub mod laws;
-mod lines;
 mod reader;
-mod rewrite_reader;
 mod writer;
 
 pub use drill::Drill;
 pub use drill_lines::{Coordinates, DrillCommand, Format};
-pub use holes_reader::HolesReader;
+pub use kept::Keep;
 pub use laws::{
     drill_texts, equal_commands, faults_stay, first_faults, one_reading, sayable_texts,
 };
 pub use reader::{DrillReader, read_drill};
-pub use rewrite_reader::RewriteReader;
 pub use writer::{drill_sayable, write_drill};

@@ -7,28 +7,30 @@ ghost use Rattle.grid_units.specs.declared.fault.Fail.TheVariants.{Refused};
 ghost use Rattle.grid_units.specs.Limits.{line_limit, text_limit};
 ghost use Rattle.grid_units.specs.Results.{fault, Answers};
 ghost use Rattle.drill_text.specs.Reading.{spelled, Reads, place_behind_count};
-ghost use Rattle.drill_text.specs.Keeping.{Met, Leaves, Ends};
+ghost use Rattle.drill_text.specs.declared.kept.Keep.{Keep as TheKeep};
+ghost use Rattle.drill_text.specs.declared.kept.Keep.TheVariants as keep;
+ghost use Rattle.drill_text.specs.Keeping.{Met, Leaves};
 ghost use Rattle.drill_lines.specs.Lines.{trimmed};
 ghost use Rattle.drill_lines.specs.Meaning.{meaning};
 ghost use Rattle.drill_text.specs.Outcome.{commands_in, file_of};
-ghost use Rattle.drill_text.specs.Texts.{IsDrillText, ReadsHoles};
-ghost use Rattle.drill_text.specs.Writing.{drill_sayable, ReadsWritten, bytes_in};
+ghost use Rattle.drill_text.specs.Texts.{IsDrillText, ReadsAs};
+ghost use Rattle.drill_text.specs.Writing.{drill_sayable};
 
 use crate::drill::Drill;
 use crate::hits::leading_hit;
 use crate::judge::Judge;
-use crate::kept::{Keeping, Kept};
+use crate::kept::{Keep, Kept};
 use drill_lines::{Coordinates, DrillCommand, read_line};
-use grid_units::{Fail, Fault, Hole, LINE_LIMIT, Reason, Stop};
+use grid_units::{Fail, Fault, LINE_LIMIT, Reason, Stop};
 use memchr::memchr;
 use std::alloc::Global;
 
 /// The limit of a text's length, 268,435,456 bytes, as an offset.
 const TEXT_LIMIT: u64 = grid_units::TEXT_LIMIT as u64;
 
-/// The commands that were read so far, and the line that has not ended.
+/// What was read so far, and the line that has not ended.
 #[derive(Drop)]
-pub(crate) struct Progress {
+struct Progress {
     alloc: Global,
     judge: Judge,
     kept: Kept,
@@ -71,8 +73,7 @@ fn keep(
     judge: &mut Judge,
     kept: &mut Kept,
 ) -> Result<(), Fail>
-    ensures leaves { (line : List ℕ) (before : List TheCommand) → length line ≤ line_limit → meaning judge.old.settings (trimmed line) ≡ Ok (Some command) → Met judge.old kept.old before → Leaves result judge.new kept.new (spelled place byte line before) }
-    ensures same { kept.new.keeping ≡ kept.old.keeping }
+    ensures { (keep : TheKeep) (line : List ℕ) (before : List TheCommand) → length line ≤ line_limit → meaning judge.old.settings (trimmed line) ≡ Ok (Some command) → Met judge.old kept.old keep before → Leaves result judge.new kept.new keep (spelled place byte line before) }
 {
     match judge.step(&command) {
         Ok(()) => {
@@ -94,8 +95,7 @@ fn spell(
     kept: &mut Kept,
 ) -> Result<(), Fail>
     requires short { length line.now ≤ line_limit }
-    ensures leaves { (before : List TheCommand) → Met judge.old kept.old before → Leaves result judge.new kept.new (spelled place byte line.now before) }
-    ensures same { kept.new.keeping ≡ kept.old.keeping }
+    ensures { (keep : TheKeep) (before : List TheCommand) → Met judge.old kept.old keep before → Leaves result judge.new kept.new keep (spelled place byte line.now before) }
 {
     match read_line(alloc, judge.settings(), line) {
         Ok(None) => Ok(()),
@@ -112,14 +112,13 @@ impl Progress {
     ghost use Rattle.drill_text.specs.Holding.{Advances, Refuses, RefusesText, Holds};
 
     /// A reader that has read nothing.
-    pub(crate) fn new(alloc: Global, keeping: Keeping) -> Progress
-        ensures holds { Holds result [] }
-        ensures keeping { result.kept.keeping ≡ keeping }
+    fn new(alloc: Global, keep: Keep) -> Progress
+        ensures { Holds result keep [] }
     {
         Progress {
             alloc,
             judge: Judge::new(alloc),
-            kept: Kept::new(alloc, keeping),
+            kept: Kept::new(alloc, keep),
             line: Vec::new(alloc),
             start: 0,
             offset: 0,
@@ -133,7 +132,6 @@ impl Progress {
         requires room { self.old.offset + length run.now ≤ text_limit }
         ensures offset { OnOk result (self.new.offset ≡ self.old.offset + length run.now) }
         ensures ok { OnOk result (Advances self.old self.new run.now) }
-        ensures keeping { self.new.kept.keeping ≡ self.old.kept.keeping }
         ensures err { IfErr result (Refuses self.old run.now) }
     {
         if run.len() > LINE_LIMIT - self.line.len() {
@@ -149,7 +147,6 @@ impl Progress {
         requires room { self.old.offset < text_limit }
         ensures offset { OnOk result (self.new.offset ≡ self.old.offset + 1) }
         ensures ok { OnOk result (Advances self.old self.new (10 ∷ [])) }
-        ensures keeping { self.new.kept.keeping ≡ self.old.kept.keeping }
         ensures err { IfErr result (Refuses self.old (10 ∷ [])) }
     {
         spell(
@@ -175,7 +172,6 @@ impl Progress {
         requires room { self.old.offset + length line.now < text_limit }
         ensures offset { OnOk result (self.new.offset ≡ self.old.offset + (length line.now + 1)) }
         ensures ok { OnOk result (Advances self.old self.new (line.now ++ 10 ∷ [])) }
-        ensures keeping { self.new.kept.keeping ≡ self.old.kept.keeping }
         ensures err { IfErr result (Refuses self.old (line.now ++ 10 ∷ [])) }
     {
         spell(
@@ -200,7 +196,6 @@ impl Progress {
         requires room { self.old.offset + length bytes.now ≤ text_limit }
         ensures offset { OnOk result (self.new.offset ≡ self.old.offset + (len + 1)) }
         ensures ok { OnOk result (Advances self.old self.new (take (len + 1) bytes.now)) }
-        ensures keeping { self.new.kept.keeping ≡ self.old.kept.keeping }
         ensures err { IfErr result (Refuses self.old bytes.now) }
     {
         keep(
@@ -222,7 +217,6 @@ impl Progress {
         requires room { self.old.offset + length run.now < text_limit }
         ensures offset { OnOk result (self.new.offset ≡ self.old.offset + (length run.now + 1)) }
         ensures ok { OnOk result (Advances self.old self.new (run.now ++ 10 ∷ [])) }
-        ensures keeping { self.new.kept.keeping ≡ self.old.kept.keeping }
         ensures err { IfErr result (Refuses self.old (run.now ++ 10 ∷ [])) }
     {
         if self.line.is_empty() && run.len() <= LINE_LIMIT {
@@ -238,7 +232,6 @@ impl Progress {
         requires room { self.old.offset + length bytes.now ≤ text_limit }
         ensures taken { IfOk result (λ n. (0 < n) × (n ≤ length bytes.now) × (self.new.offset ≡ self.old.offset + n)) }
         ensures ok { IfOk result (λ n. Advances self.old self.new (take n bytes.now)) }
-        ensures keeping { self.new.kept.keeping ≡ self.old.kept.keeping }
         ensures err { IfErr result (Refuses self.old bytes.now) }
     {
         if self.line.is_empty() && self.judge.is_in_body() {
@@ -261,7 +254,6 @@ impl Progress {
         requires room { self.old.offset + length bytes.now ≤ text_limit }
         ensures offset { OnOk result (self.new.offset ≡ self.old.offset + length bytes.now) }
         ensures ok { OnOk result (Advances self.old self.new bytes.now) }
-        ensures keeping { self.new.kept.keeping ≡ self.old.kept.keeping }
         ensures err { IfErr result (Refuses self.old bytes.now) }
     {
         let mut taken = 0;
@@ -272,9 +264,8 @@ impl Progress {
     }
 
     /// Takes the next piece of the text.
-    pub(crate) fn take(&mut self, piece: &[u8]) -> Result<(), Fail>
+    fn take(&mut self, piece: &[u8]) -> Result<(), Fail>
         ensures ok { OnOk result (Advances self.old self.new piece.now) }
-        ensures keeping { self.new.kept.keeping ≡ self.old.kept.keeping }
         ensures err { IfErr result (RefusesText self.old piece.now) }
     {
         let room = (TEXT_LIMIT - self.offset) as usize;
@@ -298,8 +289,7 @@ impl Progress {
 
     /// Reads the rest of the text, which no LF has ended, as a line.
     fn end(&mut self) -> Result<(), Fail>
-        ensures leaves { (before : List TheCommand) → Met self.old.judge self.old.kept before → Leaves result self.new.judge self.new.kept (spelled (self.old.lines + 1) self.old.start self.old.line.items before) }
-        ensures keeping { self.new.kept.keeping ≡ self.old.kept.keeping }
+        ensures leaves { (keep : TheKeep) (before : List TheCommand) → Met self.old.judge self.old.kept keep before → Leaves result self.new.judge self.new.kept keep (spelled (self.old.lines + 1) self.old.start self.old.line.items before) }
         ensures same { OnOk result ((self.new.lines ≡ self.old.lines) × (self.new.line.items ≡ self.old.line.items) × (self.new.offset ≡ self.old.offset)) }
     {
         spell(
@@ -312,48 +302,20 @@ impl Progress {
         )
     }
 
-    /// The judge and what is kept of the commands, or the fault of the text that ends here.
-    fn finish(self) -> Result<(Judge, Kept), Fail>
-        ensures ends { (text : List ℕ) → Holds self text → Ends text result }
-        ensures keeping { IfOk result (λ p. p.1.keeping ≡ self.kept.keeping) }
+    /// The drill file, or the fault of the text that ends here.
+    fn finish(self) -> Result<Drill, Fail>
+        ensures { (keep : TheKeep) (text : List ℕ) → Holds self keep text → Answers (λ drill. drill) (ReadsAs (file_of keep) text) result }
     {
         let mut last = self;
         last.end()?;
         if last.kept.is_finished() {
-            return Ok((last.judge, last.kept));
+            return Ok(Drill::new(last.judge, last.kept));
         }
         Err(refusal(last.place_behind(), last.offset, Reason::Truncated))
     }
-
-    /// The drill file, or the fault of the text that ends here.
-    fn finish_drill(self) -> Result<Drill, Fail>
-        ensures exact { self.kept.keeping ≡ Keeping.Commands → (text : List ℕ) → Holds self text → Answers commands_in (Reads text) result }
-        ensures file { self.kept.keeping ≡ Keeping.Commands → (text : List ℕ) → Holds self text → IfOk result (λ drill. drill ≡ file_of drill.commands) }
-    {
-        let (judge, kept) = self.finish()?;
-        let (holes, tools) = judge.into_parts();
-        Ok(Drill::new(kept.into_commands(), holes, tools))
-    }
-
-    /// The canonical text, or the fault of the text that ends here.
-    pub(crate) fn finish_lines(self) -> Result<Vec<u8>, Fail>
-        ensures { self.kept.keeping ≡ Keeping.Lines → (text : List ℕ) → Holds self text → Answers bytes_in (ReadsWritten text) result }
-    {
-        let (_, kept) = self.finish()?;
-        kept.into_text()
-    }
-
-    /// The holes, or the fault of the text that ends here.
-    pub(crate) fn finish_holes(self) -> Result<Vec<Hole>, Fail>
-        ensures { (text : List ℕ) → Holds self text → Answers (λ holes. holes.items) (ReadsHoles text) result }
-    {
-        let (judge, _) = self.finish()?;
-        let (holes, _) = judge.into_parts();
-        Ok(holes)
-    }
 }
 
-/// A reader of a drill file that comes in pieces.
+/// A reader of a drill file that comes in pieces. It holds at most one line, the holes, the tools and what it is asked to keep.
 #[derive(Drop)]
 pub struct DrillReader {
     progress: Progress,
@@ -366,20 +328,31 @@ impl DrillReader {
     ghost use Rattle.grid_units.specs.Results.{Tells};
     ghost use Rattle.drill_text.specs.Holding.{StandsAfter, failure};
 
-    /// A reader that has read nothing.
+    /// A reader that has read nothing, and keeps the commands.
     pub fn new(alloc: Global) -> DrillReader
-        ensures { StandsAfter result [] }
+        ensures { StandsAfter result keep.Commands [] }
+    {
+        DrillReader::keeping(alloc, Keep::Commands)
+    }
+
+    /// A reader that has read nothing, and keeps what it is asked for.
+    pub fn keeping(alloc: Global, keep: Keep) -> DrillReader
+        ensures { StandsAfter result keep [] }
     {
         DrillReader {
-            progress: Progress::new(alloc, Keeping::Commands),
+            progress: Progress::new(alloc, keep),
             failed: None,
         }
     }
 
     /// Takes the next piece of the text. A reader that has failed gives its failure again.
+    ///
+    /// # Errors
+    ///
+    /// The fault that the text so far shows, whatever follows it, or [`Fail::Memory`].
     pub fn feed(&mut self, piece: &[u8]) -> Result<(), Fail>
-        ensures ok { (text : List ℕ) → StandsAfter self.old text → OnOk result (StandsAfter self.new (text ++ piece.now)) }
-        ensures err { (text : List ℕ) → StandsAfter self.old text → IfErr result (Tells (λ f. Shows (text ++ piece.now) (Err f))) }
+        ensures ok { (keep : TheKeep) (text : List ℕ) → StandsAfter self.old keep text → OnOk result (StandsAfter self.new keep (text ++ piece.now)) }
+        ensures err { (keep : TheKeep) (text : List ℕ) → StandsAfter self.old keep text → IfErr result (Tells (λ f. Shows (text ++ piece.now) (Err f))) }
         ensures failed { IfSome (failure self.old) (λ e. result ≡ Err e) }
         ensures fails { IfErr result (λ e. failure self.new ≡ Some e) }
     {
@@ -393,16 +366,19 @@ impl DrillReader {
         outcome
     }
 
-    /// The drill file of the whole text. A reader that has failed gives its failure again.
+    /// The drill file of the whole text, with what was kept. A reader that has failed gives its failure again.
+    ///
+    /// # Errors
+    ///
+    /// The fault of the whole text, or [`Fail::Memory`].
     pub fn finish(self) -> Result<Drill, Fail>
-        ensures exact { (text : List ℕ) → StandsAfter self text → Answers commands_in (Reads text) result }
-        ensures file { (text : List ℕ) → StandsAfter self text → IfOk result (λ drill. drill ≡ file_of drill.commands) }
-        ensures sayable { (text : List ℕ) → StandsAfter self text → IfOk result (λ drill. drill_sayable drill.commands ≡ true) }
+        ensures exact { (keep : TheKeep) (text : List ℕ) → StandsAfter self keep text → Answers (λ drill. drill) (ReadsAs (file_of keep) text) result }
+        ensures sayable { (text : List ℕ) → StandsAfter self keep.Commands text → IfOk result (λ drill. drill_sayable drill.commands ≡ true) }
         ensures failed { IfSome (failure self) (λ e. result ≡ Err e) }
     {
         match self.failed {
             Some(fail) => Err(fail),
-            None => self.progress.finish_drill(),
+            None => self.progress.finish(),
         }
     }
 }
@@ -412,7 +388,7 @@ pub fn read_drill(alloc: Global, bytes: &[u8]) -> Result<Drill, Fail>
     ensures exact { Answers commands_in (Reads bytes.now) result }
     ensures found { IfOk result (λ drill. IsDrillText bytes.now drill.commands) }
     ensures only { (commands : List TheCommand) → IsDrillText bytes.now commands → Answers commands_in (λ answer. answer ≡ Ok commands) result }
-    ensures file { IfOk result (λ drill. drill ≡ file_of drill.commands) }
+    ensures file { IfOk result (λ drill. drill ≡ file_of keep.Commands drill.commands) }
     ensures sayable { IfOk result (λ drill. drill_sayable drill.commands ≡ true) }
 {
     let mut reader = DrillReader::new(alloc);

@@ -5,8 +5,7 @@ use Rattle.std.proofs.Math.ListN.{get_or-append}
 use Rattle.std.proofs.Math.Seq.{get_or-append_seam}
 use Rattle.std.proofs.lemmas.Bool.{cases_lt}
 use Rattle.grid_units.specs.declared.fault.Fault.{Fault}
-use Rattle.layer_image.specs.Layers.{LayerImage, OneReading, ReadsLayer}
-use Rattle.layer_image.specs.Holding.{ReadsFlashes}
+use Rattle.layer_image.specs.Layers.{LayerImage, OneReading, ReadsFlashes, ReadsLayer}
 use Rattle.layer_image.specs.declared.flash.Flash.{Flash}
 use Rattle.package_check.specs.Package.{Source}
 use Rattle.flashed_boards.specs.Flashed.{AreFlashes, AreFlashesOf}

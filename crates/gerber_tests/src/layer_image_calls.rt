@@ -1,10 +1,8 @@
 //! Layers that are read, and why others are refused.
 
 use crate::texts::{LAYER, expected_fault, joined};
-use grid_units::{Fail, Point, Reason, Text};
-use layer_image::{
-    Flash, FlashReader, FlashSum, Layer, LayerReader, LayerSum, SumReader, What, Why, read_layer,
-};
+use grid_units::{Fail, Point, Reason};
+use layer_image::{Flash, Keep, Layer, LayerReader, What, Why, read_layer};
 use pad_shapes::{Disc, Obround, Pad, Rect};
 use std::alloc::Global;
 
@@ -498,13 +496,14 @@ fn file_functions(rt: HostRuntime) {
     }
 }
 
-/// Whether a layer has so many commands, the flash and pad of the first layer, and no file function.
+/// Whether a layer has so many commands, the flash and pad of the first layer, no other flash, and no file function.
 fn is_first_layer(layer: Result<Layer, Fail>, commands: usize) -> bool {
     match layer {
         Ok(layer) => {
             layer.commands().len() == commands
                 && are_discs(layer.flashes(), ONE)
                 && layer.pads().len() == 1
+                && layer.other() == 0
                 && layer.file_function().is_none()
                 && layer.into_pads().len() == 1
         }
@@ -607,104 +606,89 @@ fn a_fault_and_what_follows_it(rt: HostRuntime) {
     assert!(rt; refuses_each(reader, TWO_FAULTS, unknown));
 }
 
-/// Whether a reader of a layer gives this failure at each of two pieces, and at its end.
-fn layer_fails(alloc: Global, first: &[u8], second: &[u8], fail: Option<Fail>) -> bool {
-    let mut reader = LayerReader::new(alloc);
-    let is_refused = reader.feed(first).err() == fail && reader.feed(second).err() == fail;
-    reader.finish().err() == fail && is_refused
-}
-
-/// Whether a reader of flashes gives this failure at each of two pieces, and at its end.
-fn flashes_fail(alloc: Global, first: &[u8], second: &[u8], fail: Option<Fail>) -> bool {
-    let mut reader = FlashReader::new(alloc);
-    let is_refused = reader.feed(first).err() == fail && reader.feed(second).err() == fail;
-    reader.finish().err() == fail && is_refused
-}
-
-/// Whether a reader of sums gives this failure at each of two pieces, and at its end.
-fn sum_fails(alloc: Global, first: &[u8], second: &[u8], fail: Option<Fail>) -> bool {
-    let mut reader = SumReader::new(alloc);
-    let is_refused = reader.feed(first).err() == fail && reader.feed(second).err() == fail;
+/// Whether a reader that keeps these parts gives this failure at each of two pieces, and at its end.
+fn fails(alloc: Global, keep: Keep, pieces: (&[u8], &[u8]), fail: Option<Fail>) -> bool {
+    let mut reader = LayerReader::keeping(alloc, keep);
+    let is_refused = reader.feed(pieces.0).err() == fail && reader.feed(pieces.1).err() == fail;
     reader.finish().err() == fail && is_refused
 }
 
 #[test]
 fn an_early_rule_before_a_late_item_in_one_piece(rt: HostRuntime) {
-    let alloc = rt.alloc();
     let unknown = unknown_aperture();
-    assert!(rt; layer_fails(alloc, TWO_FAULTS, b"M02*", unknown));
-    assert!(rt; flashes_fail(alloc, TWO_FAULTS, b"M02*", unknown));
-    assert!(rt; sum_fails(alloc, TWO_FAULTS, b"M02*", unknown));
+    for keep in [Keep::All, Keep::Flashes, Keep::Pads] {
+        assert!(rt; fails(rt.alloc(), keep, (TWO_FAULTS, b"M02*"), unknown));
+    }
 }
 
 /// A file function, a second aperture, and its flashes in a block, turned by 45 degrees.
 const TURNED: &[u8] =
     b"%TF.FileFunction,Copper,L1,Top*%\n%ADD11R,1X2*%\nX9Y9D03*\nD11*\n%SRX2Y3I5J1*%\n%LR45*%\nX0Y0D03*\n";
 
-/// The sum of a text that comes byte by byte.
-fn sum_of(alloc: Global, text: &[u8]) -> Result<LayerSum, Fail> {
-    let mut reader = SumReader::new(alloc);
+/// What is kept of the layer of a text that comes byte by byte.
+fn kept_of_bytes(alloc: Global, keep: Keep, text: &[u8]) -> Result<Layer, Fail> {
+    let mut reader = LayerReader::keeping(alloc, keep);
     for i in 0..text.len() {
         reader.feed(&text[i..i + 1])?;
     }
     reader.finish()
 }
 
-/// How many pads and other flashes the sum of a text has, and whether it has a file function.
-fn sum_counts(alloc: Global, text: &[u8]) -> Option<(usize, usize, bool)> {
-    match sum_of(alloc, text) {
-        Ok(sum) => Some((sum.pads.len(), sum.other, sum.file_function.is_some())),
+/// What is kept of the layer of a text that comes in two pieces.
+fn kept_of_halves(alloc: Global, keep: Keep, text: &[u8]) -> Result<Layer, Fail> {
+    let half = text.len() / 2;
+    let mut reader = LayerReader::keeping(alloc, keep);
+    reader.feed(&text[..half])?;
+    reader.feed(&text[half..])?;
+    reader.finish()
+}
+
+/// How many commands, flashes, pads and other flashes a reader of pads gives, and whether there is a file function.
+fn sum_counts(alloc: Global, text: &[u8]) -> Option<([usize; 4], bool)> {
+    match kept_of_bytes(alloc, Keep::Pads, text) {
+        Ok(kept) => {
+            let lists = [
+                kept.commands().len(),
+                kept.flashes().len(),
+                kept.pads().len(),
+                kept.other(),
+            ];
+            Some((lists, kept.file_function().is_some()))
+        }
         Err(_) => None,
     }
 }
 
-/// The flashes of a text that comes byte by byte.
-fn flashes_of(alloc: Global, text: &[u8]) -> Result<Vec<Flash>, Fail> {
-    let mut reader = FlashReader::new(alloc);
-    for i in 0..text.len() {
-        reader.feed(&text[i..i + 1])?;
-    }
-    reader.finish()
-}
-
 /// How many flashes a text has byte by byte, if they are those of its layer.
 fn flash_count(alloc: Global, text: &[u8]) -> Option<usize> {
-    match (flashes_of(alloc, text), read_layer(alloc, text)) {
-        (Ok(flashes), Ok(layer)) => {
+    match (
+        kept_of_bytes(alloc, Keep::Flashes, text),
+        read_layer(alloc, text),
+    ) {
+        (Ok(kept), Ok(layer)) => {
+            let flashes = kept.into_flashes();
             (flashes.as_slice() == layer.flashes()).then_some(flashes.len())
         }
         _ => None,
     }
 }
 
-/// The flashes of a text that comes in two pieces, with what else a package needs of it.
-fn whole_of(alloc: Global, text: &[u8]) -> Result<FlashSum, Fail> {
-    let half = text.len() / 2;
-    let mut reader = FlashReader::new(alloc);
-    reader.feed(&text[..half])?;
-    reader.feed(&text[half..])?;
-    reader.finish_whole()
-}
-
-/// Whether a file function is this text, or none.
-fn is_function(function: &Option<Text>, expected: Option<&[u8]>) -> bool {
-    match (function, expected) {
-        (Some(text), Some(bytes)) => text.bytes() == bytes,
-        (None, None) => true,
-        _ => false,
-    }
-}
-
-/// Whether flashes and a file function are those of a layer.
-fn agree(whole: &FlashSum, layer: &Layer) -> bool {
-    whole.flashes.as_slice() == layer.flashes()
-        && is_function(&whole.file_function, layer.file_function())
+/// Whether what a reader of flashes gives is that of a layer, with no command and no list of pads.
+fn agree(kept: &Layer, layer: &Layer) -> bool {
+    kept.commands().is_empty()
+        && kept.pads().is_empty()
+        && kept.flashes() == layer.flashes()
+        && kept.other() == layer.other()
+        && kept.file_function() == layer.file_function()
 }
 
 /// How many flashes of a text are no pads, if its flashes and its file function are those of its layer.
 fn other_count(alloc: Global, text: &[u8]) -> Option<usize> {
-    match (whole_of(alloc, text), read_layer(alloc, text)) {
-        (Ok(whole), Ok(layer)) => agree(&whole, &layer).then_some(whole.other),
+    match (
+        kept_of_halves(alloc, Keep::Flashes, text),
+        read_layer(alloc, text),
+    ) {
+        (Ok(kept), Ok(layer)) => agree(&kept, &layer).then_some(kept.other()),
         _ => None,
     }
 }
@@ -713,7 +697,8 @@ fn other_count(alloc: Global, text: &[u8]) -> Option<usize> {
 fn are_turned_flashes_counted(alloc: Global) -> bool {
     match with(alloc, 5, TURNED) {
         Some(text) => {
-            sum_counts(alloc, &text) == Some((1, 6, true)) && other_count(alloc, &text) == Some(6)
+            sum_counts(alloc, &text) == Some(([0, 0, 1, 6], true))
+                && other_count(alloc, &text) == Some(6)
         }
         None => false,
     }
@@ -729,12 +714,13 @@ fn copies(alloc: Global) -> Option<usize> {
 
 #[test]
 fn sums_of_layers_in_pieces(rt: HostRuntime) {
-    assert!(rt; sum_counts(rt.alloc(), LAYER) == Some((1, 0, false)));
+    assert!(rt; sum_counts(rt.alloc(), LAYER) == Some(([0, 0, 1, 0], false)));
     assert!(rt; are_turned_flashes_counted(rt.alloc()));
 }
 
 #[test]
 fn flashes_of_layers_in_pieces(rt: HostRuntime) {
     assert!(rt; copies(rt.alloc()) == Some(6));
-    assert!(rt; whole_of(rt.alloc(), TWO_FAULTS).err() == unknown_aperture());
+    let refused = kept_of_halves(rt.alloc(), Keep::Flashes, TWO_FAULTS);
+    assert!(rt; refused.err() == unknown_aperture());
 }

@@ -4,7 +4,7 @@ use crate::digest::Digest;
 use drill_text::{Drill, DrillCommand};
 use gerber_text::{Command, Placed};
 use grid_units::{Fail, Hole};
-use layer_image::{Flash, Layer, LayerSum, What};
+use layer_image::{Flash, Layer, What};
 use manifest::{Entry, Role};
 use package_check::Report;
 use pad_shapes::Pad;
@@ -105,15 +105,9 @@ impl Answer {
     }
 
     /// The numbers of pads and of other flashes.
-    pub(crate) fn of_sum(outcome: Result<LayerSum, Fail>) -> Answer {
+    pub(crate) fn of_sum(outcome: Result<Layer, Fail>) -> Answer {
         match outcome {
-            Ok(sum) => {
-                let function = match &sum.file_function {
-                    Some(text) => Some(text.bytes()),
-                    None => None,
-                };
-                sum_answer(&sum.pads, sum.other, function)
-            }
+            Ok(layer) => sum_answer(layer.pads(), layer.other(), layer.file_function()),
             Err(fail) => Answer::Failed(fail),
         }
     }

@@ -1,10 +1,10 @@
 //! The readers of files that come in pieces, and their answers to a text whole, in two pieces and byte by byte.
 
 use crate::answer::Answer;
-use drill_text::{DrillReader, HolesReader, read_drill};
+use drill_text::{DrillReader, read_drill};
 use gerber_text::{WordReader, read_words};
 use grid_units::Fail;
-use layer_image::{LayerReader, SumReader, read_layer};
+use layer_image::{LayerReader, read_layer};
 use std::alloc::Global;
 
 /// A reader of a file that comes in pieces.
@@ -34,13 +34,23 @@ impl Pieces for LayerReader {
     }
 }
 
-impl Pieces for SumReader {
+/// A reader of a layer that keeps its pads alone.
+#[derive(Drop)]
+struct PadsReader(LayerReader);
+
+impl PadsReader {
+    fn new(alloc: Global) -> PadsReader {
+        PadsReader(LayerReader::keeping(alloc, layer_image::Keep::Pads))
+    }
+}
+
+impl Pieces for PadsReader {
     fn feed(&mut self, piece: &[u8]) -> Result<(), Fail> {
-        SumReader::feed(self, piece)
+        self.0.feed(piece)
     }
 
     fn finish(self) -> Answer {
-        Answer::of_sum(SumReader::finish(self))
+        Answer::of_sum(self.0.finish())
     }
 }
 
@@ -54,13 +64,26 @@ impl Pieces for DrillReader {
     }
 }
 
+/// A reader of a drill file that keeps its holes alone.
+#[derive(Drop)]
+struct HolesReader(DrillReader);
+
+impl HolesReader {
+    fn new(alloc: Global) -> HolesReader {
+        HolesReader(DrillReader::keeping(alloc, drill_text::Keep::Holes))
+    }
+}
+
 impl Pieces for HolesReader {
     fn feed(&mut self, piece: &[u8]) -> Result<(), Fail> {
-        HolesReader::feed(self, piece)
+        self.0.feed(piece)
     }
 
     fn finish(self) -> Answer {
-        Answer::of_holes(HolesReader::finish(self))
+        match self.0.finish() {
+            Ok(drill) => Answer::of_holes(Ok(drill.into_holes())),
+            Err(fail) => Answer::Failed(fail),
+        }
     }
 }
 
@@ -184,7 +207,7 @@ impl Reader {
         match self {
             Reader::Words => fed_in_two(WordReader::new(alloc), text, at),
             Reader::Layer => fed_in_two(LayerReader::new(alloc), text, at),
-            Reader::Sum => fed_in_two(SumReader::new(alloc), text, at),
+            Reader::Sum => fed_in_two(PadsReader::new(alloc), text, at),
             Reader::Drill => fed_in_two(DrillReader::new(alloc), text, at),
             Reader::Holes => fed_in_two(HolesReader::new(alloc), text, at),
         }
@@ -195,7 +218,7 @@ impl Reader {
         match self {
             Reader::Words => fed_in_bytes(WordReader::new(alloc), text),
             Reader::Layer => fed_in_bytes(LayerReader::new(alloc), text),
-            Reader::Sum => fed_in_bytes(SumReader::new(alloc), text),
+            Reader::Sum => fed_in_bytes(PadsReader::new(alloc), text),
             Reader::Drill => fed_in_bytes(DrillReader::new(alloc), text),
             Reader::Holes => fed_in_bytes(HolesReader::new(alloc), text),
         }
@@ -205,7 +228,7 @@ impl Reader {
         match self {
             Reader::Words => fed_again(WordReader::new(alloc), piece, count),
             Reader::Layer => fed_again(LayerReader::new(alloc), piece, count),
-            Reader::Sum => fed_again(SumReader::new(alloc), piece, count),
+            Reader::Sum => fed_again(PadsReader::new(alloc), piece, count),
             Reader::Drill => fed_again(DrillReader::new(alloc), piece, count),
             Reader::Holes => fed_again(HolesReader::new(alloc), piece, count),
         }

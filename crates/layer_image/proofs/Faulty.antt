@@ -7,7 +7,7 @@ use Rattle.grid_units.proofs.Lookbacks.{breaks-first}
 use Rattle.gerber_rows.specs.declared.command.Command.{Command}
 use Rattle.gerber_text.specs.declared.placed.Placed.{Placed}
 use Rattle.gerber_text.specs.Reading.{Entries}
-use Rattle.layer_image.specs.declared.flashes.Keep.{Keep}
+use Rattle.layer_image.specs.declared.keep.Keep.{Keep}
 use Rattle.layer_image.specs.declared.judge.Judge.{Judge}
 use Rattle.grid_units.specs.declared.stop.Stop.{Stop}
 use Rattle.layer_image.specs.Inner.Knows.{Judges}

@@ -5,6 +5,7 @@ use Rattle.std.proofs.lemmas.List.Folds.{list_any-append}
 use Rattle.std.proofs.lemmas.Grind.{common_steps, flat_map-append}
 use Rattle.std.specs.List.{list_any, flat_map}
 use Rattle.std.proofs.lemmas.List.{length-map, map-append}
+use Rattle.std.proofs.lemmas.Nat.{mul-add-lt}
 use Rattle.std.proofs.lemmas.Bool.{ltb-true, ltb-false}
 use Rattle.grid_units.specs.Numbers.{is_far}
 use Rattle.layer_image.specs.Flashes.{numbers_below, copies, copy_at}
@@ -150,23 +151,28 @@ no_rows grid e =
     ∙ any_below_none (λ u. list_any is_far_point (map (copy_at grid u) (numbers_below grid.rows))) grid.columns (λ u l. λ i. list_any is_far_point (map (copy_at grid u) (numbers_below (e i))))
 
 -- one row more
-pub next_row : {A : Type 0} (f : GridPoint → A) (g : ℕ → GridPoint) (old items new : List A) (first : List GridPoint) (v : ℕ) (x : A)
-    → items ≡ old ++ map f (first ++ map g (numbers_below v)) → new ≡ items ++ x ∷ [] → x ≡ f (g v) → new ≡ old ++ map f (first ++ map g (numbers_below (v + 1)))
-next_row f g old items new first v x known pushed here =
+pub next_row : {A : Type 0} (f : GridPoint → A) (g : ℕ → GridPoint) (first : List GridPoint) (v : ℕ) → map f (first ++ map g (numbers_below v)) ++ f (g v) ∷ [] ≡ map f (first ++ map g (numbers_below (v + 1)))
+next_row f g first v =
     let row : map g (numbers_below (v + 1)) ≡ map g (numbers_below v) ++ g v ∷ [] = ap (λ n. map g (numbers_below n)) (add-one v) ∙ map-append g (numbers_below v) (v ∷ []) in
-    let all : map f (first ++ map g (numbers_below (v + 1))) ≡ map f (first ++ map g (numbers_below v)) ++ f (g v) ∷ [] =
-    ap (λ l. map f (first ++ l)) row ∙ ap (map f) (sym (append_assoc first (map g (numbers_below v)) (g v ∷ []))) ∙ map-append f (first ++ map g (numbers_below v)) (g v ∷ []) in
-    pushed ∙ (λ i. known i ++ here i ∷ []) ∙ append_assoc old (map f (first ++ map g (numbers_below v))) (f (g v) ∷ []) ∙ ap (λ l. old ++ l) (sym all)
+    sym (ap (λ l. map f (first ++ l)) row ∙ ap (map f) (sym (append_assoc first (map g (numbers_below v)) (g v ∷ []))) ∙ map-append f (first ++ map g (numbers_below v)) (g v ∷ []))
 
 -- one column more
-pub next_column : {A : Type 0} (f : GridPoint → A) (grid : Grid) (old items : List A) (u v : ℕ) → v ≡ grid.rows
-    → items ≡ old ++ map f (flat_map (λ a. map (copy_at grid a) (numbers_below grid.rows)) (numbers_below u) ++ map (copy_at grid u) (numbers_below v))
-    → items ≡ old ++ map f (flat_map (λ a. map (copy_at grid a) (numbers_below grid.rows)) (numbers_below (u + 1)))
-next_column f grid old items u v e known =
+pub next_column : {A : Type 0} (f : GridPoint → A) (grid : Grid) (u v : ℕ) → v ≡ grid.rows
+    → map f (flat_map (λ a. map (copy_at grid a) (numbers_below grid.rows)) (numbers_below u) ++ map (copy_at grid u) (numbers_below v))
+    ≡ map f (flat_map (λ a. map (copy_at grid a) (numbers_below grid.rows)) (numbers_below (u + 1)))
+next_column f grid u v e =
     let column : ℕ → List GridPoint = λ a. map (copy_at grid a) (numbers_below grid.rows) in
     let more : flat_map column (numbers_below (u + 1)) ≡ flat_map column (numbers_below u) ++ column u =
     ap (λ n. flat_map column (numbers_below n)) (add-one u) ∙ flat_map-append column (numbers_below u) (u ∷ []) ∙ ap (λ l. flat_map column (numbers_below u) ++ l) (append-nil (column u)) in
-    known ∙ (λ i. old ++ map f (flat_map column (numbers_below u) ++ map (copy_at grid u) (numbers_below (e i)))) ∙ ap (λ l. old ++ map f l) (sym more)
+    (λ i. map f (flat_map column (numbers_below u) ++ map (copy_at grid u) (numbers_below (e i)))) ∙ ap (map f) (sym more)
+
+-- the copies before one of them are fewer than all
+pub fewer_copies : {A : Type 0} (f : GridPoint → A) (grid : Grid) (u v : ℕ) → u < grid.columns → v < grid.rows
+    → length (map f (flat_map (λ a. map (copy_at grid a) (numbers_below grid.rows)) (numbers_below u) ++ map (copy_at grid u) (numbers_below v))) < length (copies grid)
+fewer_copies f grid u v column row =
+    let first : List GridPoint = flat_map (λ a. map (copy_at grid a) (numbers_below grid.rows)) (numbers_below u) in
+    let rest : List GridPoint = map (copy_at grid u) (numbers_below v) in
+    omega (arith, length-map (first ++ rest) f, length-append first rest, count_pairs (copy_at grid) u grid.rows, length-map (numbers_below v) (copy_at grid u), length_below v, count_copies grid, mul-add-lt u grid.rows v grid.columns column row)
 
 steps_bound : (s : ℤ) (k : ℕ) → unsigned_abs s ≤ 2 ^ 71 → k < 2 ^ 32 → unsigned_abs (pos k *ℤ s) ≤ 2 ^ 103
 steps_bound s k b l =

@@ -20,7 +20,7 @@ use Rattle.layer_image.specs.declared.in_force.FastPath.{FastPath}
 use Rattle.layer_image.specs.declared.in_force.Lengths.{Lengths}
 use Rattle.layer_image.specs.declared.flash.Flash.{Flash}
 use Rattle.layer_image.specs.declared.flashes.Flashes.{Flashes}
-use Rattle.layer_image.specs.declared.flashes.Keep.{Keep}
+use Rattle.layer_image.specs.declared.keep.Keep.{Keep}
 use Rattle.layer_image.specs.declared.judge.Judge.{Judge}
 use Rattle.layer_image.specs.declared.flash.What.{What}
 use Rattle.layer_image.specs.declared.grid.Grid.{Grid}
@@ -145,9 +145,6 @@ named_within : (most : ℕ) (named : Option ℤ) (d : ℤ) → nat_le (unsigned_
 named_within most None d h = refl
 named_within most (Some n) d h = h
 
-room_for_one : (count : ℕ) → nat_le 4194304 count ≡ false → count < 4194304
-room_for_one count h = grind (arith, nat_tests)
-
 not_one_too_many : (count : ℕ) → count < 4194304 → nat_lt 4194304 (count + 1) ≡ false
 not_one_too_many count h = grind (arith, nat_tests)
 
@@ -163,16 +160,15 @@ move_is s count l action x y i j near known still has a b c d =
 
 -- a flash at one point in range, of what is near, breaks no rule
 pub flash_is : (s : Standing) (count : ℕ) (l : Lengths) (w : What) (action : Action) (x y i j : Option ℤ) (flash : Flash) → l.most * l.place ≤ 10000000000000 → AreLengths l s.unit s.format
-    → IsLoneWhat w (unit_in_force s) (aperture_in s) s.scale s.turn s.block → is_flash action ≡ true → s.in_region ≡ false → nat_le 4194304 count ≡ false
+    → IsLoneWhat w (unit_in_force s) (aperture_in s) s.scale s.turn s.block → is_flash action ≡ true → s.in_region ≡ false → count < 4194304
     → nat_le (unsigned_abs (unwrap_or x s.x)) l.most ≡ true → nat_le (unsigned_abs (unwrap_or y s.y)) l.most ≡ true → is_within l.most i ≡ true → is_within l.most j ≡ true
     → flash ≡ record { at = point_of l (unwrap_or x s.x) (unwrap_or y s.y); what = moved (point_of l (unwrap_or x s.x) (unwrap_or y s.y)) w }
     → IsFlashOf s count (command.Operate action x y i j) flash
-flash_is s count l w action x y i j flash near known is_lone flashes outside room a b c d is =
+flash_is s count l w action x y i j flash near known is_lone flashes outside few a b c d is =
     let h = named_lengths l s.unit s.format known in
     let lone = lone_shape w (unit_in_force s) (aperture_in s) s.scale s.turn s.block is_lone in
     let p : GridPoint = point_of l (unwrap_or x s.x) (unwrap_or y s.y) in
     let one : copies_at s x y ≡ p ∷ [] = one_point s l x y h lone.columns lone.rows in
-    let few : count < 4194304 = room_for_one count room in
     let named_x : is_within l.most x ≡ true = named_within l.most x s.x a in
     let named_y : is_within l.most y ≡ true = named_within l.most y s.y b in
     let near_x : is_far p.x ≡ false = not_far p.x (near_length (unwrap_or x s.x) l.place l.most near (within_most (unwrap_or x s.x) l.most a)) in

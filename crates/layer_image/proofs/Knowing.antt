@@ -1,17 +1,16 @@
 -- A judge that has taken in one more command knows it.
 use Rattle.std.proofs.Common.{◌≡◌, ◌+◌, cond, List, [], ◌∷◌, ◌++◌, length, length-append, pos, false, sym, ap, subst, ◌∙◌}
-use Rattle.std.proofs.lemmas.List.Elements.{filter_map-append}
-use Rattle.std.proofs.lemmas.List.Sums.{sum_by-append}
 use Rattle.layer_image.specs.declared.flash.Flash.{Flash}
 use Rattle.layer_image.specs.declared.flashes.Flashes.{Flashes}
-use Rattle.layer_image.specs.declared.flashes.Keep.{Keep}
+use Rattle.layer_image.specs.declared.keep.Keep.{Keep}
 use Rattle.layer_image.specs.Keeping.{flash_count, keeps_flashes, keeps_pads, KeepsFlashes, Adds}
 use Rattle.gerber_rows.specs.declared.command.Command.{Command}
 use Rattle.layer_image.specs.declared.judge.Judge.{Judge}
 use Rattle.layer_image.specs.Lookback.{standing, single, unit_named, format_named, region_named, definition_named, defines_macro, number_named, x_named, y_named, turn_named, scale_named, block_named}
 use Rattle.layer_image.specs.Rules.{broken_rule, first_broken}
-use Rattle.layer_image.specs.Flashes.{flashes_at, flashes_of, pads_of, pad_in, is_other, others_in}
+use Rattle.layer_image.specs.Flashes.{flashes_at, flashes_of, pads_of, others_in}
 use Rattle.layer_image.specs.Inner.Knows.{Knows, Takes, after, told}
+use Rattle.layer_image.proofs.Adding.{kept_append, kept_pads, others_append}
 use Rattle.grid_units.proofs.Lookbacks.{last_named-more, last_or-more, list_any-more, flat_positions-more}
 use Rattle.gerber_rows.specs.Pieces.{one}
 
@@ -40,9 +39,9 @@ pub keeps_more : (old new : Flashes) (keep : Keep) (first more : List Flash) →
 keeps_more old new keep first more keeps adds = record {
   same = adds.same ∙ keeps.same;
   count = adds.count ∙ (λ i. keeps.count i + length more) ∙ sym (length-append first more);
-  pads = λ h. adds.pads (ap keeps_pads keeps.same ∙ h) ∙ (λ i. keeps.pads h i ++ pads_of more) ∙ sym (filter_map-append (λ (f : Flash). pad_in f.what) first more);
-  others = adds.others ∙ (λ i. keeps.others i + others_in more) ∙ sym (sum_by-append (λ (f : Flash). cond (is_other f.what) 1 0) first more);
-  all = λ h. adds.all (ap keeps_flashes keeps.same ∙ h) ∙ ap (λ (l : List Flash). l ++ more) (keeps.all h);
+  others = adds.others ∙ (λ i. keeps.others i + others_in more) ∙ sym (others_append first more);
+  pads = adds.pads ∙ (λ i. keeps.pads i ++ cond (keeps_pads (keeps.same i)) (pads_of more) []) ∙ sym (kept_pads (keeps_pads keep) first more);
+  all = adds.all ∙ (λ i. keeps.all i ++ cond (keeps_flashes (keeps.same i)) more []) ∙ sym (kept_append (keeps_flashes keep) first more);
 }
 
 pub knows_more : (old new : Judge) (keep : Keep) (before : List Command) (c : Command) → Knows old keep before → Takes old c new → Knows new keep (before ++ c ∷ [])

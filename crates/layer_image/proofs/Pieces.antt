@@ -1,5 +1,5 @@
 -- What a reader of a layer in pieces shows of the text so far.
-use Rattle.std.proofs.Common.{◌≡◌, inl, inr, ℕ, List, [], ◌++◌, length, Bool, true, false, cond, Result, Ok, Err, OnOk, IfErr, sym, ap, ◌∙◌, nat_lt, arith}
+use Rattle.std.proofs.Common.{◌≡◌, inl, inr, ℕ, List, [], ◌++◌, length, Bool, true, false, cond, Result, Ok, Err, OnOk, IfErr, sym, ap, subst, ◌∙◌, nat_lt, arith}
 use Rattle.std.proofs.Math.Seq.{take-length}
 use Rattle.grid_units.specs.Results.{AnswersAlways, Answers, Tells}
 use Rattle.grid_units.specs.declared.fault.Fault.{Fault}
@@ -13,12 +13,12 @@ use Rattle.gerber_text.specs.Holding.{StandsBehind, FailedBehind, FailsWith}
 use Rattle.gerber_text.proofs.Shown.{shown_spelled}
 use Rattle.gerber_text.proofs.Whole.{shows_reads}
 use Rattle.gerber_text.proofs.Longer.{fails_longer}
-use Rattle.layer_image.specs.declared.flash.Flash.{Flash}
-use Rattle.layer_image.specs.declared.flashes.Keep.{Keep}
+use Rattle.layer_image.specs.declared.keep.Keep.{Keep}
+use Rattle.layer_image.specs.declared.keep.Keep.TheVariants as keep
 use Rattle.layer_image.specs.Faults.{IsFirstFault}
-use Rattle.layer_image.specs.Layers.{LayerImage, ReadsLayer}
+use Rattle.layer_image.specs.Layers.{LayerImage, ReadsKept, ReadsLayer}
 use Rattle.grid_units.specs.Lists.{IsLegal}
-use Rattle.layer_image.specs.Holding.{ShowsLayerFault, CoreEnds, FlashImage, ReadsFlashSum, ReadsFlashes, SumImage, ReadsSum}
+use Rattle.layer_image.specs.Holding.{ShowsLayerFault}
 use Rattle.grid_units.specs.Limits.{text_limit}
 use Rattle.gerber_text.specs.Writing.{without_places}
 use Rattle.layer_image.specs.Rules.{broken_rule}
@@ -74,27 +74,18 @@ shown_longer text more f (inr h) =
 pub shown_joined : (text more : List ℕ) (f : Fault) → ShowsLayerFault text f → ReadsLayer (text ++ more) (Err f)
 shown_joined text more f h = shown_read (text ++ more) f (shown_longer text more f h)
 
-pub layer_shows_reads : (text : List ℕ) (e : Fail) → Tells (ShowsLayerFault text) e → Answers {T = LayerImage} (λ layer. layer) (λ answer. ReadsLayer text answer) (Err e)
+pub layer_shows_reads : (text : List ℕ) (e : Fail) → Tells (ShowsLayerFault text) e → Answers {T = LayerImage} (λ layer. layer) (ReadsLayer text) (Err e)
 layer_shows_reads text fails.Memory h = tt
 layer_shows_reads text (fails.Refused f) h = shown_read text f h
 
-pub end_err : (text : List ℕ) (gone : Entries) (keep : Keep) (e : Fail) → AnswersAlways (entries_behind gone) (λ answer. Reads text answer) (Err e) → KeptBefore text e gone → IsLegal broken_rule (without_places gone) → CoreEnds text keep (Err e)
-end_err text gone keep fails.Memory h kept legal = h
-end_err text gone keep (fails.Refused f) h kept legal = inr (gone, h, kept, legal)
+-- where all is kept, that is the layer
+pub all_kept : (text : List ℕ) (r : Result LayerImage Fail) → Answers (λ (layer : LayerImage). layer) (ReadsKept keep.All text) r → Answers (λ (layer : LayerImage). layer) (ReadsLayer text) r
+all_kept text (Ok layer) h = subst (λ (l : LayerImage). ReadsLayer text (Ok l)) (sym h.2) h.1
+all_kept text (Err fails.Memory) h = tt
+all_kept text (Err (fails.Refused f)) h = h
 
 -- the end that was refused is a layer's fault
-pub ends_answers : (text : List ℕ) (keep : Keep) (e : Fail) → CoreEnds text keep (Err e) → Answers {T = LayerImage} (λ layer. layer) (λ answer. ReadsLayer text answer) (Err e)
-ends_answers text keep fails.Memory h = tt
-ends_answers text keep (fails.Refused f) h = h
-
-pub ends_sum : (text : List ℕ) (T : Type 0) (view : T → SumImage) (keep : Keep) (e : Fail) → CoreEnds text keep (Err e) → Answers view (ReadsSum text) (Err e)
-ends_sum text T view keep fails.Memory h = tt
-ends_sum text T view keep (fails.Refused f) h = h
-
-pub ends_flashes : (text : List ℕ) (T : Type 0) (view : T → List Flash) (keep : Keep) (e : Fail) → CoreEnds text keep (Err e) → Answers view (ReadsFlashes text) (Err e)
-ends_flashes text T view keep fails.Memory h = tt
-ends_flashes text T view keep (fails.Refused f) h = h
-
-pub ends_flash_sum : (text : List ℕ) (T : Type 0) (view : T → FlashImage) (keep : Keep) (e : Fail) → CoreEnds text keep (Err e) → Answers view (ReadsFlashSum text) (Err e)
-ends_flash_sum text T view keep fails.Memory h = tt
-ends_flash_sum text T view keep (fails.Refused f) h = h
+pub end_err : (text : List ℕ) (gone : Entries) (keep : Keep) (e : Fail) → AnswersAlways (entries_behind gone) (λ answer. Reads text answer) (Err e) → KeptBefore text e gone → IsLegal broken_rule (without_places gone)
+    → Answers {T = LayerImage} (λ layer. layer) (ReadsKept keep text) (Err e)
+end_err text gone keep fails.Memory h kept legal = tt
+end_err text gone keep (fails.Refused f) h kept legal = inr (gone, h, kept, legal)

@@ -1,16 +1,12 @@
--- What the judge finds in the commands that were kept of a text is what the text reads as.
-use Rattle.std.proofs.Common.{◌≡◌, inl, inr, ℕ, List, length, Bool, true, false, cond, Result, Ok, Err, [], refl, sym, ap, subst, ◌∙◌, nat_lt, arith}
+-- A text of legal commands reads as their layer.
+use Rattle.std.proofs.Common.{◌≡◌, ℕ, List, length, Bool, true, false, cond, Ok, Err, [], refl, sym, ap, subst, ◌∙◌, nat_lt, arith}
 use Rattle.std.proofs.Math.Seq.{take-length}
-use Rattle.grid_units.specs.Results.{Answers, Tells}
 use Rattle.grid_units.specs.declared.fault.Fault.{Fault}
-use Rattle.grid_units.specs.declared.fault.Fail.{Fail}
-use Rattle.grid_units.specs.declared.fault.Fail.TheVariants as fails
 use Rattle.grid_units.proofs.Binds.{bind_ok}
 use Rattle.gerber_text.specs.Cut.{OffsetByte, has_end}
-use Rattle.gerber_text.specs.Reading.{Entries, commands_from, shown, Reads, KeptOf, Keeps}
+use Rattle.gerber_text.specs.Reading.{Entries, commands_from, shown, Reads, KeptOf}
 use Rattle.gerber_text.proofs.Shown.{shown_spelled}
 use Rattle.gerber_text.proofs.Spelling.{reads_spells}
-use Rattle.layer_image.specs.Faults.{IsFirstFault}
 use Rattle.layer_image.specs.Layers.{LayerImage, ReadsLayer, image_of}
 use Rattle.grid_units.specs.Lists.{IsLegal}
 use Rattle.grid_units.specs.Limits.{text_limit}
@@ -38,20 +34,6 @@ kept_all text cs r =
       refl,
     )
 
--- the fault of a rule among the commands that were kept
-pub by_rule : (text : List ℕ) (entries : Entries) (o : Result (Unit {0}) Fail) (e : Fail) → Keeps text entries o → Tells (IsFirstFault entries) e
-    → Answers {T = LayerImage} (λ layer. layer) (λ answer. ReadsLayer text answer) (Err e)
-by_rule text entries o fails.Memory k h = tt
-by_rule text entries (Ok x) (fails.Refused f) k h = let all = kept_all text entries k in inl (all.0, entries, all.1, h)
-by_rule text entries (Err fails.Memory) (fails.Refused f) k h = inl (k.1.0, entries, k.1.1, h)
-by_rule text entries (Err (fails.Refused g)) (fails.Refused f) k h = inl (k.1.0, entries, k.1.2, h)
-
--- the fault of reading, where the commands before it are legal
-pub by_reading : (text : List ℕ) (entries : Entries) (e : Fail) → Keeps {X = Unit {0}} text entries (Err e) → IsLegal broken_rule (without_places entries)
-    → Answers {T = LayerImage} (λ layer. layer) (λ answer. ReadsLayer text answer) (Err e)
-by_reading text entries fails.Memory k h = tt
-by_reading text entries (fails.Refused f) k h = inr (entries, k.0, k.1, h)
-
--- no fault
+-- legal commands make a layer
 pub by_both : (text : List ℕ) (entries : Entries) (layer : LayerImage) → Reads text (Ok entries) → IsLegal broken_rule (without_places entries) → layer ≡ image_of entries → ReadsLayer text (Ok layer)
 by_both text entries layer r legal is = subst (λ (l : LayerImage). ReadsLayer text (Ok l)) (sym is) (record { spells = reads_spells text entries r; legal = legal }, refl)

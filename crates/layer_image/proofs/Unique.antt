@@ -41,7 +41,7 @@ sound_after first (e ∷ cs) h =
     ap (λ (o : Option Reason). cons_option (option_map (λ (f : Fault). (length first, f)) (option_map (fault e.place e.byte) o)) (filter_map (break_at fault_of) (positions_after (first ++ e ∷ []) cs))) both.0 ∙ rest
 
 -- a legal list has no first fault
-sound : (cs : Entries) → IsLegal broken_rule (without_places cs) → breaks fault_of cs ≡ []
+pub sound : (cs : Entries) → IsLegal broken_rule (without_places cs) → breaks fault_of cs ≡ []
 sound cs h = sound_after [] cs h
 
 none_or_some : (o : Option (ℕ × Fault)) (p : ℕ × Fault) → o ≡ None → o ≡ Some p → ⊥
@@ -87,10 +87,6 @@ differ e = cc
 at_ok : {A : Type 0} (place byte : ℕ) (r : Result A Reason) (x : A) → at place byte r ≡ Ok x → r ≡ Ok x
 at_ok place byte (Ok y) x e = let same : y ≡ x = cc in ap (λ z. Ok z) same
 at_ok place byte (Err reason) x e = absurd cc
-
-at_err : {A : Type 0} (place byte : ℕ) (r : Result A Reason) (f : Fault) → at place byte r ≡ Err f → f.place ≡ place
-at_err place byte (Ok y) f e = absurd cc
-at_err place byte (Err reason) f e = let same : fault place byte reason ≡ f = cc in sym (ap (λ (g : Fault). g.place) same)
 
 within_ok : (t : Bool) (m : Result (List Command) Reason) (reason : Reason) (place byte : ℕ) (before cs : Entries) → cond t (Err reason) (m >>= λ commands. Ok (before ++ placed place byte commands)) ≡ Ok cs → (ds : Entries) × (cs ≡ before ++ ds)
 within_ok true m reason place byte before cs e = absurd cc

@@ -1,9 +1,9 @@
--- What is kept of the flashes so far.
-use Rattle.std.specs.Prelude.{◌≡◌, ℕ, ◌+◌, Bool, true, false, List, ◌++◌, length}
+-- What is kept of a layer.
+use Rattle.std.specs.Prelude.{◌≡◌, ℕ, ◌+◌, Bool, true, false, List, [], ◌++◌, length, if◌then◌else◌}
 use Rattle.layer_image.specs.declared.flash.Flash.{Flash}
 use Rattle.layer_image.specs.declared.flashes.Flashes.{Flashes}
-use Rattle.layer_image.specs.declared.flashes.Keep.{Keep}
-use Rattle.layer_image.specs.declared.flashes.Keep.TheVariants as keep
+use Rattle.layer_image.specs.declared.keep.Keep.{Keep}
+use Rattle.layer_image.specs.declared.keep.Keep.TheVariants as keep
 use Rattle.layer_image.specs.Flashes.{pads_of, others_in}
 
 -- commands are kept: only a whole layer has them
@@ -28,18 +28,18 @@ keeps_pads keep.Pads = true
 abbrev pub flash_count : Flashes → ℕ
 flash_count kept = kept.count
 
--- just these flashes were made: all are counted, and those that are no pads; flashes and pads are kept where the mode asks for it
+-- just these flashes were made: all are counted, and those that are no pads; flashes and pads are kept where they are asked for
 pub record KeepsFlashes (kept : Flashes) (keep : Keep) (flashes : List Flash) : Type 0 where
   pub same : kept.keep ≡ keep
   pub count : kept.count ≡ length flashes
   pub others : kept.others ≡ others_in flashes
-  pub pads : keeps_pads keep ≡ true → kept.pads.items ≡ pads_of flashes
-  pub all : keeps_flashes keep ≡ true → kept.all.items ≡ flashes
+  pub pads : kept.pads.items ≡ (if keeps_pads keep then pads_of flashes else [])
+  pub all : kept.all.items ≡ (if keeps_flashes keep then flashes else [])
 
 -- what is kept after these flashes as well: the counts have grown, and what is kept has these at its end
 pub record Adds (old : Flashes) (flashes : List Flash) (new : Flashes) : Type 0 where
   pub same : new.keep ≡ old.keep
   pub count : new.count ≡ old.count + length flashes
   pub others : new.others ≡ old.others + others_in flashes
-  pub pads : keeps_pads old.keep ≡ true → new.pads.items ≡ old.pads.items ++ pads_of flashes
-  pub all : keeps_flashes old.keep ≡ true → new.all.items ≡ old.all.items ++ flashes
+  pub pads : new.pads.items ≡ old.pads.items ++ (if keeps_pads old.keep then pads_of flashes else [])
+  pub all : new.all.items ≡ old.all.items ++ (if keeps_flashes old.keep then flashes else [])

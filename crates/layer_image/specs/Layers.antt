@@ -1,31 +1,35 @@
 -- Layers: what a whole text says, or its first fault.
-use Rattle.std.specs.Prelude.{◌≡◌, ◌⊎◌, ◌↔◌, ℕ, List, Option, Result, Ok, Err}
+use Rattle.std.specs.Prelude.{◌≡◌, ◌⊎◌, ◌↔◌, ℕ, List, [], Option, Result, Ok, Err, if◌then◌else◌}
 use Rattle.std.specs.List.{Contains}
 use Rattle.grid_units.specs.declared.fault.Fault.{Fault}
 use Rattle.grid_units.specs.declared.fault.Fail.TheVariants as fails
 use Rattle.pad_shapes.specs.declared.pad.Pad.{Pad}
 use Rattle.gerber_text.specs.Reading.{Entries, Reads, SpellsText, KeptOf, KeptBefore}
 use Rattle.layer_image.specs.declared.flash.Flash.{Flash}
-use Rattle.layer_image.specs.Flashes.{flashes_of, pads_of}
+use Rattle.layer_image.specs.declared.keep.Keep.{Keep}
+use Rattle.layer_image.specs.Flashes.{flashes_of, others_in, pads_of}
 use Rattle.layer_image.specs.Faults.{IsFirstFault}
 use Rattle.layer_image.specs.Functions.{file_function_of}
+use Rattle.layer_image.specs.Keeping.{keeps_commands, keeps_flashes, keeps_pads}
 use Rattle.layer_image.specs.Rules.{all_rules, broken_rule}
 use Rattle.gerber_text.specs.Writing.{without_places}
 use Rattle.grid_units.specs.Lists.{IsLegal}
 
--- a layer: its commands, each with its place; its flashes and pads in order; and the text after `.FileFunction,`, if it is named
+-- a layer: commands, each with its place; flashes and pads in order; how many flashes are no pads; the text after `.FileFunction,`, if it is named
 pub record LayerImage : Type 0 where
   pub commands : Entries
   pub flashes : List Flash
   pub pads : List Pad
+  pub other : ℕ
   pub file_function : Option (List ℕ)
 
--- the layer of some commands: flashes, pads and file function all follow from them
+-- the layer of some commands: all the rest follows from them
 abbrev pub image_of : Entries → LayerImage
 image_of entries = record {
   commands = entries;
   flashes = flashes_of (without_places entries);
   pads = pads_of (flashes_of (without_places entries));
+  other = others_in (flashes_of (without_places entries));
   file_function = file_function_of (without_places entries);
 }
 
@@ -46,10 +50,30 @@ ReadsLayer text (Err f) =
     ((kept : ℕ) × (entries : Entries) × KeptOf text kept entries × IsFirstFault entries f)
     ⊎ ((entries : Entries) × Reads text (Err f) × KeptBefore text (fails.Refused f) entries × IsLegal broken_rule (without_places entries))
 
--- texts that spell equal commands, at whatever places, have equal flashes, pads and file function
+-- what is kept of a layer: those of its lists that are asked for, the others empty, and all the rest
+abbrev pub kept_of : Keep → LayerImage → LayerImage
+kept_of keep layer = record {
+  commands = if keeps_commands keep then layer.commands else [];
+  flashes = if keeps_flashes keep then layer.flashes else [];
+  pads = if keeps_pads keep then layer.pads else [];
+  other = layer.other;
+  file_function = layer.file_function;
+}
+
+-- a text has what is kept of the layer that it reads as, or its fault
+abbrev pub ReadsKept : Keep → List ℕ → Result LayerImage Fault → Type 0
+ReadsKept keep text (Ok kept) = (layer : LayerImage) × ReadsLayer text (Ok layer) × (kept ≡ kept_of keep layer)
+ReadsKept keep text (Err f) = ReadsLayer text (Err f)
+
+-- a text has the flashes of the layer that it reads as, or its fault
+abbrev pub ReadsFlashes : List ℕ → Result (List Flash) Fault → Type 0
+ReadsFlashes text (Ok flashes) = (layer : LayerImage) × ReadsLayer text (Ok layer) × (flashes ≡ layer.flashes)
+ReadsFlashes text (Err f) = ReadsLayer text (Err f)
+
+-- texts that spell equal commands, at whatever places, have equal flashes, pads, number of other flashes and file function
 abbrev pub EqualCommands : Type 0
 EqualCommands = (s t : List ℕ) (a b : LayerImage) → ReadsLayer s (Ok a) → ReadsLayer t (Ok b) → without_places a.commands ≡ without_places b.commands
-    → (a.flashes ≡ b.flashes) × (a.pads ≡ b.pads) × (a.file_function ≡ b.file_function)
+    → (a.flashes ≡ b.flashes) × (a.pads ≡ b.pads) × (a.file_function ≡ b.file_function) × (a.other ≡ b.other)
 
 -- a text reads as one layer, or has one fault
 abbrev pub OneReading : Type 0

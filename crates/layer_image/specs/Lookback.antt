@@ -7,7 +7,6 @@ use Rattle.grid_units.specs.Lists.{last_named}
 use Rattle.grid_units.specs.declared.lengths.Unit.{Unit as Units}
 use Rattle.gerber_rows.specs.declared.command.Format.{Format}
 use Rattle.gerber_rows.specs.declared.command.Block.{Block}
-use Rattle.gerber_rows.specs.declared.command.Standard.{Standard}
 use Rattle.gerber_rows.specs.declared.command.Standard.TheVariants as standard
 use Rattle.gerber_rows.specs.declared.command.Template.{Template}
 use Rattle.gerber_rows.specs.declared.command.Template.TheVariants as template
@@ -78,16 +77,13 @@ size_at sizes place = unwrap_or (slice_get sizes place) (pos 0)
 abbrev pub has_hole : List ℤ → ℕ → Bool
 has_hole sizes place = list_any (λ size. int_lt (pos 0) size) (drop place sizes)
 
--- what a flash needs of a standard aperture: its sizes, and whether it has a hole (Gerber format, Standard aperture templates)
-abbrev pub standard_aperture : Standard → List ℤ → Aperture
-standard_aperture standard.Circle sizes = aperture.Circle (size_at sizes 0) (has_hole sizes 1)
-standard_aperture standard.Rectangle sizes = aperture.Rectangle (size_at sizes 0) (size_at sizes 1) (has_hole sizes 2)
-standard_aperture standard.Obround sizes = aperture.Obround (size_at sizes 0) (size_at sizes 1) (has_hole sizes 2)
-standard_aperture standard.Polygon sizes = aperture.Polygon
-
--- what a flash needs of an aperture; of a macro, that it is one (Gerber format, Aperture definition AD)
+-- what a flash needs of an aperture: its sizes, and whether it has a hole; of a macro, that it is one (Gerber format, Standard
+-- aperture templates; Aperture definition AD)
 abbrev pub aperture_of : Template → Aperture
-aperture_of (template.Standard which sizes) = standard_aperture which sizes
+aperture_of (template.Standard standard.Circle sizes) = aperture.Circle (size_at sizes 0) (has_hole sizes 1)
+aperture_of (template.Standard standard.Rectangle sizes) = aperture.Rectangle (size_at sizes 0) (size_at sizes 1) (has_hole sizes 2)
+aperture_of (template.Standard standard.Obround sizes) = aperture.Obround (size_at sizes 0) (size_at sizes 1) (has_hole sizes 2)
+aperture_of (template.Standard standard.Polygon sizes) = aperture.Polygon
 aperture_of (template.Named name parameters) = aperture.Macro
 
 -- the aperture that a command gives this number: `%ADD10C,0.5*%` gives one to 10 (Gerber format, Aperture definition AD)

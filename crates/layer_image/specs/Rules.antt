@@ -1,5 +1,5 @@
 -- The rules of a legal list. Each judges a command by the commands before it (docs/FORMATS.md, Rules of a layer).
-use Rattle.std.specs.Prelude.{◌≡◌, ℕ, ◌+◌, ◌%◌, ℤ, pos, Bool, true, false, not, ◌&&◌, ◌||◌, ◌==◌, nat_lt, int_lt, int_le, unsigned_abs, List, [], ◌∷◌, length, drop, Option, is_some, is_none}
+use Rattle.std.specs.Prelude.{ℕ, ◌+◌, ◌%◌, ℤ, pos, Bool, true, false, not, ◌&&◌, ◌||◌, ◌==◌, nat_lt, int_lt, int_le, unsigned_abs, List, [], ◌∷◌, length, drop, Option, is_some, is_none}
 use Rattle.std.specs.Option.{option_map_or}
 use Rattle.std.specs.List.{find, list_any}
 use Rattle.grid_units.specs.Points.{GridPoint}
@@ -11,7 +11,6 @@ use Rattle.grid_units.specs.declared.lengths.Unit.TheVariants.{Inch, Millimetre}
 use Rattle.gerber_rows.specs.declared.command.Format.{Format}
 use Rattle.gerber_rows.specs.declared.command.Action.{Action}
 use Rattle.gerber_rows.specs.declared.command.Action.TheVariants as action
-use Rattle.gerber_rows.specs.declared.command.Standard.{Standard}
 use Rattle.gerber_rows.specs.declared.command.Standard.TheVariants as standard
 use Rattle.gerber_rows.specs.declared.command.Template.{Template}
 use Rattle.gerber_rows.specs.declared.command.Template.TheVariants as template
@@ -118,16 +117,13 @@ lacks_size sizes place = is_not_positive (size_at sizes place)
 abbrev pub has_negative : List ℤ → ℕ → Bool
 has_negative sizes place = list_any is_negative (drop place sizes)
 
--- a size of a standard aperture out of range, as in `R,0X1`; the sizes of its hole come last (Gerber format, Standard aperture templates)
-abbrev pub has_bad_size : Standard → List ℤ → Bool
-has_bad_size standard.Circle sizes = is_negative (size_at sizes 0) || has_negative sizes 1
-has_bad_size standard.Rectangle sizes = lacks_size sizes 0 || (lacks_size sizes 1 || has_negative sizes 2)
-has_bad_size standard.Obround sizes = lacks_size sizes 0 || (lacks_size sizes 1 || has_negative sizes 2)
-has_bad_size standard.Polygon sizes = lacks_size sizes 0 || (not (counts_vertices (size_at sizes 1)) || has_negative sizes 3)
-
--- a size of an aperture's template out of range; sizes of a macro are not judged
+-- a size of an aperture's template out of range, as in `R,0X1`; the sizes of its hole come last, and those of a macro are not judged
+-- (Gerber format, Standard aperture templates)
 abbrev pub is_badly_sized : Template → Bool
-is_badly_sized (template.Standard which sizes) = has_bad_size which sizes
+is_badly_sized (template.Standard standard.Circle sizes) = is_negative (size_at sizes 0) || has_negative sizes 1
+is_badly_sized (template.Standard standard.Rectangle sizes) = lacks_size sizes 0 || (lacks_size sizes 1 || has_negative sizes 2)
+is_badly_sized (template.Standard standard.Obround sizes) = lacks_size sizes 0 || (lacks_size sizes 1 || has_negative sizes 2)
+is_badly_sized (template.Standard standard.Polygon sizes) = lacks_size sizes 0 || (not (counts_vertices (size_at sizes 1)) || has_negative sizes 3)
 is_badly_sized (template.Named name parameters) = false
 
 -- a size or a scale out of range: `%ADD10R,0X1*%`, `%LS0*%`

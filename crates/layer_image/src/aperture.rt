@@ -1,8 +1,8 @@
 //! What a flash needs of an aperture.
 
 ghost use Rattle.std.specs.Prelude.{◌≡◌, false};
-ghost use Rattle.layer_image.specs.Lookback.{size_at, has_hole, aperture_of, standard_aperture};
-ghost use Rattle.layer_image.specs.Rules.{has_bad_size, is_badly_sized, is_negative, has_negative, lacks_size, counts_vertices};
+ghost use Rattle.layer_image.specs.Lookback.{size_at, has_hole, aperture_of};
+ghost use Rattle.layer_image.specs.Rules.{is_badly_sized, has_negative, lacks_size, counts_vertices};
 
 use crate::size::{Diameter, Side};
 use gerber_rows::{Sizes, Standard, Template};
@@ -24,32 +24,23 @@ pub(crate) fn aperture_of(template: &Template) -> Aperture
     ensures { result ≡ aperture_of template.now }
 {
     match template {
-        Template::Standard(which, sizes) => standard_aperture(*which, sizes),
-        Template::Named(_, _) => Aperture::Macro,
-    }
-}
-
-fn standard_aperture(which: Standard, sizes: &Sizes) -> Aperture
-    requires { has_bad_size which sizes.now ≡ false }
-    ensures { result ≡ standard_aperture which sizes.now }
-{
-    match which {
-        Standard::Circle => Aperture::Circle(diameter(sizes), has_hole(sizes, 1)),
-        Standard::Rectangle => Aperture::Rectangle(
+        Template::Standard(Standard::Circle, sizes) => Aperture::Circle(
+            Diameter::new(size_at(sizes, 0)).unwrap(),
+            has_hole(sizes, 1),
+        ),
+        Template::Standard(Standard::Rectangle, sizes) => Aperture::Rectangle(
             side(sizes, 0),
             side(sizes, 1),
             has_hole(sizes, 2),
         ),
-        Standard::Obround => Aperture::Obround(side(sizes, 0), side(sizes, 1), has_hole(sizes, 2)),
-        Standard::Polygon => Aperture::Polygon,
+        Template::Standard(Standard::Obround, sizes) => Aperture::Obround(
+            side(sizes, 0),
+            side(sizes, 1),
+            has_hole(sizes, 2),
+        ),
+        Template::Standard(Standard::Polygon, _) => Aperture::Polygon,
+        Template::Named(_, _) => Aperture::Macro,
     }
-}
-
-fn diameter(sizes: &Sizes) -> Diameter
-    requires { is_negative (size_at sizes.now 0) ≡ false }
-    ensures { result ≡ size_at sizes.now 0 }
-{
-    Diameter::new(size_at(sizes, 0)).unwrap()
 }
 
 fn side(sizes: &Sizes, place: usize) -> Side
@@ -85,22 +76,16 @@ pub(crate) fn is_badly_sized(template: &Template) -> bool
     ensures { result ≡ is_badly_sized template.now }
 {
     match template {
-        Template::Standard(which, sizes) => has_bad_size(*which, sizes),
-        Template::Named(_, _) => false,
-    }
-}
-
-fn has_bad_size(which: Standard, sizes: &Sizes) -> bool
-    ensures { result ≡ has_bad_size which sizes.now }
-{
-    match which {
-        Standard::Circle => size_at(sizes, 0).units() < 0 || has_negative(sizes, 1),
-        Standard::Rectangle | Standard::Obround => {
+        Template::Standard(Standard::Circle, sizes) => {
+            size_at(sizes, 0).units() < 0 || has_negative(sizes, 1)
+        }
+        Template::Standard(Standard::Rectangle | Standard::Obround, sizes) => {
             lacks_size(sizes, 0) || lacks_size(sizes, 1) || has_negative(sizes, 2)
         }
-        Standard::Polygon => {
+        Template::Standard(Standard::Polygon, sizes) => {
             lacks_size(sizes, 0) || !counts_vertices(size_at(sizes, 1)) || has_negative(sizes, 3)
         }
+        Template::Named(_, _) => false,
     }
 }
 

@@ -3,7 +3,7 @@
 ghost use Rattle.std.specs.Prelude.{◌≡◌, [], List, IfSome, None, true, false};
 ghost use Rattle.gerber_rows.specs.declared.command.Command.{Command};
 ghost use Rattle.gerber_rows.specs.declared.command.Command.TheVariants as command;
-ghost use Rattle.layer_image.specs.declared.flashes.Keep.{Keep as TheKeep};
+ghost use Rattle.layer_image.specs.declared.keep.Keep.{Keep as TheKeep};
 ghost use Rattle.layer_image.specs.Inner.InForce.{IsFastPath, changes_force};
 ghost use Rattle.layer_image.specs.Flashes.{is_flash};
 ghost use Rattle.layer_image.specs.Rules.{first_broken};
@@ -11,9 +11,10 @@ ghost use Rattle.layer_image.specs.Keeping.{flash_count};
 ghost use Rattle.layer_image.specs.Inner.Knows.{Knows, Judges, told};
 
 use crate::flash::Flash;
-use crate::flashes::{Flashes, Keep};
+use crate::flashes::MAX_FLASHES;
 use crate::in_force::FastPath;
 use crate::judge::Judge;
+use crate::keep::Keep;
 use crate::rules::is_flash;
 use gerber_rows::{Action, Command};
 use grid_units::Stop;
@@ -100,10 +101,10 @@ impl FastJudge {
             return false;
         }
         let lengths = &self.fast.lengths;
-        if !lengths.has_named(x) || !lengths.has_named(y) {
+        if !lengths.has(x) || !lengths.has(y) {
             return false;
         }
-        if !lengths.has_named(i) || !lengths.has_named(j) {
+        if !lengths.has(i) || !lengths.has(j) {
             return false;
         }
         true
@@ -120,7 +121,7 @@ impl FastJudge {
     ) -> Option<Flash>
         ensures { IfSome result (λ flash. IsFlashOf (told self.now.judge) (flash_count self.now.judge.flashes) (command.Operate action x y i j) flash) }
     {
-        if !is_flash(action) || self.judge.in_region || self.judge.flashes.is_full() {
+        if !is_flash(action) || self.judge.in_region || self.judge.flashes.count >= MAX_FLASHES {
             return None;
         }
         if !self.fast.ready || !self.fast.lone {
@@ -129,10 +130,10 @@ impl FastJudge {
         let lengths = &self.fast.lengths;
         let across = x.unwrap_or(self.judge.x);
         let up = y.unwrap_or(self.judge.y);
-        if !lengths.has(across) || !lengths.has(up) {
+        if !lengths.has(Some(across)) || !lengths.has(Some(up)) {
             return None;
         }
-        if !lengths.has_named(i) || !lengths.has_named(j) {
+        if !lengths.has(i) || !lengths.has(j) {
             return None;
         }
         let at = lengths.point(across, up);
@@ -140,13 +141,6 @@ impl FastJudge {
             at,
             what: self.fast.what.at(at),
         })
-    }
-
-    /// What is kept of the flashes of the commands that were taken in.
-    pub(crate) fn into_flashes(self) -> Flashes
-        ensures { result ≡ self.judge.flashes }
-    {
-        self.judge.into_flashes()
     }
 }
 

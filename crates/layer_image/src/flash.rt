@@ -1,8 +1,7 @@
 //! Flashes, and the pads among them.
 
 ghost use Rattle.std.specs.Prelude.{◌≡◌};
-ghost use Rattle.grid_units.specs.Points.{GridPoint};
-ghost use Rattle.layer_image.specs.Inner.Moved.{moved, moved_pad, flash_laid, pad_laid};
+ghost use Rattle.layer_image.specs.Inner.Moved.{moved};
 
 use grid_units::Point;
 use pad_shapes::{Disc, Obround, Pad, Rect};
@@ -44,50 +43,20 @@ impl What {
         ensures { result ≡ moved centre self.now }
     {
         match self {
-            What::Pad(pad) => What::Pad(pad_at(pad, centre)),
+            What::Pad(Pad::Disc(disc)) => {
+                What::Pad(Pad::Disc(Disc::new(centre, disc.radius()).unwrap()))
+            }
+            What::Pad(Pad::Rect(rect)) => What::Pad(Pad::Rect(Rect::new(
+                centre,
+                rect.half_x(),
+                rect.half_y(),
+            ).unwrap())),
+            What::Pad(Pad::Obround(obround)) => What::Pad(Pad::Obround(Obround::new(
+                centre,
+                obround.half_x(),
+                obround.half_y(),
+            ).unwrap())),
             What::Other(why) => What::Other(*why),
-        }
-    }
-}
-
-/// Flashes and pads, which can be laid at another point.
-pub(crate) trait Lay: Copy {
-    /// A copy of it at another point.
-    ghost laid: { Self → GridPoint → Self };
-
-    /// A copy of it at another point.
-    fn laid(&self, at: Point) -> Self
-        ensures { result ≡ laid self.now at };
-}
-
-impl Lay for Flash {
-    ghost laid = { flash_laid };
-
-    fn laid(&self, at: Point) -> Self {
-        Flash {
-            at,
-            what: self.what.at(at),
-        }
-    }
-}
-
-impl Lay for Pad {
-    ghost laid = { pad_laid };
-
-    fn laid(&self, at: Point) -> Self {
-        pad_at(self, at)
-    }
-}
-
-/// The pad moved to another centre.
-fn pad_at(pad: &Pad, centre: Point) -> Pad
-    ensures { result ≡ moved_pad centre pad.now }
-{
-    match pad {
-        Pad::Disc(disc) => Pad::Disc(Disc::new(centre, disc.radius()).unwrap()),
-        Pad::Rect(rect) => Pad::Rect(Rect::new(centre, rect.half_x(), rect.half_y()).unwrap()),
-        Pad::Obround(obround) => {
-            Pad::Obround(Obround::new(centre, obround.half_x(), obround.half_y()).unwrap())
         }
     }
 }

@@ -2,8 +2,9 @@
 
 ghost use Rattle.std.specs.Prelude.{◌≡◌, ◌≤◌, IfSome, false};
 ghost use Rattle.std.specs.List.{find, list_any};
+ghost use Rattle.std.specs.Option.{option_map_or};
 ghost use Rattle.layer_image.specs.Lookback.{aperture_in};
-ghost use Rattle.layer_image.specs.Flashes.{unit_in_force, decimals_in_force, grid_at, keeps_from_pad, why_order, what_at, shape_at, exchanges_sides, disc_at, rect_at, obround_at};
+ghost use Rattle.layer_image.specs.Flashes.{unit_in_force, decimals_in_force, grid_at, keeps_from_pad, why_order, what_at, shape_at, rect_at, obround_at};
 ghost use Rattle.layer_image.specs.Inner.Moved.{origin};
 ghost use Rattle.layer_image.specs.Rules.{is_far_pad, is_far_side, sides};
 ghost use Rattle.layer_image.specs.Inner.Grids.{IsBounded};
@@ -15,15 +16,15 @@ use crate::flash::{What, Why};
 use crate::grid::Grid;
 use crate::judge::Judge;
 use crate::length::{coordinate, fine_length};
-use crate::size::{Diameter, Side};
-use grid_units::{Point, Unit, is_far};
+use crate::size::Side;
+use grid_units::{Dec, Point, Unit, is_far};
 use pad_shapes::{Disc, Obround, Pad, Rect};
 
 /// 90 degrees, in units of 10^-8 degrees.
 const QUARTER: u64 = 9_000_000_000;
 
 /// 1, in units of 10^-8.
-const ONE: i64 = 100_000_000;
+pub(crate) const ONE: i64 = 100_000_000;
 
 impl Judge {
     pub(crate) fn unit_in_force(&self) -> Unit
@@ -68,11 +69,16 @@ impl Judge {
         }
     }
 
-    /// Whether a flash of the aperture is a pad with a size above 10 m.
-    pub(crate) fn is_far_pad(&self, aperture: &Aperture) -> bool
-        ensures { result ≡ is_far_pad (told self.now) aperture.now }
+    /// Whether a flash of the aperture that was selected last is a pad with a size above 10 m.
+    pub(crate) fn is_far_pad(&self) -> bool
+        ensures { result ≡ option_map_or (is_far_pad (told self.now)) (aperture_in (told self.now)) false }
     {
-        self.why_no_pad(aperture).is_none() && self.has_far_side(aperture)
+        match self.aperture() {
+            Some(aperture) => {
+                self.why_no_pad(&aperture).is_none() && self.has_far_side(&aperture)
+            }
+            None => false,
+        }
     }
 
     fn has_far_side(&self, aperture: &Aperture) -> bool
@@ -80,9 +86,9 @@ impl Judge {
     {
         let unit = self.unit_in_force();
         match aperture {
-            Aperture::Circle(diameter, _) => is_far_diameter(*diameter, unit),
+            Aperture::Circle(diameter, _) => is_far_size(diameter.size(), unit),
             Aperture::Rectangle(width, height, _) | Aperture::Obround(width, height, _) => {
-                is_far_side(*width, unit) || is_far_side(*height, unit)
+                is_far_size(width.size(), unit) || is_far_size(height.size(), unit)
             }
             Aperture::Polygon | Aperture::Macro => false,
         }
@@ -118,7 +124,7 @@ impl Judge {
             return None;
         }
         let aperture = self.aperture()?;
-        if self.is_far_pad(&aperture) {
+        if self.is_far_pad() {
             return None;
         }
         Some(self.what(&aperture))
@@ -140,9 +146,13 @@ impl Judge {
         ensures { result ≡ shape_at origin (unit_in_force (told self.now)) self.now.turn aperture.now }
     {
         let unit = self.unit_in_force();
-        let exchanged = self.exchanges_sides();
+        // Turned by an odd multiple of 90 degrees, the sides change places.
+        let exchanged = self.turn.units().unsigned_abs() % (2 * QUARTER) == QUARTER;
         match aperture {
-            Aperture::Circle(diameter, _) => What::Pad(Pad::Disc(disc(*diameter, unit))),
+            Aperture::Circle(diameter, _) => What::Pad(Pad::Disc(Disc::new(
+                origin(),
+                diameter.half(unit),
+            ).unwrap())),
             Aperture::Rectangle(width, height, _) if exchanged => What::Pad(Pad::Rect(rect(
                 *height, *width, unit,
             ))),
@@ -159,38 +169,18 @@ impl Judge {
             Aperture::Macro => What::Other(Why::Macro),
         }
     }
-
-    /// Whether flashes are turned by an odd multiple of 90 degrees, so that their sides change places.
-    fn exchanges_sides(&self) -> bool
-        ensures { result ≡ exchanges_sides self.now.turn }
-    {
-        self.turn.units().unsigned_abs() % (2 * QUARTER) == QUARTER
-    }
 }
 
-fn is_far_diameter(diameter: Diameter, unit: Unit) -> bool
-    ensures { result ≡ is_far_side unit diameter }
+fn is_far_size(size: Dec, unit: Unit) -> bool
+    ensures { result ≡ is_far_side unit size }
 {
-    is_far(fine_length(diameter.size(), unit))
+    is_far(fine_length(size, unit))
 }
 
-fn is_far_side(side: Side, unit: Unit) -> bool
-    ensures { result ≡ is_far_side unit side }
-{
-    is_far(fine_length(side.size(), unit))
-}
-
-pub(crate) fn origin() -> Point
+fn origin() -> Point
     ensures { result ≡ origin }
 {
     Point::new(0, 0).unwrap()
-}
-
-fn disc(diameter: Diameter, unit: Unit) -> Disc
-    requires { is_far_side unit diameter ≡ false }
-    ensures { result ≡ disc_at origin unit diameter }
-{
-    Disc::new(origin(), diameter.half(unit)).unwrap()
 }
 
 fn rect(width: Side, height: Side, unit: Unit) -> Rect

@@ -16,43 +16,26 @@ pub(crate) fn function_named(command: &Command) -> Option<&[u8]>
 {
     match command {
         Command::Attribute(AttributeKind::File, text) => function_in(text.bytes()),
-        Command::Comment(text) => function_in(behind_attribute_sign(behind_spaces(text.bytes()))?),
+        Command::Comment(text) => function_in(attribute_in(text.bytes())?),
         _ => None,
     }
+}
+
+/// What follows `#@! TF`, which makes a comment a file attribute, in a comment that begins with it after any spaces.
+fn attribute_in(comment: &[u8]) -> Option<&[u8]>
+    ensures { option_copied result ≡ behind (codes "#@! TF") (behind_spaces comment.now) }
+{
+    comment[run_of(b' ', comment)..].strip_prefix(b"#@! TF")
 }
 
 /// What follows the name `.FileFunction` and its comma.
 fn function_in(attribute: &[u8]) -> Option<&[u8]>
     ensures { option_copied result ≡ function_in attribute.now }
 {
-    let (name, value) = parts(attribute);
-    if name == b".FileFunction".as_slice() {
-        Some(value)
+    let len = run_before(b',', attribute);
+    if &attribute[..len] == b".FileFunction".as_slice() {
+        Some(&attribute[attribute.len().min(len + 1)..])
     } else {
         None
     }
-}
-
-/// What follows `#@! TF`, which makes a comment a file attribute, in a comment that begins with it.
-fn behind_attribute_sign(comment: &[u8]) -> Option<&[u8]>
-    ensures { option_copied result ≡ behind (codes "#@! TF") comment.now }
-{
-    comment.strip_prefix(b"#@! TF")
-}
-
-/// The bytes before the first comma, and those after it.
-fn parts(text: &[u8]) -> (&[u8], &[u8])
-    ensures before { result.0.now ≡ before_first is_comma text.now }
-    ensures behind { result.1.now ≡ after_first is_comma text.now }
-{
-    let at = run_before(b',', text);
-    let behind = text.len().min(at + 1);
-    (&text[..at], &text[behind..])
-}
-
-/// The text without the spaces at its start.
-fn behind_spaces(text: &[u8]) -> &[u8]
-    ensures { result.now ≡ behind_spaces text.now }
-{
-    &text[run_of(b' ', text)..]
 }

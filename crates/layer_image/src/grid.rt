@@ -1,6 +1,6 @@
 //! The copies of a flashed point in a step and repeat block.
 
-ghost use Rattle.std.specs.Prelude.{◌≡◌, ◌++◌, ◌<◌, ◌≤◌, ◌^◌, ◌+ℤ◌, ◌*ℤ◌, ◌||◌, pos, unsigned_abs, false, length, map, OnOk};
+ghost use Rattle.std.specs.Prelude.{◌≡◌, ◌<◌, ◌≤◌, ◌^◌, ◌+ℤ◌, ◌*ℤ◌, ◌||◌, pos, unsigned_abs, false, length};
 ghost use Rattle.std.specs.List.{list_any};
 ghost use Rattle.grid_units.specs.Numbers.{is_far};
 ghost use Rattle.grid_units.specs.Points.{max_coordinate};
@@ -8,9 +8,7 @@ ghost use Rattle.layer_image.specs.Flashes.{copies, copy_at};
 ghost use Rattle.layer_image.specs.Rules.{is_far_point};
 ghost use Rattle.layer_image.specs.Inner.Grids.{IsBounded};
 
-use crate::flash::Lay;
 use grid_units::{Point, is_far};
-use std::alloc::AllocError;
 
 /// A point with the counts and the steps of its copies. Coordinates and steps are in pm.
 #[derive(Clone, Copy)]
@@ -45,7 +43,7 @@ impl Grid {
     }
 
     /// The copy in a column and a row, both from 0.
-    fn copy(&self, u: u32, v: u32) -> Point
+    pub(crate) fn copy(&self, u: u32, v: u32) -> Point
         requires bounded { IsBounded self.now }
         requires near { list_any is_far_point (copies self.now) ≡ false }
         requires column { u < self.now.columns }
@@ -56,26 +54,6 @@ impl Grid {
             stepped(self.x, self.step_x, u),
             stepped(self.y, self.step_y, v),
         )
-    }
-
-    /// Lays one flash or pad at each copy, in order.
-    ///
-    /// # Errors
-    ///
-    /// An `AllocError` where there is no memory for all copies.
-    pub(crate) fn lay<T: Lay>(&self, laid: &mut Vec<T>, one: &T) -> Result<(), AllocError>
-        requires bounded { IsBounded self.now }
-        requires near { list_any is_far_point (copies self.now) ≡ false }
-        ensures { OnOk result (laid.new.items ≡ laid.old.items ++ map (T.laid one.now) (copies self.now)) }
-    {
-        laid.reserve(self.count() as usize)?;
-        for u in 0..self.columns {
-            for v in 0..self.rows {
-                let at = self.copy(u, v);
-                laid.push(one.laid(at))?;
-            }
-        }
-        Ok(())
     }
 }
 

@@ -40,19 +40,12 @@ impl Lengths {
         })
     }
 
-    /// Whether a coordinate is neither too long nor too far.
-    pub(crate) fn has(&self, n: i64) -> bool
-        ensures { result ≡ nat_le (unsigned_abs n) self.now.most }
-    {
-        n.unsigned_abs() <= self.most
-    }
-
     /// Whether a coordinate is neither too long nor too far, if there is one.
-    pub(crate) fn has_named(&self, named: Option<i64>) -> bool
+    pub(crate) fn has(&self, named: Option<i64>) -> bool
         ensures { result ≡ is_within self.now.most named }
     {
         match named {
-            Some(n) => self.has(n),
+            Some(n) => n.unsigned_abs() <= self.most,
             None => true,
         }
     }

@@ -1,12 +1,12 @@
 //! The judge: it meets the commands of a list one by one, and names the first rule that one of them breaks.
 
-ghost use Rattle.std.specs.Prelude.{◌≡◌, ◌+◌, ◌<◌, ◌≤◌, ◌*◌, [], ◌∷◌, List, nat_lt, Option, ℤ, IfErr, OnOk, None, pos, length, true, false};
+ghost use Rattle.std.specs.Prelude.{◌≡◌, ◌+◌, ◌<◌, ◌≤◌, [], ◌∷◌, List, nat_lt, Option, ℤ, IfErr, OnOk, None, length, true, false};
 ghost use Rattle.std.specs.Option.{option_map_or};
 ghost use Rattle.std.specs.List.{list_any};
 ghost use Rattle.gerber_rows.specs.declared.command.Action.{Action as TheAction};
 ghost use Rattle.gerber_rows.specs.declared.command.Command.{Command};
 ghost use Rattle.gerber_rows.specs.declared.command.Command.TheVariants as command;
-ghost use Rattle.layer_image.specs.declared.flashes.Keep.{Keep as TheKeep};
+ghost use Rattle.layer_image.specs.declared.keep.Keep.{Keep as TheKeep};
 ghost use Rattle.grid_units.specs.declared.stop.Stop.TheVariants.{Memory};
 ghost use Rattle.layer_image.specs.Lookback.{aperture_in, single};
 ghost use Rattle.layer_image.specs.Flashes.{copies_at, flashed, is_flash};
@@ -14,10 +14,11 @@ ghost use Rattle.layer_image.specs.Rules.{first_broken, flashes_too_far, is_badl
 ghost use Rattle.layer_image.specs.Keeping.{Adds, flash_count};
 ghost use Rattle.layer_image.specs.Inner.Knows.{Knows, Takes, Judges, IfRefused, told, after};
 
-use crate::aperture::{Aperture, aperture_of};
+use crate::aperture::aperture_of;
 use crate::flash::Flash;
-use crate::flashes::{Flashes, Keep};
-use crate::force::origin;
+use crate::flashes::Flashes;
+use crate::force::ONE;
+use crate::keep::Keep;
 use crate::rules::is_flash;
 use crate::tables::{Apertures, Names};
 use gerber_rows::{Action, Block, Command, Format, Template};
@@ -57,8 +58,8 @@ impl Judge {
             selected: None,
             x: 0,
             y: 0,
-            turn: decimal(0),
-            scale: decimal(1),
+            turn: Dec::from_units(0).unwrap(),
+            scale: Dec::from_units(ONE).unwrap(),
             block: single(),
             flashes: Flashes::new(alloc, keep),
         }
@@ -75,13 +76,6 @@ impl Judge {
         }
         self.take(command)?;
         Ok(())
-    }
-
-    /// What is kept of the flashes of the commands that were taken in.
-    pub(crate) fn into_flashes(self) -> Flashes
-        ensures { result ≡ self.flashes }
-    {
-        self.flashes
     }
 
     /// Takes in a command that breaks no rule.
@@ -123,36 +117,20 @@ impl Judge {
         Ok(())
     }
 
-    /// Flashes the aperture at the point of an operation, once for each copy.
-    fn flash(
-        &mut self,
-        x: Option<i64>,
-        y: Option<i64>,
-        aperture: &Aperture,
-    ) -> Result<(), AllocError>
-        requires points { list_any is_far_point (copies_at (told self.old) x y) ≡ false }
-        requires pad { is_far_pad (told self.old) aperture.now ≡ false }
-        requires few { flash_count self.old.flashes + length (copies_at (told self.old) x y) ≤ max_flashes }
-        ensures told { told self.new ≡ told self.old }
-        ensures flashes { OnOk result (Adds self.old.flashes (flashed (told self.old) x y aperture.now) self.new.flashes) }
-    {
-        let what = self.what(aperture);
-        let grid = self.grid(x, y);
-        self.flashes.lay(&grid, &Flash { at: origin(), what })
-    }
-
-    /// Flashes the aperture that was selected last, if there is one.
-    fn flash_selected(&mut self, x: Option<i64>, y: Option<i64>) -> Result<(), AllocError>
+    /// Flashes the aperture that was selected last, if there is one, once for each copy of the point of an operation.
+    fn flash(&mut self, x: Option<i64>, y: Option<i64>) -> Result<(), AllocError>
         requires points { list_any is_far_point (copies_at (told self.old) x y) ≡ false }
         requires pad { option_map_or (is_far_pad (told self.old)) (aperture_in (told self.old)) false ≡ false }
         requires few { flash_count self.old.flashes + length (copies_at (told self.old) x y) ≤ max_flashes }
         ensures told { told self.new ≡ told self.old }
         ensures flashes { OnOk result (Adds self.old.flashes (option_map_or (flashed (told self.old) x y) (aperture_in (told self.old)) []) self.new.flashes) }
     {
-        match self.aperture() {
-            Some(aperture) => self.flash(x, y, &aperture),
-            None => Ok(()),
-        }
+        let Some(aperture) = self.aperture() else {
+            return Ok(());
+        };
+        let what = self.what(&aperture);
+        let grid = self.grid(x, y);
+        self.flashes.lay(&grid, &what)
     }
 
     /// Takes in an operation: its flashes, and then its point.
@@ -162,7 +140,7 @@ impl Judge {
         ensures { OnOk result ((i j : Option ℤ) → Takes self.old (command.Operate action x y i j) self.new) }
     {
         if is_flash(action) {
-            self.flash_selected(x, y)?;
+            self.flash(x, y)?;
         }
         self.go_to(x, y);
         Ok(())
@@ -193,21 +171,15 @@ impl Judge {
     }
 }
 
-/// A whole number as a decimal.
-fn decimal(whole: u8) -> Dec
-    ensures { result ≡ pos (whole * 100000000) }
-{
-    Dec::from_units(i64::from(whole) * 100_000_000).unwrap()
-}
-
 /// No repetition: one column and one row.
 fn single() -> Block
     ensures { result ≡ single }
 {
+    let zero = Dec::from_units(0).unwrap();
     Block {
         columns: 1,
         rows: 1,
-        step_x: decimal(0),
-        step_y: decimal(0),
+        step_x: zero,
+        step_y: zero,
     }
 }

@@ -25,7 +25,7 @@ pub fn one_reading()
     ensures { OneReading }
 {}
 
-/// Texts that spell equal commands have equal flashes, pads and file function.
+/// Texts that spell equal commands have equal flashes, pads, number of other flashes and file function.
 pub fn equal_commands()
     ensures { EqualCommands }
 {}

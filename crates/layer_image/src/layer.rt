@@ -6,7 +6,6 @@ ghost use Rattle.grid_units.specs.Results.{Answers};
 ghost use Rattle.layer_image.specs.Layers.{ReadsLayer};
 
 use crate::flash::Flash;
-use crate::flashes::Flashes;
 use crate::reader::LayerReader;
 use gerber_rows::Command;
 use gerber_text::Placed;
@@ -15,13 +14,15 @@ use pad_shapes::Pad;
 use std::alloc::Global;
 use std::marker::Model;
 
-/// A layer. Contracts see its commands, flashes, pads and file function as lists.
+/// A layer, or what a reader kept of it: a list that was not asked for is empty. Contracts see commands, flashes,
+/// pads and file function as lists.
 #[derive(Debug, Drop)]
 pub struct Layer {
-    commands: Vec<Placed<Command>>,
-    flashes: Vec<Flash>,
-    pads: Vec<Pad>,
-    file_function: Option<Text>,
+    pub(crate) commands: Vec<Placed<Command>>,
+    pub(crate) flashes: Vec<Flash>,
+    pub(crate) pads: Vec<Pad>,
+    pub(crate) other: usize,
+    pub(crate) file_function: Option<Text>,
 }
 
 impl Model for Layer {
@@ -29,7 +30,7 @@ impl Model for Layer {
 
     ghost Value = { LayerImage };
 
-    ghost view = { λ l. record { commands = l.commands.items; flashes = l.flashes.items; pads = l.pads.items; file_function = l.file_function } };
+    ghost view = { λ l. record { commands = l.commands.items; flashes = l.flashes.items; pads = l.pads.items; other = l.other; file_function = l.file_function } };
 }
 
 impl Layer {
@@ -54,11 +55,11 @@ impl Layer {
         &self.pads
     }
 
-    /// The flashes that are pads, in order, moved out of the layer. This takes no memory.
-    pub fn into_pads(self) -> Vec<Pad>
-        ensures { result.items ≡ self.pads }
+    /// How many flashes are no pads, whatever is kept of them.
+    pub fn other(&self) -> usize
+        ensures { result ≡ self.now.other }
     {
-        self.pads
+        self.other
     }
 
     /// What follows `.FileFunction,` in the last file attribute or comment that names it, such as `Copper,L1,Top`.
@@ -69,6 +70,20 @@ impl Layer {
             Some(text) => Some(text.bytes()),
             None => None,
         }
+    }
+
+    /// The flashes, moved out of the layer. This takes no memory.
+    pub fn into_flashes(self) -> Vec<Flash>
+        ensures { result.items ≡ self.flashes }
+    {
+        self.flashes
+    }
+
+    /// The pads, moved out of the layer. This takes no memory.
+    pub fn into_pads(self) -> Vec<Pad>
+        ensures { result.items ≡ self.pads }
+    {
+        self.pads
     }
 }
 
@@ -83,20 +98,4 @@ pub fn read_layer(alloc: Global, bytes: &[u8]) -> Result<Layer, Fail>
     let mut reader = LayerReader::new(alloc);
     reader.feed(bytes)?;
     reader.finish()
-}
-
-/// A layer of legal commands, what is kept of their flashes, and their file function.
-pub(crate) fn layer_of(
-    commands: Vec<Placed<Command>>,
-    flashes: Flashes,
-    file_function: Option<Text>,
-) -> Layer
-    ensures { result ≡ record { commands = commands.items; flashes = flashes.all.items; pads = flashes.pads.items; file_function = file_function } }
-{
-    Layer {
-        commands,
-        flashes: flashes.all,
-        pads: flashes.pads,
-        file_function,
-    }
 }

@@ -2,7 +2,8 @@
 
 ghost use Rattle.std.specs.Prelude.{◌≡◌, ◌≤◌, ◌^◌, ◌/◌, pos, unsigned_abs, nat_le};
 ghost use Rattle.grid_units.specs.Numbers.{picometres, unit_length};
-ghost use Rattle.layer_image.specs.Numbers.{fine_length, is_long};
+ghost use Rattle.layer_image.specs.Numbers.{fine_length};
+ghost use Rattle.layer_image.specs.Rules.{is_long_by};
 
 use gerber_rows::Format;
 use grid_units::{Dec, Unit, power_of_ten};
@@ -76,14 +77,15 @@ pub(crate) fn fine_length(length: Dec, unit: Unit) -> i128
     }
 }
 
-/// Whether a number has more digits than the format.
-pub(crate) fn is_long(format: Format, n: i64) -> bool
-    ensures { result ≡ is_long format n }
+/// Whether a number has more digits than the format, if there is one.
+pub(crate) fn is_long(format: Format, named: Option<i64>) -> bool
+    ensures { result ≡ is_long_by format named }
 {
-    has_more_digits(
-        n.unsigned_abs(),
-        u16::from(format.whole) + u16::from(format.decimals),
-    )
+    let digits = u16::from(format.whole) + u16::from(format.decimals);
+    match named {
+        Some(n) => has_more_digits(n.unsigned_abs(), digits),
+        None => false,
+    }
 }
 
 /// Whether a number has more than so many digits.

@@ -10,6 +10,7 @@ mod function;
 mod grid;
 mod in_force;
 mod judge;
+mod keep;
 mod laws;
 mod layer;
 mod length;
@@ -20,6 +21,7 @@ mod size;
 mod tables;
 
 pub use flash::{Flash, What, Why};
+pub use keep::Keep;
 pub use laws::{equal_commands, layer_reasons, layer_texts, one_reading, shown_faults};
 pub use layer::{Layer, read_layer};
-pub use reader::{FlashReader, FlashSum, LayerReader, LayerSum, SumReader};
+pub use reader::LayerReader;

@@ -1,23 +1,19 @@
 //! The rules of a legal list, in their order.
 
 ghost use Rattle.std.specs.Prelude.{◌≡◌, ◌+◌, ◌&&◌, ◌||◌, is_none, length, nat_lt, false};
-ghost use Rattle.std.specs.Option.{option_map_or};
 ghost use Rattle.std.specs.List.{find};
 ghost use Rattle.gerber_rows.specs.declared.command.Command.TheVariants as command;
-ghost use Rattle.layer_image.specs.Lookback.{aperture_in};
 ghost use Rattle.layer_image.specs.Flashes.{is_flash, copies_at};
-ghost use Rattle.layer_image.specs.Rules.{applies, later_rules, first_broken, differs_in_unit, differs_in_format, lacks_macro, needs_aperture, flashes_too_far, is_far_in, is_far_pad, is_long_by, repeats_badly, is_bad_count, is_not_positive, max_flashes, may_stand_in_region};
+ghost use Rattle.layer_image.specs.Rules.{applies, later_rules, first_broken, differs_in_unit, differs_in_format, lacks_macro, needs_aperture, flashes_too_far, is_far_in, is_long_by, repeats_badly, is_bad_count, max_flashes, may_stand_in_region};
 ghost use Rattle.layer_image.specs.Keeping.{flash_count};
 ghost use Rattle.layer_image.specs.Inner.Knows.{told};
 
 use crate::aperture::is_badly_sized;
+use crate::flashes::MAX_FLASHES;
 use crate::judge::Judge;
 use crate::length::{coordinate, is_long};
 use gerber_rows::{Action, Block, Command, Format, Template};
-use grid_units::{Dec, Reason, Unit, is_far};
-
-/// The most flashes of a layer, of every kind, copies counted.
-const MAX_FLASHES: u128 = 4_194_304;
+use grid_units::{Reason, Unit, is_far};
 
 impl Judge {
     /// The first rule that a command breaks, if any.
@@ -36,9 +32,11 @@ impl Judge {
                 .then_some(Reason::FormatConflict),
             Command::Define { number, template } => self.definition_rule(*number, template.get()),
             Command::Macro(name, _) => self.macros.has(name).then_some(Reason::Redefined),
-            Command::Select(number) => (!self.apertures.has(*number)).then_some(
-                Reason::UnknownAperture,
-            ),
+            Command::Select(number) => self
+                .apertures
+                .get(*number)
+                .is_none()
+                .then_some(Reason::UnknownAperture),
             Command::Operate { action, x, y, i, j } => self.operation_rule(
                 *action,
                 x.get(),
@@ -46,7 +44,7 @@ impl Judge {
                 i.get(),
                 j.get(),
             ),
-            Command::Scale(scale) => is_not_positive(*scale).then_some(Reason::BadSize),
+            Command::Scale(scale) => (scale.units() <= 0).then_some(Reason::BadSize),
             Command::Repeat(block) => repeats_badly(*block).then_some(Reason::BadRepeat),
             Command::Finish => self.finish_rule(),
             Command::Comment(_)
@@ -95,7 +93,7 @@ impl Judge {
     fn definition_rule(&self, number: u32, template: &Template) -> Option<Reason>
         ensures { result ≡ find (applies (told self.now) (flash_count self.now.flashes) (command.Define number template.now)) later_rules }
     {
-        if self.apertures.has(number) {
+        if self.apertures.get(number).is_some() {
             Some(Reason::Redefined)
         } else if self.lacks_macro(template) {
             Some(Reason::UnknownMacro)
@@ -172,22 +170,15 @@ impl Judge {
     fn flashes_too_far(&self, x: Option<i64>, y: Option<i64>) -> bool
         ensures { result ≡ flashes_too_far (told self.now) x y }
     {
-        self.grid(x, y).is_far() || self.has_far_pad()
-    }
-
-    fn has_far_pad(&self) -> bool
-        ensures { result ≡ option_map_or (is_far_pad (told self.now)) (aperture_in (told self.now)) false }
-    {
-        match self.aperture() {
-            Some(aperture) => self.is_far_pad(&aperture),
-            None => false,
-        }
+        self.grid(x, y).is_far() || self.is_far_pad()
     }
 
     fn flashes_too_many(&self, action: Action, x: Option<i64>, y: Option<i64>) -> bool
         ensures { result ≡ (is_flash action && nat_lt max_flashes (flash_count self.now.flashes + length (copies_at (told self.now) x y))) }
     {
-        is_flash(action) && self.flashes.count() + u128::from(self.grid(x, y).count()) > MAX_FLASHES
+        is_flash(action)
+            && u128::from(self.flashes.count) + u128::from(self.grid(x, y).count())
+                > u128::from(MAX_FLASHES)
     }
 }
 
@@ -204,12 +195,6 @@ fn is_bad_count(count: u32) -> bool
     ensures { result ≡ is_bad_count count }
 {
     count == 0 || count > 10_000
-}
-
-fn is_not_positive(scale: Dec) -> bool
-    ensures { result ≡ is_not_positive scale }
-{
-    scale.units() <= 0
 }
 
 /// Whether a command may stand in a region.
@@ -242,17 +227,5 @@ fn names_too_many_digits(
 ) -> bool
     ensures { result ≡ (is_long_by format x || (is_long_by format y || (is_long_by format i || is_long_by format j))) }
 {
-    is_long_named(format, x)
-        || is_long_named(format, y)
-        || is_long_named(format, i)
-        || is_long_named(format, j)
-}
-
-fn is_long_named(format: Format, named: Option<i64>) -> bool
-    ensures { result ≡ is_long_by format named }
-{
-    match named {
-        Some(n) => is_long(format, n),
-        None => false,
-    }
+    is_long(format, x) || is_long(format, y) || is_long(format, i) || is_long(format, j)
 }

@@ -1,20 +1,19 @@
 //! A scan over commands: each is judged and then dropped, and what the layer is made of is kept.
 
-ghost use Rattle.std.specs.Prelude.{◌≡◌, ◌++◌, ◌∷◌, [], List, OnOk, IfErr};
+ghost use Rattle.std.specs.Prelude.{◌≡◌, ◌++◌, [], List, OnOk, IfErr};
 ghost use Rattle.grid_units.specs.Results.{Tells};
 ghost use Rattle.gerber_rows.specs.declared.command.Command.{Command};
 ghost use Rattle.gerber_text.specs.Reading.{Entries};
-ghost use Rattle.layer_image.specs.declared.flashes.Keep.{Keep as TheKeep};
-ghost use Rattle.layer_image.specs.Functions.{file_function_of};
+ghost use Rattle.layer_image.specs.declared.keep.Keep.{Keep as TheKeep};
 ghost use Rattle.layer_image.specs.Faults.{fail_at, IsFirstFault};
 
 use crate::fast::FastJudge;
-use crate::flashes::Keep;
 use crate::function::function_named;
+use crate::keep::Keep;
 use gerber_rows::Command;
 use gerber_text::Placed;
 use grid_units::{Fail, Fault, Stop, Text};
-use std::alloc::{AllocError, Global};
+use std::alloc::Global;
 
 /// A judge and the last file function, after the commands so far.
 #[derive(Drop)]
@@ -54,20 +53,11 @@ impl Scan {
         Ok(())
     }
 
-    /// Judges one more command and takes it in.
+    /// Judges one more command, takes it in, and keeps the file function that it names.
     fn meet(&mut self, alloc: Global, command: &Command) -> Result<(), Stop>
         ensures { (keep : TheKeep) (before : List Command) → Met self.old keep before → Meets keep before command.now self.new result }
     {
         self.judge.step(command)?;
-        self.name(alloc, command)?;
-        Ok(())
-    }
-
-    /// Keeps the file function, where the command names one.
-    fn name(&mut self, alloc: Global, command: &Command) -> Result<(), AllocError>
-        ensures same { self.new.judge ≡ self.old.judge }
-        ensures named { (before : List Command) → self.old.file_function ≡ file_function_of before → OnOk result (self.new.file_function ≡ file_function_of (before ++ command.now ∷ [])) }
-    {
         if let Some(bytes) = function_named(command) {
             self.file_function = Some(Text::from_slice(alloc, bytes)?);
         }

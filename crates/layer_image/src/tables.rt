@@ -1,6 +1,6 @@
 //! Tables of what a file defines. They are ordered, so no choice of numbers or names makes them slow.
 
-ghost use Rattle.std.specs.Prelude.{◌≡◌, ◌||◌, ◌==◌, ℕ, List, None, Some, nat_eq, is_some, OnOk, if◌then◌else◌, false};
+ghost use Rattle.std.specs.Prelude.{◌≡◌, ◌||◌, ◌==◌, ℕ, List, None, Some, nat_eq, OnOk, if◌then◌else◌, false};
 ghost use Rattle.std.specs.Option.{option_or};
 ghost use Rattle.std.specs.Cmp.Lexicographic.{pointwise};
 
@@ -32,13 +32,6 @@ impl Apertures {
         ensures { result ≡ aperture_at self.now number }
     {
         self.table.get(&number).copied()
-    }
-
-    /// Whether a number has an aperture.
-    pub(crate) fn has(&self, number: u32) -> bool
-        ensures { result ≡ is_some (aperture_at self.now number) }
-    {
-        self.table.contains_key(&number)
     }
 
     /// Gives a number its aperture.

@@ -11,7 +11,6 @@ use Rattle.ring_rules.specs.Passing.{NamesPlaces}
 use Rattle.ring_rules.specs.declared.finding.Drilled.{Drilled}
 use Rattle.ring_rules.specs.declared.finding.Finding.{Finding}
 use Rattle.package_check.specs.Images.{Image}
-use Rattle.drill_text.specs.Texts.{DrillsHoles}
 use Rattle.package_check.specs.Readers.{SaysLayer, ReadsLayer, ReadsDrill}
 use Rattle.package_check.specs.Reports.{Account}
 use Rattle.grid_units.specs.declared.fault.Fault.{Fault}
@@ -78,7 +77,7 @@ SaysCopper bytes (content.Drill plated span holes) = ⊥
 -- the bytes of a drill file drill just these holes, and the content has its plating and its span
 abbrev pub SaysHoles : Bool → Option LayerSpan → List ℕ → Content → Type 0
 SaysHoles plated span bytes (content.Layer image) = ⊥
-SaysHoles plated span bytes (content.Drill has through holes) = DrillsHoles bytes holes × (has ≡ plated) × (through ≡ span)
+SaysHoles plated span bytes (content.Drill has through holes) = ReadsDrill bytes (Ok holes) × (has ≡ plated) × (through ≡ span)
 
 -- the bytes of a file have this content, as they are read by its role
 abbrev pub SaysBytes : Source → Content → Type 0

@@ -4,8 +4,8 @@ use Rattle.std.specs.List.{take_while}
 use Rattle.std.specs.Str.{bytes_eq}
 use Rattle.grid_units.specs.Holes.{GridHole}
 use Rattle.grid_units.specs.declared.fault.Fault.{Fault}
-use Rattle.drill_text.specs.Texts as drills
-use Rattle.layer_image.specs.Flashes.{others_in}
+use Rattle.drill_text.specs.Holes.{holes_of}
+use Rattle.drill_text.specs.Texts.{ReadsAs}
 use Rattle.layer_image.specs.Layers as layers
 use Rattle.layer_image.specs.Layers.{LayerImage}
 use Rattle.package_check.specs.Images.{Image}
@@ -20,7 +20,7 @@ is_copper_function (Some text) = bytes_eq (take_while (λ b. not (b == ascii.com
 abbrev pub seen_in : LayerImage → Image
 seen_in layer = record {
   pads = layer.pads;
-  other = others_in layer.flashes;
+  other = layer.other;
   is_copper = is_copper_function layer.file_function;
 }
 
@@ -35,4 +35,4 @@ ReadsLayer bytes (Err fault) = layers.ReadsLayer bytes (Err fault)
 
 -- the bytes are a drill text that drills these holes, or they have this fault
 abbrev pub ReadsDrill : List ℕ → Result (List GridHole) Fault → Type 0
-ReadsDrill bytes answer = drills.ReadsHoles bytes answer
+ReadsDrill bytes answer = ReadsAs holes_of bytes answer

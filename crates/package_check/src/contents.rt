@@ -2,7 +2,7 @@
 ghost use Rattle.std.specs.Prelude.{◌≡◌, ◌&&◌, ℕ, List, Ok, OnOk, is_some, map, not, true};
 ghost use Rattle.std.specs.List.{concat};
 ghost use Rattle.grid_units.specs.Results.{Answers};
-ghost use Rattle.layer_image.specs.Holding.{ReadsFlashes};
+ghost use Rattle.layer_image.specs.Layers.{ReadsFlashes};
 ghost use Rattle.package_check.specs.Readers.{ReadsLayer};
 ghost use Rattle.package_check.specs.Package.{Reads, ReadsCopper, ReadsHoles, is_bad_span, is_copper, nameless};
 

@@ -3,7 +3,7 @@
 ghost use Rattle.std.specs.Prelude.{◌≡◌, ◌++◌, ◌∷◌, ℕ, List, [], true, Ok, Err, Result, IfOk, OnOk, OnErr, alloc_error, is_some, map};
 ghost use Rattle.std.specs.List.{concat};
 ghost use Rattle.grid_units.specs.declared.fault.Fault.{Fault as TheFault};
-ghost use Rattle.layer_image.specs.Holding.{ReadsFlashes};
+ghost use Rattle.layer_image.specs.Layers.{ReadsFlashes};
 ghost use Rattle.package_check.specs.Boards.{AnswersBoard};
 ghost use Rattle.package_check.specs.Package.{AnswersJust, AnswersPackage, IsAnswer, NamesItsPlaces, Source, is_copper, nameless};
 ghost use Rattle.package_check.specs.Reports.{Account};

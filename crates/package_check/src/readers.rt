@@ -2,16 +2,22 @@
 
 ghost use Rattle.std.specs.Prelude.{◌≡◌, ◌≤◌, ◌++◌, ◌∷◌, [], ◌==◌, not, ℕ, List, Ok, Err, IfErr, IfOk, OnOk, length, map};
 ghost use Rattle.std.specs.List.{concat, prefix_len, take_while};
+ghost use Rattle.std.specs.Option.{option_copied};
 ghost use Rattle.grid_units.specs.Results.{Answers, Tells};
 ghost use Rattle.layer_image.specs.Flashes.{pads_of};
-ghost use Rattle.layer_image.specs.Holding.{FlashesStandAfter, ReadsFlashSum, ReadsFlashes, ReadsSum, ShowsLayerFault, SumStandsAfter, flash_view, sum_view};
+ghost use Rattle.drill_text.specs.Outcome.{file_of};
+ghost use Rattle.drill_text.specs.Texts.{ReadsAs};
+ghost use Rattle.drill_text.specs.declared.kept.Keep.TheVariants as drill_keep;
+ghost use Rattle.layer_image.specs.Holding.{LayerStandsAfter, ShowsLayerFault};
+ghost use Rattle.layer_image.specs.Layers.{ReadsFlashes, ReadsKept};
+ghost use Rattle.layer_image.specs.declared.keep.Keep.{Keep as TheKeep};
 ghost use Rattle.package_check.specs.Readers.{ReadsLayer, ReadsDrill, is_copper_function};
 
-use drill_text::HolesReader;
+use drill_text::DrillReader;
 use drill_text::laws::faults_stay;
 use grid_units::numbers::run_before;
-use grid_units::{Fail, Hole, Text};
-use layer_image::{Flash, FlashReader, FlashSum, LayerSum, SumReader, What, shown_faults};
+use grid_units::{Fail, Hole};
+use layer_image::{Flash, Keep, LayerReader, What, shown_faults};
 use pad_shapes::Pad;
 use std::alloc::{AllocError, Global};
 use std::marker::Model;
@@ -79,11 +85,11 @@ impl Drill {
 }
 
 /// Whether the first field of a file function is `Copper`. A layer without one is taken for copper.
-fn is_copper_function(function: &Option<Text>) -> bool
-    ensures { result ≡ is_copper_function function.now }
+fn is_copper_function(function: Option<&[u8]>) -> bool
+    ensures { result ≡ is_copper_function (option_copied function.entry) }
 {
     match function {
-        Some(text) => first_field(text.bytes()) == b"Copper".as_slice(),
+        Some(text) => first_field(text) == b"Copper".as_slice(),
         None => true,
     }
 }
@@ -96,9 +102,9 @@ fn first_field(text: &[u8]) -> &[u8]
 }
 
 /// Feeds a piece of a layer to the reader, [`PIECE`] bytes at a time.
-fn feed_layer(reader: &mut SumReader, piece: &[u8]) -> Result<(), Fail>
-    ensures ok { (text : List ℕ) → SumStandsAfter reader.old text → OnOk result (SumStandsAfter reader.new (text ++ piece.now)) }
-    ensures err { (text : List ℕ) → SumStandsAfter reader.old text → IfErr result (Tells (ShowsLayerFault (text ++ piece.now))) }
+fn feed_layer(reader: &mut LayerReader, piece: &[u8]) -> Result<(), Fail>
+    ensures ok { (keep : TheKeep) (text : List ℕ) → LayerStandsAfter reader.old keep text → OnOk result (LayerStandsAfter reader.new keep (text ++ piece.now)) }
+    ensures err { (keep : TheKeep) (text : List ℕ) → LayerStandsAfter reader.old keep text → IfErr result (Tells (ShowsLayerFault (text ++ piece.now))) }
 {
     shown_faults();
     for chunk in piece.chunks(PIECE) {
@@ -107,12 +113,12 @@ fn feed_layer(reader: &mut SumReader, piece: &[u8]) -> Result<(), Fail>
     Ok(())
 }
 
-/// What a package needs of the layer whose text comes in these pieces: pads, count of other flashes, file function.
-fn read_sum(alloc: Global, pieces: &[&[u8]]) -> Result<LayerSum, Fail>
-    ensures { Answers sum_view (ReadsSum (concat (map (λ piece. piece.now) pieces.now))) result }
+/// The layer whose text comes in these pieces, of which just this is kept.
+fn read_layer(alloc: Global, keep: Keep, pieces: &[&[u8]]) -> Result<layer_image::Layer, Fail>
+    ensures { Answers (λ layer. layer) (ReadsKept keep (concat (map (λ piece. piece.now) pieces.now))) result }
 {
     shown_faults();
-    let mut reader = SumReader::new(alloc);
+    let mut reader = LayerReader::keeping(alloc, keep);
     for piece in pieces {
         feed_layer(&mut reader, piece)?;
     }
@@ -123,37 +129,14 @@ fn read_sum(alloc: Global, pieces: &[&[u8]]) -> Result<LayerSum, Fail>
 pub(crate) fn read_image(alloc: Global, pieces: &[&[u8]]) -> Result<Layer, Fail>
     ensures { Answers (λ x. x) (ReadsLayer (concat (map (λ piece. piece.now) pieces.now))) result }
 {
-    let sum = read_sum(alloc, pieces)?;
-    let is_copper = is_copper_function(&sum.file_function);
+    let layer = read_layer(alloc, Keep::Pads, pieces)?;
+    let other = layer.other();
+    let is_copper = is_copper_function(layer.file_function());
     Ok(Layer {
-        pads: sum.pads,
-        other: sum.other,
+        pads: layer.into_pads(),
+        other,
         is_copper,
     })
-}
-
-/// Feeds a piece of a layer whose flashes are kept to the reader, [`PIECE`] bytes at a time.
-fn feed_flashes(reader: &mut FlashReader, piece: &[u8]) -> Result<(), Fail>
-    ensures ok { (text : List ℕ) → FlashesStandAfter reader.old text → OnOk result (FlashesStandAfter reader.new (text ++ piece.now)) }
-    ensures err { (text : List ℕ) → FlashesStandAfter reader.old text → IfErr result (Tells (ShowsLayerFault (text ++ piece.now))) }
-{
-    shown_faults();
-    for bytes in piece.chunks(PIECE) {
-        reader.feed(bytes)?;
-    }
-    Ok(())
-}
-
-/// What [`read_sum`] gives of the layer whose text comes in these pieces, with all flashes in place of the pads.
-fn read_flashes(alloc: Global, pieces: &[&[u8]]) -> Result<FlashSum, Fail>
-    ensures { Answers flash_view (ReadsFlashSum (concat (map (λ piece. piece.now) pieces.now))) result }
-{
-    shown_faults();
-    let mut reader = FlashReader::new(alloc);
-    for piece in pieces {
-        feed_flashes(&mut reader, piece)?;
-    }
-    reader.finish_whole()
 }
 
 /// Appends the pad of a flash, where it has one.
@@ -189,12 +172,12 @@ pub(crate) fn read_image_with_flashes(
     ensures image { Answers (λ x. x) (ReadsLayer (concat (map (λ piece. piece.now) pieces.now))) result }
     ensures flashes { OnOk result (ReadsFlashes (concat (map (λ piece. piece.now) pieces.now)) (Ok flashes.new.items)) }
 {
-    let sum = read_flashes(alloc, pieces)?;
-    let other = sum.other;
-    let count = sum.flashes.len().saturating_sub(other);
-    let pads = pads_among(alloc, &sum.flashes, count)?;
-    let is_copper = is_copper_function(&sum.file_function);
-    *flashes = sum.flashes;
+    let layer = read_layer(alloc, Keep::Flashes, pieces)?;
+    let other = layer.other();
+    let count = layer.flashes().len().saturating_sub(other);
+    let pads = pads_among(alloc, layer.flashes(), count)?;
+    let is_copper = is_copper_function(layer.file_function());
+    *flashes = layer.into_flashes();
     Ok(Layer {
         pads,
         other,
@@ -202,12 +185,12 @@ pub(crate) fn read_image_with_flashes(
     })
 }
 
-/// The holes of the drill file whose text comes in these pieces.
-fn read_drill(alloc: Global, pieces: &[&[u8]]) -> Result<Vec<Hole>, Fail>
-    ensures { Answers (λ holes. holes.items) (ReadsDrill (concat (map (λ piece. piece.now) pieces.now))) result }
+/// The drill file whose text comes in these pieces, of which no command is kept.
+fn read_drill(alloc: Global, pieces: &[&[u8]]) -> Result<drill_text::Drill, Fail>
+    ensures { Answers (λ drill. drill) (ReadsAs (file_of drill_keep.Holes) (concat (map (λ piece. piece.now) pieces.now))) result }
 {
     faults_stay();
-    let mut reader = HolesReader::new(alloc);
+    let mut reader = DrillReader::keeping(alloc, drill_text::Keep::Holes);
     for piece in pieces {
         reader.feed(piece)?;
     }
@@ -218,6 +201,8 @@ fn read_drill(alloc: Global, pieces: &[&[u8]]) -> Result<Vec<Hole>, Fail>
 pub(crate) fn read_holes(alloc: Global, pieces: &[&[u8]]) -> Result<Drill, Fail>
     ensures { Answers (λ x. x) (ReadsDrill (concat (map (λ piece. piece.now) pieces.now))) result }
 {
-    let holes = read_drill(alloc, pieces)?;
-    Ok(Drill { holes })
+    let drill = read_drill(alloc, pieces)?;
+    Ok(Drill {
+        holes: drill.into_holes(),
+    })
 }

@@ -37,7 +37,7 @@ module _ (layer_once : layers.OneReading) (equal : EqualCommands)
   same_seen : (s t : List ℕ) (h : SpellAlike kind.Layer s t) → seen_in h.0 ≡ seen_in h.1
   same_seen s t h =
       let e = equal s t h.0 h.1 h.2 h.3 h.4 in
-      λ i. seen_in (record { commands = h.1.commands; flashes = e.0 i; pads = e.1 i; file_function = e.2 i })
+      λ i. seen_in (record { commands = h.1.commands; flashes = e.0 i; pads = e.1 i; other = e.3 i; file_function = e.2 i })
 
   layer_same : (s t : List ℕ) → SpellAlike kind.Layer s t → (image : Image) → ReadsLayer s (Ok image) → ReadsLayer t (Ok image)
   layer_same s t h image k = (h.1, h.3, k.2 ∙ (ap seen_in (same_layer s k.0 h.0 k.1 h.2) ∙ same_seen s t h))

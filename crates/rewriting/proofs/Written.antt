@@ -6,17 +6,21 @@ use Rattle.grid_units.specs.declared.fault.Fail.{Fail}
 use Rattle.grid_units.specs.declared.fault.Fail.TheVariants as fails
 use Rattle.grid_units.specs.Results.{Answers, AnswersAlways, Tells}
 use Rattle.drill_text.specs.Reading as drills
-use Rattle.drill_text.specs.Writing.{ReadsWritten}
-use Rattle.gerber_text.specs.Reading.{Entries, Shows, Reads, entries_behind}
+use Rattle.drill_text.specs.Outcome.{DrillFile, file_of}
+use Rattle.drill_text.specs.Texts.{ReadsAs}
+use Rattle.drill_text.specs.Writing.{bytes_in}
+use Rattle.drill_text.specs.declared.kept.Keep.TheVariants as drill_keep
+use Rattle.gerber_text.specs.Reading.{Entries, Reads, entries_behind}
 use Rattle.gerber_text.specs.Holding.{FailsWith}
 use Rattle.gerber_text.specs.Writing.{canonical_text, without_places}
 use Rattle.gerber_text.proofs.Spelling.{spells_reads}
 use Rattle.gerber_text.proofs.Unique.{one_read}
 use Rattle.gerber_text.proofs.Whole.{shows_reads}
 use Rattle.gerber_text.proofs.Longer.{fails_longer}
-use Rattle.layer_image.specs.Layers.{LayerImage, ReadsLayer}
-use Rattle.layer_image.specs.Holding.{ShowsLayerFault, ReadsSum, sum_view}
-use Rattle.rewriting.specs.Rewriting.{RewritesLayer}
+use Rattle.layer_image.specs.Layers.{LayerImage, ReadsKept, ReadsLayer}
+use Rattle.layer_image.specs.Holding.{ShowsLayerFault}
+use Rattle.layer_image.specs.declared.keep.Keep.{Keep}
+use Rattle.rewriting.specs.Rewriting.{RewritesDrill, RewritesLayer}
 use Rattle.rewriting.specs.Inner.Writing.{StopsIn}
 
 pub stops : (text : List ℕ) (cs : Entries) (e : Fail) → FailsWith text cs e → Tells (StopsIn text) e
@@ -68,11 +72,23 @@ pub layer_refused : (bytes : List ℕ) (e : Fail) → Tells (λ f. ReadsLayer by
 layer_refused bytes fails.Memory h = tt
 layer_refused bytes (fails.Refused f) h = inl h
 
-pub drill_refused : ((text more : List ℕ) (f : Fault) → drills.Shows text (Err f) → drills.Reads (text ++ more) (Err f)) → (text whole : List ℕ) (e : Fail) → text ≡ whole → Tells (λ f. drills.Shows text (Err f)) e
-    → Answers (λ (v : Vec ℕ). v.items) (ReadsWritten whole) (Err e)
-drill_refused law text whole fails.Memory is h = tt
-drill_refused law text whole (fails.Refused f) is h = inl (subst (λ (t : List ℕ). drills.Reads t (Err f)) (append-nil text ∙ is) (law text [] f h))
+-- the fault that a drill text shows is the one that it has
+pub drill_shown : ((text more : List ℕ) (f : Fault) → drills.Shows text (Err f) → drills.Reads (text ++ more) (Err f)) → (text : List ℕ) (e : Fail) → Tells (λ f. drills.Shows text (Err f)) e
+    → Answers {T = DrillFile} (λ drill. drill) (ReadsAs (file_of drill_keep.Text) text) (Err e)
+drill_shown law text fails.Memory h = tt
+drill_shown law text (fails.Refused f) h = subst (λ (t : List ℕ). drills.Reads t (Err f)) (append-nil text) (law text [] f h)
 
-pub sum_refused : (bytes : List ℕ) (e : Fail) → Answers sum_view (ReadsSum bytes) (Err e) → Tells (λ f. ReadsLayer bytes (Err f)) e
-sum_refused bytes fails.Memory h = tt
-sum_refused bytes (fails.Refused f) h = h
+pub drill_refused : (bytes : List ℕ) (e : Fail) → Answers {T = DrillFile} (λ drill. drill) (ReadsAs (file_of drill_keep.Text) bytes) (Err e) → Answers (λ (v : Vec ℕ). v.items) (RewritesDrill bytes) (Err e)
+drill_refused bytes fails.Memory h = tt
+drill_refused bytes (fails.Refused f) h = inl h
+
+-- a drill file is rewritten as the canonical text of its commands, unless that is too long
+pub drill_written : (bytes : List ℕ) (file : DrillFile) (r : Result (Vec ℕ) Fail) → ReadsAs (file_of drill_keep.Text) bytes (Ok file) → AnswersAlways bytes_in (λ answer. answer ≡ file.text) r
+    → Answers (λ (v : Vec ℕ). v.items) (RewritesDrill bytes) r
+drill_written bytes file (Ok v) h is = (h.0, h.1, sym (is ∙ ap (λ (d : DrillFile). d.text) h.2))
+drill_written bytes file (Err fails.Memory) h is = tt
+drill_written bytes file (Err (fails.Refused f)) h is = inr (h.0, h.1, sym (is ∙ ap (λ (d : DrillFile). d.text) h.2))
+
+pub layer_fault : (keep : Keep) (bytes : List ℕ) (e : Fail) → Answers {T = LayerImage} (λ layer. layer) (ReadsKept keep bytes) (Err e) → Tells (λ f. ReadsLayer bytes (Err f)) e
+layer_fault keep bytes fails.Memory h = tt
+layer_fault keep bytes (fails.Refused f) h = h

@@ -1,6 +1,9 @@
 //! A text, rewritten as its canonical text.
 
 ghost use Rattle.std.specs.Prelude.{◌≡◌, ◌++◌, ℕ, List, Ok, Err, OnOk, IfErr};
+ghost use Rattle.drill_text.specs.Outcome.{file_of};
+ghost use Rattle.drill_text.specs.Texts.{ReadsAs};
+ghost use Rattle.drill_text.specs.declared.kept.Keep.TheVariants as drill_keep;
 ghost use Rattle.grid_units.specs.Results.{Answers, Tells};
 ghost use Rattle.gerber_text.specs.Writing.{canonical_text, without_places};
 ghost use Rattle.layer_image.specs.Layers.{LayerImage, ReadsLayer};
@@ -8,10 +11,10 @@ ghost use Rattle.rewriting.specs.Rewriting.{Rewrites, RewritesDrill, RewritesLay
 
 use crate::Kind;
 use crate::layer_writer::LayerWriter;
-use drill_text::RewriteReader;
 use drill_text::laws::faults_stay;
+use drill_text::{Drill, DrillReader};
 use grid_units::Fail;
-use layer_image::{SumReader, shown_faults};
+use layer_image::{LayerReader, shown_faults};
 use std::alloc::Global;
 
 /// How many bytes of a layer are read at a time, so that no more of its commands are held.
@@ -23,11 +26,11 @@ fn check_layer(alloc: Global, bytes: &[u8]) -> Result<(), Fail>
     ensures err { IfErr result (Tells (λ f. ReadsLayer bytes.now (Err f))) }
 {
     shown_faults();
-    let mut reader = SumReader::new(alloc);
+    let mut reader = LayerReader::keeping(alloc, layer_image::Keep::Pads);
     for piece in bytes.chunks(PIECE) {
         reader.feed(piece)?;
     }
-    let _sum = reader.finish()?;
+    let _layer = reader.finish()?;
     Ok(())
 }
 
@@ -51,14 +54,22 @@ fn rewrite_layer(alloc: Global, bytes: &[u8]) -> Result<Vec<u8>, Fail>
     write_layer(alloc, bytes)
 }
 
-/// The canonical text of a drill file. No command is kept.
+/// A drill file with the canonical text of its commands, of which none is kept.
+fn read_drill(alloc: Global, bytes: &[u8]) -> Result<Drill, Fail>
+    ensures { Answers (λ drill. drill) (ReadsAs (file_of drill_keep.Text) bytes.now) result }
+{
+    faults_stay();
+    let mut reader = DrillReader::keeping(alloc, drill_text::Keep::Text);
+    reader.feed(bytes)?;
+    reader.finish()
+}
+
+/// The canonical text of a drill file.
 fn rewrite_drill(alloc: Global, bytes: &[u8]) -> Result<Vec<u8>, Fail>
     ensures { Answers (λ text. text.items) (RewritesDrill bytes.now) result }
 {
-    faults_stay();
-    let mut reader = RewriteReader::new(alloc);
-    reader.feed(bytes)?;
-    reader.finish()
+    let drill = read_drill(alloc, bytes)?;
+    drill.into_text()
 }
 
 /// The canonical text of what the bytes spell, as a layer or as a drill file. It takes memory for that text, for what the

@@ -2,16 +2,19 @@
 
 ghost use Rattle.std.specs.Prelude.{◌≡◌, IfOk};
 ghost use Rattle.grid_units.specs.Results.{Answers};
-ghost use Rattle.drill_text.specs.Texts.{ReadsHoles};
-ghost use Rattle.layer_image.specs.Holding.{ReadsFlashes};
+ghost use Rattle.drill_text.specs.Outcome.{file_of};
+ghost use Rattle.drill_text.specs.Texts.{ReadsAs};
+ghost use Rattle.drill_text.specs.declared.kept.Keep.TheVariants as drill_keep;
+ghost use Rattle.layer_image.specs.Layers.{ReadsKept};
+ghost use Rattle.layer_image.specs.declared.keep.Keep.TheVariants as layer_keep;
 ghost use Rattle.tables.specs.Tables.{ShowsDrill, ShowsLayer, drill_header, drill_table, layer_header, layer_table};
 
 use crate::fields::{with_flash, with_hole};
 use crate::table::Table;
-use drill_text::HolesReader;
 use drill_text::laws::faults_stay;
+use drill_text::{Drill, DrillReader};
 use grid_units::{Fail, Hole};
-use layer_image::{Flash, FlashReader, shown_faults};
+use layer_image::{Flash, Layer, LayerReader, shown_faults};
 use std::alloc::{AllocError, Global};
 
 /// How many bytes of a layer are read at a time, so that no more of its commands are held.
@@ -71,24 +74,24 @@ fn drill_table(alloc: Global, holes: &[Hole]) -> Result<Vec<u8>, AllocError>
     table.into_bytes()
 }
 
-/// The flashes of the layer that the bytes are. No command is kept.
-fn read_flashes(alloc: Global, bytes: &[u8]) -> Result<Vec<Flash>, Fail>
-    ensures { Answers (λ flashes. flashes.items) (ReadsFlashes bytes.now) result }
+/// The layer that the bytes are, of which flashes alone are kept.
+fn read_layer(alloc: Global, bytes: &[u8]) -> Result<Layer, Fail>
+    ensures { Answers (λ layer. layer) (ReadsKept layer_keep.Flashes bytes.now) result }
 {
     shown_faults();
-    let mut reader = FlashReader::new(alloc);
+    let mut reader = LayerReader::keeping(alloc, layer_image::Keep::Flashes);
     for piece in bytes.chunks(PIECE) {
         reader.feed(piece)?;
     }
     reader.finish()
 }
 
-/// The holes of the drill file that the bytes are. No command is kept.
-fn read_holes(alloc: Global, bytes: &[u8]) -> Result<Vec<Hole>, Fail>
-    ensures { Answers (λ holes. holes.items) (ReadsHoles bytes.now) result }
+/// The drill file that the bytes are, of which no command is kept.
+fn read_drill(alloc: Global, bytes: &[u8]) -> Result<Drill, Fail>
+    ensures { Answers (λ drill. drill) (ReadsAs (file_of drill_keep.Holes) bytes.now) result }
 {
     faults_stay();
-    let mut reader = HolesReader::new(alloc);
+    let mut reader = DrillReader::keeping(alloc, drill_text::Keep::Holes);
     reader.feed(bytes)?;
     reader.finish()
 }
@@ -102,8 +105,8 @@ fn read_holes(alloc: Global, bytes: &[u8]) -> Result<Vec<Hole>, Fail>
 pub fn show_layer(alloc: Global, bytes: &[u8]) -> Result<Vec<u8>, Fail>
     ensures exact { Answers (λ text. text.items) (ShowsLayer bytes.now) result }
 {
-    let flashes = read_flashes(alloc, bytes)?;
-    match layer_table(alloc, &flashes) {
+    let layer = read_layer(alloc, bytes)?;
+    match layer_table(alloc, layer.flashes()) {
         Ok(text) => Ok(text),
         Err(_) => Err(Fail::Memory),
     }
@@ -118,8 +121,8 @@ pub fn show_layer(alloc: Global, bytes: &[u8]) -> Result<Vec<u8>, Fail>
 pub fn show_drill(alloc: Global, bytes: &[u8]) -> Result<Vec<u8>, Fail>
     ensures exact { Answers (λ text. text.items) (ShowsDrill bytes.now) result }
 {
-    let holes = read_holes(alloc, bytes)?;
-    match drill_table(alloc, &holes) {
+    let drill = read_drill(alloc, bytes)?;
+    match drill_table(alloc, drill.holes()) {
         Ok(text) => Ok(text),
         Err(_) => Err(Fail::Memory),
     }

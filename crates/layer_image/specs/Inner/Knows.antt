@@ -2,7 +2,7 @@
 use Rattle.std.specs.Prelude.{◌≡◌, ◌||◌, List, [], ◌∷◌, ◌++◌, Some, None, unwrap_or, Result, Ok, Err}
 use Rattle.std.specs.Option.{option_or}
 use Rattle.gerber_rows.specs.declared.command.Command.{Command}
-use Rattle.layer_image.specs.declared.flashes.Keep.{Keep}
+use Rattle.layer_image.specs.declared.keep.Keep.{Keep}
 use Rattle.layer_image.specs.declared.judge.Judge.{Judge}
 use Rattle.grid_units.specs.declared.stop.Stop.{Stop}
 use Rattle.grid_units.specs.declared.stop.Stop.TheVariants.{Memory, Refused}

@@ -1,23 +1,21 @@
-use Rattle.std.proofs.Common.{Option, None, Ok, Err, sym, ap, subst, ◌∙◌}
+use Rattle.std.proofs.Common.{◌≡◌, Option, None, Ok, Err, sym, ap, subst, ◌∙◌}
 use Rattle.drill_lines.specs.declared.command.DrillCommand.{DrillCommand}
 use Rattle.drill_lines.specs.declared.command.Settings.{Settings}
-use Rattle.grid_units.specs.declared.fault.Fail.{Fail}
 use Rattle.grid_units.specs.declared.stop.Stop.{Stop}
 use Rattle.drill_lines.specs.Lines.{trimmed}
 use Rattle.drill_lines.specs.Meaning.{meaning}
-use Rattle.grid_units.specs.Results.{Fails}
+use Rattle.grid_units.specs.Results.{Fails, Tells}
 use Rattle.drill_text.specs.Reading.{spelled}
-use Rattle.drill_text.specs.Keeping.{Leaves}
 use Rattle.drill_text.proofs.Judging.{spelled_is}
 use Rattle.drill_text.proofs.reader.spell.Goals as goal
 
-pub returns-in-Ok-None-clause-leaves : goal.returns-in-Ok-None-clause-leaves
-returns-in-Ok-None-clause-leaves c before met =
+pub returns-in-Ok-None : goal.returns-in-Ok-None
+returns-in-Ok-None c keep before met =
     let line = c.args.line.now in
     (before, spelled_is c.args.judge.now before c.args.place c.args.byte line (Ok None) met.knows c.requires.short (ap (λ (s : Settings). meaning s (trimmed line)) (sym c.settings.ensures) ∙ (c.in-Ok-None.ensures ∙ ap (λ (o : Option DrillCommand). Ok o) c.in-Ok-None.field-0-is)), met)
 
-pub returns-in-Err-Refused-clause-leaves : goal.returns-in-Err-Refused-clause-leaves
-returns-in-Err-Refused-clause-leaves c before met =
+pub returns-in-Err-Refused : goal.returns-in-Err-Refused
+returns-in-Err-Refused c keep before met =
     let line = c.args.line.now in
-    subst (λ (e : Fail). Leaves {X = Unit {0}} (Err e) c.args.judge.now c.args.kept.now (spelled c.args.place c.args.byte line before)) (sym c.refusal.ensures)
+    subst (Tells (λ f. spelled c.args.place c.args.byte line before ≡ Err f)) (sym c.refusal.ensures)
     (spelled_is c.args.judge.now before c.args.place c.args.byte line (Err c.in-Err-Refused.reason) met.knows c.requires.short (ap (λ (s : Settings). meaning s (trimmed line)) (sym c.settings.ensures) ∙ subst (λ (e : Stop). Fails e (meaning c.settings.result (trimmed line))) c.in-Err-Refused.field-0-is c.in-Err-Refused.ensures))

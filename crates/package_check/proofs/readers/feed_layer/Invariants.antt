@@ -1,6 +1,7 @@
 use Rattle.std.proofs.Common.{◌≡◌, ℕ, List, ◌++◌}
 use Rattle.std.specs.Slice.Iter.{chunks_rest, chunks_size}
-use Rattle.layer_image.specs.Holding.{SumStandsAfter}
+use Rattle.layer_image.specs.declared.keep.Keep.{Keep}
+use Rattle.layer_image.specs.Holding.{LayerStandsAfter}
 use Rattle.package_check.proofs.readers.feed_layer.Given as goal
 
 abbrev pub invariant-loop-chunk : goal.invariant-loop-chunk
@@ -8,4 +9,4 @@ invariant-loop-chunk l =
     goal.iterator-loop-chunk.can_next l.chunk-iterator
     × goal.iterator-loop-chunk.is_finite l.chunk-iterator
     × (chunks_size l.chunk-iterator ≡ 65536)
-    × ((text : List ℕ) → SumStandsAfter l.initial.reader text → (done : List ℕ) × SumStandsAfter l.reader (text ++ done) × (done ++ chunks_rest l.chunk-iterator ≡ l.piece))
+    × ((keep : Keep) (text : List ℕ) → LayerStandsAfter l.initial.reader keep text → (done : List ℕ) × LayerStandsAfter l.reader keep (text ++ done) × (done ++ chunks_rest l.chunk-iterator ≡ l.piece))

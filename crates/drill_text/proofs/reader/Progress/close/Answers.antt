@@ -4,25 +4,25 @@ use Rattle.std.proofs.lemmas.Result.{err_from_is_err_and}
 use Rattle.drill_lines.specs.declared.command.DrillCommand.{DrillCommand}
 use Rattle.grid_units.specs.declared.fault.Fail.{Fail}
 use Rattle.grid_units.specs.declared.fault.Fail.TheVariants.{Memory, Refused}
-use Rattle.drill_text.specs.declared.judge.Judge.{Judge}
+use Rattle.grid_units.specs.Results.{Tells}
+use Rattle.drill_text.specs.declared.kept.Keep.{Keep}
 use Rattle.drill_text.specs.declared.reader.Progress.{Progress}
 use Rattle.drill_text.specs.Lines.{Splits, bytes_of}
 use Rattle.drill_text.specs.Reading.{spelled, shown}
-use Rattle.drill_text.specs.declared.kept.Kept.{Kept}
-use Rattle.drill_text.specs.Keeping.{Met, Leaves}
+use Rattle.drill_text.specs.Keeping.{Met}
 use Rattle.drill_text.specs.Holding.{Refuses}
 use Rattle.drill_text.proofs.Splitting.{Splits-close, bytes_of-push}
 use Rattle.drill_text.proofs.Shown.{closed}
 use Rattle.drill_text.proofs.reader.Progress.close.Goals as goal
 
-refused : (old : Progress) (e : Fail) (judge : Judge) (new : Kept) → ((before : List DrillCommand) → Met old.judge old.kept before → Leaves {X = Unit {0}} (Err e) judge new (spelled (old.lines + 1) old.start old.line.items before)) → Refuses old (10 ∷ []) e
-refused old Memory judge new k = tt
-refused old (Refused f) judge new k = λ text h. record { lines = h.lines ++ old.line.items ∷ []; rest = []; splits = Splits-close text h.lines old.line.items h.splits; fault = closed old text old.line.items h ∙ k h.commands h.met }
+refused : (old : Progress) (e : Fail) → ((keep : Keep) (before : List DrillCommand) → Met old.judge old.kept keep before → Tells (λ f. spelled (old.lines + 1) old.start old.line.items before ≡ Err f) e) → Refuses old (10 ∷ []) e
+refused old Memory k = tt
+refused old (Refused f) k = λ keep text h. record { lines = h.lines ++ old.line.items ∷ []; rest = []; splits = Splits-close text h.lines old.line.items h.splits; fault = closed old text old.line.items h ∙ k keep h.commands h.met }
 
 pub returns-clause-ok : goal.returns-clause-ok
-returns-clause-ok c text h =
+returns-clause-ok c keep text h =
     let old = c.args.self.now in
-    let k = c.in_ok-spell.ensures.leaves h.commands h.met in
+    let k = c.in_ok-spell.ensures keep h.commands h.met in
     let line : old.line.items ≡ c.deref.result.now = sym c.deref.ensures.value in
     let lines : List (List ℕ) = h.lines ++ old.line.items ∷ [] in
     record {
@@ -41,4 +41,4 @@ returns-in_err-spell-clause-err c =
     let old = c.args.self.now in
     let e = c.in_err-spell.field-0.0 in
     let p = err_from_is_err_and c.from_residual.result c.from_residual.ensures.1 in
-    rw (p.1, p.2) (refused old e c.spell.new.judge c.spell.new.kept (λ before met. subst (λ (b : List ℕ). Leaves {X = Unit {0}} (Err e) c.spell.new.judge c.spell.new.kept (spelled (old.lines + 1) old.start b before)) c.deref.ensures.value (c.in_err-spell.ensures.leaves before met)))
+    rw (p.1, p.2) (refused old e (λ keep before met. subst (λ (b : List ℕ). Tells (λ f. spelled (old.lines + 1) old.start b before ≡ Err f) e) c.deref.ensures.value (c.in_err-spell.ensures keep before met)))

@@ -11,7 +11,7 @@ use Rattle.drill_text.proofs.Shown.{shown_ok, show_ok, show_long}
 use Rattle.drill_text.proofs.reader.Progress.extend.Goals as goal
 
 pub returns-clause-ok : goal.returns-clause-ok
-returns-clause-ok c text h =
+returns-clause-ok c keep text h =
     let old = c.args.self.now in
     let run = c.args.run.now in
     let items = c.in_ok-extend_from_slice.ensures.items in
@@ -28,7 +28,7 @@ returns-clause-ok c text h =
     }
 
 pub returns-then-run-len-clause-err : goal.returns-then-run-len-clause-err
-returns-then-run-len-clause-err c = subst (Refuses c.args.self.now c.args.run.now) (sym c.refusal.ensures) (λ text h.
+returns-then-run-len-clause-err c = subst (Refuses c.args.self.now c.args.run.now) (sym c.refusal.ensures) (λ keep text h.
     let old = c.args.self.now in
     let run = c.args.run.now in
     let before = shown_ok h.lines old.line.items h.commands h.spelled in

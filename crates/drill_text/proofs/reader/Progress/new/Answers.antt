@@ -3,15 +3,15 @@ use Rattle.drill_text.specs.Lines.{Splits}
 use Rattle.drill_text.specs.Reading.{shown}
 use Rattle.drill_text.proofs.reader.Progress.new.Goals as goal
 
-pub returns-clause-holds : goal.returns-clause-holds
-returns-clause-holds c =
+pub returns : goal.returns
+returns c =
     let none = c.new-3.ensures.items in
     record {
       lines = [];
       commands = [];
       splits = subst (λ (x : List ℕ). Splits [] [] x) (sym none) (record { whole = refl; each = tt; partial = tt });
       spelled = ap (shown []) none;
-      met = record { knows = c.new.ensures; keeps = c.new-2.ensures.keeps };
+      met = record { knows = c.new.ensures; keeps = c.new-2.ensures };
       count = refl;
       start = refl;
       offset = refl;

@@ -5,13 +5,13 @@ use Rattle.drill_text.proofs.WholeLines.{whole_holds, whole_refused}
 use Rattle.drill_text.proofs.reader.Progress.read_whole.Goals as goal
 
 pub returns-clause-ok : goal.returns-clause-ok
-returns-clause-ok c text h =
+returns-clause-ok c keep text h =
     let line = c.args.line.now in
-    let k = c.in_ok-spell.ensures.leaves h.commands h.met in
+    let k = c.in_ok-spell.ensures keep h.commands h.met in
     whole_holds c.args.self.now _ text line k.0 h c.requires.empty (recursion_from_All (λ b. b ≢ 10) line c.requires.inside) refl k.1 k.2 refl refl (search rules)
 
 pub returns-in_err-spell-clause-err : goal.returns-in_err-spell-clause-err
 returns-in_err-spell-clause-err c =
     let line = c.args.line.now in
     let p = err_from_is_err_and c.from_residual.result c.from_residual.ensures.1 in
-    rw (p.1, p.2) (whole_refused c.args.self.now line c.in_err-spell.field-0.0 c.spell.new.judge c.spell.new.kept c.requires.empty (recursion_from_All (λ b. b ≢ 10) line c.requires.inside) c.in_err-spell.ensures.leaves)
+    rw (p.1, p.2) (whole_refused c.args.self.now line c.in_err-spell.field-0.0 c.requires.empty (recursion_from_All (λ b. b ≢ 10) line c.requires.inside) c.in_err-spell.ensures)

@@ -16,11 +16,11 @@ front point len bytes h =
     sym (ap (take (len + 1)) whole ∙ take_at (h.line ++ 10 ∷ []) h.more (len + 1) count)
 
 pub returns-clause-ok : goal.returns-clause-ok
-returns-clause-ok c text h =
+returns-clause-ok c keep text h =
     let leads = c.requires.leads in
     let old = c.args.self.now in
     let short : length leads.line ≤ 1048576 = omega (arith, leads.count, leads.short) in
-    let k = c.in_ok-keep.ensures.leaves leads.line h.commands short (leads.spells old.judge.settings c.requires.body) h.met in
+    let k = c.in_ok-keep.ensures keep leads.line h.commands short (leads.spells old.judge.settings c.requires.body) h.met in
     whole_taken old _ text leads.line _ k.0 h (front c.args.point c.args.len c.args.bytes.now leads) c.requires.empty (no_break leads.line leads.inside) refl k.1 k.2 refl refl (ap (λ n. old.offset + (n + 1)) (sym leads.count))
 
 pub returns-in_err-keep-clause-err : goal.returns-in_err-keep-clause-err
@@ -32,4 +32,4 @@ returns-in_err-keep-clause-err c =
     let p = err_from_is_err_and c.from_residual.result c.from_residual.ensures.1 in
     let short : length leads.line ≤ 1048576 = omega (arith, leads.count, leads.short) in
     rw (p.1, p.2) (Refuses-front old bytes (c.args.len + 1) e (subst (λ (x : List ℕ). Refuses old x e) (front c.args.point c.args.len bytes leads)
-    (whole_refused old leads.line e c.keep.new.judge c.keep.new.kept c.requires.empty (no_break leads.line leads.inside) (λ before met. c.in_err-keep.ensures.leaves leads.line before short (leads.spells old.judge.settings c.requires.body) met))))
+    (whole_refused old leads.line e c.requires.empty (no_break leads.line leads.inside) (λ keep before met. c.in_err-keep.ensures keep leads.line before short (leads.spells old.judge.settings c.requires.body) met))))

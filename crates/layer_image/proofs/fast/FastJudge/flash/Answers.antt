@@ -1,5 +1,5 @@
 -- The fast path shows that no rule applies, and what the flash leaves.
-use Rattle.std.proofs.Common.{rules, ◌≡◌, ℤ, Option, unwrap_or, FitsSigned, to_z, of_z, nat_le, unsigned_abs, ap, sym, ◌∙◌}
+use Rattle.std.proofs.Common.{arith, rules, ◌≡◌, ℤ, Option, unwrap_or, FitsSigned, to_z, of_z, nat_le, unsigned_abs, ap, sym, ◌∙◌}
 use Rattle.std.proofs.lemmas.Int.{to_z-of_z}
 use mir.Syntax.{w64}
 use Rattle.grid_units.specs.Points.{GridPoint}
@@ -25,8 +25,8 @@ returns c =
     let up = named c.args.y c.unwrap_or-up.result fast.judge.y named_y y c.unwrap_or-up.ensures in
     let at = c.point-at.ensures ∙ (λ k. point_of l (across k) (up k)) in
     flash_is (told fast.judge) (flash_count fast.judge.flashes) l fast.fast.what c.args.action c.args.x c.args.y c.args.i c.args.j _ l.near (fast.in_force.0 c.if-not-self.false) (fast.in_force.1 c.if-not-self-2.false)
-    (sym c.is_flash.ensures ∙ c.if-not-is_flash.false) c.if-self.false (sym c.is_full.ensures ∙ c.if-is_full.false)
+    (sym c.is_flash.ensures ∙ c.if-not-is_flash.false) (cc) (omega arith)
     (ap (λ n. nat_le (unsigned_abs n) l.most) (sym across) ∙ sym c.has.ensures ∙ c.if-not-has.false)
     (ap (λ n. nat_le (unsigned_abs n) l.most) (sym up) ∙ sym c.has-else-not-has.ensures ∙ c.if-not-has-2.false)
-    (sym c.has_named.ensures ∙ c.if-not-has_named.false) (sym c.has_named-else-not-has_named.ensures ∙ c.if-not-has_named-2.false)
+    (sym c.has-2.ensures ∙ c.if-not-has-3.false) (sym c.has-else-not-has-3.ensures ∙ c.if-not-has-4.false)
     (λ k. record { at = at k; what = (c.at.ensures ∙ ap (λ (p : GridPoint). moved p fast.fast.what) at) k })

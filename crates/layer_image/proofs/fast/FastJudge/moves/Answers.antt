@@ -10,5 +10,5 @@ returns-clause-legal c _ =
     let fast = c.args.self.now in
     move_is (told fast.judge) (flash_count fast.judge.flashes) fast.fast.lengths c.args.action c.args.x c.args.y c.args.i c.args.j fast.fast.lengths.near (fast.in_force.0 c.if-not-self.false)
     (sym c.is_flash.ensures ∙ c.if-is_flash.false) (sym c.lacks_aperture.ensures ∙ c.if-lacks_aperture.false)
-    (sym c.has_named.ensures ∙ c.if-not-has_named.false) (sym c.has_named-else-not-has_named.ensures ∙ c.if-not-has_named-2.false)
-    (sym c.has_named-2.ensures ∙ c.if-not-has_named-3.false) (sym c.has_named-else-not-has_named-3.ensures ∙ c.if-not-has_named-4.false)
+    (sym c.has.ensures ∙ c.if-not-has.false) (sym c.has-else-not-has.ensures ∙ c.if-not-has-2.false)
+    (sym c.has-2.ensures ∙ c.if-not-has-3.false) (sym c.has-else-not-has-3.ensures ∙ c.if-not-has-4.false)

@@ -1,6 +1,8 @@
--- The flash at the origin, moved to each copy.
-use Rattle.std.proofs.Common.{◌≡◌, ◌∙◌, List, map, subst, OnOk}
+-- What is flashed at the origin, moved to each copy.
+use Rattle.std.proofs.Common.{◌≡◌, ◌∙◌, [], List, map, ap, subst, OnOk}
+use Rattle.std.specs.Option.{option_map_or}
 use Rattle.layer_image.specs.declared.flash.Flash.{Flash}
+use Rattle.layer_image.specs.Lookback.{aperture_in}
 use Rattle.layer_image.specs.Flashes.{copies, copies_at, flashed}
 use Rattle.layer_image.specs.Inner.Moved.{flash_moved}
 use Rattle.layer_image.specs.Keeping.{Adds}
@@ -11,7 +13,6 @@ use Rattle.layer_image.proofs.judge.Judge.flash.Goals as goal
 pub returns-clause-flashes : goal.returns-clause-flashes
 returns-clause-flashes c =
     let s = told c.args.self.now in
-    let shape = c.args.aperture.now in
-    let all : map (flash_moved c.what-what.result) (copies c.grid-grid.result) ≡ flashed s c.args.x c.args.y shape =
-    (λ i. map (flash_moved (c.what-what.ensures i)) (copies (c.grid-grid.ensures.value i))) ∙ flashes_moved s shape (copies_at s c.args.x c.args.y) in
+    let all : map (flash_moved c.what-what.result) (copies c.grid-grid.result) ≡ option_map_or (flashed s c.args.x c.args.y) (aperture_in s) [] =
+    (λ i. map (flash_moved (c.what-what.ensures i)) (copies (c.grid-grid.ensures.value i))) ∙ flashes_moved s c.in-Some.aperture (copies_at s c.args.x c.args.y) ∙ ap (λ o. option_map_or (flashed s c.args.x c.args.y) o []) c.in-Some.ensures in
     subst (λ (l : List Flash). OnOk c.lay.result (Adds c.args.self.now.flashes l c.lay.new.self)) all c.lay.ensures

@@ -14,26 +14,26 @@ use Rattle.layer_image.specs.declared.flashes.Flashes.{Flashes}
 use Rattle.grid_units.proofs.BoolLemmas.{neither}
 use Rattle.layer_image.proofs.Adding.{adds_none}
 use Rattle.layer_image.proofs.judge.Judge.operate.Goals as goal
-use Rattle.layer_image.proofs.judge.Judge.operate.Goals.{then-is_flash+in_ok-flash_selected, else-is_flash}
+use Rattle.layer_image.proofs.judge.Judge.operate.Goals.{then-is_flash+in_ok-flash, else-is_flash}
 
-pub flash_selected-requires-clause-points : goal.flash_selected-requires-clause-points
-flash_selected-requires-clause-points c = (neither (list_any is_far_point (copies_at (told c.args.self.now) c.args.x c.args.y)) _ (c.requires.near (sym c.is_flash.ensures ∙ c.if-is_flash.true))).0
+pub flash-requires-clause-points : goal.flash-requires-clause-points
+flash-requires-clause-points c = (neither (list_any is_far_point (copies_at (told c.args.self.now) c.args.x c.args.y)) _ (c.requires.near (sym c.is_flash.ensures ∙ c.if-is_flash.true))).0
 
-pub flash_selected-requires-clause-pad : goal.flash_selected-requires-clause-pad
-flash_selected-requires-clause-pad c = (neither (list_any is_far_point (copies_at (told c.args.self.now) c.args.x c.args.y)) _ (c.requires.near (sym c.is_flash.ensures ∙ c.if-is_flash.true))).1
+pub flash-requires-clause-pad : goal.flash-requires-clause-pad
+flash-requires-clause-pad c = (neither (list_any is_far_point (copies_at (told c.args.self.now) c.args.x c.args.y)) _ (c.requires.near (sym c.is_flash.ensures ∙ c.if-is_flash.true))).1
 
-pub flash_selected-requires-clause-few : goal.flash_selected-requires-clause-few
-flash_selected-requires-clause-few c = ltb-false _ _ (c.requires.few (sym c.is_flash.ensures ∙ c.if-is_flash.true))
+pub flash-requires-clause-few : goal.flash-requires-clause-few
+flash-requires-clause-few c = ltb-false _ _ (c.requires.few (sym c.is_flash.ensures ∙ c.if-is_flash.true))
 
 pub returns : goal.returns
 returns c = λ i j.
     let s = told c.args.self.now in
     let old = c.args.self.now.flashes in
     let new = option_map_or (flashed s c.args.x c.args.y) (aperture_in s) [] in
-    let same : told c.if-is_flash.self ≡ s = elim c.if-is_flash.branch [ then-is_flash+in_ok-flash_selected w ↦ ap told w.self-is ∙ w.flash_selected.ensures.told | else-is_flash w ↦ ap told w.self-is ] in
+    let same : told c.if-is_flash.self ≡ s = elim c.if-is_flash.branch [ then-is_flash+in_ok-flash w ↦ ap told w.self-is ∙ w.flash.ensures.told | else-is_flash w ↦ ap told w.self-is ] in
     let flashes : Adds old (flashes_at s (command.Operate c.args.action c.args.x c.args.y i j)) c.if-is_flash.self.flashes =
     elim c.if-is_flash.branch [
-      | then-is_flash+in_ok-flash_selected w ↦ subst (λ (k : Judge). Adds old (flashes_at s (command.Operate c.args.action c.args.x c.args.y i j)) k.flashes) (sym w.self-is) (subst (λ b. Adds old (if b then new else []) w.flash_selected.new.self.flashes) (sym w.if-is_flash.true ∙ c.is_flash.ensures) w.in_ok-flash_selected.ensures.flashes)
+      | then-is_flash+in_ok-flash w ↦ subst (λ (k : Judge). Adds old (flashes_at s (command.Operate c.args.action c.args.x c.args.y i j)) k.flashes) (sym w.self-is) (subst (λ b. Adds old (if b then new else []) w.flash.new.self.flashes) (sym w.if-is_flash.true ∙ c.is_flash.ensures) w.in_ok-flash.ensures.flashes)
       | else-is_flash w ↦ subst (λ (k : Judge). Adds old (flashes_at s (command.Operate c.args.action c.args.x c.args.y i j)) k.flashes) (sym w.self-is) (subst (λ b. Adds old (if b then new else []) old) (sym w.if-is_flash.false ∙ c.is_flash.ensures) (adds_none old))
     ] in
     record {

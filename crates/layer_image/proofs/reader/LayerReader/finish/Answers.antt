@@ -1,28 +1,26 @@
--- What was kept is the layer of the commands that are gone.
-use Rattle.std.proofs.Common.{◌≡◌, Ok, refl, sym, ap, subst, ◌∙◌}
+-- The words are all met, so what is kept is that of the layer of the commands that are gone.
+use Rattle.std.proofs.Common.{◌≡◌, ◌++◌, Ok, refl, ap, subst, ◌∙◌, append-nil}
 use Rattle.std.proofs.lemmas.Result.{err_from_is_err_and}
-use Rattle.layer_image.specs.Keeping.{keeps_commands, keeps_flashes, keeps_pads}
-use Rattle.layer_image.specs.Layers.{LayerImage, ReadsLayer, image_of}
+use Rattle.gerber_text.specs.Reading.{Entries, Reads, KeptBefore}
+use Rattle.gerber_text.specs.Holding.{held}
+use Rattle.layer_image.specs.Layers.{image_of}
 use Rattle.layer_image.proofs.Reading.{by_both}
-use Rattle.layer_image.proofs.Pieces.{ends_answers}
+use Rattle.layer_image.proofs.Pieces.{end_err}
 use Rattle.layer_image.proofs.reader.LayerReader.finish.Goals as goal
 
-pub returns-in_err-scan-clause-exact : goal.returns-in_err-scan-clause-exact
-returns-in_err-scan-clause-exact c text h =
+pub returns-in_err-finish-clause-exact : goal.returns-in_err-finish-clause-exact
+returns-in_err-finish-clause-exact c keep text h =
     let p = err_from_is_err_and c.from_residual.result c.from_residual.ensures.1 in
-    rw (p.1, p.2) (ends_answers text c.args.self.core.keep c.in_err-scan.field-0.0 (c.in_err-scan.ensures.exact text h))
+    let e = c.in_err-finish.field-0.0 in
+    let none : h.gone ++ held c.args.self.words ≡ h.gone = ap (λ (x : Entries). h.gone ++ x) h.none ∙ append-nil h.gone in
+    rw (p.1, p.2) (end_err text h.gone keep e (c.in_err-finish.ensures.exact h.gone text h.words) (subst (KeptBefore text e) none (c.in_err-finish.ensures.kept h.gone text h.words)) h.scanned.legal)
 
 pub returns-clause-exact : goal.returns-clause-exact
-returns-clause-exact c text h =
-    let ends = c.in_ok-scan.ensures.exact text h in
-    let gone = ends.0 in
-    let kept = ends.3 (ap keeps_commands c.args.self.whole) in
-    let met = ends.2.met in
-    let flashes = met.knows.flashes in
-    let image : image_of gone ≡ c.layer_of.result = sym (c.layer_of.ensures ∙ (λ i. record {
-      commands = kept i;
-      flashes = (ap (λ f. f.all.items) c.into_flashes.ensures ∙ flashes.all (ap keeps_flashes c.args.self.whole)) i;
-      pads = (ap (λ f. f.pads.items) c.into_flashes.ensures ∙ flashes.pads (ap keeps_pads c.args.self.whole)) i;
-      file_function = met.named i;
-    })) in
-    subst (λ (l : LayerImage). ReadsLayer text (Ok l)) image (by_both text gone (image_of gone) ends.1 ends.2.legal refl)
+returns-clause-exact c keep text h =
+    let none : h.gone ++ c.in_ok-finish.field-0.items ≡ h.gone = ap (λ (x : Entries). h.gone ++ x) (c.in_ok-finish.ensures.held ∙ h.none) ∙ append-nil h.gone in
+    let reads = subst (λ (x : Entries). Reads text (Ok x)) none (c.in_ok-finish.ensures.exact h.gone text h.words) in
+    let flashes = h.scanned.met.knows.flashes in (
+      image_of h.gone,
+      by_both text h.gone (image_of h.gone) reads h.scanned.legal refl,
+      λ i. record { commands = h.kept i; flashes = flashes.all i; pads = flashes.pads i; other = flashes.others i; file_function = h.scanned.met.named i },
+    )

@@ -2,17 +2,17 @@
 use Rattle.std.proofs.Common.{arith, ◌≡◌, ◌+◌, [], ◌∷◌, ◌++◌, take, drop, ap, sym, subst, ◌∙◌, append_assoc}
 use Rattle.std.proofs.lemmas.List.{map-append, take_all}
 use Rattle.grid_units.specs.Lists.{breaks}
-use Rattle.grid_units.specs.Results.{fault, Tells}
+use Rattle.grid_units.specs.Results.{Tells}
 use Rattle.grid_units.proofs.Lookbacks.{breaks-more}
-use Rattle.std.specs.Option.{option_map}
 use Rattle.gerber_rows.specs.declared.command.Command.{Command}
 use Rattle.gerber_text.specs.declared.placed.Placed.{Placed}
 use Rattle.gerber_text.specs.Reading.{Entries}
 use Rattle.layer_image.specs.Holding.{Met, Scanned}
 use Rattle.layer_image.specs.Rules.{broken_rule}
-use Rattle.layer_image.specs.Faults.{fault_of, fail_at, IsFirstFault}
+use Rattle.layer_image.specs.Faults.{fail_at, IsFirstFault}
 use Rattle.layer_image.proofs.Faulty.{stopped}
 use Rattle.layer_image.proofs.Listing.{with_next, parted}
+use Rattle.layer_image.proofs.Unique.{sound}
 use Rattle.layer_image.proofs.scan.Scan.scan.Goals as goal
 use Rattle.gerber_text.specs.Writing.{without_places}
 
@@ -29,7 +29,6 @@ loop-entry-preserved c keep before h =
     record {
       met = subst (Met c.meet.new.self keep) (sym whats) answer.1;
       legal = ap (breaks broken_rule) whats ∙ breaks-more broken_rule (without_places so_far) e.what old.legal answer.0;
-      sound = ap (breaks fault_of) more ∙ breaks-more fault_of so_far e old.sound (ap (option_map (fault e.place e.byte)) answer.0);
     }
 
 pub returns-in-Err-clause-refused : goal.returns-in-Err-clause-refused
@@ -40,7 +39,7 @@ returns-in-Err-clause-refused c all before h =
     let old = c.loop-entry.invariant all before h in
     let so_far = before ++ take i cs in
     let whole : so_far ++ e ∷ drop (i + 1) cs ≡ before ++ cs = append_assoc before (take i cs) (e ∷ drop (i + 1) cs) ∙ ap (λ (x : Entries). before ++ x) (parted cs i e (omega arith) c.entry-item.is) in
-    let first = stopped all so_far (drop (i + 1) cs) e c.meet.new.self c.in-Err.stop old.sound (c.in-Err.ensures all (without_places so_far) old.met) in
+    let first = stopped all so_far (drop (i + 1) cs) e c.meet.new.self c.in-Err.stop (sound so_far old.legal) (c.in-Err.ensures all (without_places so_far) old.met) in
     subst (Tells (IsFirstFault (before ++ cs))) (sym c.fail_at.ensures) (subst (λ (l : Entries). Tells (IsFirstFault l) (fail_at e.place e.byte c.in-Err.stop)) whole first)
 
 pub returns-clause-ok : goal.returns-clause-ok

@@ -1,6 +1,6 @@
 use Rattle.std.proofs.Common.{◌++◌, take}
 use Rattle.gerber_text.specs.Reading.{Entries}
-use Rattle.layer_image.specs.declared.flashes.Keep.{Keep}
+use Rattle.layer_image.specs.declared.keep.Keep.{Keep}
 use Rattle.layer_image.specs.Holding.{Scanned}
 use Rattle.layer_image.proofs.scan.Scan.scan.Given as goal
 

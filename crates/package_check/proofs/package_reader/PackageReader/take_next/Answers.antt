@@ -1,6 +1,6 @@
 use Rattle.std.proofs.Common.{◌++◌, ◌∷◌, [], Ok, Option, OnOk, sym, subst, ◌∙◌}
 use Rattle.grid_units.specs.declared.fault.Fail.{Fail}
-use Rattle.layer_image.specs.Holding.{ReadsFlashes}
+use Rattle.layer_image.specs.Layers.{ReadsFlashes}
 use Rattle.package_check.specs.Package.{Source}
 use Rattle.package_check.specs.Holding.{Said}
 use Rattle.package_check.proofs.Joining.{joined}

@@ -1,4 +1,4 @@
-use Rattle.std.proofs.Common.{◌≢◌, ◌≡◌, ◌++◌, List, ℕ, ap, map, ◌∙◌, arith, Bor}
+use Rattle.std.proofs.Common.{◌≢◌, ◌≡◌, ◌++◌, List, ℕ, map, ◌∙◌, arith, Bor}
 use Rattle.std.proofs.lemmas.List.{length-map}
 use Rattle.csv.specs.Writing.{default_writer, fields_written, has_written, row_text, writer_pending, writer_setup, writer_under}
 use Rattle.csv.specs.declared.writer.QuoteStyle.TheVariants as style
