@@ -4,7 +4,7 @@ use Rattle.clap.proofs.OnLiterals.{clap_on_literals}
 use Rattle.clap.proofs.WalkLemmas.{both}
 use Rattle.clap.specs.Words.{Text, fault_of, is_simple, is_simple_and_free}
 use Rattle.clap.specs.declared.error.kind.ErrorKind.TheVariants.{DisplayVersion}
-use Rattle.command_line.specs.Line.{are_plain_rules, check_words, draw_words, explain_words, file_words, is_plain_if_some, is_plain_word, measure_words, report_words, ringcheck_app}
+use Rattle.command_line.specs.ProgramArgs.{are_plain_rules, check_words, draw_words, explain_words, file_words, is_plain_if_some, is_plain_word, measure_words, report_words, ringcheck_app}
 use Rattle.command_line.proofs.GivenOptions.{Options, rows_of}
 use Rattle.command_line.proofs.NamedCommand.{IsCommand, answer, command_answer}
 

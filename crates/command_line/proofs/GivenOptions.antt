@@ -13,7 +13,7 @@ use Rattle.clap.specs.Walk.{at_row, has_row, more_values, with_values, without}
 use Rattle.clap.specs.Words.{Row, Text, first_of}
 use Rattle.clap.specs.declared.builder.value_parser.ValueParser.TheVariants as parser
 use Rattle.clap.specs.declared.parser.matches.ValueSource.TheVariants as source
-use Rattle.command_line.specs.Line.{is_plain_if_some, option_words}
+use Rattle.command_line.specs.ProgramArgs.{is_plain_if_some, option_words}
 
 -- options and arguments by their ids, each with its value where it is given
 abbrev pub Options : Type 0
@@ -33,20 +33,20 @@ ArePlain ((id, o) ∷ os) = (is_plain_if_some o ≡ true) × ArePlain os
 abbrev pub given_all : Text → List Text → Row
 given_all id values = record { id = id; values = values; count = None; source = Some source.CommandLine; reading = reading_of parser.String }
 
-abbrev pub given : Text → Text → Row
-given id value = given_all id (value ∷ [])
+abbrev pub row_of_value : Text → Text → Row
+row_of_value id value = given_all id (value ∷ [])
 
-abbrev pub given_if_some : Text → Option Text → List Row
-given_if_some id None = []
-given_if_some id (Some value) = given id value ∷ []
+abbrev pub row_of_optional : Text → Option Text → List Row
+row_of_optional id None = []
+row_of_optional id (Some value) = row_of_value id value ∷ []
 
 abbrev pub rows_of : Options → List Row
 rows_of [] = []
-rows_of ((id, o) ∷ os) = given_if_some id o ++ rows_of os
+rows_of ((id, o) ∷ os) = row_of_optional id o ++ rows_of os
 
 pub rows_of-append : (os ps : Options) → rows_of (os ++ ps) ≡ rows_of os ++ rows_of ps
 rows_of-append [] ps = refl
-rows_of-append ((id, o) ∷ os) ps = ap (λ (rows : List Row). given_if_some id o ++ rows) (rows_of-append os ps) ∙ sym (append_assoc (given_if_some id o) (rows_of os) (rows_of ps))
+rows_of-append ((id, o) ∷ os) ps = ap (λ (rows : List Row). row_of_optional id o ++ rows) (rows_of-append os ps) ∙ sym (append_assoc (row_of_optional id o) (rows_of os) (rows_of ps))
 
 -- ---- the value of an id
 
@@ -55,9 +55,9 @@ abbrev pub or_else : Option Text → Option Text → Option Text
 or_else o None = o
 or_else o (Some value) = Some (unwrap_or o value)
 
-abbrev pub value_of : Text → Options → Option Text
-value_of id [] = None
-value_of id ((i, o) ∷ os) = cond (bytes_eq i id) (or_else o (value_of id os)) (value_of id os)
+abbrev pub required_arg : Text → Options → Option Text
+required_arg id [] = None
+required_arg id ((i, o) ∷ os) = cond (bytes_eq i id) (or_else o (required_arg id os)) (required_arg id os)
 
 none_first : (b : Bool) (o : Option Text) → o ≡ cond b (or_else None o) o
 none_first true None = refl
@@ -69,26 +69,26 @@ some_first value None = refl
 some_first value (Some other) = refl
 
 -- the row of an id is that of its value
-find_given : (id : Text) (os : Options) → find (λ r. bytes_eq r.id id) (rows_of os) ≡ option_map (given id) (value_of id os)
+find_given : (id : Text) (os : Options) → find (λ r. bytes_eq r.id id) (rows_of os) ≡ option_map (row_of_value id) (required_arg id os)
 find_given id [] = refl
-find_given id ((i, None) ∷ os) = find_given id os ∙ ap (option_map (given id)) (none_first (bytes_eq i id) (value_of id os))
+find_given id ((i, None) ∷ os) = find_given id os ∙ ap (option_map (row_of_value id)) (none_first (bytes_eq i id) (required_arg id os))
 find_given id ((i, Some value) ∷ os) = go (bytes_eq i id) (λ e. (bytes_eq-Decides i id).0 e) (find_given id os)
   where
-    go : (b : Bool) → (b ≡ true → i ≡ id) → find (λ r. bytes_eq r.id id) (rows_of os) ≡ option_map (given id) (value_of id os)
-        → cond b (Some (given i value)) (find (λ r. bytes_eq r.id id) (rows_of os)) ≡ option_map (given id) (cond b (or_else (Some value) (value_of id os)) (value_of id os))
-    go true same e = ap (λ (j : Text). Some (given j value)) (same refl) ∙ ap (option_map (given id)) (some_first value (value_of id os))
+    go : (b : Bool) → (b ≡ true → i ≡ id) → find (λ r. bytes_eq r.id id) (rows_of os) ≡ option_map (row_of_value id) (required_arg id os)
+        → cond b (Some (row_of_value i value)) (find (λ r. bytes_eq r.id id) (rows_of os)) ≡ option_map (row_of_value id) (cond b (or_else (Some value) (required_arg id os)) (required_arg id os))
+    go true same e = ap (λ (j : Text). Some (row_of_value j value)) (same refl) ∙ ap (option_map (row_of_value id)) (some_first value (required_arg id os))
     go false same e = e
 
-read_first : (id : Text) (o : Option Text) → option_and_then (λ (r : Row). slice_get r.values 0) (option_map (given id) o) ≡ o
+read_first : (id : Text) (o : Option Text) → option_and_then (λ (r : Row). slice_get r.values 0) (option_map (row_of_value id) o) ≡ o
 read_first id None = refl
 read_first id (Some value) = refl
 
 -- a caller reads the value
-pub first_is : (id : Text) (os : Options) → first_of id (rows_of os) ≡ value_of id os
-first_is id os = ap (option_and_then (λ (r : Row). slice_get r.values 0)) (find_given id os) ∙ read_first id (value_of id os)
+pub first_is : (id : Text) (os : Options) → first_of id (rows_of os) ≡ required_arg id os
+first_is id os = ap (option_and_then (λ (r : Row). slice_get r.values 0)) (find_given id os) ∙ read_first id (required_arg id os)
 
 -- what is given is told by the value
-pub given_is : (id : Text) (os : Options) → is_given id (rows_of os) ≡ option_map_or (λ (r : Row). explicit_source r.source) (option_map (given id) (value_of id os)) false
+pub given_is : (id : Text) (os : Options) → is_given id (rows_of os) ≡ option_map_or (λ (r : Row). explicit_source r.source) (option_map (row_of_value id) (required_arg id os)) false
 given_is id os = ap (λ (o : Option Row). option_map_or (λ (r : Row). explicit_source r.source) o false) (find_given id os)
 
 any_found : {X : Type 0} (p : X → Bool) (xs : List X) → list_any p xs ≡ is_some (find p xs)
@@ -100,8 +100,8 @@ any_found p (x ∷ xs) = go (p x) (any_found p xs)
     go false e = e
 
 -- an id with no value has no row
-pub has_none : (id : Text) (os : Options) → value_of id os ≡ None → has_row id (rows_of os) ≡ false
-has_none id os none = any_found (λ (r : Row). bytes_eq r.id id) (rows_of os) ∙ ap is_some (find_given id os ∙ ap (option_map (given id)) none)
+pub has_none : (id : Text) (os : Options) → required_arg id os ≡ None → has_row id (rows_of os) ≡ false
+has_none id os none = any_found (λ (r : Row). bytes_eq r.id id) (rows_of os) ∙ ap is_some (find_given id os ∙ ap (option_map (row_of_value id)) none)
 
 -- ---- a row more
 

@@ -1,4 +1,4 @@
-pub mod Answered
+pub mod ParseResult
 pub mod GivenOptions
 pub mod OptionWords
 pub mod NamedCommand

@@ -7,7 +7,7 @@ use Rattle.clap.specs.Simple.{Shape, built, entered, label_of, names_of}
 use Rattle.clap.specs.Takes.{entered_passes, walk_passes}
 use Rattle.clap.specs.Walk.{Walk, answers_to, idle, nothing_held, walked}
 use Rattle.clap.specs.Words.{App, Row, Text, subcommand_of, takes}
-use Rattle.command_line.specs.Line.{is_plain_word, ringcheck_app}
+use Rattle.command_line.specs.ProgramArgs.{is_plain_word, ringcheck_app}
 use Rattle.command_line.proofs.GivenOptions.{ArePlain, Options, rows_of, words_of}
 use Rattle.command_line.proofs.OptionWords.{HasEnd, HasOptions, end_passes, options_read, reading, turns}
 

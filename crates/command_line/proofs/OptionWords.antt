@@ -13,8 +13,8 @@ use Rattle.clap.specs.Simple.{Shape, filled}
 use Rattle.clap.specs.Takes.{default_passes, is_given, is_valid, level_passes, settle_passes, step_passes, turn_passes, walk_passes}
 use Rattle.clap.specs.Walk.{Held, Names, Waiting, Walk, after_step, arg_by_id, arg_by_index, arg_by_long, finished, has_row, idle, is_empty, is_pending, nothing_held, plain_word, rows_after, settled_rows, walk_from, walked, with_default, option as waits_for}
 use Rattle.clap.specs.Words.{Row, Rule, Text}
-use Rattle.command_line.specs.Line.{is_plain_word, positional}
-use Rattle.command_line.proofs.GivenOptions.{ArePlain, Options, given, given_is, has_none, joins, rows_of, rows_of-append, value_of, words_of}
+use Rattle.command_line.specs.ProgramArgs.{is_plain_word, positional}
+use Rattle.command_line.proofs.GivenOptions.{ArePlain, Options, row_of_value, given_is, has_none, joins, rows_of, rows_of-append, required_arg, words_of}
 
 -- ---- what a command has
 
@@ -24,7 +24,7 @@ one_value s name place id = record (filled (positional id)) { long = name; index
 
 -- an option by its name and by its id, what its word is read as, and the value of its id before it
 abbrev pub option_facts : Shape → Text → Options → Option Rule × Option Rule × Option (Text × Option Text) × Option Text
-option_facts s id before = (arg_by_long s.rules id, arg_by_id s.rules id, long_of (45 ∷ 45 ∷ id), value_of id before)
+option_facts s id before = (arg_by_long s.rules id, arg_by_id s.rules id, long_of (45 ∷ 45 ∷ id), required_arg id before)
 
 -- the command has these options, whose ids differ from each other and from those before
 abbrev pub HasOptions : Shape → Options → Options → Type 0
@@ -39,13 +39,13 @@ abbrev pub end_facts : Shape → Options → Text → Text → Option Rule × Op
 end_facts s os id value = (
   arg_by_index s.rules 1,
   arg_by_id s.rules id,
-  value_of id os,
+  required_arg id os,
   s.arg_required_else_help,
   s.subcommand_required,
   s.subcommand_negates_reqs,
   list_all (λ a. a.is_free) s.rules,
   list_all (λ a. is_empty a.defaults) s.rules,
-  list_all (λ a. not a.required || option_map_or (λ r. explicit_source r.source) (option_map (given a.id) (value_of a.id (os ++ (id, Some value) ∷ []))) false) s.rules,
+  list_all (λ a. not a.required || option_map_or (λ r. explicit_source r.source) (option_map (row_of_value a.id) (required_arg a.id (os ++ (id, Some value) ∷ []))) false) s.rules,
 )
 
 -- the command has this argument at the first place, and behind the options wants no more
@@ -56,8 +56,8 @@ HasEnd s os id value =
 
 -- ---- the walk
 
-abbrev pub standing : Held → Waiting → ℕ → Walk
-standing held waits position = record { held = held; waiting = waits; position = position; is_trailing = false; stopped = None }
+abbrev pub walk_at : Held → Waiting → ℕ → Walk
+walk_at held waits position = record { held = held; waiting = waits; position = position; is_trailing = false; stopped = None }
 
 -- these rows, and nothing that is pending
 abbrev pub bare : List Row → Held
@@ -84,22 +84,22 @@ module _ (s : Shape) where
   turn w word = (walked s.rules [] w word, turn_passes s [] w word)
 
   -- the walk goes on by a word, which passes
-  abbrev pub Goes : Walk → Text → Walk → Type 0
-  Goes before word after = turn before word ≡ (after, true)
+  abbrev pub WalksWord : Walk → Text → Walk → Type 0
+  WalksWord before word after = turn before word ≡ (after, true)
 
-  abbrev pub Runs : Walk → List Text → Walk → Type 0
-  Runs before words after = turns s [] before words ≡ (after, true)
+  abbrev pub WalksWords : Walk → List Text → Walk → Type 0
+  WalksWords before words after = turns s [] before words ≡ (after, true)
 
   abbrev and_turns : List Text → Walk × Bool → Walk × Bool
   and_turns words t = (fold (walked s.rules []) t.0 words, t.1 && walk_passes s [] t.0 words)
 
-  pub goes_on : (before : Walk) (word : Text) (between : Walk) (words : List Text) → Goes before word between → turns s [] before (word ∷ words) ≡ turns s [] between words
+  pub walk_word : (before : Walk) (word : Text) (between : Walk) (words : List Text) → WalksWord before word between → turns s [] before (word ∷ words) ≡ turns s [] between words
   unfolding walk_passes
-  goes_on before word between words g = ap (and_turns words) g
+  walk_word before word between words g = ap (and_turns words) g
 
-  pub stays : (w : Walk) → Runs w [] w
+  pub walk_nothing : (w : Walk) → WalksWords w [] w
   unfolding walk_passes
-  stays w = refl
+  walk_nothing w = refl
 
   -- what is held comes to these rows, and what is pending passes
   pub record Holds (rows : List Row) (h : Held) : Type 0 where
@@ -109,7 +109,7 @@ module _ (s : Shape) where
 
   -- the word `--id`
   to_option : (id : Text) (rows : List Row) (h : Held) → arg_by_long s.rules id ≡ Some (one_value s (Some id) None id) → long_of (45 ∷ 45 ∷ id) ≡ Some (id, None) → Holds rows h
-      → Goes (standing h idle 1) (45 ∷ 45 ∷ id) (standing (pending rows id []) (waits_for id) 1)
+      → WalksWord (walk_at h idle 1) (45 ∷ 45 ∷ id) (walk_at (pending rows id []) (waits_for id) 1)
   unfolding walked
   to_option [] rows h named is holds = cc
   to_option (x ∷ xs) rows h named is holds =
@@ -121,9 +121,9 @@ module _ (s : Shape) where
   abbrev as_plain : Waiting → Held → Text → Walk × Bool
   as_plain waits h word =
       let met = plain_word s.rules waits word h in
-      (after_step s.rules word (standing h waits 1) met.0 met.1, step_passes s 1 met.0 met.1)
+      (after_step s.rules word (walk_at h waits 1) met.0 met.1, step_passes s 1 met.0 met.1)
 
-  pub plain_turn : (waits : Waiting) (h : Held) (word : Text) → is_plain_word word ≡ true → turn (standing h waits 1) word ≡ as_plain waits h word
+  pub plain_turn : (waits : Waiting) (h : Held) (word : Text) → is_plain_word word ≡ true → turn (walk_at h waits 1) word ≡ as_plain waits h word
   unfolding walked
   plain_turn waits h [] p = absurd (false≢true p)
   plain_turn idle h (x ∷ xs) p = rw (not-true (x == 45) p, not-true (x == 45) p) refl
@@ -131,33 +131,33 @@ module _ (s : Shape) where
 
   -- the value of an option
   by_value : (id : Text) (rows : List Row) (value : Text) → arg_by_id s.rules id ≡ Some (one_value s (Some id) None id) → is_plain_word value ≡ true
-      → Goes (standing (pending rows id []) (waits_for id) 1) value (standing (pending rows id (value ∷ [])) idle 1)
+      → WalksWord (walk_at (pending rows id []) (waits_for id) 1) value (walk_at (pending rows id (value ∷ [])) idle 1)
   by_value id rows value by p =
       let same : bytes_eq id id ≡ true = (bytes_eq-Decides id id).1 refl in
       plain_turn (waits_for id) (pending rows id []) value p ∙ rw (by, same) refl
 
   -- the argument at the first place
   to_place : (id : Text) (rows : List Row) (h : Held) (value : Text) → arg_by_index s.rules 1 ≡ Some (one_value s None (Some 1) id) → Holds rows h → is_plain_word value ≡ true
-      → Goes (standing h idle 1) value (standing (pending rows id (value ∷ [])) idle 2)
+      → WalksWord (walk_at h idle 1) value (walk_at (pending rows id (value ∷ [])) idle 2)
   to_place id rows h value at holds p =
       let no = and-false (is_pending (one_value s None (Some 1) id) h.pending) in
       plain_turn idle h value p ∙ rw (at, no, holds.comes_to, holds.none_skipped, holds.passes) refl
 
   -- one value of an id that has no row
   holds_value : (name : Option Text) (place : Option ℕ) (id : Text) (rows : List Row) (value : Text) → arg_by_id s.rules id ≡ Some (one_value s name place id)
-      → has_row id rows ≡ false → Holds (rows ++ given id value ∷ []) (pending rows id (value ∷ []))
+      → has_row id rows ≡ false → Holds (rows ++ row_of_value id value ∷ []) (pending rows id (value ∷ []))
   holds_value name place id rows value by none = record { comes_to = rw by (joins id (value ∷ []) rows none); none_skipped = refl; passes = rw (by, none) refl }
 
   -- options in a row, each with its value or left out; `go` says how the walk goes on behind them
   runs : (before os : Options) (h : Held) → Holds (rows_of before) h → HasOptions s before os → ArePlain os → (rest : List Text) (end : Walk)
-      → ((g : Held) → Holds (rows_of (before ++ os)) g → Runs (standing g idle 1) rest end) → Runs (standing h idle 1) (words_of os rest) end
+      → ((g : Held) → Holds (rows_of (before ++ os)) g → WalksWords (walk_at g idle 1) rest end) → WalksWords (walk_at h idle 1) (words_of os rest) end
   runs before [] h holds has plain rest end go = go h (rw append-nil holds)
   runs before ((id, None) ∷ os) h holds has plain rest end go =
       runs (before ++ (id, None) ∷ []) os h (rw (rows_of-append before ((id, None) ∷ []), append-nil (rows_of before)) holds) has.1 plain.1 rest end (λ g k. go g (rw append_assoc at k))
   runs before ((id, Some value) ∷ os) h holds has plain rest end go =
       let rows = rows_of before in
       let held = holds_value (Some id) None id rows value (λ i. (has.0 i).1) (has_none id before (λ i. (has.0 i).3)) in
-      goes_on _ _ _ _ (to_option id rows h (λ i. (has.0 i).0) (λ i. (has.0 i).2) holds) ∙ goes_on _ _ _ _ (by_value id rows value (λ i. (has.0 i).1) plain.0)
+      walk_word _ _ _ _ (to_option id rows h (λ i. (has.0 i).0) (λ i. (has.0 i).2) holds) ∙ walk_word _ _ _ _ (by_value id rows value (λ i. (has.0 i).1) plain.0)
       ∙ runs (before ++ (id, Some value) ∷ []) os (pending rows id (value ∷ [])) (rw (rows_of-append before ((id, Some value) ∷ [])) held) has.1 plain.1 rest end
       (λ g k. go g (rw append_assoc at k))
 
@@ -168,7 +168,7 @@ module _ (s : Shape) where
   reading words = (level_passes s [] nothing_held words false, rows_after s.rules [] words)
 
   -- from where the walk ends: `rows` are those of the words, and `all` those with the default values too
-  pub reads : (words : List Text) (end : Walk) (rows all : List Row) → Runs (walk_from nothing_held) words end → Holds rows end.held → fold with_default rows s.rules ≡ all
+  pub reads : (words : List Text) (end : Walk) (rows all : List Row) → WalksWords (walk_from nothing_held) words end → Holds rows end.held → fold with_default rows s.rules ≡ all
       → list_all default_passes s.rules ≡ true → is_valid s all false ≡ true → reading words ≡ (true, all)
   reads words end rows all run holds is defaults valid =
       let ends : finished s.rules end.held ≡ all = ap (λ (rows : List Row). fold with_default rows s.rules) holds.comes_to ∙ is in
@@ -188,9 +188,9 @@ pub options_read : (s : Shape) (os : Options) (id value : Text) → HasOptions s
     → reading s (words_of os (value ∷ [])) ≡ (true, rows_of (os ++ (id, Some value) ∷ []))
 options_read s os id value has ends plain p =
     let rows = rows_of (os ++ (id, Some value) ∷ []) in
-    let end = standing (pending (rows_of os) id (value ∷ [])) idle 2 in
+    let end = walk_at (pending (rows_of os) id (value ∷ [])) idle 2 in
     let run = runs s [] os nothing_held (record { comes_to = refl; none_skipped = refl; passes = refl }) has plain (value ∷ []) end
-    (λ g holds. goes_on s _ _ _ _ (to_place s id (rows_of os) g value (λ i. (ends i).0) holds p) ∙ stays s end) in
+    (λ g holds. walk_word s _ _ _ _ (to_place s id (rows_of os) g value (λ i. (ends i).0) holds p) ∙ walk_nothing s end) in
     let held = holds_value s None (Some 1) id (rows_of os) value (λ i. (ends i).1) (has_none id os (λ i. (ends i).2)) in
     let none = no_defaults s.rules rows (λ i. (ends i).7) in
     let valid : is_valid s rows false ≡ true =

@@ -6,7 +6,7 @@ use Rattle.std.proofs.lemmas.Slice.Eq.{bytes_eq-Decides}
 use Rattle.clap.specs.Words.{Text}
 use Rattle.command_line.specs.declared.Request.{Request}
 use Rattle.command_line.specs.declared.Request.TheVariants.{Measure, Report, Draw, Show, Rewrite, Manifest, Explain}
-use Rattle.command_line.specs.Line.{AsksFor, IsDraw, IsExplain, IsManifest, IsMeasure, IsReport, IsRewrite, IsShow}
+use Rattle.command_line.specs.ProgramArgs.{IsRequestOf, IsDraw, IsExplain, IsManifest, IsMeasure, IsReport, IsRewrite, IsShow}
 use Rattle.command_line.proofs.CommandWords.{draw_options, file_options, measure_options, report_options, word_options}
 use Rattle.command_line.proofs.GivenOptions.{first_is, rows_of}
 use Rattle.command_line.proofs.ManifestWords.{rows_of_manifest}
@@ -18,13 +18,13 @@ some_is x y e = cc
 differ : (a : Text) {b : Text} → a ≡ b → bytes_eq a b ≡ false → ⊥
 differ a {b} same e = false≢true (sym e ∙ (bytes_eq-Decides a b).1 same)
 
-pub is_measure : (o : Option Text) (m : Text) (asked : Request) → AsksFor (Some (codes "measure", rows_of (measure_options o m))) asked → IsMeasure o m asked
+pub is_measure : (o : Option Text) (m : Text) (request : Request) → IsRequestOf (Some (codes "measure", rows_of (measure_options o m))) request → IsMeasure o m request
 is_measure o m (Measure format manifest) a =
     (sym a.1 ∙ first_is (codes "format") (measure_options o m), some_is manifest.now m (sym a.2 ∙ first_is (codes "manifest") (measure_options o m)))
-is_measure o m asked a = absurd (differ (codes "measure") a.0 refl)
+is_measure o m request a = absurd (differ (codes "measure") a.0 refl)
 
-pub is_report : (r g : Text) (n l o : Option Text) (m : Text) (asked : Request) → AsksFor (Some (codes "report", rows_of (report_options r g n l o m))) asked → IsReport r g n l o m asked
-is_report r g n l o m (Report ring gap most waive format manifest) a =
+pub is_report : (r g : Text) (n l o : Option Text) (m : Text) (request : Request) → IsRequestOf (Some (codes "report", rows_of (report_options r g n l o m))) request → IsReport r g n l o m request
+is_report r g n l o m (Report ring gap limit waive format manifest) a =
     let all = report_options r g n l o m in (
       some_is ring.now r (sym a.1 ∙ first_is (codes "ring") all),
       some_is gap.now g (sym a.2 ∙ first_is (codes "gap") all),
@@ -33,29 +33,29 @@ is_report r g n l o m (Report ring gap most waive format manifest) a =
       sym a.5 ∙ first_is (codes "format") all,
       some_is manifest.now m (sym a.6 ∙ first_is (codes "manifest") all),
     )
-is_report r g n l o m asked a = absurd (differ (codes "report") a.0 refl)
+is_report r g n l o m request a = absurd (differ (codes "report") a.0 refl)
 
-pub is_draw : (o : Option (Text × Text)) (m : Text) (asked : Request) → AsksFor (Some (codes "draw", rows_of (draw_options o m))) asked → IsDraw o m asked
+pub is_draw : (o : Option (Text × Text)) (m : Text) (request : Request) → IsRequestOf (Some (codes "draw", rows_of (draw_options o m))) request → IsDraw o m request
 is_draw o m (Draw ring gap manifest) a =
     let all = draw_options o m in
     (sym a.1 ∙ first_is (codes "ring") all, sym a.2 ∙ first_is (codes "gap") all, some_is manifest.now m (sym a.3 ∙ first_is (codes "manifest") all))
-is_draw o m asked a = absurd (differ (codes "draw") a.0 refl)
+is_draw o m request a = absurd (differ (codes "draw") a.0 refl)
 
-pub is_show : (k f : Text) (asked : Request) → AsksFor (Some (codes "show", rows_of (file_options k f))) asked → IsShow k f asked
+pub is_show : (k f : Text) (request : Request) → IsRequestOf (Some (codes "show", rows_of (file_options k f))) request → IsShow k f request
 is_show k f (Show kind file) a =
     (some_is kind.now k (sym a.1 ∙ first_is (codes "kind") (file_options k f)), some_is file.now f (sym a.2 ∙ first_is (codes "file") (file_options k f)))
-is_show k f asked a = absurd (differ (codes "show") a.0 refl)
+is_show k f request a = absurd (differ (codes "show") a.0 refl)
 
-pub is_rewrite : (k f : Text) (asked : Request) → AsksFor (Some (codes "rewrite", rows_of (file_options k f))) asked → IsRewrite k f asked
+pub is_rewrite : (k f : Text) (request : Request) → IsRequestOf (Some (codes "rewrite", rows_of (file_options k f))) request → IsRewrite k f request
 is_rewrite k f (Rewrite kind file) a =
     (some_is kind.now k (sym a.1 ∙ first_is (codes "kind") (file_options k f)), some_is file.now f (sym a.2 ∙ first_is (codes "file") (file_options k f)))
-is_rewrite k f asked a = absurd (differ (codes "rewrite") a.0 refl)
+is_rewrite k f request a = absurd (differ (codes "rewrite") a.0 refl)
 
-pub is_manifest : (why : Bool) (fs : List Text) (asked : Request) → AsksFor (Some (codes "manifest", rows_of_manifest why fs)) asked → IsManifest why fs asked
+pub is_manifest : (why : Bool) (fs : List Text) (request : Request) → IsRequestOf (Some (codes "manifest", rows_of_manifest why fs)) request → IsManifest why fs request
 is_manifest true fs (Manifest why files) a = (a.1.yes refl, some_is _ fs (sym a.2))
 is_manifest false fs (Manifest why files) a = (a.1.no refl, some_is _ fs (sym a.2))
-is_manifest why fs asked a = absurd (differ (codes "manifest") a.0 refl)
+is_manifest why fs request a = absurd (differ (codes "manifest") a.0 refl)
 
-pub is_explain : (o : Option Text) (asked : Request) → AsksFor (Some (codes "explain", rows_of (word_options o))) asked → IsExplain o asked
+pub is_explain : (o : Option Text) (request : Request) → IsRequestOf (Some (codes "explain", rows_of (word_options o))) request → IsExplain o request
 is_explain o (Explain word) a = sym a.1 ∙ first_is (codes "word") (word_options o)
-is_explain o asked a = absurd (differ (codes "explain") a.0 refl)
+is_explain o request a = absurd (differ (codes "explain") a.0 refl)

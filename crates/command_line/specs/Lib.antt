@@ -1,2 +1,2 @@
-pub mod Line
+pub mod ProgramArgs
 pub mod Inner

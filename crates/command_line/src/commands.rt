@@ -2,8 +2,8 @@
 
 ghost use Rattle.std.specs.Prelude.{◌≡◌, IfOk, codes, false, true};
 ghost use Rattle.clap.specs.Words.{App, app_of, new_app, rule_of, with_subcommand};
-ghost use Rattle.command_line.specs.Line.{check_app, draw_app, explain_app, file_app, manifest_app, maybe, maybe_option, measure_app, option, positional, program_app, report_app, ringcheck_app, several, switch};
-ghost use Rattle.command_line.specs.Inner.Building.{file_commands_of, package_commands_of, report_args_of};
+ghost use Rattle.command_line.specs.ProgramArgs.{check_app, draw_app, explain_app, file_app, manifest_app, optional, optional_option, measure_app, option, positional, program_app, report_app, ringcheck_app, one_or_more, flag};
+ghost use Rattle.command_line.specs.Inner.AppParts.{file_commands_of, package_commands_of, report_args_of};
 
 use clap::{Arg, ArgAction, Command};
 use std::alloc::{AllocError, Global};
@@ -78,7 +78,7 @@ pub(crate) fn ringcheck<'a>(alloc: Global) -> Result<Command<'a>, AllocError>
 fn program<'a>(alloc: Global) -> Command<'a>
     ensures { app_of result ≡ program_app }
 {
-    described(
+    new_command(
         alloc,
         "ringcheck",
         "Check copper rings and drill gaps of a board's Gerber and drill files, exactly",
@@ -94,24 +94,24 @@ fn program<'a>(alloc: Global) -> Command<'a>
 fn with_package_commands<'a>(alloc: Global, program: Command<'a>) -> Result<Command<'a>, AllocError>
     ensures { IfOk result (λ c. app_of c ≡ package_commands_of (app_of program.entry)) }
 {
-    let program = joined(program, check(alloc))?;
-    let program = joined(program, report(alloc))?;
-    let program = joined(program, measure(alloc))?;
-    joined(program, draw(alloc))
+    let program = with_command(program, check(alloc))?;
+    let program = with_command(program, report(alloc))?;
+    let program = with_command(program, measure(alloc))?;
+    with_command(program, draw(alloc))
 }
 
 /// Adds the commands `manifest`, `explain`, `show` and `rewrite`.
 fn with_file_commands<'a>(alloc: Global, program: Command<'a>) -> Result<Command<'a>, AllocError>
     ensures { IfOk result (λ c. app_of c ≡ file_commands_of (app_of program.entry)) }
 {
-    let program = joined(program, manifest(alloc))?;
-    let program = joined(program, explain(alloc))?;
-    let program = joined(program, show(alloc))?;
-    joined(program, rewrite(alloc))
+    let program = with_command(program, manifest(alloc))?;
+    let program = with_command(program, explain(alloc))?;
+    let program = with_command(program, show(alloc))?;
+    with_command(program, rewrite(alloc))
 }
 
 /// The program with one more command, if there was memory for that command.
-fn joined<'a>(
+fn with_command<'a>(
     program: Command<'a>,
     command: Result<Command<'a>, AllocError>,
 ) -> Result<Command<'a>, AllocError>
@@ -128,16 +128,16 @@ fn joined<'a>(
 fn check<'a>(alloc: Global) -> Result<Command<'a>, AllocError>
     ensures { IfOk result (λ c. app_of c ≡ check_app) }
 {
-    described(
+    new_command(
         alloc,
         "check",
         "Check a package against a ring and a gap",
         "ringcheck check --ring <MM> --gap <MM> <MANIFEST>",
         CHECK,
     )
-    .arg(ring_of(alloc))?
-    .arg(gap_of(alloc))?
-    .arg(value_of(
+    .arg(ring_arg(alloc))?
+    .arg(gap_arg(alloc))?
+    .arg(required_arg(
         alloc,
         "manifest",
         "MANIFEST",
@@ -149,15 +149,15 @@ fn check<'a>(alloc: Global) -> Result<Command<'a>, AllocError>
 fn measure<'a>(alloc: Global) -> Result<Command<'a>, AllocError>
     ensures { IfOk result (λ c. app_of c ≡ measure_app) }
 {
-    described(
+    new_command(
         alloc,
         "measure",
         "Tell the greatest ring and gap that a package meets",
         "ringcheck measure [--format <text|json>] <MANIFEST>",
         MEASURE,
     )
-    .arg(format_of(alloc))?
-    .arg(value_of(
+    .arg(format_arg(alloc))?
+    .arg(required_arg(
         alloc,
         "manifest",
         "MANIFEST",
@@ -169,37 +169,37 @@ fn measure<'a>(alloc: Global) -> Result<Command<'a>, AllocError>
 fn report<'a>(alloc: Global) -> Result<Command<'a>, AllocError>
     ensures { IfOk result (λ c. app_of c ≡ report_app) }
 {
-    let under_rules = described(
+    let under_rules = new_command(
         alloc,
         "report",
         "Tell of each finding by how much, and why",
         REPORT_USAGE,
         REPORT,
     )
-    .arg(ring_of(alloc))?
-    .arg(gap_of(alloc))?;
-    as_report(alloc, under_rules)
+    .arg(ring_arg(alloc))?
+    .arg(gap_arg(alloc))?;
+    with_report_args(alloc, under_rules)
 }
 
 /// Adds `[--max N] [--waive FILE] [--format text|json|waivers] MANIFEST` to a command.
-fn as_report<'a>(alloc: Global, command: Command<'a>) -> Result<Command<'a>, AllocError>
+fn with_report_args<'a>(alloc: Global, command: Command<'a>) -> Result<Command<'a>, AllocError>
     ensures { IfOk result (λ c. app_of c ≡ report_args_of (app_of command.entry)) }
 {
     command
-        .arg(maybe_option_of(
+        .arg(optional_option_arg(
             alloc,
             "max",
             "N",
             "Findings told at most; all where it is not there",
         ))?
-        .arg(maybe_option_of(
+        .arg(optional_option_arg(
             alloc,
             "waive",
             "FILE",
             "File of waivers: findings that are accepted",
         ))?
-        .arg(maybe_option_of(alloc, "format", "NAME", REPORT_FORMAT))?
-        .arg(value_of(
+        .arg(optional_option_arg(alloc, "format", "NAME", REPORT_FORMAT))?
+        .arg(required_arg(
             alloc,
             "manifest",
             "MANIFEST",
@@ -211,16 +211,16 @@ fn as_report<'a>(alloc: Global, command: Command<'a>) -> Result<Command<'a>, All
 fn draw<'a>(alloc: Global) -> Result<Command<'a>, AllocError>
     ensures { IfOk result (λ c. app_of c ≡ draw_app) }
 {
-    described(
+    new_command(
         alloc,
         "draw",
         "Draw a package as an SVG picture",
         "ringcheck draw [--ring <MM> --gap <MM>] <MANIFEST>",
         DRAW,
     )
-    .arg(maybe_option_of(alloc, "ring", "MM", RING))?
-    .arg(maybe_option_of(alloc, "gap", "MM", GAP))?
-    .arg(value_of(
+    .arg(optional_option_arg(alloc, "ring", "MM", RING))?
+    .arg(optional_option_arg(alloc, "gap", "MM", GAP))?
+    .arg(required_arg(
         alloc,
         "manifest",
         "MANIFEST",
@@ -232,29 +232,29 @@ fn draw<'a>(alloc: Global) -> Result<Command<'a>, AllocError>
 fn manifest<'a>(alloc: Global) -> Result<Command<'a>, AllocError>
     ensures { IfOk result (λ c. app_of c ≡ manifest_app) }
 {
-    described(
+    new_command(
         alloc,
         "manifest",
         "Make a manifest of some files",
         "ringcheck manifest [--why] <FILE>...",
         MANIFEST,
     )
-    .arg(switch_of(alloc, "why", "Tell of each file what it is, and why"))?
-    .arg(several_of(alloc, "file", "FILE", "Files to look at"))
+    .arg(flag_arg(alloc, "why", "Tell of each file what it is, and why"))?
+    .arg(repeated_arg(alloc, "file", "FILE", "Files to look at"))
 }
 
 /// `explain [WORD]`
 fn explain<'a>(alloc: Global) -> Result<Command<'a>, AllocError>
     ensures { IfOk result (λ c. app_of c ≡ explain_app) }
 {
-    described(
+    new_command(
         alloc,
         "explain",
         "Tell what a reason or a cause means, and what to set",
         "ringcheck explain [WORD]",
         EXPLAIN,
     )
-    .arg(maybe_of(
+    .arg(optional_arg(
         alloc,
         "word",
         "WORD",
@@ -266,7 +266,7 @@ fn explain<'a>(alloc: Global) -> Result<Command<'a>, AllocError>
 fn show<'a>(alloc: Global) -> Result<Command<'a>, AllocError>
     ensures { IfOk result (λ c. app_of c ≡ file_app (codes "show")) }
 {
-    of_file(
+    file_command(
         alloc,
         "show",
         "Print the table of a layer's flashes or of a drill file's holes",
@@ -279,7 +279,7 @@ fn show<'a>(alloc: Global) -> Result<Command<'a>, AllocError>
 fn rewrite<'a>(alloc: Global) -> Result<Command<'a>, AllocError>
     ensures { IfOk result (λ c. app_of c ≡ file_app (codes "rewrite")) }
 {
-    of_file(
+    file_command(
         alloc,
         "rewrite",
         "Print the canonical text of a layer or a drill file",
@@ -289,7 +289,7 @@ fn rewrite<'a>(alloc: Global) -> Result<Command<'a>, AllocError>
 }
 
 /// `NAME --kind layer|drill FILE`
-fn of_file<'a>(
+fn file_command<'a>(
     alloc: Global,
     name: &'a str,
     about: &'a str,
@@ -298,18 +298,18 @@ fn of_file<'a>(
 ) -> Result<Command<'a>, AllocError>
     ensures { IfOk result (λ c. app_of c ≡ file_app name.entry.now) }
 {
-    described(alloc, name, about, usage, below)
-        .arg(option_of(
+    new_command(alloc, name, about, usage, below)
+        .arg(required_option_arg(
             alloc,
             "kind",
             "layer|drill",
             "A Gerber layer, or an Excellon drill file",
         ))?
-        .arg(value_of(alloc, "file", "FILE", "File to read"))
+        .arg(required_arg(alloc, "file", "FILE", "File to read"))
 }
 
 /// A command with its texts for help: what it does, its usage, and what is printed below.
-fn described<'a>(
+fn new_command<'a>(
     alloc: Global,
     name: &'a str,
     about: &'a str,
@@ -325,8 +325,8 @@ fn described<'a>(
 }
 
 /// An argument by its position that may be left out. Help shows it as `shown`.
-fn maybe_of<'a>(alloc: Global, id: &'a str, shown: &'a str, help: &'a str) -> Arg<'a>
-    ensures rule { rule_of result ≡ maybe id.entry.now }
+fn optional_arg<'a>(alloc: Global, id: &'a str, shown: &'a str, help: &'a str) -> Arg<'a>
+    ensures rule { rule_of result ≡ optional id.entry.now }
     ensures global { result.global ≡ false }
 {
     Arg::new(alloc, id)
@@ -336,66 +336,66 @@ fn maybe_of<'a>(alloc: Global, id: &'a str, shown: &'a str, help: &'a str) -> Ar
 }
 
 /// A required argument by its position.
-fn value_of<'a>(alloc: Global, id: &'a str, shown: &'a str, help: &'a str) -> Arg<'a>
+fn required_arg<'a>(alloc: Global, id: &'a str, shown: &'a str, help: &'a str) -> Arg<'a>
     ensures rule { rule_of result ≡ positional id.entry.now }
     ensures global { result.global ≡ false }
 {
-    maybe_of(alloc, id, shown, help).required(true)
+    optional_arg(alloc, id, shown, help).required(true)
 }
 
 /// An option with one value that may be left out.
-fn maybe_option_of<'a>(alloc: Global, id: &'a str, shown: &'a str, help: &'a str) -> Arg<'a>
-    ensures rule { rule_of result ≡ maybe_option id.entry.now }
+fn optional_option_arg<'a>(alloc: Global, id: &'a str, shown: &'a str, help: &'a str) -> Arg<'a>
+    ensures rule { rule_of result ≡ optional_option id.entry.now }
     ensures global { result.global ≡ false }
 {
-    maybe_of(alloc, id, shown, help).long(id)
+    optional_arg(alloc, id, shown, help).long(id)
 }
 
 /// `--ring MM`
-fn ring_of<'a>(alloc: Global) -> Arg<'a>
+fn ring_arg<'a>(alloc: Global) -> Arg<'a>
     ensures rule { rule_of result ≡ option (codes "ring") }
     ensures global { result.global ≡ false }
 {
-    option_of(alloc, "ring", "MM", RING)
+    required_option_arg(alloc, "ring", "MM", RING)
 }
 
 /// `--gap MM`
-fn gap_of<'a>(alloc: Global) -> Arg<'a>
+fn gap_arg<'a>(alloc: Global) -> Arg<'a>
     ensures rule { rule_of result ≡ option (codes "gap") }
     ensures global { result.global ≡ false }
 {
-    option_of(alloc, "gap", "MM", GAP)
+    required_option_arg(alloc, "gap", "MM", GAP)
 }
 
 /// `[--format text|json]`
-fn format_of<'a>(alloc: Global) -> Arg<'a>
-    ensures rule { rule_of result ≡ maybe_option (codes "format") }
+fn format_arg<'a>(alloc: Global) -> Arg<'a>
+    ensures rule { rule_of result ≡ optional_option (codes "format") }
     ensures global { result.global ≡ false }
 {
-    maybe_option_of(alloc, "format", "text|json", FORMAT)
+    optional_option_arg(alloc, "format", "text|json", FORMAT)
 }
 
 /// A required option with one value.
-fn option_of<'a>(alloc: Global, id: &'a str, shown: &'a str, help: &'a str) -> Arg<'a>
+fn required_option_arg<'a>(alloc: Global, id: &'a str, shown: &'a str, help: &'a str) -> Arg<'a>
     ensures rule { rule_of result ≡ option id.entry.now }
     ensures global { result.global ≡ false }
 {
-    value_of(alloc, id, shown, help).long(id)
+    required_arg(alloc, id, shown, help).long(id)
 }
 
 /// One required argument by its position, or more of them.
-fn several_of<'a>(alloc: Global, id: &'a str, shown: &'a str, help: &'a str) -> Arg<'a>
-    ensures rule { rule_of result ≡ several id.entry.now }
+fn repeated_arg<'a>(alloc: Global, id: &'a str, shown: &'a str, help: &'a str) -> Arg<'a>
+    ensures rule { rule_of result ≡ one_or_more id.entry.now }
     ensures global { result.global ≡ false }
 {
-    value_of(alloc, id, shown, help)
+    required_arg(alloc, id, shown, help)
         .action(ArgAction::Append)
         .num_args(1..)
 }
 
 /// An option without a value.
-fn switch_of<'a>(alloc: Global, id: &'a str, help: &'a str) -> Arg<'a>
-    ensures rule { rule_of result ≡ switch id.entry.now }
+fn flag_arg<'a>(alloc: Global, id: &'a str, help: &'a str) -> Arg<'a>
+    ensures rule { rule_of result ≡ flag id.entry.now }
     ensures global { result.global ≡ false }
 {
     Arg::new(alloc, id)

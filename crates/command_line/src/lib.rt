@@ -14,8 +14,8 @@
 
 ghost use Rattle.std.specs.Prelude.{◌≡◌, ◌∷◌, [], Bool, IfSome, Some, None, List, Option, true, codes, length, map, option_map};
 ghost use Rattle.clap.specs.Words.{Row, Text, first_of, found_of, kind_of, one_of, rows_of, subcommand_rows_of};
-ghost use Rattle.command_line.specs.Line.{AnswersAs, AnswersCheck, AnswersLine, AnswersVersion, AsksFor, IsDraw, IsExplain, IsManifest, IsMeasure, IsReport, IsRewrite, IsShow, Switched, are_plain_rules, are_plain_words, check_words, draw_words, explain_words, file_words, is_plain_if_some, is_plain_word, manifest_words, measure_words, report_words};
-ghost use Rattle.command_line.specs.Inner.Steps.{HasCheckRows, IsCheckIfSome, IsRefusalFor};
+ghost use Rattle.command_line.specs.ProgramArgs.{ParsesAs, ParsesAsCheck, ParsesLine, ParsesAsVersion, IsRequestOf, IsDraw, IsExplain, IsManifest, IsMeasure, IsReport, IsRewrite, IsShow, IsFlagValue, are_plain_rules, are_plain_words, check_words, draw_words, explain_words, file_words, is_plain_if_some, is_plain_word, manifest_words, measure_words, report_words};
+ghost use Rattle.command_line.specs.Inner.RequestSteps.{HasCheckRows, IsCheckIfSome, IsRefusalFor};
 
 mod commands;
 
@@ -38,13 +38,13 @@ pub enum Request<'a> {
         format: Option<&'a str>,
         manifest: &'a str,
     },
-    /// Print each finding under the ring and the gap, by how much it lacks, and why. The ring and the gap are texts in mm. `most`
+    /// Print each finding under the ring and the gap, by how much it lacks, and why. The ring and the gap are texts in mm. `limit`
     /// is the limit of findings, also a text: without it all of them are shown. `waive` is the name of a file of waivers, and
     /// `format` the word for a format, where they are given.
     Report {
         ring: &'a str,
         gap: &'a str,
-        most: Option<&'a str>,
+        limit: Option<&'a str>,
         waive: Option<&'a str>,
         format: Option<&'a str>,
         manifest: &'a str,
@@ -100,28 +100,28 @@ pub enum Refusal {
 // It is not inlined: clap's values would otherwise lie in the frame of a caller for as long as that runs.
 #[inline(never)]
 pub fn parse<'a>(alloc: Global, words: &'a [&'a str]) -> Result<Request<'a>, Refusal>
-    ensures exact { AnswersLine (map (λ w. w.now) words.entry.now) result }
+    ensures exact { ParsesLine (map (λ w. w.now) words.entry.now) result }
     ensures check { (r g m : Text) → map (λ w. w.now) words.entry.now ≡ check_words r g m → is_plain_word r ≡ true
-        → is_plain_word g ≡ true → is_plain_word m ≡ true → AnswersCheck r g m result }
+        → is_plain_word g ≡ true → is_plain_word m ≡ true → ParsesAsCheck r g m result }
     ensures measure { (format : Option Text) (m : Text) → map (λ w. w.now) words.entry.now ≡ measure_words format m → is_plain_if_some format ≡ true
-        → is_plain_word m ≡ true → AnswersAs (IsMeasure format m) result }
-    ensures report { (r g : Text) (most waive format : Option Text) (m : Text) → map (λ w. w.now) words.entry.now ≡ report_words r g most waive format m
-        → is_plain_word r ≡ true → is_plain_word g ≡ true → is_plain_if_some most ≡ true → is_plain_if_some waive ≡ true → is_plain_if_some format ≡ true → is_plain_word m ≡ true
-        → AnswersAs (IsReport r g most waive format m) result }
+        → is_plain_word m ≡ true → ParsesAs (IsMeasure format m) result }
+    ensures report { (r g : Text) (limit waive format : Option Text) (m : Text) → map (λ w. w.now) words.entry.now ≡ report_words r g limit waive format m
+        → is_plain_word r ≡ true → is_plain_word g ≡ true → is_plain_if_some limit ≡ true → is_plain_if_some waive ≡ true → is_plain_if_some format ≡ true → is_plain_word m ≡ true
+        → ParsesAs (IsReport r g limit waive format m) result }
     ensures draw { (rules : Option (Text × Text)) (m : Text) → map (λ w. w.now) words.entry.now ≡ draw_words rules m → are_plain_rules rules ≡ true
-        → is_plain_word m ≡ true → AnswersAs (IsDraw rules m) result }
+        → is_plain_word m ≡ true → ParsesAs (IsDraw rules m) result }
     ensures show { (k f : Text) → map (λ w. w.now) words.entry.now ≡ file_words (codes "show") k f → is_plain_word k ≡ true
-        → is_plain_word f ≡ true → AnswersAs (IsShow k f) result }
+        → is_plain_word f ≡ true → ParsesAs (IsShow k f) result }
     ensures rewrite { (k f : Text) → map (λ w. w.now) words.entry.now ≡ file_words (codes "rewrite") k f → is_plain_word k ≡ true
-        → is_plain_word f ≡ true → AnswersAs (IsRewrite k f) result }
+        → is_plain_word f ≡ true → ParsesAs (IsRewrite k f) result }
     ensures manifest { (why : Bool) (fs : List Text) → map (λ w. w.now) words.entry.now ≡ manifest_words why fs → are_plain_words fs ≡ true
-        → AnswersAs (IsManifest why fs) result }
-    ensures list { map (λ w. w.now) words.entry.now ≡ explain_words None → AnswersAs (IsExplain None) result }
+        → ParsesAs (IsManifest why fs) result }
+    ensures list { map (λ w. w.now) words.entry.now ≡ explain_words None → ParsesAs (IsExplain None) result }
     ensures explain { (w : Text) → map (λ w. w.now) words.entry.now ≡ explain_words (Some w) → is_plain_word w ≡ true
-        → AnswersAs (IsExplain (Some w)) result }
-    ensures version { map (λ w. w.now) words.entry.now ≡ codes "--version" ∷ [] → AnswersVersion result }
+        → ParsesAs (IsExplain (Some w)) result }
+    ensures version { map (λ w. w.now) words.entry.now ≡ codes "--version" ∷ [] → ParsesAsVersion result }
 {
-    let count = count_of(words);
+    let count = word_count(words);
     prove!(count <= usize::MAX);
     let Ok(command) = commands::ringcheck(alloc) else {
         return Err(Refusal::Memory);
@@ -137,7 +137,7 @@ pub fn parse<'a>(alloc: Global, words: &'a [&'a str]) -> Result<Request<'a>, Ref
 }
 
 /// The number of words.
-fn count_of(words: &[&str]) -> usize
+fn word_count(words: &[&str]) -> usize
     ensures { result ≡ length words.now }
 {
     words.len()
@@ -145,7 +145,7 @@ fn count_of(words: &[&str]) -> usize
 
 /// The request of a parsed line.
 fn request_of<'a>(alloc: Global, matches: &ArgMatches<'a>) -> Option<Request<'a>>
-    ensures asked { IfSome result (λ asked. AsksFor (subcommand_rows_of matches.now) asked) }
+    ensures request { IfSome result (λ request. IsRequestOf (subcommand_rows_of matches.now) request) }
     ensures check { (r g m : Text) (rows : List Row) → subcommand_rows_of matches.now ≡ Some (codes "check", rows)
         → HasCheckRows r g m rows → IsCheckIfSome r g m result }
 {
@@ -164,7 +164,7 @@ fn request_of<'a>(alloc: Global, matches: &ArgMatches<'a>) -> Option<Request<'a>
 }
 
 fn check_request<'a>(values: &ArgMatches<'a>) -> Option<Request<'a>>
-    ensures asked { IfSome result (λ asked. AsksFor (Some (codes "check", rows_of (found_of values.now))) asked) }
+    ensures request { IfSome result (λ request. IsRequestOf (Some (codes "check", rows_of (found_of values.now))) request) }
     ensures check { (r g m : Text) → HasCheckRows r g m (rows_of (found_of values.now)) → IsCheckIfSome r g m result }
 {
     Some(Request::Check {
@@ -175,7 +175,7 @@ fn check_request<'a>(values: &ArgMatches<'a>) -> Option<Request<'a>>
 }
 
 fn measure_request<'a>(values: &ArgMatches<'a>) -> Option<Request<'a>>
-    ensures { IfSome result (λ asked. AsksFor (Some (codes "measure", rows_of (found_of values.now))) asked) }
+    ensures { IfSome result (λ request. IsRequestOf (Some (codes "measure", rows_of (found_of values.now))) request) }
 {
     let manifest = value(values, "manifest")?;
     let format = value(values, "format");
@@ -183,7 +183,7 @@ fn measure_request<'a>(values: &ArgMatches<'a>) -> Option<Request<'a>>
 }
 
 fn report_request<'a>(values: &ArgMatches<'a>) -> Option<Request<'a>>
-    ensures { IfSome result (λ asked. AsksFor (Some (codes "report", rows_of (found_of values.now))) asked) }
+    ensures { IfSome result (λ request. IsRequestOf (Some (codes "report", rows_of (found_of values.now))) request) }
 {
     let ring = value(values, "ring")?;
     let gap = value(values, "gap")?;
@@ -191,7 +191,7 @@ fn report_request<'a>(values: &ArgMatches<'a>) -> Option<Request<'a>>
     Some(Request::Report {
         ring,
         gap,
-        most: value(values, "max"),
+        limit: value(values, "max"),
         waive: value(values, "waive"),
         format: value(values, "format"),
         manifest: package,
@@ -199,7 +199,7 @@ fn report_request<'a>(values: &ArgMatches<'a>) -> Option<Request<'a>>
 }
 
 fn draw_request<'a>(values: &ArgMatches<'a>) -> Option<Request<'a>>
-    ensures { IfSome result (λ asked. AsksFor (Some (codes "draw", rows_of (found_of values.now))) asked) }
+    ensures { IfSome result (λ request. IsRequestOf (Some (codes "draw", rows_of (found_of values.now))) request) }
 {
     let package = value(values, "manifest")?;
     Some(Request::Draw {
@@ -210,7 +210,7 @@ fn draw_request<'a>(values: &ArgMatches<'a>) -> Option<Request<'a>>
 }
 
 fn show_request<'a>(values: &ArgMatches<'a>) -> Option<Request<'a>>
-    ensures { IfSome result (λ asked. AsksFor (Some (codes "show", rows_of (found_of values.now))) asked) }
+    ensures { IfSome result (λ request. IsRequestOf (Some (codes "show", rows_of (found_of values.now))) request) }
 {
     Some(Request::Show {
         kind: value(values, "kind")?,
@@ -219,7 +219,7 @@ fn show_request<'a>(values: &ArgMatches<'a>) -> Option<Request<'a>>
 }
 
 fn rewrite_request<'a>(values: &ArgMatches<'a>) -> Option<Request<'a>>
-    ensures { IfSome result (λ asked. AsksFor (Some (codes "rewrite", rows_of (found_of values.now))) asked) }
+    ensures { IfSome result (λ request. IsRequestOf (Some (codes "rewrite", rows_of (found_of values.now))) request) }
 {
     Some(Request::Rewrite {
         kind: value(values, "kind")?,
@@ -228,20 +228,20 @@ fn rewrite_request<'a>(values: &ArgMatches<'a>) -> Option<Request<'a>>
 }
 
 fn manifest_request<'a>(alloc: Global, values: &ArgMatches<'a>) -> Option<Request<'a>>
-    ensures { IfSome result (λ asked. AsksFor (Some (codes "manifest", rows_of (found_of values.now))) asked) }
+    ensures { IfSome result (λ request. IsRequestOf (Some (codes "manifest", rows_of (found_of values.now))) request) }
 {
-    let given = values.get_strs("file")?;
-    let Ok(files) = Vec::from_slice(alloc, given) else {
+    let row_of_value = values.get_strs("file")?;
+    let Ok(files) = Vec::from_slice(alloc, row_of_value) else {
         return None;
     };
     Some(Request::Manifest {
-        why: is_switched(values, "why"),
+        why: is_flag_set(values, "why"),
         files,
     })
 }
 
 fn explain_request<'a>(values: &ArgMatches<'a>) -> Request<'a>
-    ensures { AsksFor (Some (codes "explain", rows_of (found_of values.now))) result }
+    ensures { IsRequestOf (Some (codes "explain", rows_of (found_of values.now))) result }
 {
     Request::Explain {
         word: value(values, "word"),
@@ -249,8 +249,8 @@ fn explain_request<'a>(values: &ArgMatches<'a>) -> Request<'a>
 }
 
 /// Whether an option without a value is given.
-fn is_switched(values: &ArgMatches<'_>, id: &str) -> bool
-    ensures { Switched (one_of id.now (rows_of (found_of values.now))) result }
+fn is_flag_set(values: &ArgMatches<'_>, id: &str) -> bool
+    ensures { IsFlagValue (one_of id.now (rows_of (found_of values.now))) result }
 {
     values.get_flag(id)
 }

@@ -1,3 +1,3 @@
-pub mod Bars
-pub mod Extents
-pub mod Zipped
+pub mod BarLemmas
+pub mod ExtentLemmas
+pub mod PanelLists

@@ -6,9 +6,9 @@ use Rattle.layer_image.specs.Flashes.{pads_of}
 use Rattle.layer_image.specs.declared.flash.Flash.{Flash}
 use Rattle.ring_rules.specs.declared.finding.Drilled.{Drilled}
 use Rattle.ring_rules.specs.declared.finding.Finding.{Finding}
-use Rattle.package_check.specs.Boards.{Survey, board_findings}
-use Rattle.flashed_boards.specs.Flashed.{FlashedSurvey}
-use Rattle.picture.specs.Scenes.{AreInOrder, crosses_of, is_crowded, lacks_of, unless_crowded}
+use Rattle.package_check.specs.Boards.{BoardView, board_findings}
+use Rattle.package_check.specs.Flashed.{FlashedBoardView}
+use Rattle.picture.specs.Scenes.{AreSortedBySize, crosses_of, is_crowded, drawn_findings, unless_crowded}
 use Rattle.picture.specs.declared.scene.Scene.{Scene}
 use Rattle.drawing.specs.Boxes.{board_extent}
 use Rattle.drawing.specs.Pages.{page_text}
@@ -18,25 +18,25 @@ use Rattle.drawing.specs.declared.layout.Layout.{Layout}
 use Rattle.drawing.specs.declared.panels.Panel.{Panel}
 
 -- the findings under the rules; none where no rules are given
-abbrev pub found : Option GridRules → Survey → List Finding
-found None board = []
-found (Some rules) board = board_findings rules board
+abbrev pub findings_under : Option GridRules → BoardView → List Finding
+findings_under None board = []
+findings_under (Some rules) board = board_findings rules board
 
 -- the contents of a layer's panel, by the layer's place among the copper files, from 0
 pub record IsScene (layer : ℕ) (flashes : List Flash) (drilled : List Drilled) (findings : List Finding) (scene : Scene) : Type 0 where
   pub crowded : scene.crowded ≡ is_crowded flashes drilled
   pub pads : IsPermutation (pads_of (unless_crowded scene.crowded flashes)) scene.pads.items
-  pub order : AreInOrder scene.pads.items
+  pub order : AreSortedBySize scene.pads.items
   pub crosses : scene.crosses.items ≡ crosses_of (unless_crowded scene.crowded flashes)
   pub holes : scene.holes.now ≡ unless_crowded scene.crowded drilled
-  pub lacks : scene.lacks.items ≡ lacks_of layer drilled findings
+  pub lacks : scene.lacks.items ≡ drawn_findings layer drilled findings
 
 -- the number of a file, from 1, by its index from 0; at most 2^64 - 1
 abbrev pub number_of : ℕ → ℕ
 number_of file = min (file + 1) (2 ^ 64 - 1)
 
 -- the panel of a layer, by its place among the copper files, from 0, and the index of its file
-pub record IsPanel (names : List (List ℕ)) (flashed : FlashedSurvey) (findings : List Finding) (l : Layout) (at : ℕ × ℕ) (panel : Panel) : Type 0 where
+pub record IsPanel (names : List (List ℕ)) (flashed : FlashedBoardView) (findings : List Finding) (l : Layout) (at : ℕ × ℕ) (panel : Panel) : Type 0 where
   pub file : panel.place.file ≡ number_of at.1
   pub name : panel.place.name.now ≡ get_or names at.1 []
   pub x : panel.place.x ≡ pos (box_left l at.0) -ℤ l.frame.left
@@ -44,18 +44,18 @@ pub record IsPanel (names : List (List ℕ)) (flashed : FlashedSurvey) (findings
   pub scene : IsScene at.0 (get_or flashed.flashes at.1 []) flashed.board.holes findings panel.scene
 
 -- the contents of a board's page, under rules if there are any; `names` are those of its files, in order
-pub record IsPage (names : List (List ℕ)) (flashed : FlashedSurvey) (asked : Option GridRules) (drawing : Drawing) : Type 0 where
-  pub laid : IsLayout (board_extent flashed) (length flashed.board.layer_indexes) asked drawing.layout
-  pub under : drawing.rules ≡ asked
-  pub drawn : AllZip (IsPanel names flashed (found asked flashed.board) drawing.layout) (enumerate_from 0 flashed.board.layer_indexes) drawing.panels.items
-  pub told : drawing.count ≡ length (found asked flashed.board)
+pub record IsPage (names : List (List ℕ)) (flashed : FlashedBoardView) (given_rules : Option GridRules) (drawing : Drawing) : Type 0 where
+  pub laid : IsLayout (board_extent flashed) (length flashed.board.layer_indexes) given_rules drawing.layout
+  pub under : drawing.rules ≡ given_rules
+  pub drawn : AllZip (IsPanel names flashed (findings_under given_rules flashed.board) drawing.layout) (enumerate_from 0 flashed.board.layer_indexes) drawing.panels.items
+  pub told : drawing.count ≡ length (findings_under given_rules flashed.board)
 
 -- the text of a drawing: its page
 abbrev pub drawing_text : Drawing → List ℕ
 drawing_text d = page_text d.layout d.rules d.count d.panels.items
 
 -- a text is the page of a board, under rules if there are any; `names` are those of its files, in order
-pub record IsDrawn (names : List (List ℕ)) (flashed : FlashedSurvey) (asked : Option GridRules) (text : List ℕ) : Type 0 where
+pub record IsDrawn (names : List (List ℕ)) (flashed : FlashedBoardView) (given_rules : Option GridRules) (text : List ℕ) : Type 0 where
   pub drawing : Drawing
-  pub shows : IsPage names flashed asked drawing
+  pub shows : IsPage names flashed given_rules drawing
   pub is : text ≡ drawing_text drawing

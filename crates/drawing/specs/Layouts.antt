@@ -9,8 +9,8 @@ use Rattle.drawing.specs.declared.layout.Layout.{Layout}
 -- ---- columns
 
 -- a length times a count, at most 1,000 km
-abbrev pub times : ℕ → ℕ → ℕ
-times length count = min (length * count) (10 ^ 18)
+abbrev pub capped_times : ℕ → ℕ → ℕ
+capped_times length count = min (length * count) (10 ^ 18)
 
 -- the width of a box
 abbrev pub width_of : Frame → ℕ
@@ -22,26 +22,26 @@ height_of f = unsigned_abs f.height
 
 -- the width of this many boxes side by side
 abbrev pub boxes_width : Frame → ℕ → ℕ
-boxes_width f columns = times (width_of f) columns
+boxes_width f columns = capped_times (width_of f) columns
 
 -- the height of `count` boxes that stand in this many columns
 abbrev pub boxes_height : Frame → ℕ → ℕ → ℕ
-boxes_height f count columns = times (height_of f) (div_ceil count columns)
+boxes_height f count columns = capped_times (height_of f) (div_ceil count columns)
 
 -- the difference of that width and that height: 0 for a square
-abbrev pub off_square : Frame → ℕ → ℕ → ℕ
-off_square f count columns = abs_diff (boxes_width f columns) (boxes_height f count columns)
+abbrev pub square_error : Frame → ℕ → ℕ → ℕ
+square_error f count columns = abs_diff (boxes_width f columns) (boxes_height f count columns)
 
--- among the numbers from 1 to `most`, the first for which an amount is least
-pub record IsFirstLeast (amount : ℕ → ℕ) (most n : ℕ) : Type 0 where
+-- among the numbers from 1 to `limit`, the first for which an amount is least
+pub record IsFirstLeast (amount : ℕ → ℕ) (limit n : ℕ) : Type 0 where
   pub some : 1 ≤ n
-  pub within : n ≤ most
-  pub least : (k : ℕ) → 1 ≤ k → k ≤ most → amount n ≤ amount k
+  pub within : n ≤ limit
+  pub least : (k : ℕ) → 1 ≤ k → k ≤ limit → amount n ≤ amount k
   pub first : (k : ℕ) → 1 ≤ k → k < n → amount n < amount k
 
 -- the number of columns with which the boxes together are nearest to a square: for four squares 2
 abbrev pub AreColumns : Frame → ℕ → ℕ → Type 0
-AreColumns f count columns = IsFirstLeast (off_square f count) (max 1 count) columns
+AreColumns f count columns = IsFirstLeast (square_error f count) (max 1 count) columns
 
 -- ---- the scale
 
@@ -67,13 +67,13 @@ ring_of None = 0
 ring_of (Some rules) = rules.ring
 
 -- the layout of a page with this many panels, one for each copper file
-pub record IsLayout (extent : Option GridExtent) (count : ℕ) (asked : Option GridRules) (l : Layout) : Type 0 where
+pub record IsLayout (extent : Option GridExtent) (count : ℕ) (given_rules : Option GridRules) (l : Layout) : Type 0 where
   pub box : IsBox extent l.frame
   pub columns : AreColumns l.frame count l.columns
   pub rows : l.rows ≡ div_ceil count l.columns
   pub unit : l.pen.unit ≡ unit_of l.frame count l.columns
-  pub ring : l.pen.ring ≡ ring_of asked
-  pub rules : l.pen.asked ≡ is_some asked
+  pub ring : l.pen.ring ≡ ring_of given_rules
+  pub rules : l.pen.has_rules ≡ is_some given_rules
   pub bar : IsBar (width_of l.frame) l.bar
 
 -- the width of a column: that of the box, at least 30 units for the words
@@ -90,19 +90,19 @@ row_step l = height_of l.frame + 5 * l.pen.unit
 
 -- from the left of the page to a layer's box; the layers, counted from 0, fill the columns row by row
 abbrev pub box_left : Layout → ℕ → ℕ
-box_left l layer = 3 * l.pen.unit + times (column_step l) (layer % l.columns)
+box_left l layer = 3 * l.pen.unit + capped_times (column_step l) (layer % l.columns)
 
 -- from the top of the page to a layer's box
 abbrev pub box_top : Layout → ℕ → ℕ
-box_top l layer = 9 * l.pen.unit + times (row_step l) (layer / l.columns)
+box_top l layer = 9 * l.pen.unit + capped_times (row_step l) (layer / l.columns)
 
 -- from the top of the page to the end of the last row
 abbrev pub boxes_end : Layout → ℕ
-boxes_end l = 4 * l.pen.unit + times (row_step l) l.rows
+boxes_end l = 4 * l.pen.unit + capped_times (row_step l) l.rows
 
 -- the width of the page: its columns with 3 units before each and after the last, at least 60 units
 abbrev pub page_width : Layout → ℕ
-page_width l = max (3 * l.pen.unit + times (column_step l) l.columns) (60 * l.pen.unit)
+page_width l = max (3 * l.pen.unit + capped_times (column_step l) l.columns) (60 * l.pen.unit)
 
 -- the height of the page: its rows, and 10 units for the scale and the legend
 abbrev pub page_height : Layout → ℕ

@@ -9,12 +9,12 @@ use Rattle.drawing.specs.declared.panels.Panel.{Panel}
 use Rattle.drawing.specs.Layouts.{boxes_end, page_height, page_width, pixels}
 
 -- words, then a length in millimetres: `h20`
-abbrev pub named : List ℕ → ℕ → List ℕ
-named words length = words ++ short_millimetres (pos length)
+abbrev pub labelled : List ℕ → ℕ → List ℕ
+labelled words length = words ++ short_millimetres (pos length)
 
 -- words, then a whole number: `" height="1200`
-abbrev pub counted : List ℕ → ℕ → List ℕ
-counted words number = words ++ decimal number
+abbrev pub labelled_count : List ℕ → ℕ → List ℕ
+labelled_count words number = words ++ decimal number
 
 -- ---- the start
 
@@ -24,11 +24,11 @@ style_words = codes "<style>text{fill:#222;font-size:1.25px}.title{font-size:2px
 
 -- the size of the letters, and the page in pixels: ` font-size="2.906666666" width="727" height="1200`
 unfoldable pub sizes_words : ℕ → ℕ → ℕ → List ℕ
-sizes_words size width height = named (codes " font-size=\"") size ++ (counted (codes "\" width=\"") width ++ counted (codes "\" height=\"") height)
+sizes_words size width height = labelled (codes " font-size=\"") size ++ (labelled_count (codes "\" width=\"") width ++ labelled_count (codes "\" height=\"") height)
 
 -- the page in millimetres: `" viewBox="0 0 139.51999998 230.207999992">`
 unfoldable pub view_words : ℕ → ℕ → List ℕ
-view_words width height = named (codes "\" viewBox=\"0 0 ") width ++ (named (codes " ") height ++ codes "\">\n")
+view_words width height = labelled (codes "\" viewBox=\"0 0 ") width ++ (labelled (codes " ") height ++ codes "\">\n")
 
 -- the start of a page: the XML declaration, the element `svg` and the style
 abbrev pub page_start : Layout → List ℕ
@@ -44,7 +44,7 @@ found_words count = if count == 0 then codes "PASS" else if count == 1 then code
 
 -- the rules: `ring 0.15 mm, gap 0.25 mm: `
 unfoldable pub rules_words : ℕ → ℕ → List ℕ
-rules_words ring gap = named (codes "ring ") ring ++ (named (codes " mm, gap ") gap ++ codes " mm: ")
+rules_words ring gap = labelled (codes "ring ") ring ++ (labelled (codes " mm, gap ") gap ++ codes " mm: ")
 
 -- the words of the title: `ring 0.15 mm, gap 0.25 mm: 6 findings`, or `no rules`
 abbrev pub title_words : Option GridRules → ℕ → List ℕ
@@ -53,7 +53,7 @@ title_words (Some rules) count = rules_words rules.ring rules.gap ++ found_words
 
 -- the start of a text after its first words: its place, and the unit that scales its letters: `6.9 6.9) scale(2.3)">`
 unfoldable pub text_start : List ℕ → ℕ → ℕ → ℕ → List ℕ
-text_start words x y unit = named words x ++ (named (codes " ") y ++ (named (codes ") scale(") unit ++ codes ")\">"))
+text_start words x y unit = labelled words x ++ (labelled (codes " ") y ++ (labelled (codes ") scale(") unit ++ codes ")\">"))
 
 -- the end of a text
 abbrev pub text_end : List ℕ
@@ -61,18 +61,18 @@ text_end = codes "</text>\n"
 
 -- the title: `<text class="title" transform="translate(6.9 6.9) scale(2.3)">no rules</text>`
 abbrev pub title : Layout → Option GridRules → ℕ → List ℕ
-title l asked count =
-    text_start (codes "<text class=\"title\" transform=\"translate(") (3 * l.pen.unit) (3 * l.pen.unit) l.pen.unit ++ (title_words asked count ++ text_end)
+title l given_rules count =
+    text_start (codes "<text class=\"title\" transform=\"translate(") (3 * l.pen.unit) (3 * l.pen.unit) l.pen.unit ++ (title_words given_rules count ++ text_end)
 
 -- ---- the scale and the legend
 
 -- a bar from its left end: `<path class="scale" d="M6.9 213.9h20"/>`
 unfoldable pub bar_at : ℕ → ℕ → ℕ → List ℕ
-bar_at x y bar = named (codes "<path class=\"scale\" d=\"M") x ++ (named (codes " ") y ++ (named (codes "h") bar ++ codes "\"/>\n"))
+bar_at x y bar = labelled (codes "<path class=\"scale\" d=\"M") x ++ (labelled (codes " ") y ++ (labelled (codes "h") bar ++ codes "\"/>\n"))
 
 -- the length of a bar, at a place: `<text transform="translate(29.3 214.8) scale(2.3)">20 mm</text>`
 unfoldable pub length_at : ℕ → ℕ → ℕ → ℕ → List ℕ
-length_at x y unit bar = text_start (codes "<text transform=\"translate(") x y unit ++ (named (codes "") bar ++ codes " mm</text>\n")
+length_at x y unit bar = text_start (codes "<text transform=\"translate(") x y unit ++ (labelled (codes "") bar ++ codes " mm</text>\n")
 
 -- the scale: its bar and the length of the bar
 abbrev pub scale : Layout → List ℕ
@@ -87,7 +87,7 @@ legend_words = codes "<circle class=\"pad\" r=\".6\"/>\n<text x=\"1.2\" y=\".4\"
 -- where the legend stands, and its unit: `<g class="legend" font-size="1.25" transform="translate(9.3 220.9) scale(2.3)">`
 unfoldable pub legend_start : ℕ → ℕ → ℕ → List ℕ
 legend_start x y unit =
-    named (codes "<g class=\"legend\" font-size=\"1.25\" transform=\"translate(") x ++ (named (codes " ") y ++ (named (codes ") scale(") unit ++ codes ")\">\n"))
+    labelled (codes "<g class=\"legend\" font-size=\"1.25\" transform=\"translate(") x ++ (labelled (codes " ") y ++ (labelled (codes ") scale(") unit ++ codes ")\">\n"))
 
 -- the legend, and the end of the page
 abbrev pub legend : Layout → List ℕ
@@ -97,11 +97,11 @@ legend l = legend_start (4 * l.pen.unit) (boxes_end l + 6 * l.pen.unit) l.pen.un
 
 -- the text before the panels: the start of the page and the title
 abbrev pub before_panels : Layout → Option GridRules → ℕ → List ℕ
-before_panels l asked count = page_start l ++ title l asked count
+before_panels l given_rules count = page_start l ++ title l given_rules count
 
 -- the text after the panels: the scale, the legend and the end of the page
-abbrev pub behind_panels : Layout → List ℕ
-behind_panels l = scale l ++ legend l
+abbrev pub after_panels : Layout → List ℕ
+after_panels l = scale l ++ legend l
 
 -- the text of one panel
 abbrev pub text_of_panel : Layout → Panel → List ℕ
@@ -109,4 +109,4 @@ text_of_panel l panel = panel_text panel.place l.frame l.pen panel.scene
 
 -- the text of a page, by its layout, its rules, the number of its findings and its panels
 abbrev pub page_text : Layout → Option GridRules → ℕ → List Panel → List ℕ
-page_text l asked count panels = (before_panels l asked count ++ flat_map (text_of_panel l) panels) ++ behind_panels l
+page_text l given_rules count panels = (before_panels l given_rules count ++ flat_map (text_of_panel l) panels) ++ after_panels l

@@ -6,8 +6,8 @@ ghost use Rattle.drawing.specs.Boxes.{cross_extent, cross_extents, extent_or, ex
 
 use crate::extent::{Extent, hole_extent, joined_to, pad_extent, point_extent};
 use crate::panels::flashes_of;
-use flashed_boards::FlashedBoard;
 use layer_image::{Flash, What};
+use package_check::FlashedBoard;
 use pad_shapes::Pad;
 use ring_rules::Drilled;
 

@@ -1,32 +1,32 @@
 //! The number of columns in which the panels of a board stand.
 
 ghost use Rattle.std.specs.Prelude.{◌≡◌, ◌≤◌, ◌^◌};
-ghost use Rattle.drawing.specs.Layouts.{AreColumns, boxes_height, boxes_width, off_square, times, unit_of};
+ghost use Rattle.drawing.specs.Layouts.{AreColumns, boxes_height, boxes_width, square_error, capped_times, unit_of};
 
 use picture::Frame;
 
 /// A thousand kilometres in pm: no product of a length is longer.
-const MOST: u64 = 1_000_000_000_000_000_000;
+const LENGTH_LIMIT: u64 = 1_000_000_000_000_000_000;
 
 /// Ten metres in pm: no unit is longer.
-const MOST_UNIT: u64 = 10_000_000_000_000;
+const UNIT_LIMIT: u64 = 10_000_000_000_000;
 
 /// The number of units in the longer side of all boxes together.
-const UNITS: u64 = 75;
+const UNITS_PER_SIDE: u64 = 75;
 
 /// A length in pm times a count, at most 1,000 km.
-pub(crate) fn times(length: u64, count: usize) -> u64
-    ensures value { result ≡ times length count }
+pub(crate) fn capped_times(length: u64, count: usize) -> u64
+    ensures value { result ≡ capped_times length count }
     ensures within { result ≤ 10 ^ 18 }
 {
-    length.saturating_mul(count as u64).min(MOST)
+    length.saturating_mul(count as u64).min(LENGTH_LIMIT)
 }
 
 /// The width of this many boxes side by side, in pm.
 fn boxes_width(frame: &Frame, columns: usize) -> u64
     ensures { result ≡ boxes_width frame.now columns }
 {
-    times(frame.width.unsigned_abs(), columns)
+    capped_times(frame.width.unsigned_abs(), columns)
 }
 
 /// The height of `count` boxes in this many columns, in pm.
@@ -34,13 +34,13 @@ fn boxes_height(frame: &Frame, count: usize, columns: usize) -> u64
     requires { 1 ≤ columns }
     ensures { result ≡ boxes_height frame.now count columns }
 {
-    times(frame.height.unsigned_abs(), count.div_ceil(columns))
+    capped_times(frame.height.unsigned_abs(), count.div_ceil(columns))
 }
 
 /// The difference of that width and that height, in pm.
-fn off_square(frame: &Frame, count: usize, columns: usize) -> u64
+fn square_error(frame: &Frame, count: usize, columns: usize) -> u64
     requires { 1 ≤ columns }
-    ensures { result ≡ off_square frame.now count columns }
+    ensures { result ≡ square_error frame.now count columns }
 {
     boxes_width(frame, columns).abs_diff(boxes_height(frame, count, columns))
 }
@@ -51,7 +51,7 @@ pub(crate) fn columns_of(frame: &Frame, count: usize) -> usize
 {
     let mut best = 1;
     for before in 1..count {
-        if off_square(frame, count, before + 1) < off_square(frame, count, best) {
+        if square_error(frame, count, before + 1) < square_error(frame, count, best) {
             best = before + 1;
         }
     }
@@ -65,5 +65,5 @@ pub(crate) fn unit_of(frame: &Frame, count: usize, columns: usize) -> u64
     ensures small { result ≤ 10 ^ 13 }
 {
     let whole = boxes_width(frame, columns).max(boxes_height(frame, count, columns));
-    (whole / UNITS).min(MOST_UNIT)
+    (whole / UNITS_PER_SIDE).min(UNIT_LIMIT)
 }

@@ -1,16 +1,15 @@
 //! The drawing of a board.
 
 ghost use Rattle.std.specs.Prelude.{◌≡◌, Some, map, IfOk};
-ghost use Rattle.drawing.specs.Drawings.{IsDrawn, IsPage, drawing_text, found};
+ghost use Rattle.drawing.specs.Drawings.{IsDrawn, IsPage, drawing_text, findings_under};
 
 use crate::bounds::board_extent;
-use crate::laying::layout_of;
 use crate::layout::Layout;
 use crate::page::{write_legend, write_page_start, write_scale, write_title};
+use crate::page_layout::layout_of;
 use crate::panels::{Panel, panels_of};
-use flashed_boards::FlashedBoard;
 use grid_units::Rules;
-use package_check::Board;
+use package_check::{Board, FlashedBoard};
 use printing::Lines;
 use ring_rules::Finding;
 use std::alloc::{AllocError, Global};
@@ -32,8 +31,12 @@ pub struct Drawing<'a> {
 }
 
 /// The findings under the rules; none where there are no rules.
-fn found(alloc: Global, board: &Board, rules: &Option<Rules>) -> Result<Vec<Finding>, AllocError>
-    ensures { IfOk result (λ findings. findings.items ≡ found rules.now board.now) }
+fn findings_under(
+    alloc: Global,
+    board: &Board,
+    rules: &Option<Rules>,
+) -> Result<Vec<Finding>, AllocError>
+    ensures { IfOk result (λ findings. findings.items ≡ findings_under rules.now board.now) }
 {
     match rules {
         Some(rules) => board.findings(alloc, *rules),
@@ -51,7 +54,7 @@ fn page_of<'a>(
     ensures { IfOk result (IsPage (map (λ name. name.now) names.now) flashed.now rules) }
 {
     let board = flashed.board();
-    let findings = found(alloc, board, &rules)?;
+    let findings = findings_under(alloc, board, &rules)?;
     let layers = board.layers(alloc)?;
     let extent = board_extent(&layers, flashed);
     let layout = layout_of(extent, board.layer_indexes().len(), &rules);

@@ -7,8 +7,8 @@ ghost use Rattle.drawing.specs.Layouts.{box_left, box_top};
 ghost use Rattle.drawing.specs.Pages.{text_of_panel};
 
 use crate::layout::Layout;
-use flashed_boards::FlashedBoard;
 use layer_image::Flash;
+use package_check::FlashedBoard;
 use picture::{Place, Scene, scene_of};
 use printing::Line;
 use ring_rules::{Drilled, Finding};

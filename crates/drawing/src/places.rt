@@ -3,7 +3,7 @@
 ghost use Rattle.std.specs.Prelude.{◌≡◌, ◌≤◌, ◌^◌, ◌*◌};
 ghost use Rattle.drawing.specs.Layouts.{box_left, box_top, boxes_end, column_step, page_height, page_width, pixels, row_step};
 
-use crate::columns::times;
+use crate::columns::capped_times;
 use crate::layout::Layout;
 
 /// The number of pixels of the longer side of a page.
@@ -29,7 +29,7 @@ impl Layout {
         ensures value { result ≡ box_left self.now layer }
         ensures within { result ≤ 2 * 10 ^ 18 }
     {
-        3 * self.pen.unit + times(self.column_step(), layer % self.columns)
+        3 * self.pen.unit + capped_times(self.column_step(), layer % self.columns)
     }
 
     /// From the top of the page to the box of a layer, in pm.
@@ -37,7 +37,7 @@ impl Layout {
         ensures value { result ≡ box_top self.now layer }
         ensures within { result ≤ 2 * 10 ^ 18 }
     {
-        9 * self.pen.unit + times(self.row_step(), layer / self.columns)
+        9 * self.pen.unit + capped_times(self.row_step(), layer / self.columns)
     }
 
     /// From the top of the page to the end of the last row, in pm.
@@ -45,7 +45,7 @@ impl Layout {
         ensures value { result ≡ boxes_end self.now }
         ensures within { result ≤ 2 * 10 ^ 18 }
     {
-        4 * self.pen.unit + times(self.row_step(), self.rows)
+        4 * self.pen.unit + capped_times(self.row_step(), self.rows)
     }
 
     /// The width of the page, in pm.
@@ -53,7 +53,7 @@ impl Layout {
         ensures value { result ≡ page_width self.now }
         ensures within { result ≤ 2 * 10 ^ 18 }
     {
-        let columns = 3 * self.pen.unit + times(self.column_step(), self.columns);
+        let columns = 3 * self.pen.unit + capped_times(self.column_step(), self.columns);
         columns.max(60 * self.pen.unit)
     }
 

@@ -9,22 +9,22 @@ pub(crate) fn bar_of(width: u64) -> u64
     requires near { width ≤ 10 ^ 14 }
     ensures { IsBar width result }
 {
-    let most = width / 4;
-    let power = power_within(most);
-    if 5 * power <= most {
+    let limit = width / 4;
+    let power = power_within(limit);
+    if 5 * power <= limit {
         5 * power
-    } else if 2 * power <= most {
+    } else if 2 * power <= limit {
         2 * power
     } else {
         power
     }
 }
 
-/// The greatest power of ten that is no more than `most`.
-fn power_within(most: u64) -> u64
-    requires some { 1 ≤ most }
-    requires near { most ≤ 10 ^ 14 }
-    ensures { (k : ℕ) × ((result ≡ 10 ^ k) × ((10 ^ k ≤ most) × (most < 10 * 10 ^ k))) }
+/// The greatest power of ten that is no more than `limit`.
+fn power_within(limit: u64) -> u64
+    requires some { 1 ≤ limit }
+    requires near { limit ≤ 10 ^ 14 }
+    ensures { (k : ℕ) × ((result ≡ 10 ^ k) × ((10 ^ k ≤ limit) × (limit < 10 * 10 ^ k))) }
 {
-    10_u64.pow(most.ilog10())
+    10_u64.pow(limit.ilog10())
 }

@@ -1,12 +1,12 @@
 -- A coordinate whose run is a decimal with a point.
 use Rattle.std.proofs.Common.{◌≡◌, ℕ, ℤ, true, cond, List, Ok, ap, ◌∙◌}
 use Rattle.std.specs.List.{list_any}
-use Rattle.grid_units.specs.Numbers.{dec_of, zeros_of}
+use Rattle.grid_units.specs.Numbers.{parse_decimal, parse_zero_filled}
 use Rattle.drill_lines.specs.declared.command.Settings.{Settings}
 use Rattle.drill_lines.specs.Tools.{is_point}
-use Rattle.drill_lines.specs.Drilling.{format_in, zeros_in, coordinate_of}
+use Rattle.drill_lines.specs.HoleLines.{format_in, zeros_in, coordinate_of}
 
 -- a run with a point is read as a decimal, whatever the settings
-pub pointed_coordinate : (settings : Settings) (run : List ℕ) (v : ℤ) → list_any is_point run ≡ true → dec_of run ≡ Ok v → coordinate_of settings run ≡ Ok v
+pub pointed_coordinate : (settings : Settings) (run : List ℕ) (v : ℤ) → list_any is_point run ≡ true → parse_decimal run ≡ Ok v → coordinate_of settings run ≡ Ok v
 unfolding coordinate_of
-pointed_coordinate settings run v point reads = ap (λ t. cond t (dec_of run) (zeros_of run (format_in settings).whole (format_in settings).decimals (zeros_in settings))) point ∙ reads
+pointed_coordinate settings run v point reads = ap (λ t. cond t (parse_decimal run) (parse_zero_filled run (format_in settings).whole (format_in settings).decimals (zeros_in settings))) point ∙ reads

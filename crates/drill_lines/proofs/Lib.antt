@@ -1,7 +1,7 @@
-pub mod Trimming
+pub mod TrimmedLemmas
 pub mod Rows
 pub mod Runs
-pub mod Words
-pub mod Says
-pub mod Said
+pub mod ToolsAndPoints
+pub mod CanonicalParses
+pub mod ParsedIsSayable
 pub mod Fronts

@@ -4,32 +4,32 @@ use Rattle.std.specs.List.{AllByRecursion}
 use Rattle.std.specs.Option.{option_map}
 use Rattle.std.specs.Str.{bytes_eq}
 use Rattle.grid_units.specs.declared.fault.Reason.{Reason}
-use Rattle.grid_units.specs.Rows.{RowOf, first_fit_or, behind, just, beginning}
+use Rattle.grid_units.specs.Rows.{RowOf, first_match_or, strip_prefix, literal_row, prefix_row}
 
 -- what a row says has this property, if the row fits
 abbrev pub RowHas : {A : Type 0} → (Result A Reason → Type 0) → RowOf A → Type 0
 RowHas P None = Unit {0}
 RowHas P (Some meaning) = P meaning
 
-pub first_has : {A : Type 0} (P : Result A Reason → Type 0) (reason : Reason) (rows : List (RowOf A)) → P (Err reason) → AllByRecursion (RowHas P) rows → P (first_fit_or reason rows)
-first_has P reason [] none h = none
-first_has P reason (None ∷ rows) none h = first_has P reason rows none h.1
-first_has P reason (Some meaning ∷ rows) none h = h.0
+pub first_match_has : {A : Type 0} (P : Result A Reason → Type 0) (reason : Reason) (rows : List (RowOf A)) → P (Err reason) → AllByRecursion (RowHas P) rows → P (first_match_or reason rows)
+first_match_has P reason [] none h = none
+first_match_has P reason (None ∷ rows) none h = first_match_has P reason rows none h.1
+first_match_has P reason (Some meaning ∷ rows) none h = h.0
 
 row_if : {A : Type 0} (P : Result A Reason → Type 0) (t : Bool) (meaning : Result A Reason) (row : RowOf A) → P meaning → RowHas P row → RowHas P (cond t (Some meaning) row)
 row_if P true meaning row h k = h
 row_if P false meaning row h k = k
 
-pub just_has : {A : Type 0} (P : Result A Reason → Type 0) (forms : List (List ℕ × Result A Reason)) (text : List ℕ) → AllByRecursion (λ form. P form.1) forms → RowHas P (just forms text)
+pub just_has : {A : Type 0} (P : Result A Reason → Type 0) (forms : List (List ℕ × Result A Reason)) (text : List ℕ) → AllByRecursion (λ form. P form.1) forms → RowHas P (literal_row forms text)
 just_has P [] text h = tt
-just_has P (form ∷ forms) text h = row_if P (bytes_eq text form.0) form.1 (just forms text) h.0 (just_has P forms text h.1)
+just_has P (form ∷ forms) text h = row_if P (bytes_eq text form.0) form.1 (literal_row forms text) h.0 (just_has P forms text h.1)
 
-pub beginning_has : {A : Type 0} (P : Result A Reason → Type 0) (forms : List (List ℕ × Result A Reason)) (text : List ℕ) → AllByRecursion (λ form. P form.1) forms → RowHas P (beginning forms text)
+pub beginning_has : {A : Type 0} (P : Result A Reason → Type 0) (forms : List (List ℕ × Result A Reason)) (text : List ℕ) → AllByRecursion (λ form. P form.1) forms → RowHas P (prefix_row forms text)
 beginning_has P [] text h = tt
-beginning_has P (form ∷ forms) text h = row_if P (bytes_eq (take (length form.0) text) form.0) form.1 (beginning forms text) h.0 (beginning_has P forms text h.1)
+beginning_has P (form ∷ forms) text h = row_if P (bytes_eq (take (length form.0) text) form.0) form.1 (prefix_row forms text) h.0 (beginning_has P forms text h.1)
 
-pub behind_has : {A : Type 0} (P : Result A Reason → Type 0) (prefix : List ℕ) (read : List ℕ → Result A Reason) (text : List ℕ) → ((rest : List ℕ) → P (read rest)) → RowHas P (option_map read (behind prefix text))
-behind_has P prefix read text h = by (behind prefix text)
+pub prefix_has : {A : Type 0} (P : Result A Reason → Type 0) (prefix : List ℕ) (read : List ℕ → Result A Reason) (text : List ℕ) → ((rest : List ℕ) → P (read rest)) → RowHas P (option_map read (strip_prefix prefix text))
+prefix_has P prefix read text h = by (strip_prefix prefix text)
   where
     by : (rest : Option (List ℕ)) → RowHas P (option_map read rest)
     by None = tt

@@ -5,22 +5,22 @@ use Rattle.std.specs.List.{list_all, list_any, fold}
 use Rattle.std.proofs.lemmas.List.{length-append}
 use Rattle.std.proofs.lemmas.Bool.Decides.{nat_tests}
 use Rattle.std.proofs.lemmas.Fmt.{length-decimal-le}
-use Rattle.grid_units.proofs.Places.{length-places}
-use Rattle.grid_units.specs.Numbers.{is_digit, is_number, dec_of, max_units}
-use Rattle.grid_units.specs.Spellings.{minus, decimals, behind_any_point, pointed, places}
-use Rattle.grid_units.proofs.Spelled.{spells_decimal, digits-places, trims, pointed_reads, digit_number, minus_numbers, minus_short}
+use Rattle.grid_units.proofs.TrailingZeros.{length-places}
+use Rattle.grid_units.specs.Numbers.{is_digit, is_number_char, parse_decimal, max_units}
+use Rattle.grid_units.specs.Spellings.{minus, decimals, fraction_text_or_zero, pointed, places}
+use Rattle.grid_units.proofs.SpellingsLemmas.{spells_decimal, digits-places, trims, pointed_reads, digit_number, minus_numbers, minus_short}
 use Rattle.drill_lines.specs.Lines.{is_blank, trimmed}
-use Rattle.drill_lines.specs.Tools.{is_point, is_diameter}
+use Rattle.drill_lines.specs.Tools.{is_point, is_diameter_letter}
 use Rattle.grid_units.proofs.BoolLemmas.{and_true, both_true}
-use Rattle.grid_units.proofs.ListLemmas.{all_weaker, all_append}
+use Rattle.grid_units.proofs.ListLemmas.{list_all_weaker, list_all_append}
 
 pub or_right : (a b : Bool) → b ≡ true → (a || b) ≡ true
 or_right true b h = refl
 or_right false b h = h
 
-any_behind : (p : ℕ → Bool) (xs ys : List ℕ) → list_any p ys ≡ true → list_any p (xs ++ ys) ≡ true
-any_behind p [] ys h = h
-any_behind p (x ∷ xs) ys h = or_right (p x) (list_any p (xs ++ ys)) (any_behind p xs ys h)
+any_append : (p : ℕ → Bool) (xs ys : List ℕ) → list_any p ys ≡ true → list_any p (xs ++ ys) ≡ true
+any_append p [] ys h = h
+any_append p (x ∷ xs) ys h = or_right (p x) (list_any p (xs ++ ys)) (any_append p xs ys h)
 
 -- ---- runs
 
@@ -28,18 +28,18 @@ any_behind p (x ∷ xs) ys h = or_right (p x) (list_any p (xs ++ ys)) (any_behin
 
 -- the run of a decimal, spelled with its point
 pub record IsRun (v : ℤ) (run : List ℕ) : Type 0 where
-  pub numbers : list_all is_number run ≡ true
+  pub numbers : list_all is_number_char run ≡ true
   pub point : list_any is_point run ≡ true
-  pub reads : dec_of run ≡ Ok v
+  pub reads : parse_decimal run ≡ Ok v
 
 pub decimal_digits : (n : ℕ) → n < 2 ^ 64 → list_all is_digit (decimal n) ≡ true
 decimal_digits n h = (spells_decimal n h).digits
 
-tail_numbers : (fs : List ℕ) → list_all is_digit fs ≡ true → list_all is_number (behind_any_point fs) ≡ true
+tail_numbers : (fs : List ℕ) → list_all is_digit fs ≡ true → list_all is_number_char (fraction_text_or_zero fs) ≡ true
 tail_numbers [] h = refl
-tail_numbers (f ∷ fs) h = all_weaker is_digit is_number digit_number (f ∷ fs) h
+tail_numbers (f ∷ fs) h = list_all_weaker is_digit is_number_char digit_number (f ∷ fs) h
 
-tail_point : (fs : List ℕ) → list_any is_point (behind_any_point fs) ≡ true
+tail_point : (fs : List ℕ) → list_any is_point (fraction_text_or_zero fs) ≡ true
 tail_point [] = refl
 tail_point (f ∷ fs) = refl
 
@@ -50,29 +50,29 @@ pointed_run v h =
     let whole : n / 10 ^ 8 < 2 ^ 64 = omega (arith, h) in
     let fs = decimals n in
     record {
-      numbers = all_append is_number (minus v ++ decimal (n / 10 ^ 8)) (behind_any_point fs)
-          (all_append is_number (minus v) (decimal (n / 10 ^ 8)) (minus_numbers v) (all_weaker is_digit is_number digit_number (decimal (n / 10 ^ 8)) (decimal_digits (n / 10 ^ 8) whole)))
+      numbers = list_all_append is_number_char (minus v ++ decimal (n / 10 ^ 8)) (fraction_text_or_zero fs)
+          (list_all_append is_number_char (minus v) (decimal (n / 10 ^ 8)) (minus_numbers v) (list_all_weaker is_digit is_number_char digit_number (decimal (n / 10 ^ 8)) (decimal_digits (n / 10 ^ 8) whole)))
           (tail_numbers fs (trims (places 8 (n % 10 ^ 8)) (digits-places 8 (n % 10 ^ 8))).digits);
-      point = any_behind is_point (minus v ++ decimal (n / 10 ^ 8)) (behind_any_point fs) (tail_point fs);
+      point = any_append is_point (minus v ++ decimal (n / 10 ^ 8)) (fraction_text_or_zero fs) (tail_point fs);
       reads = pointed_reads v h;
     }
 
 -- ---- bytes that are kept
 
 -- a byte that is neither a blank nor LF
-unfoldable pub is_solid : ℕ → Bool
-is_solid b = not (is_blank b) && not (eqb b 10)
+unfoldable pub is_no_blank_or_break : ℕ → Bool
+is_no_blank_or_break b = not (is_blank b) && not (eqb b 10)
 
-pub solid_number : (b : ℕ) → is_number b ≡ true → is_solid b ≡ true
-unfolding is_solid
+pub solid_number : (b : ℕ) → is_number_char b ≡ true → is_no_blank_or_break b ≡ true
+unfolding is_no_blank_or_break
 solid_number b h = grind (arith, nat_tests)
 
 -- a line without blanks is kept whole
-pub solid_kept : (xs : List ℕ) → list_all is_solid xs ≡ true → trimmed xs ≡ xs
-unfolding is_solid
+pub solid_kept : (xs : List ℕ) → list_all is_no_blank_or_break xs ≡ true → trimmed xs ≡ xs
+unfolding is_no_blank_or_break
 solid_kept [] h = refl
 solid_kept (x ∷ xs) h =
-    let b = both_true (is_solid x) (list_all is_solid xs) h in
+    let b = both_true (is_no_blank_or_break x) (list_all is_no_blank_or_break xs) h in
     let c = both_true (not (is_blank x)) (not (eqb x 10)) b.0 in
     no_blank (is_blank x) c.0 ∙ ap (λ (l : List ℕ). x ∷ l) (solid_kept xs b.1)
   where
@@ -82,16 +82,16 @@ solid_kept (x ∷ xs) h =
 
 -- ---- letters among numbers
 
-pub no_letter : (b : ℕ) → is_number b ≡ true → is_diameter b ≡ false
+pub no_letter : (b : ℕ) → is_number_char b ≡ true → is_diameter_letter b ≡ false
 no_letter b h = grind (arith, nat_tests)
 
 -- among number characters there is no `C`
-pub no_diameters : (xs : List ℕ) (n : ℕ) → list_all is_number xs ≡ true → fold (λ a x. a + cond (is_diameter x) 1 0) n xs ≡ n
+pub no_diameters : (xs : List ℕ) (n : ℕ) → list_all is_number_char xs ≡ true → fold (λ a x. a + cond (is_diameter_letter x) 1 0) n xs ≡ n
 no_diameters [] n h = refl
 no_diameters (x ∷ xs) n h =
-    let b = both_true (is_number x) (list_all is_number xs) h in
-    let same : n + cond (is_diameter x) 1 0 ≡ n = ap (λ t. n + cond t 1 0) (no_letter x b.0) ∙ omega arith in
-    ap (λ k. fold (λ a y. a + cond (is_diameter y) 1 0) k xs) same ∙ no_diameters xs n b.1
+    let b = both_true (is_number_char x) (list_all is_number_char xs) h in
+    let same : n + cond (is_diameter_letter x) 1 0 ≡ n = ap (λ t. n + cond t 1 0) (no_letter x b.0) ∙ omega arith in
+    ap (λ k. fold (λ a y. a + cond (is_diameter_letter y) 1 0) k xs) same ∙ no_diameters xs n b.1
 
 pub zeros_pass : (n : ℕ) (p : ℕ → Bool) → p 48 ≡ true → list_all p (replicate n 48) ≡ true
 zeros_pass zero p h = refl
@@ -99,7 +99,7 @@ zeros_pass (suc n) p h = and_true (p 48) (list_all p (replicate n 48)) h (zeros_
 
 -- ---- lengths
 
-tail_short : (fs : List ℕ) → length fs ≤ 8 → length (behind_any_point fs) ≤ 9
+tail_short : (fs : List ℕ) → length fs ≤ 8 → length (fraction_text_or_zero fs) ≤ 9
 tail_short [] h = lit≤ tt
 tail_short (f ∷ fs) h = omega (arith, h)
 
@@ -110,4 +110,4 @@ pointed_short v h =
     let fs = decimals n in
     let whole : length (decimal (n / 10 ^ 8)) ≤ 6 = length-decimal-le 6 (n / 10 ^ 8) (lit< tt) (omega (arith, h)) (omega (arith, h)) in
     let short : length fs ≤ 8 = omega (arith, (trims (places 8 (n % 10 ^ 8)) (digits-places 8 (n % 10 ^ 8))).short, length-places 8 (n % 10 ^ 8)) in
-    omega (arith, length-append (minus v ++ decimal (n / 10 ^ 8)) (behind_any_point fs), length-append (minus v) (decimal (n / 10 ^ 8)), minus_short v, whole, tail_short fs short)
+    omega (arith, length-append (minus v ++ decimal (n / 10 ^ 8)) (fraction_text_or_zero fs), length-append (minus v) (decimal (n / 10 ^ 8)), minus_short v, whole, tail_short fs short)

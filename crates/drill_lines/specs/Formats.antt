@@ -9,17 +9,17 @@ pub record Digits : Type 0 where
   pub decimals : ℕ
 
 -- each number of digits is 1 to 6
-abbrev pub AreSizes : ℕ → ℕ → Type 0
-AreSizes whole decimals = (1 ≤ whole) × (whole ≤ 6) × (1 ≤ decimals) × (decimals ≤ 6)
+abbrev pub AreDigitCounts : ℕ → ℕ → Type 0
+AreDigitCounts whole decimals = (1 ≤ whole) × (whole ≤ 6) × (1 ≤ decimals) × (decimals ≤ 6)
 
 -- the units kept for a coordinate that is left out: 10^14, one more than a decimal can have
-abbrev pub left_out : ℤ
-left_out = pos 100000000000000
+abbrev pub omitted : ℤ
+omitted = pos 100000000000000
 
--- the coordinate that is kept as these units of 10^-8, `None` for `left_out`
-abbrev pub named_units : ℤ → Option ℤ
-named_units z = if nat_le (unsigned_abs z) max_units then Some z else None
+-- the coordinate that is kept as these units of 10^-8, `None` for `omitted`
+abbrev pub stored_coordinate : ℤ → Option ℤ
+stored_coordinate z = if nat_le (unsigned_abs z) max_units then Some z else None
 
--- units that are kept: those of a decimal, or `left_out`
+-- units that are kept: those of a decimal, or `omitted`
 abbrev pub IsStored : ℤ → Type 0
-IsStored z = (unsigned_abs z ≤ max_units) ⊎ (z ≡ left_out)
+IsStored z = (unsigned_abs z ≤ max_units) ⊎ (z ≡ omitted)

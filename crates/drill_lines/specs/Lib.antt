@@ -2,6 +2,6 @@ pub mod Formats
 pub mod Lines
 pub mod Header
 pub mod Tools
-pub mod Drilling
+pub mod HoleLines
 pub mod Meaning
 pub mod Writing

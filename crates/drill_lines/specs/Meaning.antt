@@ -4,7 +4,7 @@ use Rattle.std.specs.Option.{option_map}
 use Rattle.grid_units.specs.declared.fault.Reason.{Reason}
 use Rattle.grid_units.specs.declared.fault.Reason.TheVariants.{AfterEnd, OldFormat, Incremental, Routed, Repeat, BadLine}
 use Rattle.grid_units.specs.Results.{◌>>=◌}
-use Rattle.grid_units.specs.Rows.{RowOf, first_fit_or, behind, just, beginning}
+use Rattle.grid_units.specs.Rows.{RowOf, first_match_or, strip_prefix, literal_row, prefix_row}
 use Rattle.grid_units.specs.declared.lengths.Unit.TheVariants.{Inch, Millimetre}
 use Rattle.drill_lines.specs.declared.command.Part.{Part}
 use Rattle.drill_lines.specs.declared.command.Part.TheVariants as part
@@ -13,7 +13,7 @@ use Rattle.drill_lines.specs.declared.command.DrillCommand.{DrillCommand}
 use Rattle.drill_lines.specs.declared.command.DrillCommand.TheVariants.{Comment, Start, HeaderEnd, UnitCode, Finish}
 use Rattle.drill_lines.specs.Header.{unit_line}
 use Rattle.drill_lines.specs.Tools.{tool_line, pick_line}
-use Rattle.drill_lines.specs.Drilling.{drill_line}
+use Rattle.drill_lines.specs.HoleLines.{hole_line}
 use Rattle.grid_units.specs.Ascii as ascii
 
 -- what a line spells: one command, nothing, or the reason for its refusal
@@ -25,8 +25,8 @@ abbrev pub Row : Type 0
 Row = RowOf (Option DrillCommand)
 
 -- a line that spells one command, or is refused
-abbrev pub one : Result DrillCommand Reason → Meaning
-one read = read >>= λ command. Ok (Some command)
+abbrev pub one_command : Result DrillCommand Reason → Meaning
+one_command read = read >>= λ command. Ok (Some command)
 
 -- ---- the part before
 
@@ -47,7 +47,7 @@ common_lines =
 
 -- the rows that the header and the body share: these lines, and those that begin with `G93`, which are refused
 abbrev pub common_rows : List ℕ → List Row
-common_rows line = just common_lines line ∷ beginning ((codes "G93", Err OldFormat) ∷ []) line ∷ []
+common_rows line = literal_row common_lines line ∷ prefix_row ((codes "G93", Err OldFormat) ∷ []) line ∷ []
 
 -- ---- the header
 
@@ -58,21 +58,21 @@ header_ends = (codes "%", Ok (Some HeaderEnd)) ∷ (codes "M95", Ok (Some Header
 -- the rows of the header, for lines as `%`, `METRIC,TZ`, `T1C0.4` and `M71`
 abbrev pub header_rows : List ℕ → List Row
 header_rows line =
-    just header_ends line
-    ∷ option_map (λ rest. one (unit_line Inch rest)) (behind (codes "INCH") line)
-    ∷ option_map (λ rest. one (unit_line Millimetre rest)) (behind (codes "METRIC") line)
-    ∷ option_map (λ rest. one (tool_line rest)) (behind (codes "T") line)
+    literal_row header_ends line
+    ∷ option_map (λ rest. one_command (unit_line Inch rest)) (strip_prefix (codes "INCH") line)
+    ∷ option_map (λ rest. one_command (unit_line Millimetre rest)) (strip_prefix (codes "METRIC") line)
+    ∷ option_map (λ rest. one_command (tool_line rest)) (strip_prefix (codes "T") line)
     ∷ common_rows line
 
 -- ---- the body
 
 -- a hit or a slot, which begins with `X` or `Y`: `X1.0Y-0.5`, `Y1.0`, `X2.0G85Y1.0`
-abbrev pub drill_row : Settings → List ℕ → Row
-drill_row settings line = beginning ((codes "X", one (drill_line settings line)) ∷ (codes "Y", one (drill_line settings line)) ∷ []) line
+abbrev pub hole_row : Settings → List ℕ → Row
+hole_row settings line = prefix_row ((codes "X", one_command (hole_line settings line)) ∷ (codes "Y", one_command (hole_line settings line)) ∷ []) line
 
 -- how lines of routed paths begin, as `G00`, and those of repeats and patterns, as `R` and `M25`; all are refused
-unfoldable pub body_beginnings : List (List ℕ × Meaning)
-body_beginnings =
+unfoldable pub body_prefixes : List (List ℕ × Meaning)
+body_prefixes =
     (codes "G00", Err Routed) ∷ (codes "G01", Err Routed) ∷ (codes "G02", Err Routed) ∷ (codes "G03", Err Routed) ∷ (codes "M15", Err Routed) ∷ (codes "M16", Err Routed)
     ∷ (codes "R", Err Repeat) ∷ (codes "M01", Err Repeat) ∷ (codes "M02", Err Repeat) ∷ (codes "M08", Err Repeat) ∷ (codes "M25", Err Repeat)
     ∷ []
@@ -80,19 +80,19 @@ body_beginnings =
 -- the rows of the body, for lines as `X1.0Y-0.5`, `T1`, `M30` and `M72`
 abbrev pub body_rows : Settings → List ℕ → List Row
 body_rows settings line =
-    drill_row settings line
-    ∷ option_map (λ rest. one (pick_line rest)) (behind (codes "T") line)
-    ∷ just ((codes "M30", Ok (Some Finish)) ∷ []) line
-    ∷ beginning body_beginnings line
+    hole_row settings line
+    ∷ option_map (λ rest. one_command (pick_line rest)) (strip_prefix (codes "T") line)
+    ∷ literal_row ((codes "M30", Ok (Some Finish)) ∷ []) line
+    ∷ prefix_row body_prefixes line
     ∷ common_rows line
 
 -- ---- every part
 
 -- a line in this part of the file; where no row fits it is OldFormat before `M48`, then BadLine. After `M30` it is AfterEnd
 unfoldable pub line_in : Part → Settings → List ℕ → Meaning
-line_in part.Before settings line = first_fit_or OldFormat (just lines_before line ∷ [])
-line_in part.Header settings line = first_fit_or BadLine (header_rows line)
-line_in part.Body settings line = first_fit_or BadLine (body_rows settings line)
+line_in part.Before settings line = first_match_or OldFormat (literal_row lines_before line ∷ [])
+line_in part.Header settings line = first_match_or BadLine (header_rows line)
+line_in part.Body settings line = first_match_or BadLine (body_rows settings line)
 line_in part.After settings line = Err AfterEnd
 
 -- a line that begins with `;` is a comment in every part but the one after `M30`

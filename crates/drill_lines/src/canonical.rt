@@ -5,17 +5,17 @@ ghost use Rattle.std.specs.List.{list_any};
 ghost use Rattle.grid_units.specs.Spellings.{pointed};
 ghost use Rattle.drill_lines.specs.declared.command.Part.TheVariants as part;
 ghost use Rattle.drill_lines.specs.declared.command.DrillCommand.TheVariants as command;
-ghost use Rattle.drill_lines.specs.Formats.{AreSizes};
-ghost use Rattle.drill_lines.specs.Writing.{unit_word, zeros_word, pattern_word, unit_code, coordinate_word, point_word, canonical, is_comment_text, can_name_zeros, is_tool_number, names_any, is_sayable, IsDec, AreDecs, IsPoint, IsTyped};
+ghost use Rattle.drill_lines.specs.Formats.{AreDigitCounts};
+ghost use Rattle.drill_lines.specs.Writing.{unit_word, zeros_text, pattern_text, unit_code, coordinate_text, point_text, canonical, is_comment_text, can_give_zeros, is_tool_number, has_coordinate, is_sayable, IsDec, IsOptionalDec, IsPoint, IsInRange};
 
-use crate::command::{Coordinates, DrillCommand, Format, Part};
+use crate::command::{Coordinates, DrillCommand, DrillFormat, Part};
 use crate::line::trimmed_len;
 use grid_units::{Dec, Unit, Zeros};
 use itoa::Buffer;
 use std::alloc::AllocError;
 
 /// Appends a decimal in its pointed spelling, as `1.0`.
-fn push_dec(text: &mut Vec<u8>, value: Dec) -> Result<(), AllocError>
+fn put_dec(text: &mut Vec<u8>, value: Dec) -> Result<(), AllocError>
     ensures items { OnOk result (text.new.items ≡ text.old.items ++ pointed value) }
     ensures typed { IsDec value }
 {
@@ -23,7 +23,7 @@ fn push_dec(text: &mut Vec<u8>, value: Dec) -> Result<(), AllocError>
 }
 
 /// Appends a number in decimal digits.
-fn push_number(text: &mut Vec<u8>, number: u16) -> Result<(), AllocError>
+fn put_number(text: &mut Vec<u8>, number: u16) -> Result<(), AllocError>
     ensures { OnOk result (text.new.items ≡ text.old.items ++ decimal number) }
 {
     let mut buffer = Buffer::new();
@@ -31,7 +31,7 @@ fn push_number(text: &mut Vec<u8>, number: u16) -> Result<(), AllocError>
 }
 
 /// Appends so many zeros.
-fn push_zeros(text: &mut Vec<u8>, count: u8) -> Result<(), AllocError>
+fn put_zeros(text: &mut Vec<u8>, count: u8) -> Result<(), AllocError>
     ensures { OnOk result (text.new.items ≡ text.old.items ++ replicate count 48) }
 {
     for _i in 0..count {
@@ -49,8 +49,8 @@ fn unit_word(unit: Unit) -> &'static [u8]
     }
 }
 
-fn zeros_word(zeros: Option<Zeros>) -> &'static [u8]
-    ensures { result.now ≡ zeros_word zeros }
+fn zeros_text(zeros: Option<Zeros>) -> &'static [u8]
+    ensures { result.now ≡ zeros_text zeros }
 {
     match zeros {
         Some(Zeros::Leading) => b",LZ",
@@ -69,93 +69,89 @@ fn unit_code(unit: Unit) -> &'static [u8]
 }
 
 /// Appends the pattern of a format, as `,00.0000` for 2:4.
-fn push_format(text: &mut Vec<u8>, format: Format) -> Result<(), AllocError>
+fn put_format(text: &mut Vec<u8>, format: DrillFormat) -> Result<(), AllocError>
     ensures items { OnOk result (text.new.items ≡ text.old.items ++ (44 ∷ (replicate format.whole 48 ++ 46 ∷ replicate format.decimals 48))) }
-    ensures typed { AreSizes format.whole format.decimals }
+    ensures typed { AreDigitCounts format.whole format.decimals }
 {
     let (whole, decimals) = (format.whole(), format.decimals());
     text.push(b',')?;
-    push_zeros(text, whole)?;
+    put_zeros(text, whole)?;
     text.push(b'.')?;
-    push_zeros(text, decimals)
+    put_zeros(text, decimals)
 }
 
 /// Appends a unit line, as `METRIC,TZ,000.000`.
-fn push_unit_line(
+fn put_unit_line(
     text: &mut Vec<u8>,
     unit: Unit,
     zeros: Option<Zeros>,
-    format: Option<Format>,
+    format: Option<DrillFormat>,
 ) -> Result<(), AllocError>
-    ensures items { OnOk result (text.new.items ≡ text.old.items ++ (unit_word unit ++ (zeros_word zeros ++ pattern_word format))) }
-    ensures typed { OnOk result (IsTyped (command.UnitLine unit zeros format)) }
+    ensures items { OnOk result (text.new.items ≡ text.old.items ++ (unit_word unit ++ (zeros_text zeros ++ pattern_text format))) }
+    ensures typed { OnOk result (IsInRange (command.UnitLine unit zeros format)) }
 {
     text.extend_from_slice(unit_word(unit))?;
-    text.extend_from_slice(zeros_word(zeros))?;
+    text.extend_from_slice(zeros_text(zeros))?;
     match format {
-        Some(format) => push_format(text, format),
+        Some(format) => put_format(text, format),
         None => Ok(()),
     }
 }
 
 /// Appends a letter and its coordinate, or nothing where it is left out.
-fn push_coordinate(text: &mut Vec<u8>, letter: u8, value: Option<Dec>) -> Result<(), AllocError>
-    ensures items { OnOk result (text.new.items ≡ text.old.items ++ coordinate_word letter value) }
-    ensures typed { OnOk result (AreDecs value) }
+fn put_coordinate(text: &mut Vec<u8>, letter: u8, value: Option<Dec>) -> Result<(), AllocError>
+    ensures items { OnOk result (text.new.items ≡ text.old.items ++ coordinate_text letter value) }
+    ensures typed { OnOk result (IsOptionalDec value) }
 {
     match value {
         Some(value) => {
             text.push(letter)?;
-            push_dec(text, value)
+            put_dec(text, value)
         }
         None => Ok(()),
     }
 }
 
 /// Appends the coordinates of a point, as `X1.0Y-0.5`.
-fn push_point(text: &mut Vec<u8>, point: &Coordinates) -> Result<(), AllocError>
-    ensures items { OnOk result (text.new.items ≡ text.old.items ++ point_word point.now) }
+fn put_point(text: &mut Vec<u8>, point: &Coordinates) -> Result<(), AllocError>
+    ensures items { OnOk result (text.new.items ≡ text.old.items ++ point_text point.now) }
     ensures typed { OnOk result (IsPoint point.now) }
 {
-    push_coordinate(text, b'X', point.x.get())?;
-    push_coordinate(text, b'Y', point.y.get())
+    put_coordinate(text, b'X', point.x.get())?;
+    put_coordinate(text, b'Y', point.y.get())
 }
 
 /// Appends a tool's definition, as `T1C0.4`.
-fn push_tool(text: &mut Vec<u8>, number: u16, diameter: Dec) -> Result<(), AllocError>
+fn put_tool(text: &mut Vec<u8>, number: u16, diameter: Dec) -> Result<(), AllocError>
     ensures items { OnOk result (text.new.items ≡ text.old.items ++ (84 ∷ (decimal number ++ 67 ∷ pointed diameter))) }
     ensures typed { OnOk result (IsDec diameter) }
 {
     text.push(b'T')?;
-    push_number(text, number)?;
+    put_number(text, number)?;
     text.push(b'C')?;
-    push_dec(text, diameter)
+    put_dec(text, diameter)
 }
 
 /// Appends a pick, as `T1`.
-fn push_pick(text: &mut Vec<u8>, number: u16) -> Result<(), AllocError>
+fn put_pick(text: &mut Vec<u8>, number: u16) -> Result<(), AllocError>
     ensures { OnOk result (text.new.items ≡ text.old.items ++ (84 ∷ decimal number)) }
 {
     text.push(b'T')?;
-    push_number(text, number)
+    put_number(text, number)
 }
 
 /// Appends a slot, as `X2.0G85Y1.0`.
-fn push_slot(
-    text: &mut Vec<u8>,
-    first: &Coordinates,
-    second: &Coordinates,
-) -> Result<(), AllocError>
-    ensures items { OnOk result (text.new.items ≡ text.old.items ++ (point_word first.now ++ (71 ∷ 56 ∷ 53 ∷ point_word second.now))) }
+fn put_slot(text: &mut Vec<u8>, first: &Coordinates, second: &Coordinates) -> Result<(), AllocError>
+    ensures items { OnOk result (text.new.items ≡ text.old.items ++ (point_text first.now ++ (71 ∷ 56 ∷ 53 ∷ point_text second.now))) }
     ensures typed { OnOk result (IsPoint first.now × IsPoint second.now) }
 {
-    push_point(text, first)?;
+    put_point(text, first)?;
     text.extend_from_slice(b"G85")?;
-    push_point(text, second)
+    put_point(text, second)
 }
 
 /// Appends a comment, `;` and its text.
-fn push_comment(text: &mut Vec<u8>, comment: &[u8]) -> Result<(), AllocError>
+fn put_comment(text: &mut Vec<u8>, comment: &[u8]) -> Result<(), AllocError>
     ensures { OnOk result (text.new.items ≡ text.old.items ++ (59 ∷ comment.now)) }
 {
     text.push(b';')?;
@@ -167,22 +163,22 @@ fn push_comment(text: &mut Vec<u8>, comment: &[u8]) -> Result<(), AllocError>
 /// # Errors
 ///
 /// An `AllocError` where there is no memory for it.
-pub fn push_canonical(text: &mut Vec<u8>, command: &DrillCommand) -> Result<(), AllocError>
+pub fn write_line(text: &mut Vec<u8>, command: &DrillCommand) -> Result<(), AllocError>
     ensures items { OnOk result (text.new.items ≡ text.old.items ++ canonical command.now) }
-    ensures typed { OnOk result (IsTyped command.now) }
+    ensures typed { OnOk result (IsInRange command.now) }
 {
     match command {
-        DrillCommand::Comment(comment) => push_comment(text, comment.bytes()),
+        DrillCommand::Comment(comment) => put_comment(text, comment.bytes()),
         DrillCommand::Start => text.extend_from_slice(b"M48"),
         DrillCommand::UnitLine(unit, zeros, format) => {
-            push_unit_line(text, *unit, *zeros, *format)
+            put_unit_line(text, *unit, *zeros, *format)
         }
-        DrillCommand::Tool(number, diameter) => push_tool(text, *number, *diameter),
+        DrillCommand::Tool(number, diameter) => put_tool(text, *number, *diameter),
         DrillCommand::HeaderEnd => text.extend_from_slice(b"%"),
         DrillCommand::UnitCode(unit) => text.extend_from_slice(unit_code(*unit)),
-        DrillCommand::Pick(number) => push_pick(text, *number),
-        DrillCommand::Hit(point) => push_point(text, point),
-        DrillCommand::Slot(first, second) => push_slot(text, first, second),
+        DrillCommand::Pick(number) => put_pick(text, *number),
+        DrillCommand::Hit(point) => put_point(text, point),
+        DrillCommand::Slot(first, second) => put_slot(text, first, second),
         DrillCommand::Finish => text.extend_from_slice(b"M30"),
     }
 }
@@ -201,8 +197,8 @@ fn is_comment_text(text: &[u8]) -> bool
     !has_break(text) && trimmed_len(text) == text.len() && text.len() < 1_048_576
 }
 
-fn can_name_zeros(zeros: Option<Zeros>) -> bool
-    ensures { result ≡ can_name_zeros zeros }
+fn can_give_zeros(zeros: Option<Zeros>) -> bool
+    ensures { result ≡ can_give_zeros zeros }
 {
     !matches!(zeros, Some(Zeros::Full))
 }
@@ -213,13 +209,13 @@ fn is_tool_number(number: u16) -> bool
     1 <= number && number <= 999
 }
 
-fn names_any(point: &Coordinates) -> bool
-    ensures { result ≡ names_any point.now }
+fn has_coordinate(point: &Coordinates) -> bool
+    ensures { result ≡ has_coordinate point.now }
 {
     point.x.get().is_some() || point.y.get().is_some()
 }
 
-fn is_said_before(command: &DrillCommand) -> bool
+fn is_sayable_before(command: &DrillCommand) -> bool
     ensures { result ≡ is_sayable part.Before command.now }
 {
     match command {
@@ -229,27 +225,27 @@ fn is_said_before(command: &DrillCommand) -> bool
     }
 }
 
-fn is_said_in_header(command: &DrillCommand) -> bool
+fn is_sayable_in_header(command: &DrillCommand) -> bool
     ensures { result ≡ is_sayable part.Header command.now }
 {
     match command {
         DrillCommand::Comment(text) => is_comment_text(text.bytes()),
-        DrillCommand::UnitLine(_, zeros, _) => can_name_zeros(*zeros),
+        DrillCommand::UnitLine(_, zeros, _) => can_give_zeros(*zeros),
         DrillCommand::Tool(number, _) => is_tool_number(*number),
         DrillCommand::HeaderEnd | DrillCommand::UnitCode(_) => true,
         _ => false,
     }
 }
 
-fn is_said_in_body(command: &DrillCommand) -> bool
+fn is_sayable_in_body(command: &DrillCommand) -> bool
     ensures { result ≡ is_sayable part.Body command.now }
 {
     match command {
         DrillCommand::Comment(text) => is_comment_text(text.bytes()),
         DrillCommand::UnitCode(_) | DrillCommand::Finish => true,
         DrillCommand::Pick(number) => *number <= 999,
-        DrillCommand::Hit(point) => names_any(point),
-        DrillCommand::Slot(first, second) => names_any(first) && names_any(second),
+        DrillCommand::Hit(point) => has_coordinate(point),
+        DrillCommand::Slot(first, second) => has_coordinate(first) && has_coordinate(second),
         _ => false,
     }
 }
@@ -259,9 +255,9 @@ pub fn is_sayable(part: Part, command: &DrillCommand) -> bool
     ensures { result ≡ is_sayable part command.now }
 {
     match part {
-        Part::Before => is_said_before(command),
-        Part::Header => is_said_in_header(command),
-        Part::Body => is_said_in_body(command),
+        Part::Before => is_sayable_before(command),
+        Part::Header => is_sayable_in_header(command),
+        Part::Body => is_sayable_in_body(command),
         Part::After => false,
     }
 }

@@ -8,33 +8,33 @@ use std::marker::Model;
 
 /// How many digits a coordinate without a point has before its point and after it: 1 to 6 each.
 #[derive(Clone, Copy, Debug, PartialEq, Eq)]
-pub struct Format {
+pub struct DrillFormat {
     whole: u8,
     decimals: u8,
 }
 
-impl Model for Format {
-    ghost use Rattle.drill_lines.specs.Formats.{Digits, AreSizes};
+impl Model for DrillFormat {
+    ghost use Rattle.drill_lines.specs.Formats.{Digits, AreDigitCounts};
 
     ghost Value = { Digits };
 
     ghost view = { λ f. record { whole = f.whole; decimals = f.decimals } };
 
-    ghost invariant = { λ f. AreSizes f.whole f.decimals };
+    ghost invariant = { λ f. AreDigitCounts f.whole f.decimals };
 
     ghost inverse = { λ f. record { whole = f.whole; decimals = f.decimals } };
 }
 
-impl Format {
-    ghost use Rattle.drill_lines.specs.Formats.{AreSizes};
+impl DrillFormat {
+    ghost use Rattle.drill_lines.specs.Formats.{AreDigitCounts};
 
     /// The format with these numbers of digits, or `None` where one of them is not 1 to 6.
-    pub fn new(whole: u8, decimals: u8) -> Option<Format>
-        ensures valid { IsSome result ↔ AreSizes whole decimals }
+    pub fn new(whole: u8, decimals: u8) -> Option<DrillFormat>
+        ensures valid { IsSome result ↔ AreDigitCounts whole decimals }
         ensures value { IfSome result (λ f. f ≡ record { whole = whole; decimals = decimals }) }
     {
         if 1 <= whole && whole <= 6 && 1 <= decimals && decimals <= 6 {
-            Some(Format { whole, decimals })
+            Some(DrillFormat { whole, decimals })
         } else {
             None
         }
@@ -43,7 +43,7 @@ impl Format {
     /// How many digits stand before the point, 1 to 6.
     pub fn whole(&self) -> u8
         ensures value { result ≡ self.now.whole }
-        ensures in_range { AreSizes self.now.whole self.now.decimals }
+        ensures in_range { AreDigitCounts self.now.whole self.now.decimals }
     {
         self.whole
     }
@@ -51,47 +51,47 @@ impl Format {
     /// How many digits stand after the point, 1 to 6.
     pub fn decimals(&self) -> u8
         ensures value { result ≡ self.now.decimals }
-        ensures in_range { AreSizes self.now.whole self.now.decimals }
+        ensures in_range { AreDigitCounts self.now.whole self.now.decimals }
     {
         self.decimals
     }
 }
 
 /// The units kept for a coordinate that is left out: one more than a decimal can have.
-const LEFT_OUT: i64 = 100_000_000_000_000;
+const OMITTED: i64 = 100_000_000_000_000;
 
 /// A coordinate of a line, or that it is left out. It takes eight bytes, since a file has many; contracts see
 /// the optional decimal.
 #[derive(Clone, Copy, Debug, PartialEq, Eq)]
-pub struct Coordinate {
+pub struct OptionalDec {
     units: i64,
 }
 
-impl Model for Coordinate {
+impl Model for OptionalDec {
     ghost use Rattle.std.specs.Prelude.{ℤ, Option, unwrap_or};
-    ghost use Rattle.drill_lines.specs.Formats.{named_units, left_out, IsStored};
+    ghost use Rattle.drill_lines.specs.Formats.{stored_coordinate, omitted, IsStored};
 
     ghost Value = { Option ℤ };
 
-    ghost view = { λ c. named_units c.units };
+    ghost view = { λ c. stored_coordinate c.units };
 
     ghost invariant = { λ c. IsStored c.units };
 
-    ghost inverse = { λ v. record { units = unwrap_or v left_out } };
+    ghost inverse = { λ v. record { units = unwrap_or v omitted } };
 }
 
-impl Coordinate {
+impl OptionalDec {
     ghost use Rattle.std.specs.Option.{option_or};
 
     /// This coordinate, or one that is left out.
-    pub fn new(value: Option<Dec>) -> Coordinate
+    pub fn new(value: Option<Dec>) -> OptionalDec
         ensures { result ≡ value }
     {
         match value {
-            Some(value) => Coordinate {
+            Some(value) => OptionalDec {
                 units: value.units(),
             },
-            None => Coordinate { units: LEFT_OUT },
+            None => OptionalDec { units: OMITTED },
         }
     }
 
@@ -103,18 +103,18 @@ impl Coordinate {
     }
 
     /// This coordinate, or the other one where this is left out.
-    pub fn or(self, other: Coordinate) -> Coordinate
+    pub fn or(self, other: OptionalDec) -> OptionalDec
         ensures { result ≡ option_or self other }
     {
-        if self.units == LEFT_OUT { other } else { self }
+        if self.units == OMITTED { other } else { self }
     }
 }
 
 /// The coordinates that a line names for a point, in the unit of its file. Each may be left out.
 #[derive(Clone, Copy, Debug, PartialEq, Eq)]
 pub struct Coordinates {
-    pub x: Coordinate,
-    pub y: Coordinate,
+    pub x: OptionalDec,
+    pub y: OptionalDec,
 }
 
 impl Coordinates {
@@ -123,8 +123,8 @@ impl Coordinates {
         ensures { result ≡ record { x = x; y = y } }
     {
         Coordinates {
-            x: Coordinate::new(x),
-            y: Coordinate::new(y),
+            x: OptionalDec::new(x),
+            y: OptionalDec::new(y),
         }
     }
 }
@@ -137,7 +137,7 @@ pub enum DrillCommand {
     /// `M48`: the header begins.
     Start,
     /// `INCH` or `METRIC`, with the zeros and the format that the line gives.
-    UnitLine(Unit, Option<Zeros>, Option<Format>),
+    UnitLine(Unit, Option<Zeros>, Option<DrillFormat>),
     /// A tool: its number, from 1 to 999, and its diameter in the unit of the file.
     Tool(u16, Dec),
     /// `%` or `M95`: the header ends.
@@ -189,5 +189,5 @@ pub struct Settings {
     pub part: Part,
     pub unit: Option<Unit>,
     pub zeros: Option<Zeros>,
-    pub format: Option<Format>,
+    pub format: Option<DrillFormat>,
 }

@@ -2,11 +2,11 @@
 
 ghost use Rattle.std.specs.Prelude.{◌≡◌, ◌≤◌, ◌==◌, length, drop};
 ghost use Rattle.std.specs.List.{list_all, prefix_len};
-ghost use Rattle.grid_units.specs.Numbers.{is_number};
-ghost use Rattle.drill_lines.specs.Header.{is_zero, is_size, sizes, pattern, pattern_from, unit_format, unit_line, is_size_digit, sizes_named, file_format};
+ghost use Rattle.grid_units.specs.Numbers.{is_number_char};
+ghost use Rattle.drill_lines.specs.Header.{is_zero, is_digit_count, digit_counts, pattern, pattern_from, unit_format, unit_line, is_format_digit, parse_format, file_format};
 
-use crate::command::{DrillCommand, Format};
-use grid_units::numbers::is_number;
+use crate::command::{DrillCommand, DrillFormat};
+use grid_units::numbers::is_number_char;
 use grid_units::{Reason, Unit, Zeros};
 
 fn is_zero(byte: u8) -> bool
@@ -34,29 +34,29 @@ fn are_zeros(run: &[u8]) -> bool
     run.iter().all(|byte| is_zero(*byte))
 }
 
-fn is_size(count: usize) -> bool
-    ensures { result ≡ is_size count }
+fn is_digit_count(count: usize) -> bool
+    ensures { result ≡ is_digit_count count }
 {
     (1..=6).contains(&count)
 }
 
 /// The format with these numbers of digits, or `BadNumber` where one of them is not 1 to 6.
-fn sizes(whole: usize, decimals: usize) -> Result<Format, Reason>
-    ensures { result ≡ sizes whole decimals }
+fn digit_counts(whole: usize, decimals: usize) -> Result<DrillFormat, Reason>
+    ensures { result ≡ digit_counts whole decimals }
 {
-    if !is_size(whole) || !is_size(decimals) {
+    if !is_digit_count(whole) || !is_digit_count(decimals) {
         return Err(Reason::BadNumber);
     }
-    Format::new(whole as u8, decimals as u8).ok_or(Reason::BadNumber)
+    DrillFormat::new(whole as u8, decimals as u8).ok_or(Reason::BadNumber)
 }
 
 /// The format of a pattern with so many zeros before its point, by what follows these.
-fn pattern_from(whole: usize, rest: &[u8]) -> Result<Format, Reason>
+fn pattern_from(whole: usize, rest: &[u8]) -> Result<DrillFormat, Reason>
     ensures { result ≡ pattern_from whole rest.now }
 {
     match rest.split_first() {
         Some((first, decimals)) if *first == b'.' && are_zeros(decimals) => {
-            sizes(whole, decimals.len())
+            digit_counts(whole, decimals.len())
         }
         _ => Err(Reason::BadNumber),
     }
@@ -64,7 +64,7 @@ fn pattern_from(whole: usize, rest: &[u8]) -> Result<Format, Reason>
 
 /// The format that a pattern shows: `00.0000` is 2:4.
 #[tactic(auto, unfolding(crate::specs::Header::pattern))]
-fn pattern(run: &[u8]) -> Result<Format, Reason>
+fn pattern(run: &[u8]) -> Result<DrillFormat, Reason>
     ensures { result ≡ pattern run.now }
 {
     let (zeros, rest) = run.split_at(zeros_len(run));
@@ -72,9 +72,9 @@ fn pattern(run: &[u8]) -> Result<Format, Reason>
 }
 
 fn are_number_bytes(run: &[u8]) -> bool
-    ensures { result ≡ list_all is_number run.now }
+    ensures { result ≡ list_all is_number_char run.now }
 {
-    run.iter().all(|byte| is_number(*byte))
+    run.iter().all(|byte| is_number_char(*byte))
 }
 
 /// A unit line, by what follows its unit and its zeros.
@@ -106,29 +106,32 @@ pub(crate) fn unit_line(unit: Unit, line: &[u8]) -> Result<DrillCommand, Reason>
     unit_format(unit, None, line)
 }
 
-fn is_size_digit(byte: u8) -> bool
-    ensures { result ≡ is_size_digit byte }
+fn is_format_digit(byte: u8) -> bool
+    ensures { result ≡ is_format_digit byte }
 {
     (b'1'..=b'6').contains(&byte)
 }
 
 /// The format of `i:d`, two digits from 1 to 6.
-fn sizes_named(text: &[u8]) -> Option<Format>
-    ensures { result ≡ sizes_named text.now }
+fn parse_format(text: &[u8]) -> Option<DrillFormat>
+    ensures { result ≡ parse_format text.now }
 {
     match text {
-        [i, b':', d] if is_size_digit(*i) && is_size_digit(*d) => Format::new(*i - b'0', *d - b'0'),
+        [i, b':', d] if is_format_digit(*i) && is_format_digit(*d) => DrillFormat::new(
+            *i - b'0',
+            *d - b'0',
+        ),
         _ => None,
     }
 }
 
 /// The format that the text of a comment gives, if it is exactly `FILE_FORMAT=i:d` with digits i and d from 1 to 6.
 #[tactic(auto, unfolding(crate::specs::Header::file_format))]
-pub fn file_format(text: &[u8]) -> Option<Format>
+pub fn file_format(text: &[u8]) -> Option<DrillFormat>
     ensures { result ≡ file_format text.now }
 {
     match text.strip_prefix(b"FILE_FORMAT=".as_slice()) {
-        Some(rest) => sizes_named(rest),
+        Some(rest) => parse_format(rest),
         None => None,
     }
 }

@@ -3,12 +3,12 @@
 
 mod canonical;
 mod command;
-mod drilling;
 mod header;
+mod hole_lines;
 mod line;
 mod tools;
 
-pub use canonical::{is_sayable, push_canonical};
-pub use command::{Coordinate, Coordinates, DrillCommand, Format, Part, Settings};
+pub use canonical::{is_sayable, write_line};
+pub use command::{Coordinates, DrillCommand, DrillFormat, OptionalDec, Part, Settings};
 pub use header::file_format;
 pub use line::read_line;

@@ -3,17 +3,17 @@
 ghost use Rattle.std.specs.Prelude.{◌≡◌, ◌≤◌, ◌∷◌, [], length, take, Ok, Some, codes};
 ghost use Rattle.std.specs.Str.{bytes_eq};
 ghost use Rattle.grid_units.specs.declared.fault.Reason.TheVariants.{OldFormat, BadLine};
-ghost use Rattle.grid_units.specs.Rows.{first_fit_or, just, beginning};
+ghost use Rattle.grid_units.specs.Rows.{first_match_or, literal_row, prefix_row};
 ghost use Rattle.grid_units.specs.Results.{Gives};
 ghost use Rattle.drill_lines.specs.declared.command.DrillCommand.TheVariants.{Finish};
 ghost use Rattle.drill_lines.specs.Lines.{is_blank, trimmed};
-ghost use Rattle.drill_lines.specs.Meaning.{meaning, lines_before, common_lines, common_rows, header_ends, header_rows, body_beginnings, body_rows, line_in, begins_comment};
+ghost use Rattle.drill_lines.specs.Meaning.{meaning, lines_before, common_lines, common_rows, header_ends, header_rows, body_prefixes, body_rows, line_in, begins_comment};
 
 use crate::command::{DrillCommand, Part, Settings};
-use crate::drilling::drill_line;
 use crate::header::unit_line;
+use crate::hole_lines::hole_line;
 use crate::tools::{pick_line, tool_line};
-use grid_units::{Reason, Stop, Text, Unit};
+use grid_units::{ItemFail, Reason, Text, Unit};
 use std::alloc::Global;
 
 fn is_blank(byte: u8) -> bool
@@ -47,7 +47,7 @@ type Row = Option<Result<Option<DrillCommand>, Reason>>;
 /// Reads a line before `M48`.
 #[tactic(auto, unfolding(crate::specs::Meaning::lines_before))]
 fn line_before(line: &[u8]) -> Result<Option<DrillCommand>, Reason>
-    ensures { result ≡ first_fit_or OldFormat (just lines_before line.now ∷ []) }
+    ensures { result ≡ first_match_or OldFormat (literal_row lines_before line.now ∷ []) }
 {
     if line == b"%".as_slice() {
         Ok(None)
@@ -61,7 +61,7 @@ fn line_before(line: &[u8]) -> Result<Option<DrillCommand>, Reason>
 /// Reads a line that is just one of those of both the header and the body, as `M71`.
 #[tactic(auto, unfolding(crate::specs::Meaning::common_lines))]
 fn common_line(line: &[u8]) -> Row
-    ensures { result ≡ just common_lines line.now }
+    ensures { result ≡ literal_row common_lines line.now }
 {
     if line == b"M71".as_slice() {
         Some(Ok(Some(DrillCommand::UnitCode(Unit::Millimetre))))
@@ -85,7 +85,7 @@ fn common_line(line: &[u8]) -> Row
 
 /// Reads a line by the rows that the header and the body share.
 fn common_rows(line: &[u8]) -> Result<Option<DrillCommand>, Reason>
-    ensures { result ≡ first_fit_or BadLine (common_rows line.now) }
+    ensures { result ≡ first_match_or BadLine (common_rows line.now) }
 {
     if let Some(answer) = common_line(line) {
         answer
@@ -99,7 +99,7 @@ fn common_rows(line: &[u8]) -> Result<Option<DrillCommand>, Reason>
 /// Reads a line that ends the header, `%` or `M95`.
 #[tactic(auto, unfolding(crate::specs::Meaning::header_ends))]
 fn header_end(line: &[u8]) -> Row
-    ensures { result ≡ just header_ends line.now }
+    ensures { result ≡ literal_row header_ends line.now }
 {
     if line == b"%".as_slice() || line == b"M95".as_slice() {
         Some(Ok(Some(DrillCommand::HeaderEnd)))
@@ -110,7 +110,7 @@ fn header_end(line: &[u8]) -> Row
 
 /// Reads a line of the header.
 fn header_line(line: &[u8]) -> Result<Option<DrillCommand>, Reason>
-    ensures { result ≡ first_fit_or BadLine (header_rows line.now) }
+    ensures { result ≡ first_match_or BadLine (header_rows line.now) }
 {
     if let Some(answer) = header_end(line) {
         return answer;
@@ -128,9 +128,9 @@ fn header_line(line: &[u8]) -> Result<Option<DrillCommand>, Reason>
 }
 
 /// Refuses a line of the body by its beginning: a routed path, a repeat or a pattern.
-#[tactic(auto, unfolding(crate::specs::Meaning::body_beginnings))]
-fn body_beginning(line: &[u8]) -> Row
-    ensures { result ≡ beginning body_beginnings line.now }
+#[tactic(auto, unfolding(crate::specs::Meaning::body_prefixes))]
+fn body_prefix(line: &[u8]) -> Row
+    ensures { result ≡ prefix_row body_prefixes line.now }
 {
     if begins(b"G00", line)
         || begins(b"G01", line)
@@ -154,11 +154,11 @@ fn body_beginning(line: &[u8]) -> Row
 
 /// Reads a line of the body that neither drills nor picks a tool.
 fn body_word(line: &[u8]) -> Result<Option<DrillCommand>, Reason>
-    ensures { result ≡ first_fit_or BadLine (just ((codes "M30", Ok (Some Finish)) ∷ []) line.now ∷ beginning body_beginnings line.now ∷ common_rows line.now) }
+    ensures { result ≡ first_match_or BadLine (literal_row ((codes "M30", Ok (Some Finish)) ∷ []) line.now ∷ prefix_row body_prefixes line.now ∷ common_rows line.now) }
 {
     if line == b"M30".as_slice() {
         Ok(Some(DrillCommand::Finish))
-    } else if let Some(answer) = body_beginning(line) {
+    } else if let Some(answer) = body_prefix(line) {
         answer
     } else {
         common_rows(line)
@@ -167,10 +167,10 @@ fn body_word(line: &[u8]) -> Result<Option<DrillCommand>, Reason>
 
 /// Reads a line of the body.
 fn body_line(settings: Settings, line: &[u8]) -> Result<Option<DrillCommand>, Reason>
-    ensures { result ≡ first_fit_or BadLine (body_rows settings line.now) }
+    ensures { result ≡ first_match_or BadLine (body_rows settings line.now) }
 {
     if begins(b"X", line) || begins(b"Y", line) {
-        return Ok(Some(drill_line(settings, line)?));
+        return Ok(Some(hole_line(settings, line)?));
     }
     if let Some(rest) = line.strip_prefix(b"T".as_slice()) {
         return Ok(Some(pick_line(rest)?));
@@ -207,7 +207,7 @@ fn read_trimmed(
     alloc: Global,
     settings: Settings,
     line: &[u8],
-) -> Result<Option<DrillCommand>, Stop>
+) -> Result<Option<DrillCommand>, ItemFail>
     ensures { Gives result (meaning settings line.now) }
 {
     let Some((first, text)) = line.split_first() else {
@@ -219,7 +219,7 @@ fn read_trimmed(
     }
     match line_in(settings, line) {
         Ok(command) => Ok(command),
-        Err(reason) => Err(Stop::Refused(reason)),
+        Err(reason) => Err(ItemFail::Refused(reason)),
     }
 }
 
@@ -232,7 +232,7 @@ pub fn read_line(
     alloc: Global,
     settings: Settings,
     line: &[u8],
-) -> Result<Option<DrillCommand>, Stop>
+) -> Result<Option<DrillCommand>, ItemFail>
     ensures { Gives result (meaning settings (trimmed line.now)) }
 {
     read_trimmed(alloc, settings, &line[..trimmed_len(line)])

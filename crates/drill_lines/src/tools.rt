@@ -2,29 +2,29 @@
 
 ghost use Rattle.std.specs.Prelude.{◌≡◌, ◌≤◌, ◌||◌, not, length, take_while, count_by};
 ghost use Rattle.std.specs.List.{list_all, list_any, after_first, position_or_len};
-ghost use Rattle.grid_units.specs.Numbers.{is_number};
-ghost use Rattle.drill_lines.specs.Tools.{is_point, is_diameter, is_skipped, is_letter, begins_with, are_fields, number_from, diameter_of, diameter_run, tool_fields, tool_line, pick_fields, pick_line};
+ghost use Rattle.grid_units.specs.Numbers.{is_number_char};
+ghost use Rattle.drill_lines.specs.Tools.{is_point, is_diameter_letter, is_skipped_letter, is_tool_letter, begins_with, are_fields, tool_number, diameter_of, diameter_run, tool_fields, tool_line, pick_fields, pick_line};
 
 use crate::command::DrillCommand;
-use grid_units::numbers::{capped_value, digits_len, is_digits, is_number, number_len};
+use grid_units::numbers::{capped_value, digit_run_len, is_digits, is_number_char, number_run_len};
 use grid_units::{Dec, Reason, both};
 
-fn is_diameter(byte: u8) -> bool
-    ensures { result ≡ is_diameter byte }
+fn is_diameter_letter(byte: u8) -> bool
+    ensures { result ≡ is_diameter_letter byte }
 {
     byte == b'C'
 }
 
-fn is_skipped(byte: u8) -> bool
-    ensures { result ≡ is_skipped byte }
+fn is_skipped_letter(byte: u8) -> bool
+    ensures { result ≡ is_skipped_letter byte }
 {
     byte == b'F' || byte == b'S' || byte == b'B' || byte == b'H' || byte == b'Z'
 }
 
-fn is_letter(byte: u8) -> bool
-    ensures { result ≡ is_letter byte }
+fn is_tool_letter(byte: u8) -> bool
+    ensures { result ≡ is_tool_letter byte }
 {
-    is_diameter(byte) || is_skipped(byte)
+    is_diameter_letter(byte) || is_skipped_letter(byte)
 }
 
 /// Whether a run has a point.
@@ -35,72 +35,75 @@ pub(crate) fn has_point(run: &[u8]) -> bool
 }
 
 fn begins_with_letter(fields: &[u8]) -> bool
-    ensures { result ≡ begins_with is_letter fields.now }
+    ensures { result ≡ begins_with is_tool_letter fields.now }
 {
     match fields.first() {
-        Some(first) => is_letter(*first),
+        Some(first) => is_tool_letter(*first),
         None => true,
     }
 }
 
 fn begins_with_skipped(fields: &[u8]) -> bool
-    ensures { result ≡ begins_with is_skipped fields.now }
+    ensures { result ≡ begins_with is_skipped_letter fields.now }
 {
     match fields.first() {
-        Some(first) => is_skipped(*first),
+        Some(first) => is_skipped_letter(*first),
         None => true,
     }
 }
 
 fn is_tool_byte(byte: u8) -> bool
-    ensures { result ≡ (is_letter byte || is_number byte) }
+    ensures { result ≡ (is_tool_letter byte || is_number_char byte) }
 {
-    is_letter(byte) || is_number(byte)
+    is_tool_letter(byte) || is_number_char(byte)
 }
 
 fn is_pick_byte(byte: u8) -> bool
-    ensures { result ≡ (is_skipped byte || is_number byte) }
+    ensures { result ≡ (is_skipped_letter byte || is_number_char byte) }
 {
-    is_skipped(byte) || is_number(byte)
+    is_skipped_letter(byte) || is_number_char(byte)
 }
 
 fn are_tool_bytes(fields: &[u8]) -> bool
-    ensures { result ≡ list_all (λ b. is_letter b || is_number b) fields.now }
+    ensures { result ≡ list_all (λ b. is_tool_letter b || is_number_char b) fields.now }
 {
     fields.iter().all(|byte| is_tool_byte(*byte))
 }
 
 fn are_pick_bytes(fields: &[u8]) -> bool
-    ensures { result ≡ list_all (λ b. is_skipped b || is_number b) fields.now }
+    ensures { result ≡ list_all (λ b. is_skipped_letter b || is_number_char b) fields.now }
 {
     fields.iter().all(|byte| is_pick_byte(*byte))
 }
 
 /// Whether these are letters of a tool's definition, each with a run, as `F200C0.4`.
 fn are_tool_fields(fields: &[u8]) -> bool
-    ensures { result ≡ are_fields is_letter fields.now }
+    ensures { result ≡ are_fields is_tool_letter fields.now }
 {
     begins_with_letter(fields) && are_tool_bytes(fields)
 }
 
 /// Whether these are letters of a pick, each with a run, as `F200S65`.
 fn are_pick_fields(fields: &[u8]) -> bool
-    ensures { result ≡ are_fields is_skipped fields.now }
+    ensures { result ≡ are_fields is_skipped_letter fields.now }
 {
     begins_with_skipped(fields) && are_pick_bytes(fields)
 }
 
 /// How many `C` there are.
-fn diameters(fields: &[u8]) -> usize
-    ensures { result ≡ count_by is_diameter fields.now }
+fn diameter_count(fields: &[u8]) -> usize
+    ensures { result ≡ count_by is_diameter_letter fields.now }
 {
-    fields.iter().filter(|byte| is_diameter(**byte)).count()
+    fields
+        .iter()
+        .filter(|byte| is_diameter_letter(**byte))
+        .count()
 }
 
 /// The number of a tool, from `least` to 999.
-#[tactic(auto, unfolding(crate::specs::Tools::number_from))]
-fn number_from(least: u64, digits: &[u8]) -> Result<u16, Reason>
-    ensures { result ≡ number_from least digits.now }
+#[tactic(auto, unfolding(crate::specs::Tools::tool_number))]
+fn tool_number(least: u64, digits: &[u8]) -> Result<u16, Reason>
+    ensures { result ≡ tool_number least digits.now }
 {
     if !is_digits(digits) {
         return Err(Reason::BadNumber);
@@ -125,19 +128,19 @@ fn diameter_of(run: &[u8]) -> Result<Dec, Reason>
     }
 }
 
-fn is_no_diameter(byte: u8) -> bool
-    ensures { result ≡ not (is_diameter byte) }
+fn is_other_letter(byte: u8) -> bool
+    ensures { result ≡ not (is_diameter_letter byte) }
 {
-    !is_diameter(byte)
+    !is_diameter_letter(byte)
 }
 
 /// Where the first `C` stands, or the length where there is none.
 fn diameter_at(fields: &[u8]) -> usize
     ensures within { result ≤ length fields.now }
-    ensures len { result ≡ position_or_len is_diameter fields.now }
+    ensures len { result ≡ position_or_len is_diameter_letter fields.now }
 {
     for (i, byte) in fields.iter().enumerate() {
-        if !is_no_diameter(*byte) {
+        if !is_other_letter(*byte) {
             return i;
         }
     }
@@ -145,18 +148,18 @@ fn diameter_at(fields: &[u8]) -> usize
 }
 
 /// The bytes after the first `C`.
-fn behind_diameter(fields: &[u8]) -> &[u8]
-    ensures { result.now ≡ after_first is_diameter fields.now }
+fn after_diameter_letter(fields: &[u8]) -> &[u8]
+    ensures { result.now ≡ after_first is_diameter_letter fields.now }
 {
-    let behind = fields.len().min(diameter_at(fields) + 1);
-    &fields[behind..]
+    let start = fields.len().min(diameter_at(fields) + 1);
+    &fields[start..]
 }
 
 /// The run at the start of the bytes.
-fn run_in_front(bytes: &[u8]) -> &[u8]
-    ensures { result.now ≡ take_while is_number bytes.now }
+fn take_while_append(bytes: &[u8]) -> &[u8]
+    ensures { result.now ≡ take_while is_number_char bytes.now }
 {
-    &bytes[..number_len(bytes)]
+    &bytes[..number_run_len(bytes)]
 }
 
 /// A tool's definition, by the digits of its number and its fields.
@@ -164,11 +167,11 @@ fn run_in_front(bytes: &[u8]) -> &[u8]
 fn tool_fields(digits: &[u8], fields: &[u8]) -> Result<DrillCommand, Reason>
     ensures { result ≡ tool_fields digits.now fields.now }
 {
-    if !are_tool_fields(fields) || diameters(fields) != 1 {
+    if !are_tool_fields(fields) || diameter_count(fields) != 1 {
         return Err(Reason::BadLine);
     }
-    let run = run_in_front(behind_diameter(fields));
-    let (number, diameter) = both(number_from(1, digits), diameter_of(run))?;
+    let run = take_while_append(after_diameter_letter(fields));
+    let (number, diameter) = both(tool_number(1, digits), diameter_of(run))?;
     Ok(DrillCommand::Tool(number, diameter))
 }
 
@@ -177,7 +180,7 @@ fn tool_fields(digits: &[u8], fields: &[u8]) -> Result<DrillCommand, Reason>
 pub(crate) fn tool_line(line: &[u8]) -> Result<DrillCommand, Reason>
     ensures { result ≡ tool_line line.now }
 {
-    let (digits, fields) = line.split_at(digits_len(line));
+    let (digits, fields) = line.split_at(digit_run_len(line));
     tool_fields(digits, fields)
 }
 
@@ -189,7 +192,7 @@ fn pick_fields(digits: &[u8], fields: &[u8]) -> Result<DrillCommand, Reason>
     if !are_pick_fields(fields) {
         return Err(Reason::BadLine);
     }
-    Ok(DrillCommand::Pick(number_from(0, digits)?))
+    Ok(DrillCommand::Pick(tool_number(0, digits)?))
 }
 
 /// Reads a pick, after its `T`: `1`.
@@ -197,6 +200,6 @@ fn pick_fields(digits: &[u8], fields: &[u8]) -> Result<DrillCommand, Reason>
 pub(crate) fn pick_line(line: &[u8]) -> Result<DrillCommand, Reason>
     ensures { result ≡ pick_line line.now }
 {
-    let (digits, fields) = line.split_at(digits_len(line));
+    let (digits, fields) = line.split_at(digit_run_len(line));
     pick_fields(digits, fields)
 }

@@ -7,34 +7,34 @@ use Rattle.std.proofs.lemmas.Bool.{le-ltb, lt-ltb, ltb-true, ltb-false, eqb-true
 use Rattle.grid_units.specs.declared.fault.Fault.{Fault}
 use Rattle.grid_units.specs.declared.fault.Reason.{Reason}
 use Rattle.grid_units.specs.declared.fault.Reason.TheVariants.{TooLong, Truncated}
-use Rattle.grid_units.specs.Results.{◌>>=◌, fault, at}
-use Rattle.grid_units.proofs.Binds.{bind_ok, bind_err}
+use Rattle.grid_units.specs.Results.{◌>>=◌, fault, with_place}
+use Rattle.grid_units.proofs.ResultLemmas.{bind_ok, bind_err}
 use Rattle.drill_lines.specs.declared.command.DrillCommand.{DrillCommand}
 use Rattle.drill_lines.specs.Lines.{trimmed}
 use Rattle.drill_lines.specs.Meaning.{meaning}
 use Rattle.drill_text.specs.Lines.{bytes_of, Splits}
 use Rattle.drill_text.specs.Lookback.{settings_after}
 use Rattle.drill_text.specs.Rules.{broken_rule}
-use Rattle.drill_text.specs.Reading.{is_finish, kept_unless, judged, step, spelled, commands_from, shown, ended, place_behind, read_in, Reads}
-use Rattle.drill_text.specs.Texts.{spelled_behind, AreShort}
+use Rattle.drill_text.specs.Reading.{is_finish, add_unless, checked, step, spelled, commands_from, shown, ended, place_after, read_in, Reads}
+use Rattle.drill_text.specs.Texts.{spelled_after, AreWithinLimit}
 use Rattle.drill_text.specs.Faults.{SpellLegally, IsRefused, HasRefusedLine, HasFaultWithin, HasFaultBeyond, IsFirstFault, HasAnswer}
-use Rattle.drill_text.proofs.Splitting.{commands_from-push}
-use Rattle.drill_text.proofs.Shown.{shown_ok, show_ok, show_long, show_err, shown_err}
-use Rattle.drill_text.proofs.Spelling.{all_kept, all_spelled, reads_drill_text}
+use Rattle.drill_text.proofs.SplitsLemmas.{commands_from-push}
+use Rattle.drill_text.proofs.ShowsLemmas.{shown_ok, show_ok, show_long, show_err, shown_err}
+use Rattle.drill_text.proofs.SpellsTextLemmas.{all_kept, all_spelled, reads_drill_text}
 use Rattle.grid_units.specs.Limits.{text_limit, line_limit}
 use Rattle.grid_units.specs.Lists.{IsLegal}
 
-at_err : {A : Type 0} (place byte : ℕ) (r : Result A Reason) (f : Fault) → at place byte r ≡ Err f → (r ≡ Err f.reason) × (f.place ≡ place) × (f.byte ≡ byte)
+at_err : {A : Type 0} (place byte : ℕ) (r : Result A Reason) (f : Fault) → with_place place byte r ≡ Err f → (r ≡ Err f.reason) × (f.place ≡ place) × (f.byte ≡ byte)
 at_err place byte (Ok y) f e = absurd cc
 at_err place byte (Err r) f e = let same : fault place byte r ≡ f = cc in (ap (λ (g : Fault). Err g.reason) same, sym (ap (λ (g : Fault). g.place) same), sym (ap (λ (g : Fault). g.byte) same))
 
 -- ---- one line
 
-judged_err : (before : List DrillCommand) (command : Option DrillCommand) (r : Reason) → judged before command ≡ Err r → (c : DrillCommand) × (command ≡ Some c) × (broken_rule before c ≡ Some r)
+judged_err : (before : List DrillCommand) (command : Option DrillCommand) (r : Reason) → checked before command ≡ Err r → (c : DrillCommand) × (command ≡ Some c) × (broken_rule before c ≡ Some r)
 judged_err before None r e = absurd cc
 judged_err before (Some c) r e = by (broken_rule before c) refl e
   where
-    by : (o : Option Reason) → broken_rule before c ≡ o → kept_unless o before c ≡ Err r → (d : DrillCommand) × (Some c ≡ Some d) × (broken_rule before d ≡ Some r)
+    by : (o : Option Reason) → broken_rule before c ≡ o → add_unless o before c ≡ Err r → (d : DrillCommand) × (Some c ≡ Some d) × (broken_rule before d ≡ Some r)
     by None is k = absurd cc
     by (Some b) is k = let same : b ≡ r = cc in (c, refl, is ∙ ap (λ (x : Reason). Some x) same)
 
@@ -42,22 +42,22 @@ step_err : (before : List DrillCommand) (line : List ℕ) (r : Reason) → step 
 unfolding step
 step_err before line r e = by (ltb line_limit (length line)) refl e
   where
-    by : (t : Bool) → ltb line_limit (length line) ≡ t → cond t (Err TooLong) (meaning (settings_after before) (trimmed line) >>= judged before) ≡ Err r → IsRefused before line r
+    by : (t : Bool) → ltb line_limit (length line) ≡ t → cond t (Err TooLong) (meaning (settings_after before) (trimmed line) >>= checked before) ≡ Err r → IsRefused before line r
     by true long k = let same : TooLong ≡ r = cc in inl (ltb-true _ _ long, sym same)
     by false short k =
-        elim (bind_err (meaning (settings_after before) (trimmed line)) (judged before) r k) [
+        elim (bind_err (meaning (settings_after before) (trimmed line)) (checked before) r k) [
           | inl h ↦ inr (ltb-false _ _ short, inl h)
           | inr h ↦ (let j = judged_err before h.0 r h.2 in inr (ltb-false _ _ short, inr (j.0, h.1 ∙ ap (λ (o : Option DrillCommand). Ok o) j.1, j.2)))
         ]
 
 refused_err : (before : List DrillCommand) (line : List ℕ) (r : Reason) → IsRefused before line r → step before line ≡ Err r
 unfolding step
-refused_err before line r (inl h) = ap (λ t. cond t (Err TooLong) (meaning (settings_after before) (trimmed line) >>= judged before)) (lt-ltb _ _ h.0) ∙ ap (λ (x : Reason). Err x) (sym h.1)
+refused_err before line r (inl h) = ap (λ t. cond t (Err TooLong) (meaning (settings_after before) (trimmed line) >>= checked before)) (lt-ltb _ _ h.0) ∙ ap (λ (x : Reason). Err x) (sym h.1)
 refused_err before line r (inr h) =
-    ap (λ t. cond t (Err TooLong) (meaning (settings_after before) (trimmed line) >>= judged before)) (le-ltb _ _ h.0)
+    ap (λ t. cond t (Err TooLong) (meaning (settings_after before) (trimmed line) >>= checked before)) (le-ltb _ _ h.0)
     ∙ elim h.1 [
-      | inl k ↦ ap (λ x. x >>= judged before) k
-      | inr k ↦ (ap (λ x. x >>= judged before) k.1 ∙ ap (λ o. kept_unless o before k.0) k.2)
+      | inl k ↦ ap (λ x. x >>= checked before) k
+      | inr k ↦ (ap (λ x. x >>= checked before) k.1 ∙ ap (λ o. add_unless o before k.0) k.2)
     ]
 
 -- ---- lines
@@ -69,8 +69,8 @@ record Refused (place byte : ℕ) (lines : List (List ℕ)) (start : List DrillC
   after : List (List ℕ)
   whole : lines ≡ before ++ line ∷ after
   commands : List DrillCommand
-  short : AreShort before
-  spelling : spelled_behind start before ≡ Ok commands
+  short : AreWithinLimit before
+  spelling : spelled_after start before ≡ Ok commands
   legal : IsLegal broken_rule start → IsLegal broken_rule commands
   refused : IsRefused commands line f.reason
   place_is : f.place ≡ place + length before
@@ -78,26 +78,26 @@ record Refused (place byte : ℕ) (lines : List (List ℕ)) (start : List DrillC
 
 next_refused : (place byte : ℕ) (line : List ℕ) (lines : List (List ℕ)) (start next : List DrillCommand) (f : Fault) → spelled place byte line start ≡ Ok next → Refused (suc place) (byte + (length line + 1)) lines next f → Refused place byte (line ∷ lines) start f
 next_refused place byte line lines start next f e r =
-    let one = all_kept place byte (line ∷ []) start next (ap (λ x. x >>= commands_from (suc place) (byte + (length line + 1)) []) e) in
+    let one_command = all_kept place byte (line ∷ []) start next (ap (λ x. x >>= commands_from (suc place) (byte + (length line + 1)) []) e) in
     record {
       before = line ∷ r.before;
       line = r.line;
       after = r.after;
       whole = ap (λ (x : List (List ℕ)). line ∷ x) r.whole;
       commands = r.commands;
-      short = (one.0.0, r.short);
-      spelling = first_spelled start line r.before next one.1 ∙ r.spelling;
-      legal = λ legal. r.legal (one.2 legal);
+      short = (one_command.0.0, r.short);
+      spelling = first_spelled start line r.before next one_command.1 ∙ r.spelling;
+      legal = λ legal. r.legal (one_command.2 legal);
       refused = r.refused;
       place_is = omega (arith, r.place_is);
       byte_is = omega (arith, r.byte_is, length-append (line ++ 10 ∷ []) (bytes_of r.before), length-append line (10 ∷ []));
     }
   where
-    first_spelled : (start : List DrillCommand) (line : List ℕ) (lines : List (List ℕ)) (next : List DrillCommand) → spelled_behind start (line ∷ []) ≡ Ok next → spelled_behind start (line ∷ lines) ≡ spelled_behind next lines
+    first_spelled : (start : List DrillCommand) (line : List ℕ) (lines : List (List ℕ)) (next : List DrillCommand) → spelled_after start (line ∷ []) ≡ Ok next → spelled_after start (line ∷ lines) ≡ spelled_after next lines
     first_spelled start line lines next e =
-        let b = bind_ok (meaning (settings_after start) (trimmed line)) (λ command. spelled_behind (start ++ option_to_list command) []) next e in
+        let b = bind_ok (meaning (settings_after start) (trimmed line)) (λ command. spelled_after (start ++ option_to_list command) []) next e in
         let same : start ++ option_to_list b.0 ≡ next = let k = b.2 in cc in
-        ap (λ x. x >>= λ command. spelled_behind (start ++ option_to_list command) lines) b.1 ∙ ap (λ (x : List DrillCommand). spelled_behind x lines) same
+        ap (λ x. x >>= λ command. spelled_after (start ++ option_to_list command) lines) b.1 ∙ ap (λ (x : List DrillCommand). spelled_after x lines) same
 
 faulty : (place byte : ℕ) (lines : List (List ℕ)) (start : List DrillCommand) (f : Fault) → commands_from place byte lines start ≡ Err f → Refused place byte lines start f
 faulty place byte [] start f e = absurd cc
@@ -127,7 +127,7 @@ lines_refused place byte [] line after start cs r e h =
     let same : start ≡ cs = cc in
     let k : place ≡ place + 0 = omega arith in
     let j : byte ≡ byte + 0 = omega arith in
-    ap (λ x. at place byte x >>= commands_from (suc place) (byte + (length line + 1)) after) (ap (λ (x : List DrillCommand). step x line) same ∙ h)
+    ap (λ x. with_place place byte x >>= commands_from (suc place) (byte + (length line + 1)) after) (ap (λ (x : List DrillCommand). step x line) same ∙ h)
     ∙ (ap (λ p. Err (fault p byte r)) k ∙ ap (λ b. Err (fault (place + 0) b r)) j)
 lines_refused place byte (x ∷ before) line after start cs r e h =
     let next : ℕ = byte + (length x + 1) in
@@ -182,18 +182,18 @@ all_lines lines rest cs e =
     let j : 0 + length (bytes_of lines) ≡ length (bytes_of lines) = omega arith in
     commands_from-push 1 0 lines rest [] ∙ (ap (λ x. x >>= spelled (1 + length lines) (0 + length (bytes_of lines)) rest) e ∙ (λ i. spelled (k i) (j i) rest cs))
 
-front_err : (lines : List (List ℕ)) (rest : List ℕ) (f : Fault) → commands_from 1 0 lines [] ≡ Err f → commands_from 1 0 (lines ++ rest ∷ []) [] ≡ Err f
-front_err lines rest f e = commands_from-push 1 0 lines rest [] ∙ ap (λ x. x >>= spelled (1 + length lines) (0 + length (bytes_of lines)) rest) e
+prefix_err : (lines : List (List ℕ)) (rest : List ℕ) (f : Fault) → commands_from 1 0 lines [] ≡ Err f → commands_from 1 0 (lines ++ rest ∷ []) [] ≡ Err f
+prefix_err lines rest f e = commands_from-push 1 0 lines rest [] ∙ ap (λ x. x >>= spelled (1 + length lines) (0 + length (bytes_of lines)) rest) e
 
 long_err : (place byte : ℕ) (rest : List ℕ) (cs : List DrillCommand) → line_limit < length rest → spelled place byte rest cs ≡ Err (fault place byte TooLong)
-long_err place byte rest cs h = ap (at place byte) (refused_err cs rest TooLong (inl (h, refl)))
+long_err place byte rest cs h = ap (with_place place byte) (refused_err cs rest TooLong (inl (h, refl)))
 
-ended_err : (len : ℕ) (lines : List (List ℕ)) (rest : List ℕ) (cs : List DrillCommand) (f : Fault) → ended len lines rest cs ≡ Err f → (list_any is_finish cs ≡ false) × (f ≡ fault (place_behind lines rest) len Truncated)
+ended_err : (len : ℕ) (lines : List (List ℕ)) (rest : List ℕ) (cs : List DrillCommand) (f : Fault) → ended len lines rest cs ≡ Err f → (list_any is_finish cs ≡ false) × (f ≡ fault (place_after lines rest) len Truncated)
 ended_err len lines rest cs f e = by (list_any is_finish cs) refl e
   where
-    by : (t : Bool) → list_any is_finish cs ≡ t → cond t (Ok cs) (Err (fault (place_behind lines rest) len Truncated)) ≡ Err f → (list_any is_finish cs ≡ false) × (f ≡ fault (place_behind lines rest) len Truncated)
+    by : (t : Bool) → list_any is_finish cs ≡ t → cond t (Ok cs) (Err (fault (place_after lines rest) len Truncated)) ≡ Err f → (list_any is_finish cs ≡ false) × (f ≡ fault (place_after lines rest) len Truncated)
     by true is k = absurd cc
-    by false is k = let same : fault (place_behind lines rest) len Truncated ≡ f = cc in (is, sym same)
+    by false is k = let same : fault (place_after lines rest) len Truncated ≡ f = cc in (is, sym same)
 
 -- what a text within the limit reads as
 within_err : (text : List ℕ) (lines : List (List ℕ)) (rest : List ℕ) (f : Fault) → length text ≤ text_limit → read_in (length text) lines rest ≡ Err f → HasFaultWithin text lines rest f
@@ -203,7 +203,7 @@ within_err text lines rest f le e =
     ap (λ t. shown lines rest >>= λ commands. cond t (Err (fault (suc (length lines)) text_limit TooLong)) (last_place (length text) lines rest commands)) (sym (le-ltb text_limit (length text) le)) ∙ e in
     elim (bind_err (shown lines rest) (last_place (length text) lines rest) f now) [
       | inl h ↦ elim (shown_err lines rest f h) [
-        | inl k ↦ inl (has_refused (lines ++ rest ∷ []) f (front_err lines rest f k))
+        | inl k ↦ inl (has_refused (lines ++ rest ∷ []) f (prefix_err lines rest f k))
         | inr k ↦ inl (has_refused (lines ++ rest ∷ []) f (all_lines lines rest k.0 k.1 ∙ (long_err (suc (length lines)) (length (bytes_of lines)) rest k.0 k.2 ∙ ap (λ (g : Fault). Err g) k.3)))
       ]
       | inr h ↦ (let first = (shown_ok lines rest h.0 h.1).0 in
@@ -257,24 +257,24 @@ refused_within text lines rest f le e =
     by_rest cs first last false short =
         ap (λ x. x >>= last_place (length text) lines rest) (show_ok lines rest cs first (ltb-false _ _ short)) ∙ ap (λ x. x >>= ended (length text) lines rest) last
 
-front_ok : (lines : List (List ℕ)) (rest : List ℕ) (cs : List DrillCommand) → commands_from 1 0 (lines ++ rest ∷ []) [] ≡ Ok cs → (first : List DrillCommand) × (commands_from 1 0 lines [] ≡ Ok first) × (spelled (suc (length lines)) (length (bytes_of lines)) rest first ≡ Ok cs)
-front_ok lines rest cs e =
+prefix_ok : (lines : List (List ℕ)) (rest : List ℕ) (cs : List DrillCommand) → commands_from 1 0 (lines ++ rest ∷ []) [] ≡ Ok cs → (first : List DrillCommand) × (commands_from 1 0 lines [] ≡ Ok first) × (spelled (suc (length lines)) (length (bytes_of lines)) rest first ≡ Ok cs)
+prefix_ok lines rest cs e =
     let k : 1 + length lines ≡ suc (length lines) = omega arith in
     let j : 0 + length (bytes_of lines) ≡ length (bytes_of lines) = omega arith in
     let b = bind_ok (commands_from 1 0 lines []) (spelled (1 + length lines) (0 + length (bytes_of lines)) rest) cs (sym (commands_from-push 1 0 lines rest []) ∙ e) in
     (b.0, b.1, (λ i. spelled (sym k i) (sym j i) rest b.0) ∙ b.2)
 
-last_short : (lines : List (List ℕ)) (rest : List ℕ) → AreShort (lines ++ rest ∷ []) → length rest ≤ line_limit
+last_short : (lines : List (List ℕ)) (rest : List ℕ) → AreWithinLimit (lines ++ rest ∷ []) → length rest ≤ line_limit
 last_short [] rest h = h.0
 last_short (line ∷ lines) rest h = last_short lines rest h.1
 
-truncated_within : (text : List ℕ) (lines : List (List ℕ)) (rest : List ℕ) (cs : List DrillCommand) → length text ≤ text_limit → SpellLegally (lines ++ rest ∷ []) cs → list_any is_finish cs ≡ false → read_in (length text) lines rest ≡ Err (fault (place_behind lines rest) (length text) Truncated)
+truncated_within : (text : List ℕ) (lines : List (List ℕ)) (rest : List ℕ) (cs : List DrillCommand) → length text ≤ text_limit → SpellLegally (lines ++ rest ∷ []) cs → list_any is_finish cs ≡ false → read_in (length text) lines rest ≡ Err (fault (place_after lines rest) (length text) Truncated)
 unfolding last_place
 truncated_within text lines rest cs le s none =
-    let first = front_ok lines rest cs (lines_legal (lines ++ rest ∷ []) cs s) in
+    let first = prefix_ok lines rest cs (lines_legal (lines ++ rest ∷ []) cs s) in
     ap (λ t. shown lines rest >>= λ commands. cond t (Err (fault (suc (length lines)) text_limit TooLong)) (last_place (length text) lines rest commands)) (le-ltb text_limit (length text) le)
     ∙ (ap (λ x. x >>= last_place (length text) lines rest) (show_ok lines rest first.0 first.1 (last_short lines rest s.short))
-    ∙ (ap (λ x. x >>= ended (length text) lines rest) first.2 ∙ ap (λ t. cond t (Ok cs) (Err (fault (place_behind lines rest) (length text) Truncated))) none))
+    ∙ (ap (λ x. x >>= ended (length text) lines rest) first.2 ∙ ap (λ t. cond t (Ok cs) (Err (fault (place_after lines rest) (length text) Truncated))) none))
 
 beyond_is : (text : List ℕ) (lines : List (List ℕ)) (rest : List ℕ) (r : Result (List DrillCommand) Fault) → text_limit < length text → shown lines rest ≡ r → read_in (length text) lines rest ≡ (r >>= λ commands. Err (fault (suc (length lines)) text_limit TooLong))
 unfolding last_place

@@ -4,22 +4,22 @@ use Rattle.std.proofs.lemmas.List.Concat.{flat_map-append}
 use Rattle.std.proofs.lemmas.List.Elements.{filter_map-append}
 use Rattle.std.specs.Option.{option_or, option_map, option_to_list}
 use Rattle.std.specs.List.{list_any, cons_option}
-use Rattle.grid_units.specs.Lists.{last_named}
-use Rattle.grid_units.proofs.Lookbacks.{option_or_none, option_or_assoc, unwrap_or_or, last_named-append, last_named-more, list_any-more, flat_positions-more}
+use Rattle.grid_units.specs.Lists.{last_set}
+use Rattle.grid_units.proofs.LookbackLemmas.{option_or_none, option_or_assoc, unwrap_or_or, last_set-append, last_set-more, list_any-more, flat_positions-more}
 use Rattle.grid_units.specs.declared.lengths.Unit.{Unit as Units}
 use Rattle.drill_lines.specs.declared.command.Coordinates.{Coordinates}
 use Rattle.drill_lines.specs.declared.command.DrillCommand.{DrillCommand}
 use Rattle.drill_lines.specs.declared.command.DrillCommand.TheVariants as command
 use Rattle.drill_lines.specs.declared.command.Part.TheVariants as part
-use Rattle.drill_text.specs.declared.judge.Judge.{Judge}
-use Rattle.drill_text.specs.Lookback.{Standing, standing, settings_after, header, ends_header, part_named, unit_named, zeros_named, format_named, diameter_named, tool_named, tool_defined, tools_of, points_named, points_of, x_named, y_named}
-use Rattle.drill_text.specs.Holes.{unit_after, point_at, coordinate_in, diameter_after, drilled_at, hole_of, holes_at, holes_of}
-use Rattle.drill_text.specs.Rules.{broken_rule, first_broken, defines_again}
-use Rattle.drill_text.specs.Inner.Knowing.{told, Knows, Takes, after, settings_and, given_last, moved, nowhere, drilled, onto}
+use Rattle.drill_text.specs.declared.state.DrillState.{DrillState}
+use Rattle.drill_text.specs.Lookback.{StateView, state_after, settings_after, header, ends_header, part_set, unit_set, zeros_set, format_set, diameter_set, tool_set, tool_defined, tools_of, points_in, points_of, x_set, y_set}
+use Rattle.drill_text.specs.Holes.{unit_after, point_at, coordinate_in, diameter_after, path_at, hole_of, holes_at, holes_of}
+use Rattle.drill_text.specs.Rules.{broken_rule, first_broken, redefines_tool}
+use Rattle.drill_text.specs.Inner.StateSteps.{state_of, IsStateAfter, Applies, after, settings_with, given_last, moved, no_point, drill_path, resolved_point}
 
 -- ---- the header as a whole
 
-one_header : {A : Type 0} (names : DrillCommand → Option A) → names command.HeaderEnd ≡ None → (c : DrillCommand) → last_named names (header (c ∷ [])) ≡ option_or (names c) None
+one_header : {A : Type 0} (names : DrillCommand → Option A) → names command.HeaderEnd ≡ None → (c : DrillCommand) → last_set names (header (c ∷ [])) ≡ option_or (names c) None
 one_header names h command.HeaderEnd = sym (option_or_none (names command.HeaderEnd) ∙ h)
 one_header names h (command.Comment t) = sym (option_or_none (names (command.Comment t)))
 one_header names h command.Start = sym (option_or_none (names command.Start))
@@ -41,68 +41,68 @@ given_is false None o = refl
 given_is t (Some x) o = refl
 
 header-cond : {A : Type 0} (names : DrillCommand → Option A) → names command.HeaderEnd ≡ None → (cs : List DrillCommand) (c : DrillCommand)
-    → last_named names (header (cs ++ c ∷ [])) ≡ cond (list_any ends_header cs) (last_named names (header cs)) (option_or (names c) (last_named names (header cs)))
+    → last_set names (header (cs ++ c ∷ [])) ≡ cond (list_any ends_header cs) (last_set names (header cs)) (option_or (names c) (last_set names (header cs)))
 header-cond names h [] c = one_header names h c
 header-cond names h (d ∷ cs) c = by (ends_header d) (header-cond names h cs c)
   where
-    by : (t : Bool) → last_named names (header (cs ++ c ∷ [])) ≡ cond (list_any ends_header cs) (last_named names (header cs)) (option_or (names c) (last_named names (header cs)))
-        → last_named names (cond t [] (d ∷ header (cs ++ c ∷ []))) ≡ cond (t || list_any ends_header cs) (last_named names (cond t [] (d ∷ header cs))) (option_or (names c) (last_named names (cond t [] (d ∷ header cs))))
+    by : (t : Bool) → last_set names (header (cs ++ c ∷ [])) ≡ cond (list_any ends_header cs) (last_set names (header cs)) (option_or (names c) (last_set names (header cs)))
+        → last_set names (cond t [] (d ∷ header (cs ++ c ∷ []))) ≡ cond (t || list_any ends_header cs) (last_set names (cond t [] (d ∷ header cs))) (option_or (names c) (last_set names (cond t [] (d ∷ header cs))))
     by true rest = refl
-    by false rest = ap (λ o. option_or o (names d)) rest ∙ cond_or (list_any ends_header cs) (last_named names (header cs)) (names c) (names d)
+    by false rest = ap (λ o. option_or o (names d)) rest ∙ cond_or (list_any ends_header cs) (last_set names (header cs)) (names c) (names d)
 
 -- what the commands up to the end of the header name, with one more command
 pub header-more : {A : Type 0} (names : DrillCommand → Option A) → names command.HeaderEnd ≡ None → (cs : List DrillCommand) (c : DrillCommand)
-    → last_named names (header (cs ++ c ∷ [])) ≡ given_last (list_any ends_header cs) (names c) (last_named names (header cs))
-header-more names h cs c = header-cond names h cs c ∙ given_is (list_any ends_header cs) (names c) (last_named names (header cs))
+    → last_set names (header (cs ++ c ∷ [])) ≡ given_last (list_any ends_header cs) (names c) (last_set names (header cs))
+header-more names h cs c = header-cond names h cs c ∙ given_is (list_any ends_header cs) (names c) (last_set names (header cs))
 
 -- ---- what stands after one more command
 
-pub settings-more : (before : List DrillCommand) (c : DrillCommand) → settings_after (before ++ c ∷ []) ≡ settings_and c (list_any ends_header before) (settings_after before)
+pub settings-more : (before : List DrillCommand) (c : DrillCommand) → settings_after (before ++ c ∷ []) ≡ settings_with c (list_any ends_header before) (settings_after before)
 settings-more before c = λ i. record {
-  part = (ap (λ o. unwrap_or o part.Before) (last_named-more part_named before c) ∙ unwrap_or_or (part_named c) (last_named part_named before) part.Before) i;
-  unit = header-more unit_named refl before c i;
-  zeros = header-more zeros_named refl before c i;
-  format = header-more format_named refl before c i;
+  part = (ap (λ o. unwrap_or o part.Before) (last_set-more part_set before c) ∙ unwrap_or_or (part_set c) (last_set part_set before) part.Before) i;
+  unit = header-more unit_set refl before c i;
+  zeros = header-more zeros_set refl before c i;
+  format = header-more format_set refl before c i;
 }
 
-points_of-more : (before : List DrillCommand) (c : DrillCommand) → points_of (before ++ c ∷ []) ≡ points_of before ++ points_named c
-points_of-more before c = flat_map-append points_named before (c ∷ []) ∙ ap (λ (x : List Coordinates). points_of before ++ x) (append-nil (points_named c))
+points_of-more : (before : List DrillCommand) (c : DrillCommand) → points_of (before ++ c ∷ []) ≡ points_of before ++ points_in c
+points_of-more before c = flat_map-append points_in before (c ∷ []) ∙ ap (λ (x : List Coordinates). points_of before ++ x) (append-nil (points_in c))
 
 coordinate-more : (names : Coordinates → Option ℤ) (before : List DrillCommand) (c : DrillCommand)
-    → last_named names (points_of (before ++ c ∷ [])) ≡ option_or (last_named names (points_named c)) (last_named names (points_of before))
-coordinate-more names before c = ap (λ (x : List Coordinates). last_named names x) (points_of-more before c) ∙ last_named-append names (points_of before) (points_named c)
+    → last_set names (points_of (before ++ c ∷ [])) ≡ option_or (last_set names (points_in c)) (last_set names (points_of before))
+coordinate-more names before c = ap (λ (x : List Coordinates). last_set names x) (points_of-more before c) ∙ last_set-append names (points_of before) (points_in c)
 
-pub standing-more : (before : List DrillCommand) (c : DrillCommand) → standing (before ++ c ∷ []) ≡ after c (standing before)
-standing-more before c = λ i. record {
+pub state_after-more : (before : List DrillCommand) (c : DrillCommand) → state_after (before ++ c ∷ []) ≡ after c (state_after before)
+state_after-more before c = λ i. record {
   settings = settings-more before c i;
-  is_settled = list_any-more ends_header before c i;
-  diameter = λ number. last_named-more (diameter_named number) before c i;
-  tool = last_named-more tool_named before c i;
-  x = coordinate-more x_named before c i;
-  y = coordinate-more y_named before c i;
+  header_ended = list_any-more ends_header before c i;
+  diameter = λ number. last_set-more (diameter_set number) before c i;
+  tool = last_set-more tool_set before c i;
+  x = coordinate-more x_set before c i;
+  y = coordinate-more y_set before c i;
 }
 
 -- ---- holes
 
 -- a point after others lies where the point that is carried along says
-point-more : (unit : Units) (points : List Coordinates) (p : Coordinates) → onto unit (last_named x_named points) (last_named y_named points) p ≡ point_at unit (points ++ p ∷ [])
+point-more : (unit : Units) (points : List Coordinates) (p : Coordinates) → resolved_point unit (last_set x_set points) (last_set y_set points) p ≡ point_at unit (points ++ p ∷ [])
 point-more unit points p = λ i. record {
-  x = coordinate_in unit (sym (last_named-append x_named points (p ∷ [])) i);
-  y = coordinate_in unit (sym (last_named-append y_named points (p ∷ [])) i);
+  x = coordinate_in unit (sym (last_set-append x_set points (p ∷ [])) i);
+  y = coordinate_in unit (sym (last_set-append y_set points (p ∷ [])) i);
 }
 
-coordinate-more-two : (names : Coordinates → Option ℤ) (points : List Coordinates) (p q : Coordinates) → option_or (names q) (option_or (names p) (last_named names points)) ≡ last_named names (points ++ p ∷ q ∷ [])
-coordinate-more-two names points p q = sym (last_named-append names points (p ∷ q ∷ []) ∙ option_or_assoc (names q) (names p) (last_named names points))
+coordinate-more-two : (names : Coordinates → Option ℤ) (points : List Coordinates) (p q : Coordinates) → option_or (names q) (option_or (names p) (last_set names points)) ≡ last_set names (points ++ p ∷ q ∷ [])
+coordinate-more-two names points p q = sym (last_set-append names points (p ∷ q ∷ []) ∙ option_or_assoc (names q) (names p) (last_set names points))
 
 point-more-two : (unit : Units) (points : List Coordinates) (p q : Coordinates)
-    → onto unit (option_or p.x (last_named x_named points)) (option_or p.y (last_named y_named points)) q ≡ point_at unit (points ++ p ∷ q ∷ [])
+    → resolved_point unit (option_or p.x (last_set x_set points)) (option_or p.y (last_set y_set points)) q ≡ point_at unit (points ++ p ∷ q ∷ [])
 point-more-two unit points p q = λ i. record {
-  x = coordinate_in unit (coordinate-more-two x_named points p q i);
-  y = coordinate_in unit (coordinate-more-two y_named points p q i);
+  x = coordinate_in unit (coordinate-more-two x_set points p q i);
+  y = coordinate_in unit (coordinate-more-two y_set points p q i);
 }
 
 -- what is drilled from the point that is carried along is what looking back gives
-pub drilled_back : (before : List DrillCommand) (c : DrillCommand) → drilled (standing before) c ≡ drilled_at before c
+pub drilled_back : (before : List DrillCommand) (c : DrillCommand) → drill_path (state_after before) c ≡ path_at before c
 drilled_back before (command.Hit p) = λ i. Some (record { from = point-more (unit_after before) (points_of before) p i; to = point-more (unit_after before) (points_of before) p i; diameter = coordinate_in (unit_after before) (diameter_after before) })
 drilled_back before (command.Slot p q) = λ i. Some (record { from = point-more (unit_after before) (points_of before) p i; to = point-more-two (unit_after before) (points_of before) p q i; diameter = coordinate_in (unit_after before) (diameter_after before) })
 drilled_back before (command.Comment t) = refl
@@ -129,27 +129,27 @@ tools_of-more cs c = filter_map-append tool_defined cs (c ∷ []) ∙ ap (λ (x 
 -- ---- the judge
 
 -- the rule that a command breaks, by the fields of the judge
-pub same_rule : (judge : Judge) (before : List DrillCommand) (c : DrillCommand) → Knows judge before → first_broken (told judge) (length judge.holes.items) (drilled (told judge) c) c ≡ broken_rule before c
-same_rule judge before c knows = (λ i. first_broken (knows.standing i) (length (knows.holes i)) (drilled (knows.standing i) c) c) ∙ ap (λ d. first_broken (standing before) (length (holes_of before)) d c) (drilled_back before c)
+pub same_rule : (state : DrillState) (before : List DrillCommand) (c : DrillCommand) → IsStateAfter state before → first_broken (state_of state) (length state.holes.items) (drill_path (state_of state) c) c ≡ broken_rule before c
+same_rule state before c is_state = (λ i. first_broken (is_state.state_after i) (length (is_state.holes i)) (drill_path (is_state.state_after i) c) c) ∙ ap (λ d. first_broken (state_after before) (length (holes_of before)) d c) (drilled_back before c)
 
-pub knows_more : (old new : Judge) (before : List DrillCommand) (c : DrillCommand) → Knows old before → defines_again (told old) c ≡ false → Takes old c new → Knows new (before ++ c ∷ [])
-knows_more old new before c knows fresh takes = record {
-  standing = takes.standing ∙ ap (after c) knows.standing ∙ sym (standing-more before c);
-  holes = takes.holes ∙ (λ i. knows.holes i ++ option_to_list (option_map hole_of (drilled (knows.standing i) c))) ∙ ap (λ d. holes_of before ++ option_to_list (option_map hole_of d)) (drilled_back before c) ∙ sym (holes_of-more before c);
-  tools = takes.tools fresh ∙ ap (λ (x : List (ℕ × ℤ)). x ++ option_to_list (tool_defined c)) knows.tools ∙ sym (tools_of-more before c);
+pub knows_more : (old new : DrillState) (before : List DrillCommand) (c : DrillCommand) → IsStateAfter old before → redefines_tool (state_of old) c ≡ false → Applies old c new → IsStateAfter new (before ++ c ∷ [])
+knows_more old new before c is_state not_redefined takes = record {
+  state_after = takes.state_after ∙ ap (after c) is_state.state_after ∙ sym (state_after-more before c);
+  holes = takes.holes ∙ (λ i. is_state.holes i ++ option_to_list (option_map hole_of (drill_path (is_state.state_after i) c))) ∙ ap (λ d. holes_of before ++ option_to_list (option_map hole_of d)) (drilled_back before c) ∙ sym (holes_of-more before c);
+  tools = takes.tools not_redefined ∙ ap (λ (x : List (ℕ × ℤ)). x ++ option_to_list (tool_defined c)) is_state.tools ∙ sym (tools_of-more before c);
 }
 
 -- ---- the arms of a hit and a slot
 
-pub moved_two : (p q : Coordinates) (s : Standing) → moved q (moved p s) ≡ after (command.Slot p q) s
+pub moved_two : (p q : Coordinates) (s : StateView) → moved q (moved p s) ≡ after (command.Slot p q) s
 moved_two p q s = λ i. record {
   settings = s.settings;
-  is_settled = s.is_settled;
+  header_ended = s.header_ended;
   diameter = s.diameter;
   tool = s.tool;
   x = sym (option_or_assoc q.x p.x s.x) i;
   y = sym (option_or_assoc q.y p.y s.y) i;
 }
 
-pub moved_one : (p : Coordinates) (s : Standing) → moved nowhere (moved p s) ≡ after (command.Hit p) s
+pub moved_one : (p : Coordinates) (s : StateView) → moved no_point (moved p s) ≡ after (command.Hit p) s
 moved_one p s = refl

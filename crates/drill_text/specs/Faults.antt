@@ -12,15 +12,15 @@ use Rattle.drill_lines.specs.Meaning.{meaning}
 use Rattle.drill_text.specs.Lines.{bytes_of, Splits}
 use Rattle.drill_text.specs.Lookback.{settings_after}
 use Rattle.drill_text.specs.Rules.{broken_rule}
-use Rattle.drill_text.specs.Reading.{is_finish, place_behind}
-use Rattle.drill_text.specs.Texts.{spelled_behind, AreShort, IsDrillText}
+use Rattle.drill_text.specs.Reading.{is_finish, place_after}
+use Rattle.drill_text.specs.Texts.{spelled_after, AreWithinLimit, IsDrillText}
 use Rattle.grid_units.specs.Limits.{text_limit, line_limit}
 use Rattle.grid_units.specs.Lists.{IsLegal}
 
 -- Lines spell these commands, which are legal, and none of the lines is too long.
 pub record SpellLegally (lines : List (List ℕ)) (commands : List DrillCommand) : Type 0 where
-  pub short : AreShort lines
-  pub spelling : spelled_behind [] lines ≡ Ok commands
+  pub short : AreWithinLimit lines
+  pub spelling : spelled_after [] lines ≡ Ok commands
   pub legal : IsLegal broken_rule commands
 
 -- a line after these commands is refused for this reason: it is too long; or it spells nothing for this reason; or the command
@@ -49,7 +49,7 @@ pub record HasRefusedLine (lines : List (List ℕ)) (f : Fault) : Type 0 where
 abbrev pub HasFaultWithin : List ℕ → List (List ℕ) → List ℕ → Fault → Type 0
 HasFaultWithin text lines rest f =
     HasRefusedLine (lines ++ rest ∷ []) f
-    ⊎ ((commands : List DrillCommand) × SpellLegally (lines ++ rest ∷ []) commands × (list_any is_finish commands ≡ false) × (f ≡ fault (place_behind lines rest) (length text) Truncated))
+    ⊎ ((commands : List DrillCommand) × SpellLegally (lines ++ rest ∷ []) commands × (list_any is_finish commands ≡ false) × (f ≡ fault (place_after lines rest) (length text) Truncated))
 
 -- the fault of a text above the limit, by the bytes within it: that of a line that has ended; or the line after these is too
 -- long already; or else the text is

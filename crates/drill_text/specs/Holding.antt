@@ -8,10 +8,10 @@ use Rattle.drill_lines.specs.declared.command.DrillCommand.{DrillCommand}
 use Rattle.drill_text.specs.declared.reader.Progress.{Progress}
 use Rattle.drill_text.specs.declared.reader.DrillReader.{DrillReader}
 use Rattle.drill_text.specs.declared.kept.Keep.{Keep}
-use Rattle.grid_units.specs.Results.{Tells}
+use Rattle.grid_units.specs.Results.{IfFault}
 use Rattle.drill_text.specs.Lines.{bytes_of, Splits}
 use Rattle.drill_text.specs.Reading.{shown, Shows}
-use Rattle.drill_text.specs.Keeping.{Met}
+use Rattle.drill_text.specs.Keeping.{HasRead}
 
 -- The text is cut into lines, which spell the commands that the reader has met, and into a rest, the line that has not ended.
 pub record Holds (reader : Progress) (keep : Keep) (text : List ℕ) : Type 0 where
@@ -19,7 +19,7 @@ pub record Holds (reader : Progress) (keep : Keep) (text : List ℕ) : Type 0 wh
   pub commands : List DrillCommand
   pub splits : Splits text lines reader.line.items
   pub spelled : shown lines reader.line.items ≡ Ok commands
-  pub met : Met reader.judge reader.kept keep commands
+  pub has_read : HasRead reader.state reader.kept keep commands
   pub count : reader.lines ≡ length lines
   pub start : reader.start ≡ length (bytes_of lines)
   pub offset : reader.offset ≡ length text
@@ -42,7 +42,7 @@ Refuses old bytes (fails.Refused f) = (keep : Keep) (text : List ℕ) → Holds 
 
 -- whatever text the reader has read, that text with this piece shows this fault; or memory ran out
 abbrev pub RefusesText : Progress → List ℕ → Fail → Type 0
-RefusesText old piece e = (keep : Keep) (text : List ℕ) → Holds old keep text → Tells (λ f. Shows (text ++ piece) (Err f)) e
+RefusesText old piece e = (keep : Keep) (text : List ℕ) → Holds old keep text → IfFault (λ f. Shows (text ++ piece) (Err f)) e
 
 -- the failure of a reader, `None` where it has not failed
 abbrev pub failure : DrillReader → Option Fail

@@ -1,2 +1,2 @@
-pub mod Hits
-pub mod Knowing
+pub mod FastPath
+pub mod StateSteps

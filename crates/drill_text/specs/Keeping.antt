@@ -1,31 +1,31 @@
 -- What a reader has met and keeps of the commands of a text.
 use Rattle.std.specs.Prelude.{◌≡◌, List, Result, Ok, Err}
 use Rattle.std.specs.List.{list_any}
-use Rattle.grid_units.specs.Results.{Tells}
+use Rattle.grid_units.specs.Results.{IfFault}
 use Rattle.grid_units.specs.declared.fault.Fault.{Fault}
 use Rattle.grid_units.specs.declared.fault.Fail.{Fail}
 use Rattle.drill_lines.specs.declared.command.DrillCommand.{DrillCommand}
-use Rattle.drill_text.specs.declared.judge.Judge.{Judge}
+use Rattle.drill_text.specs.declared.state.DrillState.{DrillState}
 use Rattle.drill_text.specs.declared.kept.Keep.{Keep}
-use Rattle.drill_text.specs.declared.kept.Kept.{Kept}
+use Rattle.drill_text.specs.declared.kept.KeptCommands.{KeptCommands}
 use Rattle.drill_text.specs.Reading.{is_finish}
 use Rattle.drill_text.specs.Outcome.{kept_commands, kept_text}
 use Rattle.drill_text.specs.Writing.{text_or_fault}
-use Rattle.drill_text.specs.Inner.Knowing.{Knows}
+use Rattle.drill_text.specs.Inner.StateSteps.{IsStateAfter}
 
 -- What was asked for is kept of the commands that were taken in; and whether the end of the file is among them.
-pub record Keeps (kept : Kept) (keep : Keep) (taken : List DrillCommand) : Type 0 where
+pub record KeepsCommands (kept : KeptCommands) (keep : Keep) (taken : List DrillCommand) : Type 0 where
   pub asked : kept.keep ≡ keep
   pub commands : kept.commands.items ≡ kept_commands keep taken
   pub text : text_or_fault kept.text.items ≡ text_or_fault (kept_text keep taken)
   pub finished : kept.is_finished ≡ list_any is_finish taken
 
 -- the judge has met just these commands, and what was asked for is kept of them
-pub record Met (judge : Judge) (kept : Kept) (keep : Keep) (commands : List DrillCommand) : Type 0 where
-  pub knows : Knows judge commands
-  pub keeps : Keeps kept keep commands
+pub record HasRead (state : DrillState) (kept : KeptCommands) (keep : Keep) (commands : List DrillCommand) : Type 0 where
+  pub is_state : IsStateAfter state commands
+  pub keeps : KeepsCommands kept keep commands
 
 -- The line was read and judged: the judge has now met the commands after it; or this is its fault, or memory ran out.
-abbrev pub Leaves : {X : Type 0} → Result X Fail → Judge → Kept → Keep → Result (List DrillCommand) Fault → Type 0
-Leaves (Ok x) judge kept keep read = (commands : List DrillCommand) × (read ≡ Ok commands) × Met judge kept keep commands
-Leaves (Err e) judge kept keep read = Tells (λ f. read ≡ Err f) e
+abbrev pub ResultsIn : {X : Type 0} → Result X Fail → DrillState → KeptCommands → Keep → Result (List DrillCommand) Fault → Type 0
+ResultsIn (Ok x) state kept keep read = (commands : List DrillCommand) × (read ≡ Ok commands) × HasRead state kept keep commands
+ResultsIn (Err e) state kept keep read = IfFault (λ f. read ≡ Err f) e

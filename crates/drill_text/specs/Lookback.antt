@@ -2,7 +2,7 @@
 -- (docs/FORMATS.md, Drill lines of the four parts; Drill coordinates).
 use Rattle.std.specs.Prelude.{ℕ, ℤ, Bool, true, false, ◌==◌, List, [], ◌∷◌, Option, None, Some, unwrap_or, if◌then◌else◌}
 use Rattle.std.specs.List.{list_any, flat_map, filter_map}
-use Rattle.grid_units.specs.Lists.{last_named}
+use Rattle.grid_units.specs.Lists.{last_set}
 use Rattle.grid_units.specs.declared.lengths.Unit.{Unit as Units}
 use Rattle.grid_units.specs.declared.zero_filling.Zeros.{Zeros}
 use Rattle.drill_lines.specs.declared.command.Part.{Part}
@@ -17,15 +17,15 @@ use Rattle.drill_lines.specs.Header.{file_format}
 -- ---- the part of the file
 
 -- the part of the file that a command begins: Start the header, HeaderEnd the body, Finish the part after
-abbrev pub part_named : DrillCommand → Option Part
-part_named command.Start = Some part.Header
-part_named command.HeaderEnd = Some part.Body
-part_named command.Finish = Some part.After
-part_named _ = None
+abbrev pub part_set : DrillCommand → Option Part
+part_set command.Start = Some part.Header
+part_set command.HeaderEnd = Some part.Body
+part_set command.Finish = Some part.After
+part_set _ = None
 
 -- the part of the file after these commands, by the last of them that begins one
 abbrev pub part_after : List DrillCommand → Part
-part_after before = unwrap_or (last_named part_named before) part.Before
+part_after before = unwrap_or (last_set part_set before) part.Before
 
 -- ---- what the commands up to the end of the header give as a whole
 
@@ -40,37 +40,37 @@ header [] = []
 header (c ∷ cs) = if ends_header c then [] else c ∷ header cs
 
 -- the unit that a command gives, as `METRIC` and `M71` do
-abbrev pub unit_named : DrillCommand → Option Units
-unit_named (command.UnitLine unit _ _) = Some unit
-unit_named (command.UnitCode unit) = Some unit
-unit_named _ = None
+abbrev pub unit_set : DrillCommand → Option Units
+unit_set (command.UnitLine unit _ _) = Some unit
+unit_set (command.UnitCode unit) = Some unit
+unit_set _ = None
 
 -- the zeros that a command gives, as `METRIC,TZ` does
-abbrev pub zeros_named : DrillCommand → Option Zeros
-zeros_named (command.UnitLine _ zeros _) = zeros
-zeros_named _ = None
+abbrev pub zeros_set : DrillCommand → Option Zeros
+zeros_set (command.UnitLine _ zeros _) = zeros
+zeros_set _ = None
 
 -- the format that a command gives, as `METRIC,000.000` and `;FILE_FORMAT=3:3` do
-abbrev pub format_named : DrillCommand → Option Digits
-format_named (command.Comment text) = file_format text
-format_named (command.UnitLine _ _ format) = format
-format_named _ = None
+abbrev pub format_set : DrillCommand → Option Digits
+format_set (command.Comment text) = file_format text
+format_set (command.UnitLine _ _ format) = format
+format_set _ = None
 
 -- By what the next line is read: its part of the file, and what was given last before the first HeaderEnd. Later lines give nothing.
 abbrev pub settings_after : List DrillCommand → Settings
 settings_after before = record {
   part = part_after before;
-  unit = last_named unit_named (header before);
-  zeros = last_named zeros_named (header before);
-  format = last_named format_named (header before);
+  unit = last_set unit_set (header before);
+  zeros = last_set zeros_set (header before);
+  format = last_set format_set (header before);
 }
 
 -- ---- tools and points
 
 -- the diameter that a command gives this tool, in units of 10^-8
-abbrev pub diameter_named : ℕ → DrillCommand → Option ℤ
-diameter_named number (command.Tool other diameter) = if other == number then Some diameter else None
-diameter_named number _ = None
+abbrev pub diameter_set : ℕ → DrillCommand → Option ℤ
+diameter_set number (command.Tool other diameter) = if other == number then Some diameter else None
+diameter_set number _ = None
 
 -- the tool that a command defines, with its diameter: (1, 40000000) of `T1C0.4`
 abbrev pub tool_defined : DrillCommand → Option (ℕ × ℤ)
@@ -82,46 +82,46 @@ abbrev pub tools_of : List DrillCommand → List (ℕ × ℤ)
 tools_of commands = filter_map tool_defined commands
 
 -- the tool that a command picks: 1 of `T1` in the body, 0 of `T0`
-abbrev pub tool_named : DrillCommand → Option ℕ
-tool_named (command.Pick number) = Some number
-tool_named _ = None
+abbrev pub tool_set : DrillCommand → Option ℕ
+tool_set (command.Pick number) = Some number
+tool_set _ = None
 
 -- the points that a command names, in order: one of a hit, two of a slot
-abbrev pub points_named : DrillCommand → List Coordinates
-points_named (command.Hit point) = point ∷ []
-points_named (command.Slot first second) = first ∷ second ∷ []
-points_named _ = []
+abbrev pub points_in : DrillCommand → List Coordinates
+points_in (command.Hit point) = point ∷ []
+points_in (command.Slot first second) = first ∷ second ∷ []
+points_in _ = []
 
 -- the points of a list of commands, in order: one for a hit and two for a slot
 abbrev pub points_of : List DrillCommand → List Coordinates
-points_of commands = flat_map points_named commands
+points_of commands = flat_map points_in commands
 
 -- the X that a point names, if it does not leave it out
-abbrev pub x_named : Coordinates → Option ℤ
-x_named point = point.x
+abbrev pub x_set : Coordinates → Option ℤ
+x_set point = point.x
 
 -- the Y that a point names, if it does not leave it out
-abbrev pub y_named : Coordinates → Option ℤ
-y_named point = point.y
+abbrev pub y_set : Coordinates → Option ℤ
+y_set point = point.y
 
 -- ---- all that stands when a line comes
 
 -- what stands before a line: the settings, whether the header has ended, the tools, the tool picked last, and the last X and Y
-pub record Standing : Type 0 where
+pub record StateView : Type 0 where
   pub settings : Settings
-  pub is_settled : Bool
+  pub header_ended : Bool
   pub diameter : ℕ → Option ℤ
   pub tool : Option ℕ
   pub x : Option ℤ
   pub y : Option ℤ
 
 -- what stands after these commands, each field by looking back
-abbrev pub standing : List DrillCommand → Standing
-standing before = record {
+abbrev pub state_after : List DrillCommand → StateView
+state_after before = record {
   settings = settings_after before;
-  is_settled = list_any ends_header before;
-  diameter = λ number. last_named (diameter_named number) before;
-  tool = last_named tool_named before;
-  x = last_named x_named (points_of before);
-  y = last_named y_named (points_of before);
+  header_ended = list_any ends_header before;
+  diameter = λ number. last_set (diameter_set number) before;
+  tool = last_set tool_set before;
+  x = last_set x_set (points_of before);
+  y = last_set y_set (points_of before);
 }

@@ -7,7 +7,7 @@ use Rattle.drill_text.specs.declared.kept.Keep.{Keep}
 use Rattle.drill_text.specs.declared.kept.Keep.TheVariants as keep
 use Rattle.drill_text.specs.Lookback.{tools_of}
 use Rattle.drill_text.specs.Holes.{holes_of}
-use Rattle.drill_text.specs.Writing.{canonical_text, text_or_fault}
+use Rattle.drill_text.specs.Writing.{canonical_lines, text_or_fault}
 
 -- the commands of a drill file, their canonical text, the holes that they drill, and the tools with their diameters in order of definition
 pub record DrillFile : Type 0 where
@@ -23,7 +23,7 @@ kept_commands _ commands = []
 
 -- the canonical text of the commands, if it is kept
 abbrev pub kept_text : Keep → List DrillCommand → List ℕ
-kept_text keep.Text commands = canonical_text commands
+kept_text keep.Text commands = canonical_lines commands
 kept_text _ commands = []
 
 -- the drill file of these commands, with what is kept of them; its holes and tools follow from them

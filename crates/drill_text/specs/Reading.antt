@@ -4,7 +4,7 @@ use Rattle.std.specs.List.{list_any}
 use Rattle.grid_units.specs.declared.fault.Reason.{Reason}
 use Rattle.grid_units.specs.declared.fault.Reason.TheVariants.{TooLong, Truncated}
 use Rattle.grid_units.specs.declared.fault.Fault.{Fault}
-use Rattle.grid_units.specs.Results.{◌>>=◌, fault, at}
+use Rattle.grid_units.specs.Results.{◌>>=◌, fault, with_place}
 use Rattle.drill_lines.specs.declared.command.DrillCommand.{DrillCommand}
 use Rattle.drill_lines.specs.declared.command.DrillCommand.TheVariants.{Finish}
 use Rattle.drill_lines.specs.Lines.{trimmed}
@@ -15,24 +15,24 @@ use Rattle.drill_text.specs.Rules.{broken_rule}
 use Rattle.grid_units.specs.Limits.{text_limit, line_limit}
 
 -- these commands and one more, unless it breaks this rule
-abbrev pub kept_unless : Option Reason → List DrillCommand → DrillCommand → Result (List DrillCommand) Reason
-kept_unless None before c = Ok (before ++ c ∷ [])
-kept_unless (Some broken) before c = Err broken
+abbrev pub add_unless : Option Reason → List DrillCommand → DrillCommand → Result (List DrillCommand) Reason
+add_unless None before c = Ok (before ++ c ∷ [])
+add_unless (Some broken) before c = Err broken
 
 -- these commands and the one that a line spells, if it spells one, or the first rule that it breaks
-abbrev pub judged : List DrillCommand → Option DrillCommand → Result (List DrillCommand) Reason
-judged before None = Ok before
-judged before (Some c) = kept_unless (broken_rule before c) before c
+abbrev pub checked : List DrillCommand → Option DrillCommand → Result (List DrillCommand) Reason
+checked before None = Ok before
+checked before (Some c) = add_unless (broken_rule before c) before c
 
 -- one more line: TooLong above 1,048,576 bytes; else it is read by what stands before it, and its command is judged
 unfoldable pub step : List DrillCommand → List ℕ → Result (List DrillCommand) Reason
 step before line =
     if nat_lt line_limit (length line) then Err TooLong
-    else (meaning (settings_after before) (trimmed line) >>= judged before)
+    else (meaning (settings_after before) (trimmed line) >>= checked before)
 
 -- one more line with this number, from 1, whose first byte has this offset; a refusal is its fault
 abbrev pub spelled : ℕ → ℕ → List ℕ → List DrillCommand → Result (List DrillCommand) Fault
-spelled place byte line before = at place byte (step before line)
+spelled place byte line before = with_place place byte (step before line)
 
 -- these commands and those of the lines, the first with this number and offset; or the fault of the first line that has one
 abbrev pub commands_from : ℕ → ℕ → List (List ℕ) → List DrillCommand → Result (List DrillCommand) Fault
@@ -61,17 +61,17 @@ is_finish Finish = true
 is_finish _ = false
 
 -- the number of the line after so many lines and a rest; a rest with at least one byte is a line too
-abbrev pub place_behind_count : ℕ → List ℕ → ℕ
-place_behind_count count [] = count + 1
-place_behind_count count (b ∷ bs) = count + 2
+abbrev pub place_after_count : ℕ → List ℕ → ℕ
+place_after_count count [] = count + 1
+place_after_count count (b ∷ bs) = count + 2
 
 -- the number of the line after the last one of a text
-abbrev pub place_behind : List (List ℕ) → List ℕ → ℕ
-place_behind lines rest = place_behind_count (length lines) rest
+abbrev pub place_after : List (List ℕ) → List ℕ → ℕ
+place_after lines rest = place_after_count (length lines) rest
 
 -- the commands of a text that ends here; without `M30` it is Truncated after its last line, at the text's length
 abbrev pub ended : ℕ → List (List ℕ) → List ℕ → List DrillCommand → Result (List DrillCommand) Fault
-ended len lines rest commands = if list_any is_finish commands then Ok commands else Err (fault (place_behind lines rest) len Truncated)
+ended len lines rest commands = if list_any is_finish commands then Ok commands else Err (fault (place_after lines rest) len Truncated)
 
 -- the commands of a whole text of this length, whose rest is a line too; or its first fault
 abbrev pub read_in : ℕ → List (List ℕ) → List ℕ → Result (List DrillCommand) Fault

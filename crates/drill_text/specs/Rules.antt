@@ -4,7 +4,7 @@ use Rattle.std.specs.Option.{option_map_or}
 use Rattle.std.specs.List.{find}
 use Rattle.grid_units.specs.declared.fault.Reason.{Reason}
 use Rattle.grid_units.specs.declared.fault.Reason.TheVariants as reason
-use Rattle.grid_units.specs.Numbers.{is_far}
+use Rattle.grid_units.specs.Numbers.{is_too_far}
 use Rattle.grid_units.specs.declared.lengths.Unit.{Unit as Units}
 use Rattle.grid_units.specs.declared.lengths.Unit.TheVariants as unit
 use Rattle.grid_units.specs.declared.zero_filling.Zeros.{Zeros}
@@ -12,8 +12,8 @@ use Rattle.grid_units.specs.declared.zero_filling.Zeros.TheVariants as zeros
 use Rattle.drill_lines.specs.declared.command.DrillCommand.{DrillCommand}
 use Rattle.drill_lines.specs.declared.command.DrillCommand.TheVariants as command
 use Rattle.drill_lines.specs.Formats.{Digits}
-use Rattle.drill_text.specs.Lookback.{Standing, standing, unit_named, zeros_named, format_named}
-use Rattle.drill_text.specs.Holes.{Drilled, drilled_at, holes_of}
+use Rattle.drill_text.specs.Lookback.{StateView, state_after, unit_set, zeros_set, format_set}
+use Rattle.drill_text.specs.Holes.{DrillPath, path_at, holes_of}
 
 -- ---- one rule at a time
 
@@ -41,23 +41,23 @@ differs same (Some a) None = false
 differs same (Some a) (Some b) = not (same a b)
 
 -- a format or zeros that differ from those given before: `METRIC,TZ` after `METRIC,LZ`. After the header nothing is given
-abbrev pub conflicts_in_format : Standing → DrillCommand → Bool
-conflicts_in_format s c = (differs same_format (format_named c) s.settings.format || differs same_zeros (zeros_named c) s.settings.zeros) && not s.is_settled
+abbrev pub conflicts_in_format : StateView → DrillCommand → Bool
+conflicts_in_format s c = (differs same_format (format_set c) s.settings.format || differs same_zeros (zeros_set c) s.settings.zeros) && not s.header_ended
 
 -- the header ends, and no unit was given
-abbrev pub lacks_unit : Standing → DrillCommand → Bool
+abbrev pub lacks_unit : StateView → DrillCommand → Bool
 lacks_unit s command.HeaderEnd = is_none s.settings.unit
 lacks_unit s _ = false
 
 -- a tool is defined whose number was defined before, with whatever diameter
-abbrev pub defines_again : Standing → DrillCommand → Bool
-defines_again s (command.Tool number _) = is_some (s.diameter number)
-defines_again s _ = false
+abbrev pub redefines_tool : StateView → DrillCommand → Bool
+redefines_tool s (command.Tool number _) = is_some (s.diameter number)
+redefines_tool s _ = false
 
 -- a tool other than 0 is picked, and it is not defined
-abbrev pub picks_unknown : Standing → DrillCommand → Bool
-picks_unknown s (command.Pick number) = not (number == 0) && is_none (s.diameter number)
-picks_unknown s _ = false
+abbrev pub picks_unknown_tool : StateView → DrillCommand → Bool
+picks_unknown_tool s (command.Pick number) = not (number == 0) && is_none (s.diameter number)
+picks_unknown_tool s _ = false
 
 -- a hit or a slot
 abbrev pub drills : DrillCommand → Bool
@@ -66,21 +66,21 @@ drills (command.Slot _ _) = true
 drills _ = false
 
 -- no tool was picked, or the last pick is 0
-abbrev pub has_no_tool : Standing → Bool
+abbrev pub has_no_tool : StateView → Bool
 has_no_tool s = option_map_or (λ number. number == 0) s.tool true
 
 -- a tool is defined with a diameter that is not above 0, as `T1C0.0`
-abbrev pub defines_badly : DrillCommand → Bool
-defines_badly (command.Tool _ diameter) = int_le diameter (pos 0)
-defines_badly _ = false
+abbrev pub has_bad_diameter : DrillCommand → Bool
+has_bad_diameter (command.Tool _ diameter) = int_le diameter (pos 0)
+has_bad_diameter _ = false
 
 -- a hole is drilled with a diameter that is not above 0
-abbrev pub is_bad : Drilled → Bool
-is_bad d = int_le d.diameter (pos 0)
+abbrev pub has_bad_size : DrillPath → Bool
+has_bad_size d = int_le d.diameter (pos 0)
 
 -- a coordinate of what is drilled, or its diameter, is above 10 m in absolute value
-abbrev pub reaches_far : Drilled → Bool
-reaches_far d = is_far d.from.x || (is_far d.from.y || (is_far d.to.x || (is_far d.to.y || is_far d.diameter)))
+abbrev pub reaches_too_far : DrillPath → Bool
+reaches_too_far d = is_too_far d.from.x || (is_too_far d.from.y || (is_too_far d.to.x || (is_too_far d.to.y || is_too_far d.diameter)))
 
 -- the greatest number of holes in a drill file (docs/FORMATS.md, Limits)
 abbrev pub max_holes : ℕ
@@ -89,26 +89,26 @@ max_holes = 1048576
 -- ---- the table
 
 -- whether the rule of a reason applies to a command, by what stands before it, how many holes there are and what it drills
-abbrev pub applies : Standing → ℕ → Option Drilled → DrillCommand → Reason → Bool
-applies s count drilled c reason.NoUnit = lacks_unit s c
-applies s count drilled c reason.UnitConflict = differs same_unit (unit_named c) s.settings.unit
-applies s count drilled c reason.FormatConflict = conflicts_in_format s c
-applies s count drilled c reason.Redefined = defines_again s c
-applies s count drilled c reason.UnknownTool = picks_unknown s c
-applies s count drilled c reason.NoTool = drills c && has_no_tool s
-applies s count drilled c reason.BadSize = defines_badly c || option_map_or is_bad drilled false
-applies s count drilled c reason.TooFar = option_map_or reaches_far drilled false
-applies s count drilled c reason.TooManyHoles = drills c && nat_le max_holes count
-applies s count drilled c _ = false
+abbrev pub applies : StateView → ℕ → Option DrillPath → DrillCommand → Reason → Bool
+applies s count drill_path c reason.NoUnit = lacks_unit s c
+applies s count drill_path c reason.UnitConflict = differs same_unit (unit_set c) s.settings.unit
+applies s count drill_path c reason.FormatConflict = conflicts_in_format s c
+applies s count drill_path c reason.Redefined = redefines_tool s c
+applies s count drill_path c reason.UnknownTool = picks_unknown_tool s c
+applies s count drill_path c reason.NoTool = drills c && has_no_tool s
+applies s count drill_path c reason.BadSize = has_bad_diameter c || option_map_or has_bad_size drill_path false
+applies s count drill_path c reason.TooFar = option_map_or reaches_too_far drill_path false
+applies s count drill_path c reason.TooManyHoles = drills c && nat_le max_holes count
+applies s count drill_path c _ = false
 
 -- the reasons of all rules, in rule order
 abbrev pub rules : List Reason
 rules = reason.NoUnit ∷ reason.UnitConflict ∷ reason.FormatConflict ∷ reason.Redefined ∷ reason.UnknownTool ∷ reason.NoTool ∷ reason.BadSize ∷ reason.TooFar ∷ reason.TooManyHoles ∷ []
 
 -- the first rule that applies, in rule order
-unfoldable pub first_broken : Standing → ℕ → Option Drilled → DrillCommand → Option Reason
-first_broken s count drilled c = find (applies s count drilled c) rules
+unfoldable pub first_broken : StateView → ℕ → Option DrillPath → DrillCommand → Option Reason
+first_broken s count drill_path c = find (applies s count drill_path c) rules
 
 -- the first rule that a command breaks after the commands before it
 abbrev pub broken_rule : List DrillCommand → DrillCommand → Option Reason
-broken_rule before c = first_broken (standing before) (length (holes_of before)) (drilled_at before c) c
+broken_rule before c = first_broken (state_after before) (length (holes_of before)) (path_at before c) c

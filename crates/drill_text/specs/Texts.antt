@@ -16,13 +16,13 @@ use Rattle.grid_units.specs.Limits.{text_limit, line_limit}
 use Rattle.drill_text.specs.Rules.{broken_rule}
 
 -- these commands and those that the lines after them spell, each line by the settings of the commands before it
-abbrev pub spelled_behind : List DrillCommand → List (List ℕ) → Result (List DrillCommand) Reason
-spelled_behind before [] = Ok before
-spelled_behind before (line ∷ lines) = meaning (settings_after before) (trimmed line) >>= λ command. spelled_behind (before ++ option_to_list command) lines
+abbrev pub spelled_after : List DrillCommand → List (List ℕ) → Result (List DrillCommand) Reason
+spelled_after before [] = Ok before
+spelled_after before (line ∷ lines) = meaning (settings_after before) (trimmed line) >>= λ command. spelled_after (before ++ option_to_list command) lines
 
 -- no line has more than 1,048,576 bytes (docs/FORMATS.md, Limits)
-abbrev pub AreShort : List (List ℕ) → Type 0
-AreShort lines = AllByRecursion (λ line. length line ≤ line_limit) lines
+abbrev pub AreWithinLimit : List (List ℕ) → Type 0
+AreWithinLimit lines = AllByRecursion (λ line. length line ≤ line_limit) lines
 
 -- A text spells these commands: its lines, with the rest after the last LF, spell them in order, its end is one of them, and
 -- neither a line nor the text is too long.
@@ -31,8 +31,8 @@ pub record SpellsText (text : List ℕ) (commands : List DrillCommand) : Type 0 
   pub rest : List ℕ
   pub splits : Splits text lines rest
   pub within : length text ≤ text_limit
-  pub short : AreShort (lines ++ rest ∷ [])
-  pub spelling : spelled_behind [] (lines ++ rest ∷ []) ≡ Ok commands
+  pub short : AreWithinLimit (lines ++ rest ∷ [])
+  pub spelling : spelled_after [] (lines ++ rest ∷ []) ≡ Ok commands
   pub ends : list_any is_finish commands ≡ true
 
 -- a drill text of these commands: the text spells them, and none of them breaks a rule after those before it

@@ -9,36 +9,36 @@ use Rattle.drill_lines.specs.declared.command.Part.TheVariants as part
 use Rattle.drill_lines.specs.declared.command.DrillCommand.{DrillCommand}
 use Rattle.drill_lines.specs.Writing.{canonical, is_sayable}
 use Rattle.drill_text.specs.Lines.{bytes_of}
-use Rattle.drill_text.specs.Lookback.{part_named}
+use Rattle.drill_text.specs.Lookback.{part_set}
 use Rattle.grid_units.specs.Limits.{text_limit}
 
 -- the part of a file after one more command
-abbrev pub part_behind : Part → DrillCommand → Part
-part_behind p c = unwrap_or (part_named c) p
+abbrev pub part_with : Part → DrillCommand → Part
+part_with p c = unwrap_or (part_set c) p
 
 -- the part of a file after more commands
 abbrev pub part_from : Part → List DrillCommand → Part
 part_from p [] = p
-part_from p (c ∷ cs) = part_from (part_behind p c) cs
+part_from p (c ∷ cs) = part_from (part_with p c) cs
 
 -- each command is one that some line of its part of the file spells
 abbrev pub are_sayable : Part → List DrillCommand → Bool
 are_sayable p [] = true
-are_sayable p (c ∷ cs) = is_sayable p c && are_sayable (part_behind p c) cs
+are_sayable p (c ∷ cs) = is_sayable p c && are_sayable (part_with p c) cs
 
 -- the part after `M30`
-abbrev pub is_over : Part → Bool
-is_over part.After = true
-is_over _ = false
+abbrev pub is_after_end : Part → Bool
+is_after_end part.After = true
+is_after_end _ = false
 
 -- A list is sayable: comments, Start, commands of the header, HeaderEnd, commands of the body and Finish, each one that
 -- some line of its part spells.
 abbrev pub drill_sayable : List DrillCommand → Bool
-drill_sayable commands = are_sayable part.Before commands && is_over (part_from part.Before commands)
+drill_sayable commands = are_sayable part.Before commands && is_after_end (part_from part.Before commands)
 
 -- each command as its canonical line, with an LF after it
-abbrev pub canonical_text : List DrillCommand → List ℕ
-canonical_text commands = bytes_of (map canonical commands)
+abbrev pub canonical_lines : List DrillCommand → List ℕ
+canonical_lines commands = bytes_of (map canonical commands)
 
 -- these bytes; above 268,435,456 of them are TooLong at place 0 and byte 0
 abbrev pub text_or_fault : List ℕ → Result (List ℕ) Fault
@@ -46,8 +46,8 @@ text_or_fault bytes = if nat_lt text_limit (length bytes) then Err (fault 0 0 To
 
 -- the canonical text, unless it is too long
 abbrev pub written : List DrillCommand → Result (List ℕ) Fault
-written commands = text_or_fault (canonical_text commands)
+written commands = text_or_fault (canonical_lines commands)
 
 -- the bytes that a vector holds, in order
-abbrev pub bytes_in : Vec ℕ → List ℕ
-bytes_in bytes = bytes.items
+abbrev pub vec_bytes : Vec ℕ → List ℕ
+vec_bytes bytes = bytes.items

@@ -4,12 +4,12 @@ ghost use Rattle.std.specs.Prelude.{◌≡◌, List};
 ghost use Rattle.grid_units.specs.Results.{AnswersAlways};
 ghost use Rattle.drill_lines.specs.declared.command.DrillCommand.{DrillCommand as TheCommand};
 ghost use Rattle.drill_text.specs.declared.kept.Keep.{Keep};
-ghost use Rattle.drill_text.specs.Keeping.{Met};
+ghost use Rattle.drill_text.specs.Keeping.{HasRead};
 ghost use Rattle.drill_text.specs.Outcome.{file_of};
-ghost use Rattle.drill_text.specs.Writing.{bytes_in};
+ghost use Rattle.drill_text.specs.Writing.{vec_bytes};
 
-use crate::judge::Judge;
-use crate::kept::Kept;
+use crate::kept::KeptCommands;
+use crate::state::DrillState;
 use crate::writer::too_long;
 use drill_lines::DrillCommand;
 use grid_units::{Dec, Fail, Hole, TEXT_LIMIT};
@@ -37,11 +37,11 @@ impl Model for Drill {
 
 impl Drill {
     /// The drill file of the commands that a judge has met, with what was kept of them.
-    pub(crate) fn new(judge: Judge, kept: Kept) -> Drill
-        ensures { (keep : Keep) (commands : List TheCommand) → Met judge kept keep commands → result ≡ file_of keep commands }
+    pub(crate) fn new(state: DrillState, kept: KeptCommands) -> Drill
+        ensures { (keep : Keep) (commands : List TheCommand) → HasRead state kept keep commands → result ≡ file_of keep commands }
     {
         let (commands, text) = kept.into_parts();
-        let (holes, tools) = judge.into_parts();
+        let (holes, tools) = state.into_parts();
         Drill {
             commands,
             text,
@@ -78,7 +78,7 @@ impl Drill {
     ///
     /// [`grid_units::Reason::TooLong`] at place 0 and byte 0 where the text would be above 268,435,456 bytes.
     pub fn into_text(self) -> Result<Vec<u8>, Fail>
-        ensures { AnswersAlways bytes_in (λ answer. answer ≡ self.text) result }
+        ensures { AnswersAlways vec_bytes (λ answer. answer ≡ self.text) result }
     {
         let Drill { text, .. } = self;
         if text.len() > TEXT_LIMIT {

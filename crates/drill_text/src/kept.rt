@@ -4,7 +4,7 @@ ghost use Rattle.std.specs.Prelude.{◌≡◌, [], ◌∷◌, ◌++◌, List, On
 ghost use Rattle.drill_lines.specs.declared.command.DrillCommand.{DrillCommand as TheCommand};
 ghost use Rattle.drill_text.specs.declared.kept.Keep.{Keep as TheKeep};
 
-use crate::writer::push_line;
+use crate::writer::put_line;
 use drill_lines::DrillCommand;
 use grid_units::TEXT_LIMIT;
 use std::alloc::{AllocError, Global};
@@ -23,21 +23,21 @@ pub enum Keep {
 /// The commands that were read, or their canonical text, or neither; and whether the end of the file is among them. Once the
 /// text is longer than a text may be, nothing is added to it.
 #[derive(Drop)]
-pub(crate) struct Kept {
+pub(crate) struct KeptCommands {
     keep: Keep,
     commands: Vec<DrillCommand>,
     text: Vec<u8>,
     is_finished: bool,
 }
 
-impl Kept {
-    ghost use Rattle.drill_text.specs.Keeping.{Keeps};
+impl KeptCommands {
+    ghost use Rattle.drill_text.specs.Keeping.{KeepsCommands};
 
-    /// Keeps nothing yet.
-    pub(crate) fn new(alloc: Global, keep: Keep) -> Kept
-        ensures { Keeps result keep [] }
+    /// Nothing is kept yet.
+    pub(crate) fn new(alloc: Global, keep: Keep) -> KeptCommands
+        ensures { KeepsCommands result keep [] }
     {
-        Kept {
+        KeptCommands {
             keep,
             commands: Vec::new(alloc),
             text: Vec::new(alloc),
@@ -47,7 +47,7 @@ impl Kept {
 
     /// Adds a command, or its line.
     pub(crate) fn add(&mut self, command: DrillCommand) -> Result<(), AllocError>
-        ensures { (keep : TheKeep) (before : List TheCommand) → Keeps self.old keep before → OnOk result (Keeps self.new keep (before ++ command ∷ [])) }
+        ensures { (keep : TheKeep) (before : List TheCommand) → KeepsCommands self.old keep before → OnOk result (KeepsCommands self.new keep (before ++ command ∷ [])) }
     {
         if matches!(command, DrillCommand::Finish) {
             self.is_finished = true;
@@ -57,7 +57,7 @@ impl Kept {
                 self.commands.push(command)?;
                 Ok(())
             }
-            Keep::Text if self.text.len() <= TEXT_LIMIT => push_line(&mut self.text, &command),
+            Keep::Text if self.text.len() <= TEXT_LIMIT => put_line(&mut self.text, &command),
             Keep::Text | Keep::Holes => Ok(()),
         }
     }
@@ -73,7 +73,7 @@ impl Kept {
     pub(crate) fn into_parts(self) -> (Vec<DrillCommand>, Vec<u8>)
         ensures { result ≡ (self.commands, self.text) }
     {
-        let Kept { commands, text, .. } = self;
+        let KeptCommands { commands, text, .. } = self;
         (commands, text)
     }
 }

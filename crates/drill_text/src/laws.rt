@@ -11,7 +11,7 @@ ghost use Rattle.drill_text.specs.Texts.{SpellsText, IsDrillText};
 ghost use Rattle.drill_text.specs.Writing.{drill_sayable};
 
 /// A text shows one thing, and has one reading.
-pub fn one_reading()
+pub fn unique_reading()
     ensures shown { (text : List ℕ) (a b : Result (List DrillCommand) Fault) → Shows text a → Shows text b → a ≡ b }
     ensures read { (text : List ℕ) (a b : Result (List DrillCommand) Fault) → Reads text a → Reads text b → a ≡ b }
 {}

@@ -2,18 +2,18 @@
 #![tactic(auto)]
 
 mod drill;
-mod hits;
-mod judge;
+mod fast_path;
 mod kept;
 pub mod laws;
 mod reader;
+mod state;
 mod writer;
 
 pub use drill::Drill;
-pub use drill_lines::{Coordinates, DrillCommand, Format};
+pub use drill_lines::{Coordinates, DrillCommand, DrillFormat};
 pub use kept::Keep;
 pub use laws::{
-    drill_texts, equal_commands, faults_stay, first_faults, one_reading, sayable_texts,
+    drill_texts, equal_commands, faults_stay, first_faults, sayable_texts, unique_reading,
 };
 pub use reader::{DrillReader, read_drill};
 pub use writer::{drill_sayable, write_drill};

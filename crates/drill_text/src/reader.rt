@@ -6,10 +6,10 @@ ghost use Rattle.grid_units.specs.declared.fault.Fault.{Fault};
 ghost use Rattle.grid_units.specs.declared.fault.Fail.TheVariants.{Refused};
 ghost use Rattle.grid_units.specs.Limits.{line_limit, text_limit};
 ghost use Rattle.grid_units.specs.Results.{fault, Answers};
-ghost use Rattle.drill_text.specs.Reading.{spelled, Reads, place_behind_count};
+ghost use Rattle.drill_text.specs.Reading.{spelled, Reads, place_after_count};
 ghost use Rattle.drill_text.specs.declared.kept.Keep.{Keep as TheKeep};
 ghost use Rattle.drill_text.specs.declared.kept.Keep.TheVariants as keep;
-ghost use Rattle.drill_text.specs.Keeping.{Met, Leaves};
+ghost use Rattle.drill_text.specs.Keeping.{HasRead, ResultsIn};
 ghost use Rattle.drill_lines.specs.Lines.{trimmed};
 ghost use Rattle.drill_lines.specs.Meaning.{meaning};
 ghost use Rattle.drill_text.specs.Outcome.{commands_in, file_of};
@@ -17,11 +17,11 @@ ghost use Rattle.drill_text.specs.Texts.{IsDrillText, ReadsAs};
 ghost use Rattle.drill_text.specs.Writing.{drill_sayable};
 
 use crate::drill::Drill;
-use crate::hits::leading_hit;
-use crate::judge::Judge;
-use crate::kept::{Keep, Kept};
+use crate::fast_path::leading_hit;
+use crate::kept::{Keep, KeptCommands};
+use crate::state::DrillState;
 use drill_lines::{Coordinates, DrillCommand, read_line};
-use grid_units::{Fail, Fault, LINE_LIMIT, Reason, Stop};
+use grid_units::{Fail, Fault, ItemFail, LINE_LIMIT, Reason};
 use memchr::memchr;
 use std::alloc::Global;
 
@@ -32,8 +32,8 @@ const TEXT_LIMIT: u64 = grid_units::TEXT_LIMIT as u64;
 #[derive(Drop)]
 struct Progress {
     alloc: Global,
-    judge: Judge,
-    kept: Kept,
+    state: DrillState,
+    kept: KeptCommands,
     line: Vec<u8>,
     start: u64,
     offset: u64,
@@ -65,50 +65,50 @@ fn refusal(place: u64, byte: u64, reason: Reason) -> Fail
     })
 }
 
-/// Judges the command that a line spells, and adds it if it breaks no rule.
+/// Checks the command that a line spells, and adds it if it breaks no rule.
 fn keep(
     place: u64,
     byte: u64,
     command: DrillCommand,
-    judge: &mut Judge,
-    kept: &mut Kept,
+    state: &mut DrillState,
+    kept: &mut KeptCommands,
 ) -> Result<(), Fail>
-    ensures { (keep : TheKeep) (line : List ℕ) (before : List TheCommand) → length line ≤ line_limit → meaning judge.old.settings (trimmed line) ≡ Ok (Some command) → Met judge.old kept.old keep before → Leaves result judge.new kept.new keep (spelled place byte line before) }
+    ensures { (keep : TheKeep) (line : List ℕ) (before : List TheCommand) → length line ≤ line_limit → meaning state.old.settings (trimmed line) ≡ Ok (Some command) → HasRead state.old kept.old keep before → ResultsIn result state.new kept.new keep (spelled place byte line before) }
 {
-    match judge.step(&command) {
+    match state.step(&command) {
         Ok(()) => {
             kept.add(command)?;
             Ok(())
         }
-        Err(Stop::Memory) => Err(Fail::Memory),
-        Err(Stop::Refused(reason)) => Err(refusal(place, byte, reason)),
+        Err(ItemFail::Memory) => Err(Fail::Memory),
+        Err(ItemFail::Refused(reason)) => Err(refusal(place, byte, reason)),
     }
 }
 
 /// Reads and judges a line, and adds the command that it spells.
-fn spell(
+fn parse_line(
     alloc: Global,
     place: u64,
     byte: u64,
     line: &[u8],
-    judge: &mut Judge,
-    kept: &mut Kept,
+    state: &mut DrillState,
+    kept: &mut KeptCommands,
 ) -> Result<(), Fail>
     requires short { length line.now ≤ line_limit }
-    ensures { (keep : TheKeep) (before : List TheCommand) → Met judge.old kept.old keep before → Leaves result judge.new kept.new keep (spelled place byte line.now before) }
+    ensures { (keep : TheKeep) (before : List TheCommand) → HasRead state.old kept.old keep before → ResultsIn result state.new kept.new keep (spelled place byte line.now before) }
 {
-    match read_line(alloc, judge.settings(), line) {
+    match read_line(alloc, state.settings(), line) {
         Ok(None) => Ok(()),
-        Ok(Some(command)) => keep(place, byte, command, judge, kept),
-        Err(Stop::Memory) => Err(Fail::Memory),
-        Err(Stop::Refused(reason)) => Err(refusal(place, byte, reason)),
+        Ok(Some(command)) => keep(place, byte, command, state, kept),
+        Err(ItemFail::Memory) => Err(Fail::Memory),
+        Err(ItemFail::Refused(reason)) => Err(refusal(place, byte, reason)),
     }
 }
 
 impl Progress {
     ghost use Rattle.std.specs.Prelude.{[], ◌∷◌, ◌++◌, List};
     ghost use Rattle.drill_lines.specs.declared.command.Part.TheVariants as part;
-    ghost use Rattle.drill_text.specs.Inner.Hits.{LeadsHit};
+    ghost use Rattle.drill_text.specs.Inner.FastPath.{HasLeadingHit};
     ghost use Rattle.drill_text.specs.Holding.{Advances, Refuses, RefusesText, Holds};
 
     /// A reader that has read nothing.
@@ -117,8 +117,8 @@ impl Progress {
     {
         Progress {
             alloc,
-            judge: Judge::new(alloc),
-            kept: Kept::new(alloc, keep),
+            state: DrillState::new(alloc),
+            kept: KeptCommands::new(alloc, keep),
             line: Vec::new(alloc),
             start: 0,
             offset: 0,
@@ -149,12 +149,12 @@ impl Progress {
         ensures ok { OnOk result (Advances self.old self.new (10 ∷ [])) }
         ensures err { IfErr result (Refuses self.old (10 ∷ [])) }
     {
-        spell(
+        parse_line(
             self.alloc,
             self.lines + 1,
             self.start,
             &self.line,
-            &mut self.judge,
+            &mut self.state,
             &mut self.kept,
         )?;
         self.line.clear();
@@ -165,7 +165,7 @@ impl Progress {
     }
 
     /// Reads a line that stands in one piece with its LF.
-    fn read_whole(&mut self, line: &[u8]) -> Result<(), Fail>
+    fn take_whole_line(&mut self, line: &[u8]) -> Result<(), Fail>
         requires empty { self.old.line.items ≡ [] }
         requires inside { All (λ b. b ≢ 10) line.now }
         requires short { length line.now ≤ line_limit }
@@ -174,12 +174,12 @@ impl Progress {
         ensures ok { OnOk result (Advances self.old self.new (line.now ++ 10 ∷ [])) }
         ensures err { IfErr result (Refuses self.old (line.now ++ 10 ∷ [])) }
     {
-        spell(
+        parse_line(
             self.alloc,
             self.lines + 1,
             self.start,
             line,
-            &mut self.judge,
+            &mut self.state,
             &mut self.kept,
         )?;
         self.lines += 1;
@@ -188,10 +188,10 @@ impl Progress {
         Ok(())
     }
 
-    /// Takes the hit at the start of the bytes, with the LF of its line.
+    /// Reads the hit at the start of the bytes, with the LF of its line.
     fn take_hit(&mut self, point: Coordinates, len: usize, bytes: &[u8]) -> Result<(), Fail>
-        requires leads { LeadsHit point len bytes.now }
-        requires body { self.old.judge.settings.part ≡ part.Body }
+        requires leads { HasLeadingHit point len bytes.now }
+        requires body { self.old.state.settings.part ≡ part.Body }
         requires empty { self.old.line.items ≡ [] }
         requires room { self.old.offset + length bytes.now ≤ text_limit }
         ensures offset { OnOk result (self.new.offset ≡ self.old.offset + (len + 1)) }
@@ -202,7 +202,7 @@ impl Progress {
             self.lines + 1,
             self.start,
             DrillCommand::Hit(point),
-            &mut self.judge,
+            &mut self.state,
             &mut self.kept,
         )?;
         self.lines += 1;
@@ -220,13 +220,13 @@ impl Progress {
         ensures err { IfErr result (Refuses self.old (run.now ++ 10 ∷ [])) }
     {
         if self.line.is_empty() && run.len() <= LINE_LIMIT {
-            return self.read_whole(run);
+            return self.take_whole_line(run);
         }
         self.extend(run)?;
         self.close()
     }
 
-    /// Takes some of the bytes, from the first on, and returns how many.
+    /// Reads some of the bytes, from the first on, and returns how many.
     fn take_some(&mut self, bytes: &[u8]) -> Result<usize, Fail>
         requires some { 0 < length bytes.now }
         requires room { self.old.offset + length bytes.now ≤ text_limit }
@@ -234,7 +234,7 @@ impl Progress {
         ensures ok { IfOk result (λ n. Advances self.old self.new (take n bytes.now)) }
         ensures err { IfErr result (Refuses self.old bytes.now) }
     {
-        if self.line.is_empty() && self.judge.is_in_body() {
+        if self.line.is_empty() && self.state.is_in_body() {
             if let Some((point, len)) = leading_hit(bytes) {
                 self.take_hit(point, len, bytes)?;
                 return Ok(len + 1);
@@ -249,7 +249,7 @@ impl Progress {
         Ok(len)
     }
 
-    /// Takes all of the bytes.
+    /// Reads all of the bytes.
     fn take_all(&mut self, bytes: &[u8]) -> Result<(), Fail>
         requires room { self.old.offset + length bytes.now ≤ text_limit }
         ensures offset { OnOk result (self.new.offset ≡ self.old.offset + length bytes.now) }
@@ -263,7 +263,7 @@ impl Progress {
         Ok(())
     }
 
-    /// Takes the next piece of the text.
+    /// Reads the next piece of the text.
     fn take(&mut self, piece: &[u8]) -> Result<(), Fail>
         ensures ok { OnOk result (Advances self.old self.new piece.now) }
         ensures err { IfErr result (RefusesText self.old piece.now) }
@@ -277,8 +277,8 @@ impl Progress {
     }
 
     /// The number of the line after the last one.
-    fn place_behind(&self) -> u64
-        ensures { result ≡ place_behind_count self.now.lines self.now.line.items }
+    fn place_after(&self) -> u64
+        ensures { result ≡ place_after_count self.now.lines self.now.line.items }
     {
         if self.line.is_empty() {
             self.lines + 1
@@ -289,15 +289,15 @@ impl Progress {
 
     /// Reads the rest of the text, which no LF has ended, as a line.
     fn end(&mut self) -> Result<(), Fail>
-        ensures leaves { (keep : TheKeep) (before : List TheCommand) → Met self.old.judge self.old.kept keep before → Leaves result self.new.judge self.new.kept keep (spelled (self.old.lines + 1) self.old.start self.old.line.items before) }
+        ensures results_in { (keep : TheKeep) (before : List TheCommand) → HasRead self.old.state self.old.kept keep before → ResultsIn result self.new.state self.new.kept keep (spelled (self.old.lines + 1) self.old.start self.old.line.items before) }
         ensures same { OnOk result ((self.new.lines ≡ self.old.lines) × (self.new.line.items ≡ self.old.line.items) × (self.new.offset ≡ self.old.offset)) }
     {
-        spell(
+        parse_line(
             self.alloc,
             self.lines + 1,
             self.start,
             &self.line,
-            &mut self.judge,
+            &mut self.state,
             &mut self.kept,
         )
     }
@@ -309,9 +309,9 @@ impl Progress {
         let mut last = self;
         last.end()?;
         if last.kept.is_finished() {
-            return Ok(Drill::new(last.judge, last.kept));
+            return Ok(Drill::new(last.state, last.kept));
         }
-        Err(refusal(last.place_behind(), last.offset, Reason::Truncated))
+        Err(refusal(last.place_after(), last.offset, Reason::Truncated))
     }
 }
 
@@ -325,7 +325,7 @@ pub struct DrillReader {
 impl DrillReader {
     ghost use Rattle.std.specs.Prelude.{List, Some, Ok, Err, [], ◌++◌};
     ghost use Rattle.drill_text.specs.Reading.{Shows};
-    ghost use Rattle.grid_units.specs.Results.{Tells};
+    ghost use Rattle.grid_units.specs.Results.{IfFault};
     ghost use Rattle.drill_text.specs.Holding.{StandsAfter, failure};
 
     /// A reader that has read nothing, and keeps the commands.
@@ -345,14 +345,14 @@ impl DrillReader {
         }
     }
 
-    /// Takes the next piece of the text. A reader that has failed gives its failure again.
+    /// Reads the next piece of the text. A reader that has failed gives its failure again.
     ///
     /// # Errors
     ///
     /// The fault that the text so far shows, whatever follows it, or [`Fail::Memory`].
     pub fn feed(&mut self, piece: &[u8]) -> Result<(), Fail>
         ensures ok { (keep : TheKeep) (text : List ℕ) → StandsAfter self.old keep text → OnOk result (StandsAfter self.new keep (text ++ piece.now)) }
-        ensures err { (keep : TheKeep) (text : List ℕ) → StandsAfter self.old keep text → IfErr result (Tells (λ f. Shows (text ++ piece.now) (Err f))) }
+        ensures err { (keep : TheKeep) (text : List ℕ) → StandsAfter self.old keep text → IfErr result (IfFault (λ f. Shows (text ++ piece.now) (Err f))) }
         ensures failed { IfSome (failure self.old) (λ e. result ≡ Err e) }
         ensures fails { IfErr result (λ e. failure self.new ≡ Some e) }
     {

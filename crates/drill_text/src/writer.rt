@@ -4,17 +4,17 @@ ghost use Rattle.std.specs.Prelude.{◌≡◌, ◌≤◌, ◌++◌, ◌∷◌, [
 ghost use Rattle.grid_units.specs.Results.{Answers, fault};
 ghost use Rattle.grid_units.specs.declared.fault.Fail.TheVariants.{Refused};
 ghost use Rattle.grid_units.specs.declared.fault.Reason.TheVariants.{TooLong};
-ghost use Rattle.drill_lines.specs.Writing.{canonical, IsTyped};
+ghost use Rattle.drill_lines.specs.Writing.{canonical, IsInRange};
 ghost use Rattle.drill_text.specs.Texts.{SpellsText};
-ghost use Rattle.drill_text.specs.Writing.{part_behind, is_over, drill_sayable, written, bytes_in};
+ghost use Rattle.drill_text.specs.Writing.{part_with, is_after_end, drill_sayable, written, vec_bytes};
 
-use drill_lines::{DrillCommand, Part, is_sayable, push_canonical};
+use drill_lines::{DrillCommand, Part, is_sayable, write_line};
 use grid_units::{Fail, Fault, Reason, TEXT_LIMIT};
 use std::alloc::{AllocError, Global};
 
 /// The part of a file after one more command.
-fn part_behind(part: Part, command: &DrillCommand) -> Part
-    ensures { result ≡ part_behind part command.now }
+fn part_with(part: Part, command: &DrillCommand) -> Part
+    ensures { result ≡ part_with part command.now }
 {
     match command {
         DrillCommand::Start => Part::Header,
@@ -24,8 +24,8 @@ fn part_behind(part: Part, command: &DrillCommand) -> Part
     }
 }
 
-fn is_over(part: Part) -> bool
-    ensures { result ≡ is_over part }
+fn is_after_end(part: Part) -> bool
+    ensures { result ≡ is_after_end part }
 {
     matches!(part, Part::After)
 }
@@ -40,17 +40,17 @@ pub fn drill_sayable(commands: &[DrillCommand]) -> bool
         if !is_sayable(part, command) {
             return false;
         }
-        part = part_behind(part, command);
+        part = part_with(part, command);
     }
-    is_over(part)
+    is_after_end(part)
 }
 
 /// Appends the canonical line of a command, and an LF.
-pub(crate) fn push_line(text: &mut Vec<u8>, command: &DrillCommand) -> Result<(), AllocError>
+pub(crate) fn put_line(text: &mut Vec<u8>, command: &DrillCommand) -> Result<(), AllocError>
     ensures items { OnOk result (text.new.items ≡ text.old.items ++ (canonical command.now ++ 10 ∷ [])) }
-    ensures typed { OnOk result (IsTyped command.now) }
+    ensures typed { OnOk result (IsInRange command.now) }
 {
-    push_canonical(text, command)?;
+    write_line(text, command)?;
     text.push(b'\n')?;
     Ok(())
 }
@@ -73,12 +73,12 @@ pub(crate) fn too_long() -> Fail
 /// [`Reason::TooLong`] at place 0 and byte 0 where the text would be above 268,435,456 bytes, or `Memory`.
 pub fn write_drill(alloc: Global, commands: &[DrillCommand]) -> Result<Vec<u8>, Fail>
     requires { drill_sayable commands.now ≡ true }
-    ensures exact { Answers bytes_in (λ answer. answer ≡ written commands.now) result }
+    ensures exact { Answers vec_bytes (λ answer. answer ≡ written commands.now) result }
     ensures reads_back { IfOk result (λ text. SpellsText text.items commands.now) }
 {
     let mut text = Vec::new(alloc);
     for command in commands {
-        push_line(&mut text, command)?;
+        put_line(&mut text, command)?;
         if text.len() > TEXT_LIMIT {
             return Err(too_long());
         }

@@ -4,7 +4,7 @@ use Rattle.std.specs.List.{before_first, AllByRecursion, Contains}
 use Rattle.std.specs.Str.Lines.{lines}
 use Rattle.grid_units.specs.declared.fault.Reason.{Reason}
 use Rattle.grid_units.specs.declared.fault.Reason.TheVariants as reasons
-use Rattle.grid_units.specs.Reasons.{name_of}
+use Rattle.grid_units.specs.Reasons.{reason_name}
 use Rattle.explanations.specs.declared.topic.Topic.{Topic}
 use Rattle.explanations.specs.declared.topic.Topic.TheVariants as topics
 use Rattle.grid_units.specs.Ascii as ascii
@@ -17,7 +17,7 @@ topic_word topics.ObliqueLine = codes "OBLIQUE"
 topic_word topics.Ring = codes "ring"
 topic_word topics.Small = codes "small"
 topic_word topics.Off = codes "off"
-topic_word topics.Bare = codes "none"
+topic_word topics.NoPad = codes "none"
 topic_word topics.Macro = codes "macro"
 topic_word topics.Polygon = codes "polygon"
 topic_word topics.Holed = codes "holed"
@@ -27,12 +27,12 @@ topic_word topics.Oblique = codes "oblique"
 topic_word topics.Plane = codes "plane"
 
 -- a word that has a page: the name of a reason (`TooLong`) or the word of a topic (`RING`)
-abbrev pub IsWord : List ℕ → Type 0
-IsWord word = ((reason : Reason) × (name_of reason ≡ word)) ⊎ ((topic : Topic) × (topic_word topic ≡ word))
+abbrev pub IsExplained : List ℕ → Type 0
+IsExplained word = ((reason : Reason) × (reason_name reason ≡ word)) ⊎ ((topic : Topic) × (topic_word topic ≡ word))
 
 -- a page begins with its word, a colon and a space: `TooLong: `
-abbrev pub Heads : List ℕ → List ℕ → Type 0
-Heads word page = take (length word + 2) page ≡ word ++ codes ": "
+abbrev pub HasHeading : List ℕ → List ℕ → Type 0
+HasHeading word page = take (length word + 2) page ≡ word ++ codes ": "
 
 -- a page has at most 12 lines, each of at most 78 columns
 abbrev pub FitsScreen : List ℕ → Type 0
@@ -44,11 +44,11 @@ all_reasons = reasons.TooLong ∷ reasons.AfterEnd ∷ reasons.Truncated ∷ rea
 
 -- all 14 topics, in the order of the list: the findings, then their causes
 abbrev pub all_topics : List Topic
-all_topics = topics.RingLine ∷ topics.GapLine ∷ topics.ObliqueLine ∷ topics.Ring ∷ topics.Small ∷ topics.Off ∷ topics.Bare ∷ topics.Macro ∷ topics.Polygon ∷ topics.Holed ∷ topics.Scaled ∷ topics.Turned ∷ topics.Oblique ∷ topics.Plane ∷ []
+all_topics = topics.RingLine ∷ topics.GapLine ∷ topics.ObliqueLine ∷ topics.Ring ∷ topics.Small ∷ topics.Off ∷ topics.NoPad ∷ topics.Macro ∷ topics.Polygon ∷ topics.Holed ∷ topics.Scaled ∷ topics.Turned ∷ topics.Oblique ∷ topics.Plane ∷ []
 
 -- the words that are listed: the names of the reasons, then the words of the topics
 abbrev pub all_words : List (List ℕ)
-all_words = map name_of all_reasons ++ map topic_word all_topics
+all_words = map reason_name all_reasons ++ map topic_word all_topics
 
 -- a colon
 abbrev pub is_colon : ℕ → Bool
@@ -60,4 +60,4 @@ ListsWords text = (map (before_first is_colon) (lines text) ≡ all_words) × Al
 
 -- each word that has a page is listed
 abbrev pub EachWordIsListed : Type 0
-EachWordIsListed = (word : List ℕ) → IsWord word → Contains all_words word
+EachWordIsListed = (word : List ℕ) → IsExplained word → Contains all_words word

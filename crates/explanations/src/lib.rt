@@ -1,31 +1,31 @@
 //! What the reasons for refusals, the findings and their causes mean, and what to set in which tool: a page for each word.
 #![tactic(auto)]
 
-mod naming;
 mod reason_pages;
 mod topic;
 mod topic_pages;
+mod word_list;
 
 ghost use Rattle.std.specs.Prelude.{◌↔◌, IsSome, IfSome};
-ghost use Rattle.explanations.specs.Words.{FitsScreen, Heads, IsWord};
+ghost use Rattle.explanations.specs.Words.{FitsScreen, HasHeading, IsExplained};
 
-pub use naming::words;
-use naming::{reason_named, topic_named};
 use reason_pages::reason_page;
 use topic_pages::topic_page;
+pub use word_list::words;
+use word_list::{reason_by_name, topic_by_word};
 
 /// The page of a word: at most 12 lines of at most 78 columns, each ended by a line feed. It begins with the word and a
 /// colon. `None` where the word is neither the name of a reason nor one of `RING`, `GAP`, `OBLIQUE`, `ring`, `small`,
 /// `off`, `none`, `macro`, `polygon`, `holed`, `scaled`, `turned`, `oblique` and `plane`.
 pub fn explanation(word: &str) -> Option<&'static str>
-    ensures known { IsSome result ↔ IsWord word.now }
-    ensures headed { IfSome result (λ page. Heads word.now page.now) }
+    ensures known { IsSome result ↔ IsExplained word.now }
+    ensures headed { IfSome result (λ page. HasHeading word.now page.now) }
     ensures fits { IfSome result (λ page. FitsScreen page.now) }
 {
-    if let Some(reason) = reason_named(word) {
+    if let Some(reason) = reason_by_name(word) {
         return Some(reason_page(reason));
     }
-    match topic_named(word) {
+    match topic_by_word(word) {
         Some(topic) => Some(topic_page(topic)),
         None => None,
     }

@@ -1,7 +1,7 @@
 //! The pages of the 46 reasons, as `ringcheck explain` prints them.
 
-ghost use Rattle.grid_units.specs.Reasons.{name_of};
-ghost use Rattle.explanations.specs.Words.{FitsScreen, Heads};
+ghost use Rattle.grid_units.specs.Reasons.{reason_name};
+ghost use Rattle.explanations.specs.Words.{FitsScreen, HasHeading};
 
 use grid_units::Reason;
 
@@ -291,9 +291,9 @@ above the last; copper layers have none. Mend the record of the manifest.
 ";
 
 /// The page of a reason: at most 12 lines that begin with its name and a colon.
-#[tactic(auto, unfolding(grid_units::specs::Reasons::name_of))]
+#[tactic(auto, unfolding(grid_units::specs::Reasons::reason_name))]
 pub(crate) fn reason_page(reason: Reason) -> &'static str
-    ensures headed { Heads (name_of reason) result.now }
+    ensures headed { HasHeading (reason_name reason) result.now }
     ensures fits { FitsScreen result.now }
 {
     match reason {

@@ -19,7 +19,7 @@ pub(crate) enum Topic {
     /// The hole is off the centre of its pad.
     Off,
     /// No pad reaches the centre of the hole.
-    Bare,
+    NoPad,
     /// Only a flash by an aperture macro stands at the hole.
     Macro,
     /// A flash by a regular polygon.
@@ -48,7 +48,7 @@ impl Topic {
             Topic::Ring => "ring",
             Topic::Small => "small",
             Topic::Off => "off",
-            Topic::Bare => "none",
+            Topic::NoPad => "none",
             Topic::Macro => "macro",
             Topic::Polygon => "polygon",
             Topic::Holed => "holed",

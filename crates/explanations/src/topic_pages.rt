@@ -1,6 +1,6 @@
 //! The pages of the findings and their causes, as `ringcheck explain` prints them.
 
-ghost use Rattle.explanations.specs.Words.{FitsScreen, Heads, topic_word};
+ghost use Rattle.explanations.specs.Words.{FitsScreen, HasHeading, topic_word};
 
 use crate::topic::Topic;
 
@@ -112,7 +112,7 @@ there. Do not name such a file as copper.
 
 /// The page of a finding or a cause: at most 12 lines that begin with its word and a colon.
 pub(crate) fn topic_page(topic: Topic) -> &'static str
-    ensures headed { Heads (topic_word topic) result.now }
+    ensures headed { HasHeading (topic_word topic) result.now }
     ensures fits { FitsScreen result.now }
 {
     match topic {
@@ -122,7 +122,7 @@ pub(crate) fn topic_page(topic: Topic) -> &'static str
         Topic::Ring => RING,
         Topic::Small => SMALL,
         Topic::Off => OFF,
-        Topic::Bare => BARE,
+        Topic::NoPad => BARE,
         Topic::Macro => MACRO,
         Topic::Polygon => POLYGON,
         Topic::Holed => HOLED,

@@ -1,6 +1,7 @@
 use crate::plain_commands::{Bytes, Plain, command};
-use gerber_rows::{Action, AttributeKind, Command, Standard};
-use gerber_sayable::{canonical_items, is_sayable, spelled_commands};
+use gerber_text::{
+    Action, AttributeKind, Command, Standard, canonical_items, is_sayable, spelled_commands,
+};
 use std::alloc::Global;
 
 /// Commands, and whether an item spells them.

@@ -1,9 +1,9 @@
 ghost use Rattle.std.specs.Prelude.{◌≤◌, length};
 
 use crate::texts::{LAYER, expected_fault, joined};
-use gerber_rows::plain_operation;
 use gerber_text::{
-    Action, Command, Interpolation, Placed, WordReader, read_kept, read_words, write_placed,
+    Action, Command, Interpolation, Placed, WordReader, leading_operation, read_kept, read_words,
+    write_placed,
 };
 use grid_units::{Fail, Reason};
 use std::alloc::Global;
@@ -309,7 +309,7 @@ type Coordinates = (Option<i64>, Option<i64>, Option<i64>, Option<i64>);
 
 /// The plain operation at the start of a text, if it is found.
 fn operation_of(text: &[u8]) -> Option<(Head, Coordinates)> {
-    let found = plain_operation(text)?;
+    let found = leading_operation(text)?;
     let head = (found.mode, found.action, found.len);
     let coordinates = (found.x.get(), found.y.get(), found.i.get(), found.j.get());
     Some((head, coordinates))
@@ -382,7 +382,7 @@ fn a_layer_in_pieces(rt: HostRuntime) {
 fn held_and_left(reader: &mut WordReader) -> Option<(usize, usize)> {
     reader.feed(front(42)).ok()?;
     let held = reader.commands().len();
-    reader.let_go();
+    reader.clear_commands();
     Some((held, reader.commands().len()))
 }
 

@@ -1,7 +1,7 @@
 //! Commands as plain data, which a table can hold.
 
-use gerber_rows::{
-    Action, AttributeKind, Block, Boxed, Command, Coordinate, Format, Pieces, Sizes, Standard,
+use gerber_text::{
+    Action, AttributeKind, Boxed, Command, Coordinate, Format, Pieces, Sizes, Standard, StepRepeat,
     Template,
 };
 use grid_units::{Dec, Text};
@@ -99,7 +99,7 @@ fn operation(action: Action, x: Option<i64>, i: i64) -> Option<Command> {
 
 /// The start of a step and repeat block.
 fn repeat(columns: u32, rows: u32, step_x: i64, step_y: i64) -> Option<Command> {
-    Some(Command::Repeat(Block {
+    Some(Command::Repeat(StepRepeat {
         columns,
         rows,
         step_x: Dec::from_units(step_x)?,

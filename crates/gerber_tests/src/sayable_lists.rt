@@ -1,8 +1,7 @@
 //! Lists of commands that some text spells, and other lists.
 
 use crate::plain_commands::{Bytes, Plain, command};
-use gerber_rows::{Action, Command};
-use gerber_text::sayable;
+use gerber_text::{Action, Command, sayable};
 use std::alloc::Global;
 
 /// Adds a command to a list, and returns whether there was one to add and room for it.

@@ -4,27 +4,27 @@ use Rattle.std.specs.List.{flat_map}
 use Rattle.std.proofs.lemmas.List.{append-nil, length-append}
 use Rattle.std.proofs.lemmas.Bool.{le-ltb, false≢true}
 use Rattle.grid_units.specs.Results.{◌>>=◌}
-use Rattle.gerber_rows.specs.declared.command.Command.{Command}
-use Rattle.gerber_rows.specs.Items.{is_line_break, is_end, IsItem}
-use Rattle.gerber_rows.specs.Canonical.{canonical}
+use Rattle.gerber_commands.specs.declared.command.Command.{Command}
+use Rattle.gerber_text.specs.Items.{is_line_break, is_end_item, IsItem}
+use Rattle.gerber_commands.specs.Canonical.{canonical}
 use Rattle.gerber_text.specs.Cut.{OffsetByte, offset_bytes_from, offset_bytes, bytes_of, first_offset, has_end, AreItems, Splits}
 use Rattle.gerber_text.specs.Reading.{Entries, is_plotting, spelled, commands_from, placed}
-use Rattle.gerber_sayable.specs.Cut.{unbroken, Spells}
-use Rattle.gerber_sayable.specs.Sayable.{is_sayable, is_finish}
-use Rattle.gerber_sayable.proofs.Says.{says as canonical_spells}
-use Rattle.gerber_sayable.proofs.Said.{canonical_ends}
+use Rattle.gerber_text.specs.CutItems.{without_breaks, Spells}
+use Rattle.gerber_text.specs.Sayable.{is_sayable, is_finish}
+use Rattle.gerber_text.proofs.CanonicalParses.{parses as canonical_spells}
+use Rattle.gerber_text.proofs.ParsedIsSayable.{canonical_ends}
 use Rattle.gerber_text.specs.Writing.{lines, sayable, without_places, ReadsAs}
-use Rattle.gerber_text.proofs.OffsetBytes.{offset_bytes_from-append}
-use Rattle.gerber_text.proofs.Shown.{shown_ended}
-use Rattle.gerber_text.proofs.Whole.{reads_ok}
+use Rattle.gerber_text.proofs.OffsetByteLemmas.{offset_bytes_from-append}
+use Rattle.gerber_text.proofs.ShowsLemmas.{shown_ended}
+use Rattle.gerber_text.proofs.FinishLemmas.{reads_ok}
 use Rattle.grid_units.specs.Limits.{text_limit}
 use Rattle.grid_units.proofs.BoolLemmas.{both_true, not_true}
 
 -- each command is one that its canonical item spells, and the end of the text is the last and no other
 abbrev IsSayable : List Command → Type 0
 IsSayable [] = ⊥
-IsSayable (c ∷ []) = Spells (canonical c) c × (is_end (unbroken (canonical c)) ≡ true)
-IsSayable (c ∷ d ∷ cs) = Spells (canonical c) c × (is_end (unbroken (canonical c)) ≡ false) × IsSayable (d ∷ cs)
+IsSayable (c ∷ []) = Spells (canonical c) c × (is_end_item (without_breaks (canonical c)) ≡ true)
+IsSayable (c ∷ d ∷ cs) = Spells (canonical c) c × (is_end_item (without_breaks (canonical c)) ≡ false) × IsSayable (d ∷ cs)
 
 -- a list is sayable by its test
 are_spelled : (cs : List Command) → sayable cs ≡ true → IsSayable cs
@@ -36,11 +36,11 @@ are_spelled (c ∷ d ∷ cs) h =
     (canonical_spells c k.0, canonical_ends c k.0 ∙ not_true (is_finish c) l.0, are_spelled (d ∷ cs) l.1)
 
 -- the bytes without their offsets are those that are no line breaks
-bytes_of_marks : (n : ℕ) (text : List ℕ) → bytes_of (offset_bytes_from n text) ≡ unbroken text
+bytes_of_marks : (n : ℕ) (text : List ℕ) → bytes_of (offset_bytes_from n text) ≡ without_breaks text
 bytes_of_marks n [] = refl
 bytes_of_marks n (b ∷ bs) = by (is_line_break b) (bytes_of_marks (n + 1) bs)
   where
-    by : (t : Bool) → bytes_of (offset_bytes_from (n + 1) bs) ≡ unbroken bs → bytes_of (cond (not t) ((n, b) ∷ offset_bytes_from (n + 1) bs) (offset_bytes_from (n + 1) bs)) ≡ cond (not t) (b ∷ unbroken bs) (unbroken bs)
+    by : (t : Bool) → bytes_of (offset_bytes_from (n + 1) bs) ≡ without_breaks bs → bytes_of (cond (not t) ((n, b) ∷ offset_bytes_from (n + 1) bs) (offset_bytes_from (n + 1) bs)) ≡ cond (not t) (b ∷ without_breaks bs) (without_breaks bs)
     by true h = h
     by false h = ap (λ (x : List ℕ). b ∷ x) h
 
@@ -57,16 +57,16 @@ record Found (n place : ℕ) (cs : List Command) (before : Entries) : Type 0 whe
   commands : commands_from place (items_of_lines n cs) before ≡ Ok (before ++ more)
   same : without_places more ≡ cs
 
-says : (place n : ℕ) (c : Command) (before : Entries) → Spells (canonical c) c → spelled place (first_offset (offset_bytes_from n (canonical c))) (bytes_of (offset_bytes_from n (canonical c))) before ≡ Ok (before ++ placed place (first_offset (offset_bytes_from n (canonical c))) (c ∷ []))
+parses : (place n : ℕ) (c : Command) (before : Entries) → Spells (canonical c) c → spelled place (first_offset (offset_bytes_from n (canonical c))) (bytes_of (offset_bytes_from n (canonical c))) before ≡ Ok (before ++ placed place (first_offset (offset_bytes_from n (canonical c))) (c ∷ []))
 unfolding spelled
-says place n c before s = rw (bytes_of_marks n (canonical c), le-ltb _ _ s.short, s.says (is_plotting before)) refl
+parses place n c before s = rw (bytes_of_marks n (canonical c), le-ltb _ _ s.short, s.parses (is_plotting before)) refl
 
 -- an item and its line end leave the item's bytes with their offsets
 one_line : (n : ℕ) (text rest : List ℕ) → offset_bytes_from n ((text ++ 10 ∷ []) ++ rest) ≡ offset_bytes_from n text ++ offset_bytes_from (n + length text + 1) rest
 one_line n text rest =
     let at : n + length (text ++ 10 ∷ []) ≡ n + length text + 1 = omega (arith, length-append text (10 ∷ [])) in
-    let front : offset_bytes_from n (text ++ 10 ∷ []) ≡ offset_bytes_from n text = offset_bytes_from-append n text (10 ∷ []) ∙ append-nil (offset_bytes_from n text) in
-    offset_bytes_from-append n (text ++ 10 ∷ []) rest ∙ (ap (λ (x : List OffsetByte). x ++ offset_bytes_from (n + length (text ++ 10 ∷ [])) rest) front ∙ ap (λ k. offset_bytes_from n text ++ offset_bytes_from k rest) at)
+    let prefix : offset_bytes_from n (text ++ 10 ∷ []) ≡ offset_bytes_from n text = offset_bytes_from-append n text (10 ∷ []) ∙ append-nil (offset_bytes_from n text) in
+    offset_bytes_from-append n (text ++ 10 ∷ []) rest ∙ (ap (λ (x : List OffsetByte). x ++ offset_bytes_from (n + length (text ++ 10 ∷ [])) rest) prefix ∙ ap (λ k. offset_bytes_from n text ++ offset_bytes_from k rest) at)
 
 is_one : (n : ℕ) (c : Command) → Spells (canonical c) c → IsItem (bytes_of (offset_bytes_from n (canonical c)))
 is_one n c s = subst IsItem (sym (bytes_of_marks n (canonical c))) s.one
@@ -80,21 +80,21 @@ found n place (c ∷ []) before h =
       more = placed place first (c ∷ []);
       whole = one_line n (canonical c) [];
       each = (is_one n c h.0, λ _. refl, tt);
-      ends = ap (λ (b : List ℕ). is_end b || false) (bytes_of_marks n (canonical c)) ∙ ap (λ t. t || false) h.1;
-      commands = ap (λ r. r >>= λ x. Ok x) (says place n c before h.0);
+      ends = ap (λ (b : List ℕ). is_end_item b || false) (bytes_of_marks n (canonical c)) ∙ ap (λ t. t || false) h.1;
+      commands = ap (λ r. r >>= λ x. Ok x) (parses place n c before h.0);
       same = refl;
     }
 found n place (c ∷ d ∷ cs) before h =
     let first = first_offset (offset_bytes_from n (canonical c)) in
     let now = placed place first (c ∷ []) in
     let rest = found (n + length (canonical c) + 1) (suc place) (d ∷ cs) (before ++ now) h.2 in
-    let not_end : is_end (bytes_of (offset_bytes_from n (canonical c))) ≡ false = ap is_end (bytes_of_marks n (canonical c)) ∙ h.1 in
+    let not_end : is_end_item (bytes_of (offset_bytes_from n (canonical c))) ≡ false = ap is_end_item (bytes_of_marks n (canonical c)) ∙ h.1 in
     record {
       more = now ++ rest.more;
       whole = one_line n (canonical c) (lines (d ∷ cs)) ∙ ap (λ (x : List OffsetByte). offset_bytes_from n (canonical c) ++ x) rest.whole;
       each = (is_one n c h.0, λ e. absurd (false≢true (sym not_end ∙ e)), rest.each);
       ends = ap (λ t. t || has_end (items_of_lines (n + length (canonical c) + 1) (d ∷ cs))) not_end ∙ rest.ends;
-      commands = ap (λ r. r >>= commands_from (suc place) (items_of_lines (n + length (canonical c) + 1) (d ∷ cs))) (says place n c before h.0) ∙ (rest.commands ∙ ap (λ (x : Entries). Ok x) (append_assoc before now rest.more));
+      commands = ap (λ r. r >>= commands_from (suc place) (items_of_lines (n + length (canonical c) + 1) (d ∷ cs))) (parses place n c before h.0) ∙ (rest.commands ∙ ap (λ (x : Entries). Ok x) (append_assoc before now rest.more));
       same = ap (λ (x : List Command). c ∷ x) rest.same;
     }
 

@@ -2,11 +2,11 @@
 use Rattle.std.proofs.Common.{◌≡◌, ◌↔◌, ℕ, List, [], ◌∷◌, ◌++◌, length, take, eqb, Result, Ok, Err, refl, sym, subst, append_assoc}
 use Rattle.std.proofs.lemmas.List.{append-nil}
 use Rattle.grid_units.specs.declared.fault.Fault.{Fault}
-use Rattle.gerber_rows.specs.Items.{ender}
+use Rattle.gerber_text.specs.Items.{end_byte}
 use Rattle.gerber_text.specs.Cut.{OffsetByte, offset_bytes, bytes_of, has_end, Splits}
 use Rattle.gerber_text.specs.Reading.{Entries, read_in, Reads, SpellsText}
-use Rattle.gerber_text.proofs.Shown.{by_end}
-use Rattle.gerber_text.proofs.Spelling.{reads_spells, spells_reads}
+use Rattle.gerber_text.proofs.ShowsLemmas.{by_end}
+use Rattle.gerber_text.proofs.SpellsTextLemmas.{reads_spells, spells_reads}
 use Rattle.grid_units.specs.Limits.{text_limit}
 
 abbrev IsCutUp : List OffsetByte → Type 0
@@ -15,7 +15,7 @@ IsCutUp ms = (items : List (List OffsetByte)) × (rest : List OffsetByte) × Spl
 cut_on : (done todo : List OffsetByte) (items : List (List OffsetByte)) (rest : List OffsetByte) → Splits done items rest → IsCutUp (done ++ todo)
 cut_on done [] items rest s = (items, rest, subst (λ (ms : List OffsetByte). Splits ms items rest) (sym (append-nil done)) s)
 cut_on done (m ∷ ms) items rest s =
-    let p = by_end (has_end items) (eqb m.1 (ender (bytes_of rest))) done m items rest refl refl s in
+    let p = by_end (has_end items) (eqb m.1 (end_byte (bytes_of rest))) done m items rest refl refl s in
     subst IsCutUp (append_assoc done (m ∷ []) ms) (cut_on (done ++ m ∷ []) ms p.more p.left p.splits)
 
 cut_up : (ms : List OffsetByte) → IsCutUp ms

@@ -1,7 +1,7 @@
 -- How the bytes of a Gerber text are cut into items (docs/FORMATS.md, Cutting).
 use Rattle.std.specs.Prelude.{◌≡◌, ℕ, Bool, true, false, not, List, [], ◌∷◌, ◌++◌, map, filter}
 use Rattle.std.specs.List.{enumerate_from, flat_map, list_any}
-use Rattle.gerber_rows.specs.Items.{is_line_break, IsUnfinished, IsItem, is_end}
+use Rattle.gerber_text.specs.Items.{is_line_break, IsUnfinished, IsItem, is_end_item}
 
 -- a byte of a text, paired with its offset: (0, 37) is a `%` at the start of the text
 abbrev pub OffsetByte : Type 0
@@ -26,12 +26,12 @@ first_offset (m ∷ ms) = m.0
 
 -- the end of the text, `M02*` or `M2*`, is among the items (Gerber format, End-of-file M02)
 abbrev pub has_end : List (List OffsetByte) → Bool
-has_end items = list_any (λ item. is_end (bytes_of item)) items
+has_end items = list_any (λ item. is_end_item (bytes_of item)) items
 
 -- each is an item, and only the last of them may be the end of the text
 abbrev pub AreItems : List (List OffsetByte) → Type 0
 AreItems [] = Unit {0}
-AreItems (item ∷ items) = IsItem (bytes_of item) × (is_end (bytes_of item) ≡ true → items ≡ []) × AreItems items
+AreItems (item ∷ items) = IsItem (bytes_of item) × (is_end_item (bytes_of item) ≡ true → items ≡ []) × AreItems items
 
 -- A text is its items and a rest: any bytes after the end of the text, or, without that end, the beginning of an item.
 pub record Splits (ms : List OffsetByte) (items : List (List OffsetByte)) (rest : List OffsetByte) : Type 0 where

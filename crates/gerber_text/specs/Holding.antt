@@ -1,13 +1,13 @@
 -- What a reader in pieces holds of the bytes so far: the commands of the items that have ended, except those it has dropped,
 -- and the bytes of the item that has not ended. It does not keep the text.
 use Rattle.std.specs.Prelude.{◌≡◌, ℕ, suc, ◌<◌, ◌≤◌, false, List, [], ◌++◌, length, take, Result, Ok, Err, Option, None, Some}
-use Rattle.grid_units.specs.Results.{Tells}
+use Rattle.grid_units.specs.Results.{IfFault}
 use Rattle.grid_units.specs.declared.fault.Fail.{Fail}
 use Rattle.grid_units.specs.declared.fault.Fail.TheVariants as fails
 use Rattle.gerber_text.specs.declared.reader.Progress.{Progress}
 use Rattle.gerber_text.specs.declared.reader.WordReader.{WordReader}
 use Rattle.gerber_text.specs.Cut.{OffsetByte, offset_bytes, bytes_of, first_offset, has_end, Splits}
-use Rattle.gerber_text.specs.Reading.{Entries, commands_from, shown, Shows, Reads, KeptBefore, is_plotting}
+use Rattle.gerber_text.specs.Reading.{Entries, commands_from, shown, Shows, Reads, SpellsBeforeFault, is_plotting}
 
 -- The text is cut into items, which spell the commands that are gone and those that the reader holds, and into a rest,
 -- whose bytes are the unfinished item.
@@ -25,14 +25,14 @@ pub record Holds (reader : Progress) (gone : Entries) (text : List ℕ) : Type 0
 
 -- These bytes begin with items that spell these commands. The failure is the fault that the bytes show at the next place,
 -- whatever follows them; or memory ran out.
-pub record Stops (ms : List OffsetByte) (commands : Entries) (e : Fail) : Type 0 where
+pub record FailsOnBytes (ms : List OffsetByte) (commands : Entries) (e : Fail) : Type 0 where
   pub items : List (List OffsetByte)
   pub rest : List OffsetByte
   pub splits : Splits ms items rest
   pub kept : ℕ
   pub within : kept ≤ length items
   pub spelled : commands_from 1 (take kept items) [] ≡ Ok commands
-  pub told : Tells (λ f. (shown items rest ≡ Err f) × (f.place ≡ suc kept)) e
+  pub reported : IfFault (λ f. (shown items rest ≡ Err f) × (f.place ≡ suc kept)) e
 
 -- whatever text the old reader has read, the new one has read that text and these bytes
 abbrev pub Advances : Progress → Progress → List ℕ → Type 0
@@ -40,12 +40,12 @@ Advances old new bytes = (gone : Entries) (text : List ℕ) → Holds old gone t
 
 -- whatever text the reader has read, it stops within these bytes after it, and keeps these commands
 abbrev pub Refuses : Progress → Entries → List ℕ → Fail → Type 0
-Refuses old left bytes e = (gone : Entries) (text : List ℕ) → Holds old gone text → Stops (offset_bytes (text ++ bytes)) (gone ++ left) e
+Refuses old left bytes e = (gone : Entries) (text : List ℕ) → Holds old gone text → FailsOnBytes (offset_bytes (text ++ bytes)) (gone ++ left) e
 
 -- the failure is the fault that this text shows, or memory ran out; and these are the commands before it
 pub record FailsWith (text : List ℕ) (commands : Entries) (e : Fail) : Type 0 where
-  pub told : Tells (λ f. Shows text (Err f)) e
-  pub kept : KeptBefore text e commands
+  pub reported : IfFault (λ f. Shows text (Err f)) e
+  pub kept : SpellsBeforeFault text e commands
 
 -- whatever text the reader has read, it fails within this piece after it, and keeps these commands
 abbrev pub RefusesText : Progress → Entries → List ℕ → Fail → Type 0
@@ -55,7 +55,7 @@ RefusesText old left piece e = (gone : Entries) (text : List ℕ) → Holds old 
 abbrev pub Ends : {X : Type 0} → List ℕ → Entries → Result X Fail → Type 0
 Ends text commands (Ok _) = Reads text (Ok commands)
 Ends text commands (Err fails.Memory) = ⊥
-Ends text commands (Err (fails.Refused f)) = Reads text (Err f) × KeptBefore text (fails.Refused f) commands
+Ends text commands (Err (fails.Refused f)) = Reads text (Err f) × SpellsBeforeFault text (fails.Refused f) commands
 
 -- the failure of a reader, `None` where it has not failed
 abbrev pub failure : WordReader → Option Fail
@@ -66,19 +66,19 @@ abbrev pub held : WordReader → Entries
 held reader = reader.progress.commands.items
 
 -- The reader has read this text, which shows no fault, and has dropped these commands, the first ones.
-pub record StandsBehind (reader : WordReader) (gone : Entries) (text : List ℕ) : Type 0 where
+pub record StandsAfterDrop (reader : WordReader) (gone : Entries) (text : List ℕ) : Type 0 where
   pub sound : failure reader ≡ None
   pub holds : Holds reader.progress gone text
 
 -- The reader has read this text, which shows no fault, and holds all of its commands.
 abbrev pub StandsAfter : WordReader → List ℕ → Type 0
-StandsAfter reader text = StandsBehind reader [] text
+StandsAfter reader text = StandsAfterDrop reader [] text
 
 -- The reader has failed within this text, with this failure, and had dropped these commands, the first ones.
-pub record FailedBehind (reader : WordReader) (gone : Entries) (text : List ℕ) (e : Fail) : Type 0 where
+pub record FailedAfterDrop (reader : WordReader) (gone : Entries) (text : List ℕ) (e : Fail) : Type 0 where
   pub failed : failure reader ≡ Some e
   pub fails : FailsWith text (gone ++ reader.progress.commands.items) e
 
 -- The reader has failed within this text, with this failure, and holds all commands before it.
 abbrev pub HasFailed : WordReader → List ℕ → Fail → Type 0
-HasFailed reader text e = FailedBehind reader [] text e
+HasFailed reader text e = FailedAfterDrop reader [] text e

@@ -4,3 +4,8 @@ pub mod Reasons
 pub mod Holding
 pub mod Writing
 pub mod Inner
+pub mod FastPath
+pub mod Items
+pub mod Meaning
+pub mod CutItems
+pub mod Sayable

@@ -2,19 +2,19 @@
 use Rattle.std.specs.Prelude.{◌≡◌, ℕ, suc, ◌≤◌, Bool, true, false, ◌||◌, ◌==◌, nat_lt, List, [], ◌∷◌, ◌++◌, length, take, map, if◌then◌else◌, Result, Ok, Err, Option, Some, None, unwrap_or}
 use Rattle.std.specs.List.{list_all, AllByRecursion}
 use Rattle.std.specs.Global.{Vec}
-use Rattle.grid_units.specs.Results.{◌>>=◌, fault, at, Tells}
-use Rattle.grid_units.specs.Lists.{last_named}
+use Rattle.grid_units.specs.Results.{◌>>=◌, fault, with_place, IfFault}
+use Rattle.grid_units.specs.Lists.{last_set}
 use Rattle.grid_units.specs.declared.fault.Reason.TheVariants.{TooLong, AfterEnd, Truncated}
 use Rattle.grid_units.specs.declared.fault.Fault.{Fault}
 use Rattle.grid_units.specs.declared.fault.Fail.{Fail}
 use Rattle.grid_units.specs.declared.fault.Fail.TheVariants as fails
-use Rattle.gerber_rows.specs.declared.command.Command.{Command}
-use Rattle.gerber_rows.specs.declared.command.Command.TheVariants.{Operate}
-use Rattle.gerber_rows.specs.Meaning.{meaning}
+use Rattle.gerber_commands.specs.declared.command.Command.{Command}
+use Rattle.gerber_commands.specs.declared.command.Command.TheVariants.{Operate}
+use Rattle.gerber_text.specs.Meaning.{meaning}
 use Rattle.gerber_text.specs.declared.placed.Placed.{Placed}
 use Rattle.gerber_text.specs.Cut.{OffsetByte, offset_bytes, bytes_of, first_offset, has_end, Splits}
 use Rattle.grid_units.specs.Limits.{text_limit, item_limit}
-use Rattle.gerber_rows.specs.Words.{is_plot}
+use Rattle.gerber_words.specs.Words.{is_plot}
 use Rattle.grid_units.specs.Ascii as ascii
 
 -- commands, each with the number of its item, from 1, and the offset of that item's first byte
@@ -28,7 +28,7 @@ plot_of _ = None
 
 -- the last operation among these commands is a plot (Gerber format, Coordinate data without operation code)
 abbrev pub is_plotting : Entries → Bool
-is_plotting before = unwrap_or (last_named (λ entry. plot_of entry.what) before) false
+is_plotting before = unwrap_or (last_set (λ entry. plot_of entry.what) before) false
 
 -- the commands of one item, each with the item's number and the offset of its first byte
 abbrev pub placed : ℕ → ℕ → List Command → Entries
@@ -36,13 +36,13 @@ placed place byte commands = map (λ what. record { place = place; byte = byte; 
 
 -- these commands, and after them those that the item of these bytes spells; or the item's fault
 unfoldable pub spelled : ℕ → ℕ → List ℕ → Entries → Result Entries Fault
-spelled place byte bytes before = at place byte (if nat_lt item_limit (length bytes) then Err TooLong else (meaning (is_plotting before) bytes >>= λ commands. Ok (before ++ placed place byte commands)))
+spelled place byte bytes before = with_place place byte (if nat_lt item_limit (length bytes) then Err TooLong else (meaning (is_plotting before) bytes >>= λ commands. Ok (before ++ placed place byte commands)))
 
 -- What a call leaves is what reading gives, running out of memory aside: the commands after it, or the fault.
-abbrev pub Leaves : {X : Type 0} → Result X Fail → Entries → Result Entries Fault → Type 0
-Leaves (Ok x) new read = read ≡ Ok new
-Leaves (Err fails.Memory) new read = Unit {0}
-Leaves (Err (fails.Refused f)) new read = read ≡ Err f
+abbrev pub ResultsIn : {X : Type 0} → Result X Fail → Entries → Result Entries Fault → Type 0
+ResultsIn (Ok x) new read = read ≡ Ok new
+ResultsIn (Err fails.Memory) new read = Unit {0}
+ResultsIn (Err (fails.Refused f)) new read = read ≡ Err f
 
 -- these commands and those of the items, the first with this number; or the fault of the first item that has one
 abbrev pub commands_from : ℕ → List (List OffsetByte) → Entries → Result Entries Fault
@@ -54,14 +54,14 @@ abbrev pub may_follow : ℕ → Bool
 may_follow b = (b == ascii.space) || ((b == ascii.tab) || (b == ascii.asterisk))
 
 -- after the end of the text, the first byte that may not stand there is AfterEnd at the next place
-abbrev pub behind_end : ℕ → Entries → List OffsetByte → Result Entries Fault
-behind_end place commands [] = Ok commands
-behind_end place commands (m ∷ ms) = if may_follow m.1 then behind_end place commands ms else Err (fault place m.0 AfterEnd)
+abbrev pub after_end : ℕ → Entries → List OffsetByte → Result Entries Fault
+after_end place commands [] = Ok commands
+after_end place commands (m ∷ ms) = if may_follow m.1 then after_end place commands ms else Err (fault place m.0 AfterEnd)
 
 -- the commands, or the first fault that these items and this rest show, whatever bytes follow
 abbrev pub shown : List (List OffsetByte) → List OffsetByte → Result Entries Fault
 shown items rest = commands_from 1 items [] >>= λ commands.
-    if has_end items then behind_end (suc (length items)) commands rest
+    if has_end items then after_end (suc (length items)) commands rest
     else if nat_lt item_limit (length rest) then Err (fault (suc (length items)) (first_offset rest) TooLong) else Ok commands
 
 -- what is shown in a text of this length: TooLong above 268,435,456 bytes, unless there is an earlier fault
@@ -108,7 +108,7 @@ pub record SpellsText (text : List ℕ) (commands : Entries) : Type 0 where
   pub short : length text ≤ text_limit
 
 -- The first items of a text, as many as `kept`, spell these commands.
-pub record KeptOf (text : List ℕ) (kept : ℕ) (commands : Entries) : Type 0 where
+pub record SpellsPrefix (text : List ℕ) (kept : ℕ) (commands : Entries) : Type 0 where
   pub items : List (List OffsetByte)
   pub rest : List OffsetByte
   pub splits : Splits (offset_bytes (take text_limit text)) items rest
@@ -116,18 +116,18 @@ pub record KeptOf (text : List ℕ) (kept : ℕ) (commands : Entries) : Type 0 w
   pub spelled : commands_from 1 (take kept items) [] ≡ Ok commands
 
 -- the items before the place of a fault spell these commands; where memory ran out, some first items do
-abbrev pub KeptBefore : List ℕ → Fail → Entries → Type 0
-KeptBefore text fails.Memory commands = (kept : ℕ) × KeptOf text kept commands
-KeptBefore text (fails.Refused f) commands = (kept : ℕ) × (f.place ≡ suc kept) × KeptOf text kept commands
+abbrev pub SpellsBeforeFault : List ℕ → Fail → Entries → Type 0
+SpellsBeforeFault text fails.Memory commands = (kept : ℕ) × SpellsPrefix text kept commands
+SpellsBeforeFault text (fails.Refused f) commands = (kept : ℕ) × (f.place ≡ suc kept) × SpellsPrefix text kept commands
 
 -- the commands of a whole text without a fault, or the fault and the commands before it
-abbrev pub Keeps : {X : Type 0} → List ℕ → Entries → Result X Fail → Type 0
-Keeps text commands (Ok _) = Reads text (Ok commands)
-Keeps text commands (Err e) = Tells (λ f. Reads text (Err f)) e × KeptBefore text e commands
+abbrev pub ReadsUpToFault : {X : Type 0} → List ℕ → Entries → Result X Fail → Type 0
+ReadsUpToFault text commands (Ok _) = Reads text (Ok commands)
+ReadsUpToFault text commands (Err e) = IfFault (λ f. Reads text (Err f)) e × SpellsBeforeFault text e commands
 
 -- the commands that were dropped, and after them those of a vector
-abbrev pub entries_behind : Entries → Vec (Placed Command) → Entries
-entries_behind gone v = gone ++ v.items
+abbrev pub entries_after : Entries → Vec (Placed Command) → Entries
+entries_after gone v = gone ++ v.items
 
 -- the commands that a vector holds, in order
 abbrev pub entries_of : Vec (Placed Command) → Entries

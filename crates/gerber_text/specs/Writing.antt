@@ -5,9 +5,9 @@ use Rattle.std.specs.Global.{Vec}
 use Rattle.grid_units.specs.Results.{fault}
 use Rattle.grid_units.specs.declared.fault.Fault.{Fault}
 use Rattle.grid_units.specs.declared.fault.Reason.TheVariants.{TooLong}
-use Rattle.gerber_rows.specs.declared.command.Command.{Command}
-use Rattle.gerber_rows.specs.Canonical.{canonical}
-use Rattle.gerber_sayable.specs.Sayable.{is_sayable, is_finish}
+use Rattle.gerber_commands.specs.declared.command.Command.{Command}
+use Rattle.gerber_commands.specs.Canonical.{canonical}
+use Rattle.gerber_text.specs.Sayable.{is_sayable, is_finish}
 use Rattle.gerber_text.specs.Reading.{Entries, Reads}
 use Rattle.grid_units.specs.Limits.{text_limit}
 use Rattle.grid_units.specs.Ascii as ascii
@@ -17,12 +17,12 @@ abbrev pub lines : List Command → List ℕ
 lines commands = flat_map (λ command. canonical command ++ ascii.line_feed ∷ []) commands
 
 -- a text of at most 268,435,456 bytes; a longer one is TooLong at place 0 and byte 0
-abbrev pub limited : List ℕ → Result (List ℕ) Fault
-limited text = if nat_lt text_limit (length text) then Err (fault 0 0 TooLong) else Ok text
+abbrev pub limited_text : List ℕ → Result (List ℕ) Fault
+limited_text text = if nat_lt text_limit (length text) then Err (fault 0 0 TooLong) else Ok text
 
 -- the canonical text, or TooLong: Select(10) and Finish are `D10*`, LF, `M02*`, LF
 abbrev pub canonical_text : List Command → Result (List ℕ) Fault
-canonical_text commands = limited (lines commands)
+canonical_text commands = limited_text (lines commands)
 
 -- the commands alone, without their places and offsets
 abbrev pub without_places : Entries → List Command
@@ -42,5 +42,5 @@ pub record ReadsAs (text : List ℕ) (commands : List Command) : Type 0 where
   pub same : without_places entries ≡ commands
 
 -- the bytes that a vector holds, in order
-abbrev pub bytes_of_vector : Vec ℕ → List ℕ
-bytes_of_vector v = v.items
+abbrev pub vec_bytes : Vec ℕ → List ℕ
+vec_bytes v = v.items

@@ -5,10 +5,18 @@ ghost use Rattle.grid_units.specs.declared.fault.Fault.{Fault};
 ghost use Rattle.gerber_text.specs.Reading.{Entries, Shows, Reads, SpellsText};
 ghost use Rattle.gerber_text.specs.Reasons.{IsReasonOfReading};
 ghost use Rattle.gerber_text.specs.Writing.{without_places, sayable};
+ghost use Rattle.std.specs.Prelude.{◌≡◌, ◌↔◌, true, List, ℕ, Bool, Ok, All};
+ghost use Rattle.gerber_commands.specs.declared.command.Command.{Command};
+ghost use Rattle.std.specs.List.{list_any};
+ghost use Rattle.gerber_text.specs.Items.{is_end_item};
+ghost use Rattle.gerber_commands.specs.Canonical.{canonical};
+ghost use Rattle.gerber_text.specs.Meaning.{meaning};
+ghost use Rattle.gerber_text.specs.CutItems.{IsCutItem, Spells, IsSpelled};
+ghost use Rattle.gerber_text.specs.Sayable.{is_sayable, is_finish};
 
 /// A text shows one thing, and has one reading, which is some commands just where the text spells them, or a fault for one
 /// of the reasons of reading.
-pub fn one_reading()
+pub fn unique_reading()
     ensures shown { (text : List ℕ) (a b : Result Entries Fault) → Shows text a → Shows text b → a ≡ b }
     ensures read { (text : List ℕ) (a b : Result Entries Fault) → Reads text a → Reads text b → a ≡ b }
     ensures some { (text : List ℕ) → (answer : Result Entries Fault) × Reads text answer }
@@ -19,4 +27,17 @@ pub fn one_reading()
 /// The commands that a text spells are sayable.
 pub fn sayable_texts()
     ensures { (text : List ℕ) (commands : Entries) → SpellsText text commands → sayable (without_places commands) ≡ true }
+{}
+
+/// The canonical item of a sayable command spells just this command.
+pub fn canonical_items()
+    ensures { (command : Command) → is_sayable command ≡ true → Spells (canonical command) command }
+{}
+
+/// Each command that an item spells is sayable, so the sayable commands are just those that items spell; and
+/// `M02` alone spells the end of the text.
+pub fn spelled_commands()
+    ensures said { (plotting : Bool) (item : List ℕ) (commands : List Command) → IsCutItem item → meaning plotting item ≡ Ok commands → All (λ command. is_sayable command ≡ true) commands }
+    ensures ends { (plotting : Bool) (item : List ℕ) (commands : List Command) → IsCutItem item → meaning plotting item ≡ Ok commands → list_any is_finish commands ≡ is_end_item item }
+    ensures exact { (command : Command) → (is_sayable command ≡ true) ↔ IsSpelled command }
 {}

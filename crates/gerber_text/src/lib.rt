@@ -2,18 +2,27 @@
 //! pieces.
 #![tactic(auto)]
 
+mod fast_path;
+mod item;
 pub mod laws;
+mod operation_fields;
 mod placed;
 mod reader;
+mod sayable_items;
 mod sayable_lists;
 mod writer;
 
-pub use gerber_rows::{
-    Action, AttributeKind, Block, Boxed, Command, Coordinate, Format, Interpolation, Pieces,
-    QuadrantMode, Sizes, Standard, Template,
+pub use fast_path::{LeadingOperation, is_plot, leading_operation};
+pub use gerber_commands::{
+    Action, AttributeKind, Boxed, Command, Coordinate, Format, Interpolation, ItemCommands, Pieces,
+    QuadrantMode, Sizes, Standard, StepRepeat, Template, is_negative_comment, is_negative_image,
+    write_item,
 };
-pub use laws::{one_reading, sayable_texts};
+pub use gerber_extended::{is_name, max_sizes, min_sizes, standard_template};
+pub use item::{end_byte, is_end_item, is_ended, read_item};
+pub use laws::{canonical_items, sayable_texts, spelled_commands, unique_reading};
 pub use placed::Placed;
 pub use reader::{Kept, WordReader, read_kept, read_words};
+pub use sayable_items::is_sayable;
 pub use sayable_lists::sayable;
 pub use writer::{write_commands, write_placed};

@@ -5,19 +5,19 @@ ghost use Rattle.std.specs.List.{list_all};
 ghost use Rattle.grid_units.specs.declared.fault.Fail.TheVariants.{Refused};
 ghost use Rattle.grid_units.specs.Limits.{item_limit, text_limit};
 ghost use Rattle.grid_units.specs.Results.{fault, Answers};
-ghost use Rattle.gerber_rows.specs.Items.{ender, IsEnded};
-ghost use Rattle.gerber_rows.specs.Rows.{modes_of};
-ghost use Rattle.gerber_rows.specs.declared.command.Command.TheVariants.{Mode};
-ghost use Rattle.gerber_text.specs.Reading.{Entries, Shows, spelled, placed, Leaves, plot_of, is_plotting, Reads, SpellsText, Keeps, KeptBefore, entries_of, entries_behind, is_blank};
-ghost use Rattle.gerber_text.specs.Inner.Bytes.{IsInside, IsFront, follows_or_drops};
+ghost use Rattle.gerber_text.specs.Items.{end_byte, IsEnded};
+ghost use Rattle.gerber_commands.specs.Rows.{modes_of};
+ghost use Rattle.gerber_commands.specs.declared.command.Command.TheVariants.{Mode};
+ghost use Rattle.gerber_text.specs.Reading.{Entries, Shows, spelled, placed, ResultsIn, plot_of, is_plotting, Reads, SpellsText, ReadsUpToFault, SpellsBeforeFault, entries_of, entries_after, is_blank};
+ghost use Rattle.gerber_text.specs.Inner.Bytes.{IsInside, HasLeadingItem, may_follow_end};
 ghost use Rattle.gerber_text.specs.Writing.{without_places, sayable};
 
 use crate::placed::Placed;
-use gerber_rows::{
-    Command, Interpolation, PlainOperation, Spelled, end_of, is_plot, is_text_end, plain_operation,
-    read_item,
+use crate::{
+    Command, Interpolation, ItemCommands, LeadingOperation, end_byte, is_end_item, is_plot,
+    leading_operation, read_item,
 };
-use grid_units::{Fail, Fault, ITEM_LIMIT, Reason, Stop};
+use grid_units::{Fail, Fault, ITEM_LIMIT, ItemFail, Reason};
 use memchr::memchr3;
 use std::alloc::{AllocError, Global};
 use std::mem::replace;
@@ -48,8 +48,8 @@ fn is_break(byte: u8) -> bool
 }
 
 /// Whether the byte may stand after the end of the text.
-fn may_stand(byte: u8) -> bool
-    ensures { result ≡ follows_or_drops byte }
+fn may_follow_end(byte: u8) -> bool
+    ensures { result ≡ may_follow_end byte }
 {
     byte == b'\n' || byte == b'\r' || byte == b' ' || byte == b'\t' || byte == b'*'
 }
@@ -71,9 +71,9 @@ fn inside_len(bytes: &[u8], end: u8) -> usize
 fn item_len(bytes: &[u8]) -> Option<usize>
     requires some { 0 < length bytes.now }
     requires inside { IsInside 42 (slice_index bytes.now 0) }
-    ensures { IfSome result (λ n. IsFront bytes.now n) }
+    ensures { IfSome result (λ n. HasLeadingItem bytes.now n) }
 {
-    let end = end_of(bytes);
+    let end = end_byte(bytes);
     let rest = &bytes[1..];
     let len = inside_len(rest, end);
     if len < rest.len() && rest[len] == end && len + 2 <= ITEM_LIMIT {
@@ -85,11 +85,11 @@ fn item_len(bytes: &[u8]) -> Option<usize>
 
 /// Where the first byte lies that may not stand after the end of the text.
 fn first_stray(bytes: &[u8]) -> Option<usize>
-    ensures none { IfNone result (All (λ b. follows_or_drops b ≡ true) bytes.now) }
-    ensures some { IfSome result (λ i. (i < length bytes.now) × All (λ b. follows_or_drops b ≡ true) (take i bytes.now) × (follows_or_drops (slice_index bytes.now i) ≡ false)) }
+    ensures none { IfNone result (All (λ b. may_follow_end b ≡ true) bytes.now) }
+    ensures some { IfSome result (λ i. (i < length bytes.now) × All (λ b. may_follow_end b ≡ true) (take i bytes.now) × (may_follow_end (slice_index bytes.now i) ≡ false)) }
 {
     for (i, byte) in bytes.iter().enumerate() {
-        if !may_stand(*byte) {
+        if !may_follow_end(*byte) {
             return Some(i);
         }
     }
@@ -97,7 +97,7 @@ fn first_stray(bytes: &[u8]) -> Option<usize>
 }
 
 /// Whether all bytes are spaces and tabs.
-fn is_all_blank(bytes: &[u8]) -> bool
+fn are_blanks(bytes: &[u8]) -> bool
     ensures { result ≡ list_all is_blank bytes.now }
 {
     bytes.iter().all(|b| *b == b' ' || *b == b'\t')
@@ -118,7 +118,7 @@ fn add(
     plotting: bool,
     place: u64,
     byte: u64,
-    spelled: Spelled,
+    spelled: ItemCommands,
     commands: &mut Vec<Placed<Command>>,
 ) -> Result<bool, AllocError>
     ensures added { OnOk result (commands.new.items ≡ commands.old.items ++ placed place byte spelled) }
@@ -128,8 +128,8 @@ fn add(
     let (mode, command) = spelled.into_parts();
     match (mode, command) {
         (None, None) => Ok(plotting),
-        (Some(mode), None) => add_one(plotting, place, byte, Command::Mode(mode), commands),
-        (mode, Some(what)) => add_behind(plotting, place, byte, mode, what, commands),
+        (Some(mode), None) => add_command(plotting, place, byte, Command::Mode(mode), commands),
+        (mode, Some(what)) => add_with_mode(plotting, place, byte, mode, what, commands),
     }
 }
 
@@ -137,7 +137,7 @@ fn add(
 /// plot.
 // Most items are operations: inlined, their command is written just once, where it is kept.
 #[inline(always)]
-fn add_behind(
+fn add_with_mode(
     plotting: bool,
     place: u64,
     byte: u64,
@@ -150,17 +150,17 @@ fn add_behind(
     ensures err { OnErr result (commands.new.items ≡ commands.old.items) }
 {
     match mode {
-        None => add_one(plotting, place, byte, what, commands),
+        None => add_command(plotting, place, byte, what, commands),
         Some(mode) => {
             let plotting = plots_after(plotting, &what);
-            add_both(place, byte, mode, what, commands)?;
+            add_mode_and_command(place, byte, mode, what, commands)?;
             Ok(plotting)
         }
     }
 }
 
 /// Adds a command, and returns whether the last operation is a plot.
-fn add_one(
+fn add_command(
     plotting: bool,
     place: u64,
     byte: u64,
@@ -178,7 +178,7 @@ fn add_one(
 
 /// Adds two commands, or none.
 #[inline(never)]
-fn add_both(
+fn add_mode_and_command(
     place: u64,
     byte: u64,
     mode: Interpolation,
@@ -204,7 +204,7 @@ fn add_both(
 
 /// Adds the commands that an item spells, and returns whether the last operation is a plot.
 #[tactic(auto, unfolding(crate::specs::Reading::spelled))]
-fn spell(
+fn parse_item(
     alloc: Global,
     plotting: bool,
     place: u64,
@@ -214,14 +214,14 @@ fn spell(
 ) -> Result<bool, Fail>
     requires item { IsEnded item.now }
     requires short { length item.now ≤ item_limit }
-    ensures spelled { (gone : Entries) → plotting ≡ is_plotting (gone ++ commands.old.items) → Leaves result (gone ++ commands.new.items) (spelled place byte item.now (gone ++ commands.old.items)) }
+    ensures spelled { (gone : Entries) → plotting ≡ is_plotting (gone ++ commands.old.items) → ResultsIn result (gone ++ commands.new.items) (spelled place byte item.now (gone ++ commands.old.items)) }
     ensures plotting { (gone : Entries) → plotting ≡ is_plotting (gone ++ commands.old.items) → IfOk result (λ new. new ≡ is_plotting (gone ++ commands.new.items)) }
     ensures err { OnErr result (commands.new.items ≡ commands.old.items) }
 {
     match read_item(alloc, plotting, item) {
         Ok(spelled) => Ok(add(plotting, place, byte, spelled, commands)?),
-        Err(Stop::Memory) => Err(Fail::Memory),
-        Err(Stop::Refused(reason)) => Err(Fail::Refused(Fault {
+        Err(ItemFail::Memory) => Err(Fail::Memory),
+        Err(ItemFail::Refused(reason)) => Err(Fail::Refused(Fault {
             place,
             byte,
             reason,
@@ -231,9 +231,9 @@ fn spell(
 
 impl Progress {
     ghost use Rattle.std.specs.Prelude.{[], ◌∷◌, List, None};
-    ghost use Rattle.gerber_rows.specs.Items.{is_line_break, ender};
-    ghost use Rattle.gerber_rows.specs.Plain.{BeginsWith};
-    ghost use Rattle.gerber_rows.specs.declared.command.Command.TheVariants.{Operate};
+    ghost use Rattle.gerber_text.specs.Items.{is_line_break, end_byte};
+    ghost use Rattle.gerber_text.specs.FastPath.{HasLeadingOperation};
+    ghost use Rattle.gerber_commands.specs.declared.command.Command.TheVariants.{Operate};
     ghost use Rattle.gerber_text.specs.Holding.{Advances, Refuses, RefusesText, Holds, Ends};
     ghost use Rattle.grid_units.specs.Results.{AnswersAlways};
 
@@ -249,10 +249,10 @@ impl Progress {
     }
 
     /// The byte that ends the unfinished item, `%` or `*`.
-    fn ender(&self) -> u8
-        ensures { result ≡ ender self.now.item.items }
+    fn end_byte(&self) -> u8
+        ensures { result ≡ end_byte self.now.item.items }
     {
-        end_of(&self.item)
+        end_byte(&self.item)
     }
 
     /// The offset of the unfinished item's first byte, or of the next byte where no item has begun.
@@ -278,16 +278,16 @@ impl Progress {
     }
 
     /// Takes the item of an operation that is written plainly.
-    fn operate(&mut self, bytes: &[u8], operation: PlainOperation) -> Result<(), Fail>
+    fn operate(&mut self, bytes: &[u8], operation: LeadingOperation) -> Result<(), Fail>
         requires running { self.old.ended ≡ false }
         requires fresh { vec_len self.old.item ≡ 0 }
-        requires begins { BeginsWith bytes.now operation.len (modes_of operation.mode ++ Operate operation.action operation.x operation.y operation.i operation.j ∷ []) }
+        requires begins { HasLeadingOperation bytes.now operation.len (modes_of operation.mode ++ Operate operation.action operation.x operation.y operation.i operation.j ∷ []) }
         requires room { self.old.offset + length bytes.now ≤ text_limit }
         ensures offset { OnOk result (self.new.offset ≡ self.old.offset + operation.len) }
         ensures ok { OnOk result (Advances self.old self.new (take operation.len bytes.now)) }
         ensures err { IfErr result (Refuses self.old self.new.commands.items (take operation.len bytes.now)) }
     {
-        let PlainOperation {
+        let LeadingOperation {
             mode,
             action,
             x,
@@ -298,7 +298,7 @@ impl Progress {
         } = operation;
         let what = Command::Operate { action, x, y, i, j };
         let place = self.items + 1;
-        self.plotting = add_behind(
+        self.plotting = add_with_mode(
             self.plotting,
             place,
             self.offset,
@@ -323,7 +323,7 @@ impl Progress {
         ensures ok { IfOk result (λ n. Advances self.old self.new (take n bytes.now)) }
         ensures err { IfErr result (Refuses self.old self.new.commands.items bytes.now) }
     {
-        match plain_operation(bytes) {
+        match leading_operation(bytes) {
             Some(operation) => {
                 let len = operation.len;
                 self.operate(bytes, operation)?;
@@ -361,7 +361,7 @@ impl Progress {
     fn take_item(&mut self, bytes: &[u8], len: usize) -> Result<(), Fail>
         requires running { self.old.ended ≡ false }
         requires fresh { vec_len self.old.item ≡ 0 }
-        requires front { IsFront bytes.now len }
+        requires prefix { HasLeadingItem bytes.now len }
         requires room { self.old.offset + length bytes.now ≤ text_limit }
         ensures offset { OnOk result (self.new.offset ≡ self.old.offset + len) }
         ensures ok { OnOk result (Advances self.old self.new (take len bytes.now)) }
@@ -370,7 +370,7 @@ impl Progress {
         let item = &bytes[..len];
         let place = self.items + 1;
         let byte = self.offset;
-        self.plotting = spell(
+        self.plotting = parse_item(
             self.alloc,
             self.plotting,
             place,
@@ -378,7 +378,7 @@ impl Progress {
             item,
             &mut self.commands,
         )?;
-        self.ended = is_text_end(item);
+        self.ended = is_end_item(item);
         self.items += 1;
         self.offset += len as u64;
         Ok(())
@@ -404,7 +404,7 @@ impl Progress {
     fn extend(&mut self, run: &[u8]) -> Result<(), Fail>
         requires running { self.old.ended ≡ false }
         requires begun { 0 < vec_len self.old.item }
-        requires inside { All (IsInside (ender self.old.item.items)) run.now }
+        requires inside { All (IsInside (end_byte self.old.item.items)) run.now }
         requires room { self.old.offset + length run.now ≤ text_limit }
         ensures offset { OnOk result (self.new.offset ≡ self.old.offset + length run.now) }
         ensures ok { OnOk result (Advances self.old self.new run.now) }
@@ -421,7 +421,7 @@ impl Progress {
     /// Ends the item with its last byte.
     fn close(&mut self, last: u8) -> Result<(), Fail>
         requires running { self.old.ended ≡ false }
-        requires last { last ≡ ender self.old.item.items }
+        requires last { last ≡ end_byte self.old.item.items }
         requires room { self.old.offset < text_limit }
         ensures offset { OnOk result (self.new.offset ≡ self.old.offset + 1) }
         ensures ok { OnOk result (Advances self.old self.new (last ∷ [])) }
@@ -433,7 +433,7 @@ impl Progress {
             return Err(self.refuse(byte, Reason::TooLong));
         }
         self.item.push(last)?;
-        self.plotting = spell(
+        self.plotting = parse_item(
             self.alloc,
             self.plotting,
             place,
@@ -441,7 +441,7 @@ impl Progress {
             &self.item,
             &mut self.commands,
         )?;
-        self.ended = is_text_end(&self.item);
+        self.ended = is_end_item(&self.item);
         self.item.clear();
         self.items += 1;
         self.offset += 1;
@@ -449,7 +449,7 @@ impl Progress {
     }
 
     /// Passes bytes after the end of the text.
-    fn pass(&mut self, bytes: &[u8]) -> Result<(), Fail>
+    fn skip_trailing(&mut self, bytes: &[u8]) -> Result<(), Fail>
         requires ended { self.old.ended ≡ true }
         requires room { self.old.offset + length bytes.now ≤ text_limit }
         ensures offset { OnOk result (self.new.offset ≡ self.old.offset + length bytes.now) }
@@ -474,9 +474,9 @@ impl Progress {
         ensures err { IfErr result (Refuses self.old self.new.commands.items bytes.now) }
     {
         let first = bytes[0];
-        let end = self.ender();
+        let end = self.end_byte();
         if self.ended {
-            self.pass(bytes)?;
+            self.skip_trailing(bytes)?;
             Ok(bytes.len())
         } else if is_break(first) {
             self.skip_break(first);
@@ -521,10 +521,10 @@ impl Progress {
     }
 
     /// The offset at which the text is Truncated: that of the unfinished item, or the text's length.
-    fn missing_at(&self) -> u64
+    fn truncated_at(&self) -> u64
         ensures { result ≡ (if list_all is_blank self.now.item.items then self.now.offset else self.now.start) }
     {
-        if is_all_blank(&self.item) {
+        if are_blanks(&self.item) {
             self.offset
         } else {
             self.start
@@ -538,14 +538,14 @@ impl Progress {
         if self.ended {
             return Ok(());
         }
-        Err(self.refuse(self.missing_at(), Reason::Truncated))
+        Err(self.refuse(self.truncated_at(), Reason::Truncated))
     }
 
     /// The commands, if the text has ended.
     fn finish(self) -> Result<Vec<Placed<Command>>, Fail>
         ensures held { IfOk result (λ v. v.items ≡ self.commands.items) }
-        ensures kept { (gone : Entries) (text : List ℕ) → Holds self gone text → IfErr result (λ e. KeptBefore text e (gone ++ self.commands.items)) }
-        ensures exact { (gone : Entries) (text : List ℕ) → Holds self gone text → AnswersAlways (entries_behind gone) (λ answer. Reads text answer) result }
+        ensures kept { (gone : Entries) (text : List ℕ) → Holds self gone text → IfErr result (λ e. SpellsBeforeFault text e (gone ++ self.commands.items)) }
+        ensures exact { (gone : Entries) (text : List ℕ) → Holds self gone text → AnswersAlways (entries_after gone) (λ answer. Reads text answer) result }
     {
         self.end()?;
         Ok(self.commands)
@@ -564,8 +564,8 @@ impl WordReader {
     ghost use Rattle.std.specs.Prelude.{List, Some, Ok, Err, [], ◌++◌};
     ghost use Rattle.grid_units.specs.declared.fault.Fail.{Fail as TheFail};
     ghost use Rattle.grid_units.specs.Results.{AnswersAlways};
-    ghost use Rattle.gerber_text.specs.Reading.{Shows, Reads, Keeps};
-    ghost use Rattle.gerber_text.specs.Holding.{StandsAfter, StandsBehind, HasFailed, FailedBehind, failure, held};
+    ghost use Rattle.gerber_text.specs.Reading.{Shows, Reads, ReadsUpToFault};
+    ghost use Rattle.gerber_text.specs.Holding.{StandsAfter, StandsAfterDrop, HasFailed, FailedAfterDrop, failure, held};
 
     /// A reader that has read nothing.
     pub fn new(alloc: Global) -> WordReader
@@ -594,8 +594,8 @@ impl WordReader {
     /// The first fault that the text shows so far, whatever follows; `Memory` where an allocation failed. A
     /// reader that has failed gives its failure again.
     pub fn feed(&mut self, piece: &[u8]) -> Result<(), Fail>
-        ensures ok { (gone : Entries) (text : List ℕ) → StandsBehind self.old gone text → OnOk result (StandsBehind self.new gone (text ++ piece.now)) }
-        ensures err { (gone : Entries) (text : List ℕ) → StandsBehind self.old gone text → IfErr result (FailedBehind self.new gone (text ++ piece.now)) }
+        ensures ok { (gone : Entries) (text : List ℕ) → StandsAfterDrop self.old gone text → OnOk result (StandsAfterDrop self.new gone (text ++ piece.now)) }
+        ensures err { (gone : Entries) (text : List ℕ) → StandsAfterDrop self.old gone text → IfErr result (FailedAfterDrop self.new gone (text ++ piece.now)) }
         ensures failed { IfSome (failure self.old) (λ e. (result ≡ Err e) × (self.new ≡ self.old)) }
         ensures fails { IfErr result (λ e. failure self.new ≡ Some e) }
     {
@@ -613,16 +613,16 @@ impl WordReader {
     /// running out of memory those of some first items.
     pub fn commands(&self) -> &[Placed<Command>]
         ensures held { result.now ≡ held self.now }
-        ensures shown { (gone : Entries) (text : List ℕ) → StandsBehind self.now gone text → Shows text (Ok (gone ++ result.now)) }
-        ensures kept { (gone : Entries) (text : List ℕ) (e : TheFail) → FailedBehind self.now gone text e → KeptBefore text e (gone ++ result.now) }
+        ensures shown { (gone : Entries) (text : List ℕ) → StandsAfterDrop self.now gone text → Shows text (Ok (gone ++ result.now)) }
+        ensures kept { (gone : Entries) (text : List ℕ) (e : TheFail) → FailedAfterDrop self.now gone text e → SpellsBeforeFault text e (gone ++ result.now) }
     {
         &self.progress.commands
     }
 
     /// Drops the commands so far: from here on [`WordReader::commands`] gives those that come after them.
-    pub fn let_go(&mut self)
+    pub fn clear_commands(&mut self)
         ensures none { held self.new ≡ [] }
-        ensures gone { (gone : Entries) (text : List ℕ) → StandsBehind self.old gone text → StandsBehind self.new (gone ++ held self.old) text }
+        ensures gone { (gone : Entries) (text : List ℕ) → StandsAfterDrop self.old gone text → StandsAfterDrop self.new (gone ++ held self.old) text }
         ensures failed { failure self.new ≡ failure self.old }
     {
         self.progress.commands.clear();
@@ -632,7 +632,7 @@ impl WordReader {
     pub fn take_commands(&mut self) -> Vec<Placed<Command>>
         ensures taken { result.items ≡ held self.old }
         ensures none { held self.new ≡ [] }
-        ensures gone { (gone : Entries) (text : List ℕ) → StandsBehind self.old gone text → StandsBehind self.new (gone ++ held self.old) text }
+        ensures gone { (gone : Entries) (text : List ℕ) → StandsAfterDrop self.old gone text → StandsAfterDrop self.new (gone ++ held self.old) text }
         ensures failed { failure self.new ≡ failure self.old }
     {
         let alloc = self.progress.alloc;
@@ -645,9 +645,9 @@ impl WordReader {
     ///
     /// The first fault of the text. A reader that has failed gives its failure again.
     pub fn finish(self) -> Result<Vec<Placed<Command>>, Fail>
-        ensures exact { (gone : Entries) (text : List ℕ) → StandsBehind self gone text → AnswersAlways (entries_behind gone) (λ answer. Reads text answer) result }
+        ensures exact { (gone : Entries) (text : List ℕ) → StandsAfterDrop self gone text → AnswersAlways (entries_after gone) (λ answer. Reads text answer) result }
         ensures held { IfOk result (λ v. v.items ≡ held self) }
-        ensures kept { (gone : Entries) (text : List ℕ) → StandsBehind self gone text → IfErr result (λ e. KeptBefore text e (gone ++ held self)) }
+        ensures kept { (gone : Entries) (text : List ℕ) → StandsAfterDrop self gone text → IfErr result (λ e. SpellsBeforeFault text e (gone ++ held self)) }
         ensures sayable { (text : List ℕ) → StandsAfter self text → IfOk result (λ v. sayable (without_places v.items) ≡ true) }
         ensures failed { IfSome (failure self) (λ e. result ≡ Err e) }
     {
@@ -659,8 +659,8 @@ impl WordReader {
 
     /// The commands so far and no fault where the text has ended; else the commands before the fault, and the fault.
     fn into_kept(self) -> Kept
-        ensures stands { (text : List ℕ) → StandsAfter self text → Keeps text result.commands.items result.outcome }
-        ensures failed { (text : List ℕ) (e : TheFail) → HasFailed self text e → Keeps text result.commands.items result.outcome }
+        ensures stands { (text : List ℕ) → StandsAfter self text → ReadsUpToFault text result.commands.items result.outcome }
+        ensures failed { (text : List ℕ) (e : TheFail) → HasFailed self text e → ReadsUpToFault text result.commands.items result.outcome }
     {
         let outcome = self.outcome();
         Kept {
@@ -671,8 +671,8 @@ impl WordReader {
 
     /// The failure of the reader, or Truncated unless the text has ended.
     fn outcome(&self) -> Result<(), Fail>
-        ensures stands { (text : List ℕ) → StandsAfter self.now text → Keeps text self.now.progress.commands.items result }
-        ensures failed { (text : List ℕ) (e : TheFail) → HasFailed self.now text e → Keeps text self.now.progress.commands.items result }
+        ensures stands { (text : List ℕ) → StandsAfter self.now text → ReadsUpToFault text self.now.progress.commands.items result }
+        ensures failed { (text : List ℕ) (e : TheFail) → HasFailed self.now text e → ReadsUpToFault text self.now.progress.commands.items result }
     {
         match self.failed {
             Some(fail) => Err(fail),
@@ -707,7 +707,7 @@ pub fn read_words(alloc: Global, bytes: &[u8]) -> Result<Vec<Placed<Command>>, F
 /// The commands that a text spells, or those of the items before its first fault, and this fault. Where an
 /// allocation failed they are those of some first items.
 pub fn read_kept(alloc: Global, bytes: &[u8]) -> Kept
-    ensures { Keeps bytes.now result.commands.items result.outcome }
+    ensures { ReadsUpToFault bytes.now result.commands.items result.outcome }
 {
     let mut reader = WordReader::new(alloc);
     let _ = reader.feed(bytes);

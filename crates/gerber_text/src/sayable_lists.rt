@@ -1,11 +1,10 @@
 //! Lists of commands that some text spells.
 
 ghost use Rattle.std.specs.Prelude.{◌≡◌};
-ghost use Rattle.gerber_sayable.specs.Sayable.{is_finish};
+ghost use Rattle.gerber_text.specs.Sayable.{is_finish};
 ghost use Rattle.gerber_text.specs.Writing.{sayable};
 
-use gerber_rows::Command;
-use gerber_sayable::is_sayable;
+use crate::{Command, is_sayable};
 
 fn is_finish(command: &Command) -> bool
     ensures { result ≡ is_finish command.now }

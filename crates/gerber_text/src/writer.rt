@@ -2,11 +2,11 @@
 
 ghost use Rattle.std.specs.Prelude.{◌≡◌, ◌++◌, [], ◌∷◌, true, OnOk, IfOk};
 ghost use Rattle.grid_units.specs.Results.{Answers, AnswersAlways};
-ghost use Rattle.gerber_text.specs.Writing.{lines, limited, canonical_text, without_places, sayable, ReadsAs, bytes_of_vector};
-ghost use Rattle.gerber_rows.specs.Canonical.{canonical};
+ghost use Rattle.gerber_text.specs.Writing.{lines, limited_text, canonical_text, without_places, sayable, ReadsAs, vec_bytes};
+ghost use Rattle.gerber_commands.specs.Canonical.{canonical};
 
 use crate::placed::Placed;
-use gerber_rows::{Command, write_item};
+use crate::{Command, write_item};
 use grid_units::{Fail, Fault, Reason, TEXT_LIMIT};
 use std::alloc::{AllocError, Global};
 
@@ -20,8 +20,8 @@ fn put_line(out: &mut Vec<u8>, command: &Command) -> Result<(), AllocError>
 }
 
 /// The text, or the refusal of one above 268,435,456 bytes.
-fn limited(text: Vec<u8>) -> Result<Vec<u8>, Fail>
-    ensures { AnswersAlways bytes_of_vector (λ answer. answer ≡ limited text.items) result }
+fn limited_text(text: Vec<u8>) -> Result<Vec<u8>, Fail>
+    ensures { AnswersAlways vec_bytes (λ answer. answer ≡ limited_text text.items) result }
 {
     if text.len() > TEXT_LIMIT {
         Err(Fail::Refused(Fault {
@@ -52,10 +52,10 @@ fn lines_of(alloc: Global, commands: &[Command]) -> Result<Vec<u8>, AllocError>
 /// [`Reason::TooLong`] at place 0 where the text would be above 268,435,456 bytes; `Memory` where an
 /// allocation failed.
 pub fn write_commands(alloc: Global, commands: &[Command]) -> Result<Vec<u8>, Fail>
-    ensures exact { Answers bytes_of_vector (λ answer. answer ≡ canonical_text commands.now) result }
+    ensures exact { Answers vec_bytes (λ answer. answer ≡ canonical_text commands.now) result }
     ensures reads_back { sayable commands.now ≡ true → IfOk result (λ text. ReadsAs text.items commands.now) }
 {
-    limited(lines_of(alloc, commands)?)
+    limited_text(lines_of(alloc, commands)?)
 }
 
 /// The canonical items of commands with places, each with an LF.
@@ -76,8 +76,8 @@ fn lines_of_placed(alloc: Global, commands: &[Placed<Command>]) -> Result<Vec<u8
 /// [`Reason::TooLong`] at place 0 where the text would be above 268,435,456 bytes; `Memory` where an
 /// allocation failed.
 pub fn write_placed(alloc: Global, commands: &[Placed<Command>]) -> Result<Vec<u8>, Fail>
-    ensures exact { Answers bytes_of_vector (λ answer. answer ≡ canonical_text (without_places commands.now)) result }
+    ensures exact { Answers vec_bytes (λ answer. answer ≡ canonical_text (without_places commands.now)) result }
     ensures reads_back { sayable (without_places commands.now) ≡ true → IfOk result (λ text. ReadsAs text.items (without_places commands.now)) }
 {
-    limited(lines_of_placed(alloc, commands)?)
+    limited_text(lines_of_placed(alloc, commands)?)
 }

@@ -13,13 +13,13 @@ pub and_false : (b : Bool) → (b && false) ≡ false
 and_false true = refl
 and_false false = refl
 
-pub then_not : (a b : Bool) → a ≡ true → (a && b) ≡ false → b ≡ false
-then_not true b t e = e
-then_not false b t e = absurd cc
+pub and_false_right : (a b : Bool) → a ≡ true → (a && b) ≡ false → b ≡ false
+and_false_right true b t e = e
+and_false_right false b t e = absurd cc
 
-pub neither : (a b : Bool) → (a || b) ≡ false → (a ≡ false) × (b ≡ false)
-neither true b e = absurd cc
-neither false b e = (refl, e)
+pub or_is_false : (a b : Bool) → (a || b) ≡ false → (a ≡ false) × (b ≡ false)
+or_is_false true b e = absurd cc
+or_is_false false b e = (refl, e)
 
 pub not_true : (a : Bool) → not a ≡ true → a ≡ false
 not_true true h = absurd cc
@@ -29,9 +29,9 @@ pub not_false : (b : Bool) → not b ≡ false → b ≡ true
 not_false true e = refl
 not_false false e = absurd cc
 
-pub twice_not : (b : Bool) → not (not b) ≡ b
-twice_not true = refl
-twice_not false = refl
+pub not_not : (b : Bool) → not (not b) ≡ b
+not_not true = refl
+not_not false = refl
 
 pub either : (b : Bool) → (b ≡ true) ⊎ (b ≡ false)
 either true = inl refl

@@ -1,12 +1,12 @@
 pub mod BoolLemmas
 pub mod ListLemmas
-pub mod Steps
-pub mod Lookbacks
-pub mod Binds
-pub mod Exactness
-pub mod Digits
-pub mod Places
-pub mod Spelled
-pub mod Filling
-pub mod Fronts
-mod Refusing
+pub mod TriangleInequalities
+pub mod LookbackLemmas
+pub mod ResultLemmas
+pub mod LengthLemmas
+pub mod DigitLemmas
+pub mod TrailingZeros
+pub mod SpellingsLemmas
+pub mod ZeroFillingLemmas
+pub mod ReadPrefix
+mod NumberReasons

@@ -9,5 +9,5 @@ pub mod Spans
 pub mod Numbers
 pub mod Rows
 pub mod Spellings
-pub mod Fronts
+pub mod ReadPrefix
 pub mod Laws

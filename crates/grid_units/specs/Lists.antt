@@ -4,27 +4,27 @@ use Rattle.std.specs.Option.{option_or, option_map}
 use Rattle.std.specs.List.{filter_map}
 
 -- the last thing that the elements of a list name, such as the tool picked last; None where no element names one
-abbrev pub last_named : {C A : Type 0} → (C → Option A) → List C → Option A
-last_named names [] = None
-last_named names (c ∷ cs) = option_or (last_named names cs) (names c)
+abbrev pub last_set : {C A : Type 0} → (C → Option A) → List C → Option A
+last_set names [] = None
+last_set names (c ∷ cs) = option_or (last_set names cs) (names c)
 
 -- each element of a list with those before it; the elements `first` stand before the whole list
-abbrev pub positions_after : {C : Type 0} → List C → List C → List (List C × C)
-positions_after first [] = []
-positions_after first (c ∷ cs) = (first, c) ∷ positions_after (first ++ c ∷ []) cs
+abbrev pub with_prefixes_from : {C : Type 0} → List C → List C → List (List C × C)
+with_prefixes_from first [] = []
+with_prefixes_from first (c ∷ cs) = (first, c) ∷ with_prefixes_from (first ++ c ∷ []) cs
 
 -- each element of a list with those before it
-abbrev pub positions : {C : Type 0} → List C → List (List C × C)
-positions cs = positions_after [] cs
+abbrev pub with_prefixes : {C : Type 0} → List C → List (List C × C)
+with_prefixes cs = with_prefixes_from [] cs
 
 -- the place from 0 of an element that breaks a rule after those before it, and what it breaks
-abbrev pub break_at : {C R : Type 0} → (List C → C → Option R) → List C × C → Option (ℕ × R)
-break_at broken p = option_map (λ r. (length p.0, r)) (broken p.0 p.1)
+abbrev pub violation_at : {C R : Type 0} → (List C → C → Option R) → List C × C → Option (ℕ × R)
+violation_at broken p = option_map (λ r. (length p.0, r)) (broken p.0 p.1)
 
 -- the place and the break of each element that breaks a rule after those before it; the first is the list's first fault
-abbrev pub breaks : {C R : Type 0} → (List C → C → Option R) → List C → List (ℕ × R)
-breaks broken cs = filter_map (break_at broken) (positions cs)
+abbrev pub violations : {C R : Type 0} → (List C → C → Option R) → List C → List (ℕ × R)
+violations broken cs = filter_map (violation_at broken) (with_prefixes cs)
 
 -- no element of a list breaks a rule after those before it
 abbrev pub IsLegal : {C R : Type 0} → (List C → C → Option R) → List C → Type 0
-IsLegal broken cs = breaks broken cs ≡ []
+IsLegal broken cs = violations broken cs ≡ []

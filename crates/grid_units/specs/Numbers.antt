@@ -18,8 +18,8 @@ abbrev pub is_digit : ℕ → Bool
 is_digit b = nat_le ascii.digit_zero b && nat_le b ascii.digit_nine
 
 -- a number character: a digit, a sign or a point
-abbrev pub is_number : ℕ → Bool
-is_number b = is_digit b || ((b == ascii.plus) || ((b == ascii.minus) || (b == ascii.point)))
+abbrev pub is_number_char : ℕ → Bool
+is_number_char b = is_digit b || ((b == ascii.plus) || ((b == ascii.minus) || (b == ascii.point)))
 
 -- one or more digits and nothing else: `007`
 abbrev pub is_digits : List ℕ → Bool
@@ -30,9 +30,9 @@ abbrev pub value : List ℕ → ℕ
 value digits = fold (λ n b. n * 10 + (b - ascii.digit_zero)) 0 digits
 
 -- what follows an optional sign: `.5` of `-.5`
-abbrev pub unsigned : List ℕ → List ℕ
-unsigned [] = []
-unsigned (b ∷ bs) = if (b == ascii.plus) || (b == ascii.minus) then bs else b ∷ bs
+abbrev pub without_sign : List ℕ → List ℕ
+without_sign [] = []
+without_sign (b ∷ bs) = if (b == ascii.plus) || (b == ascii.minus) then bs else b ∷ bs
 
 -- the sign is a minus: `-.5`
 abbrev pub is_negative : List ℕ → Bool
@@ -44,36 +44,36 @@ abbrev pub signed : List ℕ → ℕ → ℤ
 signed text n = if is_negative text then neg_ℤ (pos n) else pos n
 
 -- n with k decimals, in units of 10^-8, the v of v * 10^k = n * 10^8: 254 with 2 decimals is 254,000,000
-abbrev pub fine : ℕ → ℕ → ℕ
-fine n k = n * 10 ^ 8 / 10 ^ k
+abbrev pub to_units : ℕ → ℕ → ℕ
+to_units n k = n * 10 ^ 8 / 10 ^ k
 
 -- ---- decimals
 
 -- the digits before the point: `01` of `-01.50`
 abbrev pub whole : List ℕ → List ℕ
-whole text = before_first (λ b. b == ascii.point) (unsigned text)
+whole text = before_first (λ b. b == ascii.point) (without_sign text)
 
 -- the digits after the point: `50` of `-01.50`
 abbrev pub fraction : List ℕ → List ℕ
-fraction text = after_first (λ b. b == ascii.point) (unsigned text)
+fraction text = after_first (λ b. b == ascii.point) (without_sign text)
 
 -- an optional sign, and one or more digits with at most one point among them: `1.`, `-.5`, `01.00`
 abbrev pub is_decimal : List ℕ → Bool
 is_decimal text = (list_all is_digit (whole text) && list_all is_digit (fraction text)) && not (length (whole text) + length (fraction text) == 0)
 
 -- the decimals after the eighth are zeros: `12345678000`
-abbrev pub is_coarse : List ℕ → Bool
-is_coarse decimals = list_all (λ b. b == ascii.digit_zero) (drop 8 decimals)
+abbrev pub fits_eight_decimals : List ℕ → Bool
+fits_eight_decimals decimals = list_all (λ b. b == ascii.digit_zero) (drop 8 decimals)
 
 -- the number that all the digits spell, read without the point: 150 of `-01.50`
-abbrev pub all_digits : List ℕ → ℕ
-all_digits text = value (whole text ++ fraction text)
+abbrev pub value_without_point : List ℕ → ℕ
+value_without_point text = value (whole text ++ fraction text)
 
 -- a decimal in units of 10^-8, or its first refusal, BadNumber, TooFine or TooFar: `-.5` is -50,000,000
-unfoldable pub dec_of : List ℕ → Result ℤ Reason
-dec_of text =
-    if is_decimal text then (if is_coarse (fraction text) then (if nat_lt 999999 (value (whole text)) then Err TooFar
-    else Ok (signed text (fine (all_digits text) (length (fraction text)))))
+unfoldable pub parse_decimal : List ℕ → Result ℤ Reason
+parse_decimal text =
+    if is_decimal text then (if fits_eight_decimals (fraction text) then (if nat_lt 999999 (value (whole text)) then Err TooFar
+    else Ok (signed text (to_units (value_without_point text) (length (fraction text)))))
     else Err TooFine)
     else Err BadNumber
 
@@ -93,28 +93,28 @@ abbrev pub picometres : Units → ℕ → ℤ → ℤ
 picometres unit decimals n = n *ℤ pos (unit_length unit / 10 ^ decimals)
 
 -- a length in pm beyond 10 m (docs/FORMATS.md, Limits)
-abbrev pub is_far : ℤ → Bool
-is_far length = nat_lt max_coordinate (unsigned_abs length)
+abbrev pub is_too_far : ℤ → Bool
+is_too_far length = nat_lt max_coordinate (unsigned_abs length)
 
 -- a length in pm, or TooFar beyond 10 m (docs/FORMATS.md, Limits)
 unfoldable pub within_limit : ℤ → Result ℤ Reason
-within_limit length = if is_far length then Err TooFar else Ok length
+within_limit length = if is_too_far length then Err TooFar else Ok length
 
 -- ---- drill coordinates without a point
 
 -- How many zeros to fill in after n digits: under `LZ` up to all places, under `TZ` none; more digits than places are
 -- TooManyDigits. Where neither is named, all places must be written, else NoZeros.
-abbrev pub missing : Zeros → ℕ → ℕ → Result ℕ Reason
-missing Leading places n = if nat_le n places then Ok (places - n) else Err TooManyDigits
-missing Trailing places n = if nat_le n places then Ok 0 else Err TooManyDigits
-missing Full places n = if n == places then Ok 0 else Err NoZeros
+abbrev pub zeros_to_fill : Zeros → ℕ → ℕ → Result ℕ Reason
+zeros_to_fill Leading places n = if nat_le n places then Ok (places - n) else Err TooManyDigits
+zeros_to_fill Trailing places n = if nat_le n places then Ok 0 else Err TooManyDigits
+zeros_to_fill Full places n = if n == places then Ok 0 else Err NoZeros
 
 -- the number that digits spell with so many zeros filled in after them: `00254` with one zero is 2540
-abbrev pub filled : List ℕ → ℕ → ℕ
-filled digits zeros = value (digits ++ replicate zeros ascii.digit_zero)
+abbrev pub zero_filled : List ℕ → ℕ → ℕ
+zero_filled digits zeros = value (digits ++ replicate zeros ascii.digit_zero)
 
 -- a coordinate without a point in the format i:d, in units of 10^-8: `00254` in 3:3 under `LZ` is 254,000,000, that is 2.54
-unfoldable pub zeros_of : List ℕ → ℕ → ℕ → Zeros → Result ℤ Reason
-zeros_of text i d zeros =
-    if is_digits (unsigned text) then (missing zeros (i + d) (length (unsigned text)) >>= λ k. Ok (signed text (fine (filled (unsigned text) k) d)))
+unfoldable pub parse_zero_filled : List ℕ → ℕ → ℕ → Zeros → Result ℤ Reason
+parse_zero_filled text i d zeros =
+    if is_digits (without_sign text) then (zeros_to_fill zeros (i + d) (length (without_sign text)) >>= λ k. Ok (signed text (to_units (zero_filled (without_sign text) k) d)))
     else Err BadNumber

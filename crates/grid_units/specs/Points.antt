@@ -19,9 +19,9 @@ abbrev pub square : ℕ → ℕ
 square n = n * n
 
 -- how far two whole numbers are apart
-abbrev pub apart : ℤ → ℤ → ℕ
-apart a b = unsigned_abs (a -ℤ b)
+abbrev pub abs_diff : ℤ → ℤ → ℕ
+abs_diff a b = unsigned_abs (a -ℤ b)
 
 -- the square of the distance of two points; no root is ever taken
 abbrev pub square_distance : GridPoint → GridPoint → ℕ
-square_distance p q = square (apart p.x q.x) + square (apart p.y q.y)
+square_distance p q = square (abs_diff p.x q.x) + square (abs_diff p.y q.y)

@@ -4,9 +4,9 @@ use Rattle.grid_units.specs.declared.fault.Reason.{Reason}
 use Rattle.grid_units.specs.declared.fault.Fault.{Fault}
 use Rattle.grid_units.specs.declared.fault.Fail.{Fail}
 use Rattle.grid_units.specs.declared.fault.Fail.TheVariants as fails
-use Rattle.grid_units.specs.declared.stop.Stop.{Stop}
-use Rattle.grid_units.specs.declared.stop.Stop.TheVariants as stops
-use Rattle.grid_units.specs.Reasons.{number_of}
+use Rattle.grid_units.specs.declared.item_fail.ItemFail.{ItemFail}
+use Rattle.grid_units.specs.declared.item_fail.ItemFail.TheVariants as stops
+use Rattle.grid_units.specs.Reasons.{reason_number}
 
 infixl 10 ◌>>=◌
 -- the second step on what the first one gives, or the first refusal
@@ -19,20 +19,20 @@ abbrev pub fault : ℕ → ℕ → Reason → Fault
 fault place byte reason = record { place = place; byte = byte; reason = reason }
 
 -- an answer, with its reason put at this place and byte where it is a refusal
-abbrev pub at : {A : Type 0} → ℕ → ℕ → Result A Reason → Result A Fault
-at place byte (Ok x) = Ok x
-at place byte (Err reason) = Err (fault place byte reason)
+abbrev pub with_place : {A : Type 0} → ℕ → ℕ → Result A Reason → Result A Fault
+with_place place byte (Ok x) = Ok x
+with_place place byte (Err reason) = Err (fault place byte reason)
 
 -- the earlier of two reasons in the reading order: the reasons of reading are numbered in it (docs/FORMATS.md, the table of reasons)
-abbrev pub first_reason : Reason → Reason → Reason
-first_reason a b = if nat_le (number_of a) (number_of b) then a else b
+abbrev pub earlier_reason : Reason → Reason → Reason
+earlier_reason a b = if nat_le (reason_number a) (reason_number b) then a else b
 
 -- both of two fields, or the first reason of the reading order: every field is read, also after a refusal (docs/FORMATS.md, What an item spells)
 abbrev pub both : {A B : Type 0} → Result A Reason → Result B Reason → Result (A × B) Reason
 both (Ok x) (Ok y) = Ok (x, y)
 both (Ok x) (Err b) = Err b
 both (Err a) (Ok y) = Err a
-both (Err a) (Err b) = Err (first_reason a b)
+both (Err a) (Err b) = Err (earlier_reason a b)
 
 -- P holds of what a call returned, a value seen by the view or a fault; nothing is claimed of a call that ran out of memory
 abbrev pub Answers : {T V : Type 0} → (T → V) → (Result V Fault → Type 0) → Result T Fail → Type 0
@@ -47,16 +47,16 @@ AnswersAlways view P (Err fails.Memory) = ⊥
 AnswersAlways view P (Err (fails.Refused f)) = P (Err f)
 
 -- P holds of the fault of a failure; nothing is claimed where memory ran out
-abbrev pub Tells : (Fault → Type 0) → Fail → Type 0
-Tells P fails.Memory = Unit {0}
-Tells P (fails.Refused f) = P f
+abbrev pub IfFault : (Fault → Type 0) → Fail → Type 0
+IfFault P fails.Memory = Unit {0}
+IfFault P (fails.Refused f) = P f
 
 -- the answer is the refusal that stopped a call; nothing is claimed where memory ran out
-abbrev pub Fails : {A : Type 0} → Stop → Result A Reason → Type 0
-Fails stops.Memory answer = Unit {0}
-Fails (stops.Refused reason) answer = answer ≡ Err reason
+abbrev pub IsRefusedAs : {A : Type 0} → ItemFail → Result A Reason → Type 0
+IsRefusedAs stops.Memory answer = Unit {0}
+IsRefusedAs (stops.Refused reason) answer = answer ≡ Err reason
 
 -- a call returned just this answer, or ran out of memory
-abbrev pub Gives : {A : Type 0} → Result A Stop → Result A Reason → Type 0
+abbrev pub Gives : {A : Type 0} → Result A ItemFail → Result A Reason → Type 0
 Gives (Ok x) answer = answer ≡ Ok x
-Gives (Err stop) answer = Fails stop answer
+Gives (Err item_fail) answer = IsRefusedAs item_fail answer

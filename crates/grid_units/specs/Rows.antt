@@ -8,21 +8,21 @@ abbrev pub RowOf : Type 0 → Type 0
 RowOf A = Option (Result A Reason)
 
 -- what the first row that fits makes of the text; where none fits, the text is refused for this reason
-abbrev pub first_fit_or : {A : Type 0} → Reason → List (RowOf A) → Result A Reason
-first_fit_or reason [] = Err reason
-first_fit_or reason (None ∷ rows) = first_fit_or reason rows
-first_fit_or reason (Some meaning ∷ rows) = meaning
+abbrev pub first_match_or : {A : Type 0} → Reason → List (RowOf A) → Result A Reason
+first_match_or reason [] = Err reason
+first_match_or reason (None ∷ rows) = first_match_or reason rows
+first_match_or reason (Some meaning ∷ rows) = meaning
 
 -- what follows this prefix, where a text begins with it: `10` after `G54D` in `G54D10`
-abbrev pub behind : List ℕ → List ℕ → Option (List ℕ)
-behind prefix text = if bytes_eq (take (length prefix) text) prefix then Some (drop (length prefix) text) else None
+abbrev pub strip_prefix : List ℕ → List ℕ → Option (List ℕ)
+strip_prefix prefix text = if bytes_eq (take (length prefix) text) prefix then Some (drop (length prefix) text) else None
 
 -- the row of texts that are just one of these literals, each with what it spells: `G36`
-abbrev pub just : {A : Type 0} → List (List ℕ × Result A Reason) → List ℕ → RowOf A
-just [] text = None
-just (form ∷ forms) text = if bytes_eq text form.0 then Some form.1 else just forms text
+abbrev pub literal_row : {A : Type 0} → List (List ℕ × Result A Reason) → List ℕ → RowOf A
+literal_row [] text = None
+literal_row (form ∷ forms) text = if bytes_eq text form.0 then Some form.1 else literal_row forms text
 
 -- the row of texts that begin with one of these literals, whatever follows, each with what it spells: `N10` begins with `N`
-abbrev pub beginning : {A : Type 0} → List (List ℕ × Result A Reason) → List ℕ → RowOf A
-beginning [] text = None
-beginning (form ∷ forms) text = if bytes_eq (take (length form.0) text) form.0 then Some form.1 else beginning forms text
+abbrev pub prefix_row : {A : Type 0} → List (List ℕ × Result A Reason) → List ℕ → RowOf A
+prefix_row [] text = None
+prefix_row (form ∷ forms) text = if bytes_eq (take (length form.0) text) form.0 then Some form.1 else prefix_row forms text

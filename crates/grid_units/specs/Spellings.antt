@@ -22,14 +22,14 @@ abbrev pub decimals : ℕ → List ℕ
 decimals units = trimmed (places 8 (units % 10 ^ 8))
 
 -- `.` and the decimals, nothing where there are none
-abbrev pub behind_point : List ℕ → List ℕ
-behind_point [] = []
-behind_point (d ∷ ds) = ascii.point ∷ d ∷ ds
+abbrev pub fraction_text : List ℕ → List ℕ
+fraction_text [] = []
+fraction_text (d ∷ ds) = ascii.point ∷ d ∷ ds
 
 -- `.` and the decimals, `.0` where there are none
-abbrev pub behind_any_point : List ℕ → List ℕ
-behind_any_point [] = ascii.point ∷ ascii.digit_zero ∷ []
-behind_any_point (d ∷ ds) = ascii.point ∷ d ∷ ds
+abbrev pub fraction_text_or_zero : List ℕ → List ℕ
+fraction_text_or_zero [] = ascii.point ∷ ascii.digit_zero ∷ []
+fraction_text_or_zero (d ∷ ds) = ascii.point ∷ d ∷ ds
 
 -- the sign and the whole part of v, where so many units are 1; `0` stands for no whole part: `-12` of -1250 hundredths
 abbrev pub signed_whole : ℕ → ℤ → List ℕ
@@ -37,11 +37,11 @@ signed_whole one v = minus v ++ decimal (unsigned_abs v / one)
 
 -- the canonical spelling of a number of 10^-8: `0.05` of 5,000,000
 unfoldable pub canonical : ℤ → List ℕ
-canonical v = signed_whole (10 ^ 8) v ++ behind_point (decimals (unsigned_abs v))
+canonical v = signed_whole (10 ^ 8) v ++ fraction_text (decimals (unsigned_abs v))
 
 -- the spelling with a point, `.0` where there is no fraction: `-12.0` of -1,200,000,000
 unfoldable pub pointed : ℤ → List ℕ
-pointed v = signed_whole (10 ^ 8) v ++ behind_any_point (decimals (unsigned_abs v))
+pointed v = signed_whole (10 ^ 8) v ++ fraction_text_or_zero (decimals (unsigned_abs v))
 
 -- a length in pm as millimetres with nine decimals: `0.125000000` of 125,000,000
 unfoldable pub millimetres : ℤ → List ℕ

@@ -2,12 +2,12 @@
 
 ghost use Rattle.std.specs.Prelude.{◌≡◌, ◌≤◌, ◌+◌, ◌-◌, ◌*◌, ◌^◌, ◌*ℤ◌, ◌↔◌, ◌&&◌, ◌==◌, not, pos, neg_ℤ, length, take, drop, All, true, IsSome, IfSome, IfOk, unsigned_abs, if◌then◌else◌, ℤ};
 ghost use Rattle.std.specs.List.{list_all, position_or_len};
-ghost use Rattle.grid_units.specs.Numbers.{is_digit, value, whole, fraction, signed, is_coarse, all_digits, dec_of, max_units, unit_length, picometres, within_limit};
+ghost use Rattle.grid_units.specs.Numbers.{is_digit, value, whole, fraction, signed, fits_eight_decimals, value_without_point, parse_decimal, max_units, unit_length, picometres, within_limit};
 ghost use Rattle.grid_units.specs.Spellings.{canonical, pointed};
 
 use crate::fault::Reason;
-use crate::lengths::{Unit, fine_picometres, power_of_ten, within_ten_metres};
-use crate::numbers::{are_all_digits, behind_sign, capped_value, is_negative};
+use crate::lengths::{Unit, power_of_ten, units_to_picometres, within_ten_metres};
+use crate::numbers::{are_all_digits, capped_value, is_negative, without_sign};
 use crate::spelling::{push_decimals, push_decimals_or_zero, signed_whole};
 use arrayvec::ArrayString;
 use std::marker::Model;
@@ -42,16 +42,16 @@ impl Dec {
     ///
     /// In this order: [`Reason::BadNumber`] for another text, [`Reason::TooFine`] where a decimal after the
     /// eighth is not 0, [`Reason::TooFar`] where the whole part is above 999,999.
-    #[tactic(auto, unfolding(crate::specs::Numbers::dec_of))]
+    #[tactic(auto, unfolding(crate::specs::Numbers::parse_decimal))]
     pub fn read(text: &[u8]) -> Result<Dec, Reason>
-        ensures exact { result ≡ dec_of text.now }
-        ensures equation { IfOk result (λ v. v *ℤ pos (10 ^ length (fraction text.now)) ≡ signed text.now (all_digits text.now * 10 ^ 8)) }
+        ensures exact { result ≡ parse_decimal text.now }
+        ensures equation { IfOk result (λ v. v *ℤ pos (10 ^ length (fraction text.now)) ≡ signed text.now (value_without_point text.now * 10 ^ 8)) }
     {
-        let (whole, fraction) = parts(text);
+        let (whole, fraction) = split_at_point(text);
         if !has_only_digits(whole, fraction) {
             return Err(Reason::BadNumber);
         }
-        if !is_coarse(fraction) {
+        if !fits_eight_decimals(fraction) {
             return Err(Reason::TooFine);
         }
         let whole = capped_value(whole, 1_000_000);
@@ -86,7 +86,7 @@ impl Dec {
     #[tactic(auto, unfolding(crate::specs::Spellings::canonical))]
     pub fn write(self) -> ArrayString<16>
         ensures spelling { result.bytes ≡ canonical self }
-        ensures reads_back { dec_of result.bytes ≡ Ok self }
+        ensures reads_back { parse_decimal result.bytes ≡ Ok self }
     {
         let mut text = signed_whole(self.units, 100_000_000);
         push_decimals(&mut text, self.units.unsigned_abs() % 100_000_000);
@@ -97,7 +97,7 @@ impl Dec {
     #[tactic(auto, unfolding(crate::specs::Spellings::pointed))]
     pub fn write_pointed(self) -> ArrayString<16>
         ensures spelling { result.bytes ≡ pointed self }
-        ensures reads_back { dec_of result.bytes ≡ Ok self }
+        ensures reads_back { parse_decimal result.bytes ≡ Ok self }
     {
         let mut text = signed_whole(self.units, 100_000_000);
         push_decimals_or_zero(&mut text, self.units.unsigned_abs() % 100_000_000);
@@ -114,22 +114,22 @@ impl Dec {
         ensures equation { IfOk result (λ p. p *ℤ pos (10 ^ 8) ≡ self *ℤ pos (unit_length unit)) }
         ensures even { IfOk result (λ p. (half : ℤ) × (p ≡ half *ℤ pos 2)) }
     {
-        within_ten_metres(fine_picometres(self.units(), unit))
+        within_ten_metres(units_to_picometres(self.units(), unit))
     }
 }
 
 /// The digits before the point, and those after it.
-fn parts(text: &[u8]) -> (&[u8], &[u8])
+fn split_at_point(text: &[u8]) -> (&[u8], &[u8])
     ensures whole { result.0.now ≡ whole text.now }
     ensures fraction { result.1.now ≡ fraction text.now }
 {
-    let digits = behind_sign(text);
+    let digits = without_sign(text);
     let at = point_at(digits);
-    let behind = digits.len().min(at + 1);
-    (&digits[..at], &digits[behind..])
+    let after = digits.len().min(at + 1);
+    (&digits[..at], &digits[after..])
 }
 
-fn is_no_point(byte: u8) -> bool
+fn is_not_point(byte: u8) -> bool
     ensures { result ≡ not (byte == 46) }
 {
     byte != b'.'
@@ -141,7 +141,7 @@ fn point_at(digits: &[u8]) -> usize
     ensures len { result ≡ position_or_len (λ b. b == 46) digits.now }
 {
     for (i, byte) in digits.iter().enumerate() {
-        if !is_no_point(*byte) {
+        if !is_not_point(*byte) {
             return i;
         }
     }
@@ -156,14 +156,14 @@ fn has_only_digits(whole: &[u8], fraction: &[u8]) -> bool
 }
 
 /// Whether the decimals after the eighth are zeros.
-fn is_coarse(decimals: &[u8]) -> bool
-    ensures { result ≡ is_coarse decimals.now }
+fn fits_eight_decimals(decimals: &[u8]) -> bool
+    ensures { result ≡ fits_eight_decimals decimals.now }
 {
-    behind_eighth(decimals).iter().all(|byte| *byte == b'0')
+    after_eighth(decimals).iter().all(|byte| *byte == b'0')
 }
 
 /// The decimals after the eighth.
-fn behind_eighth(decimals: &[u8]) -> &[u8]
+fn after_eighth(decimals: &[u8]) -> &[u8]
     ensures { result.now ≡ drop 8 decimals.now }
 {
     if decimals.len() <= 8 {
@@ -193,8 +193,8 @@ fn units_of(whole: u64, decimals: &[u8]) -> u64
     ensures bound { result ≤ max_units }
 {
     let first = first_eight(decimals);
-    let missing = (8 - first.len()) as u8;
-    whole * 100_000_000 + capped_value(first, 100_000_000) * power_of_ten(missing)
+    let zeros_to_fill = (8 - first.len()) as u8;
+    whole * 100_000_000 + capped_value(first, 100_000_000) * power_of_ten(zeros_to_fill)
 }
 
 /// The decimal of so many units of 10^-8, with its sign.

@@ -1,7 +1,7 @@
 //! Why a file is refused, and where.
 
 ghost use Rattle.std.specs.Prelude.{◌≡◌};
-ghost use Rattle.grid_units.specs.Results.{both, first_reason};
+ghost use Rattle.grid_units.specs.Results.{both, earlier_reason};
 ghost use Rattle.grid_units.specs.declared.fault.Fail.TheVariants.{Memory};
 
 use std::alloc::{AllocError, AllocFailed};
@@ -156,19 +156,19 @@ const NAMES: [&str; 46] = [
 ];
 
 impl Reason {
-    ghost use Rattle.grid_units.specs.Reasons.{name_of, number_of};
+    ghost use Rattle.grid_units.specs.Reasons.{reason_name, reason_number};
 
     /// The number of the reason, from 1 to 46.
     pub fn number(self) -> u8
-        ensures { result ≡ number_of self }
+        ensures { result ≡ reason_number self }
     {
         self as u8
     }
 
     /// The name as it is printed: `TooLong`.
-    #[tactic(auto, unfolding(crate::specs::Reasons::name_of))]
+    #[tactic(auto, unfolding(crate::specs::Reasons::reason_name))]
     pub fn name(self) -> &'static str
-        ensures { result.now ≡ name_of self }
+        ensures { result.now ≡ reason_name self }
     {
         NAMES[usize::from(self.number()) - 1]
     }
@@ -194,13 +194,13 @@ pub fn both<A: Drop, B: Drop>(
     match (first, second) {
         (Ok(a), Ok(b)) => Ok((a, b)),
         (Ok(_), Err(reason)) | (Err(reason), Ok(_)) => Err(reason),
-        (Err(a), Err(b)) => Err(first_reason(a, b)),
+        (Err(a), Err(b)) => Err(earlier_reason(a, b)),
     }
 }
 
 /// The earlier of two reasons in the reading order.
-fn first_reason(a: Reason, b: Reason) -> Reason
-    ensures { result ≡ first_reason a b }
+fn earlier_reason(a: Reason, b: Reason) -> Reason
+    ensures { result ≡ earlier_reason a b }
 {
     if a.number() <= b.number() { a } else { b }
 }

@@ -3,7 +3,7 @@
 ghost use Rattle.std.specs.Prelude.{◌≡◌, pos, ◌≤◌, ◌↔◌, ◌≤ℤ◌, IsSome, IfSome, IsTrue, unsigned_abs};
 ghost use Rattle.grid_units.specs.Holes.{IsRadius, is_round, max_radius};
 
-use crate::plane::Point;
+use crate::points::Point;
 use std::marker::Model;
 
 /// The largest radius of a hole, in pm: five metres.

@@ -2,10 +2,10 @@
 
 ghost use Rattle.std.specs.Prelude.{◌≡◌, ◌≤◌, ◌<◌, ◌^◌, ◌/◌, ◌*ℤ◌, pos, ℕ, ℤ, unsigned_abs, IfOk};
 ghost use Rattle.grid_units.specs.declared.lengths.Unit.{Unit as Units};
-ghost use Rattle.grid_units.specs.Numbers.{unit_length, picometres, within_limit, is_far, max_units};
+ghost use Rattle.grid_units.specs.Numbers.{unit_length, picometres, within_limit, is_too_far, max_units};
 
 use crate::fault::Reason;
-use crate::plane::MAX_COORDINATE;
+use crate::points::MAX_COORDINATE;
 
 /// The unit of a file's lengths.
 #[derive(Clone, Copy, Debug, PartialEq, Eq)]
@@ -59,7 +59,7 @@ pub fn picometres(n: i64, decimals: u8, unit: Unit) -> i128
 }
 
 /// So many times 10^-8 of a unit, in pm.
-pub(crate) fn fine_picometres(units: i64, unit: Unit) -> i64
+pub(crate) fn units_to_picometres(units: i64, unit: Unit) -> i64
     requires { unsigned_abs units ≤ max_units }
     ensures { result ≡ picometres unit 8 units }
 {
@@ -70,8 +70,8 @@ pub(crate) fn fine_picometres(units: i64, unit: Unit) -> i64
 }
 
 /// Whether a length in pm is beyond 10 m.
-pub fn is_far(length: i128) -> bool
-    ensures { result ≡ is_far length }
+pub fn is_too_far(length: i128) -> bool
+    ensures { result ≡ is_too_far length }
 {
     length.unsigned_abs() > u128::from(MAX_COORDINATE)
 }
@@ -81,7 +81,7 @@ pub fn is_far(length: i128) -> bool
 fn within_limit(length: i128) -> Result<i64, Reason>
     ensures { result ≡ within_limit length }
 {
-    if is_far(length) {
+    if is_too_far(length) {
         Err(Reason::TooFar)
     } else {
         Ok(length as i64)

@@ -5,29 +5,29 @@
 
 mod decimal;
 mod fault;
-mod front;
 mod holes;
+mod item_fail;
 pub mod laws;
 mod lengths;
 mod limits;
 pub mod numbers;
-mod plane;
-mod ring_gap;
+mod points;
+mod prefix;
+mod rules;
 mod span;
 mod spelling;
-mod stop;
 mod text;
 mod zero_filling;
 
 pub use decimal::Dec;
 pub use fault::{Fail, Fault, Reason, both};
 pub use holes::Hole;
-pub use lengths::{Unit, exact_lengths, from_digits, is_far, picometres, power_of_ten};
+pub use item_fail::ItemFail;
+pub use lengths::{Unit, exact_lengths, from_digits, is_too_far, picometres, power_of_ten};
 pub use limits::{ITEM_LIMIT, LINE_LIMIT, TEXT_LIMIT};
-pub use plane::{MAX_COORDINATE, Point, square, square_distance, square_length};
-pub use ring_gap::Rules;
+pub use points::{MAX_COORDINATE, Point, square, square_distance, square_length};
+pub use rules::Rules;
 pub use span::{Span, is_in_span};
 pub use spelling::write_mm;
-pub use stop::Stop;
 pub use text::Text;
 pub use zero_filling::{Zeros, from_zeros};

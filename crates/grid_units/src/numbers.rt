@@ -2,7 +2,7 @@
 
 ghost use Rattle.std.specs.Prelude.{◌≡◌, ◌≤◌, ◌<◌, ◌^◌, ◌==◌, not, min, length, All, true};
 ghost use Rattle.std.specs.List.{list_all, prefix_len};
-ghost use Rattle.grid_units.specs.Numbers.{is_digit, is_number, is_digits, value, unsigned, is_negative};
+ghost use Rattle.grid_units.specs.Numbers.{is_digit, is_number_char, is_digits, value, without_sign, is_negative};
 
 /// Whether a byte is `0` to `9`.
 pub fn is_digit(byte: u8) -> bool
@@ -12,14 +12,14 @@ pub fn is_digit(byte: u8) -> bool
 }
 
 /// Whether a byte is a digit, a sign or a point.
-pub fn is_number(byte: u8) -> bool
-    ensures { result ≡ is_number byte }
+pub fn is_number_char(byte: u8) -> bool
+    ensures { result ≡ is_number_char byte }
 {
     is_digit(byte) || byte == b'+' || byte == b'-' || byte == b'.'
 }
 
 /// How many times a text repeats this byte at its start.
-pub fn run_of(sought: u8, text: &[u8]) -> usize
+pub fn repeat_len(sought: u8, text: &[u8]) -> usize
     ensures within { result ≤ length text.now }
     ensures len { result ≡ prefix_len (λ b. b == sought) text.now }
 {
@@ -32,7 +32,7 @@ pub fn run_of(sought: u8, text: &[u8]) -> usize
 }
 
 /// How many bytes come before the first byte of this value, all of them where there is none.
-pub fn run_before(sought: u8, text: &[u8]) -> usize
+pub fn len_before(sought: u8, text: &[u8]) -> usize
     ensures within { result ≤ length text.now }
     ensures len { result ≡ prefix_len (λ b. not (b == sought)) text.now }
 {
@@ -45,7 +45,7 @@ pub fn run_before(sought: u8, text: &[u8]) -> usize
 }
 
 /// How many digits stand at the start: the length of the digit run.
-pub fn digits_len(bytes: &[u8]) -> usize
+pub fn digit_run_len(bytes: &[u8]) -> usize
     ensures within { result ≤ length bytes.now }
     ensures len { result ≡ prefix_len is_digit bytes.now }
 {
@@ -58,12 +58,12 @@ pub fn digits_len(bytes: &[u8]) -> usize
 }
 
 /// How many number characters stand at the start: the length of the run.
-pub fn number_len(bytes: &[u8]) -> usize
+pub fn number_run_len(bytes: &[u8]) -> usize
     ensures within { result ≤ length bytes.now }
-    ensures len { result ≡ prefix_len is_number bytes.now }
+    ensures len { result ≡ prefix_len is_number_char bytes.now }
 {
     for (i, byte) in bytes.iter().enumerate() {
-        if !is_number(*byte) {
+        if !is_number_char(*byte) {
             return i;
         }
     }
@@ -98,8 +98,8 @@ pub fn capped_value(digits: &[u8], limit: u64) -> u64
 }
 
 /// What follows an optional sign.
-pub fn behind_sign(text: &[u8]) -> &[u8]
-    ensures { result.now ≡ unsigned text.now }
+pub fn without_sign(text: &[u8]) -> &[u8]
+    ensures { result.now ≡ without_sign text.now }
 {
     match text {
         [b'+' | b'-', rest @ ..] => rest,

@@ -2,7 +2,7 @@
 
 ghost use Rattle.std.specs.Prelude.{◌≡◌, ◌≤◌, ◌<◌, ◌+◌, ◌^◌, ◌%◌, ◌/◌, ◌++◌, ◌∷◌, [], unsigned_abs, decimal};
 ghost use Rattle.arrayvec.specs.ArrayString.{array_string_len};
-ghost use Rattle.grid_units.specs.Spellings.{places, trimmed, minus, signed_whole, behind_point, behind_any_point, millimetres};
+ghost use Rattle.grid_units.specs.Spellings.{places, trimmed, minus, signed_whole, fraction_text, fraction_text_or_zero, millimetres};
 
 use crate::lengths::power_of_ten;
 use arrayvec::ArrayString;
@@ -102,7 +102,7 @@ fn without_zeros(number: u64) -> (u64, u8)
 /// there are none.
 pub(crate) fn push_decimals(text: &mut ArrayString<16>, fraction: u64)
     requires { array_string_len text.old ≤ 7 }
-    ensures { text.new.bytes ≡ text.old.bytes ++ behind_point (trimmed (places 8 fraction)) }
+    ensures { text.new.bytes ≡ text.old.bytes ++ fraction_text (trimmed (places 8 fraction)) }
 {
     let (number, width) = without_zeros(fraction);
     if width > 0 {
@@ -114,7 +114,7 @@ pub(crate) fn push_decimals(text: &mut ArrayString<16>, fraction: u64)
 /// Appends a point and the decimals of a number of 10^-8, `.0` where there are none.
 pub(crate) fn push_decimals_or_zero(text: &mut ArrayString<16>, fraction: u64)
     requires { array_string_len text.old ≤ 7 }
-    ensures { text.new.bytes ≡ text.old.bytes ++ behind_any_point (trimmed (places 8 fraction)) }
+    ensures { text.new.bytes ≡ text.old.bytes ++ fraction_text_or_zero (trimmed (places 8 fraction)) }
 {
     let (number, width) = without_zeros(fraction);
     push_ascii(text, b'.');

@@ -6,11 +6,10 @@ use crate::small;
 use drill_text::{drill_sayable, read_drill, write_drill};
 use gerber_text::{Command, Kept, Placed, read_kept, read_words, write_commands, write_placed};
 use grid_units::Fail;
-use loading::{ReadFail, read_all};
 use manifest::read_manifest;
-use rewriting::{Kind, rewrite_bytes};
+use ringcheck_files::{ReadFail, read_all};
+use single_files::{Kind, rewrite_bytes, show_drill, show_layer};
 use std::alloc::{AllocError, Global};
-use tables::{show_drill, show_layer};
 
 /// A call on one text.
 #[derive(Clone, Copy, Debug)]

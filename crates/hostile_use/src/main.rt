@@ -14,8 +14,8 @@ mod small;
 mod texts;
 
 use cuts::Tally;
-use loading::{ReadFail, read_all};
 use readers::Reader;
+use ringcheck_files::{ReadFail, read_all};
 use std::process::ExitCode;
 use std::{env, fs, io};
 use texts::Paragraph;

@@ -4,12 +4,12 @@ use crate::answer::Answer;
 use crate::digest::Digest;
 use crate::inputs::Held;
 use command_line::{Refusal, Request, parse};
-use drill_lines::push_canonical;
+use drill_lines::write_line;
 use drill_text::{DrillCommand, read_drill};
-use gerber_rows::{Spelled, is_ended, read_item, write_item};
-use grid_units::{Fail, Reason, Stop, Text};
+use gerber_text::{ItemCommands, is_ended, read_item, write_item};
+use grid_units::{Fail, ItemFail, Reason, Text};
 use manifest::Name;
-use proposals::{Content, Named, Proposal, propose, write_proposal, write_reasons};
+use proposals::{FileContent, InputFile, Proposal, propose, write_proposal, write_reasons};
 use std::alloc::{AllocError, Global};
 use std::fmt::Write;
 
@@ -20,7 +20,7 @@ pub(crate) fn items(alloc: Global, text: &[u8]) -> Result<Vec<u8>, AllocError> {
         let item = if is_ended(line) {
             read_item(alloc, true, line)
         } else {
-            Err(Stop::Refused(Reason::BadWord))
+            Err(ItemFail::Refused(Reason::BadWord))
         };
         put_item(&mut out, item)?;
     }
@@ -28,14 +28,14 @@ pub(crate) fn items(alloc: Global, text: &[u8]) -> Result<Vec<u8>, AllocError> {
 }
 
 /// Appends an item as it is written, or the name of the reason where it is refused.
-fn put_item(out: &mut Vec<u8>, item: Result<Spelled, Stop>) -> Result<(), AllocError> {
+fn put_item(out: &mut Vec<u8>, item: Result<ItemCommands, ItemFail>) -> Result<(), AllocError> {
     match item {
         Ok(spelled) => match spelled.into_parts() {
             (_, Some(command)) => write_item(out, &command),
             (_, None) => Ok(()),
         },
-        Err(Stop::Refused(reason)) => out.extend_from_slice(reason.name().as_bytes()),
-        Err(Stop::Memory) => Err(AllocError),
+        Err(ItemFail::Refused(reason)) => out.extend_from_slice(reason.name().as_bytes()),
+        Err(ItemFail::Memory) => Err(AllocError),
     }
 }
 
@@ -48,7 +48,7 @@ pub(crate) fn lines(alloc: Global, text: &[u8]) -> Result<Vec<u8>, Fail> {
 fn put_lines(alloc: Global, commands: &[DrillCommand]) -> Result<Vec<u8>, AllocError> {
     let mut out = Vec::new(alloc);
     for command in commands {
-        push_canonical(&mut out, command)?;
+        write_line(&mut out, command)?;
     }
     Ok(out)
 }
@@ -109,14 +109,14 @@ pub(crate) fn proposed(call: FolderCall, alloc: Global, files: &[Held]) -> Answe
     }
 }
 
-fn of_folder(alloc: Global, files: &[Held]) -> Result<Vec<Named<'static>>, AllocError> {
+fn of_folder(alloc: Global, files: &[Held]) -> Result<Vec<InputFile<'static>>, AllocError> {
     let mut folder = Vec::new(alloc);
     for (name, text) in files {
         let content = match text {
-            Some(text) => Content::Bytes(text.as_bytes()),
-            None => Content::NotRead,
+            Some(text) => FileContent::Bytes(text.as_bytes()),
+            None => FileContent::NotRead,
         };
-        folder.push(Named { name, content })?;
+        folder.push(InputFile { name, content })?;
     }
     Ok(folder)
 }

@@ -1,18 +1,18 @@
 -- What a reader of a layer in pieces shows of the text so far.
 use Rattle.std.proofs.Common.{◌≡◌, inl, inr, ℕ, List, [], ◌++◌, length, Bool, true, false, cond, Result, Ok, Err, OnOk, IfErr, sym, ap, subst, ◌∙◌, nat_lt, arith}
 use Rattle.std.proofs.Math.Seq.{take-length}
-use Rattle.grid_units.specs.Results.{AnswersAlways, Answers, Tells}
+use Rattle.grid_units.specs.Results.{AnswersAlways, Answers, IfFault}
 use Rattle.grid_units.specs.declared.fault.Fault.{Fault}
 use Rattle.grid_units.specs.declared.fault.Fail.{Fail}
 use Rattle.grid_units.specs.declared.fault.Fail.TheVariants as fails
-use Rattle.grid_units.proofs.Binds.{bind_ok}
+use Rattle.grid_units.proofs.ResultLemmas.{bind_ok}
 use Rattle.gerber_text.specs.declared.reader.WordReader.{WordReader}
 use Rattle.gerber_text.specs.Cut.{OffsetByte}
-use Rattle.gerber_text.specs.Reading.{Entries, commands_from, shown, Shows, Reads, KeptOf, KeptBefore, entries_behind}
-use Rattle.gerber_text.specs.Holding.{StandsBehind, FailedBehind, FailsWith}
-use Rattle.gerber_text.proofs.Shown.{shown_spelled}
-use Rattle.gerber_text.proofs.Whole.{shows_reads}
-use Rattle.gerber_text.proofs.Longer.{fails_longer}
+use Rattle.gerber_text.specs.Reading.{Entries, commands_from, shown, Shows, Reads, SpellsPrefix, SpellsBeforeFault, entries_after}
+use Rattle.gerber_text.specs.Holding.{StandsAfterDrop, FailedAfterDrop, FailsWith}
+use Rattle.gerber_text.proofs.ShowsLemmas.{shown_spelled}
+use Rattle.gerber_text.proofs.FinishLemmas.{shows_reads}
+use Rattle.gerber_text.proofs.FaultsStay.{fails_longer}
 use Rattle.layer_image.specs.declared.keep.Keep.{Keep}
 use Rattle.layer_image.specs.declared.keep.Keep.TheVariants as keep
 use Rattle.layer_image.specs.Faults.{IsFirstFault}
@@ -28,7 +28,7 @@ short_ok true x cs e h = absurd cc
 short_ok false x cs e h = cc
 
 -- all items of a text that shows no fault are kept
-shows_kept : (text : List ℕ) (cs : Entries) → Shows text (Ok cs) → (kept : ℕ) × KeptOf text kept cs
+shows_kept : (text : List ℕ) (cs : Entries) → Shows text (Ok cs) → (kept : ℕ) × SpellsPrefix text kept cs
 shows_kept text cs s =
     let first = bind_ok (shown s.items s.rest) _ cs (sym s.answer_is) in
     let same : first.0 ≡ cs = short_ok (nat_lt text_limit (length text)) first.0 cs _ first.2 in (
@@ -43,17 +43,17 @@ shows_kept text cs s =
     )
 
 -- a rule's fault among the commands of the items so far is shown, whatever the word reader answered
-pub rule_shown : (text : List ℕ) (words : WordReader) (gone cs : Entries) (r : Result (Unit {0}) Fail) (e : Fail) → OnOk r (StandsBehind words gone text) → IfErr r (FailedBehind words gone text)
-    → (StandsBehind words gone text → Shows text (Ok (gone ++ cs))) → ((d : Fail) → FailedBehind words gone text d → KeptBefore text d (gone ++ cs)) → Tells (IsFirstFault (gone ++ cs)) e → Tells (ShowsLayerFault text) e
+pub rule_shown : (text : List ℕ) (words : WordReader) (gone cs : Entries) (r : Result (Unit {0}) Fail) (e : Fail) → OnOk r (StandsAfterDrop words gone text) → IfErr r (FailedAfterDrop words gone text)
+    → (StandsAfterDrop words gone text → Shows text (Ok (gone ++ cs))) → ((d : Fail) → FailedAfterDrop words gone text d → SpellsBeforeFault text d (gone ++ cs)) → IfFault (IsFirstFault (gone ++ cs)) e → IfFault (ShowsLayerFault text) e
 rule_shown text words gone cs r fails.Memory stands failed shows keeps h = tt
 rule_shown text words gone cs (Ok x) (fails.Refused f) stands failed shows keeps h = let k = shows_kept text (gone ++ cs) (shows stands) in inl (k.0, gone ++ cs, k.1, h)
 rule_shown text words gone cs (Err fails.Memory) (fails.Refused f) stands failed shows keeps h = let k = keeps fails.Memory failed in inl (k.0, gone ++ cs, k.1, h)
 rule_shown text words gone cs (Err (fails.Refused g)) (fails.Refused f) stands failed shows keeps h = let k = keeps (fails.Refused g) failed in inl (k.0, gone ++ cs, k.2, h)
 
 -- a fault of reading is shown where the commands before it are legal
-pub words_shown : (text : List ℕ) (words : WordReader) (gone cs : Entries) (e : Fail) → FailedBehind words gone text e → KeptBefore text e (gone ++ cs) → IsLegal broken_rule (without_places (gone ++ cs)) → Tells (ShowsLayerFault text) e
+pub words_shown : (text : List ℕ) (words : WordReader) (gone cs : Entries) (e : Fail) → FailedAfterDrop words gone text e → SpellsBeforeFault text e (gone ++ cs) → IsLegal broken_rule (without_places (gone ++ cs)) → IfFault (ShowsLayerFault text) e
 words_shown text words gone cs fails.Memory failed kept legal = tt
-words_shown text words gone cs (fails.Refused f) failed kept legal = inr (gone ++ cs, failed.fails.told, kept, legal)
+words_shown text words gone cs (fails.Refused f) failed kept legal = inr (gone ++ cs, failed.fails.reported, kept, legal)
 
 -- a fault that a text shows is the one that it has
 pub shown_read : (text : List ℕ) (f : Fault) → ShowsLayerFault text f → ReadsLayer text (Err f)
@@ -63,18 +63,18 @@ shown_read text f (inr h) = inr (h.0, shows_reads text f h.1, h.2, h.3)
 -- each longer text shows it too
 pub shown_longer : (text more : List ℕ) (f : Fault) → ShowsLayerFault text f → ShowsLayerFault (text ++ more) f
 shown_longer text more f (inl h) =
-    let here : FailsWith text h.1 fails.Memory = record { told = tt; kept = (h.0, h.2) } in
+    let here : FailsWith text h.1 fails.Memory = record { reported = tt; kept = (h.0, h.2) } in
     let on = fails_longer text more h.1 fails.Memory here in
     inl (on.kept.0, h.1, on.kept.1, h.3)
 shown_longer text more f (inr h) =
-    let here : FailsWith text h.0 (fails.Refused f) = record { told = h.1; kept = h.2 } in
+    let here : FailsWith text h.0 (fails.Refused f) = record { reported = h.1; kept = h.2 } in
     let on = fails_longer text more h.0 (fails.Refused f) here in
-    inr (h.0, on.told, on.kept, h.3)
+    inr (h.0, on.reported, on.kept, h.3)
 
 pub shown_joined : (text more : List ℕ) (f : Fault) → ShowsLayerFault text f → ReadsLayer (text ++ more) (Err f)
 shown_joined text more f h = shown_read (text ++ more) f (shown_longer text more f h)
 
-pub layer_shows_reads : (text : List ℕ) (e : Fail) → Tells (ShowsLayerFault text) e → Answers {T = LayerImage} (λ layer. layer) (ReadsLayer text) (Err e)
+pub layer_shows_reads : (text : List ℕ) (e : Fail) → IfFault (ShowsLayerFault text) e → Answers {T = LayerImage} (λ layer. layer) (ReadsLayer text) (Err e)
 layer_shows_reads text fails.Memory h = tt
 layer_shows_reads text (fails.Refused f) h = shown_read text f h
 
@@ -85,7 +85,7 @@ all_kept text (Err fails.Memory) h = tt
 all_kept text (Err (fails.Refused f)) h = h
 
 -- the end that was refused is a layer's fault
-pub end_err : (text : List ℕ) (gone : Entries) (keep : Keep) (e : Fail) → AnswersAlways (entries_behind gone) (λ answer. Reads text answer) (Err e) → KeptBefore text e gone → IsLegal broken_rule (without_places gone)
+pub end_err : (text : List ℕ) (gone : Entries) (keep : Keep) (e : Fail) → AnswersAlways (entries_after gone) (λ answer. Reads text answer) (Err e) → SpellsBeforeFault text e gone → IsLegal broken_rule (without_places gone)
     → Answers {T = LayerImage} (λ layer. layer) (ReadsKept keep text) (Err e)
 end_err text gone keep fails.Memory h kept legal = tt
 end_err text gone keep (fails.Refused f) h kept legal = inr (gone, h, kept, legal)

@@ -2,11 +2,11 @@
 use Rattle.std.proofs.Common.{◌≡◌, ℕ, List, length, Bool, true, false, cond, Ok, Err, [], refl, sym, ap, subst, ◌∙◌, nat_lt, arith}
 use Rattle.std.proofs.Math.Seq.{take-length}
 use Rattle.grid_units.specs.declared.fault.Fault.{Fault}
-use Rattle.grid_units.proofs.Binds.{bind_ok}
+use Rattle.grid_units.proofs.ResultLemmas.{bind_ok}
 use Rattle.gerber_text.specs.Cut.{OffsetByte, has_end}
-use Rattle.gerber_text.specs.Reading.{Entries, commands_from, shown, Reads, KeptOf}
-use Rattle.gerber_text.proofs.Shown.{shown_spelled}
-use Rattle.gerber_text.proofs.Spelling.{reads_spells}
+use Rattle.gerber_text.specs.Reading.{Entries, commands_from, shown, Reads, SpellsPrefix}
+use Rattle.gerber_text.proofs.ShowsLemmas.{shown_spelled}
+use Rattle.gerber_text.proofs.SpellsTextLemmas.{reads_spells}
 use Rattle.layer_image.specs.Layers.{LayerImage, ReadsLayer, image_of}
 use Rattle.grid_units.specs.Lists.{IsLegal}
 use Rattle.grid_units.specs.Limits.{text_limit}
@@ -19,7 +19,7 @@ ended_ok false true x cs e d h = cc
 ended_ok false false x cs e d h = absurd cc
 
 -- all items of a text that is read are kept
-pub kept_all : (text : List ℕ) (cs : Entries) → Reads text (Ok cs) → (kept : ℕ) × (k : KeptOf text kept cs) × (kept ≡ length k.items)
+pub kept_all : (text : List ℕ) (cs : Entries) → Reads text (Ok cs) → (kept : ℕ) × (k : SpellsPrefix text kept cs) × (kept ≡ length k.items)
 kept_all text cs r =
     let first = bind_ok (shown r.items r.rest) _ cs (sym r.answer_is) in
     let same : first.0 ≡ cs = ended_ok (nat_lt text_limit (length text)) (has_end r.items) first.0 cs _ _ first.2 in (
@@ -35,5 +35,5 @@ kept_all text cs r =
     )
 
 -- legal commands make a layer
-pub by_both : (text : List ℕ) (entries : Entries) (layer : LayerImage) → Reads text (Ok entries) → IsLegal broken_rule (without_places entries) → layer ≡ image_of entries → ReadsLayer text (Ok layer)
-by_both text entries layer r legal is = subst (λ (l : LayerImage). ReadsLayer text (Ok l)) (sym is) (record { spells = reads_spells text entries r; legal = legal }, refl)
+pub legal_layer : (text : List ℕ) (entries : Entries) (layer : LayerImage) → Reads text (Ok entries) → IsLegal broken_rule (without_places entries) → layer ≡ image_of entries → ReadsLayer text (Ok layer)
+legal_layer text entries layer r legal is = subst (λ (l : LayerImage). ReadsLayer text (Ok l)) (sym is) (record { spells = reads_spells text entries r; legal = legal }, refl)

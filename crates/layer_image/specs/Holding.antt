@@ -4,18 +4,18 @@ use Rattle.grid_units.specs.Lists.{IsLegal}
 use Rattle.grid_units.specs.declared.fault.Fault.{Fault}
 use Rattle.grid_units.specs.declared.fault.Fail.{Fail}
 use Rattle.grid_units.specs.declared.fault.Fail.TheVariants as fails
-use Rattle.gerber_rows.specs.declared.command.Command.{Command}
-use Rattle.gerber_text.specs.Reading.{Entries, Shows, KeptOf, KeptBefore}
-use Rattle.gerber_text.specs.Holding.{StandsBehind, held}
+use Rattle.gerber_commands.specs.declared.command.Command.{Command}
+use Rattle.gerber_text.specs.Reading.{Entries, Shows, SpellsPrefix, SpellsBeforeFault}
+use Rattle.gerber_text.specs.Holding.{StandsAfterDrop, held}
 use Rattle.layer_image.specs.declared.keep.Keep.{Keep}
-use Rattle.grid_units.specs.declared.stop.Stop.{Stop}
-use Rattle.grid_units.specs.declared.stop.Stop.TheVariants.{Memory, Refused}
+use Rattle.grid_units.specs.declared.item_fail.ItemFail.{ItemFail}
+use Rattle.grid_units.specs.declared.item_fail.ItemFail.TheVariants.{Memory, Refused}
 use Rattle.layer_image.specs.declared.scan.Scan.{Scan}
 use Rattle.layer_image.specs.declared.reader.LayerReader.{LayerReader}
 use Rattle.layer_image.specs.Faults.{IsFirstFault}
-use Rattle.layer_image.specs.Functions.{file_function_of}
-use Rattle.layer_image.specs.Keeping.{keeps_commands}
-use Rattle.layer_image.specs.Inner.Knows.{Knows}
+use Rattle.layer_image.specs.FileFunction.{file_function_of}
+use Rattle.layer_image.specs.KeptFlashes.{keeps_commands}
+use Rattle.layer_image.specs.Inner.IsStateAfter.{IsStateAfter}
 use Rattle.layer_image.specs.Rules.{broken_rule}
 use Rattle.gerber_text.specs.Writing.{without_places}
 
@@ -23,23 +23,23 @@ use Rattle.gerber_text.specs.Writing.{without_places}
 -- rules; or the text itself shows the fault, and the commands before it are legal.
 abbrev pub ShowsLayerFault : List ℕ → Fault → Type 0
 ShowsLayerFault text f =
-    ((kept : ℕ) × (entries : Entries) × KeptOf text kept entries × IsFirstFault entries f)
-    ⊎ ((entries : Entries) × Shows text (Err f) × KeptBefore text (fails.Refused f) entries × IsLegal broken_rule (without_places entries))
+    ((kept : ℕ) × (entries : Entries) × SpellsPrefix text kept entries × IsFirstFault entries f)
+    ⊎ ((entries : Entries) × Shows text (Err f) × SpellsBeforeFault text (fails.Refused f) entries × IsLegal broken_rule (without_places entries))
 
 -- the scan has met just these commands
-pub record Met (scan : Scan) (keep : Keep) (before : List Command) : Type 0 where
-  pub knows : Knows scan.judge.judge keep before
+pub record HasScanned (scan : Scan) (keep : Keep) (before : List Command) : Type 0 where
+  pub is_state : IsStateAfter scan.state.state keep before
   pub named : scan.file_function ≡ file_function_of before
 
 -- The command breaks no rule and was taken in, or this is the first rule that it breaks, or memory ran out.
-abbrev pub Meets : Keep → List Command → Command → Scan → Result (Unit {0}) Stop → Type 0
-Meets keep before c new (Ok _) = (broken_rule before c ≡ None) × Met new keep (before ++ c ∷ [])
-Meets keep before c new (Err (Refused reason)) = broken_rule before c ≡ Some reason
-Meets keep before c new (Err Memory) = Unit {0}
+abbrev pub IsScanResult : Keep → List Command → Command → Scan → Result (Unit {0}) ItemFail → Type 0
+IsScanResult keep before c new (Ok _) = (broken_rule before c ≡ None) × HasScanned new keep (before ++ c ∷ [])
+IsScanResult keep before c new (Err (Refused reason)) = broken_rule before c ≡ Some reason
+IsScanResult keep before c new (Err Memory) = Unit {0}
 
 -- the scan has met just these commands, and none of them breaks a rule
-pub record Scanned (scan : Scan) (keep : Keep) (entries : Entries) : Type 0 where
-  pub met : Met scan keep (without_places entries)
+pub record HasScannedLegal (scan : Scan) (keep : Keep) (entries : Entries) : Type 0 where
+  pub met : HasScanned scan keep (without_places entries)
   pub legal : IsLegal broken_rule (without_places entries)
 
 -- the reader keeps these parts, and has read this text, which shows no fault; the scan has met its commands, which are kept where that is asked for
@@ -47,9 +47,9 @@ pub record LayerStandsAfter (reader : LayerReader) (keep : Keep) (text : List �
   pub sound : reader.failed ≡ None
   pub same : reader.keep ≡ keep
   pub gone : Entries
-  pub words : StandsBehind reader.words gone text
+  pub words : StandsAfterDrop reader.words gone text
   pub none : held reader.words ≡ []
-  pub scanned : Scanned reader.scan keep gone
+  pub scanned : HasScannedLegal reader.scan keep gone
   pub kept : reader.kept.items ≡ (if keeps_commands keep then gone else [])
 
 -- the failure of a reader, if it has failed

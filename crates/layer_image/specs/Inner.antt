@@ -1,4 +1,4 @@
-pub mod Grids
-pub mod Moved
-pub mod InForce
-pub mod Knows
+pub mod CopyGrids
+pub mod MovedPads
+pub mod FastOperations
+pub mod IsStateAfter

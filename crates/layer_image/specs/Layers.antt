@@ -4,13 +4,13 @@ use Rattle.std.specs.List.{Contains}
 use Rattle.grid_units.specs.declared.fault.Fault.{Fault}
 use Rattle.grid_units.specs.declared.fault.Fail.TheVariants as fails
 use Rattle.pad_shapes.specs.declared.pad.Pad.{Pad}
-use Rattle.gerber_text.specs.Reading.{Entries, Reads, SpellsText, KeptOf, KeptBefore}
+use Rattle.gerber_text.specs.Reading.{Entries, Reads, SpellsText, SpellsPrefix, SpellsBeforeFault}
 use Rattle.layer_image.specs.declared.flash.Flash.{Flash}
 use Rattle.layer_image.specs.declared.keep.Keep.{Keep}
-use Rattle.layer_image.specs.Flashes.{flashes_of, others_in, pads_of}
+use Rattle.layer_image.specs.Flashes.{flashes_of, other_count, pads_of}
 use Rattle.layer_image.specs.Faults.{IsFirstFault}
-use Rattle.layer_image.specs.Functions.{file_function_of}
-use Rattle.layer_image.specs.Keeping.{keeps_commands, keeps_flashes, keeps_pads}
+use Rattle.layer_image.specs.FileFunction.{file_function_of}
+use Rattle.layer_image.specs.KeptFlashes.{keeps_commands, keeps_flashes, keeps_pads}
 use Rattle.layer_image.specs.Rules.{all_rules, broken_rule}
 use Rattle.gerber_text.specs.Writing.{without_places}
 use Rattle.grid_units.specs.Lists.{IsLegal}
@@ -29,7 +29,7 @@ image_of entries = record {
   commands = entries;
   flashes = flashes_of (without_places entries);
   pads = pads_of (flashes_of (without_places entries));
-  other = others_in (flashes_of (without_places entries));
+  other = other_count (flashes_of (without_places entries));
   file_function = file_function_of (without_places entries);
 }
 
@@ -47,8 +47,8 @@ IsLayer text image = IsLayerText text image.commands × (image ≡ image_of imag
 abbrev pub ReadsLayer : List ℕ → Result LayerImage Fault → Type 0
 ReadsLayer text (Ok image) = IsLayer text image
 ReadsLayer text (Err f) =
-    ((kept : ℕ) × (entries : Entries) × KeptOf text kept entries × IsFirstFault entries f)
-    ⊎ ((entries : Entries) × Reads text (Err f) × KeptBefore text (fails.Refused f) entries × IsLegal broken_rule (without_places entries))
+    ((kept : ℕ) × (entries : Entries) × SpellsPrefix text kept entries × IsFirstFault entries f)
+    ⊎ ((entries : Entries) × Reads text (Err f) × SpellsBeforeFault text (fails.Refused f) entries × IsLegal broken_rule (without_places entries))
 
 -- what is kept of a layer: those of its lists that are asked for, the others empty, and all the rest
 abbrev pub kept_of : Keep → LayerImage → LayerImage
@@ -76,8 +76,8 @@ EqualCommands = (s t : List ℕ) (a b : LayerImage) → ReadsLayer s (Ok a) → 
     → (a.flashes ≡ b.flashes) × (a.pads ≡ b.pads) × (a.file_function ≡ b.file_function) × (a.other ≡ b.other)
 
 -- a text reads as one layer, or has one fault
-abbrev pub OneReading : Type 0
-OneReading = (text : List ℕ) (a b : Result LayerImage Fault) → ReadsLayer text a → ReadsLayer text b → a ≡ b
+abbrev pub ReadingIsUnique : Type 0
+ReadingIsUnique = (text : List ℕ) (a b : Result LayerImage Fault) → ReadsLayer text a → ReadsLayer text b → a ≡ b
 
 -- a text is a layer's text of some commands just where reading it gives these and they are legal
 abbrev pub LayerTexts : Type 0

@@ -3,9 +3,9 @@ pub mod Numbers
 pub mod Flashes
 pub mod Rules
 pub mod Tables
-pub mod Keeping
+pub mod KeptFlashes
 pub mod Faults
-pub mod Functions
+pub mod FileFunction
 pub mod Layers
 pub mod Holding
 pub mod Inner

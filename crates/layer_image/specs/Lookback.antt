@@ -3,71 +3,71 @@ use Rattle.std.specs.Prelude.{ℕ, nat_eq, ℤ, pos, Bool, true, false, ◌==◌
 use Rattle.std.specs.Option.{option_and_then}
 use Rattle.std.specs.List.{list_any}
 use Rattle.std.specs.Cmp.Lexicographic.{pointwise}
-use Rattle.grid_units.specs.Lists.{last_named}
+use Rattle.grid_units.specs.Lists.{last_set}
 use Rattle.grid_units.specs.declared.lengths.Unit.{Unit as Units}
-use Rattle.gerber_rows.specs.declared.command.Format.{Format}
-use Rattle.gerber_rows.specs.declared.command.Block.{Block}
-use Rattle.gerber_rows.specs.declared.command.Standard.TheVariants as standard
-use Rattle.gerber_rows.specs.declared.command.Template.{Template}
-use Rattle.gerber_rows.specs.declared.command.Template.TheVariants as template
-use Rattle.gerber_rows.specs.declared.command.Command.{Command}
-use Rattle.gerber_rows.specs.declared.command.Command.TheVariants as command
+use Rattle.gerber_commands.specs.declared.command.Format.{Format}
+use Rattle.gerber_commands.specs.declared.command.StepRepeat.{StepRepeat}
+use Rattle.gerber_commands.specs.declared.command.Standard.TheVariants as standard
+use Rattle.gerber_commands.specs.declared.command.Template.{Template}
+use Rattle.gerber_commands.specs.declared.command.Template.TheVariants as template
+use Rattle.gerber_commands.specs.declared.command.Command.{Command}
+use Rattle.gerber_commands.specs.declared.command.Command.TheVariants as command
 use Rattle.layer_image.specs.declared.aperture.Aperture.{Aperture}
 use Rattle.layer_image.specs.declared.aperture.Aperture.TheVariants as aperture
-use Rattle.gerber_rows.specs.Pieces.{one}
+use Rattle.gerber_extended.specs.Pieces.{unit_scale}
 
 -- ---- what one command names
 
 -- the unit: millimetres by `%MOMM*%` (Gerber format, Unit MO)
-abbrev pub unit_named : Command → Option Units
-unit_named (command.UnitIs unit) = Some unit
-unit_named _ = None
+abbrev pub unit_set : Command → Option Units
+unit_set (command.UnitIs unit) = Some unit
+unit_set _ = None
 
 -- the digits of coordinates: 4 whole and 6 decimals by `%FSLAX46Y46*%` (Gerber format, Format specification FS)
-abbrev pub format_named : Command → Option Format
-format_named (command.FormatIs format) = Some format
-format_named _ = None
+abbrev pub format_set : Command → Option Format
+format_set (command.FormatIs format) = Some format
+format_set _ = None
 
 -- a region begins with `G36*` and ends with `G37*` (Gerber format, Region statement G36/G37)
-abbrev pub region_named : Command → Option Bool
-region_named command.RegionStart = Some true
-region_named command.RegionEnd = Some false
-region_named _ = None
+abbrev pub region_set : Command → Option Bool
+region_set command.RegionStart = Some true
+region_set command.RegionEnd = Some false
+region_set _ = None
 
 -- the number of the aperture that is selected: 10 by `D10*` (Gerber format, Current aperture Dnn)
-abbrev pub number_named : Command → Option ℕ
-number_named (command.Select number) = Some number
-number_named _ = None
+abbrev pub aperture_selected : Command → Option ℕ
+aperture_selected (command.Select number) = Some number
+aperture_selected _ = None
 
 -- the X of an operation that has one: 500 in `X500Y-20D03*` (Gerber format, Coordinate data)
-abbrev pub x_named : Command → Option ℤ
-x_named (command.Operate action x y i j) = x
-x_named _ = None
+abbrev pub x_set : Command → Option ℤ
+x_set (command.Operate action x y i j) = x
+x_set _ = None
 
 -- the Y of an operation that has one: -20 in `X500Y-20D03*` (Gerber format, Coordinate data)
-abbrev pub y_named : Command → Option ℤ
-y_named (command.Operate action x y i j) = y
-y_named _ = None
+abbrev pub y_set : Command → Option ℤ
+y_set (command.Operate action x y i j) = y
+y_set _ = None
 
 -- how far flashes are turned, in 10^-8 degrees: 9,000,000,000 by `%LR90*%` (Gerber format, Load rotation LR)
-abbrev pub turn_named : Command → Option ℤ
-turn_named (command.Turn turn) = Some turn
-turn_named _ = None
+abbrev pub turn_set : Command → Option ℤ
+turn_set (command.Turn turn) = Some turn
+turn_set _ = None
 
 -- the scale of flashes, in units of 10^-8: 50,000,000 by `%LS0.5*%` (Gerber format, Load scaling LS)
-abbrev pub scale_named : Command → Option ℤ
-scale_named (command.Scale scale) = Some scale
-scale_named _ = None
+abbrev pub scale_set : Command → Option ℤ
+scale_set (command.Scale scale) = Some scale
+scale_set _ = None
 
 -- no repetition: one column and one row (Gerber format, Step and repeat SR)
-abbrev pub single : Block
-single = record { columns = 1; rows = 1; step_x = pos 0; step_y = pos 0 }
+abbrev pub no_repeat : StepRepeat
+no_repeat = record { columns = 1; rows = 1; step_x = pos 0; step_y = pos 0 }
 
 -- a step and repeat block begins with `%SRX2Y3I5J4*%` and ends with `%SR*%` (Gerber format, Step and repeat SR)
-abbrev pub block_named : Command → Option Block
-block_named (command.Repeat block) = Some block
-block_named command.RepeatEnd = Some single
-block_named _ = None
+abbrev pub block_set : Command → Option StepRepeat
+block_set (command.Repeat block) = Some block
+block_set command.RepeatEnd = Some no_repeat
+block_set _ = None
 
 -- the parameter at a place, from 0, in units of 10^-8; 0 where it is left out (Gerber format, Standard aperture templates)
 abbrev pub size_at : List ℤ → ℕ → ℤ
@@ -87,9 +87,9 @@ aperture_of (template.Standard standard.Polygon sizes) = aperture.Polygon
 aperture_of (template.Named name parameters) = aperture.Macro
 
 -- the aperture that a command gives this number: `%ADD10C,0.5*%` gives one to 10 (Gerber format, Aperture definition AD)
-abbrev pub definition_named : ℕ → Command → Option Aperture
-definition_named number (command.Define other template) = if number == other then Some (aperture_of template) else None
-definition_named number _ = None
+abbrev pub definition_set : ℕ → Command → Option Aperture
+definition_set number (command.Define other template) = if number == other then Some (aperture_of template) else None
+definition_set number _ = None
 
 -- a command defines the macro of this name, as `%AMROUND*..*%` that of `ROUND` (Gerber format, Aperture macro AM)
 abbrev pub defines_macro : List ℕ → Command → Bool
@@ -99,7 +99,7 @@ defines_macro name _ = false
 -- ---- the state that a command meets
 
 -- the state that a command meets: `x` and `y` in steps of the format, `turn` in 10^-8 degrees, `scale` in units of 10^-8
-pub record Standing : Type 0 where
+pub record GraphicsState : Type 0 where
   pub unit : Option Units
   pub format : Option Format
   pub in_region : Bool
@@ -110,25 +110,25 @@ pub record Standing : Type 0 where
   pub y : ℤ
   pub turn : ℤ
   pub scale : ℤ
-  pub block : Block
+  pub block : StepRepeat
 
 -- Each field is as the last command that names it says. At the start: no unit, format or aperture, the point (0, 0), turn 0,
 -- scale 1, no block (docs/FORMATS.md, Point, state and copies).
-abbrev pub standing : List Command → Standing
-standing before = record {
-  unit = last_named unit_named before;
-  format = last_named format_named before;
-  in_region = unwrap_or (last_named region_named before) false;
-  definition = λ number. last_named (definition_named number) before;
+abbrev pub state_after : List Command → GraphicsState
+state_after before = record {
+  unit = last_set unit_set before;
+  format = last_set format_set before;
+  in_region = unwrap_or (last_set region_set before) false;
+  definition = λ number. last_set (definition_set number) before;
   has_macro = λ name. list_any (defines_macro name) before;
-  selected = last_named number_named before;
-  x = unwrap_or (last_named x_named before) (pos 0);
-  y = unwrap_or (last_named y_named before) (pos 0);
-  turn = unwrap_or (last_named turn_named before) (pos 0);
-  scale = unwrap_or (last_named scale_named before) one;
-  block = unwrap_or (last_named block_named before) single;
+  selected = last_set aperture_selected before;
+  x = unwrap_or (last_set x_set before) (pos 0);
+  y = unwrap_or (last_set y_set before) (pos 0);
+  turn = unwrap_or (last_set turn_set before) (pos 0);
+  scale = unwrap_or (last_set scale_set before) unit_scale;
+  block = unwrap_or (last_set block_set before) no_repeat;
 }
 
 -- the aperture of the number that was selected last (Gerber format, Current aperture Dnn)
-abbrev pub aperture_in : Standing → Option Aperture
-aperture_in s = option_and_then s.definition s.selected
+abbrev pub current_aperture : GraphicsState → Option Aperture
+current_aperture s = option_and_then s.definition s.selected

@@ -2,10 +2,10 @@
 
 ghost use Rattle.std.specs.Prelude.{◌≡◌, false};
 ghost use Rattle.layer_image.specs.Lookback.{size_at, has_hole, aperture_of};
-ghost use Rattle.layer_image.specs.Rules.{is_badly_sized, has_negative, lacks_size, counts_vertices};
+ghost use Rattle.layer_image.specs.Rules.{has_bad_template, has_negative, lacks_size, is_vertex_count};
 
 use crate::size::{Diameter, Side};
-use gerber_rows::{Sizes, Standard, Template};
+use gerber_text::{Sizes, Standard, Template};
 use grid_units::Dec;
 
 /// An aperture as a flash needs it: the sizes of a disc, a rectangle or an obround, and whether it has a hole.
@@ -20,7 +20,7 @@ pub enum Aperture {
 
 /// What a flash needs of an aperture whose sizes are in range.
 pub(crate) fn aperture_of(template: &Template) -> Aperture
-    requires { is_badly_sized template.now ≡ false }
+    requires { has_bad_template template.now ≡ false }
     ensures { result ≡ aperture_of template.now }
 {
     match template {
@@ -72,8 +72,8 @@ fn has_hole(sizes: &Sizes, place: usize) -> bool
 }
 
 /// Whether a size of a template is out of range. Sizes of a macro are not judged.
-pub(crate) fn is_badly_sized(template: &Template) -> bool
-    ensures { result ≡ is_badly_sized template.now }
+pub(crate) fn has_bad_template(template: &Template) -> bool
+    ensures { result ≡ has_bad_template template.now }
 {
     match template {
         Template::Standard(Standard::Circle, sizes) => {
@@ -83,7 +83,7 @@ pub(crate) fn is_badly_sized(template: &Template) -> bool
             lacks_size(sizes, 0) || lacks_size(sizes, 1) || has_negative(sizes, 2)
         }
         Template::Standard(Standard::Polygon, sizes) => {
-            lacks_size(sizes, 0) || !counts_vertices(size_at(sizes, 1)) || has_negative(sizes, 3)
+            lacks_size(sizes, 0) || !is_vertex_count(size_at(sizes, 1)) || has_negative(sizes, 3)
         }
         Template::Named(_, _) => false,
     }
@@ -108,8 +108,8 @@ fn has_negative(sizes: &Sizes, place: usize) -> bool
 }
 
 /// Whether a number of vertices is a whole number from 3 to 12.
-fn counts_vertices(size: Dec) -> bool
-    ensures { result ≡ counts_vertices size }
+fn is_vertex_count(size: Dec) -> bool
+    ensures { result ≡ is_vertex_count size }
 {
     let units = size.units();
     300_000_000 <= units && units <= 1_200_000_000 && units.unsigned_abs() % 100_000_000 == 0

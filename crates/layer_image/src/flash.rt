@@ -1,7 +1,7 @@
 //! Flashes, and the pads among them.
 
 ghost use Rattle.std.specs.Prelude.{◌≡◌};
-ghost use Rattle.layer_image.specs.Inner.Moved.{moved};
+ghost use Rattle.layer_image.specs.Inner.MovedPads.{moved};
 
 use grid_units::Point;
 use pad_shapes::{Disc, Obround, Pad, Rect};

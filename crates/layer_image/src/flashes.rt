@@ -3,12 +3,12 @@
 ghost use Rattle.std.specs.Prelude.{◌≡◌, ◌+◌, ◌<◌, ◌≤◌, ◌++◌, [], ◌∷◌, length, map, false, OnOk};
 ghost use Rattle.std.specs.List.{list_any};
 ghost use Rattle.layer_image.specs.Flashes.{copies};
-ghost use Rattle.layer_image.specs.Inner.Moved.{flash_moved};
+ghost use Rattle.layer_image.specs.Inner.MovedPads.{flash_moved};
 ghost use Rattle.layer_image.specs.Rules.{is_far_point, max_flashes};
-ghost use Rattle.layer_image.specs.Inner.Grids.{IsBounded};
+ghost use Rattle.layer_image.specs.Inner.CopyGrids.{IsBounded};
 
 use crate::flash::{Flash, What};
-use crate::grid::Grid;
+use crate::grid::CopyGrid;
 use crate::keep::Keep;
 use pad_shapes::Pad;
 use std::alloc::{AllocError, Global};
@@ -29,7 +29,7 @@ pub(crate) struct Flashes {
 }
 
 impl Flashes {
-    ghost use Rattle.layer_image.specs.Keeping.{Adds, KeepsFlashes, flash_count};
+    ghost use Rattle.layer_image.specs.KeptFlashes.{Adds, KeepsFlashes, flash_count};
 
     /// No flashes so far.
     pub(crate) fn new(alloc: Global, keep: Keep) -> Self
@@ -88,7 +88,7 @@ impl Flashes {
     /// # Errors
     ///
     /// An `AllocError` where there is no memory for a flash or a pad.
-    pub(crate) fn lay(&mut self, grid: &Grid, what: &What) -> Result<(), AllocError>
+    pub(crate) fn lay(&mut self, grid: &CopyGrid, what: &What) -> Result<(), AllocError>
         requires bounded { IsBounded grid.now }
         requires near { list_any is_far_point (copies grid.now) ≡ false }
         requires few { flash_count self.old + length (copies grid.now) ≤ max_flashes }

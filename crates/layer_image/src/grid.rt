@@ -2,17 +2,17 @@
 
 ghost use Rattle.std.specs.Prelude.{◌≡◌, ◌<◌, ◌≤◌, ◌^◌, ◌+ℤ◌, ◌*ℤ◌, ◌||◌, pos, unsigned_abs, false, length};
 ghost use Rattle.std.specs.List.{list_any};
-ghost use Rattle.grid_units.specs.Numbers.{is_far};
+ghost use Rattle.grid_units.specs.Numbers.{is_too_far};
 ghost use Rattle.grid_units.specs.Points.{max_coordinate};
 ghost use Rattle.layer_image.specs.Flashes.{copies, copy_at};
 ghost use Rattle.layer_image.specs.Rules.{is_far_point};
-ghost use Rattle.layer_image.specs.Inner.Grids.{IsBounded};
+ghost use Rattle.layer_image.specs.Inner.CopyGrids.{IsBounded};
 
-use grid_units::{Point, is_far};
+use grid_units::{Point, is_too_far};
 
 /// A point with the counts and the steps of its copies. Coordinates and steps are in pm.
 #[derive(Clone, Copy)]
-pub struct Grid {
+pub struct CopyGrid {
     pub x: i128,
     pub y: i128,
     pub columns: u32,
@@ -21,7 +21,7 @@ pub struct Grid {
     pub step_y: i128,
 }
 
-impl Grid {
+impl CopyGrid {
     /// How many copies there are.
     pub fn count(&self) -> u64
         ensures { result ≡ length (copies self.now) }
@@ -30,7 +30,7 @@ impl Grid {
     }
 
     /// Whether a copy is beyond 10 m along an axis. If any is, one in a corner of the block is.
-    pub fn is_far(&self) -> bool
+    pub fn is_too_far(&self) -> bool
         requires { IsBounded self.now }
         ensures { result ≡ list_any is_far_point (copies self.now) }
     {
@@ -76,7 +76,7 @@ fn stepped(start: i128, step: i128, count: u32) -> i128
 }
 
 fn is_any_far(first_x: i128, first_y: i128, last_x: i128, last_y: i128) -> bool
-    ensures { result ≡ (is_far first_x || (is_far first_y || (is_far last_x || is_far last_y))) }
+    ensures { result ≡ (is_too_far first_x || (is_too_far first_y || (is_too_far last_x || is_too_far last_y))) }
 {
-    is_far(first_x) || is_far(first_y) || is_far(last_x) || is_far(last_y)
+    is_too_far(first_x) || is_too_far(first_y) || is_too_far(last_x) || is_too_far(last_y)
 }

@@ -14,7 +14,7 @@ pub enum Keep {
 }
 
 impl Keep {
-    ghost use Rattle.layer_image.specs.Keeping.{keeps_commands, keeps_flashes, keeps_pads};
+    ghost use Rattle.layer_image.specs.KeptFlashes.{keeps_commands, keeps_flashes, keeps_pads};
 
     /// Whether commands are kept.
     pub(crate) fn commands(self) -> bool

@@ -2,7 +2,7 @@
 
 ghost use Rattle.std.specs.Prelude.{◌++◌, ℕ, List, Err};
 ghost use Rattle.grid_units.specs.declared.fault.Fault.{Fault};
-ghost use Rattle.layer_image.specs.Layers.{EachTextAnswers, EqualCommands, LayerReasons, LayerTexts, LayersOfTexts, OneReading, ReadsLayer};
+ghost use Rattle.layer_image.specs.Layers.{EachTextAnswers, EqualCommands, LayerReasons, LayerTexts, LayersOfTexts, ReadingIsUnique, ReadsLayer};
 ghost use Rattle.layer_image.specs.Holding.{ShowsLayerFault};
 
 /// A fault that a text shows is shown by each longer text too, and is the fault that the text has.
@@ -21,8 +21,8 @@ pub fn layer_texts()
 {}
 
 /// A text reads as one layer, or has one fault.
-pub fn one_reading()
-    ensures { OneReading }
+pub fn unique_reading()
+    ensures { ReadingIsUnique }
 {}
 
 /// Texts that spell equal commands have equal flashes, pads, number of other flashes and file function.

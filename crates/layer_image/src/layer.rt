@@ -7,8 +7,7 @@ ghost use Rattle.layer_image.specs.Layers.{ReadsLayer};
 
 use crate::flash::Flash;
 use crate::reader::LayerReader;
-use gerber_rows::Command;
-use gerber_text::Placed;
+use gerber_text::{Command, Placed};
 use grid_units::{Fail, Text};
 use pad_shapes::Pad;
 use std::alloc::Global;

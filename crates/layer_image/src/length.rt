@@ -2,10 +2,10 @@
 
 ghost use Rattle.std.specs.Prelude.{◌≡◌, ◌≤◌, ◌^◌, ◌/◌, pos, unsigned_abs, nat_le};
 ghost use Rattle.grid_units.specs.Numbers.{picometres, unit_length};
-ghost use Rattle.layer_image.specs.Numbers.{fine_length};
-ghost use Rattle.layer_image.specs.Rules.{is_long_by};
+ghost use Rattle.layer_image.specs.Numbers.{dec_length};
+ghost use Rattle.layer_image.specs.Rules.{is_long_coordinate};
 
-use gerber_rows::Format;
+use gerber_text::Format;
 use grid_units::{Dec, Unit, power_of_ten};
 
 /// A coordinate with so many decimals of a unit, in pm.
@@ -13,21 +13,21 @@ pub(crate) fn coordinate(n: i64, decimals: u8, unit: Unit) -> i128
     ensures value { result ≡ picometres unit decimals n }
     ensures bound { unsigned_abs result ≤ 2 ^ 98 }
 {
-    i128::from(n) * i128::from(place_length(decimals, unit))
+    i128::from(n) * i128::from(step_length(decimals, unit))
 }
 
 /// The pm of one step of a coordinate, rounded down. It is looked up: a division would take most of the time of a coordinate.
-pub(crate) fn place_length(decimals: u8, unit: Unit) -> u64
+pub(crate) fn step_length(decimals: u8, unit: Unit) -> u64
     ensures value { result ≡ unit_length unit / 10 ^ decimals }
     ensures small { result ≤ 25400000000 }
 {
     match unit {
-        Unit::Inch => inch_place(decimals),
-        Unit::Millimetre => millimetre_place(decimals),
+        Unit::Inch => inch_step(decimals),
+        Unit::Millimetre => millimetre_step(decimals),
     }
 }
 
-fn inch_place(decimals: u8) -> u64
+fn inch_step(decimals: u8) -> u64
     ensures value { result ≡ 25400000000 / 10 ^ decimals }
     ensures small { result ≤ 25400000000 }
 {
@@ -47,7 +47,7 @@ fn inch_place(decimals: u8) -> u64
     }
 }
 
-fn millimetre_place(decimals: u8) -> u64
+fn millimetre_step(decimals: u8) -> u64
     ensures value { result ≡ 1000000000 / 10 ^ decimals }
     ensures small { result ≤ 25400000000 }
 {
@@ -67,8 +67,8 @@ fn millimetre_place(decimals: u8) -> u64
 }
 
 /// A length in units of 10^-8 inch or mm, in pm.
-pub(crate) fn fine_length(length: Dec, unit: Unit) -> i128
-    ensures value { result ≡ fine_length unit length }
+pub(crate) fn dec_length(length: Dec, unit: Unit) -> i128
+    ensures value { result ≡ dec_length unit length }
     ensures bound { unsigned_abs result ≤ 2 ^ 71 }
 {
     match unit {
@@ -79,7 +79,7 @@ pub(crate) fn fine_length(length: Dec, unit: Unit) -> i128
 
 /// Whether a number has more digits than the format, if there is one.
 pub(crate) fn is_long(format: Format, named: Option<i64>) -> bool
-    ensures { result ≡ is_long_by format named }
+    ensures { result ≡ is_long_coordinate format named }
 {
     let digits = u16::from(format.whole) + u16::from(format.decimals);
     match named {

@@ -2,14 +2,13 @@
 #![tactic(auto)]
 
 mod aperture;
-mod fast;
+mod cached;
+mod cached_values;
+mod current;
 mod flash;
 mod flashes;
-mod force;
 mod function;
 mod grid;
-mod in_force;
-mod judge;
 mod keep;
 mod laws;
 mod layer;
@@ -18,10 +17,11 @@ mod reader;
 mod rules;
 mod scan;
 mod size;
+mod state;
 mod tables;
 
 pub use flash::{Flash, What, Why};
 pub use keep::Keep;
-pub use laws::{equal_commands, layer_reasons, layer_texts, one_reading, shown_faults};
+pub use laws::{equal_commands, layer_reasons, layer_texts, shown_faults, unique_reading};
 pub use layer::{Layer, read_layer};
 pub use reader::LayerReader;

@@ -1,14 +1,13 @@
 //! A layer that is read in pieces.
 
 ghost use Rattle.std.specs.Prelude.{◌≡◌, ◌++◌, [], ℕ, List, Err, Some, OnOk, IfErr, IfSome, if◌then◌else◌};
-ghost use Rattle.grid_units.specs.Results.{Answers, Tells};
+ghost use Rattle.grid_units.specs.Results.{Answers, IfFault};
 ghost use Rattle.layer_image.specs.declared.keep.Keep.{Keep as TheKeep};
 
 use crate::keep::Keep;
 use crate::layer::Layer;
 use crate::scan::Scan;
-use gerber_rows::Command;
-use gerber_text::{Placed, WordReader};
+use gerber_text::{Command, Placed, WordReader};
 use grid_units::Fail;
 use std::alloc::{AllocError, Global};
 
@@ -25,8 +24,8 @@ pub struct LayerReader {
 
 impl LayerReader {
     ghost use Rattle.gerber_text.specs.Reading.{Entries};
-    ghost use Rattle.gerber_text.specs.Holding.{StandsBehind, held};
-    ghost use Rattle.layer_image.specs.Keeping.{keeps_commands};
+    ghost use Rattle.gerber_text.specs.Holding.{StandsAfterDrop, held};
+    ghost use Rattle.layer_image.specs.KeptFlashes.{keeps_commands};
     ghost use Rattle.layer_image.specs.Layers.{ReadsKept};
     ghost use Rattle.layer_image.specs.Holding.{LayerStandsAfter, ShowsLayerFault, layer_failure};
 
@@ -51,7 +50,7 @@ impl LayerReader {
         }
     }
 
-    /// Takes the next piece of the text.
+    /// Reads the next piece of the text.
     ///
     /// # Errors
     ///
@@ -59,7 +58,7 @@ impl LayerReader {
     /// that has failed returns its failure again.
     pub fn feed(&mut self, piece: &[u8]) -> Result<(), Fail>
         ensures ok { (keep : TheKeep) (text : List ℕ) → LayerStandsAfter self.old keep text → OnOk result (LayerStandsAfter self.new keep (text ++ piece.now)) }
-        ensures err { (keep : TheKeep) (text : List ℕ) → LayerStandsAfter self.old keep text → IfErr result (Tells (ShowsLayerFault (text ++ piece.now))) }
+        ensures err { (keep : TheKeep) (text : List ℕ) → LayerStandsAfter self.old keep text → IfErr result (IfFault (ShowsLayerFault (text ++ piece.now))) }
         ensures failed { IfSome (layer_failure self.old) (λ e. result ≡ Err e) }
         ensures fails { IfErr result (λ e. layer_failure self.new ≡ Some e) }
     {
@@ -73,10 +72,10 @@ impl LayerReader {
         outcome
     }
 
-    /// Takes the next piece of the text: judges the commands of the items that it ends, then keeps or drops them.
+    /// Reads the next piece of the text: judges the commands of the items that it ends, then keeps or drops them.
     fn advance(&mut self, piece: &[u8]) -> Result<(), Fail>
         ensures ok { (keep : TheKeep) (text : List ℕ) → LayerStandsAfter self.old keep text → OnOk result (LayerStandsAfter self.new keep (text ++ piece.now)) }
-        ensures err { (keep : TheKeep) (text : List ℕ) → LayerStandsAfter self.old keep text → IfErr result (Tells (ShowsLayerFault (text ++ piece.now))) }
+        ensures err { (keep : TheKeep) (text : List ℕ) → LayerStandsAfter self.old keep text → IfErr result (IfFault (ShowsLayerFault (text ++ piece.now))) }
     {
         let outcome = self.words.feed(piece);
         self.scan.scan(self.alloc, self.words.commands())?;
@@ -85,9 +84,9 @@ impl LayerReader {
         Ok(())
     }
 
-    /// Keeps the commands that the word reader holds, or drops them. The first that are kept take no memory anew.
+    /// Holds the commands that the word reader holds, or drops them. The first that are kept take no memory anew.
     fn keep_commands(&mut self) -> Result<(), AllocError>
-        ensures words { (gone : Entries) (text : List ℕ) → StandsBehind self.old.words gone text → StandsBehind self.new.words (gone ++ held self.old.words) text }
+        ensures words { (gone : Entries) (text : List ℕ) → StandsAfterDrop self.old.words gone text → StandsAfterDrop self.new.words (gone ++ held self.old.words) text }
         ensures none { held self.new.words ≡ [] }
         ensures scan { self.new.scan ≡ self.old.scan }
         ensures kept { OnOk result (self.new.kept.items ≡ self.old.kept.items ++ (if keeps_commands self.old.keep then held self.old.words else [])) }
@@ -95,7 +94,7 @@ impl LayerReader {
         ensures keep { self.new.keep ≡ self.old.keep }
     {
         if !self.keep.commands() {
-            self.words.let_go();
+            self.words.clear_commands();
             return Ok(());
         }
         let mut commands = self.words.take_commands();
@@ -127,10 +126,10 @@ impl LayerReader {
         }
         words.finish()?;
         let Scan {
-            judge,
+            state,
             file_function,
         } = scan;
-        let flashes = judge.judge.flashes;
+        let flashes = state.state.flashes;
         Ok(Layer {
             commands: kept,
             flashes: flashes.all,

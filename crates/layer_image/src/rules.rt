@@ -2,26 +2,26 @@
 
 ghost use Rattle.std.specs.Prelude.{◌≡◌, ◌+◌, ◌&&◌, ◌||◌, is_none, length, nat_lt, false};
 ghost use Rattle.std.specs.List.{find};
-ghost use Rattle.gerber_rows.specs.declared.command.Command.TheVariants as command;
+ghost use Rattle.gerber_commands.specs.declared.command.Command.TheVariants as command;
 ghost use Rattle.layer_image.specs.Flashes.{is_flash, copies_at};
-ghost use Rattle.layer_image.specs.Rules.{applies, later_rules, first_broken, differs_in_unit, differs_in_format, lacks_macro, needs_aperture, flashes_too_far, is_far_in, is_long_by, repeats_badly, is_bad_count, max_flashes, may_stand_in_region};
-ghost use Rattle.layer_image.specs.Keeping.{flash_count};
-ghost use Rattle.layer_image.specs.Inner.Knows.{told};
+ghost use Rattle.layer_image.specs.Rules.{breaks_rule, later_rules, first_broken, differs_in_unit, differs_in_format, lacks_macro, needs_aperture, flashes_too_far, is_far_coordinate, is_long_coordinate, is_bad_repeat, is_bad_count, max_flashes, is_allowed_in_region};
+ghost use Rattle.layer_image.specs.KeptFlashes.{flash_count};
+ghost use Rattle.layer_image.specs.Inner.IsStateAfter.{state_of};
 
-use crate::aperture::is_badly_sized;
+use crate::aperture::has_bad_template;
 use crate::flashes::MAX_FLASHES;
-use crate::judge::Judge;
 use crate::length::{coordinate, is_long};
-use gerber_rows::{Action, Block, Command, Format, Template};
-use grid_units::{Reason, Unit, is_far};
+use crate::state::State;
+use gerber_text::{Action, Command, Format, StepRepeat, Template};
+use grid_units::{Reason, Unit, is_too_far};
 
-impl Judge {
+impl State {
     /// The first rule that a command breaks, if any.
     #[tactic(auto, unfolding(crate::specs::Rules::first_broken))]
     pub(crate) fn broken_rule(&self, command: &Command) -> Option<Reason>
-        ensures { result ≡ first_broken (told self.now) (flash_count self.now.flashes) command.now }
+        ensures { result ≡ first_broken (state_of self.now) (flash_count self.now.flashes) command.now }
     {
-        if self.in_region && !may_stand_in_region(command) {
+        if self.in_region && !is_allowed_in_region(command) {
             return Some(Reason::InRegion);
         }
         match command {
@@ -45,7 +45,7 @@ impl Judge {
                 j.get(),
             ),
             Command::Scale(scale) => (scale.units() <= 0).then_some(Reason::BadSize),
-            Command::Repeat(block) => repeats_badly(*block).then_some(Reason::BadRepeat),
+            Command::Repeat(block) => is_bad_repeat(*block).then_some(Reason::BadRepeat),
             Command::Finish => self.finish_rule(),
             Command::Comment(_)
             | Command::Mode(_)
@@ -61,7 +61,7 @@ impl Judge {
     }
 
     fn differs_in_unit(&self, unit: Unit) -> bool
-        ensures { result ≡ differs_in_unit (told self.now) (command.UnitIs unit) }
+        ensures { result ≡ differs_in_unit (state_of self.now) (command.UnitIs unit) }
     {
         match self.unit {
             Some(other) => other != unit,
@@ -70,7 +70,7 @@ impl Judge {
     }
 
     fn differs_in_format(&self, format: Format) -> bool
-        ensures { result ≡ differs_in_format (told self.now) (command.FormatIs format) }
+        ensures { result ≡ differs_in_format (state_of self.now) (command.FormatIs format) }
     {
         match self.format {
             Some(other) => other.whole != format.whole || other.decimals != format.decimals,
@@ -79,7 +79,7 @@ impl Judge {
     }
 
     fn finish_rule(&self) -> Option<Reason>
-        ensures { result ≡ find (applies (told self.now) (flash_count self.now.flashes) command.Finish) later_rules }
+        ensures { result ≡ find (breaks_rule (state_of self.now) (flash_count self.now.flashes) command.Finish) later_rules }
     {
         if self.format.is_none() {
             Some(Reason::NoFormat)
@@ -91,13 +91,13 @@ impl Judge {
     }
 
     fn definition_rule(&self, number: u32, template: &Template) -> Option<Reason>
-        ensures { result ≡ find (applies (told self.now) (flash_count self.now.flashes) (command.Define number template.now)) later_rules }
+        ensures { result ≡ find (breaks_rule (state_of self.now) (flash_count self.now.flashes) (command.Define number template.now)) later_rules }
     {
         if self.apertures.get(number).is_some() {
             Some(Reason::Redefined)
         } else if self.lacks_macro(template) {
             Some(Reason::UnknownMacro)
-        } else if is_badly_sized(template) {
+        } else if has_bad_template(template) {
             Some(Reason::BadSize)
         } else {
             None
@@ -105,7 +105,7 @@ impl Judge {
     }
 
     fn lacks_macro(&self, template: &Template) -> bool
-        ensures { result ≡ lacks_macro (told self.now) template.now }
+        ensures { result ≡ lacks_macro (state_of self.now) template.now }
     {
         match template {
             Template::Named(name, _) => !self.macros.has(name),
@@ -121,7 +121,7 @@ impl Judge {
         i: Option<i64>,
         j: Option<i64>,
     ) -> Option<Reason>
-        ensures { result ≡ find (applies (told self.now) (flash_count self.now.flashes) (command.Operate action x y i j)) later_rules }
+        ensures { result ≡ find (breaks_rule (state_of self.now) (flash_count self.now.flashes) (command.Operate action x y i j)) later_rules }
     {
         let Some(format) = self.format else {
             return Some(Reason::NoFormat);
@@ -130,12 +130,12 @@ impl Judge {
             Some(Reason::NoUnit)
         } else if self.lacks_aperture(action) {
             Some(Reason::NoAperture)
-        } else if names_too_many_digits(format, x, y, i, j) {
+        } else if has_too_many_digits(format, x, y, i, j) {
             Some(Reason::TooManyDigits)
         } else if self.reaches_too_far(action, x, y) {
             Some(Reason::TooFar)
         } else {
-            self.flashes_too_many(action, x, y)
+            self.makes_too_many_flashes(action, x, y)
                 .then_some(Reason::TooManyPads)
         }
     }
@@ -152,29 +152,29 @@ impl Judge {
     }
 
     fn reaches_too_far(&self, action: Action, x: Option<i64>, y: Option<i64>) -> bool
-        ensures { result ≡ ((is_far_in (told self.now) x || is_far_in (told self.now) y) || (is_flash action && flashes_too_far (told self.now) x y)) }
+        ensures { result ≡ ((is_far_coordinate (state_of self.now) x || is_far_coordinate (state_of self.now) y) || (is_flash action && flashes_too_far (state_of self.now) x y)) }
     {
-        (self.is_far_named(x) || self.is_far_named(y))
+        (self.has_far_coordinate(x) || self.has_far_coordinate(y))
             || (is_flash(action) && self.flashes_too_far(x, y))
     }
 
-    fn is_far_named(&self, named: Option<i64>) -> bool
-        ensures { result ≡ is_far_in (told self.now) named }
+    fn has_far_coordinate(&self, named: Option<i64>) -> bool
+        ensures { result ≡ is_far_coordinate (state_of self.now) named }
     {
         match named {
-            Some(n) => is_far(coordinate(n, self.decimals_in_force(), self.unit_in_force())),
+            Some(n) => is_too_far(coordinate(n, self.current_decimals(), self.current_unit())),
             None => false,
         }
     }
 
     fn flashes_too_far(&self, x: Option<i64>, y: Option<i64>) -> bool
-        ensures { result ≡ flashes_too_far (told self.now) x y }
+        ensures { result ≡ flashes_too_far (state_of self.now) x y }
     {
-        self.grid(x, y).is_far() || self.is_far_pad()
+        self.grid(x, y).is_too_far() || self.is_far_pad()
     }
 
-    fn flashes_too_many(&self, action: Action, x: Option<i64>, y: Option<i64>) -> bool
-        ensures { result ≡ (is_flash action && nat_lt max_flashes (flash_count self.now.flashes + length (copies_at (told self.now) x y))) }
+    fn makes_too_many_flashes(&self, action: Action, x: Option<i64>, y: Option<i64>) -> bool
+        ensures { result ≡ (is_flash action && nat_lt max_flashes (flash_count self.now.flashes + length (copies_at (state_of self.now) x y))) }
     {
         is_flash(action)
             && u128::from(self.flashes.count) + u128::from(self.grid(x, y).count())
@@ -182,8 +182,8 @@ impl Judge {
     }
 }
 
-fn repeats_badly(block: Block) -> bool
-    ensures { result ≡ repeats_badly (command.Repeat block) }
+fn is_bad_repeat(block: StepRepeat) -> bool
+    ensures { result ≡ is_bad_repeat (command.Repeat block) }
 {
     is_bad_count(block.columns)
         || is_bad_count(block.rows)
@@ -198,8 +198,8 @@ fn is_bad_count(count: u32) -> bool
 }
 
 /// Whether a command may stand in a region.
-fn may_stand_in_region(command: &Command) -> bool
-    ensures { result ≡ may_stand_in_region command.now }
+fn is_allowed_in_region(command: &Command) -> bool
+    ensures { result ≡ is_allowed_in_region command.now }
 {
     match command {
         Command::Comment(_) | Command::Mode(_) | Command::Quadrant(_) | Command::RegionEnd => true,
@@ -218,14 +218,14 @@ pub(crate) fn is_flash(action: Action) -> bool
     }
 }
 
-fn names_too_many_digits(
+fn has_too_many_digits(
     format: Format,
     x: Option<i64>,
     y: Option<i64>,
     i: Option<i64>,
     j: Option<i64>,
 ) -> bool
-    ensures { result ≡ (is_long_by format x || (is_long_by format y || (is_long_by format i || is_long_by format j))) }
+    ensures { result ≡ (is_long_coordinate format x || (is_long_coordinate format y || (is_long_coordinate format i || is_long_coordinate format j))) }
 {
     is_long(format, x) || is_long(format, y) || is_long(format, i) || is_long(format, j)
 }

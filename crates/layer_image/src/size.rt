@@ -1,9 +1,9 @@
 //! Sizes of apertures.
 
 ghost use Rattle.std.specs.Prelude.{◌≡◌, ◌↔◌, ◌≤◌, ◌≤ℤ◌, pos, false, IsSome, IfSome};
-ghost use Rattle.grid_units.specs.Numbers.{is_far};
+ghost use Rattle.grid_units.specs.Numbers.{is_too_far};
 ghost use Rattle.pad_shapes.specs.Shapes.{IsPadRadius, IsHalfSide};
-ghost use Rattle.layer_image.specs.Numbers.{fine_length, half_length};
+ghost use Rattle.layer_image.specs.Numbers.{dec_length, half_length};
 
 use grid_units::{Dec, Unit};
 use std::marker::Model;
@@ -48,7 +48,7 @@ impl Diameter {
 
     /// The radius, in pm.
     pub fn half(self, unit: Unit) -> i64
-        requires { is_far (fine_length unit self) ≡ false }
+        requires { is_too_far (dec_length unit self) ≡ false }
         ensures value { result ≡ half_length unit self }
         ensures in_range { IsPadRadius result }
     {
@@ -99,7 +99,7 @@ impl Side {
 
     /// Half of the side, in pm.
     pub fn half(self, unit: Unit) -> i64
-        requires { is_far (fine_length unit self) ≡ false }
+        requires { is_too_far (dec_length unit self) ≡ false }
         ensures value { result ≡ half_length unit self }
         ensures in_range { IsHalfSide result }
     {

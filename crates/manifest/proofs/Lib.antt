@@ -1,6 +1,6 @@
-pub mod Fields
-pub mod NamesBefore
-pub mod OneByOne
+pub mod EntryFields
+pub mod NameSet
+pub mod EntryLoop
 pub mod Records
-pub mod Refusals
-pub mod SpanFields
+pub mod ManifestReasons
+pub mod SpanFieldLemmas

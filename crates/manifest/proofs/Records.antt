@@ -11,16 +11,16 @@ use Rattle.csv.specs.declared.parser.State.{State}
 use Rattle.csv.specs.declared.parser.State.TheVariants as st
 use Rattle.csv.specs.declared.parser.Action.{Action}
 use Rattle.csv.specs.declared.parser.Action.TheVariants as act
-use Rattle.manifest.specs.Manifest.{Row}
+use Rattle.manifest.specs.Manifest.{CsvRecord}
 
 -- as many records as the text has, with steps to spare
-from_reached : (cfg : Config) (s s2 : State) (xs ys : List ℕ) (rows : List Row) (n : ℕ) → length rows < n → Reached cfg s xs rows s2 ys
+from_reached : (cfg : Config) (s s2 : State) (xs ys : List ℕ) (rows : List CsvRecord) (n : ℕ) → length rows < n → Reached cfg s xs rows s2 ys
     → next_record cfg s2 [] [] ys ≡ None → records_from cfg n s xs ≡ rows
 unfolding records_from Reached
 from_reached cfg s s2 xs ys rows zero lt h e = absurd (omega arith)
 from_reached cfg s s2 xs ys [] (suc n) lt h e = rw (h.0, h.1, e) refl
 from_reached cfg s s2 xs ys (r ∷ rs) (suc n) lt h e =
-    rw (h.1, h.2) (ap (λ (t : List Row). h.0.0 ∷ t) (from_reached cfg h.0.1 s2 h.0.2 ys rs n (omega arith) h.3 e))
+    rw (h.1, h.2) (ap (λ (t : List CsvRecord). h.0.0 ∷ t) (from_reached cfg h.0.1 s2 h.0.2 ys rs n (omega arith) h.3 e))
 
 -- a state between two records
 abbrev IsBetween : State → Type 0
@@ -81,7 +81,7 @@ some_is : {A : Type 0} (x y : A) → Some x ≡ Some y → x ≡ y
 some_is x y e = cc
 
 -- a record ends between two records, and what is left is no longer than the text
-ends : (cfg : Config) (s : State) (f : Row) (p xs : List ℕ) (q : Read) → next_record cfg s f p xs ≡ Some q → IsBetween q.1 × (length q.2 ≤ length xs)
+ends : (cfg : Config) (s : State) (f : CsvRecord) (p xs : List ℕ) (q : Read) → next_record cfg s f p xs ≡ Some q → IsBetween q.1 × (length q.2 ≤ length xs)
 unfolding next_record
 ends cfg s f p [] q e = at_end (ends_at_end s) e
   where
@@ -97,7 +97,7 @@ ends cfg s f p (c ∷ rest) q e = by (is_end (step cfg s c).1) refl (ends cfg (s
     by false t more = let h = more (rw t at e) in (h.0, omega (arith, h.1))
 
 -- a record that begins between two records takes at least a byte
-takes : (cfg : Config) (s : State) (f : Row) (p xs : List ℕ) (q : Read) → IsBetween s → next_record cfg s f p xs ≡ Some q → length q.2 < length xs
+takes : (cfg : Config) (s : State) (f : CsvRecord) (p xs : List ℕ) (q : Read) → IsBetween s → next_record cfg s f p xs ≡ Some q → length q.2 < length xs
 unfolding next_record
 takes cfg s f p [] q between e = cc (rw between at e)
 takes cfg s f p (c ∷ rest) q between e = by (is_end (step cfg s c).1) refl
@@ -108,7 +108,7 @@ takes cfg s f p (c ∷ rest) q between e = by (is_end (step cfg s c).1) refl
         let h = ends cfg (step cfg s c).0 (fields_after (step cfg s c).1 f p) (field_after (step cfg s c).1 c p) rest q (rw t at e) in
         omega (arith, h.1)
 
-no_more : (cfg : Config) (s s2 : State) (xs ys : List ℕ) (rows : List Row) → IsBetween s → Reached cfg s xs rows s2 ys → length rows ≤ length xs
+no_more : (cfg : Config) (s s2 : State) (xs ys : List ℕ) (rows : List CsvRecord) → IsBetween s → Reached cfg s xs rows s2 ys → length rows ≤ length xs
 unfolding Reached
 no_more cfg s s2 xs ys [] between h = omega arith
 no_more cfg s s2 xs ys (r ∷ rs) between h =
@@ -116,7 +116,7 @@ no_more cfg s s2 xs ys (r ∷ rs) between h =
     let rest = no_more cfg h.0.1 s2 h.0.2 ys rs (ends cfg s [] [] xs h.0 h.1).0 h.3 in
     omega (arith, less, rest)
 
-pub records-are : (cfg : Config) (xs : List ℕ) (rows : List Row) → AreRecords cfg st.StartRecord xs rows → rows ≡ records cfg xs
+pub records-are : (cfg : Config) (xs : List ℕ) (rows : List CsvRecord) → AreRecords cfg st.StartRecord xs rows → rows ≡ records cfg xs
 records-are cfg xs rows h =
     let few = no_more cfg st.StartRecord h.0 xs h.1 rows refl h.2 in
     sym (from_reached cfg st.StartRecord h.0 xs h.1 rows (length xs + 1) (omega (arith, few)) h.2 h.3)

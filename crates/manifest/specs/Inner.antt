@@ -1,1 +1,1 @@
-pub mod OneRecord
+pub mod RecordEntry

@@ -9,11 +9,11 @@ ghost use Rattle.std.specs.Prelude.{◌≡◌};
 ghost use Rattle.grid_units.specs.Results.{Answers};
 ghost use Rattle.manifest.specs.Manifest.{manifest};
 
-mod judging;
 pub mod laws;
 mod names;
 pub mod rows;
 pub mod table;
+mod validation;
 
 use grid_units::{Fail, Span};
 pub use names::Name;
@@ -66,6 +66,6 @@ pub struct Entry {
 pub fn read_manifest(alloc: Global, bytes: &[u8]) -> Result<Vec<Entry>, Fail>
     ensures exact { Answers (λ entries. entries.items) (λ answer. answer ≡ manifest bytes.now) result }
 {
-    let rows = rows::all_rows(alloc, bytes)?;
-    judging::manifest_of(alloc, rows.as_slice())
+    let rows = rows::read_records(alloc, bytes)?;
+    validation::parse_manifest_records(alloc, rows.as_slice())
 }

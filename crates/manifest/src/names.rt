@@ -8,13 +8,13 @@ use std::marker::Model;
 /// A name in a manifest: what reports call a file, or the name by which it is loaded. Contracts see the list of its bytes.
 #[derive(Debug, Drop)]
 pub struct Name {
-    held: String,
+    string: String,
 }
 
 impl Model for Name {
     ghost Value = { List ℕ };
 
-    ghost view = { λ name. string_bytes name.held };
+    ghost view = { λ name. string_bytes name.string };
 }
 
 impl Name {
@@ -27,7 +27,7 @@ impl Name {
         ensures { IfOk result (λ name. name ≡ text.now) }
     {
         Ok(Name {
-            held: String::from_str(alloc, text)?,
+            string: String::from_str(alloc, text)?,
         })
     }
 
@@ -35,6 +35,6 @@ impl Name {
     pub fn as_str(&self) -> &str
         ensures { result.now ≡ self.now }
     {
-        self.held.as_str()
+        self.string.as_str()
     }
 }

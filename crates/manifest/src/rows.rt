@@ -4,7 +4,7 @@ ghost use Rattle.std.specs.Prelude.{◌≡◌, ◌<◌, length, map, true, false
 ghost use Rattle.std.specs.List.{list_any};
 ghost use Rattle.std.specs.Str.{bytes_eq};
 ghost use Rattle.csv.specs.Records.{fields_of};
-ghost use Rattle.manifest.specs.Manifest.{field, is_control, is_plain_text, rows_of};
+ghost use Rattle.manifest.specs.Manifest.{field, is_control, is_plain_text, csv_records};
 
 use csv::{ByteRecord, ReaderBuilder};
 use std::alloc::{AllocError, Global};
@@ -18,8 +18,8 @@ use std::str;
 /// An `AllocError` where there is no memory. A slice can always be read, so `csv` refuses nothing else here.
 // Inlined, the reader's buffers would lie in the frame of a caller that runs on long after it.
 #[inline(never)]
-pub fn all_rows(alloc: Global, text: &[u8]) -> Result<Vec<ByteRecord>, AllocError>
-    ensures { IfOk result (λ v. map fields_of v.items ≡ rows_of text.now) }
+pub fn read_records(alloc: Global, text: &[u8]) -> Result<Vec<ByteRecord>, AllocError>
+    ensures { IfOk result (λ v. map fields_of v.items ≡ csv_records text.now) }
 {
     let reader = ReaderBuilder::new()
         .has_headers(false)

@@ -2,7 +2,7 @@
 use Rattle.std.specs.Prelude.{◌≡◌, ◌↔◌, ℕ, ℤ, pos, ◌≤◌, ◌≤ℤ◌, Bool, true}
 use Rattle.grid_units.specs.Points.{GridPoint}
 use Rattle.grid_units.specs.Holes.{GridHole}
-use Rattle.pad_shapes.specs.Shapes.{covers_ends}
+use Rattle.pad_shapes.specs.Shapes.{covers_both_ends}
 use Rattle.pad_shapes.specs.declared.pad.Pad.{Pad}
 use Rattle.pad_shapes.specs.declared.pad.Pad.TheVariants.{Disc, Rect, Obround}
 
@@ -16,7 +16,7 @@ IsDepth covers s c depth = (reach : ℕ) → (covers s c reach ≡ true) ↔ (po
 
 -- the depth of a hole: both its ends are covered with just the reaches up to the depth, so it is the lesser depth of the two
 abbrev pub IsDepthOfHole : {S : Type 0} → (S → GridPoint → ℕ → Bool) → S → GridHole → ℤ → Type 0
-IsDepthOfHole covers s h depth = (reach : ℕ) → (covers_ends covers s h.from h.to reach ≡ true) ↔ (pos reach ≤ℤ depth)
+IsDepthOfHole covers s h depth = (reach : ℕ) → (covers_both_ends covers s h.from h.to reach ≡ true) ↔ (pos reach ≤ℤ depth)
 
 -- the centre of the shape inside a pad
 abbrev pub pad_middle : Pad → GridPoint

@@ -1,5 +1,5 @@
-pub mod Bests
-pub mod Nearness
+pub mod BestPads
+pub mod NearestHoles
 pub mod Meets
 pub mod Rows
 pub mod Flats

@@ -1,7 +1,7 @@
 pub mod Depths
 pub mod Gaps
-pub mod Bests
-pub mod Nearness
+pub mod BestPads
+pub mod NearestHoles
 pub mod Meets
 pub mod Rows
 pub mod Inner

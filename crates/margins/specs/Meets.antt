@@ -3,13 +3,13 @@ use Rattle.std.specs.Prelude.{◌≡◌, ◌↔◌, ℕ, ℤ, pos, ◌<◌, ◌-
 use Rattle.grid_units.specs.Points.{GridPoint}
 use Rattle.grid_units.specs.Holes.{GridHole}
 use Rattle.grid_units.specs.Spans.{is_in_span}
-use Rattle.ring_rules.specs.Places.{nowhere, hole_at}
+use Rattle.ring_rules.specs.Places.{default_hole, hole_at}
 use Rattle.ring_rules.specs.Findings.{is_oblique, ring_findings, gap_findings}
 use Rattle.ring_rules.specs.declared.finding.Drilled.{Drilled}
 use Rattle.margins.specs.Gaps.{IsGap}
-use Rattle.margins.specs.Bests.{IsBest, IsBare}
-use Rattle.margins.specs.Nearness.{IsPair}
-use Rattle.margins.specs.declared.best.Best.{Best}
+use Rattle.margins.specs.BestPads.{IsDeepest, IsBare}
+use Rattle.margins.specs.NearestHoles.{IsPair}
+use Rattle.margins.specs.declared.best.BestPad.{BestPad}
 use Rattle.margins.specs.declared.met.Met.{Met}
 use Rattle.margins.specs.declared.met.RingsMet.{RingsMet}
 use Rattle.margins.specs.declared.met.Met.TheVariants as mets
@@ -17,66 +17,66 @@ use Rattle.margins.specs.declared.met.Met.TheVariants as mets
 -- what is met allows a rule: any rule, those up to a length, or none; below 0 no rule is allowed, and the board fails by that length
 abbrev pub allows : Met → ℕ → Type 0
 allows mets.Any rule = Unit {0}
-allows (mets.Most length) rule = pos rule ≤ℤ length
+allows (mets.UpTo length) rule = pos rule ≤ℤ length
 allows mets.None rule = ⊥
 
 -- one of the pairs that are asked has no length
-pub record LacksOne (asked : ℕ → ℕ → Type 0) (has : ℕ → ℕ → Option ℤ → Type 0) : Type 0 where
+pub record LacksOne (required : ℕ → ℕ → Type 0) (has : ℕ → ℕ → Option ℤ → Type 0) : Type 0 where
   pub i : ℕ
   pub j : ℕ
-  pub there : asked i j
+  pub there : required i j
   pub nothing : has i j None
 
 -- one of the pairs that are asked has this length, and each has one that is no less
-pub record HasLeast (asked : ℕ → ℕ → Type 0) (has : ℕ → ℕ → Option ℤ → Type 0) (length : ℤ) : Type 0 where
+pub record HasLeast (required : ℕ → ℕ → Type 0) (has : ℕ → ℕ → Option ℤ → Type 0) (length : ℤ) : Type 0 where
   pub i : ℕ
   pub j : ℕ
-  pub there : asked i j
+  pub there : required i j
   pub reached : has i j (Some length)
-  pub least : (k l : ℕ) → asked k l → (other : ℤ) × has k l (Some other) × (length ≤ℤ other)
+  pub least : (k l : ℕ) → required k l → (other : ℤ) × has k l (Some other) × (length ≤ℤ other)
 
 -- what is met by pairs that are asked for a length: any rule if none is asked, none if one has no length, else those up to the least length
 abbrev pub IsLeast : (ℕ → ℕ → Type 0) → (ℕ → ℕ → Option ℤ → Type 0) → Met → Type 0
-IsLeast asked has mets.Any = (i j : ℕ) → asked i j → ⊥
-IsLeast asked has (mets.Most length) = HasLeast asked has length
-IsLeast asked has mets.None = LacksOne asked has
+IsLeast required has mets.Any = (i j : ℕ) → required i j → ⊥
+IsLeast required has (mets.UpTo length) = HasLeast required has length
+IsLeast required has mets.None = LacksOne required has
 
 -- some pair is asked, and none of those that are asked has a length
-pub record LacksAll (asked : ℕ → ℕ → Type 0) (has : ℕ → ℕ → Option ℤ → Type 0) : Type 0 where
+pub record LacksAll (required : ℕ → ℕ → Type 0) (has : ℕ → ℕ → Option ℤ → Type 0) : Type 0 where
   pub i : ℕ
   pub j : ℕ
-  pub there : asked i j
-  pub nothing : (k l : ℕ) → asked k l → has k l None
+  pub there : required i j
+  pub nothing : (k l : ℕ) → required k l → has k l None
 
 -- one of the pairs that are asked has this length, and each has no length or one that is no less
-pub record HasLeastHeld (asked : ℕ → ℕ → Type 0) (has : ℕ → ℕ → Option ℤ → Type 0) (length : ℤ) : Type 0 where
+pub record HasLeastInPads (required : ℕ → ℕ → Type 0) (has : ℕ → ℕ → Option ℤ → Type 0) (length : ℤ) : Type 0 where
   pub i : ℕ
   pub j : ℕ
-  pub there : asked i j
+  pub there : required i j
   pub reached : has i j (Some length)
-  pub least : (k l : ℕ) → asked k l → has k l None ⊎ ((other : ℤ) × has k l (Some other) × (length ≤ℤ other))
+  pub least : (k l : ℕ) → required k l → has k l None ⊎ ((other : ℤ) × has k l (Some other) × (length ≤ℤ other))
 
 -- what is met where pairs without a length are skipped: any rule if none is asked, none if none has one, else those up to the least length
-abbrev pub IsLeastHeld : (ℕ → ℕ → Type 0) → (ℕ → ℕ → Option ℤ → Type 0) → Met → Type 0
-IsLeastHeld asked has mets.Any = (i j : ℕ) → asked i j → ⊥
-IsLeastHeld asked has (mets.Most length) = HasLeastHeld asked has length
-IsLeastHeld asked has mets.None = LacksAll asked has
+abbrev pub IsLeastInPads : (ℕ → ℕ → Type 0) → (ℕ → ℕ → Option ℤ → Type 0) → Met → Type 0
+IsLeastInPads required has mets.Any = (i j : ℕ) → required i j → ⊥
+IsLeastInPads required has (mets.UpTo length) = HasLeastInPads required has length
+IsLeastInPads required has mets.None = LacksAll required has
 
 -- a hole needs a ring on a layer: it is plated and goes through the layer
-abbrev pub asks_ring : ℕ → Drilled → Bool
-asks_ring layer d = d.plated && is_in_span layer d.span
+abbrev pub needs_ring : ℕ → Drilled → Bool
+needs_ring layer d = d.plated && is_in_span layer d.span
 
 -- one of the first `count` layers, and a hole that needs a ring there
-pub record AsksRing (count : ℕ) (holes : List Drilled) (layer hole : ℕ) : Type 0 where
+pub record NeedsRing (count : ℕ) (holes : List Drilled) (layer hole : ℕ) : Type 0 where
   pub in_layers : layer < count
   pub in_holes : hole < length holes
-  pub asks : asks_ring layer (get_or holes hole nowhere) ≡ true
+  pub needs : needs_ring layer (get_or holes hole default_hole) ≡ true
 
 -- the ring of a hole on a layer: how deep it lies in the best pad, less its radius; below 0 where the hole is wider than the copper round it
 pub record IsRing {S : Type 0} (covers : S → GridPoint → ℕ → Bool) (pads : List S) (hole : GridHole) (ring : ℤ) : Type 0 where
-  pub best : Best
+  pub best : BestPad
   pub straight : is_oblique hole ≡ false
-  pub deepest : IsBest covers pads (length pads) hole best
+  pub deepest : IsDeepest covers pads (length pads) hole best
   pub less : ring ≡ pos best.depth -ℤ pos hole.radius
 
 -- the ring of a hole among the pads of a layer, or none where the hole is bare
@@ -95,20 +95,20 @@ HasGap holes i j (Some gap) = IsGap (hole_at holes i) (hole_at holes j) gap
 
 -- the rings that a board meets at all holes that need one
 abbrev pub MeetsRings : {S : Type 0} → (S → GridPoint → ℕ → Bool) → List (List S) → List Drilled → Met → Type 0
-MeetsRings covers layers holes met = IsLeast (AsksRing (length layers) holes) (HasRing covers layers holes) met
+MeetsRings covers layers holes met = IsLeast (NeedsRing (length layers) holes) (HasRing covers layers holes) met
 
 -- the rings that a board meets at the holes that need one and are not bare
-abbrev pub MeetsHeld : {S : Type 0} → (S → GridPoint → ℕ → Bool) → List (List S) → List Drilled → Met → Type 0
-MeetsHeld covers layers holes met = IsLeastHeld (AsksRing (length layers) holes) (HasRing covers layers holes) met
+abbrev pub MeetsRingsInPads : {S : Type 0} → (S → GridPoint → ℕ → Bool) → List (List S) → List Drilled → Met → Type 0
+MeetsRingsInPads covers layers holes met = IsLeastInPads (NeedsRing (length layers) holes) (HasRing covers layers holes) met
 
 -- what is met by pairs that are asked for a length, those without one counted (`ring`) and skipped (`held`)
-pub record AreLeast (asked : ℕ → ℕ → Type 0) (has : ℕ → ℕ → Option ℤ → Type 0) (met : RingsMet) : Type 0 where
-  pub ring : IsLeast asked has met.ring
-  pub held : IsLeastHeld asked has met.held
+pub record AreLeast (required : ℕ → ℕ → Type 0) (has : ℕ → ℕ → Option ℤ → Type 0) (met : RingsMet) : Type 0 where
+  pub ring : IsLeast required has met.ring
+  pub held : IsLeastInPads required has met.in_pads
 
 -- the rings that the first `count` layers of a board meet
-abbrev pub MeetsOn : {S : Type 0} → (S → GridPoint → ℕ → Bool) → List (List S) → List Drilled → ℕ → RingsMet → Type 0
-MeetsOn covers layers holes count met = AreLeast (AsksRing count holes) (HasRing covers layers holes) met
+abbrev pub MeetsOnLayers : {S : Type 0} → (S → GridPoint → ℕ → Bool) → List (List S) → List Drilled → ℕ → RingsMet → Type 0
+MeetsOnLayers covers layers holes count met = AreLeast (NeedsRing count holes) (HasRing covers layers holes) met
 
 -- the gaps that a board meets: the least gap of two of its holes, plated or not
 abbrev pub MeetsGaps : List Drilled → Met → Type 0

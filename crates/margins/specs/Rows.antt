@@ -4,28 +4,28 @@ use Rattle.grid_units.specs.Points.{GridPoint}
 use Rattle.grid_units.specs.Holes.{GridHole}
 use Rattle.ring_rules.specs.Places.{hole_at}
 use Rattle.ring_rules.specs.declared.finding.Drilled.{Drilled}
-use Rattle.margins.specs.Bests.{AreBest}
+use Rattle.margins.specs.BestPads.{AreBestPads}
 use Rattle.margins.specs.Meets.{IsRingOf}
-use Rattle.margins.specs.declared.best.Best.{Best}
-use Rattle.margins.specs.declared.row.LeastRing.{LeastRing}
+use Rattle.margins.specs.declared.best.BestPad.{BestPad}
+use Rattle.margins.specs.declared.row.RowLeast.{RowLeast}
 use Rattle.margins.specs.declared.row.RingRow.{RingRow}
 
 -- the ring of a hole by its best pad: how deep it lies there, less its radius; none without a best pad
-abbrev pub ring_by : Option Best → GridHole → Option ℤ
-ring_by None hole = None
-ring_by (Some best) hole = Some (pos best.depth -ℤ pos hole.radius)
+abbrev pub ring_from_best : Option BestPad → GridHole → Option ℤ
+ring_from_best None hole = None
+ring_from_best (Some best) hole = Some (pos best.depth -ℤ pos hole.radius)
 
 -- the ring of the hole at a place, or none where it is bare
-abbrev pub ring_at : List (Option Best) → List Drilled → ℕ → Option ℤ
-ring_at bests holes k = ring_by (get_or bests k None) (hole_at holes k)
+abbrev pub ring_at : List (Option BestPad) → List Drilled → ℕ → Option ℤ
+ring_at bests holes k = ring_from_best (get_or bests k None) (hole_at holes k)
 
 -- a hole has no best pad, so it is bare
-abbrev pub has_none : Option Best → Bool
-has_none None = true
-has_none (Some best) = false
+abbrev pub has_no_best_pad : Option BestPad → Bool
+has_no_best_pad None = true
+has_no_best_pad (Some best) = false
 
 -- the least ring of the first `count` chosen holes, and the first of them that has it
-pub record IsLeastRing (bests : List (Option Best)) (holes : List Drilled) (chosen : List ℕ) (count : ℕ) (held : LeastRing) : Type 0 where
+pub record IsLeastRing (bests : List (Option BestPad)) (holes : List Drilled) (chosen : List ℕ) (count : ℕ) (held : RowLeast) : Type 0 where
   pub i : ℕ
   pub inside : i < count
   pub there : get_or chosen i 0 ≡ held.hole
@@ -34,17 +34,17 @@ pub record IsLeastRing (bests : List (Option Best)) (holes : List Drilled) (chos
   pub first : (j : ℕ) (ring : ℤ) → j < i → ring_at bests holes (get_or chosen j 0) ≡ Some ring → held.ring <ℤ ring
 
 -- the least ring of the first `count` chosen holes, or none where each of them is bare
-abbrev pub IsLeastRingOf : List (Option Best) → List Drilled → List ℕ → ℕ → Option LeastRing → Type 0
+abbrev pub IsLeastRingOf : List (Option BestPad) → List Drilled → List ℕ → ℕ → Option RowLeast → Type 0
 IsLeastRingOf bests holes chosen count None = (j : ℕ) → j < count → ring_at bests holes (get_or chosen j 0) ≡ None
 IsLeastRingOf bests holes chosen count (Some least) = IsLeastRing bests holes chosen count least
 
 -- how many holes are chosen, how many of them are bare, and the least ring of the others
-pub record IsRow (bests : List (Option Best)) (holes : List Drilled) (chosen : List ℕ) (row : RingRow) : Type 0 where
+pub record IsRingRow (bests : List (Option BestPad)) (holes : List Drilled) (chosen : List ℕ) (row : RingRow) : Type 0 where
   pub size : row.holes ≡ length chosen
-  pub bare : row.bare ≡ count_by (λ k. has_none (get_or bests k None)) chosen
+  pub bare : row.bare ≡ count_by (λ k. has_no_best_pad (get_or bests k None)) chosen
   pub least : IsLeastRingOf bests holes chosen (length chosen) row.least
 
 -- the ring that is computed from the best pad of a hole is its ring among the pads of the layer
-abbrev pub RowsTellRings : {S : Type 0} → (S → GridPoint → ℕ → Bool) → Type 0
-RowsTellRings {S} covers =
-    (pads : List S) (holes : List Drilled) (bests : List (Option Best)) (k : ℕ) → AreBest covers pads holes bests → k < length holes → IsRingOf covers pads (hole_at holes k) (ring_at bests holes k)
+abbrev pub RowRingsAreRings : {S : Type 0} → (S → GridPoint → ℕ → Bool) → Type 0
+RowRingsAreRings {S} covers =
+    (pads : List S) (holes : List Drilled) (bests : List (Option BestPad)) (k : ℕ) → AreBestPads covers pads holes bests → k < length holes → IsRingOf covers pads (hole_at holes k) (ring_at bests holes k)

@@ -5,7 +5,7 @@ ghost use Rattle.pad_shapes.specs.Shapes.{max_half_side};
 
 /// The best pad of a hole: the first of those in which it lies deepest.
 #[derive(Clone, Copy, Debug, PartialEq, Eq)]
-pub struct Best {
+pub struct BestPad {
     /// The place of the pad in the list, from 0.
     pub pad: usize,
     /// How deep the hole lies in it, in pm: at most five metres. The ring of the hole is this less its radius.

@@ -12,7 +12,7 @@ use pad_shapes::PadShape;
 ///
 /// The depth of a point is the greatest reach with which the shape covers it, in whole pm. What is covered with a
 /// reach is covered with each lesser one. Below 0 the point is covered with no reach at all.
-pub trait Deep: PadShape {
+pub trait DepthShape: PadShape {
     /// Its middle, such as the centre of a pad.
     ghost middle: { Self → GridPoint };
 
@@ -26,18 +26,18 @@ pub trait Deep: PadShape {
         ensures { result ≡ middle self.now };
 
     /// How deep its own middle lies in it, in pm.
-    fn room(&self) -> i64
+    fn depth_at_middle(&self) -> i64
         ensures { IsDepth Self.covers self.now (middle self.now) result }
     {
         self.depth(self.middle())
     }
 
     /// What it covers with a reach it covers with each lesser reach.
-    ghost shrinks: { CoversLess Self.covers };
+    ghost covers_less: { CoversLess Self.covers };
 }
 
 /// How deep a hole lies in a shape, in pm: the lesser of the depths of its two ends, which are one point where it is round.
-pub fn depth_of_hole<S: Deep>(pad: &S, hole: &Hole) -> i64
+pub fn depth_of_hole<S: DepthShape>(pad: &S, hole: &Hole) -> i64
     ensures exact { IsDepthOfHole S.covers pad.now hole.now result }
     ensures in_range { result ≤ℤ pos max_half_side }
 {

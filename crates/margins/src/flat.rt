@@ -2,14 +2,14 @@
 
 ghost use Rattle.std.specs.Prelude.{◌≡◌, ℕ, ◌<◌, false, length, map, IfOk};
 ghost use Rattle.pad_shapes.specs.Zones.{IsInZone};
-ghost use Rattle.ring_rules.specs.Places.{point_at};
-ghost use Rattle.margins.specs.Bests.{AreBare};
-ghost use Rattle.margins.specs.Rows.{has_none};
-ghost use Rattle.margins.specs.Inner.Flats.{CoverNone, flat_covers, flat_holds, flat_holds_slots, flat_between, flat_covers_less};
+ghost use Rattle.ring_rules.specs.Places.{entry_at};
+ghost use Rattle.margins.specs.BestPads.{AreBare};
+ghost use Rattle.margins.specs.Rows.{has_no_best_pad};
+ghost use Rattle.margins.specs.Inner.Flats.{CoversNothing, flat_covers, flat_holds, flat_holds_slots, flat_between, flat_covers_less};
 
-use crate::best::Best;
+use crate::best::BestPad;
 use crate::bests::best_pads;
-use crate::deep::Deep;
+use crate::deep::DepthShape;
 use crate::parts::zone_of_all;
 use grid_units::Point;
 use pad_shapes::{PadShape, Zone};
@@ -60,10 +60,10 @@ impl<S: PadShape> PadShape for Flat<S> {
     }
 }
 
-impl<S: Deep> Deep for Flat<S> {
+impl<S: DepthShape> DepthShape for Flat<S> {
     ghost middle = { λ s. S.middle s.shape };
 
-    ghost shrinks = { λ s. flat_covers_less S.covers s.shape };
+    ghost covers_less = { λ s. flat_covers_less S.covers s.shape };
 
     fn depth(&self, at: Point) -> i64 {
         if self.shape.covers(at, 0) { 0 } else { -1 }
@@ -75,22 +75,22 @@ impl<S: Deep> Deep for Flat<S> {
 }
 
 /// The flat shapes of some shapes.
-fn flats<S: Deep + Copy>(alloc: Global, pads: &[S]) -> Result<Vec<Flat<S>>, AllocError>
+fn flats<S: DepthShape + Copy>(alloc: Global, pads: &[S]) -> Result<Vec<Flat<S>>, AllocError>
     ensures { IfOk result (λ flats. flats.items ≡ map (λ pad. record { shape = pad }) pads.now) }
 {
     pads.iter().map(|pad| Flat { shape: *pad }).collect(alloc)
 }
 
 /// Which holes have no best pad.
-fn nones(alloc: Global, bests: &[Option<Best>]) -> Result<Vec<bool>, AllocError>
-    ensures { IfOk result (λ nones. nones.items ≡ map has_none bests.now) }
+fn without_best_pad(alloc: Global, bests: &[Option<BestPad>]) -> Result<Vec<bool>, AllocError>
+    ensures { IfOk result (λ without_best_pad. without_best_pad.items ≡ map has_no_best_pad bests.now) }
 {
     bests.iter().map(|best| best.is_none()).collect(alloc)
 }
 
 /// Whether one of some pads may cover a point of a zone. `true` says nothing.
-fn may_cover_one<S: Deep>(pads: &[S], zone: &Zone) -> bool
-    ensures { result ≡ false → CoverNone S.covers pads.now (length pads.now) zone.now }
+fn may_cover_any<S: DepthShape>(pads: &[S], zone: &Zone) -> bool
+    ensures { result ≡ false → CoversNothing S.covers pads.now (length pads.now) zone.now }
 {
     for pad in pads {
         if pad.may_cover(zone, 0) {
@@ -101,21 +101,21 @@ fn may_cover_one<S: Deep>(pads: &[S], zone: &Zone) -> bool
 }
 
 /// The answer that each hole is bare, where no pad covers a point of a zone with the entry points of all.
-fn all_bare<S: Deep>(
+fn all_bare<S: DepthShape>(
     alloc: Global,
     pads: &[S],
     holes: &[Drilled],
     zone: &Zone,
 ) -> Result<Vec<bool>, AllocError>
-    requires holds { (k : ℕ) → k < length holes.now → IsInZone zone.now (point_at holes.now k) }
-    requires none { CoverNone S.covers pads.now (length pads.now) zone.now }
+    requires holds { (k : ℕ) → k < length holes.now → IsInZone zone.now (entry_at holes.now k) }
+    requires none { CoversNothing S.covers pads.now (length pads.now) zone.now }
     ensures { IfOk result (λ bare. AreBare S.covers pads.now holes.now bare.items) }
 {
     vec![in alloc; true; holes.len()]
 }
 
 /// Whether each of some holes is bare, by the flat shapes of the pads.
-fn bare_by_flats<S: Deep + Copy>(
+fn bare_by_flats<S: DepthShape + Copy>(
     alloc: Global,
     pads: &[S],
     holes: &[Drilled],
@@ -124,7 +124,7 @@ fn bare_by_flats<S: Deep + Copy>(
 {
     let flats = flats(alloc, pads)?;
     let bests = best_pads(alloc, &flats, holes)?;
-    nones(alloc, &bests)
+    without_best_pad(alloc, &bests)
 }
 
 /// Whether each of some holes is bare, in their order: an oblique slot, or covered by no pad at both ends with any
@@ -134,7 +134,7 @@ fn bare_by_flats<S: Deep + Copy>(
 /// # Errors
 ///
 /// Where there is no memory.
-pub fn bare_holes<S: Deep + Copy>(
+pub fn bare_holes<S: DepthShape + Copy>(
     alloc: Global,
     pads: &[S],
     holes: &[Drilled],
@@ -142,7 +142,7 @@ pub fn bare_holes<S: Deep + Copy>(
     ensures { IfOk result (λ bare. AreBare S.covers pads.now holes.now bare.items) }
 {
     let zone = zone_of_all(holes);
-    if may_cover_one(pads, &zone) {
+    if may_cover_any(pads, &zone) {
         bare_by_flats(alloc, pads, holes)
     } else {
         all_bare(alloc, pads, holes, &zone)

@@ -6,7 +6,7 @@ ghost use Rattle.ring_rules.specs.Cores.{are_clear, square_of_cores};
 ghost use Rattle.ring_rules.specs.Near.{IsGapBound};
 ghost use Rattle.margins.specs.Gaps.{IsGap};
 
-use crate::roots::{length_below, less};
+use crate::roots::{length_rounded_down, less};
 use grid_units::{Hole, square, square_length};
 use ring_rules::{core_distance_x, core_distance_y};
 
@@ -17,7 +17,7 @@ pub fn gap_between(a: &Hole, b: &Hole) -> i64
     ensures same { (gap : ℕ) → (are_clear gap a.now b.now ≡ true) ↔ (pos gap ≤ℤ result) }
     ensures in_range { (neg_ℤ (pos 10000000000000) ≤ℤ result) × (result ≤ℤ pos 30000000000000) }
 {
-    let cores = length_below(core_distance_x(a, b), core_distance_y(a, b));
+    let cores = length_rounded_down(core_distance_x(a, b), core_distance_y(a, b));
     less(cores, a.radius().unsigned_abs() + b.radius().unsigned_abs())
 }
 

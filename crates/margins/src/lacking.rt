@@ -2,12 +2,12 @@
 
 ghost use Rattle.std.specs.Prelude.{◌≡◌, ◌<◌, ◌++◌, [], length, map, get_or, IfOk, OnOk};
 ghost use Rattle.ring_rules.specs.Findings.{is_ring_finding, layer_findings, ring_findings};
-ghost use Rattle.margins.specs.Bests.{AreBest, AreBestOn};
+ghost use Rattle.margins.specs.BestPads.{AreBestPads, AreBestPadsByLayer};
 ghost use Rattle.margins.specs.Inner.Lacking.{is_short, falls_short};
 
-use crate::best::Best;
-use crate::deep::Deep;
-use crate::met::asks_ring;
+use crate::best::BestPad;
+use crate::deep::DepthShape;
+use crate::met::needs_ring;
 use crate::row::ring_of;
 use grid_units::Rules;
 use ring_rules::{Drilled, Finding, layer_findings};
@@ -24,22 +24,22 @@ fn is_short(ring: Option<i64>, rules: Rules) -> bool
 }
 
 /// Whether a hole needs a ring on a layer, and its best pad there gives it none or less than the rule.
-fn falls_short(layer: usize, drilled: &Drilled, best: Option<Best>, rules: Rules) -> bool
+fn falls_short(layer: usize, drilled: &Drilled, best: Option<BestPad>, rules: Rules) -> bool
     ensures { result ≡ falls_short rules.ring layer drilled.now best }
 {
-    asks_ring(layer, drilled) && is_short(ring_of(best, &drilled.hole), rules)
+    needs_ring(layer, drilled) && is_short(ring_of(best, &drilled.hole), rules)
 }
 
 /// Whether each hole lacks its ring on a layer, by the best pads of the holes there.
-fn lacking_by<S: Deep>(
+fn lacking_by<S: DepthShape>(
     alloc: Global,
     layers: &[&[S]],
     layer: usize,
-    bests: &[Option<Best>],
+    bests: &[Option<BestPad>],
     holes: &[Drilled],
     rules: Rules,
 ) -> Result<Vec<bool>, AllocError>
-    requires { AreBest S.covers (get_or (map (λ pads. pads.now) layers.now) layer []) holes.now bests.now }
+    requires { AreBestPads S.covers (get_or (map (λ pads. pads.now) layers.now) layer []) holes.now bests.now }
     ensures { IfOk result (λ lacking. lacking.items ≡ map (is_ring_finding S.covers rules.ring layer (get_or (map (λ pads. pads.now) layers.now) layer [])) holes.now) }
 {
     let mut lacking = Vec::new(alloc);
@@ -50,16 +50,16 @@ fn lacking_by<S: Deep>(
 }
 
 /// Appends the findings of rings on a layer, by the best pads of the holes there.
-fn add_lacking<S: Deep>(
+fn add_lacking<S: DepthShape>(
     alloc: Global,
     findings: &mut Vec<Finding>,
     layers: &[&[S]],
     layer: usize,
-    bests: &[Option<Best>],
+    bests: &[Option<BestPad>],
     holes: &[Drilled],
     rules: Rules,
 ) -> Result<(), AllocError>
-    requires { AreBest S.covers (get_or (map (λ pads. pads.now) layers.now) layer []) holes.now bests.now }
+    requires { AreBestPads S.covers (get_or (map (λ pads. pads.now) layers.now) layer []) holes.now bests.now }
     ensures { OnOk result (findings.new.items ≡ findings.old.items ++ layer_findings S.covers rules.ring holes.now layer (get_or (map (λ pads. pads.now) layers.now) layer [])) }
 {
     let lacking = lacking_by(alloc, layers, layer, bests, holes, rules)?;
@@ -71,19 +71,27 @@ fn add_lacking<S: Deep>(
 /// # Errors
 ///
 /// Where there is no memory.
-pub fn ring_findings_by<S: Deep>(
+pub fn ring_findings_from_bests<S: DepthShape>(
     alloc: Global,
     layers: &[&[S]],
     holes: &[Drilled],
-    bests: &[Vec<Option<Best>>],
+    bests: &[Vec<Option<BestPad>>],
     rules: Rules,
 ) -> Result<Vec<Finding>, AllocError>
-    requires { AreBestOn S.covers (map (λ pads. pads.now) layers.now) holes.now (map (λ its. its.items) bests.now) }
+    requires { AreBestPadsByLayer S.covers (map (λ pads. pads.now) layers.now) holes.now (map (λ layer_bests. layer_bests.items) bests.now) }
     ensures { IfOk result (λ findings. findings.items ≡ ring_findings S.covers rules.ring (map (λ pads. pads.now) layers.now) holes.now) }
 {
     let mut findings = Vec::new(alloc);
-    for (layer, its) in bests.iter().enumerate() {
-        add_lacking(alloc, &mut findings, layers, layer, its, holes, rules)?;
+    for (layer, layer_bests) in bests.iter().enumerate() {
+        add_lacking(
+            alloc,
+            &mut findings,
+            layers,
+            layer,
+            layer_bests,
+            holes,
+            rules,
+        )?;
     }
     Ok(findings)
 }

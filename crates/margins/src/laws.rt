@@ -1,12 +1,12 @@
 //! Laws of what a board meets. A call of one does nothing; its clause is what is proved.
 
 ghost use Rattle.margins.specs.Meets.{RingsPassExactly, GapsPassExactly};
-ghost use Rattle.margins.specs.Rows.{RowsTellRings};
+ghost use Rattle.margins.specs.Rows.{RowRingsAreRings};
 
-use crate::deep::Deep;
+use crate::deep::DepthShape;
 
 /// The rings that a board meets are just those under which nothing is found of rings.
-pub fn rings_pass<S: Deep>()
+pub fn rings_pass<S: DepthShape>()
     ensures { RingsPassExactly S.covers }
 {}
 
@@ -16,6 +16,6 @@ pub fn gaps_pass()
 {}
 
 /// The ring that is computed from the best pad of a hole is its ring among the pads of the layer.
-pub fn rows_tell_rings<S: Deep>()
-    ensures { RowsTellRings S.covers }
+pub fn row_rings_are_rings<S: DepthShape>()
+    ensures { RowRingsAreRings S.covers }
 {}

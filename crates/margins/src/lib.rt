@@ -18,15 +18,15 @@ mod roots;
 mod row;
 mod shapes;
 
-pub use best::Best;
+pub use best::BestPad;
 pub use bests::{best_pad, best_pads};
-pub use deep::{Deep, depth_of_hole};
+pub use deep::{DepthShape, depth_of_hole};
 pub use flat::bare_holes;
 pub use gap::gap_between;
-pub use lacking::ring_findings_by;
+pub use lacking::ring_findings_from_bests;
 pub use met::{
-    Met, RingsMet, asks_ring, gap_met, gap_met_by, held_met, met_by_none, met_with, ring_met,
-    rings_met,
+    Met, RingsMet, gap_met, gap_met_of_nearest, met_with_layer, met_without_layers, needs_ring,
+    ring_in_pads_met, ring_met, rings_met,
 };
 pub use nearest::{Nearest, nearest_holes};
-pub use row::{LeastRing, RingRow, ring_row};
+pub use row::{RingRow, RowLeast, ring_row};

@@ -1,15 +1,15 @@
 //! The greatest ring and the greatest gap that a whole board meets.
 
 ghost use Rattle.std.specs.Prelude.{◌≡◌, ◌+◌, ◌<◌, [], None, Some, length, map, get_or, IfOk};
-ghost use Rattle.margins.specs.Bests.{AreBest};
-ghost use Rattle.margins.specs.Nearness.{IsNearestOf, IsPair};
-ghost use Rattle.margins.specs.Meets.{asks_ring, MeetsOn, MeetsRings, MeetsHeld, MeetsGaps, RingsPass, GapsPass};
-ghost use Rattle.margins.specs.Rows.{ring_by};
-ghost use Rattle.margins.specs.Inner.Meets.{least_of, held_of};
+ghost use Rattle.margins.specs.BestPads.{AreBestPads};
+ghost use Rattle.margins.specs.NearestHoles.{IsNearestOf, IsPair};
+ghost use Rattle.margins.specs.Meets.{needs_ring, MeetsOnLayers, MeetsRings, MeetsRingsInPads, MeetsGaps, RingsPass, GapsPass};
+ghost use Rattle.margins.specs.Rows.{ring_from_best};
+ghost use Rattle.margins.specs.Inner.Meets.{with_length, with_length_in_pads};
 
-use crate::best::Best;
+use crate::best::BestPad;
 use crate::bests::best_pads;
-use crate::deep::Deep;
+use crate::deep::DepthShape;
 use crate::nearest::{Nearest, nearest_holes};
 use crate::row::ring_of;
 use grid_units::is_in_span;
@@ -22,7 +22,7 @@ pub enum Met {
     /// All of them: no hole, or no two holes, are asked for anything.
     Any,
     /// Those up to this length, in pm. A length below 0 allows no rule.
-    Most(i64),
+    UpTo(i64),
     /// None, however small.
     None,
 }
@@ -33,76 +33,76 @@ pub struct RingsMet {
     /// Those that all holes have: none where a hole is bare on a layer where it needs a ring.
     pub ring: Met,
     /// Those that the holes have that are not bare: none where each hole is bare on each layer where it needs a ring.
-    pub held: Met,
+    pub in_pads: Met,
 }
 
 /// Whether a hole needs a ring on a layer, by its place from 0: it is plated and goes through the layer.
-pub fn asks_ring(layer: usize, drilled: &Drilled) -> bool
-    ensures { result ≡ asks_ring layer drilled.now }
+pub fn needs_ring(layer: usize, drilled: &Drilled) -> bool
+    ensures { result ≡ needs_ring layer drilled.now }
 {
     drilled.plated && is_in_span(layer, drilled.span)
 }
 
 /// The rings that are met with one more hole that needs one.
 fn least(met: Met, ring: Option<i64>) -> Met
-    ensures { result ≡ least_of met ring }
+    ensures { result ≡ with_length met ring }
 {
     match (met, ring) {
-        (Met::Any, Some(ring)) => Met::Most(ring),
-        (Met::Most(held), Some(ring)) => Met::Most(held.min(ring)),
+        (Met::Any, Some(ring)) => Met::UpTo(ring),
+        (Met::UpTo(held), Some(ring)) => Met::UpTo(held.min(ring)),
         _ => Met::None,
     }
 }
 
 /// The rings that are met with one more hole that needs one, bare holes skipped.
-fn least_held(met: Met, ring: Option<i64>) -> Met
-    ensures { result ≡ held_of met ring }
+fn with_ring_in_pads(met: Met, ring: Option<i64>) -> Met
+    ensures { result ≡ with_length_in_pads met ring }
 {
     match (met, ring) {
-        (Met::Most(held), Some(ring)) => Met::Most(held.min(ring)),
-        (Met::Most(held), None) => Met::Most(held),
-        (_, Some(ring)) => Met::Most(ring),
+        (Met::UpTo(held), Some(ring)) => Met::UpTo(held.min(ring)),
+        (Met::UpTo(held), None) => Met::UpTo(held),
+        (_, Some(ring)) => Met::UpTo(ring),
         (_, None) => Met::None,
     }
 }
 
 /// What is met, with bare holes counted and skipped, where one more hole needs a ring.
 fn with_ring(met: RingsMet, ring: Option<i64>) -> RingsMet
-    ensures ring { result.ring ≡ least_of met.ring ring }
-    ensures held { result.held ≡ held_of met.held ring }
+    ensures ring { result.ring ≡ with_length met.ring ring }
+    ensures held { result.in_pads ≡ with_length_in_pads met.in_pads ring }
 {
     RingsMet {
         ring: least(met.ring, ring),
-        held: least_held(met.held, ring),
+        in_pads: with_ring_in_pads(met.in_pads, ring),
     }
 }
 
 /// What a board without a layer meets.
-pub fn met_by_none<S: Deep>(layers: &[&[S]], holes: &[Drilled]) -> RingsMet
-    ensures { MeetsOn S.covers (map (λ pads. pads.now) layers.now) holes.now 0 result }
+pub fn met_without_layers<S: DepthShape>(layers: &[&[S]], holes: &[Drilled]) -> RingsMet
+    ensures { MeetsOnLayers S.covers (map (λ pads. pads.now) layers.now) holes.now 0 result }
 {
     RingsMet {
         ring: Met::Any,
-        held: Met::Any,
+        in_pads: Met::Any,
     }
 }
 
 /// What the layers of a board up to and with one of them meet, by the best pads there and by what the layers before it meet.
-pub fn met_with<S: Deep>(
+pub fn met_with_layer<S: DepthShape>(
     layers: &[&[S]],
     layer: usize,
-    bests: &[Option<Best>],
+    bests: &[Option<BestPad>],
     holes: &[Drilled],
     met: RingsMet,
 ) -> RingsMet
     requires inside { layer < length layers.now }
-    requires bests { AreBest S.covers (get_or (map (λ pads. pads.now) layers.now) layer []) holes.now bests.now }
-    requires so_far { MeetsOn S.covers (map (λ pads. pads.now) layers.now) holes.now layer met }
-    ensures { MeetsOn S.covers (map (λ pads. pads.now) layers.now) holes.now (layer + 1) result }
+    requires bests { AreBestPads S.covers (get_or (map (λ pads. pads.now) layers.now) layer []) holes.now bests.now }
+    requires so_far { MeetsOnLayers S.covers (map (λ pads. pads.now) layers.now) holes.now layer met }
+    ensures { MeetsOnLayers S.covers (map (λ pads. pads.now) layers.now) holes.now (layer + 1) result }
 {
     let mut met = met;
     for (hole, drilled) in holes.iter().enumerate() {
-        if asks_ring(layer, drilled) {
+        if needs_ring(layer, drilled) {
             met = with_ring(met, ring_of(bests[hole], &drilled.hole));
         }
     }
@@ -116,19 +116,19 @@ pub fn met_with<S: Deep>(
 /// # Errors
 ///
 /// Where there is no memory.
-pub fn rings_met<S: Deep>(
+pub fn rings_met<S: DepthShape>(
     alloc: Global,
     layers: &[&[S]],
     holes: &[Drilled],
 ) -> Result<RingsMet, AllocError>
     ensures ring { IfOk result (λ met. MeetsRings S.covers (map (λ pads. pads.now) layers.now) holes.now met.ring) }
-    ensures held { IfOk result (λ met. MeetsHeld S.covers (map (λ pads. pads.now) layers.now) holes.now met.held) }
+    ensures held { IfOk result (λ met. MeetsRingsInPads S.covers (map (λ pads. pads.now) layers.now) holes.now met.in_pads) }
     ensures passes { IfOk result (λ met. RingsPass S.covers (map (λ pads. pads.now) layers.now) holes.now met.ring) }
 {
-    let mut met = met_by_none(layers, holes);
+    let mut met = met_without_layers(layers, holes);
     for layer in 0..layers.len() {
         let bests = best_pads(alloc, layers[layer], holes)?;
-        met = met_with(layers, layer, &bests, holes, met);
+        met = met_with_layer(layers, layer, &bests, holes, met);
     }
     Ok(met)
 }
@@ -140,7 +140,7 @@ pub fn rings_met<S: Deep>(
 /// # Errors
 ///
 /// Where there is no memory.
-pub fn ring_met<S: Deep>(
+pub fn ring_met<S: DepthShape>(
     alloc: Global,
     layers: &[&[S]],
     holes: &[Drilled],
@@ -159,27 +159,27 @@ pub fn ring_met<S: Deep>(
 /// # Errors
 ///
 /// Where there is no memory.
-pub fn held_met<S: Deep>(
+pub fn ring_in_pads_met<S: DepthShape>(
     alloc: Global,
     layers: &[&[S]],
     holes: &[Drilled],
 ) -> Result<Met, AllocError>
-    ensures { IfOk result (λ met. MeetsHeld S.covers (map (λ pads. pads.now) layers.now) holes.now met) }
+    ensures { IfOk result (λ met. MeetsRingsInPads S.covers (map (λ pads. pads.now) layers.now) holes.now met) }
 {
     let met = rings_met(alloc, layers, holes)?;
-    Ok(met.held)
+    Ok(met.in_pads)
 }
 
 /// The gaps that a board meets, by its nearest holes.
 fn most(nearest: Nearest) -> Met
-    ensures { result ≡ Met.Most nearest.gap }
+    ensures { result ≡ Met.UpTo nearest.gap }
 {
-    Met::Most(nearest.gap)
+    Met::UpTo(nearest.gap)
 }
 
 /// The greatest gap that a board meets, by its nearest holes: any where there are none, else their gap. Under just
 /// these gaps nothing is found.
-pub fn gap_met_by(holes: &[Drilled], nearest: Option<Nearest>) -> Met
+pub fn gap_met_of_nearest(holes: &[Drilled], nearest: Option<Nearest>) -> Met
     requires { IsNearestOf holes.now (IsPair holes.now) nearest }
     ensures exact { MeetsGaps holes.now result }
     ensures passes { GapsPass holes.now result }
@@ -201,5 +201,5 @@ pub fn gap_met(alloc: Global, holes: &[Drilled]) -> Result<Met, AllocError>
     ensures passes { IfOk result (GapsPass holes.now) }
 {
     let nearest = nearest_holes(alloc, holes)?;
-    Ok(gap_met_by(holes, nearest))
+    Ok(gap_met_of_nearest(holes, nearest))
 }

@@ -10,8 +10,8 @@ ghost use Rattle.std.specs.Prelude.{◌≡◌, ◌+◌, ◌<◌, ◌≤◌, ◌+
 ghost use Rattle.ring_rules.specs.Near.{IsGapBound};
 ghost use Rattle.ring_rules.specs.Places.{hole_at};
 ghost use Rattle.margins.specs.Gaps.{IsGap};
-ghost use Rattle.margins.specs.Nearness.{IsNoFurther, IsNearest, IsNearestOf, IsPair};
-ghost use Rattle.margins.specs.Inner.Nearness.{IsPossible, IsPairAt, IsHeld, IsTried, AreTried, IsPrefix, IsAsked, AreAsked, AreAskedLater};
+ghost use Rattle.margins.specs.NearestHoles.{IsNoFurther, IsNearest, IsNearestOf, IsPair};
+ghost use Rattle.margins.specs.Inner.NearestHoles.{IsGapInRange, IsPairAt, IsPairInRange, IsNearerPair, IsNearestAmong, IsPrefix, IsNearestForHole, IsNearestForAll, IsNearestForLater};
 
 use crate::gap::{gap_between, has_gap};
 use ring_rules::{Drilled, HoleIndex, Limits, limits_of, near_zone};
@@ -61,9 +61,9 @@ fn pair_at(holes: &[Drilled], first: usize, second: usize) -> Nearest
 }
 
 /// The least gap at which the holes at two places are no nearer than a pair: its own where it comes before them, else one more.
-fn enough(pair: &Nearest, first: usize, second: usize) -> i64
-    requires { IsPossible pair.now.gap }
-    ensures enough { (gap : ℤ) → result ≤ℤ gap → IsNoFurther pair.now first second gap }
+fn gap_to_beat(pair: &Nearest, first: usize, second: usize) -> i64
+    requires { IsGapInRange pair.now.gap }
+    ensures gap_to_beat { (gap : ℤ) → result ≤ℤ gap → IsNoFurther pair.now first second gap }
     ensures in_range { IsGapBound result }
 {
     if pair.first < first || pair.first == first && pair.second <= second {
@@ -77,17 +77,17 @@ fn enough(pair: &Nearest, first: usize, second: usize) -> i64
 fn is_further(holes: &[Drilled], first: usize, second: usize, pair: &Nearest) -> bool
     requires ordered { first < second }
     requires inside { second < length holes.now }
-    requires possible { IsPossible pair.now.gap }
+    requires possible { IsGapInRange pair.now.gap }
     ensures { result ≡ true → (gap : ℤ) → IsGap (hole_at holes.now first) (hole_at holes.now second) gap → IsNoFurther pair.now first second gap }
 {
-    let gap = enough(pair, first, second);
+    let gap = gap_to_beat(pair, first, second);
     has_gap(&holes[first].hole, &holes[second].hole, gap)
 }
 
 /// The nearer of the nearest pair so far and the holes at two places, if these are a pair of the list in order.
 fn tried(holes: &[Drilled], first: usize, second: usize, best: Nearest) -> Nearest
-    requires { IsHeld holes.now best }
-    ensures { IsTried holes.now first second best result }
+    requires { IsPairInRange holes.now best }
+    ensures { IsNearerPair holes.now first second best result }
 {
     if second <= first || holes.len() <= second {
         return best;
@@ -105,8 +105,8 @@ fn tried(holes: &[Drilled], first: usize, second: usize, best: Nearest) -> Neare
 
 /// The nearest of a pair and of a hole with each of the holes at some places.
 fn nearest_among(holes: &[Drilled], place: usize, near: &[usize], best: Nearest) -> Nearest
-    requires { IsHeld holes.now best }
-    ensures { AreTried holes.now place near.now (length near.now) best result }
+    requires { IsPairInRange holes.now best }
+    ensures { IsNearestAmong holes.now place near.now (length near.now) best result }
 {
     let mut nearest = best;
     for other in near {
@@ -132,7 +132,7 @@ fn prefix_of(alloc: Global, holes: &[Drilled], count: usize) -> Result<Prefix, A
 }
 
 /// The nearest of a pair and of a hole with each of the first holes that is no larger and has less than a gap from it.
-fn asked(
+fn nearest_for_hole(
     prefix: &Prefix,
     holes: &[Drilled],
     place: usize,
@@ -143,8 +143,8 @@ fn asked(
     requires prefix { IsPrefix holes.now prefix.now }
     requires place { place < length holes.now }
     requires gap { IsGapBound gap }
-    requires held { IsHeld holes.now best }
-    ensures { IfOk result (IsAsked holes.now prefix.now.count place gap best) }
+    requires held { IsPairInRange holes.now best }
+    ensures { IfOk result (IsNearestForHole holes.now prefix.now.count place gap best) }
 {
     let zone = near_zone(&holes[place].hole, gap, prefix.limits);
     prefix.index.find(&holes[..prefix.count], &zone, near)?;
@@ -154,7 +154,7 @@ fn asked(
 /// The gap below which a hole looks for pairs after all before it have done so: one more than that of the nearest
 /// pair so far, or just that where the hole comes after the first of the pair.
 fn gap_below(pair: &Nearest, place: usize) -> i64
-    requires { IsPossible pair.now.gap }
+    requires { IsGapInRange pair.now.gap }
     ensures rest { (gap : ℤ) → result ≤ℤ gap → (pair.now.gap <ℤ gap) ⊎ ((pair.now.gap ≤ℤ gap) × (pair.now.first < place)) }
     ensures in_range { IsGapBound result }
 {
@@ -167,7 +167,7 @@ fn gap_below(pair: &Nearest, place: usize) -> i64
 
 /// The nearest of a pair and of each hole with those that are no larger. A pair at the gap of the answer may still
 /// come before it, if its larger hole comes after the first hole of the answer.
-fn all_asked(
+fn nearest_for_all(
     prefix: &Prefix,
     holes: &[Drilled],
     near: &mut Vec<usize>,
@@ -175,53 +175,53 @@ fn all_asked(
 ) -> Result<Nearest, AllocError>
     requires prefix { IsPrefix holes.now prefix.now }
     requires all { prefix.now.count ≡ length holes.now }
-    requires held { IsHeld holes.now best }
-    ensures { IfOk result (AreAsked holes.now (length holes.now)) }
+    requires held { IsPairInRange holes.now best }
+    ensures { IfOk result (IsNearestForAll holes.now (length holes.now)) }
 {
     let mut nearest = best;
     for place in 0..holes.len() {
         let gap = gap_below(&nearest, place);
-        nearest = asked(prefix, holes, place, gap, near, nearest)?;
+        nearest = nearest_for_hole(prefix, holes, place, gap, near, nearest)?;
     }
     Ok(nearest)
 }
 
 /// The nearest of a pair and of each hole after the first ones with one of those that is no larger and no further away.
-fn later_asked(
+fn nearest_for_later(
     prefix: &Prefix,
     holes: &[Drilled],
     near: &mut Vec<usize>,
     best: Nearest,
 ) -> Result<Nearest, AllocError>
     requires prefix { IsPrefix holes.now prefix.now }
-    requires held { IsHeld holes.now best }
-    ensures { IfOk result (AreAskedLater holes.now prefix.now.count (length holes.now) best) }
+    requires held { IsPairInRange holes.now best }
+    ensures { IfOk result (IsNearestForLater holes.now prefix.now.count (length holes.now) best) }
 {
     let mut nearest = best;
     for place in prefix.count..holes.len() {
-        nearest = asked(prefix, holes, place, best.gap + 1, near, nearest)?;
+        nearest = nearest_for_hole(prefix, holes, place, best.gap + 1, near, nearest)?;
     }
     Ok(nearest)
 }
 
 /// One of the nearest pairs of a list. Others at the same gap may come before it.
-fn one_nearest(alloc: Global, holes: &[Drilled]) -> Result<Nearest, AllocError>
+fn some_nearest(alloc: Global, holes: &[Drilled]) -> Result<Nearest, AllocError>
     requires { 2 ≤ length holes.now }
-    ensures { IfOk result (AreAsked holes.now (length holes.now)) }
+    ensures { IfOk result (IsNearestForAll holes.now (length holes.now)) }
 {
     let mut near = Vec::new(alloc);
     let all = prefix_of(alloc, holes, holes.len())?;
-    all_asked(&all, holes, &mut near, pair_at(holes, 0, 1))
+    nearest_for_all(&all, holes, &mut near, pair_at(holes, 0, 1))
 }
 
 /// The first of the nearest pairs of a list, given any of them.
 fn first_nearest(alloc: Global, holes: &[Drilled], nearest: Nearest) -> Result<Nearest, AllocError>
-    requires { AreAsked holes.now (length holes.now) nearest }
+    requires { IsNearestForAll holes.now (length holes.now) nearest }
     ensures { IfOk result (IsNearest holes.now (IsPair holes.now)) }
 {
     let mut near = Vec::new(alloc);
     let early = prefix_of(alloc, holes, nearest.first + 1)?;
-    later_asked(&early, holes, &mut near, nearest)
+    nearest_for_later(&early, holes, &mut near, nearest)
 }
 
 /// The two holes with the least gap; of equal pairs the first by the first hole, then by the second. There is none
@@ -236,6 +236,6 @@ pub fn nearest_holes(alloc: Global, holes: &[Drilled]) -> Result<Option<Nearest>
     if holes.len() < 2 {
         return Ok(None);
     }
-    let nearest = one_nearest(alloc, holes)?;
+    let nearest = some_nearest(alloc, holes)?;
     Ok(Some(first_nearest(alloc, holes, nearest)?))
 }

@@ -4,9 +4,9 @@ ghost use Rattle.std.specs.Prelude.{◌≡◌, ℕ, ◌≤◌, ◌<◌, [], ◌�
 ghost use Rattle.std.specs.List.{All};
 ghost use Rattle.grid_units.specs.Points.{GridPoint};
 ghost use Rattle.pad_shapes.specs.Zones.{IsInZone};
-ghost use Rattle.ring_rules.specs.Index.{IsIndexOf, IsInOneOf};
-ghost use Rattle.ring_rules.specs.Places.{point_at};
-ghost use Rattle.margins.specs.Inner.Bests.{IsInSome, IsDivision};
+ghost use Rattle.ring_rules.specs.Index.{IsIndexOf, IsInAnyZone};
+ghost use Rattle.ring_rules.specs.Places.{entry_at};
+ghost use Rattle.margins.specs.Inner.BestPads.{IsInAnyOf, IsDivision};
 
 use grid_units::Point;
 use pad_shapes::Zone;
@@ -66,7 +66,7 @@ fn hull(a: Zone, b: Zone) -> Zone
 
 /// A zone that contains some others.
 fn hull_of(zones: &[Zone]) -> Zone
-    ensures { (p : GridPoint) → IsInOneOf zones.now p → IsInZone result p }
+    ensures { (p : GridPoint) → IsInAnyZone zones.now p → IsInZone result p }
 {
     let mut whole = no_zone();
     for zone in zones {
@@ -77,7 +77,7 @@ fn hull_of(zones: &[Zone]) -> Zone
 
 /// A zone that contains the entry point of each hole.
 pub(crate) fn zone_of_all(holes: &[Drilled]) -> Zone
-    ensures { (k : ℕ) → k < length holes.now → IsInZone result (point_at holes.now k) }
+    ensures { (k : ℕ) → k < length holes.now → IsInZone result (entry_at holes.now k) }
 {
     let mut whole = no_zone();
     for drilled in holes {
@@ -90,7 +90,7 @@ pub(crate) fn zone_of_all(holes: &[Drilled]) -> Zone
 fn part_of(holes: &[Drilled], near: &[usize], start: usize, end: usize) -> Zone
     requires near { All (λ k. k < length holes.now) near.now }
     requires end { end ≤ length near.now }
-    ensures { (i : ℕ) → start ≤ i → i < end → IsInZone result (point_at holes.now (get_or near.now i 0)) }
+    ensures { (i : ℕ) → start ≤ i → i < end → IsInZone result (entry_at holes.now (get_or near.now i 0)) }
 {
     let mut part = no_zone();
     for i in start..end {
@@ -112,8 +112,8 @@ fn end_of(start: usize, count: usize) -> usize
 fn add_parts(holes: &[Drilled], near: &[usize], parts: &mut Vec<Zone>) -> Result<(), AllocError>
     requires { All (λ k. k < length holes.now) near.now }
     ensures longer { OnOk result (length parts.old.items ≤ length parts.new.items) }
-    ensures kept { OnOk result ((first last : ℕ) (p : GridPoint) → IsInSome parts.old.items first last p → IsInSome parts.new.items first last p) }
-    ensures holds { OnOk result ((i : ℕ) → i < length near.now → IsInSome parts.new.items (length parts.old.items) (length parts.new.items) (point_at holes.now (get_or near.now i 0))) }
+    ensures kept { OnOk result ((first last : ℕ) (p : GridPoint) → IsInAnyOf parts.old.items first last p → IsInAnyOf parts.new.items first last p) }
+    ensures holds { OnOk result ((i : ℕ) → i < length near.now → IsInAnyOf parts.new.items (length parts.old.items) (length parts.new.items) (entry_at holes.now (get_or near.now i 0))) }
 {
     let mut start = 0;
     while start < near.len() {
@@ -125,7 +125,7 @@ fn add_parts(holes: &[Drilled], near: &[usize], parts: &mut Vec<Zone>) -> Result
 }
 
 /// Appends the parts of a zone, and where they end.
-fn add_cut(
+fn cut_zone(
     alloc: Global,
     index: &HoleIndex,
     holes: &[Drilled],
@@ -136,8 +136,8 @@ fn add_cut(
     requires { IsIndexOf holes.now index.now }
     ensures starts { OnOk result (starts.new.items ≡ starts.old.items ++ length parts.new.items ∷ []) }
     ensures longer { OnOk result (length parts.old.items ≤ length parts.new.items) }
-    ensures kept { OnOk result ((first last : ℕ) (p : GridPoint) → IsInSome parts.old.items first last p → IsInSome parts.new.items first last p) }
-    ensures holds { OnOk result ((k : ℕ) → k < length holes.now → IsInZone zone.now (point_at holes.now k) → IsInSome parts.new.items (length parts.old.items) (length parts.new.items) (point_at holes.now k)) }
+    ensures kept { OnOk result ((first last : ℕ) (p : GridPoint) → IsInAnyOf parts.old.items first last p → IsInAnyOf parts.new.items first last p) }
+    ensures holds { OnOk result ((k : ℕ) → k < length holes.now → IsInZone zone.now (entry_at holes.now k) → IsInAnyOf parts.new.items (length parts.old.items) (length parts.new.items) (entry_at holes.now k)) }
 {
     let mut near = Vec::new(alloc);
     index.find(holes, zone, &mut near)?;
@@ -147,7 +147,7 @@ fn add_cut(
 }
 
 /// The zones of an index with their parts, and a zone that contains all of them.
-fn cut(
+fn cut_zones(
     alloc: Global,
     index: &HoleIndex,
     holes: &[Drilled],
@@ -155,14 +155,14 @@ fn cut(
     zones: Vec<Zone>,
 ) -> Result<Division, AllocError>
     requires index { IsIndexOf holes.now index.now }
-    requires whole { (p : GridPoint) → IsInOneOf zones.items p → IsInZone whole p }
-    requires zones { (k : ℕ) → k < length holes.now → IsInOneOf zones.items (point_at holes.now k) }
+    requires whole { (p : GridPoint) → IsInAnyZone zones.items p → IsInZone whole p }
+    requires zones { (k : ℕ) → k < length holes.now → IsInAnyZone zones.items (entry_at holes.now k) }
     ensures { IfOk result (IsDivision holes.now) }
 {
     let mut parts = Vec::new(alloc);
     let mut starts = vec![in alloc; 0]?;
     for zone in &zones {
-        add_cut(alloc, index, holes, zone, &mut starts, &mut parts)?;
+        cut_zone(alloc, index, holes, zone, &mut starts, &mut parts)?;
     }
     Ok(Division {
         whole,
@@ -173,7 +173,7 @@ fn cut(
 }
 
 /// The zones of the holes of an index, and their parts.
-pub(crate) fn divided(
+pub(crate) fn division_of(
     alloc: Global,
     index: &HoleIndex,
     holes: &[Drilled],
@@ -182,5 +182,5 @@ pub(crate) fn divided(
     ensures { IfOk result (IsDivision holes.now) }
 {
     let zones = index.zones(alloc, holes)?;
-    cut(alloc, index, holes, hull_of(&zones), zones)
+    cut_zones(alloc, index, holes, hull_of(&zones), zones)
 }

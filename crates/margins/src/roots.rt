@@ -30,7 +30,7 @@ pub(crate) fn ceiling_root(n: u128) -> u64
 }
 
 /// The length of a step of `dx` along one axis and `dy` along the other, in pm, rounded up.
-pub(crate) fn length_above(dx: u64, dy: u64) -> u64
+pub(crate) fn length_rounded_up(dx: u64, dy: u64) -> u64
     requires x { dx ≤ 20000000000000 }
     requires y { dy ≤ 20000000000000 }
     ensures exact { (t : ℕ) → (square dx + square dy ≤ square t) ↔ (result ≤ t) }
@@ -40,7 +40,7 @@ pub(crate) fn length_above(dx: u64, dy: u64) -> u64
 }
 
 /// The length of a step of `dx` along one axis and `dy` along the other, in pm, rounded down.
-pub(crate) fn length_below(dx: u64, dy: u64) -> u64
+pub(crate) fn length_rounded_down(dx: u64, dy: u64) -> u64
     requires x { dx ≤ 20000000000000 }
     requires y { dy ≤ 20000000000000 }
     ensures exact { (t : ℕ) → (square t ≤ square dx + square dy) ↔ (t ≤ result) }

@@ -1,18 +1,18 @@
 //! The depths of points in discs, rectangles, obrounds and pads.
 
 ghost use Rattle.std.specs.Prelude.{◌≡◌, ◌≤◌};
-ghost use Rattle.grid_units.specs.Points.{apart};
+ghost use Rattle.grid_units.specs.Points.{abs_diff};
 ghost use Rattle.margins.specs.Depths.{pad_middle};
 ghost use Rattle.margins.specs.Inner.DepthLaws.{disc_covers_less, rect_covers_less, obround_covers_less, pad_covers_less};
 
-use crate::deep::Deep;
-use crate::roots::{length_above, less};
+use crate::deep::DepthShape;
+use crate::roots::{length_rounded_up, less};
 use grid_units::Point;
 use pad_shapes::{Disc, Obround, Pad, Rect};
 
 /// How far two points are apart along x, in pm.
 fn apart_x(p: Point, q: Point) -> u64
-    ensures value { result ≡ apart p.x q.x }
+    ensures value { result ≡ abs_diff p.x q.x }
     ensures in_range { result ≤ 20000000000000 }
 {
     p.x().abs_diff(q.x())
@@ -20,19 +20,19 @@ fn apart_x(p: Point, q: Point) -> u64
 
 /// How far two points are apart along y, in pm.
 fn apart_y(p: Point, q: Point) -> u64
-    ensures value { result ≡ apart p.y q.y }
+    ensures value { result ≡ abs_diff p.y q.y }
     ensures in_range { result ≤ 20000000000000 }
 {
     p.y().abs_diff(q.y())
 }
 
-impl Deep for Disc {
+impl DepthShape for Disc {
     ghost middle = { λ d. d.centre };
 
-    ghost shrinks = { disc_covers_less };
+    ghost covers_less = { disc_covers_less };
 
     fn depth(&self, at: Point) -> i64 {
-        let far = length_above(apart_x(at, self.centre()), apart_y(at, self.centre()));
+        let far = length_rounded_up(apart_x(at, self.centre()), apart_y(at, self.centre()));
         less(self.radius().unsigned_abs(), far)
     }
 
@@ -41,10 +41,10 @@ impl Deep for Disc {
     }
 }
 
-impl Deep for Rect {
+impl DepthShape for Rect {
     ghost middle = { λ r. r.centre };
 
-    ghost shrinks = { rect_covers_less };
+    ghost covers_less = { rect_covers_less };
 
     fn depth(&self, at: Point) -> i64 {
         let deep_x = less(self.half_x().unsigned_abs(), apart_x(at, self.centre()));
@@ -57,10 +57,10 @@ impl Deep for Rect {
     }
 }
 
-impl Deep for Obround {
+impl DepthShape for Obround {
     ghost middle = { λ o. o.centre };
 
-    ghost shrinks = { obround_covers_less };
+    ghost covers_less = { obround_covers_less };
 
     fn depth(&self, at: Point) -> i64 {
         let half_x = self.half_x().unsigned_abs();
@@ -68,7 +68,7 @@ impl Deep for Obround {
         let radius = half_x.min(half_y);
         let past_x = apart_x(at, self.centre()).saturating_sub(half_x - radius);
         let past_y = apart_y(at, self.centre()).saturating_sub(half_y - radius);
-        less(radius, length_above(past_x, past_y))
+        less(radius, length_rounded_up(past_x, past_y))
     }
 
     fn middle(&self) -> Point {
@@ -76,10 +76,10 @@ impl Deep for Obround {
     }
 }
 
-impl Deep for Pad {
+impl DepthShape for Pad {
     ghost middle = { pad_middle };
 
-    ghost shrinks = { pad_covers_less };
+    ghost covers_less = { pad_covers_less };
 
     fn depth(&self, at: Point) -> i64 {
         match self {

@@ -11,22 +11,22 @@ use Rattle.manifest.specs.declared.Role.{Role}
 use Rattle.manifest.specs.declared.Role.TheVariants as role
 use Rattle.package_check.specs.declared.contents.Content.{Content}
 use Rattle.package_check.specs.declared.contents.Content.TheVariants as content
-use Rattle.package_check.specs.Alike.{SomeReading, SomeAnswer}
-use Rattle.package_check.specs.Images.{Image}
-use Rattle.package_check.specs.Package.{Source, Reads, ReadsBytes, ReadsUnless, ReadsCopper, ReadsHoles, Says, AreRead, IsFirstRefused, IsAnswer, is_bad_span, bad_span, not_copper, report_on}
-use Rattle.package_check.specs.Readers.{ReadsLayer, seen_in}
-use Rattle.package_check.specs.Reports.{Account}
-use Rattle.package_check.proofs.Saying.{said_of}
+use Rattle.package_check.specs.AlikePackages.{ReadingExists, AnswerExists}
+use Rattle.package_check.specs.LayerViews.{LayerView}
+use Rattle.package_check.specs.Package.{FileView, Reads, ReadsBytes, ReadsUnlessBadSpan, ReadsCopper, ReadsHoles, HasContent, HaveContents, IsFirstRefused, IsAnswer, is_bad_span, bad_span, not_copper, report_on}
+use Rattle.package_check.specs.FileTexts.{ReadsLayer, layer_view}
+use Rattle.package_check.specs.Reports.{ReportView}
+use Rattle.package_check.proofs.ContentIsReading.{content_read}
 
 module _ (each_layer : layers.EachTextAnswers) (each_drill : (text : List ℕ) → HasAnswer text)
     (first : (text : List ℕ) (f : Fault) → drills.Reads text (Err f) ↔ IsFirstFault text f) where
   -- a layer is copper, or is refused as NotCopper
-  of_image : (bytes : List ℕ) (image : Image) → ReadsLayer bytes (Ok image) → (copper : Bool) → image.is_copper ≡ copper → (answer : Result Content Fault) × ReadsCopper bytes answer
+  of_image : (bytes : List ℕ) (image : LayerView) → ReadsLayer bytes (Ok image) → (copper : Bool) → image.is_copper ≡ copper → (answer : Result Content Fault) × ReadsCopper bytes answer
   of_image bytes image h true e = (Ok (content.Layer image), (h, e))
   of_image bytes image h false e = (Err not_copper, inr (image, h, e, refl))
 
   of_layer : (bytes : List ℕ) (answer : Result layers.LayerImage Fault) → layers.ReadsLayer bytes answer → (answer : Result Content Fault) × ReadsCopper bytes answer
-  of_layer bytes (Ok layer) h = of_image bytes (seen_in layer) (layer, h, refl) (seen_in layer).is_copper refl
+  of_layer bytes (Ok layer) h = of_image bytes (layer_view layer) (layer, h, refl) (layer_view layer).is_copper refl
   of_layer bytes (Err f) h = (Err f, inl h)
 
   some_copper : (bytes : List ℕ) → (answer : Result Content Fault) × ReadsCopper bytes answer
@@ -42,21 +42,21 @@ module _ (each_layer : layers.EachTextAnswers) (each_drill : (text : List ℕ) �
   by_role role.Plated name span bytes n = of_drill true span bytes (each_drill bytes)
   by_role role.Unplated name span bytes n = of_drill false span bytes (each_drill bytes)
 
-  some_bytes : (source : Source) → (answer : Result Content Fault) × ReadsBytes source answer
+  some_bytes : (source : FileView) → (answer : Result Content Fault) × ReadsBytes source answer
   some_bytes source = by_role source.role source.name source.span source.bytes source.layers
 
-  some_unless : (bad : Bool) (source : Source) → (answer : Result Content Fault) × ReadsUnless bad source answer
+  some_unless : (bad : Bool) (source : FileView) → (answer : Result Content Fault) × ReadsUnlessBadSpan bad source answer
   some_unless true source = (Err bad_span, refl)
   some_unless false source = some_bytes source
 
-  pub some_reading : SomeReading
-  some_reading source = some_unless (is_bad_span source.role source.span source.layers) source
+  pub reading_exists : ReadingExists
+  reading_exists source = some_unless (is_bad_span source.role source.span source.layers) source
 
-module _ (some : SomeReading) where
+module _ (some : ReadingExists) where
   -- what follows a file that is read is all read, or its first refused file is that of all files, one place further on
-  after : (source : Source) (sources : List Source) (c : Content) → Says source c
-      → ((contents : List Content) × AreRead sources contents) ⊎ ((index : ℕ) × (fault : Fault) × IsFirstRefused sources index fault)
-      → ((contents : List Content) × AreRead (source ∷ sources) contents) ⊎ ((index : ℕ) × (fault : Fault) × IsFirstRefused (source ∷ sources) index fault)
+  after : (source : FileView) (sources : List FileView) (c : Content) → HasContent source c
+      → ((contents : List Content) × HaveContents sources contents) ⊎ ((index : ℕ) × (fault : Fault) × IsFirstRefused sources index fault)
+      → ((contents : List Content) × HaveContents (source ∷ sources) contents) ⊎ ((index : ℕ) × (fault : Fault) × IsFirstRefused (source ∷ sources) index fault)
   after source sources c h (inl rest) = inl (c ∷ rest.0, (h, rest.1))
   after source sources c h (inr rest) = inr (
     suc rest.0,
@@ -69,20 +69,20 @@ module _ (some : SomeReading) where
     },
   )
 
-  begun : (source : Source) (sources : List Source) (answer : Result Content Fault) → Reads source answer
-      → ((contents : List Content) × AreRead sources contents) ⊎ ((index : ℕ) × (fault : Fault) × IsFirstRefused sources index fault)
-      → ((contents : List Content) × AreRead (source ∷ sources) contents) ⊎ ((index : ℕ) × (fault : Fault) × IsFirstRefused (source ∷ sources) index fault)
-  begun source sources (Ok c) h rest = after source sources c (said_of source c h) rest
+  begun : (source : FileView) (sources : List FileView) (answer : Result Content Fault) → Reads source answer
+      → ((contents : List Content) × HaveContents sources contents) ⊎ ((index : ℕ) × (fault : Fault) × IsFirstRefused sources index fault)
+      → ((contents : List Content) × HaveContents (source ∷ sources) contents) ⊎ ((index : ℕ) × (fault : Fault) × IsFirstRefused (source ∷ sources) index fault)
+  begun source sources (Ok c) h rest = after source sources c (content_read source c h) rest
   begun source sources (Err f) h rest = inr (0, f, record { contents = []; read = tt; inside = omega arith; refused = λ d. h })
 
-  all_or_first : (sources : List Source) → ((contents : List Content) × AreRead sources contents) ⊎ ((index : ℕ) × (fault : Fault) × IsFirstRefused sources index fault)
+  all_or_first : (sources : List FileView) → ((contents : List Content) × HaveContents sources contents) ⊎ ((index : ℕ) × (fault : Fault) × IsFirstRefused sources index fault)
   all_or_first [] = inl ([], tt)
   all_or_first (source ∷ sources) = let read = some source in begun source sources read.0 read.1 (all_or_first sources)
 
-  answer_of : (sources : List Source) (rules : GridRules) → ((contents : List Content) × AreRead sources contents) ⊎ ((index : ℕ) × (fault : Fault) × IsFirstRefused sources index fault)
-      → (answer : Result Account (ℕ × Fault)) × IsAnswer sources rules answer
+  answer_of : (sources : List FileView) (rules : GridRules) → ((contents : List Content) × HaveContents sources contents) ⊎ ((index : ℕ) × (fault : Fault) × IsFirstRefused sources index fault)
+      → (answer : Result ReportView (ℕ × Fault)) × IsAnswer sources rules answer
   answer_of sources rules (inl all) = (Ok (report_on rules all.0), record { contents = all.0; read = all.1; is = refl })
   answer_of sources rules (inr refused) = (Err (refused.0, refused.1), refused.2)
 
-  pub some_answer : SomeAnswer
-  some_answer sources rules = answer_of sources rules (all_or_first sources)
+  pub answer_exists : AnswerExists
+  answer_exists sources rules = answer_of sources rules (all_or_first sources)

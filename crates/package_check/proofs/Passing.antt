@@ -5,7 +5,7 @@ use Rattle.std.proofs.lemmas.List.{map-append}
 use Rattle.std.proofs.lemmas.List.Concat.{flat_map-cons}
 use Rattle.grid_units.specs.Holes.{GridHole}
 use Rattle.pad_shapes.specs.Pads.{IsInPad, pad_covers}
-use Rattle.ring_rules.specs.Passing.{RingsHoldWithoutFindings, SlotsHoldWithoutFindings, StraightWithoutFindings, ApartWhenNoneClash, AreAllApart}
+use Rattle.ring_rules.specs.WithoutFindings.{RingsHoldWithoutFindings, SlotsHoldWithoutFindings, StraightWithoutFindings, ApartWithoutFindings, AreAllApart}
 use Rattle.grid_units.specs.Spans.{LayerSpan}
 use Rattle.std.specs.Prelude.{Option}
 use Rattle.ring_rules.specs.Findings.{ring_findings, gap_findings}
@@ -15,11 +15,11 @@ use Rattle.package_check.specs.declared.contents.Content.{Content}
 use Rattle.package_check.specs.declared.contents.Content.TheVariants as content
 use Rattle.package_check.specs.Package.{drilled, holes_of, layers}
 use Rattle.package_check.specs.Soundness.{PassingIsSound, IsPlatedThrough, drilled_in}
-use Rattle.grid_units.proofs.ListLemmas.{no_left, no_right, map_among, flat_at}
+use Rattle.grid_units.proofs.ListLemmas.{append_nil_left, append_nil_right, map_contains, flat_map_at}
 
 -- what an element gives is among what all give
 flat_among : {X Y : Type 0} (f : X → List Y) (xs : List X) (x : X) (y : Y) → Contains xs x → Contains (f x) y → Contains (flat_map f xs) y
-flat_among f xs x y h g = flat_at f xs x y h.0 h.1 h.2 g
+flat_among f xs x y h g = flat_map_at f xs x y h.0 h.1 h.2 g
 
 -- numbers aside, the holes are those of the files
 unnumbered : (file : ℕ) (plated : Bool) (span : Option LayerSpan) (n : ℕ) (holes : List GridHole)
@@ -48,9 +48,9 @@ among_all : (contents : List Content) (layer : ℕ) (hole : GridHole) → (h : I
 among_all contents layer hole h =
     let one : Drilled = record { hole = hole; plated = true; span = h.span } in
     subst (λ (ds : List Drilled). Contains ds one) (sym (all_drilled contents))
-    (flat_among drilled_in contents (content.Drill true h.span h.holes) one h.file (map_among (λ (g : GridHole). let d : Drilled = record { hole = g; plated = true; span = h.span } in d) h.holes hole h.drilled))
+    (flat_among drilled_in contents (content.Drill true h.span h.holes) one h.file (map_contains (λ (g : GridHole). let d : Drilled = record { hole = g; plated = true; span = h.span } in d) h.holes hole h.drilled))
 
-pub passing_is_sound : RingsHoldWithoutFindings IsInPad pad_covers → SlotsHoldWithoutFindings IsInPad pad_covers → StraightWithoutFindings pad_covers → ApartWhenNoneClash → PassingIsSound
+pub passing_is_sound : RingsHoldWithoutFindings IsInPad pad_covers → SlotsHoldWithoutFindings IsInPad pad_covers → StraightWithoutFindings pad_covers → ApartWithoutFindings → PassingIsSound
 passing_is_sound held slots_held straight apart sources rules report is passes =
     let none = sym (ap (λ r. r.findings) is.is) ∙ passes in
     let rings = ring_findings pad_covers rules.ring (layers is.contents) (drilled is.contents) in
@@ -59,10 +59,10 @@ passing_is_sound held slots_held straight apart sources rules report is passes =
       contents = is.contents;
       read = is.read;
       rings = λ layer hole inside h round.
-          held rules.ring (layers is.contents) (drilled is.contents) (no_left rings gaps none) layer (record { hole = hole; plated = true; span = h.span }) inside (among_all is.contents layer hole h) refl h.through round;
+          held rules.ring (layers is.contents) (drilled is.contents) (append_nil_left rings gaps none) layer (record { hole = hole; plated = true; span = h.span }) inside (among_all is.contents layer hole h) refl h.through round;
       slots = λ layer hole inside h along.
-          slots_held rules.ring (layers is.contents) (drilled is.contents) (no_left rings gaps none) layer (record { hole = hole; plated = true; span = h.span }) inside (among_all is.contents layer hole h) refl h.through along;
+          slots_held rules.ring (layers is.contents) (drilled is.contents) (append_nil_left rings gaps none) layer (record { hole = hole; plated = true; span = h.span }) inside (among_all is.contents layer hole h) refl h.through along;
       straight = λ layer hole inside h.
-          straight rules.ring (layers is.contents) (drilled is.contents) (no_left rings gaps none) layer (record { hole = hole; plated = true; span = h.span }) inside (among_all is.contents layer hole h) refl h.through;
-      gaps = subst (λ (ds : List Drilled). AreAllApart rules.gap ds) (all_drilled is.contents) (apart rules.gap (drilled is.contents) (no_right rings gaps none));
+          straight rules.ring (layers is.contents) (drilled is.contents) (append_nil_left rings gaps none) layer (record { hole = hole; plated = true; span = h.span }) inside (among_all is.contents layer hole h) refl h.through;
+      gaps = subst (λ (ds : List Drilled). AreAllApart rules.gap ds) (all_drilled is.contents) (apart rules.gap (drilled is.contents) (append_nil_right rings gaps none));
     }

@@ -11,20 +11,20 @@ use Rattle.package_check.specs.declared.Numbered.{Numbered}
 use Rattle.package_check.specs.declared.PackageFault.{PackageFault}
 use Rattle.package_check.specs.declared.PackageFault.TheVariants as stop
 use Rattle.package_check.specs.declared.contents.Content.{Content}
-use Rattle.package_check.specs.Reports.{Account}
+use Rattle.package_check.specs.Reports.{ReportView}
 use Rattle.package_check.specs.Soundness.{drilled_in}
-use Rattle.package_check.specs.Package.{Source, AreRead, IsFirstRefused, findings, layer_indexes, layers, sum_of}
+use Rattle.package_check.specs.Package.{FileView, HaveContents, IsFirstRefused, findings, layer_indexes, layers, sum_of}
 
 -- the board of a package: the counts of each file, the pads and the index of each copper file, and the holes of all drill files in order
-pub record Survey : Type 0 where
+pub record BoardView : Type 0 where
   pub files : List FileSum
   pub layers : List (List Pad)
   pub layer_indexes : List ℕ
   pub holes : List Drilled
 
 -- the board of files with these contents
-abbrev pub board_on : List Content → Survey
-board_on contents = record {
+abbrev pub board_of : List Content → BoardView
+board_of contents = record {
   files = map sum_of contents;
   layers = layers contents;
   layer_indexes = layer_indexes contents;
@@ -32,16 +32,16 @@ board_on contents = record {
 }
 
 -- the board of a package whose files are all read
-pub record IsBoard (sources : List Source) (board : Survey) : Type 0 where
+pub record IsBoard (sources : List FileView) (board : BoardView) : Type 0 where
   pub contents : List Content
-  pub read : AreRead sources contents
-  pub is : board ≡ board_on contents
+  pub read : HaveContents sources contents
+  pub is : board ≡ board_of contents
 
 -- the result is the board of the package, or the first file that is refused, running out of memory aside
-abbrev pub AnswersBoard : List Source → Result Survey PackageFault → Type 0
-AnswersBoard sources (Ok board) = IsBoard sources board
-AnswersBoard sources (Err stop.Memory) = ⊤
-AnswersBoard sources (Err (stop.File index fault)) = IsFirstRefused sources index fault
+abbrev pub ReturnsBoard : List FileView → Result BoardView PackageFault → Type 0
+ReturnsBoard sources (Ok board) = IsBoard sources board
+ReturnsBoard sources (Err stop.Memory) = ⊤
+ReturnsBoard sources (Err (stop.File index fault)) = IsFirstRefused sources index fault
 
 -- how many holes a file drills, slots among them; a copper file drills none
 abbrev pub hole_count : FileSum → ℕ
@@ -49,12 +49,12 @@ hole_count (sum.Layer pads other) = 0
 hole_count (sum.Drill plated span round slots) = round + slots
 
 -- the counts of the files add up to the number of these holes
-abbrev pub TellAllHoles : List FileSum → List Drilled → Type 0
-TellAllHoles files holes = sum_by hole_count files ≡ length holes
+abbrev pub CountsAddUp : List FileSum → List Drilled → Type 0
+CountsAddUp files holes = sum_by hole_count files ≡ length holes
 
 -- where a package is read, the counts of its files add up to the holes of its board
-abbrev pub FilesTellAllHoles : Type 0
-FilesTellAllHoles = (sources : List Source) (board : Survey) → IsBoard sources board → TellAllHoles board.files board.holes
+abbrev pub FileCountsAddUp : Type 0
+FileCountsAddUp = (sources : List FileView) (board : BoardView) → IsBoard sources board → CountsAddUp board.files board.holes
 
 -- the holes of one file with its index, each with its number there, from 1
 abbrev pub numbered_in : ℕ → List Drilled → List Numbered
@@ -66,15 +66,15 @@ numbered_from file [] holes = []
 numbered_from file (one ∷ files) holes = numbered_in file (take (hole_count one) holes) ++ numbered_from (file + 1) files (drop (hole_count one) holes)
 
 -- the holes of a board with their places: the index of the file, from 0, and the number in it, from 1
-abbrev pub numbered : Survey → List Numbered
+abbrev pub numbered : BoardView → List Numbered
 numbered board = numbered_from 0 board.files board.holes
 
 -- what the rules find on a board: first the rings that are lacking, then the gaps
-abbrev pub board_findings : GridRules → Survey → List Finding
+abbrev pub board_findings : GridRules → BoardView → List Finding
 board_findings rules board = findings rules board.layers board.holes
 
 -- the report on a board under these rules
-abbrev pub reported : GridRules → Survey → Account
+abbrev pub reported : GridRules → BoardView → ReportView
 reported rules board = record {
   rules = rules;
   files = board.files;

@@ -1,10 +1,11 @@
-pub mod Alike
+pub mod AlikePackages
 pub mod Boards
-pub mod Images
+pub mod LayerViews
 pub mod Package
-pub mod Readers
+pub mod FileTexts
 pub mod Reports
 pub mod Soundness
 pub mod Texts
 pub mod Pieces
 pub mod Holding
+pub mod Flashed

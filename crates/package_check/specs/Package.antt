@@ -7,12 +7,12 @@ use Rattle.pad_shapes.specs.Pads.{pad_covers}
 use Rattle.grid_units.specs.Holes.{is_round}
 use Rattle.ring_rules.specs.Findings.{ring_findings, gap_findings}
 use Rattle.grid_units.specs.Spans.{LayerSpan}
-use Rattle.ring_rules.specs.Passing.{NamesPlaces}
+use Rattle.ring_rules.specs.WithoutFindings.{NamesPlaces}
 use Rattle.ring_rules.specs.declared.finding.Drilled.{Drilled}
 use Rattle.ring_rules.specs.declared.finding.Finding.{Finding}
-use Rattle.package_check.specs.Images.{Image}
-use Rattle.package_check.specs.Readers.{SaysLayer, ReadsLayer, ReadsDrill}
-use Rattle.package_check.specs.Reports.{Account}
+use Rattle.package_check.specs.LayerViews.{LayerView}
+use Rattle.package_check.specs.FileTexts.{HasLayerView, ReadsLayer, ReadsDrill}
+use Rattle.package_check.specs.Reports.{ReportView}
 use Rattle.grid_units.specs.declared.fault.Fault.{Fault}
 use Rattle.package_check.specs.declared.File.{File}
 use Rattle.package_check.specs.declared.FileSum.{FileSum}
@@ -27,7 +27,7 @@ use Rattle.package_check.specs.declared.contents.Content.{Content}
 use Rattle.package_check.specs.declared.contents.Content.TheVariants as content
 
 -- a file: its role, its name, the span named for it, its bytes, and how many copper files its package has
-pub record Source : Type 0 where
+pub record FileView : Type 0 where
   pub role : Role
   pub name : List ℕ
   pub span : Option LayerSpan
@@ -41,20 +41,20 @@ is_copper role.Plated = false
 is_copper role.Unplated = false
 
 -- the source for a file of the code, in a package of so many copper files
-abbrev pub source_of : ℕ → File → Source
-source_of layers file = record { role = file.role; name = file.name.now; span = file.span; bytes = file.bytes.now; layers = layers }
+abbrev pub file_view : ℕ → File → FileView
+file_view layers file = record { role = file.role; name = file.name.now; span = file.span; bytes = file.bytes.now; layers = layers }
 
 -- a file of this role, span and bytes, its name left empty, in a package of so many copper files
-abbrev pub nameless : Role → Option LayerSpan → ℕ → List ℕ → Source
-nameless role span layers bytes = record { role = role; name = []; span = span; bytes = bytes; layers = layers }
+abbrev pub unnamed_file : Role → Option LayerSpan → ℕ → List ℕ → FileView
+unnamed_file role span layers bytes = record { role = role; name = []; span = span; bytes = bytes; layers = layers }
 
 -- how many of the files are copper
 abbrev pub layer_count : List File → ℕ
 layer_count files = count_by (λ file. is_copper file.role) files
 
 -- the sources for the files of a package, each with the number of copper files among them
-abbrev pub sources_of : List File → List Source
-sources_of files = map (source_of (layer_count files)) files
+abbrev pub file_views : List File → List FileView
+file_views files = map (file_view (layer_count files)) files
 
 -- whether a span is bad: on a copper file, or not `1 <= first <= last <=` the number of copper files (docs/FORMATS.md, The check)
 abbrev pub is_bad_span : Role → Option LayerSpan → ℕ → Bool
@@ -70,46 +70,46 @@ abbrev pub not_copper : Fault
 not_copper = record { place = 0; byte = 0; reason = reason.NotCopper }
 
 -- the bytes of a copper file are the text of a copper layer with this content
-abbrev pub SaysCopper : List ℕ → Content → Type 0
-SaysCopper bytes (content.Layer image) = SaysLayer bytes image × (image.is_copper ≡ true)
-SaysCopper bytes (content.Drill plated span holes) = ⊥
+abbrev pub HasCopperContent : List ℕ → Content → Type 0
+HasCopperContent bytes (content.Layer image) = HasLayerView bytes image × (image.is_copper ≡ true)
+HasCopperContent bytes (content.Drill plated span holes) = ⊥
 
 -- the bytes of a drill file drill just these holes, and the content has its plating and its span
-abbrev pub SaysHoles : Bool → Option LayerSpan → List ℕ → Content → Type 0
-SaysHoles plated span bytes (content.Layer image) = ⊥
-SaysHoles plated span bytes (content.Drill has through holes) = ReadsDrill bytes (Ok holes) × (has ≡ plated) × (through ≡ span)
+abbrev pub HasDrillContent : Bool → Option LayerSpan → List ℕ → Content → Type 0
+HasDrillContent plated span bytes (content.Layer image) = ⊥
+HasDrillContent plated span bytes (content.Drill has through holes) = ReadsDrill bytes (Ok holes) × (has ≡ plated) × (through ≡ span)
 
 -- the bytes of a file have this content, as they are read by its role
-abbrev pub SaysBytes : Source → Content → Type 0
-SaysBytes source content = elim source.role [
-  | role.Copper ↦ SaysCopper source.bytes content
-  | role.Plated ↦ SaysHoles true source.span source.bytes content
-  | role.Unplated ↦ SaysHoles false source.span source.bytes content
+abbrev pub BytesHaveContent : FileView → Content → Type 0
+BytesHaveContent source content = elim source.role [
+  | role.Copper ↦ HasCopperContent source.bytes content
+  | role.Plated ↦ HasDrillContent true source.span source.bytes content
+  | role.Unplated ↦ HasDrillContent false source.span source.bytes content
 ]
 
 -- a file has this content: its span is not bad, and its bytes have the content
-abbrev pub Says : Source → Content → Type 0
-Says source content = (is_bad_span source.role source.span source.layers ≡ false) × SaysBytes source content
+abbrev pub HasContent : FileView → Content → Type 0
+HasContent source content = (is_bad_span source.role source.span source.layers ≡ false) × BytesHaveContent source content
 
 -- the files have these contents, one by one
-abbrev pub AreRead : List Source → List Content → Type 0
-AreRead [] [] = ⊤
-AreRead [] (content ∷ contents) = ⊥
-AreRead (source ∷ sources) [] = ⊥
-AreRead (source ∷ sources) (content ∷ contents) = Says source content × AreRead sources contents
+abbrev pub HaveContents : List FileView → List Content → Type 0
+HaveContents [] [] = ⊤
+HaveContents [] (content ∷ contents) = ⊥
+HaveContents (source ∷ sources) [] = ⊥
+HaveContents (source ∷ sources) (content ∷ contents) = HasContent source content × HaveContents sources contents
 
 -- a copper file has this content or this fault: that of its text, or NotCopper where its layer is not copper
 abbrev pub ReadsCopper : List ℕ → Result Content Fault → Type 0
-ReadsCopper bytes (Ok content) = SaysCopper bytes content
-ReadsCopper bytes (Err fault) = ReadsLayer bytes (Err fault) ⊎ ((image : Image) × ReadsLayer bytes (Ok image) × (image.is_copper ≡ false) × (fault ≡ not_copper))
+ReadsCopper bytes (Ok content) = HasCopperContent bytes content
+ReadsCopper bytes (Err fault) = ReadsLayer bytes (Err fault) ⊎ ((image : LayerView) × ReadsLayer bytes (Ok image) × (image.is_copper ≡ false) × (fault ≡ not_copper))
 
 -- a drill file has this content, or its text has this fault
 abbrev pub ReadsHoles : Bool → Option LayerSpan → List ℕ → Result Content Fault → Type 0
-ReadsHoles plated span bytes (Ok content) = SaysHoles plated span bytes content
+ReadsHoles plated span bytes (Ok content) = HasDrillContent plated span bytes content
 ReadsHoles plated span bytes (Err fault) = ReadsDrill bytes (Err fault)
 
 -- the bytes of a file have this content or this fault, as they are read by its role
-abbrev pub ReadsBytes : Source → Result Content Fault → Type 0
+abbrev pub ReadsBytes : FileView → Result Content Fault → Type 0
 ReadsBytes source answer = elim source.role [
   | role.Copper ↦ ReadsCopper source.bytes answer
   | role.Plated ↦ ReadsHoles true source.span source.bytes answer
@@ -117,13 +117,13 @@ ReadsBytes source answer = elim source.role [
 ]
 
 -- a file whose span is bad has the fault `bad_span`, whatever its bytes are; another has what its bytes have
-abbrev pub ReadsUnless : Bool → Source → Result Content Fault → Type 0
-ReadsUnless true source answer = answer ≡ Err bad_span
-ReadsUnless false source answer = ReadsBytes source answer
+abbrev pub ReadsUnlessBadSpan : Bool → FileView → Result Content Fault → Type 0
+ReadsUnlessBadSpan true source answer = answer ≡ Err bad_span
+ReadsUnlessBadSpan false source answer = ReadsBytes source answer
 
 -- a file has this content or this fault
-abbrev pub Reads : Source → Result Content Fault → Type 0
-Reads source answer = ReadsUnless (is_bad_span source.role source.span source.layers) source answer
+abbrev pub Reads : FileView → Result Content Fault → Type 0
+Reads source answer = ReadsUnlessBadSpan (is_bad_span source.role source.span source.layers) source answer
 
 -- the counts of a file: pads and other flashes of a layer, round holes and slots of a drill file
 abbrev pub sum_of : Content → FileSum
@@ -171,7 +171,7 @@ abbrev pub findings : GridRules → List (List Pad) → List Drilled → List Fi
 findings rules pads holes = ring_findings pad_covers rules.ring pads holes ++ gap_findings rules.gap holes
 
 -- the report on files with these contents, under these rules
-abbrev pub report_on : GridRules → List Content → Account
+abbrev pub report_on : GridRules → List Content → ReportView
 report_on rules contents = record {
   rules = rules;
   files = map sum_of contents;
@@ -181,44 +181,44 @@ report_on rules contents = record {
 }
 
 -- the report on a package whose files are all read
-pub record IsReport (sources : List Source) (rules : GridRules) (report : Account) : Type 0 where
+pub record IsReport (sources : List FileView) (rules : GridRules) (report : ReportView) : Type 0 where
   pub contents : List Content
-  pub read : AreRead sources contents
+  pub read : HaveContents sources contents
   pub is : report ≡ report_on rules contents
 
 -- the first file that is refused, by its index from 0, with its fault; the files before it are read
-pub record IsFirstRefused (sources : List Source) (index : ℕ) (fault : Fault) : Type 0 where
+pub record IsFirstRefused (sources : List FileView) (index : ℕ) (fault : Fault) : Type 0 where
   pub contents : List Content
-  pub read : AreRead (take index sources) contents
+  pub read : HaveContents (take index sources) contents
   pub inside : index < length sources
-  pub refused : (d : Source) → Reads (get_or sources index d) (Err fault)
+  pub refused : (d : FileView) → Reads (get_or sources index d) (Err fault)
 
 -- the answer to a package: its report, or the index and the fault of the first file that is refused
-abbrev pub IsAnswer : List Source → GridRules → Result Account (ℕ × Fault) → Type 0
+abbrev pub IsAnswer : List FileView → GridRules → Result ReportView (ℕ × Fault) → Type 0
 IsAnswer sources rules (Ok report) = IsReport sources rules report
 IsAnswer sources rules (Err refusal) = IsFirstRefused sources refusal.0 refusal.1
 
 -- the first file of a package that is refused, running out of memory aside
-abbrev pub IsRefused : List Source → PackageFault → Type 0
+abbrev pub IsRefused : List FileView → PackageFault → Type 0
 IsRefused sources stop.Memory = ⊤
 IsRefused sources (stop.File index fault) = IsFirstRefused sources index fault
 
 -- the result is the answer to the package, running out of memory aside
-abbrev pub AnswersPackage : List Source → GridRules → Result Account PackageFault → Type 0
-AnswersPackage sources rules (Ok report) = IsAnswer sources rules (Ok report)
-AnswersPackage sources rules (Err stop.Memory) = ⊤
-AnswersPackage sources rules (Err (stop.File index fault)) = IsAnswer sources rules (Err (index, fault))
+abbrev pub ReturnsReport : List FileView → GridRules → Result ReportView PackageFault → Type 0
+ReturnsReport sources rules (Ok report) = IsAnswer sources rules (Ok report)
+ReturnsReport sources rules (Err stop.Memory) = ⊤
+ReturnsReport sources rules (Err (stop.File index fault)) = IsAnswer sources rules (Err (index, fault))
 
 -- the result is just this answer, running out of memory aside
-abbrev pub AnswersJust : Result Account (ℕ × Fault) → Result Account PackageFault → Type 0
-AnswersJust answer (Ok report) = answer ≡ Ok report
-AnswersJust answer (Err stop.Memory) = ⊤
-AnswersJust answer (Err (stop.File index fault)) = answer ≡ Err (index, fault)
+abbrev pub ReturnsExactly : Result ReportView (ℕ × Fault) → Result ReportView PackageFault → Type 0
+ReturnsExactly answer (Ok report) = answer ≡ Ok report
+ReturnsExactly answer (Err stop.Memory) = ⊤
+ReturnsExactly answer (Err (stop.File index fault)) = answer ≡ Err (index, fault)
 
 -- each finding names a layer and a hole of the report, or two of its holes, the first before the second
-abbrev pub NamesItsPlaces : Account → Type 0
+abbrev pub NamesItsPlaces : ReportView → Type 0
 NamesItsPlaces report = All (NamesPlaces (length report.layers) (length report.holes)) report.findings
 
 -- in the report on any package, the findings name layers and holes of that report
 abbrev pub FindingsNameTheirPlaces : Type 0
-FindingsNameTheirPlaces = (sources : List Source) (rules : GridRules) (report : Account) → IsReport sources rules report → NamesItsPlaces report
+FindingsNameTheirPlaces = (sources : List FileView) (rules : GridRules) (report : ReportView) → IsReport sources rules report → NamesItsPlaces report

@@ -6,7 +6,7 @@ use Rattle.package_check.specs.declared.FileSum.{FileSum}
 use Rattle.package_check.specs.declared.Numbered.{Numbered}
 
 -- a report: the rules, the counts of each file, the indexes of the copper files, all holes with their places, and the findings
-pub record Account : Type 0 where
+pub record ReportView : Type 0 where
   pub rules : GridRules
   pub files : List FileSum
   pub layers : List ℕ

@@ -3,14 +3,14 @@ use Rattle.std.specs.Prelude.{◌≡◌, ◌<◌, ℕ, List, [], true, map, leng
 use Rattle.std.specs.List.{Contains, flat_map}
 use Rattle.grid_units.specs.Holes.{GridHole, GridRules}
 use Rattle.pad_shapes.specs.Pads.{IsInPad}
-use Rattle.ring_rules.specs.Passing.{IsHeld, IsSlotHeld, AreAllApart}
+use Rattle.ring_rules.specs.WithoutFindings.{IsHeld, IsSlotHeld, AreAllApart}
 use Rattle.grid_units.specs.Spans.{LayerSpan, is_in_span}
-use Rattle.pad_shapes.specs.Shapes.{IsAlongAxis}
+use Rattle.pad_shapes.specs.Shapes.{IsAxisAligned}
 use Rattle.ring_rules.specs.declared.finding.Drilled.{Drilled}
-use Rattle.package_check.specs.Reports.{Account}
+use Rattle.package_check.specs.Reports.{ReportView}
 use Rattle.package_check.specs.declared.contents.Content.{Content}
 use Rattle.package_check.specs.declared.contents.Content.TheVariants as content
-use Rattle.package_check.specs.Package.{Source, AreRead, IsReport, layers}
+use Rattle.package_check.specs.Package.{FileView, HaveContents, IsReport, layers}
 
 -- the holes of a file with its plating and its span; a copper file has none
 abbrev pub drilled_in : Content → List Drilled
@@ -25,8 +25,8 @@ pub record IsPlated (contents : List Content) (hole : GridHole) : Type 0 where
   pub drilled : Contains holes hole
 
 -- each plated slot of these files lies along an axis
-abbrev pub AreStraight : List Source → Type 0
-AreStraight sources = (contents : List Content) (hole : GridHole) → AreRead sources contents → IsPlated contents hole → IsAlongAxis hole.from hole.to
+abbrev pub AreStraight : List FileView → Type 0
+AreStraight sources = (contents : List Content) (hole : GridHole) → HaveContents sources contents → IsPlated contents hole → IsAxisAligned hole.from hole.to
 
 -- a hole of some plated drill file that goes through this layer, by its place among the copper files, from 0
 pub record IsPlatedThrough (contents : List Content) (layer : ℕ) (hole : GridHole) : Type 0 where
@@ -38,16 +38,16 @@ pub record IsPlatedThrough (contents : List Content) (layer : ℕ) (hole : GridH
 
 -- Every file is read. On each copper layer of its span, each plated round hole and each plated slot along an axis lies in one pad with its ring;
 -- no plated slot through a copper layer is oblique; no points of two holes, of whatever files, are nearer than the gap.
-pub record IsSound (sources : List Source) (rules : GridRules) : Type 0 where
+pub record IsSound (sources : List FileView) (rules : GridRules) : Type 0 where
   pub contents : List Content
-  pub read : AreRead sources contents
+  pub read : HaveContents sources contents
   pub rings : (layer : ℕ) (hole : GridHole) → layer < length (layers contents) → IsPlatedThrough contents layer hole → hole.from ≡ hole.to
       → IsHeld IsInPad rules.ring (get_or (layers contents) layer []) hole
-  pub slots : (layer : ℕ) (hole : GridHole) → layer < length (layers contents) → IsPlatedThrough contents layer hole → IsAlongAxis hole.from hole.to
+  pub slots : (layer : ℕ) (hole : GridHole) → layer < length (layers contents) → IsPlatedThrough contents layer hole → IsAxisAligned hole.from hole.to
       → IsSlotHeld IsInPad rules.ring (get_or (layers contents) layer []) hole
-  pub straight : (layer : ℕ) (hole : GridHole) → layer < length (layers contents) → IsPlatedThrough contents layer hole → IsAlongAxis hole.from hole.to
+  pub straight : (layer : ℕ) (hole : GridHole) → layer < length (layers contents) → IsPlatedThrough contents layer hole → IsAxisAligned hole.from hole.to
   pub gaps : AreAllApart rules.gap (flat_map drilled_in contents)
 
 -- a package whose report has no finding is sound
 abbrev pub PassingIsSound : Type 0
-PassingIsSound = (sources : List Source) (rules : GridRules) (report : Account) → IsReport sources rules report → report.findings ≡ [] → IsSound sources rules
+PassingIsSound = (sources : List FileView) (rules : GridRules) (report : ReportView) → IsReport sources rules report → report.findings ≡ [] → IsSound sources rules

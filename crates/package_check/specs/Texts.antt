@@ -9,8 +9,8 @@ use Rattle.grid_units.specs.Spans.{LayerSpan}
 use Rattle.package_check.specs.declared.FileSum.{FileSum}
 use Rattle.package_check.specs.declared.FileSum.TheVariants as sum
 use Rattle.package_check.specs.declared.Numbered.{Numbered}
-use Rattle.package_check.specs.Reports.{Account}
-use Rattle.package_check.specs.Package.{Source}
+use Rattle.package_check.specs.Reports.{ReportView}
+use Rattle.package_check.specs.Package.{FileView}
 use Rattle.grid_units.specs.Ascii as ascii
 
 -- the first line, of two lengths: `rules ring=0.125000000 gap=0.250000000`
@@ -22,8 +22,8 @@ abbrev pub rules_line : GridRules → List ℕ
 rules_line rules = rules_words (millimetres (pos rules.ring)) (millimetres (pos rules.gap))
 
 -- the word for whether a drill file is plated: `yes` or `no`
-abbrev pub answer_word : Bool → List ℕ
-answer_word plated = if plated then codes "yes" else codes "no"
+abbrev pub yes_or_no : Bool → List ℕ
+yes_or_no plated = if plated then codes "yes" else codes "no"
 
 -- the line of a drill file up to its counts: `file 2 drill plated=yes round=1 slots=0`
 unfoldable pub drill_words : ℕ → List ℕ → ℕ → ℕ → List ℕ
@@ -43,7 +43,7 @@ name_words name = codes " name=" ++ (name ++ ascii.line_feed ∷ [])
 abbrev pub file_line : ℕ → List ℕ → FileSum → List ℕ
 file_line n name (sum.Layer pads other) =
     codes "file " ++ (decimal n ++ (codes " layer pads=" ++ (decimal pads ++ (codes " other=" ++ (decimal other ++ (codes " name=" ++ (name ++ ascii.line_feed ∷ [])))))))
-file_line n name (sum.Drill plated span round slots) = (drill_words n (answer_word plated) round slots ++ span_words span) ++ name_words name
+file_line n name (sum.Drill plated span round slots) = (drill_words n (yes_or_no plated) round slots ++ span_words span) ++ name_words name
 
 -- the lines of the files, numbered from n on
 unfoldable pub file_lines : ℕ → List (List ℕ) → List FileSum → List ℕ
@@ -82,26 +82,26 @@ gap_line first second =
     ++ (codes " drill=" ++ (decimal (second.file + 1) ++ (codes " hole=" ++ (decimal second.number ++ ascii.line_feed ∷ [])))))))
 
 -- the line of what two look-ups give; nothing where one of them gives nothing
-abbrev pub line_of : {A B : Type 0} → (A → B → List ℕ) → Option A → Option B → List ℕ
-line_of line (Some a) (Some b) = line a b
-line_of line (Some a) None = []
-line_of line None b = []
+abbrev pub line_if_found : {A B : Type 0} → (A → B → List ℕ) → Option A → Option B → List ℕ
+line_if_found line (Some a) (Some b) = line a b
+line_if_found line (Some a) None = []
+line_if_found line None b = []
 
 -- the line of a finding, whose places are looked up in these lists of layers and holes
 unfoldable pub finding_line : List ℕ → List Numbered → Finding → List ℕ
-finding_line layers holes (Ring layer hole) = line_of (hole_line (codes "RING")) (slice_get layers layer) (slice_get holes hole)
-finding_line layers holes (Oblique layer hole) = line_of (hole_line (codes "OBLIQUE")) (slice_get layers layer) (slice_get holes hole)
-finding_line layers holes (Gap first second) = line_of gap_line (slice_get holes first) (slice_get holes second)
+finding_line layers holes (Ring layer hole) = line_if_found (hole_line (codes "RING")) (slice_get layers layer) (slice_get holes hole)
+finding_line layers holes (Oblique layer hole) = line_if_found (hole_line (codes "OBLIQUE")) (slice_get layers layer) (slice_get holes hole)
+finding_line layers holes (Gap first second) = line_if_found gap_line (slice_get holes first) (slice_get holes second)
 
 -- the last line: `PASS` where there is no finding, else for example `FINDINGS 2`
 abbrev pub last_line : ℕ → List ℕ
 last_line findings = if findings == 0 then codes "PASS\n" else codes "FINDINGS " ++ (decimal findings ++ ascii.line_feed ∷ [])
 
 -- the text of a report on files of these names: the rules, the files, the findings, and the last line
-abbrev pub text_of : List (List ℕ) → Account → List ℕ
+abbrev pub text_of : List (List ℕ) → ReportView → List ℕ
 text_of names report =
     ((rules_line report.rules ++ file_lines 1 names report.files) ++ flat_map (finding_line report.layers report.holes) report.findings) ++ last_line (length report.findings)
 
 -- the text of a report on these files
-abbrev pub report_text : List Source → Account → List ℕ
+abbrev pub report_text : List FileView → ReportView → List ℕ
 report_text sources report = text_of (map (λ source. source.name) sources) report

@@ -3,7 +3,7 @@
 ghost use Rattle.std.specs.Prelude.{◌≡◌, ◌++◌, ◌∷◌, [], IfOk, OnOk, map, min, not, count_by};
 ghost use Rattle.std.specs.List.{flat_map};
 ghost use Rattle.grid_units.specs.Holes.{is_round};
-ghost use Rattle.package_check.specs.Boards.{TellAllHoles, board_findings, board_on, hole_count, numbered_from, numbered_in};
+ghost use Rattle.package_check.specs.Boards.{CountsAddUp, board_findings, board_of, hole_count, numbered_from, numbered_in};
 ghost use Rattle.package_check.specs.Package.{sum_of, layer_indexes, pads_of};
 ghost use Rattle.package_check.specs.Soundness.{drilled_in};
 
@@ -27,18 +27,18 @@ pub struct Board {
 
 impl Model for Board {
     ghost use Rattle.std.specs.Prelude.{map};
-    ghost use Rattle.package_check.specs.Boards.{Survey, TellAllHoles};
+    ghost use Rattle.package_check.specs.Boards.{BoardView, CountsAddUp};
 
-    ghost Value = { Survey };
+    ghost Value = { BoardView };
 
     ghost view = { λ b. record { files = b.files.items; layers = map (λ l. l.pads) b.layers.items; layer_indexes = b.layer_indexes.items; holes = b.holes.items } };
 
-    ghost invariant = { λ b. TellAllHoles b.files.items b.holes.items };
+    ghost invariant = { λ b. CountsAddUp b.files.items b.holes.items };
 }
 
 /// The parts of a board that a report keeps: the counts of the files, the indexes of the copper files, and the holes.
 #[derive(Drop)]
-pub(crate) struct Kept {
+pub(crate) struct BoardParts {
     pub(crate) files: Vec<FileSum>,
     pub(crate) layer_indexes: Vec<usize>,
     pub(crate) holes: Vec<Drilled>,
@@ -48,7 +48,7 @@ impl Board {
     /// The counts of each file, in the order of the files. Together they count just the holes of the board.
     pub fn files(&self) -> &[FileSum]
         ensures sums { result.now ≡ self.now.files }
-        ensures told { TellAllHoles self.now.files self.now.holes }
+        ensures told { CountsAddUp self.now.files self.now.holes }
     {
         &self.files
     }
@@ -94,7 +94,7 @@ impl Board {
     }
 
     /// Frees the pads.
-    pub(crate) fn without_pads(self) -> Kept
+    pub(crate) fn into_parts(self) -> BoardParts
         ensures files { result.files.items ≡ self.files }
         ensures layer_indexes { result.layer_indexes.items ≡ self.layer_indexes }
         ensures holes { result.holes.items ≡ self.holes }
@@ -106,7 +106,7 @@ impl Board {
             holes,
         } = self;
         drop(layers);
-        Kept {
+        BoardParts {
             files,
             layer_indexes,
             holes,
@@ -207,7 +207,7 @@ fn push_layer(layers: &mut Vec<Layer>, layer: Layer) -> Result<(), AllocError>
 }
 
 /// Moves the content of a file to the list of its kind. Its own list of holes is freed once they are appended.
-fn sort_in(
+fn add_content(
     layers: &mut Vec<Layer>,
     holes: &mut Vec<Drilled>,
     content: Content,
@@ -226,7 +226,7 @@ fn sort_in(
 }
 
 /// Moves the contents of the files to the lists of their kinds, file by file.
-fn sort_all(
+fn add_contents(
     layers: &mut Vec<Layer>,
     holes: &mut Vec<Drilled>,
     contents: Vec<Content>,
@@ -235,32 +235,32 @@ fn sort_all(
     ensures holes { OnOk result (holes.new.items ≡ holes.old.items ++ flat_map drilled_in contents.items) }
 {
     for content in contents {
-        sort_in(layers, holes, content)?;
+        add_content(layers, holes, content)?;
     }
     Ok(())
 }
 
 /// How many holes all files have together, to reserve their list at once.
-fn total(contents: &[Content]) -> usize {
-    let mut total: usize = 0;
+fn hole_total(contents: &[Content]) -> usize {
+    let mut hole_total: usize = 0;
     for content in contents {
         if let Content::Drill { drill, .. } = content {
-            total = total.saturating_add(drill.holes().len());
+            hole_total = hole_total.saturating_add(drill.holes().len());
         }
     }
-    total
+    hole_total
 }
 
 /// The board of files with these contents.
-#[tactic(auto, using(crate::proofs::Boarding::all_told))]
-pub(crate) fn board_on(alloc: Global, contents: Vec<Content>) -> Result<Board, AllocError>
-    ensures { IfOk result (λ board. board ≡ board_on contents.items) }
+#[tactic(auto, using(crate::proofs::BoardsLemmas::all_counted))]
+pub(crate) fn board_of(alloc: Global, contents: Vec<Content>) -> Result<Board, AllocError>
+    ensures { IfOk result (λ board. board ≡ board_of contents.items) }
 {
     let files = sums(alloc, &contents)?;
     let layer_indexes = layer_indexes(alloc, &contents)?;
     let mut layers = Vec::new(alloc);
-    let mut holes = Vec::with_capacity(alloc, total(&contents))?;
-    sort_all(&mut layers, &mut holes, contents)?;
+    let mut holes = Vec::with_capacity(alloc, hole_total(&contents))?;
+    add_contents(&mut layers, &mut holes, contents)?;
     Ok(Board {
         files,
         layers,
@@ -308,9 +308,9 @@ pub(crate) fn numbered(
     let mut numbered = Vec::with_capacity(alloc, holes.len())?;
     let mut rest = holes;
     for (file, sum) in files.iter().enumerate() {
-        let (its, behind) = rest.split_at(hole_count(sum, rest.len()));
-        push_numbered(&mut numbered, file, its)?;
-        rest = behind;
+        let (file_holes, later_holes) = rest.split_at(hole_count(sum, rest.len()));
+        push_numbered(&mut numbered, file, file_holes)?;
+        rest = later_holes;
     }
     Ok(numbered)
 }

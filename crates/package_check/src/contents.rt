@@ -3,11 +3,11 @@ ghost use Rattle.std.specs.Prelude.{◌≡◌, ◌&&◌, ℕ, List, Ok, OnOk, is
 ghost use Rattle.std.specs.List.{concat};
 ghost use Rattle.grid_units.specs.Results.{Answers};
 ghost use Rattle.layer_image.specs.Layers.{ReadsFlashes};
-ghost use Rattle.package_check.specs.Readers.{ReadsLayer};
-ghost use Rattle.package_check.specs.Package.{Reads, ReadsCopper, ReadsHoles, is_bad_span, is_copper, nameless};
+ghost use Rattle.package_check.specs.FileTexts.{ReadsLayer};
+ghost use Rattle.package_check.specs.Package.{Reads, ReadsCopper, ReadsHoles, is_bad_span, is_copper, unnamed_file};
 
 use crate::Role;
-use crate::readers::{Drill, Layer, read_holes, read_image, read_image_with_flashes};
+use crate::readers::{Drill, Layer, read_holes, read_layer_and_flashes, read_layer_view};
 use grid_units::{Fail, Fault, Reason};
 use layer_image::Flash;
 use ring_rules::Span;
@@ -25,7 +25,7 @@ pub(crate) enum Content {
 }
 
 /// A layer as the content of a file, or NotCopper where it is not copper.
-fn copper_of(layer: Layer) -> Result<Content, Fail>
+fn require_copper(layer: Layer) -> Result<Content, Fail>
     ensures { (bytes : List ℕ) → ReadsLayer bytes (Ok layer) → Answers (λ x. x) (ReadsCopper bytes) result }
 {
     if layer.is_copper() {
@@ -42,8 +42,8 @@ fn copper_of(layer: Layer) -> Result<Content, Fail>
 fn read_copper(alloc: Global, pieces: &[&[u8]]) -> Result<Content, Fail>
     ensures { Answers (λ x. x) (ReadsCopper (concat (map (λ piece. piece.now) pieces.now))) result }
 {
-    let layer = read_image(alloc, pieces)?;
-    copper_of(layer)
+    let layer = read_layer_view(alloc, pieces)?;
+    require_copper(layer)
 }
 
 /// The content of a copper file, and its flashes.
@@ -55,11 +55,11 @@ fn read_copper_with_flashes(
     ensures copper { Answers (λ x. x) (ReadsCopper (concat (map (λ piece. piece.now) pieces.now))) result }
     ensures flashes { OnOk result (ReadsFlashes (concat (map (λ piece. piece.now) pieces.now)) (Ok flashes.new.items)) }
 {
-    let layer = read_image_with_flashes(alloc, flashes, pieces)?;
-    copper_of(layer)
+    let layer = read_layer_and_flashes(alloc, flashes, pieces)?;
+    require_copper(layer)
 }
 
-fn read_drilled(
+fn read_drill_content(
     alloc: Global,
     plated: bool,
     span: Option<Span>,
@@ -99,7 +99,7 @@ pub(crate) fn read_file(
     layers: usize,
     pieces: &[&[u8]],
 ) -> Result<Content, Fail>
-    ensures { Answers (λ x. x) (Reads (nameless role span.now layers (concat (map (λ piece. piece.now) pieces.now)))) result }
+    ensures { Answers (λ x. x) (Reads (unnamed_file role span.now layers (concat (map (λ piece. piece.now) pieces.now)))) result }
 {
     if is_bad_span(role, *span, layers) {
         return Err(Fail::Refused(Fault {
@@ -110,8 +110,8 @@ pub(crate) fn read_file(
     }
     match role {
         Role::Copper => read_copper(alloc, pieces),
-        Role::Plated => read_drilled(alloc, true, *span, pieces),
-        Role::Unplated => read_drilled(alloc, false, *span, pieces),
+        Role::Plated => read_drill_content(alloc, true, *span, pieces),
+        Role::Unplated => read_drill_content(alloc, false, *span, pieces),
     }
 }
 
@@ -131,7 +131,7 @@ pub(crate) fn read_file_with_flashes(
     layers: usize,
     pieces: &[&[u8]],
 ) -> Result<Content, Fail>
-    ensures content { Answers (λ x. x) (Reads (nameless role span.now layers (concat (map (λ piece. piece.now) pieces.now)))) result }
+    ensures content { Answers (λ x. x) (Reads (unnamed_file role span.now layers (concat (map (λ piece. piece.now) pieces.now)))) result }
     ensures flashes { is_copper role ≡ true → OnOk result (ReadsFlashes (concat (map (λ piece. piece.now) pieces.now)) (Ok flashes.new.items)) }
 {
     if is_spanless_copper(role, *span) {

@@ -1,6 +1,6 @@
 // Laws that follow from the definitions alone. A call of one does nothing, and gives its clause.
-ghost use Rattle.package_check.specs.Alike.{AnswersTheSame, OneAnswer, OneReading, SomeAnswer, SomeReading};
-ghost use Rattle.package_check.specs.Boards.{FilesTellAllHoles};
+ghost use Rattle.package_check.specs.AlikePackages.{SameAnswers, AnswerIsUnique, ReadingIsUnique, AnswerExists, ReadingExists};
+ghost use Rattle.package_check.specs.Boards.{FileCountsAddUp};
 ghost use Rattle.package_check.specs.Package.{FindingsNameTheirPlaces};
 ghost use Rattle.package_check.specs.Soundness.{PassingIsSound};
 
@@ -23,42 +23,42 @@ pub fn findings_name_their_places()
 }
 
 /// Where a package is read, the counts of its files add up to the holes of its board.
-pub fn files_tell_all_holes()
-    ensures { FilesTellAllHoles }
+pub fn file_counts_add_up()
+    ensures { FileCountsAddUp }
 {}
 
 /// Packages whose files say the same have the same answer.
-pub fn answers_the_same()
-    ensures { AnswersTheSame }
+pub fn same_answers()
+    ensures { SameAnswers }
 {}
 
 /// A file has at most one content or one fault.
-pub fn one_reading()
-    ensures { OneReading }
+pub fn unique_reading()
+    ensures { ReadingIsUnique }
 {
-    layer_image::one_reading();
-    drill_text::laws::one_reading();
+    layer_image::unique_reading();
+    drill_text::laws::unique_reading();
     drill_text::laws::drill_texts();
 }
 
 /// A file has a content or a fault.
-pub fn some_reading()
-    ensures { SomeReading }
+pub fn reading_exists()
+    ensures { ReadingExists }
 {
     layer_image::layer_texts();
     drill_text::laws::first_faults();
 }
 
 /// A package has at most one answer.
-pub fn one_answer()
-    ensures { OneAnswer }
+pub fn unique_answer()
+    ensures { AnswerIsUnique }
 {
-    one_reading();
+    unique_reading();
 }
 
 /// A package has an answer: a report, or the first file that is refused.
-pub fn some_answer()
-    ensures { SomeAnswer }
+pub fn answer_exists()
+    ensures { AnswerExists }
 {
-    some_reading();
+    reading_exists();
 }

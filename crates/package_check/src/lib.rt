@@ -3,6 +3,7 @@
 
 mod board;
 mod contents;
+mod flashed;
 pub mod laws;
 mod lines;
 mod package;
@@ -13,6 +14,7 @@ mod report;
 mod text;
 
 pub use board::{Board, hole_count};
+pub use flashed::{FlashedBoard, FlashedReader, read_flashed};
 use grid_units::Fault;
 pub use lines::FileLines;
 pub use manifest::Role;

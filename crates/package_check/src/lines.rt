@@ -2,7 +2,7 @@
 
 ghost use Rattle.std.specs.Prelude.{◌≡◌, Some, map, slice_get};
 ghost use Rattle.std.specs.Fmt.{DisplaysOnOk};
-ghost use Rattle.package_check.specs.Texts.{answer_word, file_line, file_lines, finding_line, gap_line, hole_line, last_line, lengths_of, line_of, rules_line, span_words};
+ghost use Rattle.package_check.specs.Texts.{yes_or_no, file_line, file_lines, finding_line, gap_line, hole_line, last_line, lengths_of, line_if_found, rules_line, span_words};
 
 use crate::{FileSum, Numbered, Report};
 use grid_units::{Hole, Rules, write_mm};
@@ -24,8 +24,8 @@ impl Display for RulesLine {
     }
 }
 
-fn answer_word(plated: bool) -> &'static str
-    ensures { result.now ≡ answer_word plated }
+fn yes_or_no(plated: bool) -> &'static str
+    ensures { result.now ≡ yes_or_no plated }
 {
     if plated { "yes" } else { "no" }
 }
@@ -70,7 +70,7 @@ impl Display for FileLine<'_> {
                 round,
                 slots,
             } => {
-                let (plated, span) = (answer_word(plated), SpanWords(span));
+                let (plated, span) = (yes_or_no(plated), SpanWords(span));
                 write!(
                     f,
                     "file {number} drill plated={plated} round={round} slots={slots}"
@@ -157,7 +157,7 @@ fn write_hole<W: fmt::Write>(
     layer: usize,
     hole: usize,
 ) -> fmt::Result
-    ensures { DisplaysOnOk W.write_str_gives f.old result (Some (line_of (hole_line kind.now) (slice_get report.now.layers layer) (slice_get report.now.holes hole))) f.new }
+    ensures { DisplaysOnOk W.write_str_gives f.old result (Some (line_if_found (hole_line kind.now) (slice_get report.now.layers layer) (slice_get report.now.holes hole))) f.new }
 {
     let Some(layer) = report.layers().get(layer).copied() else {
         return Ok(());
@@ -175,7 +175,7 @@ fn write_gap<W: fmt::Write>(
     first: usize,
     second: usize,
 ) -> fmt::Result
-    ensures { DisplaysOnOk W.write_str_gives f.old result (Some (line_of gap_line (slice_get report.now.holes first) (slice_get report.now.holes second))) f.new }
+    ensures { DisplaysOnOk W.write_str_gives f.old result (Some (line_if_found gap_line (slice_get report.now.holes first) (slice_get report.now.holes second))) f.new }
 {
     let Some(first) = report.holes().get(first) else {
         return Ok(());

@@ -1,14 +1,14 @@
 // The check of a package.
 ghost use Rattle.std.specs.Prelude.{◌≡◌, ◌<◌, ℕ, [], Result, IfOk};
 ghost use Rattle.grid_units.specs.declared.fault.Fault.{Fault as TheFault};
-ghost use Rattle.package_check.specs.Boards.{AnswersBoard};
-ghost use Rattle.package_check.specs.Package.{AnswersJust, AnswersPackage, IsAnswer, NamesItsPlaces, layer_count, sources_of};
-ghost use Rattle.package_check.specs.Reports.{Account};
+ghost use Rattle.package_check.specs.Boards.{ReturnsBoard};
+ghost use Rattle.package_check.specs.Package.{ReturnsExactly, ReturnsReport, IsAnswer, NamesItsPlaces, layer_count, file_views};
+ghost use Rattle.package_check.specs.Reports.{ReportView};
 ghost use Rattle.package_check.specs.Soundness.{AreStraight, IsSound};
-ghost use Rattle.package_check.specs.Holding.{PackageStandsAfter};
+ghost use Rattle.package_check.specs.Holding.{HasTaken};
 
 use crate::contents::is_copper;
-use crate::laws::{findings_name_their_places, one_answer, one_reading, passing_is_sound};
+use crate::laws::{findings_name_their_places, passing_is_sound, unique_answer, unique_reading};
 use crate::{Board, File, PackageFault, PackageReader, Report};
 use grid_units::Rules;
 use std::alloc::{AllocError, Global};
@@ -22,7 +22,7 @@ pub fn layer_count(files: &[File]) -> usize
 
 /// A reader that has taken the files.
 fn reader_of(alloc: Global, files: &[File]) -> Result<PackageReader, AllocError>
-    ensures { IfOk result (λ reader. PackageStandsAfter reader (sources_of files.now)) }
+    ensures { IfOk result (λ reader. HasTaken reader (file_views files.now)) }
 {
     let mut reader = PackageReader::new(alloc, layer_count(files));
     for file in files {
@@ -32,7 +32,7 @@ fn reader_of(alloc: Global, files: &[File]) -> Result<PackageReader, AllocError>
 }
 
 fn report_of(alloc: Global, files: &[File], rules: Rules) -> Result<Report, PackageFault>
-    ensures { AnswersPackage (sources_of files.now) rules result }
+    ensures { ReturnsReport (file_views files.now) rules result }
 {
     match reader_of(alloc, files) {
         Ok(reader) => reader.finish(rules),
@@ -48,14 +48,14 @@ fn report_of(alloc: Global, files: &[File], rules: Rules) -> Result<Report, Pack
 ///
 /// The first file that is refused, by its index, with its fault; `Memory` where there is no memory.
 pub fn check_bytes(alloc: Global, files: &[File], rules: Rules) -> Result<Report, PackageFault>
-    ensures exact { AnswersPackage (sources_of files.now) rules result }
-    ensures only { (answer : Result Account (ℕ × TheFault)) → IsAnswer (sources_of files.now) rules answer → AnswersJust answer result }
+    ensures exact { ReturnsReport (file_views files.now) rules result }
+    ensures only { (answer : Result ReportView (ℕ × TheFault)) → IsAnswer (file_views files.now) rules answer → ReturnsExactly answer result }
     ensures places { IfOk result NamesItsPlaces }
-    ensures straight { IfOk result (λ report. report.findings ≡ [] → 0 < layer_count files.now → AreStraight (sources_of files.now)) }
-    ensures sound { IfOk result (λ report. report.findings ≡ [] → IsSound (sources_of files.now) rules) }
+    ensures straight { IfOk result (λ report. report.findings ≡ [] → 0 < layer_count files.now → AreStraight (file_views files.now)) }
+    ensures sound { IfOk result (λ report. report.findings ≡ [] → IsSound (file_views files.now) rules) }
 {
-    one_answer();
-    one_reading();
+    unique_answer();
+    unique_reading();
     findings_name_their_places();
     passing_is_sound();
     report_of(alloc, files, rules)
@@ -67,7 +67,7 @@ pub fn check_bytes(alloc: Global, files: &[File], rules: Rules) -> Result<Report
 ///
 /// As those of [`check_bytes`].
 pub fn read_package(alloc: Global, files: &[File]) -> Result<Board, PackageFault>
-    ensures { AnswersBoard (sources_of files.now) result }
+    ensures { ReturnsBoard (file_views files.now) result }
 {
     match reader_of(alloc, files) {
         Ok(reader) => reader.board(),

@@ -4,15 +4,15 @@ ghost use Rattle.std.specs.Prelude.{◌≡◌, ◌++◌, ◌∷◌, ℕ, List, [
 ghost use Rattle.std.specs.List.{concat};
 ghost use Rattle.grid_units.specs.declared.fault.Fault.{Fault as TheFault};
 ghost use Rattle.layer_image.specs.Layers.{ReadsFlashes};
-ghost use Rattle.package_check.specs.Boards.{AnswersBoard};
-ghost use Rattle.package_check.specs.Package.{AnswersJust, AnswersPackage, IsAnswer, NamesItsPlaces, Source, is_copper, nameless};
-ghost use Rattle.package_check.specs.Reports.{Account};
+ghost use Rattle.package_check.specs.Boards.{ReturnsBoard};
+ghost use Rattle.package_check.specs.Package.{ReturnsExactly, ReturnsReport, IsAnswer, NamesItsPlaces, FileView, is_copper, unnamed_file};
+ghost use Rattle.package_check.specs.Reports.{ReportView};
 ghost use Rattle.package_check.specs.Soundness.{IsSound};
 ghost use Rattle.package_check.specs.Holding.{ReadsNext};
 
-use crate::board::board_on;
+use crate::board::board_of;
 use crate::contents::{Content, read_file, read_file_with_flashes};
-use crate::laws::{findings_name_their_places, one_answer, one_reading, passing_is_sound};
+use crate::laws::{findings_name_their_places, passing_is_sound, unique_answer, unique_reading};
 use crate::report::report_on;
 use crate::{Board, PackageFault, Report, Role};
 use grid_units::{Fail, Rules};
@@ -31,11 +31,11 @@ pub struct PackageReader {
 }
 
 impl PackageReader {
-    ghost use Rattle.package_check.specs.Holding.{HasNoMemory, HasRefusedNone, PackageStandsAfter, copper_files};
+    ghost use Rattle.package_check.specs.Holding.{IsOutOfMemory, HasRefusedNothing, HasTaken, copper_files};
 
     /// A reader that has taken no file, of a package with so many copper files.
     pub fn new(alloc: Global, layers: usize) -> PackageReader
-        ensures stands { PackageStandsAfter result [] }
+        ensures stands { HasTaken result [] }
         ensures layers { copper_files result ≡ layers }
     {
         PackageReader {
@@ -58,11 +58,11 @@ impl PackageReader {
         span: &Option<Span>,
         pieces: &[&[u8]],
     ) -> Result<(), AllocError>
-        ensures stands { (sources : List Source) (name : List ℕ) → PackageStandsAfter self.old sources → OnOk result (PackageStandsAfter self.new (sources
+        ensures stands { (sources : List FileView) (name : List ℕ) → HasTaken self.old sources → OnOk result (HasTaken self.new (sources
             ++ record { role = role; name = name; span = span.now; bytes = concat (map (λ piece. piece.now) pieces.now); layers = copper_files self.old } ∷ [])) }
         ensures layers { copper_files self.new ≡ copper_files self.old }
-        ensures failed { HasNoMemory self.old → result ≡ Err alloc_error }
-        ensures fails { OnErr result (HasNoMemory self.new) }
+        ensures failed { IsOutOfMemory self.old → result ≡ Err alloc_error }
+        ensures fails { OnErr result (IsOutOfMemory self.new) }
     {
         if self.is_stopped() {
             return self.outcome();
@@ -91,13 +91,13 @@ impl PackageReader {
         span: &Option<Span>,
         pieces: &[&[u8]],
     ) -> Result<Vec<Flash>, AllocError>
-        ensures stands { (sources : List Source) (name : List ℕ) → PackageStandsAfter self.old sources → OnOk result (PackageStandsAfter self.new (sources
+        ensures stands { (sources : List FileView) (name : List ℕ) → HasTaken self.old sources → OnOk result (HasTaken self.new (sources
             ++ record { role = role; name = name; span = span.now; bytes = concat (map (λ piece. piece.now) pieces.now); layers = copper_files self.old } ∷ [])) }
         ensures layers { copper_files self.new ≡ copper_files self.old }
-        ensures failed { HasNoMemory self.old → result ≡ Err alloc_error }
-        ensures fails { OnErr result (HasNoMemory self.new) }
-        ensures refused { HasRefusedNone self.new → HasRefusedNone self.old }
-        ensures flashes { is_copper role ≡ true → HasRefusedNone self.new → IfOk result (λ flashes. ReadsFlashes (concat (map (λ piece. piece.now) pieces.now)) (Ok flashes.items)) }
+        ensures failed { IsOutOfMemory self.old → result ≡ Err alloc_error }
+        ensures fails { OnErr result (IsOutOfMemory self.new) }
+        ensures refused { HasRefusedNothing self.new → HasRefusedNothing self.old }
+        ensures flashes { is_copper role ≡ true → HasRefusedNothing self.new → IfOk result (λ flashes. ReadsFlashes (concat (map (λ piece. piece.now) pieces.now)) (Ok flashes.items)) }
     {
         let mut flashes = Vec::new(self.alloc);
         self.take_next(&mut flashes, role, span, pieces)?;
@@ -111,13 +111,13 @@ impl PackageReader {
         span: &Option<Span>,
         pieces: &[&[u8]],
     ) -> Result<(), AllocError>
-        ensures stands { (sources : List Source) (name : List ℕ) → PackageStandsAfter self.old sources → OnOk result (PackageStandsAfter self.new (sources
+        ensures stands { (sources : List FileView) (name : List ℕ) → HasTaken self.old sources → OnOk result (HasTaken self.new (sources
             ++ record { role = role; name = name; span = span.now; bytes = concat (map (λ piece. piece.now) pieces.now); layers = copper_files self.old } ∷ [])) }
         ensures layers { copper_files self.new ≡ copper_files self.old }
-        ensures failed { HasNoMemory self.old → result ≡ Err alloc_error }
-        ensures fails { OnErr result (HasNoMemory self.new) }
-        ensures refused { HasRefusedNone self.new → HasRefusedNone self.old }
-        ensures flashes { is_copper role ≡ true → HasRefusedNone self.new → ReadsFlashes (concat (map (λ piece. piece.now) pieces.now)) (Ok flashes.new.items) }
+        ensures failed { IsOutOfMemory self.old → result ≡ Err alloc_error }
+        ensures fails { OnErr result (IsOutOfMemory self.new) }
+        ensures refused { HasRefusedNothing self.new → HasRefusedNothing self.old }
+        ensures flashes { is_copper role ≡ true → HasRefusedNothing self.new → ReadsFlashes (concat (map (λ piece. piece.now) pieces.now)) (Ok flashes.new.items) }
     {
         if self.is_stopped() {
             return self.outcome();
@@ -144,8 +144,8 @@ impl PackageReader {
 
     /// Whether memory ran out.
     fn outcome(&self) -> Result<(), AllocError>
-        ensures failed { HasNoMemory self.now → result ≡ Err alloc_error }
-        ensures fails { OnErr result (HasNoMemory self.now) }
+        ensures failed { IsOutOfMemory self.now → result ≡ Err alloc_error }
+        ensures fails { OnErr result (IsOutOfMemory self.now) }
     {
         match self.stopped {
             Some(Fail::Memory) => Err(AllocError),
@@ -159,20 +159,20 @@ impl PackageReader {
     ///
     /// The first file that is refused, by its index, with its fault; `Memory` where there is no memory.
     pub fn finish(self, rules: Rules) -> Result<Report, PackageFault>
-        ensures exact { (sources : List Source) → PackageStandsAfter self sources → AnswersPackage sources rules result }
-        ensures only { (sources : List Source) (answer : Result Account (ℕ × TheFault)) → PackageStandsAfter self sources → IsAnswer sources rules answer → AnswersJust answer result }
-        ensures places { (sources : List Source) → PackageStandsAfter self sources → IfOk result NamesItsPlaces }
-        ensures sound { (sources : List Source) → PackageStandsAfter self sources → IfOk result (λ report. report.findings ≡ [] → IsSound sources rules) }
+        ensures exact { (sources : List FileView) → HasTaken self sources → ReturnsReport sources rules result }
+        ensures only { (sources : List FileView) (answer : Result ReportView (ℕ × TheFault)) → HasTaken self sources → IsAnswer sources rules answer → ReturnsExactly answer result }
+        ensures places { (sources : List FileView) → HasTaken self sources → IfOk result NamesItsPlaces }
+        ensures sound { (sources : List FileView) → HasTaken self sources → IfOk result (λ report. report.findings ≡ [] → IsSound sources rules) }
     {
-        one_answer();
+        unique_answer();
         findings_name_their_places();
         passing_is_sound();
         self.answer(rules)
     }
 
-    #[tactic(auto, using(crate::proofs::Boarding::reported_on))]
+    #[tactic(auto, using(crate::proofs::BoardsLemmas::reported_on))]
     fn answer(self, rules: Rules) -> Result<Report, PackageFault>
-        ensures { (sources : List Source) → PackageStandsAfter self sources → AnswersPackage sources rules result }
+        ensures { (sources : List FileView) → HasTaken self sources → ReturnsReport sources rules result }
     {
         let alloc = self.alloc;
         match self.board() {
@@ -191,7 +191,7 @@ impl PackageReader {
     ///
     /// As those of [`PackageReader::finish`].
     pub fn board(self) -> Result<Board, PackageFault>
-        ensures { (sources : List Source) → PackageStandsAfter self sources → AnswersBoard sources result }
+        ensures { (sources : List FileView) → HasTaken self sources → ReturnsBoard sources result }
     {
         match self.stopped {
             Some(Fail::Memory) => Err(PackageFault::Memory),
@@ -199,7 +199,7 @@ impl PackageReader {
                 index: self.contents.len(),
                 fault,
             }),
-            None => match board_on(self.alloc, self.contents) {
+            None => match board_of(self.alloc, self.contents) {
                 Ok(board) => Ok(board),
                 Err(_) => Err(PackageFault::Memory),
             },
@@ -216,10 +216,10 @@ fn read_next(
     layers: usize,
     pieces: &[&[u8]],
 ) -> Result<(), Fail>
-    ensures { ReadsNext (nameless role span.now layers (concat (map (λ piece. piece.now) pieces.now))) contents.old.items contents.new.items result }
+    ensures { ReadsNext (unnamed_file role span.now layers (concat (map (λ piece. piece.now) pieces.now))) contents.old.items contents.new.items result }
 {
     let content = read_file(alloc, role, span, layers, pieces)?;
-    keep(contents, content)?;
+    push_content(contents, content)?;
     Ok(())
 }
 
@@ -233,15 +233,15 @@ fn read_next_with_flashes(
     layers: usize,
     pieces: &[&[u8]],
 ) -> Result<(), Fail>
-    ensures next { ReadsNext (nameless role span.now layers (concat (map (λ piece. piece.now) pieces.now))) contents.old.items contents.new.items result }
+    ensures next { ReadsNext (unnamed_file role span.now layers (concat (map (λ piece. piece.now) pieces.now))) contents.old.items contents.new.items result }
     ensures flashes { is_copper role ≡ true → OnOk result (ReadsFlashes (concat (map (λ piece. piece.now) pieces.now)) (Ok flashes.new.items)) }
 {
     let content = read_file_with_flashes(alloc, flashes, role, span, layers, pieces)?;
-    keep(contents, content)?;
+    push_content(contents, content)?;
     Ok(())
 }
 
-fn keep(contents: &mut Vec<Content>, content: Content) -> Result<(), AllocError>
+fn push_content(contents: &mut Vec<Content>, content: Content) -> Result<(), AllocError>
     ensures { OnOk result (contents.new.items ≡ contents.old.items ++ content ∷ []) }
 {
     if contents.push(content).is_err() {

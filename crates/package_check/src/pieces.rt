@@ -2,27 +2,27 @@
 
 ghost use Rattle.std.specs.Prelude.{◌≡◌, ◌<◌, ℕ, [], Result, IfOk};
 ghost use Rattle.grid_units.specs.declared.fault.Fault.{Fault as TheFault};
-ghost use Rattle.package_check.specs.Package.{AnswersJust, AnswersPackage, IsAnswer, NamesItsPlaces};
-ghost use Rattle.package_check.specs.Pieces.{layers_in, sources_in};
-ghost use Rattle.package_check.specs.Reports.{Account};
+ghost use Rattle.package_check.specs.Package.{ReturnsExactly, ReturnsReport, IsAnswer, NamesItsPlaces};
+ghost use Rattle.package_check.specs.Pieces.{pieced_layer_count, pieced_file_views};
+ghost use Rattle.package_check.specs.Reports.{ReportView};
 ghost use Rattle.package_check.specs.Soundness.{AreStraight, IsSound};
-ghost use Rattle.package_check.specs.Holding.{PackageStandsAfter};
+ghost use Rattle.package_check.specs.Holding.{HasTaken};
 
 use crate::contents::is_copper;
-use crate::laws::{findings_name_their_places, one_answer, one_reading, passing_is_sound};
+use crate::laws::{findings_name_their_places, passing_is_sound, unique_answer, unique_reading};
 use crate::{PackageFault, PackageReader, PiecedFile, Report};
 use grid_units::Rules;
 use std::alloc::{AllocError, Global};
 
 fn layer_count(files: &[PiecedFile]) -> usize
-    ensures { result ≡ layers_in files.now }
+    ensures { result ≡ pieced_layer_count files.now }
 {
     files.iter().filter(|file| is_copper(file.role)).count()
 }
 
 /// A reader that has taken the files.
 fn reader_of(alloc: Global, files: &[PiecedFile]) -> Result<PackageReader, AllocError>
-    ensures { IfOk result (λ reader. PackageStandsAfter reader (sources_in files.now)) }
+    ensures { IfOk result (λ reader. HasTaken reader (pieced_file_views files.now)) }
 {
     let mut reader = PackageReader::new(alloc, layer_count(files));
     for file in files {
@@ -32,7 +32,7 @@ fn reader_of(alloc: Global, files: &[PiecedFile]) -> Result<PackageReader, Alloc
 }
 
 fn report_of(alloc: Global, files: &[PiecedFile], rules: Rules) -> Result<Report, PackageFault>
-    ensures { AnswersPackage (sources_in files.now) rules result }
+    ensures { ReturnsReport (pieced_file_views files.now) rules result }
 {
     match reader_of(alloc, files) {
         Ok(reader) => reader.finish(rules),
@@ -50,14 +50,14 @@ pub fn check_pieces(
     files: &[PiecedFile],
     rules: Rules,
 ) -> Result<Report, PackageFault>
-    ensures exact { AnswersPackage (sources_in files.now) rules result }
-    ensures only { (answer : Result Account (ℕ × TheFault)) → IsAnswer (sources_in files.now) rules answer → AnswersJust answer result }
+    ensures exact { ReturnsReport (pieced_file_views files.now) rules result }
+    ensures only { (answer : Result ReportView (ℕ × TheFault)) → IsAnswer (pieced_file_views files.now) rules answer → ReturnsExactly answer result }
     ensures places { IfOk result NamesItsPlaces }
-    ensures straight { IfOk result (λ report. report.findings ≡ [] → 0 < layers_in files.now → AreStraight (sources_in files.now)) }
-    ensures sound { IfOk result (λ report. report.findings ≡ [] → IsSound (sources_in files.now) rules) }
+    ensures straight { IfOk result (λ report. report.findings ≡ [] → 0 < pieced_layer_count files.now → AreStraight (pieced_file_views files.now)) }
+    ensures sound { IfOk result (λ report. report.findings ≡ [] → IsSound (pieced_file_views files.now) rules) }
 {
-    one_answer();
-    one_reading();
+    unique_answer();
+    unique_reading();
     findings_name_their_places();
     passing_is_sound();
     report_of(alloc, files, rules)

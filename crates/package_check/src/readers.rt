@@ -3,7 +3,7 @@
 ghost use Rattle.std.specs.Prelude.{◌≡◌, ◌≤◌, ◌++◌, ◌∷◌, [], ◌==◌, not, ℕ, List, Ok, Err, IfErr, IfOk, OnOk, length, map};
 ghost use Rattle.std.specs.List.{concat, prefix_len, take_while};
 ghost use Rattle.std.specs.Option.{option_copied};
-ghost use Rattle.grid_units.specs.Results.{Answers, Tells};
+ghost use Rattle.grid_units.specs.Results.{Answers, IfFault};
 ghost use Rattle.layer_image.specs.Flashes.{pads_of};
 ghost use Rattle.drill_text.specs.Outcome.{file_of};
 ghost use Rattle.drill_text.specs.Texts.{ReadsAs};
@@ -11,11 +11,11 @@ ghost use Rattle.drill_text.specs.declared.kept.Keep.TheVariants as drill_keep;
 ghost use Rattle.layer_image.specs.Holding.{LayerStandsAfter, ShowsLayerFault};
 ghost use Rattle.layer_image.specs.Layers.{ReadsFlashes, ReadsKept};
 ghost use Rattle.layer_image.specs.declared.keep.Keep.{Keep as TheKeep};
-ghost use Rattle.package_check.specs.Readers.{ReadsLayer, ReadsDrill, is_copper_function};
+ghost use Rattle.package_check.specs.FileTexts.{ReadsLayer, ReadsDrill, is_copper_function};
 
 use drill_text::DrillReader;
 use drill_text::laws::faults_stay;
-use grid_units::numbers::run_before;
+use grid_units::numbers::len_before;
 use grid_units::{Fail, Hole};
 use layer_image::{Flash, Keep, LayerReader, What, shown_faults};
 use pad_shapes::Pad;
@@ -34,9 +34,9 @@ pub(crate) struct Layer {
 }
 
 impl Model for Layer {
-    ghost use Rattle.package_check.specs.Images.{Image};
+    ghost use Rattle.package_check.specs.LayerViews.{LayerView};
 
-    ghost Value = { Image };
+    ghost Value = { LayerView };
 
     ghost view = { λ l. record { pads = l.pads.items; other = l.other; is_copper = l.is_copper } };
 }
@@ -98,13 +98,13 @@ fn is_copper_function(function: Option<&[u8]>) -> bool
 fn first_field(text: &[u8]) -> &[u8]
     ensures { result.now ≡ take_while (λ b. not (b == 44)) text.now }
 {
-    &text[..run_before(b',', text)]
+    &text[..len_before(b',', text)]
 }
 
 /// Feeds a piece of a layer to the reader, [`PIECE`] bytes at a time.
 fn feed_layer(reader: &mut LayerReader, piece: &[u8]) -> Result<(), Fail>
-    ensures ok { (keep : TheKeep) (text : List ℕ) → LayerStandsAfter reader.old keep text → OnOk result (LayerStandsAfter reader.new keep (text ++ piece.now)) }
-    ensures err { (keep : TheKeep) (text : List ℕ) → LayerStandsAfter reader.old keep text → IfErr result (Tells (ShowsLayerFault (text ++ piece.now))) }
+    ensures ok { (push_content : TheKeep) (text : List ℕ) → LayerStandsAfter reader.old push_content text → OnOk result (LayerStandsAfter reader.new push_content (text ++ piece.now)) }
+    ensures err { (push_content : TheKeep) (text : List ℕ) → LayerStandsAfter reader.old push_content text → IfErr result (IfFault (ShowsLayerFault (text ++ piece.now))) }
 {
     shown_faults();
     for chunk in piece.chunks(PIECE) {
@@ -114,11 +114,15 @@ fn feed_layer(reader: &mut LayerReader, piece: &[u8]) -> Result<(), Fail>
 }
 
 /// The layer whose text comes in these pieces, of which just this is kept.
-fn read_layer(alloc: Global, keep: Keep, pieces: &[&[u8]]) -> Result<layer_image::Layer, Fail>
-    ensures { Answers (λ layer. layer) (ReadsKept keep (concat (map (λ piece. piece.now) pieces.now))) result }
+fn read_layer(
+    alloc: Global,
+    push_content: Keep,
+    pieces: &[&[u8]],
+) -> Result<layer_image::Layer, Fail>
+    ensures { Answers (λ layer. layer) (ReadsKept push_content (concat (map (λ piece. piece.now) pieces.now))) result }
 {
     shown_faults();
-    let mut reader = LayerReader::keeping(alloc, keep);
+    let mut reader = LayerReader::keeping(alloc, push_content);
     for piece in pieces {
         feed_layer(&mut reader, piece)?;
     }
@@ -126,7 +130,7 @@ fn read_layer(alloc: Global, keep: Keep, pieces: &[&[u8]]) -> Result<layer_image
 }
 
 /// What the check keeps of the copper file whose text comes in these pieces, or its fault.
-pub(crate) fn read_image(alloc: Global, pieces: &[&[u8]]) -> Result<Layer, Fail>
+pub(crate) fn read_layer_view(alloc: Global, pieces: &[&[u8]]) -> Result<Layer, Fail>
     ensures { Answers (λ x. x) (ReadsLayer (concat (map (λ piece. piece.now) pieces.now))) result }
 {
     let layer = read_layer(alloc, Keep::Pads, pieces)?;
@@ -163,8 +167,8 @@ fn pads_among(alloc: Global, flashes: &[Flash], count: usize) -> Result<Vec<Pad>
     Ok(all)
 }
 
-/// What [`read_image`] gives of a copper file, and its flashes.
-pub(crate) fn read_image_with_flashes(
+/// What [`read_layer_view`] gives of a copper file, and its flashes.
+pub(crate) fn read_layer_and_flashes(
     alloc: Global,
     flashes: &mut Vec<Flash>,
     pieces: &[&[u8]],

@@ -20,9 +20,9 @@ pub struct Report {
 }
 
 impl Model for Report {
-    ghost use Rattle.package_check.specs.Reports.{Account};
+    ghost use Rattle.package_check.specs.Reports.{ReportView};
 
-    ghost Value = { Account };
+    ghost Value = { ReportView };
 
     ghost view = { λ r. record { rules = r.rules; files = r.files.items; layers = r.layers.items; holes = r.holes.items; findings = r.findings.items } };
 }
@@ -69,12 +69,12 @@ pub(crate) fn report_on(alloc: Global, board: Board, rules: Rules) -> Result<Rep
     ensures { IfOk result (λ report. report ≡ reported rules board) }
 {
     let findings = board.findings(alloc, rules)?;
-    let kept = board.without_pads();
-    let holes = numbered(alloc, &kept.files, &kept.holes)?;
+    let parts = board.into_parts();
+    let holes = numbered(alloc, &parts.files, &parts.holes)?;
     Ok(Report {
         rules,
-        files: kept.files,
-        layers: kept.layer_indexes,
+        files: parts.files,
+        layers: parts.layer_indexes,
         holes,
         findings,
     })

@@ -1,7 +1,7 @@
 //! The text of a report.
 
 ghost use Rattle.std.specs.Prelude.{◌≡◌, IfOk, Some, length, map};
-ghost use Rattle.package_check.specs.Package.{sources_of};
+ghost use Rattle.package_check.specs.Package.{file_views};
 ghost use Rattle.package_check.specs.Texts.{report_text, text_of};
 
 use crate::lines::{LastLine, RulesLine};
@@ -67,7 +67,7 @@ fn bytes_of<'a>(
 /// An `AllocError` where there is no memory for it.
 pub fn write_report(alloc: Global, files: &[File], report: &Report) -> Result<Vec<u8>, AllocError>
     requires { length files.now ≡ length report.now.files }
-    ensures { IfOk result (λ text. text.items ≡ report_text (sources_of files.now) report.now) }
+    ensures { IfOk result (λ text. text.items ≡ report_text (file_views files.now) report.now) }
 {
     let names = names_of(alloc, files)?;
     bytes_of(alloc, names.as_slice(), report)

@@ -1,1 +1,1 @@
-pub mod Zoning
+pub mod ZonesLemmas

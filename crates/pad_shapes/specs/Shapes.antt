@@ -1,6 +1,6 @@
 -- Shapes of flashed pads: their points, and the holes that each of them covers. Lengths are whole picometres.
 use Rattle.std.specs.Prelude.{◌≡◌, ℕ, ℤ, pos, ◌+◌, ◌-◌, ◌≤◌, min, ◌+ℤ◌, ◌-ℤ◌, ◌≤ℤ◌, ◌⊎◌, Bool, true, false, ◌&&◌, nat_le, if◌then◌else◌}
-use Rattle.grid_units.specs.Points.{GridPoint, apart, square, square_distance}
+use Rattle.grid_units.specs.Points.{GridPoint, abs_diff, square, square_distance}
 use Rattle.grid_units.specs.Holes.{IsBetween}
 
 -- a round pad, such as a flash of `%ADD10C,0.5*%`: its centre and its radius
@@ -46,7 +46,7 @@ IsInDisc d p = square_distance p d.centre ≤ square d.radius
 
 -- p is, along each axis, no further than half of the side from the centre
 abbrev pub IsInRect : GridRect → GridPoint → Type 0
-IsInRect r p = (apart p.x r.centre.x ≤ r.half_x) × (apart p.y r.centre.y ≤ r.half_y)
+IsInRect r p = (abs_diff p.x r.centre.x ≤ r.half_x) × (abs_diff p.y r.centre.y ≤ r.half_y)
 
 -- the radius of the two round ends: half of the shorter side
 abbrev pub end_radius : GridObround → ℕ
@@ -86,51 +86,51 @@ disc_covers d c reach =
 -- c lies so deep in the rectangle that, along each axis, its distance from the middle and the reach fit into half of the side
 abbrev pub rect_covers : GridRect → GridPoint → ℕ → Bool
 rect_covers r c reach =
-    nat_le (apart c.x r.centre.x + reach) r.half_x && nat_le (apart c.y r.centre.y + reach) r.half_y
+    nat_le (abs_diff c.x r.centre.x + reach) r.half_x && nat_le (abs_diff c.y r.centre.y + reach) r.half_y
 
 -- the square of p's distance from the line between the centres of the round ends
-abbrev pub square_from_axis : GridObround → GridPoint → ℕ
-square_from_axis o p =
-    square (apart p.x o.centre.x - (o.half_x - end_radius o)) + square (apart p.y o.centre.y - (o.half_y - end_radius o))
+abbrev pub square_axis_distance : GridObround → GridPoint → ℕ
+square_axis_distance o p =
+    square (abs_diff p.x o.centre.x - (o.half_x - end_radius o)) + square (abs_diff p.y o.centre.y - (o.half_y - end_radius o))
 
 -- c is no further from that line than the radius of the ends less the reach, so that the reach stays inside
 abbrev pub obround_covers : GridObround → GridPoint → ℕ → Bool
 obround_covers o c reach =
-    nat_le reach (end_radius o) && nat_le (square_from_axis o c) (square (end_radius o - reach))
+    nat_le reach (end_radius o) && nat_le (square_axis_distance o c) (square (end_radius o - reach))
 
 -- each grid point within the reach of a covered centre is a point of the shape
-abbrev pub HoldsWhatItCovers : {S : Type 0} → (S → GridPoint → Type 0) → (S → GridPoint → ℕ → Bool) → Type 0
-HoldsWhatItCovers {S} points covers =
+abbrev pub ContainsCovered : {S : Type 0} → (S → GridPoint → Type 0) → (S → GridPoint → ℕ → Bool) → Type 0
+ContainsCovered {S} points covers =
     (s : S) (c : GridPoint) (reach : ℕ) → covers s c reach ≡ true → (p : GridPoint) → square_distance p c ≤ square reach → points s p
 
 -- two points share their x or their y
-abbrev pub IsAlongAxis : GridPoint → GridPoint → Type 0
-IsAlongAxis from to = (from.x ≡ to.x) ⊎ (from.y ≡ to.y)
+abbrev pub IsAxisAligned : GridPoint → GridPoint → Type 0
+IsAxisAligned from to = (from.x ≡ to.x) ⊎ (from.y ≡ to.y)
 
 -- p lies in the least box that contains both points
 abbrev pub IsInBox : GridPoint → GridPoint → GridPoint → Type 0
 IsInBox from to p = IsBetween from.x to.x p.x × IsBetween from.y to.y p.y
 
 -- both ends of a slot are covered with this reach
-abbrev pub covers_ends : {S : Type 0} → (S → GridPoint → ℕ → Bool) → S → GridPoint → GridPoint → ℕ → Bool
-covers_ends covers s from to reach = covers s from reach && covers s to reach
+abbrev pub covers_both_ends : {S : Type 0} → (S → GridPoint → ℕ → Bool) → S → GridPoint → GridPoint → ℕ → Bool
+covers_both_ends covers s from to reach = covers s from reach && covers s to reach
 
 -- where both ends of a slot along an axis are covered, each grid point within the reach of a point between them is in the shape
-abbrev pub HoldsSlots : {S : Type 0} → (S → GridPoint → Type 0) → (S → GridPoint → ℕ → Bool) → Type 0
-HoldsSlots {S} points covers =
-    (s : S) (from to : GridPoint) (reach : ℕ) → IsAlongAxis from to → covers_ends covers s from to reach ≡ true → (c p : GridPoint) → IsInBox from to c → square_distance p c ≤ square reach → points s p
+abbrev pub ContainsCoveredSlots : {S : Type 0} → (S → GridPoint → Type 0) → (S → GridPoint → ℕ → Bool) → Type 0
+ContainsCoveredSlots {S} points covers =
+    (s : S) (from to : GridPoint) (reach : ℕ) → IsAxisAligned from to → covers_both_ends covers s from to reach ≡ true → (c p : GridPoint) → IsInBox from to c → square_distance p c ≤ square reach → points s p
 
 -- a covered centre lies between the least and the greatest x of the shape
-abbrev pub CoversBetween : {S : Type 0} → (S → GridPoint → ℕ → Bool) → (S → ℤ) → (S → ℤ) → Type 0
-CoversBetween {S} covers left right =
+abbrev pub CoveredIsBetween : {S : Type 0} → (S → GridPoint → ℕ → Bool) → (S → ℤ) → (S → ℤ) → Type 0
+CoveredIsBetween {S} covers left right =
     (s : S) (c : GridPoint) (reach : ℕ) → covers s c reach ≡ true → (left s ≤ℤ c.x) × (c.x ≤ℤ right s)
 
 -- left and right are the least and the greatest x of a set of points: each point lies between them, and some points have them
 pub record IsExtent (points : GridPoint → Type 0) (left right : ℤ) : Type 0 where
   pub least : (p : GridPoint) → points p → left ≤ℤ p.x
   pub greatest : (p : GridPoint) → points p → p.x ≤ℤ right
-  pub at_least : (y : ℤ) × points (record { x = left; y = y })
-  pub at_greatest : (y : ℤ) × points (record { x = right; y = y })
+  pub attains_least : (y : ℤ) × points (record { x = left; y = y })
+  pub attains_greatest : (y : ℤ) × points (record { x = right; y = y })
 
 -- for each shape, left and right are the least and the greatest x of its points
 abbrev pub HasExtent : {S : Type 0} → (S → GridPoint → Type 0) → (S → ℤ) → (S → ℤ) → Type 0
@@ -138,6 +138,6 @@ HasExtent {S} points left right = (s : S) → IsExtent (points s) (left s) (righ
 
 -- Where a rectangle does not cover a centre, some grid point within the reach lies outside it. A disc or an obround may hold
 -- all grid points within the reach of a centre that it does not cover, as its rim runs between grid points.
-abbrev pub RectMissesOne : Type 0
-RectMissesOne =
+abbrev pub RectIsTight : Type 0
+RectIsTight =
     (r : GridRect) (c : GridPoint) (reach : ℕ) → rect_covers r c reach ≡ false → (p : GridPoint) × (square_distance p c ≤ square reach) × ¬ IsInRect r p

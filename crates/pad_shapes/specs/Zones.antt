@@ -19,6 +19,6 @@ abbrev pub CoversNone : {S : Type 0} → (S → GridPoint → ℕ → Bool) → 
 CoversNone covers s reach zone = (c : GridPoint) (r : ℕ) → reach ≤ r → IsInZone zone c → covers s c r ≡ false
 
 -- a point at the distances dx and dy from the middle lies so deep in a box that, along each axis, the reach stays inside
-pub record IsDeep (dx dy reach half_x half_y : ℕ) : Type 0 where
+pub record IsInset (dx dy reach half_x half_y : ℕ) : Type 0 where
   pub x : dx + reach ≤ half_x
   pub y : dy + reach ≤ half_y

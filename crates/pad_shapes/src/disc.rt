@@ -2,10 +2,10 @@
 
 ghost use Rattle.std.specs.Prelude.{◌≡◌, pos, ◌+ℤ◌, ◌-ℤ◌, ◌↔◌, IsSome, IfSome, unsigned_abs};
 ghost use Rattle.pad_shapes.specs.Shapes.{IsPadRadius, IsInDisc, disc_covers};
-ghost use Rattle.pad_shapes.specs.Inner.ShapeLaws.{disc_holds, disc_holds_slots, disc_between, disc_extent};
+ghost use Rattle.pad_shapes.specs.Inner.ShapeLaws.{disc_contains_covered, disc_contains_slots, disc_between, disc_extent};
 
 use crate::shape::{MAX_HALF_SIDE, PadShape};
-use crate::zone::{Zone, beyond_x, beyond_y, deep_within, is_within};
+use crate::zone::{Zone, distance_x, distance_y, inset_zone, is_step_within};
 use grid_units::{Point, square, square_distance};
 use std::marker::Model;
 
@@ -70,9 +70,9 @@ impl PadShape for Disc {
 
     ghost right = { λ d. d.centre.x +ℤ pos d.radius };
 
-    ghost holds = { disc_holds };
+    ghost holds = { disc_contains_covered };
 
-    ghost holds_slots = { disc_holds_slots };
+    ghost holds_slots = { disc_contains_slots };
 
     ghost between = { disc_between };
 
@@ -92,15 +92,15 @@ impl PadShape for Disc {
     }
 
     fn zone(&self, reach: u64) -> Option<Zone> {
-        Some(deep_within(self.centre, self.radius, self.radius, reach))
+        Some(inset_zone(self.centre, self.radius, self.radius, reach))
     }
 
     fn may_cover(&self, zone: &Zone, reach: u64) -> bool {
         if self.radius < reach {
             return false;
         }
-        let dx = beyond_x(zone, self.centre);
-        let dy = beyond_y(zone, self.centre);
-        is_within(dx, dy, self.radius - reach)
+        let dx = distance_x(zone, self.centre);
+        let dy = distance_y(zone, self.centre);
+        is_step_within(dx, dy, self.radius - reach)
     }
 }

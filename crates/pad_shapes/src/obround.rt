@@ -1,11 +1,11 @@
 //! Obround pads: pads with two round ends.
 
 ghost use Rattle.std.specs.Prelude.{◌≡◌, pos, ◌≤◌, ◌+ℤ◌, ◌-ℤ◌, ◌↔◌, IsSome, IfSome, unsigned_abs};
-ghost use Rattle.pad_shapes.specs.Shapes.{IsHalfSide, IsInObround, end_radius, square_from_axis, obround_covers, max_half_side};
-ghost use Rattle.pad_shapes.specs.Inner.ShapeLaws.{obround_holds, obround_holds_slots, obround_between, obround_extent};
+ghost use Rattle.pad_shapes.specs.Shapes.{IsHalfSide, IsInObround, end_radius, square_axis_distance, obround_covers, max_half_side};
+ghost use Rattle.pad_shapes.specs.Inner.ShapeLaws.{obround_contains_covered, obround_contains_slots, obround_between, obround_extent};
 
 use crate::shape::{PadShape, is_half_side};
-use crate::zone::{Zone, beyond_x, beyond_y, deep_within, is_within};
+use crate::zone::{Zone, distance_x, distance_y, inset_zone, is_step_within};
 use grid_units::{Point, square, square_length};
 use std::marker::Model;
 
@@ -80,8 +80,8 @@ impl Obround {
     }
 
     /// The square of a point's distance from the line between the centres of the round ends.
-    fn square_from_axis(&self, point: Point) -> i128
-        ensures { result ≡ pos (square_from_axis self.now point) }
+    fn square_axis_distance(&self, point: Point) -> i128
+        ensures { result ≡ pos (square_axis_distance self.now point) }
     {
         let radius = self.end_radius();
         let dx = point.x().abs_diff(self.centre.x());
@@ -101,9 +101,9 @@ impl PadShape for Obround {
 
     ghost right = { λ o. o.centre.x +ℤ pos o.half_x };
 
-    ghost holds = { obround_holds };
+    ghost holds = { obround_contains_covered };
 
-    ghost holds_slots = { obround_holds_slots };
+    ghost holds_slots = { obround_contains_slots };
 
     ghost between = { obround_between };
 
@@ -112,7 +112,7 @@ impl PadShape for Obround {
     fn covers(&self, hole: Point, reach: i64) -> bool {
         let reach = reach.unsigned_abs();
         let radius = self.end_radius();
-        reach <= radius && self.square_from_axis(hole) <= square(radius - reach)
+        reach <= radius && self.square_axis_distance(hole) <= square(radius - reach)
     }
 
     fn left(&self) -> i64 {
@@ -124,7 +124,7 @@ impl PadShape for Obround {
     }
 
     fn zone(&self, reach: u64) -> Option<Zone> {
-        Some(deep_within(self.centre, self.half_x, self.half_y, reach))
+        Some(inset_zone(self.centre, self.half_x, self.half_y, reach))
     }
 
     fn may_cover(&self, zone: &Zone, reach: u64) -> bool {
@@ -132,10 +132,10 @@ impl PadShape for Obround {
         if radius < reach {
             return false;
         }
-        let dx = beyond_x(zone, self.centre);
-        let dy = beyond_y(zone, self.centre);
+        let dx = distance_x(zone, self.centre);
+        let dy = distance_y(zone, self.centre);
         let past_x = dx.saturating_sub(self.half_x - radius);
         let past_y = dy.saturating_sub(self.half_y - radius);
-        is_within(past_x, past_y, radius - reach)
+        is_step_within(past_x, past_y, radius - reach)
     }
 }

@@ -2,7 +2,7 @@
 
 ghost use Rattle.std.specs.Prelude.{◌≡◌};
 ghost use Rattle.pad_shapes.specs.Pads.{IsInPad, pad_covers, pad_left, pad_right};
-ghost use Rattle.pad_shapes.specs.Inner.ShapeLaws.{pad_holds, pad_holds_slots, pad_between, pad_extent};
+ghost use Rattle.pad_shapes.specs.Inner.ShapeLaws.{pad_contains_covered, pad_contains_slots, pad_between, pad_extent};
 
 use crate::disc::Disc;
 use crate::obround::Obround;
@@ -31,9 +31,9 @@ impl PadShape for Pad {
 
     ghost right = { pad_right };
 
-    ghost holds = { pad_holds };
+    ghost holds = { pad_contains_covered };
 
-    ghost holds_slots = { pad_holds_slots };
+    ghost holds_slots = { pad_contains_slots };
 
     ghost between = { pad_between };
 

@@ -2,10 +2,10 @@
 
 ghost use Rattle.std.specs.Prelude.{◌≡◌, pos, ◌+ℤ◌, ◌-ℤ◌, ◌↔◌, IsSome, IfSome, unsigned_abs};
 ghost use Rattle.pad_shapes.specs.Shapes.{IsHalfSide, IsInRect, rect_covers};
-ghost use Rattle.pad_shapes.specs.Inner.ShapeLaws.{rect_holds, rect_holds_slots, rect_between, rect_extent};
+ghost use Rattle.pad_shapes.specs.Inner.ShapeLaws.{rect_contains_covered, rect_contains_slots, rect_between, rect_extent};
 
 use crate::shape::{PadShape, is_half_side};
-use crate::zone::{Zone, beyond_x, beyond_y, deep_within};
+use crate::zone::{Zone, distance_x, distance_y, inset_zone};
 use grid_units::Point;
 use std::marker::Model;
 
@@ -80,9 +80,9 @@ impl PadShape for Rect {
 
     ghost right = { λ r. r.centre.x +ℤ pos r.half_x };
 
-    ghost holds = { rect_holds };
+    ghost holds = { rect_contains_covered };
 
-    ghost holds_slots = { rect_holds_slots };
+    ghost holds_slots = { rect_contains_slots };
 
     ghost between = { rect_between };
 
@@ -104,15 +104,15 @@ impl PadShape for Rect {
     }
 
     fn zone(&self, reach: u64) -> Option<Zone> {
-        Some(deep_within(self.centre, self.half_x, self.half_y, reach))
+        Some(inset_zone(self.centre, self.half_x, self.half_y, reach))
     }
 
     fn may_cover(&self, zone: &Zone, reach: u64) -> bool {
         if self.half_x < reach || self.half_y < reach {
             return false;
         }
-        let dx = beyond_x(zone, self.centre);
-        let dy = beyond_y(zone, self.centre);
+        let dx = distance_x(zone, self.centre);
+        let dy = distance_y(zone, self.centre);
         dx <= self.half_x - reach && dy <= self.half_y - reach
     }
 }

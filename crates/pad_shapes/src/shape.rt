@@ -2,7 +2,7 @@
 
 ghost use Rattle.std.specs.Prelude.{◌≡◌, ◌≤◌, ℕ, ℤ, Bool, false, ◌↔◌, IsTrue, IfSome, unsigned_abs};
 ghost use Rattle.grid_units.specs.Points.{GridPoint};
-ghost use Rattle.pad_shapes.specs.Shapes.{IsHalfSide, IsReach, max_reach, IsAlongAxis, covers_ends, HoldsWhatItCovers, HoldsSlots, CoversBetween, HasExtent};
+ghost use Rattle.pad_shapes.specs.Shapes.{IsHalfSide, IsReach, max_reach, IsAxisAligned, covers_both_ends, ContainsCovered, ContainsCoveredSlots, CoveredIsBetween, HasExtent};
 ghost use Rattle.pad_shapes.specs.Zones.{BoundsCentres, CoversNone};
 
 use crate::zone::Zone;
@@ -38,9 +38,9 @@ pub trait PadShape {
     /// Whether it covers both ends of a slot along an axis with this reach round them, in pm. The reach is from 0
     /// to 20,000,000,000,000 pm, twenty metres.
     fn covers_slot(&self, from: Point, to: Point, reach: i64) -> bool
-        requires along { IsAlongAxis from to }
+        requires along { IsAxisAligned from to }
         requires reach { IsReach reach }
-        ensures { result ≡ covers_ends covers self.now from to (unsigned_abs reach) }
+        ensures { result ≡ covers_both_ends covers self.now from to (unsigned_abs reach) }
     {
         self.covers(from, reach) && self.covers(to, reach)
     }
@@ -70,13 +70,13 @@ pub trait PadShape {
     }
 
     /// Each point within the reach of a covered centre is a point of the shape.
-    ghost holds: { HoldsWhatItCovers points covers };
+    ghost holds: { ContainsCovered points covers };
 
     /// Each point within the reach of a slot along an axis is a point of the shape, where both ends are covered.
-    ghost holds_slots: { HoldsSlots points covers };
+    ghost holds_slots: { ContainsCoveredSlots points covers };
 
     /// A covered centre lies between the least and the greatest x.
-    ghost between: { CoversBetween covers left right };
+    ghost between: { CoveredIsBetween covers left right };
 
     /// The least and the greatest x are those of its points.
     ghost extent: { HasExtent points left right };

@@ -1,8 +1,8 @@
 //! Zones: boxes along the axes that say where a shape may cover a centre.
 
 ghost use Rattle.std.specs.Prelude.{◌≡◌, ◌+◌, ◌≤◌, ◌&&◌, nat_le};
-ghost use Rattle.grid_units.specs.Points.{GridPoint, apart, square};
-ghost use Rattle.pad_shapes.specs.Zones.{IsInZone, IsDeep};
+ghost use Rattle.grid_units.specs.Points.{GridPoint, abs_diff, square};
+ghost use Rattle.pad_shapes.specs.Zones.{IsInZone, IsInset};
 
 use grid_units::{Point, square, square_length};
 
@@ -20,11 +20,11 @@ pub struct Zone {
 }
 
 /// The zone of the points that lie at least a reach deep in the box round this centre with these half sides.
-pub(crate) fn deep_within(centre: Point, half_x: u64, half_y: u64, reach: u64) -> Zone
+pub(crate) fn inset_zone(centre: Point, half_x: u64, half_y: u64, reach: u64) -> Zone
     requires x { half_x ≤ 5000000000000 }
     requires y { half_y ≤ 5000000000000 }
     requires reach { reach ≤ 20000000000000 }
-    ensures { (p : GridPoint) → IsDeep (apart p.x centre.x) (apart p.y centre.y) reach half_x half_y → IsInZone result p }
+    ensures { (p : GridPoint) → IsInset (abs_diff p.x centre.x) (abs_diff p.y centre.y) reach half_x half_y → IsInZone result p }
 {
     let deep_x = half_x as i64 - reach as i64;
     let deep_y = half_y as i64 - reach as i64;
@@ -37,8 +37,8 @@ pub(crate) fn deep_within(centre: Point, half_x: u64, half_y: u64, reach: u64) -
 }
 
 /// The least distance of a zone's points from a centre along x, in pm.
-pub(crate) fn beyond_x(zone: &Zone, centre: Point) -> u64
-    ensures { (p : GridPoint) → IsInZone zone.now p → result ≤ apart p.x centre.x }
+pub(crate) fn distance_x(zone: &Zone, centre: Point) -> u64
+    ensures { (p : GridPoint) → IsInZone zone.now p → result ≤ abs_diff p.x centre.x }
 {
     let x = centre.x();
     if x < zone.left {
@@ -51,8 +51,8 @@ pub(crate) fn beyond_x(zone: &Zone, centre: Point) -> u64
 }
 
 /// The least distance of a zone's points from a centre along y, in pm.
-pub(crate) fn beyond_y(zone: &Zone, centre: Point) -> u64
-    ensures { (p : GridPoint) → IsInZone zone.now p → result ≤ apart p.y centre.y }
+pub(crate) fn distance_y(zone: &Zone, centre: Point) -> u64
+    ensures { (p : GridPoint) → IsInZone zone.now p → result ≤ abs_diff p.y centre.y }
 {
     let y = centre.y();
     if y < zone.bottom {
@@ -65,7 +65,7 @@ pub(crate) fn beyond_y(zone: &Zone, centre: Point) -> u64
 }
 
 /// Whether a step of `dx` along one axis and `dy` along the other is no longer than a length.
-pub(crate) fn is_within(dx: u64, dy: u64, length: u64) -> bool
+pub(crate) fn is_step_within(dx: u64, dy: u64, length: u64) -> bool
     requires { length ≤ 5000000000000 }
     ensures { result ≡ (nat_le dx length && (nat_le dy length && nat_le (square dx + square dy) (square length))) }
 {

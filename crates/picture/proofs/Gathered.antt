@@ -4,7 +4,7 @@ use Rattle.std.specs.List.{cons_option, enumerate_from, flat_map}
 use Rattle.layer_image.specs.Flashes.{pads_of}
 use Rattle.layer_image.specs.declared.flash.Flash.{Flash}
 use Rattle.pad_shapes.specs.declared.pad.Pad.{Pad}
-use Rattle.ring_rules.proofs.Listing.{flat_listed_more}
+use Rattle.ring_rules.proofs.EnumeratedLists.{flat_listed_more}
 use Rattle.picture.specs.Scenes.{pad_of}
 
 -- what one more element and its place give

@@ -1,4 +1,4 @@
-pub mod Escaping
+pub mod EscapesLemmas
 pub mod Gathered
-pub mod Padding
-pub mod Sizes
+pub mod PadPathLemmas
+pub mod PadOrderLemmas

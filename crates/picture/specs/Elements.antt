@@ -9,8 +9,8 @@ use Rattle.pad_shapes.specs.declared.pad.Pad.TheVariants as pads
 use Rattle.printing.specs.Lengths.{short_millimetres}
 use Rattle.ring_rules.specs.declared.finding.Drilled.{Drilled}
 use Rattle.picture.specs.declared.pen.Pen.{Pen}
-use Rattle.picture.specs.declared.scene.Lack.{Lack}
-use Rattle.picture.specs.declared.scene.Lack.TheVariants.{Ring, Gap}
+use Rattle.picture.specs.declared.scene.DrawnFinding.{DrawnFinding}
+use Rattle.picture.specs.declared.scene.DrawnFinding.TheVariants.{Ring, Gap}
 
 -- ---- the forms of elements
 
@@ -38,12 +38,12 @@ box x y width height back =
     after (codes "M") x ++ (after (codes " ") y ++ (after (codes "h") width ++ (after (codes "v") height ++ (after (codes "h") back ++ codes "z"))))
 
 -- a part of a path along x: `M8 -24.54h2`
-unfoldable pub across : ℤ → ℤ → ℤ → List ℕ
-across x y length = start x y ++ after (codes "h") length
+unfoldable pub horizontal_line : ℤ → ℤ → ℤ → List ℕ
+horizontal_line x y length = start x y ++ after (codes "h") length
 
 -- a part of a path along y: `M8 -24.54v2`
-unfoldable pub along : ℤ → ℤ → ℤ → List ℕ
-along x y length = start x y ++ after (codes "v") length
+unfoldable pub vertical_line : ℤ → ℤ → ℤ → List ℕ
+vertical_line x y length = start x y ++ after (codes "v") length
 
 -- ---- pads
 
@@ -54,8 +54,8 @@ half_width o = min o.half_x o.half_y
 -- the line of an obround, from the centre of one round end to that of the other
 abbrev pub obround_line : GridObround → List ℕ
 obround_line o =
-    if nat_le o.half_y o.half_x then across (o.centre.x -ℤ pos (o.half_x - o.half_y)) (neg_ℤ o.centre.y) (pos (2 * (o.half_x - o.half_y)))
-    else along o.centre.x (neg_ℤ (o.centre.y +ℤ pos (o.half_y - o.half_x))) (pos (2 * (o.half_y - o.half_x)))
+    if nat_le o.half_y o.half_x then horizontal_line (o.centre.x -ℤ pos (o.half_x - o.half_y)) (neg_ℤ o.centre.y) (pos (2 * (o.half_x - o.half_y)))
+    else vertical_line o.centre.x (neg_ℤ (o.centre.y +ℤ pos (o.half_y - o.half_x))) (pos (2 * (o.half_y - o.half_x)))
 
 -- a rectangular pad as a part of a path
 abbrev pub rect_box : GridRect → List ℕ
@@ -64,7 +64,7 @@ rect_box r =
 
 -- a pad as a part of a path: a disc is a line of length 0, drawn with round ends: `M6 -5h0`
 abbrev pub outline : Pad → List ℕ
-outline (pads.Disc d) = across d.centre.x (neg_ℤ d.centre.y) (pos 0)
+outline (pads.Disc d) = horizontal_line d.centre.x (neg_ℤ d.centre.y) (pos 0)
 outline (pads.Rect r) = rect_box r
 outline (pads.Obround o) = obround_line o
 
@@ -90,9 +90,9 @@ are_alike (pads.Obround a) (pads.Obround b) = (a.half_x == b.half_x) && (a.half_
 are_alike _ _ = false
 
 -- between the pad before, if there is one, and a pad: nothing between pads alike, else the start of a new path
-abbrev pub turn : Option Pad → Pad → List ℕ
-turn None pad = path_start pad
-turn (Some before) pad = if are_alike before pad then [] else path_end ++ path_start pad
+abbrev pub path_change : Option Pad → Pad → List ℕ
+path_change None pad = path_start pad
+path_change (Some before) pad = if are_alike before pad then [] else path_end ++ path_start pad
 
 -- the end of the last path, if there is one
 abbrev pub last_end : Option Pad → List ℕ
@@ -100,9 +100,9 @@ last_end None = []
 last_end (Some before) = path_end
 
 -- the paths of some pads that follow a pad, if there is one before: a path for each run of pads alike
-unfoldable pub pads_behind : Option Pad → List Pad → List ℕ
-pads_behind before [] = last_end before
-pads_behind before (pad ∷ pads) = (turn before pad ++ outline pad) ++ pads_behind (Some pad) pads
+unfoldable pub paths_after : Option Pad → List Pad → List ℕ
+paths_after before [] = last_end before
+paths_after before (pad ∷ pads) = (path_change before pad ++ outline pad) ++ paths_after (Some pad) pads
 
 -- ---- crosses
 
@@ -112,11 +112,11 @@ arm pen = pen.unit / 3
 
 -- the horizontal line of a cross: `M19.2 -78h1.5`
 abbrev pub cross_bar : Pen → GridPoint → List ℕ
-cross_bar pen p = across (p.x -ℤ pos (arm pen)) (neg_ℤ p.y) (pos (2 * arm pen))
+cross_bar pen p = horizontal_line (p.x -ℤ pos (arm pen)) (neg_ℤ p.y) (pos (2 * arm pen))
 
 -- the vertical line of a cross: `M20 -78.7v1.5`
 abbrev pub cross_post : Pen → GridPoint → List ℕ
-cross_post pen p = along p.x (neg_ℤ (p.y +ℤ pos (arm pen))) (pos (2 * arm pen))
+cross_post pen p = vertical_line p.x (neg_ℤ (p.y +ℤ pos (arm pen))) (pos (2 * arm pen))
 
 -- the two lines of a cross
 unfoldable pub cross : Pen → GridPoint → List ℕ
@@ -179,37 +179,37 @@ abbrev pub gap : Pen → GridHole → GridHole → List ℕ
 gap pen a b = line (codes "gap") (pos (pen.unit * 3 / 10)) (middle_x a) (neg_ℤ (middle_y a)) (middle_x b) (neg_ℤ (middle_y b))
 
 -- the element of a finding: its ring or its gap
-unfoldable pub lack : Pen → Lack → List ℕ
+unfoldable pub lack : Pen → DrawnFinding → List ℕ
 lack pen (Ring n h) = ring pen h
 lack pen (Gap n a b) = gap pen a b
 
 -- ---- marks and numbers
 
 -- the x of a finding's place: the middle of its hole, or halfway between the two holes
-abbrev pub place_x : Lack → ℤ
+abbrev pub place_x : DrawnFinding → ℤ
 place_x (Ring n h) = middle_x h
 place_x (Gap n a b) = halfway (middle_x a) (middle_x b)
 
 -- the y of a finding's place, likewise
-abbrev pub place_y : Lack → ℤ
+abbrev pub place_y : DrawnFinding → ℤ
 place_y (Ring n h) = middle_y h
 place_y (Gap n a b) = halfway (middle_y a) (middle_y b)
 
 -- how far a finding's element reaches from its place: the radius with the ring, of a gap 0
-abbrev pub reach : Pen → Lack → ℕ
+abbrev pub reach : Pen → DrawnFinding → ℕ
 reach pen (Ring n h) = h.radius + pen.ring
 reach pen (Gap n a b) = 0
 
 -- the radius of a mark: half a unit more than this reach, and at least a unit
-abbrev pub mark_radius : Pen → Lack → ℕ
+abbrev pub mark_radius : Pen → DrawnFinding → ℕ
 mark_radius pen found = max (reach pen found + pen.unit / 2) pen.unit
 
 -- the mark round a finding: `<circle class="mark" cx="20" cy="-78" r="2.3" stroke-width="0.4"/>`
-unfoldable pub mark : Pen → Lack → List ℕ
+unfoldable pub mark : Pen → DrawnFinding → List ℕ
 mark pen found = circle (codes "mark") (place_x found) (neg_ℤ (place_y found)) (pos (mark_radius pen found)) (pos (pen.unit / 5))
 
 -- the number of a finding among all, from 1
-abbrev pub number_of : Lack → ℕ
+abbrev pub number_of : DrawnFinding → ℕ
 number_of (Ring n h) = n
 number_of (Gap n a b) = n
 
@@ -222,10 +222,10 @@ unfoldable pub number_at : Pen → ℤ → ℤ → ℕ → List ℕ
 number_at pen x y n = text_start pen (codes "<text class=\"number\" transform=\"translate(") x y ++ (decimal n ++ codes "</text>\n")
 
 -- the distance of a finding's number from its place, to the right and upwards: seven tenths of the mark's radius
-abbrev pub aside : Pen → Lack → ℕ
-aside pen found = mark_radius pen found * 7 / 10
+abbrev pub number_offset : Pen → DrawnFinding → ℕ
+number_offset pen found = mark_radius pen found * 7 / 10
 
 -- the number of a finding, at the upper right of its mark
-unfoldable pub number : Pen → Lack → List ℕ
+unfoldable pub number : Pen → DrawnFinding → List ℕ
 number pen found =
-    number_at pen (place_x found +ℤ pos (aside pen found)) (neg_ℤ (place_y found +ℤ pos (aside pen found))) (number_of found)
+    number_at pen (place_x found +ℤ pos (number_offset pen found)) (neg_ℤ (place_y found +ℤ pos (number_offset pen found))) (number_of found)

@@ -15,13 +15,13 @@ abbrev pub written_byte : ℕ → ℕ → ℕ → List ℕ
 written_byte first second b = if ends_forbidden first second b then 189 ∷ [] else escaped_byte b
 
 -- the rest of a name as it is printed, after two bytes of the name
-unfoldable pub escaped_behind : ℕ → ℕ → List ℕ → List ℕ
-escaped_behind first second [] = []
-escaped_behind first second (b ∷ bs) = written_byte first second b ++ escaped_behind second b bs
+unfoldable pub escaped_after : ℕ → ℕ → List ℕ → List ℕ
+escaped_after first second [] = []
+escaped_after first second (b ∷ bs) = written_byte first second b ++ escaped_after second b bs
 
 -- a name as it is printed: `a<b` is `a&lt;b`; before its first byte two zeros are assumed
 abbrev pub escaped : List ℕ → List ℕ
-escaped name = escaped_behind 0 0 name
+escaped name = escaped_after 0 0 name
 
 -- a text begins with some bytes
 abbrev pub begins : List ℕ → List ℕ → Bool

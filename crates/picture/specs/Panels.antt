@@ -7,11 +7,11 @@ use Rattle.ring_rules.specs.declared.finding.Drilled.{Drilled}
 use Rattle.picture.specs.declared.frame.Frame.{Frame}
 use Rattle.picture.specs.declared.panel.Place.{Place}
 use Rattle.picture.specs.declared.pen.Pen.{Pen}
-use Rattle.picture.specs.declared.scene.Lack.{Lack}
-use Rattle.picture.specs.declared.scene.Lack.TheVariants.{Ring, Gap}
+use Rattle.picture.specs.declared.scene.DrawnFinding.{DrawnFinding}
+use Rattle.picture.specs.declared.scene.DrawnFinding.TheVariants.{Ring, Gap}
 use Rattle.picture.specs.declared.scene.Scene.{Scene}
 use Rattle.picture.specs.Escapes.{escaped}
-use Rattle.picture.specs.Elements.{after, crosses, hole, lack, mark, number, pads_behind, text_start}
+use Rattle.picture.specs.Elements.{after, crosses, hole, lack, mark, number, paths_after, text_start}
 
 -- the place of a panel on the page: `" transform="translate(5.5 109.5)">`
 unfoldable pub translated : ℤ → ℤ → List ℕ
@@ -40,12 +40,12 @@ abbrev pub note_start : Pen → Frame → List ℕ
 note_start pen f = text_start pen (codes "<text class=\"note\" transform=\"translate(") f.left (neg_ℤ (f.top +ℤ pos (pen.unit * 4 / 5)))
 
 -- a finding is an insufficient ring, not an insufficient gap
-abbrev pub is_ring : Lack → Bool
+abbrev pub is_ring : DrawnFinding → Bool
 is_ring (Ring n h) = true
 is_ring (Gap n a b) = false
 
 -- the number of rings that are lacking
-abbrev pub ring_count : List Lack → ℕ
+abbrev pub ring_count : List DrawnFinding → ℕ
 ring_count lacks = count_by is_ring lacks
 
 -- a number with the word for one or for more: `1 pad, ` or `361 pads, `
@@ -63,31 +63,31 @@ drawn_words scene =
 
 -- the number of rings lacking: `, 2 rings lacking`; nothing where there are no rules
 abbrev pub lacking_words : Pen → ℕ → List ℕ
-lacking_words pen count = if pen.asked then codes ", " ++ amount count (codes " ring lacking") (codes " rings lacking") else []
+lacking_words pen count = if pen.has_rules then codes ", " ++ amount count (codes " ring lacking") (codes " rings lacking") else []
 
 -- the note of a panel: `361 pads, 1 other, 2 rings lacking</text>`
 unfoldable pub note : Pen → Scene → List ℕ
 note pen scene = drawn_words scene ++ (lacking_words pen (ring_count scene.lacks.items) ++ codes "</text>\n")
 
 -- after the name of a panel: the end of its element, the note and the box
-abbrev pub behind_name : Pen → Frame → Scene → List ℕ
-behind_name pen f scene = codes "</text>\n" ++ (note_start pen f ++ (note pen scene ++ board_box f))
+abbrev pub after_name : Pen → Frame → Scene → List ℕ
+after_name pen f scene = codes "</text>\n" ++ (note_start pen f ++ (note pen scene ++ board_box f))
 
 -- the findings that are marked and numbered: the first hundred
-abbrev pub marked : List Lack → List Lack
+abbrev pub marked : List DrawnFinding → List DrawnFinding
 marked lacks = take 100 lacks
 
 -- the marks of some findings, then their numbers
-abbrev pub marks_text : Pen → List Lack → List ℕ
+abbrev pub marks_text : Pen → List DrawnFinding → List ℕ
 marks_text pen lacks = flat_map (mark pen) lacks ++ flat_map (number pen) lacks
 
 -- the findings of a panel: a ring or gap for each, then the marks, then the numbers
-abbrev pub lacks_text : Pen → List Lack → List ℕ
+abbrev pub lacks_text : Pen → List DrawnFinding → List ℕ
 lacks_text pen lacks = flat_map (lack pen) lacks ++ marks_text pen (marked lacks)
 
 -- the contents of a panel: pads, crosses, holes and findings
-abbrev pub scene_text : Pen → List Pad → List GridPoint → List Drilled → List Lack → List ℕ
-scene_text pen pads points holes lacks = ((pads_behind None pads ++ crosses pen points) ++ flat_map (hole pen) holes) ++ lacks_text pen lacks
+abbrev pub scene_text : Pen → List Pad → List GridPoint → List Drilled → List DrawnFinding → List ℕ
+scene_text pen pads points holes lacks = ((paths_after None pads ++ crosses pen points) ++ flat_map (hole pen) holes) ++ lacks_text pen lacks
 
 -- the end of a panel
 abbrev pub panel_end : List ℕ
@@ -96,6 +96,6 @@ panel_end = codes "</g>\n"
 -- the text of a panel
 abbrev pub panel_text : Place → Frame → Pen → Scene → List ℕ
 panel_text place frame pen scene =
-    ((((panel_start place ++ name_start pen frame) ++ escaped place.name.now) ++ behind_name pen frame scene)
+    ((((panel_start place ++ name_start pen frame) ++ escaped place.name.now) ++ after_name pen frame scene)
     ++ scene_text pen scene.pads.items scene.crosses.items scene.holes.now scene.lacks.items)
     ++ panel_end

@@ -13,8 +13,8 @@ use Rattle.ring_rules.specs.declared.finding.Drilled.{Drilled}
 use Rattle.ring_rules.specs.declared.finding.Finding.{Finding}
 use Rattle.ring_rules.specs.declared.finding.Finding.TheVariants as finding
 use Rattle.picture.specs.Elements.{are_alike}
-use Rattle.picture.specs.declared.scene.Lack.{Lack}
-use Rattle.picture.specs.declared.scene.Lack.TheVariants.{Ring, Gap}
+use Rattle.picture.specs.declared.scene.DrawnFinding.{DrawnFinding}
+use Rattle.picture.specs.declared.scene.DrawnFinding.TheVariants.{Ring, Gap}
 
 -- more flashes and holes than a panel draws: above 100,000
 abbrev pub is_crowded : List Flash → List Drilled → Bool
@@ -39,12 +39,12 @@ abbrev pub kind_order : ℕ × ℕ × ℕ → ℕ × ℕ × ℕ → Ordering
 kind_order a b = ordering_then (ordering_then (nat_cmp a.0 b.0) (nat_cmp a.1 b.1)) (nat_cmp a.2 b.2)
 
 -- pads in order of kind and size, so that pads alike stand next to each other
-abbrev pub AreInOrder : List Pad → Type 0
-AreInOrder pads = IsSortedByKey kind_of kind_order pads
+abbrev pub AreSortedBySize : List Pad → Type 0
+AreSortedBySize pads = IsSortedByKey kind_of kind_order pads
 
 -- each kind and size is one path: between two pads alike no new path begins
-abbrev pub IsOnePathEach : List Pad → Type 0
-IsOnePathEach pads =
+abbrev pub IsOnePathPerSize : List Pad → Type 0
+IsOnePathPerSize pads =
     (i j k : ℕ) (d : Pad) → i ≤ j → j < k → k < length pads → are_alike (get_or pads i d) (get_or pads k d) ≡ true
     → are_alike (get_or pads j d) (get_or pads (j + 1) d) ≡ true
 
@@ -57,21 +57,21 @@ abbrev pub crosses_of : List Flash → List GridPoint
 crosses_of flashes = flat_map cross_of flashes
 
 -- the insufficient ring of a hole, with the number of its finding; nothing where there is no such hole
-abbrev pub ring_lack : ℕ → Option Drilled → List Lack
-ring_lack number None = []
-ring_lack number (Some d) = Ring number d.hole ∷ []
+abbrev pub drawn_ring : ℕ → Option Drilled → List DrawnFinding
+drawn_ring number None = []
+drawn_ring number (Some d) = Ring number d.hole ∷ []
 
 -- the insufficient gap between two holes, with the number of its finding; nothing where one hole is missing
-abbrev pub gap_lack : ℕ → Option Drilled → Option Drilled → List Lack
-gap_lack number (Some a) (Some b) = Gap number a.hole b.hole ∷ []
-gap_lack number _ _ = []
+abbrev pub drawn_gap : ℕ → Option Drilled → Option Drilled → List DrawnFinding
+drawn_gap number (Some a) (Some b) = Gap number a.hole b.hole ∷ []
+drawn_gap number _ _ = []
 
 -- what a finding shows in the panel of a layer: a ring on its own layer alone, a gap in every panel; numbers count from 1
-unfoldable pub lack_of : ℕ → List Drilled → ℕ × Finding → List Lack
-lack_of layer holes (place, finding.Ring l hole) = if l == layer then ring_lack (place + 1) (slice_get holes hole) else []
-lack_of layer holes (place, finding.Oblique l hole) = if l == layer then ring_lack (place + 1) (slice_get holes hole) else []
-lack_of layer holes (place, finding.Gap first second) = gap_lack (place + 1) (slice_get holes first) (slice_get holes second)
+unfoldable pub drawn_finding : ℕ → List Drilled → ℕ × Finding → List DrawnFinding
+drawn_finding layer holes (place, finding.Ring l hole) = if l == layer then drawn_ring (place + 1) (slice_get holes hole) else []
+drawn_finding layer holes (place, finding.Oblique l hole) = if l == layer then drawn_ring (place + 1) (slice_get holes hole) else []
+drawn_finding layer holes (place, finding.Gap first second) = drawn_gap (place + 1) (slice_get holes first) (slice_get holes second)
 
 -- what all findings show there, in their order
-abbrev pub lacks_of : ℕ → List Drilled → List Finding → List Lack
-lacks_of layer holes findings = flat_map (lack_of layer holes) (enumerate_from 0 findings)
+abbrev pub drawn_findings : ℕ → List Drilled → List Finding → List DrawnFinding
+drawn_findings layer holes findings = flat_map (drawn_finding layer holes) (enumerate_from 0 findings)

@@ -1,7 +1,7 @@
 //! The forms of the elements of a picture. Lengths are in pm, printed in millimetres; in a picture y grows downwards.
 
 ghost use Rattle.std.specs.Prelude.{◌≡◌, ◌≤◌, ◌^◌, Some, neg_ℤ, unsigned_abs};
-ghost use Rattle.picture.specs.Elements.{across, along, box, circle, line, text_start};
+ghost use Rattle.picture.specs.Elements.{horizontal_line, vertical_line, box, circle, line, text_start};
 
 use crate::pen::Pen;
 use crate::widths::unit;
@@ -76,9 +76,9 @@ pub(crate) struct Across {
 }
 
 impl Display for Across {
-    ghost output = { λ part. Some (across part.x part.y part.length) };
+    ghost output = { λ part. Some (horizontal_line part.x part.y part.length) };
 
-    #[tactic(auto, unfolding(crate::specs::Elements::across))]
+    #[tactic(auto, unfolding(crate::specs::Elements::horizontal_line))]
     fn fmt<W: fmt::Write>(&self, f: &mut Formatter<W>) -> fmt::Result {
         let (x, y) = (ShortMillimetres(self.x), ShortMillimetres(self.y));
         write!(f, "M{x} {y}h{}", ShortMillimetres(self.length))
@@ -94,9 +94,9 @@ pub(crate) struct Along {
 }
 
 impl Display for Along {
-    ghost output = { λ part. Some (along part.x part.y part.length) };
+    ghost output = { λ part. Some (vertical_line part.x part.y part.length) };
 
-    #[tactic(auto, unfolding(crate::specs::Elements::along))]
+    #[tactic(auto, unfolding(crate::specs::Elements::vertical_line))]
     fn fmt<W: fmt::Write>(&self, f: &mut Formatter<W>) -> fmt::Result {
         let (x, y) = (ShortMillimetres(self.x), ShortMillimetres(self.y));
         write!(f, "M{x} {y}v{}", ShortMillimetres(self.length))

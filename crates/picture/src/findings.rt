@@ -3,14 +3,14 @@
 ghost use Rattle.std.specs.Prelude.{◌≡◌, ◌*◌, ◌≤◌, ◌^◌, ◌+ℤ◌, neg_ℤ, pos, Some, unsigned_abs};
 ghost use Rattle.std.specs.Fmt.{DisplaysOnOk};
 ghost use Rattle.grid_units.specs.Points.{IsCoordinate};
-ghost use Rattle.picture.specs.Elements.{aside, gap, halfway, lack, line, mark, mark_radius, middle_x, middle_y, number, number_of, place_x, place_y, reach, ring};
+ghost use Rattle.picture.specs.Elements.{number_offset, gap, halfway, lack, line, mark, mark_radius, middle_x, middle_y, number, number_of, place_x, place_y, reach, ring};
 ghost use Rattle.picture.specs.Panels.{lacks_text, marked};
 
 use crate::elements::{Circle, StraightLine, TextStart, down};
 use crate::holes::slot_line;
 use crate::pen::Pen;
-use crate::scene::Lack;
-use crate::widths::{gap_width, ring_rim, strong};
+use crate::scene::DrawnFinding;
+use crate::widths::{gap_width, mark_line_width, ring_rim};
 use grid_units::Hole;
 use printing::{Line, Lines};
 use std::fmt;
@@ -77,53 +77,57 @@ fn gap_line(pen: &Pen, first: &Hole, second: &Hole) -> StraightLine<'static>
 }
 
 /// The ring or the gap of a finding.
-impl Line<Pen> for Lack {
+impl Line<Pen> for DrawnFinding {
     ghost text = { lack };
 
     #[tactic(auto, unfolding(crate::specs::Elements::lack))]
     fn fmt_on<W: fmt::Write>(&self, pen: &Pen, f: &mut Formatter<W>) -> fmt::Result {
         match self {
-            Lack::Ring { hole, .. } => write_ring(f, pen, hole),
-            Lack::Gap { first, second, .. } => write!(f, "{}", gap_line(pen, first, second)),
+            DrawnFinding::Ring { hole, .. } => write_ring(f, pen, hole),
+            DrawnFinding::Gap { first, second, .. } => write!(
+                f,
+                "{}",
+                gap_line(pen, first, second)
+            ),
         }
     }
 }
 
 /// The x of a finding's place: the middle of its hole, or halfway between its two holes.
-fn place_x(found: &Lack) -> i64
+fn place_x(found: &DrawnFinding) -> i64
     ensures value { result ≡ place_x found.now }
     ensures in_range { IsCoordinate result }
 {
     match found {
-        Lack::Ring { hole, .. } => middle_x(hole),
-        Lack::Gap { first, second, .. } => halfway(middle_x(first), middle_x(second)),
+        DrawnFinding::Ring { hole, .. } => middle_x(hole),
+        DrawnFinding::Gap { first, second, .. } => halfway(middle_x(first), middle_x(second)),
     }
 }
 
 /// The y of a finding's place, likewise.
-fn place_y(found: &Lack) -> i64
+fn place_y(found: &DrawnFinding) -> i64
     ensures value { result ≡ place_y found.now }
     ensures in_range { IsCoordinate result }
 {
     match found {
-        Lack::Ring { hole, .. } => middle_y(hole),
-        Lack::Gap { first, second, .. } => halfway(middle_y(first), middle_y(second)),
+        DrawnFinding::Ring { hole, .. } => middle_y(hole),
+        DrawnFinding::Gap { first, second, .. } => halfway(middle_y(first), middle_y(second)),
     }
 }
 
 /// How far the element of a finding reaches from its place; 0 for a gap.
-fn reach(pen: &Pen, found: &Lack) -> u64
+fn reach(pen: &Pen, found: &DrawnFinding) -> u64
     ensures value { result ≡ reach pen.now found.now }
     ensures within { result ≤ 10 ^ 14 }
 {
     match found {
-        Lack::Ring { hole, .. } => hole.radius().unsigned_abs() + pen.ring,
-        Lack::Gap { .. } => 0,
+        DrawnFinding::Ring { hole, .. } => hole.radius().unsigned_abs() + pen.ring,
+        DrawnFinding::Gap { .. } => 0,
     }
 }
 
 /// The radius of the mark of a finding, at least a unit.
-fn mark_radius(pen: &Pen, found: &Lack) -> u64
+fn mark_radius(pen: &Pen, found: &DrawnFinding) -> u64
     ensures value { result ≡ mark_radius pen.now found.now }
     ensures within { result ≤ 2 * 10 ^ 14 }
 {
@@ -135,7 +139,7 @@ fn mark_radius(pen: &Pen, found: &Lack) -> u64
 struct Marks(Pen);
 
 /// The mark round a finding.
-impl Line<Marks> for Lack {
+impl Line<Marks> for DrawnFinding {
     ghost text = { λ marks found. mark marks.0 found };
 
     #[tactic(auto, unfolding(crate::specs::Elements::mark))]
@@ -146,37 +150,40 @@ impl Line<Marks> for Lack {
             x: place_x(self),
             y: down(place_y(self)),
             radius: mark_radius(pen, self) as i64,
-            width: strong(pen),
+            width: mark_line_width(pen),
         };
         write!(f, "{circle}")
     }
 }
 
 /// The number of a finding among all, from 1.
-fn number_of(found: &Lack) -> usize
+fn number_of(found: &DrawnFinding) -> usize
     ensures { result ≡ number_of found.now }
 {
     match found {
-        Lack::Ring { number, .. } => *number,
-        Lack::Gap { number, .. } => *number,
+        DrawnFinding::Ring { number, .. } => *number,
+        DrawnFinding::Gap { number, .. } => *number,
     }
 }
 
 /// The distance of a finding's number from its place, to the right and upwards.
-fn aside(pen: &Pen, found: &Lack) -> i64
-    ensures value { result ≡ pos (aside pen.now found.now) }
+fn number_offset(pen: &Pen, found: &DrawnFinding) -> i64
+    ensures value { result ≡ pos (number_offset pen.now found.now) }
     ensures within { unsigned_abs result ≤ 2 * 10 ^ 14 }
 {
     (mark_radius(pen, found) * 7 / 10) as i64
 }
 
 /// The place of a finding's number in a picture.
-fn number_place(pen: &Pen, found: &Lack) -> (i64, i64)
-    ensures x { result.0 ≡ place_x found.now +ℤ pos (aside pen.now found.now) }
-    ensures y { result.1 ≡ neg_ℤ (place_y found.now +ℤ pos (aside pen.now found.now)) }
+fn number_place(pen: &Pen, found: &DrawnFinding) -> (i64, i64)
+    ensures x { result.0 ≡ place_x found.now +ℤ pos (number_offset pen.now found.now) }
+    ensures y { result.1 ≡ neg_ℤ (place_y found.now +ℤ pos (number_offset pen.now found.now)) }
 {
-    let aside = aside(pen, found);
-    (place_x(found) + aside, down(place_y(found) + aside))
+    let number_offset = number_offset(pen, found);
+    (
+        place_x(found) + number_offset,
+        down(place_y(found) + number_offset),
+    )
 }
 
 /// The numbers of findings, by the pen that draws them.
@@ -184,7 +191,7 @@ fn number_place(pen: &Pen, found: &Lack) -> (i64, i64)
 struct Numbers(Pen);
 
 /// The number of a finding, at the upper right of its mark.
-impl Line<Numbers> for Lack {
+impl Line<Numbers> for DrawnFinding {
     ghost text = { λ numbers found. number numbers.0 found };
 
     #[tactic(auto, unfolding(crate::specs::Elements::number, crate::specs::Elements::number_at))]
@@ -198,7 +205,7 @@ impl Line<Numbers> for Lack {
 }
 
 /// The findings that are marked: the first hundred.
-fn marked(lacks: &[Lack]) -> &[Lack]
+fn marked(lacks: &[DrawnFinding]) -> &[DrawnFinding]
     ensures { result.now ≡ marked lacks.now }
 {
     if lacks.len() <= MOST_MARKED {
@@ -211,7 +218,7 @@ fn marked(lacks: &[Lack]) -> &[Lack]
 #[derive(Clone, Copy)]
 pub(crate) struct Findings<'a> {
     pub(crate) pen: &'a Pen,
-    pub(crate) lacks: &'a [Lack],
+    pub(crate) lacks: &'a [DrawnFinding],
 }
 
 impl Display for Findings<'_> {

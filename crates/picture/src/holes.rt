@@ -5,7 +5,7 @@ ghost use Rattle.picture.specs.Elements.{arm, cross, crosses, hole, hole_class, 
 
 use crate::elements::{Across, Along, Circle, StraightLine, down};
 use crate::pen::Pen;
-use crate::widths::{arm, rim, strong};
+use crate::widths::{arm, mark_line_width, rim};
 use grid_units::{Hole, Point};
 use printing::{Line, Lines, ShortMillimetres};
 use ring_rules::Drilled;
@@ -59,7 +59,7 @@ impl Display for Crosses<'_> {
         if self.points.is_empty() {
             return Ok(());
         }
-        let width = ShortMillimetres(strong(self.pen));
+        let width = ShortMillimetres(mark_line_width(self.pen));
         let lines = Lines {
             page: self.pen,
             lines: self.points,

@@ -3,7 +3,7 @@
 ghost use Rattle.std.specs.Prelude.{ℕ, List};
 ghost use Rattle.pad_shapes.specs.declared.pad.Pad.{Pad};
 ghost use Rattle.picture.specs.Escapes.{IsEscaped, escaped};
-ghost use Rattle.picture.specs.Scenes.{AreInOrder, IsOnePathEach};
+ghost use Rattle.picture.specs.Scenes.{AreSortedBySize, IsOnePathPerSize};
 
 /// An escaped name has no `<`, no U+FFFE and no U+FFFF, and `&` only where an entity begins.
 pub fn escaped_names()
@@ -11,6 +11,6 @@ pub fn escaped_names()
 {}
 
 /// Of pads in order of kind and size, each kind and size is one path.
-pub fn paths_of_kinds()
-    ensures { (pads : List Pad) → AreInOrder pads → IsOnePathEach pads }
+pub fn one_path_per_size()
+    ensures { (pads : List Pad) → AreSortedBySize pads → IsOnePathPerSize pads }
 {}

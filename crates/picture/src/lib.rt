@@ -16,8 +16,8 @@ mod scene;
 mod widths;
 
 pub use frame::Frame;
-pub use laws::{escaped_names, paths_of_kinds};
+pub use laws::{escaped_names, one_path_per_size};
 pub use names::Escaped;
 pub use panel::{Panel, Place};
 pub use pen::Pen;
-pub use scene::{Lack, Scene, scene_of};
+pub use scene::{DrawnFinding, Scene, scene_of};

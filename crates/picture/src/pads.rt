@@ -2,7 +2,7 @@
 
 ghost use Rattle.std.specs.Prelude.{◌≡◌, ◌*◌, ◌-◌, ◌≤◌, ◌^◌, ◌+ℤ◌, ◌-ℤ◌, neg_ℤ, pos, nat_le, None, Some, unsigned_abs};
 ghost use Rattle.std.specs.Fmt.{DisplaysOnOk};
-ghost use Rattle.picture.specs.Elements.{are_alike, box, last_end, lines_start, obround_line, outline, pads_behind, path_start, rect_box, turn};
+ghost use Rattle.picture.specs.Elements.{are_alike, box, last_end, lines_start, obround_line, outline, paths_after, path_start, rect_box, path_change};
 
 use crate::elements::{Across, Along, Rectangle, down};
 use pad_shapes::{Obround, Pad, Rect};
@@ -152,7 +152,7 @@ impl Display for PathStart<'_> {
 
 /// Writes what stands between the pad before, if there is one, and a pad: nothing, or the start of a new path.
 fn write_turn<W: fmt::Write>(f: &mut Formatter<W>, before: Option<Pad>, pad: &Pad) -> fmt::Result
-    ensures { DisplaysOnOk W.write_str_gives f.old result (Some (turn before pad.now)) f.new }
+    ensures { DisplaysOnOk W.write_str_gives f.old result (Some (path_change before pad.now)) f.new }
 {
     match before {
         None => write!(f, "{}", PathStart(pad)),
@@ -180,7 +180,7 @@ fn write_last_end<W: fmt::Write>(f: &mut Formatter<W>, before: Option<Pad>) -> f
 pub(crate) struct Paths<'a>(pub(crate) &'a [Pad]);
 
 impl Display for Paths<'_> {
-    ghost output = { λ pads. Some (pads_behind None pads.0.now) };
+    ghost output = { λ pads. Some (paths_after None pads.0.now) };
 
     fn fmt<W: fmt::Write>(&self, f: &mut Formatter<W>) -> fmt::Result {
         let mut before = None;

@@ -3,7 +3,7 @@
 ghost use Rattle.std.specs.Prelude.{◌≡◌, ◌≤◌, ◌^◌, ◌++◌, ◌+ℤ◌, ◌==◌, neg_ℤ, pos, Some, if◌then◌else◌};
 ghost use Rattle.std.specs.Fmt.{DisplaysOnOk};
 ghost use Rattle.picture.specs.Escapes.{escaped};
-ghost use Rattle.picture.specs.Panels.{behind_name, board_box, drawn_words, lacking_words, name_start, note, panel_start, panel_text, ring_count, scene_text};
+ghost use Rattle.picture.specs.Panels.{after_name, board_box, drawn_words, lacking_words, name_start, note, panel_start, panel_text, ring_count, scene_text};
 
 use crate::elements::{TextStart, down};
 use crate::findings::Findings;
@@ -12,7 +12,7 @@ use crate::holes::Crosses;
 use crate::names::Escaped;
 use crate::pads::Paths;
 use crate::pen::Pen;
-use crate::scene::{Lack, Scene};
+use crate::scene::{DrawnFinding, Scene};
 use printing::{Lines, ShortMillimetres};
 use std::fmt;
 use std::fmt::{Display, Formatter};
@@ -81,12 +81,12 @@ fn above(frame: &Frame, height: u64) -> i64
 }
 
 /// The number of insufficient rings.
-fn ring_count(lacks: &[Lack]) -> usize
+fn ring_count(lacks: &[DrawnFinding]) -> usize
     ensures { result ≡ ring_count lacks.now }
 {
     lacks
         .iter()
-        .filter(|lack| matches!(lack, Lack::Ring { .. }))
+        .filter(|lack| matches!(lack, DrawnFinding::Ring { .. }))
         .count()
 }
 
@@ -113,7 +113,7 @@ fn write_drawn<W: fmt::Write>(f: &mut Formatter<W>, scene: &Scene) -> fmt::Resul
 fn write_lacking<W: fmt::Write>(f: &mut Formatter<W>, pen: &Pen, count: usize) -> fmt::Result
     ensures { DisplaysOnOk W.write_str_gives f.old result (Some (lacking_words pen.now count)) f.new }
 {
-    if !pen.asked {
+    if !pen.has_rules {
         return Ok(());
     }
     let word = words_for(count, " ring lacking", " rings lacking");
@@ -199,7 +199,7 @@ struct AfterName<'a> {
 }
 
 impl Display for AfterName<'_> {
-    ghost output = { λ rest. Some (behind_name rest.pen.now rest.frame.now rest.scene.now) };
+    ghost output = { λ rest. Some (after_name rest.pen.now rest.frame.now rest.scene.now) };
 
     fn fmt<W: fmt::Write>(&self, f: &mut Formatter<W>) -> fmt::Result {
         let (frame, pen, scene) = (self.frame, self.pen, self.scene);

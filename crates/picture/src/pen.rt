@@ -10,7 +10,7 @@ pub struct Pen {
     /// The required ring in pm, at most 10 m; 0 without rules.
     pub ring: u64,
     /// Whether there are rules; without them there are no findings.
-    pub asked: bool,
+    pub has_rules: bool,
     ghost small: { unit ≤ 10 ^ 13 },
     ghost near: { ring ≤ 10 ^ 13 },
 }

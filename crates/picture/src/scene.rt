@@ -2,7 +2,7 @@
 
 ghost use Rattle.std.specs.Prelude.{◌≡◌, ◌<◌, ◌^◌, ◌++◌, slice_get, IfOk, IsPermutation, OnOk};
 ghost use Rattle.layer_image.specs.Flashes.{pads_of};
-ghost use Rattle.picture.specs.Scenes.{AreInOrder, cross_of, crosses_of, gap_lack, is_crowded, kind_of, lack_of, lacks_of, pad_of, ring_lack, unless_crowded};
+ghost use Rattle.picture.specs.Scenes.{AreSortedBySize, cross_of, crosses_of, drawn_gap, is_crowded, kind_of, drawn_finding, drawn_findings, pad_of, drawn_ring, unless_crowded};
 
 use grid_units::{Hole, Point};
 use layer_image::{Flash, What};
@@ -11,11 +11,11 @@ use ring_rules::{Drilled, Finding};
 use std::alloc::{AllocError, Global};
 
 /// The most flashes and holes that a panel draws.
-const MOST_DRAWN: usize = 100_000;
+const DRAWN_LIMIT: usize = 100_000;
 
 /// An insufficient ring or gap, with the number of its finding, from 1.
 #[derive(Clone, Copy)]
-pub enum Lack {
+pub enum DrawnFinding {
     /// The ring of a hole.
     Ring {
         /// The number of the finding.
@@ -46,7 +46,7 @@ pub struct Scene<'a> {
     /// The holes.
     pub holes: &'a [Drilled],
     /// The insufficient rings and gaps, in the order of the findings.
-    pub lacks: Vec<Lack>,
+    pub lacks: Vec<DrawnFinding>,
 }
 
 /// Whether there are more flashes and holes than a panel draws.
@@ -54,7 +54,7 @@ fn is_crowded(flashes: &[Flash], holes: &[Drilled]) -> bool
     ensures { result ≡ is_crowded flashes.now holes.now }
 {
     match flashes.len().checked_add(holes.len()) {
-        Some(count) => count > MOST_DRAWN,
+        Some(count) => count > DRAWN_LIMIT,
         None => true,
     }
 }
@@ -129,7 +129,7 @@ fn pads_of(alloc: Global, flashes: &[Flash]) -> Result<Vec<Pad>, AllocError>
 /// The pads of some flashes, in order of kind and size.
 fn sorted_pads(alloc: Global, flashes: &[Flash]) -> Result<Vec<Pad>, AllocError>
     ensures all { IfOk result (λ pads. IsPermutation (pads_of flashes.now) pads.items) }
-    ensures order { IfOk result (λ pads. AreInOrder pads.items) }
+    ensures order { IfOk result (λ pads. AreSortedBySize pads.items) }
 {
     let mut pads = pads_of(alloc, flashes)?;
     pads.sort_by_key(|pad| kind_of(pad))?;
@@ -155,11 +155,15 @@ fn hole_at(holes: &[Drilled], place: usize) -> Option<Drilled>
 }
 
 /// Adds the insufficient ring of a hole, if there is such a hole.
-fn push_ring(lacks: &mut Vec<Lack>, number: usize, hole: Option<Drilled>) -> Result<(), AllocError>
-    ensures { OnOk result (lacks.new.items ≡ lacks.old.items ++ ring_lack number hole) }
+fn push_ring(
+    lacks: &mut Vec<DrawnFinding>,
+    number: usize,
+    hole: Option<Drilled>,
+) -> Result<(), AllocError>
+    ensures { OnOk result (lacks.new.items ≡ lacks.old.items ++ drawn_ring number hole) }
 {
     if let Some(drilled) = hole {
-        lacks.push(Lack::Ring {
+        lacks.push(DrawnFinding::Ring {
             number,
             hole: drilled.hole,
         })?;
@@ -169,15 +173,15 @@ fn push_ring(lacks: &mut Vec<Lack>, number: usize, hole: Option<Drilled>) -> Res
 
 /// Adds the insufficient gap between two holes, if there are both.
 fn push_gap(
-    lacks: &mut Vec<Lack>,
+    lacks: &mut Vec<DrawnFinding>,
     number: usize,
     first: Option<Drilled>,
     second: Option<Drilled>,
 ) -> Result<(), AllocError>
-    ensures { OnOk result (lacks.new.items ≡ lacks.old.items ++ gap_lack number first second) }
+    ensures { OnOk result (lacks.new.items ≡ lacks.old.items ++ drawn_gap number first second) }
 {
     if let (Some(first), Some(second)) = (first, second) {
-        lacks.push(Lack::Gap {
+        lacks.push(DrawnFinding::Gap {
             number,
             first: first.hole,
             second: second.hole,
@@ -187,16 +191,16 @@ fn push_gap(
 }
 
 /// Adds what a finding shows in the panel of a layer, by the finding's place in the list.
-#[tactic(auto, unfolding(crate::specs::Scenes::lack_of))]
+#[tactic(auto, unfolding(crate::specs::Scenes::drawn_finding))]
 fn push_lack(
-    lacks: &mut Vec<Lack>,
+    lacks: &mut Vec<DrawnFinding>,
     layer: usize,
     holes: &[Drilled],
     place: usize,
     finding: Finding,
 ) -> Result<(), AllocError>
     requires { place < 2 ^ 63 }
-    ensures { OnOk result (lacks.new.items ≡ lacks.old.items ++ lack_of layer holes.now (place, finding)) }
+    ensures { OnOk result (lacks.new.items ≡ lacks.old.items ++ drawn_finding layer holes.now (place, finding)) }
 {
     match finding {
         Finding::Ring { layer: l, hole } | Finding::Oblique { layer: l, hole } => {
@@ -215,13 +219,13 @@ fn push_lack(
 }
 
 /// What the findings show in the panel of a layer.
-fn lacks_of(
+fn drawn_findings(
     alloc: Global,
     layer: usize,
     holes: &[Drilled],
     findings: &[Finding],
-) -> Result<Vec<Lack>, AllocError>
-    ensures { IfOk result (λ lacks. lacks.items ≡ lacks_of layer holes.now findings.now) }
+) -> Result<Vec<DrawnFinding>, AllocError>
+    ensures { IfOk result (λ lacks. lacks.items ≡ drawn_findings layer holes.now findings.now) }
 {
     let mut lacks = Vec::new(alloc);
     for (place, finding) in findings.iter().enumerate() {
@@ -246,10 +250,10 @@ pub fn scene_of<'a>(
 ) -> Result<Scene<'a>, AllocError>
     ensures crowded { IfOk result (λ scene. scene.crowded ≡ is_crowded flashes.now holes.now) }
     ensures pads { IfOk result (λ scene. IsPermutation (pads_of (unless_crowded scene.crowded flashes.now)) scene.pads.items) }
-    ensures order { IfOk result (λ scene. AreInOrder scene.pads.items) }
+    ensures order { IfOk result (λ scene. AreSortedBySize scene.pads.items) }
     ensures crosses { IfOk result (λ scene. scene.crosses.items ≡ crosses_of (unless_crowded scene.crowded flashes.now)) }
     ensures holes { IfOk result (λ scene. scene.holes.now ≡ unless_crowded scene.crowded holes.now) }
-    ensures lacks { IfOk result (λ scene. scene.lacks.items ≡ lacks_of layer holes.now findings.now) }
+    ensures lacks { IfOk result (λ scene. scene.lacks.items ≡ drawn_findings layer holes.now findings.now) }
 {
     let crowded = is_crowded(flashes, holes);
     let drawn = drawn_flashes(crowded, flashes);
@@ -258,6 +262,6 @@ pub fn scene_of<'a>(
         pads: sorted_pads(alloc, drawn)?,
         crosses: crosses_of(alloc, drawn)?,
         holes: drawn_holes(crowded, holes),
-        lacks: lacks_of(alloc, layer, holes, findings)?,
+        lacks: drawn_findings(alloc, layer, holes, findings)?,
     })
 }

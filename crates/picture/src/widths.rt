@@ -38,7 +38,7 @@ pub(crate) fn unit(pen: &Pen) -> i64
 }
 
 /// The width of the lines of crosses and marks: a fifth of a unit.
-pub(crate) fn strong(pen: &Pen) -> i64
+pub(crate) fn mark_line_width(pen: &Pen) -> i64
     ensures { result ≡ pos (pen.now.unit / 5) }
 {
     (pen.unit / 5) as i64

@@ -2,7 +2,7 @@
 
 ghost use Rattle.std.specs.Prelude.{◌≡◌, ◌≤◌, ◌<◌, ◌+◌, ◌++◌, ◌∷◌, ◌/◌, ◌%◌, ◌^◌, [], Some, decimal};
 ghost use Rattle.std.specs.Fmt.{DisplaysOnOk};
-ghost use Rattle.grid_units.specs.Spellings.{behind_point, millimetres, minus, places, trimmed};
+ghost use Rattle.grid_units.specs.Spellings.{fraction_text, millimetres, minus, places, trimmed};
 ghost use Rattle.printing.specs.Lengths.{short_millimetres};
 
 use grid_units::{power_of_ten, write_mm};
@@ -81,7 +81,7 @@ fn write_places<W: fmt::Write>(f: &mut Formatter<W>, number: u32, width: u8) -> 
 
 /// Writes a point and the decimals of so many pm, less than a millimetre, without the zeros at their end; nothing where none is left.
 fn write_short_decimals<W: fmt::Write>(f: &mut Formatter<W>, below: u32) -> fmt::Result
-    ensures { DisplaysOnOk W.write_str_gives f.old result (Some (behind_point (trimmed (places 9 below)))) f.new }
+    ensures { DisplaysOnOk W.write_str_gives f.old result (Some (fraction_text (trimmed (places 9 below)))) f.new }
 {
     let (number, width) = without_zeros(below);
     if width == 0 {

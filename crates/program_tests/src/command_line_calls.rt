@@ -339,12 +339,12 @@ fn limits_of<'a>(rt: HostRuntime, words: &'a [&'a str]) -> Option<Limits<'a>> {
             Request::Report {
                 ring: "0.125",
                 gap: "0.2",
-                most,
+                limit,
                 waive,
                 format,
                 manifest: "m.csv",
             },
-        ) => Some((most, waive, format)),
+        ) => Some((limit, waive, format)),
         _ => None,
     }
 }

@@ -1,15 +1,18 @@
 //! What the names and the texts of files say of them.
 
-use file_hints::*;
+use proposals::*;
 use std::test::Fail;
 
 /// A text, and the kind of file that it is.
-const KINDS: [(&str, Kind); 5] = [
-    ("%FSLAX46Y46*%\nM02*\n", Kind::Gerber),
-    ("M48\r\nT1C0.4\r\n%\r\nT1\r\nX0Y0\r\nM30\r\n", Kind::Drill),
-    ("M30\n", Kind::Empty),
-    ("%\nX0Y0\nM30\n", Kind::Drill),
-    ("role,name,file\n", Kind::Neither),
+const KINDS: [(&str, FileKind); 5] = [
+    ("%FSLAX46Y46*%\nM02*\n", FileKind::Gerber),
+    (
+        "M48\r\nT1C0.4\r\n%\r\nT1\r\nX0Y0\r\nM30\r\n",
+        FileKind::Drill,
+    ),
+    ("M30\n", FileKind::Empty),
+    ("%\nX0Y0\nM30\n", FileKind::Drill),
+    ("role,name,file\n", FileKind::Neither),
 ];
 
 #[test]
@@ -20,7 +23,7 @@ fn texts_have_their_kinds(rt: HostRuntime) {
 }
 
 /// Whether the file function of a text has these fields.
-fn has_fields(text: &[u8], fields: (&[u8], &[u8], &[u8])) -> bool {
+fn has_valid_fields(text: &[u8], fields: (&[u8], &[u8], &[u8])) -> bool {
     match function_of(text) {
         Some(function) => {
             let found = fields_of(function);
@@ -33,7 +36,7 @@ fn has_fields(text: &[u8], fields: (&[u8], &[u8], &[u8])) -> bool {
 #[test]
 fn the_last_file_function_counts(rt: HostRuntime) {
     let text = b"G04 #@! TF.FileFunction,Legend,Top*\n%TF.FileFunction,Copper,L2,Bot*%\nM02*\n";
-    assert!(rt; has_fields(text, (b"Copper", b"L2", b"Bot")));
+    assert!(rt; has_valid_fields(text, (b"Copper", b"L2", b"Bot")));
 }
 
 /// Digits, and the number of the layer.
@@ -48,7 +51,7 @@ fn layers_have_numbers_of_at_most_nine_digits(rt: HostRuntime) {
 
 #[test]
 fn names_have_a_short_form(rt: HostRuntime) {
-    assert!(rt; short_name(b"a/b/Board-F_Cu.gbr") == b"Board-F_Cu.gbr".as_slice());
+    assert!(rt; base_name(b"a/b/Board-F_Cu.gbr") == b"Board-F_Cu.gbr".as_slice());
 }
 
 /// A name, and whether its short form has a point.
@@ -57,7 +60,7 @@ const POINTS: [(&str, bool); 2] = [("a.b/c.d", true), ("a.b/c", false)];
 #[test]
 fn names_have_a_point(rt: HostRuntime) {
     for &(name, is_there) in &POINTS {
-        assert!(rt; has_point(name.as_bytes()) == is_there, "of {name}");
+        assert!(rt; has_dot(name.as_bytes()) == is_there, "of {name}");
     }
 }
 
@@ -65,23 +68,23 @@ fn names_have_a_point(rt: HostRuntime) {
 fn are_copper_words(words: &[&[u8]]) -> bool {
     let stem = stem_of(true, words);
     words.len() == 4
-        && end_of(true, words) == b"gbr".as_slice()
-        && last_word(stem) == b"f".as_slice()
+        && extension_of(true, words) == b"gbr".as_slice()
+        && last_other_word(stem) == b"f".as_slice()
         && ends_in_copper(stem)
-        && !names_unplated(words)
+        && !says_unplated(words)
 }
 
 #[test]
 fn names_have_words(rt: HostRuntime) -> Result<(), Fail> {
-    let lower = lower_name(rt.alloc(), b"a/Board-F_Cu.gbr")?;
-    let words = runs(rt.alloc(), lower.as_slice())?;
+    let lower = lower_base_name(rt.alloc(), b"a/Board-F_Cu.gbr")?;
+    let words = word_runs(rt.alloc(), lower.as_slice())?;
     assert!(rt; are_copper_words(words.as_slice()));
     Ok(())
 }
 
 #[test]
 fn words_have_a_number(rt: HostRuntime) {
-    assert!(rt; numbered(&["in", "group"], b"group2") == Some(2));
+    assert!(rt; number_suffix(&["in", "group"], b"group2") == Some(2));
 }
 
 #[test]

@@ -1,6 +1,6 @@
 //! Readers that are read up to a limit, and how they fail.
 
-use loading::*;
+use ringcheck_files::*;
 use std::io::{Error, ErrorKind, Read, Result as IoResult};
 use std::test::Fail;
 

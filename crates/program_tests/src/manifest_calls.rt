@@ -180,10 +180,10 @@ fn names_are_text(rt: HostRuntime) {
 }
 
 /// The span of a record, if it has one.
-type Layers = Option<(usize, usize)>;
+type LayerRange = Option<(usize, usize)>;
 
 /// Whether a manifest is accepted, and its files have just these spans.
-fn has_spans(rt: HostRuntime, text: &str, spans: &[Layers]) -> bool {
+fn has_spans(rt: HostRuntime, text: &str, spans: &[LayerRange]) -> bool {
     let Ok(entries) = read_manifest(rt.alloc(), text.as_bytes()) else {
         return false;
     };
@@ -194,7 +194,7 @@ fn has_spans(rt: HostRuntime, text: &str, spans: &[Layers]) -> bool {
             .all(|(entry, span)| layers_of(entry.span) == *span)
 }
 
-fn layers_of(span: Option<Span>) -> Layers {
+fn layers_of(span: Option<Span>) -> LayerRange {
     match span {
         Some(span) => Some((span.first(), span.last())),
         None => None,
@@ -214,7 +214,7 @@ fn with_span(alloc: Global, fields: &str) -> Result<String, AllocError> {
 }
 
 /// The fields of a span, and the span.
-const SPANS: [(&str, Layers); 5] = [
+const SPANS: [(&str, LayerRange); 5] = [
     ("1,1", Some((1, 1))),
     ("1,2", Some((1, 2))),
     ("2,2", Some((2, 2))),

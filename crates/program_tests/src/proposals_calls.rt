@@ -25,10 +25,10 @@ const BURIED: &str = "M48\n; #@! TF.FileFunction,Plated,2,3,Buried\n%\nX0Y0\nM30
 const THROUGH: &str = "M48\n; #@! TF.FileFunction,Plated,1,4,PTH\n%\nX0Y0\nM30\n";
 
 /// A file's name and text.
-type Held = (&'static str, &'static str);
+type ThreeFiles = (&'static str, &'static str);
 
 /// Four files of a board as KiCad writes their file functions, and its manifest.
-const BOARD: [Held; 5] = [
+const BOARD: [ThreeFiles; 5] = [
     (
         "StickHub-B_Cu.gbr",
         "%TF.FileFunction,Copper,L2,Bot*%\n%FSLAX46Y46*%\nM02*\n",
@@ -49,24 +49,24 @@ const BOARD: [Held; 5] = [
 ];
 
 /// The files of a folder, all of which were read.
-fn folder_of(alloc: Global, files: &[Held]) -> Result<Vec<Named<'static>>, AllocError> {
+fn folder_of(alloc: Global, files: &[ThreeFiles]) -> Result<Vec<InputFile<'static>>, AllocError> {
     let mut folder = Vec::new(alloc);
     for &(name, text) in files {
-        let content = Content::Bytes(text.as_bytes());
-        folder.push(Named { name, content })?;
+        let content = FileContent::Bytes(text.as_bytes());
+        folder.push(InputFile { name, content })?;
     }
     Ok(folder)
 }
 
 /// The manifest that is proposed for these files.
-fn proposed(alloc: Global, files: &[Held]) -> Result<Vec<u8>, AllocError> {
+fn proposed(alloc: Global, files: &[ThreeFiles]) -> Result<Vec<u8>, AllocError> {
     let folder = folder_of(alloc, files)?;
     let list = propose(alloc, folder.as_slice())?;
     write_proposal(alloc, list.as_slice())
 }
 
 /// The table of what the files are and why.
-fn reasons(alloc: Global, folder: &[Named<'_>]) -> Result<Vec<u8>, AllocError> {
+fn reasons(alloc: Global, folder: &[InputFile<'_>]) -> Result<Vec<u8>, AllocError> {
     let list = propose(alloc, folder)?;
     write_reasons(alloc, list.as_slice())
 }
@@ -82,10 +82,10 @@ fn has_records(text: &[u8], header: &str, records: &str) -> bool {
 }
 
 /// Files, and the records of the manifest of version 1 that is proposed for them.
-type Proposed = (&'static [Held], &'static str);
+type ProposedRole = (&'static [ThreeFiles], &'static str);
 
 /// Files without holes or a short name.
-const NAMES: [Proposed; 3] = [
+const NAMES: [ProposedRole; 3] = [
     (
         &[("top.gbr", LAYER), ("npth.drl", "M30\n")],
         "copper,top.gbr,top.gbr\n",
@@ -100,8 +100,8 @@ const NAMES: [Proposed; 3] = [
     ),
 ];
 
-/// Layers that are known by their functions or names, and drill files.
-const LAYERS: [Proposed; 8] = [
+/// LayerRange that are known by their functions or names, and drill files.
+const LAYERS: [ProposedRole; 8] = [
     (
         &[("x.gtl", LAYER), ("x.gbl", LAYER), ("h.drl", BLIND)],
         "copper,x.gtl,x.gtl\ncopper,x.gbl,x.gbl\nplated,h.drl,h.drl\n",
@@ -149,7 +149,7 @@ const LAYERS: [Proposed; 8] = [
 ];
 
 /// Drill files that do not go through all layers, which are clear from the copper files.
-const SPANS: [Proposed; 2] = [
+const SPANS: [ProposedRole; 2] = [
     (
         &[
             ("x.g1", LAYER),
@@ -226,9 +226,9 @@ const REASONS: &str =
 #[test]
 fn each_file_has_a_reason(rt: HostRuntime) -> Result<(), Fail> {
     let mut folder = folder_of(rt.alloc(), &BOARD)?;
-    folder.push(Named {
+    folder.push(InputFile {
         name: "StickHub-B_Cu.gbr",
-        content: Content::NotRead,
+        content: FileContent::NotRead,
     })?;
     let text = reasons(rt.alloc(), &folder)?;
     assert!(rt; text.as_slice() == REASONS.as_bytes());
@@ -236,24 +236,26 @@ fn each_file_has_a_reason(rt: HostRuntime) -> Result<(), Fail> {
 }
 
 /// Files, and the table of reasons for them without its header.
-const REASON_ROWS: [(&[Named<'static>], &str); 2] = [
+const REASON_ROWS: [(&[InputFile<'static>], &str); 2] = [
     (
         &[
-            Named {
+            InputFile {
                 name: "folder",
-                content: Content::NotRead,
+                content: FileContent::NotRead,
             },
-            Named {
+            InputFile {
                 name: "long.gbr",
-                content: Content::TooLong,
+                content: FileContent::TooLong,
             },
         ],
         "folder,?,it cannot be read\nlong.gbr,?,it is too long\n",
     ),
     (
-        &[Named {
+        &[InputFile {
             name: "odd.gbr",
-            content: Content::Bytes(b"%TF.FileFunction,\x1b[31m\\~\x7f\xc3\xa9\x00,L1*%\nM02*\n"),
+            content: FileContent::Bytes(
+                b"%TF.FileFunction,\x1b[31m\\~\x7f\xc3\xa9\x00,L1*%\nM02*\n",
+            ),
         }],
         "odd.gbr,-,file function \\x1b[31m\\x5c~\\x7f\\xc3\\xa9\\x00\n",
     ),

@@ -1,7 +1,7 @@
 //! Texts that are refused, and a long one. What short texts are rewritten as is in the data of `worked_examples`.
 
 use grid_units::{Fail, Fault, Reason};
-use rewriting::{Kind, rewrite_bytes};
+use single_files::{Kind, rewrite_bytes};
 use std::alloc::{AllocError, Global};
 use std::test::Fail as TestFail;
 

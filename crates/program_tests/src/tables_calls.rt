@@ -1,9 +1,9 @@
 //! Tables of one flash, and a refused layer. Other tables are in the data of `worked_examples`.
 
 use grid_units::{Fail, Fault, Reason};
+use single_files::show_layer;
 use std::alloc::{AllocError, Global};
 use std::test::Fail as TestFail;
-use tables::show_layer;
 
 /// The header of a layer's table.
 const HEADER: &[u8] = b"flash,what,x,y,width,height\n";

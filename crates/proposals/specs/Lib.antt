@@ -1,6 +1,8 @@
-pub mod Deciding
-pub mod Proposing
+pub mod Decisions
+pub mod ProposalList
 pub mod Manifests
 pub mod Stack
-pub mod Keeping
-pub mod ReadingBack
+pub mod Omission
+pub mod ReadBack
+pub mod Contents
+pub mod Names

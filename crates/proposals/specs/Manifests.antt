@@ -6,20 +6,20 @@ use Rattle.std.specs.Ordering.{nat_cmp}
 use Rattle.std.specs.Str.{bytes_eq}
 use Rattle.csv.specs.Writing.{default_writer, row_text}
 use Rattle.grid_units.specs.Ascii as ascii
-use Rattle.file_hints.specs.Names.{short_name}
-use Rattle.proposals.specs.declared.outcome.Place.{Place}
-use Rattle.proposals.specs.declared.outcome.Place.TheVariants.{Numbered, Top, Inner, Unknown, Bottom}
-use Rattle.proposals.specs.declared.outcome.Layers.{Layers}
-use Rattle.proposals.specs.declared.outcome.Proposed.{Proposed}
-use Rattle.proposals.specs.declared.outcome.Proposed.TheVariants.{Copper, Plated, Unplated, Undecided, LeftOut}
-use Rattle.proposals.specs.declared.outcome.Because.{Because}
-use Rattle.proposals.specs.declared.outcome.Because.TheVariants as because
-use Rattle.proposals.specs.declared.outcome.Proposal.{Proposal}
+use Rattle.proposals.specs.Names.{base_name}
+use Rattle.proposals.specs.declared.model.StackPosition.{StackPosition}
+use Rattle.proposals.specs.declared.model.StackPosition.TheVariants.{Numbered, Top, Inner, Unknown, Bottom}
+use Rattle.proposals.specs.declared.model.LayerRange.{LayerRange}
+use Rattle.proposals.specs.declared.model.ProposedRole.{ProposedRole}
+use Rattle.proposals.specs.declared.model.ProposedRole.TheVariants.{Copper, Plated, Unplated, Undecided, LeftOut}
+use Rattle.proposals.specs.declared.model.ProposalReason.{ProposalReason}
+use Rattle.proposals.specs.declared.model.ProposalReason.TheVariants as because
+use Rattle.proposals.specs.declared.model.Proposal.{Proposal}
 
 -- ---- words
 
 -- the word of a role: `copper`, or `?` for an undecided file, and `-` in the table of why for one that is left out
-abbrev pub role_word : Proposed → List ℕ
+abbrev pub role_word : ProposedRole → List ℕ
 role_word (Copper place) = codes "copper"
 role_word (Plated span) = codes "plated"
 role_word (Unplated span) = codes "unplated"
@@ -27,7 +27,7 @@ role_word Undecided = codes "?"
 role_word LeftOut = codes "-"
 
 -- the words of a reason, without the fields of a file function
-abbrev pub reason_words : Because → List ℕ
+abbrev pub reason_words : ProposalReason → List ℕ
 reason_words because.NoKind = codes "neither a Gerber nor a drill file"
 reason_words because.NoHoles = codes "a drill file without holes"
 reason_words (because.FileFunction function) = codes "file function "
@@ -44,7 +44,7 @@ reason_words because.NotRead = codes "it cannot be read"
 reason_words because.TooLong = codes "it is too long"
 
 -- the first field of the file function that a reason names, empty where it names none
-abbrev pub named_function : Because → List ℕ
+abbrev pub named_function : ProposalReason → List ℕ
 named_function because.NoKind = []
 named_function because.NoHoles = []
 named_function (because.FileFunction function) = function
@@ -81,7 +81,7 @@ abbrev pub byte_text : ℕ → List ℕ
 byte_text b = if is_printed b then b ∷ [] else backslash ∷ lower_x ∷ hex_digit (b / 16) ∷ hex_digit (b % 16) ∷ []
 
 -- the text of a reason, `file function Copper`: a file's bytes reach a terminal only as printable ASCII
-abbrev pub because_text : Because → List ℕ
+abbrev pub because_text : ProposalReason → List ℕ
 because_text why = reason_words why ++ flat_map byte_text (named_function why)
 
 -- ---- the table of why
@@ -102,7 +102,7 @@ reasons_text proposals = reasons_heading ++ flat_map reason_row proposals
 
 -- The rank of a copper layer. Those with a number, which is below 2^32, come first by it; a top layer counts as 1, and the inner
 -- layer N as N + 1. Then come those at an unknown place, then bottom layers.
-abbrev pub place_rank : Place → ℕ
+abbrev pub place_rank : StackPosition → ℕ
 place_rank (Numbered n) = n
 place_rank Top = 1
 place_rank (Inner n) = n + 1
@@ -110,7 +110,7 @@ place_rank Unknown = 4294967296
 place_rank Bottom = 4294967297
 
 -- the copper layers first, by their place, then plated, unplated and undecided files
-abbrev pub rank : Proposed → ℕ
+abbrev pub rank : ProposedRole → ℕ
 rank (Copper place) = place_rank place
 rank (Plated span) = 4294967298
 rank (Unplated span) = 4294967299
@@ -118,19 +118,19 @@ rank Undecided = 4294967300
 rank LeftOut = 4294967301
 
 -- a file of this role stands in the manifest
-abbrev pub stands : Proposed → Bool
-stands (Copper place) = true
-stands (Plated span) = true
-stands (Unplated span) = true
-stands Undecided = true
-stands LeftOut = false
+abbrev pub is_listed_role : ProposedRole → Bool
+is_listed_role (Copper place) = true
+is_listed_role (Plated span) = true
+is_listed_role (Unplated span) = true
+is_listed_role Undecided = true
+is_listed_role LeftOut = false
 
 -- a file that stands in the manifest
-abbrev pub is_kept : Proposal → Bool
-is_kept p = stands p.role
+abbrev pub is_listed : Proposal → Bool
+is_listed p = is_listed_role p.role
 
 -- the entries are the files by rank, and those of one rank in the order of the files
-pub record IsInOrder (files entries : List Proposal) : Type 0 where
+pub record IsManifestOrder (files entries : List Proposal) : Type 0 where
   pub permutation : IsPermutation files entries
   pub ranked : IsNonDecreasingBy (λ (p : Proposal). rank p.role) entries
   pub stable : IsStableByKey (λ (p : Proposal). rank p.role) nat_cmp files entries
@@ -138,54 +138,54 @@ pub record IsInOrder (files entries : List Proposal) : Type 0 where
 -- ---- the manifest
 
 -- how many files have this name after their last slash
-abbrev pub named_so : List Proposal → List ℕ → ℕ
-named_so entries name = count_by (λ q. bytes_eq (short_name q.file) name) entries
+abbrev pub count_named : List Proposal → List ℕ → ℕ
+count_named entries name = count_by (λ q. bytes_eq (base_name q.file) name) entries
 
 -- the name after the last slash is empty, or two files or more have it
 abbrev pub is_ambiguous : List Proposal → List ℕ → Bool
-is_ambiguous entries name = (length name == 0) || nat_lt 1 (named_so entries name)
+is_ambiguous entries name = (length name == 0) || nat_lt 1 (count_named entries name)
 
 -- the name that reports print: what follows the last slash (`b.gtl` of `out/b.gtl`), or the whole name where that is ambiguous
 abbrev pub label : List Proposal → Proposal → List ℕ
-label entries p = if is_ambiguous entries (short_name p.file) then p.file else short_name p.file
+label entries p = if is_ambiguous entries (base_name p.file) then p.file else base_name p.file
 
 -- the layers that a drill file names, if it names any
-abbrev pub span_in : Proposed → Option Layers
-span_in (Copper place) = None
-span_in (Plated span) = span
-span_in (Unplated span) = span
-span_in Undecided = None
-span_in LeftOut = None
+abbrev pub layers_of_role : ProposedRole → Option LayerRange
+layers_of_role (Copper place) = None
+layers_of_role (Plated span) = span
+layers_of_role (Unplated span) = span
+layers_of_role Undecided = None
+layers_of_role LeftOut = None
 
 -- a copper layer
-abbrev pub is_layer : Proposed → Bool
-is_layer (Copper place) = true
-is_layer (Plated span) = false
-is_layer (Unplated span) = false
-is_layer Undecided = false
-is_layer LeftOut = false
+abbrev pub is_copper_role : ProposedRole → Bool
+is_copper_role (Copper place) = true
+is_copper_role (Plated span) = false
+is_copper_role (Unplated span) = false
+is_copper_role Undecided = false
+is_copper_role LeftOut = false
 
 -- a file that is a copper layer
 abbrev pub is_copper : Proposal → Bool
-is_copper p = is_layer p.role
+is_copper p = is_copper_role p.role
 
 -- layers are named that are not 1 to this number of layers
-abbrev pub is_partial : ℕ → Option Layers → Bool
+abbrev pub is_partial : ℕ → Option LayerRange → Bool
 is_partial layers None = false
 is_partial layers (Some span) = not ((span.first == 1) && (span.last == layers))
 
 -- some file names other layers than all copper layers: then the manifest has version 2
 abbrev pub has_spans : List Proposal → Bool
-has_spans entries = list_any (λ p. is_partial (count_by is_copper entries) (span_in p.role)) entries
+has_spans entries = list_any (λ p. is_partial (count_by is_copper entries) (layers_of_role p.role)) entries
 
 -- the fields of the first and the last layer, both empty where no layers are named
-abbrev pub span_fields : Option Layers → List (List ℕ)
+abbrev pub span_fields : Option LayerRange → List (List ℕ)
 span_fields None = [] ∷ [] ∷ []
 span_fields (Some span) = decimal span.first ∷ decimal span.last ∷ []
 
 -- the row of a file under a name, with its layers or without: `copper,b.gtl,out/b.gtl`, or `plated,b.drl,out/b.drl,1,2`
 abbrev pub named_row : Bool → List ℕ → Proposal → List ℕ
-named_row spans name p = row_text default_writer (role_word p.role ∷ name ∷ p.file ∷ (if spans then span_fields (span_in p.role) else []))
+named_row spans name p = row_text default_writer (role_word p.role ∷ name ∷ p.file ∷ (if spans then span_fields (layers_of_role p.role) else []))
 
 -- the row of a file under the name that reports print for it among these files
 abbrev pub entry_row : Bool → List Proposal → Proposal → List ℕ
@@ -201,4 +201,4 @@ manifest_text entries = heading (has_spans entries) ++ flat_map (entry_row (has_
 
 -- the text is the manifest of the files that are not left out, in the order of a manifest
 abbrev pub IsManifestOf : List Proposal → List ℕ → Type 0
-IsManifestOf proposals text = (entries : List Proposal) × IsInOrder (filter is_kept proposals) entries × (text ≡ manifest_text entries)
+IsManifestOf proposals text = (entries : List Proposal) × IsManifestOrder (filter is_listed proposals) entries × (text ≡ manifest_text entries)

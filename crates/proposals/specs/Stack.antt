@@ -2,20 +2,20 @@
 -- (docs/FORMATS.md, Proposals).
 use Rattle.std.specs.Prelude.{◌≡◌, ℕ, zero, suc, ◌+◌, Bool, true, false, not, ◌&&◌, ◌||◌, ◌==◌, nat_le, nat_lt, List, [], ◌∷◌, length, map, Option, Some, None, is_some, if◌then◌else◌}
 use Rattle.std.specs.List.{list_all, list_any, filter, count_by}
-use Rattle.proposals.specs.declared.outcome.Place.{Place}
-use Rattle.proposals.specs.declared.outcome.Place.TheVariants.{Numbered, Top, Inner, Unknown, Bottom}
-use Rattle.proposals.specs.declared.outcome.Layers.{Layers}
-use Rattle.proposals.specs.declared.outcome.Proposed.{Proposed}
-use Rattle.proposals.specs.declared.outcome.Proposed.TheVariants.{Copper, Plated, Unplated, Undecided, LeftOut}
-use Rattle.proposals.specs.declared.outcome.Because.{Because}
-use Rattle.proposals.specs.declared.outcome.Because.TheVariants as because
-use Rattle.proposals.specs.declared.outcome.Proposal.{Proposal}
-use Rattle.proposals.specs.Manifests.{is_copper, span_in}
+use Rattle.proposals.specs.declared.model.StackPosition.{StackPosition}
+use Rattle.proposals.specs.declared.model.StackPosition.TheVariants.{Numbered, Top, Inner, Unknown, Bottom}
+use Rattle.proposals.specs.declared.model.LayerRange.{LayerRange}
+use Rattle.proposals.specs.declared.model.ProposedRole.{ProposedRole}
+use Rattle.proposals.specs.declared.model.ProposedRole.TheVariants.{Copper, Plated, Unplated, Undecided, LeftOut}
+use Rattle.proposals.specs.declared.model.ProposalReason.{ProposalReason}
+use Rattle.proposals.specs.declared.model.ProposalReason.TheVariants as because
+use Rattle.proposals.specs.declared.model.Proposal.{Proposal}
+use Rattle.proposals.specs.Manifests.{is_copper, layers_of_role}
 
 -- ---- the layers of copper files
 
 -- a file that is undecided for this reason may be a copper layer
-abbrev pub may_be_copper : Because → Bool
+abbrev pub may_be_copper : ProposalReason → Bool
 may_be_copper because.NoKind = false
 may_be_copper because.NoHoles = false
 may_be_copper (because.FileFunction function) = false
@@ -32,70 +32,70 @@ may_be_copper because.NotRead = true
 may_be_copper because.TooLong = true
 
 -- the last layer that is named lies beyond so many layers
-abbrev pub goes_beyond : ℕ → Option Layers → Bool
-goes_beyond count None = false
-goes_beyond count (Some span) = nat_lt count span.last
+abbrev pub exceeds_count : ℕ → Option LayerRange → Bool
+exceeds_count count None = false
+exceeds_count count (Some span) = nat_lt count span.last
 
 -- a sign that so many copper files are not all: a file that may be a copper layer, or one that names a layer beyond them
-abbrev pub is_sign : ℕ → Proposal → Bool
-is_sign count p = may_be_copper p.because || goes_beyond count (span_in p.role)
+abbrev pub hints_at_missing : ℕ → Proposal → Bool
+hints_at_missing count p = may_be_copper p.because || exceeds_count count (layers_of_role p.role)
 
 -- no file is a sign that a copper file is missing, so that names say which layers the copper files are
-abbrev pub are_all_here : List Proposal → Bool
-are_all_here ps = not (list_any (is_sign (count_by is_copper ps)) ps)
+abbrev pub is_copper_complete : List Proposal → Bool
+is_copper_complete ps = not (list_any (hints_at_missing (count_by is_copper ps)) ps)
 
 -- The number of the layer at a place, from 1 at the top; 0 where it is not known. `here` says whether the copper files, `count`
 -- of them, are all here. The inner layer N by its name is the layer N + 1, since the top is the first.
-abbrev pub layer_at : Bool → ℕ → Place → ℕ
-layer_at here count (Numbered n) = n
-layer_at here count Top = 1
-layer_at here count (Inner n) = if here then n + 1 else 0
-layer_at here count Unknown = 0
-layer_at here count Bottom = if here then count else 0
+abbrev pub layer_at_position : Bool → ℕ → StackPosition → ℕ
+layer_at_position here count (Numbered n) = n
+layer_at_position here count Top = 1
+layer_at_position here count (Inner n) = if here then n + 1 else 0
+layer_at_position here count Unknown = 0
+layer_at_position here count Bottom = if here then count else 0
 
 -- the number of the layer that a file is; 0 where it is no copper file, or where its layer is not known
-abbrev pub layer_of : Bool → ℕ → Proposed → ℕ
-layer_of here count (Copper place) = layer_at here count place
-layer_of here count (Plated span) = 0
-layer_of here count (Unplated span) = 0
-layer_of here count Undecided = 0
-layer_of here count LeftOut = 0
+abbrev pub layer_of_role : Bool → ℕ → ProposedRole → ℕ
+layer_of_role here count (Copper place) = layer_at_position here count place
+layer_of_role here count (Plated span) = 0
+layer_of_role here count (Unplated span) = 0
+layer_of_role here count Undecided = 0
+layer_of_role here count LeftOut = 0
 
 -- the number of the layer of each copper file, 0 where it is not known
 abbrev pub copper_layers : List Proposal → List ℕ
-copper_layers ps = map (λ p. layer_of (are_all_here ps) (count_by is_copper ps) p.role) (filter is_copper ps)
+copper_layers ps = map (λ p. layer_of_role (is_copper_complete ps) (count_by is_copper ps) p.role) (filter is_copper ps)
 
 -- n is from 1 to the length of the list, and stands in it once
-abbrev pub has_its_own : List ℕ → ℕ → Bool
-has_its_own ns n = nat_le 1 n && (nat_le n (length ns) && (count_by (λ m. m == n) ns == 1))
+abbrev pub occurs_once_in_range : List ℕ → ℕ → Bool
+occurs_once_in_range ns n = nat_le 1 n && (nat_le n (length ns) && (count_by (λ m. m == n) ns == 1))
 
 -- the numbers are just those from 1 to the length of the list, each once, in any order
-abbrev pub are_counted : List ℕ → Bool
-are_counted ns = list_all (has_its_own ns) ns
+abbrev pub are_one_to_n : List ℕ → Bool
+are_one_to_n ns = list_all (occurs_once_in_range ns) ns
 
 -- the copper files are the layers 1 to their number, each once
 abbrev pub is_stack : List Proposal → Bool
-is_stack ps = are_counted (copper_layers ps)
+is_stack ps = are_one_to_n (copper_layers ps)
 
 -- ---- the layers of drill files
 
 -- the layers, if any are named, are a first one from 1 and a last one that is not below it, among so many
-abbrev pub are_among : ℕ → Option Layers → Bool
-are_among count None = true
-are_among count (Some layers) = nat_le 1 layers.first && (nat_le layers.first layers.last && nat_le layers.last count)
+abbrev pub are_within_count : ℕ → Option LayerRange → Bool
+are_within_count count None = true
+are_within_count count (Some layers) = nat_le 1 layers.first && (nat_le layers.first layers.last && nat_le layers.last count)
 
 -- no layers are named, or the copper files are a stack and these are some of its layers
-abbrev pub are_clear : Bool → ℕ → Option Layers → Bool
+abbrev pub are_clear : Bool → ℕ → Option LayerRange → Bool
 are_clear stack count None = true
-are_clear stack count (Some layers) = stack && are_among count (Some layers)
+are_clear stack count (Some layers) = stack && are_within_count count (Some layers)
 
 -- a proposal, made undecided where it names layers that are not clear
-abbrev pub settled_in : Bool → ℕ → Proposal → Proposal
-settled_in stack count p = if are_clear stack count (span_in p.role) then p else record { file = p.file; role = Undecided; because = because.UnclearLayers }
+abbrev pub layers_checked_in : Bool → ℕ → Proposal → Proposal
+layers_checked_in stack count p = if are_clear stack count (layers_of_role p.role) then p else record { file = p.file; role = Undecided; because = because.UnclearLayers }
 
 -- a proposal, made undecided where it names layers that are not clear among all proposals `ps`
-abbrev pub settled : List Proposal → Proposal → Proposal
-settled ps p = settled_in (is_stack ps) (count_by is_copper ps) p
+abbrev pub layers_checked : List Proposal → Proposal → Proposal
+layers_checked ps p = layers_checked_in (is_stack ps) (count_by is_copper ps) p
 
 -- ---- the layers of a manifest
 
@@ -106,9 +106,9 @@ numbers_from first (suc more) = first ∷ numbers_from (first + 1) more
 
 -- The copper files of a manifest are the layers 1, 2 and so on, in order. So the layers that a manifest gives a drill file are
 -- those that the drill file names.
-abbrev pub AreInPlace : List Proposal → Type 0
-AreInPlace entries = map (λ p. layer_of true (count_by is_copper entries) p.role) (filter is_copper entries) ≡ numbers_from 1 (count_by is_copper entries)
+abbrev pub AreLayersInOrder : List Proposal → Type 0
+AreLayersInOrder entries = map (λ p. layer_of_role true (count_by is_copper entries) p.role) (filter is_copper entries) ≡ numbers_from 1 (count_by is_copper entries)
 
 -- a file that names layers
 abbrev pub names_layers : Proposal → Bool
-names_layers p = is_some (span_in p.role)
+names_layers p = is_some (layers_of_role p.role)

@@ -5,17 +5,26 @@
 //! plating or whose layers are not clear.
 #![tactic(auto)]
 
-mod deciding;
+mod contents;
+mod decisions;
 pub mod laws;
 mod manifests;
+mod model;
+mod names;
 mod naming;
 mod order;
-mod outcome;
-mod proposing;
+mod proposal_list;
 mod reasons;
 mod stack;
 
+pub use contents::{FileKind, FunctionFields, fields_of, function_of, has_line, kind_of};
 pub use manifests::write_proposal;
-pub use outcome::{Because, Content, Layers, Named, Place, Proposal, Proposed};
-pub use proposing::propose;
+pub use model::{
+    FileContent, InputFile, LayerRange, Proposal, ProposalReason, ProposedRole, StackPosition,
+};
+pub use names::{
+    base_name, ends_in_copper, extension_of, has_dot, is_one_of, last_other_word, layer_number,
+    lower_base_name, number_suffix, says_unplated, stem_of, word_runs,
+};
+pub use proposal_list::propose;
 pub use reasons::write_reasons;

@@ -6,9 +6,9 @@ ghost use Rattle.csv.specs.Writing.{default_writer, row_text};
 ghost use Rattle.proposals.specs.Manifests as says;
 ghost use Rattle.proposals.specs.Manifests.{IsManifestOf};
 
+use crate::model::{LayerRange, Proposal, ProposedRole};
 use crate::naming::{label, shared_names};
-use crate::order::in_order;
-use crate::outcome::{Layers, Proposal, Proposed};
+use crate::order::in_manifest_order;
 use crate::reasons::role_word;
 use itoa::Buffer;
 use manifest::table::Table;
@@ -17,7 +17,7 @@ use std::alloc::{AllocError, Global};
 pub(crate) fn is_copper(file: &Proposal) -> bool
     ensures { result ≡ says.is_copper file.now }
 {
-    matches!(file.role, Proposed::Copper(_))
+    matches!(file.role, ProposedRole::Copper(_))
 }
 
 /// How many of the files are copper layers.
@@ -28,17 +28,17 @@ fn layers(entries: &[&Proposal]) -> usize
 }
 
 /// The layers that a drill file names, if it names any.
-pub(crate) fn span_in(role: Proposed) -> Option<Layers>
-    ensures { result ≡ says.span_in role }
+pub(crate) fn layers_of_role(role: ProposedRole) -> Option<LayerRange>
+    ensures { result ≡ says.layers_of_role role }
 {
     match role {
-        Proposed::Plated(span) | Proposed::Unplated(span) => span,
-        Proposed::Copper(_) | Proposed::Undecided | Proposed::LeftOut => None,
+        ProposedRole::Plated(span) | ProposedRole::Unplated(span) => span,
+        ProposedRole::Copper(_) | ProposedRole::Undecided | ProposedRole::LeftOut => None,
     }
 }
 
 /// Whether layers are named that are not 1 to this number of layers.
-fn is_partial(layers: usize, span: Option<Layers>) -> bool
+fn is_partial(layers: usize, span: Option<LayerRange>) -> bool
     ensures { result ≡ says.is_partial layers span }
 {
     match span {
@@ -54,11 +54,11 @@ fn has_spans(entries: &[&Proposal]) -> bool
     let layers = layers(entries);
     entries
         .iter()
-        .any(|entry| is_partial(layers, span_in(entry.role)))
+        .any(|entry| is_partial(layers, layers_of_role(entry.role)))
 }
 
 /// The table with one more row, of three fields.
-fn with_three<'f>(
+fn with_three_fields<'f>(
     table: Table,
     role: &'f [u8],
     name: &'f [u8],
@@ -70,7 +70,7 @@ fn with_three<'f>(
 }
 
 /// The table with one more row, of five fields.
-fn with_five<'f>(
+fn with_five_fields<'f>(
     table: Table,
     role: &'f [u8],
     name: &'f [u8],
@@ -89,7 +89,7 @@ fn with_span<'f>(
     role: &'f [u8],
     name: &'f [u8],
     file: &'f [u8],
-    span: Option<Layers>,
+    span: Option<LayerRange>,
 ) -> Result<Table, AllocError>
     ensures { IfOk result (λ more. more ≡ table ++ row_text default_writer (role.now ∷ name.now ∷ file.now ∷ says.span_fields span)) }
 {
@@ -98,9 +98,9 @@ fn with_span<'f>(
             let (mut first, mut last) = (Buffer::new(), Buffer::new());
             let first_field = first.format(span.first).as_bytes();
             let last_field = last.format(span.last).as_bytes();
-            with_five(table, role, name, file, first_field, last_field)
+            with_five_fields(table, role, name, file, first_field, last_field)
         }
-        None => with_five(table, role, name, file, b"", b""),
+        None => with_five_fields(table, role, name, file, b"", b""),
     }
 }
 
@@ -116,9 +116,9 @@ fn with_entry<'f>(
     let role = role_word(file.role).as_bytes();
     let path = file.file.as_str().as_bytes();
     if spans {
-        with_span(table, role, name, path, span_in(file.role))
+        with_span(table, role, name, path, layers_of_role(file.role))
     } else {
-        with_three(table, role, name, path)
+        with_three_fields(table, role, name, path)
     }
 }
 
@@ -128,9 +128,9 @@ fn heading(alloc: Global, spans: bool) -> Result<Table, AllocError>
 {
     let table = Table::new(alloc)?;
     if spans {
-        with_five(table, b"role", b"name", b"file", b"first", b"last")
+        with_five_fields(table, b"role", b"name", b"file", b"first", b"last")
     } else {
-        with_three(table, b"role", b"name", b"file")
+        with_three_fields(table, b"role", b"name", b"file")
     }
 }
 
@@ -157,6 +157,6 @@ fn manifest_text(alloc: Global, entries: &[&Proposal]) -> Result<Vec<u8>, AllocE
 pub fn write_proposal(alloc: Global, proposals: &[Proposal]) -> Result<Vec<u8>, AllocError>
     ensures exact { IfOk result (λ text. IsManifestOf proposals.now text.items) }
 {
-    let entries = in_order(alloc, proposals)?;
+    let entries = in_manifest_order(alloc, proposals)?;
     manifest_text(alloc, entries.as_slice())
 }

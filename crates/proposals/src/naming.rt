@@ -4,19 +4,19 @@ ghost use Rattle.std.specs.Prelude.{◌≡◌, ◌==◌, ◌||◌, IfOk, List, l
 ghost use Rattle.std.specs.BTreeSet.{contains_by};
 ghost use Rattle.std.specs.Cmp.Lexicographic.{slice_cmp};
 ghost use Rattle.std.specs.Ordering.{nat_cmp};
-ghost use Rattle.file_hints.specs.Names as naming;
+ghost use Rattle.proposals.specs.Names as naming;
 ghost use Rattle.proposals.specs.Manifests as says;
 
-use crate::outcome::Proposal;
-use file_hints::short_name;
+use crate::base_name;
+use crate::model::Proposal;
 use std::alloc::{AllocError, Global};
 use std::collections::BTreeSet;
 
 /// The name of a file after its last slash.
 fn short(file: &Proposal) -> &[u8]
-    ensures { result.now ≡ naming.short_name file.now.file }
+    ensures { result.now ≡ naming.base_name file.now.file }
 {
-    short_name(file.file.as_str().as_bytes())
+    base_name(file.file.as_str().as_bytes())
 }
 
 /// The names after the last slash that two or more of these files share. A set holds them, so that time does not grow with
@@ -25,7 +25,7 @@ pub(crate) fn shared_names<'e>(
     alloc: Global,
     entries: &[&'e Proposal],
 ) -> Result<BTreeSet<&'e [u8]>, AllocError>
-    ensures { IfOk result (λ shared. (name : List ℕ) → contains_by (λ key. slice_cmp nat_cmp name key.now) shared ≡ nat_lt 1 (says.named_so (map (λ entry. entry.now) entries.now) name)) }
+    ensures { IfOk result (λ shared. (name : List ℕ) → contains_by (λ key. slice_cmp nat_cmp name key.now) shared ≡ nat_lt 1 (says.count_named (map (λ entry. entry.now) entries.now) name)) }
 {
     let mut seen = BTreeSet::new(alloc);
     let mut shared = BTreeSet::new(alloc);
@@ -42,7 +42,7 @@ pub(crate) fn shared_names<'e>(
 
 /// The name that reports print for a file: what follows its last slash, or its whole name where this is empty or shared.
 pub(crate) fn label<'e>(shared: &BTreeSet<&'e [u8]>, file: &'e Proposal) -> &'e [u8]
-    ensures { result.now ≡ (if (length (naming.short_name file.now.file) == 0) || contains_by (λ key. slice_cmp nat_cmp (naming.short_name file.now.file) key.now) shared.now then file.now.file else naming.short_name file.now.file) }
+    ensures { result.now ≡ (if (length (naming.base_name file.now.file) == 0) || contains_by (λ key. slice_cmp nat_cmp (naming.base_name file.now.file) key.now) shared.now then file.now.file else naming.base_name file.now.file) }
 {
     let name = short(file);
     if name.is_empty() || shared.contains(&name) {

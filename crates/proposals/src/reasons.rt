@@ -4,51 +4,51 @@ ghost use Rattle.std.specs.Prelude.{◌≡◌, ◌<◌, ◌++◌, ◌∷◌, [],
 ghost use Rattle.csv.specs.Writing.{default_writer, row_text};
 ghost use Rattle.proposals.specs.Manifests as says;
 
-use crate::outcome::{Because, Proposal, Proposed};
+use crate::model::{Proposal, ProposalReason, ProposedRole};
 use manifest::table::Table;
 use std::alloc::{AllocError, Global};
 
 /// The word of a role: `copper`, `plated`, `unplated`, `?`, or `-` for a file that is left out.
-pub(crate) fn role_word(role: Proposed) -> &'static str
+pub(crate) fn role_word(role: ProposedRole) -> &'static str
     ensures { result.now ≡ says.role_word role }
 {
     match role {
-        Proposed::Copper(_) => "copper",
-        Proposed::Plated(_) => "plated",
-        Proposed::Unplated(_) => "unplated",
-        Proposed::Undecided => "?",
-        Proposed::LeftOut => "-",
+        ProposedRole::Copper(_) => "copper",
+        ProposedRole::Plated(_) => "plated",
+        ProposedRole::Unplated(_) => "unplated",
+        ProposedRole::Undecided => "?",
+        ProposedRole::LeftOut => "-",
     }
 }
 
 /// The words of a reason, without the fields of a file function.
-fn reason_words(because: &Because) -> &'static str
+fn reason_words(because: &ProposalReason) -> &'static str
     ensures { result.now ≡ says.reason_words because.now }
 {
     match because {
-        Because::NoKind => "neither a Gerber nor a drill file",
-        Because::NoHoles => "a drill file without holes",
-        Because::FileFunction(_) => "file function ",
-        Because::MixedHoles => "plated and unplated holes in one file",
-        Because::PlatedType => ";TYPE=PLATED",
-        Because::UnplatedType => ";TYPE=NON_PLATED",
-        Because::ByName => "name",
-        Because::DrillByDefault => "a drill file is taken as plated",
-        Because::DrillInGerber => "a drill file in Gerber: export Excellon",
-        Because::Plane => "a plane that may be negative",
-        Because::NothingSays => "nothing says what it is",
-        Because::UnclearLayers => "its layers are not clear from the copper files",
-        Because::NotRead => "it cannot be read",
-        Because::TooLong => "it is too long",
+        ProposalReason::NoKind => "neither a Gerber nor a drill file",
+        ProposalReason::NoHoles => "a drill file without holes",
+        ProposalReason::FileFunction(_) => "file function ",
+        ProposalReason::MixedHoles => "plated and unplated holes in one file",
+        ProposalReason::PlatedType => ";TYPE=PLATED",
+        ProposalReason::UnplatedType => ";TYPE=NON_PLATED",
+        ProposalReason::ByName => "name",
+        ProposalReason::DrillByDefault => "a drill file is taken as plated",
+        ProposalReason::DrillInGerber => "a drill file in Gerber: export Excellon",
+        ProposalReason::Plane => "a plane that may be negative",
+        ProposalReason::NothingSays => "nothing says what it is",
+        ProposalReason::UnclearLayers => "its layers are not clear from the copper files",
+        ProposalReason::NotRead => "it cannot be read",
+        ProposalReason::TooLong => "it is too long",
     }
 }
 
 /// The first field of the file function that a reason names, empty where it names none.
-fn named_function(because: &Because) -> &[u8]
+fn named_function(because: &ProposalReason) -> &[u8]
     ensures { result.now ≡ says.named_function because.now }
 {
     match because {
-        Because::FileFunction(function) => function.bytes(),
+        ProposalReason::FileFunction(function) => function.bytes(),
         _ => &[],
     }
 }
@@ -85,7 +85,7 @@ fn push_byte(text: &mut Vec<u8>, byte: u8) -> Result<(), AllocError>
 }
 
 /// The text of a reason. The bytes of a file stand in it as printable ASCII, so that no other byte reaches a terminal.
-fn because_text(alloc: Global, because: &Because) -> Result<Vec<u8>, AllocError>
+fn because_text(alloc: Global, because: &ProposalReason) -> Result<Vec<u8>, AllocError>
     ensures { IfOk result (λ text. text.items ≡ says.because_text because.now) }
 {
     let mut text = Vec::from_slice(alloc, reason_words(because).as_bytes())?;

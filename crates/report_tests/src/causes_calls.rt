@@ -1,12 +1,11 @@
 //! Causes of worked examples, in pm.
 
 use crate::rows::{Form, pad_at, what_at};
-use causes::*;
 use grid_units::{Hole, Point, Rules};
 use layer_image::{Flash, Why};
 use margins::best_pads;
 use pad_shapes::Pad;
-use report_text::RingCause;
+use report::{RingCause, *};
 use ring_rules::Drilled;
 use std::alloc::Global;
 use std::test::Fail;
@@ -50,13 +49,13 @@ fn drilled(row: HoleRow) -> Option<Drilled> {
 
 fn row_of(cause: RingCause) -> CauseRow {
     match cause {
-        RingCause::Small(pad) => ("small", pad.flash, pad.ring, pad.lack),
-        RingCause::Off(pad) => ("off", pad.flash, pad.ring, pad.lack),
+        RingCause::TooSmall(pad) => ("small", pad.flash, pad.ring, pad.lack),
+        RingCause::OffCentre(pad) => ("off", pad.flash, pad.ring, pad.lack),
         RingCause::Other { why, flash } => match why {
             Why::Macro => ("macro", flash, 0, 0),
             _ => ("another", flash, 0, 0),
         },
-        RingCause::Nothing => NO_CAUSE,
+        RingCause::NoFlash => NO_CAUSE,
         RingCause::Oblique => ("oblique", 0, 0, 0),
     }
 }
@@ -65,7 +64,7 @@ fn row_of(cause: RingCause) -> CauseRow {
 fn cause_of(alloc: Global, flashes: &[Flash], hole: HoleRow, ring: i64) -> Result<CauseRow, Fail> {
     let rules = Rules::new(ring, 1).ok().ok_or("rules")?;
     let holes = [drilled(hole).ok_or("hole")?];
-    let known = LayerCauses::new(alloc, flashes, &holes)?;
+    let known = CauseFinder::new(alloc, flashes, &holes)?;
     Ok(row_of(known.cause(flashes, &holes, 0, rules)))
 }
 
@@ -231,7 +230,7 @@ fn cause_by_best(alloc: Global, pads: &[Pad]) -> Result<CauseRow, Fail> {
     let holes = [drilled(((0, 0), (0, 0), 200_000_000)).ok_or("hole")?];
     let flashes = flashes_of(alloc, &[MOVED])?;
     let bests = best_pads(alloc, pads, &holes)?;
-    let known = LayerCauses::with_bests(alloc, &flashes, &holes, pads, &bests)?;
+    let known = CauseFinder::with_bests(alloc, &flashes, &holes, pads, &bests)?;
     Ok(row_of(known.cause(&flashes, &holes, 0, rules)))
 }
 

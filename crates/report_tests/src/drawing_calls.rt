@@ -1,9 +1,8 @@
 //! Pages of small boards, with figures that are worked out by hand: on a board of 75 mm the unit is 1 mm.
 
 use drawing::Drawing;
-use flashed_boards::read_flashed;
 use grid_units::Rules;
-use package_check::{File, Role};
+use package_check::{File, Role, read_flashed};
 use picture::Escaped;
 use std::alloc::AllocError;
 use std::test::Fail;

@@ -1,7 +1,6 @@
 //! The flashes of a package's files.
 
-use flashed_boards::read_flashed;
-use package_check::{File, PackageFault, Role};
+use package_check::{File, PackageFault, Role, read_flashed};
 use std::test::Fail as Failure;
 
 const TWO: &[u8] =

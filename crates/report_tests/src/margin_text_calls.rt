@@ -1,6 +1,7 @@
 //! Lines with the figures of the worked examples.
 
-use margin_text::*;
+use print_text::*;
+use report::*;
 use std::alloc::AllocError;
 use std::test::Fail;
 
@@ -52,32 +53,32 @@ const BARE: RingLine = RingLine {
 };
 
 /// A drill file whose coordinates seem to be off by ten.
-const TENTHS: ScaleLine = ScaleLine {
+const TENTHS: UnitMistake = UnitMistake {
     drill: 1,
     bare: 3,
-    factor: Factor::Ten,
+    factor: UnitFactor::Ten,
     then: 0,
 };
 
 /// A drill file for each factor.
-const SCALES: [ScaleLine; 4] = [
+const SCALES: [UnitMistake; 4] = [
     TENTHS,
-    ScaleLine {
+    UnitMistake {
         drill: 1,
         bare: 3,
-        factor: Factor::Tenth,
+        factor: UnitFactor::Tenth,
         then: 0,
     },
-    ScaleLine {
+    UnitMistake {
         drill: 1,
         bare: 3,
-        factor: Factor::Inch,
+        factor: UnitFactor::Inch,
         then: 0,
     },
-    ScaleLine {
+    UnitMistake {
         drill: 1,
         bare: 3,
-        factor: Factor::PerInch,
+        factor: UnitFactor::PerInch,
         then: 0,
     },
 ];
@@ -85,27 +86,27 @@ const SCALES: [ScaleLine; 4] = [
 const ANY: Meets = Meets {
     ring: Met::Any,
     gap: Met::Any,
-    held: Met::Any,
+    in_pads: Met::Any,
 };
 
 /// What a package with a bare hole meets.
 const HELD: Meets = Meets {
     ring: Met::None,
-    gap: Met::Most(1_046_051_224),
-    held: Met::Most(275_000_000),
+    gap: Met::UpTo(1_046_051_224),
+    in_pads: Met::UpTo(275_000_000),
 };
 
 /// What a package without a hole in a pad meets.
 const NO_RING: Meets = Meets {
     ring: Met::None,
-    gap: Met::Most(600_000_000),
-    held: Met::None,
+    gap: Met::UpTo(600_000_000),
+    in_pads: Met::None,
 };
 
 /// Rings, scales, the gap between hole 1 of file 3 and hole 47 of file 4, what is met, and the text.
 type MeasureRow = (
     &'static [RingLine],
-    &'static [ScaleLine],
+    &'static [UnitMistake],
     Option<i64>,
     Meets,
     &'static str,

@@ -2,11 +2,11 @@
 
 mod made;
 
+use board_report::{files_with_holes, measure_bytes, measure_with_bests, place_among, place_of};
 use grid_units::{Fault, Reason, Rules};
-use margin_text::{Factor, GapLine, HolePlace, LeastRing, Meets, RingLine, ScaleLine};
-use margins::{Best, Met};
-use measuring::{filled_files, measure_bytes, measure_with_bests, place_among, place_of};
+use margins::{BestPad, Met};
 use package_check::{File, PackageFault, Role, check_bytes, read_package};
+use report::{GapLine, HolePlace, LeastRing, Meets, RingLine, UnitFactor, UnitMistake};
 use std::alloc::Global;
 use std::test::Fail as Failure;
 
@@ -82,8 +82,8 @@ fn passes(alloc: Global, files: &[File], ring: i64, gap: i64) -> Option<bool> {
 fn agrees_on_rings(alloc: Global, files: &[File], ring: Met) -> Option<bool> {
     match ring {
         Met::Any => passes(alloc, files, 5_000_000_000_000, 1),
-        Met::Most(most) if most < 0 => Some(!passes(alloc, files, 0, 1)?),
-        Met::Most(most) => {
+        Met::UpTo(most) if most < 0 => Some(!passes(alloc, files, 0, 1)?),
+        Met::UpTo(most) => {
             let above = passes(alloc, files, most.saturating_add(1), 1)?;
             Some(passes(alloc, files, most, 1)? && !above)
         }
@@ -104,9 +104,9 @@ fn measured(
 
 /// A layer, a drill file, and the greatest ring of its one hole.
 const RINGS: [(&[u8], &[u8], Met); 5] = [
-    (SQUARE, HIT, Met::Most(125_000_000)),
-    (MOVED, HIT, Met::Most(124_999_000)),
-    (SMALL, HIT, Met::Most(-50_000_000)),
+    (SQUARE, HIT, Met::UpTo(125_000_000)),
+    (MOVED, HIT, Met::UpTo(124_999_000)),
+    (SMALL, HIT, Met::UpTo(-50_000_000)),
     (NO_FLASH, HIT, Met::None),
     (SQUARE, NO_HIT, Met::Any),
 ];
@@ -142,7 +142,7 @@ fn gaps_of_two_holes(rt: HostRuntime) -> Result<(), Failure> {
     let alloc = rt.alloc();
     for &(layer, drill, ring, gap) in &BOTH {
         let (meets, _) = measured(alloc, layer, drill)?;
-        let are_met = (meets.ring, meets.gap) == (Met::Most(ring), Met::Most(gap));
+        let are_met = (meets.ring, meets.gap) == (Met::UpTo(ring), Met::UpTo(gap));
         assert!(rt; are_met && agrees_on_both(alloc, &files(layer, drill), ring, gap));
     }
     Ok(())
@@ -186,7 +186,7 @@ fn scale_of(
     first: &[u8],
     role: Role,
     second: &[u8],
-) -> Result<Option<ScaleLine>, Failure> {
+) -> Result<Option<UnitMistake>, Failure> {
     let files = [
         file(Role::Copper, "first", first),
         file(role, "drill", TENTHS),
@@ -197,11 +197,11 @@ fn scale_of(
 }
 
 /// The scale of a plated file, three holes that are bare and have their pads by ten, is judged by the pads of the first layer.
-fn tenth(drill: usize) -> ScaleLine {
-    ScaleLine {
+fn tenth(drill: usize) -> UnitMistake {
+    UnitMistake {
         drill,
         bare: 3,
-        factor: Factor::Ten,
+        factor: UnitFactor::Ten,
         then: 0,
     }
 }
@@ -253,8 +253,8 @@ fn a_gap_between_files(rt: HostRuntime) -> Result<(), Failure> {
 
 /// A layer, a drill file, the greatest ring, and that of the holes that are not bare.
 const HELD: [(&[u8], &[u8], Met, Met); 4] = [
-    (FOUR, FAR, Met::Most(385_786_437), Met::Most(385_786_437)),
-    (FOUR, ONE_BARE, Met::None, Met::Most(1_800_000_000)),
+    (FOUR, FAR, Met::UpTo(385_786_437), Met::UpTo(385_786_437)),
+    (FOUR, ONE_BARE, Met::None, Met::UpTo(1_800_000_000)),
     (DISCS, TENTHS, Met::None, Met::None),
     (SQUARE, NO_HIT, Met::Any, Met::Any),
 ];
@@ -263,7 +263,7 @@ const HELD: [(&[u8], &[u8], Met, Met); 4] = [
 fn rings_that_are_held(rt: HostRuntime) -> Result<(), Failure> {
     for &(layer, drill, ring, held) in &HELD {
         let (meets, _) = measured(rt.alloc(), layer, drill)?;
-        assert!(rt; (meets.ring, meets.held) == (ring, held));
+        assert!(rt; (meets.ring, meets.in_pads) == (ring, held));
     }
     Ok(())
 }
@@ -382,7 +382,7 @@ fn places_of_holes(rt: HostRuntime) -> Result<(), Failure> {
     let board = read_package(rt.alloc(), &seven_files())
         .ok()
         .ok_or("no board")?;
-    let filled = filled_files(rt.alloc(), &board)?;
+    let filled = files_with_holes(rt.alloc(), &board)?;
     assert!(rt; (filled.len(), board.holes().len()) == (3, 5));
     for hole in 0..board.holes().len() {
         let (drill, number) = PLACES.get(hole).copied().unwrap_or((0, 0));
@@ -401,7 +401,7 @@ fn unplated_holes(rt: HostRuntime) -> Result<(), Failure> {
     let files = files_as(Role::Unplated, SMALL, FAR);
     let measure = measure_bytes(rt.alloc(), &files).ok().ok_or("no measure")?;
     let meets = measure.meets;
-    assert!(rt; (meets.ring, meets.gap) == (Met::Any, Met::Most(1_014_213_562)));
+    assert!(rt; (meets.ring, meets.gap) == (Met::Any, Met::UpTo(1_014_213_562)));
     Ok(())
 }
 
@@ -417,7 +417,7 @@ fn what_is_refused_has_no_measure(rt: HostRuntime) {
 }
 
 /// The depth of the first hole in the best pad of a layer, by the layer's place.
-fn first_depth(bests: &[Vec<Option<Best>>], layer: usize) -> Option<u64> {
+fn first_depth(bests: &[Vec<Option<BestPad>>], layer: usize) -> Option<u64> {
     let best = *bests.get(layer)?.first()?;
     Some(best?.depth)
 }

@@ -1,26 +1,28 @@
 //! The JSON of worked examples.
 
 use crate::rows::{Form, in_pad, slot_at};
+use board_report::measure_board;
 use grid_units::{Fault, Reason, Rules};
 use layer_image::Why;
-use margin_text::{Meets, Met};
-use measuring::measure_board;
 use package_check::{File, FileSum, Role, read_package};
-use report_json::*;
-use report_text::{GapLack, InPad, LayerHead, RingCause, RingLack, Telling, Whys};
+use print_json::*;
+use print_text::no_acceptances;
+use report::{
+    Acceptances, BoardReport, GapLack, LayerHead, Meets, Met, RingCause, RingInPad, RingLack,
+};
 use std::alloc::{AllocError, Global};
 use std::test::Fail;
 
 /// Whether a refusal has this text.
-fn is_refused(rt: HostRuntime, stop: &Stop, text: &str) -> Result<bool, Fail> {
+fn is_refused(rt: HostRuntime, stop: &InputError, text: &str) -> Result<bool, Fail> {
     let written = format!(in rt.alloc(); "{stop}")?;
     Ok(written.as_str() == text)
 }
 
 /// Why there is no report, and its JSON.
-const STOPS: [(Stop, &str); 6] = [
+const STOPS: [(InputError, &str); 6] = [
     (
-        Stop::Refused {
+        InputError::Refused {
             index: 0,
             name: "top",
             fault: Fault {
@@ -32,32 +34,32 @@ const STOPS: [(Stop, &str); 6] = [
         "{\"format\":\"ringcheck\",\"version\":1,\"result\":\"refused\",\"file\":1,\"name\":\"top\",\"place\":11,\"byte\":100,\"reason\":\"BadWord\"}\n",
     ),
     (
-        Stop::RefusedManifest {
+        InputError::RefusedManifest {
             place: 3,
             reason: Reason::BadRole,
         },
         "{\"format\":\"ringcheck\",\"version\":1,\"result\":\"refused\",\"place\":3,\"reason\":\"BadRole\"}\n",
     ),
     (
-        Stop::Device {
+        InputError::Device {
             index: 1,
             name: "pth",
         },
         "{\"format\":\"ringcheck\",\"version\":1,\"result\":\"device\",\"file\":2,\"name\":\"pth\"}\n",
     ),
     (
-        Stop::ManifestDevice,
+        InputError::ManifestDevice,
         "{\"format\":\"ringcheck\",\"version\":1,\"result\":\"device\"}\n",
     ),
     (
-        Stop::RefusedWaivers {
+        InputError::RefusedWaivers {
             place: 2,
             reason: Reason::EmptyName,
         },
         "{\"format\":\"ringcheck\",\"version\":1,\"result\":\"refused\",\"waivers\":true,\"place\":2,\"reason\":\"EmptyName\"}\n",
     ),
     (
-        Stop::WaiversDevice,
+        InputError::WaiversDevice,
         "{\"format\":\"ringcheck\",\"version\":1,\"result\":\"device\",\"waivers\":true}\n",
     ),
 ];
@@ -79,7 +81,7 @@ fn names_are_escaped(rt: HostRuntime) -> Result<(), Fail> {
         ("Lötstopp/€", "Lötstopp/€"),
         ("", ""),
     ] {
-        let device = Stop::Device { index: 0, name };
+        let device = InputError::Device { index: 0, name };
         let text = format!(in rt.alloc();
             "{{\"format\":\"ringcheck\",\"version\":1,\"result\":\"device\",\"file\":1,\"name\":\"{escaped}\"}}\n"
         )?;
@@ -171,10 +173,10 @@ fn measures_are_printed(rt: HostRuntime) -> Result<(), Fail> {
 }
 
 /// The report without findings on a package of one layer, which meets these rules.
-fn nothing(alloc: Global, ring: i64, gap: i64, meets: Meets) -> Result<Telling, Fail> {
+fn nothing(alloc: Global, ring: i64, gap: i64, meets: Meets) -> Result<BoardReport, Fail> {
     let mut layers = Vec::new(alloc);
-    layers.push(LayerHead { file: 0, asked: 1 })?;
-    Ok(Telling {
+    layers.push(LayerHead { file: 0, needed: 1 })?;
+    Ok(BoardReport {
         rules: Rules::new(ring, gap)?,
         layers,
         rings: Vec::new(alloc),
@@ -186,8 +188,8 @@ fn nothing(alloc: Global, ring: i64, gap: i64, meets: Meets) -> Result<Telling, 
 
 const NO_RING: Meets = Meets {
     ring: Met::None,
-    gap: Met::Most(1_046_051_224),
-    held: Met::Most(275_000_000),
+    gap: Met::UpTo(1_046_051_224),
+    in_pads: Met::UpTo(275_000_000),
 };
 
 /// The head of a report under a ring of 0.1 mm and a gap of 0.25 mm, on a board with a bare hole.
@@ -197,8 +199,8 @@ const HEAD: &str =
 /// Whether a report with waivers has this JSON: the result, and the findings after the head.
 fn is_waived_so<'a>(
     rt: HostRuntime,
-    telling: &'a Telling,
-    whys: &'a Whys<'a>,
+    telling: &'a BoardReport,
+    accepted: &'a Acceptances<'a>,
     word: &str,
     findings: &str,
 ) -> Result<bool, AllocError> {
@@ -210,7 +212,7 @@ fn is_waived_so<'a>(
         names: &["top_layer"],
         files,
         telling,
-        whys,
+        accepted,
     };
     let written = format!(in rt.alloc(); "{json}")?;
     let wanted = format!(in rt.alloc();
@@ -222,15 +224,15 @@ fn is_waived_so<'a>(
 /// Whether a report has this JSON: the result, and the findings after the head.
 fn is_printed(
     rt: HostRuntime,
-    telling: &Telling,
+    telling: &BoardReport,
     word: &str,
     findings: &str,
 ) -> Result<bool, AllocError> {
-    is_waived_so(rt, telling, &Whys::none(), word, findings)
+    is_waived_so(rt, telling, &no_acceptances(), word, findings)
 }
 
 /// Adds a bare hole in a macro flash to the report.
-fn tell_in_macro(telling: &mut Telling) -> Result<(), Fail> {
+fn tell_in_macro(telling: &mut BoardReport) -> Result<(), Fail> {
     let at = (142_240_000_000, -97_790_000_000);
     telling.rings.push(RingLack {
         layer: 0,
@@ -256,7 +258,7 @@ fn reports_are_printed(rt: HostRuntime) -> Result<(), Fail> {
 }
 
 /// A disc at the origin in which a hole has a ring of exactly 0.
-fn in_disc() -> Result<InPad, Fail> {
+fn in_disc() -> Result<RingInPad, Fail> {
     in_pad(1, Form::Disc(200_000_000), (0, 0), 0, 100_000_000)
 }
 
@@ -267,17 +269,17 @@ fn nothing_is_no_zero(rt: HostRuntime) -> Result<(), Fail> {
     for (at, cause, text) in [
         (
             round,
-            RingCause::Small(in_disc()?),
+            RingCause::TooSmall(in_disc()?),
             "\"from_pm\":[0,0],\"to_pm\":[0,0],\"diameter_pm\":400000000},\"has_pm\":0,\"lacks_pm\":100000000,\"cause\":\"small\",\"flash\":1",
         ),
         (
             round,
-            RingCause::Off(in_disc()?),
+            RingCause::OffCentre(in_disc()?),
             "\"from_pm\":[0,0],\"to_pm\":[0,0],\"diameter_pm\":400000000},\"has_pm\":0,\"lacks_pm\":100000000,\"cause\":\"off\",\"flash\":1",
         ),
         (
             round,
-            RingCause::Nothing,
+            RingCause::NoFlash,
             "\"from_pm\":[0,0],\"to_pm\":[0,0],\"diameter_pm\":400000000},\"has_pm\":null,\"lacks_pm\":null,\"cause\":\"none\",\"flash\":null",
         ),
         (
@@ -348,12 +350,12 @@ const GAP: &str =
 #[test]
 fn a_waiver_of_nothing_leaves_a_pass(rt: HostRuntime) -> Result<(), Fail> {
     let telling = nothing(rt.alloc(), 100_000_000, 250_000_000, NO_RING)?;
-    let whys = Whys {
+    let accepted = Acceptances {
         rings: &[Some("milled \"by hand\"")],
         gaps: &[Some("slot")],
         idle: &[8],
     };
-    assert!(rt; is_waived_so(rt, &telling, &whys, "pass", "")?);
+    assert!(rt; is_waived_so(rt, &telling, &accepted, "pass", "")?);
     Ok(())
 }
 
@@ -390,8 +392,8 @@ fn waivers_are_printed(rt: HostRuntime) -> Result<(), Fail> {
         ),
     ] {
         let findings = format!(in rt.alloc(); "{RING}{ring}}},{GAP}{gap}}}")?;
-        let whys = Whys { rings, gaps, idle };
-        assert!(rt; is_waived_so(rt, &telling, &whys, word, findings.as_str())?);
+        let accepted = Acceptances { rings, gaps, idle };
+        assert!(rt; is_waived_so(rt, &telling, &accepted, word, findings.as_str())?);
     }
     Ok(())
 }

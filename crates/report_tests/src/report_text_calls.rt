@@ -3,16 +3,16 @@
 use crate::rows::{Form, hole_at, in_pad, slot_at};
 use grid_units::Rules;
 use layer_image::Why;
-use margin_text::{Factor, Meets, Met, ScaleLine};
-use report_text::*;
+use print_text::*;
+use report::{Meets, Met, UnitFactor, UnitMistake, *};
 use std::alloc::{AllocError, Global};
 use std::fmt;
 use std::fmt::Write;
 use std::test::Fail;
 
 /// The report without findings on a package without layers, which meets these rules.
-fn nothing(alloc: Global, ring: i64, gap: i64, meets: Meets) -> Result<Telling, Fail> {
-    Ok(Telling {
+fn nothing(alloc: Global, ring: i64, gap: i64, meets: Meets) -> Result<BoardReport, Fail> {
+    Ok(BoardReport {
         rules: Rules::new(ring, gap)?,
         layers: Vec::new(alloc),
         rings: Vec::new(alloc),
@@ -25,9 +25,9 @@ fn nothing(alloc: Global, ring: i64, gap: i64, meets: Meets) -> Result<Telling, 
 /// The rules of a package that meets a ring and a gap.
 fn meets(ring: i64, gap: i64) -> Meets {
     Meets {
-        ring: Met::Most(ring),
-        gap: Met::Most(gap),
-        held: Met::Most(ring),
+        ring: Met::UpTo(ring),
+        gap: Met::UpTo(gap),
+        in_pads: Met::UpTo(ring),
     }
 }
 
@@ -35,11 +35,11 @@ fn meets(ring: i64, gap: i64) -> Meets {
 fn text_of(
     rt: HostRuntime,
     names: &[&str],
-    telling: &Telling,
+    telling: &BoardReport,
     limit: Option<usize>,
-    whys: &Whys,
+    accepted: &Acceptances,
 ) -> Result<String, AllocError> {
-    let text = ReportText::new(rt.alloc(), names, telling, limit, whys)?;
+    let text = ReportText::new(rt.alloc(), names, telling, limit, accepted)?;
     format!(in rt.alloc(); "{text}")
 }
 
@@ -47,11 +47,11 @@ fn text_of(
 fn is_printed(
     rt: HostRuntime,
     names: &[&str],
-    telling: &Telling,
+    telling: &BoardReport,
     limit: Option<usize>,
     text: &str,
 ) -> Result<bool, AllocError> {
-    let written = text_of(rt, names, telling, limit, &Whys::none())?;
+    let written = text_of(rt, names, telling, limit, &no_acceptances())?;
     Ok(written.as_str() == text)
 }
 
@@ -108,8 +108,14 @@ fn figures_of(index: usize) -> Figures {
 fn a_limited_report_is_printed(rt: HostRuntime) -> Result<(), Fail> {
     let board = meets(99_394_596, 300_000_000);
     let mut telling = nothing(rt.alloc(), 100_000_000, 250_000_000, board)?;
-    telling.layers.push(LayerHead { file: 0, asked: 87 })?;
-    telling.layers.push(LayerHead { file: 1, asked: 87 })?;
+    telling.layers.push(LayerHead {
+        file: 0,
+        needed: 87,
+    })?;
+    telling.layers.push(LayerHead {
+        file: 1,
+        needed: 87,
+    })?;
     for index in 0..48 {
         let it = figures_of(index % 24);
         let disc = Form::Disc(250_000_000);
@@ -117,7 +123,7 @@ fn a_limited_report_is_printed(rt: HostRuntime) -> Result<(), Fail> {
         telling.rings.push(RingLack {
             layer: index / 24,
             at: hole_at(3, it.number, it.at, 300_000_000)?,
-            cause: RingCause::Off(place),
+            cause: RingCause::OffCentre(place),
         })?;
     }
     let text = "ring 0.1, gap 0.25\n\
@@ -140,11 +146,11 @@ fn a_limited_report_is_printed(rt: HostRuntime) -> Result<(), Fail> {
 fn begins_with(
     rt: HostRuntime,
     names: &[&str],
-    telling: &Telling,
+    telling: &BoardReport,
     first: &str,
     line: &str,
 ) -> Result<bool, AllocError> {
-    let written = text_of(rt, names, telling, None, &Whys::none())?;
+    let written = text_of(rt, names, telling, None, &no_acceptances())?;
     match written.as_str().strip_prefix(first) {
         Some(rest) => Ok(rest.starts_with(line)),
         None => Ok(false),
@@ -154,23 +160,23 @@ fn begins_with(
 /// Why a hole lacks its ring. For a hole in a pad: the number of its flash, its form and centre, the ring and the lack.
 #[derive(Clone, Copy)]
 enum CauseRow {
-    Small(usize, Form, (i64, i64), i64, i64),
-    Off(usize, Form, (i64, i64), i64, i64),
+    TooSmall(usize, Form, (i64, i64), i64, i64),
+    OffCentre(usize, Form, (i64, i64), i64, i64),
     Other(Why, usize),
-    Nothing,
+    NoFlash,
     Oblique,
 }
 
 fn cause_of(row: CauseRow) -> Result<RingCause, Fail> {
     match row {
-        CauseRow::Small(flash, form, centre, ring, lack) => {
-            Ok(RingCause::Small(in_pad(flash, form, centre, ring, lack)?))
+        CauseRow::TooSmall(flash, form, centre, ring, lack) => {
+            Ok(RingCause::TooSmall(in_pad(flash, form, centre, ring, lack)?))
         }
-        CauseRow::Off(flash, form, centre, ring, lack) => {
-            Ok(RingCause::Off(in_pad(flash, form, centre, ring, lack)?))
+        CauseRow::OffCentre(flash, form, centre, ring, lack) => {
+            Ok(RingCause::OffCentre(in_pad(flash, form, centre, ring, lack)?))
         }
         CauseRow::Other(why, flash) => Ok(RingCause::Other { why, flash }),
-        CauseRow::Nothing => Ok(RingCause::Nothing),
+        CauseRow::NoFlash => Ok(RingCause::NoFlash),
         CauseRow::Oblique => Ok(RingCause::Oblique),
     }
 }
@@ -200,7 +206,7 @@ const LINES: [(HoleRow, CauseRow, &str); 11] = [
             (50_546_000_000, 67_310_000_000),
             609_600_000,
         ),
-        CauseRow::Small(
+        CauseRow::TooSmall(
             947,
             Form::Disc(203_200_000),
             (50_546_000_000, 67_310_000_000),
@@ -222,7 +228,7 @@ const LINES: [(HoleRow, CauseRow, &str); 11] = [
     ),
     (
         ("pth", 1, (0, 0), (0, 0), 400_000_000),
-        CauseRow::Off(
+        CauseRow::OffCentre(
             1,
             Form::Rect(325_000_000, 325_000_000),
             (1_000, 0),
@@ -238,12 +244,12 @@ const LINES: [(HoleRow, CauseRow, &str); 11] = [
     ),
     (
         OBLIQUE,
-        CauseRow::Nothing,
+        CauseRow::NoFlash,
         "  hole 3 of pth, 0.5 at 0,0 to 2,1: no ring, no pad\n",
     ),
     (
         SLOT,
-        CauseRow::Small(
+        CauseRow::TooSmall(
             1,
             Form::Obround(1_370_000_000, 375_000_000),
             (1_000_000_000, 0),
@@ -254,7 +260,7 @@ const LINES: [(HoleRow, CauseRow, &str); 11] = [
     ),
     (
         SLOT,
-        CauseRow::Off(
+        CauseRow::OffCentre(
             1,
             Form::Disc(2_000_000_000),
             (0, 0),
@@ -289,7 +295,7 @@ const LINES: [(HoleRow, CauseRow, &str); 11] = [
 fn is_ring_line(rt: HostRuntime, hole: HoleRow, cause: CauseRow, text: &str) -> Result<bool, Fail> {
     let (drill, number, from, to, diameter) = hole;
     let mut telling = nothing(rt.alloc(), 0, 1, meets(0, 1))?;
-    telling.layers.push(LayerHead { file: 0, asked: 1 })?;
+    telling.layers.push(LayerHead { file: 0, needed: 1 })?;
     telling.rings.push(RingLack {
         layer: 0,
         at: slot_at(1, number, from, to, diameter)?,
@@ -308,8 +314,8 @@ fn lines_of_rings_have_their_cause(rt: HostRuntime) -> Result<(), Fail> {
 }
 
 /// Whether the line of a drill file whose coordinates are off by a factor is this one.
-fn is_scale_line(rt: HostRuntime, factor: Factor, text: &str) -> Result<bool, Fail> {
-    let line = ScaleLine { factor, ..TENTH };
+fn is_scale_line(rt: HostRuntime, factor: UnitFactor, text: &str) -> Result<bool, Fail> {
+    let line = UnitMistake { factor, ..TENTH };
     let mut telling = nothing(rt.alloc(), 0, 1, meets(0, 1))?;
     telling.scales.push(line)?;
     let first = "ring 0, gap 0.000000001\n0 gaps lacking\n";
@@ -320,15 +326,15 @@ fn is_scale_line(rt: HostRuntime, factor: Factor, text: &str) -> Result<bool, Fa
 fn factors_are_printed(rt: HostRuntime) -> Result<(), Fail> {
     for &(factor, text) in &[
         (
-            Factor::Tenth,
+            UnitFactor::Tenth,
             "pth: 3 holes have no pad; at 0.1 times their coordinates 0 would have none\n",
         ),
         (
-            Factor::Inch,
+            UnitFactor::Inch,
             "pth: 3 holes have no pad; at 25.4 times their coordinates 0 would have none\n",
         ),
         (
-            Factor::PerInch,
+            UnitFactor::PerInch,
             "pth: 3 holes have no pad; at 1/25.4 times their coordinates 0 would have none\n",
         ),
     ] {
@@ -338,15 +344,15 @@ fn factors_are_printed(rt: HostRuntime) -> Result<(), Fail> {
 }
 
 /// Two layers; every other ring is on the second.
-fn mixed_layers(alloc: Global) -> Result<Telling, Fail> {
+fn mixed_layers(alloc: Global) -> Result<BoardReport, Fail> {
     let mut telling = nothing(alloc, 100_000_000, 250_000_000, meets(0, 250_000_000))?;
-    telling.layers.push(LayerHead { file: 0, asked: 9 })?;
-    telling.layers.push(LayerHead { file: 1, asked: 8 })?;
+    telling.layers.push(LayerHead { file: 0, needed: 9 })?;
+    telling.layers.push(LayerHead { file: 1, needed: 8 })?;
     for number in 1..6 {
         telling.rings.push(RingLack {
             layer: number % 2,
             at: hole_at(3, number, (0, 0), 300_000_000)?,
-            cause: RingCause::Nothing,
+            cause: RingCause::NoFlash,
         })?;
     }
     Ok(telling)
@@ -379,7 +385,7 @@ fn a_hole_hit_twice_is_printed(rt: HostRuntime) -> Result<(), Fail> {
         250_000_000,
         meets(125_000_000, -400_000_000),
     )?;
-    telling.layers.push(LayerHead { file: 0, asked: 2 })?;
+    telling.layers.push(LayerHead { file: 0, needed: 2 })?;
     telling.gaps.push(GapLack {
         first: hole_at(1, 1, (0, 0), 400_000_000)?,
         second: hole_at(1, 2, (0, 0), 400_000_000)?,
@@ -402,7 +408,7 @@ fn a_package_that_passes_is_printed(rt: HostRuntime) -> Result<(), Fail> {
     let any = Meets {
         ring: Met::Any,
         gap: Met::Any,
-        held: Met::Any,
+        in_pads: Met::Any,
     };
     let telling = nothing(rt.alloc(), 0, 1, any)?;
     let text =
@@ -421,15 +427,15 @@ fn unseen(cause: RingCause) -> Result<RingLack, Fail> {
 }
 
 /// A drill file whose coordinates are a tenth of the right ones.
-const TENTH: ScaleLine = ScaleLine {
+const TENTH: UnitMistake = UnitMistake {
     drill: 1,
     bare: 3,
-    factor: Factor::Ten,
+    factor: UnitFactor::Ten,
     then: 0,
 };
 
 /// Adds a hole for each cause, and two for a macro flash.
-fn tell_each_cause(telling: &mut Telling) -> Result<(), Fail> {
+fn tell_each_cause(telling: &mut BoardReport) -> Result<(), Fail> {
     for &why in &[
         Why::Turned,
         Why::Scaled,
@@ -445,9 +451,9 @@ fn tell_each_cause(telling: &mut Telling) -> Result<(), Fail> {
     let disc = Form::Disc(250_000_000);
     for cause in [
         RingCause::Oblique,
-        RingCause::Nothing,
-        RingCause::Off(in_pad(1, disc, (0, 0), 100_000_000, 50_000_000)?),
-        RingCause::Small(in_pad(1, disc, (0, 0), 99_394_596, 50_605_404)?),
+        RingCause::NoFlash,
+        RingCause::OffCentre(in_pad(1, disc, (0, 0), 100_000_000, 50_000_000)?),
+        RingCause::TooSmall(in_pad(1, disc, (0, 0), 99_394_596, 50_605_404)?),
     ] {
         telling.rings.push(unseen(cause)?)?;
     }
@@ -458,8 +464,8 @@ fn tell_each_cause(telling: &mut Telling) -> Result<(), Fail> {
 fn causes_and_scales_are_printed(rt: HostRuntime) -> Result<(), Fail> {
     let board = Meets {
         ring: Met::None,
-        gap: Met::Most(1_046_051_224),
-        held: Met::Most(275_000_000),
+        gap: Met::UpTo(1_046_051_224),
+        in_pads: Met::UpTo(275_000_000),
     };
     let mut telling = nothing(rt.alloc(), 150_000_000, 250_000_000, board)?;
     tell_each_cause(&mut telling)?;
@@ -491,11 +497,11 @@ const RINGS: [Option<&str>; 3] = [Some("milled"), Some("milled"), Some("by hand"
 const GAPS: [Option<&str>; 3] = [Some("drilled \"twice\""), Some("x"), Some("y")];
 
 /// Adds a hole that lies in no pad, and is drilled twice.
-fn tell_twice_hit(telling: &mut Telling, number: usize) -> Result<(), Fail> {
+fn tell_twice_hit(telling: &mut BoardReport, number: usize) -> Result<(), Fail> {
     telling.rings.push(RingLack {
         layer: 0,
         at: hole_at(1, number, (0, 0), 400_000_000)?,
-        cause: RingCause::Nothing,
+        cause: RingCause::NoFlash,
     })?;
     telling.gaps.push(GapLack {
         first: hole_at(1, number, (0, 0), 400_000_000)?,
@@ -507,12 +513,12 @@ fn tell_twice_hit(telling: &mut Telling, number: usize) -> Result<(), Fail> {
 }
 
 /// Three holes that lack their ring and three pairs that lack their gap.
-fn three_of_each(alloc: Global) -> Result<Telling, Fail> {
+fn three_of_each(alloc: Global) -> Result<BoardReport, Fail> {
     let board = meets(100_000_000, -400_000_000);
     let mut telling = nothing(alloc, 100_000_000, 250_000_000, board)?;
     telling.layers.push(LayerHead {
         file: 0,
-        asked: 245,
+        needed: 245,
     })?;
     for number in 1..4 {
         tell_twice_hit(&mut telling, number)?;
@@ -521,13 +527,13 @@ fn three_of_each(alloc: Global) -> Result<Telling, Fail> {
 }
 
 /// Reasons for rings and for gaps, the waivers that waive nothing, a limit, how many findings are waived, and the text.
-type WaivedRow = (Whys<'static>, Option<usize>, u128, &'static str);
+type WaivedRow = (Acceptances<'static>, Option<usize>, u128, &'static str);
 
 /// Reports with waivers of three rings and three gaps: all are waived; one is not; a limit cuts among the gaps; and reasons for fewer
 /// findings than there are waive no more.
 const WAIVED: [WaivedRow; 4] = [
     (
-        Whys {
+        Acceptances {
             rings: &RINGS,
             gaps: &GAPS,
             idle: &[8],
@@ -550,7 +556,7 @@ const WAIVED: [WaivedRow; 4] = [
         WAIVED 6\n",
     ),
     (
-        Whys {
+        Acceptances {
             rings: &[Some("milled"), None, Some("by hand")],
             gaps: &GAPS,
             idle: &[2, 9],
@@ -572,7 +578,7 @@ const WAIVED: [WaivedRow; 4] = [
         FINDINGS 1\n",
     ),
     (
-        Whys {
+        Acceptances {
             rings: &RINGS,
             gaps: &[],
             idle: &[],
@@ -593,7 +599,7 @@ const WAIVED: [WaivedRow; 4] = [
         FINDINGS 3\n",
     ),
     (
-        Whys {
+        Acceptances {
             rings: &[],
             gaps: &[None, Some("milled")],
             idle: &[],
@@ -613,10 +619,14 @@ const WAIVED: [WaivedRow; 4] = [
 ];
 
 /// Whether a report with waivers has the text and the count of a row.
-fn is_waived_so(rt: HostRuntime, telling: &Telling, row: &WaivedRow) -> Result<bool, AllocError> {
-    let (whys, limit, waived, text) = row;
-    let written = text_of(rt, &HOLED, telling, *limit, whys)?;
-    Ok(written.as_str() == *text && count_waived(telling, whys) == *waived)
+fn is_waived_so(
+    rt: HostRuntime,
+    telling: &BoardReport,
+    row: &WaivedRow,
+) -> Result<bool, AllocError> {
+    let (accepted, limit, waived, text) = row;
+    let written = text_of(rt, &HOLED, telling, *limit, accepted)?;
+    Ok(written.as_str() == *text && count_waived(telling, accepted) == *waived)
 }
 
 #[test]
@@ -632,7 +642,7 @@ fn reasons_stand_in_the_lines_of_waived_findings(rt: HostRuntime) -> Result<(), 
 fn a_waiver_that_waives_nothing_leaves_a_pass(rt: HostRuntime) -> Result<(), Fail> {
     let telling = nothing(rt.alloc(), 0, 1, meets(0, 1))?;
     let row = &(
-        Whys {
+        Acceptances {
             rings: &RINGS,
             gaps: &[],
             idle: &[2],
@@ -666,11 +676,11 @@ impl Write for Failing {
 fn is_cut_at(
     rt: HostRuntime,
     names: &[&str],
-    telling: &Telling,
-    whys: &Whys,
+    telling: &BoardReport,
+    accepted: &Acceptances,
     fails_at: usize,
 ) -> Result<bool, AllocError> {
-    let text = ReportText::new(rt.alloc(), names, telling, None, whys)?;
+    let text = ReportText::new(rt.alloc(), names, telling, None, accepted)?;
     let mut out = Failing { calls: 0, fails_at };
     let is_cut = write!(out, "{text}").is_err();
     Ok(is_cut && out.calls == fails_at)
@@ -679,14 +689,14 @@ fn is_cut_at(
 #[test]
 fn nothing_is_printed_after_a_write_that_fails(rt: HostRuntime) -> Result<(), Fail> {
     let telling = three_of_each(rt.alloc())?;
-    let whys = &Whys {
+    let accepted = &Acceptances {
         rings: &RINGS,
         gaps: &GAPS,
         idle: &[8],
     };
     for fails_at in 1..=100 {
         assert!(rt;
-            is_cut_at(rt, &HOLED, &telling, whys, fails_at)?,
+            is_cut_at(rt, &HOLED, &telling, accepted, fails_at)?,
             "at {fails_at}"
         );
     }

@@ -3,7 +3,7 @@
 use grid_units::{Hole, Point};
 use layer_image::{What, Why};
 use pad_shapes::{Disc, Obround, Pad, Rect};
-use report_text::{HoleAt, InPad};
+use report::{HoleAt, RingInPad};
 use std::test::Fail;
 
 /// What is flashed: a disc of a radius, a pad of two half sides, or what is no pad.
@@ -39,8 +39,8 @@ pub(crate) fn in_pad(
     centre: (i64, i64),
     ring: i64,
     lack: i64,
-) -> Result<InPad, Fail> {
-    Ok(InPad {
+) -> Result<RingInPad, Fail> {
+    Ok(RingInPad {
         flash,
         pad: pad_at(form, centre).ok_or("pad")?,
         ring,

@@ -1,10 +1,10 @@
 //! Reports on small packages, with the figures of the worked examples, in pm.
 
+use board_report::*;
 use grid_units::Rules;
 use package_check::{File, Role};
-use report_text::{RingCause, RingLack};
+use report::{RingCause, RingLack};
 use std::test::Fail;
-use telling::*;
 
 /// A square of 0.65 mm, 1 nm off the origin.
 const MOVED: &[u8] = b"%FSLAX46Y46*%\n%MOMM*%\n%ADD10R,0.65X0.65*%\nD10*\nX1Y0D03*\nM02*\n";
@@ -35,25 +35,29 @@ fn file<'a>(role: Role, bytes: &'a [u8]) -> File<'a> {
 }
 
 /// The report on a layer and a plated drill file, under a ring in pm and a gap of 0.25 mm.
-fn report_on(rt: HostRuntime, layer: &[u8], drill: &[u8], ring: i64) -> Result<Telling, Fail> {
+fn report_on(rt: HostRuntime, layer: &[u8], drill: &[u8], ring: i64) -> Result<BoardReport, Fail> {
     let files = [file(Role::Copper, layer), file(Role::Plated, drill)];
     let rules = Rules::new(ring, 250_000_000).ok().ok_or("rules")?;
-    Ok(tell_bytes(rt.alloc(), &files, rules).ok().ok_or("refused")?)
+    Ok(
+        report_bytes(rt.alloc(), &files, rules)
+            .ok()
+            .ok_or("refused")?,
+    )
 }
 
 /// The word for a cause, the number of its flash, the ring and the lack.
 fn cause_words(cause: RingCause) -> (&'static str, usize, i64, i64) {
     match cause {
-        RingCause::Small(pad) => ("small", pad.flash, pad.ring, pad.lack),
-        RingCause::Off(pad) => ("off", pad.flash, pad.ring, pad.lack),
+        RingCause::TooSmall(pad) => ("small", pad.flash, pad.ring, pad.lack),
+        RingCause::OffCentre(pad) => ("off", pad.flash, pad.ring, pad.lack),
         RingCause::Other { flash, .. } => ("other", flash, 0, 0),
-        RingCause::Nothing => ("nothing", 0, 0, 0),
+        RingCause::NoFlash => ("nothing", 0, 0, 0),
         RingCause::Oblique => ("oblique", 0, 0, 0),
     }
 }
 
 /// The number of rings in a report, and the words for the first of them.
-fn first_ring(report: &Telling) -> RingRow {
+fn first_ring(report: &BoardReport) -> RingRow {
     match report.rings.first() {
         Some(lack) => (report.rings.len(), cause_words(lack.cause)),
         None => NO_RING,
@@ -61,7 +65,7 @@ fn first_ring(report: &Telling) -> RingRow {
 }
 
 /// The number of gaps in a report, and the first gap and its lack.
-fn first_gap(report: &Telling) -> (usize, i64, i64) {
+fn first_gap(report: &BoardReport) -> (usize, i64, i64) {
     match report.gaps.first() {
         Some(lack) => (report.gaps.len(), lack.gap, lack.lack),
         None => (0, 0, 0),
@@ -104,7 +108,7 @@ fn reports_have_their_rings_and_gaps(rt: HostRuntime) -> Result<(), Fail> {
 }
 
 /// The report on three layers and three drill files, the second of them without holes.
-fn report_on_six(rt: HostRuntime) -> Result<Telling, Fail> {
+fn report_on_six(rt: HostRuntime) -> Result<BoardReport, Fail> {
     let files = [
         file(Role::Copper, DISC),
         file(Role::Plated, HIT),
@@ -114,7 +118,11 @@ fn report_on_six(rt: HostRuntime) -> Result<Telling, Fail> {
         file(Role::Copper, DISC),
     ];
     let rules = Rules::new(150_000_000, 1).ok().ok_or("rules")?;
-    Ok(tell_bytes(rt.alloc(), &files, rules).ok().ok_or("refused")?)
+    Ok(
+        report_bytes(rt.alloc(), &files, rules)
+            .ok()
+            .ok_or("refused")?,
+    )
 }
 
 /// By layer and then by hole: the layer, the index of the drill file, and the number of the hole.

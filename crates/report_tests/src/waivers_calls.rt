@@ -3,9 +3,8 @@
 use crate::rows::{Form, hole_at, in_pad, slot_at};
 use grid_units::{Fail, Reason, Rules};
 use manifest::Name;
-use manifest::rows::all_rows;
-use margin_text::{Meets, Met};
-use report_text::{GapLack, HoleAt, LayerHead, RingCause, RingLack, Telling};
+use manifest::rows::read_records;
+use report::{BoardReport, GapLack, HoleAt, LayerHead, Meets, Met, RingCause, RingLack};
 use std::alloc::{AllocError, Global};
 use std::io::Write;
 use std::test::Fail as Failed;
@@ -244,17 +243,17 @@ fn files_are_read_as_manifests_are(rt: HostRuntime) {
 }
 
 /// Adds a hole that lies in no pad of a layer.
-fn tell_bare(told: &mut Telling, layer: usize, at: HoleAt) -> Result<(), Failed> {
+fn tell_bare(told: &mut BoardReport, layer: usize, at: HoleAt) -> Result<(), Failed> {
     told.rings.push(RingLack {
         layer,
         at,
-        cause: RingCause::Nothing,
+        cause: RingCause::NoFlash,
     })?;
     Ok(())
 }
 
 /// Adds a hole that has this ring in a disc.
-fn tell_in_disc(told: &mut Telling, layer: usize, at: HoleAt, ring: i64) -> Result<(), Failed> {
+fn tell_in_disc(told: &mut BoardReport, layer: usize, at: HoleAt, ring: i64) -> Result<(), Failed> {
     let centre = at.hole.from();
     let place = in_pad(
         1,
@@ -266,13 +265,13 @@ fn tell_in_disc(told: &mut Telling, layer: usize, at: HoleAt, ring: i64) -> Resu
     told.rings.push(RingLack {
         layer,
         at,
-        cause: RingCause::Off(place),
+        cause: RingCause::OffCentre(place),
     })?;
     Ok(())
 }
 
 /// Adds three rings on a layer.
-fn tell_layer(told: &mut Telling, layer: usize) -> Result<(), Failed> {
+fn tell_layer(told: &mut BoardReport, layer: usize) -> Result<(), Failed> {
     let first = hole_at(2, 1, (142_240_000_000, -97_790_000_000), 750_000_000)?;
     tell_bare(told, layer, first)?;
     let second = hole_at(2, 1, (0, 0), 1_000_000_000)?;
@@ -282,7 +281,7 @@ fn tell_layer(told: &mut Telling, layer: usize) -> Result<(), Failed> {
 }
 
 /// Adds two holes that lack their gap.
-fn tell_gap(told: &mut Telling) -> Result<(), Failed> {
+fn tell_gap(told: &mut BoardReport) -> Result<(), Failed> {
     told.gaps.push(GapLack {
         first: hole_at(3, 1, (50_546_000_000, 67_310_000_000), 609_600_000)?,
         second: hole_at(3, 1, (51_181_000_000, 66_548_000_000), 609_600_000)?,
@@ -295,8 +294,8 @@ fn tell_gap(told: &mut Telling) -> Result<(), Failed> {
 const NAMES: [&str; 4] = ["top_layer", "bottom_layer", "pic_programmer-PTH", "drill"];
 
 /// A report of two layers without findings.
-fn no_findings(rt: HostRuntime) -> Result<Telling, Failed> {
-    let mut told = Telling {
+fn no_findings(rt: HostRuntime) -> Result<BoardReport, Failed> {
+    let mut told = BoardReport {
         rules: Rules::new(100_000_000, 250_000_000)?,
         layers: Vec::new(rt.alloc()),
         rings: Vec::new(rt.alloc()),
@@ -305,22 +304,22 @@ fn no_findings(rt: HostRuntime) -> Result<Telling, Failed> {
         meets: Meets {
             ring: Met::None,
             gap: Met::Any,
-            held: Met::Any,
+            in_pads: Met::Any,
         },
     };
     told.layers.push(LayerHead {
         file: 0,
-        asked: 245,
+        needed: 245,
     })?;
     told.layers.push(LayerHead {
         file: 1,
-        asked: 245,
+        needed: 245,
     })?;
     Ok(told)
 }
 
 /// A report with six rings on two layers and with one gap.
-fn seven_findings(rt: HostRuntime) -> Result<Telling, Failed> {
+fn seven_findings(rt: HostRuntime) -> Result<BoardReport, Failed> {
     let mut told = no_findings(rt)?;
     tell_layer(&mut told, 0)?;
     tell_layer(&mut told, 1)?;
@@ -329,7 +328,7 @@ fn seven_findings(rt: HostRuntime) -> Result<Telling, Failed> {
 }
 
 /// The file of waivers that is printed for a report.
-fn printed(rt: HostRuntime, names: &[&str], telling: &Telling) -> Result<String, AllocError> {
+fn printed(rt: HostRuntime, names: &[&str], telling: &BoardReport) -> Result<String, AllocError> {
     format!(in rt.alloc(); "{}", WaiverText { names, telling })
 }
 
@@ -397,7 +396,11 @@ fn with_reasons(rt: HostRuntime, behind: &str) -> Result<String, AllocError> {
 }
 
 /// The waivers of a file, and which of them waive the findings of a report.
-fn waived_in(rt: HostRuntime, told: &Telling, text: &str) -> Result<(Vec<Waiver>, Waived), Failed> {
+fn waived_in(
+    rt: HostRuntime,
+    told: &BoardReport,
+    text: &str,
+) -> Result<(Vec<Waiver>, Waived), Failed> {
     let Ok(read) = read_waivers(rt.alloc(), text.as_bytes()) else {
         return Err("refused".into());
     };
@@ -440,7 +443,7 @@ fn the_first_waiver_of_a_finding_is_told(rt: HostRuntime) -> Result<(), Failed> 
 }
 
 /// A report with two equal rings and two equal gaps.
-fn two_of_each(rt: HostRuntime) -> Result<Telling, Failed> {
+fn two_of_each(rt: HostRuntime) -> Result<BoardReport, Failed> {
     let mut told = no_findings(rt)?;
     for _ in 0..2 {
         tell_bare(&mut told, 0, hole_at(2, 1, (0, 0), 750_000_000)?)?;

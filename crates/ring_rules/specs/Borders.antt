@@ -3,8 +3,8 @@ use Rattle.std.specs.Prelude.{ℕ, ℤ, ◌≤◌, ◌<◌, ◌≤ℤ◌, int_le
 use Rattle.std.specs.List.{prefix_len}
 
 -- the borders are in ascending order; equal ones may follow each other
-abbrev pub Rises : List ℤ → Type 0
-Rises borders = (j k : ℕ) (d : ℤ) → j ≤ k → k < length borders → get_or borders j d ≤ℤ get_or borders k d
+abbrev pub IsAscending : List ℤ → Type 0
+IsAscending borders = (j k : ℕ) (d : ℤ) → j ≤ k → k < length borders → get_or borders j d ≤ℤ get_or borders k d
 
 -- how many borders, from the first on, are not above a coordinate
 abbrev pub borders_up_to : List ℤ → ℤ → ℕ

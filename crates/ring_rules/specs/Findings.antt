@@ -4,7 +4,7 @@ use Rattle.std.specs.Ordering.{int_eq}
 use Rattle.std.specs.List.{filter, flat_map, enumerate_from, list_any}
 use Rattle.grid_units.specs.Points.{GridPoint}
 use Rattle.grid_units.specs.Holes.{GridHole}
-use Rattle.pad_shapes.specs.Shapes.{covers_ends}
+use Rattle.pad_shapes.specs.Shapes.{covers_both_ends}
 use Rattle.ring_rules.specs.Cores.{are_clear}
 use Rattle.grid_units.specs.Spans.{is_in_span}
 use Rattle.ring_rules.specs.declared.finding.Drilled.{Drilled}
@@ -17,7 +17,7 @@ is_oblique h = not (int_eq h.from.x h.to.x) && not (int_eq h.from.y h.to.y)
 
 -- a shape covers a hole with the ring round it: it covers both ends, which are one point where the hole is round
 abbrev pub covers_hole : {S : Type 0} → (S → GridPoint → ℕ → Bool) → ℕ → GridHole → S → Bool
-covers_hole covers ring h pad = covers_ends covers pad h.from h.to (h.radius + ring)
+covers_hole covers ring h pad = covers_both_ends covers pad h.from h.to (h.radius + ring)
 
 -- an oblique slot, or a hole that no single pad covers with the ring round it
 abbrev pub lacks_ring : {S : Type 0} → (S → GridPoint → ℕ → Bool) → ℕ → List S → GridHole → Bool

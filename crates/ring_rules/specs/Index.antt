@@ -4,7 +4,7 @@ use Rattle.std.specs.List.{Contains}
 use Rattle.grid_units.specs.Points.{GridPoint}
 use Rattle.pad_shapes.specs.Zones.{IsInZone}
 use Rattle.pad_shapes.specs.declared.zone.Zone.{Zone}
-use Rattle.ring_rules.specs.Places.{point_at, IsChained}
+use Rattle.ring_rules.specs.Places.{entry_at, IsChained}
 use Rattle.ring_rules.specs.Cells.{cell_at}
 use Rattle.ring_rules.specs.Inner.Regions.{IsOnBoard}
 use Rattle.ring_rules.specs.declared.finding.Drilled.{Drilled}
@@ -13,14 +13,14 @@ use Rattle.ring_rules.specs.declared.index.HoleIndex.{HoleIndex}
 -- an index of just these holes: the chain of each cell has the holes with their entry point there
 pub record IsIndexOf (holes : List Drilled) (index : HoleIndex) : Type 0 where
   pub chained : IsChained (cell_at index.cells.x index.cells.y holes) (length holes) index.cells.head.items index.cells.next.items
-  pub ends : (k : ℕ) → k < length holes → IsOnBoard index.cells.x index.cells.y (point_at holes k)
+  pub ends : (k : ℕ) → k < length holes → IsOnBoard index.cells.x index.cells.y (entry_at holes k)
   pub fits : (index.cells.y.last + 1) * (index.cells.x.last + 1) ≤ 2 ^ 62
 
 -- the place of a hole of the list with its entry point in a zone
-pub record GoesInAt (holes : List Drilled) (zone : Zone) (k : ℕ) : Type 0 where
+pub record IsEntryInZone (holes : List Drilled) (zone : Zone) (k : ℕ) : Type 0 where
   pub listed : k < length holes
-  pub within : IsInZone zone (point_at holes k)
+  pub within : IsInZone zone (entry_at holes k)
 
 -- a point in one of some zones
-abbrev pub IsInOneOf : List Zone → GridPoint → Type 0
-IsInOneOf zones p = (zone : Zone) × Contains zones zone × IsInZone zone p
+abbrev pub IsInAnyZone : List Zone → GridPoint → Type 0
+IsInAnyZone zones p = (zone : Zone) × Contains zones zone × IsInZone zone p

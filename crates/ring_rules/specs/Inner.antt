@@ -1,5 +1,5 @@
-pub mod Asking
+pub mod FoundPlaces
 pub mod Blocks
 pub mod Marks
-pub mod Meeting
+pub mod ClashingPairs
 pub mod Regions

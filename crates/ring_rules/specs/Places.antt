@@ -10,16 +10,16 @@ abbrev pub steps_above : ℤ → ℕ → ℤ → ℕ
 steps_above low shift v = positive_part (v -ℤ low) / 2 ^ shift
 
 -- the hole that stands for a place past the end of a list
-abbrev pub nowhere : Drilled
-nowhere = record { hole = record { from = record { x = pos 0; y = pos 0 }; to = record { x = pos 0; y = pos 0 }; radius = 1 }; plated = false; span = None }
+abbrev pub default_hole : Drilled
+default_hole = record { hole = record { from = record { x = pos 0; y = pos 0 }; to = record { x = pos 0; y = pos 0 }; radius = 1 }; plated = false; span = None }
 
 -- the hole at a place of the list
 abbrev pub hole_at : List Drilled → ℕ → GridHole
-hole_at holes k = (get_or holes k nowhere).hole
+hole_at holes k = (get_or holes k default_hole).hole
 
 -- the entry point of the hole at a place: the first end of a slot, the centre of a round hole
-abbrev pub point_at : List Drilled → ℕ → GridPoint
-point_at holes k = (get_or holes k nowhere).hole.from
+abbrev pub entry_at : List Drilled → ℕ → GridPoint
+entry_at holes k = (get_or holes k default_hole).hole.from
 
 -- Chains of the first n places. A link is a place plus one, or 0 at the end: that of a cell leads to its greatest place, that of
 -- a place to the next lower place of its cell.

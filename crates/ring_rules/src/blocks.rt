@@ -2,9 +2,9 @@
 
 ghost use Rattle.std.specs.Prelude.{◌≡◌, ◌+◌, ◌≤◌, ◌<◌, false, length};
 ghost use Rattle.std.specs.List.{All};
-ghost use Rattle.ring_rules.specs.Inner.Marks.{gives_ring_at, TakesBack};
-ghost use Rattle.ring_rules.specs.Inner.Regions.{IsReady, IsTriedIn, HasNoMarkIn};
-ghost use Rattle.ring_rules.specs.Inner.Blocks.{IsBlock, IsInBlock, IsClosedRightly, AreTried};
+ghost use Rattle.ring_rules.specs.Inner.Marks.{gives_ring_at, RemovesMarks};
+ghost use Rattle.ring_rules.specs.Inner.Regions.{IsHoleGrid, NoMarkPassesIn, HasNoMarkIn};
+ghost use Rattle.ring_rules.specs.Inner.Blocks.{IsBlock, IsInBlock, AreClosedUnmarked, NoMarkPassesInBlocks};
 
 use crate::cells::Cells;
 use crate::finding::Drilled;
@@ -33,12 +33,12 @@ fn try_block<S: PadShape>(
     is_open: bool,
     marks: &mut [bool],
 ) -> bool
-    requires ready { IsReady cells.now.x cells.now.y cells.now.head.items cells.now.next.items holes.now rules.ring least }
+    requires ready { IsHoleGrid cells.now.x cells.now.y cells.now.head.items cells.now.next.items holes.now rules.ring least }
     requires size { length marks.old ≡ length holes.now }
     requires block { IsBlock cells.now.x cells.now.y block.now }
     requires closed { is_open ≡ false → HasNoMarkIn cells.now.x cells.now.y holes.now block.now.top block.now.bottom block.now.left block.now.right marks.old }
-    ensures takes { TakesBack (gives_ring_at S.covers rules.ring holes.now pad.now) marks.old marks.new }
-    ensures tried { IsTriedIn (gives_ring_at S.covers rules.ring holes.now pad.now) cells.now.x cells.now.y holes.now block.now.top block.now.bottom block.now.left block.now.right marks.new }
+    ensures removes { RemovesMarks (gives_ring_at S.covers rules.ring holes.now pad.now) marks.old marks.new }
+    ensures tried { NoMarkPassesIn (gives_ring_at S.covers rules.ring holes.now pad.now) cells.now.x cells.now.y holes.now block.now.top block.now.bottom block.now.left block.now.right marks.new }
     ensures none { result ≡ false → HasNoMarkIn cells.now.x cells.now.y holes.now block.now.top block.now.bottom block.now.left block.now.right marks.new }
 {
     if !is_open {
@@ -70,19 +70,28 @@ pub(crate) fn try_blocks<S: PadShape>(
     least: u64,
     blocks: &[Block],
     pad: &S,
-    opens: &mut [bool],
+    open_blocks: &mut [bool],
     marks: &mut [bool],
 )
-    requires ready { IsReady cells.now.x cells.now.y cells.now.head.items cells.now.next.items holes.now rules.ring least }
+    requires ready { IsHoleGrid cells.now.x cells.now.y cells.now.head.items cells.now.next.items holes.now rules.ring least }
     requires size { length marks.old ≡ length holes.now }
     requires blocks { All (IsBlock cells.now.x cells.now.y) blocks.now }
-    requires opens { length opens.old ≡ length blocks.now }
-    requires closed { IsClosedRightly cells.now.x cells.now.y holes.now blocks.now opens.old marks.old }
-    ensures takes { TakesBack (gives_ring_at S.covers rules.ring holes.now pad.now) marks.old marks.new }
-    ensures closed { IsClosedRightly cells.now.x cells.now.y holes.now blocks.now opens.new marks.new }
-    ensures tried { AreTried (gives_ring_at S.covers rules.ring holes.now pad.now) cells.now.x cells.now.y holes.now blocks.now (length blocks.now) marks.new }
+    requires open_blocks { length open_blocks.old ≡ length blocks.now }
+    requires closed { AreClosedUnmarked cells.now.x cells.now.y holes.now blocks.now open_blocks.old marks.old }
+    ensures removes { RemovesMarks (gives_ring_at S.covers rules.ring holes.now pad.now) marks.old marks.new }
+    ensures closed { AreClosedUnmarked cells.now.x cells.now.y holes.now blocks.now open_blocks.new marks.new }
+    ensures tried { NoMarkPassesInBlocks (gives_ring_at S.covers rules.ring holes.now pad.now) cells.now.x cells.now.y holes.now blocks.now (length blocks.now) marks.new }
 {
     for (i, block) in blocks.iter().enumerate() {
-        opens[i] = try_block(cells, holes, rules, least, pad, block, opens[i], marks);
+        open_blocks[i] = try_block(
+            cells,
+            holes,
+            rules,
+            least,
+            pad,
+            block,
+            open_blocks[i],
+            marks,
+        );
     }
 }

@@ -5,39 +5,39 @@ ghost use Rattle.std.specs.Prelude.{◌≡◌, ◌+◌, ◌*◌, ◌^◌, ◌<�
 ghost use Rattle.ring_rules.specs.Places.{IsChained};
 ghost use Rattle.ring_rules.specs.Cells.{column_of, row_of, cell_of, cell_at};
 
+use crate::axis::Axis;
 use crate::finding::Drilled;
 use crate::places::place;
-use crate::scale::Scale;
 use grid_units::Point;
 use std::alloc::{AllocError, Global};
 
 /// The holes of a board in chains. A link is one more than a hole's place, or 0 at the end of a chain.
 #[derive(Drop)]
 pub(crate) struct Cells {
-    pub x: Scale,
-    pub y: Scale,
+    pub x: Axis,
+    pub y: Axis,
     pub head: Vec<usize>,
     pub next: Vec<usize>,
 }
 
 /// The column of a point.
-pub(crate) fn column(scale: &Scale, at: Point) -> usize
-    ensures value { result ≡ column_of scale.now at }
-    ensures within { result ≤ scale.now.last }
+pub(crate) fn column(axis: &Axis, at: Point) -> usize
+    ensures value { result ≡ column_of axis.now at }
+    ensures within { result ≤ axis.now.last }
 {
-    place(scale, at.x())
+    place(axis, at.x())
 }
 
 /// The row of a point.
-pub(crate) fn row(scale: &Scale, at: Point) -> usize
-    ensures value { result ≡ row_of scale.now at }
-    ensures within { result ≤ scale.now.last }
+pub(crate) fn row(axis: &Axis, at: Point) -> usize
+    ensures value { result ≡ row_of axis.now at }
+    ensures within { result ≤ axis.now.last }
 {
-    place(scale, at.y())
+    place(axis, at.y())
 }
 
 /// The number of the cell in a row and a column, counted row by row from 0.
-pub(crate) fn cell_in(x: &Scale, y: &Scale, row: usize, column: usize) -> usize
+pub(crate) fn cell_in(x: &Axis, y: &Axis, row: usize, column: usize) -> usize
     requires row { row ≤ y.now.last }
     requires column { column ≤ x.now.last }
     requires fits { (y.now.last + 1) * (x.now.last + 1) ≤ 2 ^ 62 }
@@ -48,7 +48,7 @@ pub(crate) fn cell_in(x: &Scale, y: &Scale, row: usize, column: usize) -> usize
 }
 
 /// The number of the cell of a point.
-pub(crate) fn cell_of(x: &Scale, y: &Scale, at: Point) -> usize
+pub(crate) fn cell_of(x: &Axis, y: &Axis, at: Point) -> usize
     requires { (y.now.last + 1) * (x.now.last + 1) ≤ 2 ^ 62 }
     ensures value { result ≡ cell_of x.now y.now at }
     ensures within { result < (y.now.last + 1) * (x.now.last + 1) }
@@ -59,8 +59,8 @@ pub(crate) fn cell_of(x: &Scale, y: &Scale, at: Point) -> usize
 /// The holes in the cells of a grid, each in the cell of its entry point.
 pub(crate) fn chained(
     alloc: Global,
-    x: Scale,
-    y: Scale,
+    x: Axis,
+    y: Axis,
     holes: &[Drilled],
 ) -> Result<Cells, AllocError>
     requires { (y.last + 1) * (x.last + 1) ≤ 2 ^ 62 }

@@ -2,7 +2,7 @@
 
 ghost use Rattle.std.specs.Prelude.{◌≡◌, ℕ, ◌<◌, length, OnOk};
 ghost use Rattle.std.specs.List.{All, Contains};
-ghost use Rattle.ring_rules.specs.Inner.Meeting.{in_order, AddsClashes, IsFound};
+ghost use Rattle.ring_rules.specs.Inner.ClashingPairs.{in_order, AddsClashes, ListsClash};
 
 use crate::cores::are_clear;
 use crate::finding::Drilled;
@@ -27,7 +27,7 @@ fn add_pair(
     requires place { place < length holes.now }
     requires other { other < length holes.now }
     ensures adds { OnOk result (AddsClashes rules.gap holes.now pairs.old.items pairs.new.items) }
-    ensures found { OnOk result (IsFound rules.gap holes.now place other pairs.new.items) }
+    ensures found { OnOk result (ListsClash rules.gap holes.now place other pairs.new.items) }
 {
     if other != place && !are_clear(&holes[other].hole, &holes[place].hole, rules) {
         pairs.push(in_order(other, place))?;
@@ -46,7 +46,7 @@ pub(crate) fn add_pairs(
     requires place { place < length holes.now }
     requires others { All (λ k. k < length holes.now) others.now }
     ensures adds { OnOk result (AddsClashes rules.gap holes.now pairs.old.items pairs.new.items) }
-    ensures found { OnOk result ((o : ℕ) → Contains others.now o → IsFound rules.gap holes.now place o pairs.new.items) }
+    ensures found { OnOk result ((o : ℕ) → Contains others.now o → ListsClash rules.gap holes.now place o pairs.new.items) }
 {
     for other in others {
         add_pair(holes, rules, place, *other, pairs)?;

@@ -1,7 +1,7 @@
 //! The holes of a board, and what is found at them.
 
 ghost use Rattle.std.specs.Prelude.{◌≡◌, false};
-ghost use Rattle.pad_shapes.specs.Shapes.{IsAlongAxis};
+ghost use Rattle.pad_shapes.specs.Shapes.{IsAxisAligned};
 ghost use Rattle.ring_rules.specs.Findings.{is_oblique};
 
 use grid_units::{Hole, Span};
@@ -46,7 +46,7 @@ pub enum Finding {
 /// Whether the ends of a hole differ in x and in y. Else it lies along an axis, or is round.
 pub fn is_oblique(hole: &Hole) -> bool
     ensures test { result ≡ is_oblique hole.now }
-    ensures along { result ≡ false → IsAlongAxis hole.now.from hole.now.to }
+    ensures along { result ≡ false → IsAxisAligned hole.now.from hole.now.to }
 {
     hole.from().x() != hole.to().x() && hole.from().y() != hole.to().y()
 }

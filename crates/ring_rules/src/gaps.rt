@@ -5,7 +5,7 @@ ghost use Rattle.std.specs.List.{AllPairs, Contains};
 ghost use Rattle.std.specs.List.Sorted.{IsPermutation, IsSorted};
 ghost use Rattle.std.specs.Ordering.{nat_cmp, ordering_then};
 ghost use Rattle.ring_rules.specs.Findings.{gap_findings};
-ghost use Rattle.ring_rules.specs.Inner.Meeting.{Before};
+ghost use Rattle.ring_rules.specs.Inner.ClashingPairs.{IsPairBefore};
 
 use crate::finding::{Drilled, Finding};
 use crate::near::clashes;
@@ -21,9 +21,9 @@ fn sort_pairs(pairs: &mut Vec<(usize, usize)>)
 }
 
 /// Drops all but one of equal pairs.
-fn keep_one_of_each(pairs: &mut Vec<(usize, usize)>)
+fn remove_duplicates(pairs: &mut Vec<(usize, usize)>)
     requires { IsSorted (λ p q. ordering_then (nat_cmp p.0 q.0) (nat_cmp p.1 q.1)) pairs.old.items }
-    ensures rising { AllPairs Before pairs.new.items }
+    ensures rising { AllPairs IsPairBefore pairs.new.items }
     ensures kept { (p : ℕ × ℕ) → Contains pairs.old.items p → Contains pairs.new.items p }
     ensures none { (p : ℕ × ℕ) → Contains pairs.new.items p → Contains pairs.old.items p }
 {
@@ -55,6 +55,6 @@ pub fn gap_findings(
 {
     let mut pairs = clashes(alloc, holes, rules)?;
     sort_pairs(&mut pairs);
-    keep_one_of_each(&mut pairs);
+    remove_duplicates(&mut pairs);
     gaps_at(alloc, &pairs)
 }

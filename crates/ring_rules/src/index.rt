@@ -3,15 +3,15 @@
 ghost use Rattle.std.specs.Prelude.{◌≡◌, ℕ, ◌+◌, ◌<◌, ◌≤◌, ◌≤ℤ◌, true, length, IfOk, OnOk};
 ghost use Rattle.std.specs.List.{All, Contains};
 ghost use Rattle.pad_shapes.specs.Zones.{IsInZone};
-ghost use Rattle.ring_rules.specs.Places.{point_at};
+ghost use Rattle.ring_rules.specs.Places.{entry_at};
 ghost use Rattle.ring_rules.specs.Cells.{cell_at};
 ghost use Rattle.ring_rules.specs.Inner.Regions.{IsInRegion};
-ghost use Rattle.ring_rules.specs.Index.{IsIndexOf, GoesInAt};
-ghost use Rattle.ring_rules.specs.Inner.Asking.{AddsPlaces, IsListed};
+ghost use Rattle.ring_rules.specs.Index.{IsIndexOf, IsEntryInZone};
+ghost use Rattle.ring_rules.specs.Inner.FoundPlaces.{AddsPlaces, ListsPlace};
 
 use crate::cells::{Cells, cell_in};
 use crate::finding::Drilled;
-use crate::layout::laid_out;
+use crate::layout::fitting_cells;
 use crate::marks::link_at;
 use crate::pads::{first_column, first_row, last_column, last_row};
 use grid_units::Point;
@@ -58,7 +58,7 @@ fn add_place(
 ) -> Result<(), AllocError>
     requires { place < length holes.now }
     ensures adds { OnOk result (AddsPlaces holes.now zone.now places.old.items places.new.items) }
-    ensures listed { OnOk result (IsListed holes.now zone.now place places.new.items) }
+    ensures listed { OnOk result (ListsPlace holes.now zone.now place places.new.items) }
 {
     if is_in_zone(zone, holes[place].hole.from()) {
         places.push(place)?;
@@ -76,7 +76,7 @@ fn add_cell(
 ) -> Result<(), AllocError>
     requires { IsIndexOf holes.now index.now }
     ensures adds { OnOk result (AddsPlaces holes.now zone.now places.old.items places.new.items) }
-    ensures listed { OnOk result ((k : ℕ) → k < length holes.now → cell_at index.now.cells.x index.now.cells.y holes.now k ≡ cell → IsListed holes.now zone.now k places.new.items) }
+    ensures listed { OnOk result ((k : ℕ) → k < length holes.now → cell_at index.now.cells.x index.now.cells.y holes.now k ≡ cell → ListsPlace holes.now zone.now k places.new.items) }
 {
     let mut link = link_at(&index.cells.head, cell);
     while link > 0 {
@@ -101,7 +101,7 @@ fn add_row(
     requires row { row ≤ index.now.cells.y.last }
     requires right { right ≤ index.now.cells.x.last + 1 }
     ensures adds { OnOk result (AddsPlaces holes.now zone.now places.old.items places.new.items) }
-    ensures listed { OnOk result ((k : ℕ) → k < length holes.now → IsInRegion index.now.cells.x index.now.cells.y row (row + 1) left right (point_at holes.now k) → IsListed holes.now zone.now k places.new.items) }
+    ensures listed { OnOk result ((k : ℕ) → k < length holes.now → IsInRegion index.now.cells.x index.now.cells.y row (row + 1) left right (entry_at holes.now k) → ListsPlace holes.now zone.now k places.new.items) }
 {
     for column in left..right {
         let cell = cell_in(&index.cells.x, &index.cells.y, row, column);
@@ -125,7 +125,7 @@ fn add_rows(
     requires bottom { bottom ≤ index.now.cells.y.last + 1 }
     requires right { right ≤ index.now.cells.x.last + 1 }
     ensures adds { OnOk result (AddsPlaces holes.now zone.now places.old.items places.new.items) }
-    ensures listed { OnOk result ((k : ℕ) → k < length holes.now → IsInRegion index.now.cells.x index.now.cells.y top bottom left right (point_at holes.now k) → IsListed holes.now zone.now k places.new.items) }
+    ensures listed { OnOk result ((k : ℕ) → k < length holes.now → IsInRegion index.now.cells.x index.now.cells.y top bottom left right (entry_at holes.now k) → ListsPlace holes.now zone.now k places.new.items) }
 {
     for row in top..bottom {
         add_row(index, holes, zone, row, left, right, places)?;
@@ -147,7 +147,7 @@ impl HoleIndex {
     ) -> Result<HoleIndex, AllocError>
         ensures { IfOk result (IsIndexOf holes.now) }
     {
-        let cells = laid_out(alloc, holes, width, height)?;
+        let cells = fitting_cells(alloc, holes, width, height)?;
         Ok(HoleIndex { cells })
     }
 
@@ -163,8 +163,8 @@ impl HoleIndex {
         places: &mut Vec<usize>,
     ) -> Result<(), AllocError>
         requires { IsIndexOf holes.now self.now }
-        ensures all { OnOk result ((k : ℕ) → k < length holes.now → IsInZone zone.now (point_at holes.now k) → Contains places.new.items k) }
-        ensures places { OnOk result (All (GoesInAt holes.now zone.now) places.new.items) }
+        ensures all { OnOk result ((k : ℕ) → k < length holes.now → IsInZone zone.now (entry_at holes.now k) → Contains places.new.items k) }
+        ensures places { OnOk result (All (IsEntryInZone holes.now zone.now) places.new.items) }
     {
         places.clear();
         add_rows(

@@ -1,7 +1,7 @@
 //! Laws of what the rules find. A call of one does nothing; its clauses are what is proved.
 
 ghost use Rattle.ring_rules.specs.Cores.{ClearHolesAreApart};
-ghost use Rattle.ring_rules.specs.Passing.{RingsHoldWithoutFindings, SlotsHoldWithoutFindings, StraightWithoutFindings, FindsOblique, ApartWhenNoneClash, RingsNamePlaces, GapsNamePlaces};
+ghost use Rattle.ring_rules.specs.WithoutFindings.{RingsHoldWithoutFindings, SlotsHoldWithoutFindings, StraightWithoutFindings, FindsOblique, ApartWithoutFindings, RingsNamePlaces, GapsNamePlaces};
 
 use pad_shapes::PadShape;
 
@@ -25,7 +25,7 @@ pub fn oblique_slots_are_found<S: PadShape>()
 
 /// Where no gap is a finding, the holes at any two places of the list are clear, hence apart.
 pub fn gaps_hold()
-    ensures { ApartWhenNoneClash }
+    ensures { ApartWithoutFindings }
 {}
 
 /// Each finding names a layer and a hole of the lists, or two holes of the list in their order.

@@ -4,14 +4,14 @@ ghost use Rattle.std.specs.Prelude.{◌≡◌, ℕ, ◌+◌, ◌*◌, ◌^◌, �
 ghost use Rattle.std.specs.List.{All, Contains};
 ghost use Rattle.grid_units.specs.Points.{GridPoint};
 ghost use Rattle.pad_shapes.specs.Zones.{IsInZone};
-ghost use Rattle.ring_rules.specs.Places.{point_at};
+ghost use Rattle.ring_rules.specs.Places.{entry_at};
 ghost use Rattle.ring_rules.specs.Inner.Regions.{IsLaidOut};
 
+use crate::axis::Axis;
+use crate::cell_size::{Spread, shifts, spread_x, spread_y};
 use crate::cells::{Cells, chained};
-use crate::crowds::{is_crowded, uneven_x, uneven_y};
 use crate::finding::Drilled;
-use crate::scale::Scale;
-use crate::shape::{Spread, shifts, spread_x, spread_y};
+use crate::uneven_axes::{is_crowded, uneven_x, uneven_y};
 use grid_units::Point;
 use pad_shapes::Zone;
 use std::alloc::{AllocError, Global};
@@ -41,7 +41,7 @@ pub(crate) fn no_zone() -> Zone {
 
 /// A zone that contains the entry point of each hole.
 fn bounds(holes: &[Drilled]) -> Zone
-    ensures { (k : ℕ) → k < length holes.now → IsInZone result (point_at holes.now k) }
+    ensures { (k : ℕ) → k < length holes.now → IsInZone result (entry_at holes.now k) }
 {
     let mut zone = no_zone();
     for drilled in holes {
@@ -53,7 +53,7 @@ fn bounds(holes: &[Drilled]) -> Zone
 /// A zone that contains the entry points of the holes at some places.
 pub(crate) fn bounds_at(holes: &[Drilled], places: &[usize]) -> Zone
     requires { All (λ k. k < length holes.now) places.now }
-    ensures { (k : ℕ) → Contains places.now k → IsInZone result (point_at holes.now k) }
+    ensures { (k : ℕ) → Contains places.now k → IsInZone result (entry_at holes.now k) }
 {
     let mut zone = no_zone();
     for place in places {
@@ -63,12 +63,12 @@ pub(crate) fn bounds_at(holes: &[Drilled], places: &[usize]) -> Zone
 }
 
 /// An even scale along x for the points of a zone, with places of 2^shift pm.
-fn across(alloc: Global, zone: &Zone, spread: &Spread, shift: u32) -> Scale
+fn across(alloc: Global, zone: &Zone, spread: &Spread, shift: u32) -> Axis
     ensures least { result.least ≡ zone.now.left }
     ensures greatest { result.greatest ≡ zone.now.right }
 {
     let shift = shift.min(63);
-    Scale {
+    Axis {
         low: spread.low,
         shift,
         last: (spread.span >> shift) as usize,
@@ -79,12 +79,12 @@ fn across(alloc: Global, zone: &Zone, spread: &Spread, shift: u32) -> Scale
 }
 
 /// An even scale along y for the points of a zone, with places of 2^shift pm.
-fn along(alloc: Global, zone: &Zone, spread: &Spread, shift: u32) -> Scale
+fn along(alloc: Global, zone: &Zone, spread: &Spread, shift: u32) -> Axis
     ensures least { result.least ≡ zone.now.bottom }
     ensures greatest { result.greatest ≡ zone.now.top }
 {
     let shift = shift.min(63);
-    Scale {
+    Axis {
         low: spread.low,
         shift,
         last: (spread.span >> shift) as usize,
@@ -95,23 +95,23 @@ fn along(alloc: Global, zone: &Zone, spread: &Spread, shift: u32) -> Scale
 }
 
 /// A scale with the same ends and a single place.
-fn single(alloc: Global, scale: &Scale) -> Scale
+fn single(alloc: Global, axis: &Axis) -> Axis
     ensures last { result.last ≡ 0 }
-    ensures least { result.least ≡ scale.now.least }
-    ensures greatest { result.greatest ≡ scale.now.greatest }
+    ensures least { result.least ≡ axis.now.least }
+    ensures greatest { result.greatest ≡ axis.now.greatest }
 {
-    Scale {
-        low: scale.low,
+    Axis {
+        low: axis.low,
         shift: 0,
         last: 0,
-        least: scale.least,
-        greatest: scale.greatest,
+        least: axis.least,
+        greatest: axis.greatest,
         borders: Vec::new(alloc),
     }
 }
 
 /// Whether two scales make at most 2^62 cells.
-fn fits(x: &Scale, y: &Scale) -> bool
+fn fits(x: &Axis, y: &Axis) -> bool
     ensures { result ≡ true → (y.now.last + 1) * (x.now.last + 1) ≤ 2 ^ 62 }
 {
     (y.last as u128 + 1) * (x.last as u128 + 1) <= 1 << 62
@@ -122,14 +122,14 @@ fn cells_on(
     alloc: Global,
     holes: &[Drilled],
     zone: &Zone,
-    x: Scale,
-    y: Scale,
+    x: Axis,
+    y: Axis,
 ) -> Result<Cells, AllocError>
     requires least_x { x.least ≡ zone.now.left }
     requires greatest_x { x.greatest ≡ zone.now.right }
     requires least_y { y.least ≡ zone.now.bottom }
     requires greatest_y { y.greatest ≡ zone.now.top }
-    requires holds { (k : ℕ) → k < length holes.now → IsInZone zone.now (point_at holes.now k) }
+    requires holds { (k : ℕ) → k < length holes.now → IsInZone zone.now (entry_at holes.now k) }
     ensures { IfOk result (λ cells. IsLaidOut cells.x cells.y cells.head.items cells.next.items holes.now) }
 {
     if fits(&x, &y) {
@@ -142,7 +142,7 @@ fn cells_on(
 
 /// The holes in cells that suit zones about so wide and so high, in pm. The cells are even, or uneven where holes
 /// crowd into few of the even ones.
-pub(crate) fn laid_out(
+pub(crate) fn fitting_cells(
     alloc: Global,
     holes: &[Drilled],
     width: u64,

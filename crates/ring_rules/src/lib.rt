@@ -3,15 +3,16 @@
 //! All lengths are whole picometres (pm).
 #![tactic(auto)]
 
+mod axis;
+mod block_division;
 mod blocks;
-mod board;
+mod cell_size;
 mod cells;
 mod clashes;
 mod cores;
-mod crowds;
-mod dividing;
 mod finding;
 mod gaps;
+mod grid;
 mod index;
 pub mod laws;
 mod layout;
@@ -22,8 +23,7 @@ mod pads;
 mod places;
 mod regions;
 mod rings;
-mod scale;
-mod shape;
+mod uneven_axes;
 mod zones;
 
 pub use cores::{clear_of, core_distance_x, core_distance_y};
@@ -33,4 +33,4 @@ pub use grid_units::Span;
 pub use index::HoleIndex;
 pub use limits::Limits;
 pub use near::{limits_of, near_zone};
-pub use rings::{layer_findings, ring_findings, usual_zone};
+pub use rings::{layer_findings, mean_zone_size, ring_findings};

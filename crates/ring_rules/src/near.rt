@@ -4,21 +4,21 @@ ghost use Rattle.std.specs.Prelude.{◌≡◌, ℕ, ◌+◌, ◌<◌, ◌≤◌,
 ghost use Rattle.std.specs.Int.{int_min, int_max};
 ghost use Rattle.std.specs.List.{Contains};
 ghost use Rattle.grid_units.specs.Holes.{GridHole};
-ghost use Rattle.grid_units.specs.Points.{apart};
+ghost use Rattle.grid_units.specs.Points.{abs_diff};
 ghost use Rattle.pad_shapes.specs.Zones.{IsInZone};
 ghost use Rattle.ring_rules.specs.Cells.{cell_at};
 ghost use Rattle.ring_rules.specs.Index.{IsIndexOf};
 ghost use Rattle.ring_rules.specs.Places.{hole_at};
-ghost use Rattle.ring_rules.specs.Near.{length_of, size_of, IsUnder, AreLimits, IsGapBound, AreNearer, AreWithin};
-ghost use Rattle.ring_rules.specs.Inner.Meeting.{AddsClashes, IsClash, AreFound};
+ghost use Rattle.ring_rules.specs.Near.{length_of, size_of, IsWithinLimits, AreLimits, IsGapBound, AreNearer, AreWithin};
+ghost use Rattle.ring_rules.specs.Inner.ClashingPairs.{AddsClashes, IsClash, ListsClashes};
 
+use crate::cell_size::sample_index;
 use crate::clashes::add_pairs;
 use crate::finding::Drilled;
 use crate::index::HoleIndex;
 use crate::layout::no_zone;
 use crate::limits::Limits;
 use crate::marks::link_at;
-use crate::shape::drawn;
 use grid_units::{Hole, Rules};
 use pad_shapes::Zone;
 use std::alloc::{AllocError, Global};
@@ -35,7 +35,7 @@ fn length_of(hole: &Hole) -> u64
 
 /// The length of a hole's core along x, in pm.
 fn length_x(hole: &Hole) -> u64
-    ensures value { result ≡ apart hole.now.from.x hole.now.to.x }
+    ensures value { result ≡ abs_diff hole.now.from.x hole.now.to.x }
     ensures in_range { result ≤ 20000000000000 }
 {
     hole.from().x().abs_diff(hole.to().x())
@@ -43,7 +43,7 @@ fn length_x(hole: &Hole) -> u64
 
 /// The length of a hole's core along y, in pm.
 fn length_y(hole: &Hole) -> u64
-    ensures value { result ≡ apart hole.now.from.y hole.now.to.y }
+    ensures value { result ≡ abs_diff hole.now.from.y hole.now.to.y }
     ensures in_range { result ≤ 20000000000000 }
 {
     hole.from().y().abs_diff(hole.to().y())
@@ -70,7 +70,7 @@ fn widest(holes: &[Drilled]) -> u64
 
 /// A length along x that the core of no hole exceeds, in pm.
 fn longest_x(holes: &[Drilled]) -> u64
-    ensures all { (k : ℕ) → k < length holes.now → apart (hole_at holes.now k).from.x (hole_at holes.now k).to.x ≤ result }
+    ensures all { (k : ℕ) → k < length holes.now → abs_diff (hole_at holes.now k).from.x (hole_at holes.now k).to.x ≤ result }
     ensures in_range { result ≤ 20000000000000 }
 {
     let mut longest = 0;
@@ -82,7 +82,7 @@ fn longest_x(holes: &[Drilled]) -> u64
 
 /// A length along y that the core of no hole exceeds, in pm.
 fn longest_y(holes: &[Drilled]) -> u64
-    ensures all { (k : ℕ) → k < length holes.now → apart (hole_at holes.now k).from.y (hole_at holes.now k).to.y ≤ result }
+    ensures all { (k : ℕ) → k < length holes.now → abs_diff (hole_at holes.now k).from.y (hole_at holes.now k).to.y ≤ result }
     ensures in_range { result ≤ 20000000000000 }
 {
     let mut longest = 0;
@@ -162,7 +162,7 @@ fn above(hole: &Hole, margin: u64) -> i64
 /// A zone that contains the entry point of each hole that is no larger than this one and has its core nearer than `far`.
 fn zone_round(hole: &Hole, far: u64, limits: Limits) -> Zone
     requires { far ≤ 50000000000000 }
-    ensures { (o : GridHole) → IsUnder limits o → size_of o ≤ size_of hole.now → AreWithin far o hole.now → IsInZone result o.from }
+    ensures { (o : GridHole) → IsWithinLimits limits o → size_of o ≤ size_of hole.now → AreWithin far o hole.now → IsInZone result o.from }
 {
     let margin_x = margin(hole, far, limits.x);
     let margin_y = margin(hole, far, limits.y);
@@ -178,7 +178,7 @@ fn zone_round(hole: &Hole, far: u64, limits: Limits) -> Zone
 /// holes with a gap below 0 overlap.
 pub fn near_zone(hole: &Hole, gap: i64, limits: Limits) -> Zone
     requires { IsGapBound gap }
-    ensures { (o : GridHole) → IsUnder limits o → size_of o ≤ size_of hole.now → AreNearer gap o hole.now → IsInZone result o.from }
+    ensures { (o : GridHole) → IsWithinLimits limits o → size_of o ≤ size_of hole.now → AreNearer gap o hole.now → IsInZone result o.from }
 {
     let far = farthest(hole, gap, limits.radius);
     if far <= 0 {
@@ -201,7 +201,7 @@ fn add_near(
     requires limits { AreLimits holes.now limits }
     requires place { place < length holes.now }
     ensures adds { OnOk result (AddsClashes rules.gap holes.now pairs.old.items pairs.new.items) }
-    ensures found { OnOk result (AreFound rules.gap holes.now place pairs.new.items) }
+    ensures found { OnOk result (ListsClashes rules.gap holes.now place pairs.new.items) }
 {
     let zone = near_zone(&holes[place].hole, rules.gap(), limits);
     index.find(holes, &zone, near)?;
@@ -222,7 +222,7 @@ fn add_cell_pairs(
     requires index { IsIndexOf holes.now index.now }
     requires limits { AreLimits holes.now limits }
     ensures adds { OnOk result (AddsClashes rules.gap holes.now pairs.old.items pairs.new.items) }
-    ensures found { OnOk result ((k : ℕ) → k < length holes.now → cell_at index.now.cells.x index.now.cells.y holes.now k ≡ cell → AreFound rules.gap holes.now k pairs.new.items) }
+    ensures found { OnOk result ((k : ℕ) → k < length holes.now → cell_at index.now.cells.x index.now.cells.y holes.now k ≡ cell → ListsClashes rules.gap holes.now k pairs.new.items) }
 {
     let mut link = link_at(&index.cells.head, cell);
     while link > 0 {
@@ -245,7 +245,7 @@ fn add_all_pairs(
     requires index { IsIndexOf holes.now index.now }
     requires limits { AreLimits holes.now limits }
     ensures adds { OnOk result (AddsClashes rules.gap holes.now pairs.old.items pairs.new.items) }
-    ensures found { OnOk result ((k : ℕ) → k < length holes.now → AreFound rules.gap holes.now k pairs.new.items) }
+    ensures found { OnOk result ((k : ℕ) → k < length holes.now → ListsClashes rules.gap holes.now k pairs.new.items) }
 {
     for cell in 0..index.cells.head.len() {
         add_cell_pairs(index, holes, rules, limits, cell, near, pairs)?;
@@ -254,11 +254,11 @@ fn add_all_pairs(
 }
 
 /// The mean width or height of the zones of a sample of the holes, in pm. Any answer is right: only the time depends on it.
-fn asked(holes: &[Drilled], rules: Rules, widest: u64, longest: u64) -> u64 {
+fn mean_zone_length(holes: &[Drilled], rules: Rules, widest: u64, longest: u64) -> u64 {
     let mut sum: u64 = 0;
     let mut count: u64 = 0;
     for draw in 0..(holes.len() as u64).min(256) {
-        if let Some(drilled) = holes.get(drawn(draw, holes.len())) {
+        if let Some(drilled) = holes.get(sample_index(draw, holes.len())) {
             let size = size_of(&drilled.hole);
             let radii = size.min(widest).saturating_add(size.min(longest));
             sum = sum.saturating_add(radii.saturating_add(rules.gap().unsigned_abs()));
@@ -278,8 +278,8 @@ pub(crate) fn clashes(
     ensures complete { IfOk result (λ v. (p : ℕ × ℕ) → IsClash rules.gap holes.now p → Contains v.items p) }
 {
     let limits = limits_of(holes);
-    let width = asked(holes, rules, limits.radius, limits.x);
-    let height = asked(holes, rules, limits.radius, limits.y);
+    let width = mean_zone_length(holes, rules, limits.radius, limits.x);
+    let height = mean_zone_length(holes, rules, limits.radius, limits.y);
     let index = HoleIndex::new(alloc, holes, width, height)?;
     let mut near = Vec::new(alloc);
     let mut pairs = Vec::new(alloc);

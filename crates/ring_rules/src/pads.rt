@@ -5,18 +5,18 @@ ghost use Rattle.std.specs.List.{All, list_any};
 ghost use Rattle.grid_units.specs.Points.{GridPoint};
 ghost use Rattle.grid_units.specs.Spans.{is_in_span};
 ghost use Rattle.ring_rules.specs.Findings.{is_ring_finding};
-ghost use Rattle.ring_rules.specs.Places.{nowhere};
+ghost use Rattle.ring_rules.specs.Places.{default_hole};
 ghost use Rattle.ring_rules.specs.Cells.{place_of};
-ghost use Rattle.ring_rules.specs.Inner.Marks.{gives_ring, gives_ring_at, is_marked, TakesBack};
-ghost use Rattle.ring_rules.specs.Inner.Regions.{IsInRegion, IsReady};
-ghost use Rattle.ring_rules.specs.Inner.Blocks.{IsBlock, IsInSome, IsClosedRightly};
+ghost use Rattle.ring_rules.specs.Inner.Marks.{gives_ring, gives_ring_at, is_marked, RemovesMarks};
+ghost use Rattle.ring_rules.specs.Inner.Regions.{IsInRegion, IsHoleGrid};
+ghost use Rattle.ring_rules.specs.Inner.Blocks.{IsBlock, IsInAnyBlock, AreClosedUnmarked};
 
+use crate::axis::Axis;
 use crate::blocks::try_blocks;
-use crate::board::Board;
 use crate::finding::Drilled;
+use crate::grid::HoleGrid;
 use crate::places::place;
 use crate::regions::try_rows;
-use crate::scale::Scale;
 use grid_units::{Rules, is_in_span};
 use pad_shapes::{PadShape, Zone};
 use std::alloc::{AllocError, Global};
@@ -26,7 +26,7 @@ const FEW: usize = 24;
 
 /// Rows from `top` to `bottom` and columns from `left` to `right`, ends excluded. A pad without a zone has strips of all rows.
 #[derive(Clone, Copy)]
-struct Range {
+struct CellRange {
     top: usize,
     bottom: usize,
     left: usize,
@@ -34,64 +34,64 @@ struct Range {
     is_strip: bool,
 }
 
-pub(crate) fn first_column(scale: &Scale, zone: &Zone) -> usize
-    ensures value { result ≡ place_of scale.now zone.now.left }
-    ensures within { result ≤ scale.now.last }
+pub(crate) fn first_column(axis: &Axis, zone: &Zone) -> usize
+    ensures value { result ≡ place_of axis.now zone.now.left }
+    ensures within { result ≤ axis.now.last }
 {
-    place(scale, zone.left)
+    place(axis, zone.left)
 }
 
-pub(crate) fn last_column(scale: &Scale, zone: &Zone) -> usize
-    ensures value { result ≡ place_of scale.now zone.now.right }
-    ensures within { result ≤ scale.now.last }
+pub(crate) fn last_column(axis: &Axis, zone: &Zone) -> usize
+    ensures value { result ≡ place_of axis.now zone.now.right }
+    ensures within { result ≤ axis.now.last }
 {
-    place(scale, zone.right)
+    place(axis, zone.right)
 }
 
-pub(crate) fn first_row(scale: &Scale, zone: &Zone) -> usize
-    ensures value { result ≡ place_of scale.now zone.now.bottom }
-    ensures within { result ≤ scale.now.last }
+pub(crate) fn first_row(axis: &Axis, zone: &Zone) -> usize
+    ensures value { result ≡ place_of axis.now zone.now.bottom }
+    ensures within { result ≤ axis.now.last }
 {
-    place(scale, zone.bottom)
+    place(axis, zone.bottom)
 }
 
-pub(crate) fn last_row(scale: &Scale, zone: &Zone) -> usize
-    ensures value { result ≡ place_of scale.now zone.now.top }
-    ensures within { result ≤ scale.now.last }
+pub(crate) fn last_row(axis: &Axis, zone: &Zone) -> usize
+    ensures value { result ≡ place_of axis.now zone.now.top }
+    ensures within { result ≤ axis.now.last }
 {
-    place(scale, zone.top)
+    place(axis, zone.top)
 }
 
-fn left_column<S: PadShape>(scale: &Scale, pad: &S) -> usize
-    ensures value { result ≡ place_of scale.now (S.left pad.now) }
-    ensures within { result ≤ scale.now.last }
+fn left_column<S: PadShape>(axis: &Axis, pad: &S) -> usize
+    ensures value { result ≡ place_of axis.now (S.left pad.now) }
+    ensures within { result ≤ axis.now.last }
 {
-    place(scale, pad.left())
+    place(axis, pad.left())
 }
 
-fn right_column<S: PadShape>(scale: &Scale, pad: &S) -> usize
-    ensures value { result ≡ place_of scale.now (S.right pad.now) }
-    ensures within { result ≤ scale.now.last }
+fn right_column<S: PadShape>(axis: &Axis, pad: &S) -> usize
+    ensures value { result ≡ place_of axis.now (S.right pad.now) }
+    ensures within { result ≤ axis.now.last }
 {
-    place(scale, pad.right())
+    place(axis, pad.right())
 }
 
 /// The rows and columns where a pad may cover a centre with at least this reach.
-fn range_of<S: PadShape>(x: &Scale, y: &Scale, pad: &S, least: u64) -> Range
+fn range_of<S: PadShape>(x: &Axis, y: &Axis, pad: &S, least: u64) -> CellRange
     requires { least ≤ 15000000000000 }
     ensures holds { (p : GridPoint) (r : ℕ) → least ≤ r → S.covers pad.now p r ≡ true → IsInRegion x.now y.now result.top result.bottom result.left result.right p }
     ensures bottom { result.bottom ≤ y.now.last + 1 }
     ensures right { result.right ≤ x.now.last + 1 }
 {
     match pad.zone(least) {
-        Some(zone) => Range {
+        Some(zone) => CellRange {
             top: first_row(y, &zone),
             bottom: last_row(y, &zone) + 1,
             left: first_column(x, &zone),
             right: last_column(x, &zone) + 1,
             is_strip: false,
         },
-        None => Range {
+        None => CellRange {
             top: 0,
             bottom: y.last + 1,
             left: left_column(x, pad),
@@ -103,26 +103,26 @@ fn range_of<S: PadShape>(x: &Scale, y: &Scale, pad: &S, least: u64) -> Range
 
 /// Removes the marks of the holes in a range to which a pad gives their ring. The pad covers no hole outside the range.
 fn try_range<S: PadShape>(
-    board: &Board,
+    grid: &HoleGrid,
     holes: &[Drilled],
     rules: Rules,
     pad: &S,
-    range: Range,
-    opens: &[bool],
+    range: CellRange,
+    open_blocks: &[bool],
     marks: &mut [bool],
 )
-    requires ready { IsReady board.now.cells.x board.now.cells.y board.now.cells.head.items board.now.cells.next.items holes.now rules.ring board.now.least }
-    requires range { (p : GridPoint) (r : ℕ) → board.now.least ≤ r → S.covers pad.now p r ≡ true → IsInRegion board.now.cells.x board.now.cells.y range.top range.bottom range.left range.right p }
-    requires bottom { range.bottom ≤ board.now.cells.y.last + 1 }
-    requires right { range.right ≤ board.now.cells.x.last + 1 }
+    requires ready { IsHoleGrid grid.now.cells.x grid.now.cells.y grid.now.cells.head.items grid.now.cells.next.items holes.now rules.ring grid.now.least }
+    requires range { (p : GridPoint) (r : ℕ) → grid.now.least ≤ r → S.covers pad.now p r ≡ true → IsInRegion grid.now.cells.x grid.now.cells.y range.top range.bottom range.left range.right p }
+    requires bottom { range.bottom ≤ grid.now.cells.y.last + 1 }
+    requires right { range.right ≤ grid.now.cells.x.last + 1 }
     requires size { length marks.old ≡ length holes.now }
-    requires opens { length opens.now ≡ length board.now.blocks.items }
-    requires closed { IsClosedRightly board.now.cells.x board.now.cells.y holes.now board.now.blocks.items opens.now marks.old }
-    ensures takes { TakesBack (gives_ring_at S.covers rules.ring holes.now pad.now) marks.old marks.new }
-    ensures closed { IsClosedRightly board.now.cells.x board.now.cells.y holes.now board.now.blocks.items opens.now marks.new }
+    requires open_blocks { length open_blocks.now ≡ length grid.now.blocks.items }
+    requires closed { AreClosedUnmarked grid.now.cells.x grid.now.cells.y holes.now grid.now.blocks.items open_blocks.now marks.old }
+    ensures removes { RemovesMarks (gives_ring_at S.covers rules.ring holes.now pad.now) marks.old marks.new }
+    ensures closed { AreClosedUnmarked grid.now.cells.x grid.now.cells.y holes.now grid.now.blocks.items open_blocks.now marks.new }
     ensures tried { (k : ℕ) → k < length holes.now → is_marked marks.new k ≡ true → gives_ring_at S.covers rules.ring holes.now pad.now k ≡ false }
 {
-    let Range {
+    let CellRange {
         top,
         bottom,
         left,
@@ -130,10 +130,10 @@ fn try_range<S: PadShape>(
         ..
     } = range;
     let _ = try_rows(
-        &board.cells,
+        &grid.cells,
         holes,
         rules,
-        board.least,
+        grid.least,
         pad,
         false,
         top,
@@ -146,37 +146,37 @@ fn try_range<S: PadShape>(
 
 /// Removes the marks of all holes to which a pad gives their ring, block by block.
 fn try_all<S: PadShape>(
-    board: &Board,
+    grid: &HoleGrid,
     holes: &[Drilled],
     rules: Rules,
     pad: &S,
-    opens: &mut [bool],
+    open_blocks: &mut [bool],
     marks: &mut [bool],
 )
-    requires ready { IsReady board.now.cells.x board.now.cells.y board.now.cells.head.items board.now.cells.next.items holes.now rules.ring board.now.least }
-    requires blocks { All (IsBlock board.now.cells.x board.now.cells.y) board.now.blocks.items }
-    requires whole { (p : GridPoint) → IsInSome board.now.cells.x board.now.cells.y board.now.blocks.items p }
+    requires ready { IsHoleGrid grid.now.cells.x grid.now.cells.y grid.now.cells.head.items grid.now.cells.next.items holes.now rules.ring grid.now.least }
+    requires blocks { All (IsBlock grid.now.cells.x grid.now.cells.y) grid.now.blocks.items }
+    requires whole { (p : GridPoint) → IsInAnyBlock grid.now.cells.x grid.now.cells.y grid.now.blocks.items p }
     requires size { length marks.old ≡ length holes.now }
-    requires opens { length opens.old ≡ length board.now.blocks.items }
-    requires closed { IsClosedRightly board.now.cells.x board.now.cells.y holes.now board.now.blocks.items opens.old marks.old }
-    ensures takes { TakesBack (gives_ring_at S.covers rules.ring holes.now pad.now) marks.old marks.new }
-    ensures closed { IsClosedRightly board.now.cells.x board.now.cells.y holes.now board.now.blocks.items opens.new marks.new }
+    requires open_blocks { length open_blocks.old ≡ length grid.now.blocks.items }
+    requires closed { AreClosedUnmarked grid.now.cells.x grid.now.cells.y holes.now grid.now.blocks.items open_blocks.old marks.old }
+    ensures removes { RemovesMarks (gives_ring_at S.covers rules.ring holes.now pad.now) marks.old marks.new }
+    ensures closed { AreClosedUnmarked grid.now.cells.x grid.now.cells.y holes.now grid.now.blocks.items open_blocks.new marks.new }
     ensures tried { (k : ℕ) → k < length holes.now → is_marked marks.new k ≡ true → gives_ring_at S.covers rules.ring holes.now pad.now k ≡ false }
 {
     try_blocks(
-        &board.cells,
+        &grid.cells,
         holes,
         rules,
-        board.least,
-        &board.blocks,
+        grid.least,
+        &grid.blocks,
         pad,
-        opens,
+        open_blocks,
         marks,
     );
 }
 
 /// Whether the cells of a range are tried one by one: they are few, or a strip.
-fn is_small(range: Range) -> bool {
+fn is_small(range: CellRange) -> bool {
     let rows = range.bottom.saturating_sub(range.top);
     let columns = range.right.saturating_sub(range.left);
     range.is_strip || rows.saturating_mul(columns) <= FEW
@@ -184,29 +184,29 @@ fn is_small(range: Range) -> bool {
 
 /// Removes the marks of the holes to which a pad gives their ring.
 fn try_pad<S: PadShape>(
-    board: &Board,
+    grid: &HoleGrid,
     holes: &[Drilled],
     rules: Rules,
     pad: &S,
-    opens: &mut [bool],
+    open_blocks: &mut [bool],
     marks: &mut [bool],
 )
-    requires ready { IsReady board.now.cells.x board.now.cells.y board.now.cells.head.items board.now.cells.next.items holes.now rules.ring board.now.least }
-    requires blocks { All (IsBlock board.now.cells.x board.now.cells.y) board.now.blocks.items }
-    requires whole { (p : GridPoint) → IsInSome board.now.cells.x board.now.cells.y board.now.blocks.items p }
-    requires least { board.now.least ≤ 15000000000000 }
+    requires ready { IsHoleGrid grid.now.cells.x grid.now.cells.y grid.now.cells.head.items grid.now.cells.next.items holes.now rules.ring grid.now.least }
+    requires blocks { All (IsBlock grid.now.cells.x grid.now.cells.y) grid.now.blocks.items }
+    requires whole { (p : GridPoint) → IsInAnyBlock grid.now.cells.x grid.now.cells.y grid.now.blocks.items p }
+    requires least { grid.now.least ≤ 15000000000000 }
     requires size { length marks.old ≡ length holes.now }
-    requires opens { length opens.old ≡ length board.now.blocks.items }
-    requires closed { IsClosedRightly board.now.cells.x board.now.cells.y holes.now board.now.blocks.items opens.old marks.old }
-    ensures takes { TakesBack (gives_ring_at S.covers rules.ring holes.now pad.now) marks.old marks.new }
-    ensures closed { IsClosedRightly board.now.cells.x board.now.cells.y holes.now board.now.blocks.items opens.new marks.new }
+    requires open_blocks { length open_blocks.old ≡ length grid.now.blocks.items }
+    requires closed { AreClosedUnmarked grid.now.cells.x grid.now.cells.y holes.now grid.now.blocks.items open_blocks.old marks.old }
+    ensures removes { RemovesMarks (gives_ring_at S.covers rules.ring holes.now pad.now) marks.old marks.new }
+    ensures closed { AreClosedUnmarked grid.now.cells.x grid.now.cells.y holes.now grid.now.blocks.items open_blocks.new marks.new }
     ensures tried { (k : ℕ) → k < length holes.now → is_marked marks.new k ≡ true → gives_ring_at S.covers rules.ring holes.now pad.now k ≡ false }
 {
-    let range = range_of(&board.cells.x, &board.cells.y, pad, board.least);
+    let range = range_of(&grid.cells.x, &grid.cells.y, pad, grid.least);
     if is_small(range) {
-        try_range(board, holes, rules, pad, range, opens, marks);
+        try_range(grid, holes, rules, pad, range, open_blocks, marks);
     } else {
-        try_all(board, holes, rules, pad, opens, marks);
+        try_all(grid, holes, rules, pad, open_blocks, marks);
     }
 }
 
@@ -222,24 +222,24 @@ fn first_marks(alloc: Global, layer: usize, holes: &[Drilled]) -> Result<Vec<boo
 
 /// Removes the marks of the holes to which one of the pads gives their ring.
 fn try_pads<S: PadShape>(
-    board: &Board,
+    grid: &HoleGrid,
     holes: &[Drilled],
     rules: Rules,
     pads: &[S],
-    opens: &mut [bool],
+    open_blocks: &mut [bool],
     marks: &mut [bool],
 )
-    requires ready { IsReady board.now.cells.x board.now.cells.y board.now.cells.head.items board.now.cells.next.items holes.now rules.ring board.now.least }
-    requires blocks { All (IsBlock board.now.cells.x board.now.cells.y) board.now.blocks.items }
-    requires whole { (p : GridPoint) → IsInSome board.now.cells.x board.now.cells.y board.now.blocks.items p }
-    requires least { board.now.least ≤ 15000000000000 }
+    requires ready { IsHoleGrid grid.now.cells.x grid.now.cells.y grid.now.cells.head.items grid.now.cells.next.items holes.now rules.ring grid.now.least }
+    requires blocks { All (IsBlock grid.now.cells.x grid.now.cells.y) grid.now.blocks.items }
+    requires whole { (p : GridPoint) → IsInAnyBlock grid.now.cells.x grid.now.cells.y grid.now.blocks.items p }
+    requires least { grid.now.least ≤ 15000000000000 }
     requires size { length marks.old ≡ length holes.now }
-    requires opens { length opens.old ≡ length board.now.blocks.items }
-    requires closed { IsClosedRightly board.now.cells.x board.now.cells.y holes.now board.now.blocks.items opens.old marks.old }
-    ensures { (k : ℕ) → k < length holes.now → is_marked marks.new k ≡ (is_marked marks.old k && not (list_any (gives_ring S.covers rules.ring (get_or holes.now k nowhere).hole) pads.now)) }
+    requires open_blocks { length open_blocks.old ≡ length grid.now.blocks.items }
+    requires closed { AreClosedUnmarked grid.now.cells.x grid.now.cells.y holes.now grid.now.blocks.items open_blocks.old marks.old }
+    ensures { (k : ℕ) → k < length holes.now → is_marked marks.new k ≡ (is_marked marks.old k && not (list_any (gives_ring S.covers rules.ring (get_or holes.now k default_hole).hole) pads.now)) }
 {
     for pad in pads {
-        try_pad(board, holes, rules, pad, opens, marks);
+        try_pad(grid, holes, rules, pad, open_blocks, marks);
     }
 }
 
@@ -249,17 +249,17 @@ pub(crate) fn lacking<S: PadShape>(
     layer: usize,
     pads: &[S],
     holes: &[Drilled],
-    board: &Board,
+    grid: &HoleGrid,
     rules: Rules,
 ) -> Result<Vec<bool>, AllocError>
-    requires ready { IsReady board.now.cells.x board.now.cells.y board.now.cells.head.items board.now.cells.next.items holes.now rules.ring board.now.least }
-    requires blocks { All (IsBlock board.now.cells.x board.now.cells.y) board.now.blocks.items }
-    requires whole { (p : GridPoint) → IsInSome board.now.cells.x board.now.cells.y board.now.blocks.items p }
-    requires least { board.now.least ≤ 15000000000000 }
+    requires ready { IsHoleGrid grid.now.cells.x grid.now.cells.y grid.now.cells.head.items grid.now.cells.next.items holes.now rules.ring grid.now.least }
+    requires blocks { All (IsBlock grid.now.cells.x grid.now.cells.y) grid.now.blocks.items }
+    requires whole { (p : GridPoint) → IsInAnyBlock grid.now.cells.x grid.now.cells.y grid.now.blocks.items p }
+    requires least { grid.now.least ≤ 15000000000000 }
     ensures { IfOk result (λ lacking. lacking.items ≡ map (is_ring_finding S.covers rules.ring layer pads.now) holes.now) }
 {
     let mut marks = first_marks(alloc, layer, holes)?;
-    let mut opens = vec![in alloc; true; board.blocks.len()]?;
-    try_pads(board, holes, rules, pads, &mut opens, &mut marks);
+    let mut open_blocks = vec![in alloc; true; grid.blocks.len()]?;
+    try_pads(grid, holes, rules, pads, &mut open_blocks, &mut marks);
     Ok(marks)
 }

@@ -5,10 +5,10 @@ ghost use Rattle.std.specs.List.{filter, enumerate_from};
 ghost use Rattle.ring_rules.specs.Findings.{finding_of, ring_findings};
 ghost use Rattle.ring_rules.specs.declared.finding.Drilled.{Drilled};
 
-use crate::board::lay_out;
+use crate::cell_size::sample_index;
 use crate::finding::{Drilled, Finding, is_oblique};
+use crate::grid::hole_grid;
 use crate::pads::lacking;
-use crate::shape::drawn;
 use grid_units::Rules;
 use pad_shapes::{PadShape, Zone};
 use std::alloc::{AllocError, Global};
@@ -55,13 +55,13 @@ fn zone_at<S: PadShape>(pads: &[S], place: usize) -> Option<Zone> {
 }
 
 /// The mean width and height of the zones of a sample of the pads, in pm. Any answer is right: an index of holes is only quicker by it.
-pub fn usual_zone<S: PadShape>(layers: &[&[S]]) -> (u64, u64) {
+pub fn mean_zone_size<S: PadShape>(layers: &[&[S]]) -> (u64, u64) {
     let mut width: u64 = 0;
     let mut height: u64 = 0;
     let mut count: u64 = 0;
     for pads in layers {
         for draw in 0..(pads.len() as u64).min(256) {
-            if let Some(zone) = zone_at(pads, drawn(draw, pads.len())) {
+            if let Some(zone) = zone_at(pads, sample_index(draw, pads.len())) {
                 width = width.saturating_add(zone.left.abs_diff(zone.right));
                 height = height.saturating_add(zone.bottom.abs_diff(zone.top));
                 count = count.saturating_add(1);
@@ -85,11 +85,11 @@ pub fn ring_findings<S: PadShape>(
 ) -> Result<Vec<Finding>, AllocError>
     ensures { IfOk result (λ findings. findings.items ≡ ring_findings S.covers rules.ring (map (λ pads. pads.now) layers.now) holes.now) }
 {
-    let (width, height) = usual_zone(layers);
-    let board = lay_out(alloc, holes, rules, width, height)?;
+    let (width, height) = mean_zone_size(layers);
+    let grid = hole_grid(alloc, holes, rules, width, height)?;
     let mut findings = Vec::new(alloc);
     for (layer, pads) in layers.iter().enumerate() {
-        let lacking = lacking(alloc, layer, pads, holes, &board, rules)?;
+        let lacking = lacking(alloc, layer, pads, holes, &grid, rules)?;
         layer_findings(&mut findings, layer, holes, &lacking)?;
     }
     Ok(findings)

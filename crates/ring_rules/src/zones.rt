@@ -3,14 +3,14 @@
 ghost use Rattle.std.specs.Prelude.{◌≡◌, ℕ, ◌<◌, length, get_or, IfOk, OnOk};
 ghost use Rattle.grid_units.specs.Points.{GridPoint};
 ghost use Rattle.pad_shapes.specs.Zones.{IsInZone};
-ghost use Rattle.ring_rules.specs.Places.{point_at};
-ghost use Rattle.ring_rules.specs.Index.{IsIndexOf, IsInOneOf};
+ghost use Rattle.ring_rules.specs.Places.{entry_at};
+ghost use Rattle.ring_rules.specs.Index.{IsIndexOf, IsInAnyZone};
 ghost use Rattle.ring_rules.specs.declared.blocks.Block.{Block};
 
+use crate::block_division::divided;
 use crate::blocks::Block;
-use crate::board::block_side;
-use crate::dividing::divided;
 use crate::finding::Drilled;
+use crate::grid::block_side;
 use crate::index::HoleIndex;
 use crate::layout::bounds_at;
 use crate::pads::{first_column, first_row, last_column, last_row};
@@ -26,8 +26,8 @@ fn add_zone(
     zones: &mut Vec<Zone>,
 ) -> Result<(), AllocError>
     requires { IsIndexOf holes.now index.now }
-    ensures kept { OnOk result ((p : GridPoint) → IsInOneOf zones.old.items p → IsInOneOf zones.new.items p) }
-    ensures holds { OnOk result ((k : ℕ) → k < length holes.now → IsInZone zone.now (point_at holes.now k) → IsInOneOf zones.new.items (point_at holes.now k)) }
+    ensures kept { OnOk result ((p : GridPoint) → IsInAnyZone zones.old.items p → IsInAnyZone zones.new.items p) }
+    ensures holds { OnOk result ((k : ℕ) → k < length holes.now → IsInZone zone.now (entry_at holes.now k) → IsInAnyZone zones.new.items (entry_at holes.now k)) }
 {
     index.find(holes, zone, near)?;
     if !near.is_empty() {
@@ -45,7 +45,7 @@ fn add_zones(
     zones: &mut Vec<Zone>,
 ) -> Result<(), AllocError>
     requires { IsIndexOf holes.now index.now }
-    ensures { OnOk result ((i : ℕ) (b : Block) → i < length blocks.now → b ≡ get_or blocks.now i b → (k : ℕ) → k < length holes.now → IsInZone b.zone (point_at holes.now k) → IsInOneOf zones.new.items (point_at holes.now k)) }
+    ensures { OnOk result ((i : ℕ) (b : Block) → i < length blocks.now → b ≡ get_or blocks.now i b → (k : ℕ) → k < length holes.now → IsInZone b.zone (entry_at holes.now k) → IsInAnyZone zones.new.items (entry_at holes.now k)) }
 {
     for block in blocks {
         add_zone(index, holes, &block.zone, near, zones)?;
@@ -63,7 +63,7 @@ impl HoleIndex {
     /// Where there is no memory.
     pub fn zones(&self, alloc: Global, holes: &[Drilled]) -> Result<Vec<Zone>, AllocError>
         requires { IsIndexOf holes.now self.now }
-        ensures { IfOk result (λ zones. (k : ℕ) → k < length holes.now → IsInOneOf zones.items (point_at holes.now k)) }
+        ensures { IfOk result (λ zones. (k : ℕ) → k < length holes.now → IsInAnyZone zones.items (entry_at holes.now k)) }
     {
         let side = block_side(self.cells.head.len());
         let blocks = divided(alloc, &self.cells.x, &self.cells.y, side)?;

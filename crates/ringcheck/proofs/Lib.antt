@@ -1,4 +1,4 @@
-pub mod Loaded
+pub mod LoadSteps
 pub mod Outcomes
-pub mod Held
-pub mod Counting
+pub mod ThreeFiles
+pub mod ParseCountLemmas

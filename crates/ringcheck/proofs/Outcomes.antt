@@ -8,19 +8,19 @@ use Rattle.std.proofs.lemmas.List.{nil_from_length}
 use Rattle.std.proofs.lemmas.Result.{IfOk-weaker}
 use Rattle.manifest.specs.declared.Entry.{Entry}
 use Rattle.manifest.specs.Manifest.{manifest}
-use Rattle.package_check.specs.Package.{Source, is_copper}
+use Rattle.package_check.specs.Package.{FileView, is_copper}
 use Rattle.ringcheck_files.specs.declared.Status.{Status}
 use Rattle.ringcheck_files.specs.declared.Status.TheVariants as status
-use Rattle.ringcheck_files.specs.declared.ending.Failure.{Failure}
-use Rattle.ringcheck_files.specs.Endings.{HasRisen}
-use Rattle.ringcheck_files.specs.Loading.{file_limit, within}
-use Rattle.ringcheck.specs.declared.refusing.Halt.{Halt}
-use Rattle.ringcheck.specs.declared.refusing.Halt.TheVariants as halt
-use Rattle.ringcheck.specs.declared.refusing.Style.{Style}
+use Rattle.ringcheck_files.specs.declared.outcomes.Failure.{Failure}
+use Rattle.ringcheck_files.specs.Outcomes.{HasRisen}
+use Rattle.ringcheck_files.specs.LoaderRelation.{file_limit, within}
+use Rattle.ringcheck.specs.declared.refusals.Halt.{Halt}
+use Rattle.ringcheck.specs.declared.refusals.Halt.TheVariants as halt
+use Rattle.ringcheck.specs.declared.refusals.RefusalStyle.{RefusalStyle}
 use Rattle.ringcheck.specs.Inner.Halting.{AfterHalt, Halts, OfFiles, OfTaken, refusal}
-use Rattle.ringcheck.specs.Refusing.{Refusal, TellsRefusal}
-use Rattle.ringcheck.specs.Running.{HasFiles, HasTable, OfPackage, RefusedFile, RefusedIn, SaysPackage, bad_file, long_file, refused_file, refused_manifest, sources, status_of}
-use Rattle.ringcheck.proofs.Loaded.{along, names_among, same_length}
+use Rattle.ringcheck.specs.Refusals.{Refusal, PrintsRefusal}
+use Rattle.ringcheck.specs.CheckStatus.{HasFiles, HasTable, HoldsForPackage, RefusedFile, IsPackageRefusal, SaysPackage, bad_file, long_file, refused_file, refused_manifest, sources, status_of}
+use Rattle.ringcheck.proofs.LoadSteps.{has_files_along, names_among, same_length}
 
 -- ---- findings
 
@@ -40,19 +40,19 @@ neither_left xs ys is = let (first, second) = both_true (length xs == 0) (length
 -- ---- files
 
 -- the file at a place, and its name
-pub source_at : (all : List Source) (i : ℕ) → i < length all → (it : Source) × (slice_get all i ≡ Some it) × (slice_get (map (λ (s : Source). s.name) all) i ≡ Some it.name)
+pub source_at : (all : List FileView) (i : ℕ) → i < length all → (it : FileView) × (slice_get all i ≡ Some it) × (slice_get (map (λ (s : FileView). s.name) all) i ≡ Some it.name)
 source_at [] i lt = absurd (omega (arith, lt))
 source_at (s ∷ ss) zero lt = (s, refl, refl)
 source_at (s ∷ ss) (suc i) lt = source_at ss i (omega (arith, lt))
 
 -- the names of files that were loaded are those of their entries
 pub named : (has : List ℕ → List ℕ → Type 0) (entries : List Entry) (files : List (List ℕ)) (names : List (Bor (List ℕ))) → HasFiles has entries files
-    → map (λ (n : Bor (List ℕ)). n.now) names ≡ map (λ (e : Entry). e.name) entries → map (λ (n : Bor (List ℕ)). n.now) names ≡ map (λ (s : Source). s.name) (sources entries files)
+    → map (λ (n : Bor (List ℕ)). n.now) names ≡ map (λ (e : Entry). e.name) entries → map (λ (n : Bor (List ℕ)). n.now) names ≡ map (λ (s : FileView). s.name) (sources entries files)
 named has entries files names held same = same ∙ sym (names_among (count_by (λ (e : Entry). is_copper e.role) entries) entries files (same_length has entries files held))
 
 -- ---- what came of files
 
-module _ (has : List ℕ → List ℕ → Type 0) (entries : List Entry) (Risen : Type 0) (Holds : Bool → List Source → Type 0) (files : List (List ℕ)) (held : HasFiles (within file_limit has) entries files) where
+module _ (has : List ℕ → List ℕ → Type 0) (entries : List Entry) (Risen : Type 0) (Holds : Bool → List FileView → Type 0) (files : List (List ℕ)) (held : HasFiles (within file_limit has) entries files) where
   of_taken : (done : Result Bool Halt) → OfTaken Holds (sources entries files) done → OfFiles has entries Risen Holds done
   of_taken (Ok passes) h = (files, held, h)
   of_taken (Err (halt.Refused what why)) h = bad_file files held h
@@ -63,21 +63,21 @@ module _ (has : List ℕ → List ℕ → Type 0) (entries : List Entry) (Risen 
   taken r h = IfOk-weaker r (OfTaken Holds (sources entries files)) (OfFiles has entries Risen Holds) of_taken h
 
 -- files were loaded, and something was done with the reader that has taken them
-module _ (has : List ℕ → List ℕ → Type 0) (entries : List Entry) (Risen : Type 0) (Holds : Bool → List Source → Type 0) where
-  pub done_with : {R : Type 0} (stands : R → List Source → Type 0) (reader : R) (names : List (Bor (List ℕ))) → map (λ (n : Bor (List ℕ)). n.now) names ≡ map (λ (e : Entry). e.name) entries
+module _ (has : List ℕ → List ℕ → Type 0) (entries : List Entry) (Risen : Type 0) (Holds : Bool → List FileView → Type 0) where
+  pub done_with : {R : Type 0} (stands : R → List FileView → Type 0) (reader : R) (names : List (Bor (List ℕ))) → map (λ (n : Bor (List ℕ)). n.now) names ≡ map (λ (e : Entry). e.name) entries
       → OfFiles has entries Risen stands (Ok reader) → (r : Result (Result Bool Halt) Failure)
-      → ((all : List Source) → map (λ (n : Bor (List ℕ)). n.now) names ≡ map (λ (s : Source). s.name) all → stands reader all → IfOk r (OfTaken Holds all))
+      → ((all : List FileView) → map (λ (n : Bor (List ℕ)). n.now) names ≡ map (λ (s : FileView). s.name) all → stands reader all → IfOk r (OfTaken Holds all))
       → IfOk r (OfFiles has entries Risen Holds)
   done_with stands reader names same (files, held, stood) r answered =
       taken has entries Risen Holds files held r (answered (sources entries files) (named (within file_limit has) entries files names held same) stood)
 
 -- a halt was printed
-module _ (Is : Refusal → Type 0) (Risen : Type 0) (in_style : Style) (before after : Option (List ℕ)) (P : Status → Type 0) where
-  pub halted : (Risen → P status.Device) → ((why : Refusal) → Is why → TellsRefusal in_style why before after → P status.Refused) → (h : Halt) → Halts Is Risen h
-      → (r : Result Status Failure) → IfOk r (AfterHalt in_style h before after) → IfOk r P
+module _ (Is : Refusal → Type 0) (Risen : Type 0) (refusal_style : RefusalStyle) (before after : Option (List ℕ)) (P : Status → Type 0) where
+  pub halted : (Risen → P status.Device) → ((why : Refusal) → Is why → PrintsRefusal refusal_style why before after → P status.Refused) → (h : Halt) → Halts Is Risen h
+      → (r : Result Status Failure) → IfOk r (AfterHalt refusal_style h before after) → IfOk r P
   halted device refused (halt.Refused what why) is r printed =
-      IfOk-weaker r (AfterHalt in_style (halt.Refused what why) before after) P (λ s p. subst P (sym p.0) (refused (refusal what why) is p.1)) printed
-  halted device refused (halt.Unread what) risen r printed = IfOk-weaker r (AfterHalt in_style (halt.Unread what) before after) P (λ s p. subst P (sym p) (device risen)) printed
+      IfOk-weaker r (AfterHalt refusal_style (halt.Refused what why) before after) P (λ s p. subst P (sym p.0) (refused (refusal what why) is p.1)) printed
+  halted device refused (halt.Unread what) risen r printed = IfOk-weaker r (AfterHalt refusal_style (halt.Unread what) before after) P (λ s p. subst P (sym p) (device risen)) printed
 
 -- ---- what a loader has
 
@@ -89,7 +89,7 @@ risen_since old middle new le (inr last) = inr last
 -- what is held or refused by a loader that has no more is so by one that has more
 module _ (later has : List ℕ → List ℕ → Type 0) (to : (n b : List ℕ) → later n b → has n b) where
   pub files_along : (entries : List Entry) (files : List (List ℕ)) → HasFiles (within file_limit later) entries files → HasFiles (within file_limit has) entries files
-  files_along entries files h = along (within file_limit later) (within file_limit has) (λ n b w. (to n b w.0, w.1)) entries files h
+  files_along entries files h = has_files_along (within file_limit later) (within file_limit has) (λ n b w. (to n b w.0, w.1)) entries files h
 
   pub file_along : (entries : List Entry) (why : Refusal) → RefusedFile later entries why → RefusedFile has entries why
   file_along entries why (long_file index entry h is) =
@@ -101,24 +101,24 @@ module _ (later has : List ℕ → List ℕ → Type 0) (to : (n b : List ℕ) �
     listed_along : (entries : List Entry) → HasTable manifest later name entries → HasTable manifest has name entries
     listed_along entries h = (h.0, to name h.0 h.1, h.2, h.3)
 
-    package_along : (Holds : List Source → Type 0) → OfPackage later name Holds → OfPackage has name Holds
+    package_along : (Holds : List FileView → Type 0) → HoldsForPackage later name Holds → HoldsForPackage has name Holds
     package_along Holds h = record { entries = h.entries; listed = listed_along h.entries h.listed; files = h.files; loaded = files_along h.entries h.files h.loaded; holds = h.holds }
 
-    refused_along : (why : Refusal) → RefusedIn later name why → RefusedIn has name why
+    refused_along : (why : Refusal) → IsPackageRefusal later name why → IsPackageRefusal has name why
     refused_along why (refused_manifest fault h is) = refused_manifest fault (h.0, to name h.0 h.1, h.2) is
     refused_along why (refused_file entries listed file) = refused_file entries (listed_along entries listed) (file_along entries why file)
 
-    pub says_along : (Holds : Bool → List Source → Type 0) (in_style : Style) (before after : Option (List ℕ)) (s : Status) → SaysPackage later name Holds in_style before after s
-        → SaysPackage has name Holds in_style before after s
-    says_along Holds in_style before after status.Pass h = package_along (Holds true) h
-    says_along Holds in_style before after status.Findings h = package_along (Holds false) h
-    says_along Holds in_style before after status.Refused h = record { why = h.why; refused = refused_along h.why h.refused; printed = h.printed }
-    says_along Holds in_style before after status.Usage h = absurd h
-    says_along Holds in_style before after status.Device h = tt
+    pub says_along : (Holds : Bool → List FileView → Type 0) (refusal_style : RefusalStyle) (before after : Option (List ℕ)) (s : Status) → SaysPackage later name Holds refusal_style before after s
+        → SaysPackage has name Holds refusal_style before after s
+    says_along Holds refusal_style before after status.Pass h = package_along (Holds true) h
+    says_along Holds refusal_style before after status.Findings h = package_along (Holds false) h
+    says_along Holds refusal_style before after status.Refused h = record { why = h.why; refused = refused_along h.why h.refused; printed = h.printed }
+    says_along Holds refusal_style before after status.Usage h = absurd h
+    says_along Holds refusal_style before after status.Device h = tt
 
 -- a command passes on a package, or has findings
-pub worked : (has : List ℕ → List ℕ → Type 0) (name : List ℕ) (Holds : Bool → List Source → Type 0) (in_style : Style) (before after : Option (List ℕ)) (entries : List Entry) (files : List (List ℕ))
+pub worked : (has : List ℕ → List ℕ → Type 0) (name : List ℕ) (Holds : Bool → List FileView → Type 0) (refusal_style : RefusalStyle) (before after : Option (List ℕ)) (entries : List Entry) (files : List (List ℕ))
     → HasTable manifest has name entries → HasFiles (within file_limit has) entries files → (passes : Bool) → Holds passes (sources entries files)
-    → SaysPackage has name Holds in_style before after (status_of passes)
-worked has name Holds in_style before after entries files listed loaded true h = record { entries = entries; listed = listed; files = files; loaded = loaded; holds = h }
-worked has name Holds in_style before after entries files listed loaded false h = record { entries = entries; listed = listed; files = files; loaded = loaded; holds = h }
+    → SaysPackage has name Holds refusal_style before after (status_of passes)
+worked has name Holds refusal_style before after entries files listed loaded true h = record { entries = entries; listed = listed; files = files; loaded = loaded; holds = h }
+worked has name Holds refusal_style before after entries files listed loaded false h = record { entries = entries; listed = listed; files = files; loaded = loaded; holds = h }

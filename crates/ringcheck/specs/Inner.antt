@@ -1,2 +1,2 @@
 pub mod Halting
-pub mod Working
+pub mod Jobs

@@ -1,9 +1,9 @@
-pub mod Asking
-pub mod Naming
-pub mod Refusing
-pub mod Running
+pub mod RequestStatus
+pub mod ParsedWords
+pub mod Refusals
+pub mod CheckStatus
 pub mod Waiving
-pub mod Measuring
-pub mod Reporting
-pub mod Drawing
+pub mod MeasureStatus
+pub mod ReportStatus
+pub mod DrawStatus
 pub mod Inner

@@ -1,8 +1,8 @@
 -- The waivers that a loader has under a name, or why they are refused.
 use Rattle.std.specs.Prelude.{ℕ, List}
 use Rattle.grid_units.specs.declared.fault.Fault.{Fault}
-use Rattle.ringcheck_files.specs.Loading.{Relation}
-use Rattle.ringcheck.specs.Running.{HasTable, RefusedTable}
+use Rattle.ringcheck_files.specs.LoaderRelation.{Relation}
+use Rattle.ringcheck.specs.CheckStatus.{HasTable, RefusedTable}
 use Rattle.waivers.specs.Reading.{waivers}
 use Rattle.waivers.specs.declared.Waiver.{Waiver}
 

@@ -2,13 +2,13 @@
 
 ghost use Rattle.std.specs.Prelude.{◌≡◌, List, IfErr, IfOk, OnOk, map};
 ghost use Rattle.std.specs.Io.KnownBytes.{Appends};
-ghost use Rattle.package_check.specs.Holding.{PackageStandsAfter};
-ghost use Rattle.package_check.specs.Package.{Source};
+ghost use Rattle.package_check.specs.Holding.{HasTaken};
+ghost use Rattle.package_check.specs.Package.{FileView};
 ghost use Rattle.package_check.specs.Texts.{text_of};
 ghost use Rattle.ringcheck.specs.Inner.Halting.{OfTaken};
-ghost use Rattle.ringcheck.specs.Running.{Checks};
+ghost use Rattle.ringcheck.specs.CheckStatus.{Checks};
 
-use crate::refusing::{Halt, refused};
+use crate::refusals::{Halt, refused};
 use crate::{CheckText, PackageFault, PackageReader, Report};
 use grid_units::Rules;
 use ringcheck_files::Failure;
@@ -29,7 +29,7 @@ pub(crate) fn check<'a, W: Write>(
     rules: Rules,
     out: &mut W,
 ) -> Result<Result<bool, Halt<'a>>, Failure>
-    ensures answers { (all : List Source) → map (λ name. name.now) names.now ≡ map (λ source. source.name) all → PackageStandsAfter reader all
+    ensures answers { (all : List FileView) → map (λ name. name.now) names.now ≡ map (λ source. source.name) all → HasTaken reader all
         → IfOk result (OfTaken (Checks rules (W.contents out.old) (W.contents out.new)) all) }
     ensures silent { IfOk result (λ done. IfErr done (λ halt. W.contents out.new ≡ W.contents out.old)) }
 {

@@ -1,16 +1,16 @@
-//! Draws a package.
+//! PrintsPicture a package.
 
 ghost use Rattle.std.specs.Prelude.{◌≡◌, List, IfErr, IfOk, map};
-ghost use Rattle.flashed_boards.specs.Flashed.{FlashedStandsAfter};
-ghost use Rattle.package_check.specs.Package.{Source};
-ghost use Rattle.ringcheck.specs.Drawing.{Draws};
+ghost use Rattle.package_check.specs.Flashed.{FlashedHasTaken};
+ghost use Rattle.package_check.specs.Package.{FileView};
+ghost use Rattle.ringcheck.specs.DrawStatus.{PrintsPicture};
 ghost use Rattle.ringcheck.specs.Inner.Halting.{OfTaken};
 
 use crate::PackageFault;
-use crate::refusing::{Halt, refused};
+use crate::refusals::{Halt, refused};
 use drawing::Drawing;
-use flashed_boards::FlashedReader;
 use grid_units::Rules;
+use package_check::FlashedReader;
 use package_check::laws::passing_is_sound;
 use ringcheck_files::Failure;
 use std::alloc::Global;
@@ -24,8 +24,8 @@ pub(crate) fn draw<'a, W: Write>(
     rules: Option<Rules>,
     out: &mut W,
 ) -> Result<Result<bool, Halt<'a>>, Failure>
-    ensures answers { (all : List Source) → map (λ name. name.now) names.now ≡ map (λ source. source.name) all → FlashedStandsAfter reader all
-        → IfOk result (OfTaken (Draws rules (W.contents out.old) (W.contents out.new)) all) }
+    ensures answers { (all : List FileView) → map (λ name. name.now) names.now ≡ map (λ source. source.name) all → FlashedHasTaken reader all
+        → IfOk result (OfTaken (PrintsPicture rules (W.contents out.old) (W.contents out.new)) all) }
     ensures silent { IfOk result (λ done. IfErr done (λ halt. W.contents out.new ≡ W.contents out.old)) }
 {
     passing_is_sound();

@@ -4,23 +4,21 @@
 mod checks;
 mod drawings;
 mod jobs;
-mod loading_files;
+mod load_package;
 mod measures;
-mod naming;
 mod packages;
+mod parsed_words;
 mod program;
-mod refusing;
+mod refusals;
 mod reports;
-mod taking;
+mod takes_files;
 
-pub use loading::{LoadFault, Loader, MAX_LIMIT, ReadFail, read_all};
 pub use manifest::{Entry, Name, Role, read_manifest};
-pub use naming::Format;
 pub use package_check::{
     CheckText, File, FileSum, Numbered, PackageFault, PackageReader, PiecedFile, Report, Span,
     check_bytes, check_pieces, laws, write_report,
 };
+pub use parsed_words::MeasureFormat;
 pub use program::run;
-pub use rewriting::{Kind, rewrite_bytes};
-pub use ringcheck_files::Status;
-pub use tables::{show_drill, show_layer};
+pub use ringcheck_files::{LoadFault, Loader, MAX_LIMIT, ReadFail, Status, read_all};
+pub use single_files::{Kind, rewrite_bytes, show_drill, show_layer};

@@ -2,19 +2,20 @@
 
 ghost use Rattle.std.specs.Prelude.{◌≡◌, List, IfErr, IfOk, OnOk, map};
 ghost use Rattle.std.specs.Io.KnownBytes.{Appends};
-ghost use Rattle.package_check.specs.Holding.{PackageStandsAfter};
-ghost use Rattle.package_check.specs.Package.{Source};
+ghost use Rattle.package_check.specs.Holding.{HasTaken};
+ghost use Rattle.package_check.specs.Package.{FileView};
 ghost use Rattle.ringcheck.specs.Inner.Halting.{OfTaken};
-ghost use Rattle.ringcheck.specs.Measuring.{Measures, measure_page};
+ghost use Rattle.ringcheck.specs.MeasureStatus.{PrintsMeasure, measure_page};
 
-use crate::naming::Format;
-use crate::refusing::{Halt, refused};
+use crate::parsed_words::MeasureFormat;
+use crate::refusals::{Halt, refused};
 use crate::{PackageFault, PackageReader};
-use margin_text::MeasureText;
-use measuring::laws::measured_passes;
-use measuring::{Measure, measure_board};
+use board_report::laws::measured_passes;
+use board_report::measure_board;
 use package_check::{Board, FileLines};
-use report_json::MeasureJson;
+use print_json::MeasureJson;
+use print_text::MeasureText;
+use report::Measure;
 use ringcheck_files::Failure;
 use std::alloc::Global;
 use std::io::Write;
@@ -24,7 +25,7 @@ fn print<W: Write>(
     names: &[&str],
     board: &Board,
     measure: &Measure,
-    format: Format,
+    format: MeasureFormat,
     out: &mut W,
 ) -> Result<(), Failure>
     ensures { OnOk result (Appends (W.contents out.old) (W.contents out.new) (measure_page format (map (λ name. name.now) names.now) board.now measure.now)) }
@@ -45,8 +46,8 @@ fn print<W: Write>(
         measure,
     };
     match format {
-        Format::Text | Format::Waivers => write!(out, "{files}{lines}")?,
-        Format::Json => write!(out, "{json}")?,
+        MeasureFormat::Text | MeasureFormat::Waivers => write!(out, "{files}{lines}")?,
+        MeasureFormat::Json => write!(out, "{json}")?,
     }
     Ok(())
 }
@@ -56,11 +57,11 @@ pub(crate) fn measure<'a, W: Write>(
     alloc: Global,
     reader: PackageReader,
     names: &[&'a str],
-    format: Format,
+    format: MeasureFormat,
     out: &mut W,
 ) -> Result<Result<bool, Halt<'a>>, Failure>
-    ensures answers { (all : List Source) → map (λ name. name.now) names.now ≡ map (λ source. source.name) all → PackageStandsAfter reader all
-        → IfOk result (OfTaken (Measures format (W.contents out.old) (W.contents out.new)) all) }
+    ensures answers { (all : List FileView) → map (λ name. name.now) names.now ≡ map (λ source. source.name) all → HasTaken reader all
+        → IfOk result (OfTaken (PrintsMeasure format (W.contents out.old) (W.contents out.new)) all) }
     ensures silent { IfOk result (λ done. IfErr done (λ halt. W.contents out.new ≡ W.contents out.old)) }
 {
     measured_passes();

@@ -1,21 +1,21 @@
 //! The commands on the package of a manifest: each does a job on it, or prints why it cannot be done.
 
 ghost use Rattle.std.specs.Prelude.{◌≡◌, IfErr, IfOk, map, option_map};
-ghost use Rattle.ringcheck_files.specs.Endings.{HasCause, HasRisen};
-ghost use Rattle.ringcheck.specs.Drawing.{SaysDrawOf};
+ghost use Rattle.ringcheck_files.specs.Outcomes.{HasCause, HasRisen};
+ghost use Rattle.ringcheck.specs.DrawStatus.{IsParsedDrawStatus};
 ghost use Rattle.ringcheck.specs.Inner.Halting.{OfFiles};
-ghost use Rattle.ringcheck.specs.Inner.Working.{Holds, SaysJob};
-ghost use Rattle.ringcheck.specs.Measuring.{SaysMeasureOf};
-ghost use Rattle.ringcheck.specs.Naming as named;
-ghost use Rattle.ringcheck.specs.Reporting.{SaysReportOf};
-ghost use Rattle.ringcheck.specs.Running.{SaysOf, status_of};
+ghost use Rattle.ringcheck.specs.Inner.Jobs.{Holds, SaysJob};
+ghost use Rattle.ringcheck.specs.MeasureStatus.{IsParsedMeasureStatus};
+ghost use Rattle.ringcheck.specs.ParsedWords as named;
+ghost use Rattle.ringcheck.specs.ReportStatus.{IsParsedReportStatus};
+ghost use Rattle.ringcheck.specs.CheckStatus.{IsParsedCheckStatus, status_of};
 
 use crate::jobs::{Job, Order, report_style};
-use crate::loading_files::{load_table, take_files};
-use crate::naming::{ReportWords, draw_named, format_named, report_named, rules_named};
-use crate::refusing::{Halt, Subject, print_halt};
+use crate::load_package::{load_table, take_files};
+use crate::parsed_words::{ReportWords, parse_draw, parse_format, parse_report, parse_rules};
+use crate::refusals::{Halt, Subject, print_halt};
 use crate::{Entry, Loader, PackageReader, checks, drawings, measures, reports};
-use flashed_boards::FlashedReader;
+use package_check::FlashedReader;
 use ringcheck_files::{Failure, Status, refuse_word};
 use std::alloc::{AllocError, Global};
 use std::io::Write;
@@ -53,8 +53,8 @@ fn answer<'a, L: Loader, W: Write>(
             Ok(reader) => measures::measure(alloc, reader, names.as_slice(), *format, out),
             Err(halt) => Ok(Err(halt)),
         },
-        Job::Report(order) => match take_files::<L, FlashedReader>(alloc, loader, entries)? {
-            Ok(reader) => reports::report(alloc, reader, names.as_slice(), order, out),
+        Job::Report(options) => match take_files::<L, FlashedReader>(alloc, loader, entries)? {
+            Ok(reader) => reports::report(alloc, reader, names.as_slice(), options, out),
             Err(halt) => Ok(Err(halt)),
         },
         Job::Draw(rules) => match take_files::<L, FlashedReader>(alloc, loader, entries)? {
@@ -76,7 +76,7 @@ fn status_of(passes: bool) -> Status
 }
 
 /// Does a job on the package of a manifest.
-fn work_on<L: Loader, W: Write>(
+fn run_job<L: Loader, W: Write>(
     alloc: Global,
     job: &Job,
     name: &str,
@@ -105,11 +105,11 @@ pub(crate) fn check<L: Loader, W: Write>(
     loader: &mut L,
     out: &mut W,
 ) -> Result<Status, Failure>
-    ensures says { IfOk result (SaysOf (L.has loader.old) name.now (named.rules_named ring.now gap.now) (W.contents out.old) (W.contents out.new)) }
+    ensures says { IfOk result (IsParsedCheckStatus (L.has loader.old) name.now (named.parse_rules ring.now gap.now) (W.contents out.old) (W.contents out.new)) }
     ensures cause { IfOk result (HasCause (L.failed loader.old) (L.failed loader.new)) }
 {
-    match rules_named(ring, gap) {
-        Ok(rules) => work_on(alloc, &Job::Check(rules), name, loader, out),
+    match parse_rules(ring, gap) {
+        Ok(rules) => run_job(alloc, &Job::Check(rules), name, loader, out),
         Err(reason) => {
             refuse_word(out, reason)?;
             Ok(Status::Usage)
@@ -125,11 +125,11 @@ pub(crate) fn measure<L: Loader, W: Write>(
     loader: &mut L,
     out: &mut W,
 ) -> Result<Status, Failure>
-    ensures says { IfOk result (SaysMeasureOf (L.has loader.old) name.now (named.format_named (option_map (λ w. w.now) format.entry)) (W.contents out.old) (W.contents out.new)) }
+    ensures says { IfOk result (IsParsedMeasureStatus (L.has loader.old) name.now (named.parse_format (option_map (λ w. w.now) format.entry)) (W.contents out.old) (W.contents out.new)) }
     ensures cause { IfOk result (HasCause (L.failed loader.old) (L.failed loader.new)) }
 {
-    match format_named(format) {
-        Ok(format) => work_on(alloc, &Job::Measure(format), name, loader, out),
+    match parse_format(format) {
+        Ok(format) => run_job(alloc, &Job::Measure(format), name, loader, out),
         Err(reason) => {
             refuse_word(out, reason)?;
             Ok(Status::Usage)
@@ -146,11 +146,11 @@ pub(crate) fn draw<L: Loader, W: Write>(
     loader: &mut L,
     out: &mut W,
 ) -> Result<Status, Failure>
-    ensures says { IfOk result (SaysDrawOf (L.has loader.old) name.now (named.draw_named (option_map (λ w. w.now) ring.entry) (option_map (λ w. w.now) gap.entry)) (W.contents out.old) (W.contents out.new)) }
+    ensures says { IfOk result (IsParsedDrawStatus (L.has loader.old) name.now (named.parse_draw (option_map (λ w. w.now) ring.entry) (option_map (λ w. w.now) gap.entry)) (W.contents out.old) (W.contents out.new)) }
     ensures cause { IfOk result (HasCause (L.failed loader.old) (L.failed loader.new)) }
 {
-    match draw_named(ring, gap) {
-        Ok(rules) => work_on(alloc, &Job::Draw(rules), name, loader, out),
+    match parse_draw(ring, gap) {
+        Ok(rules) => run_job(alloc, &Job::Draw(rules), name, loader, out),
         Err(reason) => {
             refuse_word(out, reason)?;
             Ok(Status::Usage)
@@ -162,40 +162,40 @@ pub(crate) fn draw<L: Loader, W: Write>(
 /// waived. A file of waivers is loaded first.
 pub(crate) fn report<L: Loader, W: Write>(
     alloc: Global,
-    asked: &ReportWords,
+    unparsed: &ReportWords,
     name: &str,
     loader: &mut L,
     out: &mut W,
 ) -> Result<Status, Failure>
-    ensures says { IfOk result (SaysReportOf (L.has loader.old) name.now (named.report_named asked.now.ring.now asked.now.gap.now (option_map (λ w. w.now) asked.now.most) (option_map (λ w. w.now) asked.now.waive) (option_map (λ w. w.now) asked.now.format)) (option_map (λ w. w.now) asked.now.waive) (W.contents out.old) (W.contents out.new)) }
+    ensures says { IfOk result (IsParsedReportStatus (L.has loader.old) name.now (named.parse_report unparsed.now.ring.now unparsed.now.gap.now (option_map (λ w. w.now) unparsed.now.limit) (option_map (λ w. w.now) unparsed.now.waive) (option_map (λ w. w.now) unparsed.now.format)) (option_map (λ w. w.now) unparsed.now.waive) (W.contents out.old) (W.contents out.new)) }
     ensures cause { IfOk result (HasCause (L.failed loader.old) (L.failed loader.new)) }
 {
-    let (rules, most, format) = match report_named(asked) {
+    let (rules, limit, format) = match parse_report(unparsed) {
         Ok(named) => named,
         Err(reason) => {
             refuse_word(out, reason)?;
             return Ok(Status::Usage);
         }
     };
-    match asked.waive {
+    match unparsed.waive {
         None => {
-            let order = Order {
+            let options = Order {
                 rules,
-                most,
+                limit,
                 format,
                 waivers: None,
             };
-            work_on(alloc, &Job::Report(order), name, loader, out)
+            run_job(alloc, &Job::Report(options), name, loader, out)
         }
         Some(file) => match load_table::<L, Waiver>(alloc, loader, file, Subject::Waivers)? {
             Ok(waivers) => {
-                let order = Order {
+                let options = Order {
                     rules,
-                    most,
+                    limit,
                     format,
                     waivers: Some(waivers),
                 };
-                work_on(alloc, &Job::Report(order), name, loader, out)
+                run_job(alloc, &Job::Report(options), name, loader, out)
             }
             Err(halt) => print_halt(out, report_style(format), halt),
         },

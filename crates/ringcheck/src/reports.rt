@@ -2,26 +2,26 @@
 
 ghost use Rattle.std.specs.Prelude.{◌≡◌, ◌==◌, ◌&&◌, Bool, List, IfErr, IfOk, OnOk, length, map};
 ghost use Rattle.std.specs.Io.KnownBytes.{Appends};
-ghost use Rattle.flashed_boards.specs.Flashed.{FlashedStandsAfter};
-ghost use Rattle.package_check.specs.Package.{Source};
-ghost use Rattle.report_text.specs.declared.Whys.{Whys as TheWhys};
+ghost use Rattle.package_check.specs.Flashed.{FlashedHasTaken};
+ghost use Rattle.package_check.specs.Package.{FileView};
+ghost use Rattle.report.specs.declared.Acceptances.{Acceptances as TheAcceptances};
 ghost use Rattle.ringcheck.specs.Inner.Halting.{OfTaken};
-ghost use Rattle.ringcheck.specs.Inner.Working.{given};
-ghost use Rattle.ringcheck.specs.Reporting.{Judges, Reports, has_none, report_page};
+ghost use Rattle.ringcheck.specs.Inner.Jobs.{given};
+ghost use Rattle.ringcheck.specs.ReportStatus.{Judges, Reports, has_none, report_page};
 
 use crate::PackageFault;
 use crate::jobs::Order;
-use crate::naming::Format;
-use crate::refusing::{Halt, refused};
-use flashed_boards::FlashedReader;
-use package_check::FileSum;
-use report_json::ReportJson;
-use report_text::{ReportText, Telling, Whys};
+use crate::parsed_words::MeasureFormat;
+use crate::refusals::{Halt, refused};
+use board_report::report_laws::report_agrees_with_check;
+use board_report::report_on;
+use package_check::{FileSum, FlashedReader};
+use print_json::ReportJson;
+use print_text::ReportText;
+use report::{Acceptances, BoardReport};
 use ringcheck_files::Failure;
 use std::alloc::Global;
 use std::io::Write;
-use telling::laws::tells_as_checks;
-use telling::tell_board;
 use waivers::{Waiver, WaiverText, idle, reasons, waive};
 
 /// Prints a report, with the reasons why findings are waived, in its format. Only the text has a limit of findings.
@@ -29,34 +29,34 @@ fn print<W: Write>(
     alloc: Global,
     names: &[&str],
     files: &[FileSum],
-    telling: &Telling,
-    order: &Order,
-    whys: &Whys,
+    telling: &BoardReport,
+    options: &Order,
+    accepted: &Acceptances,
     out: &mut W,
 ) -> Result<(), Failure>
-    ensures { OnOk result (Appends (W.contents out.old) (W.contents out.new) (report_page order.now.format (map (λ name. name.now) names.now) files.now telling.now order.now.most whys.now)) }
+    ensures { OnOk result (Appends (W.contents out.old) (W.contents out.new) (report_page options.now.format (map (λ name. name.now) names.now) files.now telling.now options.now.limit accepted.now)) }
 {
-    match order.format {
-        Format::Text => {
-            let text = ReportText::new(alloc, names, telling, order.most, whys)?;
+    match options.format {
+        MeasureFormat::Text => {
+            let text = ReportText::new(alloc, names, telling, options.limit, accepted)?;
             write!(out, "{text}")?;
         }
-        Format::Json => {
+        MeasureFormat::Json => {
             let json = ReportJson {
                 names,
                 files,
                 telling,
-                whys,
+                accepted,
             };
             write!(out, "{json}")?;
         }
-        Format::Waivers => write!(out, "{}", WaiverText { names, telling })?,
+        MeasureFormat::Waivers => write!(out, "{}", WaiverText { names, telling })?,
     }
     Ok(())
 }
 
 /// Whether a report has no finding.
-fn has_none(telling: &Telling) -> bool
+fn has_none(telling: &BoardReport) -> bool
     ensures { result ≡ has_none telling.now }
 {
     telling.rings.is_empty() && telling.gaps.is_empty()
@@ -67,24 +67,24 @@ fn print_waived<W: Write>(
     alloc: Global,
     names: &[&str],
     files: &[FileSum],
-    telling: &Telling,
-    order: &Order,
+    telling: &BoardReport,
+    options: &Order,
     waivers: &[Waiver],
     out: &mut W,
 ) -> Result<bool, Failure>
-    ensures { IfOk result (λ passes. (whys : TheWhys) × Judges (Some waivers.now) (map (λ name. name.now) names.now) telling.now passes whys
-        × Appends (W.contents out.old) (W.contents out.new) (report_page order.now.format (map (λ name. name.now) names.now) files.now telling.now order.now.most whys)) }
+    ensures { IfOk result (λ passes. (accepted : TheAcceptances) × Judges (Some waivers.now) (map (λ name. name.now) names.now) telling.now passes accepted
+        × Appends (W.contents out.old) (W.contents out.new) (report_page options.now.format (map (λ name. name.now) names.now) files.now telling.now options.now.limit accepted)) }
 {
     let waived = waive(alloc, names, telling, waivers)?;
     let rings = reasons(alloc, waivers, waived.rings.as_slice())?;
     let gaps = reasons(alloc, waivers, waived.gaps.as_slice())?;
     let idle = idle(alloc, &waived, waivers)?;
-    let whys = Whys {
+    let accepted = Acceptances {
         rings: rings.as_slice(),
         gaps: gaps.as_slice(),
         idle: idle.as_slice(),
     };
-    print(alloc, names, files, telling, order, &whys, out)?;
+    print(alloc, names, files, telling, options, &accepted, out)?;
     Ok(waived.all())
 }
 
@@ -93,24 +93,32 @@ fn print_judged<W: Write>(
     alloc: Global,
     names: &[&str],
     files: &[FileSum],
-    telling: &Telling,
-    order: &Order,
+    telling: &BoardReport,
+    options: &Order,
     out: &mut W,
 ) -> Result<bool, Failure>
-    ensures { IfOk result (λ passes. (whys : TheWhys) × Judges (given order.now.waivers) (map (λ name. name.now) names.now) telling.now passes whys
-        × Appends (W.contents out.old) (W.contents out.new) (report_page order.now.format (map (λ name. name.now) names.now) files.now telling.now order.now.most whys)) }
+    ensures { IfOk result (λ passes. (accepted : TheAcceptances) × Judges (given options.now.waivers) (map (λ name. name.now) names.now) telling.now passes accepted
+        × Appends (W.contents out.old) (W.contents out.new) (report_page options.now.format (map (λ name. name.now) names.now) files.now telling.now options.now.limit accepted)) }
 {
-    match &order.waivers {
+    match &options.waivers {
         Some(waivers) => {
-            print_waived(alloc, names, files, telling, order, waivers.as_slice(), out)
+            print_waived(
+                alloc,
+                names,
+                files,
+                telling,
+                options,
+                waivers.as_slice(),
+                out,
+            )
         }
         None => {
-            let whys = Whys {
+            let accepted = Acceptances {
                 rings: &[],
                 gaps: &[],
                 idle: &[],
             };
-            print(alloc, names, files, telling, order, &whys, out)?;
+            print(alloc, names, files, telling, options, &accepted, out)?;
             Ok(has_none(telling))
         }
     }
@@ -121,14 +129,14 @@ pub(crate) fn report<'a, W: Write>(
     alloc: Global,
     reader: FlashedReader,
     names: &[&'a str],
-    order: &Order,
+    options: &Order,
     out: &mut W,
 ) -> Result<Result<bool, Halt<'a>>, Failure>
-    ensures answers { (all : List Source) → map (λ name. name.now) names.now ≡ map (λ source. source.name) all → FlashedStandsAfter reader all
-        → IfOk result (OfTaken (Reports order.now.rules order.now.most order.now.format (given order.now.waivers) (W.contents out.old) (W.contents out.new)) all) }
+    ensures answers { (all : List FileView) → map (λ name. name.now) names.now ≡ map (λ source. source.name) all → FlashedHasTaken reader all
+        → IfOk result (OfTaken (Reports options.now.rules options.now.limit options.now.format (given options.now.waivers) (W.contents out.old) (W.contents out.new)) all) }
     ensures silent { IfOk result (λ done. IfErr done (λ halt. W.contents out.new ≡ W.contents out.old)) }
 {
-    tells_as_checks();
+    report_agrees_with_check();
     let flashed = match reader.finish() {
         Ok(flashed) => flashed,
         Err(PackageFault::Memory) => return Err(Failure::Memory),
@@ -136,8 +144,8 @@ pub(crate) fn report<'a, W: Write>(
             return Ok(Err(refused(names, index, fault)));
         }
     };
-    let telling = tell_board(alloc, &flashed, order.rules)?;
+    let telling = report_on(alloc, &flashed, options.rules)?;
     let files = flashed.board().files();
-    let passes = print_judged(alloc, names, files, &telling, order, out)?;
+    let passes = print_judged(alloc, names, files, &telling, options, out)?;
     Ok(Ok(passes))
 }

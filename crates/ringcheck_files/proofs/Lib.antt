@@ -1,1 +1,1 @@
-pub mod Folders
+pub mod ManifestStatus

@@ -1,6 +1,8 @@
-pub mod Endings
-pub mod Folders
-pub mod Loading
-pub mod Printing
-pub mod Statuses
+pub mod Outcomes
+pub mod ManifestStatus
+pub mod LoaderRelation
+pub mod FileStatus
+pub mod ExitCodes
 pub mod Words
+pub mod ReaderBytes
+pub mod Inner

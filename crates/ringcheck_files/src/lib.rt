@@ -2,19 +2,24 @@
 #![tactic(auto)]
 
 ghost use Rattle.std.specs.Prelude.{◌≡◌};
-ghost use Rattle.ringcheck_files.specs.Statuses.{code_of};
+ghost use Rattle.ringcheck_files.specs.ExitCodes.{code_of};
 
-mod ending;
-mod explaining;
+mod explanation_pages;
+mod file_jobs;
 mod limits;
-mod proposing;
-mod single_files;
+mod loader;
+mod outcomes;
+mod proposed_manifest;
+mod read_counter;
+mod reader_bytes;
 
-pub use ending::{Failure, refuse_word};
-pub use explaining::explain;
+pub use explanation_pages::explain;
+pub use file_jobs::{FileJob, print};
 pub use limits::{ABOVE_LIMIT, FILE_LIMIT};
-pub use proposing::print_manifest;
-pub use single_files::{Task, print};
+pub use loader::{LoadFault, Loader};
+pub use outcomes::{Failure, refuse_word};
+pub use proposed_manifest::print_manifest;
+pub use reader_bytes::{MAX_LIMIT, ReadFail, read_all};
 
 /// How a run ended.
 #[derive(Clone, Copy, Debug, PartialEq, Eq)]

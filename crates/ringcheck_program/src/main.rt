@@ -4,7 +4,7 @@
 ghost use Rattle.std.specs.Prelude.{◌≡◌, ℕ, List, IfOk, drop, map};
 ghost use Rattle.std.specs.Process.{exit_status};
 ghost use Rattle.std.specs.String.{string_bytes};
-ghost use Rattle.ringcheck_files.specs.Statuses.{code_of};
+ghost use Rattle.ringcheck_files.specs.ExitCodes.{code_of};
 
 use ringcheck::{LoadFault, Loader, MAX_LIMIT, ReadFail, Status, read_all, run};
 use std::alloc::{AllocError, Global};

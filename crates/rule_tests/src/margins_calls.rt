@@ -2,7 +2,7 @@
 
 ghost use Rattle.std.specs.Prelude.{◌≡◌, pos, ◌+ℤ◌, ◌-ℤ◌};
 ghost use Rattle.pad_shapes.specs.Shapes.{IsInDisc, disc_covers};
-ghost use Rattle.pad_shapes.specs.Inner.ShapeLaws.{disc_holds, disc_holds_slots, disc_between, disc_extent};
+ghost use Rattle.pad_shapes.specs.Inner.ShapeLaws.{disc_contains_covered, disc_contains_slots, disc_between, disc_extent};
 ghost use Rattle.margins.specs.Inner.DepthLaws.{disc_covers_less};
 
 use crate::rows::{
@@ -40,9 +40,9 @@ impl PadShape for Counted {
 
     ghost right = { λ s. s.disc.centre.x +ℤ pos s.disc.radius };
 
-    ghost holds = { λ s. disc_holds s.disc };
+    ghost holds = { λ s. disc_contains_covered s.disc };
 
-    ghost holds_slots = { λ s. disc_holds_slots s.disc };
+    ghost holds_slots = { λ s. disc_contains_slots s.disc };
 
     ghost between = { λ s. disc_between s.disc };
 
@@ -72,10 +72,10 @@ impl PadShape for Counted {
     }
 }
 
-impl Deep for Counted {
+impl DepthShape for Counted {
     ghost middle = { λ s. s.disc.centre };
 
-    ghost shrinks = { λ s. disc_covers_less s.disc };
+    ghost covers_less = { λ s. disc_covers_less s.disc };
 
     fn depth(&self, at: Point) -> i64 {
         self.count();
@@ -165,7 +165,7 @@ fn rings_of_holes(rt: HostRuntime) {
 /// How deep the middle of a pad lies in it, and its middle.
 fn room_of(row: PadRow) -> Option<(i64, Point)> {
     let pad = pad(row)?;
-    Some((pad.room(), pad.middle()))
+    Some((pad.depth_at_middle(), pad.middle()))
 }
 
 #[test]
@@ -276,7 +276,7 @@ fn best_pads_of_holes(rt: HostRuntime) {
 }
 
 /// The place of the best pad of the hole at a place, and how deep the hole lies in it. `None` for a hole without a pad.
-fn best_at(bests: &[Option<Best>], hole: usize) -> Option<(usize, u64)> {
+fn best_at(bests: &[Option<BestPad>], hole: usize) -> Option<(usize, u64)> {
     let best = (*bests.get(hole)?)?;
     Some((best.pad, best.depth))
 }
@@ -418,9 +418,9 @@ fn met_by(alloc: Global, pads: &[PadRow], holes: &[HoleRow], plated: bool) -> Op
 fn met_on(alloc: Global, layers: &[&[Pad]], holes: &[Drilled]) -> Option<BoardMeets> {
     let ring = ring_met(alloc, layers, holes).ok()?;
     let both = rings_met(alloc, layers, holes).ok()?;
-    let held = held_met(alloc, layers, holes).ok()?;
+    let held = ring_in_pads_met(alloc, layers, holes).ok()?;
     let gap = gap_met(alloc, holes).ok()?;
-    (both.ring == ring).then_some((ring, both.held, held, gap))
+    (both.ring == ring).then_some((ring, both.in_pads, held, gap))
 }
 
 const BARE: HoleRow = ((5_000_000_000, 0), (5_000_000_000, 0), 200_000_000);
@@ -434,10 +434,10 @@ const MET: [(&[PadRow], &[HoleRow], bool, BoardMeets); 7] = [
         &[HOLE, BESIDE],
         true,
         (
-            Met::Most(300_000_000),
-            Met::Most(300_000_000),
-            Met::Most(300_000_000),
-            Met::Most(100_000_000),
+            Met::UpTo(300_000_000),
+            Met::UpTo(300_000_000),
+            Met::UpTo(300_000_000),
+            Met::UpTo(100_000_000),
         ),
     ),
     (
@@ -445,9 +445,9 @@ const MET: [(&[PadRow], &[HoleRow], bool, BoardMeets); 7] = [
         &[HOLE],
         true,
         (
-            Met::Most(-50_000_000),
-            Met::Most(-50_000_000),
-            Met::Most(-50_000_000),
+            Met::UpTo(-50_000_000),
+            Met::UpTo(-50_000_000),
+            Met::UpTo(-50_000_000),
             Met::Any,
         ),
     ),
@@ -475,9 +475,9 @@ const MET: [(&[PadRow], &[HoleRow], bool, BoardMeets); 7] = [
         true,
         (
             Met::None,
-            Met::Most(800_000_000),
-            Met::Most(800_000_000),
-            Met::Most(-400_000_000),
+            Met::UpTo(800_000_000),
+            Met::UpTo(800_000_000),
+            Met::UpTo(-400_000_000),
         ),
     ),
     (
@@ -512,7 +512,7 @@ fn rows_of_rings(rt: HostRuntime) -> Result<(), Fail> {
 /// A row: how many holes, how many of them are bare, the least ring, and the place of the first hole that has it.
 fn row_of(holes: usize, bare: usize, least: Option<(i64, usize)>) -> RingRow {
     let least = match least {
-        Some((ring, hole)) => Some(LeastRing { ring, hole }),
+        Some((ring, hole)) => Some(RowLeast { ring, hole }),
         None => None,
     };
     RingRow { holes, bare, least }
@@ -580,7 +580,7 @@ fn square_of_holes(alloc: Global, off: i64) -> Result<Vec<Drilled>, Fail> {
 }
 
 /// How many best pads are the first pad.
-fn count_of_first(bests: &[Option<Best>]) -> usize {
+fn count_of_first(bests: &[Option<BestPad>]) -> usize {
     let mut count: usize = 0;
     for best in bests {
         match *best {

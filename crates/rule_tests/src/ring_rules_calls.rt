@@ -2,7 +2,7 @@
 
 ghost use Rattle.std.specs.Prelude.{◌≡◌, pos, ◌+ℤ◌, ◌-ℤ◌};
 ghost use Rattle.pad_shapes.specs.Shapes.{IsInDisc, disc_covers};
-ghost use Rattle.pad_shapes.specs.Inner.ShapeLaws.{disc_holds, disc_holds_slots, disc_between, disc_extent};
+ghost use Rattle.pad_shapes.specs.Inner.ShapeLaws.{disc_contains_covered, disc_contains_slots, disc_between, disc_extent};
 
 use crate::rows::{
     HOLE, HoleRow, PadRow, Shape, add_holes, add_pads, add_round, disc, drilled, point, rect, round,
@@ -34,9 +34,9 @@ impl PadShape for Counted {
 
     ghost right = { λ s. s.disc.centre.x +ℤ pos s.disc.radius };
 
-    ghost holds = { λ s. disc_holds s.disc };
+    ghost holds = { λ s. disc_contains_covered s.disc };
 
-    ghost holds_slots = { λ s. disc_holds_slots s.disc };
+    ghost holds_slots = { λ s. disc_contains_slots s.disc };
 
     ghost between = { λ s. disc_between s.disc };
 

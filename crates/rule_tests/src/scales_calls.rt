@@ -1,11 +1,10 @@
 //! Scales of small files, in pm.
 
 use crate::rows::{add_round, disc, drilled, point};
-use margin_text::{Factor, ScaleLine};
 use margins::best_pads;
 use pad_shapes::Pad;
+use report::{UnitFactor, UnitMistake, *};
 use ring_rules::Drilled;
-use scales::*;
 use std::alloc::Global;
 use std::test::Fail;
 
@@ -29,13 +28,13 @@ fn hit(x: i64, y: i64) -> Result<Drilled, Fail> {
 }
 
 /// The line of a drill file with the index 1, if it has one.
-fn line(alloc: Global, pads: &[Pad], holes: &[Drilled]) -> Result<Option<ScaleLine>, Fail> {
+fn line(alloc: Global, pads: &[Pad], holes: &[Drilled]) -> Result<Option<UnitMistake>, Fail> {
     let bests = best_pads(alloc, pads, holes)?;
-    Ok(scale_line(alloc, 1, pads, holes, &bests)?)
+    Ok(unit_mistake(alloc, 1, pads, holes, &bests)?)
 }
 
-fn told(bare: usize, factor: Factor, then: usize) -> Option<ScaleLine> {
-    Some(ScaleLine {
+fn told(bare: usize, factor: UnitFactor, then: usize) -> Option<UnitMistake> {
+    Some(UnitMistake {
         drill: 1,
         bare,
         factor,
@@ -44,7 +43,7 @@ fn told(bare: usize, factor: Factor, then: usize) -> Option<ScaleLine> {
 }
 
 /// What a line says of bare holes: how many there are, the factor, and how many there are then.
-type LineRow = (usize, Factor, usize);
+type LineRow = (usize, UnitFactor, usize);
 
 /// Places in millimetres.
 type Places = &'static [(i64, i64)];
@@ -73,7 +72,7 @@ fn hits_at(alloc: Global, places: Places) -> Result<Vec<Drilled>, Fail> {
 }
 
 /// The line of a drill file with round holes at these places, over discs at others.
-fn line_at(alloc: Global, discs: Places, hits: Places) -> Result<Option<ScaleLine>, Fail> {
+fn line_at(alloc: Global, discs: Places, hits: Places) -> Result<Option<UnitMistake>, Fail> {
     line(alloc, &discs_at(alloc, discs)?, &hits_at(alloc, hits)?)
 }
 
@@ -84,17 +83,21 @@ const LINES: [(Places, Places, Option<LineRow>); 7] = [
     (
         &[(10, 0), (20, 0), (30, 10)],
         &[(1, 0), (2, 0), (3, 1)],
-        Some((3, Factor::Ten, 0)),
+        Some((3, UnitFactor::Ten, 0)),
     ),
     (&[], &[(1, 0), (2, 0), (3, 1)], None),
-    (&[(254, 0), (100, 0)], &[(10, 0)], Some((1, Factor::Ten, 0))),
-    (&[(254, 0)], &[(10, 0)], Some((1, Factor::Inch, 0))),
+    (
+        &[(254, 0), (100, 0)],
+        &[(10, 0)],
+        Some((1, UnitFactor::Ten, 0)),
+    ),
+    (&[(254, 0)], &[(10, 0)], Some((1, UnitFactor::Inch, 0))),
     (&[(5, 5), (10, 0)], &[(5, 5), (1, 0)], None),
     (&[(5, 5), (10, 0)], &[(1, 0), (3, 3)], None),
     (
         &[(5, 5), (10, 0)],
         &[(1, 0), (3, 3), (1, 0)],
-        Some((3, Factor::Ten, 1)),
+        Some((3, UnitFactor::Ten, 1)),
     ),
 ];
 
@@ -116,7 +119,7 @@ fn slots_do_not_count(rt: HostRuntime) -> Result<(), Fail> {
     let pads = [disc_at(0, 0)?, disc_at(10, 0)?];
     let long = slot((0, 0), (1, 0))?;
     let holes = [long, hit(1, 0)?, long];
-    assert!(rt; line(rt.alloc(), &pads, &holes)? == told(1, Factor::Ten, 0));
+    assert!(rt; line(rt.alloc(), &pads, &holes)? == told(1, UnitFactor::Ten, 0));
     Ok(())
 }
 
@@ -127,38 +130,38 @@ fn files_of_shared_holes(rt: HostRuntime) -> Result<(), Fail> {
     let holes = [hit(1, 0)?, hit(5, 5)?, hit(1, 0)?, hit(1, 0)?];
     let bests = best_pads(rt.alloc(), &pads, &holes)?;
     let files = &[
-        FileStretch {
+        FileRange {
             drill: 1,
             start: 0,
             end: 1,
         },
-        FileStretch {
+        FileRange {
             drill: 2,
             start: 1,
             end: 2,
         },
-        FileStretch {
+        FileRange {
             drill: 3,
             start: 0,
             end: 2,
         },
-        FileStretch {
+        FileRange {
             drill: 1,
             start: 2,
             end: 4,
         },
-        FileStretch {
+        FileRange {
             drill: 5,
             start: 4,
             end: 4,
         },
     ];
-    let lines = scale_lines(rt.alloc(), &pads, &holes, &bests, files)?;
+    let lines = unit_mistakes(rt.alloc(), &pads, &holes, &bests, files)?;
     let wanted = &[
-        told(1, Factor::Ten, 0),
+        told(1, UnitFactor::Ten, 0),
         None,
         None,
-        told(2, Factor::Ten, 0),
+        told(2, UnitFactor::Ten, 0),
         None,
     ];
     assert!(rt; lines.as_slice() == wanted.as_slice());
@@ -166,20 +169,20 @@ fn files_of_shared_holes(rt: HostRuntime) -> Result<(), Fail> {
 }
 
 /// The x of a point with this x, scaled.
-fn scaled_x(x: i64, factor: Factor) -> Result<Option<i64>, Fail> {
+fn scaled_x(x: i64, factor: UnitFactor) -> Result<Option<i64>, Fail> {
     Ok(scaled_point(point(x, -10)?, factor).map(|place| place.x()))
 }
 
 #[test]
 fn rounded_down(rt: HostRuntime) -> Result<(), Fail> {
     for &(x, factor, scaled) in &[
-        (1, Factor::Ten, 10),
-        (19, Factor::Tenth, 1),
-        (-1, Factor::Tenth, -1),
-        (-1, Factor::Inch, -26),
-        (5, Factor::Inch, 127),
-        (254, Factor::PerInch, 10),
-        (-255, Factor::PerInch, -11),
+        (1, UnitFactor::Ten, 10),
+        (19, UnitFactor::Tenth, 1),
+        (-1, UnitFactor::Tenth, -1),
+        (-1, UnitFactor::Inch, -26),
+        (5, UnitFactor::Inch, 127),
+        (254, UnitFactor::PerInch, 10),
+        (-255, UnitFactor::PerInch, -11),
     ] {
         assert!(rt; scaled_x(x, factor)? == Some(scaled), "of {x}");
     }
@@ -190,10 +193,10 @@ fn rounded_down(rt: HostRuntime) -> Result<(), Fail> {
 #[test]
 fn beyond_ten_metres(rt: HostRuntime) -> Result<(), Fail> {
     let metre = 1_000 * MM;
-    let near = scaled_point(point(0, metre)?, Factor::Ten).is_some();
-    let beyond = scaled_point(point(0, metre + 1)?, Factor::Ten).is_some();
+    let near = scaled_point(point(0, metre)?, UnitFactor::Ten).is_some();
+    let beyond = scaled_point(point(0, metre + 1)?, UnitFactor::Ten).is_some();
     let far = slot((2 * metre, 0), (2 * metre, 0))?;
-    let bare = bare_by(rt.alloc(), &[disc_at(0, 0)?], &[far], Factor::Ten)?;
+    let bare = bare_with_factor(rt.alloc(), &[disc_at(0, 0)?], &[far], UnitFactor::Ten)?;
     assert!(rt; (near, beyond, bare) == (true, false, 1));
     Ok(())
 }

@@ -11,11 +11,11 @@ use Rattle.std.proofs.lemmas.List.Elements.{All-head, All-tail}
 use Rattle.std.proofs.lemmas.List.Folds.{list_any-append}
 use Rattle.std.proofs.lemmas.List.Quantifiers.{position-Some}
 use Rattle.std.proofs.lemmas.Slice.Eq.{bytes_eq-Decides, slice_eq-Decides}
-use Rattle.manifest.specs.Manifest.{Row}
-use Rattle.report_text.specs.declared.Telling.{Telling}
+use Rattle.manifest.specs.Manifest.{CsvRecord}
+use Rattle.report.specs.declared.BoardReport.{BoardReport}
 use Rattle.waivers.specs.Findings.{gap_fields, ring_fields}
-use Rattle.waivers.specs.Inner.{has_first, has_place, is_by, is_by_that, is_used, unused_numbers, unused_records}
-use Rattle.waivers.specs.Waiving.{IsWaived, compared, fields_told, idle_numbers, waived_by, waives, waives_nothing}
+use Rattle.waivers.specs.Inner.{has_first_place, has_place, is_waived_by, is_waived_by_first, is_used, unused_numbers, unused_records}
+use Rattle.waivers.specs.Waiving.{IsWaived, compared_fields, report_fields, idle_numbers, waived_by, waives, waives_nothing}
 use Rattle.waivers.specs.declared.Waiver.{Waiver}
 use Rattle.waivers.specs.declared.waiving.Waived.{Waived}
 
@@ -73,87 +73,87 @@ some_from p n (x ∷ xs) (suc k) d lt e = by (p x) (some_from p (n + 1) xs k d (
     by false h = h
 
 -- a place is among others
-shared : (used : BTreeSet ℕ) (places : List (Option ℕ)) → ((place : ℕ) → has_place used place ≡ list_any (is_by place) places) → (o : Option ℕ) → has_first used o ≡ list_any (is_by_that o) places
-shared used places are None = none places
+unused_exactly : (used : BTreeSet ℕ) (places : List (Option ℕ)) → ((place : ℕ) → has_place used place ≡ list_any (is_waived_by place) places) → (o : Option ℕ) → has_first_place used o ≡ list_any (is_waived_by_first o) places
+unused_exactly used places are None = none places
   where
-    none : (os : List (Option ℕ)) → false ≡ list_any (is_by_that None) os
+    none : (os : List (Option ℕ)) → false ≡ list_any (is_waived_by_first None) os
     none [] = refl
     none (o ∷ os) = none os
-shared used places are (Some place) = are place
+unused_exactly used places are (Some place) = are place
 
 module _ (all : List Waiver) where
   -- a waiver waives a finding just where its fields are those of the finding
-  waives_is : (finding : Row) (waiver : Waiver) → Decides (waives finding waiver) (compared waiver ≡ finding)
-  waives_is finding waiver = slice_eq-Decides bytes_eq-Decides (compared waiver) finding (waives finding waiver) refl
+  waives_is : (finding : CsvRecord) (waiver : Waiver) → Decides (waives finding waiver) (compared_fields waiver ≡ finding)
+  waives_is finding waiver = slice_eq-Decides bytes_eq-Decides (compared_fields waiver) finding (waives finding waiver) refl
 
   -- the first waiver alike waives a finding just where the waiver does
-  first_tells : (finding : Row) (waiver : Waiver) → is_some (waived_by all (compared waiver)) ≡ true → is_by_that (waived_by all (compared waiver)) (waived_by all finding) ≡ waives finding waiver
-  first_tells finding waiver some =
-      same_from_decides {P = compared waiver ≡ finding} (is_by_that (waived_by all (compared waiver)) (waived_by all finding)) (waives finding waiver)
-      (to (waived_by all (compared waiver)) (waived_by all finding) refl refl, λ e. subst (λ (fields : Row). is_by_that (waived_by all (compared waiver)) (waived_by all fields) ≡ true) e (from (waived_by all (compared waiver)) some))
+  first_is_equal : (finding : CsvRecord) (waiver : Waiver) → is_some (waived_by all (compared_fields waiver)) ≡ true → is_waived_by_first (waived_by all (compared_fields waiver)) (waived_by all finding) ≡ waives finding waiver
+  first_is_equal finding waiver some =
+      same_from_decides {P = compared_fields waiver ≡ finding} (is_waived_by_first (waived_by all (compared_fields waiver)) (waived_by all finding)) (waives finding waiver)
+      (to (waived_by all (compared_fields waiver)) (waived_by all finding) refl refl, λ e. subst (λ (fields : CsvRecord). is_waived_by_first (waived_by all (compared_fields waiver)) (waived_by all fields) ≡ true) e (from (waived_by all (compared_fields waiver)) some))
       (waives_is finding waiver)
     where
-      from : (o : Option ℕ) → is_some o ≡ true → is_by_that o o ≡ true
+      from : (o : Option ℕ) → is_some o ≡ true → is_waived_by_first o o ≡ true
       from None e = absurd cc
       from (Some place) e = (Decides-eqb place place).1 refl
 
-      to : (o other : Option ℕ) → o ≡ waived_by all (compared waiver) → other ≡ waived_by all finding → is_by_that o other ≡ true → compared waiver ≡ finding
+      to : (o other : Option ℕ) → o ≡ waived_by all (compared_fields waiver) → other ≡ waived_by all finding → is_waived_by_first o other ≡ true → compared_fields waiver ≡ finding
       to None other e f h = absurd cc
       to (Some place) None e f h = absurd cc
       to (Some place) (Some by) e f h =
-          let first = position-Some (waives (compared waiver)) all place waiver (sym e) in
+          let first = position-Some (waives (compared_fields waiver)) all place waiver (sym e) in
           let second = position-Some (waives finding) all by waiver (sym f) in
           let place_is : by ≡ place = (Decides-eqb by place).0 h in
-          let alike = (waives_is (compared waiver) (get_or all place waiver)).0 first.1 in
+          let alike = (waives_is (compared_fields waiver) (get_or all place waiver)).0 first.1 in
           let waived = (waives_is finding (get_or all by waiver)).0 second.1 in
-          sym alike ∙ (ap (λ (n : ℕ). compared (get_or all n waiver)) (sym place_is) ∙ waived)
+          sym alike ∙ (ap (λ (n : ℕ). compared_fields (get_or all n waiver)) (sym place_is) ∙ waived)
 
   -- the same for all findings
-  first_tells_all : (waiver : Waiver) → is_some (waived_by all (compared waiver)) ≡ true → (findings : List Row)
-      → list_any (is_by_that (waived_by all (compared waiver))) (map (waived_by all) findings) ≡ list_any (λ finding. waives finding waiver) findings
-  first_tells_all waiver some [] = refl
-  first_tells_all waiver some (finding ∷ findings) = λ i. first_tells finding waiver some i || first_tells_all waiver some findings i
+  first_stands_for_all : (waiver : Waiver) → is_some (waived_by all (compared_fields waiver)) ≡ true → (findings : List CsvRecord)
+      → list_any (is_waived_by_first (waived_by all (compared_fields waiver))) (map (waived_by all) findings) ≡ list_any (λ finding. waives finding waiver) findings
+  first_stands_for_all waiver some [] = refl
+  first_stands_for_all waiver some (finding ∷ findings) = λ i. first_is_equal finding waiver some i || first_stands_for_all waiver some findings i
 
   -- each waiver has a first one alike
-  has_alike : All (λ waiver. is_some (waived_by all (compared waiver)) ≡ true) all
+  has_alike : All (λ waiver. is_some (waived_by all (compared_fields waiver)) ≡ true) all
   has_alike k d lt =
       let waiver = get_or all k d in
-      ap is_some (position_from-zero (waives (compared waiver)) all) ∙ some_from (waives (compared waiver)) 0 all k d lt ((waives_is (compared waiver) waiver).1 refl)
+      ap is_some (position_from-zero (waives (compared_fields waiver)) all) ∙ some_from (waives (compared_fields waiver)) 0 all k d lt ((waives_is (compared_fields waiver) waiver).1 refl)
 
   -- the waivers whose first ones alike are not in a set are those that are not used
   unused_is : (used : BTreeSet ℕ) (waived : Waived) (firsts : List (Option ℕ)) (numbers : List ℕ)
-      → ((place : ℕ) → has_place used place ≡ (list_any (is_by place) waived.rings.items || list_any (is_by place) waived.gaps.items))
-      → firsts ≡ map (λ waiver. waived_by all (compared waiver)) all → numbers ≡ unused_numbers used firsts → numbers ≡ unused_records all waived
+      → ((place : ℕ) → has_place used place ≡ (list_any (is_waived_by place) waived.rings.items || list_any (is_waived_by place) waived.gaps.items))
+      → firsts ≡ map (λ waiver. waived_by all (compared_fields waiver)) all → numbers ≡ unused_numbers used firsts → numbers ≡ unused_records all waived
   unused_is used waived firsts numbers are alike is =
-      let both = λ (place : ℕ). are place ∙ sym (list_any-append (is_by place) waived.rings.items waived.gaps.items) in
+      let both = λ (place : ℕ). are place ∙ sym (list_any-append (is_waived_by place) waived.rings.items waived.gaps.items) in
       is ∙ (ap (unused_numbers used) alike
-      ∙ numbers_same (λ waiver. waived_by all (compared waiver)) (λ first. not (has_first used first)) (λ waiver. not (is_used all waived waiver)) 2 all
-      (λ k d lt. ap not (shared used (waived.rings.items ++ waived.gaps.items) both (waived_by all (compared (get_or all k d))))))
+      ∙ numbers_same (λ waiver. waived_by all (compared_fields waiver)) (λ first. not (has_first_place used first)) (λ waiver. not (is_used all waived waiver)) 2 all
+      (λ k d lt. ap not (unused_exactly used (waived.rings.items ++ waived.gaps.items) both (waived_by all (compared_fields (get_or all k d))))))
 
   map_twice : {A B C : Type 0} (f : A → B) (g : B → C) (xs : List A) → map (λ x. g (f x)) xs ≡ map g (map f xs)
   map_twice f g [] = refl
   map_twice f g (x ∷ xs) = ap (λ rest. g (f x) ∷ rest) (map_twice f g xs)
 
   -- the places of the waivers of rings, then of gaps, are those for all findings
-  pub places_told : (names : List (List ℕ)) (told : Telling) (waived : Waived) → IsWaived all names told waived → waived.rings.items ++ waived.gaps.items ≡ map (waived_by all) (fields_told names told)
-  places_told names told waived is =
+  pub report_places : (names : List (List ℕ)) (report : BoardReport) (waived : Waived) → IsWaived all names report waived → waived.rings.items ++ waived.gaps.items ≡ map (waived_by all) (report_fields names report)
+  report_places names report waived is =
       (λ i. is.rings i ++ is.gaps i)
-      ∙ ((λ i. map_twice (ring_fields names told.layers.items) (waived_by all) told.rings.items i ++ map_twice (gap_fields names) (waived_by all) told.gaps.items i)
-      ∙ sym (map-append (waived_by all) (map (ring_fields names told.layers.items) told.rings.items) (map (gap_fields names) told.gaps.items)))
+      ∙ ((λ i. map_twice (ring_fields names report.layers.items) (waived_by all) report.rings.items i ++ map_twice (gap_fields names) (waived_by all) report.gaps.items i)
+      ∙ sym (map-append (waived_by all) (map (ring_fields names report.layers.items) report.rings.items) (map (gap_fields names) report.gaps.items)))
 
   -- the waivers that are not used are those whose fields no finding has
-  unused_is_none : (names : List (List ℕ)) (told : Telling) (waived : Waived) → IsWaived all names told waived → unused_records all waived ≡ idle_numbers all (fields_told names told)
-  unused_is_none names told waived is =
-      let first = λ (waiver : Waiver). waived_by all (compared waiver) in
-      let test = λ (place : Option ℕ). not (list_any (is_by_that place) (waived.rings.items ++ waived.gaps.items)) in
+  unused_is_none : (names : List (List ℕ)) (report : BoardReport) (waived : Waived) → IsWaived all names report waived → unused_records all waived ≡ idle_numbers all (report_fields names report)
+  unused_is_none names report waived is =
+      let first = λ (waiver : Waiver). waived_by all (compared_fields waiver) in
+      let test = λ (place : Option ℕ). not (list_any (is_waived_by_first place) (waived.rings.items ++ waived.gaps.items)) in
       sym (numbers_same first test (λ waiver. not (is_used all waived waiver)) 2 all (λ k d lt. refl))
-      ∙ numbers_same first test (waives_nothing (fields_told names told)) 2 all
-      (λ k d lt. ap not (ap (list_any (is_by_that (first (get_or all k d)))) (places_told names told waived is) ∙ first_tells_all (get_or all k d) (has_alike k d lt) (fields_told names told)))
+      ∙ numbers_same first test (waives_nothing (report_fields names report)) 2 all
+      (λ k d lt. ap not (ap (list_any (is_waived_by_first (first (get_or all k d)))) (report_places names report waived is) ∙ first_stands_for_all (get_or all k d) (has_alike k d lt) (report_fields names report)))
 
   -- so the waivers whose first ones alike are not in a set waive nothing
   pub unused_is_idle : (used : BTreeSet ℕ) (waived : Waived) (firsts : List (Option ℕ)) (numbers : List ℕ)
-      → ((place : ℕ) → has_place used place ≡ (list_any (is_by place) waived.rings.items || list_any (is_by place) waived.gaps.items))
-      → firsts ≡ map (λ waiver. waived_by all (compared waiver)) all → numbers ≡ unused_numbers used firsts
-      → (names : List (List ℕ)) (told : Telling) → IsWaived all names told waived → numbers ≡ idle_numbers all (fields_told names told)
-  unused_is_idle used waived firsts numbers are alike is names told waives_so =
-      unused_is used waived firsts numbers are alike is ∙ unused_is_none names told waived waives_so
+      → ((place : ℕ) → has_place used place ≡ (list_any (is_waived_by place) waived.rings.items || list_any (is_waived_by place) waived.gaps.items))
+      → firsts ≡ map (λ waiver. waived_by all (compared_fields waiver)) all → numbers ≡ unused_numbers used firsts
+      → (names : List (List ℕ)) (report : BoardReport) → IsWaived all names report waived → numbers ≡ idle_numbers all (report_fields names report)
+  unused_is_idle used waived firsts numbers are alike is names report waives_so =
+      unused_is used waived firsts numbers are alike is ∙ unused_is_none names report waived waives_so

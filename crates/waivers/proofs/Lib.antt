@@ -1,6 +1,6 @@
-pub mod Firsts
+pub mod FirstPlaces
 pub mod IdlePlaces
-pub mod Judging
+pub mod RecordLemmas
 pub mod Matches
 pub mod Quoted
 pub mod Refusals

@@ -11,25 +11,25 @@ use Rattle.csv.specs.Reading.{default_config}
 use Rattle.csv.specs.Writing.{default_writer, read_back, row_text}
 use Rattle.csv.specs.declared.parser.State.TheVariants as st
 use Rattle.csv.proofs.RoundTrip.{read-write}
-use Rattle.manifest.specs.Manifest.{Row}
+use Rattle.manifest.specs.Manifest.{CsvRecord}
 use Rattle.waivers.specs.declared.Waiver.{Waiver}
 use Rattle.waivers.specs.Inner.{joined}
-use Rattle.waivers.specs.Waiving.{compared, waived_by, waives}
+use Rattle.waivers.specs.Waiving.{compared_fields, waived_by, waives}
 use Rattle.waivers.proofs.Quoted.{row_joined}
 
 some_is : (p q : Read) → Some p ≡ Some q → p ≡ q
 some_is p q e = cc
 
-abbrev after : Row → Read
+abbrev after : CsvRecord → Read
 after row = (row, st.StartRecord, [])
 
 -- a record of two fields or more is read back as it is
-whole : (row : Row) → 2 ≤ length row → read_back row ≡ row
+whole : (row : CsvRecord) → 2 ≤ length row → read_back row ≡ row
 whole [] lt = absurd (omega arith)
 whole (field ∷ rest) lt = refl
 
 -- records with equal texts are equal
-same_row : (a b : Row) → 2 ≤ length a → 2 ≤ length b → joined a ≡ joined b → a ≡ b
+same_row : (a b : CsvRecord) → 2 ≤ length a → 2 ≤ length b → joined a ≡ joined b → a ≡ b
 same_row a b full_a full_b e =
     let rows : row_text default_writer a ≡ row_text default_writer b = row_joined a full_a ∙ (ap (λ (text : List ℕ). text ++ 10 ∷ []) e ∙ sym (row_joined b full_b)) in
     let read : Some (after (read_back a)) ≡ Some (after (read_back b)) =
@@ -37,7 +37,7 @@ same_row a b full_a full_b e =
     sym (whole a full_a) ∙ (ap (λ (p : Read). p.0) (some_is (after (read_back a)) (after (read_back b)) read) ∙ whole b full_b)
 
 -- keys are equal just where all fields are
-key_is : (a b : Row) → 2 ≤ length a → 2 ≤ length b → bytes_eq (joined a) (joined b) ≡ pointwise bytes_eq a b
+key_is : (a b : CsvRecord) → 2 ≤ length a → 2 ≤ length b → bytes_eq (joined a) (joined b) ≡ pointwise bytes_eq a b
 key_is a b full_a full_b =
     same_from_decides {P = a ≡ b} (bytes_eq (joined a) (joined b)) (pointwise bytes_eq a b)
     (Decides-like (bytes_eq (joined a) (joined b)) (same_row a b full_a full_b) (λ e. ap joined e) (bytes_eq-Decides (joined a) (joined b)))
@@ -61,17 +61,17 @@ map_same : {A B : Type 0} (f g : A → B) → ((x : A) → f x ≡ g x) → (xs 
 map_same f g same [] = refl
 map_same f g same (x ∷ xs) = λ i. (same x i ∷ map_same f g same xs i)
 
-module _ {K : Type 0} (bytes : K → List ℕ) (keys : List K) (all : List Waiver) (same : map bytes keys ≡ map (λ waiver. joined (compared waiver)) all) where
+module _ {K : Type 0} (bytes : K → List ℕ) (keys : List K) (all : List Waiver) (same : map bytes keys ≡ map (λ waiver. joined (compared_fields waiver)) all) where
   -- the first key equal to a finding's is at the place of the first waiver that waives it
-  first_is : (finding : Row) → 2 ≤ length finding → position_from (λ key. bytes_eq (bytes key) (joined finding)) 0 keys ≡ waived_by all finding
+  first_is : (finding : CsvRecord) → 2 ≤ length finding → position_from (λ key. bytes_eq (bytes key) (joined finding)) 0 keys ≡ waived_by all finding
   first_is finding full =
       let test = λ (key : List ℕ). bytes_eq key (joined finding) in
-      sym (from_map bytes test 0 keys) ∙ (ap (position_from test 0) same ∙ (from_map (λ (waiver : Waiver). joined (compared waiver)) test 0 all
-      ∙ (from_same (λ (waiver : Waiver). bytes_eq (joined (compared waiver)) (joined finding)) (waives finding) (λ waiver. key_is (compared waiver) finding (omega arith) full) 0 all
+      sym (from_map bytes test 0 keys) ∙ (ap (position_from test 0) same ∙ (from_map (λ (waiver : Waiver). joined (compared_fields waiver)) test 0 all
+      ∙ (from_same (λ (waiver : Waiver). bytes_eq (joined (compared_fields waiver)) (joined finding)) (waives finding) (λ waiver. key_is (compared_fields waiver) finding (omega arith) full) 0 all
       ∙ sym (position_from-zero (waives finding) all))))
 
   -- the places that a table of first keys holds for the keys of findings
-  pub all_found : {X : Type 0} (fields : X → Row) (lacks : List X) (wanted : List K) (places : List (Option ℕ)) (found : List ℕ → Option ℕ) → ((lack : X) → 2 ≤ length (fields lack))
+  pub all_found : {X : Type 0} (fields : X → CsvRecord) (lacks : List X) (wanted : List K) (places : List (Option ℕ)) (found : List ℕ → Option ℕ) → ((lack : X) → 2 ≤ length (fields lack))
       → ((key : List ℕ) → found key ≡ position_from (λ other. bytes_eq (bytes other) key) 0 keys) → map bytes wanted ≡ map (λ lack. joined (fields lack)) lacks → places ≡ map (λ key. found (bytes key)) wanted
       → places ≡ map (λ lack. waived_by all (fields lack)) lacks
   all_found fields lacks wanted places found full table are is =

@@ -6,10 +6,10 @@ use Rattle.std.proofs.lemmas.List.Folds.{list_any-append}
 use Rattle.csv.specs.Writing.{default_writer, escaped, field_text, fields_text, is_blank, needs_byte, needs_quotes, row_text}
 use Rattle.grid_units.specs.Holes.{GridHole, is_round}
 use Rattle.grid_units.specs.Points.{GridPoint}
-use Rattle.grid_units.specs.Spellings.{behind_point, minus, places, trimmed}
-use Rattle.manifest.specs.Manifest.{Row}
+use Rattle.grid_units.specs.Spellings.{fraction_text, minus, places, trimmed}
+use Rattle.manifest.specs.Manifest.{CsvRecord}
 use Rattle.printing.specs.Lengths.{short_millimetres}
-use Rattle.report_text.specs.Texts.{drilled_words, ends_words, point_words, two_lengths}
+use Rattle.print_text.specs.Texts.{drilled_words, ends_words, point_words, two_lengths}
 use Rattle.waivers.specs.Findings.{finding_record, head_record}
 use Rattle.waivers.specs.Inner.{joined}
 
@@ -83,7 +83,7 @@ unfolding trimmed
 trimmed_high [] h = tt
 trimmed_high (d ∷ ds) h = high_either _ [] (d ∷ trimmed ds) tt (h.0, trimmed_high ds h.1)
 
-point_high : (ds : List ℕ) → IsHigh ds → IsHigh (behind_point ds)
+point_high : (ds : List ℕ) → IsHigh ds → IsHigh (fraction_text ds)
 point_high [] h = tt
 point_high (d ∷ ds) h = (omega arith, h)
 
@@ -97,7 +97,7 @@ short_high z =
     let n = unsigned_abs z in
     let whole = decimal (n / 10 ^ 9) in
     let rest = trimmed (places 9 (n % 10 ^ 9)) in
-    high_append (minus z ++ whole) (behind_point rest) (high_append (minus z) whole (minus_high z) (decimal_high (n / 10 ^ 9))) (point_high rest (trimmed_high (places 9 (n % 10 ^ 9)) (places_high 9 (n % 10 ^ 9))))
+    high_append (minus z ++ whole) (fraction_text rest) (high_append (minus z) whole (minus_high z) (decimal_high (n / 10 ^ 9))) (point_high rest (trimmed_high (places 9 (n % 10 ^ 9)) (places_high 9 (n % 10 ^ 9))))
 
 plain_byte : (b : ℕ) → 45 ≤ b → needs_byte default_writer b ≡ false
 plain_byte b h = search (rules, arith)
@@ -159,27 +159,27 @@ hole_quoted name hole =
 
 -- ---- records
 
-fields_joined : (field : List ℕ) (rest : Row) → fields_text default_writer (field ∷ rest) ≡ 44 ∷ joined (field ∷ rest)
+fields_joined : (field : List ℕ) (rest : CsvRecord) → fields_text default_writer (field ∷ rest) ≡ 44 ∷ joined (field ∷ rest)
 unfolding fields_text
 fields_joined field [] = ap (λ (text : List ℕ). 44 ∷ text) (append-nil (field_text default_writer field))
 fields_joined field (next ∷ rest) = ap (λ (text : List ℕ). 44 ∷ (field_text default_writer field ++ text)) (fields_joined next rest)
 
 -- a record of two fields or more
-pub row_joined : (row : Row) → 2 ≤ length row → row_text default_writer row ≡ joined row ++ 10 ∷ []
+pub row_joined : (row : CsvRecord) → 2 ≤ length row → row_text default_writer row ≡ joined row ++ 10 ∷ []
 unfolding is_blank
 row_joined [] lt = absurd (omega arith)
 row_joined (field ∷ []) lt = absurd (omega arith)
 row_joined (field ∷ next ∷ rest) lt = ap (λ (text : List ℕ). (field_text default_writer field ++ text) ++ 10 ∷ []) (fields_joined next rest)
 
 -- one more field, which is empty
-joined_more : (field : List ℕ) (rest : Row) → joined (field ∷ (rest ++ [] ∷ [])) ≡ joined (field ∷ rest) ++ 44 ∷ []
+joined_more : (field : List ℕ) (rest : CsvRecord) → joined (field ∷ (rest ++ [] ∷ [])) ≡ joined (field ∷ rest) ++ 44 ∷ []
 joined_more field [] = refl
 joined_more field (next ∷ rest) =
     ap (λ (text : List ℕ). field_text default_writer field ++ 44 ∷ text) (joined_more next rest)
     ∙ sym (append_assoc (field_text default_writer field) (44 ∷ joined (next ∷ rest)) (44 ∷ []))
 
 -- the record of a finding, with an empty reason at its end
-pub record_joined : (row : Row) → 2 ≤ length row → finding_record row ≡ joined row ++ 44 ∷ 10 ∷ []
+pub record_joined : (row : CsvRecord) → 2 ≤ length row → finding_record row ≡ joined row ++ 44 ∷ 10 ∷ []
 record_joined [] lt = absurd (omega arith)
 record_joined (field ∷ []) lt = absurd (omega arith)
 record_joined (field ∷ next ∷ rest) lt =

@@ -5,16 +5,16 @@ use Rattle.grid_units.specs.Results.{fault}
 use Rattle.grid_units.specs.declared.fault.Fault.{Fault}
 use Rattle.grid_units.specs.declared.fault.Reason.{Reason}
 use Rattle.grid_units.specs.declared.fault.Reason.TheVariants.{BadManifest, BadRole, EmptyName, TooLong}
-use Rattle.manifest.specs.Manifest.{Row, field, is_well_formed, rows_of}
-use Rattle.manifest.proofs.Refusals.{Fair, FairAt, fair_if, first_fair}
+use Rattle.manifest.specs.Manifest.{CsvRecord, field, is_well_formed, csv_records}
+use Rattle.manifest.proofs.ManifestReasons.{Fair, FairAt, listed_if, first_is_listed}
 use Rattle.waivers.specs.declared.Waiver.{Waiver}
-use Rattle.waivers.specs.Reading.{broken_rule, first_wrong, is_heading, is_kind, is_waiver_reason, reason_limit, unless_wrong, waiver_of, waivers, waivers_behind, waivers_of}
-use Rattle.waivers.proofs.Judging.{rule}
+use Rattle.waivers.specs.Reading.{broken_rule, first_wrong, is_heading, is_kind, is_waiver_reason, reason_limit, unless_wrong, waiver_of, waivers, waivers_after_head, waivers_of}
+use Rattle.waivers.proofs.RecordLemmas.{rule}
 
-broken_fair : (row : Row) → Fair is_waiver_reason (broken_rule row)
+broken_fair : (row : CsvRecord) → Fair is_waiver_reason (broken_rule row)
 unfolding Fair
 broken_fair row =
-    let either = fair_if is_waiver_reason in
+    let either = listed_if is_waiver_reason in
     either (not (is_well_formed 6 row)) (Some BadManifest) _ refl
     (either (not (is_kind (field 0 row))) (Some BadRole) _ refl
     (either (length (field 5 row) == 0) (Some EmptyName) _ refl (either (nat_lt reason_limit (length (field 5 row))) (Some TooLong) None refl tt)))
@@ -27,22 +27,22 @@ of_fault : (g : Fault) → is_waiver_reason g.reason ≡ true → FairAnswer (Er
 unfolding FairAnswer
 of_fault g h f e = let same : g ≡ f = cc in ap (λ (x : Fault). is_waiver_reason x.reason) (sym same) ∙ h
 
-behind_fair : (rows : List Row) → FairAnswer (waivers_behind rows)
+after_head_fair : (rows : List CsvRecord) → FairAnswer (waivers_after_head rows)
 unfolding FairAt FairAnswer
-behind_fair rows = by (first_wrong rows) (first_fair is_waiver_reason rule (λ before row. broken_fair row) rows)
+after_head_fair rows = by (first_wrong rows) (first_is_listed is_waiver_reason rule (λ before row. broken_fair row) rows)
   where
     by : (o : Option (ℕ × Reason)) → FairAt is_waiver_reason o → FairAnswer (unless_wrong o (map waiver_of rows))
     by None h f e = absurd cc
     by (Some wrong) h f e = of_fault (fault (wrong.0 + 2) 0 wrong.1) h f e
 
-rows_fair : (rows : List Row) → FairAnswer (waivers_of rows)
+rows_fair : (rows : List CsvRecord) → FairAnswer (waivers_of rows)
 rows_fair [] = of_fault (fault 1 0 BadManifest) refl
 rows_fair (first ∷ rows) = by (is_heading first)
   where
-    by : (b : Bool) → FairAnswer (if b then waivers_behind rows else Err (fault 1 0 BadManifest))
-    by true = behind_fair rows
+    by : (b : Bool) → FairAnswer (if b then waivers_after_head rows else Err (fault 1 0 BadManifest))
+    by true = after_head_fair rows
     by false = of_fault (fault 1 0 BadManifest) refl
 
 pub waivers_fair : (text : List ℕ) (f : Fault) → waivers text ≡ Err f → is_waiver_reason f.reason ≡ true
 unfolding FairAnswer
-waivers_fair text = rows_fair (rows_of text)
+waivers_fair text = rows_fair (csv_records text)

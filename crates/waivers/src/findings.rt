@@ -6,11 +6,12 @@ ghost use Rattle.csv.specs.Writing.{default_writer, escaped, field_text, needs_b
 ghost use Rattle.printing.specs.Lengths.{short_millimetres};
 ghost use Rattle.waivers.specs.Findings.{gap_fields, has_field, hole_field, layer_field, ring_fields};
 ghost use Rattle.waivers.specs.Inner.{joined};
-ghost use Rattle.waivers.specs.Waiving.{compared};
+ghost use Rattle.waivers.specs.Waiving.{compared_fields};
 
 use crate::Waiver;
+use print_text::{DrilledWords, name_of};
 use printing::ShortMillimetres;
-use report_text::{DrilledWords, GapLack, HoleAt, LayerHead, RingCause, RingLack, name_of};
+use report::{GapLack, HoleAt, LayerHead, RingCause, RingLack};
 use std::fmt;
 use std::fmt::{Display, Formatter};
 
@@ -109,10 +110,10 @@ impl Display for RingField {
 
     fn fmt<W: fmt::Write>(&self, f: &mut Formatter<W>) -> fmt::Result {
         match self.0 {
-            RingCause::Small(place) | RingCause::Off(place) => {
+            RingCause::TooSmall(place) | RingCause::OffCentre(place) => {
                 write!(f, "{}", LengthField(place.ring))
             }
-            RingCause::Other { .. } | RingCause::Nothing | RingCause::Oblique => {
+            RingCause::Other { .. } | RingCause::NoFlash | RingCause::Oblique => {
                 f.write_str("none")
             }
         }
@@ -162,7 +163,7 @@ impl Display for GapFields<'_> {
 pub(crate) struct WaiverFields<'a>(pub(crate) &'a Waiver);
 
 impl Display for WaiverFields<'_> {
-    ghost output = { λ fields. Some (joined (compared fields.0.now)) };
+    ghost output = { λ fields. Some (joined (compared_fields fields.0.now)) };
 
     fn fmt<W: fmt::Write>(&self, f: &mut Formatter<W>) -> fmt::Result {
         let waiver = self.0;

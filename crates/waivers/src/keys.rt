@@ -6,11 +6,11 @@ ghost use Rattle.std.specs.Option.{option_or};
 ghost use Rattle.std.specs.Str.{bytes_eq};
 ghost use Rattle.waivers.specs.Findings.{gap_fields, ring_fields};
 ghost use Rattle.waivers.specs.Inner.{joined, place_at};
-ghost use Rattle.waivers.specs.Waiving.{compared};
+ghost use Rattle.waivers.specs.Waiving.{compared_fields};
 
 use crate::Waiver;
 use crate::findings::{GapFields, RingFields, WaiverFields};
-use report_text::{GapLack, LayerHead, RingLack};
+use report::{GapLack, LayerHead, RingLack};
 use std::alloc::{AllocError, Global};
 use std::collections::BTreeMap;
 
@@ -74,7 +74,7 @@ pub(crate) fn gap_keys(
 
 /// The key of the fields of a waiver that are compared.
 fn waiver_key(alloc: Global, waiver: &Waiver) -> Result<Vec<u8>, AllocError>
-    ensures { IfOk result (λ key. key.items ≡ joined (compared waiver.now)) }
+    ensures { IfOk result (λ key. key.items ≡ joined (compared_fields waiver.now)) }
 {
     let fields = WaiverFields(waiver);
     Ok(format!(in alloc; "{fields}")?.into_bytes())
@@ -82,7 +82,7 @@ fn waiver_key(alloc: Global, waiver: &Waiver) -> Result<Vec<u8>, AllocError>
 
 /// The keys of waivers, in order.
 pub(crate) fn waiver_keys(alloc: Global, waivers: &[Waiver]) -> Result<Vec<Vec<u8>>, AllocError>
-    ensures { IfOk result (λ keys. map (λ key. key.items) keys.items ≡ map (λ waiver. joined (compared waiver)) waivers.now) }
+    ensures { IfOk result (λ keys. map (λ key. key.items) keys.items ≡ map (λ waiver. joined (compared_fields waiver)) waivers.now) }
 {
     let mut keys = Vec::new(alloc);
     for waiver in waivers {

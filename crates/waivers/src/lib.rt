@@ -17,7 +17,7 @@ mod waiving;
 
 use grid_units::Fail;
 use manifest::Name;
-use manifest::rows::all_rows;
+use manifest::rows::read_records;
 pub use printed::WaiverText;
 use std::alloc::Global;
 pub use waiving::{Waived, idle, reasons, waive};
@@ -56,6 +56,6 @@ pub struct Waiver {
 pub fn read_waivers(alloc: Global, bytes: &[u8]) -> Result<Vec<Waiver>, Fail>
     ensures exact { Answers (λ all. all.items) (λ answer. answer ≡ waivers bytes.now) result }
 {
-    let rows = all_rows(alloc, bytes)?;
+    let rows = read_records(alloc, bytes)?;
     reading::waivers_of(alloc, rows.as_slice())
 }

@@ -5,7 +5,7 @@ ghost use Rattle.waivers.specs.Findings.{finding_record, findings_text, gap_fiel
 
 use crate::findings::{GapFields, RingFields};
 use printing::{Line, Lines};
-use report_text::{GapLack, LayerHead, RingLack, Telling};
+use report::{BoardReport, GapLack, LayerHead, RingLack};
 use std::fmt;
 use std::fmt::{Display, Formatter};
 
@@ -50,7 +50,7 @@ pub struct WaiverText<'a> {
     /// The names of the package's files.
     pub names: &'a [&'a str],
     /// The report.
-    pub telling: &'a Telling,
+    pub telling: &'a BoardReport,
 }
 
 impl Display for WaiverText<'_> {

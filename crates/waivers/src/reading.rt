@@ -2,10 +2,10 @@
 
 ghost use Rattle.std.specs.Prelude.{◌≡◌, map, true, false, MatchOption};
 ghost use Rattle.csv.specs.Records.{fields_of};
-ghost use Rattle.grid_units.specs.Results.{Answers, at, fault};
+ghost use Rattle.grid_units.specs.Results.{Answers, with_place, fault};
 ghost use Rattle.manifest.specs.Manifest.{field, is_well_formed};
 ghost use Rattle.waivers.specs.Reading as naming;
-ghost use Rattle.waivers.specs.Inner.{judged};
+ghost use Rattle.waivers.specs.Inner.{checked_waiver};
 
 use crate::Waiver;
 use csv::ByteRecord;
@@ -24,18 +24,18 @@ const REASON_LIMIT: usize = 1000;
 pub(crate) fn waivers_of(alloc: Global, rows: &[ByteRecord]) -> Result<Vec<Waiver>, Fail>
     ensures { Answers (λ all. all.items) (λ answer. answer ≡ naming.waivers_of (map fields_of rows.now)) result }
 {
-    let Some((first, behind)) = rows.split_first() else {
+    let Some((first, records)) = rows.split_first() else {
         return Err(refused(1, Reason::BadManifest));
     };
     if !is_heading(first) {
         return Err(refused(1, Reason::BadManifest));
     }
-    waivers_behind(alloc, behind)
+    waivers_after_head(alloc, records)
 }
 
 /// The waivers of the records after the head.
-fn waivers_behind(alloc: Global, rows: &[ByteRecord]) -> Result<Vec<Waiver>, Fail>
-    ensures { Answers (λ all. all.items) (λ answer. answer ≡ naming.waivers_behind (map fields_of rows.now)) result }
+fn waivers_after_head(alloc: Global, rows: &[ByteRecord]) -> Result<Vec<Waiver>, Fail>
+    ensures { Answers (λ all. all.items) (λ answer. answer ≡ naming.waivers_after_head (map fields_of rows.now)) result }
 {
     let mut waivers = Vec::new(alloc);
     for (i, row) in rows.iter().enumerate() {
@@ -58,7 +58,7 @@ fn refused(place: u64, reason: Reason) -> Fail
 
 /// The waiver of a record.
 fn waiver_of(alloc: Global, place: u64, row: &ByteRecord) -> Result<Waiver, Fail>
-    ensures { Answers (λ waiver. waiver) (λ answer. answer ≡ at place 0 (judged (fields_of row.now))) result }
+    ensures { Answers (λ waiver. waiver) (λ answer. answer ≡ with_place place 0 (checked_waiver (fields_of row.now))) result }
 {
     let Some(fields) = text_fields(row) else {
         return Err(refused(place, Reason::BadManifest));
@@ -117,17 +117,17 @@ fn text_fields<'a>(row: &'a ByteRecord) -> Option<Fields<'a>>
 fn is_heading(row: &ByteRecord) -> bool
     ensures { result ≡ naming.is_heading (fields_of row.now) }
 {
-    row.len() == FIELDS && names_place(row) && names_reason(row)
+    row.len() == FIELDS && has_place_columns(row) && has_reason_columns(row)
 }
 
-fn names_place(row: &ByteRecord) -> bool
-    ensures { result ≡ naming.names_place (fields_of row.now) }
+fn has_place_columns(row: &ByteRecord) -> bool
+    ensures { result ≡ naming.has_place_columns (fields_of row.now) }
 {
     has_field(row, 0, "kind") && has_field(row, 1, "layer") && has_field(row, 2, "hole")
 }
 
-fn names_reason(row: &ByteRecord) -> bool
-    ensures { result ≡ naming.names_reason (fields_of row.now) }
+fn has_reason_columns(row: &ByteRecord) -> bool
+    ensures { result ≡ naming.has_reason_columns (fields_of row.now) }
 {
     has_field(row, 3, "and") && has_field(row, 4, "has") && has_field(row, 5, "why")
 }

@@ -4,14 +4,14 @@ ghost use Rattle.std.specs.Prelude.{◌≡◌, ◌||◌, ◌++◌, ◌∷◌, []
 ghost use Rattle.std.specs.List.{list_all, list_any};
 ghost use Rattle.waivers.specs.Findings.{gap_fields, ring_fields};
 ghost use Rattle.waivers.specs.Inner as inner;
-ghost use Rattle.waivers.specs.Inner.{has_place, is_by, unused_numbers};
+ghost use Rattle.waivers.specs.Inner.{has_place, is_waived_by, unused_numbers};
 ghost use Rattle.waivers.specs.Waiving as naming;
-ghost use Rattle.report_text.specs.declared.Telling.{Telling as Told};
-ghost use Rattle.waivers.specs.Waiving.{IsWaived, are_all_waived, compared, fields_told, idle_numbers, waived_by};
+ghost use Rattle.report.specs.declared.BoardReport.{BoardReport as Report};
+ghost use Rattle.waivers.specs.Waiving.{IsWaived, are_all_waived, compared_fields, report_fields, idle_numbers, waived_by};
 
 use crate::Waiver;
 use crate::keys::{first_places, gap_keys, places_of, ring_keys, waiver_keys};
-use report_text::Telling;
+use report::BoardReport;
 use std::alloc::{AllocError, Global};
 use std::collections::BTreeSet;
 
@@ -58,13 +58,13 @@ pub fn reasons<'a>(
     waivers: &'a [Waiver],
     places: &[Option<usize>],
 ) -> Result<Vec<Option<&'a str>>, AllocError>
-    ensures { IfOk result (λ whys. map (option_map (λ why. why.now)) whys.items ≡ map (naming.reason_at waivers.entry.now) places.now) }
+    ensures { IfOk result (λ accepted. map (option_map (λ why. why.now)) accepted.items ≡ map (naming.reason_at waivers.entry.now) places.now) }
 {
-    let mut whys = Vec::new(alloc);
+    let mut accepted = Vec::new(alloc);
     for place in places {
-        whys.push(reason_at(waivers, *place))?;
+        accepted.push(reason_at(waivers, *place))?;
     }
-    Ok(whys)
+    Ok(accepted)
 }
 
 /// For each finding of a report the first waiver whose first five fields are those of the finding, byte for byte. `names` are those
@@ -76,14 +76,19 @@ pub fn reasons<'a>(
 pub fn waive(
     alloc: Global,
     names: &[&str],
-    told: &Telling,
+    report: &BoardReport,
     waivers: &[Waiver],
 ) -> Result<Waived, AllocError>
-    ensures rings { IfOk result (λ waived. waived.rings.items ≡ map (λ lack. waived_by waivers.now (ring_fields (map (λ name. name.now) names.now) told.now.layers.items lack)) told.now.rings.items) }
-    ensures gaps { IfOk result (λ waived. waived.gaps.items ≡ map (λ lack. waived_by waivers.now (gap_fields (map (λ name. name.now) names.now) lack)) told.now.gaps.items) }
+    ensures rings { IfOk result (λ waived. waived.rings.items ≡ map (λ lack. waived_by waivers.now (ring_fields (map (λ name. name.now) names.now) report.now.layers.items lack)) report.now.rings.items) }
+    ensures gaps { IfOk result (λ waived. waived.gaps.items ≡ map (λ lack. waived_by waivers.now (gap_fields (map (λ name. name.now) names.now) lack)) report.now.gaps.items) }
 {
-    let rings = ring_keys(alloc, names, told.layers.as_slice(), told.rings.as_slice())?;
-    let gaps = gap_keys(alloc, names, told.gaps.as_slice())?;
+    let rings = ring_keys(
+        alloc,
+        names,
+        report.layers.as_slice(),
+        report.rings.as_slice(),
+    )?;
+    let gaps = gap_keys(alloc, names, report.gaps.as_slice())?;
     let keys = waiver_keys(alloc, waivers)?;
     let table = first_places(alloc, keys.as_slice())?;
     Ok(Waived {
@@ -93,8 +98,8 @@ pub fn waive(
 }
 
 /// For each waiver the index of the first one with the same first five fields.
-fn firsts_alike(alloc: Global, waivers: &[Waiver]) -> Result<Vec<Option<usize>>, AllocError>
-    ensures { IfOk result (λ firsts. firsts.items ≡ map (λ waiver. waived_by waivers.now (compared waiver)) waivers.now) }
+fn first_equal_places(alloc: Global, waivers: &[Waiver]) -> Result<Vec<Option<usize>>, AllocError>
+    ensures { IfOk result (λ firsts. firsts.items ≡ map (λ waiver. waived_by waivers.now (compared_fields waiver)) waivers.now) }
 {
     let keys = waiver_keys(alloc, waivers)?;
     let table = first_places(alloc, keys.as_slice())?;
@@ -103,7 +108,7 @@ fn firsts_alike(alloc: Global, waivers: &[Waiver]) -> Result<Vec<Option<usize>>,
 
 /// Adds the waivers of some findings.
 fn add_used(used: &mut BTreeSet<usize>, places: &[Option<usize>]) -> Result<(), AllocError>
-    ensures { OnOk result ((place : ℕ) → has_place used.new place ≡ (has_place used.old place || list_any (is_by place) places.now)) }
+    ensures { OnOk result ((place : ℕ) → has_place used.new place ≡ (has_place used.old place || list_any (is_waived_by place) places.now)) }
 {
     for by in places {
         if let Some(place) = by {
@@ -115,7 +120,7 @@ fn add_used(used: &mut BTreeSet<usize>, places: &[Option<usize>]) -> Result<(), 
 
 /// The waivers that are the first for some finding.
 fn used_by(alloc: Global, waived: &Waived) -> Result<BTreeSet<usize>, AllocError>
-    ensures { IfOk result (λ used. (place : ℕ) → has_place used place ≡ (list_any (is_by place) waived.now.rings.items || list_any (is_by place) waived.now.gaps.items)) }
+    ensures { IfOk result (λ used. (place : ℕ) → has_place used place ≡ (list_any (is_waived_by place) waived.now.rings.items || list_any (is_waived_by place) waived.now.gaps.items)) }
 {
     let mut used = BTreeSet::new(alloc);
     add_used(&mut used, waived.rings.as_slice())?;
@@ -124,8 +129,8 @@ fn used_by(alloc: Global, waived: &Waived) -> Result<BTreeSet<usize>, AllocError
 }
 
 /// Whether a set has a place, if there is one.
-fn has_first(used: &BTreeSet<usize>, first: Option<usize>) -> bool
-    ensures { result ≡ inner.has_first used.now first }
+fn has_first_place(used: &BTreeSet<usize>, first: Option<usize>) -> bool
+    ensures { result ≡ inner.has_first_place used.now first }
 {
     match first {
         Some(place) => used.contains(&place),
@@ -134,15 +139,15 @@ fn has_first(used: &BTreeSet<usize>, first: Option<usize>) -> bool
 }
 
 /// Adds the number of a waiver's record, if the first waiver alike is not used.
-fn push_idle(
+fn push_if_unused(
     idle: &mut Vec<usize>,
     used: &BTreeSet<usize>,
     first: Option<usize>,
     number: usize,
 ) -> Result<(), AllocError>
-    ensures { OnOk result (idle.new.items ≡ idle.old.items ++ (if not (inner.has_first used.now first) then number ∷ [] else [])) }
+    ensures { OnOk result (idle.new.items ≡ idle.old.items ++ (if not (inner.has_first_place used.now first) then number ∷ [] else [])) }
 {
-    if has_first(used, first) {
+    if has_first_place(used, first) {
         return Ok(());
     }
     idle.push(number)?;
@@ -159,7 +164,7 @@ fn unused(
 {
     let mut idle = Vec::new(alloc);
     for place in 0..firsts.len() {
-        push_idle(&mut idle, used, firsts[place], place + 2)?;
+        push_if_unused(&mut idle, used, firsts[place], place + 2)?;
     }
     Ok(idle)
 }
@@ -171,9 +176,9 @@ fn unused(
 ///
 /// An `AllocError` when memory runs out.
 pub fn idle(alloc: Global, waived: &Waived, waivers: &[Waiver]) -> Result<Vec<usize>, AllocError>
-    ensures { IfOk result (λ numbers. (names : List (List ℕ)) (told : Told) → IsWaived waivers.now names told waived.now → numbers.items ≡ idle_numbers waivers.now (fields_told names told)) }
+    ensures { IfOk result (λ numbers. (names : List (List ℕ)) (report : Report) → IsWaived waivers.now names report waived.now → numbers.items ≡ idle_numbers waivers.now (report_fields names report)) }
 {
-    let firsts = firsts_alike(alloc, waivers)?;
+    let firsts = first_equal_places(alloc, waivers)?;
     let used = used_by(alloc, waived)?;
     unused(alloc, &used, firsts.as_slice())
 }

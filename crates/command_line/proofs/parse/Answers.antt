@@ -2,8 +2,8 @@ use Rattle.std.proofs.Common.{◌≡◌, ◌∙◌, ap, ap₂, ◌≤◌, List, 
 use Rattle.std.proofs.lemmas.List.{length-map}
 use Rattle.clap.specs.Lexer.{usize_max}
 use Rattle.clap.specs.Words.{Row, Text, fault_of, is_simple, is_simple_and_free, subcommand_of, takes}
-use Rattle.command_line.specs.Line.{AnswersLine, AsksFor, manifest_words, ringcheck_app}
-use Rattle.command_line.proofs.Answered.{asked, refused, version_told}
+use Rattle.command_line.specs.ProgramArgs.{ParsesLine, IsRequestOf, manifest_words, ringcheck_app}
+use Rattle.command_line.proofs.ParseResult.{request_is_parsed, refused, version_told}
 use Rattle.command_line.proofs.CommandWords.{check_answer, check_options, draw_answer, explain_answer, is_free_command, is_plain_command, measure_answer, report_answer, rewrite_answer, show_answer, version_fault}
 use Rattle.command_line.proofs.GivenOptions.{first_is, rows_of}
 use Rattle.command_line.proofs.ManifestWords.{manifest_answer}
@@ -21,9 +21,9 @@ returns-in-Some c =
     let parsed = c.in-Ok-try_get_matches_from.ensures.matches (ap is_simple c.in-Ok.ensures ∙ is_plain_command) in
     let faultless = c.in-Ok-try_get_matches_from.ensures.kinds (ap is_simple_and_free c.in-Ok.ensures ∙ is_free_command) in
     let asks = λ (words : List Text) (found : Option (Text × List Row)) (e : map (λ (w : Bor Text). w.now) c.args.words.now ≡ words) (is : answer words ≡ (true, found)).
-    subst (λ o. AsksFor o c.in-Some.request) (parsed.1 ∙ ap₂ subcommand_of c.in-Ok.ensures e ∙ (λ i. (is i).1)) c.in-Some.ensures.asked in
+    subst (λ o. IsRequestOf o c.in-Some.request) (parsed.1 ∙ ap₂ subcommand_of c.in-Ok.ensures e ∙ (λ i. (is i).1)) c.in-Some.ensures.request in
     record {
-      exact = asked _ _ _ c.in-Some.request c.in-Ok.ensures faultless parsed.1 c.in-Some.ensures.asked;
+      exact = request_is_parsed _ _ _ c.in-Some.request c.in-Ok.ensures faultless parsed.1 c.in-Some.ensures.request;
       check = λ r g m e p q s.
           let all = check_options r g m in
           c.in-Some.ensures.check r g m (rows_of all) (parsed.1 ∙ ap₂ subcommand_of c.in-Ok.ensures e ∙ (λ i. (check_answer r g m p q s i).1))
@@ -34,7 +34,7 @@ returns-in-Some c =
       show = λ k f e p q. is_show k f c.in-Some.request (asks _ _ e (show_answer k f p q));
       rewrite = λ k f e p q. is_rewrite k f c.in-Some.request (asks _ _ e (rewrite_answer k f p q));
       manifest = λ why fs e p.
-          let few = few_files c.args.words.now why fs e (omega (arith, c.count_of-count.ensures)) in
+          let few = few_files c.args.words.now why fs e (omega (arith, c.word_count-count.ensures)) in
           is_manifest why fs c.in-Some.request (asks _ _ e (manifest_answer why fs p few));
       list = λ e. is_explain None c.in-Some.request (asks _ _ e (explain_answer None refl));
       explain = λ w e p. is_explain (Some w) c.in-Some.request (asks _ _ e (explain_answer (Some w) p));
@@ -46,7 +46,7 @@ returns c =
     let fault = c.in-Err.ensures.kinds (ap is_simple_and_free c.in-Ok.ensures ∙ is_free_command) in
     let memory = λ (words : List Text) (found : Option (Text × List Row)) (e : map (λ (w : Bor Text). w.now) c.args.words.now ≡ words) (is : answer words ≡ (true, found)).
     c.refusal_for.ensures.memory (c.in-Err.ensures.passes (ap₂ takes c.in-Ok.ensures e ∙ (λ i. (is i).0))) in
-    let exact : AnswersLine (map (λ (w : Bor Text). w.now) c.args.words.now) (Err c.refusal_for.result) =
+    let exact : ParsesLine (map (λ (w : Bor Text). w.now) c.args.words.now) (Err c.refusal_for.result) =
     refused _ _ _ c.refusal_for.result c.in-Ok.ensures fault c.refusal_for.ensures.kind c.refusal_for.ensures.memory in
     record {
       exact = exact;
@@ -57,7 +57,7 @@ returns c =
       show = λ k f e p q. rw (memory _ _ e (show_answer k f p q)) tt;
       rewrite = λ k f e p q. rw (memory _ _ e (rewrite_answer k f p q)) tt;
       manifest = λ why fs e p.
-          let few = few_files c.args.words.now why fs e (omega (arith, c.count_of-count.ensures)) in
+          let few = few_files c.args.words.now why fs e (omega (arith, c.word_count-count.ensures)) in
           rw (memory _ _ e (manifest_answer why fs p few)) tt;
       list = λ e. rw (memory _ _ e (explain_answer None refl)) tt;
       explain = λ w e p. rw (memory _ _ e (explain_answer (Some w) p)) tt;

@@ -2,9 +2,9 @@
 use Rattle.std.proofs.Common.{◌≡◌, ℕ, ◌+◌, ◌-◌, ◌*◌, ◌≤◌, true, arith}
 use Rattle.std.specs.Prelude.{◌&&◌, nat_le}
 use Rattle.std.proofs.lemmas.Bool.Decides.{nat_tests}
-use Rattle.grid_units.specs.Points.{apart, square, square_distance}
-use Rattle.grid_units.proofs.Steps.{square-le}
-use Rattle.pad_shapes.specs.Shapes.{end_radius, square_from_axis, disc_covers, rect_covers, obround_covers}
+use Rattle.grid_units.specs.Points.{abs_diff, square, square_distance}
+use Rattle.grid_units.proofs.TriangleInequalities.{square-le}
+use Rattle.pad_shapes.specs.Shapes.{end_radius, square_axis_distance, disc_covers, rect_covers, obround_covers}
 use Rattle.pad_shapes.specs.Pads.{pad_covers}
 use Rattle.pad_shapes.specs.declared.pad.Pad.TheVariants.{Disc, Rect, Obround}
 use Rattle.margins.specs.Depths.{CoversLess}
@@ -28,11 +28,11 @@ disc_covers_less d c less reach h e = round_less d.radius (square_distance c d.c
 
 pub rect_covers_less : CoversLess rect_covers
 rect_covers_less r c less reach h e =
-    let t = both_le (apart c.x r.centre.x + reach) r.half_x (apart c.y r.centre.y + reach) r.half_y e in
-    le_both (apart c.x r.centre.x + less) r.half_x (apart c.y r.centre.y + less) r.half_y (omega (arith, t.0, h)) (omega (arith, t.1, h))
+    let t = both_le (abs_diff c.x r.centre.x + reach) r.half_x (abs_diff c.y r.centre.y + reach) r.half_y e in
+    le_both (abs_diff c.x r.centre.x + less) r.half_x (abs_diff c.y r.centre.y + less) r.half_y (omega (arith, t.0, h)) (omega (arith, t.1, h))
 
 pub obround_covers_less : CoversLess obround_covers
-obround_covers_less o c less reach h e = round_less (end_radius o) (square_from_axis o c) less reach h e
+obround_covers_less o c less reach h e = round_less (end_radius o) (square_axis_distance o c) less reach h e
 
 pub pad_covers_less : CoversLess pad_covers
 pad_covers_less (Disc d) = disc_covers_less d

@@ -1,9 +1,9 @@
 -- Which holes lack their ring, by their best pads.
 use Rattle.std.specs.Prelude.{ℕ, ℤ, pos, Bool, true, ◌&&◌, int_lt, Option, Some, None}
 use Rattle.ring_rules.specs.declared.finding.Drilled.{Drilled}
-use Rattle.margins.specs.Meets.{asks_ring}
-use Rattle.margins.specs.Rows.{ring_by}
-use Rattle.margins.specs.declared.best.Best.{Best}
+use Rattle.margins.specs.Meets.{needs_ring}
+use Rattle.margins.specs.Rows.{ring_from_best}
+use Rattle.margins.specs.declared.best.BestPad.{BestPad}
 
 -- a hole has no ring, or one below the rule
 abbrev pub is_short : ℕ → Option ℤ → Bool
@@ -11,5 +11,5 @@ is_short rule None = true
 is_short rule (Some ring) = int_lt ring (pos rule)
 
 -- a hole needs a ring on a layer, and its best pad there gives it none or less than the rule
-abbrev pub falls_short : ℕ → ℕ → Drilled → Option Best → Bool
-falls_short rule layer d best = asks_ring layer d && is_short rule (ring_by best d.hole)
+abbrev pub falls_short : ℕ → ℕ → Drilled → Option BestPad → Bool
+falls_short rule layer d best = needs_ring layer d && is_short rule (ring_from_best best d.hole)

@@ -5,9 +5,9 @@ use Rattle.std.proofs.lemmas.Int.{ints, clamps, by_lt_z}
 use Rattle.std.proofs.lemmas.Bool.{cases_lt}
 use Rattle.std.proofs.lemmas.Bool.Decides.{nat_tests}
 use Rattle.grid_units.specs.Holes.{IsBetween}
-use Rattle.grid_units.specs.Points.{GridPoint, apart, square, square_distance}
-use Rattle.grid_units.proofs.Steps.{apart_triangle, square-le, le_from_squares, two_steps-le, square_distance-le}
-use Rattle.pad_shapes.specs.Shapes.{GridObround, IsInDisc, IsInRect, IsInObround, end_radius, upper_end, lower_end, square_from_axis, disc_covers, rect_covers, obround_covers, IsAlongAxis, IsInBox, HoldsWhatItCovers, HoldsSlots, CoversBetween, HasExtent, RectMissesOne}
+use Rattle.grid_units.specs.Points.{GridPoint, abs_diff, square, square_distance}
+use Rattle.grid_units.proofs.TriangleInequalities.{abs_diff_triangle, square-le, le_of_squares, two_steps-le, square_distance-le}
+use Rattle.pad_shapes.specs.Shapes.{GridObround, IsInDisc, IsInRect, IsInObround, end_radius, upper_end, lower_end, square_axis_distance, disc_covers, rect_covers, obround_covers, IsAxisAligned, IsInBox, ContainsCovered, ContainsCoveredSlots, CoveredIsBetween, HasExtent, RectIsTight}
 use Rattle.pad_shapes.specs.declared.pad.Pad.TheVariants.{Disc, Rect, Obround}
 use Rattle.pad_shapes.specs.Pads.{IsInPad, pad_covers, pad_left, pad_right}
 
@@ -24,155 +24,155 @@ not_both_le a b c d e = elim (cases_lt b a) [
 
 -- a side of a right triangle is no longer than a bound on the longest one
 side-le : (a b n : ℕ) → a * a + b * b ≤ n * n → a ≤ n
-side-le a b n h = le_from_squares a n (omega (arith, h))
+side-le a b n h = le_of_squares a n (omega (arith, h))
 
 other_side-le : (a b n : ℕ) → a * a + b * b ≤ n * n → b ≤ n
-other_side-le a b n h = le_from_squares b n (omega (arith, h))
+other_side-le a b n h = le_of_squares b n (omega (arith, h))
 
 -- a bound on the square of a distance, from the two distances along the axes
-square_distance_of : (p q : GridPoint) (a b n : ℕ) → apart p.x q.x ≡ a → apart p.y q.y ≡ b → square a + square b ≤ square n → square_distance p q ≤ square n
+square_distance_of : (p q : GridPoint) (a b n : ℕ) → abs_diff p.x q.x ≡ a → abs_diff p.y q.y ≡ b → square a + square b ≤ square n → square_distance p q ≤ square n
 square_distance_of p q a b n x y h = omega (arith, ap square x, ap square y, h)
 
-within_bounds : (z c : ℤ) (n : ℕ) → apart z c ≤ n → ((c -ℤ pos n) ≤ℤ z) × (z ≤ℤ (c +ℤ pos n))
+within_bounds : (z c : ℤ) (n : ℕ) → abs_diff z c ≤ n → ((c -ℤ pos n) ≤ℤ z) × (z ≤ℤ (c +ℤ pos n))
 within_bounds z c n h = (omega (arith, ints), omega (arith, ints))
 
-apart_below : (c : ℤ) (n : ℕ) → apart (c -ℤ pos n) c ≡ n
+apart_below : (c : ℤ) (n : ℕ) → abs_diff (c -ℤ pos n) c ≡ n
 apart_below c n = omega (arith, ints)
 
-apart_above : (c : ℤ) (n : ℕ) → apart (c +ℤ pos n) c ≡ n
+apart_above : (c : ℤ) (n : ℕ) → abs_diff (c +ℤ pos n) c ≡ n
 apart_above c n = omega (arith, ints)
 
-apart_self : (c : ℤ) → apart c c ≡ 0
+apart_self : (c : ℤ) → abs_diff c c ≡ 0
 apart_self c = omega (arith, ints)
 
-pub disc_holds : HoldsWhatItCovers IsInDisc disc_covers
-disc_holds d c reach e p h =
+pub disc_contains_covered : ContainsCovered IsInDisc disc_covers
+disc_contains_covered d c reach e p h =
     let t = both_le reach d.radius (square_distance c d.centre) (square (d.radius - reach)) e in
     let sum : reach + (d.radius - reach) ≡ d.radius = omega (arith, t.0) in
     subst (λ n. square_distance p d.centre ≤ square n) sum (square_distance-le p c d.centre reach (d.radius - reach) h t.1)
 
-pub disc_between : CoversBetween disc_covers (λ d. d.centre.x -ℤ pos d.radius) (λ d. d.centre.x +ℤ pos d.radius)
+pub disc_between : CoveredIsBetween disc_covers (λ d. d.centre.x -ℤ pos d.radius) (λ d. d.centre.x +ℤ pos d.radius)
 disc_between d c reach e =
     let t = both_le reach d.radius (square_distance c d.centre) (square (d.radius - reach)) e in
-    let near : apart c.x d.centre.x ≤ d.radius - reach = side-le _ (apart c.y d.centre.y) _ t.1 in
+    let near : abs_diff c.x d.centre.x ≤ d.radius - reach = side-le _ (abs_diff c.y d.centre.y) _ t.1 in
     within_bounds c.x d.centre.x d.radius (omega (arith, near))
 
 pub disc_extent : HasExtent IsInDisc (λ d. d.centre.x -ℤ pos d.radius) (λ d. d.centre.x +ℤ pos d.radius)
 disc_extent d = record {
-  least = λ p h. (within_bounds p.x d.centre.x d.radius (side-le _ (apart p.y d.centre.y) _ h)).0;
-  greatest = λ p h. (within_bounds p.x d.centre.x d.radius (side-le _ (apart p.y d.centre.y) _ h)).1;
-  at_least = (d.centre.y, square_distance_of (record { x = d.centre.x -ℤ pos d.radius; y = d.centre.y }) d.centre d.radius 0 d.radius (apart_below d.centre.x d.radius) (apart_self d.centre.y) (omega arith));
-  at_greatest = (d.centre.y, square_distance_of (record { x = d.centre.x +ℤ pos d.radius; y = d.centre.y }) d.centre d.radius 0 d.radius (apart_above d.centre.x d.radius) (apart_self d.centre.y) (omega arith));
+  least = λ p h. (within_bounds p.x d.centre.x d.radius (side-le _ (abs_diff p.y d.centre.y) _ h)).0;
+  greatest = λ p h. (within_bounds p.x d.centre.x d.radius (side-le _ (abs_diff p.y d.centre.y) _ h)).1;
+  attains_least = (d.centre.y, square_distance_of (record { x = d.centre.x -ℤ pos d.radius; y = d.centre.y }) d.centre d.radius 0 d.radius (apart_below d.centre.x d.radius) (apart_self d.centre.y) (omega arith));
+  attains_greatest = (d.centre.y, square_distance_of (record { x = d.centre.x +ℤ pos d.radius; y = d.centre.y }) d.centre d.radius 0 d.radius (apart_above d.centre.x d.radius) (apart_self d.centre.y) (omega arith));
 }
 
-pub rect_holds : HoldsWhatItCovers IsInRect rect_covers
-rect_holds r c reach e p h =
-    let t = both_le (apart c.x r.centre.x + reach) r.half_x (apart c.y r.centre.y + reach) r.half_y e in
-    let x : apart p.x c.x ≤ reach = side-le _ (apart p.y c.y) _ h in
-    let y : apart p.y c.y ≤ reach = other_side-le (apart p.x c.x) _ _ h in
-    (omega (arith, t.0, x, apart_triangle p.x c.x r.centre.x), omega (arith, t.1, y, apart_triangle p.y c.y r.centre.y))
+pub rect_contains_covered : ContainsCovered IsInRect rect_covers
+rect_contains_covered r c reach e p h =
+    let t = both_le (abs_diff c.x r.centre.x + reach) r.half_x (abs_diff c.y r.centre.y + reach) r.half_y e in
+    let x : abs_diff p.x c.x ≤ reach = side-le _ (abs_diff p.y c.y) _ h in
+    let y : abs_diff p.y c.y ≤ reach = other_side-le (abs_diff p.x c.x) _ _ h in
+    (omega (arith, t.0, x, abs_diff_triangle p.x c.x r.centre.x), omega (arith, t.1, y, abs_diff_triangle p.y c.y r.centre.y))
 
-pub rect_between : CoversBetween rect_covers (λ r. r.centre.x -ℤ pos r.half_x) (λ r. r.centre.x +ℤ pos r.half_x)
+pub rect_between : CoveredIsBetween rect_covers (λ r. r.centre.x -ℤ pos r.half_x) (λ r. r.centre.x +ℤ pos r.half_x)
 rect_between r c reach e =
-    let t = both_le (apart c.x r.centre.x + reach) r.half_x (apart c.y r.centre.y + reach) r.half_y e in
+    let t = both_le (abs_diff c.x r.centre.x + reach) r.half_x (abs_diff c.y r.centre.y + reach) r.half_y e in
     within_bounds c.x r.centre.x r.half_x (omega (arith, t.0))
 
 pub rect_extent : HasExtent IsInRect (λ r. r.centre.x -ℤ pos r.half_x) (λ r. r.centre.x +ℤ pos r.half_x)
 rect_extent r = record {
   least = λ p h. (within_bounds p.x r.centre.x r.half_x h.0).0;
   greatest = λ p h. (within_bounds p.x r.centre.x r.half_x h.0).1;
-  at_least = (r.centre.y, (omega (arith, apart_below r.centre.x r.half_x), omega (arith, apart_self r.centre.y)));
-  at_greatest = (r.centre.y, (omega (arith, apart_above r.centre.x r.half_x), omega (arith, apart_self r.centre.y)));
+  attains_least = (r.centre.y, (omega (arith, apart_below r.centre.x r.half_x), omega (arith, apart_self r.centre.y)));
+  attains_greatest = (r.centre.y, (omega (arith, apart_above r.centre.x r.half_x), omega (arith, apart_self r.centre.y)));
 }
 
 -- the distance from a point past an end to that end, along one axis
-apart_past_above : (z c : ℤ) (a : ℕ) → c ≤ℤ z → a ≤ apart z c → apart z (c +ℤ pos a) ≡ apart z c - a
+apart_past_above : (z c : ℤ) (a : ℕ) → c ≤ℤ z → a ≤ abs_diff z c → abs_diff z (c +ℤ pos a) ≡ abs_diff z c - a
 apart_past_above z c a h k = omega (arith, ints)
 
-apart_past_below : (z c : ℤ) (a : ℕ) → z ≤ℤ c → a ≤ apart z c → apart z (c -ℤ pos a) ≡ apart z c - a
+apart_past_below : (z c : ℤ) (a : ℕ) → z ≤ℤ c → a ≤ abs_diff z c → abs_diff z (c -ℤ pos a) ≡ abs_diff z c - a
 apart_past_below z c a h k = omega (arith, ints)
 
-apart_plus_none : (z c : ℤ) (a : ℕ) → a ≡ 0 → apart z (c +ℤ pos a) ≡ apart z c - a
+apart_plus_none : (z c : ℤ) (a : ℕ) → a ≡ 0 → abs_diff z (c +ℤ pos a) ≡ abs_diff z c - a
 apart_plus_none z c a h = omega (arith, ints)
 
-apart_minus_none : (z c : ℤ) (a : ℕ) → a ≡ 0 → apart z (c -ℤ pos a) ≡ apart z c - a
+apart_minus_none : (z c : ℤ) (a : ℕ) → a ≡ 0 → abs_diff z (c -ℤ pos a) ≡ abs_diff z c - a
 apart_minus_none z c a h = omega (arith, ints)
 
 by_order : {P : Type 0} (a b : ℤ) → (a ≤ℤ b → P) → (b ≤ℤ a → P) → P
 by_order a b f g = by_lt_z a b (λ h. f (omega (arith, ints))) g
 
 -- past the straight part, a point lies in one of the ends
-in_end_x : (o : GridObround) (p : GridPoint) → square_from_axis o p ≤ square (end_radius o) → o.half_x - end_radius o ≤ apart p.x o.centre.x → o.half_y - end_radius o ≡ 0 → IsInDisc (upper_end o) p ⊎ IsInDisc (lower_end o) p
+in_end_x : (o : GridObround) (p : GridPoint) → square_axis_distance o p ≤ square (end_radius o) → o.half_x - end_radius o ≤ abs_diff p.x o.centre.x → o.half_y - end_radius o ≡ 0 → IsInDisc (upper_end o) p ⊎ IsInDisc (lower_end o) p
 in_end_x o p h past none = by_order o.centre.x p.x
     (λ k. inl (square_distance_of p (upper_end o).centre _ _ _ (apart_past_above p.x o.centre.x (o.half_x - end_radius o) k past) (apart_plus_none p.y o.centre.y (o.half_y - end_radius o) none) h))
     (λ k. inr (square_distance_of p (lower_end o).centre _ _ _ (apart_past_below p.x o.centre.x (o.half_x - end_radius o) k past) (apart_minus_none p.y o.centre.y (o.half_y - end_radius o) none) h))
 
-in_end_y : (o : GridObround) (p : GridPoint) → square_from_axis o p ≤ square (end_radius o) → o.half_y - end_radius o ≤ apart p.y o.centre.y → o.half_x - end_radius o ≡ 0 → IsInDisc (upper_end o) p ⊎ IsInDisc (lower_end o) p
+in_end_y : (o : GridObround) (p : GridPoint) → square_axis_distance o p ≤ square (end_radius o) → o.half_y - end_radius o ≤ abs_diff p.y o.centre.y → o.half_x - end_radius o ≡ 0 → IsInDisc (upper_end o) p ⊎ IsInDisc (lower_end o) p
 in_end_y o p h past none = by_order o.centre.y p.y
     (λ k. inl (square_distance_of p (upper_end o).centre _ _ _ (apart_plus_none p.x o.centre.x (o.half_x - end_radius o) none) (apart_past_above p.y o.centre.y (o.half_y - end_radius o) k past) h))
     (λ k. inr (square_distance_of p (lower_end o).centre _ _ _ (apart_minus_none p.x o.centre.x (o.half_x - end_radius o) none) (apart_past_below p.y o.centre.y (o.half_y - end_radius o) k past) h))
 
 -- a point that is no further from the axis than the radius is in the obround
-near_axis : (o : GridObround) (p : GridPoint) → square_from_axis o p ≤ square (end_radius o) → IsInObround o p
+near_axis : (o : GridObround) (p : GridPoint) → square_axis_distance o p ≤ square (end_radius o) → IsInObround o p
 near_axis o p h =
-    let past_x : apart p.x o.centre.x - (o.half_x - end_radius o) ≤ end_radius o = side-le _ (apart p.y o.centre.y - (o.half_y - end_radius o)) _ h in
-    let past_y : apart p.y o.centre.y - (o.half_y - end_radius o) ≤ end_radius o = other_side-le (apart p.x o.centre.x - (o.half_x - end_radius o)) _ _ h in
+    let past_x : abs_diff p.x o.centre.x - (o.half_x - end_radius o) ≤ end_radius o = side-le _ (abs_diff p.y o.centre.y - (o.half_y - end_radius o)) _ h in
+    let past_y : abs_diff p.y o.centre.y - (o.half_y - end_radius o) ≤ end_radius o = other_side-le (abs_diff p.x o.centre.x - (o.half_x - end_radius o)) _ _ h in
     elim (cases_lt o.half_x o.half_y) [
-      | inl upright ↦ elim (cases_lt (o.half_y - end_radius o) (apart p.y o.centre.y)) [
+      | inl upright ↦ elim (cases_lt (o.half_y - end_radius o) (abs_diff p.y o.centre.y)) [
         | inl past ↦ inr (in_end_y o p h (omega (arith, past)) (omega arith))
         | inr beside ↦ inl (grind (arith, nat_tests), grind (arith, nat_tests))
       ]
-      | inr lying ↦ elim (cases_lt (o.half_x - end_radius o) (apart p.x o.centre.x)) [
+      | inr lying ↦ elim (cases_lt (o.half_x - end_radius o) (abs_diff p.x o.centre.x)) [
         | inl past ↦ inr (in_end_x o p h (omega (arith, past)) (omega arith))
         | inr beside ↦ inl (grind (arith, nat_tests), grind (arith, nat_tests))
       ]
     ]
 
-pub obround_holds : HoldsWhatItCovers IsInObround obround_covers
-obround_holds o c reach e p h =
+pub obround_contains_covered : ContainsCovered IsInObround obround_covers
+obround_contains_covered o c reach e p h =
     let r : ℕ = end_radius o in
-    let t = both_le reach (end_radius o) (square_from_axis o c) (square (end_radius o - reach)) e in
+    let t = both_le reach (end_radius o) (square_axis_distance o c) (square (end_radius o - reach)) e in
     let sum : reach + (end_radius o - reach) ≡ end_radius o = omega (arith, t.0) in
-    near_axis o p (subst (λ n. square_from_axis o p ≤ square n) sum
-    (two_steps-le (apart p.x c.x) (apart p.y c.y) (apart c.x o.centre.x - (o.half_x - end_radius o)) (apart c.y o.centre.y - (o.half_y - end_radius o)) _ _ reach (end_radius o - reach)
-    (omega (arith, apart_triangle p.x c.x o.centre.x)) (omega (arith, apart_triangle p.y c.y o.centre.y)) h t.1))
+    near_axis o p (subst (λ n. square_axis_distance o p ≤ square n) sum
+    (two_steps-le (abs_diff p.x c.x) (abs_diff p.y c.y) (abs_diff c.x o.centre.x - (o.half_x - end_radius o)) (abs_diff c.y o.centre.y - (o.half_y - end_radius o)) _ _ reach (end_radius o - reach)
+    (omega (arith, abs_diff_triangle p.x c.x o.centre.x)) (omega (arith, abs_diff_triangle p.y c.y o.centre.y)) h t.1))
 
-pub obround_between : CoversBetween obround_covers (λ o. o.centre.x -ℤ pos o.half_x) (λ o. o.centre.x +ℤ pos o.half_x)
+pub obround_between : CoveredIsBetween obround_covers (λ o. o.centre.x -ℤ pos o.half_x) (λ o. o.centre.x +ℤ pos o.half_x)
 obround_between o c reach e =
-    let t = both_le reach (end_radius o) (square_from_axis o c) (square (end_radius o - reach)) e in
-    let past : apart c.x o.centre.x - (o.half_x - end_radius o) ≤ end_radius o - reach = side-le _ (apart c.y o.centre.y - (o.half_y - end_radius o)) _ t.1 in
+    let t = both_le reach (end_radius o) (square_axis_distance o c) (square (end_radius o - reach)) e in
+    let past : abs_diff c.x o.centre.x - (o.half_x - end_radius o) ≤ end_radius o - reach = side-le _ (abs_diff c.y o.centre.y - (o.half_y - end_radius o)) _ t.1 in
     within_bounds c.x o.centre.x o.half_x (omega (arith, past))
 
 -- no part of an obround is further than half a side from its centre
-obround_within_x : (o : GridObround) (p : GridPoint) → IsInObround o p → apart p.x o.centre.x ≤ o.half_x
+obround_within_x : (o : GridObround) (p : GridPoint) → IsInObround o p → abs_diff p.x o.centre.x ≤ o.half_x
 obround_within_x o p h = elim h [
   | inl straight ↦ grind (arith, nat_tests, straight.0)
   | inr ends ↦ elim ends [
-    | inl upper ↦ omega (arith, side-le _ (apart p.y (upper_end o).centre.y) _ upper, apart_triangle p.x (upper_end o).centre.x o.centre.x, apart_above o.centre.x (o.half_x - end_radius o))
-    | inr lower ↦ omega (arith, side-le _ (apart p.y (lower_end o).centre.y) _ lower, apart_triangle p.x (lower_end o).centre.x o.centre.x, apart_below o.centre.x (o.half_x - end_radius o))
+    | inl upper ↦ omega (arith, side-le _ (abs_diff p.y (upper_end o).centre.y) _ upper, abs_diff_triangle p.x (upper_end o).centre.x o.centre.x, apart_above o.centre.x (o.half_x - end_radius o))
+    | inr lower ↦ omega (arith, side-le _ (abs_diff p.y (lower_end o).centre.y) _ lower, abs_diff_triangle p.x (lower_end o).centre.x o.centre.x, apart_below o.centre.x (o.half_x - end_radius o))
   ]
 ]
 
-apart_below_end : (c : ℤ) (n r : ℕ) → r ≤ n → apart (c -ℤ pos n) (c -ℤ pos (n - r)) ≡ r
+apart_below_end : (c : ℤ) (n r : ℕ) → r ≤ n → abs_diff (c -ℤ pos n) (c -ℤ pos (n - r)) ≡ r
 apart_below_end c n r h = omega (arith, ints)
 
-apart_above_end : (c : ℤ) (n r : ℕ) → r ≤ n → apart (c +ℤ pos n) (c +ℤ pos (n - r)) ≡ r
+apart_above_end : (c : ℤ) (n r : ℕ) → r ≤ n → abs_diff (c +ℤ pos n) (c +ℤ pos (n - r)) ≡ r
 apart_above_end c n r h = omega (arith, ints)
 
 pub obround_extent : HasExtent IsInObround (λ o. o.centre.x -ℤ pos o.half_x) (λ o. o.centre.x +ℤ pos o.half_x)
 obround_extent o = record {
   least = λ p h. (within_bounds p.x o.centre.x o.half_x (obround_within_x o p h)).0;
   greatest = λ p h. (within_bounds p.x o.centre.x o.half_x (obround_within_x o p h)).1;
-  at_least = ((lower_end o).centre.y, inr (inr (square_distance_of (record { x = o.centre.x -ℤ pos o.half_x; y = (lower_end o).centre.y }) (lower_end o).centre (end_radius o) 0 (end_radius o) (apart_below_end o.centre.x o.half_x (end_radius o) (omega arith)) (apart_self (lower_end o).centre.y) (omega arith))));
-  at_greatest = ((upper_end o).centre.y, inr (inl (square_distance_of (record { x = o.centre.x +ℤ pos o.half_x; y = (upper_end o).centre.y }) (upper_end o).centre (end_radius o) 0 (end_radius o) (apart_above_end o.centre.x o.half_x (end_radius o) (omega arith)) (apart_self (upper_end o).centre.y) (omega arith))));
+  attains_least = ((lower_end o).centre.y, inr (inr (square_distance_of (record { x = o.centre.x -ℤ pos o.half_x; y = (lower_end o).centre.y }) (lower_end o).centre (end_radius o) 0 (end_radius o) (apart_below_end o.centre.x o.half_x (end_radius o) (omega arith)) (apart_self (lower_end o).centre.y) (omega arith))));
+  attains_greatest = ((upper_end o).centre.y, inr (inl (square_distance_of (record { x = o.centre.x +ℤ pos o.half_x; y = (upper_end o).centre.y }) (upper_end o).centre (end_radius o) 0 (end_radius o) (apart_above_end o.centre.x o.half_x (end_radius o) (omega arith)) (apart_self (upper_end o).centre.y) (omega arith))));
 }
 
-pub pad_holds : HoldsWhatItCovers IsInPad pad_covers
-pad_holds (Disc d) = disc_holds d
-pad_holds (Rect r) = rect_holds r
-pad_holds (Obround o) = obround_holds o
+pub pad_contains_covered : ContainsCovered IsInPad pad_covers
+pad_contains_covered (Disc d) = disc_contains_covered d
+pad_contains_covered (Rect r) = rect_contains_covered r
+pad_contains_covered (Obround o) = obround_contains_covered o
 
-pub pad_between : CoversBetween pad_covers pad_left pad_right
+pub pad_between : CoveredIsBetween pad_covers pad_left pad_right
 pad_between (Disc d) = disc_between d
 pad_between (Rect r) = rect_between r
 pad_between (Obround o) = obround_between o
@@ -184,24 +184,24 @@ pad_extent (Obround o) = obround_extent o
 
 -- along both axes, c is no further from o than the end is
 abbrev IsNearer : GridPoint → GridPoint → GridPoint → Type 0
-IsNearer o c end = (apart c.x o.x ≤ apart end.x o.x) × (apart c.y o.y ≤ apart end.y o.y)
+IsNearer o c end = (abs_diff c.x o.x ≤ abs_diff end.x o.x) × (abs_diff c.y o.y ≤ abs_diff end.y o.y)
 
 -- a shape that covers an end covers each centre that is nearer to its middle along both axes
-abbrev CoversNearer : {S : Type 0} → (S → GridPoint) → (S → GridPoint → ℕ → Bool) → Type 0
-CoversNearer {S} middle covers = (s : S) (c end : GridPoint) (reach : ℕ) → IsNearer (middle s) c end → covers s end reach ≡ true → covers s c reach ≡ true
+abbrev CoversMonotone : {S : Type 0} → (S → GridPoint) → (S → GridPoint → ℕ → Bool) → Type 0
+CoversMonotone {S} middle covers = (s : S) (c end : GridPoint) (reach : ℕ) → IsNearer (middle s) c end → covers s end reach ≡ true → covers s c reach ≡ true
 
 -- a number between two others is no further from a third than one of the two
-nearer_side : (a b o z : ℤ) → IsBetween a b z → (apart z o ≤ apart a o) ⊎ (apart z o ≤ apart b o)
+nearer_side : (a b o z : ℤ) → IsBetween a b z → (abs_diff z o ≤ abs_diff a o) ⊎ (abs_diff z o ≤ abs_diff b o)
 nearer_side a b o z h = by_order a b
     (λ up. by_order z o (λ low. inl (omega (arith, ints, clamps))) (λ high. inr (omega (arith, ints, clamps))))
     (λ down. by_order z o (λ low. inr (omega (arith, ints, clamps))) (λ high. inl (omega (arith, ints, clamps))))
 
 -- a number between two equal ones is no further from a third than either of them
-same_side : (a b o z : ℤ) → a ≡ b → IsBetween a b z → (apart z o ≤ apart a o) × (apart z o ≤ apart b o)
+same_side : (a b o z : ℤ) → a ≡ b → IsBetween a b z → (abs_diff z o ≤ abs_diff a o) × (abs_diff z o ≤ abs_diff b o)
 same_side a b o z e h = (omega (arith, ints, clamps), omega (arith, ints, clamps))
 
 -- a point between the ends of a slot along an axis is nearer than one of the ends
-nearer_end : (o from to c : GridPoint) → IsAlongAxis from to → IsInBox from to c → IsNearer o c from ⊎ IsNearer o c to
+nearer_end : (o from to c : GridPoint) → IsAxisAligned from to → IsInBox from to c → IsNearer o c from ⊎ IsNearer o c to
 nearer_end o from to c along h = elim along [
   | inl upright ↦ let x = same_side from.x to.x o.x c.x upright h.0 in
       elim (nearer_side from.y to.y o.y c.y h.1) [ inl first ↦ inl (x.0, first) | inr second ↦ inr (x.1, second) ]
@@ -215,7 +215,7 @@ both_true true false e = absurd cc
 both_true false b e = absurd cc
 
 -- a shape that covers nearer centres holds slots
-holds_slots : {S : Type 0} (middle : S → GridPoint) (points : S → GridPoint → Type 0) (covers : S → GridPoint → ℕ → Bool) → HoldsWhatItCovers points covers → CoversNearer middle covers → HoldsSlots points covers
+holds_slots : {S : Type 0} (middle : S → GridPoint) (points : S → GridPoint → Type 0) (covers : S → GridPoint → ℕ → Bool) → ContainsCovered points covers → CoversMonotone middle covers → ContainsCoveredSlots points covers
 holds_slots middle points covers holds nearer s from to reach along ends c p inside h =
     let both = both_true (covers s from reach) (covers s to reach) ends in
     elim (nearer_end (middle s) from to c along inside) [
@@ -226,50 +226,50 @@ holds_slots middle points covers holds nearer s from to reach along ends c p ins
 le_both : (a b c d : ℕ) → a ≤ b → c ≤ d → (nat_le a b && nat_le c d) ≡ true
 le_both a b c d h k = grind (arith, nat_tests)
 
-disc_nearer : CoversNearer (λ d. d.centre) disc_covers
-disc_nearer d c end reach near e =
+disc_monotone : CoversMonotone (λ d. d.centre) disc_covers
+disc_monotone d c end reach near e =
     let t = both_le reach d.radius (square_distance end d.centre) (square (d.radius - reach)) e in
     le_both reach d.radius (square_distance c d.centre) (square (d.radius - reach)) t.0 (omega (arith, t.1, square-le _ _ near.0, square-le _ _ near.1))
 
-rect_nearer : CoversNearer (λ r. r.centre) rect_covers
-rect_nearer r c end reach near e =
-    let t = both_le (apart end.x r.centre.x + reach) r.half_x (apart end.y r.centre.y + reach) r.half_y e in
-    le_both (apart c.x r.centre.x + reach) r.half_x (apart c.y r.centre.y + reach) r.half_y (omega (arith, t.0, near.0)) (omega (arith, t.1, near.1))
+rect_monotone : CoversMonotone (λ r. r.centre) rect_covers
+rect_monotone r c end reach near e =
+    let t = both_le (abs_diff end.x r.centre.x + reach) r.half_x (abs_diff end.y r.centre.y + reach) r.half_y e in
+    le_both (abs_diff c.x r.centre.x + reach) r.half_x (abs_diff c.y r.centre.y + reach) r.half_y (omega (arith, t.0, near.0)) (omega (arith, t.1, near.1))
 
-obround_nearer : CoversNearer (λ o. o.centre) obround_covers
-obround_nearer o c end reach near e =
-    let t = both_le reach (end_radius o) (square_from_axis o end) (square (end_radius o - reach)) e in
-    let x : apart c.x o.centre.x - (o.half_x - end_radius o) ≤ apart end.x o.centre.x - (o.half_x - end_radius o) = omega (arith, near.0) in
-    let y : apart c.y o.centre.y - (o.half_y - end_radius o) ≤ apart end.y o.centre.y - (o.half_y - end_radius o) = omega (arith, near.1) in
-    le_both reach (end_radius o) (square_from_axis o c) (square (end_radius o - reach)) t.0 (omega (arith, t.1, square-le _ _ x, square-le _ _ y))
+obround_monotone : CoversMonotone (λ o. o.centre) obround_covers
+obround_monotone o c end reach near e =
+    let t = both_le reach (end_radius o) (square_axis_distance o end) (square (end_radius o - reach)) e in
+    let x : abs_diff c.x o.centre.x - (o.half_x - end_radius o) ≤ abs_diff end.x o.centre.x - (o.half_x - end_radius o) = omega (arith, near.0) in
+    let y : abs_diff c.y o.centre.y - (o.half_y - end_radius o) ≤ abs_diff end.y o.centre.y - (o.half_y - end_radius o) = omega (arith, near.1) in
+    le_both reach (end_radius o) (square_axis_distance o c) (square (end_radius o - reach)) t.0 (omega (arith, t.1, square-le _ _ x, square-le _ _ y))
 
-pub disc_holds_slots : HoldsSlots IsInDisc disc_covers
-disc_holds_slots = holds_slots (λ d. d.centre) IsInDisc disc_covers disc_holds disc_nearer
+pub disc_contains_slots : ContainsCoveredSlots IsInDisc disc_covers
+disc_contains_slots = holds_slots (λ d. d.centre) IsInDisc disc_covers disc_contains_covered disc_monotone
 
-pub rect_holds_slots : HoldsSlots IsInRect rect_covers
-rect_holds_slots = holds_slots (λ r. r.centre) IsInRect rect_covers rect_holds rect_nearer
+pub rect_contains_slots : ContainsCoveredSlots IsInRect rect_covers
+rect_contains_slots = holds_slots (λ r. r.centre) IsInRect rect_covers rect_contains_covered rect_monotone
 
-pub obround_holds_slots : HoldsSlots IsInObround obround_covers
-obround_holds_slots = holds_slots (λ o. o.centre) IsInObround obround_covers obround_holds obround_nearer
+pub obround_contains_slots : ContainsCoveredSlots IsInObround obround_covers
+obround_contains_slots = holds_slots (λ o. o.centre) IsInObround obround_covers obround_contains_covered obround_monotone
 
-pub pad_holds_slots : HoldsSlots IsInPad pad_covers
-pad_holds_slots (Disc d) = disc_holds_slots d
-pad_holds_slots (Rect r) = rect_holds_slots r
-pad_holds_slots (Obround o) = obround_holds_slots o
+pub pad_contains_slots : ContainsCoveredSlots IsInPad pad_covers
+pad_contains_slots (Disc d) = disc_contains_slots d
+pad_contains_slots (Rect r) = rect_contains_slots r
+pad_contains_slots (Obround o) = obround_contains_slots o
 
 -- the point that is the reach away from c along one axis, on the side away from z
-beyond : (c z : ℤ) (reach : ℕ) → (p : ℤ) × (apart p c ≡ reach) × (apart p z ≡ apart c z + reach)
-beyond c z reach = by_order z c
+point_beyond : (c z : ℤ) (reach : ℕ) → (p : ℤ) × (abs_diff p c ≡ reach) × (abs_diff p z ≡ abs_diff c z + reach)
+point_beyond c z reach = by_order z c
     (λ h. (c +ℤ pos reach, omega (arith, ints), omega (arith, ints)))
     (λ h. (c -ℤ pos reach, omega (arith, ints), omega (arith, ints)))
 
-pub rect_misses_one : RectMissesOne
-rect_misses_one r c reach e =
-    elim (not_both_le (apart c.x r.centre.x + reach) r.half_x (apart c.y r.centre.y + reach) r.half_y e) [
+pub rect_is_tight : RectIsTight
+rect_is_tight r c reach e =
+    elim (not_both_le (abs_diff c.x r.centre.x + reach) r.half_x (abs_diff c.y r.centre.y + reach) r.half_y e) [
       | inl x ↦
-          let far = beyond c.x r.centre.x reach in
+          let far = point_beyond c.x r.centre.x reach in
           (record { x = far.0; y = c.y }, square_distance_of (record { x = far.0; y = c.y }) c reach 0 reach far.1 (apart_self c.y) (omega arith), λ inside. omega (arith, inside.0, far.2, x))
       | inr y ↦
-          let far = beyond c.y r.centre.y reach in
+          let far = point_beyond c.y r.centre.y reach in
           (record { x = c.x; y = far.0 }, square_distance_of (record { x = c.x; y = far.0 }) c 0 reach reach (apart_self c.x) far.1 (omega arith), λ inside. omega (arith, inside.1, far.2, y))
     ]

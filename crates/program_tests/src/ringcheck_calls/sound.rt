@@ -5,18 +5,18 @@ ghost use Rattle.std.specs.List.{Contains};
 ghost use Rattle.grid_units.specs.Holes.{GridRules};
 ghost use Rattle.manifest.specs.Manifest.{manifest};
 ghost use Rattle.manifest.specs.declared.Entry.{Entry as TheEntry};
-ghost use Rattle.measuring.specs.Measures.{PackagePasses};
-ghost use Rattle.measuring.specs.declared.measure.Measure.{Measure};
+ghost use Rattle.board_report.specs.Measures.{PackagePasses};
+ghost use Rattle.report.specs.declared.Measure.{Measure};
 ghost use Rattle.package_check.specs.Soundness.{IsSound};
-ghost use Rattle.ringcheck.specs.Naming.{report_named, rules_named};
-ghost use Rattle.ringcheck.specs.Running.{HasFiles, sources};
-ghost use Rattle.ringcheck.specs.declared.naming.Format.{Format};
+ghost use Rattle.ringcheck.specs.ParsedWords.{parse_report, parse_rules};
+ghost use Rattle.ringcheck.specs.CheckStatus.{HasFiles, sources};
+ghost use Rattle.ringcheck.specs.declared.parsed_words.MeasureFormat.{MeasureFormat as TheFormat};
 
 use super::*;
 
 /// Whether a package of three files at hand passes. Then the files that its manifest names, as they stand, are sound.
 fn is_passed<'x>(alloc: Global, records: &'x str, layer: &'x str, drill: &'x str) -> bool
-    ensures { IsTrue result → (rules : GridRules) × (rules_named (codes "0.125") (codes "0.25") ≡ Ok rules) × (entries : List TheEntry) × (manifest records.now ≡ Ok entries)
+    ensures { IsTrue result → (rules : GridRules) × (parse_rules (codes "0.125") (codes "0.25") ≡ Ok rules) × (entries : List TheEntry) × (manifest records.now ≡ Ok entries)
         × (files : List (List ℕ)) × HasFiles (λ n b. Contains {X = List ℕ × List ℕ} ((codes "m.csv", records.now) ∷ (codes "top.gbr", layer.now) ∷ (codes "pth.drl", drill.now) ∷ []) (n, b)) entries files
         × IsSound (sources entries files) rules }
 {
@@ -53,7 +53,7 @@ fn what_is_measured_passes_under_just_its_rules(rt: HostRuntime) {
 /// Whether a report finds nothing on a package of three files at hand. Then the files that its manifest names, as they stand,
 /// are sound.
 fn is_told_sound<'x>(alloc: Global, records: &'x str, layer: &'x str, drill: &'x str) -> bool
-    ensures { IsTrue result → (asked : GridRules × Option ℕ × Format) × (report_named (codes "0.125") (codes "0.25") None None None ≡ Ok asked) × (entries : List TheEntry) × (manifest records.now ≡ Ok entries) × (files : List (List ℕ))
+    ensures { IsTrue result → (asked : GridRules × Option ℕ × TheFormat) × (parse_report (codes "0.125") (codes "0.25") None None None ≡ Ok asked) × (entries : List TheEntry) × (manifest records.now ≡ Ok entries) × (files : List (List ℕ))
         × HasFiles (λ n b. Contains {X = List ℕ × List ℕ} ((codes "m.csv", records.now) ∷ (codes "top.gbr", layer.now) ∷ (codes "pth.drl", drill.now) ∷ []) (n, b)) entries files
         × IsSound (sources entries files) asked.0 }
 {

@@ -1,10 +1,10 @@
 //! Packages that are made by a counter: a check passes under the rules that a measure allows, and fails 1 pm above.
 
 use super::{file, passes};
-use margin_text::Meets;
+use board_report::measure_bytes;
 use margins::Met;
-use measuring::measure_bytes;
 use package_check::{File, Role, Span};
+use report::Meets;
 use std::alloc::{AllocError, Global};
 use std::test::Fail as Failure;
 
@@ -156,7 +156,7 @@ fn file_at<'a>(texts: &'a [String], parts: &[(Role, Option<Span>)], index: usize
 fn allows(met: Met, rule: i64) -> bool {
     match met {
         Met::Any => true,
-        Met::Most(most) => rule <= most,
+        Met::UpTo(most) => rule <= most,
         Met::None => false,
     }
 }
@@ -165,7 +165,7 @@ fn allows(met: Met, rule: i64) -> bool {
 fn tried(met: Met, least: i64) -> i64 {
     match met {
         Met::Any => 1_000_000_000_000,
-        Met::Most(most) => most.max(least),
+        Met::UpTo(most) => most.max(least),
         Met::None => least,
     }
 }
@@ -186,7 +186,7 @@ fn agrees(alloc: Global, files: &[File], meets: Meets) -> bool {
 /// Whether the greatest ring and gap are both lengths, and both allowed as rules.
 fn is_told(meets: Meets) -> bool {
     match (meets.ring, meets.gap) {
-        (Met::Most(ring), Met::Most(gap)) => ring >= 0 && gap >= 1,
+        (Met::UpTo(ring), Met::UpTo(gap)) => ring >= 0 && gap >= 1,
         _ => false,
     }
 }
@@ -224,7 +224,7 @@ fn checks_agree_with_measures(rt: HostRuntime) -> Result<(), Failure> {
         assert!(rt; agreed, "package {counter}");
         told = told.saturating_add(usize::from(is_told(meets)));
     }
-    // Most of the packages meet a ring and a gap that are lengths.
+    // Nearly all of the packages meet a ring and a gap that are lengths.
     assert!(rt; told > 100, "{told} packages");
     Ok(())
 }

@@ -1,45 +1,45 @@
 -- Regions of a grid: a range of rows and a range of columns. Rows run from `top` to `bottom`, columns from `left` to `right`, ends excluded.
 use Rattle.std.specs.Prelude.{◌≡◌, ℕ, ◌+◌, ◌*◌, ◌^◌, ◌<◌, ◌≤◌, ◌≤ℤ◌, Bool, true, false, List, length, get_or}
 use Rattle.grid_units.specs.Points.{GridPoint}
-use Rattle.ring_rules.specs.Places.{nowhere, point_at, IsChained}
+use Rattle.ring_rules.specs.Places.{default_hole, entry_at, IsChained}
 use Rattle.ring_rules.specs.Cells.{column_of, row_of, cell_at}
 use Rattle.ring_rules.specs.Inner.Marks.{is_marked}
 use Rattle.ring_rules.specs.declared.finding.Drilled.{Drilled}
-use Rattle.ring_rules.specs.declared.scale.Scale.{Scale}
+use Rattle.ring_rules.specs.declared.axis.Axis.{Axis}
 
 -- a point in these rows and columns of a grid
-pub record IsInRegion (x y : Scale) (top bottom left right : ℕ) (p : GridPoint) : Type 0 where
+pub record IsInRegion (x y : Axis) (top bottom left right : ℕ) (p : GridPoint) : Type 0 where
   pub row_from : top ≤ row_of y p
   pub row_below : row_of y p < bottom
   pub column_from : left ≤ column_of x p
   pub column_below : column_of x p < right
 
 -- a point between the least and the greatest coordinates of the board
-pub record IsOnBoard (x y : Scale) (p : GridPoint) : Type 0 where
+pub record IsOnBoard (x y : Axis) (p : GridPoint) : Type 0 where
   pub left : x.least ≤ℤ p.x
   pub right : p.x ≤ℤ x.greatest
   pub bottom : y.least ≤ℤ p.y
   pub top : p.y ≤ℤ y.greatest
 
 -- the holes of a board are in the chains of their cells, their entry points lie on the board, and the cells are at most 2^62
-pub record IsLaidOut (x y : Scale) (head next : List ℕ) (holes : List Drilled) : Type 0 where
+pub record IsLaidOut (x y : Axis) (head next : List ℕ) (holes : List Drilled) : Type 0 where
   pub chained : IsChained (cell_at x y holes) (length holes) head next
-  pub ends : (k : ℕ) → k < length holes → IsOnBoard x y (point_at holes k)
+  pub ends : (k : ℕ) → k < length holes → IsOnBoard x y (entry_at holes k)
   pub fits : (y.last + 1) * (x.last + 1) ≤ 2 ^ 62
 
 -- the holes are laid out, and the radius of each with the ring is at least the reach `least`, in pm
-pub record IsReady (x y : Scale) (head next : List ℕ) (holes : List Drilled) (ring least : ℕ) : Type 0 where
+pub record IsHoleGrid (x y : Axis) (head next : List ℕ) (holes : List Drilled) (ring least : ℕ) : Type 0 where
   pub chained : IsChained (cell_at x y holes) (length holes) head next
-  pub ends : (k : ℕ) → k < length holes → IsOnBoard x y (point_at holes k)
-  pub reach : (k : ℕ) → k < length holes → least ≤ (get_or holes k nowhere).hole.radius + ring
+  pub ends : (k : ℕ) → k < length holes → IsOnBoard x y (entry_at holes k)
+  pub reach : (k : ℕ) → k < length holes → least ≤ (get_or holes k default_hole).hole.radius + ring
   pub fits : (y.last + 1) * (x.last + 1) ≤ 2 ^ 62
 
 -- no mark is left in a region where the test passes
-abbrev pub IsTriedIn : (ℕ → Bool) → Scale → Scale → List Drilled → ℕ → ℕ → ℕ → ℕ → List Bool → Type 0
-IsTriedIn test x y holes top bottom left right marks =
-    (k : ℕ) → k < length holes → IsInRegion x y top bottom left right (point_at holes k) → is_marked marks k ≡ true → test k ≡ false
+abbrev pub NoMarkPassesIn : (ℕ → Bool) → Axis → Axis → List Drilled → ℕ → ℕ → ℕ → ℕ → List Bool → Type 0
+NoMarkPassesIn test x y holes top bottom left right marks =
+    (k : ℕ) → k < length holes → IsInRegion x y top bottom left right (entry_at holes k) → is_marked marks k ≡ true → test k ≡ false
 
 -- no mark is left in a region
-abbrev pub HasNoMarkIn : Scale → Scale → List Drilled → ℕ → ℕ → ℕ → ℕ → List Bool → Type 0
+abbrev pub HasNoMarkIn : Axis → Axis → List Drilled → ℕ → ℕ → ℕ → ℕ → List Bool → Type 0
 HasNoMarkIn x y holes top bottom left right marks =
-    (k : ℕ) → k < length holes → IsInRegion x y top bottom left right (point_at holes k) → is_marked marks k ≡ false
+    (k : ℕ) → k < length holes → IsInRegion x y top bottom left right (entry_at holes k) → is_marked marks k ≡ false

@@ -3,17 +3,17 @@ use Rattle.std.specs.Prelude.{◌≡◌, ℕ, Bool, List, Option, Result, Ok, Er
 use Rattle.std.specs.Global.{Vec}
 use Rattle.grid_units.specs.declared.fault.Fault.{Fault}
 use Rattle.manifest.specs.declared.Entry.{Entry}
-use Rattle.package_check.specs.Package.{Source}
-use Rattle.ringcheck_files.specs.Loading.{Relation, file_limit, within}
+use Rattle.package_check.specs.Package.{FileView}
+use Rattle.ringcheck_files.specs.LoaderRelation.{Relation, file_limit, within}
 use Rattle.ringcheck_files.specs.declared.Status.{Status}
 use Rattle.ringcheck_files.specs.declared.Status.TheVariants as status
-use Rattle.ringcheck.specs.declared.refusing.Halt.{Halt}
-use Rattle.ringcheck.specs.declared.refusing.Halt.TheVariants as halt
-use Rattle.ringcheck.specs.declared.refusing.Style.{Style}
-use Rattle.ringcheck.specs.declared.refusing.Subject.{Subject}
-use Rattle.ringcheck.specs.declared.refusing.Subject.TheVariants as subject
-use Rattle.ringcheck.specs.Refusing.{Refusal, TellsRefusal, of_file, of_manifest, of_waivers}
-use Rattle.ringcheck.specs.Running.{HasFiles, HasTable, RefusedAmong, RefusedFile, RefusedTable, sources}
+use Rattle.ringcheck.specs.declared.refusals.Halt.{Halt}
+use Rattle.ringcheck.specs.declared.refusals.Halt.TheVariants as halt
+use Rattle.ringcheck.specs.declared.refusals.RefusalStyle.{RefusalStyle}
+use Rattle.ringcheck.specs.declared.refusals.Subject.{Subject}
+use Rattle.ringcheck.specs.declared.refusals.Subject.TheVariants as subject
+use Rattle.ringcheck.specs.Refusals.{Refusal, PrintsRefusal, of_file, of_manifest, of_waivers}
+use Rattle.ringcheck.specs.CheckStatus.{HasFiles, HasTable, RefusedAmong, RefusedFile, RefusedTable, sources}
 
 -- the refusal of a subject, with its fault
 abbrev pub refusal : Subject → Fault → Refusal
@@ -27,9 +27,9 @@ Halts Is Risen (halt.Refused what why) = Is (refusal what why)
 Halts Is Risen (halt.Unread what) = Risen
 
 -- what a status says where a halt was printed in this style
-abbrev pub AfterHalt : Style → Halt → Option (List ℕ) → Option (List ℕ) → Status → Type 0
-AfterHalt in_style (halt.Refused what why) before after s = (s ≡ status.Refused) × TellsRefusal in_style (refusal what why) before after
-AfterHalt in_style (halt.Unread what) before after s = s ≡ status.Device
+abbrev pub AfterHalt : RefusalStyle → Halt → Option (List ℕ) → Option (List ℕ) → Status → Type 0
+AfterHalt refusal_style (halt.Refused what why) before after s = (s ≡ status.Refused) × PrintsRefusal refusal_style (refusal what why) before after
+AfterHalt refusal_style (halt.Unread what) before after s = s ≡ status.Device
 
 -- the refusal of the table under a name
 abbrev pub RefusesTable : {A : Type 0} → (List ℕ → Result (List A) Fault) → Relation → List ℕ → Subject → Refusal → Type 0
@@ -41,11 +41,11 @@ OfTable parse has name what Risen (Ok rows) = HasTable parse has name rows.items
 OfTable parse has name what Risen (Err halt) = Halts (RefusesTable parse has name what) Risen halt
 
 -- what came of the files of these entries: they are loaded and `Holds` is true of them, or one of them is refused or cannot be read
-abbrev pub OfFiles : {A : Type 0} → Relation → List Entry → Type 0 → (A → List Source → Type 0) → Result A Halt → Type 0
+abbrev pub OfFiles : {A : Type 0} → Relation → List Entry → Type 0 → (A → List FileView → Type 0) → Result A Halt → Type 0
 OfFiles has entries Risen Holds (Ok it) = (files : List (List ℕ)) × HasFiles (within file_limit has) entries files × Holds it (sources entries files)
 OfFiles has entries Risen Holds (Err halt) = Halts (RefusedFile has entries) Risen halt
 
 -- what came of files that a reader has taken: `Holds` is true of them, or one of them is refused
-abbrev pub OfTaken : (Bool → List Source → Type 0) → List Source → Result Bool Halt → Type 0
+abbrev pub OfTaken : (Bool → List FileView → Type 0) → List FileView → Result Bool Halt → Type 0
 OfTaken Holds all (Ok passes) = Holds passes all
 OfTaken Holds all (Err halt) = Halts (RefusedAmong all) ⊥ halt

@@ -5,6 +5,6 @@ use Rattle.command_line.proofs.commands.check.Goals as goal
 
 pub returns : goal.returns
 returns c =
-    let ring = c.in_ok-arg.ensures.shape c.ring_of.ensures.global ∙ ap₂ with_rule c.described.ensures c.ring_of.ensures.rule in
-    let gap = c.in_ok-arg-2.ensures.shape c.gap_of.ensures.global ∙ ap₂ with_rule ring c.gap_of.ensures.rule in
-    IfOk-weaker c.arg-3.result _ _ (λ x h. h.shape c.value_of.ensures.global ∙ ap₂ with_rule gap c.value_of.ensures.rule) c.arg-3.ensures
+    let ring = c.in_ok-arg.ensures.shape c.ring_arg.ensures.global ∙ ap₂ with_rule c.new_command.ensures c.ring_arg.ensures.rule in
+    let gap = c.in_ok-arg-2.ensures.shape c.gap_arg.ensures.global ∙ ap₂ with_rule ring c.gap_arg.ensures.rule in
+    IfOk-weaker c.arg-3.result _ _ (λ x h. h.shape c.required_arg.ensures.global ∙ ap₂ with_rule gap c.required_arg.ensures.rule) c.arg-3.ensures

@@ -1,6 +1,6 @@
 use Rattle.std.proofs.Common.{◌∙◌, ap}
 use Rattle.std.proofs.lemmas.Result.{IfOk-weaker}
-use Rattle.command_line.specs.Inner.Building.{file_commands_of, package_commands_of}
+use Rattle.command_line.specs.Inner.AppParts.{file_commands_of, package_commands_of}
 use Rattle.command_line.proofs.commands.ringcheck.Goals as goal
 
 pub returns : goal.returns

@@ -2,7 +2,7 @@ use Rattle.std.proofs.Common.{◌∙◌, ℕ, List, [], None, ap₂, get_or}
 use Rattle.std.specs.List.{flat_map, fold}
 use Rattle.layer_image.specs.declared.flash.Flash.{Flash}
 use Rattle.drawing.specs.Boxes.{cross_extent, joined_to}
-use Rattle.drawing.proofs.Extents.{layers_more}
+use Rattle.drawing.proofs.ExtentLemmas.{layers_more}
 use Rattle.drawing.proofs.bounds.crosses_extent.Goals as goal
 
 pub loop-file-preserved : goal.loop-file-preserved

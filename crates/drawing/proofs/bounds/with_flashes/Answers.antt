@@ -2,7 +2,7 @@ use Rattle.std.proofs.Common.{◌∙◌, ap₂}
 use Rattle.std.specs.List.{fold}
 use Rattle.layer_image.specs.declared.flash.Flash.{Flash}
 use Rattle.drawing.specs.Boxes.{cross_extent, joined_to}
-use Rattle.drawing.proofs.Extents.{layers_more}
+use Rattle.drawing.proofs.ExtentLemmas.{layers_more}
 use Rattle.drawing.proofs.bounds.with_flashes.Goals as goal
 
 pub loop-flash-preserved : goal.loop-flash-preserved

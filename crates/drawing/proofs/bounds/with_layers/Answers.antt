@@ -3,7 +3,7 @@ use Rattle.std.specs.List.{fold}
 use Rattle.std.proofs.lemmas.List.{get_or-map, length-map}
 use Rattle.pad_shapes.specs.declared.pad.Pad.{Pad}
 use Rattle.drawing.specs.Boxes.{joined_to, pad_extent}
-use Rattle.drawing.proofs.Extents.{layers_more}
+use Rattle.drawing.proofs.ExtentLemmas.{layers_more}
 use Rattle.drawing.proofs.bounds.with_layers.Goals as goal
 
 pub loop-layer-preserved : goal.loop-layer-preserved

@@ -1,5 +1,5 @@
-use Rattle.drawing.specs.Layouts.{IsFirstLeast, off_square}
+use Rattle.drawing.specs.Layouts.{IsFirstLeast, square_error}
 use Rattle.drawing.proofs.columns.columns_of.Given as goal
 
 abbrev pub invariant-loop-before : goal.invariant-loop-before
-invariant-loop-before l = IsFirstLeast (off_square l.frame l.count) l.before l.best
+invariant-loop-before l = IsFirstLeast (square_error l.frame l.count) l.before l.best

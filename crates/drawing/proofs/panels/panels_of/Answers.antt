@@ -1,9 +1,9 @@
 use Rattle.std.proofs.Common.{◌≡◌, List, ℕ, subst, ap, map, ◌∙◌}
 use Rattle.std.specs.List.{AllZip, enumerate_from}
-use Rattle.ring_rules.proofs.Listing.{enumerated_all}
-use Rattle.flashed_boards.specs.Flashed.{FlashedSurvey}
+use Rattle.ring_rules.proofs.EnumeratedLists.{enumerated_all}
+use Rattle.package_check.specs.Flashed.{FlashedBoardView}
 use Rattle.drawing.specs.Drawings.{IsPanel}
-use Rattle.drawing.proofs.Zipped.{zip_placed}
+use Rattle.drawing.proofs.PanelLists.{zip_placed}
 use Rattle.drawing.proofs.panels.panels_of.Goals as goal
 
 pub loop-layer-preserved : goal.loop-layer-preserved
@@ -17,6 +17,6 @@ returns c =
     let names : List (List ℕ) = map (λ name. name.now) c.args.names.now in
     let is = IsPanel names c.args.flashed.now c.args.findings.now c.args.layout.now in
     let files : c.layer_indexes-files.result.now ≡ c.args.flashed.now.board.layer_indexes =
-    c.layer_indexes-files.ensures ∙ ap (λ (f : FlashedSurvey). f.board.layer_indexes) c.flashed.view_is in
+    c.layer_indexes-files.ensures ∙ ap (λ (f : FlashedBoardView). f.board.layer_indexes) c.flashed.view_is in
     subst (λ (xs : List ℕ). AllZip is (enumerate_from 0 xs) c.loop-layer.panels.items) files
     (subst (λ marks. AllZip is marks c.loop-layer.panels.items) (enumerated_all c.layer_indexes-files.result.now c.loop-layer.layer c.loop-layer-test.false) c.loop-layer.invariant)

@@ -1,7 +1,7 @@
 use Rattle.std.proofs.Common.{◌≡◌, ◌+◌, ◌-◌, [], ◌∷◌, ◌++◌, take, get_or, sym, ap, ◌∙◌, arith}
 use Rattle.std.proofs.lemmas.List.{take_more}
 use Rattle.drill_lines.specs.Lines.{trimmed}
-use Rattle.drill_lines.proofs.Trimming.{trim_blank, trim_kept}
+use Rattle.drill_lines.proofs.TrimmedLemmas.{trim_blank, trim_kept}
 use Rattle.drill_lines.proofs.line.trimmed_len.Goals as goal
 
 pub loop-len-preserved : goal.loop-len-preserved

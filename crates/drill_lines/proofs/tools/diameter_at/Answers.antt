@@ -3,10 +3,10 @@ use Rattle.std.proofs.lemmas.List.Sums.{prefix_len_is}
 use Rattle.drill_lines.proofs.tools.diameter_at.Goals as goal
 
 pub loop-i-preserved : goal.loop-i-preserved
-loop-i-preserved c = below_more (λ k. not (eqb (get_or c.args.fields.now k 0) 67) ≡ true) c.loop-i.i c.loop-i.invariant (sym c.is_no_diameter.ensures ∙ c.if-not-is_no_diameter.false)
+loop-i-preserved c = below_more (λ k. not (eqb (get_or c.args.fields.now k 0) 67) ≡ true) c.loop-i.i c.loop-i.invariant (sym c.is_other_letter.ensures ∙ c.if-not-is_other_letter.false)
 
-pub returns-then-not-is_no_diameter-clause-len : goal.returns-then-not-is_no_diameter-clause-len
-returns-then-not-is_no_diameter-clause-len c = sym (prefix_len_is (λ b. not (eqb b 67)) c.args.fields.now c.loop-i.i 0 (omega arith) c.loop-i.invariant (λ _. sym c.is_no_diameter.ensures ∙ c.if-not-is_no_diameter.true))
+pub returns-then-not-is_other_letter-clause-len : goal.returns-then-not-is_other_letter-clause-len
+returns-then-not-is_other_letter-clause-len c = sym (prefix_len_is (λ b. not (eqb b 67)) c.args.fields.now c.loop-i.i 0 (omega arith) c.loop-i.invariant (λ _. sym c.is_other_letter.ensures ∙ c.if-not-is_other_letter.true))
 
 pub returns-clause-len : goal.returns-clause-len
 returns-clause-len c = sym (prefix_len_is (λ b. not (eqb b 67)) c.args.fields.now _ 0 (omega arith) (λ k lt. c.loop-i.invariant k (omega arith)) (λ lt. absurd (omega arith)))

@@ -1,4 +1,4 @@
-use Rattle.drill_text.proofs.Spelling.{reads_drill_text, drill_text_reads}
+use Rattle.drill_text.proofs.SpellsTextLemmas.{reads_drill_text, drill_text_reads}
 use Rattle.drill_text.proofs.laws.drill_texts.Goals as goal
 
 pub returns : goal.returns

@@ -1,4 +1,4 @@
-use Rattle.drill_text.proofs.Staying.{shows_stay, shown_is_read}
+use Rattle.drill_text.proofs.FaultsStay.{shows_stay, shown_is_read}
 use Rattle.drill_text.proofs.laws.faults_stay.Goals as goal
 
 pub returns-clause-shown : goal.returns-clause-shown

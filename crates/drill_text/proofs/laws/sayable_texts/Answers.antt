@@ -1,5 +1,5 @@
-use Rattle.drill_text.proofs.Sayable.{text_said}
+use Rattle.drill_text.proofs.TextIsSayable.{text_sayable}
 use Rattle.drill_text.proofs.laws.sayable_texts.Goals as goal
 
 pub returns : goal.returns
-returns c = text_said
+returns c = text_sayable

@@ -1,11 +1,11 @@
 use Rattle.std.proofs.Common.{◌≡◌, ◌≤◌, take, vec_len}
-use Rattle.drill_text.specs.Writing.{canonical_text}
+use Rattle.drill_text.specs.Writing.{canonical_lines}
 use Rattle.drill_text.proofs.RoundTrip.{AreTyped}
 use Rattle.drill_text.proofs.writer.write_drill.Given as goal
 
 abbrev pub invariant-loop-command : goal.invariant-loop-command
 invariant-loop-command l = record {
-  text : l.text.items ≡ canonical_text (take l.command-index l.commands);
+  text : l.text.items ≡ canonical_lines (take l.command-index l.commands);
   typed : AreTyped (take l.command-index l.commands);
   within : vec_len l.text ≤ 268435456;
 }

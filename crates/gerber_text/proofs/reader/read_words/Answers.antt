@@ -1,8 +1,8 @@
 use Rattle.std.proofs.lemmas.Result.{err_from_is_err_and}
 use Rattle.std.proofs.Common.{[]}
-use Rattle.gerber_text.proofs.Whole.{answers_err}
-use Rattle.gerber_text.proofs.AllSaid.{always_said}
-use Rattle.gerber_text.proofs.Spelling.{only_err, always_exact, always_found, always_only}
+use Rattle.gerber_text.proofs.FinishLemmas.{answers_err}
+use Rattle.gerber_text.proofs.TextIsSayable.{always_sayable}
+use Rattle.gerber_text.proofs.SpellsTextLemmas.{only_err, always_exact, always_found, always_only}
 use Rattle.gerber_text.proofs.reader.read_words.Goals as goal
 
 pub returns-in_err-feed : goal.returns-in_err-feed
@@ -25,5 +25,5 @@ returns c =
       exact = always_exact c.args.bytes.now c.finish.result h;
       found = always_found c.args.bytes.now c.finish.result h;
       only = always_only c.args.bytes.now c.finish.result h;
-      sayable = always_said c.args.bytes.now c.finish.result h;
+      sayable = always_sayable c.args.bytes.now c.finish.result h;
     }

@@ -1,6 +1,6 @@
 use Rattle.std.proofs.Common.{◌≡◌, ◌+◌, Bool, true, false, not, ◌&&◌, drop, refl, sym, ap, ◌∙◌}
-use Rattle.gerber_sayable.specs.Sayable.{is_sayable, is_finish}
-use Rattle.gerber_text.proofs.AllSaid.{goes_on, from_first, one_more, more_than}
+use Rattle.gerber_text.specs.Sayable.{is_sayable, is_finish}
+use Rattle.gerber_text.proofs.TextIsSayable.{goes_on, from_first, one_more, more_than}
 use Rattle.gerber_text.proofs.sayable_lists.sayable.Goals.{then-ended-via-then-ended, then-ended-via-else-ended+then-not-is_sayable}
 use Rattle.gerber_text.proofs.sayable_lists.sayable.Goals as goal
 

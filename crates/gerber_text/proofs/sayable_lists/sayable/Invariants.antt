@@ -1,6 +1,6 @@
 use Rattle.std.proofs.Common.{◌≡◌, drop}
 use Rattle.gerber_text.specs.Writing.{sayable}
-use Rattle.gerber_text.proofs.AllSaid.{goes_on}
+use Rattle.gerber_text.proofs.TextIsSayable.{goes_on}
 use Rattle.gerber_text.proofs.sayable_lists.sayable.Given as goal
 
 abbrev pub invariant-loop-command : goal.invariant-loop-command

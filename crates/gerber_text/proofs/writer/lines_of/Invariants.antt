@@ -1,7 +1,7 @@
 use Rattle.std.proofs.Common.{◌≡◌, take}
 use Rattle.std.specs.List.{flat_map}
-use Rattle.gerber_rows.specs.declared.command.Command.{Command}
-use Rattle.gerber_text.proofs.Written.{line}
+use Rattle.gerber_commands.specs.declared.command.Command.{Command}
+use Rattle.gerber_text.proofs.WriterLemmas.{line}
 use Rattle.gerber_text.proofs.writer.lines_of.Given as goal
 
 abbrev pub invariant-loop-command : goal.invariant-loop-command

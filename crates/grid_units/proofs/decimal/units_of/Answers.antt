@@ -3,7 +3,7 @@ use Rattle.std.proofs.Common.{◌≡◌, ◌+◌, ◌-◌, ◌*◌, ◌^◌, ◌
 use Rattle.std.specs.Prelude.{All}
 use Rattle.std.proofs.lemmas.List.Elements.{All-take}
 use Rattle.grid_units.specs.Numbers.{is_digit, value}
-use Rattle.grid_units.proofs.Digits.{value_lt_eight, filled_lt}
+use Rattle.grid_units.proofs.DigitLemmas.{value_lt_eight, filled_lt}
 use Rattle.grid_units.proofs.decimal.units_of.Goals as goal
 
 digits : (c : goal.After-power_of_ten) → All (λ b. is_digit b ≡ true) (take 8 c.args.decimals.now)

@@ -1,4 +1,4 @@
-use Rattle.grid_units.proofs.Refusing.{coordinates, decimals, lengths}
+use Rattle.grid_units.proofs.NumberReasons.{coordinates, decimals, lengths}
 use Rattle.grid_units.proofs.laws.number_reasons.Goals as goal
 
 pub returns-clause-decimals : goal.returns-clause-decimals

@@ -1,4 +1,4 @@
-use Rattle.grid_units.proofs.Exactness.{exact}
+use Rattle.grid_units.proofs.LengthLemmas.{exact}
 use Rattle.grid_units.proofs.lengths.exact_lengths.Goals as goal
 
 pub returns : goal.returns

@@ -1,7 +1,7 @@
 use Rattle.std.proofs.Common.{◌^◌, ◌∙◌, ap, arith, w64}
 use Rattle.std.proofs.lemmas.Int.{to_z-of_z}
 use Rattle.grid_units.specs.Numbers.{picometres, within_limit}
-use Rattle.grid_units.proofs.Exactness.{exact, solves, back_128}
+use Rattle.grid_units.proofs.LengthLemmas.{exact, solves, back_128}
 use Rattle.grid_units.proofs.lengths.from_digits.Goals as goal
 
 pub returns-clause-equation : goal.returns-clause-equation

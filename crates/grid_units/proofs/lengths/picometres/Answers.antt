@@ -2,7 +2,7 @@
 use Rattle.std.proofs.Common.{◌≡◌, ◌≤◌, ◌^◌, ◌/◌, ◌*ℤ◌, pos, FitsSigned, unsigned_abs, ℤ, to_z, of_z, ◌∙◌, sym, ap, subst}
 use Rattle.std.proofs.lemmas.Int.{to_z-of_z}
 use mir.Syntax.{w128, w64}
-use Rattle.grid_units.proofs.Exactness.{factors, quotient_small, product_fits, product_bound}
+use Rattle.grid_units.proofs.LengthLemmas.{factors, quotient_small, product_fits, product_bound}
 use Rattle.grid_units.proofs.lengths.picometres.Goals as goal
 
 product : (c : goal.After-from-2) → to_z w128 (of_z w128 c.from.result) *ℤ to_z w128 (of_z w128 c.from-2.result) ≡ c.args.n *ℤ pos (c.unit_length.result / c.power_of_ten.result)

@@ -1,7 +1,7 @@
 use Rattle.std.proofs.Common.{◌++◌, sym, ap, ◌∙◌, arith}
 use Rattle.std.proofs.lemmas.List.{append-nil}
-use Rattle.grid_units.specs.Spellings.{places, trimmed, behind_point}
-use Rattle.grid_units.proofs.Places.{pointed_places, nothing_left}
+use Rattle.grid_units.specs.Spellings.{places, trimmed, fraction_text}
+use Rattle.grid_units.proofs.TrailingZeros.{pointed_places, nothing_left}
 use Rattle.grid_units.proofs.spelling.push_decimals.Goals as goal
 
 pub returns-then-width-gt0 : goal.returns-then-width-gt0
@@ -11,4 +11,4 @@ returns-then-width-gt0 c =
 pub returns-else-width-gt0 : goal.returns-else-width-gt0
 returns-else-width-gt0 c =
     let none = nothing_left (trimmed (places 8 c.args.fraction)) _ _ (omega arith) c.without_zeros-number.ensures.places in
-    sym (append-nil c.args.text.now.bytes) ∙ ap (λ l. c.args.text.now.bytes ++ behind_point l) (sym none)
+    sym (append-nil c.args.text.now.bytes) ∙ ap (λ l. c.args.text.now.bytes ++ fraction_text l) (sym none)

@@ -2,7 +2,7 @@ use Rattle.std.proofs.Common.{◌≡◌, ◌++◌, ◌-◌, ◌+◌, ◌∷◌, 
 use mathlib.Core.List.{append_assoc}
 use Rattle.std.proofs.lemmas.List.{length-append, append-nil}
 use Rattle.grid_units.specs.Spellings.{places}
-use Rattle.grid_units.proofs.Places.{places_front_at, places_none, length-places}
+use Rattle.grid_units.proofs.TrailingZeros.{places_front_at, places_none, length-places}
 use Rattle.grid_units.proofs.spelling.push_places.Goals as goal
 
 pub push_digit-requires-clause-room : goal.push_digit-requires-clause-room

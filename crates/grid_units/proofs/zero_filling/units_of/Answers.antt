@@ -1,5 +1,5 @@
 use Rattle.std.proofs.Common.{◌*◌, ◌^◌, ◌<◌, ap, ◌∙◌, arith}
-use Rattle.grid_units.proofs.Filling.{scaled_is, scaled_bound}
+use Rattle.grid_units.proofs.ZeroFillingLemmas.{scaled_is, scaled_bound}
 use Rattle.grid_units.proofs.zero_filling.units_of.Goals as goal
 
 bound : (c : goal.After-power_of_ten) → c.args.number * c.power_of_ten.result < 10 ^ 14

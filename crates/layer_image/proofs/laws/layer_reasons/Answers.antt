@@ -1,5 +1,5 @@
-use Rattle.layer_image.proofs.Listed.{listed}
+use Rattle.layer_image.proofs.FaultReasons.{reason_is_of_rule}
 use Rattle.layer_image.proofs.laws.layer_reasons.Goals as goal
 
 pub returns : goal.returns
-returns c = listed
+returns c = reason_is_of_rule

@@ -1,6 +1,6 @@
 -- Reading gives commands just where a text spells them.
-use Rattle.gerber_text.proofs.Spelling.{reads_spells, spells_reads}
-use Rattle.layer_image.proofs.Answering.{each_answers}
+use Rattle.gerber_text.proofs.SpellsTextLemmas.{reads_spells, spells_reads}
+use Rattle.layer_image.proofs.ReadingExists.{each_answers}
 use Rattle.layer_image.proofs.laws.layer_texts.Goals as goal
 
 pub returns : goal.returns

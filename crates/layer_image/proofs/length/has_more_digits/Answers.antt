@@ -1,5 +1,5 @@
 use Rattle.std.proofs.Common.{◌∙◌, ◌/◌, nat_le, sym, arith}
-use Rattle.layer_image.proofs.Places.{more_digits, no_more_digits}
+use Rattle.layer_image.proofs.DigitLemmas.{more_digits, no_more_digits}
 use Rattle.layer_image.proofs.length.has_more_digits.Goals as goal
 
 pub returns-else-digits-le19 : goal.returns-else-digits-le19

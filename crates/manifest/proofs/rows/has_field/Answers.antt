@@ -1,7 +1,7 @@
 use Rattle.std.proofs.Common.{◌∙◌, ap₂, sym}
 use Rattle.std.specs.Str.{bytes_eq}
 use Rattle.csv.specs.Records.{fields_of}
-use Rattle.manifest.proofs.Fields.{empty_differs, field_is, no_field}
+use Rattle.manifest.proofs.EntryFields.{empty_differs, field_is, no_field}
 use Rattle.manifest.proofs.rows.has_field.Goals as goal
 
 pub returns-in-Some : goal.returns-in-Some

@@ -1,7 +1,7 @@
 use Rattle.std.proofs.Common.{sym, ap, ◌∙◌}
 use Rattle.csv.specs.Records.{fields_of}
 use Rattle.manifest.specs.Manifest.{is_plain_text}
-use Rattle.manifest.proofs.Fields.{empty_plain, field_is, no_field}
+use Rattle.manifest.proofs.EntryFields.{empty_plain, field_is, no_field}
 use Rattle.manifest.proofs.rows.text_field.Goals as goal
 
 pub returns-in-Some : goal.returns-in-Some

@@ -1,14 +1,14 @@
 use Rattle.std.proofs.Common.{◌≡◌, Option, List, length, drop, sym, subst, ◌∙◌}
 use Rattle.std.proofs.lemmas.List.{take_at}
-use Rattle.margins.specs.Bests.{AreBest}
-use Rattle.margins.specs.declared.best.Best.{Best}
+use Rattle.margins.specs.BestPads.{AreBestPads}
+use Rattle.margins.specs.declared.best.BestPad.{BestPad}
 use Rattle.margins.proofs.bests.best_of_division.Goals as goal
 
 pub returns : goal.returns
 returns g c =
-    let now : List (Option Best) = c.try_anew.new.bests in
+    let now : List (Option BestPad) = c.try_anew.new.bests in
     let all : length c.try_anew.new.bests ≡ c.in_ok-bests.bests.len = c.try_anew.auto.bests ∙ c.deref_mut.ensures.len in
     let size : length c.try_anew.new.bests ≡ length c.args.holes.now = all ∙ c.in_ok-bests.ensures.len in
-    subst (λ (bs : List (Option Best)). AreBest g.S.PadShape.covers c.args.pads.now c.args.holes.now bs)
+    subst (λ (bs : List (Option BestPad)). AreBestPads g.S.PadShape.covers c.args.pads.now c.args.holes.now bs)
     (sym (take_at c.try_anew.new.bests (drop (length c.try_anew.new.bests) c.in_ok-bests.bests.items) c.in_ok-bests.bests.len all))
     (record { size = size; each = c.in_ok-try_anew.ensures })

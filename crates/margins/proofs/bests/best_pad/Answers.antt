@@ -1,7 +1,7 @@
 use Rattle.std.proofs.Common.{◌≡◌, ℕ, length, sym, subst, ◌∙◌, arith}
 use Rattle.std.proofs.lemmas.List.{get_or_default}
-use Rattle.margins.specs.Inner.Bests.{IsBestSoFar}
-use Rattle.margins.proofs.Bettering.{none_so_far, next_so_far, best_of_all}
+use Rattle.margins.specs.Inner.BestPads.{IsBestSoFar}
+use Rattle.margins.proofs.BestPadsLemmas.{none_so_far, next_so_far, best_of_all}
 use Rattle.margins.proofs.bests.best_pad.Goals as goal
 
 pub loop-place-init : goal.loop-place-init

@@ -1,4 +1,4 @@
-use Rattle.margins.specs.Inner.Bests.{IsBestSoFar}
+use Rattle.margins.specs.Inner.BestPads.{IsBestSoFar}
 use Rattle.margins.proofs.bests.best_pad.Given as goal
 
 -- the best of the pads so far

@@ -1,11 +1,11 @@
 use Rattle.std.proofs.Common.{◌≡◌, ℕ, ◌<◌, None, Option, length, get_or, refl, subst, ◌∙◌, arith}
 use Rattle.std.proofs.lemmas.List.{get_or_default}
 use Rattle.std.proofs.lemmas.List.Elements.{All-get_or}
-use Rattle.ring_rules.specs.Places.{nowhere}
+use Rattle.ring_rules.specs.Places.{default_hole}
 use Rattle.ring_rules.specs.declared.finding.Drilled.{Drilled}
-use Rattle.margins.specs.Inner.Bests.{IsStep}
-use Rattle.margins.specs.declared.best.Best.{Best}
-use Rattle.margins.proofs.Bettering.{near_none, near_more}
+use Rattle.margins.specs.Inner.BestPads.{IsTriedAtHole}
+use Rattle.margins.specs.declared.best.BestPad.{BestPad}
+use Rattle.margins.proofs.BestPadsLemmas.{near_none, near_more}
 use Rattle.margins.proofs.bests.try_near.Goals as goal
 
 pub loop-hole-init : goal.loop-hole-init
@@ -18,8 +18,8 @@ loop-hole-preserved g c =
     let size : length c.loop-hole.bests ≡ length c.args.bests.now = c.loop-hole.invariant.size in
     let inside : get_or c.args.near.now c.loop-hole.hole-index 0 < length c.loop-hole.bests = omega (arith, size, c.requires.size, listed) in
     near_more g.S.PadShape.covers c.args.pad.now c.args.place c.args.holes.now c.args.bests.now c.loop-hole.bests p c.better.result inside c.args.near.now c.loop-hole.hole-index c.loop-hole.invariant refl
-    (subst (λ (d : Drilled). IsStep g.S.PadShape.covers c.args.pad.now c.args.place d.hole (get_or c.loop-hole.bests p None) c.better.result)
-    (get_or_default c.args.holes.now p c.index-holes-hole.result nowhere listed)
-    (subst (λ (b : Option Best). IsStep g.S.PadShape.covers c.args.pad.now c.args.place (get_or c.args.holes.now p c.index-holes-hole.result).hole b c.better.result)
+    (subst (λ (d : Drilled). IsTriedAtHole g.S.PadShape.covers c.args.pad.now c.args.place d.hole (get_or c.loop-hole.bests p None) c.better.result)
+    (get_or_default c.args.holes.now p c.index-holes-hole.result default_hole listed)
+    (subst (λ (b : Option BestPad). IsTriedAtHole g.S.PadShape.covers c.args.pad.now c.args.place (get_or c.args.holes.now p c.index-holes-hole.result).hole b c.better.result)
     (c.index-bests-hole.is ∙ get_or_default c.loop-hole.bests p c.index-bests-hole.result None inside)
     c.better.ensures))

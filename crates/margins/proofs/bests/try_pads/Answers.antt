@@ -2,14 +2,14 @@ use Rattle.std.proofs.Common.{◌≡◌, ℕ, None, length, get_or, sym, subst, 
 use Rattle.std.proofs.lemmas.List.{get_or_default}
 use Rattle.pad_shapes.specs.Zones.{IsInZone}
 use Rattle.ring_rules.specs.Places.{hole_at}
-use Rattle.margins.specs.Inner.Bests.{IsBestSoFar}
-use Rattle.margins.proofs.Bettering.{none_so_far, next_so_far, best_of_all, asks_none}
+use Rattle.margins.specs.Inner.BestPads.{IsBestSoFar}
+use Rattle.margins.proofs.BestPadsLemmas.{none_so_far, next_so_far, best_of_all, zero_depth_needed}
 use Rattle.margins.proofs.bests.try_pads.Goals as goal
 
 pub loop-place-init : goal.loop-place-init
 loop-place-init g c = record {
   size = c.requires.size;
-  least = asks_none c.args.holes.now c.args.bests.now (IsInZone c.args.division.now.whole);
+  least = zero_depth_needed c.args.holes.now c.args.bests.now (IsInZone c.args.division.now.whole);
   zones = c.requires.zone_bounds;
   parts = c.requires.part_bounds;
   each = λ k h. subst (IsBestSoFar g.S.PadShape.covers c.args.pads.now 0 (hole_at c.args.holes.now k)) (sym (c.requires.none k h)) (none_so_far g.S.PadShape.covers c.args.pads.now (hole_at c.args.holes.now k));

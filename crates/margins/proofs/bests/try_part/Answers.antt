@@ -1,4 +1,4 @@
-use Rattle.margins.proofs.Bettering.{tried_left}
+use Rattle.margins.proofs.BestPadsLemmas.{tried_left}
 use Rattle.margins.proofs.bests.try_part.Goals as goal
 
 pub returns-then-not-may_cover-clause-tried : goal.returns-then-not-may_cover-clause-tried

@@ -1,6 +1,6 @@
 use Rattle.std.proofs.Common.{sym, ◌∙◌, arith}
 use Rattle.std.proofs.lemmas.Int.{ints}
-use Rattle.margins.proofs.Gapping.{gap_of_none, gap_of_far}
+use Rattle.margins.proofs.GapsLemmas.{gap_of_none, gap_of_far}
 use Rattle.margins.proofs.gap.has_gap.Goals as goal
 
 pub returns-then-reach-le0 : goal.returns-then-reach-le0

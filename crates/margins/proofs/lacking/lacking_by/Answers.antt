@@ -2,7 +2,7 @@ use Rattle.std.proofs.Common.{◌≡◌, Bool, List, [], ◌∷◌, ◌++◌, ge
 use Rattle.std.proofs.lemmas.List.{map_more}
 use Rattle.ring_rules.specs.Findings.{is_ring_finding}
 use Rattle.ring_rules.specs.declared.finding.Drilled.{Drilled}
-use Rattle.margins.proofs.Lacked.{short_wants}
+use Rattle.margins.proofs.LackingLemmas.{short_lacks_ring}
 use Rattle.margins.proofs.lacking.lacking_by.Goals as goal
 
 pub loop-hole-preserved : goal.loop-hole-preserved
@@ -13,7 +13,7 @@ loop-hole-preserved g c =
     let test : Drilled → Bool = is_ring_finding g.S.PadShape.covers c.args.rules.ring c.args.layer pads in
     let is : c.falls_short.result ≡ test (get_or holes hole c.index-holes-hole.result) =
     c.falls_short.ensures
-    ∙ (short_wants g.S.PadShape.covers g.met.S.Deep.shrinks pads holes c.args.bests.now c.requires c.args.layer c.args.rules.ring hole c.index-holes-hole.result c.index-bests-hole.result c.loop-hole-test.true c.index-holes-hole.is c.index-bests-hole.is
+    ∙ (short_lacks_ring g.S.PadShape.covers g.met.S.DepthShape.covers_less pads holes c.args.bests.now c.requires c.args.layer c.args.rules.ring hole c.index-holes-hole.result c.index-bests-hole.result c.loop-hole-test.true c.index-holes-hole.is c.index-bests-hole.is
     ∙ ap test c.index-holes-hole.is) in
     c.in_ok-push.ensures.items
     ∙ (ap (λ (bs : List Bool). bs ++ c.falls_short.result ∷ []) c.loop-hole.invariant

@@ -1,13 +1,13 @@
 use Rattle.std.proofs.lemmas.Result.{IfOk-weaker}
 use Rattle.ring_rules.specs.declared.finding.Drilled.{Drilled}
-use Rattle.margins.specs.Nearness.{IsPair, IsNearest}
-use Rattle.margins.specs.Inner.Nearness.{AreAskedLater}
-use Rattle.margins.proofs.Asking.{nearest_of_all}
+use Rattle.margins.specs.NearestHoles.{IsPair, IsNearest}
+use Rattle.margins.specs.Inner.NearestHoles.{IsNearestForLater}
+use Rattle.margins.proofs.NearestSearch.{nearest_of_all}
 use Rattle.std.proofs.Common.{List, length}
 use Rattle.margins.proofs.nearest.first_nearest.Goals as goal
 
 pub returns : goal.returns
 returns c =
     let holes : List Drilled = c.args.holes.now in
-    IfOk-weaker c.later_asked.result (AreAskedLater c.args.holes.now c.in_ok-early.early.count (length c.args.holes.now) c.args.nearest) (IsNearest c.args.holes.now (IsPair c.args.holes.now))
-    (λ best later. nearest_of_all holes c.args.nearest best c.requires c.in_ok-early.early.count c.in_ok-early.ensures.count later) c.later_asked.ensures
+    IfOk-weaker c.nearest_for_later.result (IsNearestForLater c.args.holes.now c.in_ok-early.early.count (length c.args.holes.now) c.args.nearest) (IsNearest c.args.holes.now (IsPair c.args.holes.now))
+    (λ best later. nearest_of_all holes c.args.nearest best c.requires c.in_ok-early.early.count c.in_ok-early.ensures.count later) c.nearest_for_later.ensures

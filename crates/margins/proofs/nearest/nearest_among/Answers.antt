@@ -1,6 +1,6 @@
 use Rattle.std.proofs.Common.{ℕ, max, get_or, subst}
-use Rattle.margins.specs.Inner.Nearness.{IsTried}
-use Rattle.margins.proofs.Asking.{none_tried, one_tried}
+use Rattle.margins.specs.Inner.NearestHoles.{IsNearerPair}
+use Rattle.margins.proofs.NearestSearch.{none_tried, one_tried}
 use Rattle.margins.proofs.nearest.nearest_among.Goals as goal
 
 pub loop-other-init : goal.loop-other-init
@@ -9,5 +9,5 @@ loop-other-init c = none_tried c.args.holes.now c.args.place c.args.near.now c.a
 pub loop-other-preserved : goal.loop-other-preserved
 loop-other-preserved c =
     one_tried c.args.holes.now c.args.place c.args.near.now c.loop-other.other-index c.args.best c.loop-other.nearest c.tried-nearest.result c.loop-other.invariant
-    (subst (λ (n : ℕ). IsTried c.args.holes.now n (max c.args.place (get_or c.args.near.now c.loop-other.other-index 0)) c.loop-other.nearest c.tried-nearest.result) c.min.ensures
-    (subst (λ (n : ℕ). IsTried c.args.holes.now c.min.result n c.loop-other.nearest c.tried-nearest.result) c.max.ensures c.tried-nearest.ensures))
+    (subst (λ (n : ℕ). IsNearerPair c.args.holes.now n (max c.args.place (get_or c.args.near.now c.loop-other.other-index 0)) c.loop-other.nearest c.tried-nearest.result) c.min.ensures
+    (subst (λ (n : ℕ). IsNearerPair c.args.holes.now c.min.result n c.loop-other.nearest c.tried-nearest.result) c.max.ensures c.tried-nearest.ensures))

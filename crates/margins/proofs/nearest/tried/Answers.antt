@@ -1,4 +1,4 @@
-use Rattle.margins.proofs.Trying.{tried_far, tried_old, tried_new}
+use Rattle.margins.proofs.TriedPairs.{tried_far, tried_old, tried_new}
 use Rattle.margins.proofs.nearest.tried.Goals as goal
 
 pub returns-then-is_further : goal.returns-then-is_further

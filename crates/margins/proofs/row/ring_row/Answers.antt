@@ -1,11 +1,11 @@
 use Rattle.std.proofs.Common.{◌≡◌, ℕ, ◌<◌, None, Option, length, get_or, refl, sym, ap, ◌∙◌, arith}
 use Rattle.std.proofs.lemmas.List.{get_or_default}
 use Rattle.std.proofs.lemmas.List.Elements.{All-get_or}
-use Rattle.ring_rules.specs.Places.{nowhere}
+use Rattle.ring_rules.specs.Places.{default_hole}
 use Rattle.ring_rules.specs.declared.finding.Drilled.{Drilled}
-use Rattle.margins.specs.Rows.{ring_by, ring_at, has_none}
-use Rattle.margins.specs.declared.best.Best.{Best}
-use Rattle.margins.proofs.Rowing.{bare_more, bare_still, next_least}
+use Rattle.margins.specs.Rows.{ring_from_best, ring_at, has_no_best_pad}
+use Rattle.margins.specs.declared.best.BestPad.{BestPad}
+use Rattle.margins.proofs.RowsLemmas.{bare_more, bare_still, next_least}
 use Rattle.margins.proofs.row.ring_row.Goals as goal
 use Rattle.margins.proofs.row.ring_row.Goals.{then-is_bare, else-is_bare}
 
@@ -16,12 +16,12 @@ loop-hole-preserved c =
     let inside : get_or c.args.chosen.now c.loop-hole.hole-index 0 < length c.args.bests.now = omega (arith, listed, c.requires.bests) in
     let best_is : c.index-bests-hole.result ≡ get_or c.args.bests.now p None = c.index-bests-hole.is ∙ get_or_default c.args.bests.now p c.index-bests-hole.result None inside in
     let ring_is : c.ring_of.result ≡ ring_at c.args.bests.now c.args.holes.now p =
-    c.ring_of.ensures ∙ (ap (λ (b : Option Best). ring_by b (get_or c.args.holes.now p c.index-holes-hole.result).hole) best_is
-    ∙ ap (λ (d : Drilled). ring_by (get_or c.args.bests.now p None) d.hole) (get_or_default c.args.holes.now p c.index-holes-hole.result nowhere listed)) in
+    c.ring_of.ensures ∙ (ap (λ (b : Option BestPad). ring_from_best b (get_or c.args.holes.now p c.index-holes-hole.result).hole) best_is
+    ∙ ap (λ (d : Drilled). ring_from_best (get_or c.args.bests.now p None) d.hole) (get_or_default c.args.holes.now p c.index-holes-hole.result default_hole listed)) in
     record {
       bare = elim c.if-is_bare.branch [
-        | then-is_bare w ↦ w.bare-is ∙ bare_more c.args.bests.now c.args.chosen.now c.loop-hole.hole-index c.loop-hole.bare c.loop-hole-test.true (sym (ap has_none best_is) ∙ (sym c.is_bare.ensures ∙ w.if-is_bare.true)) c.loop-hole.invariant.bare
-        | else-is_bare w ↦ w.bare-is ∙ bare_still c.args.bests.now c.args.chosen.now c.loop-hole.hole-index c.loop-hole.bare c.loop-hole-test.true (sym (ap has_none best_is) ∙ (sym c.is_bare.ensures ∙ w.if-is_bare.false)) c.loop-hole.invariant.bare
+        | then-is_bare w ↦ w.bare-is ∙ bare_more c.args.bests.now c.args.chosen.now c.loop-hole.hole-index c.loop-hole.bare c.loop-hole-test.true (sym (ap has_no_best_pad best_is) ∙ (sym c.is_bare.ensures ∙ w.if-is_bare.true)) c.loop-hole.invariant.bare
+        | else-is_bare w ↦ w.bare-is ∙ bare_still c.args.bests.now c.args.chosen.now c.loop-hole.hole-index c.loop-hole.bare c.loop-hole-test.true (sym (ap has_no_best_pad best_is) ∙ (sym c.is_bare.ensures ∙ w.if-is_bare.false)) c.loop-hole.invariant.bare
       ];
       few = elim c.if-is_bare.branch [
         | then-is_bare w ↦ omega (arith, w.bare-is, c.loop-hole.invariant.few)

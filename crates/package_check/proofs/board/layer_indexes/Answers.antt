@@ -1,17 +1,17 @@
 use Rattle.std.proofs.Common.{ap, ◌∙◌, ◌∷◌, []}
 use Rattle.package_check.specs.Package.{index_of}
-use Rattle.ring_rules.proofs.Listing.{enumerated_all}
+use Rattle.ring_rules.proofs.EnumeratedLists.{enumerated_all}
 use Rattle.std.specs.List.{flat_map}
-use Rattle.package_check.proofs.Gathering.{placed_more, placed_none}
+use Rattle.package_check.proofs.GrowingLists.{flat_map_indexed_more, flat_map_indexed_none}
 use Rattle.package_check.proofs.board.layer_indexes.Goals as goal
 use Rattle.package_check.proofs.board.layer_indexes.Goals.{in-Layer+in_ok-push, in_default}
 
 pub loop-file-preserved : goal.loop-file-preserved
 loop-file-preserved c = elim c.match-content.branch [
   | in-Layer+in_ok-push w ↦
-      ap (λ v. v.items) w.indexes-is ∙ (w.in_ok-push.ensures.items ∙ placed_more index_of c.loop-file.indexes.items (c.loop-file.file ∷ []) c.args.contents.now c.loop-file.file c.index-contents-file.result c.loop-file-test.true c.index-contents-file.is (ap (λ x. index_of (c.loop-file.file, x)) w.in-Layer.is) c.loop-file.invariant)
+      ap (λ v. v.items) w.indexes-is ∙ (w.in_ok-push.ensures.items ∙ flat_map_indexed_more index_of c.loop-file.indexes.items (c.loop-file.file ∷ []) c.args.contents.now c.loop-file.file c.index-contents-file.result c.loop-file-test.true c.index-contents-file.is (ap (λ x. index_of (c.loop-file.file, x)) w.in-Layer.is) c.loop-file.invariant)
   | in_default w ↦
-      ap (λ v. v.items) w.indexes-is ∙ placed_none index_of c.loop-file.indexes.items c.args.contents.now c.loop-file.file c.index-contents-file.result c.loop-file-test.true c.index-contents-file.is (ap (λ x. index_of (c.loop-file.file, x)) w.in_default.is) c.loop-file.invariant
+      ap (λ v. v.items) w.indexes-is ∙ flat_map_indexed_none index_of c.loop-file.indexes.items c.args.contents.now c.loop-file.file c.index-contents-file.result c.loop-file-test.true c.index-contents-file.is (ap (λ x. index_of (c.loop-file.file, x)) w.in_default.is) c.loop-file.invariant
 ]
 
 pub returns : goal.returns

@@ -1,4 +1,4 @@
-use Rattle.package_check.proofs.Boarding.{numbered_end, numbered_step}
+use Rattle.package_check.proofs.BoardsLemmas.{numbered_end, numbered_step}
 use Rattle.package_check.proofs.board.numbered.Goals as goal
 
 pub loop-file-preserved : goal.loop-file-preserved

@@ -1,6 +1,6 @@
 use Rattle.std.proofs.Common.{◌++◌, ◌∷◌, [], ap, sym, ◌∙◌, append_assoc, take, ◌+◌}
 use Rattle.package_check.specs.Boards.{numbered_in}
-use Rattle.package_check.proofs.Boarding.{numbered_more}
+use Rattle.package_check.proofs.BoardsLemmas.{numbered_more}
 use Rattle.package_check.proofs.board.push_numbered.Goals as goal
 
 pub loop-place-preserved : goal.loop-place-preserved

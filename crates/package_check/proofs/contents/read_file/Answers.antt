@@ -5,20 +5,20 @@ use Rattle.grid_units.specs.declared.fault.Fail.{Fail}
 use Rattle.manifest.specs.declared.Role.{Role}
 use Rattle.manifest.specs.declared.Role.TheVariants as role
 use Rattle.package_check.specs.declared.contents.Content.{Content}
-use Rattle.package_check.specs.Package.{Source, ReadsBytes, ReadsCopper, ReadsUnless, is_bad_span, nameless}
-use Rattle.package_check.proofs.Joining.{joined}
+use Rattle.package_check.specs.Package.{FileView, ReadsBytes, ReadsCopper, ReadsUnlessBadSpan, is_bad_span, unnamed_file}
+use Rattle.package_check.proofs.PiecesLemmas.{joined}
 use Rattle.package_check.proofs.contents.read_file.Goals as goal
 
 -- the span is not bad
-by_bytes : (t : Bool) (s : Source) (r : Result Content Fail) → t ≡ false → Answers {T = Content} (λ x. x) (ReadsBytes s) r → Answers {T = Content} (λ x. x) (ReadsUnless t s) r
+by_bytes : (t : Bool) (s : FileView) (r : Result Content Fail) → t ≡ false → Answers {T = Content} (λ x. x) (ReadsBytes s) r → Answers {T = Content} (λ x. x) (ReadsUnlessBadSpan t s) r
 by_bytes true s r e h = absurd cc
 by_bytes false s r e h = h
 
-copper : (q : Role) (span : Option LayerSpan) (layers : ℕ) (bytes : List ℕ) (r : Result Content Fail) → q ≡ role.Copper → Answers {T = Content} (λ x. x) (ReadsCopper bytes) r → Answers {T = Content} (λ x. x) (ReadsBytes (nameless q span layers bytes)) r
-copper q span layers bytes r e h = subst (λ (p : Role). Answers {T = Content} (λ x. x) (ReadsBytes (nameless p span layers bytes)) r) (sym e) h
+copper : (q : Role) (span : Option LayerSpan) (layers : ℕ) (bytes : List ℕ) (r : Result Content Fail) → q ≡ role.Copper → Answers {T = Content} (λ x. x) (ReadsCopper bytes) r → Answers {T = Content} (λ x. x) (ReadsBytes (unnamed_file q span layers bytes)) r
+copper q span layers bytes r e h = subst (λ (p : Role). Answers {T = Content} (λ x. x) (ReadsBytes (unnamed_file p span layers bytes)) r) (sym e) h
 
 pub returns-in-Copper : goal.returns-in-Copper
 returns-in-Copper c =
     let bytes = joined c.args.pieces.now in
-    by_bytes (is_bad_span c.args.role c.args.span.now c.args.layers) (nameless c.args.role c.args.span.now c.args.layers bytes) c.read_copper.result (sym c.is_bad_span.ensures ∙ c.if-is_bad_span.false)
+    by_bytes (is_bad_span c.args.role c.args.span.now c.args.layers) (unnamed_file c.args.role c.args.span.now c.args.layers bytes) c.read_copper.result (sym c.is_bad_span.ensures ∙ c.if-is_bad_span.false)
     (copper c.args.role c.args.span.now c.args.layers bytes c.read_copper.result c.in-Copper.is c.read_copper.ensures)

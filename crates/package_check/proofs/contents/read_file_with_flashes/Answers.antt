@@ -1,6 +1,6 @@
 use Rattle.std.proofs.Common.{sym, ◌∙◌}
-use Rattle.package_check.proofs.Flashing.{spanless, spanned}
-use Rattle.package_check.proofs.Joining.{joined}
+use Rattle.package_check.proofs.FlashReadingLemmas.{spanless, spanned}
+use Rattle.package_check.proofs.PiecesLemmas.{joined}
 use Rattle.package_check.proofs.contents.read_file_with_flashes.Goals as goal
 
 pub returns-then-is_spanless_copper-clause-content : goal.returns-then-is_spanless_copper-clause-content

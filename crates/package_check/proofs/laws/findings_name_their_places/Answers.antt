@@ -1,4 +1,4 @@
-use Rattle.package_check.proofs.Places.{findings_name_their_places}
+use Rattle.package_check.proofs.FindingPlaces.{findings_name_their_places}
 use Rattle.package_check.proofs.laws.findings_name_their_places.Goals as goal
 
 pub returns : goal.returns

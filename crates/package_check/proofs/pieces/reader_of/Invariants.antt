@@ -1,10 +1,10 @@
 use Rattle.std.proofs.Common.{◌≡◌, map, take}
-use Rattle.package_check.specs.Pieces.{layers_in, source_in}
-use Rattle.package_check.specs.Holding.{PackageStandsAfter, copper_files}
+use Rattle.package_check.specs.Pieces.{pieced_layer_count, pieced_file_view}
+use Rattle.package_check.specs.Holding.{HasTaken, copper_files}
 use Rattle.package_check.proofs.pieces.reader_of.Given as goal
 
 abbrev pub invariant-loop-file : goal.invariant-loop-file
 invariant-loop-file l = record {
-  layers : copper_files l.reader ≡ layers_in l.files;
-  stands : PackageStandsAfter l.reader (take l.file-index (map (source_in (layers_in l.files)) l.files));
+  layers : copper_files l.reader ≡ pieced_layer_count l.files;
+  stands : HasTaken l.reader (take l.file-index (map (pieced_file_view (pieced_layer_count l.files)) l.files));
 }

@@ -2,7 +2,7 @@ use Rattle.std.proofs.Common.{◌++◌, ◌∷◌, [], List, ap, take, ◌∙◌
 use Rattle.pad_shapes.specs.declared.pad.Pad.{Pad}
 use Rattle.layer_image.specs.Flashes.{pads_of}
 use Rattle.layer_image.specs.declared.flash.Flash.{Flash}
-use Rattle.package_check.proofs.Flashing.{pads_more}
+use Rattle.package_check.proofs.FlashReadingLemmas.{pads_more}
 use Rattle.package_check.proofs.readers.pads_among.Goals as goal
 
 pub loop-flash-preserved : goal.loop-flash-preserved

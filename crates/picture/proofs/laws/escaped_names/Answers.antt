@@ -1,4 +1,4 @@
-use Rattle.picture.proofs.Escaping.{escaped_safe}
+use Rattle.picture.proofs.EscapesLemmas.{escaped_safe}
 use Rattle.picture.proofs.laws.escaped_names.Goals as goal
 
 pub returns : goal.returns

@@ -1,6 +1,6 @@
 use Rattle.std.proofs.Common.{◌≡◌, sym, ap, ◌∙◌, arith}
 use Rattle.grid_units.specs.Spellings.{places, trimmed}
-use Rattle.grid_units.proofs.Places.{places_zero_at, places_kept_at, places_none, trimmed_none}
+use Rattle.grid_units.proofs.TrailingZeros.{places_zero_at, places_kept_at, places_none, trimmed_none}
 use Rattle.printing.proofs.lengths.without_zeros.Goals as goal
 
 pub loop-width-preserved : goal.loop-width-preserved

@@ -4,7 +4,7 @@ use Rattle.std.proofs.lemmas.List.{append-nil}
 use Rattle.std.proofs.lemmas.Fmt.{decimal_digit}
 use Rattle.std.proofs.Output.{has_written_append, has_written_of_eq}
 use Rattle.grid_units.specs.Spellings.{places}
-use Rattle.grid_units.proofs.Places.{places_front_at, places_none}
+use Rattle.grid_units.proofs.TrailingZeros.{places_front_at, places_none}
 use Rattle.printing.proofs.lengths.write_places.Goals as goal
 
 pub loop-exponent-preserved : goal.loop-exponent-preserved

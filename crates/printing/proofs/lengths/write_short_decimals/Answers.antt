@@ -1,13 +1,13 @@
 use Rattle.std.proofs.Common.{◌≡◌, ◌∙◌, ◌++◌, ◌∷◌, [], sym, ap, refl, rules, arith}
 use Rattle.std.proofs.Output.{has_written_append, has_written_of_eq}
-use Rattle.grid_units.specs.Spellings.{places, trimmed, behind_point}
-use Rattle.grid_units.proofs.Places.{pointed_places, nothing_left}
+use Rattle.grid_units.specs.Spellings.{places, trimmed, fraction_text}
+use Rattle.grid_units.proofs.TrailingZeros.{pointed_places, nothing_left}
 use Rattle.printing.proofs.lengths.write_short_decimals.Goals as goal
 
 pub returns-then-width-eq0 : goal.returns-then-width-eq0
 returns-then-width-eq0 g c = λ plain ok.
     let none = nothing_left (trimmed (places 9 c.args.below)) _ _ (omega arith) c.without_zeros-number.ensures.places in
-    has_written_of_eq _ _ _ _ _ (ap behind_point (sym none)) (search rules)
+    has_written_of_eq _ _ _ _ _ (ap fraction_text (sym none)) (search rules)
 
 pub returns : goal.returns
 returns g c = λ plain ok.

@@ -1,4 +1,4 @@
-use Rattle.proposals.proofs.Printable.{all_printable}
+use Rattle.proposals.proofs.PrintableReasons.{all_printable}
 use Rattle.proposals.proofs.laws.prints_ascii.Goals as goal
 
 pub returns : goal.returns

@@ -1,17 +1,17 @@
 use Rattle.std.proofs.Common.{◌≡◌, ◌∙◌, ◌++◌, IfOk, List, ℕ, ap, map, Bor, subst, length}
 use Rattle.std.specs.Prelude.{◌==◌, ◌||◌, if◌then◌else◌}
 use Rattle.std.specs.List.{flat_map}
-use Rattle.file_hints.specs.Names.{short_name}
-use Rattle.proposals.specs.declared.outcome.Proposal.{Proposal}
+use Rattle.proposals.specs.Names.{base_name}
+use Rattle.proposals.specs.declared.model.Proposal.{Proposal}
 use Rattle.proposals.specs.Manifests.{entry_row, heading, label, manifest_text, named_row}
-use Rattle.proposals.proofs.Rows.{row_more, rows_all, rows_of}
+use Rattle.proposals.proofs.RowLemmas.{row_more, rows_all, rows_of}
 use Rattle.proposals.proofs.manifests.manifest_text.Goals as goal
 
 pub loop-entry-preserved : goal.loop-entry-preserved
 loop-entry-preserved c =
     let entries = map (λ (e : Bor Proposal). e.now) c.args.entries.now in
     let p = c.entry-item.result.now in
-    let short = short_name p.file in
+    let short = base_name p.file in
     let name : c.label.result.now ≡ label entries p =
     c.label.ensures ∙ (λ k. if (length short == 0) || c.in_ok-shared.ensures short k then p.file else short) in
     row_more (λ (entry : Bor Proposal). entry_row c.has_spans-spans.result entries entry.now) c.args.entries.now c.loop-entry.entry-index c.entry-item.result _ _ _ c.loop-entry-test.true c.entry-item.is c.loop-entry.invariant

@@ -1,6 +1,6 @@
 use Rattle.std.proofs.Common.{◌≡◌, ◌++◌, take, map, Bor}
 use Rattle.std.specs.List.{flat_map}
-use Rattle.proposals.specs.declared.outcome.Proposal.{Proposal}
+use Rattle.proposals.specs.declared.model.Proposal.{Proposal}
 use Rattle.proposals.specs.Manifests.{entry_row}
 use Rattle.proposals.proofs.manifests.manifest_text.Given as goal
 

@@ -1,5 +1,5 @@
 use Rattle.std.proofs.Common.{◌≡◌, ◌∙◌, ap, not}
-use Rattle.proposals.proofs.Shared.{met_more, shared_kept, shared_more, was_met}
+use Rattle.proposals.proofs.SharedNames.{met_more, shared_kept, shared_more, was_met}
 use Rattle.proposals.proofs.naming.shared_names.Goals as goal
 
 pub loop-entry-preserved-then-is_new : goal.loop-entry-preserved-then-is_new

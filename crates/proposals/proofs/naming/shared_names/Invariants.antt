@@ -3,7 +3,7 @@ use Rattle.std.specs.Prelude.{nat_lt}
 use Rattle.std.specs.BTreeSet.{contains_by}
 use Rattle.std.specs.Cmp.Lexicographic.{slice_cmp}
 use Rattle.std.specs.Ordering.{nat_cmp}
-use Rattle.proposals.proofs.Shared.{so_far}
+use Rattle.proposals.proofs.SharedNames.{so_far}
 use Rattle.proposals.proofs.naming.shared_names.Given as goal
 
 abbrev pub invariant-loop-entry : goal.invariant-loop-entry

@@ -1,7 +1,7 @@
 use Rattle.std.proofs.Common.{◌≡◌, ◌∙◌, ◌++◌, IfOk, ap, subst}
 use Rattle.std.specs.List.{flat_map}
 use Rattle.proposals.specs.Manifests.{reason_row}
-use Rattle.proposals.proofs.Rows.{row_more, rows_all}
+use Rattle.proposals.proofs.RowLemmas.{row_more, rows_all}
 use Rattle.proposals.proofs.reasons.write_reasons.Goals as goal
 
 pub loop-file-preserved : goal.loop-file-preserved

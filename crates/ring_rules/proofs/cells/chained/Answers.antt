@@ -1,9 +1,9 @@
 use Rattle.std.proofs.Common.{◌≡◌, ℕ, ◌+◌, ◌<◌, List, [], ◌∷◌, ◌++◌, length, get_or, set, sym, ap, subst, ◌∙◌, arith}
 use Rattle.std.proofs.lemmas.List.{get_or_default, length-set}
-use Rattle.ring_rules.specs.Places.{IsChained, nowhere}
+use Rattle.ring_rules.specs.Places.{IsChained, default_hole}
 use Rattle.ring_rules.specs.Cells.{cell_of, cell_at}
 use Rattle.ring_rules.specs.declared.finding.Drilled.{Drilled}
-use Rattle.ring_rules.proofs.Chaining.{chained_more}
+use Rattle.ring_rules.proofs.ChainLemmas.{chained_more}
 use Rattle.ring_rules.proofs.cells.chained.Goals as goal
 
 pub loop-place-preserved : goal.loop-place-preserved
@@ -11,7 +11,7 @@ loop-place-preserved c =
     let n = c.loop-place.place in
     let cell : ℕ → ℕ = cell_at c.args.x c.args.y c.args.holes.now in
     let here : cell_at c.args.x c.args.y c.args.holes.now c.loop-place.place ≡ c.cell_of-cell.result =
-    ap (λ (d : Drilled). cell_of c.args.x c.args.y d.hole.from) (get_or_default c.args.holes.now c.loop-place.place nowhere c.index-holes-place.result c.loop-place-test.true ∙ sym c.index-holes-place.is)
+    ap (λ (d : Drilled). cell_of c.args.x c.args.y d.hole.from) (get_or_default c.args.holes.now c.loop-place.place default_hole c.index-holes-place.result c.loop-place-test.true ∙ sym c.index-holes-place.is)
     ∙ (ap (cell_of c.args.x c.args.y) (sym c.from.ensures) ∙ sym c.cell_of-cell.ensures.value) in
     let inside : cell_at c.args.x c.args.y c.args.holes.now c.loop-place.place < length c.loop-place.head.items = omega (arith, here, c.cell_of-cell.ensures.within, c.loop-place.invariant.count) in
     let read : get_or c.loop-place.head.items c.cell_of-cell.result 0 ≡ c.index.result.now =

@@ -1,6 +1,6 @@
 use Rattle.std.proofs.Common.{ℕ, List, sym, subst, ◌∙◌}
-use Rattle.ring_rules.specs.Inner.Meeting.{IsClash, AddsClashes}
-use Rattle.ring_rules.proofs.Adding.{adds_one, clash_at}
+use Rattle.ring_rules.specs.Inner.ClashingPairs.{IsClash, AddsClashes}
+use Rattle.ring_rules.proofs.AddedClashes.{adds_one, clash_at}
 use Rattle.ring_rules.proofs.clashes.add_pair.Goals as goal
 
 pub returns-in_ok-push-clause-adds : goal.returns-in_ok-push-clause-adds

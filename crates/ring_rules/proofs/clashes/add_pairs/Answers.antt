@@ -1,7 +1,7 @@
 use Rattle.std.proofs.Common.{ℕ, ◌<◌, List, length, subst, ◌∙◌, arith}
 use Rattle.std.proofs.lemmas.List.{get_or_default}
-use Rattle.ring_rules.specs.Inner.Meeting.{IsFound}
-use Rattle.ring_rules.proofs.Adding.{adds_both, found_more}
+use Rattle.ring_rules.specs.Inner.ClashingPairs.{ListsClash}
+use Rattle.ring_rules.proofs.AddedClashes.{adds_both, lists_clash_of_more}
 use Rattle.ring_rules.proofs.clashes.add_pairs.Goals as goal
 
 pub loop-other-preserved : goal.loop-other-preserved
@@ -9,11 +9,11 @@ loop-other-preserved c =
     let now : List (ℕ × ℕ) = c.add_pair.new.pairs.items in
     record {
       adds = adds_both c.args.rules.gap c.args.holes.now c.args.pairs.now.items c.loop-other.pairs.items now c.loop-other.invariant.adds c.in_ok-add_pair.ensures.adds;
-      found = found_more c.args.rules.gap c.args.holes.now c.args.place c.args.others.now c.loop-other.other-index c.loop-other.pairs.items now c.in_ok-add_pair.ensures.adds c.loop-other.invariant.found c.in_ok-add_pair.ensures.found;
+      found = lists_clash_of_more c.args.rules.gap c.args.holes.now c.args.place c.args.others.now c.loop-other.other-index c.loop-other.pairs.items now c.in_ok-add_pair.ensures.adds c.loop-other.invariant.found c.in_ok-add_pair.ensures.found;
     }
 
 pub returns-clause-found : goal.returns-clause-found
 returns-clause-found c o among =
     let inside : among.0 < length c.args.others.now = among.1 in
-    subst (λ (n : ℕ). IsFound c.args.rules.gap c.args.holes.now c.args.place n c.loop-other.pairs.items) (get_or_default c.args.others.now among.0 0 o inside ∙ among.2)
+    subst (λ (n : ℕ). ListsClash c.args.rules.gap c.args.holes.now c.args.place n c.loop-other.pairs.items) (get_or_default c.args.others.now among.0 0 o inside ∙ among.2)
     (c.loop-other.invariant.found among.0 (omega (arith, inside, c.loop-other-test.false)))

@@ -1,7 +1,7 @@
 use Rattle.std.proofs.Common.{◌≡◌, ℕ, ◌+◌, ◌-◌, List, length, get_or, sym, ap, ◌∙◌, arith}
 use Rattle.ring_rules.specs.Cells.{cell_at}
-use Rattle.ring_rules.proofs.Chaining.{chain_falls}
-use Rattle.ring_rules.proofs.Asking.{places_none, places_both, listed_link}
+use Rattle.ring_rules.proofs.ChainLemmas.{chain_falls}
+use Rattle.ring_rules.proofs.FoundPlaces.{places_none, places_both, listed_link}
 use Rattle.ring_rules.proofs.index.add_cell.Goals as goal
 
 pub loop-link-init : goal.loop-link-init

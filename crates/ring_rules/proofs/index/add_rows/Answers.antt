@@ -1,5 +1,5 @@
 use Rattle.std.proofs.Common.{ℕ, List}
-use Rattle.ring_rules.proofs.Asking.{places_both, listed_row}
+use Rattle.ring_rules.proofs.FoundPlaces.{places_both, listed_row}
 use Rattle.ring_rules.proofs.index.add_rows.Goals as goal
 
 pub loop-row-preserved : goal.loop-row-preserved

@@ -1,4 +1,4 @@
-use Rattle.ring_rules.proofs.Naming.{rings_name_places, gaps_name_places}
+use Rattle.ring_rules.proofs.NamesPlacesLemmas.{rings_name_places, gaps_name_places}
 use Rattle.ring_rules.proofs.laws.findings_name_places.Goals as goal
 
 pub returns-clause-rings : goal.returns-clause-rings

@@ -1,4 +1,4 @@
-use Rattle.ring_rules.proofs.Passed.{apart}
+use Rattle.ring_rules.proofs.SoundnessLemmas.{apart}
 use Rattle.ring_rules.proofs.laws.gaps_hold.Goals as goal
 
 pub returns : goal.returns

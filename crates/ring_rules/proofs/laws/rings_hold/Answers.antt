@@ -1,4 +1,4 @@
-use Rattle.ring_rules.proofs.Passed.{held, slots_held, straight}
+use Rattle.ring_rules.proofs.SoundnessLemmas.{held, slots_held, straight}
 use Rattle.ring_rules.proofs.laws.rings_hold.Goals as goal
 
 pub returns-clause-rounds : goal.returns-clause-rounds

@@ -1,7 +1,7 @@
 use Rattle.std.proofs.Common.{ℕ, ◌≤◌, List, length, arith}
 use Rattle.ring_rules.specs.Cells.{cell_at}
-use Rattle.ring_rules.proofs.Adding.{adds_none, adds_both}
-use Rattle.ring_rules.proofs.Walking.{found_cell, cell_inside}
+use Rattle.ring_rules.proofs.AddedClashes.{adds_none, adds_both}
+use Rattle.ring_rules.proofs.CellPairs.{found_cell, cell_inside}
 use Rattle.ring_rules.proofs.near.add_all_pairs.Goals as goal
 
 pub loop-cell-init : goal.loop-cell-init

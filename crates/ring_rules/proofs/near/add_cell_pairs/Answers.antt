@@ -1,8 +1,8 @@
 use Rattle.std.proofs.Common.{◌≡◌, ℕ, ◌+◌, ◌-◌, List, length, get_or, sym, ap, ◌∙◌, arith}
 use Rattle.ring_rules.specs.Cells.{cell_at}
-use Rattle.ring_rules.proofs.Chaining.{chain_falls}
-use Rattle.ring_rules.proofs.Adding.{adds_none, adds_both}
-use Rattle.ring_rules.proofs.Walking.{found_link}
+use Rattle.ring_rules.proofs.ChainLemmas.{chain_falls}
+use Rattle.ring_rules.proofs.AddedClashes.{adds_none, adds_both}
+use Rattle.ring_rules.proofs.CellPairs.{found_link}
 use Rattle.ring_rules.proofs.near.add_cell_pairs.Goals as goal
 
 pub loop-link-init : goal.loop-link-init

@@ -1,6 +1,6 @@
 use Rattle.std.proofs.Common.{ℕ, List, [], subst, arith}
-use Rattle.ring_rules.specs.Inner.Meeting.{AddsClashes}
-use Rattle.ring_rules.proofs.Adding.{clash_found, sound_still}
+use Rattle.ring_rules.specs.Inner.ClashingPairs.{AddsClashes}
+use Rattle.ring_rules.proofs.AddedClashes.{clash_found, sound_still}
 use Rattle.ring_rules.proofs.near.clashes.Goals as goal
 
 pub returns-clause-sound : goal.returns-clause-sound

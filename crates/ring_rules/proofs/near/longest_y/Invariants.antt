@@ -1,8 +1,8 @@
 use Rattle.std.proofs.Common.{ℕ, ◌<◌, ◌≤◌}
 use Rattle.ring_rules.specs.Places.{hole_at}
-use Rattle.grid_units.specs.Points.{apart}
+use Rattle.grid_units.specs.Points.{abs_diff}
 use Rattle.ring_rules.proofs.near.longest_y.Given as goal
 
 -- no hole so far exceeds the length
 abbrev pub invariant-loop-drilled : goal.invariant-loop-drilled
-invariant-loop-drilled l = record { all : (k : ℕ) → k < l.drilled-index → apart (hole_at l.holes k).from.y (hole_at l.holes k).to.y ≤ l.longest; in_range : l.longest ≤ 20000000000000 }
+invariant-loop-drilled l = record { all : (k : ℕ) → k < l.drilled-index → abs_diff (hole_at l.holes k).from.y (hole_at l.holes k).to.y ≤ l.longest; in_range : l.longest ≤ 20000000000000 }

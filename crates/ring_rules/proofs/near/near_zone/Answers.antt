@@ -1,6 +1,6 @@
 use Rattle.std.proofs.Common.{arith}
 use Rattle.std.proofs.lemmas.Int.{ints}
-use Rattle.ring_rules.proofs.Nearing.{none_within, all_within}
+use Rattle.ring_rules.proofs.NearLemmas.{none_within, all_within}
 use Rattle.ring_rules.proofs.near.near_zone.Goals as goal
 
 pub returns-then-far-le0 : goal.returns-then-far-le0

@@ -1,13 +1,13 @@
 use Rattle.std.proofs.Common.{◌+◌, arith}
 use Rattle.std.proofs.lemmas.Int.{ints}
-use Rattle.grid_units.specs.Points.{apart}
-use Rattle.ring_rules.proofs.Nearing.{starts_near}
+use Rattle.grid_units.specs.Points.{abs_diff}
+use Rattle.ring_rules.proofs.NearLemmas.{starts_near}
 use Rattle.ring_rules.proofs.near.zone_round.Goals as goal
 
 pub returns : goal.returns
 returns c = λ o under size near.
-    let fits_x = c.margin-margin_x.ensures.value o (apart o.from.x o.to.x) under.x (omega arith) size in
-    let fits_y = c.margin-margin_y.ensures.value o (apart o.from.y o.to.y) under.y (omega arith) size in
+    let fits_x = c.margin-margin_x.ensures.value o (abs_diff o.from.x o.to.x) under.x (omega arith) size in
+    let fits_y = c.margin-margin_y.ensures.value o (abs_diff o.from.y o.to.y) under.y (omega arith) size in
     let x = starts_near o.from.x o.to.x c.args.hole.now.from.x c.args.hole.now.to.x c.args.far c.margin-margin_x.result near.x fits_x in
     let y = starts_near o.from.y o.to.y c.args.hole.now.from.y c.args.hole.now.to.y c.args.far c.margin-margin_y.result near.y fits_y in
     record {

@@ -3,7 +3,7 @@ use Rattle.std.specs.Prelude.{map, ◌&&◌}
 use Rattle.grid_units.specs.Spans.{is_in_span}
 use Rattle.std.proofs.lemmas.List.{take_at, length-map}
 use Rattle.ring_rules.specs.declared.finding.Drilled.{Drilled}
-use Rattle.ring_rules.proofs.Padding.{lacking_marks}
+use Rattle.ring_rules.proofs.MarksAfterPads.{lacking_marks}
 use Rattle.ring_rules.proofs.pads.lacking.Goals as goal
 
 pub returns : goal.returns

@@ -1,6 +1,6 @@
 use Rattle.std.proofs.Common.{◌+◌, arith}
-use Rattle.ring_rules.proofs.Bordering.{place-le}
-use Rattle.ring_rules.proofs.Ranging.{in_rows}
+use Rattle.ring_rules.proofs.BordersLemmas.{place-le}
+use Rattle.ring_rules.proofs.ZoneRowsLemmas.{in_rows}
 use Rattle.ring_rules.proofs.pads.range_of.Goals as goal
 
 pub returns-in-Some-clause-holds : goal.returns-in-Some-clause-holds

@@ -1,12 +1,12 @@
 use Rattle.std.proofs.Common.{◌≡◌, ◌+◌, false}
-use Rattle.ring_rules.specs.Inner.Marks.{gives_ring_at, TakesBack}
-use Rattle.ring_rules.specs.Inner.Regions.{IsTriedIn, HasNoMarkIn}
+use Rattle.ring_rules.specs.Inner.Marks.{gives_ring_at, RemovesMarks}
+use Rattle.ring_rules.specs.Inner.Regions.{NoMarkPassesIn, HasNoMarkIn}
 use Rattle.ring_rules.proofs.regions.try_row.Given as goal
 
 -- the columns so far are tried
 abbrev pub invariant-loop-column : goal.invariant-loop-column
 invariant-loop-column g l = record {
-  takes : TakesBack (gives_ring_at g.S.PadShape.covers l.rules.ring l.holes l.pad) l.initial.marks l.marks;
-  tried : IsTriedIn (gives_ring_at g.S.PadShape.covers l.rules.ring l.holes l.pad) l.cells.x l.cells.y l.holes l.row (l.row + 1) l.left l.column l.marks;
+  removes : RemovesMarks (gives_ring_at g.S.PadShape.covers l.rules.ring l.holes l.pad) l.initial.marks l.marks;
+  tried : NoMarkPassesIn (gives_ring_at g.S.PadShape.covers l.rules.ring l.holes l.pad) l.cells.x l.cells.y l.holes l.row (l.row + 1) l.left l.column l.marks;
   none : l.is_left ≡ false → HasNoMarkIn l.cells.x l.cells.y l.holes l.row (l.row + 1) l.left l.column l.marks;
 }

@@ -2,7 +2,7 @@ use Rattle.std.proofs.Common.{◌≡◌, Bool, ◌++◌, take, map}
 use Rattle.std.specs.List.{enumerate_from}
 use Rattle.ring_rules.specs.Findings.{finding_of}
 use Rattle.ring_rules.specs.declared.finding.Drilled.{Drilled}
-use Rattle.ring_rules.proofs.Listing.{listed}
+use Rattle.ring_rules.proofs.EnumeratedLists.{listed}
 use Rattle.ring_rules.proofs.rings.layer_findings.Given as goal
 
 -- the findings so far are those of the holes so far, for any test that the marks stand for

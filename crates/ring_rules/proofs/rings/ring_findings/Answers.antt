@@ -3,7 +3,7 @@ use Rattle.std.proofs.lemmas.List.{length-map, get_or-map}
 use Rattle.std.specs.List.{flat_map}
 use Rattle.ring_rules.specs.Findings.{layer_findings, is_ring_finding}
 use Rattle.ring_rules.specs.declared.finding.Drilled.{Drilled}
-use Rattle.ring_rules.proofs.Listing.{flat_listed_more, enumerated_all}
+use Rattle.ring_rules.proofs.EnumeratedLists.{flat_listed_more, enumerated_all}
 use Rattle.ring_rules.proofs.rings.ring_findings.Goals as goal
 
 pub loop-layer-preserved : goal.loop-layer-preserved

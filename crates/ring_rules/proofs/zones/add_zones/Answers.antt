@@ -2,7 +2,7 @@ use Rattle.std.proofs.Common.{◌≡◌, ℕ, ◌<◌, List, length, get_or, sub
 use Rattle.std.proofs.lemmas.Bool.{cases_lt}
 use Rattle.std.proofs.lemmas.List.{get_or_default}
 use Rattle.pad_shapes.specs.Zones.{IsInZone}
-use Rattle.ring_rules.specs.Places.{point_at}
+use Rattle.ring_rules.specs.Places.{entry_at}
 use Rattle.ring_rules.specs.declared.blocks.Block.{Block}
 use Rattle.ring_rules.proofs.zones.add_zones.Goals as goal
 
@@ -11,8 +11,8 @@ block_at blocks i j d b same h is = is ∙ (ap (λ (n : ℕ). get_or blocks n b)
 
 pub loop-block-preserved : goal.loop-block-preserved
 loop-block-preserved c = λ i b h is k inside within. elim (cases_lt i c.loop-block.block-index) [
-  | inl less ↦ c.in_ok-add_zone.ensures.kept (point_at c.args.holes.now k) (c.loop-block.invariant i b less is k inside within)
+  | inl less ↦ c.in_ok-add_zone.ensures.kept (entry_at c.args.holes.now k) (c.loop-block.invariant i b less is k inside within)
   | inr more ↦
       c.in_ok-add_zone.ensures.holds k inside
-      (subst (λ (w : Block). IsInZone w.zone (point_at c.args.holes.now k)) (block_at c.args.blocks.now i c.loop-block.block-index _ b (omega (arith, h, more)) c.loop-block-test.true is) within)
+      (subst (λ (w : Block). IsInZone w.zone (entry_at c.args.holes.now k)) (block_at c.args.blocks.now i c.loop-block.block-index _ b (omega (arith, h, more)) c.loop-block-test.true is) within)
 ]

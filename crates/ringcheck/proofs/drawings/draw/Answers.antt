@@ -1,6 +1,6 @@
 use Rattle.std.proofs.Common.{List, ℕ, refl, subst}
 use Rattle.drawing.specs.Drawings.{IsDrawn, drawing_text}
-use Rattle.package_check.proofs.Boarding.{reported_on}
+use Rattle.package_check.proofs.BoardsLemmas.{reported_on}
 use Rattle.package_check.specs.Boards.{reported}
 use Rattle.ringcheck.proofs.drawings.draw.Goals as goal
 
@@ -16,6 +16,6 @@ returns-clause-answers g c all named stands =
       text = text;
       is = subst (λ (ns : List (List ℕ)). IsDrawn ns flashed c.args.rules text) named c.in_ok-drawing.ensures;
       written = c.in_ok-write.ensures.bytes;
-      sound = λ asked under none. c.passing_is_sound.ensures all asked (reported asked board) (reported_on all asked board (reported asked board) read.board refl) none;
+      sound = λ required under none. c.passing_is_sound.ensures all required (reported required board) (reported_on all required board (reported required board) read.board refl) none;
       passed = refl;
     }

@@ -1,6 +1,6 @@
 use Rattle.std.proofs.Common.{List, ℕ, refl, subst}
 use Rattle.std.specs.Io.KnownBytes.{Appends}
-use Rattle.ringcheck.specs.Measuring.{measure_page}
+use Rattle.ringcheck.specs.MeasureStatus.{measure_page}
 use Rattle.ringcheck.proofs.measures.measure.Goals as goal
 
 pub returns-clause-answers : goal.returns-clause-answers

@@ -1,10 +1,10 @@
-use Rattle.report_text.specs.declared.Whys.{Whys}
+use Rattle.report.specs.declared.Acceptances.{Acceptances}
 use Rattle.ringcheck.proofs.reports.print_waived.Goals as goal
 
 pub returns : goal.returns
 returns g c =
-    let whys : Whys = record { rings = c.as_slice-3.result; gaps = c.as_slice-4.result; idle = c.as_slice-5.result } in (
-      whys,
+    let accepted : Acceptances = record { rings = c.as_slice-3.result; gaps = c.as_slice-4.result; idle = c.as_slice-5.result } in (
+      accepted,
       (
         c.in_ok-waived.waived,
         c.all.ensures,

@@ -2,7 +2,7 @@ use Rattle.std.proofs.Common.{◌≡◌, ◌∙◌, Some, None, sym}
 use Rattle.std.specs.Prelude.{if◌then◌else◌}
 use Rattle.std.specs.Option.{option_or}
 use Rattle.std.specs.Str.{bytes_eq}
-use Rattle.waivers.proofs.Firsts.{first_more}
+use Rattle.waivers.proofs.FirstPlaces.{first_more}
 use Rattle.waivers.proofs.keys.first_places.Goals as goal
 
 pub loop-place-preserved : goal.loop-place-preserved

@@ -1,7 +1,7 @@
 use Rattle.std.proofs.Common.{◌≡◌, map, take}
 use Rattle.waivers.specs.Inner.{joined}
-use Rattle.waivers.specs.Waiving.{compared}
+use Rattle.waivers.specs.Waiving.{compared_fields}
 use Rattle.waivers.proofs.keys.waiver_keys.Given as goal
 
 abbrev pub invariant-loop-waiver : goal.invariant-loop-waiver
-invariant-loop-waiver l = map (λ key. key.items) l.keys.items ≡ map (λ waiver. joined (compared waiver)) (take l.waiver-index l.waivers)
+invariant-loop-waiver l = map (λ key. key.items) l.keys.items ≡ map (λ waiver. joined (compared_fields waiver)) (take l.waiver-index l.waivers)

@@ -1,7 +1,7 @@
 use Rattle.std.proofs.Common.{◌≡◌, ◌||◌, ℕ, take}
 use Rattle.std.specs.List.{list_any}
-use Rattle.waivers.specs.Inner.{has_place, is_by}
+use Rattle.waivers.specs.Inner.{has_place, is_waived_by}
 use Rattle.waivers.proofs.waiving.add_used.Given as goal
 
 abbrev pub invariant-loop-by : goal.invariant-loop-by
-invariant-loop-by l = (place : ℕ) → has_place l.used place ≡ (has_place l.initial.used place || list_any (is_by place) (take l.by-index l.places))
+invariant-loop-by l = (place : ℕ) → has_place l.used place ≡ (has_place l.initial.used place || list_any (is_waived_by place) (take l.by-index l.places))

@@ -1,9 +1,9 @@
 use Rattle.std.specs.Prelude.{◌≡◌, ℕ, List}
 use Rattle.std.proofs.Common.{◌∙◌}
 use Rattle.std.proofs.lemmas.Result.{IfOk-weaker}
-use Rattle.report_text.specs.declared.Telling.{Telling}
+use Rattle.report.specs.declared.BoardReport.{BoardReport}
 use Rattle.waivers.specs.Inner.{unused_numbers}
-use Rattle.waivers.specs.Waiving.{IsWaived, fields_told, idle_numbers}
+use Rattle.waivers.specs.Waiving.{IsWaived, report_fields, idle_numbers}
 use Rattle.waivers.proofs.IdlePlaces.{unused_is_idle}
 use Rattle.waivers.proofs.waiving.idle.Goals as goal
 
@@ -14,6 +14,6 @@ returns c =
     let used = c.in_ok-used.used in
     let firsts = c.as_slice.result.now in
     IfOk-weaker c.unused.result (λ numbers. numbers.items ≡ unused_numbers used firsts)
-    (λ numbers. (names : List (List ℕ)) (told : Telling) → IsWaived all names told waived → numbers.items ≡ idle_numbers all (fields_told names told))
+    (λ numbers. (names : List (List ℕ)) (report : BoardReport) → IsWaived all names report waived → numbers.items ≡ idle_numbers all (report_fields names report))
     (λ numbers is. unused_is_idle all used waived firsts numbers.items c.in_ok-used.ensures (c.as_slice.ensures.value ∙ c.in_ok-firsts.ensures) is)
     c.unused.ensures

@@ -4,4 +4,4 @@ use Rattle.waivers.specs.Waiving.{reason_at}
 use Rattle.waivers.proofs.waiving.reasons.Given as goal
 
 abbrev pub invariant-loop-place : goal.invariant-loop-place
-invariant-loop-place l = map (option_map (λ why. why.now)) l.whys.items ≡ map (reason_at l.waivers) (take l.place-index l.places)
+invariant-loop-place l = map (option_map (λ why. why.now)) l.accepted.items ≡ map (reason_at l.waivers) (take l.place-index l.places)

@@ -6,8 +6,8 @@ use Rattle.drill_text.specs.Lines.{Splits}
 use Rattle.grid_units.specs.Results.{fault}
 use Rattle.drill_text.specs.Reading.{shown}
 use Rattle.drill_text.specs.Holding.{Refuses}
-use Rattle.drill_text.proofs.Splitting.{Splits-grow}
-use Rattle.drill_text.proofs.Shown.{shown_ok, show_ok, show_long}
+use Rattle.drill_text.proofs.SplitsLemmas.{Splits-grow}
+use Rattle.drill_text.proofs.ShowsLemmas.{shown_ok, show_ok, show_long}
 use Rattle.drill_text.proofs.reader.Progress.extend.Goals as goal
 
 pub returns-clause-ok : goal.returns-clause-ok
@@ -21,7 +21,7 @@ returns-clause-ok c keep text h =
       splits = subst (λ (x : List ℕ). Splits (text ++ run) h.lines x) (sym items) (Splits-grow text h.lines old.line.items run h.splits (recursion_from_All (λ b. b ≢ 10) run c.requires.inside));
       commands = h.commands;
       spelled = ap (shown h.lines) items ∙ show_ok h.lines (old.line.items ++ run) h.commands before.0 (omega (arith, length-append old.line.items run, old.line.ok.0, c.if-run-len.false));
-      met = h.met;
+      has_read = h.has_read;
       count = h.count;
       start = h.start;
       offset = omega (arith, h.offset, length-append text run);

@@ -11,7 +11,7 @@ returns c =
       commands = [];
       splits = subst (λ (x : List ℕ). Splits [] [] x) (sym none) (record { whole = refl; each = tt; partial = tt });
       spelled = ap (shown []) none;
-      met = record { knows = c.new.ensures; keeps = c.new-2.ensures };
+      has_read = record { is_state = c.new.ensures; keeps = c.new-2.ensures };
       count = refl;
       start = refl;
       offset = refl;

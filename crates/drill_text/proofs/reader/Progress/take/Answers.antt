@@ -5,8 +5,8 @@ use Rattle.grid_units.specs.Results.{fault}
 use Rattle.drill_text.specs.Reading.{Shows}
 use Rattle.grid_units.specs.declared.fault.Reason.TheVariants.{TooLong}
 use Rattle.drill_text.specs.Holding.{Refuses, RefusesText}
-use Rattle.grid_units.specs.Results.{Tells}
-use Rattle.drill_text.proofs.Whole.{refuses_within, refuses_beyond, too_long_text}
+use Rattle.grid_units.specs.Results.{IfFault}
+use Rattle.drill_text.proofs.WholeTextLemmas.{refuses_within, refuses_beyond, too_long_text}
 use Rattle.drill_text.proofs.reader.Progress.take.Goals as goal
 use Rattle.grid_units.specs.Limits.{text_limit}
 
@@ -28,4 +28,4 @@ returns-clause-err c keep text h =
     let room = text_limit - c.args.self.now.offset in
     let new = c.take_all-2.new.self in
     let joined : (text ++ take room piece) ++ drop room piece ≡ text ++ piece = append_assoc text (take room piece) (drop room piece) ∙ ap (λ (x : List ℕ). text ++ x) (take-append-drop room piece) in
-    subst (Tells (λ f. Shows (text ++ piece) (Err f))) (sym c.refusal.ensures) (subst (λ (x : List ℕ). Shows x (Err (fault (new.lines + 1) text_limit TooLong))) joined (too_long_text new (text ++ take room piece) (drop room piece) (omega (arith, h.offset, c.args.self.now.in_text, c.if-piece-room.false, length-append text (take room piece), length-take room piece)) (omega (arith, c.if-piece-room.false, length-drop room piece)) (c.in_ok-take_all.ensures.ok keep text h)))
+    subst (IfFault (λ f. Shows (text ++ piece) (Err f))) (sym c.refusal.ensures) (subst (λ (x : List ℕ). Shows x (Err (fault (new.lines + 1) text_limit TooLong))) joined (too_long_text new (text ++ take room piece) (drop room piece) (omega (arith, h.offset, c.args.self.now.in_text, c.if-piece-room.false, length-append text (take room piece), length-take room piece)) (omega (arith, c.if-piece-room.false, length-drop room piece)) (c.in_ok-take_all.ensures.ok keep text h)))

@@ -2,15 +2,15 @@ use Rattle.std.proofs.Common.{◌≡◌, ◌≤◌, ◌+◌, ℕ, List, [], ◌�
 use Rattle.std.proofs.lemmas.List.{length-append, take_at}
 use Rattle.std.proofs.lemmas.Result.{err_from_is_err_and}
 use Rattle.drill_lines.specs.declared.command.Coordinates.{Coordinates}
-use Rattle.drill_text.specs.Inner.Hits.{LeadsHit}
+use Rattle.drill_text.specs.Inner.FastPath.{HasLeadingHit}
 use Rattle.drill_text.specs.Holding.{Refuses}
-use Rattle.drill_text.proofs.Shown.{Refuses-front}
-use Rattle.drill_text.proofs.WholeLines.{no_break, whole_taken, whole_refused}
+use Rattle.drill_text.proofs.ShowsLemmas.{Refuses-prefix}
+use Rattle.drill_text.proofs.WholeLineLemmas.{no_break, whole_taken, whole_refused}
 use Rattle.drill_text.proofs.reader.Progress.take_hit.Goals as goal
 
 -- the line and its LF
-front : (point : Coordinates) (len : ℕ) (bytes : List ℕ) (h : LeadsHit point len bytes) → h.line ++ 10 ∷ [] ≡ take (len + 1) bytes
-front point len bytes h =
+prefix : (point : Coordinates) (len : ℕ) (bytes : List ℕ) (h : HasLeadingHit point len bytes) → h.line ++ 10 ∷ [] ≡ take (len + 1) bytes
+prefix point len bytes h =
     let whole : bytes ≡ (h.line ++ 10 ∷ []) ++ h.more = h.whole ∙ sym (append_assoc h.line (10 ∷ []) h.more) in
     let count : length (h.line ++ 10 ∷ []) ≡ len + 1 = omega (arith, length-append h.line (10 ∷ []), h.count) in
     sym (ap (take (len + 1)) whole ∙ take_at (h.line ++ 10 ∷ []) h.more (len + 1) count)
@@ -20,8 +20,8 @@ returns-clause-ok c keep text h =
     let leads = c.requires.leads in
     let old = c.args.self.now in
     let short : length leads.line ≤ 1048576 = omega (arith, leads.count, leads.short) in
-    let k = c.in_ok-keep.ensures keep leads.line h.commands short (leads.spells old.judge.settings c.requires.body) h.met in
-    whole_taken old _ text leads.line _ k.0 h (front c.args.point c.args.len c.args.bytes.now leads) c.requires.empty (no_break leads.line leads.inside) refl k.1 k.2 refl refl (ap (λ n. old.offset + (n + 1)) (sym leads.count))
+    let k = c.in_ok-keep.ensures keep leads.line h.commands short (leads.spells old.state.settings c.requires.body) h.has_read in
+    whole_taken old _ text leads.line _ k.0 h (prefix c.args.point c.args.len c.args.bytes.now leads) c.requires.empty (no_break leads.line leads.inside) refl k.1 k.2 refl refl (ap (λ n. old.offset + (n + 1)) (sym leads.count))
 
 pub returns-in_err-keep-clause-err : goal.returns-in_err-keep-clause-err
 returns-in_err-keep-clause-err c =
@@ -31,5 +31,5 @@ returns-in_err-keep-clause-err c =
     let e = c.in_err-keep.field-0.0 in
     let p = err_from_is_err_and c.from_residual.result c.from_residual.ensures.1 in
     let short : length leads.line ≤ 1048576 = omega (arith, leads.count, leads.short) in
-    rw (p.1, p.2) (Refuses-front old bytes (c.args.len + 1) e (subst (λ (x : List ℕ). Refuses old x e) (front c.args.point c.args.len bytes leads)
-    (whole_refused old leads.line e c.requires.empty (no_break leads.line leads.inside) (λ keep before met. c.in_err-keep.ensures keep leads.line before short (leads.spells old.judge.settings c.requires.body) met))))
+    rw (p.1, p.2) (Refuses-prefix old bytes (c.args.len + 1) e (subst (λ (x : List ℕ). Refuses old x e) (prefix c.args.point c.args.len bytes leads)
+    (whole_refused old leads.line e c.requires.empty (no_break leads.line leads.inside) (λ keep before has_read. c.in_err-keep.ensures keep leads.line before short (leads.spells old.state.settings c.requires.body) has_read))))

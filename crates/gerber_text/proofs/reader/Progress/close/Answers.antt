@@ -1,30 +1,30 @@
 use Rattle.std.proofs.Common.{refl, ◌≡◌, ◌+◌, ◌<◌, false, ℕ, List, [], ◌∷◌, ◌++◌, Err, length, Ok, sym, ap, subst, ◌∙◌, arith}
 use Rattle.std.proofs.lemmas.List.{length-append}
 use Rattle.gerber_text.specs.declared.reader.Progress.{Progress}
-use Rattle.gerber_rows.specs.Items.{ender, is_end}
+use Rattle.gerber_text.specs.Items.{end_byte, is_end_item}
 use Rattle.gerber_text.specs.Cut.{OffsetByte, first_offset}
 use Rattle.std.proofs.lemmas.Result.{err_from_is_err_and}
 use Rattle.grid_units.specs.declared.fault.Fault.{Fault}
 use Rattle.grid_units.specs.declared.fault.Fail.{Fail}
 use Rattle.grid_units.specs.declared.fault.Fail.TheVariants.{Memory, Refused}
-use Rattle.gerber_text.specs.Reading.{Entries, spelled, Leaves}
+use Rattle.gerber_text.specs.Reading.{Entries, spelled, ResultsIn}
 use Rattle.gerber_text.specs.Holding.{Refuses, Holds}
-use Rattle.gerber_text.proofs.Shown.{too_long, out_of_memory, kept_pushed, front_of_push}
-use Rattle.gerber_text.proofs.Steps.{Closed, closes, first_is, length-bytes_of, spelled_place}
+use Rattle.gerber_text.proofs.ShowsLemmas.{too_long, out_of_memory, kept_pushed, take_of_push}
+use Rattle.gerber_text.proofs.ReaderStepLemmas.{Closed, closes, first_is, length-bytes_of, spelled_place}
 use Rattle.gerber_text.proofs.reader.Progress.close.Goals as goal
 
 -- the item that a last byte ends, for a reader that holds this text
-closed : (old : Progress) (last byte : ℕ) (gone : Entries) (text : List ℕ) (h : Holds old gone text) → old.ended ≡ false → last ≡ ender old.item.items → (length old.item.items ≡ 0 → byte ≡ old.offset) → (0 < length old.item.items → byte ≡ old.start)
+closed : (old : Progress) (last byte : ℕ) (gone : Entries) (text : List ℕ) (h : Holds old gone text) → old.ended ≡ false → last ≡ end_byte old.item.items → (length old.item.items ≡ 0 → byte ≡ old.offset) → (0 < length old.item.items → byte ≡ old.start)
     → Closed text h.items (h.rest ++ (length text, last) ∷ []) (old.item.items ++ last ∷ []) last (old.items + 1) byte (gone ++ old.commands.items)
 closed old last byte gone text h running last-is fresh begun =
     let none = sym h.ended ∙ running in
     let is = h.pending none in
     let size : length h.rest ≡ length old.item.items = sym (length-bytes_of h.rest) ∙ ap length (sym is) in
     let start : byte ≡ first_offset (h.rest ++ (length text, last) ∷ []) = first_is h.rest (length text, last) byte (λ e. fresh (sym size ∙ e) ∙ h.offset) (λ lt. begun (omega (arith, size, lt)) ∙ h.start none lt) in
-    closes text h.items h.rest (old.item.items ++ last ∷ []) last (old.items + 1) byte (gone ++ old.commands.items) h.splits none h.commands (last-is ∙ ap ender is) (omega (arith, h.count)) start (ap (λ (x : List ℕ). x ++ last ∷ []) is)
+    closes text h.items h.rest (old.item.items ++ last ∷ []) last (old.items + 1) byte (gone ++ old.commands.items) h.splits none h.commands (last-is ∙ ap end_byte is) (omega (arith, h.count)) start (ap (λ (x : List ℕ). x ++ last ∷ []) is)
 
 -- a fault of the item that a last byte ends
-refused : (old : Progress) (last byte : ℕ) → old.ended ≡ false → last ≡ ender old.item.items → (length old.item.items ≡ 0 → byte ≡ old.offset) → (0 < length old.item.items → byte ≡ old.start)
+refused : (old : Progress) (last byte : ℕ) → old.ended ≡ false → last ≡ end_byte old.item.items → (length old.item.items ≡ 0 → byte ≡ old.offset) → (0 < length old.item.items → byte ≡ old.start)
     → (left : Entries) → left ≡ old.commands.items → (f : Fault) → ((gone : Entries) (text : List ℕ) → Holds old gone text → spelled (old.items + 1) byte (old.item.items ++ last ∷ []) (gone ++ old.commands.items) ≡ Err f) → Refuses old left (last ∷ []) (Refused f)
 refused old last byte running last-is fresh begun left same f err = λ gone text h.
     let k = closed old last byte gone text h running last-is fresh begun in
@@ -35,13 +35,13 @@ refused old last byte running last-is fresh begun left same f err = λ gone text
       rest = [];
       splits = k.splits;
       kept = length h.items;
-      within = (front_of_push h.items item (length h.items) (omega arith)).0;
+      within = (take_of_push h.items item (length h.items) (omega arith)).0;
       spelled = kept_pushed old gone text h item ∙ ap (λ (x : Entries). Ok (gone ++ x)) (sym same);
-      told = (k.shows ∙ e, spelled_place (old.items + 1) byte (old.item.items ++ last ∷ []) (gone ++ old.commands.items) f e ∙ omega (arith, h.count));
+      reported = (k.shows ∙ e, spelled_place (old.items + 1) byte (old.item.items ++ last ∷ []) (gone ++ old.commands.items) f e ∙ omega (arith, h.count));
     }
 
-refused_or_memory : (old : Progress) (last byte : ℕ) → old.ended ≡ false → last ≡ ender old.item.items → (length old.item.items ≡ 0 → byte ≡ old.offset) → (0 < length old.item.items → byte ≡ old.start)
-    → (left : Entries) → left ≡ old.commands.items → (e : Fail) → ((gone : Entries) (text : List ℕ) → Holds old gone text → Leaves {X = Unit {0}} (Err e) (gone ++ left) (spelled (old.items + 1) byte (old.item.items ++ last ∷ []) (gone ++ old.commands.items))) → Refuses old left (last ∷ []) e
+refused_or_memory : (old : Progress) (last byte : ℕ) → old.ended ≡ false → last ≡ end_byte old.item.items → (length old.item.items ≡ 0 → byte ≡ old.offset) → (0 < length old.item.items → byte ≡ old.start)
+    → (left : Entries) → left ≡ old.commands.items → (e : Fail) → ((gone : Entries) (text : List ℕ) → Holds old gone text → ResultsIn {X = Unit {0}} (Err e) (gone ++ left) (spelled (old.items + 1) byte (old.item.items ++ last ∷ []) (gone ++ old.commands.items))) → Refuses old left (last ∷ []) e
 refused_or_memory old last byte running last-is fresh begun left same Memory h = out_of_memory old left (last ∷ []) same
 refused_or_memory old last byte running last-is fresh begun left same (Refused f) h = refused old last byte running last-is fresh begun left same f h
 
@@ -63,7 +63,7 @@ returns-clause-ok c gone text h =
       pending = λ _. c.clear.ensures.items;
       start = λ _ lt. absurd (omega arith);
       offset = omega (arith, h.offset, length-append text (last ∷ []));
-      ended = c.is_text_end-self.ensures ∙ (ap is_end item-2 ∙ sym k.ends);
+      ended = c.is_end_item-self.ensures ∙ (ap is_end_item item-2 ∙ sym k.ends);
     }
 
 pub returns-then-len-eq-ITEM_LIMIT-clause-err : goal.returns-then-len-eq-ITEM_LIMIT-clause-err
@@ -81,14 +81,14 @@ returns-in_err-self-clause-err c =
     let item : c.deref.result.now ≡ old.item.items ++ last ∷ [] = c.deref.ensures.value ∙ c.in_ok-push.ensures.items in
     let e = c.in_err-self.field-0.0 in
     let p = err_from_is_err_and c.from_residual-in_err-self.result c.from_residual-in_err-self.ensures.1 in
-    rw (p.1, p.2) (refused_or_memory old last c.item_start-byte.result c.requires.running c.requires.last (λ z. c.item_start-byte.ensures.fresh (omega (arith, len, z))) (λ lt. c.item_start-byte.ensures.begun (omega (arith, len, lt))) c.spell.new.commands.items c.in_err-self.ensures.err e (λ gone text h. subst (λ (b : List ℕ). Leaves {X = Unit {0}} (Err e) (gone ++ c.spell.new.commands.items) (spelled (old.items + 1) c.item_start-byte.result b (gone ++ old.commands.items))) item (c.in_err-self.ensures.spelled gone h.plotting)))
+    rw (p.1, p.2) (refused_or_memory old last c.item_start-byte.result c.requires.running c.requires.last (λ z. c.item_start-byte.ensures.fresh (omega (arith, len, z))) (λ lt. c.item_start-byte.ensures.begun (omega (arith, len, lt))) c.parse_item.new.commands.items c.in_err-self.ensures.err e (λ gone text h. subst (λ (b : List ℕ). ResultsIn {X = Unit {0}} (Err e) (gone ++ c.parse_item.new.commands.items) (spelled (old.items + 1) c.item_start-byte.result b (gone ++ old.commands.items))) item (c.in_err-self.ensures.spelled gone h.plotting)))
 
 pub returns-in_err-push-clause-err : goal.returns-in_err-push-clause-err
 returns-in_err-push-clause-err c =
     let p = err_from_is_err_and c.from_residual.result c.from_residual.ensures.1 in
     rw (p.1, p.2) (out_of_memory c.args.self.now c.args.self.now.commands.items (c.args.last ∷ []) refl)
 
-pub spell-requires-clause-item : goal.spell-requires-clause-item
-spell-requires-clause-item c =
+pub parse_item-requires-clause-item : goal.parse_item-requires-clause-item
+parse_item-requires-clause-item c =
     let old = c.args.self.now.item.items in
     (old, c.deref.ensures.value ∙ c.in_ok-push.ensures.items ∙ ap (λ b. old ++ b ∷ []) c.requires.last)

@@ -4,20 +4,20 @@ use Rattle.std.proofs.lemmas.List.{length-append}
 use Rattle.std.proofs.lemmas.List.Elements.{recursion_from_All}
 use Rattle.grid_units.specs.declared.fault.Reason.TheVariants.{TooLong}
 use Rattle.gerber_text.specs.Inner.Bytes.{IsInside}
-use Rattle.gerber_rows.specs.Items.{ender, IsUnfinished}
+use Rattle.gerber_text.specs.Items.{end_byte, IsUnfinished}
 use Rattle.gerber_text.specs.Cut.{OffsetByte, Splits, offset_bytes, bytes_of, has_end}
 use Rattle.grid_units.specs.Results.{fault}
 use Rattle.gerber_text.specs.Holding.{Refuses}
-use Rattle.gerber_text.proofs.OffsetBytes.{first_offset-append}
-use Rattle.gerber_text.proofs.Shown.{running_ok, show_ok, show_long, kept_all, out_of_memory}
+use Rattle.gerber_text.proofs.OffsetByteLemmas.{first_offset-append}
+use Rattle.gerber_text.proofs.ShowsLemmas.{running_ok, show_ok, show_long, kept_all, out_of_memory}
 use Rattle.std.proofs.lemmas.Result.{err_from_is_err_and}
-use Rattle.gerber_text.proofs.Steps.{Longer, lengthens, run_inside, run_kept, length-bytes_of}
+use Rattle.gerber_text.proofs.ReaderStepLemmas.{FaultsStay, lengthens, run_inside, run_kept, length-bytes_of}
 use Rattle.gerber_text.proofs.reader.Progress.extend.Goals as goal
 
 -- a reader inside an item, and a run that stays inside
-longer : (item run text : List ℕ) (items : List (List OffsetByte)) (rest : List OffsetByte) → Splits (offset_bytes text) items rest → has_end items ≡ false → item ≡ bytes_of rest → 0 < length item → AllByRecursion (IsInside (ender item)) run → Longer text items rest run
+longer : (item run text : List ℕ) (items : List (List OffsetByte)) (rest : List OffsetByte) → Splits (offset_bytes text) items rest → has_end items ≡ false → item ≡ bytes_of rest → 0 < length item → AllByRecursion (IsInside (end_byte item)) run → FaultsStay text items rest run
 longer item run text items rest s none is long inside =
-    lengthens text items rest run s (subst (λ (x : List ℕ). IsUnfinished (x ++ run)) is (run_inside item run long (subst IsUnfinished (sym is) (s.partial none)) inside)) (run_kept (ender item) run inside)
+    lengthens text items rest run s (subst (λ (x : List ℕ). IsUnfinished (x ++ run)) is (run_inside item run long (subst IsUnfinished (sym is) (s.partial none)) inside)) (run_kept (end_byte item) run inside)
 
 pub returns-clause-ok : goal.returns-clause-ok
 returns-clause-ok c gone text h =
@@ -26,7 +26,7 @@ returns-clause-ok c gone text h =
     let none = sym h.ended ∙ c.requires.running in
     let is = h.pending none in
     let begun : 0 < length item = omega (arith, c.args.self.now.item.ok.0, c.requires.begun) in
-    let long = longer item run text h.items h.rest h.splits none is begun (recursion_from_All (IsInside (ender item)) run c.requires.inside) in
+    let long = longer item run text h.items h.rest h.splits none is begun (recursion_from_All (IsInside (end_byte item)) run c.requires.inside) in
     let before = running_ok h.items h.rest _ none h.commands in
     let size : length h.rest ≡ length item = sym (length-bytes_of h.rest) ∙ ap length (sym is) in
     let some : 0 < length h.rest = omega (arith, size, begun) in
@@ -50,7 +50,7 @@ returns-then-run-len-clause-err c = subst (Refuses c.args.self.now c.args.self.n
     let none = sym h.ended ∙ c.requires.running in
     let is = h.pending none in
     let begun : 0 < length item = omega (arith, c.args.self.now.item.ok.0, c.requires.begun) in
-    let long = longer item run text h.items h.rest h.splits none is begun (recursion_from_All (IsInside (ender item)) run c.requires.inside) in
+    let long = longer item run text h.items h.rest h.splits none is begun (recursion_from_All (IsInside (end_byte item)) run c.requires.inside) in
     let before = running_ok h.items h.rest _ none h.commands in
     let size : length h.rest ≡ length item = sym (length-bytes_of h.rest) ∙ ap length (sym is) in
     let some : 0 < length h.rest = omega (arith, size, begun) in
@@ -62,7 +62,7 @@ returns-then-run-len-clause-err c = subst (Refuses c.args.self.now c.args.self.n
       kept = length h.items;
       within = omega arith;
       spelled = kept_all c.args.self.now gone text h;
-      told = (show_long h.items (h.rest ++ long.more) _ none before.0 (omega (arith, long.long, size, c.args.self.now.item.ok.0, c.if-run-len.true)) ∙ (ap (λ b. Err (fault (suc (length h.items)) b TooLong)) (first_offset-append h.rest long.more some ∙ sym (h.start none some)) ∙ ap (λ p. Err (fault p c.args.self.now.start TooLong)) place), sym place);
+      reported = (show_long h.items (h.rest ++ long.more) _ none before.0 (omega (arith, long.long, size, c.args.self.now.item.ok.0, c.if-run-len.true)) ∙ (ap (λ b. Err (fault (suc (length h.items)) b TooLong)) (first_offset-append h.rest long.more some ∙ sym (h.start none some)) ∙ ap (λ p. Err (fault p c.args.self.now.start TooLong)) place), sym place);
     })
 
 pub returns-in_err-extend_from_slice-clause-err : goal.returns-in_err-extend_from_slice-clause-err

@@ -1,6 +1,6 @@
 use Rattle.std.proofs.lemmas.Result.{err_from_is_err_and}
 use Rattle.std.proofs.Common.{◌++◌}
-use Rattle.gerber_text.proofs.Whole.{ends_answers, ends_kept}
+use Rattle.gerber_text.proofs.FinishLemmas.{ends_answers, ends_kept}
 use Rattle.gerber_text.proofs.reader.Progress.finish.Goals as goal
 
 pub returns-in_err-end-clause-exact : goal.returns-in_err-end-clause-exact

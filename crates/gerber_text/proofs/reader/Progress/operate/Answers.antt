@@ -1,12 +1,12 @@
 use Rattle.std.proofs.Common.{◌≡◌, ◌+◌, ◌≤◌, None, Ok, ℕ, List, [], ◌∷◌, ◌++◌, length, take, sym, ap, ◌∙◌, arith, append_assoc}
 use Rattle.std.proofs.lemmas.List.{length-append, length-take, nil_from_length}
 use Rattle.std.proofs.lemmas.Result.{err_from_is_err_and}
-use Rattle.gerber_rows.specs.declared.command.Command.{Command}
-use Rattle.gerber_rows.specs.declared.command.Command.TheVariants.{Operate}
-use Rattle.gerber_rows.specs.Rows.{modes_of}
+use Rattle.gerber_commands.specs.declared.command.Command.{Command}
+use Rattle.gerber_commands.specs.declared.command.Command.TheVariants.{Operate}
+use Rattle.gerber_commands.specs.Rows.{modes_of}
 use Rattle.gerber_text.specs.Reading.{Entries, is_plotting, placed, spelled}
-use Rattle.gerber_text.proofs.Shown.{out_of_memory}
-use Rattle.gerber_text.proofs.Steps.{length-bytes_of}
+use Rattle.gerber_text.proofs.ShowsLemmas.{out_of_memory}
+use Rattle.gerber_text.proofs.ReaderStepLemmas.{length-bytes_of}
 use Rattle.gerber_text.proofs.Items.{takes, spelled_ok}
 use Rattle.gerber_text.proofs.reader.Progress.operate.Goals as goal
 use Rattle.grid_units.specs.Limits.{item_limit}
@@ -25,9 +25,9 @@ returns-clause-ok c gone text h =
     let size : length item ≡ operation.len = omega (arith, length-take operation.len c.args.bytes.now, begins.within) in
     let short : length item ≤ item_limit = omega (arith, size, begins.short) in
     let k = takes text item h.items h.rest (self.items + 1) before h.splits no_rest none h.commands begins.one begins.kept short (omega (arith, h.count)) in
-    let after = gone ++ c.add_behind.new.commands.items in
+    let after = gone ++ c.add_with_mode.new.commands.items in
     let added : before ++ placed (self.items + 1) (length text) whats ≡ after = ap (λ b. before ++ placed (self.items + 1) b whats) (sym h.offset) ∙ sym (ap (λ (x : Entries). gone ++ x) c.in_ok-self.ensures.added ∙ sym (append_assoc gone self.commands.items (placed (self.items + 1) self.offset whats))) in
-    let said : spelled (self.items + 1) (length text) item before ≡ Ok after = spelled_ok (self.items + 1) (length text) item before whats short (begins.says (is_plotting before)) ∙ ap (λ (x : Entries). Ok x) added in
+    let said : spelled (self.items + 1) (length text) item before ≡ Ok after = spelled_ok (self.items + 1) (length text) item before whats short (begins.parses (is_plotting before)) ∙ ap (λ (x : Entries). Ok x) added in
     record {
       items = h.items ++ k.last ∷ [];
       rest = [];
@@ -44,4 +44,4 @@ returns-clause-ok c gone text h =
 pub returns-in_err-self-clause-err : goal.returns-in_err-self-clause-err
 returns-in_err-self-clause-err c =
     let p = err_from_is_err_and c.from_residual.result c.from_residual.ensures.1 in
-    rw (p.1, p.2) (out_of_memory c.args.self.now c.add_behind.new.commands.items (take c.args.operation.len c.args.bytes.now) c.in_err-self.ensures.err)
+    rw (p.1, p.2) (out_of_memory c.args.self.now c.add_with_mode.new.commands.items (take c.args.operation.len c.args.bytes.now) c.in_err-self.ensures.err)

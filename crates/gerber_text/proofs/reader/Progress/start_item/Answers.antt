@@ -1,11 +1,11 @@
 use Rattle.std.proofs.lemmas.Result.{err_from_is_err_and}
-use Rattle.gerber_text.proofs.Shown.{Refuses-first, Refuses-front}
+use Rattle.gerber_text.proofs.ShowsLemmas.{Refuses-first, Refuses-prefix}
 use Rattle.gerber_text.proofs.reader.Progress.start_item.Goals as goal
 
 pub returns-in_err-take_item-in-Some-clause-err : goal.returns-in_err-take_item-in-Some-clause-err
 returns-in_err-take_item-in-Some-clause-err c =
     let p = err_from_is_err_and c.from_residual.result c.from_residual.ensures.1 in
-    rw (p.1, p.2) (Refuses-front c.args.self.now c.take_item.new.self.commands.items c.args.bytes.now c.in-Some.len c.in_err-take_item-in-Some.field-0.0 c.in_err-take_item-in-Some.ensures.err)
+    rw (p.1, p.2) (Refuses-prefix c.args.self.now c.take_item.new.self.commands.items c.args.bytes.now c.in-Some.len c.in_err-take_item-in-Some.field-0.0 c.in_err-take_item-in-Some.ensures.err)
 
 pub returns-in_err-begin-in-None-clause-err : goal.returns-in_err-begin-in-None-clause-err
 returns-in_err-begin-in-None-clause-err c =

@@ -6,7 +6,7 @@ use Rattle.grid_units.specs.Limits.{text_limit}
 use Rattle.grid_units.specs.declared.fault.Reason.TheVariants.{TooLong}
 use Rattle.grid_units.specs.declared.fault.Fail.TheVariants.{Refused}
 use Rattle.gerber_text.specs.Holding.{Refuses, RefusesText, FailsWith}
-use Rattle.gerber_text.proofs.Whole.{refuses_within, refuses_beyond, too_long_text}
+use Rattle.gerber_text.proofs.FinishLemmas.{refuses_within, refuses_beyond, too_long_text}
 use Rattle.gerber_text.proofs.reader.Progress.take.Goals as goal
 
 pub returns-then-piece-room-clause-err : goal.returns-then-piece-room-clause-err

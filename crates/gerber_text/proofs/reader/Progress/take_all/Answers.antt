@@ -3,7 +3,7 @@ use Rattle.std.proofs.lemmas.List.{length-drop, length-take, take-append-drop, t
 use Rattle.std.proofs.Math.Seq.{take-add}
 use Rattle.std.proofs.lemmas.Result.{err_from_is_err_and}
 use Rattle.gerber_text.specs.Holding.{Advances, Refuses}
-use Rattle.gerber_text.proofs.Shown.{Advances-then, Refuses-then}
+use Rattle.gerber_text.proofs.ShowsLemmas.{Advances-then, Refuses-then}
 use Rattle.gerber_text.proofs.reader.Progress.take_all.Goals as goal
 
 pub returns-in_err-taken-clause-err : goal.returns-in_err-taken-clause-err

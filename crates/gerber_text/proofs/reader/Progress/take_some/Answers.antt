@@ -1,5 +1,5 @@
 use Rattle.std.proofs.lemmas.Result.{err_from_is_err_and}
-use Rattle.gerber_text.proofs.Shown.{Refuses-first, Refuses-front}
+use Rattle.gerber_text.proofs.ShowsLemmas.{Refuses-first, Refuses-prefix}
 use Rattle.gerber_text.proofs.reader.Progress.take_some.Goals as goal
 
 pub returns-in_err-close-clause-err : goal.returns-in_err-close-clause-err
@@ -10,4 +10,4 @@ returns-in_err-close-clause-err c =
 pub returns-in_err-extend-clause-err : goal.returns-in_err-extend-clause-err
 returns-in_err-extend-clause-err c =
     let p = err_from_is_err_and c.from_residual-in_err-extend.result c.from_residual-in_err-extend.ensures.1 in
-    rw (p.1, p.2) (Refuses-front c.args.self.now c.extend.new.self.commands.items c.args.bytes.now c.inside_len.result c.in_err-extend.field-0.0 c.in_err-extend.ensures.err)
+    rw (p.1, p.2) (Refuses-prefix c.args.self.now c.extend.new.self.commands.items c.args.bytes.now c.inside_len.result c.in_err-extend.field-0.0 c.in_err-extend.ensures.err)

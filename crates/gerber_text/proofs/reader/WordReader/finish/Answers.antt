@@ -1,6 +1,6 @@
 use Rattle.std.proofs.Common.{[]}
-use Rattle.gerber_text.proofs.AllSaid.{always_said}
+use Rattle.gerber_text.proofs.TextIsSayable.{always_sayable}
 use Rattle.gerber_text.proofs.reader.WordReader.finish.Goals as goal
 
 pub returns-in-None-clause-sayable : goal.returns-in-None-clause-sayable
-returns-in-None-clause-sayable c text h = always_said text c.finish.result (c.finish.ensures.exact [] text h.holds)
+returns-in-None-clause-sayable c text h = always_sayable text c.finish.result (c.finish.ensures.exact [] text h.holds)

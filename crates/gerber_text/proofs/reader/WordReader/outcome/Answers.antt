@@ -1,7 +1,7 @@
 use Rattle.std.proofs.Common.{[], ◌≡◌, None, Some, Err, sym, subst, ◌∙◌}
 use Rattle.grid_units.specs.declared.fault.Fail.{Fail}
-use Rattle.gerber_text.specs.Reading.{Keeps}
-use Rattle.gerber_text.proofs.Whole.{ends_keeps, keeps_err}
+use Rattle.gerber_text.specs.Reading.{ReadsUpToFault}
+use Rattle.gerber_text.proofs.FinishLemmas.{ends_keeps, keeps_err}
 use Rattle.gerber_text.proofs.reader.WordReader.outcome.Goals as goal
 
 same : (a b : Fail) → Some a ≡ Some b → a ≡ b
@@ -16,7 +16,7 @@ returns-in-Some-clause-stands c text h = absurd (never c.in-Some.fail (sym c.in-
 pub returns-in-Some-clause-failed : goal.returns-in-Some-clause-failed
 returns-in-Some-clause-failed c text e h =
     let cs = c.args.self.now.progress.commands.items in
-    subst (λ (f : Fail). Keeps {X = Unit {0}} text cs (Err f)) (same e c.in-Some.fail (sym h.failed ∙ c.in-Some.is)) (keeps_err text cs e h.fails)
+    subst (λ (f : Fail). ReadsUpToFault {X = Unit {0}} text cs (Err f)) (same e c.in-Some.fail (sym h.failed ∙ c.in-Some.is)) (keeps_err text cs e h.fails)
 
 pub returns-in-None-clause-stands : goal.returns-in-None-clause-stands
 returns-in-None-clause-stands c text h = ends_keeps text c.args.self.now.progress.commands.items c.end.result (c.end.ensures [] text h.holds)

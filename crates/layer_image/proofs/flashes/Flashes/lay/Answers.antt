@@ -4,10 +4,10 @@ use Rattle.std.specs.List.{flat_map}
 use Rattle.grid_units.specs.Points.{GridPoint}
 use Rattle.layer_image.specs.declared.flash.Flash.{Flash}
 use Rattle.layer_image.specs.Flashes.{numbers_below, copy_at}
-use Rattle.layer_image.specs.Inner.Moved.{flash_moved, moved}
-use Rattle.layer_image.specs.Keeping.{Adds}
-use Rattle.layer_image.proofs.Adding.{adds_more}
-use Rattle.layer_image.proofs.Grids.{fewer_copies, next_column, next_row}
+use Rattle.layer_image.specs.Inner.MovedPads.{flash_moved, moved}
+use Rattle.layer_image.specs.KeptFlashes.{Adds}
+use Rattle.layer_image.proofs.KeptFlashesLemmas.{adds_more}
+use Rattle.layer_image.proofs.CopyGrids.{fewer_copies, next_column, next_row}
 use Rattle.layer_image.proofs.flashes.Flashes.lay.Goals as goal
 
 pub add-requires : goal.add-requires

@@ -1,8 +1,8 @@
 use Rattle.std.proofs.Common.{◌++◌, map}
 use Rattle.std.specs.List.{flat_map}
 use Rattle.layer_image.specs.Flashes.{numbers_below, copy_at}
-use Rattle.layer_image.specs.Inner.Moved.{flash_moved}
-use Rattle.layer_image.specs.Keeping.{Adds}
+use Rattle.layer_image.specs.Inner.MovedPads.{flash_moved}
+use Rattle.layer_image.specs.KeptFlashes.{Adds}
 use Rattle.layer_image.proofs.flashes.Flashes.lay.Given as goal
 
 abbrev pub invariant-loop-u : goal.invariant-loop-u

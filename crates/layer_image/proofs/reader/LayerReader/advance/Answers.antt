@@ -4,9 +4,9 @@ use Rattle.std.proofs.lemmas.Result.{err_from_is_err_and}
 use Rattle.gerber_text.specs.Reading.{Entries}
 use Rattle.gerber_text.specs.Holding.{held}
 use Rattle.layer_image.specs.declared.scan.Scan.{Scan}
-use Rattle.layer_image.specs.Holding.{Scanned}
-use Rattle.layer_image.specs.Keeping.{keeps_commands}
-use Rattle.layer_image.proofs.Adding.{kept_append}
+use Rattle.layer_image.specs.Holding.{HasScannedLegal}
+use Rattle.layer_image.specs.KeptFlashes.{keeps_commands}
+use Rattle.layer_image.proofs.KeptFlashesLemmas.{kept_append}
 use Rattle.layer_image.proofs.Pieces.{rule_shown, words_shown}
 use Rattle.layer_image.proofs.reader.LayerReader.advance.Goals as goal
 
@@ -28,13 +28,13 @@ returns-in_err-outcome-clause-err c keep text h =
 pub returns-clause-ok : goal.returns-clause-ok
 returns-clause-ok c keep text h =
     let now = held c.feed-outcome.new.self in
-    let scanned = subst (λ (x : Entries). Scanned c.scan.new.self keep (h.gone ++ x)) c.commands.ensures.held (c.in_ok-scan.ensures.ok keep h.gone h.scanned) in
+    let scanned = subst (λ (x : Entries). HasScannedLegal c.scan.new.self keep (h.gone ++ x)) c.commands.ensures.held (c.in_ok-scan.ensures.ok keep h.gone h.scanned) in
     record {
       sound = c.in_ok-keep_commands.ensures.failed ∙ h.sound;
       same = c.in_ok-keep_commands.ensures.keep ∙ h.same;
       gone = h.gone ++ now;
       words = c.in_ok-keep_commands.ensures.words h.gone (text ++ c.args.piece.now) (c.in_ok-outcome.ensures.ok h.gone text h.words);
       none = c.in_ok-keep_commands.ensures.none;
-      scanned = subst (λ (s : Scan). Scanned s keep (h.gone ++ now)) (sym c.in_ok-keep_commands.ensures.scan) scanned;
+      scanned = subst (λ (s : Scan). HasScannedLegal s keep (h.gone ++ now)) (sym c.in_ok-keep_commands.ensures.scan) scanned;
       kept = c.in_ok-keep_commands.ensures.kept ∙ (λ i. h.kept i ++ cond (keeps_commands (h.same i)) now []) ∙ sym (kept_append (keeps_commands keep) h.gone now);
     }

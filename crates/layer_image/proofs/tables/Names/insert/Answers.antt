@@ -3,7 +3,7 @@ use Rattle.std.proofs.Common.{◌≡◌, ◌∙◌, ◌||◌, ℕ, List, ap, nat
 use Rattle.std.specs.List.{list_any}
 use Rattle.std.specs.Cmp.Lexicographic.{pointwise}
 use Rattle.layer_image.specs.Tables.{has_name}
-use Rattle.layer_image.proofs.Naming.{has_bytes, has_bytes_of, any_inserted}
+use Rattle.layer_image.proofs.NamesLemmas.{has_bytes, has_bytes_of, any_inserted}
 use Rattle.layer_image.proofs.tables.Names.insert.Goals as goal
 
 pub returns : goal.returns

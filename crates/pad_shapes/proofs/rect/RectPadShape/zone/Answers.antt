@@ -1,8 +1,8 @@
 use Rattle.std.proofs.Common.{◌≡◌, true, subst, sym}
 use Rattle.pad_shapes.specs.Shapes.{GridRect, rect_covers}
-use Rattle.pad_shapes.proofs.Zoning.{rect_deep}
+use Rattle.pad_shapes.proofs.ZonesLemmas.{rect_inset}
 use Rattle.pad_shapes.proofs.rect.RectPadShape.zone.Goals as goal
 
 pub returns : goal.returns
 returns c = λ p r less e.
-    c.deep_within.ensures p (rect_deep (record { centre = c.self.inside.centre; half_x = c.self.inside.half_x; half_y = c.self.inside.half_y }) p c.args.reach r less (subst (λ (s : GridRect). rect_covers s p r ≡ true) (sym c.self.view_is) e))
+    c.inset_zone.ensures p (rect_inset (record { centre = c.self.inside.centre; half_x = c.self.inside.half_x; half_y = c.self.inside.half_y }) p c.args.reach r less (subst (λ (s : GridRect). rect_covers s p r ≡ true) (sym c.self.view_is) e))

@@ -3,8 +3,8 @@ use mathlib.Core.List.{append_assoc}
 use Rattle.std.specs.Char.{encode_utf8}
 use Rattle.std.specs.Str.Iter.{chars_rest}
 use Rattle.std.proofs.Output.{has_written_append, has_written_of_eq, writes_in_calls_nil}
-use Rattle.picture.specs.Escapes.{escaped, escaped_behind}
-use Rattle.picture.proofs.Escaping.{no_more_characters, one_more_character}
+use Rattle.picture.specs.Escapes.{escaped, escaped_after}
+use Rattle.picture.proofs.EscapesLemmas.{no_more_characters, one_more_character}
 use Rattle.picture.proofs.names.EscapedDisplay.fmt.Goals as goal
 
 pub loop-character-init : goal.loop-character-init
@@ -26,9 +26,9 @@ loop-character-preserved g c = λ plain.
       more.0,
       more.1,
       has_written_append _ _ _ _ _ _ now.3 (c.in_ok-write_character.ensures now.3.plain refl),
-      append_assoc now.0 text (escaped_behind more.0 more.1 rest)
+      append_assoc now.0 text (escaped_after more.0 more.1 rest)
           ∙ ap (λ t. now.0 ++ t) (sym more.2)
-          ∙ ap (λ t. now.0 ++ escaped_behind now.1 now.2 t) (sym c.in-Some.ensures.steps.0)
+          ∙ ap (λ t. now.0 ++ escaped_after now.1 now.2 t) (sym c.in-Some.ensures.steps.0)
           ∙ now.4,
     )
 

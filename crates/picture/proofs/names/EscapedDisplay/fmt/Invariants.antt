@@ -1,11 +1,11 @@
 use Rattle.std.proofs.Common.{◌≡◌, ◌++◌, ℕ, List}
 use Rattle.std.specs.Fmt.{HasWritten, IsPlainFormatter}
 use Rattle.std.specs.Str.Iter.{chars_rest}
-use Rattle.picture.specs.Escapes.{escaped, escaped_behind}
+use Rattle.picture.specs.Escapes.{escaped, escaped_after}
 use Rattle.picture.proofs.names.EscapedDisplay.fmt.Given as goal
 
 -- the characters so far, and the rest as it is printed after some two bytes, are the whole name
 abbrev pub invariant-loop-character : goal.invariant-loop-character
 invariant-loop-character g l =
     IsPlainFormatter l.initial.f
-    → (done : List ℕ) × (first : ℕ) × (second : ℕ) × HasWritten g.W.Write.write_str_gives l.initial.f done l.f × (done ++ escaped_behind first second (chars_rest l.character-iterator) ≡ escaped l.fn.self.0.now)
+    → (done : List ℕ) × (first : ℕ) × (second : ℕ) × HasWritten g.W.Write.write_str_gives l.initial.f done l.f × (done ++ escaped_after first second (chars_rest l.character-iterator) ≡ escaped l.fn.self.0.now)

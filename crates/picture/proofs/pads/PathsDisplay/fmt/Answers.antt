@@ -1,8 +1,8 @@
 use Rattle.std.proofs.Common.{◌∙◌, ◌++◌, ◌+◌, [], Some, refl, ap, drop}
 use mathlib.Core.List.{append_assoc}
 use Rattle.std.proofs.Output.{has_written_append, has_written_of_eq, writes_in_calls_nil}
-use Rattle.picture.specs.Elements.{outline, pads_behind, turn}
-use Rattle.picture.proofs.Padding.{no_more_pads, one_more_pad}
+use Rattle.picture.specs.Elements.{outline, paths_after, path_change}
+use Rattle.picture.proofs.PadPathLemmas.{no_more_pads, one_more_pad}
 use Rattle.picture.proofs.pads.PathsDisplay.fmt.Goals as goal
 
 pub loop-pad-init : goal.loop-pad-init
@@ -17,10 +17,10 @@ loop-pad-preserved g c = λ plain.
     let pad = c.pad-item.result in
     let first = c.in_ok-write_turn.ensures now.1.plain refl in
     let both = has_written_append _ _ _ _ _ _ first (c.in_ok-write.ensures.writes first.plain refl) in
-    let text = turn before pad ++ outline pad in (
+    let text = path_change before pad ++ outline pad in (
       now.0 ++ text,
       has_written_append _ _ _ _ _ _ now.1 both,
-      append_assoc now.0 text (pads_behind (Some pad) (drop (i + 1) all)) ∙ ap (λ t. now.0 ++ t) (one_more_pad before all i pad c.loop-pad-test.true c.pad-item.is) ∙ now.2,
+      append_assoc now.0 text (paths_after (Some pad) (drop (i + 1) all)) ∙ ap (λ t. now.0 ++ t) (one_more_pad before all i pad c.loop-pad-test.true c.pad-item.is) ∙ now.2,
     )
 
 pub returns-clause-writes : goal.returns-clause-writes

@@ -1,0 +1,12 @@
+pub mod MeasuresLemmas
+pub mod HolePlacesLemmas
+pub mod JoinedRows
+pub mod TablesLemmas
+pub mod RowLinesLemmas
+pub mod UnitMistakeLinesLemmas
+pub mod LayerBestsLemmas
+pub mod FilesWithHolesLemmas
+pub mod LayerLinesLemmas
+pub mod AddedEntries
+pub mod AgreementLemmas
+pub mod BestPads

@@ -1,0 +1,7 @@
+use Rattle.std.proofs.Common.{take}
+use Rattle.std.specs.List.{AllZip, filter}
+use Rattle.board_report.specs.BoardReport.{IsGapEntry, is_gap}
+use Rattle.board_report.proofs.gaps.gap_lacks.Given as goal
+
+abbrev pub invariant-loop-finding : goal.invariant-loop-finding
+invariant-loop-finding l = AllZip (IsGapEntry l.board l.rules.gap) (filter is_gap (take l.finding-index l.findings)) l.output.items

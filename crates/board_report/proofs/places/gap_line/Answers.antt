@@ -1,0 +1,7 @@
+use Rattle.std.proofs.Common.{subst}
+use Rattle.margins.specs.NearestHoles.{IsNearestOf, IsPair}
+use Rattle.board_report.proofs.HolePlacesLemmas.{no_pair}
+use Rattle.board_report.proofs.places.gap_line.Goals as goal
+
+pub returns-in-None : goal.returns-in-None
+returns-in-None c = no_pair c.args.board.now.holes (subst (IsNearestOf c.args.board.now.holes (IsPair c.args.board.now.holes)) c.in-None.is c.requires)

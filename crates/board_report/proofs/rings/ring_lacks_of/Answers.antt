@@ -1,0 +1,18 @@
+use Rattle.std.proofs.Common.{List, take, subst, sym}
+use Rattle.std.specs.Prelude.{not}
+use Rattle.std.specs.List.{AllZip, filter}
+use Rattle.std.proofs.lemmas.List.{take_more}
+use Rattle.ring_rules.specs.declared.finding.Finding.{Finding}
+use Rattle.board_report.specs.BoardReport.{IsRingEntry, is_gap}
+use Rattle.board_report.proofs.AddedEntries.{added}
+use Rattle.board_report.proofs.rings.ring_lacks_of.Goals as goal
+
+pub loop-finding-preserved : goal.loop-finding-preserved
+loop-finding-preserved c =
+    let i = c.loop-finding.finding-index in
+    let all = c.args.findings.now in
+    record {
+      current = c.in_ok-current.ensures.current;
+      output = subst (λ (xs : List Finding). AllZip (IsRingEntry c.args.flashed.now c.args.rules.ring) (filter (λ finding. not (is_gap finding)) xs) c.push.new.output.items) (sym (take_more all i _ c.loop-finding-test.true))
+          (added (IsRingEntry c.args.flashed.now c.args.rules.ring) (λ finding. not (is_gap finding)) (take i all) _ c.loop-finding.output.items c.push.new.output.items c.loop-finding.invariant.output c.in_ok-current.ensures.adds);
+    }

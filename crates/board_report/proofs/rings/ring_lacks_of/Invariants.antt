@@ -1,0 +1,12 @@
+use Rattle.std.proofs.Common.{take}
+use Rattle.std.specs.Prelude.{IfSome, not}
+use Rattle.std.specs.List.{AllZip, filter}
+use Rattle.board_report.specs.Inner.EntriesSoFar.{IsCurrentLayer}
+use Rattle.board_report.specs.BoardReport.{IsRingEntry, is_gap}
+use Rattle.board_report.proofs.rings.ring_lacks_of.Given as goal
+
+abbrev pub invariant-loop-finding : goal.invariant-loop-finding
+invariant-loop-finding l = record {
+  current : IfSome l.current (IsCurrentLayer l.flashed);
+  output : AllZip (IsRingEntry l.flashed l.rules.ring) (filter (λ finding. not (is_gap finding)) (take l.finding-index l.findings)) l.output.items;
+}

@@ -1,0 +1,13 @@
+use Rattle.std.proofs.Common.{◌≡◌, ◌<◌, ◌≤◌, ℕ, length, get_or, drop}
+use Rattle.std.specs.BTreeMap.{keys, values}
+use Rattle.report.specs.declared.RingLine.{RingLine}
+use Rattle.board_report.specs.Rows.{IsRowLine}
+use Rattle.board_report.specs.Inner.Tables.{row_of}
+use Rattle.board_report.proofs.rows.lines_of_table.Given as goal
+
+abbrev pub invariant-loop-places : goal.invariant-loop-places
+invariant-loop-places l = record {
+  size : length l.lines.items ≤ length l.table.entries;
+  left : l.places-iterator ≡ drop (length l.lines.items) (values l.table);
+  lines : (i k : ℕ) (d : RingLine) → i < length l.lines.items → IsRowLine l.board (row_of l.file_holes (get_or (keys l.table) i k)) (get_or l.lines.items i d);
+}

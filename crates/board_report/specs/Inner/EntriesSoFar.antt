@@ -1,0 +1,32 @@
+-- The entries so far, and one more finding.
+use Rattle.std.specs.Prelude.{◌≡◌, Bool, true, false, List, [], ◌∷◌, ◌++◌, Option, length, map}
+use Rattle.std.specs.Global.{Vec}
+use Rattle.ring_rules.specs.declared.finding.Finding.{Finding}
+use Rattle.margins.specs.declared.best.BestPad.{BestPad}
+use Rattle.package_check.specs.Boards.{BoardView}
+use Rattle.board_report.specs.Measures.{AreLayerBests}
+use Rattle.board_report.specs.Rows.{AreFilesWithHoles}
+use Rattle.package_check.specs.Flashed.{FlashedBoardView}
+use Rattle.report.specs.Causes.{HoldsFlashesAndBests}
+use Rattle.board_report.specs.BoardReport.{layer_flashes}
+use Rattle.board_report.specs.declared.rings.CurrentLayer.{CurrentLayer}
+use Rattle.board_report.specs.declared.rings.BoardData.{BoardData}
+
+-- the data kept of a layer belong to its flashes and to the holes of the board
+abbrev pub IsCurrentLayer : FlashedBoardView → CurrentLayer → Type 0
+IsCurrentLayer flashed current = HoldsFlashesAndBests (layer_flashes flashed current.layer) flashed.board.holes current.causes
+
+-- the best pads of each layer of a board, for each of its holes
+abbrev pub AreBoardBests : BoardView → List (Vec (Option BestPad)) → Type 0
+AreBoardBests board bests = AreLayerBests board (length board.layers) (map (λ its. its.items) bests)
+
+-- the data made once for a board: the pads of its layers, the best of these for each hole, and its drill files that have holes
+pub record IsBoardData (board : BoardView) (board_data : BoardData) : Type 0 where
+  pub layers : map (λ pads. pads.now) board_data.layers.now ≡ board.layers
+  pub bests : AreBoardBests board board_data.bests.now
+  pub files : AreFilesWithHoles board board_data.files.now
+
+-- if the test is true, one more entry, that of the finding, is at the end; else the entries stay as they are
+abbrev pub AddsEntry : {T : Type 0} → Bool → (Finding → T → Type 0) → Finding → List T → List T → Type 0
+AddsEntry {T} true Tells finding old new = (output : T) × Tells finding output × (new ≡ old ++ output ∷ [])
+AddsEntry {T} false Tells finding old new = new ≡ old

@@ -1,0 +1,69 @@
+-- The measure of a package: its least rings and gap, and the rules that it meets. Lengths are whole picometres.
+use Rattle.std.specs.Prelude.{◌≡◌, ◌↔◌, ℕ, ◌<◌, Option, List, [], length, get_or, Result, Ok, Err, ⊤}
+use Rattle.grid_units.specs.Holes.{GridRules}
+use Rattle.grid_units.specs.declared.fault.Fault.{Fault}
+use Rattle.pad_shapes.specs.Pads.{pad_covers}
+use Rattle.margins.specs.BestPads.{AreBestPads}
+use Rattle.margins.specs.Meets.{MeetsRings, MeetsRingsInPads, MeetsGaps, allows}
+use Rattle.margins.specs.declared.best.BestPad.{BestPad}
+use Rattle.margins.specs.declared.met.Met.{Met}
+use Rattle.package_check.specs.Boards.{IsBoard, BoardView, board_findings}
+use Rattle.package_check.specs.Package.{IsFirstRefused, IsReport, FileView}
+use Rattle.package_check.specs.Reports.{ReportView}
+use Rattle.package_check.specs.declared.PackageFault.{PackageFault}
+use Rattle.package_check.specs.declared.PackageFault.TheVariants as stop
+use Rattle.board_report.specs.Rows.{AreRingLines, IsGapLine}
+use Rattle.board_report.specs.UnitMistakeLines.{AreUnitMistakes}
+use Rattle.report.specs.declared.Measure.{Measure}
+
+-- the ring and the gap of the rules are both allowed
+abbrev pub AllowsRules : Met → Met → GridRules → Type 0
+AllowsRules ring gap rules = allows ring rules.ring × allows gap rules.gap
+
+-- a check of the board has no findings under just the rules that are allowed
+abbrev pub BoardPasses : BoardView → Met → Met → Type 0
+BoardPasses board ring gap = (rules : GridRules) → (board_findings rules board ≡ []) ↔ AllowsRules ring gap rules
+
+-- the files of a package can be read, whatever the rules are, and its report has no findings under just the rules that are allowed
+pub record PackagePasses (sources : List FileView) (ring gap : Met) : Type 0 where
+  pub reported : (rules : GridRules) → (report : ReportView) × IsReport sources rules report
+  pub passes : (rules : GridRules) (report : ReportView) → IsReport sources rules report → (report.findings ≡ []) ↔ AllowsRules ring gap rules
+
+-- the measure of a board: the lines of its rings, its scales and its least gap, and the greatest rules that it meets
+pub record IsMeasure (board : BoardView) (measure : Measure) : Type 0 where
+  pub lines : AreRingLines board measure.rings.items
+  pub scales : AreUnitMistakes board (length board.files) measure.scales.items
+  pub gap : IsGapLine board measure.gap
+  pub rings : MeetsRings pad_covers board.layers board.holes measure.meets.ring
+  pub held : MeetsRingsInPads pad_covers board.layers board.holes measure.meets.in_pads
+  pub gaps : MeetsGaps board.holes measure.meets.gap
+
+-- the measure of a package: that of the board of its files
+pub record IsMeasureOf (sources : List FileView) (measure : Measure) : Type 0 where
+  pub board : BoardView
+  pub read : IsBoard sources board
+  pub is : IsMeasure board measure
+
+-- the best pad of each hole of a board, on each of its first `count` layers
+pub record AreLayerBests (board : BoardView) (count : ℕ) (bests : List (List (Option BestPad))) : Type 0 where
+  pub size : length bests ≡ count
+  pub each : (layer : ℕ) → layer < count → AreBestPads pad_covers (get_or board.layers layer []) board.holes (get_or bests layer [])
+
+-- the answer is the measure of the package, or its first file that is refused; if memory runs out nothing is claimed
+abbrev pub AnswersMeasure : List FileView → Result Measure PackageFault → Type 0
+AnswersMeasure sources (Ok measure) = IsMeasureOf sources measure
+AnswersMeasure sources (Err stop.Memory) = ⊤
+AnswersMeasure sources (Err (stop.File index fault)) = IsFirstRefused sources index fault
+
+-- a package has a measure just where a check reports on it, and is refused just as by a check, unless memory runs out
+abbrev pub RefusesAlike : Result ReportView (ℕ × Fault) → Result Measure PackageFault → Type 0
+RefusesAlike (Ok report) (Ok measure) = ⊤
+RefusesAlike (Err refusal) (Ok measure) = ⊥
+RefusesAlike (Ok report) (Err stop.Memory) = ⊤
+RefusesAlike (Err refusal) (Err stop.Memory) = ⊤
+RefusesAlike (Ok report) (Err (stop.File index fault)) = ⊥
+RefusesAlike (Err refusal) (Err (stop.File index fault)) = refusal ≡ (index, fault)
+
+-- a package whose files can all be read passes under just the rules that its board meets
+abbrev pub MeasuredPasses : Type 0
+MeasuredPasses = (sources : List FileView) (board : BoardView) (ring gap : Met) → IsBoard sources board → MeetsRings pad_covers board.layers board.holes ring → MeetsGaps board.holes gap → PackagePasses sources ring gap

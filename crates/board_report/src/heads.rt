@@ -1,0 +1,45 @@
+//! The layers of a board, with the number of holes that need a ring on each.
+
+ghost use Rattle.std.specs.Prelude.{◌≡◌, IfOk, count_by, map};
+ghost use Rattle.std.specs.List.{enumerate_from};
+ghost use Rattle.margins.specs.Meets.{needs_ring};
+ghost use Rattle.board_report.specs.BoardReport.{head_of};
+
+use margins::needs_ring;
+use package_check::Board;
+use report::LayerHead;
+use ring_rules::Drilled;
+use std::alloc::{AllocError, Global};
+
+/// The number of holes that need a ring on a layer, by the layer's place from 0.
+fn count_needed(layer: usize, holes: &[Drilled]) -> usize
+    ensures { result ≡ count_by (needs_ring layer) holes.now }
+{
+    holes
+        .iter()
+        .filter(|drilled| needs_ring(layer, drilled))
+        .count()
+}
+
+/// The head of a layer, by its place and the index of its file.
+fn head_of(holes: &[Drilled], layer: usize, file: usize) -> LayerHead
+    ensures { result ≡ head_of holes.now (layer, file) }
+{
+    LayerHead {
+        file,
+        needed: count_needed(layer, holes),
+    }
+}
+
+/// The heads of a board's layers.
+pub(crate) fn heads(alloc: Global, board: &Board) -> Result<Vec<LayerHead>, AllocError>
+    ensures { IfOk result (λ heads. heads.items ≡ map (head_of board.now.holes) (enumerate_from 0 board.now.layer_indexes)) }
+{
+    let holes = board.holes();
+    board
+        .layer_indexes()
+        .iter()
+        .enumerate()
+        .map(|(layer, file)| head_of(holes, layer, *file))
+        .collect(alloc)
+}

@@ -1,0 +1,16 @@
+//! Laws that follow from the definitions alone. A call of a law does nothing, and gives its clause.
+
+ghost use Rattle.board_report.specs.Measures.{MeasuredPasses};
+
+use margins::laws::{gaps_pass, rings_pass};
+use package_check::laws::unique_answer;
+use pad_shapes::Pad;
+
+/// A package whose files can all be read passes under just the rules that it meets.
+pub fn measured_passes()
+    ensures { MeasuredPasses }
+{
+    unique_answer();
+    rings_pass::<Pad>();
+    gaps_pass();
+}

@@ -1,0 +1,22 @@
+//! The measure of a package: the least ring of each layer, drill file and diameter, the least gap, the drill files whose
+//! coordinates seem to be off by a factor, and the greatest ring and the greatest gap under which its check has no findings.
+//!
+//! All lengths are whole picometres (pm).
+#![tactic(auto)]
+
+mod board_report;
+mod gaps;
+mod heads;
+mod hole_places;
+pub mod laws;
+mod measure;
+mod places;
+pub mod report_laws;
+mod rings;
+mod rows;
+mod units;
+
+pub use board_report::{report_bytes, report_on};
+pub use measure::{measure_board, measure_bytes, measure_with_bests};
+pub use places::{FileHoles, files_with_holes, place_among, place_of};
+pub use report::{BoardReport, Measure};

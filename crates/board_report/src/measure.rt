@@ -1,0 +1,177 @@
+//! The measure of a package.
+
+ghost use Rattle.std.specs.Prelude.{◌≡◌, ◌++◌, ◌∷◌, [], ℕ, Result, IfOk, OnOk, false, true, length, map};
+ghost use Rattle.grid_units.specs.Holes.{GridRules};
+ghost use Rattle.grid_units.specs.declared.fault.Fault.{Fault as TheFault};
+ghost use Rattle.pad_shapes.specs.Pads.{pad_covers};
+ghost use Rattle.margins.specs.Meets.{MeetsOnLayers};
+ghost use Rattle.package_check.specs.Package.{IsAnswer, file_views};
+ghost use Rattle.package_check.specs.Reports.{ReportView};
+ghost use Rattle.board_report.specs.Measures.{AnswersMeasure, AreLayerBests, BoardPasses, IsMeasure, PackagePasses, RefusesAlike};
+ghost use Rattle.board_report.specs.Rows.{AreRingLines};
+ghost use Rattle.board_report.specs.UnitMistakeLines.{AreUnitMistakes};
+
+use crate::laws::measured_passes;
+use crate::places::{files_with_holes, gap_line};
+use crate::rows::push_layer_lines;
+use crate::units::unit_mistakes;
+use margins::laws::{gaps_pass, rings_pass};
+use margins::{
+    BestPad, RingsMet, best_pads, gap_met_of_nearest, met_with_layer, met_without_layers,
+    nearest_holes,
+};
+use package_check::laws::unique_answer;
+use package_check::{Board, File, PackageFault, read_package};
+use pad_shapes::Pad;
+use report::{GapLine, Measure, Meets, RingLine, UnitMistake};
+use std::alloc::{AllocError, Global};
+
+/// The greatest rings that a board meets, the lines of its rings and scales, and the best pads of its layers if they are kept.
+#[derive(Drop)]
+struct Rings {
+    met: RingsMet,
+    lines: Vec<RingLine>,
+    scales: Vec<UnitMistake>,
+    bests: Vec<Vec<Option<BestPad>>>,
+}
+
+/// Keeps the best pads of a layer after those of the layers before it, or frees them.
+fn keep(
+    keeps: bool,
+    bests: Vec<Option<BestPad>>,
+    kept: &mut Vec<Vec<Option<BestPad>>>,
+) -> Result<(), AllocError>
+    ensures { OnOk result (keeps ≡ true → kept.new.items ≡ kept.old.items ++ bests ∷ []) }
+{
+    if !keeps {
+        return Ok(());
+    }
+    match kept.push(bests) {
+        Ok(()) => Ok(()),
+        Err(_) => Err(AllocError),
+    }
+}
+
+/// The rings of a board, and its scales. The best pads of each layer are searched for once. They are kept only if `keeps` says so, since
+/// those of all layers take memory. The drill files that have holes are listed once for all layers.
+fn rings_on(alloc: Global, board: &Board, keeps: bool) -> Result<Rings, AllocError>
+    ensures met { IfOk result (λ rings. MeetsOnLayers pad_covers board.now.layers board.now.holes (length board.now.layers) rings.met) }
+    ensures lines { IfOk result (λ rings. AreRingLines board.now rings.lines.items) }
+    ensures scales { IfOk result (λ rings. AreUnitMistakes board.now (length board.now.files) rings.scales.items) }
+    ensures bests { keeps ≡ true → IfOk result (λ rings. AreLayerBests board.now (length board.now.layers) (map (λ bests. bests.items) rings.bests.items)) }
+{
+    let files = files_with_holes(alloc, board)?;
+    let layers = board.layers(alloc)?;
+    let holes = board.holes();
+    let mut met = met_without_layers(&layers, holes);
+    let mut lines = Vec::new(alloc);
+    let mut scales = Vec::new(alloc);
+    let mut kept = Vec::new(alloc);
+    for layer in 0..layers.len() {
+        let bests = best_pads(alloc, layers[layer], holes)?;
+        if layer == 0 {
+            scales = unit_mistakes(alloc, board, layers[layer], &bests)?;
+        }
+        met = met_with_layer(&layers, layer, &bests, holes, met);
+        push_layer_lines(alloc, board, &files, &bests, layer, &mut lines)?;
+        keep(keeps, bests, &mut kept)?;
+    }
+    Ok(Rings {
+        met,
+        lines,
+        scales,
+        bests: kept,
+    })
+}
+
+/// The measure of a board, and the best pads of its layers if they are kept.
+fn measure_of(
+    alloc: Global,
+    board: &Board,
+    keeps: bool,
+) -> Result<(Measure, Vec<Vec<Option<BestPad>>>), AllocError>
+    ensures exact { IfOk result (λ found. IsMeasure board.now found.0) }
+    ensures bests { keeps ≡ true → IfOk result (λ found. AreLayerBests board.now (length board.now.layers) (map (λ bests. bests.items) found.1.items)) }
+{
+    let rings = rings_on(alloc, board, keeps)?;
+    let nearest = nearest_holes(alloc, board.holes())?;
+    let gap = gap_met_of_nearest(board.holes(), nearest);
+    let measure = Measure {
+        rings: rings.lines,
+        scales: rings.scales,
+        gap: gap_line(board, nearest),
+        meets: Meets {
+            ring: rings.met.ring,
+            gap,
+            in_pads: rings.met.in_pads,
+        },
+    };
+    Ok((measure, rings.bests))
+}
+
+/// The measure of a board, without best pads.
+fn measure_alone(alloc: Global, board: &Board) -> Result<Measure, AllocError>
+    ensures { IfOk result (IsMeasure board.now) }
+{
+    let (measure, _) = measure_of(alloc, board, false)?;
+    Ok(measure)
+}
+
+/// The measure of a board.
+///
+/// # Errors
+///
+/// An `AllocError` when memory runs out.
+pub fn measure_board(alloc: Global, board: &Board) -> Result<Measure, AllocError>
+    ensures exact { IfOk result (IsMeasure board.now) }
+    ensures passes { IfOk result (λ measure. BoardPasses board.now measure.meets.ring measure.meets.gap) }
+{
+    rings_pass::<Pad>();
+    gaps_pass();
+    measure_alone(alloc, board)
+}
+
+/// The measure of a board, and for each of its layers the best pad of each hole there. These take memory for each layer and hole;
+/// [`measure_board`] keeps none of them.
+///
+/// # Errors
+///
+/// An `AllocError` when memory runs out.
+pub fn measure_with_bests(
+    alloc: Global,
+    board: &Board,
+) -> Result<(Measure, Vec<Vec<Option<BestPad>>>), AllocError>
+    ensures exact { IfOk result (λ found. IsMeasure board.now found.0) }
+    ensures bests { IfOk result (λ found. AreLayerBests board.now (length board.now.layers) (map (λ bests. bests.items) found.1.items)) }
+{
+    measure_of(alloc, board, true)
+}
+
+fn measure_files(alloc: Global, files: &[File]) -> Result<Measure, PackageFault>
+    ensures { AnswersMeasure (file_views files.now) result }
+{
+    match read_package(alloc, files) {
+        Ok(board) => match measure_board(alloc, &board) {
+            Ok(measure) => Ok(measure),
+            Err(_) => Err(PackageFault::Memory),
+        },
+        Err(fault) => Err(fault),
+    }
+}
+
+/// The measure of the package of these files. A check of them has no findings under just the rules that it allows: a ring of 0
+/// or more, and a gap of 1 pm or more.
+///
+/// # Errors
+///
+/// As those of [`package_check::check_bytes`] on these files, whatever its rules are: the first file that is refused, by its index,
+/// with its fault; `Memory` when memory runs out.
+pub fn measure_bytes(alloc: Global, files: &[File]) -> Result<Measure, PackageFault>
+    ensures exact { AnswersMeasure (file_views files.now) result }
+    ensures same { (rules : GridRules) (answer : Result ReportView (ℕ × TheFault)) → IsAnswer (file_views files.now) rules answer → RefusesAlike answer result }
+    ensures passes { IfOk result (λ measure. PackagePasses (file_views files.now) measure.meets.ring measure.meets.gap) }
+{
+    unique_answer();
+    measured_passes();
+    measure_files(alloc, files)
+}

@@ -1,0 +1,134 @@
+//! The drill file of a hole and the hole's number there, from its place in the list of all holes.
+
+ghost use Rattle.std.specs.Prelude.{◌≡◌, ◌++◌, ◌∷◌, ◌+◌, ◌<◌, ◌≤◌, [], length, IfOk, OnOk};
+ghost use Rattle.std.specs.List.{Contains};
+ghost use Rattle.margins.specs.NearestHoles.{IsNearest, IsNearestOf, IsPair};
+ghost use Rattle.package_check.specs.Boards.{BoardView};
+ghost use Rattle.board_report.specs.Rows.{AreFilesWithHoles, holes_before, IsPlace, IsGapLine, IsLeastGap};
+
+use margins::Nearest;
+use package_check::{Board, hole_count};
+use report::{GapLine, HolePlace};
+use std::alloc::{AllocError, Global};
+
+/// The holes of a drill file that has some, as places in the list of all holes of a board.
+#[derive(Clone, Copy)]
+pub struct FileHoles {
+    /// The index of the drill file.
+    pub drill: usize,
+    /// The place of its first hole.
+    pub start: usize,
+    /// The end of these places: one past its last hole.
+    pub end: usize,
+}
+
+/// The end of a file's holes in the list of all holes, by their start.
+pub(crate) fn end_of(board: &Board, drill: usize, start: usize) -> usize
+    requires inside { drill < length board.now.files }
+    requires starts { start ≡ holes_before board.now.files drill }
+    ensures ends { result ≡ holes_before board.now.files (drill + 1) }
+    ensures in_list { result ≤ length board.now.holes }
+    ensures ordered { start ≤ result }
+{
+    let files = board.files();
+    let rest = board.holes().len() - start;
+    start + hole_count(&files[drill], rest)
+}
+
+/// The drill file of a hole, and the hole's number there from 1, by its place in the list of all holes, from 0. It walks
+/// over the files; for many holes [`place_among`] is faster.
+pub fn place_of(board: &Board, hole: usize) -> HolePlace
+    requires { hole < length board.now.holes }
+    ensures { IsPlace board.now.files hole result }
+{
+    let files = board.files();
+    let mut start = 0;
+    for drill in 0..files.len() {
+        let end = end_of(board, drill, start);
+        if hole < end {
+            return HolePlace {
+                drill,
+                hole: hole - start + 1,
+            };
+        }
+        start = end;
+    }
+    unreachable!()
+}
+
+/// Adds a drill file if it has holes.
+fn push_if_filled(with_holes: &mut Vec<FileHoles>, file: FileHoles) -> Result<(), AllocError>
+    ensures some { file.start < file.end → OnOk result (with_holes.new.items ≡ with_holes.old.items ++ file ∷ []) }
+    ensures none { file.end ≤ file.start → OnOk result (with_holes.new.items ≡ with_holes.old.items) }
+{
+    if file.start < file.end {
+        with_holes.push(file)?;
+    }
+    Ok(())
+}
+
+/// The drill files of a board that have holes, in order, for [`place_among`].
+///
+/// # Errors
+///
+/// An `AllocError` when memory runs out.
+pub fn files_with_holes(alloc: Global, board: &Board) -> Result<Vec<FileHoles>, AllocError>
+    ensures { IfOk result (λ with_holes. AreFilesWithHoles board.now with_holes.items) }
+{
+    let files = board.files();
+    let mut with_holes = Vec::new(alloc);
+    let mut start = 0;
+    for drill in 0..files.len() {
+        let end = end_of(board, drill, start);
+        push_if_filled(&mut with_holes, FileHoles { drill, start, end })?;
+        start = end;
+    }
+    Ok(with_holes)
+}
+
+/// The drill file of a hole, among those that have holes.
+fn file_of(files: &[FileHoles], hole: usize) -> FileHoles
+    requires { (board : BoardView) × AreFilesWithHoles board files.now × (hole < length board.holes) }
+    ensures among { Contains files.now result }
+    ensures starts { result.start ≤ hole }
+    ensures ends { hole < result.end }
+{
+    let index = files.partition_point(|file| file.end <= hole);
+    files[index]
+}
+
+/// The drill file of a hole and the hole's number there, as [`place_of`] gives them. It searches by halves among the drill files
+/// that have holes.
+pub fn place_among(files: &[FileHoles], hole: usize) -> HolePlace
+    requires { (board : BoardView) × AreFilesWithHoles board files.now × (hole < length board.holes) }
+    ensures { (board : BoardView) → AreFilesWithHoles board files.now → IsPlace board.files hole result }
+{
+    let file = file_of(files, hole);
+    HolePlace {
+        drill: file.drill,
+        hole: hole - file.start + 1,
+    }
+}
+
+/// The line of the gap between two nearest holes.
+fn line_of(board: &Board, pair: Nearest) -> GapLine
+    requires { IsNearest board.now.holes (IsPair board.now.holes) pair }
+    ensures { IsLeastGap board.now result }
+{
+    GapLine {
+        gap: pair.gap,
+        first: place_of(board, pair.first),
+        second: place_of(board, pair.second),
+    }
+}
+
+/// The line of the least gap, if there are two holes.
+pub(crate) fn gap_line(board: &Board, nearest: Option<Nearest>) -> Option<GapLine>
+    requires { IsNearestOf board.now.holes (IsPair board.now.holes) nearest }
+    ensures { IsGapLine board.now result }
+{
+    match nearest {
+        Some(pair) => Some(line_of(board, pair)),
+        None => None,
+    }
+}

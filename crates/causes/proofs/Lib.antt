@@ -1,4 +1,0 @@
-pub mod Placed
-pub mod Same
-pub mod Finding
-pub mod Centred

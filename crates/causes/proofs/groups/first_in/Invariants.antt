@@ -1,9 +1,0 @@
-use Rattle.std.proofs.Common.{◌-◌, length}
-use Rattle.causes.specs.Inner.Finding.{HasPassed}
-use Rattle.causes.proofs.groups.first_in.Given as goal
-
-abbrev pub invariant-loop-search : goal.invariant-loop-search
-invariant-loop-search l = HasPassed l.all l.hole l.search
-
-abbrev pub decreases-loop-search : goal.decreases-loop-search
-decreases-loop-search l = length l.groups - l.search.next

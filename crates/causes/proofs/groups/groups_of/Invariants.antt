@@ -1,5 +1,0 @@
-use Rattle.causes.specs.Causes.{AreGroups}
-use Rattle.causes.proofs.groups.groups_of.Given as goal
-
-abbrev pub invariant-loop-start : goal.invariant-loop-start
-invariant-loop-start l = AreGroups l.others l.groups.items

@@ -1,0 +1,33 @@
+-- The answer to a line, from what `clap` answers.
+use Rattle.std.proofs.Common.{◌≡◌, ◌∙◌, ◌⊎◌, inl, inr, ap, sym, subst, [], ◌∷◌, List, Option, Ok, Err}
+use Rattle.clap.specs.Words.{App, Row, Text, fault_of, subcommand_of}
+use Rattle.clap.specs.Kinds.{IsAmong, Kinds}
+use Rattle.clap.specs.declared.error.kind.ErrorKind.{ErrorKind}
+use Rattle.clap.specs.declared.error.kind.ErrorKind.TheVariants.{DisplayHelp, DisplayVersion, OutOfMemory}
+use Rattle.command_line.specs.declared.Request.{Request}
+use Rattle.command_line.specs.declared.Refusal.{Refusal}
+use Rattle.command_line.specs.declared.Refusal.TheVariants.{Help, Version, Usage, Memory}
+use Rattle.command_line.specs.ProgramArgs.{ParsesLine, ParsesAsVersion, IsRequestOf, ringcheck_app}
+use Rattle.command_line.specs.Inner.RequestSteps.{IsRefusalFor}
+
+pub request_is_parsed : (a : App) (words : List Text) (rows : Option (Text × List Row)) (request : Request) → a ≡ ringcheck_app → fault_of a words ≡ [] → rows ≡ subcommand_of a words
+    → IsRequestOf rows request → ParsesLine words (Ok request)
+request_is_parsed a words rows request e none is asks =
+    (ap (λ (b : App). fault_of b words) (sym e) ∙ none, subst (λ o. IsRequestOf o request) (is ∙ ap (λ (b : App). subcommand_of b words) e) asks)
+
+pub refused : (a : App) (words : List Text) (kind : ErrorKind) (r : Refusal) → a ≡ ringcheck_app → (kind ≡ OutOfMemory) ⊎ IsAmong kind (fault_of a words) → IsRefusalFor kind r
+    → (kind ≡ OutOfMemory → r ≡ Memory) → ParsesLine words (Err r)
+refused a words kind Memory e has is memory = tt
+refused a words kind (Help text) e (inl none) is memory = let h = memory none in cc
+refused a words kind (Help text) e (inr among) is memory = subst (λ b. IsAmong DisplayHelp (fault_of b words)) e (subst (λ k. IsAmong k (fault_of a words)) is among)
+refused a words kind Version e (inl none) is memory = let h = memory none in cc
+refused a words kind Version e (inr among) is memory = subst (λ b. IsAmong DisplayVersion (fault_of b words)) e (subst (λ k. IsAmong k (fault_of a words)) is among)
+refused a words kind (Usage text) e (inl none) is memory = let h = memory none in cc
+refused a words kind (Usage text) e (inr among) is memory = (kind, subst (λ b. IsAmong kind (fault_of b words)) e among, is.0, is.1)
+
+-- the refusal of words of which asking for the version is the only fault
+pub version_told : (words : List Text) (r : Refusal) → fault_of ringcheck_app words ≡ DisplayVersion ∷ [] → ParsesLine words (Err r) → ParsesAsVersion (Err r)
+version_told words Memory e is = tt
+version_told words Version e is = tt
+version_told words (Help text) e is = elim (subst (λ (kinds : Kinds). IsAmong DisplayHelp kinds) e is) [ inl same ↦ cc | inr none ↦ absurd none ]
+version_told words (Usage text) e is = elim (subst (λ (kinds : Kinds). IsAmong is.0 kinds) e is.1) [ inl same ↦ absurd (is.3 same) | inr none ↦ absurd none ]

@@ -1,9 +1,0 @@
-use Rattle.std.proofs.Common.{◌∙◌, ap₂}
-use Rattle.std.proofs.lemmas.Result.{IfOk-weaker}
-use Rattle.clap.specs.Words.{with_rule}
-use Rattle.command_line.proofs.commands.of_file.Goals as goal
-
-pub returns : goal.returns
-returns c =
-    let kind = c.in_ok-arg.ensures.shape c.option_of.ensures.global ∙ ap₂ with_rule c.described.ensures c.option_of.ensures.rule in
-    IfOk-weaker c.arg-2.result _ _ (λ x h. h.shape c.value_of.ensures.global ∙ ap₂ with_rule kind c.value_of.ensures.rule) c.arg-2.ensures

@@ -1,0 +1,295 @@
+-- The program's command line, as a command of the crate `clap` (docs/FORMATS.md, The program).
+use Rattle.std.specs.Prelude.{◌≡◌, ◌≢◌, ◌==◌, ◌&&◌, Bool, true, false, not, List, [], ◌∷◌, ◌++◌, length, map, codes, Some, None, Option, option_map, Result, Ok, Err, if◌then◌else◌}
+use Rattle.std.specs.List.{list_all}
+use Rattle.clap.specs.Lexer.{usize_max}
+use Rattle.clap.specs.Words.{App, Row, Rule, Text, all_of, fault_of, first_of, new_app, new_rule, one_of, subcommand_of, with_rule, with_subcommand}
+use Rattle.clap.specs.Kinds.{IsAmong}
+use Rattle.clap.specs.declared.builder.action.ArgAction.TheVariants.{Append, Set, SetTrue}
+use Rattle.clap.specs.declared.error.kind.ErrorKind.{ErrorKind}
+use Rattle.clap.specs.declared.error.kind.ErrorKind.TheVariants.{DisplayHelp, DisplayVersion}
+use Rattle.command_line.specs.declared.Request.{Request}
+use Rattle.command_line.specs.declared.Request.TheVariants.{Check, Measure, Report, Draw, Show, Rewrite, Manifest, Explain}
+use Rattle.command_line.specs.declared.Refusal.{Refusal}
+use Rattle.command_line.specs.declared.Refusal.TheVariants.{Help, Version, Usage, Memory}
+
+-- ---- the commands
+
+-- a required argument by its position, such as `MANIFEST`
+abbrev pub positional : Text → Rule
+positional id = record (new_rule id) { required = true; action = Some Set; value_names = 1 }
+
+-- a required option with one value, such as `--ring MM`
+abbrev pub option : Text → Rule
+option id = record (positional id) { long = Some id }
+
+-- an argument by its position that may be left out, such as `[WORD]`
+abbrev pub optional : Text → Rule
+optional id = record (new_rule id) { action = Some Set; value_names = 1 }
+
+-- an option with one value that may be left out, such as `[--max N]`
+abbrev pub optional_option : Text → Rule
+optional_option id = record (optional id) { long = Some id }
+
+-- one required argument by its position, or more of them, such as `FILE..`
+abbrev pub one_or_more : Text → Rule
+one_or_more id = record (new_rule id) { required = true; action = Some Append; range = Some (record { start_inclusive = 1; end_inclusive = usize_max }); value_names = 1 }
+
+-- an option without a value, such as `[--why]`
+abbrev pub flag : Text → Rule
+flag id = record (new_rule id) { long = Some id; action = Some SetTrue }
+
+-- `check --ring MM --gap MM MANIFEST`
+abbrev pub check_app : App
+check_app = with_rule (with_rule (with_rule (new_app (codes "check")) (option (codes "ring"))) (option (codes "gap"))) (positional (codes "manifest"))
+
+-- `measure [--format text|json] MANIFEST`
+abbrev pub measure_app : App
+measure_app = with_rule (with_rule (new_app (codes "measure")) (optional_option (codes "format"))) (positional (codes "manifest"))
+
+-- `report --ring MM --gap MM [--max N] [--waive FILE] [--format text|json|waivers] MANIFEST`
+abbrev pub report_app : App
+report_app =
+    with_rule (with_rule (with_rule (with_rule (with_rule (with_rule (new_app (codes "report")) (option (codes "ring"))) (option (codes "gap"))) (optional_option (codes "max")))
+    (optional_option (codes "waive"))) (optional_option (codes "format"))) (positional (codes "manifest"))
+
+-- `draw [--ring MM --gap MM] MANIFEST`
+abbrev pub draw_app : App
+draw_app = with_rule (with_rule (with_rule (new_app (codes "draw")) (optional_option (codes "ring"))) (optional_option (codes "gap"))) (positional (codes "manifest"))
+
+-- `show --kind layer|drill FILE` and `rewrite --kind layer|drill FILE`
+abbrev pub file_app : Text → App
+file_app name = with_rule (with_rule (new_app name) (option (codes "kind"))) (positional (codes "file"))
+
+-- `manifest [--why] FILE..`
+abbrev pub manifest_app : App
+manifest_app = with_rule (with_rule (new_app (codes "manifest")) (flag (codes "why"))) (one_or_more (codes "file"))
+
+-- `explain [WORD]`
+abbrev pub explain_app : App
+explain_app = with_rule (new_app (codes "explain")) (optional (codes "word"))
+
+-- the program without its commands: it has a version, its words come without its name, and they must begin with a command
+abbrev pub program_app : App
+program_app = let bare = new_app (codes "ringcheck") in record bare { top = record bare.top { no_binary_name = true; subcommand_required = true; has_version = true } }
+
+-- the program with its eight commands
+abbrev pub ringcheck_app : App
+ringcheck_app =
+    with_subcommand (with_subcommand (with_subcommand (with_subcommand (with_subcommand (with_subcommand (with_subcommand (with_subcommand program_app
+    check_app.top) report_app.top) measure_app.top) draw_app.top) manifest_app.top) explain_app.top)
+    (file_app (codes "show")).top) (file_app (codes "rewrite")).top
+
+-- ---- what any words ask for
+
+-- whether an option without a value is on, by the value that `clap` gives it; where it gives none it is off
+pub record IsFlagValue (text : Option Text) (on : Bool) : Type 0 where
+  pub yes : text ≡ Some (codes "true") → on ≡ true
+  pub no : text ≡ Some (codes "false") → on ≡ false
+  pub none : text ≡ None → on ≡ false
+
+-- the request is that of the command that `clap` finds, with the first value of each option, and the file or files
+abbrev pub IsRequestOf : Option (Text × List Row) → Request → Type 0
+IsRequestOf None request = ⊥
+IsRequestOf (Some (name, rows)) (Check ring gap manifest) =
+    (name ≡ codes "check") × (first_of (codes "ring") rows ≡ Some ring.now) × (first_of (codes "gap") rows ≡ Some gap.now) × (first_of (codes "manifest") rows ≡ Some manifest.now)
+IsRequestOf (Some (name, rows)) (Measure format manifest) =
+    (name ≡ codes "measure") × (first_of (codes "format") rows ≡ option_map (λ f. f.now) format) × (first_of (codes "manifest") rows ≡ Some manifest.now)
+IsRequestOf (Some (name, rows)) (Report ring gap limit waive format manifest) =
+    (name ≡ codes "report") × (first_of (codes "ring") rows ≡ Some ring.now) × (first_of (codes "gap") rows ≡ Some gap.now)
+    × (first_of (codes "max") rows ≡ option_map (λ n. n.now) limit) × (first_of (codes "waive") rows ≡ option_map (λ w. w.now) waive)
+    × (first_of (codes "format") rows ≡ option_map (λ f. f.now) format)
+    × (first_of (codes "manifest") rows ≡ Some manifest.now)
+IsRequestOf (Some (name, rows)) (Draw ring gap manifest) =
+    (name ≡ codes "draw") × (first_of (codes "ring") rows ≡ option_map (λ r. r.now) ring) × (first_of (codes "gap") rows ≡ option_map (λ g. g.now) gap)
+    × (first_of (codes "manifest") rows ≡ Some manifest.now)
+IsRequestOf (Some (name, rows)) (Show kind file) = (name ≡ codes "show") × (first_of (codes "kind") rows ≡ Some kind.now) × (first_of (codes "file") rows ≡ Some file.now)
+IsRequestOf (Some (name, rows)) (Rewrite kind file) =
+    (name ≡ codes "rewrite") × (first_of (codes "kind") rows ≡ Some kind.now) × (first_of (codes "file") rows ≡ Some file.now)
+IsRequestOf (Some (name, rows)) (Manifest why files) =
+    (name ≡ codes "manifest") × IsFlagValue (one_of (codes "why") rows) why × (all_of (codes "file") rows ≡ Some (map (λ file. file.now) files.items))
+IsRequestOf (Some (name, rows)) (Explain word) = (name ≡ codes "explain") × (first_of (codes "word") rows ≡ option_map (λ w. w.now) word)
+
+-- the answer to the words of a line, running out of memory aside: a request just where `clap` finds no fault in them,
+-- help or the version where it finds these asked for, and a usage error where it finds another fault
+abbrev pub ParsesLine : List Text → Result Request Refusal → Type 0
+ParsesLine words (Ok request) = (fault_of ringcheck_app words ≡ []) × IsRequestOf (subcommand_of ringcheck_app words) request
+ParsesLine words (Err (Help text)) = IsAmong DisplayHelp (fault_of ringcheck_app words)
+ParsesLine words (Err Version) = IsAmong DisplayVersion (fault_of ringcheck_app words)
+ParsesLine words (Err (Usage text)) = (kind : ErrorKind) × IsAmong kind (fault_of ringcheck_app words) × (kind ≢ DisplayHelp) × (kind ≢ DisplayVersion)
+ParsesLine words (Err Memory) = Unit {0}
+
+-- ---- what the words of a check ask for
+
+-- whether a word is plain: it is not empty and does not begin with `-`, the byte 45
+abbrev pub is_plain_word : Text → Bool
+is_plain_word [] = false
+is_plain_word (x ∷ xs) = not (x == 45)
+
+-- the words `check --ring R --gap G M`
+abbrev pub check_words : Text → Text → Text → List Text
+check_words ring gap manifest = codes "check" ∷ codes "--ring" ∷ ring ∷ codes "--gap" ∷ gap ∷ manifest ∷ []
+
+-- the request is a check with just this ring, gap and manifest
+abbrev pub IsCheck : Text → Text → Text → Request → Type 0
+IsCheck r g m (Check ring gap manifest) = (ring.now ≡ r) × (gap.now ≡ g) × (manifest.now ≡ m)
+IsCheck r g m (Measure format manifest) = ⊥
+IsCheck r g m (Report ring gap limit waive format manifest) = ⊥
+IsCheck r g m (Draw ring gap manifest) = ⊥
+IsCheck r g m (Show kind file) = ⊥
+IsCheck r g m (Rewrite kind file) = ⊥
+IsCheck r g m (Manifest why files) = ⊥
+IsCheck r g m (Explain word) = ⊥
+
+-- the answer is a check with just these words, running out of memory aside
+abbrev pub ParsesAsCheck : Text → Text → Text → Result Request Refusal → Type 0
+ParsesAsCheck r g m (Ok request) = IsCheck r g m request
+ParsesAsCheck r g m (Err Memory) = Unit {0}
+ParsesAsCheck r g m (Err (Help text)) = ⊥
+ParsesAsCheck r g m (Err Version) = ⊥
+ParsesAsCheck r g m (Err (Usage text)) = ⊥
+
+-- ---- what the words of a command on one file ask for
+
+-- the words `show --kind K F` or `rewrite --kind K F`
+abbrev pub file_words : Text → Text → Text → List Text
+file_words name kind file = name ∷ codes "--kind" ∷ kind ∷ file ∷ []
+
+-- the request is to show this file as one of this kind
+abbrev pub IsShow : Text → Text → Request → Type 0
+IsShow k f (Check ring gap manifest) = ⊥
+IsShow k f (Measure format manifest) = ⊥
+IsShow k f (Report ring gap limit waive format manifest) = ⊥
+IsShow k f (Draw ring gap manifest) = ⊥
+IsShow k f (Show kind file) = (kind.now ≡ k) × (file.now ≡ f)
+IsShow k f (Rewrite kind file) = ⊥
+IsShow k f (Manifest why files) = ⊥
+IsShow k f (Explain word) = ⊥
+
+-- the request is to rewrite this file as one of this kind
+abbrev pub IsRewrite : Text → Text → Request → Type 0
+IsRewrite k f (Check ring gap manifest) = ⊥
+IsRewrite k f (Measure format manifest) = ⊥
+IsRewrite k f (Report ring gap limit waive format manifest) = ⊥
+IsRewrite k f (Draw ring gap manifest) = ⊥
+IsRewrite k f (Show kind file) = ⊥
+IsRewrite k f (Rewrite kind file) = (kind.now ≡ k) × (file.now ≡ f)
+IsRewrite k f (Manifest why files) = ⊥
+IsRewrite k f (Explain word) = ⊥
+
+-- the answer is such a request, running out of memory aside
+abbrev pub ParsesAs : (Request → Type 0) → Result Request Refusal → Type 0
+ParsesAs IsExpected (Ok request) = IsExpected request
+ParsesAs IsExpected (Err Memory) = Unit {0}
+ParsesAs IsExpected (Err (Help text)) = ⊥
+ParsesAs IsExpected (Err Version) = ⊥
+ParsesAs IsExpected (Err (Usage text)) = ⊥
+
+-- ---- what the words of the other commands ask for
+
+-- whether there are some words, and each is plain
+abbrev pub are_plain_words : List Text → Bool
+are_plain_words words = not (length words == 0) && list_all is_plain_word words
+
+-- the words `manifest FILE..` or, for the table of why, `manifest --why FILE..`
+abbrev pub manifest_words : Bool → List Text → List Text
+manifest_words why files = codes "manifest" ∷ (if why then codes "--why" ∷ files else files)
+
+-- the request is for a manifest of these files, or for the table of why
+abbrev pub IsManifest : Bool → List Text → Request → Type 0
+IsManifest w fs (Check ring gap manifest) = ⊥
+IsManifest w fs (Measure format manifest) = ⊥
+IsManifest w fs (Report ring gap limit waive format manifest) = ⊥
+IsManifest w fs (Draw ring gap manifest) = ⊥
+IsManifest w fs (Show kind file) = ⊥
+IsManifest w fs (Rewrite kind file) = ⊥
+IsManifest w fs (Manifest why files) = (why ≡ w) × (map (λ file. file.now) files.items ≡ fs)
+IsManifest w fs (Explain word) = ⊥
+
+-- whether a word that may be left out is plain where it is there
+abbrev pub is_plain_if_some : Option Text → Bool
+is_plain_if_some None = true
+is_plain_if_some (Some word) = is_plain_word word
+
+-- an option and its value where there is a value, and else no words
+abbrev pub option_words : Text → Option Text → List Text
+option_words name None = []
+option_words name (Some value) = name ∷ value ∷ []
+
+-- the words `measure [--format F] M`
+abbrev pub measure_words : Option Text → Text → List Text
+measure_words format manifest = codes "measure" ∷ (option_words (codes "--format") format ++ manifest ∷ [])
+
+-- the request is to measure the package of this manifest, with just this format or with none
+abbrev pub IsMeasure : Option Text → Text → Request → Type 0
+IsMeasure o m (Check ring gap manifest) = ⊥
+IsMeasure o m (Measure format manifest) = (option_map (λ f. f.now) format ≡ o) × (manifest.now ≡ m)
+IsMeasure o m (Report ring gap limit waive format manifest) = ⊥
+IsMeasure o m (Draw ring gap manifest) = ⊥
+IsMeasure o m (Show kind file) = ⊥
+IsMeasure o m (Rewrite kind file) = ⊥
+IsMeasure o m (Manifest why files) = ⊥
+IsMeasure o m (Explain word) = ⊥
+
+-- the words `report --ring R --gap G [--max N] [--waive V] [--format F] M`
+abbrev pub report_words : Text → Text → Option Text → Option Text → Option Text → Text → List Text
+report_words ring gap limit waive format manifest =
+    codes "report" ∷ codes "--ring" ∷ ring ∷ codes "--gap" ∷ gap
+    ∷ (option_words (codes "--max") limit ++ (option_words (codes "--waive") waive ++ (option_words (codes "--format") format ++ manifest ∷ [])))
+
+-- the request is a report with just this ring, gap and manifest, and just these of a limit of findings, a file of waivers and a format
+abbrev pub IsReport : Text → Text → Option Text → Option Text → Option Text → Text → Request → Type 0
+IsReport r g n v o m (Check ring gap manifest) = ⊥
+IsReport r g n v o m (Measure format manifest) = ⊥
+IsReport r g n v o m (Report ring gap limit waive format manifest) =
+    (ring.now ≡ r) × (gap.now ≡ g) × (option_map (λ t. t.now) limit ≡ n) × (option_map (λ w. w.now) waive ≡ v) × (option_map (λ f. f.now) format ≡ o) × (manifest.now ≡ m)
+IsReport r g n v o m (Draw ring gap manifest) = ⊥
+IsReport r g n v o m (Show kind file) = ⊥
+IsReport r g n v o m (Rewrite kind file) = ⊥
+IsReport r g n v o m (Manifest why files) = ⊥
+IsReport r g n v o m (Explain word) = ⊥
+
+-- the words `draw M` or `draw --ring R --gap G M`
+abbrev pub draw_words : Option (Text × Text) → Text → List Text
+draw_words None manifest = codes "draw" ∷ manifest ∷ []
+draw_words (Some (ring, gap)) manifest = codes "draw" ∷ codes "--ring" ∷ ring ∷ codes "--gap" ∷ gap ∷ manifest ∷ []
+
+-- whether a ring and a gap that may be left out are plain where they are there
+abbrev pub are_plain_rules : Option (Text × Text) → Bool
+are_plain_rules None = true
+are_plain_rules (Some (ring, gap)) = is_plain_word ring && is_plain_word gap
+
+-- the request is to draw the package of this manifest, with just this ring and gap or with neither
+abbrev pub IsDraw : Option (Text × Text) → Text → Request → Type 0
+IsDraw o m (Check ring gap manifest) = ⊥
+IsDraw o m (Measure format manifest) = ⊥
+IsDraw o m (Report ring gap limit waive format manifest) = ⊥
+IsDraw o m (Draw ring gap manifest) =
+    (option_map (λ r. r.now) ring ≡ option_map (λ rules. rules.0) o) × (option_map (λ g. g.now) gap ≡ option_map (λ rules. rules.1) o) × (manifest.now ≡ m)
+IsDraw o m (Show kind file) = ⊥
+IsDraw o m (Rewrite kind file) = ⊥
+IsDraw o m (Manifest why files) = ⊥
+IsDraw o m (Explain word) = ⊥
+
+-- the words `explain` or `explain W`
+abbrev pub explain_words : Option Text → List Text
+explain_words None = codes "explain" ∷ []
+explain_words (Some word) = codes "explain" ∷ word ∷ []
+
+-- the request is to explain this word, or to list the words
+abbrev pub IsExplain : Option Text → Request → Type 0
+IsExplain o (Check ring gap manifest) = ⊥
+IsExplain o (Measure format manifest) = ⊥
+IsExplain o (Report ring gap limit waive format manifest) = ⊥
+IsExplain o (Draw ring gap manifest) = ⊥
+IsExplain o (Show kind file) = ⊥
+IsExplain o (Rewrite kind file) = ⊥
+IsExplain o (Manifest why files) = ⊥
+IsExplain o (Explain word) = option_map (λ w. w.now) word ≡ o
+
+-- the answer is the version, running out of memory aside
+abbrev pub ParsesAsVersion : Result Request Refusal → Type 0
+ParsesAsVersion (Ok request) = ⊥
+ParsesAsVersion (Err Memory) = Unit {0}
+ParsesAsVersion (Err (Help text)) = ⊥
+ParsesAsVersion (Err Version) = Unit {0}
+ParsesAsVersion (Err (Usage text)) = ⊥

@@ -1,0 +1,96 @@
+-- What is drilled, and the first rule that it breaks.
+use Rattle.std.proofs.Common.{◌≡◌, ℕ, ℤ, Bool, true, false, cond, ◌||◌, ◌/◌, unsigned_abs, nat_le, [], ◌∷◌, Option, None, Some, Result, Ok, Err, refl}
+use Rattle.std.specs.List.{find}
+use Rattle.grid_units.specs.declared.fault.Reason.{Reason}
+use Rattle.grid_units.specs.declared.fault.Reason.TheVariants.{NoUnit, UnitConflict, FormatConflict, Redefined, UnknownTool, NoTool, BadSize, TooFar, TooManyHoles}
+use Rattle.grid_units.specs.Results.{◌>>=◌}
+use Rattle.grid_units.specs.Points.{GridPoint}
+use Rattle.grid_units.specs.Numbers.{is_too_far, within_limit}
+use Rattle.grid_units.specs.Holes.{GridHole}
+use Rattle.drill_lines.specs.declared.command.Coordinates.{Coordinates}
+use Rattle.drill_lines.specs.declared.command.DrillCommand.{DrillCommand}
+use Rattle.drill_lines.specs.declared.command.DrillCommand.TheVariants as command
+use Rattle.drill_text.specs.Lookback.{StateView}
+use Rattle.std.specs.Option.{option_or}
+use Rattle.drill_text.specs.Holes.{DrillPath, hole_of, unit_or}
+use Rattle.drill_text.specs.Rules.{first_broken, applies, has_no_tool, has_bad_size, redefines_tool, max_holes}
+use Rattle.drill_text.specs.Inner.StateSteps.{path_between, no_point, hole_in, width_in, width_of, point_in, hole_between, round_hole}
+
+-- a value, unless a rule is broken
+pub ok_unless : {A : Type 0} → Option Reason → A → Result A Reason
+ok_unless None x = Ok x
+ok_unless (Some r) x = Err r
+
+pub unless_ok : {A : Type 0} (o : Option Reason) (x y : A) → ok_unless o x ≡ Ok y → (o ≡ None) × (x ≡ y)
+unfolding ok_unless
+unless_ok None x y e = (refl, cc)
+unless_ok (Some r) x y e = absurd cc
+
+pub unless_err : {A : Type 0} (o : Option Reason) (x : A) (r : Reason) → ok_unless o x ≡ Err r → o ≡ Some r
+unfolding ok_unless
+unless_err None x r e = absurd cc
+unless_err (Some q) x r e = cc
+
+-- the chain of tests is the list of rules
+rule_order : {W P H : Type 0} (w : W) (from to : P) (hole : W → P → P → H) (no bad fw fx fy tx ty many : Bool)
+    → (cond no (Err NoTool) (cond bad (Err BadSize) (cond fw (Err TooFar) (Ok w))) >>= λ width. (cond (fx || fy) (Err TooFar) (Ok from) >>= λ f. (cond (tx || ty) (Err TooFar) (Ok to) >>= λ t. cond many (Err TooManyHoles) (Ok (hole width f t)))))
+    ≡ ok_unless (cond no (Some NoTool) (cond bad (Some BadSize) (cond (fx || (fy || (tx || (ty || fw)))) (Some TooFar) (cond many (Some TooManyHoles) None)))) (hole w from to)
+unfolding ok_unless
+rule_order w from to hole true bad fw fx fy tx ty many = refl
+rule_order w from to hole false true fw fx fy tx ty many = refl
+rule_order w from to hole false false true true fy tx ty many = refl
+rule_order w from to hole false false true false true tx ty many = refl
+rule_order w from to hole false false true false false true ty many = refl
+rule_order w from to hole false false true false false false true many = refl
+rule_order w from to hole false false true false false false false many = refl
+rule_order w from to hole false false false true fy tx ty many = refl
+rule_order w from to hole false false false false true tx ty many = refl
+rule_order w from to hole false false false false false true ty many = refl
+rule_order w from to hole false false false false false false true many = refl
+rule_order w from to hole false false false false false false false true = refl
+rule_order w from to hole false false false false false false false false = refl
+
+-- a hole of a diameter from one point to another
+whole : ℤ → GridPoint → GridPoint → GridHole
+whole width from to = record { from = from; to = to; radius = unsigned_abs width / 2 }
+
+-- a slot breaks the rules that its hole does
+pub slot_rule : (s : StateView) (count : ℕ) (p q : Coordinates) → hole_in s count p q ≡ ok_unless (first_broken s count (Some (path_between s p q)) (command.Slot p q)) (hole_of (path_between s p q))
+unfolding first_broken within_limit whole
+slot_rule s count p q =
+    let d = path_between s p q in
+    rule_order (width_in s) d.from d.to whole (has_no_tool s) (has_bad_size d) (is_too_far d.diameter) (is_too_far d.from.x) (is_too_far d.from.y) (is_too_far d.to.x) (is_too_far d.to.y) (nat_le max_holes count)
+
+pub hit_rule : (s : StateView) (count : ℕ) (p : Coordinates) → hole_in s count p no_point ≡ ok_unless (first_broken s count (Some (path_between s p no_point)) (command.Hit p)) (hole_of (path_between s p no_point))
+unfolding first_broken within_limit whole
+hit_rule s count p =
+    let d = path_between s p no_point in
+    rule_order (width_in s) d.from d.to whole (has_no_tool s) (has_bad_size d) (is_too_far d.diameter) (is_too_far d.from.x) (is_too_far d.from.y) (is_too_far d.to.x) (is_too_far d.to.y) (nat_le max_holes count)
+
+-- a command that breaks no rule defines no tool again
+fourth : (a b c d : Bool) (q r s t : Reason) (rest : Option Reason) → cond a (Some q) (cond b (Some r) (cond c (Some s) (cond d (Some t) rest))) ≡ None → d ≡ false
+fourth true b c d q r s t rest e = absurd cc
+fourth false true c d q r s t rest e = absurd cc
+fourth false false true d q r s t rest e = absurd cc
+fourth false false false true q r s t rest e = absurd cc
+fourth false false false false q r s t rest e = refl
+
+pub not_redefined : (s : StateView) (count : ℕ) (drill_path : Option DrillPath) (c : DrillCommand) → first_broken s count drill_path c ≡ None → redefines_tool s c ≡ false
+unfolding first_broken
+not_redefined s count drill_path c e =
+    let a = applies s count drill_path c in
+    fourth (a NoUnit) (a UnitConflict) (a FormatConflict) (redefines_tool s c) NoUnit UnitConflict FormatConflict Redefined (find a (UnknownTool ∷ NoTool ∷ BadSize ∷ TooFar ∷ TooManyHoles ∷ [])) e
+
+-- a value that is asked for twice
+bind_twice : {A B E : Type 0} (r : Result A E) (f : A → A → Result B E) → (r >>= λ a. (r >>= λ b. f a b)) ≡ (r >>= λ a. f a a)
+bind_twice (Ok x) f = refl
+bind_twice (Err e) f = refl
+
+-- a hit drills a round hole
+pub round_hole_is : (s : StateView) (count : ℕ) (p : Coordinates) → hole_in s count p no_point ≡ round_hole s count (option_or p.x s.x) (option_or p.y s.y)
+round_hole_is s count p = by (width_of s)
+  where
+    by : (w : Result ℤ Reason) → (w >>= λ width. (point_in (unit_or s.settings.unit) (option_or p.x s.x) (option_or p.y s.y) >>= λ from. (point_in (unit_or s.settings.unit) (option_or p.x s.x) (option_or p.y s.y) >>= λ to. hole_between count width from to)))
+        ≡ (w >>= λ width. (point_in (unit_or s.settings.unit) (option_or p.x s.x) (option_or p.y s.y) >>= λ at. hole_between count width at at))
+    by (Ok width) = bind_twice (point_in (unit_or s.settings.unit) (option_or p.x s.x) (option_or p.y s.y)) (hole_between count width)
+    by (Err e) = refl

@@ -1,9 +1,0 @@
-use Rattle.std.proofs.Common.{pos, ◌≤ℤ◌, arith}
-use Rattle.std.proofs.lemmas.Int.{ints}
-use Rattle.drill_text.proofs.Measures.{width_ok}
-use Rattle.drill_text.proofs.judge.Judge.width.Goals as goal
-
-pub returns-in-Some-clause-range : goal.returns-in-Some-clause-range
-returns-in-Some-clause-range c =
-    let some : pos 1 ≤ℤ c.in-Some.diameter = grind (arith, ints) in
-    width_ok c.unit.result c.in-Some.diameter c.picometres.result some c.picometres.ensures.exact

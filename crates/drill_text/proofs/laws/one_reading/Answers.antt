@@ -1,8 +1,0 @@
-use Rattle.drill_text.proofs.Unique.{one_shown, one_read}
-use Rattle.drill_text.proofs.laws.one_reading.Goals as goal
-
-pub returns-clause-shown : goal.returns-clause-shown
-returns-clause-shown c = one_shown
-
-pub returns-clause-read : goal.returns-clause-read
-returns-clause-read c = one_read

@@ -1,0 +1,23 @@
+use Rattle.std.proofs.Common.{length, refl, sym, subst}
+use Rattle.drill_lines.specs.declared.command.DrillCommand.{DrillCommand}
+use Rattle.drill_lines.specs.declared.command.DrillCommand.TheVariants as command
+use Rattle.drill_text.specs.Inner.StateSteps.{state_of, AppliesOrRefuses, no_point, path_between}
+use Rattle.drill_text.proofs.Lookbacks.{moved_one, moved_two}
+use Rattle.drill_text.proofs.HoleLines.{hit_rule, slot_rule}
+use Rattle.drill_text.proofs.AppliedHoles.{judges_drilled}
+use Rattle.drill_text.proofs.state.DrillState.step.Goals as goal
+
+pub returns-in-Hit : goal.returns-in-Hit
+returns-in-Hit c before is_state =
+    let old = c.args.self.now in
+    let p = c.in-Hit.point in
+    subst (λ (d : DrillCommand). AppliesOrRefuses before d c.drill_hit.new.self c.drill_hit.result) (sym c.in-Hit.is)
+    (judges_drilled old c.drill_hit.new.self before (command.Hit p) p no_point (path_between (state_of old) p no_point) c.drill_hit.result is_state refl (hit_rule (state_of old) (length old.holes.items) p) (moved_one p (state_of old)) refl c.drill_hit.ensures)
+
+pub returns-in-Slot : goal.returns-in-Slot
+returns-in-Slot c before is_state =
+    let old = c.args.self.now in
+    let p = c.in-Slot.first in
+    let q = c.in-Slot.second in
+    subst (λ (d : DrillCommand). AppliesOrRefuses before d c.drill_slot.new.self c.drill_slot.result) (sym c.in-Slot.is)
+    (judges_drilled old c.drill_slot.new.self before (command.Slot p q) p q (path_between (state_of old) p q) c.drill_slot.result is_state refl (slot_rule (state_of old) (length old.holes.items) p q) (moved_two p q (state_of old)) refl c.drill_slot.ensures)

@@ -1,0 +1,436 @@
+//! The judge: it meets the commands of a drill file one by one, and answers which rule a command breaks first.
+
+ghost use Rattle.std.specs.Prelude.{◌≡◌, nat_eq};
+ghost use Rattle.std.specs.Option.{option_and_then};
+ghost use Rattle.indexmap.specs.IndexMap.{get};
+ghost use Rattle.drill_text.specs.Rules.{same_unit, same_zeros, same_format};
+
+use drill_lines::{
+    Coordinates, DrillCommand, DrillFormat, OptionalDec, Part, Settings, file_format,
+};
+use grid_units::{Dec, Hole, ItemFail, Point, Reason, Text, Unit, Zeros};
+use indexmap::IndexMap;
+use std::alloc::{AllocError, Global};
+
+/// The greatest number of holes in a drill file.
+const MAX_HOLES: usize = 1_048_576;
+
+/// What the commands so far say to the next one, and the holes that they drill.
+#[derive(Drop)]
+pub(crate) struct DrillState {
+    settings: Settings,
+    header_ended: bool,
+    tools: IndexMap<u16, Dec>,
+    tool: Option<u16>,
+    // Held beside `tools` and `tool`, so that no hole looks its tool up.
+    diameter: Option<Dec>,
+    x: OptionalDec,
+    y: OptionalDec,
+    holes: Vec<Hole>,
+    ghost picked: { diameter ≡ option_and_then (λ number. get nat_eq tools number) tool },
+}
+
+impl DrillState {
+    ghost use Rattle.std.specs.Prelude.{◌≡◌, [], ◌∷◌, ◌++◌, List, OnOk, IfOk, IfErr, length, Some, None, Ok, true, false};
+    ghost use Rattle.grid_units.specs.declared.item_fail.ItemFail.TheVariants.{Memory};
+    ghost use Rattle.std.specs.Option.{option_or};
+    ghost use Rattle.std.specs.List.{find};
+    ghost use Rattle.drill_lines.specs.declared.command.DrillCommand.{DrillCommand as TheCommand};
+    ghost use Rattle.drill_lines.specs.declared.command.DrillCommand.TheVariants as command;
+    ghost use Rattle.drill_lines.specs.declared.command.Part.TheVariants as part;
+    ghost use Rattle.grid_units.specs.declared.fault.Reason.TheVariants as reason;
+    ghost use Rattle.drill_text.specs.Rules.{first_broken, applies, rules, differs, same_unit, same_zeros, same_format, picks_unknown_tool, drills, has_no_tool};
+    ghost use Rattle.drill_text.specs.Holes.{unit_or};
+    ghost use Rattle.drill_text.specs.Inner.StateSteps.{state_of, IsStateAfter, Applies, AppliesOrRefuses, DrillsOrRefuses, given, moved, drill_path, length_in, point_in, width_of, IsWidth, no_point, hole_between, hole_in, round_hole};
+
+    /// A judge that has met no command.
+    pub(crate) fn new(alloc: Global) -> DrillState
+        ensures { IsStateAfter result [] }
+    {
+        let settings = Settings {
+            part: Part::Before,
+            unit: None,
+            zeros: None,
+            format: None,
+        };
+        DrillState {
+            settings,
+            header_ended: false,
+            tools: IndexMap::new(alloc),
+            tool: None,
+            diameter: None,
+            x: OptionalDec::new(None),
+            y: OptionalDec::new(None),
+            holes: Vec::new(alloc),
+        }
+    }
+
+    /// The settings by which the next line is read.
+    pub(crate) fn settings(&self) -> Settings
+        ensures { result ≡ self.now.settings }
+    {
+        self.settings
+    }
+
+    /// Whether the next line stands in the body.
+    pub(crate) fn is_in_body(&self) -> bool
+        ensures { result ≡ true → self.now.settings.part ≡ part.Body }
+    {
+        matches!(self.settings.part, Part::Body)
+    }
+
+    /// The holes and the tools of the commands that were taken in.
+    pub(crate) fn into_parts(self) -> (Vec<Hole>, IndexMap<u16, Dec>)
+        ensures { result ≡ (self.holes, self.tools) }
+    {
+        let DrillState { holes, tools, .. } = self;
+        (holes, tools)
+    }
+
+    /// Checks one more command, and takes it in if it breaks no rule.
+    pub(crate) fn step(&mut self, command: &DrillCommand) -> Result<(), ItemFail>
+        ensures { (before : List TheCommand) → IsStateAfter self.old before → AppliesOrRefuses before command.now self.new result }
+    {
+        match command {
+            DrillCommand::Hit(point) => self.drill_hit(point),
+            DrillCommand::Slot(first, second) => self.drill_slot(first, second),
+            _ => self.apply_checked(command),
+        }
+    }
+
+    /// Checks a command that drills nothing, and takes it in if it breaks no rule.
+    fn apply_checked(&mut self, command: &DrillCommand) -> Result<(), ItemFail>
+        requires { drills command.now ≡ false }
+        ensures { (before : List TheCommand) → IsStateAfter self.old before → AppliesOrRefuses before command.now self.new result }
+    {
+        if let Some(reason) = self.broken_rule(command) {
+            return Err(ItemFail::Refused(reason));
+        }
+        self.take(command)?;
+        Ok(())
+    }
+
+    /// The first rule that a command breaks, if the command drills nothing.
+    #[tactic(auto, unfolding(crate::specs::Rules::first_broken))]
+    fn broken_rule(&self, command: &DrillCommand) -> Option<Reason>
+        requires { drills command.now ≡ false }
+        ensures { result ≡ first_broken (state_of self.now) (length self.now.holes.items) (drill_path (state_of self.now) command.now) command.now }
+    {
+        match command {
+            DrillCommand::HeaderEnd => self.settings.unit.is_none().then_some(Reason::NoUnit),
+            DrillCommand::UnitCode(unit) => {
+                self.differs_in_unit(*unit).then_some(Reason::UnitConflict)
+            }
+            DrillCommand::UnitLine(unit, zeros, format) => {
+                self.unit_line_rule(*unit, *zeros, *format)
+            }
+            DrillCommand::Comment(text) => self.comment_rule(text),
+            DrillCommand::Tool(number, diameter) => self.tool_rule(*number, *diameter),
+            DrillCommand::Pick(number) => self.is_unknown(*number).then_some(Reason::UnknownTool),
+            DrillCommand::Start
+            | DrillCommand::Finish
+            | DrillCommand::Hit(_)
+            | DrillCommand::Slot(_, _) => None,
+        }
+    }
+
+    fn differs_in_unit(&self, unit: Unit) -> bool
+        ensures { result ≡ differs same_unit (Some unit) self.now.settings.unit }
+    {
+        match self.settings.unit {
+            Some(other) => !same_unit(unit, other),
+            None => false,
+        }
+    }
+
+    fn differs_in_zeros(&self, zeros: Option<Zeros>) -> bool
+        ensures { result ≡ differs same_zeros zeros self.now.settings.zeros }
+    {
+        match (zeros, self.settings.zeros) {
+            (Some(zeros), Some(other)) => !same_zeros(zeros, other),
+            _ => false,
+        }
+    }
+
+    fn differs_in_format(&self, format: Option<DrillFormat>) -> bool
+        ensures { result ≡ differs same_format format self.now.settings.format }
+    {
+        match (format, self.settings.format) {
+            (Some(format), Some(other)) => !same_format(format, other),
+            _ => false,
+        }
+    }
+
+    fn unit_line_rule(
+        &self,
+        unit: Unit,
+        zeros: Option<Zeros>,
+        format: Option<DrillFormat>,
+    ) -> Option<Reason>
+        ensures { result ≡ find (applies (state_of self.now) (length self.now.holes.items) None (command.UnitLine unit zeros format)) rules }
+    {
+        if self.differs_in_unit(unit) {
+            Some(Reason::UnitConflict)
+        } else if (self.differs_in_format(format) || self.differs_in_zeros(zeros))
+            && !self.header_ended
+        {
+            Some(Reason::FormatConflict)
+        } else {
+            None
+        }
+    }
+
+    fn comment_rule(&self, text: &Text) -> Option<Reason>
+        ensures { result ≡ find (applies (state_of self.now) (length self.now.holes.items) None (command.Comment text.now)) rules }
+    {
+        if self.differs_in_format(file_format(text.bytes())) && !self.header_ended {
+            Some(Reason::FormatConflict)
+        } else {
+            None
+        }
+    }
+
+    fn tool_rule(&self, number: u16, diameter: Dec) -> Option<Reason>
+        ensures { result ≡ find (applies (state_of self.now) (length self.now.holes.items) None (command.Tool number diameter)) rules }
+    {
+        if self.tools.contains_key(&number) {
+            Some(Reason::Redefined)
+        } else if diameter.units() <= 0 {
+            Some(Reason::BadSize)
+        } else {
+            None
+        }
+    }
+
+    fn is_unknown(&self, number: u16) -> bool
+        ensures { result ≡ picks_unknown_tool (state_of self.now) (command.Pick number) }
+    {
+        number != 0 && !self.tools.contains_key(&number)
+    }
+
+    /// Applies a command that drills nothing.
+    fn take(&mut self, command: &DrillCommand) -> Result<(), AllocError>
+        requires { drills command.now ≡ false }
+        ensures { OnOk result (Applies self.old command.now self.new) }
+    {
+        match command {
+            DrillCommand::Comment(text) => self.apply_settings(
+                None,
+                None,
+                file_format(text.bytes()),
+            ),
+            DrillCommand::Start => self.settings.part = Part::Header,
+            DrillCommand::UnitLine(unit, zeros, format) => self.apply_settings(
+                Some(*unit),
+                *zeros,
+                *format,
+            ),
+            DrillCommand::Tool(number, diameter) => {
+                self.tools.insert(*number, *diameter)?;
+                self.diameter = diameter_of(&self.tools, self.tool);
+            }
+            DrillCommand::HeaderEnd => {
+                self.settings.part = Part::Body;
+                self.header_ended = true;
+            }
+            DrillCommand::UnitCode(unit) => self.apply_settings(Some(*unit), None, None),
+            DrillCommand::Pick(number) => {
+                self.tool = Some(*number);
+                self.diameter = diameter_of(&self.tools, self.tool);
+            }
+            DrillCommand::Finish => self.settings.part = Part::After,
+            DrillCommand::Hit(_) | DrillCommand::Slot(_, _) => {}
+        }
+        Ok(())
+    }
+
+    /// Applies what a line gives, unless the header has ended.
+    fn apply_settings(
+        &mut self,
+        unit: Option<Unit>,
+        zeros: Option<Zeros>,
+        format: Option<DrillFormat>,
+    )
+        ensures state_of { state_of self.new ≡ given unit zeros format (state_of self.old) }
+        ensures holes { self.new.holes.items ≡ self.old.holes.items }
+        ensures tools { self.new.tools.entries ≡ self.old.tools.entries }
+    {
+        if self.header_ended {
+            return;
+        }
+        if unit.is_some() {
+            self.settings.unit = unit;
+        }
+        if zeros.is_some() {
+            self.settings.zeros = zeros;
+        }
+        if format.is_some() {
+            self.settings.format = format;
+        }
+    }
+
+    /// Adds the hole at a point, unless that breaks a rule.
+    fn drill_hit(&mut self, point: &Coordinates) -> Result<(), ItemFail>
+        ensures { DrillsOrRefuses self.old point.now no_point self.new result }
+    {
+        let hole = self.hit_hole(point)?;
+        self.move_to(point);
+        self.add(hole)
+    }
+
+    /// The hole that a hit at a point drills, or the first rule that it breaks.
+    fn hit_hole(&self, point: &Coordinates) -> Result<Hole, Reason>
+        ensures { result ≡ hole_in (state_of self.now) (length self.now.holes.items) point.now no_point }
+    {
+        self.round_hole(point.x.or(self.x), point.y.or(self.y))
+    }
+
+    /// The round hole at these coordinates, or the first rule that it breaks.
+    fn round_hole(&self, x: OptionalDec, y: OptionalDec) -> Result<Hole, Reason>
+        ensures { result ≡ round_hole (state_of self.now) (length self.now.holes.items) x y }
+    {
+        let width = self.width()?;
+        let at = self.point(x, y)?;
+        self.hole_between(width, at, at)
+    }
+
+    /// Adds the slot from one point to another, unless that breaks a rule.
+    fn drill_slot(&mut self, first: &Coordinates, second: &Coordinates) -> Result<(), ItemFail>
+        ensures { DrillsOrRefuses self.old first.now second.now self.new result }
+    {
+        let hole = self.hole(first, second)?;
+        self.move_to(first);
+        self.move_to(second);
+        self.add(hole)
+    }
+
+    /// The hole from one point to another, or the first rule that it breaks.
+    fn hole(&self, first: &Coordinates, second: &Coordinates) -> Result<Hole, Reason>
+        ensures { result ≡ hole_in (state_of self.now) (length self.now.holes.items) first.now second.now }
+    {
+        let x = first.x.or(self.x);
+        let y = first.y.or(self.y);
+        let width = self.width()?;
+        let from = self.point(x, y)?;
+        let to = self.point(second.x.or(x), second.y.or(y))?;
+        self.hole_between(width, from, to)
+    }
+
+    /// Adds a hole, if there is memory for it.
+    fn add(&mut self, hole: Hole) -> Result<(), ItemFail>
+        ensures state_of { state_of self.new ≡ state_of self.old }
+        ensures tools { self.new.tools ≡ self.old.tools }
+        ensures holes { OnOk result (self.new.holes.items ≡ self.old.holes.items ++ hole ∷ []) }
+        ensures err { IfErr result (λ e. e ≡ Memory) }
+    {
+        match self.holes.push(hole) {
+            Ok(()) => Ok(()),
+            Err(_) => Err(ItemFail::Memory),
+        }
+    }
+
+    /// The hole between two points with a tool of this diameter in pm, unless there are too many.
+    fn hole_between(&self, width: i64, from: Point, to: Point) -> Result<Hole, Reason>
+        requires { IsWidth width }
+        ensures { result ≡ hole_between (length self.now.holes.items) width from to }
+    {
+        if self.holes.len() >= MAX_HOLES {
+            return Err(Reason::TooManyHoles);
+        }
+        Hole::new(from, to, width / 2).ok_or(Reason::BadSize)
+    }
+
+    /// Makes this the last point. A coordinate that it leaves out stays.
+    fn move_to(&mut self, point: &Coordinates)
+        ensures state_of { state_of self.new ≡ moved point.now (state_of self.old) }
+        ensures holes { self.new.holes ≡ self.old.holes }
+        ensures tools { self.new.tools ≡ self.old.tools }
+    {
+        self.x = point.x.or(self.x);
+        self.y = point.y.or(self.y);
+    }
+
+    /// The unit of the file. A header without one has no legal body.
+    fn unit(&self) -> Unit
+        ensures { result ≡ unit_or self.now.settings.unit }
+    {
+        self.settings.unit.unwrap_or(Unit::Millimetre)
+    }
+
+    /// A length in pm, 0 where none was named, or `TooFar` above 10 m.
+    fn length(&self, value: OptionalDec) -> Result<i64, Reason>
+        ensures { result ≡ length_in (unit_or self.now.settings.unit) value }
+    {
+        match value.get() {
+            Some(value) => value.picometres(self.unit()),
+            None => Ok(0),
+        }
+    }
+
+    /// The point at these coordinates, or `TooFar` where one is above 10 m.
+    #[tactic(auto, unfolding(grid_units::specs::Numbers::within_limit))]
+    fn point(&self, x: OptionalDec, y: OptionalDec) -> Result<Point, Reason>
+        ensures { result ≡ point_in (unit_or self.now.settings.unit) x y }
+    {
+        Point::new(self.length(x)?, self.length(y)?).ok_or(Reason::TooFar)
+    }
+
+    fn has_no_tool(&self) -> bool
+        ensures { result ≡ has_no_tool (state_of self.now) }
+    {
+        match self.tool {
+            Some(number) => number == 0,
+            None => true,
+        }
+    }
+
+    /// The diameter of the picked tool in pm, or the first rule that it breaks.
+    fn width(&self) -> Result<i64, Reason>
+        ensures exact { result ≡ width_of (state_of self.now) }
+        ensures range { IfOk result IsWidth }
+    {
+        if self.has_no_tool() {
+            return Err(Reason::NoTool);
+        }
+        match self.diameter {
+            Some(diameter) if diameter.units() > 0 => diameter.picometres(self.unit()),
+            _ => Err(Reason::BadSize),
+        }
+    }
+}
+
+/// The diameter of the picked tool, in the unit of the file.
+fn diameter_of(tools: &IndexMap<u16, Dec>, tool: Option<u16>) -> Option<Dec>
+    ensures { result ≡ option_and_then (λ number. get nat_eq tools.now number) tool }
+{
+    match tool {
+        Some(number) => tools.get(&number).copied(),
+        None => None,
+    }
+}
+
+fn same_unit(first: Unit, second: Unit) -> bool
+    ensures { result ≡ same_unit first second }
+{
+    matches!(
+        (first, second),
+        (Unit::Inch, Unit::Inch) | (Unit::Millimetre, Unit::Millimetre)
+    )
+}
+
+fn same_zeros(first: Zeros, second: Zeros) -> bool
+    ensures { result ≡ same_zeros first second }
+{
+    matches!(
+        (first, second),
+        (Zeros::Leading, Zeros::Leading)
+            | (Zeros::Trailing, Zeros::Trailing)
+            | (Zeros::Full, Zeros::Full)
+    )
+}
+
+fn same_format(first: DrillFormat, second: DrillFormat) -> bool
+    ensures { result ≡ same_format first second }
+{
+    first.whole() == second.whole() && first.decimals() == second.decimals()
+}

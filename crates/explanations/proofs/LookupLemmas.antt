@@ -1,0 +1,104 @@
+-- Each reason and each topic stands in its list, and a search of a list finds the one with a name.
+use Rattle.std.proofs.Common.{arith, inl, inr, map, ◌≡◌, ◌≢◌, ◌<◌, ◌≤◌, ◌+◌, ◌∙◌, ℕ, false, List, length, take, get_or, All, sym, refl, ap, subst}
+use Rattle.std.specs.List.{Contains}
+use Rattle.std.specs.Str.{bytes_eq}
+use Rattle.std.proofs.lemmas.List.{length-map, take_all, get_or-map}
+use Rattle.std.proofs.lemmas.List.Elements.{All-more, Contains-append_left, Contains-append_right}
+use Rattle.std.proofs.lemmas.Slice.Eq.{bytes_eq-Decides}
+use Rattle.grid_units.specs.Reasons.{reason_name}
+use Rattle.grid_units.specs.declared.fault.Reason.{Reason}
+use Rattle.grid_units.specs.declared.fault.Reason.TheVariants as reasons
+use Rattle.explanations.specs.declared.topic.Topic.{Topic}
+use Rattle.explanations.specs.declared.topic.Topic.TheVariants as topics
+use Rattle.explanations.specs.Words.{EachWordIsListed, all_reasons, all_topics, all_words, topic_word}
+
+-- each reason is listed
+pub reason_is_listed : (reason : Reason) → Contains all_reasons reason
+reason_is_listed reasons.TooLong = (0, omega arith, refl)
+reason_is_listed reasons.AfterEnd = (1, omega arith, refl)
+reason_is_listed reasons.Truncated = (2, omega arith, refl)
+reason_is_listed reasons.SeveralInOne = (3, omega arith, refl)
+reason_is_listed reasons.ClearPolarity = (4, omega arith, refl)
+reason_is_listed reasons.BlockAperture = (5, omega arith, refl)
+reason_is_listed reasons.NegativeImage = (6, omega arith, refl)
+reason_is_listed reasons.TrailingZeros = (7, omega arith, refl)
+reason_is_listed reasons.Incremental = (8, omega arith, refl)
+reason_is_listed reasons.OldParameter = (9, omega arith, refl)
+reason_is_listed reasons.OldFormat = (10, omega arith, refl)
+reason_is_listed reasons.Routed = (11, omega arith, refl)
+reason_is_listed reasons.Repeat = (12, omega arith, refl)
+reason_is_listed reasons.BadWord = (13, omega arith, refl)
+reason_is_listed reasons.BadLine = (14, omega arith, refl)
+reason_is_listed reasons.BadNumber = (15, omega arith, refl)
+reason_is_listed reasons.NoZeros = (16, omega arith, refl)
+reason_is_listed reasons.TooManyDigits = (17, omega arith, refl)
+reason_is_listed reasons.TooFine = (18, omega arith, refl)
+reason_is_listed reasons.TooFar = (19, omega arith, refl)
+reason_is_listed reasons.BareCoordinate = (20, omega arith, refl)
+reason_is_listed reasons.InRegion = (21, omega arith, refl)
+reason_is_listed reasons.NotInRegion = (22, omega arith, refl)
+reason_is_listed reasons.NoFormat = (23, omega arith, refl)
+reason_is_listed reasons.NoUnit = (24, omega arith, refl)
+reason_is_listed reasons.UnitConflict = (25, omega arith, refl)
+reason_is_listed reasons.FormatConflict = (26, omega arith, refl)
+reason_is_listed reasons.Redefined = (27, omega arith, refl)
+reason_is_listed reasons.UnknownMacro = (28, omega arith, refl)
+reason_is_listed reasons.UnknownAperture = (29, omega arith, refl)
+reason_is_listed reasons.UnknownTool = (30, omega arith, refl)
+reason_is_listed reasons.NoAperture = (31, omega arith, refl)
+reason_is_listed reasons.NoTool = (32, omega arith, refl)
+reason_is_listed reasons.BadSize = (33, omega arith, refl)
+reason_is_listed reasons.BadRepeat = (34, omega arith, refl)
+reason_is_listed reasons.TooManyPads = (35, omega arith, refl)
+reason_is_listed reasons.TooManyHoles = (36, omega arith, refl)
+reason_is_listed reasons.BadRule = (37, omega arith, refl)
+reason_is_listed reasons.BadManifest = (38, omega arith, refl)
+reason_is_listed reasons.BadRole = (39, omega arith, refl)
+reason_is_listed reasons.EmptyName = (40, omega arith, refl)
+reason_is_listed reasons.RepeatedName = (41, omega arith, refl)
+reason_is_listed reasons.NoCopper = (42, omega arith, refl)
+reason_is_listed reasons.NoDrill = (43, omega arith, refl)
+reason_is_listed reasons.NotCopper = (44, omega arith, refl)
+reason_is_listed reasons.BadSpan = (45, omega arith, refl)
+
+-- each topic is listed
+pub topic_is_listed : (topic : Topic) → Contains all_topics topic
+topic_is_listed topics.RingLine = (0, omega arith, refl)
+topic_is_listed topics.GapLine = (1, omega arith, refl)
+topic_is_listed topics.ObliqueLine = (2, omega arith, refl)
+topic_is_listed topics.Ring = (3, omega arith, refl)
+topic_is_listed topics.Small = (4, omega arith, refl)
+topic_is_listed topics.Off = (5, omega arith, refl)
+topic_is_listed topics.NoPad = (6, omega arith, refl)
+topic_is_listed topics.Macro = (7, omega arith, refl)
+topic_is_listed topics.Polygon = (8, omega arith, refl)
+topic_is_listed topics.Holed = (9, omega arith, refl)
+topic_is_listed topics.Scaled = (10, omega arith, refl)
+topic_is_listed topics.Turned = (11, omega arith, refl)
+topic_is_listed topics.Oblique = (12, omega arith, refl)
+topic_is_listed topics.Plane = (13, omega arith, refl)
+
+-- the words of the listed reasons or topics
+pub contains_map : {A B : Type 0} (f : A → B) (xs : List A) (x : A) → Contains xs x → Contains (map f xs) (f x)
+contains_map f xs x h = (h.0, omega (arith, h.1, length-map xs f), get_or-map f xs h.0 x (f x) h.1 ∙ ap f h.2)
+
+-- each word is listed
+pub word_is_listed : EachWordIsListed
+word_is_listed word (inl named) = subst (Contains all_words) named.1 (Contains-append_left (map reason_name all_reasons) (map topic_word all_topics) (reason_name named.0) (contains_map reason_name all_reasons named.0 (reason_is_listed named.0)))
+word_is_listed word (inr named) = subst (Contains all_words) named.1 (Contains-append_right (map reason_name all_reasons) (map topic_word all_topics) (topic_word named.0) (contains_map topic_word all_topics named.0 (topic_is_listed named.0)))
+
+-- texts that were compared and differ
+pub not_equal_bytes : (a b : List ℕ) → bytes_eq a b ≡ false → a ≢ b
+not_equal_bytes a b e same = cc (sym e ∙ (bytes_eq-Decides a b).1 same)
+
+module _ {A : Type 0} (word_of : A → List ℕ) where
+  -- one more element has another name
+  pub others_extend : (xs : List A) (i : ℕ) (d : A) (name word : List ℕ) → i < length xs → All (λ x. word_of x ≢ word) (take i xs) → name ≡ word_of (get_or xs i d)
+      → false ≡ bytes_eq name word → All (λ x. word_of x ≢ word) (take (i + 1) xs)
+  others_extend xs i d name word lt others is differs = All-more (λ x. word_of x ≢ word) xs i d lt others (λ e. not_equal_bytes name word (sym differs) (is ∙ e))
+
+  -- all have other names, and so has one of them
+  pub none_named : (xs : List A) (i : ℕ) (word : List ℕ) → length xs ≤ i → All (λ x. word_of x ≢ word) (take i xs) → (x : A) → Contains xs x → word_of x ≢ word
+  none_named xs i word le others x at e =
+      let all = subst (λ ys. All (λ x. word_of x ≢ word) ys) (take_all i xs le) others in
+      all at.0 x at.1 (ap word_of at.2 ∙ e)

@@ -1,4 +1,0 @@
-pub mod Short
-pub mod Firsts
-pub mod Words
-pub mod Plain

@@ -1,9 +1,0 @@
-use Rattle.std.proofs.Common.{◌≡◌, sym, true, arith}
-use Rattle.grid_units.specs.Numbers.{is_digits}
-use Rattle.file_hints.proofs.Words.{number_is}
-use Rattle.file_hints.proofs.names.number_of.Goals as goal
-
-pub returns : goal.returns
-returns c =
-    let digits : is_digits c.args.text.now ≡ true = sym c.if-not-is_digits.ensures in
-    number_is c.args.most c.args.text.now _ c.requires digits (omega arith) c.capped_value.ensures

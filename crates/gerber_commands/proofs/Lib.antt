@@ -1,0 +1,2 @@
+pub mod CanonicalLemmas
+pub mod NumberLemmas

@@ -1,0 +1,6 @@
+use Rattle.std.proofs.Common.{◌≡◌, take, ◌==◌}
+use Rattle.std.specs.List.{list_any}
+use Rattle.gerber_commands.proofs.negative.contains.Given as goal
+
+abbrev pub invariant-loop-byte : goal.invariant-loop-byte
+invariant-loop-byte l = l.found ≡ list_any (λ b. b == l.sought) (take l.byte-index l.text)

@@ -1,0 +1,11 @@
+use Rattle.std.proofs.Common.{◌≡◌, ◌≤◌, ◌<◌, ◌^◌, take, All, true}
+use Rattle.grid_units.specs.Numbers.{is_digit, value}
+use Rattle.gerber_commands.proofs.number.more_digits.Given as goal
+
+abbrev pub invariant-loop-i : goal.invariant-loop-i
+invariant-loop-i l = record {
+  short : l.i ≤ 12;
+  digits : All (λ b. is_digit b ≡ true) (take l.i l.bytes);
+  value : l.n ≡ value (take l.i l.bytes);
+  bound : l.n < 10 ^ l.i;
+}

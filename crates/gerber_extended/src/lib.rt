@@ -1,0 +1,8 @@
+//! Extended items of a Gerber text: what stands between `%` and `*%` spells.
+#![tactic(auto)]
+
+mod aperture;
+mod piece;
+
+pub use aperture::{is_name, max_sizes, min_sizes, standard_template};
+pub use piece::read_extended;

@@ -1,6 +1,0 @@
-use Rattle.std.proofs.Common.{◌≡◌, ◌++◌, take}
-use Rattle.gerber_rows.specs.Canonical.{pieces_text}
-use Rattle.gerber_rows.proofs.canonical.put_pieces.Given as goal
-
-abbrev pub invariant-loop-piece : goal.invariant-loop-piece
-invariant-loop-piece l = l.out.items ≡ l.initial.out.items ++ pieces_text (take l.piece-index l.pieces)

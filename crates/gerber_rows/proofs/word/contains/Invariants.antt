@@ -1,6 +1,0 @@
-use Rattle.std.proofs.Common.{◌≡◌, take, ◌==◌}
-use Rattle.std.specs.List.{list_any}
-use Rattle.gerber_rows.proofs.word.contains.Given as goal
-
-abbrev pub invariant-loop-byte : goal.invariant-loop-byte
-invariant-loop-byte l = l.found ≡ list_any (λ b. b == l.sought) (take l.byte-index l.text)

@@ -1,6 +1,0 @@
-use Rattle.std.proofs.Common.{◌≡◌, ◌+◌, length, take}
-use Rattle.gerber_sayable.proofs.Pieces.{starred}
-use Rattle.gerber_sayable.proofs.sayable.hold.Given as goal
-
-abbrev pub invariant-loop-text : goal.invariant-loop-text
-invariant-loop-text l = l.room ≡ l.left + length (starred (take l.text-index l.texts))

@@ -1,0 +1,49 @@
+-- Bytes after a text, with their offsets.
+use Rattle.std.proofs.Common.{◌≡◌, ℕ, suc, ◌+◌, ◌<◌, true, false, cond, not, List, [], ◌∷◌, ◌++◌, length, refl, sym, ap, ◌∙◌, arith, add-zero}
+use Rattle.std.specs.List.{enumerate_from, filter, AllByRecursion}
+use Rattle.std.proofs.lemmas.List.{append-nil}
+use Rattle.std.proofs.lemmas.List.Elements.{filter-append}
+use Rattle.gerber_text.specs.Items.{is_line_break}
+use Rattle.gerber_text.specs.Cut.{OffsetByte, offset_bytes_from, offset_bytes, bytes_of, first_offset}
+
+enumerate-append : (n : ℕ) (xs ys : List ℕ) → enumerate_from n (xs ++ ys) ≡ enumerate_from n xs ++ enumerate_from (n + length xs) ys
+enumerate-append n [] ys = ap (λ k. enumerate_from k ys) (sym (add-zero n))
+enumerate-append n (x ∷ xs) ys =
+    let k : (n + 1) + length xs ≡ n + suc (length xs) = omega arith in
+    ap (λ (zs : List OffsetByte). (n, x) ∷ zs) (enumerate-append (n + 1) xs ys ∙ ap (λ j. enumerate_from (n + 1) xs ++ enumerate_from j ys) k)
+
+pub offset_bytes_from-append : (n : ℕ) (xs ys : List ℕ) → offset_bytes_from n (xs ++ ys) ≡ offset_bytes_from n xs ++ offset_bytes_from (n + length xs) ys
+offset_bytes_from-append n xs ys = ap (filter (λ m. not (is_line_break m.1))) (enumerate-append n xs ys) ∙ filter-append (λ m. not (is_line_break m.1)) (enumerate_from n xs) (enumerate_from (n + length xs) ys)
+
+pub offset_bytes-append : (text bytes : List ℕ) → offset_bytes (text ++ bytes) ≡ offset_bytes text ++ offset_bytes_from (length text) bytes
+offset_bytes-append text bytes =
+    let k : 0 + length text ≡ length text = omega arith in
+    offset_bytes_from-append 0 text bytes ∙ ap (λ j. offset_bytes text ++ offset_bytes_from j bytes) k
+
+pub offset_bytes-break : (text : List ℕ) (b : ℕ) → is_line_break b ≡ true → offset_bytes (text ++ b ∷ []) ≡ offset_bytes text
+offset_bytes-break text b h =
+    let none : offset_bytes_from (length text) (b ∷ []) ≡ [] = ap (λ t. cond (not t) ((length text, b) ∷ []) []) h in
+    offset_bytes-append text (b ∷ []) ∙ (ap (λ (x : List OffsetByte). offset_bytes text ++ x) none ∙ append-nil (offset_bytes text))
+
+-- bytes without line breaks are all kept
+pub offset_bytes_from-kept : (n : ℕ) (run : List ℕ) → AllByRecursion (λ b. is_line_break b ≡ false) run → offset_bytes_from n run ≡ enumerate_from n run
+offset_bytes_from-kept n [] h = refl
+offset_bytes_from-kept n (b ∷ run) h =
+    let one : offset_bytes_from n (b ∷ run) ≡ (n, b) ∷ offset_bytes_from (n + 1) run = ap (λ t. cond (not t) ((n, b) ∷ offset_bytes_from (n + 1) run) (offset_bytes_from (n + 1) run)) h.0 in
+    one ∙ ap (λ (x : List OffsetByte). (n, b) ∷ x) (offset_bytes_from-kept (n + 1) run h.1)
+
+pub bytes_of-enumerate : (n : ℕ) (run : List ℕ) → bytes_of (enumerate_from n run) ≡ run
+bytes_of-enumerate n [] = refl
+bytes_of-enumerate n (b ∷ run) = ap (λ (x : List ℕ). b ∷ x) (bytes_of-enumerate (n + 1) run)
+
+pub AllR-append : (P : ℕ → Type 0) (xs ys : List ℕ) → AllByRecursion P xs → AllByRecursion P ys → AllByRecursion P (xs ++ ys)
+AllR-append P [] ys h k = k
+AllR-append P (x ∷ xs) ys h k = (h.0, AllR-append P xs ys h.1 k)
+
+pub AllR-weaker : (P Q : ℕ → Type 0) → ((x : ℕ) → P x → Q x) → (xs : List ℕ) → AllByRecursion P xs → AllByRecursion Q xs
+AllR-weaker P Q f [] h = tt
+AllR-weaker P Q f (x ∷ xs) h = (f x h.0, AllR-weaker P Q f xs h.1)
+
+pub first_offset-append : (xs ys : List OffsetByte) → 0 < length xs → first_offset (xs ++ ys) ≡ first_offset xs
+first_offset-append [] ys h = absurd (omega arith)
+first_offset-append (x ∷ xs) ys h = refl

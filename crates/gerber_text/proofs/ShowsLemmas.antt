@@ -1,0 +1,256 @@
+-- What a text shows as it goes on: commands that stay, and the first fault, which stays too.
+use Rattle.std.proofs.Common.{◌≡◌, ◌≢◌, ℕ, zero, suc, ◌+◌, ◌<◌, ◌≤◌, ◌⊎◌, inl, inr, Bool, true, false, cond, eqb, ltb, not, ◌||◌, List, [], ◌∷◌, ◌++◌, length, take, drop, get_or, Result, Ok, Err, refl, sym, ap, subst, ◌∙◌, arith, append_assoc}
+use Rattle.std.specs.List.{AllByRecursion}
+use Rattle.std.proofs.lemmas.List.{append-nil, length-append, length-map, take-append-drop, take-append-le, take_all}
+use Rattle.std.proofs.lemmas.Bool.{eqb-true, eqb-false, lt-ltb, le-ltb, ltb-true, ltb-false, false≢true}
+use Rattle.grid_units.specs.declared.fault.Fault.{Fault}
+use Rattle.grid_units.specs.declared.fault.Fail.{Fail}
+use Rattle.grid_units.specs.declared.fault.Fail.TheVariants as fails
+use Rattle.grid_units.specs.declared.fault.Reason.TheVariants.{TooLong, AfterEnd}
+use Rattle.gerber_text.specs.declared.reader.Progress.{Progress}
+use Rattle.gerber_text.specs.Items.{is_line_break, end_byte, IsUnfinished}
+use Rattle.gerber_text.specs.Cut.{OffsetByte, offset_bytes_from, offset_bytes, bytes_of, first_offset, has_end, Splits}
+use Rattle.gerber_text.specs.Inner.Bytes.{may_follow_end}
+use Rattle.grid_units.specs.Results.{◌>>=◌, fault, IfFault}
+use Rattle.gerber_text.specs.Reading.{Entries, spelled, commands_from, may_follow, after_end, shown}
+use Rattle.gerber_text.specs.Holding.{Holds, FailsOnBytes, Advances, Refuses}
+use Rattle.grid_units.proofs.ResultLemmas.{bind_ok, bind_err, guard_ok, guard_err}
+use Rattle.gerber_text.proofs.OffsetByteLemmas.{offset_bytes-append, first_offset-append}
+use Rattle.gerber_text.proofs.SplitsLemmas.{Splits-grow, Splits-close, IsUnfinished-push, bytes_of-push, commands_from-push}
+use Rattle.grid_units.specs.Limits.{item_limit}
+
+-- ---- after the end of the text
+
+split_first : {A : Type 0} (t : Bool) (x y : A) (d z : A) → cond t x y ≡ z → ((t ≡ true) × (x ≡ z)) ⊎ ((t ≡ false) × (y ≡ z))
+split_first true x y d z e = inl (refl, e)
+split_first false x y d z e = inr (refl, e)
+
+pub after_end_ok : (place : ℕ) (cs ds : Entries) (rest : List OffsetByte) → after_end place cs rest ≡ Ok ds → (cs ≡ ds) × ((more : List OffsetByte) → after_end place cs (rest ++ more) ≡ after_end place cs more)
+after_end_ok place cs ds [] e = (cc, λ more. refl)
+after_end_ok place cs ds (m ∷ ms) e =
+    elim (split_first (may_follow m.1) (after_end place cs ms) (Err (fault place m.0 AfterEnd)) (Ok ds) (Ok ds) e) [
+      | inl h ↦ (let r = after_end_ok place cs ds ms h.1 in (r.0, λ more. ap (λ t. cond t (after_end place cs (ms ++ more)) (Err (fault place m.0 AfterEnd))) h.0 ∙ r.1 more))
+      | inr h ↦ absurd cc
+    ]
+
+after_end_err : (place : ℕ) (cs : Entries) (rest more : List OffsetByte) (f : Fault) → after_end place cs rest ≡ Err f → after_end place cs (rest ++ more) ≡ Err f
+after_end_err place cs [] more f e = absurd cc
+after_end_err place cs (m ∷ ms) more f e =
+    elim (split_first (may_follow m.1) (after_end place cs ms) (Err (fault place m.0 AfterEnd)) (Err f) (Err f) e) [
+      | inl h ↦ ap (λ t. cond t (after_end place cs (ms ++ more)) (Err (fault place m.0 AfterEnd))) h.0 ∙ after_end_err place cs ms more f h.1
+      | inr h ↦ ap (λ t. cond t (after_end place cs (ms ++ more)) (Err (fault place m.0 AfterEnd))) h.0 ∙ h.1
+    ]
+
+passes : (t : Bool) (n b place : ℕ) (cs : Entries) (ms : List OffsetByte) → (t || may_follow b) ≡ true → after_end place cs (cond (not t) ((n, b) ∷ ms) ms) ≡ after_end place cs ms
+passes true n b place cs ms h = refl
+passes false n b place cs ms h = ap (λ u. cond u (after_end place cs ms) (Err (fault place n AfterEnd))) h
+
+stops : (t : Bool) (n b place : ℕ) (cs : Entries) (ms : List OffsetByte) → (t || may_follow b) ≡ false → after_end place cs (cond (not t) ((n, b) ∷ ms) ms) ≡ Err (fault place n AfterEnd)
+stops true n b place cs ms h = absurd (false≢true (sym h))
+stops false n b place cs ms h = ap (λ u. cond u (after_end place cs ms) (Err (fault place n AfterEnd))) h
+
+pub all_follow : (n place : ℕ) (cs : Entries) (bytes : List ℕ) → AllByRecursion (λ b. may_follow_end b ≡ true) bytes → after_end place cs (offset_bytes_from n bytes) ≡ Ok cs
+all_follow n place cs [] h = refl
+all_follow n place cs (b ∷ bytes) h = passes (is_line_break b) n b place cs (offset_bytes_from (n + 1) bytes) h.0 ∙ all_follow (n + 1) place cs bytes h.1
+
+pub stray : (n place : ℕ) (cs : Entries) (bytes : List ℕ) (i : ℕ) → i < length bytes → AllByRecursion (λ b. may_follow_end b ≡ true) (take i bytes) → may_follow_end (get_or bytes i 0) ≡ false → after_end place cs (offset_bytes_from n bytes) ≡ Err (fault place (n + i) AfterEnd)
+stray n place cs [] i lt h k = absurd (omega arith)
+stray n place cs (b ∷ bytes) zero lt h k =
+    let j : n ≡ n + 0 = omega arith in
+    stops (is_line_break b) n b place cs (offset_bytes_from (n + 1) bytes) k ∙ ap (λ at. Err (fault place at AfterEnd)) j
+stray n place cs (b ∷ bytes) (suc i) lt h k =
+    let j : (n + 1) + i ≡ n + suc i = omega arith in
+    passes (is_line_break b) n b place cs (offset_bytes_from (n + 1) bytes) h.0 ∙ (stray (n + 1) place cs bytes i (omega arith) h.1 k ∙ ap (λ at. Err (fault place at AfterEnd)) j)
+
+-- ---- what is shown
+
+pub running_ok : (items : List (List OffsetByte)) (rest : List OffsetByte) (cs : Entries) → has_end items ≡ false → shown items rest ≡ Ok cs → (commands_from 1 items [] ≡ Ok cs) × (length rest ≤ item_limit)
+running_ok items rest cs none e =
+    let b = bind_ok (commands_from 1 items []) (λ commands. cond (has_end items) (after_end (suc (length items)) commands rest) (cond (ltb item_limit (length rest)) (Err (fault (suc (length items)) (first_offset rest) TooLong)) (Ok commands))) cs e in
+    let g = guard_ok (ltb item_limit (length rest)) (fault (suc (length items)) (first_offset rest) TooLong) b.0 cs (sym (ap (λ t. cond t (after_end (suc (length items)) b.0 rest) (cond (ltb item_limit (length rest)) (Err (fault (suc (length items)) (first_offset rest) TooLong)) (Ok b.0))) none) ∙ b.2) in
+    (b.1 ∙ ap (λ (x : Entries). Ok x) g.1, ltb-false _ _ g.0)
+
+pub show_ok : (items : List (List OffsetByte)) (rest : List OffsetByte) (cs : Entries) → has_end items ≡ false → commands_from 1 items [] ≡ Ok cs → length rest ≤ item_limit → shown items rest ≡ Ok cs
+show_ok items rest cs none e le = rw (e, none, le-ltb _ _ le) refl
+
+pub show_long : (items : List (List OffsetByte)) (rest : List OffsetByte) (cs : Entries) → has_end items ≡ false → commands_from 1 items [] ≡ Ok cs → item_limit < length rest → shown items rest ≡ Err (fault (suc (length items)) (first_offset rest) TooLong)
+show_long items rest cs none e lt = rw (e, none, lt-ltb _ _ lt) refl
+
+pub shown_ended : (items : List (List OffsetByte)) (rest : List OffsetByte) (cs : Entries) → has_end items ≡ true → commands_from 1 items [] ≡ Ok cs → shown items rest ≡ after_end (suc (length items)) cs rest
+shown_ended items rest cs some e = rw (e, some) refl
+
+pub ended_more : (items : List (List OffsetByte)) (rest more : List OffsetByte) (cs : Entries) → has_end items ≡ true → shown items rest ≡ Ok cs → shown items (rest ++ more) ≡ after_end (suc (length items)) cs more
+ended_more items rest more cs some e =
+    let b = bind_ok (commands_from 1 items []) (λ commands. cond (has_end items) (after_end (suc (length items)) commands rest) (cond (ltb item_limit (length rest)) (Err (fault (suc (length items)) (first_offset rest) TooLong)) (Ok commands))) cs e in
+    let r = after_end_ok (suc (length items)) b.0 cs rest (sym (ap (λ t. cond t (after_end (suc (length items)) b.0 rest) (cond (ltb item_limit (length rest)) (Err (fault (suc (length items)) (first_offset rest) TooLong)) (Ok b.0))) some) ∙ b.2) in
+    shown_ended items (rest ++ more) b.0 some b.1 ∙ (r.1 more ∙ ap (λ (x : Entries). after_end (suc (length items)) x more) r.0)
+
+rest_shows : (t : Bool) (place : ℕ) (r : Result Entries Fault) → (r >>= λ commands. cond t (after_end place commands []) (cond (ltb item_limit 0) (Err (fault place 0 TooLong)) (Ok commands))) ≡ r
+rest_shows true place (Ok x) = refl
+rest_shows false place (Ok x) = refl
+rest_shows t place (Err x) = refl
+
+-- the items and one more, with nothing after it
+pub show_push : (items : List (List OffsetByte)) (item : List OffsetByte) (cs : Entries) → commands_from 1 items [] ≡ Ok cs → shown (items ++ item ∷ []) [] ≡ spelled (suc (length items)) (first_offset item) (bytes_of item) cs
+show_push items item cs e =
+    let k : 1 + length items ≡ suc (length items) = omega arith in
+    let cmds : commands_from 1 (items ++ item ∷ []) [] ≡ spelled (suc (length items)) (first_offset item) (bytes_of item) cs = commands_from-push 1 items item [] ∙ (ap (λ r. r >>= spelled (1 + length items) (first_offset item) (bytes_of item)) e ∙ ap (λ p. spelled p (first_offset item) (bytes_of item) cs) k) in
+    rest_shows (has_end (items ++ item ∷ [])) (suc (length (items ++ item ∷ []))) (commands_from 1 (items ++ item ∷ []) []) ∙ cmds
+
+-- ---- a fault stays, and the items before it
+
+-- one more byte: the first items stay, and so does a fault
+pub record Pushed (ms : List OffsetByte) (m : OffsetByte) (items : List (List OffsetByte)) (rest : List OffsetByte) : Type 0 where
+  pub more : List (List OffsetByte)
+  pub left : List OffsetByte
+  pub splits : Splits (ms ++ m ∷ []) more left
+  pub prefix : (n : ℕ) → n ≤ length items → (n ≤ length more) × (take n more ≡ take n items)
+  pub stays : (f : Fault) → shown items rest ≡ Err f → shown more left ≡ Err f
+
+pushed_ended : (ms : List OffsetByte) (m : OffsetByte) (items : List (List OffsetByte)) (rest : List OffsetByte) → has_end items ≡ true → Splits ms items rest → Pushed ms m items rest
+pushed_ended ms m items rest some s =
+    let place = suc (length items) in
+    record {
+      more = items;
+      left = rest ++ m ∷ [];
+      splits = Splits-grow ms items rest (m ∷ []) s (λ none. absurd (false≢true (sym none ∙ some)));
+      prefix = λ n h. (h, refl);
+      stays = λ f e.
+          let unfolded = ap (λ t. commands_from 1 items [] >>= λ commands. cond t (after_end place commands rest) (cond (ltb item_limit (length rest)) (Err (fault place (first_offset rest) TooLong)) (Ok commands))) (sym some) ∙ e in
+          elim (bind_err (commands_from 1 items []) (λ commands. after_end place commands rest) f unfolded) [
+            | inl h ↦ rw h refl
+            | inr h ↦ shown_ended items (rest ++ m ∷ []) h.0 some h.1 ∙ after_end_err place h.0 rest (m ∷ []) f h.2
+          ];
+    }
+
+-- where the text has not ended, the fault is that of an item, or the rest is too long
+running_err : (items : List (List OffsetByte)) (rest : List OffsetByte) (f : Fault) → has_end items ≡ false → shown items rest ≡ Err f
+    → (commands_from 1 items [] ≡ Err f) ⊎ ((cs : Entries) × (commands_from 1 items [] ≡ Ok cs) × (item_limit < length rest) × (fault (suc (length items)) (first_offset rest) TooLong ≡ f))
+running_err items rest f none e =
+    let place = suc (length items) in
+    let unfolded = ap (λ t. commands_from 1 items [] >>= λ commands. cond t (after_end place commands rest) (cond (ltb item_limit (length rest)) (Err (fault place (first_offset rest) TooLong)) (Ok commands))) (sym none) ∙ e in
+    elim (bind_err (commands_from 1 items []) (λ commands. cond (ltb item_limit (length rest)) (Err (fault place (first_offset rest) TooLong)) (Ok commands)) f unfolded) [
+      | inl h ↦ inl h
+      | inr h ↦ (let g = guard_err (ltb item_limit (length rest)) (fault place (first_offset rest) TooLong) f h.0 h.2 in inr (h.0, h.1, ltb-true _ _ g.0, g.1))
+    ]
+
+first_err : (items : List (List OffsetByte)) (rest : List OffsetByte) (f : Fault) → commands_from 1 items [] ≡ Err f → shown items rest ≡ Err f
+first_err items rest f e = rw e refl
+
+pushed_inside : (ms : List OffsetByte) (m : OffsetByte) (items : List (List OffsetByte)) (rest : List OffsetByte) → has_end items ≡ false → m.1 ≢ end_byte (bytes_of rest) → Splits ms items rest → Pushed ms m items rest
+pushed_inside ms m items rest none inside s = record {
+  more = items;
+  left = rest ++ m ∷ [];
+  splits = Splits-grow ms items rest (m ∷ []) s (λ _. subst IsUnfinished (sym (bytes_of-push rest m)) (IsUnfinished-push (bytes_of rest) m.1 (s.partial none) inside));
+  prefix = λ n h. (h, refl);
+  stays = λ f e. elim (running_err items rest f none e) [
+    | inl h ↦ first_err items (rest ++ m ∷ []) f h
+    | inr h ↦ (let long : 0 < length rest = omega (arith, h.2) in
+        show_long items (rest ++ m ∷ []) h.0 none h.1 (omega (arith, h.2, length-append rest (m ∷ []))) ∙ (ap (λ at. Err (fault (suc (length items)) at TooLong)) (first_offset-append rest (m ∷ []) long) ∙ ap (λ (g : Fault). Err g) h.3))
+  ];
+}
+
+-- an item that is too long is a fault
+pub too_long : (place byte : ℕ) (bytes : List ℕ) (before : Entries) → item_limit < length bytes → spelled place byte bytes before ≡ Err (fault place byte TooLong)
+unfolding spelled
+too_long place byte bytes before lt = rw (lt-ltb _ _ lt) refl
+
+show_push_err : (items : List (List OffsetByte)) (item : List OffsetByte) (f : Fault) → commands_from 1 items [] ≡ Err f → shown (items ++ item ∷ []) [] ≡ Err f
+show_push_err items item f e =
+    let cmds : commands_from 1 (items ++ item ∷ []) [] ≡ Err f = commands_from-push 1 items item [] ∙ ap (λ r. r >>= spelled (1 + length items) (first_offset item) (bytes_of item)) e in
+    first_err (items ++ item ∷ []) [] f cmds
+
+pub take_of_push : (items : List (List OffsetByte)) (item : List OffsetByte) (n : ℕ) → n ≤ length items → (n ≤ length (items ++ item ∷ [])) × (take n (items ++ item ∷ []) ≡ take n items)
+take_of_push items item n h = (omega (arith, length-append items (item ∷ [])), rw take-append-le refl)
+
+pushed_last : (ms : List OffsetByte) (m : OffsetByte) (items : List (List OffsetByte)) (rest : List OffsetByte) → has_end items ≡ false → m.1 ≡ end_byte (bytes_of rest) → Splits ms items rest → Pushed ms m items rest
+pushed_last ms m items rest none last s = record {
+  more = items ++ (rest ++ m ∷ []) ∷ [];
+  left = [];
+  splits = Splits-close ms items rest m s none last;
+  prefix = take_of_push items (rest ++ m ∷ []);
+  stays = λ f e. elim (running_err items rest f none e) [
+    | inl h ↦ show_push_err items (rest ++ m ∷ []) f h
+    | inr h ↦ (let long : 0 < length rest = omega (arith, h.2) in
+        show_push items (rest ++ m ∷ []) h.0 h.1 ∙ (too_long (suc (length items)) (first_offset (rest ++ m ∷ [])) (bytes_of (rest ++ m ∷ [])) h.0 (omega (arith, h.2, length-append rest (m ∷ []), length-map (rest ++ m ∷ []) (λ (x : OffsetByte). x.1))) ∙ (ap (λ at. Err (fault (suc (length items)) at TooLong)) (first_offset-append rest (m ∷ []) long) ∙ ap (λ (g : Fault). Err g) h.3)))
+  ];
+}
+
+pub by_end : (t u : Bool) (ms : List OffsetByte) (m : OffsetByte) (items : List (List OffsetByte)) (rest : List OffsetByte) → has_end items ≡ t → eqb m.1 (end_byte (bytes_of rest)) ≡ u → Splits ms items rest → Pushed ms m items rest
+by_end true u ms m items rest h k s = pushed_ended ms m items rest h s
+by_end false true ms m items rest h k s = pushed_last ms m items rest h (eqb-true _ _ k) s
+by_end false false ms m items rest h k s = pushed_inside ms m items rest h (eqb-false _ _ k) s
+
+reported_stays : (items more : List (List OffsetByte)) (rest left : List OffsetByte) (kept : ℕ) (e : Fail) → ((f : Fault) → shown items rest ≡ Err f → shown more left ≡ Err f) → IfFault (λ f. (shown items rest ≡ Err f) × (f.place ≡ suc kept)) e → IfFault (λ f. (shown more left ≡ Err f) × (f.place ≡ suc kept)) e
+reported_stays items more rest left kept fails.Memory stays h = tt
+reported_stays items more rest left kept (fails.Refused f) stays h = (stays f h.0, h.1)
+
+stops_push : (ms : List OffsetByte) (m : OffsetByte) (cs : Entries) (e : Fail) → FailsOnBytes ms cs e → FailsOnBytes (ms ++ m ∷ []) cs e
+stops_push ms m cs e h =
+    let p = by_end (has_end h.items) (eqb m.1 (end_byte (bytes_of h.rest))) ms m h.items h.rest refl refl h.splits in
+    let f = p.prefix h.kept h.within in
+    record {
+      items = p.more;
+      rest = p.left;
+      splits = p.splits;
+      kept = h.kept;
+      within = f.0;
+      spelled = ap (λ (x : List (List OffsetByte)). commands_from 1 x []) f.1 ∙ h.spelled;
+      reported = reported_stays h.items p.more h.rest p.left h.kept e p.stays h.reported;
+    }
+
+pub stops_stay : (ms more : List OffsetByte) (cs : Entries) (e : Fail) → FailsOnBytes ms cs e → FailsOnBytes (ms ++ more) cs e
+stops_stay ms [] cs e h = subst (λ (x : List OffsetByte). FailsOnBytes x cs e) (sym (append-nil ms)) h
+stops_stay ms (m ∷ more) cs e h =
+    subst (λ (x : List OffsetByte). FailsOnBytes x cs e) (append_assoc ms (m ∷ []) more) (stops_stay (ms ++ m ∷ []) more cs e (stops_push ms m cs e h))
+
+-- ---- readers
+
+shown_spelled_by : (t : Bool) (items : List (List OffsetByte)) (rest : List OffsetByte) (cs : Entries) → has_end items ≡ t → shown items rest ≡ Ok cs → commands_from 1 items [] ≡ Ok cs
+shown_spelled_by false items rest cs none e = (running_ok items rest cs none e).0
+shown_spelled_by true items rest cs some e =
+    let b = bind_ok (commands_from 1 items []) (λ commands. cond (has_end items) (after_end (suc (length items)) commands rest) (cond (ltb item_limit (length rest)) (Err (fault (suc (length items)) (first_offset rest) TooLong)) (Ok commands))) cs e in
+    let r = after_end_ok (suc (length items)) b.0 cs rest (sym (ap (λ t. cond t (after_end (suc (length items)) b.0 rest) (cond (ltb item_limit (length rest)) (Err (fault (suc (length items)) (first_offset rest) TooLong)) (Ok b.0))) some) ∙ b.2) in
+    b.1 ∙ ap (λ (x : Entries). Ok x) r.0
+
+-- where no fault is shown, the items alone spell the commands
+pub shown_spelled : (items : List (List OffsetByte)) (rest : List OffsetByte) (cs : Entries) → shown items rest ≡ Ok cs → commands_from 1 items [] ≡ Ok cs
+shown_spelled items rest cs e = shown_spelled_by (has_end items) items rest cs refl e
+
+pub kept_all : (r : Progress) (gone : Entries) (text : List ℕ) (h : Holds r gone text) → commands_from 1 (take (length h.items) h.items) [] ≡ Ok (gone ++ r.commands.items)
+kept_all r gone text h = ap (λ (x : List (List OffsetByte)). commands_from 1 x []) (take_all (length h.items) h.items (omega arith)) ∙ shown_spelled h.items h.rest (gone ++ r.commands.items) h.commands
+
+pub kept_pushed : (r : Progress) (gone : Entries) (text : List ℕ) (h : Holds r gone text) (item : List OffsetByte) → commands_from 1 (take (length h.items) (h.items ++ item ∷ [])) [] ≡ Ok (gone ++ r.commands.items)
+kept_pushed r gone text h item = ap (λ (x : List (List OffsetByte)). commands_from 1 x []) (take_of_push h.items item (length h.items) (omega arith)).1 ∙ kept_all r gone text h
+
+-- running out of memory stops a reader anywhere, with the commands that it has
+pub out_of_memory : (old : Progress) (left : Entries) (bytes : List ℕ) → left ≡ old.commands.items → Refuses old left bytes fails.Memory
+out_of_memory old left bytes same = λ gone text h.
+    let here : FailsOnBytes (offset_bytes text) (gone ++ left) fails.Memory = record {
+      items = h.items;
+      rest = h.rest;
+      splits = h.splits;
+      kept = length h.items;
+      within = omega arith;
+      spelled = kept_all old gone text h ∙ ap (λ (x : Entries). Ok (gone ++ x)) (sym same);
+      reported = tt;
+    } in
+    subst (λ (x : List OffsetByte). FailsOnBytes x (gone ++ left) fails.Memory) (sym (offset_bytes-append text bytes)) (stops_stay (offset_bytes text) (offset_bytes_from (length text) bytes) (gone ++ left) fails.Memory here)
+
+pub Refuses-longer : (old : Progress) (left : Entries) (xs ys : List ℕ) (e : Fail) → Refuses old left xs e → Refuses old left (xs ++ ys) e
+Refuses-longer old left xs ys e h = λ gone text holds.
+    let joined : offset_bytes (text ++ (xs ++ ys)) ≡ offset_bytes (text ++ xs) ++ offset_bytes_from (length (text ++ xs)) ys = ap offset_bytes (sym (append_assoc text xs ys)) ∙ offset_bytes-append (text ++ xs) ys in
+    subst (λ (x : List OffsetByte). FailsOnBytes x (gone ++ left) e) (sym joined) (stops_stay (offset_bytes (text ++ xs)) (offset_bytes_from (length (text ++ xs)) ys) (gone ++ left) e (h gone text holds))
+
+pub Advances-then : (a b c : Progress) (xs ys : List ℕ) → Advances a b xs → Advances b c ys → Advances a c (xs ++ ys)
+Advances-then a b c xs ys h k = λ gone text holds. subst (Holds c gone) (append_assoc text xs ys) (k gone (text ++ xs) (h gone text holds))
+
+pub Refuses-then : (a b : Progress) (left : Entries) (xs ys : List ℕ) (e : Fail) → Advances a b xs → Refuses b left ys e → Refuses a left (xs ++ ys) e
+Refuses-then a b left xs ys e h k = λ gone text holds. subst (λ (x : List ℕ). FailsOnBytes (offset_bytes x) (gone ++ left) e) (append_assoc text xs ys) (k gone (text ++ xs) (h gone text holds))
+
+pub Refuses-first : (old : Progress) (left : Entries) (bytes : List ℕ) (e : Fail) → 0 < length bytes → Refuses old left (get_or bytes 0 0 ∷ []) e → Refuses old left bytes e
+Refuses-first old left [] e some h = absurd (omega arith)
+Refuses-first old left (b ∷ bytes) e some h = Refuses-longer old left (b ∷ []) bytes e h
+
+pub Refuses-prefix : (old : Progress) (left : Entries) (bytes : List ℕ) (n : ℕ) (e : Fail) → Refuses old left (take n bytes) e → Refuses old left bytes e
+Refuses-prefix old left bytes n e h = subst (λ (x : List ℕ). Refuses old left x e) (take-append-drop n bytes) (Refuses-longer old left (take n bytes) (drop n bytes) e h)

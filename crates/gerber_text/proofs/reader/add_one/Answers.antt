@@ -1,9 +1,0 @@
-use Rattle.std.proofs.Common.{[], ◌∷◌, ◌++◌, refl}
-use Rattle.gerber_text.specs.Reading.{placed}
-use Rattle.gerber_text.proofs.Adding.{plots_on}
-use Rattle.gerber_text.proofs.reader.add_one.Goals as goal
-
-pub returns-clause-plotting : goal.returns-clause-plotting
-returns-clause-plotting c before held =
-    let added = placed c.args.place c.args.byte (c.args.what ∷ []) in
-    plots_on before (before ++ added) added c.args.what c.args.plotting _ refl refl held c.plots_after-plotting.ensures

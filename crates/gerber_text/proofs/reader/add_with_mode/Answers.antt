@@ -1,0 +1,16 @@
+use Rattle.std.proofs.Common.{◌≡◌, [], ◌∷◌, ◌++◌, List, ap}
+use Rattle.grid_units.proofs.LookbackLemmas.{option_or_none}
+use Rattle.gerber_commands.specs.declared.command.Command.{Command}
+use Rattle.gerber_commands.specs.declared.command.Command.TheVariants.{Mode}
+use Rattle.gerber_commands.specs.Rows.{modes_of}
+use Rattle.gerber_text.specs.Reading.{plot_of, placed}
+use Rattle.gerber_text.proofs.PlottingLemmas.{plots_on}
+use Rattle.gerber_text.proofs.reader.add_with_mode.Goals as goal
+
+pub returns-in_ok-add_mode_and_command-in-Some-clause-plotting : goal.returns-in_ok-add_mode_and_command-in-Some-clause-plotting
+returns-in_ok-add_mode_and_command-in-Some-clause-plotting c before held =
+    let what = c.args.what in
+    let two = Mode c.in-Some.mode ∷ what ∷ [] in
+    let both : modes_of c.args.mode ++ what ∷ [] ≡ two = ap (λ m. modes_of m ++ what ∷ []) c.in-Some.is in
+    let added = placed c.args.place c.args.byte (modes_of c.args.mode ++ what ∷ []) in
+    plots_on before (before ++ added) (placed c.args.place c.args.byte two) what c.args.plotting _ (ap (λ (l : List Command). before ++ placed c.args.place c.args.byte l) both) (option_or_none (plot_of what)) held c.plots_after-plotting.ensures

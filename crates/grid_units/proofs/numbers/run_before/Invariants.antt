@@ -1,5 +1,0 @@
-use Rattle.std.proofs.Common.{◌≡◌, true, not, ℕ, ◌<◌, get_or, eqb}
-use Rattle.grid_units.proofs.numbers.run_before.Given as goal
-
-abbrev pub invariant-loop-i : goal.invariant-loop-i
-invariant-loop-i l = (k : ℕ) → k < l.i → not (eqb (get_or l.text k 0) l.sought) ≡ true

@@ -1,0 +1,108 @@
+-- Each text has an answer.
+use Rattle.std.proofs.Common.{◌≡◌, ◌⊎◌, inl, inr, ℕ, suc, ◌+◌, ◌≤◌, List, [], ◌∷◌, ◌++◌, length, take, Option, Some, None, slice_get, cond, Result, Ok, Err, refl, sym, ap, ◌∙◌, nat_lt, arith}
+use Rattle.std.specs.List.{filter_map, cons_option, list_all}
+use Rattle.std.specs.Option.{option_map}
+use Rattle.std.proofs.Math.Seq.{take-length}
+use Rattle.std.proofs.lemmas.List.{map-append}
+use Rattle.grid_units.specs.Lists.{violations, violation_at, with_prefixes_from, IsLegal}
+use Rattle.grid_units.specs.Results.{◌>>=◌, fault}
+use Rattle.grid_units.specs.declared.fault.Fault.{Fault}
+use Rattle.grid_units.specs.declared.fault.Reason.{Reason}
+use Rattle.grid_units.proofs.ResultLemmas.{bind_ok, bind_err}
+use Rattle.gerber_commands.specs.declared.command.Command.{Command}
+use Rattle.gerber_text.specs.declared.placed.Placed.{Placed}
+use Rattle.gerber_text.specs.Cut.{OffsetByte, bytes_of, first_offset, has_end}
+use Rattle.gerber_text.specs.Reading.{Entries, SpellsPrefix, Reads, commands_from, is_blank, read_in, shown, spelled}
+use Rattle.gerber_text.proofs.Some.{some_reading}
+use Rattle.layer_image.specs.Faults.{fault_of, IsFirstFault}
+use Rattle.layer_image.specs.Layers.{EachTextAnswers, LayerImage, ReadsLayer, image_of}
+use Rattle.layer_image.specs.Rules.{broken_rule}
+use Rattle.layer_image.proofs.Reading.{legal_layer, kept_all}
+use Rattle.layer_image.proofs.UniqueReading.{rest_place, ended_place}
+use Rattle.gerber_text.proofs.ReaderStepLemmas.{spelled_place}
+use Rattle.grid_units.specs.Limits.{text_limit, item_limit}
+use Rattle.gerber_text.specs.Writing.{without_places}
+
+-- ---- a list is legal, or has a first fault
+
+legal_after : (first cs : Entries) → filter_map (violation_at fault_of) (with_prefixes_from first cs) ≡ [] → filter_map (violation_at broken_rule) (with_prefixes_from (without_places first) (without_places cs)) ≡ []
+legal_after first [] h = refl
+legal_after first (e ∷ cs) h = by (broken_rule (without_places first) e.what) refl (legal_after (first ++ e ∷ []) cs)
+  where
+    more : List (ℕ × Fault)
+    more = filter_map (violation_at fault_of) (with_prefixes_from (first ++ e ∷ []) cs)
+
+    later : List Command → List (ℕ × Reason)
+    later before = filter_map (violation_at broken_rule) (with_prefixes_from before (without_places cs))
+
+    again : without_places (first ++ e ∷ []) ≡ without_places first ++ e.what ∷ []
+    again = map-append (λ (d : Placed Command). d.what) first (e ∷ [])
+
+    head : (o : Option Reason) → broken_rule (without_places first) e.what ≡ o → cons_option (option_map (λ f. (length first, f)) (option_map (fault e.place e.byte) o)) more ≡ []
+    head o q = ap (λ p. cons_option (option_map (λ f. (length first, f)) (option_map (fault e.place e.byte) p)) more) (sym q) ∙ h
+
+    by : (o : Option Reason) → broken_rule (without_places first) e.what ≡ o → (more ≡ [] → later (without_places (first ++ e ∷ [])) ≡ []) → filter_map (violation_at broken_rule) (with_prefixes_from (without_places first) (without_places (e ∷ cs))) ≡ []
+    by None q rest =
+        ap (λ p. cons_option (option_map (λ r. (length (without_places first), r)) p) (later (without_places first ++ e.what ∷ []))) q ∙ (ap later (sym again) ∙ rest (head None q))
+    by (Some r) q rest = let none = head (Some r) q in absurd cc
+
+first_or_legal : (entries : Entries) → ((f : Fault) × IsFirstFault entries f) ⊎ IsLegal broken_rule (without_places entries)
+first_or_legal entries = by (violations fault_of entries) refl
+  where
+    by : (l : List (ℕ × Fault)) → violations fault_of entries ≡ l → ((f : Fault) × IsFirstFault entries f) ⊎ IsLegal broken_rule (without_places entries)
+    by [] e = inr (legal_after [] entries e)
+    by (p ∷ l) e = inl (p.1, (p.0, ap (λ (m : List (ℕ × Fault)). slice_get m 0) e))
+
+-- ---- the items before the place of a fault spell commands
+
+stops_within : (place : ℕ) (items : List (List OffsetByte)) (before : Entries) (f : Fault) → commands_from place items before ≡ Err f
+    → (kept : ℕ) × (cs : Entries) × (f.place ≡ place + kept) × (kept ≤ length items) × (commands_from place (take kept items) before ≡ Ok cs)
+stops_within place [] before f h = absurd cc
+stops_within place (item ∷ items) before f h = elim (bind_err (spelled place (first_offset item) (bytes_of item) before) (commands_from (suc place) items) f h) [
+  | inl here ↦ (0, before, omega (arith, spelled_place place (first_offset item) (bytes_of item) before f here), omega arith, refl)
+  | inr there ↦
+      let r = stops_within (suc place) items there.0 f there.2 in
+      (suc r.0, r.1, omega (arith, r.2), omega (arith, r.3), ap (λ (o : Result Entries Fault). o >>= commands_from (suc place) (take r.0 items)) there.1 ∙ r.4)
+]
+
+shown_stop : (items : List (List OffsetByte)) (rest : List OffsetByte) (f : Fault) → shown items rest ≡ Err f → (commands_from 1 items [] ≡ Err f) ⊎ ((cs : Entries) × (commands_from 1 items [] ≡ Ok cs) × (f.place ≡ suc (length items)))
+shown_stop items rest f h = elim (bind_err (commands_from 1 items []) _ f h) [
+  | inl e ↦ inl e
+  | inr there ↦ inr (there.0, there.1, rest_place (has_end items) (nat_lt item_limit (length rest)) (suc (length items)) (first_offset rest) there.0 rest f there.2)
+]
+
+read_stop : (len : ℕ) (items : List (List OffsetByte)) (rest : List OffsetByte) (f : Fault) → read_in len items rest ≡ Err f → (commands_from 1 items [] ≡ Err f) ⊎ ((cs : Entries) × (commands_from 1 items [] ≡ Ok cs) × (f.place ≡ suc (length items)))
+read_stop len items rest f h = elim (bind_err (shown items rest) _ f h) [
+  | inl e ↦ shown_stop items rest f e
+  | inr there ↦
+      let all = bind_ok (commands_from 1 items []) _ there.0 there.1 in
+      inr (all.0, all.1, ended_place (nat_lt text_limit len) (has_end items) (suc (length items)) text_limit (cond (list_all is_blank (bytes_of rest)) len (first_offset rest)) there.0 f there.2)
+]
+
+kept_before_fault : (text : List ℕ) (f : Fault) → Reads text (Err f) → (entries : Entries) × (kept : ℕ) × (f.place ≡ suc kept) × SpellsPrefix text kept entries
+kept_before_fault text f r = elim (read_stop (length text) r.items r.rest f (sym r.answer_is)) [
+  | inl e ↦
+      let s = stops_within 1 r.items [] f e in
+      (s.1, s.0, omega (arith, s.2), record { items = r.items; rest = r.rest; splits = r.splits; within = s.3; spelled = s.4 })
+  | inr e ↦ (
+    e.0,
+    length r.items,
+    e.2,
+    record { items = r.items; rest = r.rest; splits = r.splits; within = omega arith; spelled = ap (λ (x : List (List OffsetByte)). commands_from 1 x []) (take-length r.items) ∙ e.1 },
+  )
+]
+
+answer_of : (text : List ℕ) (r : Result Entries Fault) → Reads text r → (answer : Result LayerImage Fault) × ReadsLayer text answer
+answer_of text (Ok entries) r = elim (first_or_legal entries) [
+  | inl first ↦ let all = kept_all text entries r in (Err first.0, inl (all.0, entries, all.1, first.1))
+  | inr legal ↦ (Ok (image_of entries), legal_layer text entries (image_of entries) r legal refl)
+]
+answer_of text (Err f) r =
+    let before = kept_before_fault text f r in
+    elim (first_or_legal before.0) [
+      | inl first ↦ (Err first.0, inl (before.1, before.0, before.3, first.1))
+      | inr legal ↦ (Err f, inr (before.0, r, (before.1, before.2, before.3), legal))
+    ]
+
+pub each_answers : EachTextAnswers
+each_answers text = let some = some_reading text in answer_of text some.0 some.1

@@ -1,0 +1,73 @@
+-- A record of at most five fields.
+use Rattle.std.proofs.Common.{◌≡◌, ◌∙◌, ◌&&◌, ◌≤◌, ◌<◌, ◌==◌, ◌⊎◌, ℕ, zero, suc, List, [], ◌∷◌, Bool, true, false, Some, None, length, arith, refl, ap, sym, inl, inr}
+use Rattle.std.specs.List.{list_all}
+use Rattle.std.specs.Str.{bytes_eq, is_utf8}
+use Rattle.std.proofs.lemmas.Str.{is_utf8-from_IsUtf8}
+use Rattle.std.proofs.lemmas.Bool.{false≢true}
+use Rattle.std.proofs.lemmas.List.Folds.{list_all_at}
+use Rattle.csv.specs.Records.{field_at}
+use Rattle.manifest.specs.Manifest.{CsvRecord, field, is_plain_text, is_well_formed}
+
+-- the empty text is plain
+pub empty_plain : is_plain_text [] ≡ true
+empty_plain = let text : is_utf8 [] ≡ true = is_utf8-from_IsUtf8 [] ([], (refl, refl)) in rw text refl
+
+and_true : (b : Bool) → (b && true) ≡ b
+and_true true = refl
+and_true false = refl
+
+-- the fields all pass where the five places do, as a test passes the empty text
+five_fields : (p : List ℕ → Bool) (row : CsvRecord) → length row ≤ 5 → p [] ≡ true
+    → list_all p row ≡ (p (field 0 row) && (p (field 1 row) && (p (field 2 row) && (p (field 3 row) && p (field 4 row)))))
+five_fields p [] n e = rw e refl
+five_fields p (a ∷ []) n e = rw e refl
+five_fields p (a ∷ b ∷ []) n e = rw e refl
+five_fields p (a ∷ b ∷ c ∷ []) n e = rw e refl
+five_fields p (a ∷ b ∷ c ∷ d ∷ []) n e = rw e refl
+five_fields p (a ∷ b ∷ c ∷ d ∷ f ∷ []) n e = rw (and_true (p f)) refl
+five_fields p (a ∷ b ∷ c ∷ d ∷ f ∷ g ∷ rest) n e = absurd (omega arith)
+
+same_length : (row : CsvRecord) (width : ℕ) → length row ≡ width → (length row == width) ≡ true
+same_length row width n = rw n (grind arith)
+
+-- five plain fields are a record, as far as it has them
+pub well_formed : (row : CsvRecord) (width : ℕ) → length row ≡ width → width ≤ 5 → is_plain_text (field 0 row) ≡ true → is_plain_text (field 1 row) ≡ true
+    → is_plain_text (field 2 row) ≡ true → is_plain_text (field 3 row) ≡ true → is_plain_text (field 4 row) ≡ true → is_well_formed width row ≡ true
+well_formed row width n five a b c d e =
+    let all : list_all is_plain_text row ≡ true = five_fields is_plain_text row (omega arith) empty_plain ∙ rw (a, b, c, d, e) refl in
+    rw (same_length row width n, all) refl
+
+either_index : (row : CsvRecord) (k : ℕ) → (k < length row) ⊎ (field k row ≡ [])
+either_index [] k = inr refl
+either_index (x ∷ rest) zero = inl (omega arith)
+either_index (x ∷ rest) (suc k) = elim (either_index rest k) [ inl lt ↦ inl (omega arith) | inr e ↦ inr e ]
+
+and_false_second : (x y : Bool) → y ≡ false → (x && y) ≡ false
+and_false_second true y e = e
+and_false_second false y e = refl
+
+-- a field that is not plain is none of a record
+pub ill_formed : (row : CsvRecord) (width k : ℕ) → is_plain_text (field k row) ≡ false → is_well_formed width row ≡ false
+ill_formed row width k wrong = elim (either_index row k) [
+  | inl lt ↦ and_false_second (length row == width) _ (list_all_at is_plain_text row k [] lt wrong)
+  | inr e ↦ let plain : is_plain_text (field k row) ≡ true = ap is_plain_text e ∙ empty_plain in absurd (false≢true (sym wrong ∙ plain))
+]
+
+-- the field at a place, as the definitions name it
+pub field_is : (row : CsvRecord) (k : ℕ) (f : List ℕ) → Some f ≡ field_at row k → f ≡ field k row
+unfolding field_at
+field_is [] k f e = cc
+field_is (x ∷ rest) zero f e = cc
+field_is (x ∷ rest) (suc k) f e = field_is rest k f e
+
+-- a place without a field has the empty one
+pub no_field : (row : CsvRecord) (k : ℕ) → None ≡ field_at row k → field k row ≡ []
+unfolding field_at
+no_field [] k e = refl
+no_field (x ∷ rest) zero e = cc
+no_field (x ∷ rest) (suc k) e = no_field rest k e
+
+-- the empty text is no other one
+pub empty_differs : (text : List ℕ) → 0 < length text → bytes_eq [] text ≡ false
+empty_differs [] h = absurd (omega arith)
+empty_differs (x ∷ rest) h = refl

@@ -1,0 +1,15 @@
+use Rattle.std.proofs.Common.{◌≡◌, List, ℕ, map, take, []}
+use Rattle.std.specs.BTreeSet.{contains_by}
+use Rattle.std.specs.Cmp.Lexicographic.{slice_cmp}
+use Rattle.std.specs.Ordering.{nat_cmp}
+use Rattle.csv.specs.Records.{fields_of}
+use Rattle.grid_units.specs.Lists.{violations}
+use Rattle.manifest.specs.Manifest.{broken_after, entry_of, is_repeated}
+use Rattle.manifest.proofs.validation.entries_of.Given as goal
+
+abbrev pub invariant-loop-i : goal.invariant-loop-i
+invariant-loop-i l = record {
+  had : (name : List ℕ) → contains_by (λ k. slice_cmp nat_cmp name k.now) l.names ≡ is_repeated name (map entry_of (map fields_of (take l.i l.files)));
+  named : l.entries.items ≡ map entry_of (map fields_of (take l.i l.files));
+  lawful : violations (broken_after l.width) (map fields_of (take l.i l.files)) ≡ [];
+}

@@ -1,0 +1,30 @@
+-- What one record gives, in words for private functions alone (docs/FORMATS.md, Judging).
+use Rattle.std.specs.Prelude.{ℕ, Bool, List, Option, Some, None, Result, Ok, Err, if◌then◌else◌}
+use Rattle.grid_units.specs.Numbers.{value}
+use Rattle.grid_units.specs.Spans.{LayerSpan}
+use Rattle.grid_units.specs.declared.fault.Reason.{Reason}
+use Rattle.grid_units.specs.declared.fault.Reason.TheVariants.{BadSpan}
+use Rattle.manifest.specs.declared.Entry.{Entry}
+use Rattle.manifest.specs.declared.Role.{Role}
+use Rattle.manifest.specs.Manifest.{CsvRecord, are_span_numbers, first_broken_rule, entry_of, is_bad_span, is_layer_number, span_of_fields}
+
+-- the number of a layer that a text spells, None where it is not one to nine digits
+abbrev pub layer_number : List ℕ → Option ℕ
+layer_number text = if is_layer_number text then Some (value text) else None
+
+-- the span of layers with these numbers, None where they are not those of a span
+abbrev pub span_of_numbers : List ℕ → List ℕ → Option LayerSpan
+span_of_numbers first last = if are_span_numbers first last then Some (record { first = value first; last = value last }) else None
+
+-- the span that the last two fields of a file of this role name, none where both are empty, or BadSpan
+abbrev pub span_or_reason : Role → List ℕ → List ℕ → Result (Option LayerSpan) Reason
+span_or_reason role first last = if is_bad_span role first last then Err BadSpan else Ok (span_of_fields first last)
+
+-- the entry where no rule is broken, else the reason
+abbrev pub entry_or_reason : Option Reason → Entry → Result Entry Reason
+entry_or_reason None entry = Ok entry
+entry_or_reason (Some why) entry = Err why
+
+-- the file that a record names, or the first rule that it breaks; `repeated` says whether an earlier file has its name
+abbrev pub checked_entry : ℕ → Bool → CsvRecord → Result Entry Reason
+checked_entry width repeated row = entry_or_reason (first_broken_rule width repeated row) (entry_of row)

@@ -1,0 +1,270 @@
+//! Which records name files, and by which rule the first wrong one is refused.
+
+ghost use Rattle.std.specs.Prelude.{◌≡◌, ◌≤◌, map, true, false, MatchOption, IfSome};
+ghost use Rattle.std.specs.List.{count_by};
+ghost use Rattle.csv.specs.Records.{fields_of};
+ghost use Rattle.grid_units.specs.Results.{Answers, with_place, fault};
+ghost use Rattle.manifest.specs.Manifest as naming;
+ghost use Rattle.manifest.specs.Manifest.{field, is_well_formed, parse_manifest_records};
+ghost use Rattle.manifest.specs.Inner.RecordEntry as reading;
+ghost use Rattle.manifest.specs.Inner.RecordEntry.{checked_entry};
+
+use crate::names::Name;
+use crate::rows::{has_field, text_field};
+use crate::{Entry, Role};
+use csv::ByteRecord;
+use grid_units::numbers::{capped_value, is_digits};
+use grid_units::{Fail, Fault, Reason, Span};
+use std::alloc::Global;
+use std::collections::BTreeSet;
+
+/// The files that the records name.
+pub(crate) fn parse_manifest_records(alloc: Global, rows: &[ByteRecord]) -> Result<Vec<Entry>, Fail>
+    ensures { Answers (λ entries. entries.items) (λ answer. answer ≡ parse_manifest_records (map fields_of rows.now)) result }
+{
+    let Some((first, files)) = rows.split_first() else {
+        return Err(refused(1, Reason::BadManifest));
+    };
+    let Some(width) = field_count(first) else {
+        return Err(refused(1, Reason::BadManifest));
+    };
+    entries_of(alloc, width, files)
+}
+
+/// The files that the records after the first one name; each record needs `width` fields.
+fn entries_of(alloc: Global, width: usize, files: &[ByteRecord]) -> Result<Vec<Entry>, Fail>
+    requires { width ≤ 5 }
+    ensures { Answers (λ entries. entries.items) (λ answer. answer ≡ naming.entries_of width (map fields_of files.now)) result }
+{
+    let mut names = BTreeSet::new(alloc);
+    let mut entries = Vec::new(alloc);
+    for (i, row) in files.iter().enumerate() {
+        let is_new = names.insert(name_of(row))?;
+        let entry = read_entry(alloc, i as u64 + 2, width, !is_new, row)?;
+        entries.push(entry)?;
+    }
+    match joint_fault(entries.as_slice()) {
+        Some((i, reason)) => Err(refused(i as u64 + 2, reason)),
+        None => Ok(entries),
+    }
+}
+
+/// The refusal of the record of this number, from 1. Its byte is 0.
+fn refused(place: u64, reason: Reason) -> Fail
+    ensures { result ≡ Fail.Refused (fault place 0 reason) }
+{
+    Fail::Refused(Fault {
+        place,
+        byte: 0,
+        reason,
+    })
+}
+
+/// The name of a record's file, empty where the record has none.
+fn name_of(row: &ByteRecord) -> &[u8]
+    ensures { result.now ≡ field 1 (fields_of row.now) }
+{
+    match row.get(1) {
+        Some(name) => name,
+        None => &[],
+    }
+}
+
+/// The file that a record names; `repeated` says whether an earlier file has its name.
+fn read_entry(
+    alloc: Global,
+    place: u64,
+    width: usize,
+    repeated: bool,
+    row: &ByteRecord,
+) -> Result<Entry, Fail>
+    requires { width ≤ 5 }
+    ensures { Answers (λ entry. entry) (λ answer. answer ≡ with_place place 0 (checked_entry width repeated (fields_of row.now))) result }
+{
+    let Some(fields) = text_fields(row, width) else {
+        return Err(refused(place, Reason::BadManifest));
+    };
+    let Some(role) = role_of_word(fields.role) else {
+        return Err(refused(place, Reason::BadRole));
+    };
+    if fields.name.is_empty() || fields.file.is_empty() {
+        return Err(refused(place, Reason::EmptyName));
+    }
+    if repeated {
+        return Err(refused(place, Reason::RepeatedName));
+    }
+    let Ok(span) = span_or_reason(role, fields.first, fields.last) else {
+        return Err(refused(place, Reason::BadSpan));
+    };
+    Ok(Entry {
+        role,
+        name: Name::new(alloc, fields.name)?,
+        file: Name::new(alloc, fields.file)?,
+        span,
+    })
+}
+
+/// The fields of a record, each of plain text. A field that it lacks is empty.
+#[derive(Clone, Copy)]
+struct EntryFields<'a> {
+    role: &'a str,
+    name: &'a str,
+    file: &'a str,
+    first: &'a str,
+    last: &'a str,
+}
+
+/// The fields of a record, if it is well formed.
+fn text_fields<'a>(row: &'a ByteRecord, width: usize) -> Option<EntryFields<'a>>
+    requires { width ≤ 5 }
+    ensures { MatchOption result (is_well_formed width (fields_of row.now) ≡ false)
+        (λ f. (is_well_formed width (fields_of row.now) ≡ true) × (f.role.now ≡ field 0 (fields_of row.now)) × (f.name.now ≡ field 1 (fields_of row.now))
+        × (f.file.now ≡ field 2 (fields_of row.now)) × (f.first.now ≡ field 3 (fields_of row.now)) × (f.last.now ≡ field 4 (fields_of row.now))) }
+{
+    if row.len() != width {
+        return None;
+    }
+    Some(EntryFields {
+        role: text_field(row, 0)?,
+        name: text_field(row, 1)?,
+        file: text_field(row, 2)?,
+        first: text_field(row, 3)?,
+        last: text_field(row, 4)?,
+    })
+}
+
+/// How many fields each record has, if this is the first one of a manifest.
+fn field_count(first: &ByteRecord) -> Option<usize>
+    ensures value { result ≡ naming.field_count (fields_of first.now) }
+    ensures bound { IfSome result (λ width. width ≤ 5) }
+{
+    if first.len() == 3 && has_file_columns(first) {
+        return Some(3);
+    }
+    if first.len() == 5 && has_file_columns(first) && has_span_columns(first) {
+        return Some(5);
+    }
+    None
+}
+
+fn has_file_columns(row: &ByteRecord) -> bool
+    ensures { result ≡ naming.has_file_columns (fields_of row.now) }
+{
+    has_field(row, 0, "role") && has_field(row, 1, "name") && has_field(row, 2, "file")
+}
+
+fn has_span_columns(row: &ByteRecord) -> bool
+    ensures { result ≡ naming.has_span_columns (fields_of row.now) }
+{
+    has_field(row, 3, "first") && has_field(row, 4, "last")
+}
+
+/// The role that a word names: `copper`, `plated` or `unplated`.
+fn role_of_word(word: &str) -> Option<Role>
+    ensures { result ≡ naming.role_of_word word.now }
+{
+    match word {
+        "copper" => Some(Role::Copper),
+        "plated" => Some(Role::Plated),
+        "unplated" => Some(Role::Unplated),
+        _ => None,
+    }
+}
+
+/// The span that two fields of a file of this role name: none where both are empty.
+fn span_or_reason(role: Role, first: &str, last: &str) -> Result<Option<Span>, Reason>
+    ensures { result ≡ reading.span_or_reason role first.now last.now }
+{
+    if first.is_empty() && last.is_empty() {
+        return Ok(None);
+    }
+    if is_copper_role(role) {
+        return Err(Reason::BadSpan);
+    }
+    match span_of_numbers(first, last) {
+        Some(span) => Ok(Some(span)),
+        None => Err(Reason::BadSpan),
+    }
+}
+
+/// The span of the layers with these numbers, if they are those of a span.
+fn span_of_numbers(first: &str, last: &str) -> Option<Span>
+    ensures { result ≡ reading.span_of_numbers first.now last.now }
+{
+    Span::new(layer_number(first)?, layer_number(last)?)
+}
+
+/// The number of a layer that one to nine digits spell.
+fn layer_number(text: &str) -> Option<usize>
+    ensures { result ≡ reading.layer_number text.now }
+{
+    if !is_digits(text.as_bytes()) || text.len() > 9 {
+        return None;
+    }
+    Some(capped_value(text.as_bytes(), 999_999_999) as usize)
+}
+
+fn is_copper_role(role: Role) -> bool
+    ensures { result ≡ naming.is_copper_role role }
+{
+    matches!(role, Role::Copper)
+}
+
+fn is_copper(entry: &Entry) -> bool
+    ensures { result ≡ naming.is_copper entry.now }
+{
+    is_copper_role(entry.role)
+}
+
+/// The role that a package needs and that these files lack.
+fn missing_role(entries: &[Entry]) -> Option<Reason>
+    ensures { result ≡ naming.missing_role entries.now }
+{
+    if !entries.iter().any(|entry| is_copper(entry)) {
+        return Some(Reason::NoCopper);
+    }
+    if !entries.iter().any(|entry| !is_copper(entry)) {
+        return Some(Reason::NoDrill);
+    }
+    None
+}
+
+/// What is wrong with all files together, and at which place from 0.
+fn joint_fault(entries: &[Entry]) -> Option<(usize, Reason)>
+    ensures { result ≡ naming.joint_fault entries.now }
+{
+    if let Some(reason) = missing_role(entries) {
+        return Some((entries.len(), reason));
+    }
+    match first_exceeding(entries) {
+        Some(i) => Some((i, Reason::BadSpan)),
+        None => None,
+    }
+}
+
+/// How many of the files are copper layers.
+fn layer_count(entries: &[Entry]) -> usize
+    ensures { result ≡ count_by naming.is_copper entries.now }
+{
+    entries.iter().filter(|entry| is_copper(entry)).count()
+}
+
+/// Whether a span ends above the last of so many layers.
+fn exceeds_layers(layer_count: usize, span: Option<Span>) -> bool
+    ensures { result ≡ naming.exceeds_layers layer_count span }
+{
+    match span {
+        Some(span) => span.last() > layer_count,
+        None => false,
+    }
+}
+
+/// The place, from 0, of the first file whose span ends above the last copper layer.
+fn first_exceeding(entries: &[Entry]) -> Option<usize>
+    ensures { result ≡ naming.first_exceeding entries.now }
+{
+    let layer_count = layer_count(entries);
+    entries
+        .iter()
+        .position(|entry| exceeds_layers(layer_count, entry.span))
+}

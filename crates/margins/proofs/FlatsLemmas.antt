@@ -1,0 +1,107 @@
+-- What the best pads among flat shapes say of the shapes themselves.
+use Rattle.std.proofs.Common.{◌≡◌, ◌↔◌, ℕ, ◌<◌, ◌+◌, inl, inr, Bool, true, false, Option, Some, None, List, [], ◌∷◌, length, map, get_or, replicate, refl, sym, subst, ap, ◌∙◌, arith}
+use Rattle.std.specs.Prelude.{◌&&◌, nat_le}
+use Rattle.std.proofs.lemmas.Bool.{cases_lt}
+use Rattle.std.proofs.lemmas.List.{get_or-map, length-map, get_or-replicate, length-replicate}
+use Rattle.grid_units.specs.Points.{GridPoint}
+use Rattle.grid_units.specs.Holes.{GridHole}
+use Rattle.grid_units.proofs.BoolLemmas.{both_true}
+use Rattle.pad_shapes.specs.Shapes.{covers_both_ends}
+use Rattle.ring_rules.specs.Findings.{is_oblique}
+use Rattle.pad_shapes.specs.Zones.{IsInZone, CoversNone}
+use Rattle.pad_shapes.specs.declared.zone.Zone.{Zone}
+use Rattle.ring_rules.specs.Places.{hole_at, entry_at}
+use Rattle.ring_rules.specs.declared.finding.Drilled.{Drilled}
+use Rattle.margins.specs.Depths.{CoversLess}
+use Rattle.margins.specs.BestPads.{IsBare, IsBestPad, AreBestPads, AreBare}
+use Rattle.margins.specs.Inner.Flats.{CoversNothing, flat_covers}
+use Rattle.margins.specs.Rows.{has_no_best_pad}
+use Rattle.margins.specs.declared.best.BestPad.{BestPad}
+
+refused : (b : Bool) → (b ≡ true → b ≡ false) → b ≡ false
+refused true f = f refl
+refused false f = refl
+
+never : {P : Type 0} (b : Bool) → b ≡ true → b ≡ false → P
+never b e f = absurd (let g : true ≡ false = sym e ∙ f in cc)
+
+both : (a b : Bool) → a ≡ true → b ≡ true → (a && b) ≡ true
+both true b e f = f
+both false b e f = absurd cc
+
+some_of : {S : Type 0} (xs : List S) (k : ℕ) → k < length xs → S
+some_of [] k h = absurd (omega (arith, h))
+some_of (x ∷ xs) k h = x
+
+module _ {S T : Type 0} (covers : S → GridPoint → ℕ → Bool) (covers_less : CoversLess covers) (flat : T → GridPoint → ℕ → Bool) (make : S → T) (same : (s : S) (c : GridPoint) (reach : ℕ) → flat (make s) c reach ≡ flat_covers covers s c reach) where
+  -- a shape that covers both ends with some reach covers them flatly
+  flat_ends : (s : S) (h : GridHole) (reach : ℕ) → covers_both_ends covers s h.from h.to reach ≡ true → covers_both_ends flat (make s) h.from h.to 0 ≡ true
+  flat_ends s h reach e =
+      let t = both_true (covers s h.from reach) (covers s h.to reach) e in
+      both (flat (make s) h.from 0) (flat (make s) h.to 0) (same s h.from 0 ∙ covers_less s h.from 0 reach (omega arith) t.0) (same s h.to 0 ∙ covers_less s h.to 0 reach (omega arith) t.1)
+
+  -- and a shape that covers both ends flatly covers them
+  round_ends : (s : S) (h : GridHole) (reach : ℕ) → covers_both_ends flat (make s) h.from h.to reach ≡ true → covers_both_ends covers s h.from h.to 0 ≡ true
+  round_ends s h reach e =
+      let t = both_true (flat (make s) h.from reach) (flat (make s) h.to reach) e in
+      let first = both_true (nat_le reach 0) (covers s h.from 0) (sym (same s h.from reach) ∙ t.0) in
+      let second = both_true (nat_le reach 0) (covers s h.to 0) (sym (same s h.to reach) ∙ t.1) in
+      both (covers s h.from 0) (covers s h.to 0) first.1 second.1
+
+  module _ (pads : List S) (h : GridHole) where
+    at : (p : S) (k : ℕ) → k < length pads → get_or (map make pads) k (make p) ≡ make (get_or pads k p)
+    at p k inside = get_or-map make pads k p (make p) inside
+
+    bare_flat : IsBare flat (map make pads) h → IsBare covers pads h
+    bare_flat (inl oblique) = inl oblique
+    bare_flat (inr none) = inr (λ p k reach inside. refused (covers_both_ends covers (get_or pads k p) h.from h.to reach) (λ e.
+        never (covers_both_ends flat (make (get_or pads k p)) h.from h.to 0) (flat_ends (get_or pads k p) h reach e)
+        (ap (λ (t : T). covers_both_ends flat t h.from h.to 0) (sym (at p k inside)) ∙ none (make p) k 0 (let size : length (map make pads) ≡ length pads = length-map pads make in omega (arith, size, inside)))))
+
+    told : (b : Option BestPad) → IsBestPad flat (map make pads) h b → (has_no_best_pad b ≡ true) ↔ IsBare covers pads h
+    told None bare = (λ e. bare_flat bare, λ e. refl)
+    told (Some best) is = (λ e. absurd cc, λ bare. held bare) where
+      held : IsBare covers pads h → has_no_best_pad (Some best) ≡ true
+      held (inl oblique) = never (is_oblique h) oblique is.0
+      held (inr none) =
+          let size : length (map make pads) ≡ length pads = length-map pads make in
+          let listed : best.pad < length (map make pads) = is.1.inside in
+          let inside : best.pad < length pads = omega (arith, size, listed) in
+          let p : S = some_of pads best.pad inside in
+          never (covers_both_ends covers (get_or pads best.pad p) h.from h.to 0)
+          (round_ends (get_or pads best.pad p) h best.depth (ap (λ (t : T). covers_both_ends flat t h.from h.to best.depth) (sym (at p best.pad inside)) ∙ is.1.covered (make p)))
+          (none p best.pad 0 inside)
+
+  -- which of some holes are bare
+  pub bare_by_flat : (pads : List S) (holes : List Drilled) (bests : List (Option BestPad)) → AreBestPads flat (map make pads) holes bests → AreBare covers pads holes (map has_no_best_pad bests)
+  bare_by_flat pads holes bests all = record {
+    size = length-map bests has_no_best_pad ∙ all.size;
+    each = λ k h.
+        let size = all.size in
+        let is : get_or (map has_no_best_pad bests) k false ≡ has_no_best_pad (get_or bests k None) = get_or-map has_no_best_pad bests k None false (omega (arith, h, size)) in
+        let tells = told pads (hole_at holes k) (get_or bests k None) (all.each k h) in
+        (λ e. tells.0 (sym is ∙ e), λ bare. is ∙ tells.1 bare);
+  }
+
+-- one more pad that covers nothing of a zone
+pub none_more : {S : Type 0} (covers : S → GridPoint → ℕ → Bool) (pads : List S) (count : ℕ) (pad : S) (zone : Zone) → ((s : S) → get_or pads count s ≡ pad) → CoversNothing covers pads count zone → CoversNone covers pad 0 zone → CoversNothing covers pads (count + 1) zone
+none_more covers pads count pad zone is none next s k h = elim (cases_lt k count) [
+  | inl less ↦ none s k less
+  | inr more ↦
+      let last : k ≡ count = omega (arith, h, more) in
+      subst (λ x. CoversNone covers x 0 zone) (sym (ap (λ (n : ℕ). get_or pads n s) last ∙ is s)) next
+]
+
+-- no pad covers a point of the zone, so its holes are bare
+pub bare_none : {S : Type 0} (covers : S → GridPoint → ℕ → Bool) (pads : List S) (holes : List Drilled) (zone : Zone) (bare : List Bool) → ((k : ℕ) → k < length holes → IsInZone zone (entry_at holes k)) → CoversNothing covers pads (length pads) zone
+    → bare ≡ replicate (length holes) true → AreBare covers pads holes bare
+bare_none covers pads holes zone bare within none is = record {
+  size = ap length is ∙ length-replicate (length holes) true;
+  each = λ k h. (
+    λ e. inr (λ p j reach inside. refused (covers_both_ends covers (get_or pads j p) (hole_at holes k).from (hole_at holes k).to reach) (λ t.
+        never (covers (get_or pads j p) (entry_at holes k) reach)
+        (both_true (covers (get_or pads j p) (hole_at holes k).from reach) (covers (get_or pads j p) (hole_at holes k).to reach) t).0
+        (none p j inside (entry_at holes k) reach (omega arith) (within k h)))),
+    λ lacks. ap (λ (bs : List Bool). get_or bs k false) is ∙ get_or-replicate (length holes) k true false h,
+  );
+}

@@ -1,7 +1,0 @@
-use Rattle.std.proofs.Common.{None, get_or}
-use Rattle.ring_rules.specs.Places.{hole_at}
-use Rattle.margins.proofs.Meeting.{ring_of_best}
-use Rattle.margins.proofs.laws.rows_tell_rings.Goals as goal
-
-pub returns : goal.returns
-returns g c = λ pads holes bests k are inside. ring_of_best g.S.PadShape.covers pads (hole_at holes k) (get_or bests k None) (are.each k inside)

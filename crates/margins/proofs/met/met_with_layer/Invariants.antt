@@ -1,0 +1,8 @@
+use Rattle.std.proofs.Common.{map}
+use Rattle.margins.specs.Meets.{AreLeast, HasRing}
+use Rattle.margins.specs.Inner.Meets.{NeedsRingBefore}
+use Rattle.margins.proofs.met.met_with_layer.Given as goal
+
+-- what the layers before and the holes so far ask for
+abbrev pub invariant-loop-hole : goal.invariant-loop-hole
+invariant-loop-hole g l = AreLeast (NeedsRingBefore l.layer l.hole l.holes) (HasRing g.S.PadShape.covers (map (λ pads. pads.now) l.layers) l.holes) l.met

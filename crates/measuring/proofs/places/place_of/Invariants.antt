@@ -1,6 +1,0 @@
-use Rattle.std.proofs.Common.{◌≡◌, ◌≤◌}
-use Rattle.measuring.specs.Rows.{holes_before}
-use Rattle.measuring.proofs.places.place_of.Given as goal
-
-abbrev pub invariant-loop-drill : goal.invariant-loop-drill
-invariant-loop-drill l = (l.start ≡ holes_before l.board.files l.drill) × (l.start ≤ l.hole)

@@ -1,4 +1,0 @@
-pub mod Measures
-pub mod Rows
-pub mod Scaling
-pub mod Inner

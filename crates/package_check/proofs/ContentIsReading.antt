@@ -1,0 +1,38 @@
+-- The content of a file is just what reading it gives where it has no fault.
+use Rattle.std.proofs.Common.{◌≡◌, ℕ, Bool, true, false, List, Result, Ok, Err, refl}
+use Rattle.std.specs.Prelude.{Option}
+use Rattle.grid_units.specs.declared.fault.Fault.{Fault}
+use Rattle.grid_units.specs.Spans.{LayerSpan}
+use Rattle.manifest.specs.declared.Role.{Role}
+use Rattle.manifest.specs.declared.Role.TheVariants as role
+use Rattle.package_check.specs.declared.contents.Content.{Content}
+use Rattle.package_check.specs.Package.{FileView, HasContent, BytesHaveContent, Reads, ReadsBytes, ReadsUnlessBadSpan, bad_span, is_bad_span}
+
+bytes_content : (q : Role) (name : List ℕ) (span : Option LayerSpan) (bytes : List ℕ) (n : ℕ) (c : Content) → ReadsBytes (record { role = q; name = name; span = span; bytes = bytes; layers = n }) (Ok c)
+    → BytesHaveContent (record { role = q; name = name; span = span; bytes = bytes; layers = n }) c
+bytes_content role.Copper name span bytes n c h = h
+bytes_content role.Plated name span bytes n c h = h
+bytes_content role.Unplated name span bytes n c h = h
+
+bytes_read : (q : Role) (name : List ℕ) (span : Option LayerSpan) (bytes : List ℕ) (n : ℕ) (c : Content) → BytesHaveContent (record { role = q; name = name; span = span; bytes = bytes; layers = n }) c
+    → ReadsBytes (record { role = q; name = name; span = span; bytes = bytes; layers = n }) (Ok c)
+bytes_read role.Copper name span bytes n c h = h
+bytes_read role.Plated name span bytes n c h = h
+bytes_read role.Unplated name span bytes n c h = h
+
+-- a file with a content has no bad span
+good_span : (t : Bool) (s : FileView) (c : Content) → ReadsUnlessBadSpan t s (Ok c) → (t ≡ false) × ReadsBytes s (Ok c)
+good_span true s c h = absurd (let e : (let x : Result Content Fault = Ok c in let y : Result Content Fault = Err bad_span in x ≡ y) = h in cc)
+good_span false s c h = (refl, h)
+
+read_unless : (t : Bool) (s : FileView) (c : Content) → t ≡ false → ReadsBytes s (Ok c) → ReadsUnlessBadSpan t s (Ok c)
+read_unless true s c e h = absurd cc
+read_unless false s c e h = h
+
+pub content_read : (s : FileView) (c : Content) → Reads s (Ok c) → HasContent s c
+content_read s c h =
+    let good = good_span (is_bad_span s.role s.span s.layers) s c h in
+    (good.0, bytes_content s.role s.name s.span s.bytes s.layers c good.1)
+
+pub reading_of : (s : FileView) (c : Content) → HasContent s c → Reads s (Ok c)
+reading_of s c h = read_unless (is_bad_span s.role s.span s.layers) s c h.0 (bytes_read s.role s.name s.span s.bytes s.layers c h.1)

@@ -1,5 +1,0 @@
-use Rattle.package_check.proofs.Existence as existence
-use Rattle.package_check.proofs.laws.some_reading.Goals as goal
-
-pub returns : goal.returns
-returns c = existence.some_reading c.layer_texts.ensures.each c.first_faults.ensures.answer c.first_faults.ensures.first

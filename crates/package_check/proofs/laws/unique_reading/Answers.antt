@@ -1,0 +1,5 @@
+use Rattle.package_check.proofs.ReadingUniqueness as once
+use Rattle.package_check.proofs.laws.unique_reading.Goals as goal
+
+pub returns : goal.returns
+returns c = once.unique_reading c.unique_reading.ensures c.unique_reading-2.ensures.read c.drill_texts.ensures

@@ -1,0 +1,38 @@
+-- What the bytes of a file say.
+use Rattle.std.specs.Prelude.{◌≡◌, ◌==◌, ℕ, Bool, true, not, List, codes, Option, Some, None, Result, Ok, Err}
+use Rattle.std.specs.List.{take_while}
+use Rattle.std.specs.Str.{bytes_eq}
+use Rattle.grid_units.specs.Holes.{GridHole}
+use Rattle.grid_units.specs.declared.fault.Fault.{Fault}
+use Rattle.drill_text.specs.Holes.{holes_of}
+use Rattle.drill_text.specs.Texts.{ReadsAs}
+use Rattle.layer_image.specs.Layers as layers
+use Rattle.layer_image.specs.Layers.{LayerImage}
+use Rattle.package_check.specs.LayerViews.{LayerView}
+use Rattle.grid_units.specs.Ascii as ascii
+
+-- the first field of a file function is `Copper`, as in `Copper,L1,Top`; a layer without one is taken for copper (docs/FORMATS.md, File function)
+abbrev pub is_copper_function : Option (List ℕ) → Bool
+is_copper_function None = true
+is_copper_function (Some text) = bytes_eq (take_while (λ b. not (b == ascii.comma)) text) (codes "Copper")
+
+-- what the check keeps of a layer
+abbrev pub layer_view : LayerImage → LayerView
+layer_view layer = record {
+  pads = layer.pads;
+  other = layer.other;
+  is_copper = is_copper_function layer.file_function;
+}
+
+-- the bytes are the text of a layer, and this is what the check keeps of it
+abbrev pub HasLayerView : List ℕ → LayerView → Type 0
+HasLayerView bytes image = (layer : LayerImage) × layers.IsLayer bytes layer × (image ≡ layer_view layer)
+
+-- the bytes are the text of a layer, and this is what the check keeps of it; or they have this fault
+abbrev pub ReadsLayer : List ℕ → Result LayerView Fault → Type 0
+ReadsLayer bytes (Ok image) = HasLayerView bytes image
+ReadsLayer bytes (Err fault) = layers.ReadsLayer bytes (Err fault)
+
+-- the bytes are a drill text that drills these holes, or they have this fault
+abbrev pub ReadsDrill : List ℕ → Result (List GridHole) Fault → Type 0
+ReadsDrill bytes answer = ReadsAs holes_of bytes answer

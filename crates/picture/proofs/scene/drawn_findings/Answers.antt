@@ -1,0 +1,13 @@
+use Rattle.std.proofs.Common.{◌∙◌, ap}
+use Rattle.std.specs.List.{flat_map}
+use Rattle.ring_rules.proofs.EnumeratedLists.{enumerated_all}
+use Rattle.picture.specs.Scenes.{drawn_finding}
+use Rattle.picture.proofs.Gathered.{placed_more}
+use Rattle.picture.proofs.scene.drawn_findings.Goals as goal
+
+pub loop-place-preserved : goal.loop-place-preserved
+loop-place-preserved c =
+    placed_more (drawn_finding c.args.layer c.args.holes.now) _ _ c.args.findings.now c.loop-place.place _ c.loop-place-test.true c.loop-place.invariant c.in_ok-push_lack.ensures
+
+pub returns : goal.returns
+returns c = c.loop-place.invariant ∙ ap (flat_map (drawn_finding c.args.layer c.args.holes.now)) (enumerated_all c.args.findings.now c.loop-place.place c.loop-place-test.false)

@@ -1,0 +1,7 @@
+use Rattle.std.proofs.Common.{◌≡◌, take}
+use Rattle.std.specs.List.{enumerate_from, flat_map}
+use Rattle.picture.specs.Scenes.{drawn_finding}
+use Rattle.picture.proofs.scene.drawn_findings.Given as goal
+
+abbrev pub invariant-loop-place : goal.invariant-loop-place
+invariant-loop-place l = l.lacks.items ≡ flat_map (drawn_finding l.layer l.holes) (take l.place (enumerate_from 0 l.findings))

@@ -1,0 +1,159 @@
+-- The depth to which values nest.
+use Rattle.std.proofs.Common.{◌≤◌, ◌+◌, ◌++◌, ℕ, suc, List, [], ◌∷◌, Option, Some, None, arith, map}
+use Rattle.std.specs.Borrow.{Bor}
+use Rattle.std.specs.List.{All, enumerate_from}
+use Rattle.std.specs.Prelude.{codes, ⊤}
+use Rattle.std.proofs.lemmas.List.Elements.{All-append, All-map}
+use Rattle.json.specs.Json.{Json, max_depth}
+use Rattle.json.specs.Tree.{depth, items_depth, members_depth}
+use Rattle.margins.specs.declared.met.Met.{Met}
+use Rattle.margins.specs.declared.met.Met.TheVariants as mets
+use Rattle.report.specs.declared.GapLine.{GapLine}
+use Rattle.report.specs.declared.HolePlace.{HolePlace}
+use Rattle.report.specs.declared.Meets.{Meets}
+use Rattle.report.specs.declared.RingLine.{RingLine}
+use Rattle.report.specs.declared.UnitMistake.{UnitMistake}
+use Rattle.report.specs.declared.Measure.{Measure}
+use Rattle.package_check.specs.Boards.{BoardView}
+use Rattle.package_check.specs.declared.FileSum.{FileSum}
+use Rattle.package_check.specs.declared.FileSum.TheVariants as sums
+use Rattle.report.specs.declared.GapLack.{GapLack}
+use Rattle.report.specs.declared.HoleAt.{HoleAt}
+use Rattle.report.specs.declared.LayerHead.{LayerHead}
+use Rattle.report.specs.declared.RingLack.{RingLack}
+use Rattle.report.specs.declared.BoardReport.{BoardReport}
+use Rattle.print_text.specs.Texts as texts
+use Rattle.ring_rules.specs.declared.finding.Drilled.{Drilled}
+use Rattle.print_text.specs.Texts.{lack_of}
+use Rattle.print_json.specs.Values.{drill_value, file_value, flash_of, gap_value, hole_value, hole_at_place, or_null, items_of, members_of, layer_number, layer_value, least_gap_value, least_hole, least_ring, meets_value, met_value, picometres, place_value, point_value, ring_of, ring_value, row_value, rules_value, scale_value, whole, acceptance_value, word}
+use Rattle.print_json.specs.Packages.{file_values, gap_values, measure_value, ring_values, input_error_value, report_value}
+use Rattle.print_json.specs.declared.refused.InputError.{InputError}
+use Rattle.print_json.specs.declared.refused.InputError.TheVariants as stops
+
+-- the depth of an array
+items_within : (d : ℕ) (vs : List Json) → All (λ v. depth v ≤ d) vs → items_depth (items_of vs) ≤ d
+items_within d [] h = omega arith
+items_within d (v ∷ vs) h = let first : depth v ≤ d = h 0 v (omega arith) in let rest = items_within d vs (λ k e l. h (suc k) e (omega arith)) in omega arith
+
+-- each member nests no deeper
+abbrev AreWithin : ℕ → List (List ℕ × Json) → Type 0
+AreWithin d [] = ⊤
+AreWithin d (one ∷ rest) = (depth one.1 ≤ d) × AreWithin d rest
+
+-- the depth of an object
+members_within : (d : ℕ) (all : List (List ℕ × Json)) → AreWithin d all → members_depth (members_of all) ≤ d
+members_within d [] h = omega arith
+members_within d (one ∷ rest) h = let more = members_within d rest h.1 in omega (arith, h.0)
+
+-- the depth of the values of some things
+each_within : {X : Type 0} (value : X → Json) (d : ℕ) → ((x : X) → depth (value x) ≤ d) → (xs : List X) → items_depth (items_of (map value xs)) ≤ d
+each_within value d h xs = items_within d (map value xs) (All-map (λ v. depth v ≤ d) value xs (λ k e l. h _))
+
+-- an optional value
+there_within : {A : Type 0} (d : ℕ) (value : A → Json) → ((a : A) → depth (value a) ≤ d) → (there : Option A) → depth (or_null value there) ≤ d
+there_within d value h None = omega arith
+there_within d value h (Some a) = h a
+
+met_within : (d : ℕ) (met : Met) → depth (met_value met) ≤ d
+met_within d mets.Any = omega arith
+met_within d (mets.UpTo length) = omega arith
+met_within d mets.None = omega arith
+
+hole_within : (at : HoleAt) → depth (hole_value at) ≤ 2
+unfolding hole_value point_value
+hole_within at = omega arith
+
+file_within : (n : ℕ) (name : List ℕ) (sum : FileSum) → depth (file_value n name sum) ≤ 1
+unfolding layer_value drill_value
+file_within n name (sums.Layer pads other) = omega arith
+file_within n name (sums.Drill plated span round slots) = omega arith
+
+scale_within : (line : UnitMistake) → depth (scale_value line) ≤ 1
+unfolding scale_value
+scale_within line = omega arith
+
+meets_within : (meets : Meets) → depth (meets_value meets) ≤ 1
+unfolding meets_value
+meets_within meets =
+    let inner = members_within 0 ((codes "ring_pm", met_value meets.ring) ∷ (codes "gap_pm", met_value meets.gap) ∷ (codes "held_pm", met_value meets.in_pads) ∷ [])
+    (met_within 0 meets.ring, (met_within 0 meets.gap, (met_within 0 meets.in_pads, tt))) in
+    omega (arith, inner)
+
+row_within : (line : RingLine) → depth (row_value line) ≤ 1
+unfolding row_value
+row_within line =
+    let ring = there_within 0 picometres (λ n. omega arith) (least_ring line) in
+    let hole = there_within 0 whole (λ n. omega arith) (least_hole line) in
+    omega (arith, ring, hole)
+
+why_within : (why : Option (Bor (List ℕ))) → depth (acceptance_value why) ≤ 0
+why_within why = there_within 0 (λ (there : Bor (List ℕ)). word there.now) (λ there. omega arith) why
+
+ring_within : (layers : List LayerHead) (lack : RingLack) (why : Option (Bor (List ℕ))) → depth (ring_value layers lack why) ≤ 3
+unfolding ring_value
+ring_within layers lack why =
+    let layer = there_within 0 whole (λ n. omega arith) (layer_number layers lack.layer) in
+    let at = hole_within lack.at in
+    let ring = there_within 0 picometres (λ n. omega arith) (ring_of lack.cause) in
+    let less = there_within 0 picometres (λ n. omega arith) (lack_of lack.cause) in
+    let flash = there_within 0 whole (λ n. omega arith) (flash_of lack.cause) in
+    let waived = why_within why in
+    omega (arith, layer, at, ring, less, flash, waived)
+
+gap_within : (lack : GapLack) (why : Option (Bor (List ℕ))) → depth (gap_value lack why) ≤ 3
+unfolding gap_value
+gap_within lack why = let first = hole_within lack.first in let second = hole_within lack.second in let waived = why_within why in omega (arith, first, second, waived)
+
+place_within : (files : List FileSum) (holes : List Drilled) (place : HolePlace) → depth (place_value files holes place) ≤ 2
+place_within files holes place =
+    there_within 2 (λ drilled. hole_value (record { drill = place.drill; number = place.hole; hole = drilled.hole }))
+    (λ drilled. hole_within (record { drill = place.drill; number = place.hole; hole = drilled.hole })) (hole_at_place files holes place)
+
+least_gap_within : (files : List FileSum) (holes : List Drilled) (line : GapLine) → depth (least_gap_value files holes line) ≤ 3
+unfolding least_gap_value
+least_gap_within files holes line = let first = place_within files holes line.first in let second = place_within files holes line.second in omega (arith, first, second)
+
+-- the depth of the files
+files_within : (names : List (List ℕ)) (files : List FileSum) → items_depth (items_of (file_values names files)) ≤ 1
+files_within names files = each_within (λ file. file_value (file.0 + 1) (texts.name_of names file.0) file.1) 1 (λ file. file_within (file.0 + 1) (texts.name_of names file.0) file.1) (enumerate_from 0 files)
+
+-- the depth of the findings
+rings_within : (layers : List LayerHead) (rings : List RingLack) (accepted : List (Option (Bor (List ℕ)))) → All (λ v. depth v ≤ 3) (ring_values layers rings accepted)
+rings_within layers rings accepted =
+    All-map (λ v. depth v ≤ 3) (λ (one : ℕ × RingLack). ring_value layers one.1 (texts.acceptance_at accepted one.0)) (enumerate_from 0 rings) (λ k d l. ring_within layers _ _)
+
+gaps_within : (gaps : List GapLack) (accepted : List (Option (Bor (List ℕ)))) → All (λ v. depth v ≤ 3) (gap_values gaps accepted)
+gaps_within gaps accepted =
+    All-map (λ v. depth v ≤ 3) (λ (one : ℕ × GapLack). gap_value one.1 (texts.acceptance_at accepted one.0)) (enumerate_from 0 gaps) (λ k d l. gap_within _ _)
+
+-- the depth of a report
+pub report_within : (names : List (List ℕ)) (files : List FileSum) (telling : BoardReport) (of_rings of_gaps : List (Option (Bor (List ℕ)))) → depth (report_value names files telling of_rings of_gaps) ≤ max_depth
+unfolding report_value rules_value
+report_within names files telling of_rings of_gaps =
+    let meets = meets_within telling.meets in
+    let named = files_within names files in
+    let scales = each_within scale_value 1 scale_within telling.scales.items in
+    let rings = ring_values telling.layers.items telling.rings.items of_rings in
+    let found = items_within 3 (rings ++ gap_values telling.gaps.items of_gaps)
+    (All-append (λ v. depth v ≤ 3) rings (gap_values telling.gaps.items of_gaps) (rings_within telling.layers.items telling.rings.items of_rings) (gaps_within telling.gaps.items of_gaps)) in
+    omega (arith, meets, named, scales, found)
+
+-- the depth of a measure
+pub measure_within : (names : List (List ℕ)) (board : BoardView) (measure : Measure) → depth (measure_value names board measure) ≤ max_depth
+unfolding measure_value
+measure_within names board measure =
+    let meets = meets_within measure.meets in
+    let named = files_within names board.files in
+    let scales = each_within scale_value 1 scale_within measure.scales.items in
+    let rows = each_within row_value 1 row_within measure.rings.items in
+    let gap = there_within 3 (least_gap_value board.files board.holes) (least_gap_within board.files board.holes) measure.gap in
+    omega (arith, meets, named, scales, rows, gap)
+
+-- the depth of a refusal
+pub stop_within : (stop : InputError) → depth (input_error_value stop) ≤ max_depth
+stop_within (stops.RefusedManifest place reason) = omega arith
+stop_within (stops.Refused index name fault) = omega arith
+stop_within stops.ManifestDevice = omega arith
+stop_within (stops.Device index name) = omega arith
+stop_within (stops.RefusedWaivers place reason) = omega arith
+stop_within stops.WaiversDevice = omega arith

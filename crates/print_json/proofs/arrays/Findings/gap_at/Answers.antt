@@ -1,0 +1,13 @@
+use Rattle.std.proofs.Common.{◌≡◌, ◌∙◌, ap, get_or, List}
+use Rattle.report.specs.declared.GapLack.{GapLack}
+use Rattle.print_json.proofs.Lists.{gap_at}
+use Rattle.print_json.proofs.arrays.Findings.gap_at.Goals as goal
+
+pub returns : goal.returns
+returns c =
+    let report = c.args.self.now.telling.now in
+    let one = c.index-as_slice-place.result in
+    let why = c.acceptance_of.ensures in
+    let lack : one ≡ get_or report.gaps.items c.args.place one = c.index-as_slice-place.is ∙ ap (λ (xs : List GapLack). get_or xs c.args.place one) c.as_slice.ensures.value in
+    let is = gap_at report.gaps.items c.args.self.now.accepted.now.gaps.now c.args.place one c.requires in
+    cc

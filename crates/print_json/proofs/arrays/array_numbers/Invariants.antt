@@ -1,0 +1,7 @@
+use Rattle.std.proofs.Common.{ℕ, ◌<◌, get_or}
+use Rattle.json.specs.Json.{null}
+use Rattle.json.specs.Tree.{HasNumbers}
+use Rattle.print_json.proofs.arrays.array_numbers.Given as goal
+
+abbrev pub invariant-loop-place : goal.invariant-loop-place
+invariant-loop-place g l = (k : ℕ) → k < l.place → HasNumbers (get_or (g.V.Values.values l.values) k null)

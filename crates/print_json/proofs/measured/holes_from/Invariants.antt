@@ -1,0 +1,6 @@
+use Rattle.std.proofs.Common.{◌≡◌, drop}
+use Rattle.board_report.specs.Rows.{holes_before}
+use Rattle.print_json.proofs.measured.holes_from.Given as goal
+
+abbrev pub invariant-loop-before : goal.invariant-loop-before
+invariant-loop-before l = l.rest ≡ drop (holes_before l.files l.before) l.holes

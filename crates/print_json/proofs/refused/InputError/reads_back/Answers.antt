@@ -1,0 +1,7 @@
+use Rattle.json.proofs.Printed.Trees.{document-print}
+use Rattle.print_json.specs.Packages.{input_error_value}
+use Rattle.print_json.proofs.Depths.{stop_within}
+use Rattle.print_json.proofs.refused.InputError.reads_back.Goals as goal
+
+pub returns : goal.returns
+returns c = document-print (input_error_value c.args.self.now) c.stop_numbers.ensures (stop_within c.args.self.now)

@@ -1,0 +1,31 @@
+-- The last members of objects that are printed in two parts.
+use Rattle.std.specs.Prelude.{ℕ, ◌++◌, List, [], ◌∷◌, codes, map, Option}
+use Rattle.std.specs.Borrow.{Bor}
+use Rattle.json.specs.Json.{Json}
+use Rattle.report.specs.declared.Measure.{Measure}
+use Rattle.package_check.specs.Boards.{BoardView}
+use Rattle.package_check.specs.declared.FileSum.{FileSum}
+use Rattle.print_text.specs.Texts.{lack_of}
+use Rattle.report.specs.declared.RingCause.{RingCause}
+use Rattle.report.specs.declared.BoardReport.{BoardReport}
+use Rattle.report.specs.declared.Acceptances.{Acceptances}
+use Rattle.print_json.specs.Packages.{file_values, gap_values, ring_values}
+use Rattle.print_json.specs.Values.{array_of, cause_word, flash_of, or_null, least_gap_value, picometres, ring_of, row_value, scale_value, whole, acceptance_value, word}
+
+-- those of an insufficient ring, by its cause and the reason why it is accepted
+abbrev pub ring_rest : RingCause → Option (Bor (List ℕ)) → List (List ℕ × Json)
+ring_rest cause why =
+    (codes "has_pm", or_null picometres (ring_of cause)) ∷ (codes "lacks_pm", or_null picometres (lack_of cause)) ∷ (codes "cause", word (cause_word cause))
+    ∷ (codes "flash", or_null whole (flash_of cause)) ∷ (codes "waived", acceptance_value why) ∷ []
+
+-- those of a measure
+abbrev pub measure_rest : List (List ℕ) → BoardView → Measure → List (List ℕ × Json)
+measure_rest names board measure =
+    (codes "files", array_of (file_values names board.files)) ∷ (codes "scales", array_of (map scale_value measure.scales.items))
+    ∷ (codes "rings", array_of (map row_value measure.rings.items)) ∷ (codes "gap", or_null (least_gap_value board.files board.holes) measure.gap) ∷ []
+
+-- those of a report with waivers
+abbrev pub report_rest : List (List ℕ) → List FileSum → BoardReport → Acceptances → List (List ℕ × Json)
+report_rest names files telling accepted =
+    (codes "files", array_of (file_values names files)) ∷ (codes "scales", array_of (map scale_value telling.scales.items))
+    ∷ (codes "findings", array_of (ring_values telling.layers.items telling.rings.items accepted.rings.now ++ gap_values telling.gaps.items accepted.gaps.now)) ∷ []

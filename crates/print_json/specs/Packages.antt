@@ -1,0 +1,106 @@
+-- The JSON objects that are printed: of a measure, of a report and of a refusal (docs/FORMATS.md, JSON).
+use Rattle.std.specs.Prelude.{ℕ, ◌+◌, ◌==◌, ◌++◌, true, List, [], ◌∷◌, Option, codes, length, map, if◌then◌else◌}
+use Rattle.std.specs.Borrow.{Bor}
+use Rattle.std.specs.List.{enumerate_from}
+use Rattle.json.specs.Json.{Json, boolean}
+use Rattle.grid_units.specs.Reasons.{reason_name}
+use Rattle.grid_units.specs.declared.fault.Fault.{Fault}
+use Rattle.grid_units.specs.declared.fault.Reason.{Reason}
+use Rattle.report.specs.declared.Measure.{Measure}
+use Rattle.package_check.specs.Boards.{BoardView}
+use Rattle.package_check.specs.declared.FileSum.{FileSum}
+use Rattle.print_text.specs.Texts as texts
+use Rattle.report.specs.declared.GapLack.{GapLack}
+use Rattle.report.specs.declared.LayerHead.{LayerHead}
+use Rattle.report.specs.declared.RingLack.{RingLack}
+use Rattle.report.specs.declared.BoardReport.{BoardReport}
+use Rattle.report.specs.declared.Acceptances.{Acceptances}
+use Rattle.print_json.specs.Values.{array_of, file_value, gap_value, or_null, least_gap_value, meets_value, object_of, ring_value, row_value, rules_value, scale_value, whole, word}
+use Rattle.print_json.specs.declared.refused.InputError.{InputError}
+use Rattle.print_json.specs.declared.refused.InputError.TheVariants as stops
+
+-- the first members of each object: `"format":"ringcheck","version":1,"result":"measured"`
+abbrev pub opening : List ℕ → List (List ℕ × Json)
+opening result = (codes "format", word (codes "ringcheck")) ∷ (codes "version", whole 1) ∷ (codes "result", word result) ∷ []
+
+-- the contents of each file, in order, with the files' numbers and names
+abbrev pub file_values : List (List ℕ) → List FileSum → List Json
+file_values names files = map (λ file. file_value (file.0 + 1) (texts.name_of names file.0) file.1) (enumerate_from 0 files)
+
+-- the insufficient rings, each with the reason at its place why it is accepted, if there is one; `layers` are those that they name
+abbrev pub ring_values : List LayerHead → List RingLack → List (Option (Bor (List ℕ))) → List Json
+ring_values layers rings accepted = map (λ one. ring_value layers one.1 (texts.acceptance_at accepted one.0)) (enumerate_from 0 rings)
+
+-- the insufficient gaps, each with the reason at its place
+abbrev pub gap_values : List GapLack → List (Option (Bor (List ℕ))) → List Json
+gap_values gaps accepted = map (λ one. gap_value one.1 (texts.acceptance_at accepted one.0)) (enumerate_from 0 gaps)
+
+-- the result of a report, by the number of its findings and of those that are waived: `pass` without findings, `waived` if all are,
+-- else `findings`
+abbrev pub result_word : ℕ → ℕ → List ℕ
+result_word findings waived = if findings == 0 then codes "pass" else if waived == findings then codes "waived" else codes "findings"
+
+-- the result of a report, by the reasons why its rings and gaps are accepted
+abbrev pub report_result : BoardReport → List (Option (Bor (List ℕ))) → List (Option (Bor (List ℕ))) → List ℕ
+report_result telling rings gaps = result_word (length telling.rings.items + length telling.gaps.items) (texts.waived_in telling rings gaps)
+
+-- a report with such reasons: the rules, the rules that are met, the files, the scales, and all findings, rings before gaps
+unfoldable pub report_value : List (List ℕ) → List FileSum → BoardReport → List (Option (Bor (List ℕ))) → List (Option (Bor (List ℕ))) → Json
+report_value names files telling rings gaps =
+    object_of (opening (report_result telling rings gaps) ++ ((codes "rules", rules_value telling.rules) ∷ (codes "meets", meets_value telling.meets)
+    ∷ (codes "files", array_of (file_values names files)) ∷ (codes "scales", array_of (map scale_value telling.scales.items))
+    ∷ (codes "findings", array_of (ring_values telling.layers.items telling.rings.items rings ++ gap_values telling.gaps.items gaps)) ∷ []))
+
+-- a report with waivers
+abbrev pub waived_report_value : List (List ℕ) → List FileSum → BoardReport → Acceptances → Json
+waived_report_value names files telling accepted = report_value names files telling accepted.rings.now accepted.gaps.now
+
+-- a report without waivers
+abbrev pub board_report_value : List (List ℕ) → List FileSum → BoardReport → Json
+board_report_value names files telling = report_value names files telling [] []
+
+-- a measure: the rules that are met, the files, the scales, the rows of rings, and the least gap of the board's holes
+unfoldable pub measure_value : List (List ℕ) → BoardView → Measure → Json
+measure_value names board measure =
+    object_of (opening (codes "measured") ++ ((codes "meets", meets_value measure.meets) ∷ (codes "files", array_of (file_values names board.files))
+    ∷ (codes "scales", array_of (map scale_value measure.scales.items)) ∷ (codes "rings", array_of (map row_value measure.rings.items))
+    ∷ (codes "gap", or_null (least_gap_value board.files board.holes) measure.gap) ∷ []))
+
+-- a refused file: `{..,"result":"refused","file":1,"name":"top","place":11,"byte":100,"reason":"BadWord"}`
+abbrev pub refused_value : ℕ → List ℕ → Fault → Json
+refused_value index name fault =
+    object_of (opening (codes "refused") ++ ((codes "file", whole (index + 1)) ∷ (codes "name", word name) ∷ (codes "place", whole fault.place)
+    ∷ (codes "byte", whole fault.byte) ∷ (codes "reason", word (reason_name fault.reason)) ∷ []))
+
+-- a refused manifest: `{..,"result":"refused","place":2,"reason":"BadRole"}`
+abbrev pub refused_manifest_value : ℕ → Reason → Json
+refused_manifest_value place reason = object_of (opening (codes "refused") ++ ((codes "place", whole place) ∷ (codes "reason", word (reason_name reason)) ∷ []))
+
+-- a file that cannot be read: `{..,"result":"device","file":2,"name":"pth"}`
+abbrev pub device_value : ℕ → List ℕ → Json
+device_value index name = object_of (opening (codes "device") ++ ((codes "file", whole (index + 1)) ∷ (codes "name", word name) ∷ []))
+
+-- a manifest that cannot be read: `{"format":"ringcheck","version":1,"result":"device"}`
+abbrev pub manifest_device_value : Json
+manifest_device_value = object_of (opening (codes "device"))
+
+-- the first members of an object about the file of waivers: `"format":"ringcheck","version":1,"result":"refused","waivers":true`
+abbrev pub waivers_opening : List ℕ → List (List ℕ × Json)
+waivers_opening result = opening result ++ (codes "waivers", boolean true) ∷ []
+
+-- a refused file of waivers: `{..,"result":"refused","waivers":true,"place":2,"reason":"EmptyName"}`
+abbrev pub refused_waivers_value : ℕ → Reason → Json
+refused_waivers_value place reason = object_of (waivers_opening (codes "refused") ++ ((codes "place", whole place) ∷ (codes "reason", word (reason_name reason)) ∷ []))
+
+-- a file of waivers that cannot be read: `{"format":"ringcheck","version":1,"result":"device","waivers":true}`
+abbrev pub waivers_device_value : Json
+waivers_device_value = object_of (waivers_opening (codes "device"))
+
+-- the object of a refusal, or of something that cannot be read
+abbrev pub input_error_value : InputError → Json
+input_error_value (stops.RefusedManifest place reason) = refused_manifest_value place reason
+input_error_value (stops.Refused index name fault) = refused_value index name.now fault
+input_error_value stops.ManifestDevice = manifest_device_value
+input_error_value (stops.Device index name) = device_value index name.now
+input_error_value (stops.RefusedWaivers place reason) = refused_waivers_value place reason
+input_error_value stops.WaiversDevice = waivers_device_value

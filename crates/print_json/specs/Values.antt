@@ -1,0 +1,205 @@
+-- Values of JSON, from the smallest up (docs/FORMATS.md, JSON). Lengths are whole pm. JSON numbers files and holes from 1, definitions
+-- number files from 0.
+use Rattle.std.specs.Prelude.{ℕ, ℤ, pos, ◌+◌, ◌-◌, ◌*◌, ◌++◌, Bool, List, [], ◌∷◌, codes, decimal, drop, Option, Some, None, option_map, slice_get, if◌then◌else◌}
+use Rattle.std.specs.Borrow.{Bor}
+use Rattle.std.specs.Fmt.{signed_decimal}
+use Rattle.json.specs.Json.{Json, null, number, string, array, object, Items, no_items, item, Members, no_members, member}
+use Rattle.json.specs.Print.{print}
+use Rattle.json.specs.Tree.{json_tokens}
+use Rattle.grid_units.specs.Holes.{GridHole, GridRules}
+use Rattle.grid_units.specs.Points.{GridPoint}
+use Rattle.layer_image.specs.declared.flash.Why.{Why}
+use Rattle.layer_image.specs.declared.flash.Why.TheVariants as why
+use Rattle.margins.specs.declared.met.Met.{Met}
+use Rattle.margins.specs.declared.met.Met.TheVariants as mets
+use Rattle.print_text.specs.MeasureLines.{factor_word}
+use Rattle.report.specs.declared.GapLine.{GapLine}
+use Rattle.report.specs.declared.HolePlace.{HolePlace}
+use Rattle.report.specs.declared.Meets.{Meets}
+use Rattle.report.specs.declared.RingLine.{RingLine}
+use Rattle.report.specs.declared.UnitMistake.{UnitMistake}
+use Rattle.board_report.specs.Rows.{holes_before}
+use Rattle.package_check.specs.declared.FileSum.{FileSum}
+use Rattle.package_check.specs.declared.FileSum.TheVariants as sums
+use Rattle.report.specs.declared.GapLack.{GapLack}
+use Rattle.report.specs.declared.HoleAt.{HoleAt}
+use Rattle.report.specs.declared.LayerHead.{LayerHead}
+use Rattle.report.specs.declared.RingCause.{RingCause}
+use Rattle.report.specs.declared.RingCause.TheVariants as causes
+use Rattle.report.specs.declared.RingLack.{RingLack}
+use Rattle.print_text.specs.Texts.{lack_of}
+use Rattle.ring_rules.specs.declared.finding.Drilled.{Drilled}
+use Rattle.grid_units.specs.Ascii as ascii
+
+-- the text of a value: one line with its line end
+abbrev pub json_text : Json → List ℕ
+json_text value = print (json_tokens value) ++ ascii.line_feed ∷ []
+
+-- the members of an object, as names with values, in order
+abbrev pub members_of : List (List ℕ × Json) → Members
+members_of [] = no_members
+members_of (one ∷ rest) = member one.0 one.1 (members_of rest)
+
+-- an object of these members
+abbrev pub object_of : List (List ℕ × Json) → Json
+object_of all = object (members_of all)
+
+-- the items of an array, in order
+abbrev pub items_of : List Json → Items
+items_of [] = no_items
+items_of (one ∷ rest) = item one (items_of rest)
+
+-- an array of these values
+abbrev pub array_of : List Json → Json
+array_of all = array (items_of all)
+
+-- a natural number: `12`
+abbrev pub whole : ℕ → Json
+whole n = number (decimal n)
+
+-- a length in pm, with a minus below 0: `-400000000`
+abbrev pub picometres : ℤ → Json
+picometres length = number (signed_decimal length)
+
+-- a word, as a string: `"ringcheck"`
+abbrev pub word : List ℕ → Json
+word letters = string letters
+
+-- an optional value: null where it is missing, which differs from 0
+abbrev pub or_null : {A : Type 0} → (A → Json) → Option A → Json
+or_null value None = null
+or_null value (Some there) = value there
+
+-- the greatest rule that is met: a length, `"any"` where every rule is met, or `"none"`
+abbrev pub met_value : Met → Json
+met_value mets.Any = word (codes "any")
+met_value (mets.UpTo length) = picometres length
+met_value mets.None = word (codes "none")
+
+-- the rules that a package meets: `{"ring_pm":"none","gap_pm":1046051224,"held_pm":275000000}`
+unfoldable pub meets_value : Meets → Json
+meets_value meets =
+    object_of ((codes "ring_pm", met_value meets.ring) ∷ (codes "gap_pm", met_value meets.gap) ∷ (codes "held_pm", met_value meets.in_pads) ∷ [])
+
+-- the rules of a check: `{"ring_pm":100000000,"gap_pm":250000000}`
+unfoldable pub rules_value : GridRules → Json
+rules_value rules = object_of ((codes "ring_pm", picometres (pos rules.ring)) ∷ (codes "gap_pm", picometres (pos rules.gap)) ∷ [])
+
+-- a point: `[142240000000,-97790000000]`
+unfoldable pub point_value : GridPoint → Json
+point_value at = array_of (picometres at.x ∷ picometres at.y ∷ [])
+
+-- the diameter of a hole: twice its radius
+unfoldable pub diameter_of : GridHole → ℕ
+diameter_of hole = 2 * hole.radius
+
+-- a hole: `{"drill":2,"hole":1,"from_pm":[0,0],"to_pm":[0,0],"diameter_pm":400000000}`
+unfoldable pub hole_value : HoleAt → Json
+hole_value at =
+    object_of ((codes "drill", whole (at.drill + 1)) ∷ (codes "hole", whole at.number) ∷ (codes "from_pm", point_value at.hole.from)
+    ∷ (codes "to_pm", point_value at.hole.to) ∷ (codes "diameter_pm", picometres (pos (diameter_of at.hole))) ∷ [])
+
+-- the role of a drill file: `plated` or `unplated`
+abbrev pub drill_role : Bool → List ℕ
+drill_role plated = if plated then codes "plated" else codes "unplated"
+
+-- a copper file, by its number: `{"number":1,"role":"copper","name":"top","pads":1,"other":0}`
+unfoldable pub layer_value : ℕ → List ℕ → ℕ → ℕ → Json
+layer_value n name pads other =
+    object_of ((codes "number", whole n) ∷ (codes "role", word (codes "copper")) ∷ (codes "name", word name) ∷ (codes "pads", whole pads) ∷ (codes "other", whole other) ∷ [])
+
+-- a drill file, by its number: `{"number":2,"role":"plated","name":"pth","round":1,"slots":0}`
+unfoldable pub drill_value : ℕ → List ℕ → Bool → ℕ → ℕ → Json
+drill_value n name plated round slots =
+    object_of ((codes "number", whole n) ∷ (codes "role", word (drill_role plated)) ∷ (codes "name", word name) ∷ (codes "round", whole round) ∷ (codes "slots", whole slots) ∷ [])
+
+-- a file of either kind, by its number
+abbrev pub file_value : ℕ → List ℕ → FileSum → Json
+file_value n name (sums.Layer pads other) = layer_value n name pads other
+file_value n name (sums.Drill plated span round slots) = drill_value n name plated round slots
+
+-- a drill file whose coordinates seem to be off by a factor: `{"drill":2,"bare":3,"factor":"25.4","then":0}`
+unfoldable pub scale_value : UnitMistake → Json
+scale_value line =
+    object_of ((codes "drill", whole (line.drill + 1)) ∷ (codes "bare", whole line.bare) ∷ (codes "factor", word (factor_word line.factor)) ∷ (codes "then", whole line.then) ∷ [])
+
+-- the word for the reason why a flash is no pad
+abbrev pub reason_word : Why → List ℕ
+reason_word why.Macro = codes "macro"
+reason_word why.Polygon = codes "polygon"
+reason_word why.Holed = codes "holed"
+reason_word why.Scaled = codes "scaled"
+reason_word why.Turned = codes "turned"
+
+-- the word for the reason why a hole lacks its ring
+abbrev pub cause_word : RingCause → List ℕ
+cause_word (causes.TooSmall place) = codes "small"
+cause_word (causes.OffCentre place) = codes "off"
+cause_word (causes.Other why flash) = reason_word why
+cause_word causes.NoFlash = codes "none"
+cause_word causes.Oblique = codes "oblique"
+
+-- the ring of a hole in its best pad; nothing where it has none or is an oblique slot
+abbrev pub ring_of : RingCause → Option ℤ
+ring_of (causes.TooSmall place) = Some place.ring
+ring_of (causes.OffCentre place) = Some place.ring
+ring_of (causes.Other why flash) = None
+ring_of causes.NoFlash = None
+ring_of causes.Oblique = None
+
+-- the number of the flash of a hole: that of its best pad, or of the flash that is no pad
+abbrev pub flash_of : RingCause → Option ℕ
+flash_of (causes.TooSmall place) = Some place.flash
+flash_of (causes.OffCentre place) = Some place.flash
+flash_of (causes.Other why flash) = Some flash
+flash_of causes.NoFlash = None
+flash_of causes.Oblique = None
+
+-- the number of a layer's file, by the layer's place among the copper files
+abbrev pub layer_number : List LayerHead → ℕ → Option ℕ
+layer_number layers layer = option_map (λ head. head.file + 1) (slice_get layers layer)
+
+-- the reason why a finding is accepted; null where it is not
+abbrev pub acceptance_value : Option (Bor (List ℕ)) → Json
+acceptance_value why = or_null (λ there. word there.now) why
+
+-- an insufficient ring: `{"kind":"ring","layer":1,"at":{..},"has_pm":124999000,"lacks_pm":1000,"cause":"off","flash":1,"waived":"drawn so"}`
+unfoldable pub ring_value : List LayerHead → RingLack → Option (Bor (List ℕ)) → Json
+ring_value layers lack why =
+    object_of ((codes "kind", word (codes "ring")) ∷ (codes "layer", or_null whole (layer_number layers lack.layer)) ∷ (codes "at", hole_value lack.at)
+    ∷ (codes "has_pm", or_null picometres (ring_of lack.cause)) ∷ (codes "lacks_pm", or_null picometres (lack_of lack.cause)) ∷ (codes "cause", word (cause_word lack.cause))
+    ∷ (codes "flash", or_null whole (flash_of lack.cause)) ∷ (codes "waived", acceptance_value why) ∷ [])
+
+-- an insufficient gap: `{"kind":"gap","at":{..},"and":{..},"has_pm":382301708,"lacks_pm":17698292,"waived":null}`
+unfoldable pub gap_value : GapLack → Option (Bor (List ℕ)) → Json
+gap_value lack why =
+    object_of ((codes "kind", word (codes "gap")) ∷ (codes "at", hole_value lack.first) ∷ (codes "and", hole_value lack.second) ∷ (codes "has_pm", picometres lack.gap)
+    ∷ (codes "lacks_pm", picometres lack.lack) ∷ (codes "waived", acceptance_value why) ∷ [])
+
+-- the least ring of a row; nothing where all its holes are bare
+abbrev pub least_ring : RingLine → Option ℤ
+least_ring line = option_map (λ least. least.ring) line.least
+
+-- the number of the first hole with the least ring
+abbrev pub least_hole : RingLine → Option ℕ
+least_hole line = option_map (λ least. least.hole) line.least
+
+-- a row of rings: `{"layer":1,"drill":2,"diameter_pm":400000000,"holes":1,"bare":0,"least_pm":125000000,"hole":1}`
+unfoldable pub row_value : RingLine → Json
+row_value line =
+    object_of ((codes "layer", whole (line.layer + 1)) ∷ (codes "drill", whole (line.drill + 1)) ∷ (codes "diameter_pm", picometres line.diameter) ∷ (codes "holes", whole line.holes)
+    ∷ (codes "bare", whole line.bare) ∷ (codes "least_pm", or_null picometres (least_ring line)) ∷ (codes "hole", or_null whole (least_hole line)) ∷ [])
+
+-- the hole of a number, from 1, in a drill file, in the list of all holes: after those of the files before
+abbrev pub hole_at_place : List FileSum → List Drilled → HolePlace → Option Drilled
+hole_at_place files holes place = slice_get (drop (holes_before files place.drill) holes) (place.hole - 1)
+
+-- a hole by its file and its number there; null where there is no such hole
+abbrev pub place_value : List FileSum → List Drilled → HolePlace → Json
+place_value files holes place =
+    or_null (λ drilled. hole_value (record { drill = place.drill; number = place.hole; hole = drilled.hole })) (hole_at_place files holes place)
+
+-- the least gap, with the first two holes that have it: `{"least_pm":382301708,"at":{..},"and":{..}}`
+unfoldable pub least_gap_value : List FileSum → List Drilled → GapLine → Json
+least_gap_value files holes line =
+    object_of ((codes "least_pm", picometres line.gap) ∷ (codes "at", place_value files holes line.first) ∷ (codes "and", place_value files holes line.second) ∷ [])

@@ -1,0 +1,192 @@
+//! What is printed of a thing holds numbers of RFC 8259 alone. These functions do nothing but give their clauses.
+
+ghost use Rattle.json.specs.Tree.{HasNumbers};
+ghost use Rattle.print_json.specs.Values.{file_value, flash_of, gap_value, hole_value, or_null, layer_number, least_hole, least_ring, meets_value, met_value, picometres, point_value, ring_of, ring_value, row_value, rules_value, scale_value, whole};
+ghost use Rattle.print_text.specs.Texts.{lack_of};
+
+use crate::findings::{GapJson, RingJson};
+use crate::values::{FileJson, diameter};
+use grid_units::{Point, Rules};
+use package_check::FileSum;
+use print_text::lack_of;
+use report::{HoleAt, LayerHead, Meets, Met, RingCause, RingLine, UnitMistake};
+
+/// A natural number.
+#[tactic(auto, using(crate::proofs::Numerals::decimal_number))]
+pub(crate) fn whole_number(number: u128)
+    ensures { HasNumbers (whole number) }
+{}
+
+/// A length in pm.
+#[tactic(auto, using(crate::proofs::Numerals::length_number))]
+pub(crate) fn length_number(pm: i64)
+    ensures { HasNumbers (picometres pm) }
+{}
+
+/// A rule that is met.
+fn met_numbers(met: Met)
+    ensures { HasNumbers (met_value met) }
+{
+    match met {
+        Met::Any | Met::None => {}
+        Met::UpTo(length) => length_number(length),
+    }
+}
+
+/// The rules that a package meets.
+#[tactic(auto, unfolding(crate::specs::Values::meets_value))]
+pub(crate) fn meets_numbers(meets: Meets)
+    ensures { HasNumbers (meets_value meets) }
+{
+    met_numbers(meets.ring);
+    met_numbers(meets.gap);
+    met_numbers(meets.in_pads);
+}
+
+/// The rules of a check.
+#[tactic(auto, unfolding(crate::specs::Values::rules_value))]
+pub(crate) fn rules_numbers(rules: Rules)
+    ensures { HasNumbers (rules_value rules) }
+{
+    length_number(rules.ring());
+    length_number(rules.gap());
+}
+
+/// A point.
+#[tactic(auto, unfolding(crate::specs::Values::point_value))]
+fn point_numbers(at: Point)
+    ensures { HasNumbers (point_value at) }
+{
+    length_number(at.x());
+    length_number(at.y());
+}
+
+/// A hole.
+#[tactic(auto, unfolding(crate::specs::Values::hole_value))]
+pub(crate) fn hole_numbers(at: &HoleAt)
+    ensures { HasNumbers (hole_value at.now) }
+{
+    whole_number(at.drill as u128 + 1);
+    whole_number(at.number as u128);
+    point_numbers(at.hole.from());
+    point_numbers(at.hole.to());
+    length_number(diameter(&at.hole));
+}
+
+/// A file.
+#[tactic(auto, unfolding(crate::specs::Values::layer_value, crate::specs::Values::drill_value))]
+pub(crate) fn file_numbers(file: &FileJson)
+    ensures { HasNumbers (file_value file.now.number file.now.name.now file.now.sum) }
+{
+    whole_number(file.number);
+    match file.sum {
+        FileSum::Layer { pads, other } => {
+            whole_number(pads as u128);
+            whole_number(other as u128);
+        }
+        FileSum::Drill { round, slots, .. } => {
+            whole_number(round as u128);
+            whole_number(slots as u128);
+        }
+    }
+}
+
+/// A drill file whose coordinates seem to be off by a factor.
+#[tactic(auto, unfolding(crate::specs::Values::scale_value))]
+pub(crate) fn scale_numbers(line: &UnitMistake)
+    ensures { HasNumbers (scale_value line.now) }
+{
+    whole_number(line.drill as u128 + 1);
+    whole_number(line.bare as u128);
+    whole_number(line.then as u128);
+}
+
+/// The least ring of a row, and the number of its hole.
+fn least_numbers(line: &RingLine)
+    ensures ring { HasNumbers (or_null picometres (least_ring line.now)) }
+    ensures hole { HasNumbers (or_null whole (least_hole line.now)) }
+{
+    if let Some(least) = line.least {
+        length_number(least.ring);
+        whole_number(least.hole as u128);
+    }
+}
+
+/// A row of rings.
+#[tactic(auto, unfolding(crate::specs::Values::row_value))]
+pub(crate) fn row_numbers(line: &RingLine)
+    ensures { HasNumbers (row_value line.now) }
+{
+    whole_number(line.layer as u128 + 1);
+    whole_number(line.drill as u128 + 1);
+    length_number(line.diameter);
+    whole_number(line.holes as u128);
+    whole_number(line.bare as u128);
+    least_numbers(line);
+}
+
+/// The number of a layer's file.
+fn layer_numbers(layers: &[LayerHead], layer: usize)
+    ensures { HasNumbers (or_null whole (layer_number layers.now layer)) }
+{
+    if let Some(head) = layers.get(layer) {
+        whole_number(head.file as u128 + 1);
+    }
+}
+
+/// The ring of a hole in its best pad.
+fn has_numbers(cause: &RingCause)
+    ensures { HasNumbers (or_null picometres (ring_of cause.now)) }
+{
+    match cause {
+        RingCause::TooSmall(place) | RingCause::OffCentre(place) => length_number(place.ring),
+        RingCause::Other { .. } | RingCause::NoFlash | RingCause::Oblique => {}
+    }
+}
+
+/// By how much a ring is lacking.
+fn lacks_numbers(cause: &RingCause)
+    ensures { HasNumbers (or_null picometres (lack_of cause.now)) }
+{
+    if let Some(lack) = lack_of(cause) {
+        length_number(lack);
+    }
+}
+
+/// The number of the flash of a hole.
+fn flash_numbers(cause: &RingCause)
+    ensures { HasNumbers (or_null whole (flash_of cause.now)) }
+{
+    match cause {
+        RingCause::TooSmall(place) | RingCause::OffCentre(place) => whole_number(
+            place.flash as u128,
+        ),
+        RingCause::Other { flash, .. } => whole_number(*flash as u128),
+        RingCause::NoFlash | RingCause::Oblique => {}
+    }
+}
+
+/// An insufficient ring.
+#[tactic(auto, unfolding(crate::specs::Values::ring_value))]
+pub(crate) fn ring_numbers(ring: &RingJson)
+    ensures { HasNumbers (ring_value ring.now.layers.now ring.now.lack.now ring.now.why) }
+{
+    let lack = ring.lack;
+    layer_numbers(ring.layers, lack.layer);
+    hole_numbers(&lack.at);
+    has_numbers(&lack.cause);
+    lacks_numbers(&lack.cause);
+    flash_numbers(&lack.cause);
+}
+
+/// An insufficient gap.
+#[tactic(auto, unfolding(crate::specs::Values::gap_value))]
+pub(crate) fn gap_numbers(gap: &GapJson)
+    ensures { HasNumbers (gap_value gap.now.lack.now gap.now.why) }
+{
+    let lack = gap.lack;
+    hole_numbers(&lack.first);
+    hole_numbers(&lack.second);
+    length_number(lack.gap);
+    length_number(lack.lack);
+}

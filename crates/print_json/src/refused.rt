@@ -1,0 +1,139 @@
+//! The JSON of a refusal, and of a file that cannot be read.
+
+ghost use Rattle.std.specs.Prelude.{◌≡◌, Some};
+ghost use Rattle.json.specs.Json.{document};
+ghost use Rattle.json.specs.Print.{print};
+ghost use Rattle.json.specs.Tree.{json_tokens, HasNumbers};
+ghost use Rattle.print_json.specs.Inner.Texts.{value_text};
+ghost use Rattle.print_json.specs.Packages.{input_error_value};
+ghost use Rattle.print_json.specs.Values.{json_text};
+
+use crate::VERSION;
+use crate::numbers::whole_number;
+use crate::strings::Escaped;
+use grid_units::{Fault, Reason};
+use std::fmt;
+use std::fmt::{Display, Formatter};
+
+/// Why there is neither a report nor a measure.
+#[derive(Clone, Copy, Debug, PartialEq, Eq)]
+pub enum InputError<'a> {
+    /// The manifest is refused.
+    RefusedManifest {
+        /// The number of its record, from 1; 0 where it is refused as a whole.
+        place: u64,
+        /// The reason of the refusal.
+        reason: Reason,
+    },
+    /// A file is refused.
+    Refused {
+        /// Its index in the package, from 0.
+        index: usize,
+        /// Its name in the manifest.
+        name: &'a str,
+        /// The place, the byte and the reason of the refusal.
+        fault: Fault,
+    },
+    /// The manifest cannot be read.
+    ManifestDevice,
+    /// A file cannot be read.
+    Device {
+        /// Its index in the package, from 0.
+        index: usize,
+        /// Its name in the manifest.
+        name: &'a str,
+    },
+    /// The file of waivers is refused.
+    RefusedWaivers {
+        /// The number of its record, from 1; 0 where it is refused as a whole.
+        place: u64,
+        /// The reason of the refusal.
+        reason: Reason,
+    },
+    /// The file of waivers cannot be read.
+    WaiversDevice,
+}
+
+/// The object of a refusal, or of a file that cannot be read.
+#[derive(Clone, Copy)]
+struct StopJson<'a>(&'a InputError<'a>);
+
+impl Display for StopJson<'_> {
+    ghost output = { λ json. Some (value_text (input_error_value json.0.now)) };
+
+    #[tactic(auto, unfolding(json::specs::Print::escape_byte))]
+    fn fmt<W: fmt::Write>(&self, f: &mut Formatter<W>) -> fmt::Result {
+        match self.0 {
+            InputError::RefusedManifest { place, reason } => write!(
+                f,
+                r#"{{"format":"ringcheck","version":{VERSION},"result":"refused","place":{place},"reason":"{}"}}"#,
+                Escaped(reason.name())
+            ),
+            InputError::Refused { index, name, fault } => write!(
+                f,
+                r#"{{"format":"ringcheck","version":{VERSION},"result":"refused","file":{},"name":"{}","place":{},"byte":{},"reason":"{}"}}"#,
+                *index as u128 + 1,
+                Escaped(name),
+                fault.place,
+                fault.byte,
+                Escaped(fault.reason.name())
+            ),
+            InputError::ManifestDevice => write!(
+                f,
+                r#"{{"format":"ringcheck","version":{VERSION},"result":"device"}}"#
+            ),
+            InputError::Device { index, name } => write!(
+                f,
+                r#"{{"format":"ringcheck","version":{VERSION},"result":"device","file":{},"name":"{}"}}"#,
+                *index as u128 + 1,
+                Escaped(name)
+            ),
+            InputError::RefusedWaivers { place, reason } => write!(
+                f,
+                r#"{{"format":"ringcheck","version":{VERSION},"result":"refused","waivers":true,"place":{place},"reason":"{}"}}"#,
+                Escaped(reason.name())
+            ),
+            InputError::WaiversDevice => write!(
+                f,
+                r#"{{"format":"ringcheck","version":{VERSION},"result":"device","waivers":true}}"#
+            ),
+        }
+    }
+}
+
+impl Display for InputError<'_> {
+    ghost output = { λ stop. Some (json_text (input_error_value stop)) };
+
+    fn fmt<W: fmt::Write>(&self, f: &mut Formatter<W>) -> fmt::Result {
+        write!(f, "{}\n", StopJson(self))
+    }
+}
+
+/// Each number in the text is one of RFC 8259.
+fn stop_numbers(stop: &InputError)
+    ensures { HasNumbers (input_error_value stop.now) }
+{
+    whole_number(u128::from(VERSION));
+    match stop {
+        InputError::RefusedManifest { place, .. } | InputError::RefusedWaivers { place, .. } => {
+            whole_number(u128::from(*place));
+        }
+        InputError::Refused { index, fault, .. } => {
+            whole_number(*index as u128 + 1);
+            whole_number(u128::from(fault.place));
+            whole_number(u128::from(fault.byte));
+        }
+        InputError::Device { index, .. } => whole_number(*index as u128 + 1),
+        InputError::ManifestDevice | InputError::WaiversDevice => {}
+    }
+}
+
+impl InputError<'_> {
+    /// Before its line end the printed text is a document of RFC 8259, and its value is just the defined one, whatever the name is. A call
+    /// does nothing but give this clause.
+    pub fn reads_back(&self)
+        ensures { document (print (json_tokens (input_error_value self.now))) ≡ Some (input_error_value self.now) }
+    {
+        stop_numbers(self);
+    }
+}

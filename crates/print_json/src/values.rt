@@ -1,0 +1,215 @@
+//! The values of holes, files, scales and rows.
+
+ghost use Rattle.std.specs.Prelude.{◌≡◌, pos, Some, option_map};
+ghost use Rattle.print_json.specs.Inner.Texts.{value_text};
+ghost use Rattle.print_json.specs.Values.{diameter_of, drill_role, file_value, hole_value, or_null, meets_value, met_value, picometres, point_value, row_value, rules_value, scale_value, whole};
+
+use crate::strings::Escaped;
+use grid_units::{Hole, Point, Rules};
+use package_check::FileSum;
+use print_text::factor_word;
+use report::{HoleAt, LeastRing, Meets, Met, RingLine, UnitMistake};
+use std::fmt;
+use std::fmt::{Display, Formatter};
+
+/// The greatest rule that is met: a length, `"any"` or `"none"`.
+#[derive(Clone, Copy)]
+struct MetJson(Met);
+
+impl Display for MetJson {
+    ghost output = { λ json. Some (value_text (met_value json.0)) };
+
+    #[tactic(auto, unfolding(json::specs::Print::escape_byte))]
+    fn fmt<W: fmt::Write>(&self, f: &mut Formatter<W>) -> fmt::Result {
+        match self.0 {
+            Met::Any => f.write_str(r#""any""#),
+            Met::UpTo(length) => write!(f, "{length}"),
+            Met::None => f.write_str(r#""none""#),
+        }
+    }
+}
+
+/// The rules that a package meets: `{"ring_pm":"none","gap_pm":1046051224,"held_pm":275000000}`.
+#[derive(Clone, Copy)]
+pub(crate) struct MeetsJson(pub(crate) Meets);
+
+impl Display for MeetsJson {
+    ghost output = { λ json. Some (value_text (meets_value json.0)) };
+
+    #[tactic(auto, unfolding(crate::specs::Values::meets_value, json::specs::Print::escape_byte))]
+    fn fmt<W: fmt::Write>(&self, f: &mut Formatter<W>) -> fmt::Result {
+        let ring = MetJson(self.0.ring);
+        let gap = MetJson(self.0.gap);
+        let held = MetJson(self.0.in_pads);
+        write!(f, r#"{{"ring_pm":{ring},"gap_pm":{gap},"held_pm":{held}}}"#)
+    }
+}
+
+/// The rules of a check: `{"ring_pm":100000000,"gap_pm":250000000}`.
+#[derive(Clone, Copy)]
+pub(crate) struct RulesJson(pub(crate) Rules);
+
+impl Display for RulesJson {
+    ghost output = { λ json. Some (value_text (rules_value json.0)) };
+
+    #[tactic(auto, unfolding(crate::specs::Values::rules_value, json::specs::Print::escape_byte))]
+    fn fmt<W: fmt::Write>(&self, f: &mut Formatter<W>) -> fmt::Result {
+        let (ring, gap) = (self.0.ring(), self.0.gap());
+        write!(f, r#"{{"ring_pm":{ring},"gap_pm":{gap}}}"#)
+    }
+}
+
+/// A point: `[142240000000,-97790000000]`.
+#[derive(Clone, Copy)]
+struct PointJson(Point);
+
+impl Display for PointJson {
+    ghost output = { λ json. Some (value_text (point_value json.0)) };
+
+    #[tactic(auto, unfolding(crate::specs::Values::point_value))]
+    fn fmt<W: fmt::Write>(&self, f: &mut Formatter<W>) -> fmt::Result {
+        let (x, y) = (self.0.x(), self.0.y());
+        write!(f, "[{x},{y}]")
+    }
+}
+
+/// The diameter of a hole in pm.
+#[tactic(auto, unfolding(crate::specs::Values::diameter_of))]
+pub(crate) fn diameter(hole: &Hole) -> i64
+    ensures { result ≡ pos (diameter_of hole.now) }
+{
+    2 * hole.radius()
+}
+
+/// A hole: `{"drill":2,"hole":1,"from_pm":[0,0],"to_pm":[0,0],"diameter_pm":400000000}`.
+#[derive(Clone, Copy)]
+pub(crate) struct HoleJson<'a>(pub(crate) &'a HoleAt);
+
+impl Display for HoleJson<'_> {
+    ghost output = { λ json. Some (value_text (hole_value json.0.now)) };
+
+    #[tactic(auto, unfolding(crate::specs::Values::hole_value, json::specs::Print::escape_byte))]
+    fn fmt<W: fmt::Write>(&self, f: &mut Formatter<W>) -> fmt::Result {
+        let hole = &self.0.hole;
+        let (drill, number) = (self.0.drill as u128 + 1, self.0.number);
+        let (from, to) = (PointJson(hole.from()), PointJson(hole.to()));
+        let diameter = diameter(hole);
+        write!(
+            f,
+            r#"{{"drill":{drill},"hole":{number},"from_pm":{from},"to_pm":{to},"diameter_pm":{diameter}}}"#
+        )
+    }
+}
+
+/// The role of a drill file: `plated` or `unplated`.
+fn drill_role(plated: bool) -> &'static str
+    ensures { result.now ≡ drill_role plated }
+{
+    if plated { "plated" } else { "unplated" }
+}
+
+/// A file, by its number: `{"number":1,"role":"copper","name":"top","pads":1,"other":0}`,
+/// `{"number":2,"role":"plated","name":"pth","round":1,"slots":0}`.
+#[derive(Clone, Copy)]
+pub(crate) struct FileJson<'a> {
+    pub(crate) number: u128,
+    pub(crate) name: &'a str,
+    pub(crate) sum: FileSum,
+}
+
+impl Display for FileJson<'_> {
+    ghost output = { λ json. Some (value_text (file_value json.number json.name.now json.sum)) };
+
+    #[tactic(auto, unfolding(crate::specs::Values::layer_value, crate::specs::Values::drill_value, json::specs::Print::escape_byte))]
+    fn fmt<W: fmt::Write>(&self, f: &mut Formatter<W>) -> fmt::Result {
+        let (number, name) = (self.number, Escaped(self.name));
+        match self.sum {
+            FileSum::Layer { pads, other } => write!(
+                f,
+                r#"{{"number":{number},"role":"copper","name":"{name}","pads":{pads},"other":{other}}}"#
+            ),
+            FileSum::Drill {
+                plated,
+                round,
+                slots,
+                ..
+            } => {
+                let role = Escaped(drill_role(plated));
+                write!(
+                    f,
+                    r#"{{"number":{number},"role":"{role}","name":"{name}","round":{round},"slots":{slots}}}"#
+                )
+            }
+        }
+    }
+}
+
+/// A drill file whose coordinates seem to be off by a factor: `{"drill":2,"bare":3,"factor":"25.4","then":0}`.
+#[derive(Clone, Copy)]
+pub(crate) struct ScaleJson<'a>(pub(crate) &'a UnitMistake);
+
+impl Display for ScaleJson<'_> {
+    ghost output = { λ json. Some (value_text (scale_value json.0.now)) };
+
+    #[tactic(auto, unfolding(crate::specs::Values::scale_value, json::specs::Print::escape_byte))]
+    fn fmt<W: fmt::Write>(&self, f: &mut Formatter<W>) -> fmt::Result {
+        let line = self.0;
+        let (drill, bare, then) = (line.drill as u128 + 1, line.bare, line.then);
+        let factor = Escaped(factor_word(line.factor));
+        write!(
+            f,
+            r#"{{"drill":{drill},"bare":{bare},"factor":"{factor}","then":{then}}}"#
+        )
+    }
+}
+
+/// The least ring of a row, or null.
+#[derive(Clone, Copy)]
+struct LeastJson(Option<LeastRing>);
+
+impl Display for LeastJson {
+    ghost output = { λ json. Some (value_text (or_null picometres (option_map (λ least. least.ring) json.0))) };
+
+    fn fmt<W: fmt::Write>(&self, f: &mut Formatter<W>) -> fmt::Result {
+        match self.0 {
+            Some(least) => write!(f, "{}", least.ring),
+            None => f.write_str("null"),
+        }
+    }
+}
+
+/// The number of the first hole with the least ring, or null.
+#[derive(Clone, Copy)]
+struct LeastHoleJson(Option<LeastRing>);
+
+impl Display for LeastHoleJson {
+    ghost output = { λ json. Some (value_text (or_null whole (option_map (λ least. least.hole) json.0))) };
+
+    fn fmt<W: fmt::Write>(&self, f: &mut Formatter<W>) -> fmt::Result {
+        match self.0 {
+            Some(least) => write!(f, "{}", least.hole),
+            None => f.write_str("null"),
+        }
+    }
+}
+
+/// A row of rings: `{"layer":1,"drill":2,"diameter_pm":400000000,"holes":1,"bare":0,"least_pm":125000000,"hole":1}`.
+#[derive(Clone, Copy)]
+pub(crate) struct RowJson<'a>(pub(crate) &'a RingLine);
+
+impl Display for RowJson<'_> {
+    ghost output = { λ json. Some (value_text (row_value json.0.now)) };
+
+    #[tactic(auto, unfolding(crate::specs::Values::row_value, json::specs::Print::escape_byte))]
+    fn fmt<W: fmt::Write>(&self, f: &mut Formatter<W>) -> fmt::Result {
+        let line = self.0;
+        let (layer, drill) = (line.layer as u128 + 1, line.drill as u128 + 1);
+        let (holes, bare) = (line.holes, line.bare);
+        let (least, hole) = (LeastJson(line.least), LeastHoleJson(line.least));
+        write!(
+            f,
+            r#"{{"layer":{layer},"drill":{drill},"diameter_pm":{},"holes":{holes},"bare":{bare},"least_pm":{least},"hole":{hole}}}"#,
+            line.diameter
+        )
+    }
+}

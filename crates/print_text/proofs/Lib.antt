@@ -1,0 +1,3 @@
+pub mod LackRange
+pub mod Showing
+pub mod RunLemmas

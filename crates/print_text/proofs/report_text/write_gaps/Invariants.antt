@@ -1,0 +1,9 @@
+use Rattle.std.proofs.Common.{map, take}
+use Rattle.std.specs.Fmt.{HasWritten, IsPlainFormatter}
+use Rattle.std.specs.List.{enumerate_from}
+use Rattle.print_text.specs.Inner.{gap_lines}
+use Rattle.print_text.proofs.report_text.write_gaps.Given as goal
+
+abbrev pub invariant-loop-i : goal.invariant-loop-i
+invariant-loop-i g l =
+    IsPlainFormatter l.initial.f → HasWritten g.W.Write.write_str_gives l.initial.f (gap_lines (map (λ name. name.now) l.text.names.now) l.text.accepted.now l.text.limit l.text.rings (take l.i (enumerate_from l.text.rings l.text.gaps.now))) l.f

@@ -1,0 +1,9 @@
+use Rattle.std.proofs.Common.{◌≡◌, length}
+use Rattle.print_text.specs.Inner.{AreRuns}
+use Rattle.print_text.proofs.runs.empty_runs.Given as goal
+
+abbrev pub invariant-loop-layer : goal.invariant-loop-layer
+invariant-loop-layer l = record {
+  long : length l.runs.items ≡ l.layer;
+  empty : AreRuns l.rings 0 l.runs.items;
+}

@@ -1,0 +1,69 @@
+-- The kinds of causes why holes lack their rings, and their words (docs/FORMATS.md, Report for people).
+use Rattle.std.specs.Prelude.{◌==◌, ℕ, Bool, List, [], ◌∷◌, codes}
+use Rattle.layer_image.specs.declared.flash.Why.{Why}
+use Rattle.layer_image.specs.declared.flash.Why.TheVariants as why
+use Rattle.report.specs.declared.RingCause.{RingCause}
+use Rattle.report.specs.declared.RingCause.TheVariants as causes
+use Rattle.print_text.specs.declared.kind.CauseKind.{CauseKind}
+use Rattle.print_text.specs.declared.kind.CauseKind.TheVariants as kinds
+
+-- the kind of a flash that is no pad
+abbrev pub flash_kind : Why → CauseKind
+flash_kind why.Macro = kinds.Macro
+flash_kind why.Polygon = kinds.Polygon
+flash_kind why.Holed = kinds.Holed
+flash_kind why.Scaled = kinds.Scaled
+flash_kind why.Turned = kinds.Turned
+
+-- the kind of a cause
+abbrev pub kind_of : RingCause → CauseKind
+kind_of (causes.TooSmall place) = kinds.TooSmall
+kind_of (causes.OffCentre place) = kinds.OffCentre
+kind_of (causes.Other why flash) = flash_kind why
+kind_of causes.NoFlash = kinds.Bare
+kind_of causes.Oblique = kinds.Oblique
+
+-- the kinds, in the order in which a report counts them
+abbrev pub all_kinds : List CauseKind
+all_kinds =
+    kinds.TooSmall ∷ kinds.OffCentre ∷ kinds.Macro ∷ kinds.Polygon ∷ kinds.Holed ∷ kinds.Scaled ∷ kinds.Turned ∷ kinds.Bare ∷ kinds.Oblique ∷ []
+
+-- the place of a kind in that order, from 0
+abbrev pub place_of : CauseKind → ℕ
+place_of kinds.TooSmall = 0
+place_of kinds.OffCentre = 1
+place_of kinds.Macro = 2
+place_of kinds.Polygon = 3
+place_of kinds.Holed = 4
+place_of kinds.Scaled = 5
+place_of kinds.Turned = 6
+place_of kinds.Bare = 7
+place_of kinds.Oblique = 8
+
+-- a cause is of a kind
+abbrev pub is_of_kind : CauseKind → RingCause → Bool
+is_of_kind kind cause = place_of (kind_of cause) == place_of kind
+
+-- the words for a kind, as in a line of a hole
+abbrev pub kind_words : CauseKind → List ℕ
+kind_words kinds.TooSmall = codes "pad too small"
+kind_words kinds.OffCentre = codes "off centre"
+kind_words kinds.Macro = codes "only a macro flash"
+kind_words kinds.Polygon = codes "only a polygon flash"
+kind_words kinds.Holed = codes "only a holed flash"
+kind_words kinds.Scaled = codes "only a scaled flash"
+kind_words kinds.Turned = codes "only a turned flash"
+kind_words kinds.Bare = codes "no pad"
+kind_words kinds.Oblique = codes "oblique slot"
+
+-- the hint that a report prints for a kind
+abbrev pub hint : CauseKind → List ℕ
+hint kinds.TooSmall = codes "the pad's own radius or half side is less than the hole's radius and the ring"
+hint kinds.OffCentre = codes "the pad is large enough for a hole at its centre; drill files are rounded: see `ringcheck explain ring`"
+hint kinds.Macro = codes "flashes by a macro are not judged: choose circle, oval or rectangle: see `ringcheck explain macro`"
+hint kinds.Polygon = codes "polygon flashes are not judged"
+hint kinds.Holed = codes "flashes with a hole are not judged"
+hint kinds.Scaled = codes "scaled flashes are not judged"
+hint kinds.Turned = codes "flashes turned by other than quarters are not judged"
+hint kinds.Bare = codes "no pad reaches the hole's centre: removed or painted pad, plane, other origin or format: see `ringcheck explain none`"
+hint kinds.Oblique = codes "plated slots that lie along no axis are not judged"

@@ -1,0 +1,4 @@
+pub mod Causes
+pub mod Inner
+pub mod Texts
+pub mod MeasureLines

@@ -1,0 +1,109 @@
+//! The kinds of causes, in the order in which a report counts them.
+
+ghost use Rattle.std.specs.Prelude.{◌≡◌};
+ghost use Rattle.print_text.specs.Causes.{flash_kind, hint, is_of_kind, kind_of, kind_words};
+
+use layer_image::Why;
+use report::RingCause;
+
+/// The kind of a cause, by which a report counts causes.
+#[derive(Clone, Copy, Debug, PartialEq, Eq)]
+pub(crate) enum CauseKind {
+    TooSmall,
+    OffCentre,
+    Macro,
+    Polygon,
+    Holed,
+    Scaled,
+    Turned,
+    Bare,
+    Oblique,
+}
+
+/// The kinds, in the order in which a report counts them.
+pub(crate) const CAUSE_KINDS: [CauseKind; 9] = [
+    CauseKind::TooSmall,
+    CauseKind::OffCentre,
+    CauseKind::Macro,
+    CauseKind::Polygon,
+    CauseKind::Holed,
+    CauseKind::Scaled,
+    CauseKind::Turned,
+    CauseKind::Bare,
+    CauseKind::Oblique,
+];
+
+/// The kind of a flash that is no pad.
+pub(crate) fn flash_kind(why: Why) -> CauseKind
+    ensures { result ≡ flash_kind why }
+{
+    match why {
+        Why::Macro => CauseKind::Macro,
+        Why::Polygon => CauseKind::Polygon,
+        Why::Holed => CauseKind::Holed,
+        Why::Scaled => CauseKind::Scaled,
+        Why::Turned => CauseKind::Turned,
+    }
+}
+
+/// The kind of a cause.
+fn kind_of(cause: &RingCause) -> CauseKind
+    ensures { result ≡ kind_of cause.now }
+{
+    match cause {
+        RingCause::TooSmall(_) => CauseKind::TooSmall,
+        RingCause::OffCentre(_) => CauseKind::OffCentre,
+        RingCause::Other { why, flash: _ } => flash_kind(*why),
+        RingCause::NoFlash => CauseKind::Bare,
+        RingCause::Oblique => CauseKind::Oblique,
+    }
+}
+
+/// Whether a cause is of a kind.
+pub(crate) fn is_of_kind(kind: CauseKind, cause: &RingCause) -> bool
+    ensures { result ≡ is_of_kind kind cause.now }
+{
+    kind_of(cause) == kind
+}
+
+/// The words for a kind, as in a line of a hole.
+pub(crate) fn kind_words(kind: CauseKind) -> &'static str
+    ensures { result.now ≡ kind_words kind }
+{
+    match kind {
+        CauseKind::TooSmall => "pad too small",
+        CauseKind::OffCentre => "off centre",
+        CauseKind::Macro => "only a macro flash",
+        CauseKind::Polygon => "only a polygon flash",
+        CauseKind::Holed => "only a holed flash",
+        CauseKind::Scaled => "only a scaled flash",
+        CauseKind::Turned => "only a turned flash",
+        CauseKind::Bare => "no pad",
+        CauseKind::Oblique => "oblique slot",
+    }
+}
+
+/// The hint that a report prints for a kind.
+pub(crate) fn hint(kind: CauseKind) -> &'static str
+    ensures { result.now ≡ hint kind }
+{
+    match kind {
+        CauseKind::TooSmall => {
+            "the pad's own radius or half side is less than the hole's radius and the ring"
+        }
+        CauseKind::OffCentre => {
+            "the pad is large enough for a hole at its centre; drill files are rounded: see `ringcheck explain ring`"
+        }
+        CauseKind::Macro => {
+            "flashes by a macro are not judged: choose circle, oval or rectangle: see `ringcheck explain macro`"
+        }
+        CauseKind::Polygon => "polygon flashes are not judged",
+        CauseKind::Holed => "flashes with a hole are not judged",
+        CauseKind::Scaled => "scaled flashes are not judged",
+        CauseKind::Turned => "flashes turned by other than quarters are not judged",
+        CauseKind::Bare => {
+            "no pad reaches the hole's centre: removed or painted pad, plane, other origin or format: see `ringcheck explain none`"
+        }
+        CauseKind::Oblique => "plated slots that lie along no axis are not judged",
+    }
+}

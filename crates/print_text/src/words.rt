@@ -1,0 +1,244 @@
+//! The words for holes, pads and causes.
+
+ghost use Rattle.std.specs.Prelude.{◌≡◌, ◌*◌, ◌-ℤ◌, pos, map, Some};
+ghost use Rattle.grid_units.specs.Points.{IsCoordinate};
+ghost use Rattle.print_text.specs.Texts.{cause_words, drilled_words, halfway, height_of, hole_middle, hole_words, in_pad_words, name_of, pad_words, place_words, point_words, shape_word, width_of};
+
+use crate::kind::{CauseKind, flash_kind, kind_words};
+use grid_units::{Hole, Point};
+use margins::DepthShape;
+use pad_shapes::Pad;
+use printing::ShortMillimetres;
+use report::{HoleAt, RingCause, RingInPad};
+use std::fmt;
+use std::fmt::{Display, Formatter};
+
+/// The name of a file of the package, by its index; empty where it has none.
+pub fn name_of<'a>(names: &[&'a str], file: usize) -> &'a str
+    ensures { result.now ≡ name_of (map (λ name. name.now) names.now) file }
+{
+    match names.get(file) {
+        Some(name) => *name,
+        None => "",
+    }
+}
+
+/// A point: `142.24,-97.79`.
+#[derive(Clone, Copy)]
+struct PointWords(Point);
+
+impl Display for PointWords {
+    ghost output = { λ words. Some (point_words words.0) };
+
+    #[tactic(auto, unfolding(crate::specs::Texts::two_lengths))]
+    fn fmt<W: fmt::Write>(&self, f: &mut Formatter<W>) -> fmt::Result {
+        let (x, y) = (self.0.x(), self.0.y());
+        write!(f, "{},{}", ShortMillimetres(x), ShortMillimetres(y))
+    }
+}
+
+/// The diameter of a hole in pm.
+fn diameter(hole: &Hole) -> i64
+    ensures { result ≡ pos (2 * hole.now.radius) }
+{
+    2 * hole.radius()
+}
+
+/// The diameter of a hole in millimetres, and where it is: the centre of a round hole, or both ends of a slot, as `1 at 0,0 to 2,0`.
+#[derive(Clone, Copy)]
+pub struct DrilledWords<'a>(pub &'a Hole);
+
+impl Display for DrilledWords<'_> {
+    ghost output = { λ words. Some (drilled_words words.0.now) };
+
+    #[tactic(auto, unfolding(crate::specs::Texts::drilled_words))]
+    fn fmt<W: fmt::Write>(&self, f: &mut Formatter<W>) -> fmt::Result {
+        let hole = self.0;
+        let size = ShortMillimetres(diameter(hole));
+        let (from, to) = (PointWords(hole.from()), PointWords(hole.to()));
+        if hole.is_round() {
+            write!(f, "{size} at {from}")
+        } else {
+            write!(f, "{size} at {from} to {to}")
+        }
+    }
+}
+
+/// A hole, with the name of its drill file: `hole 17 of board-PTH.drl, 0.3 at 15.001,13`.
+#[derive(Clone, Copy)]
+pub(crate) struct HoleWords<'a> {
+    /// The names of the files of the package.
+    pub(crate) names: &'a [&'a str],
+    /// The hole.
+    pub(crate) at: &'a HoleAt,
+}
+
+impl Display for HoleWords<'_> {
+    ghost output = { λ words. Some (hole_words (map (λ name. name.now) words.names.now) words.at.now) };
+
+    #[tactic(auto, unfolding(crate::specs::Texts::number_words))]
+    fn fmt<W: fmt::Write>(&self, f: &mut Formatter<W>) -> fmt::Result {
+        let (number, name) = (self.at.number, name_of(self.names, self.at.drill));
+        let drilled = DrilledWords(&self.at.hole);
+        write!(f, "hole {number} of {name}, {drilled}")
+    }
+}
+
+/// The word for the shape of a pad.
+fn shape_word(pad: &Pad) -> &'static str
+    ensures { result.now ≡ shape_word pad.now }
+{
+    match pad {
+        Pad::Disc(_) => "disc ",
+        Pad::Rect(_) => "rect ",
+        Pad::Obround(_) => "obround ",
+    }
+}
+
+/// The side of a pad along x in pm; for a disc its diameter.
+fn width_of(pad: &Pad) -> i64
+    ensures { result ≡ pos (width_of pad.now) }
+{
+    match pad {
+        Pad::Disc(disc) => 2 * disc.radius(),
+        Pad::Rect(rect) => 2 * rect.half_x(),
+        Pad::Obround(obround) => 2 * obround.half_x(),
+    }
+}
+
+/// The side of a pad along y in pm; for a disc its diameter.
+fn height_of(pad: &Pad) -> i64
+    ensures { result ≡ pos (height_of pad.now) }
+{
+    match pad {
+        Pad::Disc(disc) => 2 * disc.radius(),
+        Pad::Rect(rect) => 2 * rect.half_y(),
+        Pad::Obround(obround) => 2 * obround.half_y(),
+    }
+}
+
+/// The shape and the sides of a pad: `disc 0.6x0.6`.
+#[derive(Clone, Copy)]
+struct PadWords<'a>(&'a Pad);
+
+impl Display for PadWords<'_> {
+    ghost output = { λ words. Some (pad_words words.0.now) };
+
+    #[tactic(auto, unfolding(crate::specs::Texts::two_lengths))]
+    fn fmt<W: fmt::Write>(&self, f: &mut Formatter<W>) -> fmt::Result {
+        let width = ShortMillimetres(width_of(self.0));
+        let height = ShortMillimetres(height_of(self.0));
+        write!(f, "{}{width}x{height}", shape_word(self.0))
+    }
+}
+
+/// Halfway between two coordinates, rounded towards 0.
+fn halfway(a: i64, b: i64) -> i64
+    requires a { IsCoordinate a }
+    requires b { IsCoordinate b }
+    ensures value { result ≡ halfway a b }
+    ensures in_range { IsCoordinate result }
+{
+    (a + b) / 2
+}
+
+/// The middle of a hole, halfway between its ends.
+fn hole_middle(hole: &Hole) -> Point
+    ensures { result ≡ hole_middle hole.now }
+{
+    let (from, to) = (hole.from(), hole.to());
+    Point::new(halfway(from.x(), to.x()), halfway(from.y(), to.y())).unwrap()
+}
+
+/// The middle of a hole less that of a pad, along x, in pm.
+fn off_x(at: Point, middle: Point) -> i64
+    ensures { result ≡ at.x -ℤ middle.x }
+{
+    at.x() - middle.x()
+}
+
+/// The middle of a hole less that of a pad, along y, in pm.
+fn off_y(at: Point, middle: Point) -> i64
+    ensures { result ≡ at.y -ℤ middle.y }
+{
+    at.y() - middle.y()
+}
+
+/// A pad, and how far the middle of the hole is off its middle: `disc 0.6x0.6, hole off by 0.001,0`.
+#[derive(Clone, Copy)]
+struct PlaceWords<'a> {
+    hole: &'a Hole,
+    pad: &'a Pad,
+}
+
+impl Display for PlaceWords<'_> {
+    ghost output = { λ words. Some (place_words words.hole.now words.pad.now) };
+
+    #[tactic(auto, unfolding(crate::specs::Texts::two_lengths))]
+    fn fmt<W: fmt::Write>(&self, f: &mut Formatter<W>) -> fmt::Result {
+        let (at, middle) = (hole_middle(self.hole), self.pad.middle());
+        let x = ShortMillimetres(off_x(at, middle));
+        let y = ShortMillimetres(off_y(at, middle));
+        write!(f, "{}, hole off by {x},{y}", PadWords(self.pad))
+    }
+}
+
+/// A ring in a pad, and why it is too small: `ring 0.149, lacks 0.001, off centre: flash 17, disc 0.6x0.6, hole off by 0.001,0`.
+#[derive(Clone, Copy)]
+struct InPadWords<'a> {
+    kind: CauseKind,
+    hole: &'a Hole,
+    place: &'a RingInPad,
+}
+
+impl Display for InPadWords<'_> {
+    ghost output = { λ words. Some (in_pad_words words.kind words.hole.now words.place.now) };
+
+    #[tactic(auto, unfolding(crate::specs::Texts::two_lengths, crate::specs::Texts::flash_words))]
+    fn fmt<W: fmt::Write>(&self, f: &mut Formatter<W>) -> fmt::Result {
+        let place = PlaceWords {
+            hole: self.hole,
+            pad: &self.place.pad,
+        };
+        let ring = ShortMillimetres(self.place.ring);
+        let lacks = ShortMillimetres(self.place.lack);
+        let (words, flash) = (kind_words(self.kind), self.place.flash);
+        write!(f, "ring {ring}, lacks {lacks}")?;
+        write!(f, ", {words}: flash {flash}, ")?;
+        write!(f, "{place}")
+    }
+}
+
+/// Why a hole lacks its ring, with the figures of the cause: `no ring, only a macro flash: flash 156`.
+#[derive(Clone, Copy)]
+pub(crate) struct CauseWords<'a> {
+    pub(crate) hole: &'a Hole,
+    pub(crate) cause: &'a RingCause,
+}
+
+impl Display for CauseWords<'_> {
+    ghost output = { λ words. Some (cause_words words.hole.now words.cause.now) };
+
+    fn fmt<W: fmt::Write>(&self, f: &mut Formatter<W>) -> fmt::Result {
+        let hole = self.hole;
+        match self.cause {
+            RingCause::TooSmall(place) => {
+                let kind = CauseKind::TooSmall;
+                write!(f, "{}", InPadWords { kind, hole, place })
+            }
+            RingCause::OffCentre(place) => {
+                let kind = CauseKind::OffCentre;
+                write!(f, "{}", InPadWords { kind, hole, place })
+            }
+            RingCause::Other { why, flash } => {
+                write!(
+                    f,
+                    "no ring, {}: flash {flash}",
+                    kind_words(flash_kind(*why))
+                )
+            }
+            RingCause::NoFlash => write!(f, "no ring, {}", kind_words(CauseKind::Bare)),
+            RingCause::Oblique => write!(f, "no ring, {}", kind_words(CauseKind::Oblique)),
+        }
+    }
+}

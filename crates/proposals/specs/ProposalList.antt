@@ -1,0 +1,47 @@
+-- The proposals for a list of files (docs/FORMATS.md, Proposals).
+use Rattle.std.specs.Prelude.{ℕ, Bool, List, map, Option, Some, None, if◌then◌else◌}
+use Rattle.std.specs.List.{list_any, filter_map}
+use Rattle.std.specs.Str.{bytes_eq}
+use Rattle.grid_units.specs.Lists.{with_prefixes}
+use Rattle.proposals.specs.Decisions.{Decision, decision}
+use Rattle.proposals.specs.Stack.{layers_checked}
+use Rattle.proposals.specs.declared.model.ProposedRole.TheVariants.{Undecided}
+use Rattle.proposals.specs.declared.model.ProposalReason.TheVariants as because
+use Rattle.proposals.specs.declared.model.Proposal.{Proposal}
+use Rattle.proposals.specs.declared.model.InputFile.{InputFile}
+use Rattle.proposals.specs.declared.model.FileContent.{FileContent}
+use Rattle.proposals.specs.declared.model.FileContent.TheVariants as content
+
+-- what a file of this name is: by its bytes, or undecided where it cannot be read or is too long
+abbrev pub decision_for : List ℕ → FileContent → Decision
+decision_for name (content.Bytes bytes) = decision name bytes.now
+decision_for name content.NotRead = (Undecided, because.NotRead)
+decision_for name content.TooLong = (Undecided, because.TooLong)
+
+-- the name of a file, as it was asked for
+abbrev pub name_of : InputFile → List ℕ
+name_of file = file.name.now
+
+-- the proposal for a file, taken by itself
+abbrev pub proposal : InputFile → Proposal
+proposal file = record { file = name_of file; role = (decision_for (name_of file) file.content).0; because = (decision_for (name_of file) file.content).1 }
+
+-- one of these files has the name
+abbrev pub is_named : List ℕ → List InputFile → Bool
+is_named name files = list_any (λ file. bytes_eq (name_of file) name) files
+
+-- a file, if none of those before it has its name
+abbrev pub unless_seen : List InputFile × InputFile → Option InputFile
+unless_seen p = if is_named (name_of p.1) p.0 then None else Some p.1
+
+-- the files, each name once
+abbrev pub distinct : List InputFile → List InputFile
+distinct files = filter_map unless_seen (with_prefixes files)
+
+-- the proposal for each file, taken by itself, each name once
+abbrev pub separate_proposals : List InputFile → List Proposal
+separate_proposals files = map proposal (distinct files)
+
+-- the proposals for the files, each name once: a drill file that names layers is undecided where these are not clear among the others
+abbrev pub proposals : List InputFile → List Proposal
+proposals files = map (layers_checked (separate_proposals files)) (separate_proposals files)

@@ -1,0 +1,149 @@
+-- A round hole is bare just where no pad covers its centre.
+use Rattle.std.proofs.Common.{◌≡◌, ◌↔◌, ℕ, ℤ, ◌+◌, ◌<◌, ◌&&◌, not, Bool, true, false, inl, inr, Option, Some, None, List, length, take, get_or, refl, sym, subst, ap, ◌∙◌, arith}
+use Rattle.std.specs.Ordering.{int_eq}
+use Rattle.std.specs.List.{count_by, list_any}
+use Rattle.std.proofs.lemmas.Bool.Decides.{Decides-int_eq}
+use Rattle.std.proofs.lemmas.List.{get_or_default}
+use Rattle.std.proofs.lemmas.List.Folds.{list_any_at, list_any_none}
+use Rattle.std.proofs.lemmas.List.Sums.{count_by_more_yes, count_by_more_no}
+use Rattle.grid_units.specs.Points.{GridPoint}
+use Rattle.grid_units.specs.Holes.{GridHole, is_round}
+use Rattle.pad_shapes.specs.Pads.{pad_covers}
+use Rattle.pad_shapes.specs.Shapes.{covers_both_ends}
+use Rattle.pad_shapes.specs.declared.pad.Pad.{Pad}
+use Rattle.pad_shapes.specs.declared.pad.Pad.TheVariants.{Disc}
+use Rattle.ring_rules.specs.Findings.{is_oblique}
+use Rattle.ring_rules.specs.Places.{hole_at, default_hole}
+use Rattle.ring_rules.specs.declared.finding.Drilled.{Drilled}
+use Rattle.margins.specs.BestPads.{AreBestPads, AreBare, NoneCovers, IsBare, IsBestPad}
+use Rattle.margins.specs.Inner.DepthLaws.{pad_covers_less}
+use Rattle.margins.specs.Rows.{has_no_best_pad}
+use Rattle.margins.specs.declared.best.BestPad.{BestPad}
+use Rattle.report.specs.UnitMistakes.{BareIsUncovered, is_bare, is_uncovered}
+
+both_true : (a b : Bool) → (a && b) ≡ true → (a ≡ true) × (b ≡ true)
+both_true true true e = (refl, refl)
+both_true true false e = absurd cc
+both_true false b e = absurd cc
+
+both : (a b : Bool) → a ≡ true → b ≡ true → (a && b) ≡ true
+both true true e f = refl
+both true false e f = absurd cc
+both false b e f = absurd cc
+
+not_true : (a : Bool) → not a ≡ true → a ≡ false
+not_true true e = absurd cc
+not_true false e = refl
+
+not_false : (a : Bool) → a ≡ false → not a ≡ true
+not_false true e = absurd cc
+not_false false e = refl
+
+either_way : (a : Bool) → a ≡ true → a ≡ false → ⊥
+either_way true e f = cc
+either_way false e f = cc
+
+first_false : (a b : Bool) → (a && b) ≡ false → b ≡ true → a ≡ false
+first_false true true e f = absurd cc
+first_false true false e f = absurd cc
+first_false false b e f = refl
+
+-- a round hole is no oblique slot, and its ends are one point
+not_oblique : (a b : Bool) → (a && b) ≡ true → (not a && not b) ≡ true → ⊥
+not_oblique true true e f = cc
+not_oblique true false e f = cc
+not_oblique false b e f = cc
+
+straight : (h : GridHole) → is_round h ≡ true → is_oblique h ≡ true → ⊥
+straight h round oblique = not_oblique (int_eq h.from.x h.to.x) (int_eq h.from.y h.to.y) round oblique
+
+equal : (x y : ℤ) → int_eq x y ≡ true → x ≡ y
+equal x y e = (Decides-int_eq x y).0 e
+
+one_point : (h : GridHole) → is_round h ≡ true → h.from ≡ h.to
+one_point h round =
+    let e = both_true (int_eq h.from.x h.to.x) (int_eq h.from.y h.to.y) round in
+    let x = equal h.from.x h.to.x e.0 in
+    let y = equal h.from.y h.to.y e.1 in
+    λ i. record { x = x i; y = y i }
+
+module _ (pads : List Pad) (h : GridHole) (round : is_round h ≡ true) where
+  -- what covers a round hole covers its centre with a reach of 0
+  covered : (p : Pad) (reach : ℕ) → covers_both_ends pad_covers p h.from h.to reach ≡ true → pad_covers p h.from 0 ≡ true
+  covered p reach e = pad_covers_less p h.from 0 reach (omega arith) (both_true (pad_covers p h.from reach) (pad_covers p h.to reach) e).0
+
+  ends : (p : Pad) → pad_covers p h.from 0 ≡ true → covers_both_ends pad_covers p h.from h.to 0 ≡ true
+  ends p e = both (pad_covers p h.from 0) (pad_covers p h.to 0) e (subst (λ (q : GridPoint). pad_covers p q 0 ≡ true) (one_point h round) e)
+
+  refused : (b : Bool) → (b ≡ true → ⊥) → b ≡ false
+  refused true f = absurd (f refl)
+  refused false f = refl
+
+  shallow : is_uncovered pads h.from ≡ true → NoneCovers pad_covers pads (length pads) h
+  shallow none p k reach inside =
+      let nothing = not_true (list_any (λ (pad : Pad). pad_covers pad h.from 0) pads) none in
+      refused (covers_both_ends pad_covers (get_or pads k p) h.from h.to reach) (λ e.
+      either_way (list_any (λ (pad : Pad). pad_covers pad h.from 0) pads) (list_any_at (λ (pad : Pad). pad_covers pad h.from 0) pads k p inside (covered (get_or pads k p) reach e)) nothing)
+
+  uncovered : IsBare pad_covers pads h → is_uncovered pads h.from ≡ true
+  uncovered (inl oblique) = absurd (straight h round oblique)
+  uncovered (inr none) = not_false (list_any (λ (pad : Pad). pad_covers pad h.from 0) pads) (list_any_none (λ (pad : Pad). pad_covers pad h.from 0) pads (λ k d inside.
+      refused (pad_covers (get_or pads k d) h.from 0) (λ e. either_way (covers_both_ends pad_covers (get_or pads k d) h.from h.to 0) (ends (get_or pads k d) e) (none d k 0 inside))))
+
+  -- the best pad of a round hole decides whether it is bare
+  told : (b : Option BestPad) → IsBestPad pad_covers pads h b → is_uncovered pads h.from ≡ has_no_best_pad b
+  told None k = uncovered k
+  told (Some best) k =
+      let d : Pad = Disc (record { centre = h.from; radius = 0 }) in
+      ap not (list_any_at (λ (pad : Pad). pad_covers pad h.from 0) pads best.pad d k.1.inside (covered (get_or pads best.pad d) best.depth (k.1.covered d)))
+
+pub bare_is_uncovered : BareIsUncovered
+bare_is_uncovered pads h round = (λ bare. uncovered pads h round bare, λ none. inr (shallow pads h round none))
+
+-- so does the best pad of the hole at a place
+by_best : (pads : List Pad) (h : GridHole) (b : Option BestPad) → IsBestPad pad_covers pads h b → (is_round h && is_uncovered pads h.from) ≡ (is_round h && has_no_best_pad b)
+by_best pads h b is = by (is_round h) refl
+  where
+    by : (t : Bool) → is_round h ≡ t → (t && is_uncovered pads h.from) ≡ (t && has_no_best_pad b)
+    by true e = told pads h e b is
+    by false e = refl
+
+module _ (pads : List Pad) (holes : List Drilled) (bests : List (Option BestPad)) (all : AreBestPads pad_covers pads holes bests) (k : ℕ) (d : Drilled) (b : Option BestPad) (inside : k < length holes) where
+  here : is_bare pads (get_or holes k d) ≡ (is_round (get_or holes k d).hole && has_no_best_pad (get_or bests k b))
+  here =
+      let size = all.size in
+      let same : get_or bests k b ≡ get_or bests k None = get_or_default bests k b None (omega (arith, inside, size)) in
+      let there : get_or holes k d ≡ get_or holes k default_hole = get_or_default holes k d default_hole inside in
+      ap (is_bare pads) there ∙ (by_best pads (hole_at holes k) (get_or bests k None) (all.each k inside) ∙ (ap (λ (o : Option BestPad). is_round (hole_at holes k) && has_no_best_pad o) (sym same) ∙ ap (λ (e : Drilled). is_round e.hole && has_no_best_pad (get_or bests k b)) (sym there)))
+
+  pub bare_more : (bare : ℕ) (t : Bool) → t ≡ (is_round (get_or holes k d).hole && has_no_best_pad (get_or bests k b)) → t ≡ true → bare ≡ count_by (is_bare pads) (take k holes) → bare + 1 ≡ count_by (is_bare pads) (take (k + 1) holes)
+  bare_more bare t is e was = ap (λ (n : ℕ). n + 1) was ∙ sym (count_by_more_yes (is_bare pads) holes k d inside (here ∙ (sym is ∙ e)))
+
+  pub bare_still : (bare : ℕ) (t : Bool) → t ≡ (is_round (get_or holes k d).hole && has_no_best_pad (get_or bests k b)) → t ≡ false → bare ≡ count_by (is_bare pads) (take k holes) → bare ≡ count_by (is_bare pads) (take (k + 1) holes)
+  bare_still bare t is e was = was ∙ sym (count_by_more_no (is_bare pads) holes k d inside (here ∙ (sym is ∙ e)))
+
+-- whether a round hole is bare
+given_bare : (pads : List Pad) (h : GridHole) (b : Bool) → is_round h ≡ true → (b ≡ true) ↔ IsBare pad_covers pads h → is_uncovered pads h.from ≡ b
+given_bare pads h true round is = uncovered pads h round (is.0 refl)
+given_bare pads h false round is = refused pads h round (is_uncovered pads h.from) (λ e. either_way false (is.1 (inr (shallow pads h round e))) refl)
+
+by_bare : (pads : List Pad) (h : GridHole) (b : Bool) → (b ≡ true) ↔ IsBare pad_covers pads h → (is_round h && is_uncovered pads h.from) ≡ (is_round h && b)
+by_bare pads h b is = by (is_round h) refl
+  where
+    by : (t : Bool) → is_round h ≡ t → (t && is_uncovered pads h.from) ≡ (t && b)
+    by true e = given_bare pads h b e is
+    by false e = refl
+
+module _ (pads : List Pad) (holes : List Drilled) (bare : List Bool) (all : AreBare pad_covers pads holes bare) (k : ℕ) (d : Drilled) (b : Bool) (inside : k < length holes) where
+  at_hole : is_bare pads (get_or holes k d) ≡ (is_round (get_or holes k d).hole && get_or bare k b)
+  at_hole =
+      let size = all.size in
+      let same : get_or bare k b ≡ get_or bare k false = get_or_default bare k b false (omega (arith, inside, size)) in
+      let there : get_or holes k d ≡ get_or holes k default_hole = get_or_default holes k d default_hole inside in
+      ap (is_bare pads) there ∙ (by_bare pads (hole_at holes k) (get_or bare k false) (all.each k inside) ∙ (ap (λ (t : Bool). is_round (hole_at holes k) && t) (sym same) ∙ ap (λ (e : Drilled). is_round e.hole && get_or bare k b) (sym there)))
+
+  pub given_more : (count : ℕ) (t : Bool) → t ≡ (is_round (get_or holes k d).hole && get_or bare k b) → t ≡ true → count ≡ count_by (is_bare pads) (take k holes) → count + 1 ≡ count_by (is_bare pads) (take (k + 1) holes)
+  given_more count t is e was = ap (λ (n : ℕ). n + 1) was ∙ sym (count_by_more_yes (is_bare pads) holes k d inside (at_hole ∙ (sym is ∙ e)))
+
+  pub given_still : (count : ℕ) (t : Bool) → t ≡ (is_round (get_or holes k d).hole && get_or bare k b) → t ≡ false → count ≡ count_by (is_bare pads) (take k holes) → count ≡ count_by (is_bare pads) (take (k + 1) holes)
+  given_still count t is e was = was ∙ sym (count_by_more_no (is_bare pads) holes k d inside (at_hole ∙ (sym is ∙ e)))

@@ -1,0 +1,152 @@
+-- The factor by which the fewest holes would be bare.
+use Rattle.std.proofs.Common.{◌≡◌, ◌↔◌, ℕ, ◌*◌, ◌<◌, ◌≤◌, Bool, true, false, inl, inr, List, [], ◌∷◌, ◌++◌, length, get_or, sym, subst, ap, ◌∙◌, arith}
+use Rattle.std.proofs.lemmas.Bool.{cases_lt}
+use Rattle.std.proofs.lemmas.List.{get_or_append_left, length-append}
+use Rattle.std.proofs.Math.Seq.{get_or-append_seam}
+use Rattle.pad_shapes.specs.declared.pad.Pad.{Pad}
+use Rattle.ring_rules.specs.declared.finding.Drilled.{Drilled}
+use Rattle.report.specs.declared.UnitFactor.{UnitFactor}
+use Rattle.report.specs.declared.UnitFactor.TheVariants as kind
+use Rattle.report.specs.declared.UnitMistake.{UnitMistake}
+use Rattle.report.specs.declared.fewest.Fewest.{Fewest}
+use Rattle.report.specs.UnitMistakes.{IsFirstFewest, IsUnitMistake, bare_count, bare_count_with, factors, round_count}
+use Rattle.report.specs.Inner.RescaledCounts.{IsFewest}
+
+module _ (count : UnitFactor → ℕ) where
+  -- one factor alone
+  pub only_one : (fewest : Fewest) (one : UnitFactor) → fewest.factor ≡ one → fewest.bare ≡ count one → IsFewest count (one ∷ []) fewest
+  only_one fewest one same bare = record {
+    bare = bare ∙ ap count (sym same);
+    first = record {
+      place = 0;
+      inside = omega arith;
+      at = λ d. sym same;
+      before = λ d k less. absurd (omega (arith, less));
+      fewest = λ d k less. (
+          let first : k ≡ 0 = omega (arith, less) in
+          let here : count (get_or (one ∷ []) k d) ≡ count fewest.factor = ap (λ (n : ℕ). count (get_or (one ∷ []) n d)) first ∙ ap count (sym same) in
+          omega (arith, here));
+    };
+  }
+
+  module _ (tried : List UnitFactor) (old next : Fewest) (was : IsFewest count tried old) (counted : next.bare ≡ count next.factor) where
+    abbrev pub all : List UnitFactor
+    all = tried ++ next.factor ∷ []
+
+    early : (d : UnitFactor) (k : ℕ) → k < length tried → get_or all k d ≡ get_or tried k d
+    early d k less = get_or_append_left tried (next.factor ∷ []) d k less
+
+    late : (d : UnitFactor) (k : ℕ) → k < length all → length tried ≤ k → get_or all k d ≡ next.factor
+    late d k less more =
+        let size = length-append tried (next.factor ∷ []) in
+        let last : k ≡ length tried = omega (arith, less, more, size) in
+        ap (λ (n : ℕ). get_or all n d) last ∙ get_or-append_seam tried next.factor [] d
+
+    -- the next has fewer
+    pub next_taken : next.bare < old.bare → IsFewest count all next
+    next_taken fewer = record {
+      bare = counted;
+      first = record {
+        place = length tried;
+        inside = (let size = length-append tried (next.factor ∷ []) in omega (arith, size));
+        at = λ d. get_or-append_seam tried next.factor [] d;
+        before = λ d k less. (
+            let here : count (get_or all k d) ≡ count (get_or tried k d) = ap count (early d k less) in
+            omega (arith, here, was.first.fewest d k less, was.bare, counted, fewer));
+        fewest = λ d k inside. elim (cases_lt k (length tried)) [
+          | inl less ↦ (
+              let here : count (get_or all k d) ≡ count (get_or tried k d) = ap count (early d k less) in
+              omega (arith, here, was.first.fewest d k less, was.bare, counted, fewer))
+          | inr more ↦ (let here : count (get_or all k d) ≡ count next.factor = ap count (late d k inside more) in omega (arith, here))
+        ];
+      };
+    }
+
+    -- or no fewer
+    pub old_kept : old.bare ≤ next.bare → IsFewest count all old
+    old_kept no_fewer = record {
+      bare = was.bare;
+      first = record {
+        place = was.first.place;
+        inside = (let size = length-append tried (next.factor ∷ []) in omega (arith, size, was.first.inside));
+        at = λ d. early d was.first.place was.first.inside ∙ was.first.at d;
+        before = λ d k less. (
+            let inside : k < length tried = omega (arith, less, was.first.inside) in
+            let here : count (get_or all k d) ≡ count (get_or tried k d) = ap count (early d k inside) in
+            omega (arith, here, was.first.before d k less));
+        fewest = λ d k inside. elim (cases_lt k (length tried)) [
+          | inl less ↦ (let here : count (get_or all k d) ≡ count (get_or tried k d) = ap count (early d k less) in omega (arith, here, was.first.fewest d k less))
+          | inr more ↦ (let here : count (get_or all k d) ≡ count next.factor = ap count (late d k inside more) in omega (arith, here, was.bare, counted, no_fewer))
+        ];
+      };
+    }
+
+-- of the factor so far and the next the one with fewer, whatever is counted and whatever was tried
+abbrev pub IsLesser : Fewest → Fewest → Fewest → Type 0
+IsLesser old next result = (count : UnitFactor → ℕ) (tried : List UnitFactor) → IsFewest count tried old → next.bare ≡ count next.factor → IsFewest count (tried ++ next.factor ∷ []) result
+
+-- how many holes one factor leaves bare
+abbrev pub IsCounted : (UnitFactor → ℕ) → UnitFactor → Fewest → Type 0
+IsCounted count factor fewest = (fewest.factor ≡ factor) × (fewest.bare ≡ count factor)
+
+-- the fewest of all factors
+pub fewest_all : (count : UnitFactor → ℕ) (ten tenth inch per_inch one two three : Fewest) → IsCounted count kind.Ten ten → IsCounted count kind.Tenth tenth → IsCounted count kind.Inch inch → IsCounted count kind.PerInch per_inch
+    → IsLesser ten tenth one → IsLesser one inch two → IsLesser two per_inch three → IsFewest count factors three
+fewest_all count ten tenth inch per_inch one two three a b c d e f g =
+    let counted = λ (x : Fewest) (k : UnitFactor) (h : IsCounted count k x). h.1 ∙ ap count (sym h.0) in
+    let first = only_one count ten kind.Ten a.0 a.1 in
+    let second = subst (λ (k : UnitFactor). IsFewest count (kind.Ten ∷ k ∷ []) one) b.0 (e count (kind.Ten ∷ []) first (counted tenth kind.Tenth b)) in
+    let third = subst (λ (k : UnitFactor). IsFewest count (kind.Ten ∷ kind.Tenth ∷ k ∷ []) two) c.0 (f count (kind.Ten ∷ kind.Tenth ∷ []) second (counted inch kind.Inch c)) in
+    subst (λ (k : UnitFactor). IsFewest count (kind.Ten ∷ kind.Tenth ∷ kind.Inch ∷ k ∷ []) three) d.0 (g count (kind.Ten ∷ kind.Tenth ∷ kind.Inch ∷ []) third (counted per_inch kind.PerInch d))
+
+both : (t : Bool) → t ≡ true → t ≡ false → ⊥
+both true e f = cc
+both false e f = cc
+
+module _ (pads : List Pad) (holes : List Drilled) (bare : ℕ) (is : bare ≡ bare_count pads holes) where
+  -- no line where too few are bare
+  pub too_few : (t : Bool) → ((t ≡ true) ↔ (round_count holes < 2 * bare)) → t ≡ false → (line : UnitMistake) → IsUnitMistake pads holes line → ⊥
+  too_few t tells f line scale = (
+      let most = scale.most in
+      let e : t ≡ true = tells.1 (omega (arith, most, scale.bare, is)) in
+      both t e f)
+
+  -- nor where too many would be
+  pub too_many : (fewest : Fewest) → IsFewest (bare_count_with pads holes) factors fewest → (t : Bool) → ((t ≡ true) ↔ (2 * fewest.bare < bare)) → t ≡ false → (line : UnitMistake) → IsUnitMistake pads holes line → ⊥
+  too_many fewest is_fewest t tells f line scale = (
+      let count = bare_count_with pads holes in
+      let few = scale.few in
+      let least = is_fewest.first.fewest line.factor scale.first.place scale.first.inside in
+      let here : count (get_or factors scale.first.place line.factor) ≡ count line.factor = ap count (scale.first.at line.factor) in
+      let e : t ≡ true = tells.1 (omega (arith, few, least, here, is_fewest.bare, scale.then, scale.bare, is)) in
+      both t e f)
+
+-- a file has one line
+pub one_scale : (pads : List Pad) (holes : List Drilled) (a b : UnitMistake) → a.drill ≡ b.drill → IsUnitMistake pads holes a → IsUnitMistake pads holes b → a ≡ b
+one_scale pads holes a b at x y =
+    let count = bare_count_with pads holes in
+    let same : a.factor ≡ b.factor = one_first in
+    let bare : a.bare ≡ b.bare = x.bare ∙ sym y.bare in
+    let then : a.then ≡ b.then = x.then ∙ (ap count same ∙ sym y.then) in
+    λ i. record { drill = at i; bare = bare i; factor = same i; then = then i }
+  where
+    -- the first with the fewest is not before another one
+    not_before : (c d : UnitMistake) (p : IsFirstFewest (bare_count_with pads holes) factors c.factor) (q : IsFirstFewest (bare_count_with pads holes) factors d.factor) → p.place < q.place → ⊥
+    not_before c d p q less =
+        let count = bare_count_with pads holes in
+        let fewer = q.before c.factor p.place less in
+        let here : count (get_or factors p.place c.factor) ≡ count c.factor = ap count (p.at c.factor) in
+        let fewest = p.fewest d.factor q.place q.inside in
+        let there : count (get_or factors q.place d.factor) ≡ count d.factor = ap count (q.at d.factor) in
+        omega (arith, fewer, here, fewest, there)
+
+    one_first : a.factor ≡ b.factor
+    one_first = elim (cases_lt x.first.place y.first.place) [
+      | inl less ↦ absurd (not_before a b x.first y.first less)
+      | inr more ↦ elim (cases_lt y.first.place x.first.place) [
+        | inl less ↦ absurd (not_before b a y.first x.first less)
+        | inr least ↦ (
+            let one : x.first.place ≡ y.first.place = omega (arith, more, least) in
+            sym (x.first.at a.factor) ∙ (ap (λ (n : ℕ). get_or factors n a.factor) one ∙ y.first.at a.factor))
+      ]
+    ]

@@ -1,0 +1,12 @@
+pub mod PlacesLemmas
+pub mod SamePads
+pub mod FirstInHole
+pub mod PadSymmetry
+pub mod RoundedDownLemma
+pub mod BareLemmas
+pub mod RescaledCounts
+pub mod FewestLemmas
+pub mod Slices
+pub mod RescaledLists
+pub mod PairedLists
+pub mod UnitMistakeLemmas

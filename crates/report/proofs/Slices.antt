@@ -1,0 +1,67 @@
+-- Parts of lists, and what is known of their elements.
+use Rattle.std.proofs.Common.{◌≡◌, ℕ, ◌+◌, ◌-◌, ◌<◌, ◌≤◌, ◌++◌, ◌↔◌, Bool, true, false, Option, None, List, length, take, drop, get_or, refl, sym, subst, ap, ◌∙◌, arith}
+use Rattle.std.specs.List.{slice_range}
+use Rattle.std.proofs.lemmas.List.{drop-append-le, get_or-drop, get_or-take, length-append, length-drop, length-take-le, take-append-le, take_all}
+use Rattle.std.proofs.Math.Seq.{drop-append_seam}
+use Rattle.grid_units.specs.Holes.{GridHole}
+use Rattle.pad_shapes.specs.Pads.{pad_covers}
+use Rattle.pad_shapes.specs.declared.pad.Pad.{Pad}
+use Rattle.ring_rules.specs.Places.{hole_at, default_hole}
+use Rattle.ring_rules.specs.declared.finding.Drilled.{Drilled}
+use Rattle.margins.specs.BestPads.{AreBare, AreBestPads, IsBare, IsBestPad}
+use Rattle.margins.specs.declared.best.BestPad.{BestPad}
+
+module _ {X : Type 0} (xs : List X) where
+  pub slice_size : (a b : ℕ) → b ≤ length xs → length (slice_range xs a b) ≡ b - a
+  slice_size a b inside = length-take-le (b - a) (drop a xs) (omega (arith, length-drop a xs, inside))
+
+  pub slice_at : (a b k : ℕ) (d : X) → k < b - a → get_or (slice_range xs a b) k d ≡ get_or xs (a + k) d
+  slice_at a b k d less = get_or-take (b - a) (drop a xs) k d less ∙ get_or-drop a xs k d
+
+  pub slice_whole : slice_range xs 0 (length xs) ≡ xs
+  slice_whole = take_all (length xs - 0) xs (omega arith)
+
+  module _ (ys : List X) where
+    -- a part of the first list
+    pub slice_front : (a b : ℕ) → a ≤ b → b ≤ length xs → slice_range (xs ++ ys) a b ≡ slice_range xs a b
+    slice_front a b ordered inside =
+        ap (take (b - a)) (drop-append-le a xs ys (omega (arith, ordered, inside))) ∙ take-append-le (b - a) (drop a xs) ys (omega (arith, length-drop a xs, ordered, inside))
+
+    -- all of the second list
+    pub slice_back : slice_range (xs ++ ys) (length xs) (length (xs ++ ys)) ≡ ys
+    slice_back =
+        ap (take (length (xs ++ ys) - length xs)) (drop-append_seam xs ys) ∙ take_all (length (xs ++ ys) - length xs) ys (let size = length-append xs ys in omega (arith, size))
+
+module _ (pads : List Pad) (holes : List Drilled) (a b : ℕ) (inside : b ≤ length holes) where
+  same_hole : (k : ℕ) → k < b - a → hole_at (slice_range holes a b) k ≡ hole_at holes (a + k)
+  same_hole k less = ap (λ (d : Drilled). d.hole) (slice_at holes a b k default_hole less)
+
+  -- the best pads of a part of the holes
+  pub bests_of_part : (bests : List (Option BestPad)) → AreBestPads pad_covers pads holes bests → AreBestPads pad_covers pads (slice_range holes a b) (slice_range bests a b)
+  bests_of_part bests all = (
+      let own = slice_size holes a b inside in
+      let size = all.size in
+      let theirs = slice_size bests a b (omega (arith, size, inside)) in
+      record {
+        size = theirs ∙ sym own;
+        each = λ k less. (
+            let low : k < b - a = omega (arith, less, own) in
+            let there = all.each (a + k) (omega (arith, low, inside)) in
+            subst (λ (h : GridHole). IsBestPad pad_covers pads h (get_or (slice_range bests a b) k None)) (sym (same_hole k low))
+            (subst (λ (o : Option BestPad). IsBestPad pad_covers pads (hole_at holes (a + k)) o) (sym (slice_at bests a b k None low)) there));
+      })
+
+  -- which holes of a part are bare
+  pub bare_of_part : (bare : List Bool) → AreBare pad_covers pads holes bare → AreBare pad_covers pads (slice_range holes a b) (slice_range bare a b)
+  bare_of_part bare all = (
+      let own = slice_size holes a b inside in
+      let size = all.size in
+      let theirs = slice_size bare a b (omega (arith, size, inside)) in
+      record {
+        size = theirs ∙ sym own;
+        each = λ k less. (
+            let low : k < b - a = omega (arith, less, own) in
+            let there = all.each (a + k) (omega (arith, low, inside)) in
+            subst (λ (h : GridHole). (get_or (slice_range bare a b) k false ≡ true) ↔ IsBare pad_covers pads h) (sym (same_hole k low))
+            (subst (λ (t : Bool). (t ≡ true) ↔ IsBare pad_covers pads (hole_at holes (a + k))) (sym (slice_at bare a b k false low)) there));
+      })

@@ -1,0 +1,6 @@
+use Rattle.std.proofs.Common.{take}
+use Rattle.report.specs.Inner.RescaledCounts.{AreRescaledRanges}
+use Rattle.report.proofs.counts.rescale_ranges.Given as goal
+
+abbrev pub invariant-loop-range : goal.invariant-loop-range
+invariant-loop-range l = AreRescaledRanges l.factor l.holes (take l.range-index l.ranges) l.all

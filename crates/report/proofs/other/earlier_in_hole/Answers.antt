@@ -1,0 +1,10 @@
+use Rattle.std.proofs.Common.{◌++◌, ◌∷◌, [], Some, subst, sym, ◌∙◌}
+use Rattle.report.specs.Inner.FirstInHole.{IsFirstIn}
+use Rattle.report.specs.declared.other.Other.{Other}
+use Rattle.report.proofs.FirstInHole.{lesser_is}
+use Rattle.report.proofs.other.earlier_in_hole.Goals as goal
+
+pub returns : goal.returns
+returns c = λ seen is.
+    subst (λ (found : Other). IsFirstIn (seen ++ c.args.other ∷ []) c.args.hole.now (Some found)) (sym c.earlier_flash.ensures)
+    (lesser_is c.args.hole.now seen c.args.first c.args.other (sym c.is_in_hole.ensures ∙ c.if-not-is_in_hole.false) is)

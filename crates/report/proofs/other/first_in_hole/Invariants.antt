@@ -1,0 +1,7 @@
+use Rattle.std.proofs.Common.{◌++◌, List, take}
+use Rattle.report.specs.Inner.FirstInHole.{IsFirstIn}
+use Rattle.report.specs.declared.other.Other.{Other}
+use Rattle.report.proofs.other.first_in_hole.Given as goal
+
+abbrev pub invariant-loop-other : goal.invariant-loop-other
+invariant-loop-other l = (seen : List Other) → IsFirstIn seen l.hole l.fn.first → IsFirstIn (seen ++ take l.other-index l.others) l.hole l.first

@@ -1,0 +1,2 @@
+pub mod FirstInHole
+pub mod RescaledCounts

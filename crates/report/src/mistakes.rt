@@ -1,0 +1,191 @@
+//! The lines of drill files whose coordinates seem to be off by a factor.
+
+ghost use Rattle.std.specs.Prelude.{◌≡◌, ◌↔◌, ◌*◌, ◌<◌, ◌≤◌, List, length, map, IfOk, IsTrue};
+ghost use Rattle.pad_shapes.specs.Pads.{pad_covers};
+ghost use Rattle.pad_shapes.specs.declared.pad.Pad.{Pad as ThePad};
+ghost use Rattle.ring_rules.specs.declared.finding.Drilled.{Drilled as TheDrilled};
+ghost use Rattle.margins.specs.BestPads.{AreBestPads};
+ghost use Rattle.report.specs.UnitMistakes.{AreFileRanges, AreUnitMistakes, IsUnitMistakeOrNone, bare_count_with, factors, holes_in};
+ghost use Rattle.report.specs.Inner.RescaledCounts.{AreAllCounted, AreSuspects, IsSuspect, IsFewest, holes_of};
+ghost use Rattle.report.specs.declared.mistakes.FileRange.{FileRange as TheFileRange};
+
+use crate::UnitMistake;
+use crate::bare::{bare_among, round_among};
+use crate::counts::HoleRange;
+use crate::fewest::{Counts, Fewest, counts_of};
+use margins::BestPad;
+use pad_shapes::Pad;
+use ring_rules::Drilled;
+use std::alloc::{AllocError, Global};
+
+/// A drill file, and where its holes are in a list of holes.
+#[derive(Clone, Copy)]
+pub struct FileRange {
+    /// The index of the drill file, from 0.
+    pub drill: usize,
+    /// The place of its first hole, from 0.
+    pub start: usize,
+    /// The place after its last hole.
+    pub end: usize,
+}
+
+/// The holes of a file that are to be tried at other places: all of them where more than half of the round ones are bare, else none.
+#[derive(Clone, Copy)]
+struct Suspect {
+    range: HoleRange,
+    /// How many of them are round and bare.
+    bare: usize,
+}
+
+/// Whether twice a number is above another one.
+fn is_twice_above(number: usize, other: usize) -> bool
+    ensures { IsTrue result ↔ (other < 2 * number) }
+{
+    (other as u128) < 2 * (number as u128)
+}
+
+/// Whether twice a number is below another one.
+fn is_twice_below(number: usize, other: usize) -> bool
+    ensures { IsTrue result ↔ (2 * number < other) }
+{
+    2 * (number as u128) < (other as u128)
+}
+
+/// Which holes of a file are to be tried at other places, by the best pads of all holes.
+fn suspect_of(holes: &[Drilled], bests: &[Option<BestPad>], file: FileRange) -> Suspect
+    requires ordered { file.start ≤ file.end }
+    requires inside { file.end ≤ length holes.now }
+    requires size { length bests.now ≡ length holes.now }
+    ensures { (pads : List ThePad) → AreBestPads pad_covers pads holes.now bests.now → IsSuspect pads holes.now file result }
+{
+    let own = &holes[file.start..file.end];
+    let bare = bare_among(&bests[file.start..file.end], own);
+    if !is_twice_above(bare, round_among(own)) {
+        return Suspect {
+            range: HoleRange {
+                start: file.start,
+                end: file.start,
+            },
+            bare: 0,
+        };
+    }
+    Suspect {
+        range: HoleRange {
+            start: file.start,
+            end: file.end,
+        },
+        bare,
+    }
+}
+
+/// Which holes of each file are to be tried at other places.
+fn suspects_of(
+    alloc: Global,
+    holes: &[Drilled],
+    bests: &[Option<BestPad>],
+    files: &[FileRange],
+) -> Result<Vec<Suspect>, AllocError>
+    requires files { AreFileRanges holes.now files.now }
+    requires size { length bests.now ≡ length holes.now }
+    ensures { IfOk result (λ suspects. (pads : List ThePad) → AreBestPads pad_covers pads holes.now bests.now → AreSuspects pads holes.now files.now suspects.items) }
+{
+    let mut suspects = Vec::new(alloc);
+    for file in files {
+        suspects.push(suspect_of(holes, bests, *file))?;
+    }
+    Ok(suspects)
+}
+
+/// The stretches of holes that are to be tried at other places.
+fn ranges_of(alloc: Global, suspects: &[Suspect]) -> Result<Vec<HoleRange>, AllocError>
+    ensures { IfOk result (λ ranges. ranges.items ≡ map (λ suspect. suspect.range) suspects.now) }
+{
+    suspects.iter().map(|suspect| suspect.range).collect(alloc)
+}
+
+/// The line of a file, given the factor by which the fewest of its holes would be bare.
+fn line_of(drill: usize, suspect: Suspect, fewest: Fewest) -> Option<UnitMistake>
+    ensures { (pads : List ThePad) (holes : List TheDrilled) (file : TheFileRange) → file.drill ≡ drill → IsSuspect pads holes file suspect
+        → IsFewest (bare_count_with pads (holes_of holes suspect.range)) factors fewest → IsUnitMistakeOrNone pads (holes_in holes file) drill result }
+{
+    if !is_twice_below(fewest.bare, suspect.bare) {
+        return None;
+    }
+    Some(UnitMistake {
+        drill,
+        bare: suspect.bare,
+        factor: fewest.factor,
+        then: fewest.bare,
+    })
+}
+
+/// The line of each file, given how many of its holes would be bare by each factor.
+fn lines_by(
+    alloc: Global,
+    files: &[FileRange],
+    suspects: &[Suspect],
+    ranges: &[HoleRange],
+    counts: &Counts,
+) -> Result<Vec<Option<UnitMistake>>, AllocError>
+    requires suspects { length suspects.now ≡ length files.now }
+    requires ranges { ranges.now ≡ map (λ suspect. suspect.range) suspects.now }
+    requires counted { (pads : List ThePad) × (holes : List TheDrilled) × AreAllCounted pads holes ranges.now counts.now }
+    ensures { (pads : List ThePad) (holes : List TheDrilled) → AreSuspects pads holes files.now suspects.now → AreAllCounted pads holes ranges.now counts.now
+        → IfOk result (λ lines. AreUnitMistakes pads holes files.now lines.items) }
+{
+    let mut lines = Vec::new(alloc);
+    for (place, file) in files.iter().enumerate() {
+        let fewest = counts.fewest(ranges, place);
+        lines.push(line_of(file.drill, suspects[place], fewest))?;
+    }
+    Ok(lines)
+}
+
+/// The line of each of some drill files, in their order, by the pads of the first layer, all holes and their best
+/// pads there. A file has a line where more than half of its round holes are bare, and less than half of these would
+/// be by a factor. The line names the first of the factors by which the fewest would be. Bare holes are looked for
+/// once for each of the four factors, among the holes of all files that have more than half of theirs bare.
+///
+/// # Errors
+///
+/// Where there is no memory.
+pub fn unit_mistakes(
+    alloc: Global,
+    pads: &[Pad],
+    holes: &[Drilled],
+    bests: &[Option<BestPad>],
+    files: &[FileRange],
+) -> Result<Vec<Option<UnitMistake>>, AllocError>
+    requires files { AreFileRanges holes.now files.now }
+    requires bests { AreBestPads pad_covers pads.now holes.now bests.now }
+    ensures { IfOk result (λ lines. AreUnitMistakes pads.now holes.now files.now lines.items) }
+{
+    let suspects = suspects_of(alloc, holes, bests, files)?;
+    let ranges = ranges_of(alloc, &suspects)?;
+    let counts = counts_of(alloc, pads, holes, &ranges)?;
+    lines_by(alloc, files, &suspects, &ranges, &counts)
+}
+
+/// The line of one drill file, as [`unit_mistakes`] says, by its own holes and the best pad for each of them.
+///
+/// # Errors
+///
+/// Where there is no memory.
+pub fn unit_mistake(
+    alloc: Global,
+    drill: usize,
+    pads: &[Pad],
+    holes: &[Drilled],
+    bests: &[Option<BestPad>],
+) -> Result<Option<UnitMistake>, AllocError>
+    requires { AreBestPads pad_covers pads.now holes.now bests.now }
+    ensures { IfOk result (IsUnitMistakeOrNone pads.now holes.now drill) }
+{
+    let file = FileRange {
+        drill,
+        start: 0,
+        end: holes.len(),
+    };
+    let lines = unit_mistakes(alloc, pads, holes, bests, &[file])?;
+    Ok(lines[0])
+}

@@ -1,0 +1,113 @@
+//! The flashes of a layer that are no pads, and the first of them in a hole.
+
+ghost use Rattle.std.specs.Prelude.{◌≡◌, ◌++◌, ◌∷◌, [], List, nat_lt, IfOk, if◌then◌else◌};
+ghost use Rattle.std.specs.List.Sorted.{IsPermutation};
+ghost use Rattle.std.specs.Option.{option_map_or};
+ghost use Rattle.report.specs.Causes.{other_flash, others};
+ghost use Rattle.report.specs.Inner.FirstInHole.{IsFirstIn};
+
+use crate::cause::is_in_hole;
+use grid_units::{Hole, Point};
+use layer_image::{Flash, What, Why};
+use std::alloc::{AllocError, Global};
+use std::cmp::Ordering;
+
+/// A flash that is no pad.
+#[derive(Clone, Copy, Debug, PartialEq, Eq)]
+pub(crate) struct Other {
+    /// Its place on the layer, from 0.
+    pub(crate) place: usize,
+    /// Its coordinates.
+    pub(crate) at: Point,
+    /// Why it is no pad, such as a macro aperture.
+    pub(crate) why: Why,
+}
+
+/// A flash with its place, if it is no pad.
+fn other_flash(place: usize, flash: &Flash) -> Option<Other>
+    ensures { result ≡ other_flash place flash.now.at flash.now.what }
+{
+    match flash.what {
+        What::Pad(_) => None,
+        What::Other(why) => Some(Other {
+            place,
+            at: flash.at,
+            why,
+        }),
+    }
+}
+
+/// The flashes that are no pads, in order.
+fn in_order(alloc: Global, flashes: &[Flash]) -> Result<Vec<Other>, AllocError>
+    ensures { IfOk result (λ found. found.items ≡ others flashes.now) }
+{
+    flashes
+        .iter()
+        .enumerate()
+        .filter_map(|(place, flash)| other_flash(place, flash))
+        .collect(alloc)
+}
+
+/// The distance of a coordinate from `i64::MIN`: as unsigned numbers, two coordinates can be compared bit by bit.
+fn from_least(coordinate: i64) -> u64 {
+    coordinate.abs_diff(i64::MIN)
+}
+
+/// The order of two points along a curve through ever smaller squares (Z-order), on which neighbours mostly stand together: that of the
+/// coordinates that differ in the higher bit. The answers do not depend on it, so no clause speaks of it.
+fn along_curve(a: Point, b: Point) -> Ordering {
+    let (ax, bx) = (from_least(a.x()), from_least(b.x()));
+    let (ay, by) = (from_least(a.y()), from_least(b.y()));
+    let (x, y) = (ax ^ bx, ay ^ by);
+    if x < y && x < x ^ y {
+        ay.cmp(&by)
+    } else {
+        ax.cmp(&bx)
+    }
+}
+
+/// The flashes that are no pads, ordered so that neighbours mostly stand together.
+pub(crate) fn others(alloc: Global, flashes: &[Flash]) -> Result<Vec<Other>, AllocError>
+    ensures { IfOk result (λ found. IsPermutation (others flashes.now) found.items) }
+{
+    let mut found = in_order(alloc, flashes)?;
+    found.sort_by(|a, b| along_curve(a.at, b.at))?;
+    Ok(found)
+}
+
+/// The flash of the lesser place: of the first so far, if there is one, and another.
+pub(crate) fn earlier_flash(first: Option<Other>, other: Other) -> Other
+    ensures { result ≡ option_map_or (λ held. if nat_lt other.place held.place then other else held) first other }
+{
+    match first {
+        Some(held) => {
+            if other.place < held.place {
+                other
+            } else {
+                held
+            }
+        }
+        None => other,
+    }
+}
+
+/// The earliest flash in a hole, of those so far and one more.
+fn earlier_in_hole(first: Option<Other>, other: Other, hole: &Hole) -> Option<Other>
+    ensures { (seen : List Other) → IsFirstIn seen hole.now first → IsFirstIn (seen ++ other ∷ []) hole.now result }
+{
+    if !is_in_hole(hole, other.at) {
+        return first;
+    }
+    Some(earlier_flash(first, other))
+}
+
+/// The earliest flash in a hole, of those so far and some more.
+pub(crate) fn first_in_hole(first: Option<Other>, others: &[Other], hole: &Hole) -> Option<Other>
+    ensures { (seen : List Other) → IsFirstIn seen hole.now first → IsFirstIn (seen ++ others.now) hole.now result }
+{
+    let mut first = first;
+    for other in others {
+        first = earlier_in_hole(first, *other, hole);
+    }
+    first
+}

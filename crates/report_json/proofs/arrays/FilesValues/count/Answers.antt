@@ -1,6 +1,0 @@
-use Rattle.std.proofs.Common.{sym}
-use Rattle.report_json.proofs.Lists.{length_files}
-use Rattle.report_json.proofs.arrays.FilesValues.count.Goals as goal
-
-pub returns : goal.returns
-returns c = sym (length_files _ _)

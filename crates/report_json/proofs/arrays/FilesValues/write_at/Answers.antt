@@ -1,9 +1,0 @@
-use Rattle.std.proofs.Common.{arith}
-use Rattle.report_json.proofs.Lists.{length_files}
-use Rattle.report_json.proofs.arrays.FilesValues.write_at.Goals as goal
-
-pub overflow_cast-place : goal.overflow_cast-place
-overflow_cast-place g c = omega (arith, length_files)
-
-pub file_at-requires : goal.file_at-requires
-file_at-requires g c = omega (arith, length_files)

@@ -1,8 +1,0 @@
-use Rattle.std.proofs.Common.{arith}
-use Rattle.report_json.proofs.Lists.{length_found}
-use Rattle.report_json.proofs.arrays.FindingsValues.count.Goals as goal
-
-pub returns : goal.returns
-returns c =
-    let report = c.args.self.now.telling.now in
-    omega (arith, c.len.ensures, length_found report.layers.items report.rings.items report.gaps.items c.args.self.now.whys.now.rings.now c.args.self.now.whys.now.gaps.now)

@@ -1,6 +1,0 @@
-use Rattle.std.proofs.Common.{arith}
-use Rattle.report_json.proofs.Lists.{items_numbers}
-use Rattle.report_json.proofs.arrays.array_numbers.Goals as goal
-
-pub returns : goal.returns
-returns g c = items_numbers (g.V.Values.values c.args.values.now) (λ k l. c.loop-place.invariant k (omega arith))

@@ -1,6 +1,0 @@
-use Rattle.std.proofs.Common.{◌≡◌, drop}
-use Rattle.measuring.specs.Rows.{holes_before}
-use Rattle.report_json.proofs.measured.holes_from.Given as goal
-
-abbrev pub invariant-loop-before : goal.invariant-loop-before
-invariant-loop-before l = l.rest ≡ drop (holes_before l.files l.before) l.holes

@@ -1,9 +1,0 @@
-use Rattle.std.proofs.Common.{append_assoc}
-use Rattle.std.proofs.Output.{has_written_of_eq}
-use Rattle.json.specs.Print.{escape_byte}
-use Rattle.report_json.specs.Values.{row_value}
-use Rattle.report_json.proofs.values.RowJsonDisplay.fmt.Goals as goal
-
-pub returns-clause-writes : goal.returns-clause-writes
-unfolding row_value escape_byte
-returns-clause-writes g c = λ plain ok. has_written_of_eq _ _ _ _ _ (simp append_assoc) (c.write.ensures.writes plain ok)

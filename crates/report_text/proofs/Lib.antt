@@ -1,3 +1,0 @@
-pub mod Extent
-pub mod Showing
-pub mod Standing

@@ -1,9 +1,0 @@
-use Rattle.std.proofs.Common.{map, take}
-use Rattle.std.specs.Fmt.{HasWritten, IsPlainFormatter}
-use Rattle.std.specs.List.{enumerate_from, flat_map}
-use Rattle.report_text.specs.Texts.{layer_text}
-use Rattle.report_text.proofs.report.write_layers.Given as goal
-
-abbrev pub invariant-loop-i : goal.invariant-loop-i
-invariant-loop-i g l =
-    IsPlainFormatter l.initial.f → HasWritten g.W.Write.write_str_gives l.initial.f (flat_map (layer_text (map (λ name. name.now) l.page.names.now) l.page.limit l.page.rings.now l.page.whys.now) (take l.i (enumerate_from 0 l.layers))) l.f

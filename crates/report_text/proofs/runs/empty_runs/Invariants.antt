@@ -1,9 +1,0 @@
-use Rattle.std.proofs.Common.{◌≡◌, length}
-use Rattle.report_text.specs.Inner.{AreRuns}
-use Rattle.report_text.proofs.runs.empty_runs.Given as goal
-
-abbrev pub invariant-loop-layer : goal.invariant-loop-layer
-invariant-loop-layer l = record {
-  long : length l.runs.items ≡ l.layer;
-  empty : AreRuns l.rings 0 l.runs.items;
-}

@@ -1,6 +1,0 @@
-use Rattle.std.proofs.Common.{◌∙◌}
-use Rattle.report_text.proofs.Standing.{count_in_run}
-use Rattle.report_text.proofs.tallies.rings_on.Goals as goal
-
-pub returns : goal.returns
-returns c = c.rings_among.ensures ∙ count_in_run c.args.rings.now c.args.run.layer c.args.run c.requires

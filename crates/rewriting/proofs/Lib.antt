@@ -1,6 +1,0 @@
-pub mod Ranges
-pub mod Typed
-pub mod Again
-pub mod Once
-pub mod Written
-pub mod Packages

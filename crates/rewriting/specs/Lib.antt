@@ -1,3 +1,0 @@
-pub mod Packages
-pub mod Rewriting
-pub mod Inner

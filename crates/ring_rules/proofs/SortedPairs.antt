@@ -1,0 +1,220 @@
+-- Pairs of places in order: a list in which each pair comes before all later ones is known by its members.
+use Rattle.std.proofs.Common.{◌≡◌, ℕ, ◌+◌, ◌<◌, ◌⊎◌, inl, inr, zero, suc, List, [], ◌∷◌, ◌++◌, map, length, get_or, refl, sym, ap, ◌∙◌, subst, arith, Bool, true, false}
+use Rattle.std.specs.Prelude.{nat_eq, ◌&&◌}
+use Rattle.std.specs.List.{All, AllPairs, Contains, IsDistinct}
+use Rattle.std.specs.List.Sorted.{IsSorted, IsPermutation, IsStrictlySortedBy}
+use Rattle.std.specs.declared.cmp.Ordering.{Ordering}
+use Rattle.std.specs.declared.cmp.Ordering.TheVariants.{Less}
+use Rattle.std.specs.Ordering.{nat_cmp, ordering_then, is_lt, eq_by_cmp}
+use Rattle.std.specs.Cmp.{IsTotalOrder, nat_cmp_total, on_total, then_total, both_tied, unsigned_ties, IsEquivalence, nat_eq_equiv, on_equiv, and_equiv}
+use Rattle.std.proofs.lemmas.Bool.{cases_lt, cases_eq}
+use Rattle.std.proofs.lemmas.Bool.Decides.{nat_tests}
+use Rattle.std.proofs.lemmas.List.Elements.{All-nil, All-cons, All-head, All-tail, All-append, All-map, All-weaker, All-contains, All-from_recursion}
+use Rattle.std.proofs.lemmas.List.Kept.{AllPairs-cons}
+use Rattle.ring_rules.specs.Inner.ClashingPairs.{IsPairBefore}
+use Rattle.std.proofs.lemmas.Map.Keys.{IsDistinct-from_apart, IsDistinct-IsPermutation, apart_from_distinct}
+use Rattle.grid_units.proofs.BoolLemmas.{and_false}
+
+before_trans : (p q r : ℕ × ℕ) → IsPairBefore p q → IsPairBefore q r → IsPairBefore p r
+before_trans p q r h k = elim h [
+  | inl less ↦ elim k [
+    | inl less' ↦ inl (omega (arith, less, less'))
+    | inr same' ↦ inl (omega (arith, less, same'.0))
+  ]
+  | inr same ↦ elim k [
+    | inl less' ↦ inl (omega (arith, same.0, less'))
+    | inr same' ↦ inr (same.0 ∙ same'.0, omega (arith, same.1, same'.1))
+  ]
+]
+
+not_before_itself : (p : ℕ × ℕ) → ¬ IsPairBefore p p
+not_before_itself p h = elim h [
+  | inl less ↦ omega (arith, less)
+  | inr same ↦ omega (arith, same.1)
+]
+
+pub pairs_head : {X : Type 0} (R : X → X → Type 0) (x : X) (xs : List X) → AllPairs R (x ∷ xs) → All (R x) xs
+pairs_head R x xs up k d h = up 0 (suc k) d (omega arith) (omega (arith, h))
+
+pub pairs_tail : {X : Type 0} (R : X → X → Type 0) (x : X) (xs : List X) → AllPairs R (x ∷ xs) → AllPairs R xs
+pairs_tail R x xs up i j d h k = up (suc i) (suc j) d (omega (arith, h)) (omega (arith, k))
+
+pub pairs_none : {X : Type 0} (R : X → X → Type 0) → AllPairs R []
+pairs_none R i j d h k = absurd (omega (arith, k))
+
+pub pairs_append : {X : Type 0} (R : X → X → Type 0) (xs ys : List X) → AllPairs R xs → AllPairs R ys → All (λ x. All (R x) ys) xs → AllPairs R (xs ++ ys)
+pairs_append R [] ys up up' across = up'
+pairs_append {X} R (x ∷ xs) ys up up' across =
+    AllPairs-cons R x (xs ++ ys)
+    (All-append (R x) xs ys (pairs_head R x xs up) (All-head (λ (z : X). All (R z) ys) x xs across))
+    (pairs_append R xs ys (pairs_tail R x xs up) up' (All-tail (λ (z : X). All (R z) ys) x xs across))
+
+pub pairs_map : {X Y : Type 0} (R : Y → Y → Type 0) (f : X → Y) (xs : List X) → AllPairs (λ x y. R (f x) (f y)) xs → AllPairs R (map f xs)
+pairs_map R f [] up = pairs_none R
+pairs_map {X} R f (x ∷ xs) up =
+    AllPairs-cons R (f x) (map f xs) (All-map (R (f x)) f xs (pairs_head (λ (a b : X). R (f a) (f b)) x xs up)) (pairs_map R f xs (pairs_tail (λ (a b : X). R (f a) (f b)) x xs up))
+
+pub pairs_weaker : {X : Type 0} (R S : X → X → Type 0) → ((x y : X) → R x y → S x y) → (xs : List X) → AllPairs R xs → AllPairs S xs
+pairs_weaker R S weaker xs up i j d h k = weaker (get_or xs i d) (get_or xs j d) (up i j d h k)
+
+contains_at : {X : Type 0} (x : X) (xs : List X) (y : X) (k : ℕ) → k < length (x ∷ xs) → get_or (x ∷ xs) k y ≡ y → (x ≡ y) ⊎ Contains xs y
+contains_at x xs y zero h e = inl e
+contains_at x xs y (suc k) h e = inr (k, omega (arith, h), e)
+
+-- the first element, or a later one
+pub contains_cases : {X : Type 0} (x : X) (xs : List X) (y : X) → Contains (x ∷ xs) y → (x ≡ y) ⊎ Contains xs y
+contains_cases x xs y among = contains_at x xs y among.0 among.1 among.2
+
+pub contains_first : {X : Type 0} (x : X) (xs : List X) → Contains (x ∷ xs) x
+contains_first x xs = (0, omega arith, refl)
+
+pub contains_later : {X : Type 0} (x : X) (xs : List X) (y : X) → Contains xs y → Contains (x ∷ xs) y
+contains_later x xs y among = (suc among.0, (let h = among.1 in omega (arith, h)), among.2)
+
+-- two lists in order with the same members are the same
+pub same_rising : (ps qs : List (ℕ × ℕ)) → AllPairs IsPairBefore ps → AllPairs IsPairBefore qs → ((p : ℕ × ℕ) → Contains ps p → Contains qs p) → ((p : ℕ × ℕ) → Contains qs p → Contains ps p) → ps ≡ qs
+same_rising [] [] up up' there back = refl
+same_rising [] (q ∷ qs) up up' there back = absurd (let h = (back q (contains_first q qs)).1 in omega (arith, h))
+same_rising (p ∷ ps) [] up up' there back = absurd (let h = (there p (contains_first p ps)).1 in omega (arith, h))
+same_rising (p ∷ ps) (q ∷ qs) up up' there back =
+    let after : All (IsPairBefore p) ps = pairs_head IsPairBefore p ps up in
+    let after' : All (IsPairBefore q) qs = pairs_head IsPairBefore q qs up' in
+    let first : p ≡ q = elim (contains_cases q qs p (there p (contains_first p ps))) [
+      | inl same ↦ sym same
+      | inr later ↦ elim (contains_cases p ps q (back q (contains_first q qs))) [
+        | inl same ↦ same
+        | inr later' ↦ absurd (not_before_itself p (before_trans p q p (All-contains (IsPairBefore p) ps q after later') (All-contains (IsPairBefore q) qs p after' later)))
+      ]
+    ] in
+    let there' : (r : ℕ × ℕ) → Contains ps r → Contains qs r = λ r among. elim (contains_cases q qs r (there r (contains_later p ps r among))) [
+      | inl same ↦ absurd (not_before_itself p (subst (IsPairBefore p) (sym (first ∙ same)) (All-contains (IsPairBefore p) ps r after among)))
+      | inr later ↦ later
+    ] in
+    let back' : (r : ℕ × ℕ) → Contains qs r → Contains ps r = λ r among. elim (contains_cases p ps r (back r (contains_later q qs r among))) [
+      | inl same ↦ absurd (not_before_itself q (subst (IsPairBefore q) (sym (sym first ∙ same)) (All-contains (IsPairBefore q) qs r after' among)))
+      | inr later ↦ later
+    ] in
+    ap (λ x. x ∷ ps) first ∙ ap (λ xs. q ∷ xs) (same_rising ps qs (pairs_tail IsPairBefore p ps up) (pairs_tail IsPairBefore q qs up') there' back')
+
+-- the order of two pairs of places, as the sort compares them
+abbrev pub pair_cmp : ℕ × ℕ → ℕ × ℕ → Ordering
+pair_cmp p q = ordering_then (nat_cmp p.0 q.0) (nat_cmp p.1 q.1)
+
+-- two pairs that differ and are not the other way round
+before_from_test : (p q : ℕ × ℕ) → is_lt (pair_cmp q p) ≡ false → ¬ (p ≡ q) → IsPairBefore p q
+before_from_test p q e differ = elim (cases_lt p.0 q.0) [
+  | inl less ↦ inl less
+  | inr no_less ↦ elim (cases_lt q.0 p.0) [
+    | inl more ↦ absurd (grind (arith, nat_tests))
+    | inr same ↦
+        let first : p.0 ≡ q.0 = omega (arith, no_less, same) in
+        elim (cases_lt p.1 q.1) [
+          | inl less' ↦ inr (first, less')
+          | inr no_less' ↦ elim (cases_lt q.1 p.1) [
+            | inl more' ↦ absurd (grind (arith, nat_tests))
+            | inr same' ↦ absurd (differ (ap (λ n. (n, p.1)) first ∙ ap (λ n. (q.0, n)) (let s : p.1 ≡ q.1 = omega (arith, no_less', same') in s)))
+          ]
+        ]
+  ]
+]
+
+sorted_rest : (p : ℕ × ℕ) (ps : List (ℕ × ℕ)) → IsSorted pair_cmp (p ∷ ps) → IsSorted pair_cmp ps
+sorted_rest p ps up k d h l =
+    let next : suc k + 1 ≡ suc (k + 1) = omega arith in
+    subst (λ n. is_lt (pair_cmp (get_or (p ∷ ps) n d) (get_or ps k d)) ≡ false) next (up (suc k) d (omega arith) (omega (arith, l)))
+
+-- a sorted list of pairs that all differ
+pub rising_from_sorted : (ps : List (ℕ × ℕ)) → IsSorted pair_cmp ps → AllPairs (λ p q. ¬ (p ≡ q)) ps → AllPairs IsPairBefore ps
+rising_from_sorted [] up differ = pairs_none IsPairBefore
+rising_from_sorted (p ∷ []) up differ = AllPairs-cons IsPairBefore p [] (All-nil (IsPairBefore p)) (pairs_none IsPairBefore)
+rising_from_sorted (p ∷ q ∷ ps) up differ =
+    let rest : AllPairs IsPairBefore (q ∷ ps) = rising_from_sorted (q ∷ ps) (sorted_rest p (q ∷ ps) up) (pairs_tail (λ (a b : ℕ × ℕ). ¬ (a ≡ b)) p (q ∷ ps) differ) in
+    let next : IsPairBefore p q = before_from_test p q (up 0 p (omega arith) (omega arith)) (differ 0 1 p (omega arith) (omega arith)) in
+    AllPairs-cons IsPairBefore p (q ∷ ps) (All-cons (IsPairBefore p) q ps next (All-weaker (IsPairBefore q) (IsPairBefore p) (λ r. before_trans p q r next) ps (pairs_head IsPairBefore q ps rest))) rest
+
+pub no_eq : (m n : ℕ) → ¬ (m ≡ n) → nat_eq m n ≡ false
+no_eq m n other = by_test (nat_eq m n) refl where
+  by_test : (b : Bool) → nat_eq m n ≡ b → b ≡ false
+  by_test true t = absurd (other (grind (arith, nat_tests)))
+  by_test false t = refl
+
+itself : (n : ℕ) → nat_eq n n ≡ true
+itself n = grind (arith, nat_tests)
+
+pub eq_flips : (m n : ℕ) → nat_eq m n ≡ nat_eq n m
+eq_flips m n = elim (cases_eq m n) [
+  | inl same ↦ ap (λ k. nat_eq k n) same ∙ ap (nat_eq n) (sym same)
+  | inr other ↦ no_eq m n other ∙ sym (no_eq n m (λ e. other (sym e)))
+]
+
+true_is_not_false : ¬ (true ≡ false)
+true_is_not_false e = cc
+
+abbrev same_pair : ℕ × ℕ → ℕ × ℕ → Bool
+same_pair p q = nat_eq p.0 q.0 && nat_eq p.1 q.1
+
+same_flips : (p q : ℕ × ℕ) → same_pair p q ≡ same_pair q p
+same_flips p q = ap (λ b. b && nat_eq p.1 q.1) (eq_flips p.0 q.0) ∙ ap (λ b. nat_eq q.0 p.0 && b) (eq_flips p.1 q.1)
+
+differ_test : (p q : ℕ × ℕ) → ¬ (p ≡ q) → same_pair p q ≡ false
+differ_test p q differ = elim (cases_eq p.0 q.0) [
+  | inl first ↦ elim (cases_eq p.1 q.1) [
+    | inl second ↦ absurd (differ (ap (λ n. (n, p.1)) first ∙ ap (λ n. (q.0, n)) second))
+    | inr other ↦ let t : nat_eq p.1 q.1 ≡ false = no_eq p.1 q.1 other in rw t (and_false (nat_eq p.0 q.0))
+  ]
+  | inr other ↦ let t : nat_eq p.0 q.0 ≡ false = no_eq p.0 q.0 other in rw t refl
+]
+
+same_itself : (p : ℕ × ℕ) → same_pair p p ≡ true
+same_itself p = ap (λ b. b && nat_eq p.1 p.1) (itself p.0) ∙ itself p.1
+
+test_differs : (p q : ℕ × ℕ) → same_pair p q ≡ false → ¬ (p ≡ q)
+test_differs p q t e = true_is_not_false (sym (same_itself q) ∙ (ap (λ r. same_pair r q) (sym e) ∙ t))
+
+pub other_places : (m n : ℕ) → nat_eq m n ≡ false → ¬ (m ≡ n)
+other_places m n t e = true_is_not_false (sym (itself n) ∙ (ap (λ k. nat_eq k n) (sym e) ∙ t))
+
+-- pairs that differ stay so in another order
+pub differ_permutation : (ps qs : List (ℕ × ℕ)) → IsPermutation ps qs → AllPairs (λ p q. ¬ (p ≡ q)) ps → AllPairs (λ p q. ¬ (p ≡ q)) qs
+differ_permutation ps qs same differ =
+    let distinct : IsDistinct same_pair ps = IsDistinct-from_apart same_pair ps (λ i j d h k. differ_test (get_or ps i d) (get_or ps j d) (differ i j d h k)) in
+    let distinct' : IsDistinct same_pair qs = IsDistinct-IsPermutation same_pair same_flips ps qs same distinct in
+    λ i j d h k. test_differs (get_or qs i d) (get_or qs j d) (apart_from_distinct same_pair qs i j d distinct' h k)
+
+less_before : (p q : ℕ × ℕ) → pair_cmp p q ≡ Less → IsPairBefore p q
+less_before p q e = elim (cases_lt p.0 q.0) [
+  | inl less ↦ inl less
+  | inr no_less ↦ elim (cases_lt q.0 p.0) [
+    | inl more ↦ absurd (grind (arith, nat_tests))
+    | inr same ↦
+        let first : p.0 ≡ q.0 = omega (arith, no_less, same) in
+        elim (cases_lt p.1 q.1) [
+          | inl less' ↦ inr (first, less')
+          | inr no_less' ↦ absurd (grind (arith, nat_tests))
+        ]
+  ]
+]
+
+-- a list of pairs in which none is equal to the next
+pub rising_from_strict : (ps : List (ℕ × ℕ)) → IsStrictlySortedBy pair_cmp ps → AllPairs IsPairBefore ps
+unfolding IsStrictlySortedBy
+rising_from_strict [] up = pairs_none IsPairBefore
+rising_from_strict (p ∷ ps) up = AllPairs-cons IsPairBefore p ps (All-weaker (λ q. pair_cmp p q ≡ Less) (IsPairBefore p) (λ q. less_before p q) ps (All-from_recursion (λ q. pair_cmp p q ≡ Less) ps up.0)) (rising_from_strict ps up.1)
+
+pub pairs_total : IsTotalOrder pair_cmp
+pairs_total = then_total (on_total (λ (p : ℕ × ℕ). p.0) nat_cmp_total) (on_total (λ (p : ℕ × ℕ). p.1) nat_cmp_total)
+
+abbrev pub pair_eq : ℕ × ℕ → ℕ × ℕ → Bool
+pair_eq p q = nat_eq p.0 q.0 && nat_eq p.1 q.1
+
+pub pairs_tie : (p q : ℕ × ℕ) → pair_eq p q ≡ eq_by_cmp pair_cmp p q
+pairs_tie p q = both_tied (nat_eq p.0 q.0) (nat_eq p.1 q.1) (nat_cmp p.0 q.0) (nat_cmp p.1 q.1) (unsigned_ties p.0 q.0) (unsigned_ties p.1 q.1)
+
+pub pairs_equal : IsEquivalence pair_eq
+pairs_equal = and_equiv (on_equiv (λ (p : ℕ × ℕ). p.0) nat_eq_equiv) (on_equiv (λ (p : ℕ × ℕ). p.1) nat_eq_equiv)
+
+pub pairs_same : (p q : ℕ × ℕ) → pair_eq p q ≡ true → p ≡ q
+pairs_same p q e =
+    let first : p.0 ≡ q.0 = grind (arith, nat_tests) in
+    let second : p.1 ≡ q.1 = grind (arith, nat_tests) in
+    λ i. (first i, second i)

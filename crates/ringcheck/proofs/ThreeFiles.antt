@@ -1,0 +1,83 @@
+-- What a check or a report that passes, or a measure, says of three files at hand.
+use Rattle.std.proofs.Common.{◌≡◌, ℕ, zero, suc, List, [], ◌∷◌, inl, inr, Option, None, Result, Ok, Err, length, codes, ap, sym, subst, refl, arith}
+use Rattle.std.specs.List.{Contains}
+use Rattle.grid_units.specs.Holes.{GridRules}
+use Rattle.grid_units.specs.declared.fault.Reason.{Reason}
+use Rattle.manifest.specs.declared.Entry.{Entry}
+use Rattle.manifest.specs.Manifest.{manifest}
+use Rattle.board_report.specs.Measures.{PackagePasses}
+use Rattle.report.specs.declared.Measure.{Measure}
+use Rattle.package_check.specs.Package.{FileView}
+use Rattle.package_check.specs.Soundness.{IsSound}
+use Rattle.ringcheck_files.specs.declared.Status.{Status}
+use Rattle.ringcheck_files.specs.declared.Status.TheVariants as status
+use Rattle.ringcheck.specs.declared.parsed_words.MeasureFormat.{MeasureFormat}
+use Rattle.ringcheck.specs.MeasureStatus.{IsParsedMeasureStatus}
+use Rattle.ringcheck_files.specs.LoaderRelation.{file_limit, within}
+use Rattle.ringcheck_files.specs.Words.{IsUsageStatus}
+use Rattle.ringcheck.specs.ReportStatus.{IsParsedReportStatus}
+use Rattle.ringcheck.specs.CheckStatus.{HasFiles, HoldsForPackage, IsParsedCheckStatus, sources}
+use Rattle.ringcheck.proofs.LoadSteps.{has_files_along}
+
+-- a manifest, a layer and a drill file under their names
+abbrev pub three : List ℕ → List ℕ → List ℕ → List (List ℕ × List ℕ)
+three m l d = (codes "m.csv", m) ∷ (codes "top.gbr", l) ∷ (codes "pth.drl", d) ∷ []
+
+abbrev pub has_three_files : List ℕ → List ℕ → List ℕ → List ℕ → List ℕ → Type 0
+has_three_files m l d name bytes = Contains {X = List ℕ × List ℕ} (three m l d) (name, bytes)
+
+other_length : (a b : List ℕ) → length a ≡ 7 → length b ≡ 5 → a ≡ b → ⊥
+other_length a b s f e = absurd (omega (arith, s, f, ap (λ (x : List ℕ). length x) e))
+
+first_held : (m l d text : List ℕ) → has_three_files m l d (codes "m.csv") text → text ≡ m
+first_held m l d text (zero, lt, is) = sym (ap (λ (p : List ℕ × List ℕ). p.1) is)
+first_held m l d text (suc zero, lt, is) = absurd (other_length (codes "top.gbr") (codes "m.csv") refl refl (ap (λ (p : List ℕ × List ℕ). p.0) is))
+first_held m l d text (suc (suc zero), lt, is) = absurd (other_length (codes "pth.drl") (codes "m.csv") refl refl (ap (λ (p : List ℕ × List ℕ). p.0) is))
+first_held m l d text (suc (suc (suc k)), lt, is) = absurd (omega (arith, lt))
+
+usage_never_passes : (why : Reason) (before after : Option (List ℕ)) (s : Status) → IsUsageStatus why before after s → s ≡ status.Pass → ⊥
+usage_never_passes why before after s (inl u) p = let e = u.0 in cc
+usage_never_passes why before after s (inr d) p = cc
+
+-- a package whose manifest is the first file
+held : (m l d : List ℕ) (Holds : List FileView → Type 0) → HoldsForPackage (has_three_files m l d) (codes "m.csv") Holds
+    → (entries : List Entry) × (manifest m ≡ Ok entries) × (files : List (List ℕ)) × HasFiles (has_three_files m l d) entries files × Holds (sources entries files)
+held m l d Holds h =
+    let listed = h.listed in (
+      h.entries,
+      subst (λ (t : List ℕ). manifest t ≡ Ok h.entries) (first_held m l d listed.0 listed.1) listed.3,
+      h.files,
+      has_files_along (within file_limit (has_three_files m l d)) (has_three_files m l d) (λ n b w. w.0) h.entries h.files h.loaded,
+      h.holds,
+    )
+
+-- the files that the manifest names are sound
+pub sound_of_three : (m l d : List ℕ) (r : Result GridRules Reason) (before after : Option (List ℕ)) (s : Status) → IsParsedCheckStatus (has_three_files m l d) (codes "m.csv") r before after s → s ≡ status.Pass
+    → (rules : GridRules) × (r ≡ Ok rules) × (entries : List Entry) × (manifest m ≡ Ok entries) × (files : List (List ℕ)) × HasFiles (has_three_files m l d) entries files × IsSound (sources entries files) rules
+sound_of_three m l d (Err why) before after s says is = absurd (usage_never_passes why before after s says is)
+sound_of_three m l d (Ok rules) before after status.Pass says is = let (entries, listed, files, loaded, holds) = held m l d _ says in (rules, refl, entries, listed, files, loaded, holds.sound refl)
+sound_of_three m l d (Ok rules) before after status.Findings says is = cc
+sound_of_three m l d (Ok rules) before after status.Refused says is = cc
+sound_of_three m l d (Ok rules) before after status.Usage says is = cc
+sound_of_three m l d (Ok rules) before after status.Device says is = cc
+
+-- the files that the manifest names pass under just the rules that are met
+pub met_of_three : (m l d : List ℕ) (r : Result MeasureFormat Reason) (before after : Option (List ℕ)) (s : Status) → IsParsedMeasureStatus (has_three_files m l d) (codes "m.csv") r before after s → s ≡ status.Pass
+    → (entries : List Entry) × (manifest m ≡ Ok entries) × (files : List (List ℕ)) × HasFiles (has_three_files m l d) entries files
+    × (measure : Measure) × PackagePasses (sources entries files) measure.meets.ring measure.meets.gap
+met_of_three m l d (Err why) before after s says is = absurd (usage_never_passes why before after s says is)
+met_of_three m l d (Ok form) before after status.Pass says is = let (entries, listed, files, loaded, holds) = held m l d _ says in (entries, listed, files, loaded, holds.measure, holds.met)
+met_of_three m l d (Ok form) before after status.Findings says is = cc
+met_of_three m l d (Ok form) before after status.Refused says is = cc
+met_of_three m l d (Ok form) before after status.Usage says is = cc
+met_of_three m l d (Ok form) before after status.Device says is = cc
+
+-- the files that the manifest names are sound, where a report has no finding
+pub report_of_three : (m l d : List ℕ) (r : Result (GridRules × Option ℕ × MeasureFormat) Reason) (before after : Option (List ℕ)) (s : Status) → IsParsedReportStatus (has_three_files m l d) (codes "m.csv") r None before after s → s ≡ status.Pass
+    → (unparsed : GridRules × Option ℕ × MeasureFormat) × (r ≡ Ok unparsed) × (entries : List Entry) × (manifest m ≡ Ok entries) × (files : List (List ℕ)) × HasFiles (has_three_files m l d) entries files × IsSound (sources entries files) unparsed.0
+report_of_three m l d (Err why) before after s says is = absurd (usage_never_passes why before after s says is)
+report_of_three m l d (Ok (rules, limit, form)) before after status.Pass says is = let (entries, listed, files, loaded, holds) = held m l d _ says in ((rules, limit, form), refl, entries, listed, files, loaded, holds.sound (sym holds.judged.0))
+report_of_three m l d (Ok (rules, limit, form)) before after status.Findings says is = cc
+report_of_three m l d (Ok (rules, limit, form)) before after status.Refused says is = cc
+report_of_three m l d (Ok (rules, limit, form)) before after status.Usage says is = cc
+report_of_three m l d (Ok (rules, limit, form)) before after status.Device says is = cc

@@ -1,0 +1,49 @@
+use Rattle.manifest.specs.Manifest.{manifest}
+use Rattle.ringcheck_files.specs.Outcomes.{HasRisen}
+use Rattle.ringcheck.specs.declared.refusals.Subject.TheVariants as subject
+use Rattle.ringcheck.specs.Inner.Halting.{RefusesTable}
+use Rattle.ringcheck.specs.Inner.Jobs.{Holds, SaysJob, job_style}
+use Rattle.ringcheck.specs.CheckStatus.{RefusedFile, refused_file, refused_manifest}
+use Rattle.ringcheck.proofs.Outcomes.{file_along, files_along, halted, worked}
+use Rattle.ringcheck.proofs.packages.run_job.Goals as goal
+
+pub returns-in-Err-clause-says : goal.returns-in-Err-clause-says
+returns-in-Err-clause-says g c =
+    let has = g.L.Loader.has c.args.loader.now in
+    let failed = g.L.Loader.failed in
+    let job = c.args.job.now in
+    let before = g.W.Write.contents c.args.out.now in
+    let after = g.W.Write.contents c.print_halt.new.out in
+    halted (RefusesTable manifest has c.args.name.now subject.Manifest) (HasRisen (failed c.args.loader.now) (failed c.load_table.new.loader)) (job_style job) before after
+    (SaysJob job has c.args.name.now before after) (λ risen. tt)
+    (λ why is printed. record { why = why; refused = refused_manifest is.0 is.1 is.2; printed = printed })
+    c.in-Err.halt (rw c.in-Err.is at c.in_ok-entries.ensures.loaded) c.print_halt.result (rw c.style.ensures at c.print_halt.ensures)
+
+pub returns-in-Ok-2-clause-says : goal.returns-in-Ok-2-clause-says
+returns-in-Ok-2-clause-says g c =
+    let has = g.L.Loader.has c.args.loader.now in
+    let later = g.L.Loader.has c.load_table.new.loader in
+    let job = c.args.job.now in
+    let before = g.W.Write.contents c.args.out.now in
+    let after = g.W.Write.contents c.answer.new.out in
+    let entries = c.in-Ok.entries.items in
+    let listed = rw c.in-Ok.is at c.in_ok-entries.ensures.loaded in
+    let (files, held, holds) = rw (c.in-Ok-2.is, c.as_slice.ensures.value) at c.in_ok-passes.ensures.answers in
+    let has_files_along = files_along later has c.in_ok-entries.ensures.keeps entries files held in
+    rw c.status_of.ensures (worked has c.args.name.now (Holds job before after) (job_style job) before after entries files listed has_files_along c.in-Ok-2.passes holds)
+
+pub returns-clause-says : goal.returns-clause-says
+returns-clause-says g c =
+    let has = g.L.Loader.has c.args.loader.now in
+    let later = g.L.Loader.has c.load_table.new.loader in
+    let failed = g.L.Loader.failed in
+    let job = c.args.job.now in
+    let before = g.W.Write.contents c.args.out.now in
+    let after = g.W.Write.contents c.print_halt-in-Err-2.new.out in
+    let entries = c.in-Ok.entries.items in
+    let listed = rw c.in-Ok.is at c.in_ok-entries.ensures.loaded in
+    let silent = rw c.in-Err-2.is at c.in_ok-passes.ensures.silent in
+    halted (RefusedFile later entries) (HasRisen (failed c.load_table.new.loader) (failed c.answer.new.loader)) (job_style job) before after
+    (SaysJob job has c.args.name.now before after) (λ risen. tt)
+    (λ why is printed. record { why = why; refused = refused_file entries listed (file_along later has c.in_ok-entries.ensures.keeps entries why is); printed = printed })
+    c.in-Err-2.halt (rw (c.in-Err-2.is, c.as_slice.ensures.value) at c.in_ok-passes.ensures.answers) c.print_halt-in-Err-2.result (rw (c.style-in-Err-2.ensures, silent) at c.print_halt-in-Err-2.ensures)

@@ -1,7 +1,0 @@
-use Rattle.std.specs.Fmt.{HasWritten, IsPlainFormatter}
-use Rattle.std.specs.List.{flat_map}
-use Rattle.ringcheck.specs.Refusing.{indented_row}
-use Rattle.ringcheck.proofs.refusing.IndentedDisplay.fmt.Given as goal
-
-abbrev pub invariant-loop-row : goal.invariant-loop-row
-invariant-loop-row g l = IsPlainFormatter l.initial.f → HasWritten g.W.Write.write_str_gives l.initial.f (flat_map (λ row. indented_row row.now) l.yielded) l.f

@@ -1,0 +1,122 @@
+-- What a loader has under names, and what a status says of a command on a package.
+use Rattle.std.specs.Prelude.{◌≡◌, ◌<◌, ◌≤◌, ◌⊎◌, ◌==◌, ℕ, Bool, true, false, List, [], ◌∷◌, length, take, slice_get, Result, Ok, Err, ⊤, Option, Some, if◌then◌else◌}
+use Rattle.std.specs.List.{count_by}
+use Rattle.std.specs.Io.KnownBytes.{Appends}
+use Rattle.grid_units.specs.Holes.{GridRules}
+use Rattle.grid_units.specs.declared.fault.Fault.{Fault}
+use Rattle.grid_units.specs.declared.fault.Reason.{Reason}
+use Rattle.manifest.specs.declared.Entry.{Entry}
+use Rattle.manifest.specs.Manifest.{manifest}
+use Rattle.ringcheck_files.specs.declared.Status.{Status}
+use Rattle.ringcheck_files.specs.declared.Status.TheVariants as status
+use Rattle.ringcheck.specs.declared.refusals.RefusalStyle.{RefusalStyle}
+use Rattle.ringcheck.specs.declared.refusals.RefusalStyle.TheVariants as style
+use Rattle.ringcheck.specs.Refusals.{Refusal, PrintsRefusal, of_file, of_manifest}
+use Rattle.ringcheck_files.specs.LoaderRelation.{Relation, file_limit, too_long, within}
+use Rattle.ringcheck_files.specs.Words.{IsUsageStatus}
+use Rattle.package_check.specs.Reports.{ReportView}
+use Rattle.package_check.specs.Package.{FileView, IsFirstRefused, IsReport, is_copper}
+use Rattle.package_check.specs.Soundness.{IsSound}
+use Rattle.package_check.specs.Texts.{report_text}
+
+-- the sources that entries and the bytes of their files make, in a package of so many copper files
+abbrev pub file_views_among : ℕ → List Entry → List (List ℕ) → List FileView
+file_views_among layers [] bytes = []
+file_views_among layers (entry ∷ entries) [] = []
+file_views_among layers (entry ∷ entries) (bytes ∷ rest) =
+    record { role = entry.role; name = entry.name; span = entry.span; bytes = bytes; layers = layers } ∷ file_views_among layers entries rest
+
+-- the sources that the entries of a manifest and the bytes of their files make
+abbrev pub sources : List Entry → List (List ℕ) → List FileView
+sources entries files = file_views_among (count_by (λ entry. is_copper entry.role) entries) entries files
+
+-- the loader has these bytes for the files of these entries, one by one
+abbrev pub HasFiles : Relation → List Entry → List (List ℕ) → Type 0
+HasFiles has [] [] = ⊤
+HasFiles has [] (bytes ∷ rest) = ⊥
+HasFiles has (entry ∷ entries) [] = ⊥
+HasFiles has (entry ∷ entries) (bytes ∷ rest) = has entry.file bytes × HasFiles has entries rest
+
+-- the most bytes of a table: a manifest, or a file of waivers (docs/FORMATS.md, Limits)
+abbrev pub manifest_limit : ℕ
+manifest_limit = 1048576
+
+-- the loader has under this name a table with just these rows, not above its limit; `parse` reads its text
+abbrev pub HasTable : {A : Type 0} → (List ℕ → Result (List A) Fault) → Relation → List ℕ → List A → Type 0
+HasTable parse has name rows = (text : List ℕ) × has name text × (length text ≤ manifest_limit) × (parse text ≡ Ok rows)
+
+-- the loader has under this name a table that is refused for its length or its rows, with this fault
+abbrev pub RefusedTable : {A : Type 0} → (List ℕ → Result (List A) Fault) → Relation → List ℕ → Fault → Type 0
+RefusedTable parse has name why = (text : List ℕ) × has name text × (((manifest_limit < length text) × (why ≡ too_long)) ⊎ (parse text ≡ Err why))
+
+-- a package that the loader has under this name: its manifest, and files of which none is above its limit; `Holds` is true of the files
+pub record HoldsForPackage (has : Relation) (name : List ℕ) (Holds : List FileView → Type 0) : Type 0 where
+  pub entries : List Entry
+  pub listed : HasTable manifest has name entries
+  pub files : List (List ℕ)
+  pub loaded : HasFiles (within file_limit has) entries files
+  pub holds : Holds (sources entries files)
+
+-- the loader has bytes above the limit for the entry at this index, and bytes within the limit for each entry before it
+pub record LongFile (has : Relation) (entries : List Entry) (index : ℕ) (entry : Entry) : Type 0 where
+  pub files : List (List ℕ)
+  pub before : HasFiles (within file_limit has) (take index entries) files
+  pub at : slice_get entries index ≡ Some entry
+  pub bytes : List ℕ
+  pub loaded : has entry.file bytes
+  pub long : file_limit < length bytes
+
+-- the first of these files that is refused, by its index, its name and its fault
+pub record RefusedAmong (all : List FileView) (why : Refusal) : Type 0 where
+  pub index : ℕ
+  pub fault : Fault
+  pub first : IsFirstRefused all index fault
+  pub source : FileView
+  pub at : slice_get all index ≡ Some source
+  pub is : why ≡ of_file index source.name fault
+
+-- the file of one of these entries is refused: the loader has bytes above the limit for it, or it is the first file that a check refuses
+pub data RefusedFile (has : Relation) (entries : List Entry) (why : Refusal) : Type 0 where
+  long_file : (index : ℕ) (entry : Entry) → LongFile has entries index entry → why ≡ of_file index entry.name too_long → RefusedFile has entries why
+  bad_file : (files : List (List ℕ)) → HasFiles (within file_limit has) entries files → RefusedAmong (sources entries files) why → RefusedFile has entries why
+
+-- bytes that the loader has are refused: the manifest under this name, or a file that it names
+pub data IsPackageRefusal (has : Relation) (name : List ℕ) (why : Refusal) : Type 0 where
+  refused_manifest : (fault : Fault) → RefusedTable manifest has name fault → why ≡ of_manifest fault → IsPackageRefusal has name why
+  refused_file : (entries : List Entry) → HasTable manifest has name entries → RefusedFile has entries why → IsPackageRefusal has name why
+
+-- such bytes are refused, and the writer got just the text of the refusal
+pub record PrintsPackageRefusal (has : Relation) (name : List ℕ) (refusal_style : RefusalStyle) (before after : Option (List ℕ)) : Type 0 where
+  pub why : Refusal
+  pub refused : IsPackageRefusal has name why
+  pub printed : PrintsRefusal refusal_style why before after
+
+-- what a status says of a command on a package: where it passes, or has findings, `Holds` says so of the package's files; a refusal,
+-- which is the same under any rules, was printed in this style
+abbrev pub SaysPackage : Relation → List ℕ → (Bool → List FileView → Type 0) → RefusalStyle → Option (List ℕ) → Option (List ℕ) → Status → Type 0
+SaysPackage has name Holds refusal_style before after status.Pass = HoldsForPackage has name (Holds true)
+SaysPackage has name Holds refusal_style before after status.Findings = HoldsForPackage has name (Holds false)
+SaysPackage has name Holds refusal_style before after status.Refused = PrintsPackageRefusal has name refusal_style before after
+SaysPackage has name Holds refusal_style before after status.Usage = ⊥
+SaysPackage has name Holds refusal_style before after status.Device = ⊤
+
+-- the status of a command on a package that passes, or that has findings
+abbrev pub status_of : Bool → Status
+status_of passes = if passes then status.Pass else status.Findings
+
+-- the writer got just the text of the report on these files; the check passes where it has no finding, and then the files are sound
+pub record Checks (rules : GridRules) (before after : Option (List ℕ)) (passes : Bool) (all : List FileView) : Type 0 where
+  pub report : ReportView
+  pub is : IsReport all rules report
+  pub written : Appends before after (report_text all report)
+  pub passed : passes ≡ (length report.findings == 0)
+  pub sound : passes ≡ true → IsSound all rules
+
+-- what a status says of a check of a package under these rules
+abbrev pub IsCheckStatus : Relation → List ℕ → GridRules → Option (List ℕ) → Option (List ℕ) → Status → Type 0
+IsCheckStatus has name rules before after s = SaysPackage has name (Checks rules before after) style.Line before after s
+
+-- what a status says of a check under the rules that two words name, or where these are refused
+abbrev pub IsParsedCheckStatus : Relation → List ℕ → Result GridRules Reason → Option (List ℕ) → Option (List ℕ) → Status → Type 0
+IsParsedCheckStatus has name (Ok rules) before after s = IsCheckStatus has name rules before after s
+IsParsedCheckStatus has name (Err why) before after s = IsUsageStatus why before after s

@@ -1,0 +1,34 @@
+-- What a status says of the picture of a package.
+use Rattle.std.specs.Prelude.{◌≡◌, ℕ, Bool, true, List, [], map, Option, Some, Result, Ok, Err}
+use Rattle.std.specs.Io.KnownBytes.{Appends}
+use Rattle.grid_units.specs.Holes.{GridRules}
+use Rattle.grid_units.specs.declared.fault.Reason.{Reason}
+use Rattle.drawing.specs.Drawings.{IsDrawn}
+use Rattle.package_check.specs.Flashed.{FlashedBoardView, IsFlashedBoard}
+use Rattle.package_check.specs.Boards.{board_findings}
+use Rattle.package_check.specs.Package.{FileView}
+use Rattle.package_check.specs.Soundness.{IsSound}
+use Rattle.ringcheck_files.specs.declared.Status.{Status}
+use Rattle.ringcheck.specs.declared.refusals.RefusalStyle.TheVariants as style
+use Rattle.ringcheck.specs.CheckStatus.{SaysPackage}
+use Rattle.ringcheck_files.specs.LoaderRelation.{Relation}
+use Rattle.ringcheck_files.specs.Words.{IsUsageStatus}
+
+-- the writer got just the picture of the files' board, with what is found under the rules, if there are any; without findings the files are sound
+pub record PrintsPicture (rules : Option GridRules) (before after : Option (List ℕ)) (passes : Bool) (all : List FileView) : Type 0 where
+  pub flashed : FlashedBoardView
+  pub read : IsFlashedBoard all flashed
+  pub text : List ℕ
+  pub is : IsDrawn (map (λ source. source.name) all) flashed rules text
+  pub written : Appends before after text
+  pub sound : (required : GridRules) → rules ≡ Some required → board_findings required flashed.board ≡ [] → IsSound all required
+  pub passed : passes ≡ true
+
+-- what a status says of the picture of a package; it is never Findings
+abbrev pub IsDrawStatus : Relation → List ℕ → Option GridRules → Option (List ℕ) → Option (List ℕ) → Status → Type 0
+IsDrawStatus has name rules before after s = SaysPackage has name (PrintsPicture rules before after) style.Line before after s
+
+-- what a status says of a picture under the rules that words name, or where these are refused
+abbrev pub IsParsedDrawStatus : Relation → List ℕ → Result (Option GridRules) Reason → Option (List ℕ) → Option (List ℕ) → Status → Type 0
+IsParsedDrawStatus has name (Ok rules) before after s = IsDrawStatus has name rules before after s
+IsParsedDrawStatus has name (Err why) before after s = IsUsageStatus why before after s

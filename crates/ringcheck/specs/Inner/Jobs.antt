@@ -1,0 +1,37 @@
+-- What is said of each job on a package.
+use Rattle.std.specs.Prelude.{ℕ, Bool, List, Option, option_map}
+use Rattle.std.specs.Global.{Vec}
+use Rattle.package_check.specs.Package.{FileView}
+use Rattle.ringcheck_files.specs.LoaderRelation.{Relation}
+use Rattle.ringcheck_files.specs.declared.Status.{Status}
+use Rattle.ringcheck.specs.declared.jobs.Job.{Job}
+use Rattle.ringcheck.specs.declared.jobs.Job.TheVariants as job
+use Rattle.ringcheck.specs.declared.refusals.RefusalStyle.{RefusalStyle}
+use Rattle.ringcheck.specs.declared.refusals.RefusalStyle.TheVariants as style
+use Rattle.ringcheck.specs.DrawStatus.{PrintsPicture}
+use Rattle.ringcheck.specs.MeasureStatus.{PrintsMeasure, style_of}
+use Rattle.ringcheck.specs.ReportStatus.{Reports, report_style}
+use Rattle.ringcheck.specs.CheckStatus.{Checks, SaysPackage}
+use Rattle.waivers.specs.declared.Waiver.{Waiver}
+
+-- the waivers that a report is given, if any
+abbrev pub given : Option (Vec Waiver) → Option (List Waiver)
+given waivers = option_map (λ all. all.items) waivers
+
+-- how a refusal is printed in place of a job's result
+abbrev pub job_style : Job → RefusalStyle
+job_style (job.Check rules) = style.Line
+job_style (job.Measure form) = style_of form
+job_style (job.Report options) = report_style options.format
+job_style (job.Draw rules) = style.Line
+
+-- what is said of files where a job on them passes, or does not
+abbrev pub Holds : Job → Option (List ℕ) → Option (List ℕ) → Bool → List FileView → Type 0
+Holds (job.Check rules) before after = Checks rules before after
+Holds (job.Measure form) before after = PrintsMeasure form before after
+Holds (job.Report options) before after = Reports options.rules options.limit options.format (given options.waivers) before after
+Holds (job.Draw rules) before after = PrintsPicture rules before after
+
+-- what a status says of a job on the package under a name
+abbrev pub SaysJob : Job → Relation → List ℕ → Option (List ℕ) → Option (List ℕ) → Status → Type 0
+SaysJob job has name before after s = SaysPackage has name (Holds job before after) (job_style job) before after s

@@ -1,0 +1,60 @@
+-- The rules, the limit of findings and the format that words of the command line name (docs/FORMATS.md, The program).
+use Rattle.std.specs.Prelude.{ℕ, ℤ, pos, Bool, true, ◌&&◌, not, is_some, List, Option, Some, None, Result, Ok, Err, length, codes, nat_le, unsigned_abs, int_le, if◌then◌else◌}
+use Rattle.std.specs.Str.{bytes_eq}
+use Rattle.grid_units.specs.declared.fault.Reason.{Reason}
+use Rattle.grid_units.specs.declared.fault.Reason.TheVariants.{BadNumber, BadRole, BadRule}
+use Rattle.grid_units.specs.declared.lengths.Unit.TheVariants.{Millimetre}
+use Rattle.grid_units.specs.Points.{max_coordinate}
+use Rattle.grid_units.specs.Holes.{GridRules}
+use Rattle.grid_units.specs.Numbers.{parse_decimal, is_digits, picometres, value, within_limit}
+use Rattle.grid_units.specs.Results.{◌>>=◌}
+use Rattle.ringcheck.specs.declared.parsed_words.MeasureFormat.{MeasureFormat}
+use Rattle.ringcheck.specs.declared.parsed_words.MeasureFormat.TheVariants as format
+
+-- the length in pm of a word in millimetres, such as `0.125`, or why it has none: BadNumber, TooFine or TooFar
+unfoldable pub parse_length : List ℕ → Result ℤ Reason
+parse_length word = parse_decimal word >>= λ v. within_limit (picometres Millimetre 8 v)
+
+-- whether a ring is 0 to 10^13 pm and a gap 1 to 10^13 pm
+abbrev pub are_rules : ℤ → ℤ → Bool
+are_rules ring gap = (int_le (pos 0) ring && int_le ring (pos max_coordinate)) && (int_le (pos 1) gap && int_le gap (pos max_coordinate))
+
+-- the rules of a ring and a gap in pm, or BadRule
+unfoldable pub rules_of : ℤ → ℤ → Result GridRules Reason
+rules_of ring gap = if are_rules ring gap then Ok (record { ring = unsigned_abs ring; gap = unsigned_abs gap }) else Err BadRule
+
+-- the rules that two words name in millimetres, or the first refusal: the ring's, the gap's, then that of both
+unfoldable pub parse_rules : List ℕ → List ℕ → Result GridRules Reason
+parse_rules ring gap = parse_length ring >>= λ r. (parse_length gap >>= λ g. rules_of r g)
+
+-- the number of findings that a word of one to nine digits names, such as `20`; another word is BadNumber
+unfoldable pub parse_count : List ℕ → Result ℕ Reason
+parse_count word = if is_digits word && nat_le (length word) 9 then Ok (value word) else Err BadNumber
+
+-- the most findings that a report shows, where a word names it; without a word it shows all of them
+unfoldable pub parse_limit : Option (List ℕ) → Result (Option ℕ) Reason
+parse_limit None = Ok None
+parse_limit (Some word) = parse_count word >>= λ n. Ok (Some n)
+
+-- the format of a report: `text`, also without a word, `json`, or `waivers`, which is BadRole where a file of waivers is given too
+unfoldable pub parse_report_format : Bool → Option (List ℕ) → Result MeasureFormat Reason
+parse_report_format waives None = Ok format.Text
+parse_report_format waives (Some word) =
+    if bytes_eq word (codes "text") then Ok format.Text
+    else if bytes_eq word (codes "json") then Ok format.Json
+    else if bytes_eq word (codes "waivers") && not waives then Ok format.Waivers else Err BadRole
+
+-- the format of a measure: `text`, also without a word, or `json`; BadRole for any other
+abbrev pub parse_format : Option (List ℕ) → Result MeasureFormat Reason
+parse_format word = parse_report_format true word
+
+-- the rules, the limit of findings and the format of a report, or the first refusal in this order; `waive` is the file of waivers, if there is one
+unfoldable pub parse_report : List ℕ → List ℕ → Option (List ℕ) → Option (List ℕ) → Option (List ℕ) → Result (GridRules × Option ℕ × MeasureFormat) Reason
+parse_report ring gap limit waive form = parse_rules ring gap >>= λ rules. (parse_limit limit >>= λ n. (parse_report_format (is_some waive) form >>= λ f. Ok (rules, n, f)))
+
+-- the rules of a picture: those of a ring and a gap, or none; one of these alone is BadRule
+unfoldable pub parse_draw : Option (List ℕ) → Option (List ℕ) → Result (Option GridRules) Reason
+parse_draw None None = Ok None
+parse_draw (Some ring) (Some gap) = parse_rules ring gap >>= λ rules. Ok (Some rules)
+parse_draw (Some ring) None = Err BadRule
+parse_draw None (Some gap) = Err BadRule

@@ -1,0 +1,56 @@
+-- What a status says of a request of the command line, and of any words (docs/FORMATS.md, The program).
+use Rattle.std.specs.Prelude.{◌≡◌, ◌++◌, ◌⊎◌, ℕ, List, Option, Result, Ok, Err, codes, map, option_map}
+use Rattle.std.specs.Borrow.{Bor}
+use Rattle.std.specs.Io.KnownBytes.{Appends}
+use Rattle.std.specs.String.{string_bytes}
+use Rattle.command_line.specs.ProgramArgs.{ParsesLine}
+use Rattle.command_line.specs.declared.Refusal.{Refusal}
+use Rattle.command_line.specs.declared.Refusal.TheVariants.{Help, Version, Usage, Memory}
+use Rattle.command_line.specs.declared.Request.{Request}
+use Rattle.command_line.specs.declared.Request.TheVariants.{Check, Measure, Report, Draw, Show, Rewrite, Manifest, Explain}
+use Rattle.command_line.specs.declared.commands.TheConstants.{VERSION_LINE}
+use Rattle.ringcheck_files.specs.declared.Status.{Status}
+use Rattle.ringcheck_files.specs.declared.Status.TheVariants as status
+use Rattle.ringcheck_files.specs.declared.file_jobs.FileJob.TheVariants as job
+use Rattle.ringcheck.specs.DrawStatus.{IsParsedDrawStatus}
+use Rattle.ringcheck_files.specs.ManifestStatus.{IsManifestStatus, IsExplainStatus}
+use Rattle.ringcheck.specs.MeasureStatus.{IsParsedMeasureStatus}
+use Rattle.ringcheck.specs.ParsedWords.{parse_draw, parse_format, parse_report, parse_rules}
+use Rattle.ringcheck_files.specs.FileStatus.{IsParsedFileStatus, parse_kind}
+use Rattle.ringcheck.specs.ReportStatus.{IsParsedReportStatus}
+use Rattle.ringcheck.specs.CheckStatus.{IsParsedCheckStatus}
+use Rattle.ringcheck_files.specs.LoaderRelation.{Relation}
+
+-- the bytes of a word that may be left out
+abbrev pub word_bytes : Option (Bor (List ℕ)) → Option (List ℕ)
+word_bytes word = option_map (λ w. w.now) word
+
+-- what a status says of a request, command by command; `failed_before` and `failed_after` count the loader's failures
+abbrev pub IsRequestStatus : Request → Relation → ℕ → ℕ → Option (List ℕ) → Option (List ℕ) → Status → Type 0
+IsRequestStatus (Check ring gap manifest) has failed_before failed_after before after s = IsParsedCheckStatus has manifest.now (parse_rules ring.now gap.now) before after s
+IsRequestStatus (Measure format manifest) has failed_before failed_after before after s = IsParsedMeasureStatus has manifest.now (parse_format (word_bytes format)) before after s
+IsRequestStatus (Report ring gap limit waive format manifest) has failed_before failed_after before after s =
+    IsParsedReportStatus has manifest.now (parse_report ring.now gap.now (word_bytes limit) (word_bytes waive) (word_bytes format)) (word_bytes waive) before after s
+IsRequestStatus (Draw ring gap manifest) has failed_before failed_after before after s = IsParsedDrawStatus has manifest.now (parse_draw (word_bytes ring) (word_bytes gap)) before after s
+IsRequestStatus (Show kind file) has failed_before failed_after before after s = IsParsedFileStatus job.Show (parse_kind kind.now) has file.now before after s
+IsRequestStatus (Rewrite kind file) has failed_before failed_after before after s = IsParsedFileStatus job.Rewrite (parse_kind kind.now) has file.now before after s
+IsRequestStatus (Manifest why files) has failed_before failed_after before after s =
+    IsManifestStatus why has failed_before failed_after (map (λ file. file.now) files.items) before after s
+IsRequestStatus (Explain word) has failed_before failed_after before after s = IsExplainStatus (word_bytes word) before after s
+
+-- what a status says of words that are no request: just the help, the version's line, or `usage` and what is wrong was written, or it is Device
+abbrev pub IsNoRequestStatus : Refusal → Option (List ℕ) → Option (List ℕ) → Status → Type 0
+IsNoRequestStatus (Help text) before after s = ((s ≡ status.Pass) × Appends before after (string_bytes text)) ⊎ (s ≡ status.Device)
+IsNoRequestStatus Version before after s = ((s ≡ status.Pass) × Appends before after VERSION_LINE.now) ⊎ (s ≡ status.Device)
+IsNoRequestStatus (Usage text) before after s = ((s ≡ status.Usage) × Appends before after (codes "usage\n" ++ string_bytes text)) ⊎ (s ≡ status.Device)
+IsNoRequestStatus Memory before after s = s ≡ status.Device
+
+-- what a status says of the answer to words: of a request, or of words that are none
+abbrev pub IsParsedStatus : Result Request Refusal → Relation → ℕ → ℕ → Option (List ℕ) → Option (List ℕ) → Status → Type 0
+IsParsedStatus (Ok request) has failed_before failed_after before after s = IsRequestStatus request has failed_before failed_after before after s
+IsParsedStatus (Err refusal) has failed_before failed_after before after s = IsNoRequestStatus refusal before after s
+
+-- what a status says of any words: what it says of an answer that `clap` by its definition gives to them
+abbrev pub IsProgramStatus : List (List ℕ) → Relation → ℕ → ℕ → Option (List ℕ) → Option (List ℕ) → Status → Type 0
+IsProgramStatus words has failed_before failed_after before after s =
+    (answer : Result Request Refusal) × ParsesLine words answer × IsParsedStatus answer has failed_before failed_after before after s

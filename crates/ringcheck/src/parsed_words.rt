@@ -1,0 +1,120 @@
+//! The rules, the limit of findings and the format that words of the command line name.
+
+ghost use Rattle.std.specs.Prelude.{◌≡◌, option_map};
+ghost use Rattle.ringcheck.specs.ParsedWords as words;
+
+use grid_units::numbers::{capped_value, is_digits};
+use grid_units::{Dec, Reason, Rules, Unit};
+
+/// The length in pm that a word names in millimetres, such as `0.125`.
+#[tactic(auto, unfolding(crate::specs::ParsedWords::parse_length))]
+fn parse_length(word: &str) -> Result<i64, Reason>
+    ensures { result ≡ words.parse_length word.now }
+{
+    Dec::read(word.as_bytes())?.picometres(Unit::Millimetre)
+}
+
+#[tactic(auto, unfolding(crate::specs::ParsedWords::rules_of))]
+fn rules_of(ring: i64, gap: i64) -> Result<Rules, Reason>
+    ensures { result ≡ words.rules_of ring gap }
+{
+    Rules::new(ring, gap)
+}
+
+/// The rules of a ring and a gap in millimetres. The ring is read first.
+#[tactic(auto, unfolding(crate::specs::ParsedWords::parse_rules))]
+pub(crate) fn parse_rules(ring: &str, gap: &str) -> Result<Rules, Reason>
+    ensures { result ≡ words.parse_rules ring.now gap.now }
+{
+    let ring = parse_length(ring)?;
+    let gap = parse_length(gap)?;
+    rules_of(ring, gap)
+}
+
+/// How a measure or a report is printed.
+#[derive(Clone, Copy, Debug, PartialEq, Eq)]
+pub enum MeasureFormat {
+    /// Lines for people.
+    Text,
+    /// One object of JSON on one line.
+    Json,
+    /// The findings of a report as a file of waivers, in which the user fills in the reasons. No word names it for a measure.
+    Waivers,
+}
+
+/// The format of a report that a word names; text where there is no word. `waivers` is refused where a file of waivers is given.
+#[tactic(auto, unfolding(crate::specs::ParsedWords::parse_report_format))]
+fn parse_report_format(waives: bool, word: Option<&str>) -> Result<MeasureFormat, Reason>
+    ensures { result ≡ words.parse_report_format waives (option_map (λ w. w.now) word.entry) }
+{
+    match word {
+        None | Some("text") => Ok(MeasureFormat::Text),
+        Some("json") => Ok(MeasureFormat::Json),
+        Some(word) if word == "waivers" && !waives => Ok(MeasureFormat::Waivers),
+        Some(_) => Err(Reason::BadRole),
+    }
+}
+
+/// The format of a measure that a word names, `text` or `json`; text where there is no word.
+pub(crate) fn parse_format(word: Option<&str>) -> Result<MeasureFormat, Reason>
+    ensures { result ≡ words.parse_format (option_map (λ w. w.now) word.entry) }
+{
+    parse_report_format(true, word)
+}
+
+/// The number that a word of one to nine digits names, such as `20`.
+#[tactic(auto, unfolding(crate::specs::ParsedWords::parse_count))]
+fn parse_count(word: &str) -> Result<usize, Reason>
+    ensures { result ≡ words.parse_count word.now }
+{
+    if !is_digits(word.as_bytes()) || word.len() > 9 {
+        return Err(Reason::BadNumber);
+    }
+    Ok(capped_value(word.as_bytes(), 999_999_999) as usize)
+}
+
+/// The most findings that a text shows; it shows all of them where there is no word.
+#[tactic(auto, unfolding(crate::specs::ParsedWords::parse_limit))]
+fn parse_limit(word: Option<&str>) -> Result<Option<usize>, Reason>
+    ensures { result ≡ words.parse_limit (option_map (λ w. w.now) word.entry) }
+{
+    match word {
+        None => Ok(None),
+        Some(word) => Ok(Some(parse_count(word)?)),
+    }
+}
+
+/// The words of the options of a report.
+#[derive(Clone, Copy, Debug)]
+pub(crate) struct ReportWords<'a> {
+    pub(crate) ring: &'a str,
+    pub(crate) gap: &'a str,
+    pub(crate) limit: Option<&'a str>,
+    pub(crate) waive: Option<&'a str>,
+    pub(crate) format: Option<&'a str>,
+}
+
+/// The rules, the limit of findings and the format of a report, read in this order.
+#[tactic(auto, unfolding(crate::specs::ParsedWords::parse_report))]
+pub(crate) fn parse_report(
+    unparsed: &ReportWords,
+) -> Result<(Rules, Option<usize>, MeasureFormat), Reason>
+    ensures { result ≡ words.parse_report unparsed.now.ring.now unparsed.now.gap.now (option_map (λ w. w.now) unparsed.now.limit) (option_map (λ w. w.now) unparsed.now.waive) (option_map (λ w. w.now) unparsed.now.format) }
+{
+    let rules = parse_rules(unparsed.ring, unparsed.gap)?;
+    let limit = parse_limit(unparsed.limit)?;
+    let format = parse_report_format(unparsed.waive.is_some(), unparsed.format)?;
+    Ok((rules, limit, format))
+}
+
+/// The rules of a picture: a ring and a gap, or neither. One of them alone is refused.
+#[tactic(auto, unfolding(crate::specs::ParsedWords::parse_draw))]
+pub(crate) fn parse_draw(ring: Option<&str>, gap: Option<&str>) -> Result<Option<Rules>, Reason>
+    ensures { result ≡ words.parse_draw (option_map (λ w. w.now) ring.entry) (option_map (λ w. w.now) gap.entry) }
+{
+    match (ring, gap) {
+        (None, None) => Ok(None),
+        (Some(ring), Some(gap)) => Ok(Some(parse_rules(ring, gap)?)),
+        (Some(_), None) | (None, Some(_)) => Err(Reason::BadRule),
+    }
+}

@@ -1,4 +1,0 @@
-use Rattle.ringcheck_files.proofs.single_files.refuse_file.Goals as goal
-
-pub returns : goal.returns
-returns g c = rw c.name-reason.ensures at c.in_ok-write.ensures.bytes

@@ -1,0 +1,70 @@
+-- What is printed of one file: its table, or its canonical text (docs/FORMATS.md, The program).
+use Rattle.std.specs.Prelude.{◌≡◌, ◌<◌, ◌⊎◌, ◌++◌, ◌∷◌, [], ℕ, List, length, codes, decimal, Result, Ok, Err, ⊤, Option, Some, None, if◌then◌else◌}
+use Rattle.std.specs.Str.{bytes_eq}
+use Rattle.std.specs.Io.KnownBytes.{Appends}
+use Rattle.grid_units.specs.declared.fault.Fault.{Fault}
+use Rattle.grid_units.specs.declared.fault.Reason.TheVariants.{BadRole}
+use Rattle.grid_units.specs.Reasons.{reason_name}
+use Rattle.single_files.specs.declared.kind.Kind.{Kind}
+use Rattle.single_files.specs.declared.kind.Kind.TheVariants as kind
+use Rattle.single_files.specs.Rewriting.{Rewrites}
+use Rattle.single_files.specs.Tables.{ShowsDrill, ShowsLayer}
+use Rattle.ringcheck_files.specs.declared.Status.{Status}
+use Rattle.ringcheck_files.specs.declared.Status.TheVariants as status
+use Rattle.ringcheck_files.specs.declared.file_jobs.FileJob.{FileJob}
+use Rattle.ringcheck_files.specs.declared.file_jobs.FileJob.TheVariants as job
+use Rattle.ringcheck_files.specs.LoaderRelation.{Relation, file_limit, too_long, within}
+use Rattle.ringcheck_files.specs.Words.{IsUsageStatus}
+use Rattle.grid_units.specs.Ascii as ascii
+
+-- the kind that a word names: `layer` or `drill`; no other word names one
+abbrev pub parse_kind : List ℕ → Option Kind
+parse_kind word = if bytes_eq word (codes "layer") then Some kind.Layer else if bytes_eq word (codes "drill") then Some kind.Drill else None
+
+-- the table of the bytes, which are read as a file of this kind, or their fault
+abbrev pub Shows : Kind → List ℕ → Result (List ℕ) Fault → Type 0
+Shows kind.Layer bytes answer = ShowsLayer bytes answer
+Shows kind.Drill bytes answer = ShowsDrill bytes answer
+
+-- what a task prints of the bytes, which are read as a file of this kind, or their fault
+abbrev pub Prints : FileJob → Kind → List ℕ → Result (List ℕ) Fault → Type 0
+Prints job.Show kind bytes answer = Shows kind bytes answer
+Prints job.Rewrite kind bytes answer = Rewrites kind bytes answer
+
+-- the line of a single file that is refused: `refused place=0 byte=0 reason=TooLong`
+abbrev pub refusal_line : Fault → List ℕ
+refusal_line why =
+    codes "refused place=" ++ (decimal why.place ++ (codes " byte=" ++ (decimal why.byte ++ (codes " reason=" ++ (reason_name why.reason ++ ascii.line_feed ∷ [])))))
+
+-- the loader has bytes within the limit, and the writer got just their table or their canonical text
+pub record PrintsFile (what : FileJob) (kind : Kind) (has : Relation) (name : List ℕ) (before after : Option (List ℕ)) : Type 0 where
+  pub bytes : List ℕ
+  pub loaded : within file_limit has name bytes
+  pub text : List ℕ
+  pub answer : Prints what kind bytes (Ok text)
+  pub written : Appends before after text
+
+-- the bytes have this fault, or are above the limit and the fault is `too_long`
+abbrev pub HasFileFault : FileJob → Kind → List ℕ → Fault → Type 0
+HasFileFault what kind bytes why = ((file_limit < length bytes) × (why ≡ too_long)) ⊎ Prints what kind bytes (Err why)
+
+-- the loader has bytes with this fault, and the writer got just its line
+pub record PrintsFileRefusal (what : FileJob) (kind : Kind) (has : Relation) (name : List ℕ) (before after : Option (List ℕ)) : Type 0 where
+  pub bytes : List ℕ
+  pub loaded : has name bytes
+  pub why : Fault
+  pub fault : HasFileFault what kind bytes why
+  pub printed : Appends before after (refusal_line why)
+
+-- what a status says of `show` or `rewrite` on a file of this kind
+abbrev pub IsFileStatus : FileJob → Kind → Relation → List ℕ → Option (List ℕ) → Option (List ℕ) → Status → Type 0
+IsFileStatus what kind has name before after status.Pass = PrintsFile what kind has name before after
+IsFileStatus what kind has name before after status.Findings = ⊥
+IsFileStatus what kind has name before after status.Refused = PrintsFileRefusal what kind has name before after
+IsFileStatus what kind has name before after status.Usage = ⊥
+IsFileStatus what kind has name before after status.Device = ⊤
+
+-- what a status says of `show` or `rewrite` on a file of the kind that a word names, or where it names none
+abbrev pub IsParsedFileStatus : FileJob → Option Kind → Relation → List ℕ → Option (List ℕ) → Option (List ℕ) → Status → Type 0
+IsParsedFileStatus what (Some kind) has name before after s = IsFileStatus what kind has name before after s
+IsParsedFileStatus what None has name before after s = IsUsageStatus BadRole before after s

@@ -1,0 +1,132 @@
+-- What a loader has of the files of a proposed manifest, and what a status says of that manifest and of explanations.
+use Rattle.std.specs.Prelude.{◌≡◌, ◌<◌, ◌≤◌, ◌+◌, ◌-◌, ◌^◌, ◌⊎◌, ◌==◌, ◌&&◌, ℕ, Bool, true, false, not, List, [], ◌∷◌, length, map, Option, Some, None, ⊤}
+use Rattle.std.specs.Borrow.{Bor}
+use Rattle.std.specs.List.{count_by, list_all, list_any}
+use Rattle.std.specs.Io.KnownBytes.{Appends}
+use Rattle.command_line.specs.declared.commands.TheConstants.{VERSION_LINE}
+use Rattle.grid_units.specs.declared.fault.Reason.TheVariants.{BadManifest, BadRole}
+use Rattle.manifest.specs.Manifest.{is_control}
+use Rattle.explanations.specs.Words.{FitsScreen, HasHeading, IsExplained, ListsWords}
+use Rattle.proposals.specs.Manifests.{IsManifestOf, reasons_text}
+use Rattle.proposals.specs.ProposalList.{name_of, proposals}
+use Rattle.proposals.specs.declared.model.FileContent.{FileContent}
+use Rattle.proposals.specs.declared.model.FileContent.TheVariants as content
+use Rattle.proposals.specs.declared.model.InputFile.{InputFile}
+use Rattle.ringcheck_files.specs.declared.Status.{Status}
+use Rattle.ringcheck_files.specs.declared.Status.TheVariants as status
+use Rattle.ringcheck_files.specs.declared.proposed_manifest.LoadedFile.{LoadedFile}
+use Rattle.ringcheck_files.specs.declared.proposed_manifest.LoadedFile.TheVariants as loaded
+use Rattle.ringcheck_files.specs.LoaderRelation.{Relation, file_limit, within}
+use Rattle.ringcheck_files.specs.Words.{usage_line}
+
+-- ---- files by their names
+
+-- what is known of the bytes of a file: the bytes, or that they cannot be read, or that they are above the limit
+pub data LoadedView : Type 0 where
+  bytes : List ℕ → LoadedView
+  unread : LoadedView
+  long : LoadedView
+
+-- what is known of a file, by its content
+abbrev pub content_view : FileContent → LoadedView
+content_view (content.Bytes text) = bytes text.now
+content_view content.NotRead = unread
+content_view content.TooLong = long
+
+-- what is known of a file, by what was loaded
+abbrev pub loaded_view : LoadedFile → LoadedView
+loaded_view (loaded.Bytes text) = bytes text.items
+loaded_view loaded.NotRead = unread
+loaded_view loaded.TooLong = long
+
+-- the loader has these bytes within the limit, or bytes above it; of a file that cannot be read nothing is said
+abbrev pub HasLoaded : Relation → List ℕ → LoadedView → Type 0
+HasLoaded has name (bytes text) = within file_limit has name text
+HasLoaded has name unread = ⊤
+HasLoaded has name long = (text : List ℕ) × has name text × (file_limit < length text)
+
+-- the loader has what is known of each of these names
+abbrev pub HasAllLoaded : Relation → List (List ℕ × LoadedView) → Type 0
+HasAllLoaded has [] = ⊤
+HasAllLoaded has (p ∷ ps) = HasLoaded has p.0 p.1 × HasAllLoaded has ps
+
+-- the name of a file, and what is known of its bytes
+abbrev pub loaded_file : InputFile → List ℕ × LoadedView
+loaded_file file = (name_of file, content_view file.content)
+
+-- whether a file cannot be read
+abbrev pub is_unread : LoadedView → Bool
+is_unread (bytes text) = false
+is_unread unread = true
+is_unread long = false
+
+-- how many of the files cannot be read
+abbrev pub count_unread : List (List ℕ × LoadedView) → ℕ
+count_unread all = count_by (λ p. is_unread p.1) all
+
+-- a count of failures rose by at least so many, or stands at its greatest value, 2^64 - 1
+abbrev pub HasRisenBy : ℕ → ℕ → ℕ → Type 0
+HasRisenBy many before after = (before + many ≤ after) ⊎ (2 ^ 64 - 1 ≤ after)
+
+-- each name with what was loaded under it
+abbrev pub loaded_files : List (Bor (List ℕ)) → List LoadedFile → List (List ℕ × LoadedView)
+loaded_files [] all = []
+loaded_files (name ∷ names) [] = []
+loaded_files (name ∷ names) (one ∷ all) = (name.now, loaded_view one) ∷ loaded_files names all
+
+-- ---- a manifest
+
+-- whether a name may stand in a manifest: it is not empty, and has no control byte (docs/FORMATS.md, Judging)
+abbrev pub is_entry_name : List ℕ → Bool
+is_entry_name name = not (length name == 0) && not (list_any is_control name)
+
+-- with `why` the table of what each file is and why, else a manifest of the files (docs/FORMATS.md, Proposals)
+abbrev pub IsProposalText : Bool → List InputFile → List ℕ → Type 0
+IsProposalText true files text = text ≡ reasons_text (proposals files)
+IsProposalText false files text = IsManifestOf (proposals files) text
+
+-- the writer got just the manifest or the table of files with these names, as the loader has them; a load failed for each that cannot be read
+pub record PrintsProposal (why : Bool) (has : Relation) (failed_before failed_after : ℕ) (names : List (List ℕ)) (before after : Option (List ℕ)) : Type 0 where
+  pub files : List InputFile
+  pub named : map name_of files ≡ names
+  pub loaded : HasAllLoaded has (map loaded_file files)
+  pub failed : HasRisenBy (count_unread (map loaded_file files)) failed_before failed_after
+  pub text : List ℕ
+  pub is : IsProposalText why files text
+  pub written : Appends before after text
+
+-- what a status says of a manifest of files with these names; `failed_before` and `failed_after` count the loader's failures
+abbrev pub IsManifestStatus : Bool → Relation → ℕ → ℕ → List (List ℕ) → Option (List ℕ) → Option (List ℕ) → Status → Type 0
+IsManifestStatus why has failed_before failed_after names before after status.Pass = (list_all is_entry_name names ≡ true) × PrintsProposal why has failed_before failed_after names before after
+IsManifestStatus why has failed_before failed_after names before after status.Findings = ⊥
+IsManifestStatus why has failed_before failed_after names before after status.Refused = ⊥
+IsManifestStatus why has failed_before failed_after names before after status.Usage = (list_all is_entry_name names ≡ false) × Appends before after (usage_line BadManifest)
+IsManifestStatus why has failed_before failed_after names before after status.Device = ⊤
+
+-- ---- explanations
+
+-- the writer got just the page of a word, which begins with that word and fits a screen (docs/FORMATS.md, Explanations)
+pub record PrintsPage (word : List ℕ) (before after : Option (List ℕ)) : Type 0 where
+  pub known : IsExplained word
+  pub page : List ℕ
+  pub headed : HasHeading word page
+  pub fits : FitsScreen page
+  pub written : Appends before after page
+
+-- what a status says of the page of a word, or, without a word, of the list of those that have one
+abbrev pub IsExplainStatus : Option (List ℕ) → Option (List ℕ) → Option (List ℕ) → Status → Type 0
+IsExplainStatus (Some word) before after status.Pass = PrintsPage word before after
+IsExplainStatus None before after status.Pass = (list : List ℕ) × ListsWords list × Appends before after list
+IsExplainStatus word before after status.Findings = ⊥
+IsExplainStatus word before after status.Refused = ⊥
+IsExplainStatus (Some word) before after status.Usage = (¬ IsExplained word) × Appends before after (usage_line BadRole)
+IsExplainStatus None before after status.Usage = ⊥
+IsExplainStatus word before after status.Device = ⊤
+
+-- what a status says of the version: on Pass just its line was written, such as `ringcheck 0.1.0` (docs/FORMATS.md, The program)
+abbrev pub IsVersionStatus : Option (List ℕ) → Option (List ℕ) → Status → Type 0
+IsVersionStatus before after status.Pass = Appends before after VERSION_LINE.now
+IsVersionStatus before after status.Findings = ⊥
+IsVersionStatus before after status.Refused = ⊥
+IsVersionStatus before after status.Usage = ⊥
+IsVersionStatus before after status.Device = ⊤

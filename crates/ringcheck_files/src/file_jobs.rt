@@ -1,0 +1,126 @@
+//! Prints the table or the canonical text of one file.
+
+ghost use Rattle.std.specs.Prelude.{◌≡◌, IfOk, OnOk};
+ghost use Rattle.std.specs.Io.KnownBytes.{Appends};
+ghost use Rattle.grid_units.specs.Results.{Answers};
+ghost use Rattle.ringcheck_files.specs.Outcomes.{HasCause};
+ghost use Rattle.ringcheck_files.specs.FileStatus.{Prints, IsFileStatus, IsParsedFileStatus, Shows, refusal_line};
+ghost use Rattle.ringcheck_files.specs.FileStatus as printing;
+
+use crate::limits::{ABOVE_LIMIT, FILE_LIMIT};
+use crate::outcomes::{Failure, refuse_word};
+use crate::{LoadFault, Loader, Status};
+use grid_units::{Fail, Fault, Reason};
+use single_files::{Kind, rewrite_bytes, show_drill, show_layer};
+use std::alloc::Global;
+use std::io::Write;
+
+/// What is printed of a file.
+#[derive(Clone, Copy, Debug, PartialEq, Eq)]
+pub enum FileJob {
+    /// Its table.
+    Show,
+    /// Its canonical text.
+    Rewrite,
+}
+
+/// The kind that a word names: `layer` or `drill`.
+fn parse_kind(word: &str) -> Option<Kind>
+    ensures { result ≡ printing.parse_kind word.now }
+{
+    match word {
+        "layer" => Some(Kind::Layer),
+        "drill" => Some(Kind::Drill),
+        _ => None,
+    }
+}
+
+fn show(alloc: Global, kind: Kind, bytes: &[u8]) -> Result<Vec<u8>, Fail>
+    ensures { Answers (λ text. text.items) (Shows kind bytes.now) result }
+{
+    match kind {
+        Kind::Layer => show_layer(alloc, bytes),
+        Kind::Drill => show_drill(alloc, bytes),
+    }
+}
+
+/// What is printed of bytes that are read as a file of this kind.
+fn text_of(alloc: Global, job: FileJob, kind: Kind, bytes: &[u8]) -> Result<Vec<u8>, Fail>
+    ensures { Answers (λ text. text.items) (Prints job kind bytes.now) result }
+{
+    match job {
+        FileJob::Show => show(alloc, kind, bytes),
+        FileJob::Rewrite => rewrite_bytes(alloc, kind, bytes),
+    }
+}
+
+/// Prints the line of a single refused file, such as `refused place=0 byte=0 reason=TooLong`.
+fn refuse_file<W: Write>(out: &mut W, fault: Fault) -> Result<(), Failure>
+    ensures { OnOk result (Appends (W.contents out.old) (W.contents out.new) (refusal_line fault)) }
+{
+    let reason = fault.reason.name();
+    let (place, byte) = (fault.place, fault.byte);
+    write!(out, "refused place={place} byte={byte} reason={reason}\n")?;
+    Ok(())
+}
+
+/// Loads a file and prints its table or its canonical text.
+fn print_job<L: Loader, W: Write>(
+    alloc: Global,
+    job: FileJob,
+    kind: Kind,
+    name: &str,
+    loader: &mut L,
+    out: &mut W,
+) -> Result<Status, Failure>
+    ensures says { IfOk result (λ status. IsFileStatus job kind (L.has loader.old) name.now (W.contents out.old) (W.contents out.new) status) }
+    ensures cause { IfOk result (HasCause (L.failed loader.old) (L.failed loader.new)) }
+{
+    match loader.load(alloc, name, FILE_LIMIT) {
+        Ok(bytes) => match text_of(alloc, job, kind, bytes.as_slice()) {
+            Ok(text) => {
+                out.write_all(text.as_slice())?;
+                Ok(Status::Pass)
+            }
+            Err(Fail::Memory) => Err(Failure::Memory),
+            Err(Fail::Refused(fault)) => {
+                refuse_file(out, fault)?;
+                Ok(Status::Refused)
+            }
+        },
+        Err(LoadFault::Device) => {
+            write!(out, "device\n")?;
+            Ok(Status::Device)
+        }
+        Err(LoadFault::Memory) => Err(Failure::Memory),
+        Err(LoadFault::TooLong) => {
+            refuse_file(out, ABOVE_LIMIT)?;
+            Ok(Status::Refused)
+        }
+    }
+}
+
+/// Prints the table or the canonical text of a file of the kind that a word names. The kind is read first.
+///
+/// # Errors
+///
+/// [`Failure::Memory`] where memory runs out, and [`Failure::Writer`] where the writer fails.
+pub fn print<L: Loader, W: Write>(
+    alloc: Global,
+    job: FileJob,
+    kind: &str,
+    name: &str,
+    loader: &mut L,
+    out: &mut W,
+) -> Result<Status, Failure>
+    ensures says { IfOk result (λ status. IsParsedFileStatus job (printing.parse_kind kind.now) (L.has loader.old) name.now (W.contents out.old) (W.contents out.new) status) }
+    ensures cause { IfOk result (HasCause (L.failed loader.old) (L.failed loader.new)) }
+{
+    match parse_kind(kind) {
+        Some(kind) => print_job(alloc, job, kind, name, loader, out),
+        None => {
+            refuse_word(out, Reason::BadRole)?;
+            Ok(Status::Usage)
+        }
+    }
+}

@@ -1,0 +1,46 @@
+//! The trait of a loader, which gives the bytes of files by their names.
+
+ghost use Rattle.std.specs.Prelude.{◌≡◌, ◌<◌, ◌≤◌, ◌⊎◌, ◌↔◌, ◌-◌, ◌^◌, ℕ, List, IfOk, IfErr, length};
+
+use std::alloc::Global;
+use thiserror::Error;
+
+/// Why a file was not loaded.
+#[derive(Clone, Copy, Debug, PartialEq, Eq, Error)]
+pub enum LoadFault {
+    /// The file cannot be read.
+    #[error("the file cannot be read")]
+    Device,
+    /// The file has more bytes than the limit.
+    #[error("too many bytes")]
+    TooLong,
+    /// There is no memory.
+    #[error("out of memory")]
+    Memory,
+}
+
+/// IsNextRead the bytes of files by their names. Which bytes a name may stand for is one relation, which no call changes.
+pub trait Loader {
+    /// The bytes that a name may stand for.
+    ghost has: { Self → List ℕ → List ℕ → Type 0 };
+
+    /// How many loads have failed so far.
+    ghost failed: { Self → ℕ };
+
+    /// All bytes of a file, if there are at most `limit`.
+    ///
+    /// # Errors
+    ///
+    /// [`LoadFault::Device`] where the file cannot be read, which is then counted as a failure; [`LoadFault::TooLong`] where it
+    /// has more than `limit` bytes; [`LoadFault::Memory`] where there is no memory.
+    fn load(&mut self, alloc: Global, name: &str, limit: u64) -> Result<Vec<u8>, LoadFault>
+        ensures keeps { (n b : List ℕ) → has self.new n b ↔ has self.old n b }
+        ensures gives { IfOk result (λ v. has self.old name.now v.items × (length v.items ≤ limit)) }
+        ensures too_long { IfErr result (λ e. e ≡ LoadFault.TooLong → (b : List ℕ) × has self.old name.now b × (limit < length b)) }
+        ensures counts { failed self.old ≤ failed self.new }
+        ensures device { IfErr result (λ e. e ≡ LoadFault.Device → (failed self.old < failed self.new) ⊎ (failed self.new ≡ 2 ^ 64 - 1)) };
+
+    /// How many loads have failed, up to the greatest `u64`.
+    fn failures(&self) -> u64
+        ensures { result ≡ failed self.now };
+}

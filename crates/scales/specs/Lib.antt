@@ -1,2 +1,0 @@
-pub mod Scales
-pub mod Inner

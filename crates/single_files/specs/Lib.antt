@@ -1,0 +1,5 @@
+pub mod Rows
+pub mod Tables
+pub mod Packages
+pub mod Rewriting
+pub mod Inner

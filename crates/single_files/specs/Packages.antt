@@ -1,0 +1,36 @@
+-- Packages whose files are rewritten.
+use Rattle.std.specs.Prelude.{◌≡◌, ◌⊎◌, ◌↔◌, ℕ, List, [], ◌∷◌, Result, Ok, ⊤}
+use Rattle.grid_units.specs.Holes.{GridRules}
+use Rattle.grid_units.specs.declared.fault.Fault.{Fault}
+use Rattle.manifest.specs.declared.Role.{Role}
+use Rattle.manifest.specs.declared.Role.TheVariants as role
+use Rattle.single_files.specs.declared.kind.Kind.{Kind}
+use Rattle.single_files.specs.declared.kind.Kind.TheVariants as kind
+use Rattle.single_files.specs.Rewriting.{Rewrites}
+use Rattle.package_check.specs.Reports.{ReportView}
+use Rattle.package_check.specs.Package.{FileView, IsAnswer}
+
+-- the kind of text that a file of this role has: a layer, or a drill file
+abbrev pub kind_of : Role → Kind
+kind_of role.Copper = kind.Layer
+kind_of role.Plated = kind.Drill
+kind_of role.Unplated = kind.Drill
+
+-- a file with these bytes in place of its own
+abbrev pub with_bytes : FileView → List ℕ → FileView
+with_bytes source bytes = record { role = source.role; name = source.name; span = source.span; bytes = bytes; layers = source.layers }
+
+-- a file is left as it was, or its text is rewritten
+abbrev pub IsRewritten : FileView → FileView → Type 0
+IsRewritten x y = (y ≡ x) ⊎ ((text : List ℕ) × Rewrites (kind_of x.role) x.bytes (Ok text) × (y ≡ with_bytes x text))
+
+-- two lists of files: of the first any files, all or none, are rewritten in the second
+abbrev pub AreRewritten : List FileView → List FileView → Type 0
+AreRewritten [] [] = ⊤
+AreRewritten [] (y ∷ ys) = ⊥
+AreRewritten (x ∷ xs) [] = ⊥
+AreRewritten (x ∷ xs) (y ∷ ys) = IsRewritten x y × AreRewritten xs ys
+
+-- a package in which any files are rewritten has the same answer
+abbrev pub RewritingKeepsAnswers : Type 0
+RewritingKeepsAnswers = (xs ys : List FileView) (rules : GridRules) (answer : Result ReportView (ℕ × Fault)) → AreRewritten xs ys → IsAnswer xs rules answer ↔ IsAnswer ys rules answer

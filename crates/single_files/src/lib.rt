@@ -1,0 +1,15 @@
+//! The table of a layer's flashes and that of a drill file's holes, as comma-separated rows.
+#![tactic(auto)]
+
+mod fields;
+mod kind;
+pub mod laws;
+mod layer_writer;
+mod lines;
+mod rewrite;
+mod show;
+mod table;
+
+pub use kind::Kind;
+pub use rewrite::rewrite_bytes;
+pub use show::{show_drill, show_layer};

@@ -1,0 +1,129 @@
+//! The tables of a layer and of a drill file, from their bytes.
+
+ghost use Rattle.std.specs.Prelude.{◌≡◌, IfOk};
+ghost use Rattle.grid_units.specs.Results.{Answers};
+ghost use Rattle.drill_text.specs.Outcome.{file_of};
+ghost use Rattle.drill_text.specs.Texts.{ReadsAs};
+ghost use Rattle.drill_text.specs.declared.kept.Keep.TheVariants as drill_keep;
+ghost use Rattle.layer_image.specs.Layers.{ReadsKept};
+ghost use Rattle.layer_image.specs.declared.keep.Keep.TheVariants as layer_keep;
+ghost use Rattle.single_files.specs.Tables.{ShowsDrill, ShowsLayer, drill_header, drill_table, layer_header, layer_table};
+
+use crate::fields::{with_flash, with_hole};
+use crate::table::Table;
+use drill_text::laws::faults_stay;
+use drill_text::{Drill, DrillReader};
+use grid_units::{Fail, Hole};
+use layer_image::{Flash, Layer, LayerReader, shown_faults};
+use std::alloc::{AllocError, Global};
+
+/// How many bytes of a layer are read at a time, so that no more of its commands are held.
+const PIECE: usize = 65_536;
+
+/// The header of a table of flashes.
+fn layer_header(alloc: Global) -> Result<Table, AllocError>
+    ensures { IfOk result (λ table. table ≡ layer_header) }
+{
+    Table::new(alloc)?.with_row(&[
+        b"flash".as_slice(),
+        b"what".as_slice(),
+        b"x".as_slice(),
+        b"y".as_slice(),
+        b"width".as_slice(),
+        b"height".as_slice(),
+    ])
+}
+
+/// The table of flashes, numbered from 1.
+fn layer_table(alloc: Global, flashes: &[Flash]) -> Result<Vec<u8>, AllocError>
+    ensures { IfOk result (λ text. text.items ≡ layer_table flashes.now) }
+{
+    let mut table = layer_header(alloc)?;
+    let mut number: u64 = 1;
+    for flash in flashes {
+        table = with_flash(table, number, flash)?;
+        number += 1;
+    }
+    table.into_bytes()
+}
+
+/// The header of a table of holes.
+fn drill_header(alloc: Global) -> Result<Table, AllocError>
+    ensures { IfOk result (λ table. table ≡ drill_header) }
+{
+    Table::new(alloc)?.with_row(&[
+        b"hole".as_slice(),
+        b"x1".as_slice(),
+        b"y1".as_slice(),
+        b"x2".as_slice(),
+        b"y2".as_slice(),
+        b"diameter".as_slice(),
+    ])
+}
+
+/// The table of holes, numbered from 1.
+fn drill_table(alloc: Global, holes: &[Hole]) -> Result<Vec<u8>, AllocError>
+    ensures { IfOk result (λ text. text.items ≡ drill_table holes.now) }
+{
+    let mut table = drill_header(alloc)?;
+    let mut number: u64 = 1;
+    for hole in holes {
+        table = with_hole(table, number, hole)?;
+        number += 1;
+    }
+    table.into_bytes()
+}
+
+/// The layer that the bytes are, of which flashes alone are kept.
+fn read_layer(alloc: Global, bytes: &[u8]) -> Result<Layer, Fail>
+    ensures { Answers (λ layer. layer) (ReadsKept layer_keep.Flashes bytes.now) result }
+{
+    shown_faults();
+    let mut reader = LayerReader::keeping(alloc, layer_image::Keep::Flashes);
+    for piece in bytes.chunks(PIECE) {
+        reader.feed(piece)?;
+    }
+    reader.finish()
+}
+
+/// The drill file that the bytes are, of which no command is kept.
+fn read_drill(alloc: Global, bytes: &[u8]) -> Result<Drill, Fail>
+    ensures { Answers (λ drill. drill) (ReadsAs (file_of drill_keep.Holes) bytes.now) result }
+{
+    faults_stay();
+    let mut reader = DrillReader::keeping(alloc, drill_text::Keep::Holes);
+    reader.feed(bytes)?;
+    reader.finish()
+}
+
+/// The table of a layer's flashes: a row for each, numbered from 1, with what it leaves, its point, and the width
+/// and height of a pad, in millimetres with nine decimals.
+///
+/// # Errors
+///
+/// The first fault of the text; `Memory` where an allocation failed.
+pub fn show_layer(alloc: Global, bytes: &[u8]) -> Result<Vec<u8>, Fail>
+    ensures exact { Answers (λ text. text.items) (ShowsLayer bytes.now) result }
+{
+    let layer = read_layer(alloc, bytes)?;
+    match layer_table(alloc, layer.flashes()) {
+        Ok(text) => Ok(text),
+        Err(_) => Err(Fail::Memory),
+    }
+}
+
+/// The table of a drill file's holes: a row for each, numbered from 1, with its two ends and its diameter, in
+/// millimetres with nine decimals.
+///
+/// # Errors
+///
+/// The first fault of the text; `Memory` where an allocation failed.
+pub fn show_drill(alloc: Global, bytes: &[u8]) -> Result<Vec<u8>, Fail>
+    ensures exact { Answers (λ text. text.items) (ShowsDrill bytes.now) result }
+{
+    let drill = read_drill(alloc, bytes)?;
+    match drill_table(alloc, drill.holes()) {
+        Ok(text) => Ok(text),
+        Err(_) => Err(Fail::Memory),
+    }
+}

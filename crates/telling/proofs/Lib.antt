@@ -1,3 +1,0 @@
-pub mod Added
-pub mod Counting
-pub mod Bests

@@ -1,0 +1,12 @@
+use Rattle.std.proofs.Common.{◌≡◌, map, take, []}
+use Rattle.csv.specs.Records.{fields_of}
+use Rattle.grid_units.specs.Lists.{violations}
+use Rattle.waivers.proofs.RecordLemmas.{rule}
+use Rattle.waivers.specs.Reading.{waiver_of}
+use Rattle.waivers.proofs.reading.waivers_after_head.Given as goal
+
+abbrev pub invariant-loop-i : goal.invariant-loop-i
+invariant-loop-i l = record {
+  named : l.waivers.items ≡ map waiver_of (map fields_of (take l.i l.rows));
+  lawful : violations rule (map fields_of (take l.i l.rows)) ≡ [];
+}
