@@ -3,11 +3,11 @@
    HOSTILE=KIND HOW COUNT
      KIND   memory, read, write or open: the calls that are counted, from 1, beginning at the program's main
      HOW    an errno number that the call fails with; or short: a read or a write of one byte; or zero: a write of none
-     COUNT  how many calls fail, from the call of the number on; or rest: it and all calls behind it
+     COUNT  how many calls fail, from the call of the number on; or rest: it and all calls after it
 
    The program is loaded once and runs in a child for each number, until a run has not come to the call of its number. Of each run,
    the number, the exit status (256 and the signal's number where one killed it), whether the number was met, whether something was
-   written to standard output after a write had failed, and the length of what was printed stand in a line, and behind it what was
+   written to standard output after a write had failed, and the length of what was printed stand in a line, and after it what was
    printed. The calls go on by system calls and glibc's own names, so that nothing here is counted. */
 #define _GNU_SOURCE
 #include <errno.h>

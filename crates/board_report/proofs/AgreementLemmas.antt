@@ -15,7 +15,6 @@ use Rattle.package_check.specs.Soundness.{PassingIsSound}
 use Rattle.package_check.proofs.BoardsLemmas.{reported_on}
 use Rattle.report.specs.declared.GapLack.{GapLack}
 use Rattle.report.specs.declared.RingLack.{RingLack}
-use Rattle.package_check.specs.Flashed.{FlashedBoardView}
 use Rattle.board_report.specs.BoardReport.{MatchesGap, MatchesRing, ReportAgreesWithCheck, IsGapEntry, IsRingEntry, is_gap}
 
 twice : (b : Bool) → b ≡ not (not b)
@@ -36,10 +35,10 @@ weaker R S to [] (t ∷ ts) h = h
 weaker R S to (x ∷ xs) [] h = h
 weaker R S to (x ∷ xs) (t ∷ ts) h = (to x t h.0, weaker R S to xs ts h.1)
 
-of_ring : (flashed : FlashedBoardView) (ring : ℕ) (finding : Finding) (output : RingLack) → IsRingEntry flashed ring finding output → MatchesRing flashed.board.files finding output
-of_ring flashed ring (Ring layer hole) output h = (h.layer_is, h.at.stands)
-of_ring flashed ring (Oblique layer hole) output h = (h.layer_is, h.at.stands)
-of_ring flashed ring (Gap first second) output h = h
+of_ring : (board : BoardView) (ring : ℕ) (finding : Finding) (output : RingLack) → IsRingEntry board ring finding output → MatchesRing board.files finding output
+of_ring board ring (Ring layer hole) output h = (h.layer_is, h.at.stands)
+of_ring board ring (Oblique layer hole) output h = (h.layer_is, h.at.stands)
+of_ring board ring (Gap first second) output h = h
 
 of_gap : (board : BoardView) (gap : ℕ) (finding : Finding) (output : GapLack) → IsGapEntry board gap finding output → MatchesGap board.files finding output
 of_gap board gap (Ring layer hole) output h = h
@@ -58,15 +57,15 @@ ok_same e = cc
 
 pub report_agrees_with_check : AnswerIsUnique → PassingIsSound → ReportAgreesWithCheck
 report_agrees_with_check one sound sources required output h =
-    let board = h.flashed.board in
+    let board = h.board in
     let its = reported required board in
-    let is = reported_on sources required board its h.read.board refl in
+    let is = reported_on sources required board its h.read.is refl in
     let count = parted _ _ (board_findings required board) output.rings.items output.gaps.items h.is.rings h.is.gaps in
     let same : (report : ReportView) → IsReport sources required report → report ≡ its = λ report k. ok_same (one sources required (Ok report) (Ok its) k is) in
     record {
       reported = (its, is);
       rings = λ report k. subst (λ (r : ReportView). AllZip (MatchesRing r.files) (filter (λ finding. not (is_gap finding)) r.findings) output.rings.items) (sym (same report k))
-          (weaker (IsRingEntry h.flashed required.ring) (MatchesRing board.files) (of_ring h.flashed required.ring) (filter (λ finding. not (is_gap finding)) (board_findings required board)) output.rings.items h.is.rings);
+          (weaker (IsRingEntry h.board required.ring) (MatchesRing board.files) (of_ring h.board required.ring) (filter (λ finding. not (is_gap finding)) (board_findings required board)) output.rings.items h.is.rings);
       gaps = λ report k. subst (λ (r : ReportView). AllZip (MatchesGap r.files) (filter is_gap r.findings) output.gaps.items) (sym (same report k))
           (weaker (IsGapEntry board required.gap) (MatchesGap board.files) (of_gap board required.gap) (filter is_gap (board_findings required board)) output.gaps.items h.is.gaps);
       count = λ report k. ap (λ (r : ReportView). length r.findings) (same report k) ∙ count;

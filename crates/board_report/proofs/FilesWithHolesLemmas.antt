@@ -12,7 +12,8 @@ use lib.Dec.{leb}
 use Rattle.package_check.specs.Boards.{BoardView, hole_count}
 use Rattle.package_check.specs.declared.FileSum.{FileSum}
 use Rattle.package_check.specs.declared.FileSum.TheVariants as sum
-use Rattle.board_report.specs.Rows.{AreFileHoles, AreFilesWithHoles, IsFileHoles, IsPlace, holes_before}
+use Rattle.board_report.specs.Rows.{AreFileHoles, AreFilesWithHoles, IsFileHoles, IsPlace}
+use Rattle.package_check.specs.Boards.{holes_before}
 use Rattle.board_report.specs.Inner.Tables.{IsLayerFileHoles}
 use Rattle.board_report.specs.declared.places.FileHoles.{FileHoles}
 use Rattle.board_report.proofs.JoinedRows.{pairs_join}
@@ -128,7 +129,7 @@ module _ (board : BoardView) (with_holes : List FileHoles) (are : AreFilesWithHo
   found hole i inside point = (here, λ d. (low d, high d))
     where
       all : holes_before board.files (length board.files) ≡ length board.holes
-      all = ap (sum_by hole_count) (take_all (length board.files) board.files (omega arith)) ∙ are.told
+      all = ap (sum_by hole_count) (take_all (length board.files) board.files (omega arith)) ∙ are.counted
 
       within : hole < holes_before board.files (length board.files)
       within = omega (arith, all, inside)
@@ -185,17 +186,17 @@ layer_file_holes board with_holes i layer file are inside at =
     let starts = its.starts in
     let ends = its.ends in
     let some = its.some in
-    let told = are.told in
+    let counted = are.counted in
     let most = sum_by-take-le hole_count board.files (file.drill + 1) in
     record {
       ordered = omega (arith, some);
-      inside = omega (arith, ends, told, most);
+      inside = omega (arith, ends, counted, most);
       starts = starts;
       ends = ends;
     }
 
 -- the number of a hole in its file
-pub placed_in : (board : BoardView) (with_holes : List FileHoles) (file : FileHoles) (hole : ℕ) → AreFilesWithHoles board with_holes → Contains with_holes file → file.start ≤ hole → hole < file.end → IsPlace board.files hole (record { drill = file.drill; hole = hole - file.start + 1 })
+pub placed_in : (board : BoardView) (with_holes : List FileHoles) (file : FileHoles) (hole : ℕ) → AreFilesWithHoles board with_holes → Contains with_holes file → file.start ≤ hole → hole < file.end → IsPlace board.files hole (record { drill = file.drill; number = hole - file.start + 1 })
 placed_in board with_holes file hole are among low high =
     let its = (All-contains (λ file. (file.drill < length board.files) × IsFileHoles board.files file) with_holes file are.are.each among).1 in
     placed board.files file.drill hole file.start file.end its.starts its.ends low high

@@ -8,7 +8,8 @@ use Rattle.ring_rules.specs.declared.finding.Drilled.{Drilled}
 use Rattle.margins.specs.NearestHoles.{IsPair}
 use Rattle.package_check.specs.Boards.{CountsAddUp, hole_count}
 use Rattle.package_check.specs.declared.FileSum.{FileSum}
-use Rattle.board_report.specs.Rows.{IsPlace, holes_before}
+use Rattle.board_report.specs.Rows.{IsPlace}
+use Rattle.package_check.specs.Boards.{holes_before}
 
 -- the holes before the next file
 pub before_next : (files : List FileSum) (file : ℕ) (one : FileSum) → file < length files → get_or files file one ≡ one → holes_before files (file + 1) ≡ holes_before files file + hole_count one
@@ -27,7 +28,7 @@ pub start_in : (files : List FileSum) (holes : List Drilled) (file start : ℕ) 
 start_in files holes file start told starts = let most = sum_by-take-le hole_count files file in omega (arith, told, starts, most)
 
 -- a hole between the start and the end of a file's holes has its number there
-pub placed : (files : List FileSum) (file hole start end : ℕ) → start ≡ holes_before files file → end ≡ holes_before files (file + 1) → start ≤ hole → hole < end → IsPlace files hole (record { drill = file; hole = hole - start + 1 })
+pub placed : (files : List FileSum) (file hole start end : ℕ) → start ≡ holes_before files file → end ≡ holes_before files (file + 1) → start ≤ hole → hole < end → IsPlace files hole (record { drill = file; number = hole - start + 1 })
 placed files file hole start end starts ends low less = record {
   at = omega (arith, starts, low);
   from_one = omega arith;

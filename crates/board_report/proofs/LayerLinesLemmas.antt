@@ -5,7 +5,8 @@ use Rattle.std.proofs.lemmas.List.{get_or_default}
 use Rattle.std.proofs.lemmas.Bool.{cases_lt}
 use Rattle.report.specs.declared.RingLine.{RingLine}
 use Rattle.package_check.specs.Boards.{BoardView}
-use Rattle.board_report.specs.Rows.{AreFilesWithHoles, AreRowLines, IsBefore, RowKey, holes_before, is_in_row, places_of}
+use Rattle.board_report.specs.Rows.{AreFilesWithHoles, AreRowLines, IsBefore, RowKey, is_in_row, places_of}
+use Rattle.package_check.specs.Boards.{holes_before}
 use Rattle.board_report.specs.Inner.Tables.{IsRowOf}
 use Rattle.board_report.specs.declared.places.FileHoles.{FileHoles}
 use Rattle.board_report.specs.declared.rows.LayerFileHoles.{LayerFileHoles}

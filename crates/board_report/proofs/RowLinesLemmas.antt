@@ -30,7 +30,8 @@ use Rattle.report.specs.declared.RingLine.{RingLine}
 use Rattle.package_check.specs.Boards.{BoardView}
 use Rattle.package_check.specs.declared.FileSum.{FileSum}
 use Rattle.ring_rules.specs.declared.finding.Drilled.{Drilled}
-use Rattle.board_report.specs.Rows.{AreRowLines, IsBefore, IsRowLine, RowKey, IsLeastWithNumber, holes_before, is_in_row, places_in, places_of}
+use Rattle.board_report.specs.Rows.{AreRowLines, IsBefore, IsRowLine, RowKey, IsLeastWithNumber, is_in_row, places_in, places_of}
+use Rattle.package_check.specs.Boards.{holes_before}
 use Rattle.board_report.specs.declared.rows.LayerFileHoles.{LayerFileHoles}
 use Rattle.board_report.specs.Inner.Tables.{IsRowOf, IsTableOf, IsNumberedLeast, is_not_empty, row_of}
 

@@ -5,7 +5,8 @@ use Rattle.std.proofs.lemmas.List.{take_all}
 use Rattle.std.proofs.lemmas.List.Elements.{All-filter}
 use Rattle.std.proofs.lemmas.List.FromFn.{length-range_with_len, get_or-range_with_len}
 use Rattle.package_check.specs.Boards.{BoardView, hole_count}
-use Rattle.board_report.specs.Rows.{RowKey, holes_before, is_in_row, places_of}
+use Rattle.board_report.specs.Rows.{RowKey, is_in_row, places_of}
+use Rattle.package_check.specs.Boards.{holes_before}
 use Rattle.board_report.specs.declared.rows.LayerFileHoles.{LayerFileHoles}
 use Rattle.board_report.specs.Inner.Tables.{IsLayerFileHoles, is_not_empty, row_of}
 

@@ -15,7 +15,7 @@ use Rattle.report.proofs.FewestLemmas.{one_scale}
 use Rattle.package_check.specs.Boards.{BoardView}
 use Rattle.package_check.specs.declared.FileSum.{FileSum}
 use Rattle.package_check.specs.declared.FileSum.TheVariants as sum
-use Rattle.board_report.specs.Rows.{holes_before}
+use Rattle.package_check.specs.Boards.{holes_before}
 use Rattle.board_report.specs.UnitMistakeLines.{AreUnitMistakes, IsUnitMistakeOf, first_pads, holes_in, is_plated}
 use Rattle.board_report.specs.Inner.Tables.{AreSearched, AreFoundMistakes, IsSearched, IsUnitMistakeOfOrNone, listed}
 use Rattle.board_report.proofs.JoinedRows.{pairs_join}

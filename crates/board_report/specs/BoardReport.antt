@@ -9,7 +9,7 @@ use Rattle.ring_rules.specs.declared.finding.Finding.{Finding}
 use Rattle.ring_rules.specs.declared.finding.Finding.TheVariants.{Gap, Oblique, Ring}
 use Rattle.margins.specs.Gaps.{IsGap}
 use Rattle.margins.specs.Meets.{needs_ring}
-use Rattle.package_check.specs.Boards.{BoardView, board_findings}
+use Rattle.package_check.specs.Boards.{BoardView, IsFlashedBoard, board_findings}
 use Rattle.package_check.specs.Package.{IsFirstRefused, IsReport, FileView}
 use Rattle.package_check.specs.Reports.{ReportView}
 use Rattle.package_check.specs.Soundness.{IsSound}
@@ -19,10 +19,9 @@ use Rattle.package_check.specs.declared.PackageFault.TheVariants as stop
 use Rattle.board_report.specs.Measures.{IsMeasure}
 use Rattle.board_report.specs.Rows.{IsPlace}
 use Rattle.report.specs.declared.Measure.{Measure}
-use Rattle.package_check.specs.Flashed.{FlashedBoardView, IsFlashedBoard}
 use Rattle.report.specs.Causes.{IsCause}
 use Rattle.report.specs.declared.GapLack.{GapLack}
-use Rattle.report.specs.declared.HoleAt.{HoleAt}
+use Rattle.report.specs.declared.PlacedHole.{PlacedHole}
 use Rattle.report.specs.declared.LayerHead.{LayerHead}
 use Rattle.report.specs.declared.RingLack.{RingLack}
 use Rattle.report.specs.declared.BoardReport.{BoardReport}
@@ -34,30 +33,30 @@ is_gap (Oblique layer hole) = false
 is_gap (Gap first second) = true
 
 -- the flashes of a layer, by its place among the copper files, from 0
-abbrev pub layer_flashes : FlashedBoardView → ℕ → List Flash
-layer_flashes flashed layer = get_or flashed.flashes (get_or flashed.board.layer_indexes layer 0) []
+abbrev pub layer_flashes : BoardView → ℕ → List Flash
+layer_flashes board layer = get_or board.flashes (get_or board.layer_indexes layer 0) []
 
 -- a hole of a board, by its place in the list of all holes: the index of its drill file, its number there from 1, and the hole itself
-pub record IsHoleAt (board : BoardView) (place : ℕ) (at : HoleAt) : Type 0 where
-  pub stands : IsPlace board.files place (record { drill = at.drill; hole = at.number })
+pub record IsPlacedHole (board : BoardView) (place : ℕ) (at : PlacedHole) : Type 0 where
+  pub stands : IsPlace board.files place (at.place)
   pub hole : at.hole ≡ hole_at board.holes place
 
 -- the entry of a hole that lacks its ring on a layer: the layer, the hole's place in the package, and the cause
-pub record IsRingEntryAt (flashed : FlashedBoardView) (ring layer hole : ℕ) (output : RingLack) : Type 0 where
+pub record IsRingEntryAt (board : BoardView) (ring layer hole : ℕ) (output : RingLack) : Type 0 where
   pub layer_is : output.layer ≡ layer
-  pub at : IsHoleAt flashed.board hole output.at
-  pub cause : IsCause (layer_flashes flashed layer) ring (hole_at flashed.board.holes hole) output.cause
+  pub at : IsPlacedHole board hole output.at
+  pub cause : IsCause (layer_flashes board layer) ring (hole_at board.holes hole) output.cause
 
 -- the entry of a finding of a ring
-abbrev pub IsRingEntry : FlashedBoardView → ℕ → Finding → RingLack → Type 0
-IsRingEntry flashed ring (Ring layer hole) output = IsRingEntryAt flashed ring layer hole output
-IsRingEntry flashed ring (Oblique layer hole) output = IsRingEntryAt flashed ring layer hole output
-IsRingEntry flashed ring (Gap first second) output = ⊥
+abbrev pub IsRingEntry : BoardView → ℕ → Finding → RingLack → Type 0
+IsRingEntry board ring (Ring layer hole) output = IsRingEntryAt board ring layer hole output
+IsRingEntry board ring (Oblique layer hole) output = IsRingEntryAt board ring layer hole output
+IsRingEntry board ring (Gap first second) output = ⊥
 
 -- the entry of two holes that lack their gap: their places, the gap between them, and the required gap less this one
 pub record IsGapEntryOf (board : BoardView) (required first second : ℕ) (output : GapLack) : Type 0 where
-  pub first_at : IsHoleAt board first output.first
-  pub second_at : IsHoleAt board second output.second
+  pub first_at : IsPlacedHole board first output.first
+  pub second_at : IsPlacedHole board second output.second
   pub gap : IsGap (hole_at board.holes first) (hole_at board.holes second) output.gap
   pub lack : output.lack ≡ pos required -ℤ output.gap
 
@@ -72,21 +71,21 @@ abbrev pub head_of : List Drilled → ℕ × ℕ → LayerHead
 head_of holes (layer, file) = record { file = file; needed = count_by (needs_ring layer) holes }
 
 -- the report on a board under rules: an entry for each finding of its check, in order, and the rules that the board meets
-pub record IsBoardReport (required : GridRules) (flashed : FlashedBoardView) (output : BoardReport) : Type 0 where
+pub record IsBoardReport (required : GridRules) (board : BoardView) (output : BoardReport) : Type 0 where
   pub rules : output.rules ≡ required
-  pub layers : output.layers.items ≡ map (head_of flashed.board.holes) (enumerate_from 0 flashed.board.layer_indexes)
-  pub rings : AllZip (IsRingEntry flashed required.ring) (filter (λ finding. not (is_gap finding)) (board_findings required flashed.board)) output.rings.items
-  pub gaps : AllZip (IsGapEntry flashed.board required.gap) (filter is_gap (board_findings required flashed.board)) output.gaps.items
+  pub layers : output.layers.items ≡ map (head_of board.holes) (enumerate_from 0 board.layer_indexes)
+  pub rings : AllZip (IsRingEntry board required.ring) (filter (λ finding. not (is_gap finding)) (board_findings required board)) output.rings.items
+  pub gaps : AllZip (IsGapEntry board required.gap) (filter is_gap (board_findings required board)) output.gaps.items
   pub measure : Measure
-  pub measured : IsMeasure flashed.board measure
+  pub measured : IsMeasure board measure
   pub scales : output.scales.items ≡ measure.scales.items
   pub meets : output.meets ≡ measure.meets
 
 -- the report on a package: that on the board of its files, with their flashes
 pub record IsBoardReportOf (sources : List FileView) (required : GridRules) (output : BoardReport) : Type 0 where
-  pub flashed : FlashedBoardView
-  pub read : IsFlashedBoard sources flashed
-  pub is : IsBoardReport required flashed output
+  pub board : BoardView
+  pub read : IsFlashedBoard sources board
+  pub is : IsBoardReport required board output
 
 -- the answer is the report on the package, or its first file that is refused; if memory runs out nothing is claimed
 abbrev pub AnswersBoardReport : List FileView → GridRules → Result BoardReport PackageFault → Type 0
@@ -95,8 +94,8 @@ AnswersBoardReport sources required (Err stop.Memory) = ⊤
 AnswersBoardReport sources required (Err (stop.File index fault)) = IsFirstRefused sources index fault
 
 -- an entry has the drill file and the number of the hole at a place in the list of all holes
-abbrev pub MatchesHole : List FileSum → ℕ → HoleAt → Type 0
-MatchesHole files hole at = IsPlace files hole (record { drill = at.drill; hole = at.number })
+abbrev pub MatchesHole : List FileSum → ℕ → PlacedHole → Type 0
+MatchesHole files hole at = IsPlace files hole (at.place)
 
 -- an entry is that of a finding of a ring: it has the finding's layer and hole
 abbrev pub MatchesRing : List FileSum → Finding → RingLack → Type 0

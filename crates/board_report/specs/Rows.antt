@@ -1,6 +1,6 @@
 -- The lines of a measure for rings and for the least gap. Lengths are whole pm. The places of holes in the list of all holes count from 0.
-use Rattle.std.specs.Prelude.{◌≡◌, ◌⊎◌, ◌&&◌, ◌==◌, ℕ, pos, ◌+◌, ◌-◌, ◌*◌, ◌<◌, Bool, Option, Some, None, List, [], length, take, get_or, ⊤}
-use Rattle.std.specs.List.{All, AllPairs, Contains, filter, sum_by, range_with_len}
+use Rattle.std.specs.Prelude.{◌≡◌, ◌⊎◌, ◌&&◌, ◌==◌, ℕ, pos, ◌+◌, ◌-◌, ◌*◌, ◌<◌, Bool, Option, Some, None, List, [], length, get_or, ⊤}
+use Rattle.std.specs.List.{All, AllPairs, Contains, filter, range_with_len}
 use Rattle.pad_shapes.specs.Pads.{pad_covers}
 use Rattle.ring_rules.specs.Places.{hole_at, default_hole}
 use Rattle.margins.specs.BestPads.{AreBestPads}
@@ -15,18 +15,14 @@ use Rattle.report.specs.declared.GapLine.{GapLine}
 use Rattle.report.specs.declared.HolePlace.{HolePlace}
 use Rattle.report.specs.declared.LeastRing as line
 use Rattle.report.specs.declared.RingLine.{RingLine}
-use Rattle.package_check.specs.Boards.{BoardView, CountsAddUp, hole_count}
+use Rattle.package_check.specs.Boards.{BoardView, CountsAddUp, holes_before}
 use Rattle.package_check.specs.declared.FileSum.{FileSum}
 use Rattle.board_report.specs.declared.places.FileHoles.{FileHoles}
 
--- the number of holes in the files before one, by its index
-abbrev pub holes_before : List FileSum → ℕ → ℕ
-holes_before files file = sum_by hole_count (take file files)
-
 -- the hole at a place in the list of all holes has this number, from 1, in this drill file
 pub record IsPlace (files : List FileSum) (hole : ℕ) (place : HolePlace) : Type 0 where
-  pub at : holes_before files place.drill + place.hole ≡ hole + 1
-  pub from_one : 0 < place.hole
+  pub at : holes_before files place.drill + place.number ≡ hole + 1
+  pub from_one : 0 < place.number
   pub inside : hole < holes_before files (place.drill + 1)
 
 -- the holes of a drill file that has some: their places from `start` up to `end`, not included
@@ -44,7 +40,7 @@ pub record AreFileHoles (files : List FileSum) (count : ℕ) (with_holes : List 
 -- the drill files of a board that have holes; together they have all its holes
 pub record AreFilesWithHoles (board : BoardView) (with_holes : List FileHoles) : Type 0 where
   pub are : AreFileHoles board.files (length board.files) with_holes
-  pub told : CountsAddUp board.files board.holes
+  pub counted : CountsAddUp board.files board.holes
 
 -- a row: the holes of one drill file and one radius that need a ring on one layer
 pub record RowKey : Type 0 where
@@ -67,9 +63,9 @@ places_of board key = filter (is_in_row board key) (places_in board.files key.dr
 -- the least ring of a row, with the number of the first hole that has it; none where each hole of the row is bare
 abbrev pub IsLeastWithNumber : List FileSum → ℕ → Option row.RowLeast → Option line.LeastRing → Type 0
 IsLeastWithNumber files drill None None = ⊤
-IsLeastWithNumber files drill None (Some told) = ⊥
+IsLeastWithNumber files drill None (Some shown) = ⊥
 IsLeastWithNumber files drill (Some held) None = ⊥
-IsLeastWithNumber files drill (Some held) (Some told) = (told.ring ≡ held.ring) × IsPlace files held.hole (record { drill = drill; hole = told.hole })
+IsLeastWithNumber files drill (Some held) (Some shown) = (shown.ring ≡ held.ring) × IsPlace files held.hole (record { drill = drill; number = shown.hole })
 
 -- the line of a row, by the best pads of its layer: `ring layer=1 drill=4 diameter=0.300000000 holes=81 bare=0 least=0.099394596 hole=68`
 pub record IsRowLine (board : BoardView) (key : RowKey) (line : RingLine) : Type 0 where

@@ -8,7 +8,7 @@ use Rattle.report.specs.UnitMistakes.{IsUnitMistake}
 use Rattle.package_check.specs.Boards.{BoardView}
 use Rattle.package_check.specs.declared.FileSum.{FileSum}
 use Rattle.package_check.specs.declared.FileSum.TheVariants as sum
-use Rattle.board_report.specs.Rows.{holes_before}
+use Rattle.package_check.specs.Boards.{holes_before}
 
 -- a drill file whose holes are plated
 abbrev pub is_plated : FileSum → Bool

@@ -3,9 +3,8 @@
 ghost use Rattle.std.specs.Prelude.{◌≡◌, IfOk, length};
 ghost use Rattle.std.specs.List.{All};
 ghost use Rattle.ring_rules.specs.WithoutFindings.{NamesPlaces};
-ghost use Rattle.package_check.specs.Boards.{board_findings};
+ghost use Rattle.package_check.specs.Boards.{ReturnsFlashedBoard, board_findings};
 ghost use Rattle.package_check.specs.Package.{file_views};
-ghost use Rattle.package_check.specs.Flashed.{ReturnsFlashedBoard};
 ghost use Rattle.board_report.specs.Inner.EntriesSoFar.{AreBoardBests};
 ghost use Rattle.board_report.specs.BoardReport.{AnswersBoardReport, IsBoardReport};
 
@@ -15,7 +14,7 @@ use crate::rings::ring_lacks;
 use crate::{files_with_holes, measure_with_bests};
 use grid_units::Rules;
 use margins::{BestPad, ring_findings_from_bests};
-use package_check::{Board, File, FlashedBoard, PackageFault, read_flashed};
+use package_check::{Board, File, Keep, PackageFault, read_package};
 use pad_shapes::Pad;
 use report::BoardReport;
 use ring_rules::laws::findings_name_places;
@@ -60,21 +59,16 @@ fn findings_on(
 /// # Errors
 ///
 /// An `AllocError` when memory runs out.
-pub fn report_on(
-    alloc: Global,
-    flashed: &FlashedBoard,
-    rules: Rules,
-) -> Result<BoardReport, AllocError>
-    ensures { IfOk result (IsBoardReport rules flashed.now) }
+pub fn report_on(alloc: Global, board: &Board, rules: Rules) -> Result<BoardReport, AllocError>
+    ensures { IfOk result (IsBoardReport rules board.now) }
 {
-    let board = flashed.board();
     let (measure, bests) = measure_with_bests(alloc, board)?;
     let findings = findings_on(alloc, board, &bests, rules)?;
     let files = files_with_holes(alloc, board)?;
     Ok(BoardReport {
         rules,
         layers: heads(alloc, board)?,
-        rings: ring_lacks(alloc, flashed, &bests, &files, &findings, rules)?,
+        rings: ring_lacks(alloc, board, &bests, &files, &findings, rules)?,
         gaps: gap_lacks(alloc, board, &files, &findings, rules)?,
         scales: measure.scales,
         meets: measure.meets,
@@ -95,8 +89,8 @@ pub fn report_bytes(
 ) -> Result<BoardReport, PackageFault>
     ensures { AnswersBoardReport (file_views files.now) rules result }
 {
-    let flashed = read_flashed(alloc, files)?;
-    match report_on(alloc, &flashed, rules) {
+    let board = read_package(alloc, files, Keep::Flashes)?;
+    match report_on(alloc, &board, rules) {
         Ok(output) => Ok(output),
         Err(_) => Err(PackageFault::Memory),
     }

@@ -21,7 +21,7 @@ use margins::{
     nearest_holes,
 };
 use package_check::laws::unique_answer;
-use package_check::{Board, File, PackageFault, read_package};
+use package_check::{Board, File, Keep, PackageFault, read_package};
 use pad_shapes::Pad;
 use report::{GapLine, Measure, Meets, RingLine, UnitMistake};
 use std::alloc::{AllocError, Global};
@@ -150,7 +150,7 @@ pub fn measure_with_bests(
 fn measure_files(alloc: Global, files: &[File]) -> Result<Measure, PackageFault>
     ensures { AnswersMeasure (file_views files.now) result }
 {
-    match read_package(alloc, files) {
+    match read_package(alloc, files, Keep::Pads) {
         Ok(board) => match measure_board(alloc, &board) {
             Ok(measure) => Ok(measure),
             Err(_) => Err(PackageFault::Memory),

@@ -4,7 +4,8 @@ ghost use Rattle.std.specs.Prelude.{◌≡◌, ◌++◌, ◌∷◌, ◌+◌, ◌
 ghost use Rattle.std.specs.List.{Contains};
 ghost use Rattle.margins.specs.NearestHoles.{IsNearest, IsNearestOf, IsPair};
 ghost use Rattle.package_check.specs.Boards.{BoardView};
-ghost use Rattle.board_report.specs.Rows.{AreFilesWithHoles, holes_before, IsPlace, IsGapLine, IsLeastGap};
+ghost use Rattle.board_report.specs.Rows.{AreFilesWithHoles, IsPlace, IsGapLine, IsLeastGap};
+ghost use Rattle.package_check.specs.Boards.{holes_before};
 
 use margins::Nearest;
 use package_check::{Board, hole_count};
@@ -48,7 +49,7 @@ pub fn place_of(board: &Board, hole: usize) -> HolePlace
         if hole < end {
             return HolePlace {
                 drill,
-                hole: hole - start + 1,
+                number: hole - start + 1,
             };
         }
         start = end;
@@ -106,7 +107,7 @@ pub fn place_among(files: &[FileHoles], hole: usize) -> HolePlace
     let file = file_of(files, hole);
     HolePlace {
         drill: file.drill,
-        hole: hole - file.start + 1,
+        number: hole - file.start + 1,
     }
 }
 

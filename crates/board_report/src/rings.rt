@@ -13,7 +13,7 @@ use crate::hole_places::hole_at;
 use grid_units::Rules;
 use layer_image::Flash;
 use margins::BestPad;
-use package_check::FlashedBoard;
+use package_check::Board;
 use pad_shapes::Pad;
 use report::{CauseFinder, RingLack};
 use ring_rules::Finding;
@@ -28,6 +28,8 @@ pub(crate) struct BoardData<'a> {
     pub(crate) bests: &'a [Vec<Option<BestPad>>],
     /// The drill files that have holes.
     pub(crate) files: &'a [FileHoles],
+    /// The ring that the holes need, and their gap.
+    pub(crate) rules: Rules,
 }
 
 /// The data of one layer, for the causes of its holes.
@@ -39,31 +41,28 @@ pub(crate) struct CurrentLayer {
 }
 
 /// The flashes of a layer, by its place among the copper files.
-fn layer_flashes(flashed: &FlashedBoard, layer: usize) -> &[Flash]
-    ensures { result.now ≡ layer_flashes flashed.now layer }
+fn layer_flashes(board: &Board, layer: usize) -> &[Flash]
+    ensures { result.now ≡ layer_flashes board.now layer }
 {
-    let file = match flashed.board.layer_indexes().get(layer) {
+    let file = match board.layer_indexes().get(layer) {
         Some(file) => *file,
         None => 0,
     };
-    match flashed.flashes.get(file) {
-        Some(flashes) => flashes,
-        None => &[],
-    }
+    board.flashes_of(file)
 }
 
 /// The data of a layer for its causes, by its pads and the best of them for each hole.
 fn cause_finder_on(
     alloc: Global,
-    flashed: &FlashedBoard,
+    board: &Board,
     board_data: &BoardData,
     layer: usize,
 ) -> Result<CauseFinder, AllocError>
-    requires { IsBoardData flashed.now.board board_data.now }
-    ensures { IfOk result (HoldsFlashesAndBests (layer_flashes flashed.now layer) flashed.now.board.holes) }
+    requires { IsBoardData board.now board_data.now }
+    ensures { IfOk result (HoldsFlashesAndBests (layer_flashes board.now layer) board.now.holes) }
 {
-    let flashes = layer_flashes(flashed, layer);
-    let holes = flashed.board.holes();
+    let flashes = layer_flashes(board, layer);
+    let holes = board.holes();
     match (board_data.layers.get(layer), board_data.bests.get(layer)) {
         (Some(pads), Some(bests)) => CauseFinder::with_bests(alloc, flashes, holes, pads, bests),
         _ => CauseFinder::new(alloc, flashes, holes),
@@ -73,29 +72,29 @@ fn cause_finder_on(
 /// The data of a layer.
 fn load_layer(
     alloc: Global,
-    flashed: &FlashedBoard,
+    board: &Board,
     board_data: &BoardData,
     layer: usize,
 ) -> Result<CurrentLayer, AllocError>
-    requires { IsBoardData flashed.now.board board_data.now }
-    ensures current { IfOk result (IsCurrentLayer flashed.now) }
+    requires { IsBoardData board.now board_data.now }
+    ensures current { IfOk result (IsCurrentLayer board.now) }
     ensures layer { IfOk result (λ current. current.layer ≡ layer) }
 {
-    let causes = cause_finder_on(alloc, flashed, board_data, layer)?;
+    let causes = cause_finder_on(alloc, board, board_data, layer)?;
     Ok(CurrentLayer { layer, causes })
 }
 
 /// The data of a layer: those at hand, if they are of this layer.
 fn switch_layer(
     alloc: Global,
-    flashed: &FlashedBoard,
+    board: &Board,
     board_data: &BoardData,
     current: Option<CurrentLayer>,
     layer: usize,
 ) -> Result<CurrentLayer, AllocError>
-    requires board_data { IsBoardData flashed.now.board board_data.now }
-    requires current { IfSome current (IsCurrentLayer flashed.now) }
-    ensures current { IfOk result (IsCurrentLayer flashed.now) }
+    requires board_data { IsBoardData board.now board_data.now }
+    requires current { IfSome current (IsCurrentLayer board.now) }
+    ensures current { IfOk result (IsCurrentLayer board.now) }
     ensures layer { IfOk result (λ current. current.layer ≡ layer) }
 {
     match current {
@@ -103,33 +102,31 @@ fn switch_layer(
             if current.layer == layer {
                 Ok(current)
             } else {
-                load_layer(alloc, flashed, board_data, layer)
+                load_layer(alloc, board, board_data, layer)
             }
         }
-        None => load_layer(alloc, flashed, board_data, layer),
+        None => load_layer(alloc, board, board_data, layer),
     }
 }
 
 /// The entry of a hole that lacks its ring, by the data of the layer.
 fn ring_lack(
-    flashed: &FlashedBoard,
+    board: &Board,
     files: &[FileHoles],
     current: &CurrentLayer,
     hole: usize,
     rules: Rules,
 ) -> RingLack
-    requires files { AreFilesWithHoles flashed.now.board files.now }
-    requires current { IsCurrentLayer flashed.now current.now }
-    requires hole { hole < length flashed.now.board.holes }
-    ensures { IsRingEntryAt flashed.now rules.ring current.now.layer hole result }
+    requires files { AreFilesWithHoles board.now files.now }
+    requires current { IsCurrentLayer board.now current.now }
+    requires hole { hole < length board.now.holes }
+    ensures { IsRingEntryAt board.now rules.ring current.now.layer hole result }
 {
-    let flashes = layer_flashes(flashed, current.layer);
+    let flashes = layer_flashes(board, current.layer);
     RingLack {
         layer: current.layer,
-        at: hole_at(&flashed.board, files, hole),
-        cause: current
-            .causes
-            .cause(flashes, flashed.board.holes(), hole, rules),
+        at: hole_at(board, files, hole),
+        cause: current.causes.cause(flashes, board.holes(), hole, rules),
     }
 }
 
@@ -142,64 +139,67 @@ fn add<T: Copy>(all: &mut Vec<T>, item: T) -> Result<(), AllocError>
 
 /// Appends the entry of a hole that lacks its ring, by the data of the layer.
 fn push_on_layer(
-    flashed: &FlashedBoard,
+    board: &Board,
     files: &[FileHoles],
     current: &CurrentLayer,
     hole: usize,
     rules: Rules,
     output: &mut Vec<RingLack>,
 ) -> Result<(), AllocError>
-    requires files { AreFilesWithHoles flashed.now.board files.now }
-    requires current { IsCurrentLayer flashed.now current.now }
-    requires hole { hole < length flashed.now.board.holes }
-    ensures { OnOk result ((lack : RingLack) × IsRingEntryAt flashed.now rules.ring current.now.layer hole lack × (output.new.items ≡ output.old.items ++ lack ∷ [])) }
+    requires files { AreFilesWithHoles board.now files.now }
+    requires current { IsCurrentLayer board.now current.now }
+    requires hole { hole < length board.now.holes }
+    ensures { OnOk result ((lack : RingLack) × IsRingEntryAt board.now rules.ring current.now.layer hole lack × (output.new.items ≡ output.old.items ++ lack ∷ [])) }
 {
-    add(output, ring_lack(flashed, files, current, hole, rules))
+    add(output, ring_lack(board, files, current, hole, rules))
 }
 
 /// Appends the entry of a hole that lacks its ring on a layer.
 fn push_at(
     alloc: Global,
-    flashed: &FlashedBoard,
+    board: &Board,
     board_data: &BoardData,
     current: Option<CurrentLayer>,
     layer: usize,
     hole: usize,
-    rules: Rules,
     output: &mut Vec<RingLack>,
 ) -> Result<Option<CurrentLayer>, AllocError>
-    requires board_data { IsBoardData flashed.now.board board_data.now }
-    requires current { IfSome current (IsCurrentLayer flashed.now) }
-    requires hole { hole < length flashed.now.board.holes }
-    ensures current { IfOk result (λ some. IfSome some (IsCurrentLayer flashed.now)) }
-    ensures adds { OnOk result ((lack : RingLack) × IsRingEntryAt flashed.now rules.ring layer hole lack × (output.new.items ≡ output.old.items ++ lack ∷ [])) }
+    requires board_data { IsBoardData board.now board_data.now }
+    requires current { IfSome current (IsCurrentLayer board.now) }
+    requires hole { hole < length board.now.holes }
+    ensures current { IfOk result (λ some. IfSome some (IsCurrentLayer board.now)) }
+    ensures adds { OnOk result ((lack : RingLack) × IsRingEntryAt board.now board_data.now.rules.ring layer hole lack × (output.new.items ≡ output.old.items ++ lack ∷ [])) }
 {
-    let current = switch_layer(alloc, flashed, board_data, current, layer)?;
-    push_on_layer(flashed, board_data.files, &current, hole, rules, output)?;
+    let current = switch_layer(alloc, board, board_data, current, layer)?;
+    push_on_layer(
+        board,
+        board_data.files,
+        &current,
+        hole,
+        board_data.rules,
+        output,
+    )?;
     Ok(Some(current))
 }
 
 /// Appends the entry of a finding, if it is one of a ring.
 fn push(
     alloc: Global,
-    flashed: &FlashedBoard,
+    board: &Board,
     board_data: &BoardData,
     current: Option<CurrentLayer>,
     finding: Finding,
-    rules: Rules,
     output: &mut Vec<RingLack>,
 ) -> Result<Option<CurrentLayer>, AllocError>
-    requires board_data { IsBoardData flashed.now.board board_data.now }
-    requires current { IfSome current (IsCurrentLayer flashed.now) }
-    requires places { NamesPlaces (length flashed.now.board.layers) (length flashed.now.board.holes) finding }
-    ensures current { IfOk result (λ some. IfSome some (IsCurrentLayer flashed.now)) }
-    ensures adds { OnOk result (AddsEntry (not (is_gap finding)) (IsRingEntry flashed.now rules.ring) finding output.old.items output.new.items) }
+    requires board_data { IsBoardData board.now board_data.now }
+    requires current { IfSome current (IsCurrentLayer board.now) }
+    requires places { NamesPlaces (length board.now.layers) (length board.now.holes) finding }
+    ensures current { IfOk result (λ some. IfSome some (IsCurrentLayer board.now)) }
+    ensures adds { OnOk result (AddsEntry (not (is_gap finding)) (IsRingEntry board.now board_data.now.rules.ring) finding output.old.items output.new.items) }
 {
     match finding {
         Finding::Ring { layer, hole } | Finding::Oblique { layer, hole } => {
-            push_at(
-                alloc, flashed, board_data, current, layer, hole, rules, output,
-            )
+            push_at(alloc, board, board_data, current, layer, hole, output)
         }
         Finding::Gap { .. } => Ok(current),
     }
@@ -208,27 +208,18 @@ fn push(
 /// The entries of those findings that are of rings, in order. The data of a layer are kept until a finding names another layer.
 fn ring_lacks_of(
     alloc: Global,
-    flashed: &FlashedBoard,
+    board: &Board,
     board_data: &BoardData,
     findings: &[Finding],
-    rules: Rules,
 ) -> Result<Vec<RingLack>, AllocError>
-    requires board_data { IsBoardData flashed.now.board board_data.now }
-    requires places { All (NamesPlaces (length flashed.now.board.layers) (length flashed.now.board.holes)) findings.now }
-    ensures { IfOk result (λ output. AllZip (IsRingEntry flashed.now rules.ring) (filter (λ finding. not (is_gap finding)) findings.now) output.items) }
+    requires board_data { IsBoardData board.now board_data.now }
+    requires places { All (NamesPlaces (length board.now.layers) (length board.now.holes)) findings.now }
+    ensures { IfOk result (λ output. AllZip (IsRingEntry board.now board_data.now.rules.ring) (filter (λ finding. not (is_gap finding)) findings.now) output.items) }
 {
     let mut output = Vec::new(alloc);
     let mut current = None;
     for finding in findings {
-        current = push(
-            alloc,
-            flashed,
-            board_data,
-            current,
-            *finding,
-            rules,
-            &mut output,
-        )?;
+        current = push(alloc, board, board_data, current, *finding, &mut output)?;
     }
     Ok(output)
 }
@@ -236,22 +227,23 @@ fn ring_lacks_of(
 /// The entries of those findings that are of rings, in order, by the best pads of each layer and the drill files that have holes.
 pub(crate) fn ring_lacks(
     alloc: Global,
-    flashed: &FlashedBoard,
+    board: &Board,
     bests: &[Vec<Option<BestPad>>],
     files: &[FileHoles],
     findings: &[Finding],
     rules: Rules,
 ) -> Result<Vec<RingLack>, AllocError>
-    requires bests { AreBoardBests flashed.now.board bests.now }
-    requires files { AreFilesWithHoles flashed.now.board files.now }
-    requires places { All (NamesPlaces (length flashed.now.board.layers) (length flashed.now.board.holes)) findings.now }
-    ensures { IfOk result (λ output. AllZip (IsRingEntry flashed.now rules.ring) (filter (λ finding. not (is_gap finding)) findings.now) output.items) }
+    requires bests { AreBoardBests board.now bests.now }
+    requires files { AreFilesWithHoles board.now files.now }
+    requires places { All (NamesPlaces (length board.now.layers) (length board.now.holes)) findings.now }
+    ensures { IfOk result (λ output. AllZip (IsRingEntry board.now rules.ring) (filter (λ finding. not (is_gap finding)) findings.now) output.items) }
 {
-    let layers = flashed.board.layers(alloc)?;
+    let layers = board.layers(alloc)?;
     let board_data = BoardData {
         layers: &layers,
         bests,
         files,
+        rules,
     };
-    ring_lacks_of(alloc, flashed, &board_data, findings, rules)
+    ring_lacks_of(alloc, board, &board_data, findings)
 }

@@ -87,7 +87,7 @@ read_first id (Some value) = refl
 pub first_is : (id : Text) (os : Options) → first_of id (rows_of os) ≡ required_arg id os
 first_is id os = ap (option_and_then (λ (r : Row). slice_get r.values 0)) (find_given id os) ∙ read_first id (required_arg id os)
 
--- what is given is told by the value
+-- what is given is shown by the value
 pub given_is : (id : Text) (os : Options) → is_given id (rows_of os) ≡ option_map_or (λ (r : Row). explicit_source r.source) (option_map (row_of_value id) (required_arg id os)) false
 given_is id os = ap (λ (o : Option Row). option_map_or (λ (r : Row). explicit_source r.source) o false) (find_given id os)
 

@@ -26,7 +26,7 @@ manifest_shape = command_of (codes "manifest")
 abbrev flag_rows : Bool → List Row
 flag_rows why = if why then row_of_value (codes "why") (codes "true") ∷ [] else []
 
--- where the walk stands behind the flag and some files
+-- where the walk stands after the flag and some files
 abbrev after : Bool → List Text → Walk
 after why [] = walk_at (bare (flag_rows why)) idle 1
 after why (f ∷ fs) = walk_at (pending (flag_rows why) (codes "file") (f ∷ fs)) positional 1

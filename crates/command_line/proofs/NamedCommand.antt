@@ -29,7 +29,7 @@ stopped name words = record { held = nothing_held; waiting = idle; position = 1;
 abbrev program_turns : Walk → List Text → Walk × Bool
 program_turns w words = turns program.top (names_of program) w words
 
--- the program takes every word behind the name, and leaves it to the command
+-- the program takes every word after the name, and leaves it to the command
 stays_stopped : (name : Text) (words rest : List Text) → program_turns (stopped name words) rest ≡ (stopped name (words ++ rest), true)
 unfolding walk_passes walked
 stays_stopped name words [] = ap (λ (ws : List Text). (stopped name ws, true)) (sym (append-nil words))
@@ -41,7 +41,7 @@ answer_at t =
     let command = entered program t.0.stopped in
     (entered_passes program t.0.stopped && end_passes program.top t (is_some command), command)
 
--- the program has a command by this name, to which it leaves the words behind the name
+-- the program has a command by this name, to which it leaves the words after the name
 abbrev pub IsNamed : Text → Type 0
 IsNamed name =
     ((rest : List Text) → answer (name ∷ rest) ≡ answer_at (program_turns (stopped name []) rest))

@@ -48,7 +48,7 @@ end_facts s os id value = (
   list_all (λ a. not a.required || option_map_or (λ r. explicit_source r.source) (option_map (row_of_value a.id) (required_arg a.id (os ++ (id, Some value) ∷ []))) false) s.rules,
 )
 
--- the command has this argument at the first place, and behind the options wants no more
+-- the command has this argument at the first place, and after the options wants no more
 abbrev pub HasEnd : Shape → Options → Text → Text → Type 0
 HasEnd s os id value =
     let a = one_value s None (Some 1) id in
@@ -148,7 +148,7 @@ module _ (s : Shape) where
       → has_row id rows ≡ false → Holds (rows ++ row_of_value id value ∷ []) (pending rows id (value ∷ []))
   holds_value name place id rows value by none = record { comes_to = rw by (joins id (value ∷ []) rows none); none_skipped = refl; passes = rw (by, none) refl }
 
-  -- options in a row, each with its value or left out; `go` says how the walk goes on behind them
+  -- options in a row, each with its value or left out; `go` says how the walk goes on after them
   runs : (before os : Options) (h : Held) → Holds (rows_of before) h → HasOptions s before os → ArePlain os → (rest : List Text) (end : Walk)
       → ((g : Held) → Holds (rows_of (before ++ os)) g → WalksWords (walk_at g idle 1) rest end) → WalksWords (walk_at h idle 1) (words_of os rest) end
   runs before [] h holds has plain rest end go = go h (rw append-nil holds)

@@ -190,7 +190,7 @@ fn with_report_args<'a>(alloc: Global, command: Command<'a>) -> Result<Command<'
             alloc,
             "max",
             "N",
-            "Findings told at most; all where it is not there",
+            "Most findings to show; all if it is not given",
         ))?
         .arg(optional_option_arg(
             alloc,

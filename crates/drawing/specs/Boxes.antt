@@ -8,7 +8,7 @@ use Rattle.layer_image.specs.declared.flash.Flash.{Flash}
 use Rattle.pad_shapes.specs.declared.pad.Pad.{Pad}
 use Rattle.pad_shapes.specs.declared.pad.Pad.TheVariants as pads
 use Rattle.ring_rules.specs.declared.finding.Drilled.{Drilled}
-use Rattle.package_check.specs.Flashed.{FlashedBoardView}
+use Rattle.package_check.specs.Boards.{BoardView}
 use Rattle.picture.specs.Scenes.{cross_of}
 use Rattle.picture.specs.declared.frame.Frame.{Frame}
 
@@ -66,9 +66,9 @@ extent_or None other = other
 extent_or (Some extent) other = Some extent
 
 -- the extent of a board: of all its pads and holes; where it has neither, of its other flashes
-abbrev pub board_extent : FlashedBoardView → Option GridExtent
-board_extent flashed =
-    extent_or (whole_extent (extents flashed.board.layers flashed.board.holes)) (whole_extent (cross_extents flashed.flashes flashed.board.layer_indexes))
+abbrev pub board_extent : BoardView → Option GridExtent
+board_extent board =
+    extent_or (whole_extent (extents board.layers board.holes)) (whole_extent (cross_extents board.flashes board.layer_indexes))
 
 -- a box has this left edge, this top edge and these sides
 pub record HasSides (f : Frame) (left top width height : ℤ) : Type 0 where

@@ -7,7 +7,6 @@ use Rattle.layer_image.specs.declared.flash.Flash.{Flash}
 use Rattle.ring_rules.specs.declared.finding.Drilled.{Drilled}
 use Rattle.ring_rules.specs.declared.finding.Finding.{Finding}
 use Rattle.package_check.specs.Boards.{BoardView, board_findings}
-use Rattle.package_check.specs.Flashed.{FlashedBoardView}
 use Rattle.picture.specs.Scenes.{AreSortedBySize, crosses_of, is_crowded, drawn_findings, unless_crowded}
 use Rattle.picture.specs.declared.scene.Scene.{Scene}
 use Rattle.drawing.specs.Boxes.{board_extent}
@@ -36,26 +35,26 @@ abbrev pub number_of : ℕ → ℕ
 number_of file = min (file + 1) (2 ^ 64 - 1)
 
 -- the panel of a layer, by its place among the copper files, from 0, and the index of its file
-pub record IsPanel (names : List (List ℕ)) (flashed : FlashedBoardView) (findings : List Finding) (l : Layout) (at : ℕ × ℕ) (panel : Panel) : Type 0 where
+pub record IsPanel (names : List (List ℕ)) (board : BoardView) (findings : List Finding) (l : Layout) (at : ℕ × ℕ) (panel : Panel) : Type 0 where
   pub file : panel.place.file ≡ number_of at.1
   pub name : panel.place.name.now ≡ get_or names at.1 []
   pub x : panel.place.x ≡ pos (box_left l at.0) -ℤ l.frame.left
   pub y : panel.place.y ≡ pos (box_top l at.0) +ℤ l.frame.top
-  pub scene : IsScene at.0 (get_or flashed.flashes at.1 []) flashed.board.holes findings panel.scene
+  pub scene : IsScene at.0 (get_or board.flashes at.1 []) board.holes findings panel.scene
 
 -- the contents of a board's page, under rules if there are any; `names` are those of its files, in order
-pub record IsPage (names : List (List ℕ)) (flashed : FlashedBoardView) (given_rules : Option GridRules) (drawing : Drawing) : Type 0 where
-  pub laid : IsLayout (board_extent flashed) (length flashed.board.layer_indexes) given_rules drawing.layout
+pub record IsPage (names : List (List ℕ)) (board : BoardView) (given_rules : Option GridRules) (drawing : Drawing) : Type 0 where
+  pub laid : IsLayout (board_extent board) (length board.layer_indexes) given_rules drawing.layout
   pub under : drawing.rules ≡ given_rules
-  pub drawn : AllZip (IsPanel names flashed (findings_under given_rules flashed.board) drawing.layout) (enumerate_from 0 flashed.board.layer_indexes) drawing.panels.items
-  pub told : drawing.count ≡ length (findings_under given_rules flashed.board)
+  pub drawn : AllZip (IsPanel names board (findings_under given_rules board) drawing.layout) (enumerate_from 0 board.layer_indexes) drawing.panels.items
+  pub counted : drawing.count ≡ length (findings_under given_rules board)
 
 -- the text of a drawing: its page
 abbrev pub drawing_text : Drawing → List ℕ
 drawing_text d = page_text d.layout d.rules d.count d.panels.items
 
 -- a text is the page of a board, under rules if there are any; `names` are those of its files, in order
-pub record IsDrawn (names : List (List ℕ)) (flashed : FlashedBoardView) (given_rules : Option GridRules) (text : List ℕ) : Type 0 where
+pub record IsDrawn (names : List (List ℕ)) (board : BoardView) (given_rules : Option GridRules) (text : List ℕ) : Type 0 where
   pub drawing : Drawing
-  pub shows : IsPage names flashed given_rules drawing
+  pub shows : IsPage names board given_rules drawing
   pub is : text ≡ drawing_text drawing

@@ -5,9 +5,8 @@ ghost use Rattle.std.specs.List.{flat_map, fold};
 ghost use Rattle.drawing.specs.Boxes.{cross_extent, cross_extents, extent_or, extents, hole_extent, joined_to, pad_extent, whole_extent};
 
 use crate::extent::{Extent, hole_extent, joined_to, pad_extent, point_extent};
-use crate::panels::flashes_of;
 use layer_image::{Flash, What};
-use package_check::FlashedBoard;
+use package_check::Board;
 use pad_shapes::Pad;
 use ring_rules::Drilled;
 
@@ -73,29 +72,29 @@ fn with_flashes(before: Option<Extent>, flashes: &[Flash]) -> Option<Extent>
 }
 
 /// The extent of those flashes of some files that are no pads, if there are any.
-fn crosses_extent(flashed: &FlashedBoard, files: &[usize]) -> Option<Extent>
-    ensures { result ≡ whole_extent (cross_extents flashed.now.flashes files.now) }
+fn crosses_extent(board: &Board, files: &[usize]) -> Option<Extent>
+    ensures { result ≡ whole_extent (cross_extents board.now.flashes files.now) }
 {
     let mut all = None;
     for file in files {
-        all = with_flashes(all, flashes_of(flashed, *file));
+        all = with_flashes(all, board.flashes_of(*file));
     }
     all
 }
 
 /// An extent, or where there is none that of the board's flashes that are no pads.
-fn or_crosses(extent: Option<Extent>, flashed: &FlashedBoard) -> Option<Extent>
-    ensures { result ≡ extent_or extent (whole_extent (cross_extents flashed.now.flashes flashed.now.board.layer_indexes)) }
+fn or_crosses(extent: Option<Extent>, board: &Board) -> Option<Extent>
+    ensures { result ≡ extent_or extent (whole_extent (cross_extents board.now.flashes board.now.layer_indexes)) }
 {
     match extent {
         Some(extent) => Some(extent),
-        None => crosses_extent(flashed, flashed.board.layer_indexes()),
+        None => crosses_extent(board, board.layer_indexes()),
     }
 }
 
 /// The extent of a board: of its holes and of the pads of its layers. Where it has neither, that of its other flashes.
-pub(crate) fn board_extent(layers: &[&[Pad]], flashed: &FlashedBoard) -> Option<Extent>
-    ensures { result ≡ extent_or (whole_extent (extents (map (λ layer. layer.now) layers.now) flashed.now.board.holes)) (whole_extent (cross_extents flashed.now.flashes flashed.now.board.layer_indexes)) }
+pub(crate) fn board_extent(layers: &[&[Pad]], board: &Board) -> Option<Extent>
+    ensures { result ≡ extent_or (whole_extent (extents (map (λ layer. layer.now) layers.now) board.now.holes)) (whole_extent (cross_extents board.now.flashes board.now.layer_indexes)) }
 {
-    or_crosses(extent_of(layers, flashed.board.holes()), flashed)
+    or_crosses(extent_of(layers, board.holes()), board)
 }

@@ -9,7 +9,7 @@ use crate::page::{write_legend, write_page_start, write_scale, write_title};
 use crate::page_layout::layout_of;
 use crate::panels::{Panel, panels_of};
 use grid_units::Rules;
-use package_check::{Board, FlashedBoard};
+use package_check::Board;
 use printing::Lines;
 use ring_rules::Finding;
 use std::alloc::{AllocError, Global};
@@ -48,17 +48,16 @@ fn findings_under(
 fn page_of<'a>(
     alloc: Global,
     names: &[&'a str],
-    flashed: &'a FlashedBoard,
+    board: &'a Board,
     rules: Option<Rules>,
 ) -> Result<Drawing<'a>, AllocError>
-    ensures { IfOk result (IsPage (map (λ name. name.now) names.now) flashed.now rules) }
+    ensures { IfOk result (IsPage (map (λ name. name.now) names.now) board.now rules) }
 {
-    let board = flashed.board();
     let findings = findings_under(alloc, board, &rules)?;
     let layers = board.layers(alloc)?;
-    let extent = board_extent(&layers, flashed);
+    let extent = board_extent(&layers, board);
     let layout = layout_of(extent, board.layer_indexes().len(), &rules);
-    let panels = panels_of(alloc, &layout, names, flashed, &findings)?;
+    let panels = panels_of(alloc, &layout, names, board, &findings)?;
     Ok(Drawing {
         layout,
         rules,
@@ -77,7 +76,7 @@ impl<'a> Drawing<'a> {
     pub fn new(
         alloc: Global,
         names: &'a [&'a str],
-        board: &'a FlashedBoard,
+        board: &'a Board,
         rules: Option<Rules>,
     ) -> Result<Drawing<'a>, AllocError>
         ensures { IfOk result (λ drawing. IsDrawn (map (λ name. name.now) names.now) board.now rules (drawing_text drawing)) }

@@ -8,7 +8,7 @@ ghost use Rattle.drawing.specs.Pages.{text_of_panel};
 
 use crate::layout::Layout;
 use layer_image::Flash;
-use package_check::FlashedBoard;
+use package_check::Board;
 use picture::{Place, Scene, scene_of};
 use printing::Line;
 use ring_rules::{Drilled, Finding};
@@ -50,16 +50,6 @@ fn name_of<'a>(names: &[&'a str], file: usize) -> &'a str
     }
 }
 
-/// The flashes of a file, by its index.
-pub(crate) fn flashes_of(flashed: &FlashedBoard, file: usize) -> &[Flash]
-    ensures { result.now ≡ get_or flashed.now.flashes file [] }
-{
-    match flashed.flashes.get(file) {
-        Some(flashes) => flashes,
-        None => &[],
-    }
-}
-
 /// The place of a layer's panel, by the layer's place among the copper files and the index of its file.
 fn place_of<'a>(layout: &Layout, names: &[&'a str], layer: usize, file: usize) -> Place<'a>
     ensures file { result.file ≡ number_of file }
@@ -93,18 +83,18 @@ fn panel_of<'a>(
     alloc: Global,
     layout: &Layout,
     names: &[&'a str],
-    flashed: &'a FlashedBoard,
+    board: &'a Board,
     findings: &[Finding],
     layer: usize,
     file: usize,
 ) -> Result<Panel<'a>, AllocError>
-    ensures { IfOk result (IsPanel (map (λ name. name.now) names.now) flashed.now findings.now layout.now (layer, file)) }
+    ensures { IfOk result (IsPanel (map (λ name. name.now) names.now) board.now findings.now layout.now (layer, file)) }
 {
     let scene = scene_on(
         alloc,
         layer,
-        flashes_of(flashed, file),
-        flashed.board.holes(),
+        board.flashes_of(file),
+        board.holes(),
         findings,
     )?;
     Ok(Panel {
@@ -131,15 +121,15 @@ pub(crate) fn panels_of<'a>(
     alloc: Global,
     layout: &Layout,
     names: &[&'a str],
-    flashed: &'a FlashedBoard,
+    board: &'a Board,
     findings: &[Finding],
 ) -> Result<Vec<Panel<'a>>, AllocError>
-    ensures { IfOk result (λ panels. AllZip (IsPanel (map (λ name. name.now) names.now) flashed.now findings.now layout.now) (enumerate_from 0 flashed.now.board.layer_indexes) panels.items) }
+    ensures { IfOk result (λ panels. AllZip (IsPanel (map (λ name. name.now) names.now) board.now findings.now layout.now) (enumerate_from 0 board.now.layer_indexes) panels.items) }
 {
-    let files = flashed.board.layer_indexes();
+    let files = board.layer_indexes();
     let mut panels = Vec::new(alloc);
     for layer in 0..files.len() {
-        let panel = panel_of(alloc, layout, names, flashed, findings, layer, files[layer])?;
+        let panel = panel_of(alloc, layout, names, board, findings, layer, files[layer])?;
         add(&mut panels, panel)?;
     }
     Ok(panels)

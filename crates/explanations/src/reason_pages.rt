@@ -14,7 +14,7 @@ than 1,000 bytes. Write a shorter one.
 ";
 
 const AFTER_END: &str = "\
-AfterEnd: something stands behind the end of the file, which is M02 in a
+AfterEnd: something follows the end of the file, which is M02 in a
 layer and M30 in a drill file. Export the file again, by itself.
 ";
 
@@ -261,7 +261,7 @@ const EMPTY_NAME: &str = "\
 EmptyName: in the manifest: a record has an empty name or an empty file name.
 Write it in; place is the number of the record.
 In a file of waivers: a record has no reason. Write why the finding is
-accepted behind its last comma, or take the record out.
+accepted after its last comma, or take the record out.
 ";
 
 const REPEATED_NAME: &str = "\

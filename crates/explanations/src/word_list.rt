@@ -12,7 +12,7 @@ use grid_units::Reason;
 /// The words, one to a line, each with what it means in short: `ring: the copper round a hole is narrower than the rule`.
 const WORDS: &str = "\
 TooLong: an item, a line or a file has too many bytes
-AfterEnd: something stands behind the end of the file
+AfterEnd: something follows the end of the file
 Truncated: the text ends before M02 (layer) or M30 (drill file)
 SeveralInOne: several commands stand in one pair of %
 ClearPolarity: %LPC*% takes copper away

@@ -1,13 +1,13 @@
 //! The pads of a layer in which holes lie deepest.
 
-ghost use Rattle.std.specs.Prelude.{◌≡◌, ◌<◌, ◌≤◌, None, Some, true, false, ℕ, pos, length, get_or, IfOk, OnOk, IfSome};
+ghost use Rattle.std.specs.Prelude.{◌≡◌, ◌<◌, ◌≤◌, None, Some, true, ℕ, pos, length, get_or, IfOk, OnOk, IfSome};
 ghost use Rattle.std.specs.List.{All, Contains};
 ghost use Rattle.pad_shapes.specs.Shapes.{covers_both_ends, IsAxisAligned, IsReach};
 ghost use Rattle.pad_shapes.specs.Zones.{IsInZone, BoundsCentres};
 ghost use Rattle.pad_shapes.specs.declared.zone.Zone.{Zone};
 ghost use Rattle.ring_rules.specs.Findings.{is_oblique};
 ghost use Rattle.ring_rules.specs.Index.{IsIndexOf};
-ghost use Rattle.ring_rules.specs.Places.{hole_at, entry_at};
+ghost use Rattle.ring_rules.specs.Places.{hole_at};
 ghost use Rattle.margins.specs.BestPads.{IsBestPad, AreBestPads};
 ghost use Rattle.margins.specs.Inner.BestPads.{required, IsBetter, IsTriedAtHole, IsTriedAtPlaces, IsTriedIn, IsTriedAll, IsInAnyOf, NeedsDepth, AllNeedDepth, AreBounds, IsDivision};
 
@@ -79,23 +79,6 @@ pub fn best_pad<S: DepthShape>(pads: &[S], hole: &Hole) -> Option<BestPad>
     best
 }
 
-/// Tries a pad at the holes at some places.
-fn try_near<S: DepthShape>(
-    pad: &S,
-    place: usize,
-    holes: &[Drilled],
-    near: &[usize],
-    bests: &mut [Option<BestPad>],
-)
-    requires near { All (λ k. k < length holes.now) near.now }
-    requires size { length bests.old ≡ length holes.now }
-    ensures { IsTriedAtPlaces S.covers pad.now place holes.now near.now (length near.now) bests.old bests.new }
-{
-    for hole in near {
-        bests[*hole] = better(bests[*hole], place, pad, &holes[*hole].hole);
-    }
-}
-
 /// The lesser of a depth and the one that a hole asks of a pad that is better than its best so far, in pm. An oblique
 /// slot asks for nothing.
 fn lesser_needed_depth(least: u64, hole: &Hole, best: Option<BestPad>) -> u64
@@ -121,298 +104,203 @@ fn least_needed_depth(holes: &[Drilled], near: &[usize], bests: &[Option<BestPad
     least
 }
 
-/// Tries a pad at the holes of a part, if it may be better for one of them. Returns the least depth that these ask for from now on.
-fn try_part<S: DepthShape>(
-    index: &HoleIndex,
-    pad: &S,
+/// A pad with its place among the pads of a layer, and the holes of the board at which it is tried.
+#[derive(Drop)]
+struct PadOnBoard<'a, S> {
+    pad: &'a S,
     place: usize,
-    holes: &[Drilled],
-    part: &Zone,
-    bound: u64,
-    near: &mut Vec<usize>,
-    bests: &mut [Option<BestPad>],
-) -> Result<u64, AllocError>
-    requires index { IsIndexOf holes.now index.now }
-    requires size { length bests.old ≡ length holes.now }
-    requires bound { AllNeedDepth holes.now bests.old (IsInZone part.now) bound }
-    ensures tried { OnOk result (IsTriedIn S.covers pad.now place holes.now (IsInZone part.now) bests.old bests.new) }
-    ensures bound { IfOk result (AllNeedDepth holes.now bests.new (IsInZone part.now)) }
-{
-    if !pad.may_cover(part, bound) {
-        return Ok(bound);
-    }
-    index.find(holes, part, near)?;
-    try_near(pad, place, holes, near, bests);
-    Ok(least_needed_depth(holes, near, bests))
+    holes: &'a [Drilled],
+    index: &'a HoleIndex,
+    division: &'a Division,
 }
 
-/// Tries a pad at the holes of the parts from one place to another, end excluded. Each part has the least depth that
-/// its holes ask for; the least of all is returned.
-fn try_parts<S: DepthShape>(
-    index: &HoleIndex,
-    pad: &S,
-    place: usize,
-    holes: &[Drilled],
-    parts: &[Zone],
-    first: usize,
-    last: usize,
-    bounds: &mut [u64],
-    near: &mut Vec<usize>,
-    bests: &mut [Option<BestPad>],
-) -> Result<u64, AllocError>
-    requires index { IsIndexOf holes.now index.now }
-    requires size { length bests.old ≡ length holes.now }
-    requires last { last ≤ length parts.now }
-    requires parts { length bounds.old ≡ length parts.now }
-    requires bounds { AreBounds holes.now bests.old parts.now bounds.old }
-    ensures tried { OnOk result (IsTriedIn S.covers pad.now place holes.now (IsInAnyOf parts.now first last) bests.old bests.new) }
-    ensures bounds { OnOk result (AreBounds holes.now bests.new parts.now bounds.new) }
-    ensures least { IfOk result (AllNeedDepth holes.now bests.new (IsInAnyOf parts.now first last)) }
-{
-    let mut least = u64::MAX;
-    for i in first..last {
-        let bound = try_part(index, pad, place, holes, &parts[i], bounds[i], near, bests)?;
-        bounds[i] = bound;
-        least = bound.min(least);
-    }
-    Ok(least)
-}
-
-/// Tries a pad at the holes of a zone, part by part, if it may be better for one of them. Returns the least depth
-/// that these ask for from now on.
-fn try_zone<S: DepthShape>(
-    index: &HoleIndex,
-    pad: &S,
-    place: usize,
-    holes: &[Drilled],
-    zone: &Zone,
-    bound: u64,
-    parts: &[Zone],
-    first: usize,
-    last: usize,
-    bounds: &mut [u64],
-    near: &mut Vec<usize>,
-    bests: &mut [Option<BestPad>],
-) -> Result<u64, AllocError>
-    requires index { IsIndexOf holes.now index.now }
-    requires size { length bests.old ≡ length holes.now }
-    requires bound { AllNeedDepth holes.now bests.old (IsInZone zone.now) bound }
-    requires last { last ≤ length parts.now }
-    requires parts { length bounds.old ≡ length parts.now }
-    requires bounds { AreBounds holes.now bests.old parts.now bounds.old }
-    requires whole { (k : ℕ) → k < length holes.now → IsInZone zone.now (entry_at holes.now k) → IsInAnyOf parts.now first last (entry_at holes.now k) }
-    ensures tried { OnOk result (IsTriedIn S.covers pad.now place holes.now (IsInZone zone.now) bests.old bests.new) }
-    ensures bounds { OnOk result (AreBounds holes.now bests.new parts.now bounds.new) }
-    ensures bound { IfOk result (AllNeedDepth holes.now bests.new (IsInZone zone.now)) }
-{
-    if !pad.may_cover(zone, bound) {
-        return Ok(bound);
-    }
-    try_parts(
-        index, pad, place, holes, parts, first, last, bounds, near, bests,
-    )
-}
-
-/// Tries a pad at the holes of the zone at a place, if it may be better for one of them. Returns the least depth that
-/// these ask for from now on.
-fn try_zone_at<S: DepthShape>(
-    index: &HoleIndex,
-    pad: &S,
-    place: usize,
-    holes: &[Drilled],
-    division: &Division,
-    i: usize,
-    bound: u64,
-    part_bounds: &mut [u64],
-    near: &mut Vec<usize>,
-    bests: &mut [Option<BestPad>],
-) -> Result<u64, AllocError>
-    requires index { IsIndexOf holes.now index.now }
-    requires size { length bests.old ≡ length holes.now }
-    requires division { IsDivision holes.now division.now }
-    requires listed { i < length division.now.zones.items }
-    requires bound { (zone : Zone) → get_or division.now.zones.items i zone ≡ zone → AllNeedDepth holes.now bests.old (IsInZone zone) bound }
-    requires parts { length part_bounds.old ≡ length division.now.parts.items }
-    requires part_bounds { AreBounds holes.now bests.old division.now.parts.items part_bounds.old }
-    ensures tried { OnOk result ((zone : Zone) → get_or division.now.zones.items i zone ≡ zone → IsTriedIn S.covers pad.now place holes.now (IsInZone zone) bests.old bests.new) }
-    ensures part_bounds { OnOk result (AreBounds holes.now bests.new division.now.parts.items part_bounds.new) }
-    ensures bound { IfOk result (λ bound. (zone : Zone) → get_or division.now.zones.items i zone ≡ zone → AllNeedDepth holes.now bests.new (IsInZone zone) bound) }
-{
-    try_zone(
-        index,
-        pad,
-        place,
-        holes,
-        &division.zones[i],
-        bound,
-        &division.parts,
-        division.starts[i],
-        division.starts[i + 1],
-        part_bounds,
-        near,
-        bests,
-    )
-}
-
-/// Tries a pad at the holes of all zones. Each zone has the least depth that its holes ask for; the least of all is returned.
-fn try_zones<S: DepthShape>(
-    index: &HoleIndex,
-    pad: &S,
-    place: usize,
-    holes: &[Drilled],
-    division: &Division,
-    zone_bounds: &mut [u64],
-    part_bounds: &mut [u64],
-    near: &mut Vec<usize>,
-    bests: &mut [Option<BestPad>],
-) -> Result<u64, AllocError>
-    requires index { IsIndexOf holes.now index.now }
-    requires size { length bests.old ≡ length holes.now }
-    requires division { IsDivision holes.now division.now }
-    requires zones { length zone_bounds.old ≡ length division.now.zones.items }
-    requires zone_bounds { AreBounds holes.now bests.old division.now.zones.items zone_bounds.old }
-    requires parts { length part_bounds.old ≡ length division.now.parts.items }
-    requires part_bounds { AreBounds holes.now bests.old division.now.parts.items part_bounds.old }
-    ensures tried { OnOk result (IsTriedIn S.covers pad.now place holes.now (IsInAnyOf division.now.zones.items 0 (length division.now.zones.items)) bests.old bests.new) }
-    ensures zone_bounds { OnOk result (AreBounds holes.now bests.new division.now.zones.items zone_bounds.new) }
-    ensures part_bounds { OnOk result (AreBounds holes.now bests.new division.now.parts.items part_bounds.new) }
-    ensures least { IfOk result (AllNeedDepth holes.now bests.new (IsInAnyOf division.now.zones.items 0 (length division.now.zones.items))) }
-{
-    let mut least = u64::MAX;
-    for i in 0..division.zones.len() {
-        let bound = try_zone_at(
-            index,
-            pad,
-            place,
-            holes,
-            division,
-            i,
-            zone_bounds[i],
-            part_bounds,
-            near,
-            bests,
-        )?;
-        zone_bounds[i] = bound;
-        least = bound.min(least);
-    }
-    Ok(least)
-}
-
-/// Tries a pad at the holes of the board, zone by zone. Returns the least depth that these ask for from now on.
-fn try_all<S: DepthShape>(
-    index: &HoleIndex,
-    pad: &S,
-    place: usize,
-    holes: &[Drilled],
-    division: &Division,
-    zone_bounds: &mut [u64],
-    part_bounds: &mut [u64],
-    near: &mut Vec<usize>,
-    bests: &mut [Option<BestPad>],
-) -> Result<u64, AllocError>
-    requires index { IsIndexOf holes.now index.now }
-    requires size { length bests.old ≡ length holes.now }
-    requires division { IsDivision holes.now division.now }
-    requires zones { length zone_bounds.old ≡ length division.now.zones.items }
-    requires zone_bounds { AreBounds holes.now bests.old division.now.zones.items zone_bounds.old }
-    requires parts { length part_bounds.old ≡ length division.now.parts.items }
-    requires part_bounds { AreBounds holes.now bests.old division.now.parts.items part_bounds.old }
-    ensures tried { OnOk result (IsTriedIn S.covers pad.now place holes.now (IsInZone division.now.whole) bests.old bests.new) }
-    ensures zone_bounds { OnOk result (AreBounds holes.now bests.new division.now.zones.items zone_bounds.new) }
-    ensures part_bounds { OnOk result (AreBounds holes.now bests.new division.now.parts.items part_bounds.new) }
-    ensures least { IfOk result (AllNeedDepth holes.now bests.new (IsInZone division.now.whole)) }
-{
-    try_zones(
-        index,
-        pad,
-        place,
-        holes,
-        division,
-        zone_bounds,
-        part_bounds,
-        near,
-        bests,
-    )
-}
-
-/// The zone of a pad, if it has one with at most so many cells.
-fn small_zone<S: DepthShape>(index: &HoleIndex, pad: &S, most: usize) -> Option<Zone>
-    ensures { IfSome result (BoundsCentres S.covers pad.now 0) }
-{
-    let zone = pad.zone(0)?;
-    if index.cells_in(&zone) <= most {
-        Some(zone)
-    } else {
-        None
-    }
-}
-
-/// Tries a pad at the holes of a zone.
-fn try_within<S: DepthShape>(
-    index: &HoleIndex,
-    pad: &S,
-    place: usize,
-    holes: &[Drilled],
-    zone: &Zone,
-    near: &mut Vec<usize>,
-    bests: &mut [Option<BestPad>],
-) -> Result<(), AllocError>
-    requires index { IsIndexOf holes.now index.now }
-    requires size { length bests.old ≡ length holes.now }
-    ensures { OnOk result (IsTriedIn S.covers pad.now place holes.now (IsInZone zone.now) bests.old bests.new) }
-{
-    index.find(holes, zone, near)?;
-    try_near(pad, place, holes, near, bests);
-    Ok(())
-}
-
-/// Tries a pad at the holes that it may cover, if it may be better for one of the board. A small pad is tried at the
-/// holes of its zone, a large one zone by zone of the board. Returns the least depth that the holes of the board ask
-/// for from now on.
-fn try_pad<S: DepthShape>(
-    index: &HoleIndex,
-    pad: &S,
-    place: usize,
-    holes: &[Drilled],
-    division: &Division,
-    least: u64,
-    zone_bounds: &mut [u64],
-    part_bounds: &mut [u64],
-    near: &mut Vec<usize>,
-    bests: &mut [Option<BestPad>],
-) -> Result<u64, AllocError>
-    requires index { IsIndexOf holes.now index.now }
-    requires size { length bests.old ≡ length holes.now }
-    requires division { IsDivision holes.now division.now }
-    requires least { AllNeedDepth holes.now bests.old (IsInZone division.now.whole) least }
-    requires zones { length zone_bounds.old ≡ length division.now.zones.items }
-    requires zone_bounds { AreBounds holes.now bests.old division.now.zones.items zone_bounds.old }
-    requires parts { length part_bounds.old ≡ length division.now.parts.items }
-    requires part_bounds { AreBounds holes.now bests.old division.now.parts.items part_bounds.old }
-    ensures tried { OnOk result (IsTriedAll S.covers pad.now place holes.now bests.old bests.new) }
-    ensures zone_bounds { OnOk result (AreBounds holes.now bests.new division.now.zones.items zone_bounds.new) }
-    ensures part_bounds { OnOk result (AreBounds holes.now bests.new division.now.parts.items part_bounds.new) }
-    ensures least { IfOk result (AllNeedDepth holes.now bests.new (IsInZone division.now.whole)) }
-{
-    if !pad.may_cover(&division.whole, least) {
-        return Ok(least);
-    }
-    match small_zone(index, pad, division.zones.len()) {
-        Some(zone) => {
-            try_within(index, pad, place, holes, &zone, near, bests)?;
-            Ok(least)
+impl<S: DepthShape> PadOnBoard<'_, S> {
+    /// Tries the pad at the holes at some places.
+    fn try_near(&self, near: &[usize], bests: &mut [Option<BestPad>])
+        requires near { All (λ k. k < length self.now.holes.now) near.now }
+        requires size { length bests.old ≡ length self.now.holes.now }
+        ensures { IsTriedAtPlaces S.covers self.now.pad.now self.now.place self.now.holes.now near.now (length near.now) bests.old bests.new }
+    {
+        for hole in near {
+            bests[*hole] = better(bests[*hole], self.place, self.pad, &self.holes[*hole].hole);
         }
-        None => try_all(
-            index,
-            pad,
-            place,
-            holes,
-            division,
-            zone_bounds,
-            part_bounds,
-            near,
-            bests,
-        ),
+    }
+
+    /// Tries the pad at the holes of a part, if it may be better for one of them. Returns the least depth that these
+    /// ask for from now on.
+    fn try_part(
+        &self,
+        part: &Zone,
+        bound: u64,
+        near: &mut Vec<usize>,
+        bests: &mut [Option<BestPad>],
+    ) -> Result<u64, AllocError>
+        requires index { IsIndexOf self.now.holes.now self.now.index.now }
+        requires size { length bests.old ≡ length self.now.holes.now }
+        requires bound { AllNeedDepth self.now.holes.now bests.old (IsInZone part.now) bound }
+        ensures tried { OnOk result (IsTriedIn S.covers self.now.pad.now self.now.place self.now.holes.now (IsInZone part.now) bests.old bests.new) }
+        ensures bound { IfOk result (AllNeedDepth self.now.holes.now bests.new (IsInZone part.now)) }
+    {
+        if !self.pad.may_cover(part, bound) {
+            return Ok(bound);
+        }
+        self.index.find(self.holes, part, near)?;
+        self.try_near(near, bests);
+        Ok(least_needed_depth(self.holes, near, bests))
+    }
+
+    /// Tries the pad at the holes of the parts from one place to another, end excluded. Each part has the least depth
+    /// that its holes ask for; the least of all is returned.
+    fn try_parts(
+        &self,
+        first: usize,
+        last: usize,
+        bounds: &mut [u64],
+        near: &mut Vec<usize>,
+        bests: &mut [Option<BestPad>],
+    ) -> Result<u64, AllocError>
+        requires index { IsIndexOf self.now.holes.now self.now.index.now }
+        requires size { length bests.old ≡ length self.now.holes.now }
+        requires last { last ≤ length self.now.division.now.parts.items }
+        requires parts { length bounds.old ≡ length self.now.division.now.parts.items }
+        requires bounds { AreBounds self.now.holes.now bests.old self.now.division.now.parts.items bounds.old }
+        ensures tried { OnOk result (IsTriedIn S.covers self.now.pad.now self.now.place self.now.holes.now (IsInAnyOf self.now.division.now.parts.items first last) bests.old bests.new) }
+        ensures bounds { OnOk result (AreBounds self.now.holes.now bests.new self.now.division.now.parts.items bounds.new) }
+        ensures least { IfOk result (AllNeedDepth self.now.holes.now bests.new (IsInAnyOf self.now.division.now.parts.items first last)) }
+    {
+        let mut least = u64::MAX;
+        for i in first..last {
+            let bound = self.try_part(&self.division.parts[i], bounds[i], near, bests)?;
+            bounds[i] = bound;
+            least = bound.min(least);
+        }
+        Ok(least)
+    }
+
+    /// Tries the pad at the holes of the zone at a place, part by part, if it may be better for one of them. Returns the
+    /// least depth that these ask for from now on.
+    fn try_zone(
+        &self,
+        zone: &Zone,
+        i: usize,
+        bound: u64,
+        part_bounds: &mut [u64],
+        near: &mut Vec<usize>,
+        bests: &mut [Option<BestPad>],
+    ) -> Result<u64, AllocError>
+        requires index { IsIndexOf self.now.holes.now self.now.index.now }
+        requires size { length bests.old ≡ length self.now.holes.now }
+        requires division { IsDivision self.now.holes.now self.now.division.now }
+        requires listed { i < length self.now.division.now.zones.items }
+        requires zone { get_or self.now.division.now.zones.items i zone.now ≡ zone.now }
+        requires bound { AllNeedDepth self.now.holes.now bests.old (IsInZone zone.now) bound }
+        requires parts { length part_bounds.old ≡ length self.now.division.now.parts.items }
+        requires part_bounds { AreBounds self.now.holes.now bests.old self.now.division.now.parts.items part_bounds.old }
+        ensures tried { OnOk result (IsTriedIn S.covers self.now.pad.now self.now.place self.now.holes.now (IsInZone zone.now) bests.old bests.new) }
+        ensures part_bounds { OnOk result (AreBounds self.now.holes.now bests.new self.now.division.now.parts.items part_bounds.new) }
+        ensures bound { IfOk result (AllNeedDepth self.now.holes.now bests.new (IsInZone zone.now)) }
+    {
+        if !self.pad.may_cover(zone, bound) {
+            return Ok(bound);
+        }
+        let first = self.division.starts[i];
+        let last = self.division.starts[i + 1];
+        self.try_parts(first, last, part_bounds, near, bests)
+    }
+
+    /// Tries the pad at the holes of the board, zone by zone. Each zone has the least depth that its holes ask for; the
+    /// least of all is returned.
+    fn try_zones(
+        &self,
+        zone_bounds: &mut [u64],
+        part_bounds: &mut [u64],
+        near: &mut Vec<usize>,
+        bests: &mut [Option<BestPad>],
+    ) -> Result<u64, AllocError>
+        requires index { IsIndexOf self.now.holes.now self.now.index.now }
+        requires size { length bests.old ≡ length self.now.holes.now }
+        requires division { IsDivision self.now.holes.now self.now.division.now }
+        requires zones { length zone_bounds.old ≡ length self.now.division.now.zones.items }
+        requires zone_bounds { AreBounds self.now.holes.now bests.old self.now.division.now.zones.items zone_bounds.old }
+        requires parts { length part_bounds.old ≡ length self.now.division.now.parts.items }
+        requires part_bounds { AreBounds self.now.holes.now bests.old self.now.division.now.parts.items part_bounds.old }
+        ensures tried { OnOk result (IsTriedIn S.covers self.now.pad.now self.now.place self.now.holes.now (IsInZone self.now.division.now.whole) bests.old bests.new) }
+        ensures zone_bounds { OnOk result (AreBounds self.now.holes.now bests.new self.now.division.now.zones.items zone_bounds.new) }
+        ensures part_bounds { OnOk result (AreBounds self.now.holes.now bests.new self.now.division.now.parts.items part_bounds.new) }
+        ensures least { IfOk result (AllNeedDepth self.now.holes.now bests.new (IsInZone self.now.division.now.whole)) }
+    {
+        let mut least = u64::MAX;
+        for i in 0..self.division.zones.len() {
+            let zone = &self.division.zones[i];
+            let bound = self.try_zone(zone, i, zone_bounds[i], part_bounds, near, bests)?;
+            zone_bounds[i] = bound;
+            least = bound.min(least);
+        }
+        Ok(least)
+    }
+
+    /// The zone of the pad, if it has one with at most so many cells.
+    fn small_zone(&self, most: usize) -> Option<Zone>
+        ensures { IfSome result (BoundsCentres S.covers self.now.pad.now 0) }
+    {
+        let zone = self.pad.zone(0)?;
+        if self.index.cells_in(&zone) <= most {
+            Some(zone)
+        } else {
+            None
+        }
+    }
+
+    /// Tries the pad at the holes of a zone.
+    fn try_within(
+        &self,
+        zone: &Zone,
+        near: &mut Vec<usize>,
+        bests: &mut [Option<BestPad>],
+    ) -> Result<(), AllocError>
+        requires index { IsIndexOf self.now.holes.now self.now.index.now }
+        requires size { length bests.old ≡ length self.now.holes.now }
+        ensures { OnOk result (IsTriedIn S.covers self.now.pad.now self.now.place self.now.holes.now (IsInZone zone.now) bests.old bests.new) }
+    {
+        self.index.find(self.holes, zone, near)?;
+        self.try_near(near, bests);
+        Ok(())
+    }
+
+    /// Tries the pad at the holes that it may cover, if it may be better for one of the board. A small pad is tried at
+    /// the holes of its zone, a large one zone by zone of the board. Returns the least depth that the holes of the board
+    /// ask for from now on.
+    fn try_pad(
+        &self,
+        least: u64,
+        zone_bounds: &mut [u64],
+        part_bounds: &mut [u64],
+        near: &mut Vec<usize>,
+        bests: &mut [Option<BestPad>],
+    ) -> Result<u64, AllocError>
+        requires index { IsIndexOf self.now.holes.now self.now.index.now }
+        requires size { length bests.old ≡ length self.now.holes.now }
+        requires division { IsDivision self.now.holes.now self.now.division.now }
+        requires least { AllNeedDepth self.now.holes.now bests.old (IsInZone self.now.division.now.whole) least }
+        requires zones { length zone_bounds.old ≡ length self.now.division.now.zones.items }
+        requires zone_bounds { AreBounds self.now.holes.now bests.old self.now.division.now.zones.items zone_bounds.old }
+        requires parts { length part_bounds.old ≡ length self.now.division.now.parts.items }
+        requires part_bounds { AreBounds self.now.holes.now bests.old self.now.division.now.parts.items part_bounds.old }
+        ensures tried { OnOk result (IsTriedAll S.covers self.now.pad.now self.now.place self.now.holes.now bests.old bests.new) }
+        ensures zone_bounds { OnOk result (AreBounds self.now.holes.now bests.new self.now.division.now.zones.items zone_bounds.new) }
+        ensures part_bounds { OnOk result (AreBounds self.now.holes.now bests.new self.now.division.now.parts.items part_bounds.new) }
+        ensures least { IfOk result (AllNeedDepth self.now.holes.now bests.new (IsInZone self.now.division.now.whole)) }
+    {
+        if !self.pad.may_cover(&self.division.whole, least) {
+            return Ok(least);
+        }
+        match self.small_zone(self.division.zones.len()) {
+            Some(zone) => {
+                self.try_within(&zone, near, bests)?;
+                Ok(least)
+            }
+            None => self.try_zones(zone_bounds, part_bounds, near, bests),
+        }
     }
 }
 
@@ -423,66 +311,31 @@ fn try_pads<S: DepthShape>(
     pads: &[S],
     holes: &[Drilled],
     division: &Division,
-    zone_bounds: &mut [u64],
-    part_bounds: &mut [u64],
     bests: &mut [Option<BestPad>],
 ) -> Result<(), AllocError>
     requires index { IsIndexOf holes.now index.now }
     requires size { length bests.old ≡ length holes.now }
     requires division { IsDivision holes.now division.now }
-    requires zones { length zone_bounds.old ≡ length division.now.zones.items }
-    requires zone_bounds { AreBounds holes.now bests.old division.now.zones.items zone_bounds.old }
-    requires parts { length part_bounds.old ≡ length division.now.parts.items }
-    requires part_bounds { AreBounds holes.now bests.old division.now.parts.items part_bounds.old }
     requires none { (k : ℕ) → k < length holes.now → get_or bests.old k None ≡ None }
     ensures { OnOk result ((k : ℕ) → k < length holes.now → IsBestPad S.covers pads.now (hole_at holes.now k) (get_or bests.new k None)) }
 {
+    let mut zone_depths = vec![in alloc; 0; division.zones.len()]?;
+    let mut part_depths = vec![in alloc; 0; division.parts.len()]?;
+    let zone_bounds = zone_depths.as_mut_slice();
+    let part_bounds = part_depths.as_mut_slice();
     let mut near = Vec::new(alloc);
     let mut least = 0;
     for (place, pad) in pads.iter().enumerate() {
-        least = try_pad(
-            index,
+        let pad_on_board = PadOnBoard {
             pad,
             place,
             holes,
+            index,
             division,
-            least,
-            zone_bounds,
-            part_bounds,
-            &mut near,
-            bests,
-        )?;
+        };
+        least = pad_on_board.try_pad(least, zone_bounds, part_bounds, &mut near, bests)?;
     }
     Ok(())
-}
-
-/// Tries all pads in their order, at holes that have no best pad so far, with bounds of 0.
-fn try_anew<S: DepthShape>(
-    alloc: Global,
-    index: &HoleIndex,
-    pads: &[S],
-    holes: &[Drilled],
-    division: &Division,
-    bests: &mut [Option<BestPad>],
-) -> Result<(), AllocError>
-    requires index { IsIndexOf holes.now index.now }
-    requires size { length bests.old ≡ length holes.now }
-    requires division { IsDivision holes.now division.now }
-    requires none { (k : ℕ) → k < length holes.now → get_or bests.old k None ≡ None }
-    ensures { OnOk result ((k : ℕ) → k < length holes.now → IsBestPad S.covers pads.now (hole_at holes.now k) (get_or bests.new k None)) }
-{
-    let mut zone_bounds = vec![in alloc; 0; division.zones.len()]?;
-    let mut part_bounds = vec![in alloc; 0; division.parts.len()]?;
-    try_pads(
-        alloc,
-        index,
-        pads,
-        holes,
-        division,
-        &mut zone_bounds,
-        &mut part_bounds,
-        bests,
-    )
 }
 
 /// The best pad of each hole, by an index and a division of the holes.
@@ -498,7 +351,7 @@ fn best_of_division<S: DepthShape>(
     ensures { IfOk result (λ bests. AreBestPads S.covers pads.now holes.now bests.items) }
 {
     let mut bests = vec![in alloc; None; holes.len()]?;
-    try_anew(alloc, index, pads, holes, division, &mut bests)?;
+    try_pads(alloc, index, pads, holes, division, &mut bests)?;
     Ok(bests)
 }
 

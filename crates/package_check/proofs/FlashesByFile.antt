@@ -8,7 +8,7 @@ use Rattle.grid_units.specs.declared.fault.Fault.{Fault}
 use Rattle.layer_image.specs.Layers.{LayerImage, ReadingIsUnique, ReadsFlashes, ReadsLayer}
 use Rattle.layer_image.specs.declared.flash.Flash.{Flash}
 use Rattle.package_check.specs.Package.{FileView}
-use Rattle.package_check.specs.Flashed.{AreFileFlashes, AreFlashesOf}
+use Rattle.package_check.specs.Boards.{AreFileFlashes, AreFlashesOf}
 
 abbrev the_ok : LayerImage → Result LayerImage Fault
 the_ok image = Ok image

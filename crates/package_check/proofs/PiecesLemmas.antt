@@ -46,16 +46,16 @@ joined_all xs i d lt =
 -- ---- a text goes on
 
 -- the fault that a drill text shows so far is that of the whole text
-pub drill_joined : (push_content : DrillKeep) → ((text more : List ℕ) (f : Fault) → Shows text (Err f) → Reads (text ++ more) (Err f)) → (text more whole : List ℕ) (e : Fail) → text ++ more ≡ whole → IfFault (λ f. Shows text (Err f)) e
-    → Answers {T = DrillFile} (λ drill. drill) (ReadsAs (file_of push_content) whole) (Err e)
-drill_joined push_content law text more whole fails.Memory is h = tt
-drill_joined push_content law text more whole (fails.Refused f) is h = subst (λ (t : List ℕ). Reads t (Err f)) is (law text more f h)
+pub drill_joined : (keep : DrillKeep) → ((text more : List ℕ) (f : Fault) → Shows text (Err f) → Reads (text ++ more) (Err f)) → (text more whole : List ℕ) (e : Fail) → text ++ more ≡ whole → IfFault (λ f. Shows text (Err f)) e
+    → Answers {T = DrillFile} (λ drill. drill) (ReadsAs (file_of keep) whole) (Err e)
+drill_joined keep law text more whole fails.Memory is h = tt
+drill_joined keep law text more whole (fails.Refused f) is h = subst (λ (t : List ℕ). Reads t (Err f)) is (law text more f h)
 
 -- the fault that a layer's text shows so far is that of the whole text, whatever is kept of it
-pub layer_joined : (push_content : Keep) → ((text more : List ℕ) (f : Fault) → ShowsLayerFault text f → ReadsLayer (text ++ more) (Err f)) → (text more whole : List ℕ) (e : Fail) → text ++ more ≡ whole → IfFault (ShowsLayerFault text) e
-    → Answers {T = LayerImage} (λ layer. layer) (ReadsKept push_content whole) (Err e)
-layer_joined push_content law text more whole fails.Memory is h = tt
-layer_joined push_content law text more whole (fails.Refused f) is h = subst (λ (t : List ℕ). ReadsLayer t (Err f)) is (law text more f h)
+pub layer_joined : (keep : Keep) → ((text more : List ℕ) (f : Fault) → ShowsLayerFault text f → ReadsLayer (text ++ more) (Err f)) → (text more whole : List ℕ) (e : Fail) → text ++ more ≡ whole → IfFault (ShowsLayerFault text) e
+    → Answers {T = LayerImage} (λ layer. layer) (ReadsKept keep whole) (Err e)
+layer_joined keep law text more whole fails.Memory is h = tt
+layer_joined keep law text more whole (fails.Refused f) is h = subst (λ (t : List ℕ). ReadsLayer t (Err f)) is (law text more f h)
 
 -- the fault that the text so far shows is shown by the whole piece
 pub fault_stays_in_longer : ((text more : List ℕ) (f : Fault) → ShowsLayerFault text f → ShowsLayerFault (text ++ more) f) → (text more whole : List ℕ) (e : Fail) → text ++ more ≡ whole → IfFault (ShowsLayerFault text) e → IfFault (ShowsLayerFault whole) e

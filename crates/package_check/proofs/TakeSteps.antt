@@ -1,19 +1,27 @@
 -- A reader of a package takes one more file.
 use Rattle.std.proofs.Common.{◌≡◌, ◌<◌, ◌+◌, ◌++◌, ℕ, List, [], ◌∷◌, Ok, Err, Result, Option, Some, None, OnOk, true, false, length, map, take, get_or, arith, refl, sym, ap, subst, ◌∙◌}
 use Rattle.std.specs.Prelude.{alloc_error, is_some}
+use Rattle.std.specs.Global.{Vec}
 use Rattle.std.specs.Result.{result_err}
 use Rattle.std.specs.declared.alloc.AllocError.{AllocError}
-use Rattle.std.proofs.lemmas.List.{length-append, take-append-le, take_more}
+use Rattle.std.proofs.lemmas.List.{length-append, map-append, take-append-le, take_more}
 use Rattle.std.proofs.Math.ListN.{get_or-append}
 use Rattle.std.proofs.Math.Seq.{get_or-append_seam, take-append_seam}
 use Rattle.grid_units.specs.Spans.{LayerSpan}
 use Rattle.grid_units.specs.declared.fault.Fault.{Fault}
 use Rattle.grid_units.specs.declared.fault.Fail.{Fail}
 use Rattle.grid_units.specs.declared.fault.Fail.TheVariants as fails
+use Rattle.layer_image.specs.KeptFlashes.{keeps_flashes}
+use Rattle.layer_image.specs.Layers.{ReadingIsUnique}
+use Rattle.layer_image.specs.declared.flash.Flash.{Flash}
+use Rattle.layer_image.specs.declared.keep.Keep.{Keep}
 use Rattle.manifest.specs.declared.Role.{Role}
 use Rattle.package_check.specs.declared.contents.Content.{Content}
 use Rattle.package_check.specs.Package.{FileView, HaveContents, IsFirstRefused, Reads, unnamed_file}
-use Rattle.package_check.specs.Holding.{ReadsNext, ReadSoFar}
+use Rattle.package_check.specs.declared.package_reader.PackageReader.{PackageReader}
+use Rattle.package_check.specs.Boards.{AreFileFlashes}
+use Rattle.package_check.specs.Holding.{AddsFlashes, HasTaken, ReadsNext, ReadSoFar}
+use Rattle.package_check.proofs.FlashesByFile.{flashes_more, flashes_read}
 use Rattle.package_check.proofs.GrowingLists.{any_name, read_length, contents_more, source_at, same_length}
 
 -- a first refused file stays the first when more files follow
@@ -83,10 +91,19 @@ module _ (q : Role) (span : Option LayerSpan) (bytes : List ℕ) (n : ℕ) where
       subst (λ (cs : List Content). IsFirstRefused (sources ++ s ∷ []) (length cs) f) (sym m.1) (refused_now sources before s f h m.0)
 
 -- the files so far and the next one, which was taken
-pub one_more_taken : {X : Type 0} (seen : X → FileView) (xs : List X) (i : ℕ) (x : X) (s : FileView) (stopped : Option Fail) (contents : List Content) → x ≡ get_or xs i x → i < length xs → s ≡ seen x
-    → ReadSoFar stopped contents (take i (map seen xs) ++ s ∷ []) → ReadSoFar stopped contents (take (i + 1) (map seen xs))
-one_more_taken {X} seen xs i x s stopped contents at lt is said =
+pub one_more_taken : {X : Type 0} (seen : X → FileView) (xs : List X) (i : ℕ) (x : X) (s : FileView) (reader : PackageReader) (keep : Keep) → x ≡ get_or xs i x → i < length xs → s ≡ seen x
+    → HasTaken reader keep (take i (map seen xs) ++ s ∷ []) → HasTaken reader keep (take (i + 1) (map seen xs))
+one_more_taken {X} seen xs i x s reader keep at lt is said =
     let inside : i < length (map seen xs) = omega (arith, same_length seen xs) in
     let here : seen (get_or xs i x) ≡ get_or (map seen xs) i (seen x) = source_at seen xs i x (seen x) lt in
     let same : s ≡ get_or (map seen xs) i (seen x) = is ∙ ap seen at ∙ here in
-    subst (λ (ss : List FileView). ReadSoFar stopped contents ss) (ap (λ (y : FileView). take i (map seen xs) ++ y ∷ []) same ∙ sym (take_more (map seen xs) i (seen x) inside)) said
+    subst (λ (ss : List FileView). HasTaken reader keep ss) (ap (λ (y : FileView). take i (map seen xs) ++ y ∷ []) same ∙ sym (take_more (map seen xs) i (seen x) inside)) said
+
+-- the flashes of each file so far, and those of one more file
+pub flashes_added : ReadingIsUnique → (keep held : Keep) (sources : List FileView) (s : FileView) (before after : List (Vec Flash)) → held ≡ keep → keeps_flashes keep ≡ true → AddsFlashes held s.role s.bytes before after
+    → AreFileFlashes sources (map (λ flashes. flashes.items) before) → AreFileFlashes (sources ++ s ∷ []) (map (λ flashes. flashes.items) after)
+flashes_added one keep held sources s before after same keeps added was =
+    let items : Vec Flash → List Flash = λ v. v.items in
+    subst (AreFileFlashes (sources ++ s ∷ [])) (sym (ap (map items) added.1 ∙ map-append items before (added.0 ∷ [])))
+    (flashes_more sources (map items before) s added.0.items was
+    (λ copper. flashes_read one s s.bytes added.0.items refl (added.2 (ap keeps_flashes same ∙ keeps) copper) copper))

@@ -1,7 +1,9 @@
 -- The board of a package: what all of its files say together.
-use Rattle.std.specs.Prelude.{ℕ, ◌+◌, ◌≡◌, ◌++◌, List, [], ◌∷◌, length, map, take, drop, Result, Ok, Err, ⊤}
+use Rattle.std.specs.Prelude.{ℕ, ◌+◌, ◌<◌, ◌≡◌, ◌++◌, List, [], ◌∷◌, get_or, length, map, take, drop, true, Result, Ok, Err, ⊤}
 use Rattle.std.specs.List.{flat_map, enumerate_from, sum_by}
 use Rattle.grid_units.specs.Holes.{GridRules}
+use Rattle.layer_image.specs.Layers.{LayerImage, ReadsLayer}
+use Rattle.layer_image.specs.declared.flash.Flash.{Flash}
 use Rattle.pad_shapes.specs.declared.pad.Pad.{Pad}
 use Rattle.ring_rules.specs.declared.finding.Drilled.{Drilled}
 use Rattle.ring_rules.specs.declared.finding.Finding.{Finding}
@@ -13,29 +15,31 @@ use Rattle.package_check.specs.declared.PackageFault.TheVariants as stop
 use Rattle.package_check.specs.declared.contents.Content.{Content}
 use Rattle.package_check.specs.Reports.{ReportView}
 use Rattle.package_check.specs.Soundness.{drilled_in}
-use Rattle.package_check.specs.Package.{FileView, HaveContents, IsFirstRefused, findings, layer_indexes, layers, sum_of}
+use Rattle.package_check.specs.Package.{FileView, HaveContents, IsFirstRefused, findings, is_copper, layer_indexes, layers, sum_of}
 
--- the board of a package: the counts of each file, the pads and the index of each copper file, and the holes of all drill files in order
+-- the board of a package: the counts of each file, the pads and the index of each copper file, the holes of all drill files in order, and what is kept of flashes
 pub record BoardView : Type 0 where
   pub files : List FileSum
   pub layers : List (List Pad)
   pub layer_indexes : List ℕ
   pub holes : List Drilled
+  pub flashes : List (List Flash)
 
--- the board of files with these contents
-abbrev pub board_of : List Content → BoardView
-board_of contents = record {
+-- the board of files with these contents and these flashes
+abbrev pub board_of : List Content → List (List Flash) → BoardView
+board_of contents flashes = record {
   files = map sum_of contents;
   layers = layers contents;
   layer_indexes = layer_indexes contents;
   holes = flat_map drilled_in contents;
+  flashes = flashes;
 }
 
--- the board of a package whose files are all read
+-- the board of a package whose files are all read; nothing is said of its flashes
 pub record IsBoard (sources : List FileView) (board : BoardView) : Type 0 where
   pub contents : List Content
   pub read : HaveContents sources contents
-  pub is : board ≡ board_of contents
+  pub is : board ≡ board_of contents board.flashes
 
 -- the result is the board of the package, or the first file that is refused, running out of memory aside
 abbrev pub ReturnsBoard : List FileView → Result BoardView PackageFault → Type 0
@@ -43,10 +47,34 @@ ReturnsBoard sources (Ok board) = IsBoard sources board
 ReturnsBoard sources (Err stop.Memory) = ⊤
 ReturnsBoard sources (Err (stop.File index fault)) = IsFirstRefused sources index fault
 
+-- the flashes of a copper file are those of the layer that its text reads as; of a drill file nothing is said
+abbrev pub AreFlashesOf : FileView → List Flash → Type 0
+AreFlashesOf source flashes = is_copper source.role ≡ true → (image : LayerImage) → ReadsLayer source.bytes (Ok image) → flashes ≡ image.flashes
+
+-- one list of flashes for each file of a package; that of a copper file has the flashes of its layer
+pub record AreFileFlashes (sources : List FileView) (flashes : List (List Flash)) : Type 0 where
+  pub size : length flashes ≡ length sources
+  pub each : (i : ℕ) (s : FileView) → i < length sources → AreFlashesOf (get_or sources i s) (get_or flashes i [])
+
+-- the board of a package whose files are all read, with the flashes of each file
+pub record IsFlashedBoard (sources : List FileView) (board : BoardView) : Type 0 where
+  pub is : IsBoard sources board
+  pub flashes : AreFileFlashes sources board.flashes
+
+-- the result is the board of the package with its flashes, or the first file that is refused, running out of memory aside
+abbrev pub ReturnsFlashedBoard : List FileView → Result BoardView PackageFault → Type 0
+ReturnsFlashedBoard sources (Ok board) = IsFlashedBoard sources board
+ReturnsFlashedBoard sources (Err stop.Memory) = ⊤
+ReturnsFlashedBoard sources (Err (stop.File index fault)) = IsFirstRefused sources index fault
+
 -- how many holes a file drills, slots among them; a copper file drills none
 abbrev pub hole_count : FileSum → ℕ
 hole_count (sum.Layer pads other) = 0
 hole_count (sum.Drill plated span round slots) = round + slots
+
+-- the number of holes in the files before one, by its index
+abbrev pub holes_before : List FileSum → ℕ → ℕ
+holes_before files file = sum_by hole_count (take file files)
 
 -- the counts of the files add up to the number of these holes
 abbrev pub CountsAddUp : List FileSum → List Drilled → Type 0

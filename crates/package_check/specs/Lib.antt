@@ -8,4 +8,3 @@ pub mod Soundness
 pub mod Texts
 pub mod Pieces
 pub mod Holding
-pub mod Flashed

@@ -1,6 +1,6 @@
 //! The board of a package: what all of its files say together.
 
-ghost use Rattle.std.specs.Prelude.{◌≡◌, ◌++◌, ◌∷◌, [], IfOk, OnOk, map, min, not, count_by};
+ghost use Rattle.std.specs.Prelude.{◌≡◌, ◌++◌, ◌∷◌, [], IfOk, OnOk, get_or, map, min, not, count_by};
 ghost use Rattle.std.specs.List.{flat_map};
 ghost use Rattle.grid_units.specs.Holes.{is_round};
 ghost use Rattle.package_check.specs.Boards.{CountsAddUp, board_findings, board_of, hole_count, numbered_from, numbered_in};
@@ -11,18 +11,21 @@ use crate::contents::Content;
 use crate::readers::Layer;
 use crate::{FileSum, Numbered};
 use grid_units::{Hole, Rules};
+use layer_image::Flash;
 use pad_shapes::Pad;
 use ring_rules::{Drilled, Finding, Span, gap_findings, ring_findings};
 use std::alloc::{AllocError, Global};
 use std::marker::Model;
 
-/// The board of a package: the counts of each file, the pads of each copper file, and the holes of all drill files.
+/// The board of a package: the counts of each file, the pads of each copper file, and the holes of all drill files; also the flashes
+/// of each file, where they are kept.
 #[derive(Drop)]
 pub struct Board {
     files: Vec<FileSum>,
     layers: Vec<Layer>,
     layer_indexes: Vec<usize>,
     holes: Vec<Drilled>,
+    flashes: Vec<Vec<Flash>>,
 }
 
 impl Model for Board {
@@ -31,7 +34,7 @@ impl Model for Board {
 
     ghost Value = { BoardView };
 
-    ghost view = { λ b. record { files = b.files.items; layers = map (λ l. l.pads) b.layers.items; layer_indexes = b.layer_indexes.items; holes = b.holes.items } };
+    ghost view = { λ b. record { files = b.files.items; layers = map (λ l. l.pads) b.layers.items; layer_indexes = b.layer_indexes.items; holes = b.holes.items; flashes = map (λ flashes. flashes.items) b.flashes.items } };
 
     ghost invariant = { λ b. CountsAddUp b.files.items b.holes.items };
 }
@@ -48,7 +51,7 @@ impl Board {
     /// The counts of each file, in the order of the files. Together they count just the holes of the board.
     pub fn files(&self) -> &[FileSum]
         ensures sums { result.now ≡ self.now.files }
-        ensures told { CountsAddUp self.now.files self.now.holes }
+        ensures counted { CountsAddUp self.now.files self.now.holes }
     {
         &self.files
     }
@@ -78,6 +81,16 @@ impl Board {
         &self.holes
     }
 
+    /// The flashes of a file, by its index among all files: none where they are not kept, or where there is no such file.
+    pub fn flashes_of(&self, file: usize) -> &[Flash]
+        ensures { result.now ≡ get_or self.now.flashes file [] }
+    {
+        match self.flashes.get(file) {
+            Some(flashes) => flashes,
+            None => &[],
+        }
+    }
+
     /// The findings on this board: the rings that are lacking, layer by layer, then the gaps.
     ///
     /// # Errors
@@ -93,7 +106,7 @@ impl Board {
         Ok(findings)
     }
 
-    /// Frees the pads.
+    /// Frees the pads and the flashes.
     pub(crate) fn into_parts(self) -> BoardParts
         ensures files { result.files.items ≡ self.files }
         ensures layer_indexes { result.layer_indexes.items ≡ self.layer_indexes }
@@ -104,8 +117,10 @@ impl Board {
             layers,
             layer_indexes,
             holes,
+            flashes,
         } = self;
         drop(layers);
+        drop(flashes);
         BoardParts {
             files,
             layer_indexes,
@@ -251,10 +266,14 @@ fn hole_total(contents: &[Content]) -> usize {
     hole_total
 }
 
-/// The board of files with these contents.
+/// The board of files with these contents and these flashes.
 #[tactic(auto, using(crate::proofs::BoardsLemmas::all_counted))]
-pub(crate) fn board_of(alloc: Global, contents: Vec<Content>) -> Result<Board, AllocError>
-    ensures { IfOk result (λ board. board ≡ board_of contents.items) }
+pub(crate) fn board_of(
+    alloc: Global,
+    contents: Vec<Content>,
+    flashes: Vec<Vec<Flash>>,
+) -> Result<Board, AllocError>
+    ensures { IfOk result (λ board. board ≡ board_of contents.items (map (λ flashes. flashes.items) flashes.items)) }
 {
     let files = sums(alloc, &contents)?;
     let layer_indexes = layer_indexes(alloc, &contents)?;
@@ -266,6 +285,7 @@ pub(crate) fn board_of(alloc: Global, contents: Vec<Content>) -> Result<Board, A
         layers,
         layer_indexes,
         holes,
+        flashes,
     })
 }
 

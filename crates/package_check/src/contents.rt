@@ -1,15 +1,16 @@
 // What the check reads of a file of a package.
-ghost use Rattle.std.specs.Prelude.{◌≡◌, ◌&&◌, ℕ, List, Ok, OnOk, is_some, map, not, true};
+ghost use Rattle.std.specs.Prelude.{◌≡◌, ℕ, List, Ok, OnOk, map, true};
 ghost use Rattle.std.specs.List.{concat};
 ghost use Rattle.grid_units.specs.Results.{Answers};
+ghost use Rattle.layer_image.specs.KeptFlashes.{keeps_flashes};
 ghost use Rattle.layer_image.specs.Layers.{ReadsFlashes};
 ghost use Rattle.package_check.specs.FileTexts.{ReadsLayer};
 ghost use Rattle.package_check.specs.Package.{Reads, ReadsCopper, ReadsHoles, is_bad_span, is_copper, unnamed_file};
 
 use crate::Role;
-use crate::readers::{Drill, Layer, read_holes, read_layer_and_flashes, read_layer_view};
+use crate::readers::{Drill, Layer, read_holes, read_layer_view};
 use grid_units::{Fail, Fault, Reason};
-use layer_image::Flash;
+use layer_image::{Flash, Keep};
 use ring_rules::Span;
 use std::alloc::Global;
 
@@ -39,23 +40,17 @@ fn require_copper(layer: Layer) -> Result<Content, Fail>
     }
 }
 
-fn read_copper(alloc: Global, pieces: &[&[u8]]) -> Result<Content, Fail>
-    ensures { Answers (λ x. x) (ReadsCopper (concat (map (λ piece. piece.now) pieces.now))) result }
-{
-    let layer = read_layer_view(alloc, pieces)?;
-    require_copper(layer)
-}
-
-/// The content of a copper file, and its flashes.
-fn read_copper_with_flashes(
+/// The content of a copper file, and its flashes where they are kept.
+fn read_copper(
     alloc: Global,
+    keep: Keep,
     flashes: &mut Vec<Flash>,
     pieces: &[&[u8]],
 ) -> Result<Content, Fail>
     ensures copper { Answers (λ x. x) (ReadsCopper (concat (map (λ piece. piece.now) pieces.now))) result }
-    ensures flashes { OnOk result (ReadsFlashes (concat (map (λ piece. piece.now) pieces.now)) (Ok flashes.new.items)) }
+    ensures flashes { keeps_flashes keep ≡ true → OnOk result (ReadsFlashes (concat (map (λ piece. piece.now) pieces.now)) (Ok flashes.new.items)) }
 {
-    let layer = read_layer_and_flashes(alloc, flashes, pieces)?;
+    let layer = read_layer_view(alloc, keep, flashes, pieces)?;
     require_copper(layer)
 }
 
@@ -91,15 +86,19 @@ fn is_bad_span(role: Role, span: Option<Span>, layers: usize) -> bool
     }
 }
 
-/// The content of a file of this role and span, in a package of so many copper files, or its fault. Its bytes come in pieces.
+/// The content of a file of this role and span, in a package of so many copper files, or its fault. Its bytes come in pieces. The
+/// flashes of a copper file are put into `flashes` where they are kept.
 pub(crate) fn read_file(
     alloc: Global,
+    keep: Keep,
+    flashes: &mut Vec<Flash>,
     role: Role,
     span: &Option<Span>,
     layers: usize,
     pieces: &[&[u8]],
 ) -> Result<Content, Fail>
-    ensures { Answers (λ x. x) (Reads (unnamed_file role span.now layers (concat (map (λ piece. piece.now) pieces.now)))) result }
+    ensures content { Answers (λ x. x) (Reads (unnamed_file role span.now layers (concat (map (λ piece. piece.now) pieces.now)))) result }
+    ensures flashes { keeps_flashes keep ≡ true → is_copper role ≡ true → OnOk result (ReadsFlashes (concat (map (λ piece. piece.now) pieces.now)) (Ok flashes.new.items)) }
 {
     if is_bad_span(role, *span, layers) {
         return Err(Fail::Refused(Fault {
@@ -109,33 +108,8 @@ pub(crate) fn read_file(
         }));
     }
     match role {
-        Role::Copper => read_copper(alloc, pieces),
+        Role::Copper => read_copper(alloc, keep, flashes, pieces),
         Role::Plated => read_drill_content(alloc, true, *span, pieces),
         Role::Unplated => read_drill_content(alloc, false, *span, pieces),
     }
-}
-
-/// Whether a file is copper and names no span, as no copper file may.
-fn is_spanless_copper(role: Role, span: Option<Span>) -> bool
-    ensures { result ≡ (is_copper role && not (is_some span)) }
-{
-    is_copper(role) && span.is_none()
-}
-
-/// The content of a file as [`read_file`] gives it, and its flashes where it is copper.
-pub(crate) fn read_file_with_flashes(
-    alloc: Global,
-    flashes: &mut Vec<Flash>,
-    role: Role,
-    span: &Option<Span>,
-    layers: usize,
-    pieces: &[&[u8]],
-) -> Result<Content, Fail>
-    ensures content { Answers (λ x. x) (Reads (unnamed_file role span.now layers (concat (map (λ piece. piece.now) pieces.now)))) result }
-    ensures flashes { is_copper role ≡ true → OnOk result (ReadsFlashes (concat (map (λ piece. piece.now) pieces.now)) (Ok flashes.new.items)) }
-{
-    if is_spanless_copper(role, *span) {
-        return read_copper_with_flashes(alloc, flashes, pieces);
-    }
-    read_file(alloc, role, span, layers, pieces)
 }

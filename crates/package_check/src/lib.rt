@@ -3,7 +3,6 @@
 
 mod board;
 mod contents;
-mod flashed;
 pub mod laws;
 mod lines;
 mod package;
@@ -14,8 +13,8 @@ mod report;
 mod text;
 
 pub use board::{Board, hole_count};
-pub use flashed::{FlashedBoard, FlashedReader, read_flashed};
 use grid_units::Fault;
+pub use layer_image::Keep;
 pub use lines::FileLines;
 pub use manifest::Role;
 pub use package::{check_bytes, layer_count, read_package};

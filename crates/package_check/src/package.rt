@@ -1,7 +1,8 @@
 // The check of a package.
-ghost use Rattle.std.specs.Prelude.{◌≡◌, ◌<◌, ℕ, [], Result, IfOk};
+ghost use Rattle.std.specs.Prelude.{◌≡◌, ◌<◌, ℕ, [], true, Result, IfOk};
 ghost use Rattle.grid_units.specs.declared.fault.Fault.{Fault as TheFault};
-ghost use Rattle.package_check.specs.Boards.{ReturnsBoard};
+ghost use Rattle.layer_image.specs.KeptFlashes.{keeps_flashes};
+ghost use Rattle.package_check.specs.Boards.{ReturnsBoard, ReturnsFlashedBoard};
 ghost use Rattle.package_check.specs.Package.{ReturnsExactly, ReturnsReport, IsAnswer, NamesItsPlaces, layer_count, file_views};
 ghost use Rattle.package_check.specs.Reports.{ReportView};
 ghost use Rattle.package_check.specs.Soundness.{AreStraight, IsSound};
@@ -9,7 +10,7 @@ ghost use Rattle.package_check.specs.Holding.{HasTaken};
 
 use crate::contents::is_copper;
 use crate::laws::{findings_name_their_places, passing_is_sound, unique_answer, unique_reading};
-use crate::{Board, File, PackageFault, PackageReader, Report};
+use crate::{Board, File, Keep, PackageFault, PackageReader, Report};
 use grid_units::Rules;
 use std::alloc::{AllocError, Global};
 
@@ -21,12 +22,12 @@ pub fn layer_count(files: &[File]) -> usize
 }
 
 /// A reader that has taken the files.
-fn reader_of(alloc: Global, files: &[File]) -> Result<PackageReader, AllocError>
-    ensures { IfOk result (λ reader. HasTaken reader (file_views files.now)) }
+fn reader_of(alloc: Global, files: &[File], keep: Keep) -> Result<PackageReader, AllocError>
+    ensures { IfOk result (λ reader. HasTaken reader keep (file_views files.now)) }
 {
-    let mut reader = PackageReader::new(alloc, layer_count(files));
+    let mut reader = PackageReader::keeping(alloc, layer_count(files), keep);
     for file in files {
-        reader.take(file.role, &file.span, &[file.bytes])?;
+        reader.take(file.role, file.span, &[file.bytes])?;
     }
     Ok(reader)
 }
@@ -34,7 +35,7 @@ fn reader_of(alloc: Global, files: &[File]) -> Result<PackageReader, AllocError>
 fn report_of(alloc: Global, files: &[File], rules: Rules) -> Result<Report, PackageFault>
     ensures { ReturnsReport (file_views files.now) rules result }
 {
-    match reader_of(alloc, files) {
+    match reader_of(alloc, files, Keep::Pads) {
         Ok(reader) => reader.finish(rules),
         Err(_) => Err(PackageFault::Memory),
     }
@@ -61,15 +62,16 @@ pub fn check_bytes(alloc: Global, files: &[File], rules: Rules) -> Result<Report
     report_of(alloc, files, rules)
 }
 
-/// The board of the files: what all of them say together.
+/// The board of the files: what all of them say together, with the flashes of copper files where `keep` keeps them.
 ///
 /// # Errors
 ///
 /// As those of [`check_bytes`].
-pub fn read_package(alloc: Global, files: &[File]) -> Result<Board, PackageFault>
-    ensures { ReturnsBoard (file_views files.now) result }
+pub fn read_package(alloc: Global, files: &[File], keep: Keep) -> Result<Board, PackageFault>
+    ensures exact { ReturnsBoard (file_views files.now) result }
+    ensures flashes { keeps_flashes keep ≡ true → ReturnsFlashedBoard (file_views files.now) result }
 {
-    match reader_of(alloc, files) {
+    match reader_of(alloc, files, keep) {
         Ok(reader) => reader.board(),
         Err(_) => Err(PackageFault::Memory),
     }

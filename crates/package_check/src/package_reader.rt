@@ -1,47 +1,62 @@
 //! A package whose files are taken one after the other.
 
-ghost use Rattle.std.specs.Prelude.{◌≡◌, ◌++◌, ◌∷◌, ℕ, List, [], true, Ok, Err, Result, IfOk, OnOk, OnErr, alloc_error, is_some, map};
+ghost use Rattle.std.specs.Prelude.{◌≡◌, ◌++◌, ◌∷◌, ℕ, List, [], true, Err, Result, IfOk, OnOk, OnErr, alloc_error, is_some, map};
 ghost use Rattle.std.specs.List.{concat};
 ghost use Rattle.grid_units.specs.declared.fault.Fault.{Fault as TheFault};
-ghost use Rattle.layer_image.specs.Layers.{ReadsFlashes};
-ghost use Rattle.package_check.specs.Boards.{ReturnsBoard};
-ghost use Rattle.package_check.specs.Package.{ReturnsExactly, ReturnsReport, IsAnswer, NamesItsPlaces, FileView, is_copper, unnamed_file};
+ghost use Rattle.layer_image.specs.KeptFlashes.{keeps_flashes};
+ghost use Rattle.layer_image.specs.declared.keep.Keep.{Keep as TheKeep};
+ghost use Rattle.layer_image.specs.declared.keep.Keep.TheVariants as keep;
+ghost use Rattle.package_check.specs.Boards.{ReturnsBoard, ReturnsFlashedBoard};
+ghost use Rattle.package_check.specs.Package.{ReturnsExactly, ReturnsReport, IsAnswer, NamesItsPlaces, FileView, unnamed_file};
 ghost use Rattle.package_check.specs.Reports.{ReportView};
 ghost use Rattle.package_check.specs.Soundness.{IsSound};
-ghost use Rattle.package_check.specs.Holding.{ReadsNext};
+ghost use Rattle.package_check.specs.Holding.{AddsFlashes, ReadsNext};
+ghost use Rattle.package_check.specs.declared.PackageFault.TheVariants as stop;
 
 use crate::board::board_of;
-use crate::contents::{Content, read_file, read_file_with_flashes};
-use crate::laws::{findings_name_their_places, passing_is_sound, unique_answer, unique_reading};
+use crate::contents::{Content, read_file};
+use crate::laws::{findings_name_their_places, passing_is_sound, unique_answer};
 use crate::report::report_on;
 use crate::{Board, PackageFault, Report, Role};
 use grid_units::{Fail, Rules};
-use layer_image::Flash;
+use layer_image::{Flash, Keep, unique_reading};
 use ring_rules::Span;
 use std::alloc::{AllocError, Global};
 
 /// A reader of a package, which takes its files one after the other. It keeps the pads of a layer and the holes of a drill
-/// file, and no text. After the first file that is refused it reads no other.
+/// file, flashes where they are asked for, and no text. After the first file that is refused it reads no other.
 #[derive(Drop)]
 pub struct PackageReader {
     alloc: Global,
     layers: usize,
+    keep: Keep,
     contents: Vec<Content>,
+    flashes: Vec<Vec<Flash>>,
     stopped: Option<Fail>,
 }
 
 impl PackageReader {
-    ghost use Rattle.package_check.specs.Holding.{IsOutOfMemory, HasRefusedNothing, HasTaken, copper_files};
+    ghost use Rattle.package_check.specs.Holding.{IsOutOfMemory, HasTaken, copper_files};
 
-    /// A reader that has taken no file, of a package with so many copper files.
+    /// A reader that has taken no file, of a package with so many copper files. It keeps no flashes.
     pub fn new(alloc: Global, layers: usize) -> PackageReader
-        ensures stands { HasTaken result [] }
+        ensures stands { HasTaken result keep.Pads [] }
+        ensures layers { copper_files result ≡ layers }
+    {
+        PackageReader::keeping(alloc, layers, Keep::Pads)
+    }
+
+    /// A reader that has taken no file, of a package with so many copper files. It keeps the flashes of these where `keep` does.
+    pub fn keeping(alloc: Global, layers: usize, keep: Keep) -> PackageReader
+        ensures stands { HasTaken result keep [] }
         ensures layers { copper_files result ≡ layers }
     {
         PackageReader {
             alloc,
             layers,
+            keep,
             contents: Vec::new(alloc),
+            flashes: Vec::new(alloc),
             stopped: None,
         }
     }
@@ -55,84 +70,44 @@ impl PackageReader {
     pub fn take(
         &mut self,
         role: Role,
-        span: &Option<Span>,
+        span: Option<Span>,
         pieces: &[&[u8]],
     ) -> Result<(), AllocError>
-        ensures stands { (sources : List FileView) (name : List ℕ) → HasTaken self.old sources → OnOk result (HasTaken self.new (sources
-            ++ record { role = role; name = name; span = span.now; bytes = concat (map (λ piece. piece.now) pieces.now); layers = copper_files self.old } ∷ [])) }
+        ensures stands { (keep : TheKeep) (sources : List FileView) (name : List ℕ) → HasTaken self.old keep sources → OnOk result (HasTaken self.new keep (sources
+            ++ record { role = role; name = name; span = span; bytes = concat (map (λ piece. piece.now) pieces.now); layers = copper_files self.old } ∷ [])) }
         ensures layers { copper_files self.new ≡ copper_files self.old }
         ensures failed { IsOutOfMemory self.old → result ≡ Err alloc_error }
         ensures fails { OnErr result (IsOutOfMemory self.new) }
     {
+        unique_reading();
         if self.is_stopped() {
             return self.outcome();
         }
-        let read = read_next(
-            self.alloc,
-            &mut self.contents,
-            role,
-            span,
-            self.layers,
-            pieces,
-        );
+        let read = self.read_next(role, span, pieces);
         self.stopped = read.err();
         self.outcome()
     }
 
-    /// Takes the next file, as [`PackageReader::take`] does, and gives the flashes of a copper file, which is read but once.
-    /// The list for a drill file, and for a file after the first that is refused, says nothing.
-    ///
-    /// # Errors
-    ///
-    /// As those of [`PackageReader::take`].
-    pub fn take_with_flashes(
-        &mut self,
-        role: Role,
-        span: &Option<Span>,
-        pieces: &[&[u8]],
-    ) -> Result<Vec<Flash>, AllocError>
-        ensures stands { (sources : List FileView) (name : List ℕ) → HasTaken self.old sources → OnOk result (HasTaken self.new (sources
-            ++ record { role = role; name = name; span = span.now; bytes = concat (map (λ piece. piece.now) pieces.now); layers = copper_files self.old } ∷ [])) }
-        ensures layers { copper_files self.new ≡ copper_files self.old }
-        ensures failed { IsOutOfMemory self.old → result ≡ Err alloc_error }
-        ensures fails { OnErr result (IsOutOfMemory self.new) }
-        ensures refused { HasRefusedNothing self.new → HasRefusedNothing self.old }
-        ensures flashes { is_copper role ≡ true → HasRefusedNothing self.new → IfOk result (λ flashes. ReadsFlashes (concat (map (λ piece. piece.now) pieces.now)) (Ok flashes.items)) }
+    /// Reads the next file, and appends its content and its flashes.
+    fn read_next(&mut self, role: Role, span: Option<Span>, pieces: &[&[u8]]) -> Result<(), Fail>
+        ensures next { ReadsNext (unnamed_file role span self.old.layers (concat (map (λ piece. piece.now) pieces.now))) self.old.contents.items self.new.contents.items result }
+        ensures flashes { OnOk result (AddsFlashes self.old.keep role (concat (map (λ piece. piece.now) pieces.now)) self.old.flashes.items self.new.flashes.items) }
+        ensures layers { self.new.layers ≡ self.old.layers }
+        ensures keep { self.new.keep ≡ self.old.keep }
     {
         let mut flashes = Vec::new(self.alloc);
-        self.take_next(&mut flashes, role, span, pieces)?;
-        Ok(flashes)
-    }
-
-    fn take_next(
-        &mut self,
-        flashes: &mut Vec<Flash>,
-        role: Role,
-        span: &Option<Span>,
-        pieces: &[&[u8]],
-    ) -> Result<(), AllocError>
-        ensures stands { (sources : List FileView) (name : List ℕ) → HasTaken self.old sources → OnOk result (HasTaken self.new (sources
-            ++ record { role = role; name = name; span = span.now; bytes = concat (map (λ piece. piece.now) pieces.now); layers = copper_files self.old } ∷ [])) }
-        ensures layers { copper_files self.new ≡ copper_files self.old }
-        ensures failed { IsOutOfMemory self.old → result ≡ Err alloc_error }
-        ensures fails { OnErr result (IsOutOfMemory self.new) }
-        ensures refused { HasRefusedNothing self.new → HasRefusedNothing self.old }
-        ensures flashes { is_copper role ≡ true → HasRefusedNothing self.new → ReadsFlashes (concat (map (λ piece. piece.now) pieces.now)) (Ok flashes.new.items) }
-    {
-        if self.is_stopped() {
-            return self.outcome();
-        }
-        let read = read_next_with_flashes(
+        let content = read_file(
             self.alloc,
-            &mut self.contents,
-            flashes,
+            self.keep,
+            &mut flashes,
             role,
-            span,
+            &span,
             self.layers,
             pieces,
-        );
-        self.stopped = read.err();
-        self.outcome()
+        )?;
+        push_content(&mut self.contents, content)?;
+        push_flashes(&mut self.flashes, flashes)?;
+        Ok(())
     }
 
     /// Whether a file was refused, or memory ran out.
@@ -159,10 +134,11 @@ impl PackageReader {
     ///
     /// The first file that is refused, by its index, with its fault; `Memory` where there is no memory.
     pub fn finish(self, rules: Rules) -> Result<Report, PackageFault>
-        ensures exact { (sources : List FileView) → HasTaken self sources → ReturnsReport sources rules result }
-        ensures only { (sources : List FileView) (answer : Result ReportView (ℕ × TheFault)) → HasTaken self sources → IsAnswer sources rules answer → ReturnsExactly answer result }
-        ensures places { (sources : List FileView) → HasTaken self sources → IfOk result NamesItsPlaces }
-        ensures sound { (sources : List FileView) → HasTaken self sources → IfOk result (λ report. report.findings ≡ [] → IsSound sources rules) }
+        ensures exact { (keep : TheKeep) (sources : List FileView) → HasTaken self keep sources → ReturnsReport sources rules result }
+        ensures only { (keep : TheKeep) (sources : List FileView) (answer : Result ReportView (ℕ × TheFault)) → HasTaken self keep sources → IsAnswer sources rules answer → ReturnsExactly answer result }
+        ensures places { (keep : TheKeep) (sources : List FileView) → HasTaken self keep sources → IfOk result NamesItsPlaces }
+        ensures sound { (keep : TheKeep) (sources : List FileView) → HasTaken self keep sources → IfOk result (λ report. report.findings ≡ [] → IsSound sources rules) }
+        ensures failed { IsOutOfMemory self → result ≡ Err stop.Memory }
     {
         unique_answer();
         findings_name_their_places();
@@ -172,7 +148,8 @@ impl PackageReader {
 
     #[tactic(auto, using(crate::proofs::BoardsLemmas::reported_on))]
     fn answer(self, rules: Rules) -> Result<Report, PackageFault>
-        ensures { (sources : List FileView) → HasTaken self sources → ReturnsReport sources rules result }
+        ensures exact { (keep : TheKeep) (sources : List FileView) → HasTaken self keep sources → ReturnsReport sources rules result }
+        ensures failed { IsOutOfMemory self → result ≡ Err stop.Memory }
     {
         let alloc = self.alloc;
         match self.board() {
@@ -184,14 +161,16 @@ impl PackageReader {
         }
     }
 
-    /// The board of the files that were taken: what all of them say together. A drill file's own list of holes is freed as they
-    /// are appended to the board's.
+    /// The board of the files that were taken: what all of them say together, with the flashes of copper files where they are kept. A
+    /// drill file's own list of holes is freed as they are appended to the board's.
     ///
     /// # Errors
     ///
     /// As those of [`PackageReader::finish`].
     pub fn board(self) -> Result<Board, PackageFault>
-        ensures { (sources : List FileView) → HasTaken self sources → ReturnsBoard sources result }
+        ensures exact { (keep : TheKeep) (sources : List FileView) → HasTaken self keep sources → ReturnsBoard sources result }
+        ensures flashes { (keep : TheKeep) (sources : List FileView) → HasTaken self keep sources → keeps_flashes keep ≡ true → ReturnsFlashedBoard sources result }
+        ensures failed { IsOutOfMemory self → result ≡ Err stop.Memory }
     {
         match self.stopped {
             Some(Fail::Memory) => Err(PackageFault::Memory),
@@ -199,7 +178,7 @@ impl PackageReader {
                 index: self.contents.len(),
                 fault,
             }),
-            None => match board_of(self.alloc, self.contents) {
+            None => match board_of(self.alloc, self.contents, self.flashes) {
                 Ok(board) => Ok(board),
                 Err(_) => Err(PackageFault::Memory),
             },
@@ -207,44 +186,19 @@ impl PackageReader {
     }
 }
 
-/// Reads the next file, and appends its content to `contents`.
-fn read_next(
-    alloc: Global,
-    contents: &mut Vec<Content>,
-    role: Role,
-    span: &Option<Span>,
-    layers: usize,
-    pieces: &[&[u8]],
-) -> Result<(), Fail>
-    ensures { ReadsNext (unnamed_file role span.now layers (concat (map (λ piece. piece.now) pieces.now))) contents.old.items contents.new.items result }
-{
-    let content = read_file(alloc, role, span, layers, pieces)?;
-    push_content(contents, content)?;
-    Ok(())
-}
-
-/// Reads the next file as [`read_next`] does, with the flashes of a copper file.
-fn read_next_with_flashes(
-    alloc: Global,
-    contents: &mut Vec<Content>,
-    flashes: &mut Vec<Flash>,
-    role: Role,
-    span: &Option<Span>,
-    layers: usize,
-    pieces: &[&[u8]],
-) -> Result<(), Fail>
-    ensures next { ReadsNext (unnamed_file role span.now layers (concat (map (λ piece. piece.now) pieces.now))) contents.old.items contents.new.items result }
-    ensures flashes { is_copper role ≡ true → OnOk result (ReadsFlashes (concat (map (λ piece. piece.now) pieces.now)) (Ok flashes.new.items)) }
-{
-    let content = read_file_with_flashes(alloc, flashes, role, span, layers, pieces)?;
-    push_content(contents, content)?;
-    Ok(())
-}
-
 fn push_content(contents: &mut Vec<Content>, content: Content) -> Result<(), AllocError>
     ensures { OnOk result (contents.new.items ≡ contents.old.items ++ content ∷ []) }
 {
     if contents.push(content).is_err() {
+        return Err(AllocError);
+    }
+    Ok(())
+}
+
+fn push_flashes(all: &mut Vec<Vec<Flash>>, flashes: Vec<Flash>) -> Result<(), AllocError>
+    ensures { OnOk result (all.new.items ≡ all.old.items ++ flashes ∷ []) }
+{
+    if all.push(flashes).is_err() {
         return Err(AllocError);
     }
     Ok(())

@@ -2,6 +2,7 @@
 
 ghost use Rattle.std.specs.Prelude.{◌≡◌, ◌<◌, ℕ, [], Result, IfOk};
 ghost use Rattle.grid_units.specs.declared.fault.Fault.{Fault as TheFault};
+ghost use Rattle.layer_image.specs.declared.keep.Keep.TheVariants as keep;
 ghost use Rattle.package_check.specs.Package.{ReturnsExactly, ReturnsReport, IsAnswer, NamesItsPlaces};
 ghost use Rattle.package_check.specs.Pieces.{pieced_layer_count, pieced_file_views};
 ghost use Rattle.package_check.specs.Reports.{ReportView};
@@ -22,11 +23,11 @@ fn layer_count(files: &[PiecedFile]) -> usize
 
 /// A reader that has taken the files.
 fn reader_of(alloc: Global, files: &[PiecedFile]) -> Result<PackageReader, AllocError>
-    ensures { IfOk result (λ reader. HasTaken reader (pieced_file_views files.now)) }
+    ensures { IfOk result (λ reader. HasTaken reader keep.Pads (pieced_file_views files.now)) }
 {
     let mut reader = PackageReader::new(alloc, layer_count(files));
     for file in files {
-        reader.take(file.role, &file.span, file.pieces)?;
+        reader.take(file.role, file.span, file.pieces)?;
     }
     Ok(reader)
 }

@@ -1,6 +1,6 @@
 //! What the check keeps of a file as it reads it: pads of a layer, holes of a drill file.
 
-ghost use Rattle.std.specs.Prelude.{◌≡◌, ◌≤◌, ◌++◌, ◌∷◌, [], ◌==◌, not, ℕ, List, Ok, Err, IfErr, IfOk, OnOk, length, map};
+ghost use Rattle.std.specs.Prelude.{◌≡◌, ◌≤◌, ◌++◌, ◌∷◌, [], ◌==◌, not, ℕ, List, Ok, Err, IfErr, IfOk, OnOk, length, map, true};
 ghost use Rattle.std.specs.List.{concat, prefix_len, take_while};
 ghost use Rattle.std.specs.Option.{option_copied};
 ghost use Rattle.grid_units.specs.Results.{Answers, IfFault};
@@ -9,6 +9,7 @@ ghost use Rattle.drill_text.specs.Outcome.{file_of};
 ghost use Rattle.drill_text.specs.Texts.{ReadsAs};
 ghost use Rattle.drill_text.specs.declared.kept.Keep.TheVariants as drill_keep;
 ghost use Rattle.layer_image.specs.Holding.{LayerStandsAfter, ShowsLayerFault};
+ghost use Rattle.layer_image.specs.KeptFlashes.{keeps_flashes};
 ghost use Rattle.layer_image.specs.Layers.{ReadsFlashes, ReadsKept};
 ghost use Rattle.layer_image.specs.declared.keep.Keep.{Keep as TheKeep};
 ghost use Rattle.package_check.specs.FileTexts.{ReadsLayer, ReadsDrill, is_copper_function};
@@ -103,8 +104,8 @@ fn first_field(text: &[u8]) -> &[u8]
 
 /// Feeds a piece of a layer to the reader, [`PIECE`] bytes at a time.
 fn feed_layer(reader: &mut LayerReader, piece: &[u8]) -> Result<(), Fail>
-    ensures ok { (push_content : TheKeep) (text : List ℕ) → LayerStandsAfter reader.old push_content text → OnOk result (LayerStandsAfter reader.new push_content (text ++ piece.now)) }
-    ensures err { (push_content : TheKeep) (text : List ℕ) → LayerStandsAfter reader.old push_content text → IfErr result (IfFault (ShowsLayerFault (text ++ piece.now))) }
+    ensures ok { (keep : TheKeep) (text : List ℕ) → LayerStandsAfter reader.old keep text → OnOk result (LayerStandsAfter reader.new keep (text ++ piece.now)) }
+    ensures err { (keep : TheKeep) (text : List ℕ) → LayerStandsAfter reader.old keep text → IfErr result (IfFault (ShowsLayerFault (text ++ piece.now))) }
 {
     shown_faults();
     for chunk in piece.chunks(PIECE) {
@@ -114,15 +115,11 @@ fn feed_layer(reader: &mut LayerReader, piece: &[u8]) -> Result<(), Fail>
 }
 
 /// The layer whose text comes in these pieces, of which just this is kept.
-fn read_layer(
-    alloc: Global,
-    push_content: Keep,
-    pieces: &[&[u8]],
-) -> Result<layer_image::Layer, Fail>
-    ensures { Answers (λ layer. layer) (ReadsKept push_content (concat (map (λ piece. piece.now) pieces.now))) result }
+fn read_layer(alloc: Global, keep: Keep, pieces: &[&[u8]]) -> Result<layer_image::Layer, Fail>
+    ensures { Answers (λ layer. layer) (ReadsKept keep (concat (map (λ piece. piece.now) pieces.now))) result }
 {
     shown_faults();
-    let mut reader = LayerReader::keeping(alloc, push_content);
+    let mut reader = LayerReader::keeping(alloc, keep);
     for piece in pieces {
         feed_layer(&mut reader, piece)?;
     }
@@ -130,7 +127,7 @@ fn read_layer(
 }
 
 /// What the check keeps of the copper file whose text comes in these pieces, or its fault.
-pub(crate) fn read_layer_view(alloc: Global, pieces: &[&[u8]]) -> Result<Layer, Fail>
+fn read_pads(alloc: Global, pieces: &[&[u8]]) -> Result<Layer, Fail>
     ensures { Answers (λ x. x) (ReadsLayer (concat (map (λ piece. piece.now) pieces.now))) result }
 {
     let layer = read_layer(alloc, Keep::Pads, pieces)?;
@@ -167,8 +164,8 @@ fn pads_among(alloc: Global, flashes: &[Flash], count: usize) -> Result<Vec<Pad>
     Ok(all)
 }
 
-/// What [`read_layer_view`] gives of a copper file, and its flashes.
-pub(crate) fn read_layer_and_flashes(
+/// What [`read_pads`] gives of a copper file, and its flashes.
+fn read_pads_and_flashes(
     alloc: Global,
     flashes: &mut Vec<Flash>,
     pieces: &[&[u8]],
@@ -187,6 +184,23 @@ pub(crate) fn read_layer_and_flashes(
         other,
         is_copper,
     })
+}
+
+/// What the check keeps of the copper file whose text comes in these pieces, or its fault. Its flashes are put into `flashes` where
+/// they are kept.
+pub(crate) fn read_layer_view(
+    alloc: Global,
+    keep: Keep,
+    flashes: &mut Vec<Flash>,
+    pieces: &[&[u8]],
+) -> Result<Layer, Fail>
+    ensures image { Answers (λ x. x) (ReadsLayer (concat (map (λ piece. piece.now) pieces.now))) result }
+    ensures flashes { keeps_flashes keep ≡ true → OnOk result (ReadsFlashes (concat (map (λ piece. piece.now) pieces.now)) (Ok flashes.new.items)) }
+{
+    match keep {
+        Keep::Pads => read_pads(alloc, pieces),
+        Keep::All | Keep::Flashes => read_pads_and_flashes(alloc, flashes, pieces),
+    }
 }
 
 /// The drill file whose text comes in these pieces, of which no command is kept.

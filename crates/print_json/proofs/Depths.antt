@@ -18,13 +18,14 @@ use Rattle.package_check.specs.Boards.{BoardView}
 use Rattle.package_check.specs.declared.FileSum.{FileSum}
 use Rattle.package_check.specs.declared.FileSum.TheVariants as sums
 use Rattle.report.specs.declared.GapLack.{GapLack}
-use Rattle.report.specs.declared.HoleAt.{HoleAt}
+use Rattle.report.specs.declared.PlacedHole.{PlacedHole}
 use Rattle.report.specs.declared.LayerHead.{LayerHead}
 use Rattle.report.specs.declared.RingLack.{RingLack}
 use Rattle.report.specs.declared.BoardReport.{BoardReport}
-use Rattle.print_text.specs.Texts as texts
+use Rattle.printing.specs.Holes.{name_of}
+use Rattle.report.specs.Acceptances.{acceptance_at}
 use Rattle.ring_rules.specs.declared.finding.Drilled.{Drilled}
-use Rattle.print_text.specs.Texts.{lack_of}
+use Rattle.report.specs.Causes.{lack_of}
 use Rattle.print_json.specs.Values.{drill_value, file_value, flash_of, gap_value, hole_value, hole_at_place, or_null, items_of, members_of, layer_number, layer_value, least_gap_value, least_hole, least_ring, meets_value, met_value, picometres, place_value, point_value, ring_of, ring_value, row_value, rules_value, scale_value, whole, acceptance_value, word}
 use Rattle.print_json.specs.Packages.{file_values, gap_values, measure_value, ring_values, input_error_value, report_value}
 use Rattle.print_json.specs.declared.refused.InputError.{InputError}
@@ -59,7 +60,7 @@ met_within d mets.Any = omega arith
 met_within d (mets.UpTo length) = omega arith
 met_within d mets.None = omega arith
 
-hole_within : (at : HoleAt) → depth (hole_value at) ≤ 2
+hole_within : (at : PlacedHole) → depth (hole_value at) ≤ 2
 unfolding hole_value point_value
 hole_within at = omega arith
 
@@ -106,8 +107,8 @@ gap_within lack why = let first = hole_within lack.first in let second = hole_wi
 
 place_within : (files : List FileSum) (holes : List Drilled) (place : HolePlace) → depth (place_value files holes place) ≤ 2
 place_within files holes place =
-    there_within 2 (λ drilled. hole_value (record { drill = place.drill; number = place.hole; hole = drilled.hole }))
-    (λ drilled. hole_within (record { drill = place.drill; number = place.hole; hole = drilled.hole })) (hole_at_place files holes place)
+    there_within 2 (λ drilled. hole_value (record { place = place; hole = drilled.hole }))
+    (λ drilled. hole_within (record { place = place; hole = drilled.hole })) (hole_at_place files holes place)
 
 least_gap_within : (files : List FileSum) (holes : List Drilled) (line : GapLine) → depth (least_gap_value files holes line) ≤ 3
 unfolding least_gap_value
@@ -115,27 +116,27 @@ least_gap_within files holes line = let first = place_within files holes line.fi
 
 -- the depth of the files
 files_within : (names : List (List ℕ)) (files : List FileSum) → items_depth (items_of (file_values names files)) ≤ 1
-files_within names files = each_within (λ file. file_value (file.0 + 1) (texts.name_of names file.0) file.1) 1 (λ file. file_within (file.0 + 1) (texts.name_of names file.0) file.1) (enumerate_from 0 files)
+files_within names files = each_within (λ file. file_value (file.0 + 1) (name_of names file.0) file.1) 1 (λ file. file_within (file.0 + 1) (name_of names file.0) file.1) (enumerate_from 0 files)
 
 -- the depth of the findings
 rings_within : (layers : List LayerHead) (rings : List RingLack) (accepted : List (Option (Bor (List ℕ)))) → All (λ v. depth v ≤ 3) (ring_values layers rings accepted)
 rings_within layers rings accepted =
-    All-map (λ v. depth v ≤ 3) (λ (one : ℕ × RingLack). ring_value layers one.1 (texts.acceptance_at accepted one.0)) (enumerate_from 0 rings) (λ k d l. ring_within layers _ _)
+    All-map (λ v. depth v ≤ 3) (λ (one : ℕ × RingLack). ring_value layers one.1 (acceptance_at accepted one.0)) (enumerate_from 0 rings) (λ k d l. ring_within layers _ _)
 
 gaps_within : (gaps : List GapLack) (accepted : List (Option (Bor (List ℕ)))) → All (λ v. depth v ≤ 3) (gap_values gaps accepted)
 gaps_within gaps accepted =
-    All-map (λ v. depth v ≤ 3) (λ (one : ℕ × GapLack). gap_value one.1 (texts.acceptance_at accepted one.0)) (enumerate_from 0 gaps) (λ k d l. gap_within _ _)
+    All-map (λ v. depth v ≤ 3) (λ (one : ℕ × GapLack). gap_value one.1 (acceptance_at accepted one.0)) (enumerate_from 0 gaps) (λ k d l. gap_within _ _)
 
 -- the depth of a report
-pub report_within : (names : List (List ℕ)) (files : List FileSum) (telling : BoardReport) (of_rings of_gaps : List (Option (Bor (List ℕ)))) → depth (report_value names files telling of_rings of_gaps) ≤ max_depth
+pub report_within : (names : List (List ℕ)) (files : List FileSum) (report : BoardReport) (of_rings of_gaps : List (Option (Bor (List ℕ)))) → depth (report_value names files report of_rings of_gaps) ≤ max_depth
 unfolding report_value rules_value
-report_within names files telling of_rings of_gaps =
-    let meets = meets_within telling.meets in
+report_within names files report of_rings of_gaps =
+    let meets = meets_within report.meets in
     let named = files_within names files in
-    let scales = each_within scale_value 1 scale_within telling.scales.items in
-    let rings = ring_values telling.layers.items telling.rings.items of_rings in
-    let found = items_within 3 (rings ++ gap_values telling.gaps.items of_gaps)
-    (All-append (λ v. depth v ≤ 3) rings (gap_values telling.gaps.items of_gaps) (rings_within telling.layers.items telling.rings.items of_rings) (gaps_within telling.gaps.items of_gaps)) in
+    let scales = each_within scale_value 1 scale_within report.scales.items in
+    let rings = ring_values report.layers.items report.rings.items of_rings in
+    let found = items_within 3 (rings ++ gap_values report.gaps.items of_gaps)
+    (All-append (λ v. depth v ≤ 3) rings (gap_values report.gaps.items of_gaps) (rings_within report.layers.items report.rings.items of_rings) (gaps_within report.gaps.items of_gaps)) in
     omega (arith, meets, named, scales, found)
 
 -- the depth of a measure

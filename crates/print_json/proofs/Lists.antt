@@ -10,7 +10,8 @@ use Rattle.std.proofs.lemmas.List.FromFn.{get_or-enumerate_from, length-enumerat
 use Rattle.json.specs.Json.{Json, null}
 use Rattle.json.specs.Tree.{HasNumbers, ItemsHaveNumbers}
 use Rattle.package_check.specs.declared.FileSum.{FileSum}
-use Rattle.print_text.specs.Texts as texts
+use Rattle.printing.specs.Holes.{name_of}
+use Rattle.report.specs.Acceptances.{acceptance_at}
 use Rattle.report.specs.declared.GapLack.{GapLack}
 use Rattle.report.specs.declared.LayerHead.{LayerHead}
 use Rattle.report.specs.declared.RingLack.{RingLack}
@@ -75,24 +76,24 @@ module _ {X : Type 0} (value : ℕ × X → Json) (xs : List X) where
 
 module _ (names : List (List ℕ)) (files : List FileSum) where
   pub length_files : length (file_values names files) ≡ length files
-  length_files = length_placed (λ file. file_value (file.0 + 1) (texts.name_of names file.0) file.1) files
+  length_files = length_placed (λ file. file_value (file.0 + 1) (name_of names file.0) file.1) files
 
-  pub file_at : (i : ℕ) (d : FileSum) → i < length files → file_value (i + 1) (texts.name_of names i) (get_or files i d) ≡ get_or (file_values names files) i null
-  file_at = placed (λ file. file_value (file.0 + 1) (texts.name_of names file.0) file.1) files
+  pub file_at : (i : ℕ) (d : FileSum) → i < length files → file_value (i + 1) (name_of names i) (get_or files i d) ≡ get_or (file_values names files) i null
+  file_at = placed (λ file. file_value (file.0 + 1) (name_of names file.0) file.1) files
 
 module _ (layers : List LayerHead) (rings : List RingLack) (accepted : List (Option (Bor (List ℕ)))) where
   length_rings : length (ring_values layers rings accepted) ≡ length rings
-  length_rings = length_placed (λ one. ring_value layers one.1 (texts.acceptance_at accepted one.0)) rings
+  length_rings = length_placed (λ one. ring_value layers one.1 (acceptance_at accepted one.0)) rings
 
-  pub ring_at : (i : ℕ) (d : RingLack) → i < length rings → ring_value layers (get_or rings i d) (texts.acceptance_at accepted i) ≡ get_or (ring_values layers rings accepted) i null
-  ring_at = placed (λ one. ring_value layers one.1 (texts.acceptance_at accepted one.0)) rings
+  pub ring_at : (i : ℕ) (d : RingLack) → i < length rings → ring_value layers (get_or rings i d) (acceptance_at accepted i) ≡ get_or (ring_values layers rings accepted) i null
+  ring_at = placed (λ one. ring_value layers one.1 (acceptance_at accepted one.0)) rings
 
 module _ (gaps : List GapLack) (accepted : List (Option (Bor (List ℕ)))) where
   length_gaps : length (gap_values gaps accepted) ≡ length gaps
-  length_gaps = length_placed (λ one. gap_value one.1 (texts.acceptance_at accepted one.0)) gaps
+  length_gaps = length_placed (λ one. gap_value one.1 (acceptance_at accepted one.0)) gaps
 
-  pub gap_at : (i : ℕ) (d : GapLack) → i < length gaps → gap_value (get_or gaps i d) (texts.acceptance_at accepted i) ≡ get_or (gap_values gaps accepted) i null
-  gap_at = placed (λ one. gap_value one.1 (texts.acceptance_at accepted one.0)) gaps
+  pub gap_at : (i : ℕ) (d : GapLack) → i < length gaps → gap_value (get_or gaps i d) (acceptance_at accepted i) ≡ get_or (gap_values gaps accepted) i null
+  gap_at = placed (λ one. gap_value one.1 (acceptance_at accepted one.0)) gaps
 
 module _ (layers : List LayerHead) (rings : List RingLack) (gaps : List GapLack) (of_rings of_gaps : List (Option (Bor (List ℕ)))) where
   -- how many findings there are

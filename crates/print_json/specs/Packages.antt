@@ -9,7 +9,8 @@ use Rattle.grid_units.specs.declared.fault.Reason.{Reason}
 use Rattle.report.specs.declared.Measure.{Measure}
 use Rattle.package_check.specs.Boards.{BoardView}
 use Rattle.package_check.specs.declared.FileSum.{FileSum}
-use Rattle.print_text.specs.Texts as texts
+use Rattle.printing.specs.Holes.{name_of}
+use Rattle.report.specs.Acceptances.{acceptance_at, waived_in}
 use Rattle.report.specs.declared.GapLack.{GapLack}
 use Rattle.report.specs.declared.LayerHead.{LayerHead}
 use Rattle.report.specs.declared.RingLack.{RingLack}
@@ -25,15 +26,15 @@ opening result = (codes "format", word (codes "ringcheck")) ∷ (codes "version"
 
 -- the contents of each file, in order, with the files' numbers and names
 abbrev pub file_values : List (List ℕ) → List FileSum → List Json
-file_values names files = map (λ file. file_value (file.0 + 1) (texts.name_of names file.0) file.1) (enumerate_from 0 files)
+file_values names files = map (λ file. file_value (file.0 + 1) (name_of names file.0) file.1) (enumerate_from 0 files)
 
 -- the insufficient rings, each with the reason at its place why it is accepted, if there is one; `layers` are those that they name
 abbrev pub ring_values : List LayerHead → List RingLack → List (Option (Bor (List ℕ))) → List Json
-ring_values layers rings accepted = map (λ one. ring_value layers one.1 (texts.acceptance_at accepted one.0)) (enumerate_from 0 rings)
+ring_values layers rings accepted = map (λ one. ring_value layers one.1 (acceptance_at accepted one.0)) (enumerate_from 0 rings)
 
 -- the insufficient gaps, each with the reason at its place
 abbrev pub gap_values : List GapLack → List (Option (Bor (List ℕ))) → List Json
-gap_values gaps accepted = map (λ one. gap_value one.1 (texts.acceptance_at accepted one.0)) (enumerate_from 0 gaps)
+gap_values gaps accepted = map (λ one. gap_value one.1 (acceptance_at accepted one.0)) (enumerate_from 0 gaps)
 
 -- the result of a report, by the number of its findings and of those that are waived: `pass` without findings, `waived` if all are,
 -- else `findings`
@@ -42,22 +43,22 @@ result_word findings waived = if findings == 0 then codes "pass" else if waived 
 
 -- the result of a report, by the reasons why its rings and gaps are accepted
 abbrev pub report_result : BoardReport → List (Option (Bor (List ℕ))) → List (Option (Bor (List ℕ))) → List ℕ
-report_result telling rings gaps = result_word (length telling.rings.items + length telling.gaps.items) (texts.waived_in telling rings gaps)
+report_result report rings gaps = result_word (length report.rings.items + length report.gaps.items) (waived_in report rings gaps)
 
 -- a report with such reasons: the rules, the rules that are met, the files, the scales, and all findings, rings before gaps
 unfoldable pub report_value : List (List ℕ) → List FileSum → BoardReport → List (Option (Bor (List ℕ))) → List (Option (Bor (List ℕ))) → Json
-report_value names files telling rings gaps =
-    object_of (opening (report_result telling rings gaps) ++ ((codes "rules", rules_value telling.rules) ∷ (codes "meets", meets_value telling.meets)
-    ∷ (codes "files", array_of (file_values names files)) ∷ (codes "scales", array_of (map scale_value telling.scales.items))
-    ∷ (codes "findings", array_of (ring_values telling.layers.items telling.rings.items rings ++ gap_values telling.gaps.items gaps)) ∷ []))
+report_value names files report rings gaps =
+    object_of (opening (report_result report rings gaps) ++ ((codes "rules", rules_value report.rules) ∷ (codes "meets", meets_value report.meets)
+    ∷ (codes "files", array_of (file_values names files)) ∷ (codes "scales", array_of (map scale_value report.scales.items))
+    ∷ (codes "findings", array_of (ring_values report.layers.items report.rings.items rings ++ gap_values report.gaps.items gaps)) ∷ []))
 
 -- a report with waivers
 abbrev pub waived_report_value : List (List ℕ) → List FileSum → BoardReport → Acceptances → Json
-waived_report_value names files telling accepted = report_value names files telling accepted.rings.now accepted.gaps.now
+waived_report_value names files report accepted = report_value names files report accepted.rings.now accepted.gaps.now
 
 -- a report without waivers
 abbrev pub board_report_value : List (List ℕ) → List FileSum → BoardReport → Json
-board_report_value names files telling = report_value names files telling [] []
+board_report_value names files report = report_value names files report [] []
 
 -- a measure: the rules that are met, the files, the scales, the rows of rings, and the least gap of the board's holes
 unfoldable pub measure_value : List (List ℕ) → BoardView → Measure → Json

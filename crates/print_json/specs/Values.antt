@@ -12,22 +12,22 @@ use Rattle.layer_image.specs.declared.flash.Why.{Why}
 use Rattle.layer_image.specs.declared.flash.Why.TheVariants as why
 use Rattle.margins.specs.declared.met.Met.{Met}
 use Rattle.margins.specs.declared.met.Met.TheVariants as mets
-use Rattle.print_text.specs.MeasureLines.{factor_word}
+use Rattle.report.specs.UnitMistakes.{factor_word}
 use Rattle.report.specs.declared.GapLine.{GapLine}
 use Rattle.report.specs.declared.HolePlace.{HolePlace}
 use Rattle.report.specs.declared.Meets.{Meets}
 use Rattle.report.specs.declared.RingLine.{RingLine}
 use Rattle.report.specs.declared.UnitMistake.{UnitMistake}
-use Rattle.board_report.specs.Rows.{holes_before}
+use Rattle.package_check.specs.Boards.{holes_before}
 use Rattle.package_check.specs.declared.FileSum.{FileSum}
 use Rattle.package_check.specs.declared.FileSum.TheVariants as sums
 use Rattle.report.specs.declared.GapLack.{GapLack}
-use Rattle.report.specs.declared.HoleAt.{HoleAt}
+use Rattle.report.specs.declared.PlacedHole.{PlacedHole}
 use Rattle.report.specs.declared.LayerHead.{LayerHead}
 use Rattle.report.specs.declared.RingCause.{RingCause}
 use Rattle.report.specs.declared.RingCause.TheVariants as causes
 use Rattle.report.specs.declared.RingLack.{RingLack}
-use Rattle.print_text.specs.Texts.{lack_of}
+use Rattle.report.specs.Causes.{lack_of}
 use Rattle.ring_rules.specs.declared.finding.Drilled.{Drilled}
 use Rattle.grid_units.specs.Ascii as ascii
 
@@ -94,9 +94,9 @@ unfoldable pub diameter_of : GridHole → ℕ
 diameter_of hole = 2 * hole.radius
 
 -- a hole: `{"drill":2,"hole":1,"from_pm":[0,0],"to_pm":[0,0],"diameter_pm":400000000}`
-unfoldable pub hole_value : HoleAt → Json
+unfoldable pub hole_value : PlacedHole → Json
 hole_value at =
-    object_of ((codes "drill", whole (at.drill + 1)) ∷ (codes "hole", whole at.number) ∷ (codes "from_pm", point_value at.hole.from)
+    object_of ((codes "drill", whole (at.place.drill + 1)) ∷ (codes "hole", whole at.place.number) ∷ (codes "from_pm", point_value at.hole.from)
     ∷ (codes "to_pm", point_value at.hole.to) ∷ (codes "diameter_pm", picometres (pos (diameter_of at.hole))) ∷ [])
 
 -- the role of a drill file: `plated` or `unplated`
@@ -192,12 +192,12 @@ row_value line =
 
 -- the hole of a number, from 1, in a drill file, in the list of all holes: after those of the files before
 abbrev pub hole_at_place : List FileSum → List Drilled → HolePlace → Option Drilled
-hole_at_place files holes place = slice_get (drop (holes_before files place.drill) holes) (place.hole - 1)
+hole_at_place files holes place = slice_get (drop (holes_before files place.drill) holes) (place.number - 1)
 
 -- a hole by its file and its number there; null where there is no such hole
 abbrev pub place_value : List FileSum → List Drilled → HolePlace → Json
 place_value files holes place =
-    or_null (λ drilled. hole_value (record { drill = place.drill; number = place.hole; hole = drilled.hole })) (hole_at_place files holes place)
+    or_null (λ drilled. hole_value (record { place = place; hole = drilled.hole })) (hole_at_place files holes place)
 
 -- the least gap, with the first two holes that have it: `{"least_pm":382301708,"at":{..},"and":{..}}`
 unfoldable pub least_gap_value : List FileSum → List Drilled → GapLine → Json

@@ -12,8 +12,8 @@ use crate::findings::{GapJson, RingJson};
 use crate::numbers::{file_numbers, gap_numbers, ring_numbers, row_numbers, scale_numbers};
 use crate::values::{FileJson, RowJson, ScaleJson};
 use package_check::FileSum;
-use print_text::{acceptance_of, name_of};
-use report::{Acceptances, BoardReport, RingLine, UnitMistake};
+use printing::name_of;
+use report::{Acceptances, BoardReport, RingLine, UnitMistake, acceptance_of};
 use std::fmt;
 use std::fmt::{Display, Formatter};
 
@@ -154,50 +154,50 @@ impl Values for Rows<'_> {
 /// The findings of a report, rings before gaps, each with the reason at its place why it is accepted.
 #[derive(Clone, Copy)]
 pub(crate) struct Findings<'a> {
-    pub(crate) telling: &'a BoardReport,
+    pub(crate) report: &'a BoardReport,
     pub(crate) accepted: &'a Acceptances<'a>,
 }
 
 impl<'a> Findings<'a> {
     /// How many rings there are.
     fn ring_count(&self) -> u128
-        ensures value { result ≡ length self.now.telling.now.rings.items }
+        ensures value { result ≡ length self.now.report.now.rings.items }
         ensures within { result < 2 ^ 64 }
     {
-        self.telling.rings.len() as u128
+        self.report.rings.len() as u128
     }
 
     /// The insufficient ring at a place among the rings.
     fn ring_at(&self, place: usize) -> RingJson<'a>
-        requires { place < length self.now.telling.now.rings.items }
+        requires { place < length self.now.report.now.rings.items }
         ensures { ring_value result.layers.now result.lack.now result.why
-            ≡ get_or (ring_values self.now.telling.now.layers.items self.now.telling.now.rings.items self.now.accepted.now.rings.now) place null }
+            ≡ get_or (ring_values self.now.report.now.layers.items self.now.report.now.rings.items self.now.accepted.now.rings.now) place null }
     {
         RingJson {
-            layers: self.telling.layers.as_slice(),
-            lack: &self.telling.rings.as_slice()[place],
+            layers: self.report.layers.as_slice(),
+            lack: &self.report.rings.as_slice()[place],
             why: acceptance_of(self.accepted.rings, place),
         }
     }
 
     /// The insufficient gap at a place among the gaps.
     fn gap_at(&self, place: usize) -> GapJson<'a>
-        requires { place < length self.now.telling.now.gaps.items }
-        ensures { gap_value result.lack.now result.why ≡ get_or (gap_values self.now.telling.now.gaps.items self.now.accepted.now.gaps.now) place null }
+        requires { place < length self.now.report.now.gaps.items }
+        ensures { gap_value result.lack.now result.why ≡ get_or (gap_values self.now.report.now.gaps.items self.now.accepted.now.gaps.now) place null }
     {
         GapJson {
-            lack: &self.telling.gaps.as_slice()[place],
+            lack: &self.report.gaps.as_slice()[place],
             why: acceptance_of(self.accepted.gaps, place),
         }
     }
 }
 
 impl Values for Findings<'_> {
-    ghost values = { λ all. ring_values all.telling.now.layers.items all.telling.now.rings.items all.accepted.now.rings.now
-        ++ gap_values all.telling.now.gaps.items all.accepted.now.gaps.now };
+    ghost values = { λ all. ring_values all.report.now.layers.items all.report.now.rings.items all.accepted.now.rings.now
+        ++ gap_values all.report.now.gaps.items all.accepted.now.gaps.now };
 
     fn count(&self) -> u128 {
-        self.ring_count() + self.telling.gaps.len() as u128
+        self.ring_count() + self.report.gaps.len() as u128
     }
 
     fn write_at<W: fmt::Write>(&self, place: u128, f: &mut Formatter<W>) -> fmt::Result {

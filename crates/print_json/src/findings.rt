@@ -4,13 +4,12 @@ ghost use Rattle.std.specs.Prelude.{◌≡◌, Some};
 ghost use Rattle.print_json.specs.Inner.Rests.{ring_rest};
 ghost use Rattle.print_json.specs.Inner.Texts.{more_members, value_text};
 ghost use Rattle.print_json.specs.Values.{cause_word, flash_of, gap_value, or_null, layer_number, members_of, picometres, ring_of, ring_value, whole, acceptance_value, reason_word, word};
-ghost use Rattle.print_text.specs.Texts.{lack_of};
+ghost use Rattle.report.specs.Causes.{lack_of};
 
 use crate::strings::Escaped;
 use crate::values::HoleJson;
 use layer_image::Why;
-use print_text::lack_of;
-use report::{GapLack, LayerHead, RingCause, RingLack};
+use report::{GapLack, LayerHead, RingCause, RingLack, lack_of};
 use std::fmt;
 use std::fmt::{Display, Formatter};
 

@@ -15,8 +15,7 @@ use crate::numbers::{meets_numbers, rules_numbers, whole_number};
 use crate::strings::Escaped;
 use crate::values::{MeetsJson, RulesJson};
 use package_check::FileSum;
-use print_text::count_waived;
-use report::{Acceptances, BoardReport};
+use report::{Acceptances, BoardReport, count_waived};
 use std::fmt;
 use std::fmt::{Display, Formatter};
 
@@ -34,11 +33,11 @@ fn result_word(findings: u128, waived: u128) -> &'static str
 }
 
 /// The result of a report.
-fn report_result(telling: &BoardReport, accepted: &Acceptances) -> &'static str
-    ensures { result.now ≡ report_result telling.now accepted.now.rings.now accepted.now.gaps.now }
+fn report_result(report: &BoardReport, accepted: &Acceptances) -> &'static str
+    ensures { result.now ≡ report_result report.now accepted.now.rings.now accepted.now.gaps.now }
 {
-    let findings = telling.rings.len() as u128 + telling.gaps.len() as u128;
-    result_word(findings, count_waived(telling, accepted))
+    let findings = report.rings.len() as u128 + report.gaps.len() as u128;
+    result_word(findings, count_waived(report, accepted))
 }
 
 /// The JSON of a report with the reasons why findings are accepted: one line with its line end, and all findings in it.
@@ -49,7 +48,7 @@ pub struct ReportJson<'a> {
     /// The contents of the files.
     pub files: &'a [FileSum],
     /// The report.
-    pub telling: &'a BoardReport,
+    pub report: &'a BoardReport,
     /// The reasons. With empty lists it is the JSON of a report without waivers.
     pub accepted: &'a Acceptances<'a>,
 }
@@ -57,18 +56,18 @@ pub struct ReportJson<'a> {
 /// The result of a report: `"pass"`, `"waived"` or `"findings"`.
 #[derive(Clone, Copy)]
 struct ResultJson<'a> {
-    telling: &'a BoardReport,
+    report: &'a BoardReport,
     accepted: &'a Acceptances<'a>,
 }
 
 impl Display for ResultJson<'_> {
-    ghost output = { λ json. Some (value_text (word (report_result json.telling.now json.accepted.now.rings.now json.accepted.now.gaps.now))) };
+    ghost output = { λ json. Some (value_text (word (report_result json.report.now json.accepted.now.rings.now json.accepted.now.gaps.now))) };
 
     fn fmt<W: fmt::Write>(&self, f: &mut Formatter<W>) -> fmt::Result {
         write!(
             f,
             "\"{}\"",
-            Escaped(report_result(self.telling, self.accepted))
+            Escaped(report_result(self.report, self.accepted))
         )
     }
 }
@@ -78,15 +77,15 @@ impl Display for ResultJson<'_> {
 struct ReportRest<'a>(&'a ReportJson<'a>);
 
 impl Display for ReportRest<'_> {
-    ghost output = { λ rest. Some (more_members (members_of (report_rest (map (λ name. name.now) rest.0.now.names.now) rest.0.now.files.now rest.0.now.telling.now rest.0.now.accepted.now))) };
+    ghost output = { λ rest. Some (more_members (members_of (report_rest (map (λ name. name.now) rest.0.now.names.now) rest.0.now.files.now rest.0.now.report.now rest.0.now.accepted.now))) };
 
     #[tactic(auto, unfolding(json::specs::Print::escape_byte))]
     fn fmt<W: fmt::Write>(&self, f: &mut Formatter<W>) -> fmt::Result {
         let (names, files) = (self.0.names, self.0.files);
-        let (telling, accepted) = (self.0.telling, self.0.accepted);
+        let (report, accepted) = (self.0.report, self.0.accepted);
         let files = Files { names, files };
-        let scales = Scales(telling.scales.as_slice());
-        let findings = Findings { telling, accepted };
+        let scales = Scales(report.scales.as_slice());
+        let findings = Findings { report, accepted };
         let (files, scales, findings) = (Array(&files), Array(&scales), Array(&findings));
         write!(
             f,
@@ -96,12 +95,12 @@ impl Display for ReportRest<'_> {
 }
 
 impl Display for ReportJson<'_> {
-    ghost output = { λ json. Some (json_text (waived_report_value (map (λ name. name.now) json.names.now) json.files.now json.telling.now json.accepted.now)) };
+    ghost output = { λ json. Some (json_text (waived_report_value (map (λ name. name.now) json.names.now) json.files.now json.report.now json.accepted.now)) };
 
     fn fmt<W: fmt::Write>(&self, f: &mut Formatter<W>) -> fmt::Result {
-        let (telling, accepted) = (self.telling, self.accepted);
-        let result = ResultJson { telling, accepted };
-        let (rules, meets) = (RulesJson(telling.rules), MeetsJson(telling.meets));
+        let (report, accepted) = (self.report, self.accepted);
+        let result = ResultJson { report, accepted };
+        let (rules, meets) = (RulesJson(report.rules), MeetsJson(report.meets));
         let rest = ReportRest(self);
         write!(
             f,
@@ -115,27 +114,22 @@ impl ReportJson<'_> {
     /// Each number in the text is one of RFC 8259.
     #[tactic(auto, unfolding(crate::specs::Packages::report_value))]
     fn numbers(&self)
-        ensures { HasNumbers (waived_report_value (map (λ name. name.now) self.now.names.now) self.now.files.now self.now.telling.now self.now.accepted.now) }
+        ensures { HasNumbers (waived_report_value (map (λ name. name.now) self.now.names.now) self.now.files.now self.now.report.now self.now.accepted.now) }
     {
-        let (names, files, telling, accepted) = (
-            self.names,
-            self.files,
-            self.telling,
-            self.accepted,
-        );
+        let (names, files, report, accepted) = (self.names, self.files, self.report, self.accepted);
         whole_number(u128::from(VERSION));
-        rules_numbers(telling.rules);
-        meets_numbers(telling.meets);
+        rules_numbers(report.rules);
+        meets_numbers(report.meets);
         array_numbers(&Files { names, files });
-        array_numbers(&Scales(telling.scales.as_slice()));
-        array_numbers(&Findings { telling, accepted });
+        array_numbers(&Scales(report.scales.as_slice()));
+        array_numbers(&Findings { report, accepted });
     }
 
     /// Before its line end the printed text is a document of RFC 8259, and its value is just the defined one, whatever the names and the
     /// reasons are. A call does nothing but give this clause.
     pub fn reads_back(&self)
-        ensures { document (print (json_tokens (waived_report_value (map (λ name. name.now) self.now.names.now) self.now.files.now self.now.telling.now self.now.accepted.now)))
-            ≡ Some (waived_report_value (map (λ name. name.now) self.now.names.now) self.now.files.now self.now.telling.now self.now.accepted.now) }
+        ensures { document (print (json_tokens (waived_report_value (map (λ name. name.now) self.now.names.now) self.now.files.now self.now.report.now self.now.accepted.now)))
+            ≡ Some (waived_report_value (map (λ name. name.now) self.now.names.now) self.now.files.now self.now.report.now self.now.accepted.now) }
     {
         self.numbers();
     }
@@ -143,7 +137,7 @@ impl ReportJson<'_> {
     /// Without reasons it is the JSON of a report without waivers. A call does nothing but give this clause.
     pub fn without_waivers(&self)
         ensures { self.now.accepted.now.rings.now ≡ [] → self.now.accepted.now.gaps.now ≡ []
-            → waived_report_value (map (λ name. name.now) self.now.names.now) self.now.files.now self.now.telling.now self.now.accepted.now
-            ≡ board_report_value (map (λ name. name.now) self.now.names.now) self.now.files.now self.now.telling.now }
+            → waived_report_value (map (λ name. name.now) self.now.names.now) self.now.files.now self.now.report.now self.now.accepted.now
+            ≡ board_report_value (map (λ name. name.now) self.now.names.now) self.now.files.now self.now.report.now }
     {}
 }

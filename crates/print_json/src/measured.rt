@@ -4,7 +4,7 @@ ghost use Rattle.std.specs.Prelude.{◌≡◌, Some, drop, map};
 ghost use Rattle.json.specs.Json.{document};
 ghost use Rattle.json.specs.Print.{print};
 ghost use Rattle.json.specs.Tree.{json_tokens, HasNumbers};
-ghost use Rattle.board_report.specs.Rows.{holes_before};
+ghost use Rattle.package_check.specs.Boards.{holes_before};
 ghost use Rattle.print_json.specs.Inner.Rests.{measure_rest};
 ghost use Rattle.print_json.specs.Inner.Texts.{more_members, value_text};
 ghost use Rattle.print_json.specs.Packages.{measure_value};
@@ -15,7 +15,7 @@ use crate::arrays::{Array, Files, Rows, Scales, array_numbers};
 use crate::numbers::{hole_numbers, length_number, meets_numbers, whole_number};
 use crate::values::{HoleJson, MeetsJson};
 use package_check::{Board, FileSum, hole_count};
-use report::{GapLine, HoleAt, HolePlace, Measure};
+use report::{GapLine, HolePlace, Measure, PlacedHole};
 use ring_rules::Drilled;
 use std::fmt;
 use std::fmt::{Display, Formatter};
@@ -36,7 +36,7 @@ fn holes_from<'a>(files: &[FileSum], holes: &'a [Drilled], file: usize) -> &'a [
 fn hole_at_place(files: &[FileSum], holes: &[Drilled], place: &HolePlace) -> Option<Drilled>
     ensures { result ≡ hole_at_place files.now holes.now place.now }
 {
-    match holes_from(files, holes, place.drill).get(place.hole.saturating_sub(1)) {
+    match holes_from(files, holes, place.drill).get(place.number.saturating_sub(1)) {
         Some(drilled) => Some(*drilled),
         None => None,
     }
@@ -57,12 +57,8 @@ impl Display for PlaceJson<'_> {
         let Some(drilled) = hole_at_place(board.files(), board.holes(), &place) else {
             return f.write_str("null");
         };
-        let at = HoleAt {
-            drill: place.drill,
-            number: place.hole,
-            hole: drilled.hole,
-        };
-        write!(f, "{}", HoleJson(&at))
+        let hole = drilled.hole;
+        write!(f, "{}", HoleJson(&PlacedHole { place, hole }))
     }
 }
 
@@ -142,9 +138,8 @@ fn place_numbers(board: &Board, place: &HolePlace)
     ensures { HasNumbers (place_value board.now.files board.now.holes place.now) }
 {
     if let Some(drilled) = hole_at_place(board.files(), board.holes(), place) {
-        hole_numbers(&HoleAt {
-            drill: place.drill,
-            number: place.hole,
+        hole_numbers(&PlacedHole {
+            place: *place,
             hole: drilled.hole,
         });
     }

@@ -2,14 +2,13 @@
 
 ghost use Rattle.json.specs.Tree.{HasNumbers};
 ghost use Rattle.print_json.specs.Values.{file_value, flash_of, gap_value, hole_value, or_null, layer_number, least_hole, least_ring, meets_value, met_value, picometres, point_value, ring_of, ring_value, row_value, rules_value, scale_value, whole};
-ghost use Rattle.print_text.specs.Texts.{lack_of};
+ghost use Rattle.report.specs.Causes.{lack_of};
 
 use crate::findings::{GapJson, RingJson};
 use crate::values::{FileJson, diameter};
 use grid_units::{Point, Rules};
 use package_check::FileSum;
-use print_text::lack_of;
-use report::{HoleAt, LayerHead, Meets, Met, RingCause, RingLine, UnitMistake};
+use report::{LayerHead, Meets, Met, PlacedHole, RingCause, RingLine, UnitMistake, lack_of};
 
 /// A natural number.
 #[tactic(auto, using(crate::proofs::Numerals::decimal_number))]
@@ -63,11 +62,11 @@ fn point_numbers(at: Point)
 
 /// A hole.
 #[tactic(auto, unfolding(crate::specs::Values::hole_value))]
-pub(crate) fn hole_numbers(at: &HoleAt)
+pub(crate) fn hole_numbers(at: &PlacedHole)
     ensures { HasNumbers (hole_value at.now) }
 {
-    whole_number(at.drill as u128 + 1);
-    whole_number(at.number as u128);
+    whole_number(at.place.drill as u128 + 1);
+    whole_number(at.place.number as u128);
     point_numbers(at.hole.from());
     point_numbers(at.hole.to());
     length_number(diameter(&at.hole));

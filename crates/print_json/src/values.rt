@@ -7,8 +7,7 @@ ghost use Rattle.print_json.specs.Values.{diameter_of, drill_role, file_value, h
 use crate::strings::Escaped;
 use grid_units::{Hole, Point, Rules};
 use package_check::FileSum;
-use print_text::factor_word;
-use report::{HoleAt, LeastRing, Meets, Met, RingLine, UnitMistake};
+use report::{LeastRing, Meets, Met, PlacedHole, RingLine, UnitMistake, factor_word};
 use std::fmt;
 use std::fmt::{Display, Formatter};
 
@@ -83,7 +82,7 @@ pub(crate) fn diameter(hole: &Hole) -> i64
 
 /// A hole: `{"drill":2,"hole":1,"from_pm":[0,0],"to_pm":[0,0],"diameter_pm":400000000}`.
 #[derive(Clone, Copy)]
-pub(crate) struct HoleJson<'a>(pub(crate) &'a HoleAt);
+pub(crate) struct HoleJson<'a>(pub(crate) &'a PlacedHole);
 
 impl Display for HoleJson<'_> {
     ghost output = { λ json. Some (value_text (hole_value json.0.now)) };
@@ -91,7 +90,7 @@ impl Display for HoleJson<'_> {
     #[tactic(auto, unfolding(crate::specs::Values::hole_value, json::specs::Print::escape_byte))]
     fn fmt<W: fmt::Write>(&self, f: &mut Formatter<W>) -> fmt::Result {
         let hole = &self.0.hole;
-        let (drill, number) = (self.0.drill as u128 + 1, self.0.number);
+        let (drill, number) = (self.0.place.drill as u128 + 1, self.0.place.number);
         let (from, to) = (PointJson(hole.from()), PointJson(hole.to()));
         let diameter = diameter(hole);
         write!(

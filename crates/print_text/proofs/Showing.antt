@@ -12,7 +12,8 @@ use Rattle.report.specs.declared.GapLack.{GapLack}
 use Rattle.report.specs.declared.LayerHead.{LayerHead}
 use Rattle.report.specs.declared.RingLack.{RingLack}
 use Rattle.print_text.specs.Inner.{gap_lines, ring_lines}
-use Rattle.print_text.specs.Texts.{gap_line, is_shown, ring_line, acceptance_at}
+use Rattle.print_text.specs.Texts.{gap_line, is_shown, ring_line}
+use Rattle.report.specs.Acceptances.{acceptance_at}
 
 -- the findings so far and one more, with their positions
 pub marks_more : {X : Type 0} (n : ℕ) (xs : List X) (i p : ℕ) (d : X) → n + i ≡ p → i < length xs → take (i + 1) (enumerate_from n xs) ≡ take i (enumerate_from n xs) ++ (p, get_or xs i d) ∷ []

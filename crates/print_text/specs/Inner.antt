@@ -6,7 +6,8 @@ use Rattle.std.specs.List.{filter, flat_map}
 use Rattle.report.specs.declared.GapLack.{GapLack}
 use Rattle.report.specs.declared.RingLack.{RingLack}
 use Rattle.print_text.specs.declared.runs.Run.{Run}
-use Rattle.print_text.specs.Texts.{gap_line, is_shown, ring_line, acceptance_at}
+use Rattle.print_text.specs.Texts.{gap_line, is_shown, ring_line}
+use Rattle.report.specs.Acceptances.{acceptance_at}
 
 -- the least and the greatest of some lengths and one more, if there is one
 abbrev pub range_with : Option (ℤ × ℤ) → Option ℤ → Option (ℤ × ℤ)

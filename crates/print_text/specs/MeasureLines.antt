@@ -4,13 +4,12 @@ use Rattle.std.specs.List.{flat_map}
 use Rattle.grid_units.specs.Spellings.{millimetres}
 use Rattle.margins.specs.declared.met.Met.{Met}
 use Rattle.margins.specs.declared.met.Met.TheVariants as mets
-use Rattle.report.specs.declared.UnitFactor.{UnitFactor}
-use Rattle.report.specs.declared.UnitFactor.TheVariants as factors
 use Rattle.report.specs.declared.GapLine.{GapLine}
 use Rattle.report.specs.declared.HolePlace.{HolePlace}
 use Rattle.report.specs.declared.LeastRing.{LeastRing}
 use Rattle.report.specs.declared.Meets.{Meets}
 use Rattle.report.specs.declared.RingLine.{RingLine}
+use Rattle.report.specs.UnitMistakes.{factor_word}
 use Rattle.report.specs.declared.UnitMistake.{UnitMistake}
 use Rattle.grid_units.specs.Ascii as ascii
 
@@ -32,13 +31,6 @@ unfoldable pub ring_line : RingLine → List ℕ
 ring_line line =
     ring_files (line.layer + 1) (line.drill + 1) ++ (millimetres line.diameter ++ (ring_counts line.holes line.bare ++ (least_ring_words line.least ++ ascii.line_feed ∷ [])))
 
--- how a factor is written
-abbrev pub factor_word : UnitFactor → List ℕ
-factor_word factors.Ten = codes "10"
-factor_word factors.Tenth = codes "0.1"
-factor_word factors.Inch = codes "25.4"
-factor_word factors.PerInch = codes "1/25.4"
-
 -- a line of scales, by the number of its file, the bare holes, the word of its factor, and the holes that would be bare by it
 abbrev pub scale_words : ℕ → ℕ → List ℕ → ℕ → List ℕ
 scale_words drill bare factor then =
@@ -50,7 +42,7 @@ scale_line line = scale_words (line.drill + 1) line.bare (factor_word line.facto
 
 -- the file of a hole and its number there: ` drill=3 hole=1`
 abbrev pub hole_words : HolePlace → List ℕ
-hole_words place = codes " drill=" ++ (decimal (place.drill + 1) ++ (codes " hole=" ++ decimal place.hole))
+hole_words place = codes " drill=" ++ (decimal (place.drill + 1) ++ (codes " hole=" ++ decimal place.number))
 
 -- the line of the least gap: `gap least=0.250000000 drill=3 hole=1 drill=4 hole=2`
 unfoldable pub gap_line : GapLine → List ℕ

@@ -14,10 +14,13 @@ use Rattle.margins.specs.declared.met.Met.{Met}
 use Rattle.margins.specs.declared.met.Met.TheVariants as mets
 use Rattle.report.specs.declared.Meets.{Meets}
 use Rattle.report.specs.declared.UnitMistake.{UnitMistake}
-use Rattle.print_text.specs.MeasureLines.{factor_word}
+use Rattle.report.specs.UnitMistakes.{factor_word}
+use Rattle.printing.specs.Holes.{drilled_words, name_of, two_lengths}
 use Rattle.printing.specs.Lengths.{short_millimetres}
+use Rattle.report.specs.Acceptances.{acceptance_at, count_waived_first, is_waived, waived_in}
+use Rattle.report.specs.Causes.{lack_of}
 use Rattle.report.specs.declared.GapLack.{GapLack}
-use Rattle.report.specs.declared.HoleAt.{HoleAt}
+use Rattle.report.specs.declared.PlacedHole.{PlacedHole}
 use Rattle.report.specs.declared.RingInPad.{RingInPad}
 use Rattle.report.specs.declared.LayerHead.{LayerHead}
 use Rattle.report.specs.declared.RingCause.{RingCause}
@@ -30,33 +33,13 @@ use Rattle.print_text.specs.Causes.{all_kinds, flash_kind, hint, is_of_kind, kin
 use Rattle.print_text.specs.declared.kind.CauseKind.TheVariants as kinds
 use Rattle.grid_units.specs.Ascii as ascii
 
--- the name of a file of the package, by its index from 0; empty where it has none
-abbrev pub name_of : List (List ℕ) → ℕ → List ℕ
-name_of names file = get_or names file []
-
--- two lengths with words between: `0.15, gap 0.25`
-unfoldable pub two_lengths : ℤ → List ℕ → ℤ → List ℕ
-two_lengths first between second = short_millimetres first ++ (between ++ short_millimetres second)
-
--- a point: `142.24,-97.79`
-abbrev pub point_words : GridPoint → List ℕ
-point_words at = two_lengths at.x (codes ",") at.y
-
--- the centre of a round hole, or both ends of a slot: `0,0 to 2,0`
-abbrev pub ends_words : GridHole → List ℕ
-ends_words hole = if is_round hole then point_words hole.from else point_words hole.from ++ (codes " to " ++ point_words hole.to)
-
--- a hole's diameter and where it is: `0.75 at 142.24,-97.79`
-unfoldable pub drilled_words : GridHole → List ℕ
-drilled_words hole = short_millimetres (pos (2 * hole.radius)) ++ (codes " at " ++ ends_words hole)
-
 -- the number of a hole and the name of its drill file: `hole 17 of board-PTH.drl, `
 unfoldable pub number_words : ℕ → List ℕ → List ℕ
 number_words number name = codes "hole " ++ (decimal number ++ (codes " of " ++ (name ++ codes ", ")))
 
 -- a hole: `hole 17 of board-PTH.drl, 0.3 at 15.001,13`
-abbrev pub hole_words : List (List ℕ) → HoleAt → List ℕ
-hole_words names at = number_words at.number (name_of names at.drill) ++ drilled_words at.hole
+abbrev pub hole_words : List (List ℕ) → PlacedHole → List ℕ
+hole_words names at = number_words at.place.number (name_of names at.place.drill) ++ drilled_words at.hole
 
 -- words, then two lengths with words between: `ring 0.149, lacks 0.001`
 abbrev pub words_and_lengths : List ℕ → ℤ → List ℕ → ℤ → List ℕ
@@ -129,18 +112,6 @@ cause_words hole (causes.Other why flash) = other_words (kind_words (flash_kind 
 cause_words hole causes.NoFlash = no_pad_words kinds.Bare
 cause_words hole causes.Oblique = no_pad_words kinds.Oblique
 
--- the reason why a finding is accepted, by its place among the rings or among the gaps; nothing past the end of the list
-abbrev pub acceptance_at : List (Option (Bor (List ℕ))) → ℕ → Option (Bor (List ℕ))
-acceptance_at accepted place = get_or accepted place None
-
--- the finding at a place is waived
-abbrev pub is_waived : List (Option (Bor (List ℕ))) → ℕ → Bool
-is_waived accepted place = is_some (acceptance_at accepted place)
-
--- the number of the first `findings` ones that are waived
-abbrev pub count_waived_first : List (Option (Bor (List ℕ))) → ℕ → ℕ
-count_waived_first accepted findings = count_by is_some (take findings accepted)
-
 -- the reason at the end of the line of a waived finding: `, waived: drawn so`
 abbrev pub acceptance_words : Option (Bor (List ℕ)) → List ℕ
 acceptance_words None = []
@@ -159,7 +130,7 @@ unfoldable pub ring_line : List (List ℕ) → RingLack → Option (Bor (List �
 ring_line names lack why = ring_words names lack ++ (acceptance_words why ++ ascii.line_feed ∷ [])
 
 -- two holes: `  hole 1 of pth, 0.4 at 0,0, and hole 2 of pth, 0.4 at 0,0`
-abbrev pub pair_words : List (List ℕ) → HoleAt → HoleAt → List ℕ
+abbrev pub pair_words : List (List ℕ) → PlacedHole → PlacedHole → List ℕ
 pair_words names first second = codes "  " ++ (hole_words names first ++ (codes ", and " ++ hole_words names second))
 
 -- the gap of two holes and what it lacks: `: gap -0.4, lacks 0.65`
@@ -241,14 +212,6 @@ count_line kind count = if count == 0 then [] else counted_words count (kind_wor
 abbrev pub kind_line : List RingLack → CauseKind → List ℕ
 kind_line rings kind = count_line kind (count_by (λ lack. is_of_kind kind lack.cause) rings)
 
--- the length that a ring lacks; nothing where the hole lies in no pad or is an oblique slot
-abbrev pub lack_of : RingCause → Option ℤ
-lack_of (causes.TooSmall place) = Some place.lack
-lack_of (causes.OffCentre place) = Some place.lack
-lack_of (causes.Other why flash) = None
-lack_of causes.NoFlash = None
-lack_of causes.Oblique = None
-
 -- the least and the greatest of some lengths; nothing where there is none
 abbrev pub least_and_greatest : List ℤ → Option (ℤ × ℤ)
 least_and_greatest [] = None
@@ -324,35 +287,31 @@ lacks_text rings gaps =
 
 -- the first part of a report: the rules and the findings
 abbrev pub findings_text : List (List ℕ) → BoardReport → Option ℕ → List (Option (Bor (List ℕ))) → List (Option (Bor (List ℕ))) → List ℕ
-findings_text names telling limit rings gaps =
-    rules_line telling.rules
-    ++ (flat_map (layer_text names limit telling.rings.items rings) (enumerate_from 0 telling.layers.items)
-    ++ gaps_text names limit (length telling.rings.items) telling.gaps.items gaps)
+findings_text names report limit rings gaps =
+    rules_line report.rules
+    ++ (flat_map (layer_text names limit report.rings.items rings) (enumerate_from 0 report.layers.items)
+    ++ gaps_text names limit (length report.rings.items) report.gaps.items gaps)
 
 -- the second part: the causes, the lacks, and the drill files whose coordinates seem to be off
 abbrev pub causes_text : List (List ℕ) → BoardReport → List ℕ
-causes_text names telling =
-    flat_map (kind_line telling.rings.items) all_kinds
-    ++ (lacks_text telling.rings.items telling.gaps.items ++ flat_map (scale_line names) telling.scales.items)
-
--- the number of findings that are waived, rings and gaps, by their reasons
-abbrev pub waived_in : BoardReport → List (Option (Bor (List ℕ))) → List (Option (Bor (List ℕ))) → ℕ
-waived_in telling rings gaps = count_waived_first rings (length telling.rings.items) + count_waived_first gaps (length telling.gaps.items)
+causes_text names report =
+    flat_map (kind_line report.rings.items) all_kinds
+    ++ (lacks_text report.rings.items report.gaps.items ++ flat_map (scale_line names) report.scales.items)
 
 -- the last part: the rules that the package meets, the waivers that waive nothing, and the last line
 abbrev pub last_lines : BoardReport → List (Option (Bor (List ℕ))) → List (Option (Bor (List ℕ))) → List ℕ → List ℕ
-last_lines telling rings gaps idle =
-    meets_line telling.meets ++ (flat_map idle_line idle ++ last_line (length telling.rings.items + length telling.gaps.items) (waived_in telling rings gaps))
+last_lines report rings gaps idle =
+    meets_line report.meets ++ (flat_map idle_line idle ++ last_line (length report.rings.items + length report.gaps.items) (waived_in report rings gaps))
 
 -- the text of a report, by the reasons of its rings and gaps, and the numbers of the waivers that waive nothing
 abbrev pub full_text : List (List ℕ) → BoardReport → Option ℕ → List (Option (Bor (List ℕ))) → List (Option (Bor (List ℕ))) → List ℕ → List ℕ
-full_text names telling limit rings gaps idle =
-    findings_text names telling limit rings gaps ++ (causes_text names telling ++ last_lines telling rings gaps idle)
+full_text names report limit rings gaps idle =
+    findings_text names report limit rings gaps ++ (causes_text names report ++ last_lines report rings gaps idle)
 
 -- the text of a report with waivers; `names` are those of the files, `limit` is how many findings are shown at most
 abbrev pub waived_report_text : List (List ℕ) → BoardReport → Option ℕ → Acceptances → List ℕ
-waived_report_text names telling limit accepted = full_text names telling limit accepted.rings.now accepted.gaps.now accepted.idle.now
+waived_report_text names report limit accepted = full_text names report limit accepted.rings.now accepted.gaps.now accepted.idle.now
 
 -- the text of a report without waivers
 abbrev pub board_report_text : List (List ℕ) → BoardReport → Option ℕ → List ℕ
-board_report_text names telling limit = full_text names telling limit [] [] []
+board_report_text names report limit = full_text names report limit [] [] []

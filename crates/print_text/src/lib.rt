@@ -13,9 +13,6 @@ mod tallies;
 mod waived;
 mod words;
 
-pub use measure_lines::factor_word;
 pub use measures::MeasureText;
 pub use report_text::ReportText;
-pub use tallies::lack_of;
-pub use waived::{acceptance_of, count_waived, no_acceptances};
-pub use words::{DrilledWords, name_of};
+pub use waived::no_acceptances;

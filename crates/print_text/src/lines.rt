@@ -3,13 +3,12 @@
 ghost use Rattle.std.specs.Prelude.{◌≡◌, ◌≤◌, map, Some};
 ghost use Rattle.print_text.specs.Texts.{are_equal_rules, gap_line, gaps_line, pad_ring_if_differs, idle_line, kind_line, lacking_words, lacks_line, last_line, layer_line, meets_line, met_words, more_line, ring_line, rules_line, scale_line, waived_words, acceptance_words};
 
-use crate::factor_word;
 use crate::kind::{CauseKind, hint, kind_words};
 use crate::tallies::rings_of_kind;
-use crate::words::{CauseWords, HoleWords, name_of};
+use crate::words::{CauseWords, HoleWords};
 use grid_units::Rules;
-use printing::{Line, ShortMillimetres};
-use report::{GapLack, Meets, Met, RingLack, UnitMistake};
+use printing::{Line, ShortMillimetres, name_of};
+use report::{GapLack, Meets, Met, RingLack, UnitMistake, factor_word};
 use std::fmt;
 use std::fmt::{Display, Formatter};
 
@@ -24,7 +23,7 @@ pub(crate) struct RulesLine<'a>(pub(crate) &'a Rules);
 impl Display for RulesLine<'_> {
     ghost output = { λ line. Some (rules_line line.0.now) };
 
-    #[tactic(auto, unfolding(crate::specs::Texts::rules_line, crate::specs::Texts::two_lengths))]
+    #[tactic(auto, unfolding(crate::specs::Texts::rules_line, printing::specs::Holes::two_lengths))]
     fn fmt<W: fmt::Write>(&self, f: &mut Formatter<W>) -> fmt::Result {
         let ring = ShortMillimetres(self.0.ring());
         let gap = ShortMillimetres(self.0.gap());
@@ -161,7 +160,7 @@ pub(crate) struct GapLine<'a> {
 impl Display for GapLine<'_> {
     ghost output = { λ line. Some (gap_line (map (λ name. name.now) line.names.now) line.lack.now line.why) };
 
-    #[tactic(auto, unfolding(crate::specs::Texts::gap_line, crate::specs::Texts::gap_pair_words, crate::specs::Texts::two_lengths))]
+    #[tactic(auto, unfolding(crate::specs::Texts::gap_line, crate::specs::Texts::gap_pair_words, printing::specs::Holes::two_lengths))]
     fn fmt<W: fmt::Write>(&self, f: &mut Formatter<W>) -> fmt::Result {
         let (names, lack) = (self.names, self.lack);
         let (first, second) = (&lack.first, &lack.second);
@@ -199,7 +198,7 @@ pub(crate) struct LacksLine<'a> {
 impl Display for LacksLine<'_> {
     ghost output = { λ line. Some (lacks_line line.words.now line.lacks) };
 
-    #[tactic(auto, unfolding(crate::specs::Texts::two_lengths))]
+    #[tactic(auto, unfolding(printing::specs::Holes::two_lengths))]
     fn fmt<W: fmt::Write>(&self, f: &mut Formatter<W>) -> fmt::Result {
         let Some((least, greatest)) = self.lacks else {
             return Ok(());

@@ -1,10 +1,10 @@
 //! The lines of a measure.
 
 ghost use Rattle.std.specs.Prelude.{◌≡◌, Some};
-ghost use Rattle.print_text.specs.MeasureLines.{factor_word, gap_line, hole_words, least_ring_words, meets_line, met_words, ring_line, scale_line};
+ghost use Rattle.print_text.specs.MeasureLines.{gap_line, hole_words, least_ring_words, meets_line, met_words, ring_line, scale_line};
 
 use printing::{Line, Millimetres};
-use report::{GapLine, HolePlace, LeastRing, Meets, Met, RingLine, UnitFactor, UnitMistake};
+use report::{GapLine, HolePlace, LeastRing, Meets, Met, RingLine, UnitMistake, factor_word};
 use std::fmt;
 use std::fmt::{Display, Formatter};
 
@@ -41,18 +41,6 @@ impl Line<MeasurePage> for RingLine {
     }
 }
 
-/// A factor as it is written: `10`, `0.1`, `25.4` or `1/25.4`.
-pub fn factor_word(factor: UnitFactor) -> &'static str
-    ensures { result.now ≡ factor_word factor }
-{
-    match factor {
-        UnitFactor::Ten => "10",
-        UnitFactor::Tenth => "0.1",
-        UnitFactor::Inch => "25.4",
-        UnitFactor::PerInch => "1/25.4",
-    }
-}
-
 /// The line of a drill file whose coordinates seem to be off by a factor, with its line end. Files are numbered from 1.
 impl Line<MeasurePage> for UnitMistake {
     ghost text = { λ _ line. scale_line line };
@@ -76,7 +64,7 @@ impl Display for PlaceWords {
     ghost output = { λ words. Some (hole_words words.0) };
 
     fn fmt<W: fmt::Write>(&self, f: &mut Formatter<W>) -> fmt::Result {
-        let (drill, hole) = (self.0.drill as u128 + 1, self.0.hole);
+        let (drill, hole) = (self.0.drill as u128 + 1, self.0.number);
         write!(f, " drill={drill} hole={hole}")
     }
 }

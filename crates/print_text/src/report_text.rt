@@ -15,10 +15,12 @@ use crate::runs::{Run, runs_of};
 use crate::tallies::{
     gap_lacks, gaps_hidden_count, is_shown, is_shown_on, ring_lacks, rings_hidden, rings_on,
 };
-use crate::waived::{acceptance_of, count_waived, count_waived_first, waived_on};
-use crate::words::name_of;
-use printing::Lines;
-use report::{Acceptances, BoardReport, GapLack, LayerHead, RingLack};
+use crate::waived::waived_on;
+use printing::{Lines, name_of};
+use report::{
+    Acceptances, BoardReport, GapLack, LayerHead, RingLack, acceptance_of, count_waived,
+    count_waived_first,
+};
 use std::alloc::{AllocError, Global};
 use std::fmt;
 use std::fmt::{Display, Formatter};
@@ -140,14 +142,14 @@ impl Display for GapsText<'_> {
 struct CausesText<'a> {
     /// The names of the files of the package.
     names: &'a [&'a str],
-    telling: &'a BoardReport,
+    report: &'a BoardReport,
 }
 
 impl Display for CausesText<'_> {
-    ghost output = { λ text. Some (causes_text (map (λ name. name.now) text.names.now) text.telling.now) };
+    ghost output = { λ text. Some (causes_text (map (λ name. name.now) text.names.now) text.report.now) };
 
     fn fmt<W: fmt::Write>(&self, f: &mut Formatter<W>) -> fmt::Result {
-        let rings = self.telling.rings.as_slice();
+        let rings = self.report.rings.as_slice();
         let kinds = Lines {
             page: &rings,
             lines: &CAUSE_KINDS,
@@ -158,11 +160,11 @@ impl Display for CausesText<'_> {
         };
         let gap_lacks = LacksLine {
             words: "gaps lack ",
-            lacks: gap_lacks(&self.telling.gaps),
+            lacks: gap_lacks(&self.report.gaps),
         };
         let scales = Lines {
             page: &FileNames(self.names),
-            lines: &self.telling.scales,
+            lines: &self.report.scales,
         };
         write!(f, "{kinds}{ring_lacks}{gap_lacks}{scales}")
     }
@@ -171,23 +173,23 @@ impl Display for CausesText<'_> {
 /// The last lines: the rules that the package meets, the waivers that waive nothing, and the result.
 #[derive(Clone, Copy)]
 struct LastLines<'a> {
-    telling: &'a BoardReport,
+    report: &'a BoardReport,
     accepted: &'a Acceptances<'a>,
 }
 
 impl Display for LastLines<'_> {
-    ghost output = { λ text. Some (last_lines text.telling.now text.accepted.now.rings.now text.accepted.now.gaps.now text.accepted.now.idle.now) };
+    ghost output = { λ text. Some (last_lines text.report.now text.accepted.now.rings.now text.accepted.now.gaps.now text.accepted.now.idle.now) };
 
     fn fmt<W: fmt::Write>(&self, f: &mut Formatter<W>) -> fmt::Result {
-        let (rings, gaps) = (self.telling.rings.len(), self.telling.gaps.len());
+        let (rings, gaps) = (self.report.rings.len(), self.report.gaps.len());
         let findings = rings as u128 + gaps as u128;
-        let waived = count_waived(self.telling, self.accepted);
+        let waived = count_waived(self.report, self.accepted);
         let idle = Lines {
             page: &WaiverFile,
             lines: self.accepted.idle,
         };
         let last = LastLine { findings, waived };
-        write!(f, "{}{idle}{last}", MeetsLine(self.telling.meets))
+        write!(f, "{}{idle}{last}", MeetsLine(self.report.meets))
     }
 }
 
@@ -196,7 +198,7 @@ impl Display for LastLines<'_> {
 #[derive(Drop)]
 pub struct ReportText<'a> {
     names: &'a [&'a str],
-    telling: &'a BoardReport,
+    report: &'a BoardReport,
     limit: Option<usize>,
     accepted: &'a Acceptances<'a>,
     runs: Vec<Run>,
@@ -205,9 +207,9 @@ pub struct ReportText<'a> {
 impl<'a> Model for ReportText<'a> {
     ghost Value = { List ℕ };
 
-    ghost view = { λ text. waived_report_text (map (λ name. name.now) text.names.now) text.telling.now text.limit text.accepted.now };
+    ghost view = { λ text. waived_report_text (map (λ name. name.now) text.names.now) text.report.now text.limit text.accepted.now };
 
-    ghost invariant = { λ text. (length text.runs.items ≡ length text.telling.now.layers.items) × AreRuns text.telling.now.rings.items (length text.telling.now.rings.items) text.runs.items };
+    ghost invariant = { λ text. (length text.runs.items ≡ length text.report.now.layers.items) × AreRuns text.report.now.rings.items (length text.report.now.rings.items) text.runs.items };
 }
 
 impl<'a> ReportText<'a> {
@@ -221,16 +223,16 @@ impl<'a> ReportText<'a> {
     pub fn new(
         alloc: Global,
         names: &'a [&'a str],
-        telling: &'a BoardReport,
+        report: &'a BoardReport,
         limit: Option<usize>,
         accepted: &'a Acceptances<'a>,
     ) -> Result<ReportText<'a>, AllocError>
-        ensures { IfOk result (λ text. text ≡ waived_report_text (map (λ name. name.now) names.now) telling.now limit accepted.now) }
+        ensures { IfOk result (λ text. text ≡ waived_report_text (map (λ name. name.now) names.now) report.now limit accepted.now) }
     {
-        let runs = runs_of(alloc, telling.layers.len(), &telling.rings)?;
+        let runs = runs_of(alloc, report.layers.len(), &report.rings)?;
         Ok(ReportText {
             names,
-            telling,
+            report,
             limit,
             accepted,
             runs,
@@ -242,24 +244,24 @@ impl Display for ReportText<'_> {
     ghost output = { λ text. Some text };
 
     fn fmt<W: fmt::Write>(&self, f: &mut Formatter<W>) -> fmt::Result {
-        let (names, telling) = (self.names, self.telling);
+        let (names, report) = (self.names, self.report);
         let (limit, accepted) = (self.limit, self.accepted);
         let rings = RingPage {
             names,
-            rings: &telling.rings,
+            rings: &report.rings,
             accepted: accepted.rings,
             limit,
         };
         let gaps = GapsText {
             names,
-            gaps: &telling.gaps,
+            gaps: &report.gaps,
             accepted: accepted.gaps,
-            rings: telling.rings.len(),
+            rings: report.rings.len(),
             limit,
         };
-        let causes = CausesText { names, telling };
-        write!(f, "{}", RulesLine(&telling.rules))?;
-        write_layers(f, &rings, &self.runs, &telling.layers)?;
-        write!(f, "{gaps}{causes}{}", LastLines { telling, accepted })
+        let causes = CausesText { names, report };
+        write!(f, "{}", RulesLine(&report.rules))?;
+        write_layers(f, &rings, &self.runs, &report.layers)?;
+        write!(f, "{gaps}{causes}{}", LastLines { report, accepted })
     }
 }

@@ -4,11 +4,12 @@ ghost use Rattle.std.specs.Prelude.{◌≡◌, ◌≤◌, ◌==◌, ◌&&◌, if
 ghost use Rattle.std.specs.List.{count_by, enumerate_from, filter, filter_map};
 ghost use Rattle.print_text.specs.Causes.{is_of_kind};
 ghost use Rattle.print_text.specs.Inner.{IsRun, range_with};
-ghost use Rattle.print_text.specs.Texts.{is_shown, lack_of, least_and_greatest};
+ghost use Rattle.print_text.specs.Texts.{is_shown, least_and_greatest};
+ghost use Rattle.report.specs.Causes.{lack_of};
 
 use crate::kind::{CauseKind, is_of_kind};
 use crate::runs::Run;
-use report::{GapLack, RingCause, RingLack};
+use report::{GapLack, RingLack, lack_of};
 
 /// Whether the finding at a position of the whole report, from 0, is shown.
 pub(crate) fn is_shown(limit: Option<usize>, position: u128) -> bool
@@ -93,16 +94,6 @@ pub(crate) fn gaps_hidden_count(gaps: &[GapLack], rings: usize, limit: Option<us
         left += one_if(!is_shown(limit, rings as u128 + i as u128));
     }
     left
-}
-
-/// The length that a ring lacks, in pm, if its hole lies in a pad.
-pub fn lack_of(cause: &RingCause) -> Option<i64>
-    ensures { result ≡ lack_of cause.now }
-{
-    match cause {
-        RingCause::TooSmall(place) | RingCause::OffCentre(place) => Some(place.lack),
-        RingCause::Other { .. } | RingCause::NoFlash | RingCause::Oblique => None,
-    }
 }
 
 /// The least and the greatest of some lengths and one more, if there is one.

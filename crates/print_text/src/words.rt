@@ -2,67 +2,16 @@
 
 ghost use Rattle.std.specs.Prelude.{◌≡◌, ◌*◌, ◌-ℤ◌, pos, map, Some};
 ghost use Rattle.grid_units.specs.Points.{IsCoordinate};
-ghost use Rattle.print_text.specs.Texts.{cause_words, drilled_words, halfway, height_of, hole_middle, hole_words, in_pad_words, name_of, pad_words, place_words, point_words, shape_word, width_of};
+ghost use Rattle.print_text.specs.Texts.{cause_words, halfway, height_of, hole_middle, hole_words, in_pad_words, pad_words, place_words, shape_word, width_of};
 
 use crate::kind::{CauseKind, flash_kind, kind_words};
 use grid_units::{Hole, Point};
 use margins::DepthShape;
 use pad_shapes::Pad;
-use printing::ShortMillimetres;
-use report::{HoleAt, RingCause, RingInPad};
+use printing::{DrilledWords, ShortMillimetres, name_of};
+use report::{PlacedHole, RingCause, RingInPad};
 use std::fmt;
 use std::fmt::{Display, Formatter};
-
-/// The name of a file of the package, by its index; empty where it has none.
-pub fn name_of<'a>(names: &[&'a str], file: usize) -> &'a str
-    ensures { result.now ≡ name_of (map (λ name. name.now) names.now) file }
-{
-    match names.get(file) {
-        Some(name) => *name,
-        None => "",
-    }
-}
-
-/// A point: `142.24,-97.79`.
-#[derive(Clone, Copy)]
-struct PointWords(Point);
-
-impl Display for PointWords {
-    ghost output = { λ words. Some (point_words words.0) };
-
-    #[tactic(auto, unfolding(crate::specs::Texts::two_lengths))]
-    fn fmt<W: fmt::Write>(&self, f: &mut Formatter<W>) -> fmt::Result {
-        let (x, y) = (self.0.x(), self.0.y());
-        write!(f, "{},{}", ShortMillimetres(x), ShortMillimetres(y))
-    }
-}
-
-/// The diameter of a hole in pm.
-fn diameter(hole: &Hole) -> i64
-    ensures { result ≡ pos (2 * hole.now.radius) }
-{
-    2 * hole.radius()
-}
-
-/// The diameter of a hole in millimetres, and where it is: the centre of a round hole, or both ends of a slot, as `1 at 0,0 to 2,0`.
-#[derive(Clone, Copy)]
-pub struct DrilledWords<'a>(pub &'a Hole);
-
-impl Display for DrilledWords<'_> {
-    ghost output = { λ words. Some (drilled_words words.0.now) };
-
-    #[tactic(auto, unfolding(crate::specs::Texts::drilled_words))]
-    fn fmt<W: fmt::Write>(&self, f: &mut Formatter<W>) -> fmt::Result {
-        let hole = self.0;
-        let size = ShortMillimetres(diameter(hole));
-        let (from, to) = (PointWords(hole.from()), PointWords(hole.to()));
-        if hole.is_round() {
-            write!(f, "{size} at {from}")
-        } else {
-            write!(f, "{size} at {from} to {to}")
-        }
-    }
-}
 
 /// A hole, with the name of its drill file: `hole 17 of board-PTH.drl, 0.3 at 15.001,13`.
 #[derive(Clone, Copy)]
@@ -70,7 +19,7 @@ pub(crate) struct HoleWords<'a> {
     /// The names of the files of the package.
     pub(crate) names: &'a [&'a str],
     /// The hole.
-    pub(crate) at: &'a HoleAt,
+    pub(crate) at: &'a PlacedHole,
 }
 
 impl Display for HoleWords<'_> {
@@ -78,7 +27,10 @@ impl Display for HoleWords<'_> {
 
     #[tactic(auto, unfolding(crate::specs::Texts::number_words))]
     fn fmt<W: fmt::Write>(&self, f: &mut Formatter<W>) -> fmt::Result {
-        let (number, name) = (self.at.number, name_of(self.names, self.at.drill));
+        let (number, name) = (
+            self.at.place.number,
+            name_of(self.names, self.at.place.drill),
+        );
         let drilled = DrilledWords(&self.at.hole);
         write!(f, "hole {number} of {name}, {drilled}")
     }
@@ -124,7 +76,7 @@ struct PadWords<'a>(&'a Pad);
 impl Display for PadWords<'_> {
     ghost output = { λ words. Some (pad_words words.0.now) };
 
-    #[tactic(auto, unfolding(crate::specs::Texts::two_lengths))]
+    #[tactic(auto, unfolding(printing::specs::Holes::two_lengths))]
     fn fmt<W: fmt::Write>(&self, f: &mut Formatter<W>) -> fmt::Result {
         let width = ShortMillimetres(width_of(self.0));
         let height = ShortMillimetres(height_of(self.0));
@@ -174,7 +126,7 @@ struct PlaceWords<'a> {
 impl Display for PlaceWords<'_> {
     ghost output = { λ words. Some (place_words words.hole.now words.pad.now) };
 
-    #[tactic(auto, unfolding(crate::specs::Texts::two_lengths))]
+    #[tactic(auto, unfolding(printing::specs::Holes::two_lengths))]
     fn fmt<W: fmt::Write>(&self, f: &mut Formatter<W>) -> fmt::Result {
         let (at, middle) = (hole_middle(self.hole), self.pad.middle());
         let x = ShortMillimetres(off_x(at, middle));
@@ -194,7 +146,7 @@ struct InPadWords<'a> {
 impl Display for InPadWords<'_> {
     ghost output = { λ words. Some (in_pad_words words.kind words.hole.now words.place.now) };
 
-    #[tactic(auto, unfolding(crate::specs::Texts::two_lengths, crate::specs::Texts::flash_words))]
+    #[tactic(auto, unfolding(printing::specs::Holes::two_lengths, crate::specs::Texts::flash_words))]
     fn fmt<W: fmt::Write>(&self, f: &mut Formatter<W>) -> fmt::Result {
         let place = PlaceWords {
             hole: self.hole,

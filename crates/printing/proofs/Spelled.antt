@@ -11,6 +11,6 @@ below_one n lt =
     let rest : n % 1000000000 ≡ n = omega (arith, lt) in
     ap₂ (λ (q r : ℕ). decimal q ++ 46 ∷ places 9 r) none rest ∙ ap (λ (t : List ℕ). t ++ 46 ∷ places 9 n) (decimal_digit 0 (lit< tt))
 
--- what stands behind a first byte
+-- what follows a first byte
 pub behind_zero : (a b : List ℕ) → 48 ∷ a ≡ 48 ∷ b → a ≡ b
 behind_zero a b e = cc

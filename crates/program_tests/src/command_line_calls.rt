@@ -221,7 +221,7 @@ const HELP: [(Words, Words); 10] = [
             "ringcheck report --ring <MM> --gap <MM> [--max <N>] [--waive <FILE>]\n",
             " [--format <text|json|waivers>] <MANIFEST>\n",
             "Tell of each finding by how much, and why",
-            "--max <N>        Findings told at most; all where it is not there\n",
+            "--max <N>        Most findings to show; all if it is not given\n",
             "--waive <FILE>   File of waivers: findings that are accepted\n",
             "--format <NAME>  text, for people; json, one object; or waivers, a\n",
         ],

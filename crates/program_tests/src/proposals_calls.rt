@@ -100,7 +100,7 @@ const NAMES: [ProposedRole; 3] = [
     ),
 ];
 
-/// LayerRange that are known by their functions or names, and drill files.
+/// Layers that are known by their functions or names, and drill files.
 const LAYERS: [ProposedRole; 8] = [
     (
         &[("x.gtl", LAYER), ("x.gbl", LAYER), ("h.drl", BLIND)],

@@ -1,4 +1,4 @@
--- NamesLemmas and numbers of a name.
+-- Words and numbers of a name.
 use Rattle.std.proofs.Common.{◌≡◌, ◌∙◌, ◌<◌, ◌≤◌, ◌||◌, ◌-◌, ℕ, min, List, [], ◌∷◌, Bool, true, false, Option, Some, length, map, take, reverse, Bor, unwrap_or, arith, refl, ap, sym}
 use mathlib.Core.List.{reverse_aux}
 use Rattle.std.specs.Prelude.{if◌then◌else◌}

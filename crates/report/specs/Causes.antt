@@ -124,3 +124,11 @@ pub record HoldsFlashes (flashes : List Flash) (layer : CauseFinder) : Type 0 wh
 pub record HoldsFlashesAndBests (flashes : List Flash) (holes : List Drilled) (layer : CauseFinder) : Type 0 where
   pub known : HoldsFlashes flashes layer
   pub bests : AreBestPads pad_covers (pads_of flashes) holes layer.bests.items
+
+-- the length that a ring lacks; nothing where the hole lies in no pad or is an oblique slot
+abbrev pub lack_of : RingCause → Option ℤ
+lack_of (cause.TooSmall place) = Some place.lack
+lack_of (cause.OffCentre place) = Some place.lack
+lack_of (cause.Other why flash) = None
+lack_of cause.NoFlash = None
+lack_of cause.Oblique = None

@@ -1,3 +1,4 @@
+pub mod Acceptances
 pub mod Causes
 pub mod Inner
 pub mod UnitMistakes

@@ -1,5 +1,5 @@
 -- Whether the coordinates of a drill file's holes are off by a factor, in whole picometres (docs/FORMATS.md, Measure).
-use Rattle.std.specs.Prelude.{◌≡◌, ◌↔◌, ℕ, ℤ, pos, ◌*◌, ◌<◌, ◌≤◌, ◌*ℤ◌, ◌≤ℤ◌, Bool, true, not, ◌&&◌, ◌||◌, nat_le, unsigned_abs, Option, Some, None, List, [], ◌∷◌, length, get_or, count_by}
+use Rattle.std.specs.Prelude.{◌≡◌, ◌↔◌, ℕ, ℤ, pos, ◌*◌, ◌<◌, ◌≤◌, ◌*ℤ◌, ◌≤ℤ◌, Bool, true, not, ◌&&◌, ◌||◌, nat_le, unsigned_abs, Option, Some, None, List, [], ◌∷◌, length, get_or, count_by, codes}
 use Rattle.std.specs.Int.{int_div_euclid}
 use Rattle.std.specs.List.{All, list_any, slice_range}
 use Rattle.grid_units.specs.Points.{GridPoint, max_coordinate}
@@ -26,6 +26,13 @@ divisor kind.Ten = 1
 divisor kind.Tenth = 10
 divisor kind.Inch = 10
 divisor kind.PerInch = 254
+
+-- how a factor is written: `25.4`
+abbrev pub factor_word : UnitFactor → List ℕ
+factor_word kind.Ten = codes "10"
+factor_word kind.Tenth = codes "0.1"
+factor_word kind.Inch = codes "25.4"
+factor_word kind.PerInch = codes "1/25.4"
 
 -- a coordinate times a factor, rounded down: 25 pm by 1/10 is 2 pm, -25 pm is -3 pm
 abbrev pub scaled : UnitFactor → ℤ → ℤ

@@ -8,15 +8,18 @@ mod bounds;
 mod cause;
 mod counts;
 mod fewest;
+mod figures;
 mod groups;
 mod layer;
 mod mistakes;
 mod other;
 pub mod scale_laws;
 mod scaled;
+mod waived;
 
 pub use bare::bare_among;
 pub use counts::bare_with_factor;
+pub use figures::{factor_word, lack_of};
 use grid_units::{Hole, Rules};
 pub use layer::CauseFinder;
 use layer_image::Why;
@@ -24,6 +27,7 @@ pub use margins::Met;
 pub use mistakes::{FileRange, unit_mistake, unit_mistakes};
 use pad_shapes::Pad;
 pub use scaled::scaled_point;
+pub use waived::{acceptance_of, count_waived, count_waived_first, is_waived};
 
 /// The rings of the holes of one diameter in one drill file, on the layer of one copper file.
 #[derive(Clone, Copy, Debug, PartialEq, Eq)]
@@ -66,7 +70,7 @@ pub struct HolePlace {
     /// The index of the drill file in the package, from 0.
     pub drill: usize,
     /// The number of the hole in its file, from 1.
-    pub hole: usize,
+    pub number: usize,
 }
 
 /// A plated drill file whose coordinates seem to be off by a factor.
@@ -154,12 +158,8 @@ pub enum RingCause {
 
 /// A hole with its place in a package.
 #[derive(Clone, Copy, Debug, PartialEq, Eq)]
-pub struct HoleAt {
-    /// The index of the drill file in the package, from 0.
-    pub drill: usize,
-    /// The number of the hole in its file, from 1.
-    pub number: usize,
-    /// The hole.
+pub struct PlacedHole {
+    pub place: HolePlace,
     pub hole: Hole,
 }
 
@@ -169,7 +169,7 @@ pub struct RingLack {
     /// The place of the layer among the copper files, from 0.
     pub layer: usize,
     /// The hole.
-    pub at: HoleAt,
+    pub at: PlacedHole,
     /// Why it lacks its ring.
     pub cause: RingCause,
 }
@@ -178,9 +178,9 @@ pub struct RingLack {
 #[derive(Clone, Copy, Debug, PartialEq, Eq)]
 pub struct GapLack {
     /// The hole that comes first in the package.
-    pub first: HoleAt,
+    pub first: PlacedHole,
     /// The other hole.
-    pub second: HoleAt,
+    pub second: PlacedHole,
     /// The gap in pm, from -10 m to 10 m. Below 0 the holes overlap.
     pub gap: i64,
     /// The required gap less this one, in pm: from 1 pm to 20 m.

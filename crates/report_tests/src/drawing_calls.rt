@@ -2,7 +2,7 @@
 
 use drawing::Drawing;
 use grid_units::Rules;
-use package_check::{File, Role, read_flashed};
+use package_check::{File, Keep, Role, read_package};
 use picture::Escaped;
 use std::alloc::AllocError;
 use std::test::Fail;
@@ -83,8 +83,10 @@ fn drawn(
     names: &[&str],
     rules: Option<Rules>,
 ) -> Result<String, Fail> {
-    let flashed = read_flashed(rt.alloc(), files).ok().ok_or("refused")?;
-    let drawing = Drawing::new(rt.alloc(), names, &flashed, rules)?;
+    let board = read_package(rt.alloc(), files, Keep::Flashes)
+        .ok()
+        .ok_or("refused")?;
+    let drawing = Drawing::new(rt.alloc(), names, &board, rules)?;
     Ok(format!(in rt.alloc(); "{drawing}")?)
 }
 

@@ -1,6 +1,6 @@
 //! The flashes of a package's files.
 
-use package_check::{File, PackageFault, Role, read_flashed};
+use package_check::{File, Keep, PackageFault, Role, read_package};
 use std::test::Fail as Failure;
 
 const TWO: &[u8] =
@@ -20,20 +20,18 @@ fn file<'a>(role: Role, bytes: &'a [u8]) -> File<'a> {
 #[test]
 fn flashes_stand_in_the_order_of_the_files(rt: HostRuntime) -> Result<(), Failure> {
     let files = [file(Role::Plated, DRILL), file(Role::Copper, TWO)];
-    let flashed = read_flashed(rt.alloc(), &files).ok().ok_or("no board")?;
-    let counts: Vec<usize> = flashed
-        .flashes
-        .iter()
-        .map(|flashes| flashes.len())
-        .collect(rt.alloc())?;
-    let layers = flashed.board.layers(rt.alloc())?.len();
-    assert!(rt; counts.as_slice() == [0, 2].as_slice() && layers == 1);
+    let board = read_package(rt.alloc(), &files, Keep::Flashes)
+        .ok()
+        .ok_or("no board")?;
+    let counts = [0, 1, 2].map(|file| board.flashes_of(file).len());
+    let layers = board.layers(rt.alloc())?.len();
+    assert!(rt; counts == [0, 2, 0] && layers == 1);
     Ok(())
 }
 
 #[test]
 fn a_refused_file_has_no_flashes(rt: HostRuntime) {
     let files = [file(Role::Plated, TWO), file(Role::Copper, TWO)];
-    let refused = read_flashed(rt.alloc(), &files).err();
+    let refused = read_package(rt.alloc(), &files, Keep::Flashes).err();
     assert!(rt; matches!(refused, Some(PackageFault::File { index: 0, .. })));
 }

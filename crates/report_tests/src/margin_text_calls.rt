@@ -180,8 +180,14 @@ fn measure_of(row: MeasureRow) -> MeasureText<'static> {
     let gap = match gap {
         Some(gap) => Some(GapLine {
             gap,
-            first: HolePlace { drill: 2, hole: 1 },
-            second: HolePlace { drill: 3, hole: 47 },
+            first: HolePlace {
+                drill: 2,
+                number: 1,
+            },
+            second: HolePlace {
+                drill: 3,
+                number: 47,
+            },
         }),
         None => None,
     };

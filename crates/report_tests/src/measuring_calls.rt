@@ -5,7 +5,7 @@ mod made;
 use board_report::{files_with_holes, measure_bytes, measure_with_bests, place_among, place_of};
 use grid_units::{Fault, Reason, Rules};
 use margins::{BestPad, Met};
-use package_check::{File, PackageFault, Role, check_bytes, read_package};
+use package_check::{File, Keep, PackageFault, Role, check_bytes, read_package};
 use report::{GapLine, HolePlace, LeastRing, Meets, RingLine, UnitFactor, UnitMistake};
 use std::alloc::Global;
 use std::test::Fail as Failure;
@@ -153,11 +153,11 @@ fn gap_line(gap: i64, first: (usize, usize), second: (usize, usize)) -> GapLine 
         gap,
         first: HolePlace {
             drill: first.0,
-            hole: first.1,
+            number: first.1,
         },
         second: HolePlace {
             drill: second.0,
-            hole: second.1,
+            number: second.1,
         },
     }
 }
@@ -379,17 +379,14 @@ const PLACES: [(usize, usize); 5] = [(0, 1), (0, 2), (4, 1), (6, 1), (6, 2)];
 /// `place_among` and `place_of` agree on each hole.
 #[test]
 fn places_of_holes(rt: HostRuntime) -> Result<(), Failure> {
-    let board = read_package(rt.alloc(), &seven_files())
+    let board = read_package(rt.alloc(), &seven_files(), Keep::Pads)
         .ok()
         .ok_or("no board")?;
     let filled = files_with_holes(rt.alloc(), &board)?;
     assert!(rt; (filled.len(), board.holes().len()) == (3, 5));
     for hole in 0..board.holes().len() {
         let (drill, number) = PLACES.get(hole).copied().unwrap_or((0, 0));
-        let place = HolePlace {
-            drill,
-            hole: number,
-        };
+        let place = HolePlace { drill, number };
         assert!(rt; place_of(&board, hole) == place && place_among(&filled, hole) == place);
     }
     Ok(())
@@ -431,7 +428,9 @@ fn best_pads_of_each_layer(rt: HostRuntime) -> Result<(), Failure> {
         file(Role::Plated, "pth", HIT),
         file(Role::Copper, "bottom", TWO),
     ];
-    let board = read_package(alloc, &files).ok().ok_or("no board")?;
+    let board = read_package(alloc, &files, Keep::Pads)
+        .ok()
+        .ok_or("no board")?;
     let (measure, bests) = measure_with_bests(alloc, &board)?;
     let depths = [0, 1, 2].map(|layer| first_depth(&bests, layer));
     let wanted = [Some(325_000_000), None, Some(1_000_000_000)];

@@ -4,7 +4,7 @@ use crate::rows::{Form, in_pad, slot_at};
 use board_report::measure_board;
 use grid_units::{Fault, Reason, Rules};
 use layer_image::Why;
-use package_check::{File, FileSum, Role, read_package};
+use package_check::{File, FileSum, Keep, Role, read_package};
 use print_json::*;
 use print_text::no_acceptances;
 use report::{
@@ -124,7 +124,9 @@ fn is_measured(rt: HostRuntime, layer: &[u8], holes: &[u8], text: &str) -> Resul
         file(Role::Copper, "top", layer),
         file(Role::Plated, "pth", holes),
     ];
-    let board = read_package(alloc, &files).ok().ok_or("no board")?;
+    let board = read_package(alloc, &files, Keep::Pads)
+        .ok()
+        .ok_or("no board")?;
     let measure = measure_board(alloc, &board)?;
     let json = MeasureJson {
         names: &["top", "pth"],
@@ -199,7 +201,7 @@ const HEAD: &str =
 /// Whether a report with waivers has this JSON: the result, and the findings after the head.
 fn is_waived_so<'a>(
     rt: HostRuntime,
-    telling: &'a BoardReport,
+    report: &'a BoardReport,
     accepted: &'a Acceptances<'a>,
     word: &str,
     findings: &str,
@@ -211,7 +213,7 @@ fn is_waived_so<'a>(
     let json = ReportJson {
         names: &["top_layer"],
         files,
-        telling,
+        report,
         accepted,
     };
     let written = format!(in rt.alloc(); "{json}")?;
@@ -224,17 +226,17 @@ fn is_waived_so<'a>(
 /// Whether a report has this JSON: the result, and the findings after the head.
 fn is_printed(
     rt: HostRuntime,
-    telling: &BoardReport,
+    report: &BoardReport,
     word: &str,
     findings: &str,
 ) -> Result<bool, AllocError> {
-    is_waived_so(rt, telling, &no_acceptances(), word, findings)
+    is_waived_so(rt, report, &no_acceptances(), word, findings)
 }
 
 /// Adds a bare hole in a macro flash to the report.
-fn tell_in_macro(telling: &mut BoardReport) -> Result<(), Fail> {
+fn tell_in_macro(report: &mut BoardReport) -> Result<(), Fail> {
     let at = (142_240_000_000, -97_790_000_000);
-    telling.rings.push(RingLack {
+    report.rings.push(RingLack {
         layer: 0,
         at: slot_at(3, 7, at, at, 750_000_000)?,
         cause: RingCause::Other {
@@ -250,10 +252,10 @@ const IN_MACRO: &str =
 
 #[test]
 fn reports_are_printed(rt: HostRuntime) -> Result<(), Fail> {
-    let mut telling = nothing(rt.alloc(), 100_000_000, 250_000_000, NO_RING)?;
-    assert!(rt; is_printed(rt, &telling, "pass", "")?);
-    tell_in_macro(&mut telling)?;
-    assert!(rt; is_printed(rt, &telling, "findings", IN_MACRO)?);
+    let mut report = nothing(rt.alloc(), 100_000_000, 250_000_000, NO_RING)?;
+    assert!(rt; is_printed(rt, &report, "pass", "")?);
+    tell_in_macro(&mut report)?;
+    assert!(rt; is_printed(rt, &report, "findings", IN_MACRO)?);
     Ok(())
 }
 
@@ -288,17 +290,17 @@ fn nothing_is_no_zero(rt: HostRuntime) -> Result<(), Fail> {
             "\"from_pm\":[0,0],\"to_pm\":[1000000,2000000],\"diameter_pm\":400000000},\"has_pm\":null,\"lacks_pm\":null,\"cause\":\"oblique\",\"flash\":null",
         ),
     ] {
-        let mut telling = nothing(rt.alloc(), 100_000_000, 250_000_000, NO_RING)?;
-        telling.rings.push(RingLack {
+        let mut report = nothing(rt.alloc(), 100_000_000, 250_000_000, NO_RING)?;
+        report.rings.push(RingLack {
             layer: 0,
             at,
             cause,
         })?;
-        let number = at.number;
+        let number = at.place.number;
         let finding = format!(in rt.alloc();
             "{{\"kind\":\"ring\",\"layer\":1,\"at\":{{\"drill\":2,\"hole\":{number},{text},\"waived\":null}}"
         )?;
-        assert!(rt; is_printed(rt, &telling, "findings", finding.as_str())?);
+        assert!(rt; is_printed(rt, &report, "findings", finding.as_str())?);
     }
     Ok(())
 }
@@ -306,10 +308,10 @@ fn nothing_is_no_zero(rt: HostRuntime) -> Result<(), Fail> {
 #[test]
 fn a_long_report_is_printed(rt: HostRuntime) -> Result<(), Fail> {
     let alloc = rt.alloc();
-    let mut telling = nothing(alloc, 100_000_000, 250_000_000, NO_RING)?;
+    let mut report = nothing(alloc, 100_000_000, 250_000_000, NO_RING)?;
     let mut findings = String::new(alloc);
     for _ in 0..40 {
-        tell_in_macro(&mut telling)?;
+        tell_in_macro(&mut report)?;
         findings.push_str(IN_MACRO)?;
         findings.push_str(",")?;
     }
@@ -317,7 +319,7 @@ fn a_long_report_is_printed(rt: HostRuntime) -> Result<(), Fail> {
         (50_546_000_000, 67_310_000_000),
         (51_181_000_000, 66_548_000_000),
     );
-    telling.gaps.push(GapLack {
+    report.gaps.push(GapLack {
         first: slot_at(2, 213, here, here, 609_600_000)?,
         second: slot_at(2, 214, there, there, 609_600_000)?,
         gap: 382_301_708,
@@ -326,7 +328,7 @@ fn a_long_report_is_printed(rt: HostRuntime) -> Result<(), Fail> {
     findings.push_str(
         "{\"kind\":\"gap\",\"at\":{\"drill\":3,\"hole\":213,\"from_pm\":[50546000000,67310000000],\"to_pm\":[50546000000,67310000000],\"diameter_pm\":609600000},\"and\":{\"drill\":3,\"hole\":214,\"from_pm\":[51181000000,66548000000],\"to_pm\":[51181000000,66548000000],\"diameter_pm\":609600000},\"has_pm\":382301708,\"lacks_pm\":1,\"waived\":null}",
     )?;
-    assert!(rt; is_printed(rt, &telling, "findings", findings.as_str())?);
+    assert!(rt; is_printed(rt, &report, "findings", findings.as_str())?);
     Ok(())
 }
 
@@ -349,21 +351,21 @@ const GAP: &str =
 
 #[test]
 fn a_waiver_of_nothing_leaves_a_pass(rt: HostRuntime) -> Result<(), Fail> {
-    let telling = nothing(rt.alloc(), 100_000_000, 250_000_000, NO_RING)?;
+    let report = nothing(rt.alloc(), 100_000_000, 250_000_000, NO_RING)?;
     let accepted = Acceptances {
         rings: &[Some("milled \"by hand\"")],
         gaps: &[Some("slot")],
         idle: &[8],
     };
-    assert!(rt; is_waived_so(rt, &telling, &accepted, "pass", "")?);
+    assert!(rt; is_waived_so(rt, &report, &accepted, "pass", "")?);
     Ok(())
 }
 
 #[test]
 fn waivers_are_printed(rt: HostRuntime) -> Result<(), Fail> {
-    let mut telling = nothing(rt.alloc(), 100_000_000, 250_000_000, NO_RING)?;
-    tell_in_macro(&mut telling)?;
-    telling.gaps.push(close_pair()?)?;
+    let mut report = nothing(rt.alloc(), 100_000_000, 250_000_000, NO_RING)?;
+    tell_in_macro(&mut report)?;
+    report.gaps.push(close_pair()?)?;
     let milled = Some("milled \"by hand\"");
     for (rings, gaps, idle, word, ring, gap) in [
         (
@@ -393,7 +395,7 @@ fn waivers_are_printed(rt: HostRuntime) -> Result<(), Fail> {
     ] {
         let findings = format!(in rt.alloc(); "{RING}{ring}}},{GAP}{gap}}}")?;
         let accepted = Acceptances { rings, gaps, idle };
-        assert!(rt; is_waived_so(rt, &telling, &accepted, word, findings.as_str())?);
+        assert!(rt; is_waived_so(rt, &report, &accepted, word, findings.as_str())?);
     }
     Ok(())
 }

@@ -35,11 +35,11 @@ fn meets(ring: i64, gap: i64) -> Meets {
 fn text_of(
     rt: HostRuntime,
     names: &[&str],
-    telling: &BoardReport,
+    report: &BoardReport,
     limit: Option<usize>,
     accepted: &Acceptances,
 ) -> Result<String, AllocError> {
-    let text = ReportText::new(rt.alloc(), names, telling, limit, accepted)?;
+    let text = ReportText::new(rt.alloc(), names, report, limit, accepted)?;
     format!(in rt.alloc(); "{text}")
 }
 
@@ -47,11 +47,11 @@ fn text_of(
 fn is_printed(
     rt: HostRuntime,
     names: &[&str],
-    telling: &BoardReport,
+    report: &BoardReport,
     limit: Option<usize>,
     text: &str,
 ) -> Result<bool, AllocError> {
-    let written = text_of(rt, names, telling, limit, &no_acceptances())?;
+    let written = text_of(rt, names, report, limit, &no_acceptances())?;
     Ok(written.as_str() == text)
 }
 
@@ -107,12 +107,12 @@ fn figures_of(index: usize) -> Figures {
 #[test]
 fn a_limited_report_is_printed(rt: HostRuntime) -> Result<(), Fail> {
     let board = meets(99_394_596, 300_000_000);
-    let mut telling = nothing(rt.alloc(), 100_000_000, 250_000_000, board)?;
-    telling.layers.push(LayerHead {
+    let mut report = nothing(rt.alloc(), 100_000_000, 250_000_000, board)?;
+    report.layers.push(LayerHead {
         file: 0,
         needed: 87,
     })?;
-    telling.layers.push(LayerHead {
+    report.layers.push(LayerHead {
         file: 1,
         needed: 87,
     })?;
@@ -120,7 +120,7 @@ fn a_limited_report_is_printed(rt: HostRuntime) -> Result<(), Fail> {
         let it = figures_of(index % 24);
         let disc = Form::Disc(250_000_000);
         let place = in_pad(it.flash, disc, it.centre, it.ring, it.lack)?;
-        telling.rings.push(RingLack {
+        report.rings.push(RingLack {
             layer: index / 24,
             at: hole_at(3, it.number, it.at, 300_000_000)?,
             cause: RingCause::OffCentre(place),
@@ -138,7 +138,7 @@ fn a_limited_report_is_printed(rt: HostRuntime) -> Result<(), Fail> {
         rings lack 0.000001415 to 0.000605404\n\
         this board meets ring 0.099394596, gap 0.3\n\
         FINDINGS 48\n";
-    assert!(rt; is_printed(rt, &STICK, &telling, Some(2), text)?);
+    assert!(rt; is_printed(rt, &STICK, &report, Some(2), text)?);
     Ok(())
 }
 
@@ -146,11 +146,11 @@ fn a_limited_report_is_printed(rt: HostRuntime) -> Result<(), Fail> {
 fn begins_with(
     rt: HostRuntime,
     names: &[&str],
-    telling: &BoardReport,
+    report: &BoardReport,
     first: &str,
     line: &str,
 ) -> Result<bool, AllocError> {
-    let written = text_of(rt, names, telling, None, &no_acceptances())?;
+    let written = text_of(rt, names, report, None, &no_acceptances())?;
     match written.as_str().strip_prefix(first) {
         Some(rest) => Ok(rest.starts_with(line)),
         None => Ok(false),
@@ -294,15 +294,15 @@ const LINES: [(HoleRow, CauseRow, &str); 11] = [
 /// Whether the line of a single hole that lacks its ring is this one.
 fn is_ring_line(rt: HostRuntime, hole: HoleRow, cause: CauseRow, text: &str) -> Result<bool, Fail> {
     let (drill, number, from, to, diameter) = hole;
-    let mut telling = nothing(rt.alloc(), 0, 1, meets(0, 1))?;
-    telling.layers.push(LayerHead { file: 0, needed: 1 })?;
-    telling.rings.push(RingLack {
+    let mut report = nothing(rt.alloc(), 0, 1, meets(0, 1))?;
+    report.layers.push(LayerHead { file: 0, needed: 1 })?;
+    report.rings.push(RingLack {
         layer: 0,
         at: slot_at(1, number, from, to, diameter)?,
         cause: cause_of(cause)?,
     })?;
     let first = "ring 0, gap 0.000000001\ntop: 1 of 1 rings lacking\n";
-    Ok(begins_with(rt, &["top", drill], &telling, first, text)?)
+    Ok(begins_with(rt, &["top", drill], &report, first, text)?)
 }
 
 #[test]
@@ -316,10 +316,10 @@ fn lines_of_rings_have_their_cause(rt: HostRuntime) -> Result<(), Fail> {
 /// Whether the line of a drill file whose coordinates are off by a factor is this one.
 fn is_scale_line(rt: HostRuntime, factor: UnitFactor, text: &str) -> Result<bool, Fail> {
     let line = UnitMistake { factor, ..TENTH };
-    let mut telling = nothing(rt.alloc(), 0, 1, meets(0, 1))?;
-    telling.scales.push(line)?;
+    let mut report = nothing(rt.alloc(), 0, 1, meets(0, 1))?;
+    report.scales.push(line)?;
     let first = "ring 0, gap 0.000000001\n0 gaps lacking\n";
-    Ok(begins_with(rt, &["top", "pth"], &telling, first, text)?)
+    Ok(begins_with(rt, &["top", "pth"], &report, first, text)?)
 }
 
 #[test]
@@ -345,22 +345,22 @@ fn factors_are_printed(rt: HostRuntime) -> Result<(), Fail> {
 
 /// Two layers; every other ring is on the second.
 fn mixed_layers(alloc: Global) -> Result<BoardReport, Fail> {
-    let mut telling = nothing(alloc, 100_000_000, 250_000_000, meets(0, 250_000_000))?;
-    telling.layers.push(LayerHead { file: 0, needed: 9 })?;
-    telling.layers.push(LayerHead { file: 1, needed: 8 })?;
+    let mut report = nothing(alloc, 100_000_000, 250_000_000, meets(0, 250_000_000))?;
+    report.layers.push(LayerHead { file: 0, needed: 9 })?;
+    report.layers.push(LayerHead { file: 1, needed: 8 })?;
     for number in 1..6 {
-        telling.rings.push(RingLack {
+        report.rings.push(RingLack {
             layer: number % 2,
             at: hole_at(3, number, (0, 0), 300_000_000)?,
             cause: RingCause::NoFlash,
         })?;
     }
-    Ok(telling)
+    Ok(report)
 }
 
 #[test]
 fn mixed_layers_are_printed_one_by_one(rt: HostRuntime) -> Result<(), Fail> {
-    let telling = mixed_layers(rt.alloc())?;
+    let report = mixed_layers(rt.alloc())?;
     let text = "ring 0.1, gap 0.25\n\
         F_Cu: 2 of 9 rings lacking\n  \
         hole 2 of StickHub-PTH, 0.3 at 0,0: no ring, no pad\n  \
@@ -373,20 +373,20 @@ fn mixed_layers_are_printed_one_by_one(rt: HostRuntime) -> Result<(), Fail> {
         5 no pad: no pad reaches the hole's centre: removed or painted pad, plane, other origin or format: see `ringcheck explain none`\n\
         this board meets ring 0, gap 0.25\n\
         FINDINGS 5\n";
-    assert!(rt; is_printed(rt, &STICK, &telling, Some(4), text)?);
+    assert!(rt; is_printed(rt, &STICK, &report, Some(4), text)?);
     Ok(())
 }
 
 #[test]
 fn a_hole_hit_twice_is_printed(rt: HostRuntime) -> Result<(), Fail> {
-    let mut telling = nothing(
+    let mut report = nothing(
         rt.alloc(),
         125_000_000,
         250_000_000,
         meets(125_000_000, -400_000_000),
     )?;
-    telling.layers.push(LayerHead { file: 0, needed: 2 })?;
-    telling.gaps.push(GapLack {
+    report.layers.push(LayerHead { file: 0, needed: 2 })?;
+    report.gaps.push(GapLack {
         first: hole_at(1, 1, (0, 0), 400_000_000)?,
         second: hole_at(1, 2, (0, 0), 400_000_000)?,
         gap: -400_000_000,
@@ -399,7 +399,7 @@ fn a_hole_hit_twice_is_printed(rt: HostRuntime) -> Result<(), Fail> {
         gaps lack 0.65 to 0.65\n\
         this board meets ring 0.125, gap -0.4\n\
         FINDINGS 1\n";
-    assert!(rt; is_printed(rt, &["top", "pth"], &telling, None, text)?);
+    assert!(rt; is_printed(rt, &["top", "pth"], &report, None, text)?);
     Ok(())
 }
 
@@ -410,10 +410,10 @@ fn a_package_that_passes_is_printed(rt: HostRuntime) -> Result<(), Fail> {
         gap: Met::Any,
         in_pads: Met::Any,
     };
-    let telling = nothing(rt.alloc(), 0, 1, any)?;
+    let report = nothing(rt.alloc(), 0, 1, any)?;
     let text =
         "ring 0, gap 0.000000001\n0 gaps lacking\nthis board meets ring any, gap any\nPASS\n";
-    assert!(rt; is_printed(rt, &[], &telling, Some(0), text)?);
+    assert!(rt; is_printed(rt, &[], &report, Some(0), text)?);
     Ok(())
 }
 
@@ -435,7 +435,7 @@ const TENTH: UnitMistake = UnitMistake {
 };
 
 /// Adds a hole for each cause, and two for a macro flash.
-fn tell_each_cause(telling: &mut BoardReport) -> Result<(), Fail> {
+fn tell_each_cause(report: &mut BoardReport) -> Result<(), Fail> {
     for &why in &[
         Why::Turned,
         Why::Scaled,
@@ -444,7 +444,7 @@ fn tell_each_cause(telling: &mut BoardReport) -> Result<(), Fail> {
         Why::Macro,
         Why::Macro,
     ] {
-        telling
+        report
             .rings
             .push(unseen(RingCause::Other { why, flash: 1 })?)?;
     }
@@ -455,7 +455,7 @@ fn tell_each_cause(telling: &mut BoardReport) -> Result<(), Fail> {
         RingCause::OffCentre(in_pad(1, disc, (0, 0), 100_000_000, 50_000_000)?),
         RingCause::TooSmall(in_pad(1, disc, (0, 0), 99_394_596, 50_605_404)?),
     ] {
-        telling.rings.push(unseen(cause)?)?;
+        report.rings.push(unseen(cause)?)?;
     }
     Ok(())
 }
@@ -467,9 +467,9 @@ fn causes_and_scales_are_printed(rt: HostRuntime) -> Result<(), Fail> {
         gap: Met::UpTo(1_046_051_224),
         in_pads: Met::UpTo(275_000_000),
     };
-    let mut telling = nothing(rt.alloc(), 150_000_000, 250_000_000, board)?;
-    tell_each_cause(&mut telling)?;
-    telling.scales.push(TENTH)?;
+    let mut report = nothing(rt.alloc(), 150_000_000, 250_000_000, board)?;
+    tell_each_cause(&mut report)?;
+    report.scales.push(TENTH)?;
     let text = "ring 0.15, gap 0.25\n\
         0 gaps lacking\n\
         1 pad too small: the pad's own radius or half side is less than the hole's radius and the ring\n\
@@ -485,7 +485,7 @@ fn causes_and_scales_are_printed(rt: HostRuntime) -> Result<(), Fail> {
         pth: 3 holes have no pad; at 10 times their coordinates 0 would have none\n\
         this board meets ring none, gap 1.046051224; where a pad is, ring 0.275\n\
         FINDINGS 10\n";
-    assert!(rt; is_printed(rt, &["top", "pth"], &telling, None, text)?);
+    assert!(rt; is_printed(rt, &["top", "pth"], &report, None, text)?);
     Ok(())
 }
 
@@ -497,13 +497,13 @@ const RINGS: [Option<&str>; 3] = [Some("milled"), Some("milled"), Some("by hand"
 const GAPS: [Option<&str>; 3] = [Some("drilled \"twice\""), Some("x"), Some("y")];
 
 /// Adds a hole that lies in no pad, and is drilled twice.
-fn tell_twice_hit(telling: &mut BoardReport, number: usize) -> Result<(), Fail> {
-    telling.rings.push(RingLack {
+fn tell_twice_hit(report: &mut BoardReport, number: usize) -> Result<(), Fail> {
+    report.rings.push(RingLack {
         layer: 0,
         at: hole_at(1, number, (0, 0), 400_000_000)?,
         cause: RingCause::NoFlash,
     })?;
-    telling.gaps.push(GapLack {
+    report.gaps.push(GapLack {
         first: hole_at(1, number, (0, 0), 400_000_000)?,
         second: hole_at(1, number, (0, 0), 400_000_000)?,
         gap: -400_000_000,
@@ -515,15 +515,15 @@ fn tell_twice_hit(telling: &mut BoardReport, number: usize) -> Result<(), Fail> 
 /// Three holes that lack their ring and three pairs that lack their gap.
 fn three_of_each(alloc: Global) -> Result<BoardReport, Fail> {
     let board = meets(100_000_000, -400_000_000);
-    let mut telling = nothing(alloc, 100_000_000, 250_000_000, board)?;
-    telling.layers.push(LayerHead {
+    let mut report = nothing(alloc, 100_000_000, 250_000_000, board)?;
+    report.layers.push(LayerHead {
         file: 0,
         needed: 245,
     })?;
     for number in 1..4 {
-        tell_twice_hit(&mut telling, number)?;
+        tell_twice_hit(&mut report, number)?;
     }
-    Ok(telling)
+    Ok(report)
 }
 
 /// Reasons for rings and for gaps, the waivers that waive nothing, a limit, how many findings are waived, and the text.
@@ -621,26 +621,26 @@ const WAIVED: [WaivedRow; 4] = [
 /// Whether a report with waivers has the text and the count of a row.
 fn is_waived_so(
     rt: HostRuntime,
-    telling: &BoardReport,
+    report: &BoardReport,
     row: &WaivedRow,
 ) -> Result<bool, AllocError> {
     let (accepted, limit, waived, text) = row;
-    let written = text_of(rt, &HOLED, telling, *limit, accepted)?;
-    Ok(written.as_str() == *text && count_waived(telling, accepted) == *waived)
+    let written = text_of(rt, &HOLED, report, *limit, accepted)?;
+    Ok(written.as_str() == *text && count_waived(report, accepted) == *waived)
 }
 
 #[test]
 fn reasons_stand_in_the_lines_of_waived_findings(rt: HostRuntime) -> Result<(), Fail> {
-    let telling = three_of_each(rt.alloc())?;
+    let report = three_of_each(rt.alloc())?;
     for row in &WAIVED {
-        assert!(rt; is_waived_so(rt, &telling, row)?, "{}", row.3);
+        assert!(rt; is_waived_so(rt, &report, row)?, "{}", row.3);
     }
     Ok(())
 }
 
 #[test]
 fn a_waiver_that_waives_nothing_leaves_a_pass(rt: HostRuntime) -> Result<(), Fail> {
-    let telling = nothing(rt.alloc(), 0, 1, meets(0, 1))?;
+    let report = nothing(rt.alloc(), 0, 1, meets(0, 1))?;
     let row = &(
         Acceptances {
             rings: &RINGS,
@@ -651,7 +651,7 @@ fn a_waiver_that_waives_nothing_leaves_a_pass(rt: HostRuntime) -> Result<(), Fai
         0,
         "ring 0, gap 0.000000001\n0 gaps lacking\nthis board meets ring 0, gap 0.000000001\nwaiver 2 waives nothing\nPASS\n",
     );
-    assert!(rt; is_waived_so(rt, &telling, row)?);
+    assert!(rt; is_waived_so(rt, &report, row)?);
     Ok(())
 }
 
@@ -676,11 +676,11 @@ impl Write for Failing {
 fn is_cut_at(
     rt: HostRuntime,
     names: &[&str],
-    telling: &BoardReport,
+    report: &BoardReport,
     accepted: &Acceptances,
     fails_at: usize,
 ) -> Result<bool, AllocError> {
-    let text = ReportText::new(rt.alloc(), names, telling, None, accepted)?;
+    let text = ReportText::new(rt.alloc(), names, report, None, accepted)?;
     let mut out = Failing { calls: 0, fails_at };
     let is_cut = write!(out, "{text}").is_err();
     Ok(is_cut && out.calls == fails_at)
@@ -688,7 +688,7 @@ fn is_cut_at(
 
 #[test]
 fn nothing_is_printed_after_a_write_that_fails(rt: HostRuntime) -> Result<(), Fail> {
-    let telling = three_of_each(rt.alloc())?;
+    let report = three_of_each(rt.alloc())?;
     let accepted = &Acceptances {
         rings: &RINGS,
         gaps: &GAPS,
@@ -696,7 +696,7 @@ fn nothing_is_printed_after_a_write_that_fails(rt: HostRuntime) -> Result<(), Fa
     };
     for fails_at in 1..=100 {
         assert!(rt;
-            is_cut_at(rt, &HOLED, &telling, accepted, fails_at)?,
+            is_cut_at(rt, &HOLED, &report, accepted, fails_at)?,
             "at {fails_at}"
         );
     }

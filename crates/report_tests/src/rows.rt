@@ -3,7 +3,7 @@
 use grid_units::{Hole, Point};
 use layer_image::{What, Why};
 use pad_shapes::{Disc, Obround, Pad, Rect};
-use report::{HoleAt, RingInPad};
+use report::{HolePlace, PlacedHole, RingInPad};
 use std::test::Fail;
 
 /// What is flashed: a disc of a radius, a pad of two half sides, or what is no pad.
@@ -55,12 +55,11 @@ pub(crate) fn slot_at(
     from: (i64, i64),
     to: (i64, i64),
     diameter: i64,
-) -> Result<HoleAt, Fail> {
+) -> Result<PlacedHole, Fail> {
     let from = Point::new(from.0, from.1).ok_or("point")?;
     let to = Point::new(to.0, to.1).ok_or("point")?;
-    Ok(HoleAt {
-        drill,
-        number,
+    Ok(PlacedHole {
+        place: HolePlace { drill, number },
         hole: Hole::new(from, to, diameter / 2).ok_or("hole")?,
     })
 }
@@ -71,6 +70,6 @@ pub(crate) fn hole_at(
     number: usize,
     at: (i64, i64),
     diameter: i64,
-) -> Result<HoleAt, Fail> {
+) -> Result<PlacedHole, Fail> {
     slot_at(drill, number, at, at, diameter)
 }

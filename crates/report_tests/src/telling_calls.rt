@@ -140,7 +140,7 @@ const PLACES: [(usize, usize, usize); 9] = [
 
 /// Whether a hole at this place lacks its ring in the disc.
 fn is_small_at(lack: &RingLack, place: (usize, usize, usize)) -> bool {
-    (lack.layer, lack.at.drill, lack.at.number) == place
+    (lack.layer, lack.at.place.drill, lack.at.place.number) == place
         && cause_words(lack.cause) == ("small", 1, 125_000_000, 25_000_000)
 }
 

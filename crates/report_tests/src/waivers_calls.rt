@@ -4,7 +4,7 @@ use crate::rows::{Form, hole_at, in_pad, slot_at};
 use grid_units::{Fail, Reason, Rules};
 use manifest::Name;
 use manifest::rows::read_records;
-use report::{BoardReport, GapLack, HoleAt, LayerHead, Meets, Met, RingCause, RingLack};
+use report::{BoardReport, GapLack, LayerHead, Meets, Met, PlacedHole, RingCause, RingLack};
 use std::alloc::{AllocError, Global};
 use std::io::Write;
 use std::test::Fail as Failed;
@@ -243,7 +243,7 @@ fn files_are_read_as_manifests_are(rt: HostRuntime) {
 }
 
 /// Adds a hole that lies in no pad of a layer.
-fn tell_bare(told: &mut BoardReport, layer: usize, at: HoleAt) -> Result<(), Failed> {
+fn tell_bare(told: &mut BoardReport, layer: usize, at: PlacedHole) -> Result<(), Failed> {
     told.rings.push(RingLack {
         layer,
         at,
@@ -253,7 +253,12 @@ fn tell_bare(told: &mut BoardReport, layer: usize, at: HoleAt) -> Result<(), Fai
 }
 
 /// Adds a hole that has this ring in a disc.
-fn tell_in_disc(told: &mut BoardReport, layer: usize, at: HoleAt, ring: i64) -> Result<(), Failed> {
+fn tell_in_disc(
+    told: &mut BoardReport,
+    layer: usize,
+    at: PlacedHole,
+    ring: i64,
+) -> Result<(), Failed> {
     let centre = at.hole.from();
     let place = in_pad(
         1,
@@ -328,8 +333,8 @@ fn seven_findings(rt: HostRuntime) -> Result<BoardReport, Failed> {
 }
 
 /// The file of waivers that is printed for a report.
-fn printed(rt: HostRuntime, names: &[&str], telling: &BoardReport) -> Result<String, AllocError> {
-    format!(in rt.alloc(); "{}", WaiverText { names, telling })
+fn printed(rt: HostRuntime, names: &[&str], report: &BoardReport) -> Result<String, AllocError> {
+    format!(in rt.alloc(); "{}", WaiverText { names, report })
 }
 
 const SEVEN: &str = "kind,layer,hole,and,has,why
@@ -354,12 +359,12 @@ fn findings_are_printed_with_empty_reasons(rt: HostRuntime) -> Result<(), Failed
 
 #[test]
 fn a_writer_without_room_cuts_the_text(rt: HostRuntime) -> Result<(), Failed> {
-    let telling = &seven_findings(rt)?;
+    let report = &seven_findings(rt)?;
     let mut room = [0; 40];
     let mut out = room.as_mut_slice();
     let text = WaiverText {
         names: &NAMES,
-        telling,
+        report,
     };
     let is_cut = write!(out, "{text}").is_err();
     assert!(rt; is_cut && SEVEN.as_bytes().starts_with(&room));

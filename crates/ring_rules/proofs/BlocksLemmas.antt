@@ -15,7 +15,7 @@ pub in_last : (x y : Axis) (bs : List Block) (b : Block) (p : GridPoint) → IsI
 in_last x y bs b p inside = (b, Contains-push bs b, inside)
 
 -- a point of the rows of a block and left of its end is in the block or left of it
-pub in_columns : (x y : Axis) (bs : List Block) (b : Block) (left : ℕ) (p : GridPoint) → b.left ≡ left → b.top ≤ row_of y p → row_of y p < b.bottom → column_of x p < b.right → (column_of x p < left → IsInAnyBlock x y bs p) → IsInAnyBlock x y (bs ++ b ∷ []) p
+pub in_columns : (x y : Axis) (bs : List Block) (b : Block) (left : ℕ) (p : GridPoint) → b.region.left ≡ left → b.region.top ≤ row_of y p → row_of y p < b.region.bottom → column_of x p < b.region.right → (column_of x p < left → IsInAnyBlock x y bs p) → IsInAnyBlock x y (bs ++ b ∷ []) p
 in_columns x y bs b left p same from below right before = elim (cases_lt (column_of x p) left) [
   | inl less ↦ in_more x y bs b p (before less)
   | inr more ↦ in_last x y bs b p (record { row_from = from; row_below = below; column_from = omega (arith, same, more); column_below = right })

@@ -8,7 +8,7 @@ ghost use Rattle.ring_rules.specs.Inner.Blocks.{IsBlock, IsInAnyBlock};
 
 use crate::axis::Axis;
 use crate::blocks::Block;
-use crate::regions::zone_of;
+use crate::regions::{Region, zone_of};
 use std::alloc::{AllocError, Global};
 
 /// The block of these rows and columns.
@@ -18,19 +18,19 @@ fn block(x: &Axis, y: &Axis, top: usize, bottom: usize, left: usize, right: usiz
     requires columns { left < right }
     requires right { right ≤ x.now.last + 1 }
     ensures block { IsBlock x.now y.now result }
-    ensures top { result.top ≡ top }
-    ensures bottom { result.bottom ≡ bottom }
-    ensures left { result.left ≡ left }
-    ensures right { result.right ≡ right }
+    ensures top { result.region.top ≡ top }
+    ensures bottom { result.region.bottom ≡ bottom }
+    ensures left { result.region.left ≡ left }
+    ensures right { result.region.right ≡ right }
 {
-    let zone = zone_of(x, y, top, bottom, left, right);
-    Block {
+    let region = Region {
         top,
         bottom,
         left,
         right,
-        zone,
-    }
+    };
+    let zone = zone_of(x, y, region);
+    Block { region, zone }
 }
 
 /// The end of what begins at a place and is a side long, within so many places.

@@ -6,92 +6,61 @@ ghost use Rattle.ring_rules.specs.Inner.Marks.{gives_ring_at, RemovesMarks};
 ghost use Rattle.ring_rules.specs.Inner.Regions.{IsHoleGrid, NoMarkPassesIn, HasNoMarkIn};
 ghost use Rattle.ring_rules.specs.Inner.Blocks.{IsBlock, IsInBlock, AreClosedUnmarked, NoMarkPassesInBlocks};
 
-use crate::cells::Cells;
-use crate::finding::Drilled;
-use crate::regions::try_rows;
-use grid_units::Rules;
+use crate::regions::{Region, RingSearch};
 use pad_shapes::{PadShape, Zone};
 
-/// A block of cells: rows from `top` to `bottom` and columns from `left` to `right`, ends excluded, and a zone that contains its points.
+/// A block of cells: a region, and a zone that contains its points.
 #[derive(Clone, Copy)]
 pub(crate) struct Block {
-    pub top: usize,
-    pub bottom: usize,
-    pub left: usize,
-    pub right: usize,
+    pub region: Region,
     pub zone: Zone,
 }
 
-/// Tries a pad at the holes of a block, and returns whether the block stays open: a mark may be left in it.
-fn try_block<S: PadShape>(
-    cells: &Cells,
-    holes: &[Drilled],
-    rules: Rules,
-    least: u64,
-    pad: &S,
-    block: &Block,
-    is_open: bool,
-    marks: &mut [bool],
-) -> bool
-    requires ready { IsHoleGrid cells.now.x cells.now.y cells.now.head.items cells.now.next.items holes.now rules.ring least }
-    requires size { length marks.old ≡ length holes.now }
-    requires block { IsBlock cells.now.x cells.now.y block.now }
-    requires closed { is_open ≡ false → HasNoMarkIn cells.now.x cells.now.y holes.now block.now.top block.now.bottom block.now.left block.now.right marks.old }
-    ensures removes { RemovesMarks (gives_ring_at S.covers rules.ring holes.now pad.now) marks.old marks.new }
-    ensures tried { NoMarkPassesIn (gives_ring_at S.covers rules.ring holes.now pad.now) cells.now.x cells.now.y holes.now block.now.top block.now.bottom block.now.left block.now.right marks.new }
-    ensures none { result ≡ false → HasNoMarkIn cells.now.x cells.now.y holes.now block.now.top block.now.bottom block.now.left block.now.right marks.new }
-{
-    if !is_open {
-        return false;
+impl RingSearch<'_> {
+    /// Tries a pad at the holes of a block, and returns whether the block stays open: a mark may be left in it.
+    fn try_block<S: PadShape>(
+        &self,
+        pad: &S,
+        block: &Block,
+        is_open: bool,
+        marks: &mut [bool],
+    ) -> bool
+        requires ready { IsHoleGrid self.now.cells.now.x self.now.cells.now.y self.now.cells.now.head.items self.now.cells.now.next.items self.now.holes.now self.now.rules.ring self.now.least }
+        requires size { length marks.old ≡ length self.now.holes.now }
+        requires block { IsBlock self.now.cells.now.x self.now.cells.now.y block.now }
+        requires closed { is_open ≡ false → HasNoMarkIn self.now.cells.now.x self.now.cells.now.y self.now.holes.now block.now.region.top block.now.region.bottom block.now.region.left block.now.region.right marks.old }
+        ensures removes { RemovesMarks (gives_ring_at S.covers self.now.rules.ring self.now.holes.now pad.now) marks.old marks.new }
+        ensures tried { NoMarkPassesIn (gives_ring_at S.covers self.now.rules.ring self.now.holes.now pad.now) self.now.cells.now.x self.now.cells.now.y self.now.holes.now block.now.region.top block.now.region.bottom block.now.region.left block.now.region.right marks.new }
+        ensures none { result ≡ false → HasNoMarkIn self.now.cells.now.x self.now.cells.now.y self.now.holes.now block.now.region.top block.now.region.bottom block.now.region.left block.now.region.right marks.new }
+    {
+        if !is_open {
+            return false;
+        }
+        if !pad.may_cover(&block.zone, self.least) {
+            return true;
+        }
+        self.try_rows(pad, true, block.region, marks)
     }
-    if !pad.may_cover(&block.zone, least) {
-        return true;
-    }
-    try_rows(
-        cells,
-        holes,
-        rules,
-        least,
-        pad,
-        true,
-        block.top,
-        block.bottom,
-        block.left,
-        block.right,
-        marks,
-    )
-}
 
-/// Tries a pad at the holes of all open blocks.
-pub(crate) fn try_blocks<S: PadShape>(
-    cells: &Cells,
-    holes: &[Drilled],
-    rules: Rules,
-    least: u64,
-    blocks: &[Block],
-    pad: &S,
-    open_blocks: &mut [bool],
-    marks: &mut [bool],
-)
-    requires ready { IsHoleGrid cells.now.x cells.now.y cells.now.head.items cells.now.next.items holes.now rules.ring least }
-    requires size { length marks.old ≡ length holes.now }
-    requires blocks { All (IsBlock cells.now.x cells.now.y) blocks.now }
-    requires open_blocks { length open_blocks.old ≡ length blocks.now }
-    requires closed { AreClosedUnmarked cells.now.x cells.now.y holes.now blocks.now open_blocks.old marks.old }
-    ensures removes { RemovesMarks (gives_ring_at S.covers rules.ring holes.now pad.now) marks.old marks.new }
-    ensures closed { AreClosedUnmarked cells.now.x cells.now.y holes.now blocks.now open_blocks.new marks.new }
-    ensures tried { NoMarkPassesInBlocks (gives_ring_at S.covers rules.ring holes.now pad.now) cells.now.x cells.now.y holes.now blocks.now (length blocks.now) marks.new }
-{
-    for (i, block) in blocks.iter().enumerate() {
-        open_blocks[i] = try_block(
-            cells,
-            holes,
-            rules,
-            least,
-            pad,
-            block,
-            open_blocks[i],
-            marks,
-        );
+    /// Tries a pad at the holes of all open blocks.
+    pub(crate) fn try_blocks<S: PadShape>(
+        &self,
+        pad: &S,
+        blocks: &[Block],
+        open_blocks: &mut [bool],
+        marks: &mut [bool],
+    )
+        requires ready { IsHoleGrid self.now.cells.now.x self.now.cells.now.y self.now.cells.now.head.items self.now.cells.now.next.items self.now.holes.now self.now.rules.ring self.now.least }
+        requires size { length marks.old ≡ length self.now.holes.now }
+        requires blocks { All (IsBlock self.now.cells.now.x self.now.cells.now.y) blocks.now }
+        requires open_blocks { length open_blocks.old ≡ length blocks.now }
+        requires closed { AreClosedUnmarked self.now.cells.now.x self.now.cells.now.y self.now.holes.now blocks.now open_blocks.old marks.old }
+        ensures removes { RemovesMarks (gives_ring_at S.covers self.now.rules.ring self.now.holes.now pad.now) marks.old marks.new }
+        ensures closed { AreClosedUnmarked self.now.cells.now.x self.now.cells.now.y self.now.holes.now blocks.now open_blocks.new marks.new }
+        ensures tried { NoMarkPassesInBlocks (gives_ring_at S.covers self.now.rules.ring self.now.holes.now pad.now) self.now.cells.now.x self.now.cells.now.y self.now.holes.now blocks.now (length blocks.now) marks.new }
+    {
+        for (i, block) in blocks.iter().enumerate() {
+            open_blocks[i] = self.try_block(pad, block, open_blocks[i], marks);
+        }
     }
 }

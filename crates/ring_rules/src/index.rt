@@ -14,6 +14,7 @@ use crate::finding::Drilled;
 use crate::layout::fitting_cells;
 use crate::marks::link_at;
 use crate::pads::{first_column, first_row, last_column, last_row};
+use crate::regions::Region;
 use grid_units::Point;
 use pad_shapes::Zone;
 use std::alloc::{AllocError, Global};
@@ -110,25 +111,22 @@ fn add_row(
     Ok(())
 }
 
-/// Appends such places of the cells in rows from `top` to `bottom` and columns from `left` to `right`, ends excluded.
+/// Appends such places of the cells of a region.
 fn add_rows(
     index: &HoleIndex,
     holes: &[Drilled],
     zone: &Zone,
-    top: usize,
-    bottom: usize,
-    left: usize,
-    right: usize,
+    region: Region,
     places: &mut Vec<usize>,
 ) -> Result<(), AllocError>
     requires index { IsIndexOf holes.now index.now }
-    requires bottom { bottom ≤ index.now.cells.y.last + 1 }
-    requires right { right ≤ index.now.cells.x.last + 1 }
+    requires bottom { region.bottom ≤ index.now.cells.y.last + 1 }
+    requires right { region.right ≤ index.now.cells.x.last + 1 }
     ensures adds { OnOk result (AddsPlaces holes.now zone.now places.old.items places.new.items) }
-    ensures listed { OnOk result ((k : ℕ) → k < length holes.now → IsInRegion index.now.cells.x index.now.cells.y top bottom left right (entry_at holes.now k) → ListsPlace holes.now zone.now k places.new.items) }
+    ensures listed { OnOk result ((k : ℕ) → k < length holes.now → IsInRegion index.now.cells.x index.now.cells.y region.top region.bottom region.left region.right (entry_at holes.now k) → ListsPlace holes.now zone.now k places.new.items) }
 {
-    for row in top..bottom {
-        add_row(index, holes, zone, row, left, right, places)?;
+    for row in region.top..region.bottom {
+        add_row(index, holes, zone, row, region.left, region.right, places)?;
     }
     Ok(())
 }
@@ -167,16 +165,13 @@ impl HoleIndex {
         ensures places { OnOk result (All (IsEntryInZone holes.now zone.now) places.new.items) }
     {
         places.clear();
-        add_rows(
-            self,
-            holes,
-            zone,
-            first_row(&self.cells.y, zone),
-            last_row(&self.cells.y, zone) + 1,
-            first_column(&self.cells.x, zone),
-            last_column(&self.cells.x, zone) + 1,
-            places,
-        )?;
+        let region = Region {
+            top: first_row(&self.cells.y, zone),
+            bottom: last_row(&self.cells.y, zone) + 1,
+            left: first_column(&self.cells.x, zone),
+            right: last_column(&self.cells.x, zone) + 1,
+        };
+        add_rows(self, holes, zone, region, places)?;
         Ok(())
     }
 }

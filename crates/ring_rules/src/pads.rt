@@ -12,11 +12,10 @@ ghost use Rattle.ring_rules.specs.Inner.Regions.{IsInRegion, IsHoleGrid};
 ghost use Rattle.ring_rules.specs.Inner.Blocks.{IsBlock, IsInAnyBlock, AreClosedUnmarked};
 
 use crate::axis::Axis;
-use crate::blocks::try_blocks;
 use crate::finding::Drilled;
 use crate::grid::HoleGrid;
 use crate::places::place;
-use crate::regions::try_rows;
+use crate::regions::{Region, RingSearch};
 use grid_units::{Rules, is_in_span};
 use pad_shapes::{PadShape, Zone};
 use std::alloc::{AllocError, Global};
@@ -24,13 +23,10 @@ use std::alloc::{AllocError, Global};
 /// The most cells of a range that are tried one by one.
 const FEW: usize = 24;
 
-/// Rows from `top` to `bottom` and columns from `left` to `right`, ends excluded. A pad without a zone has strips of all rows.
+/// A region where a pad may cover holes, and whether it is a strip. A pad without a zone has strips of all rows.
 #[derive(Clone, Copy)]
 struct CellRange {
-    top: usize,
-    bottom: usize,
-    left: usize,
-    right: usize,
+    region: Region,
     is_strip: bool,
 }
 
@@ -79,23 +75,27 @@ fn right_column<S: PadShape>(axis: &Axis, pad: &S) -> usize
 /// The rows and columns where a pad may cover a centre with at least this reach.
 fn range_of<S: PadShape>(x: &Axis, y: &Axis, pad: &S, least: u64) -> CellRange
     requires { least ≤ 15000000000000 }
-    ensures holds { (p : GridPoint) (r : ℕ) → least ≤ r → S.covers pad.now p r ≡ true → IsInRegion x.now y.now result.top result.bottom result.left result.right p }
-    ensures bottom { result.bottom ≤ y.now.last + 1 }
-    ensures right { result.right ≤ x.now.last + 1 }
+    ensures holds { (p : GridPoint) (r : ℕ) → least ≤ r → S.covers pad.now p r ≡ true → IsInRegion x.now y.now result.region.top result.region.bottom result.region.left result.region.right p }
+    ensures bottom { result.region.bottom ≤ y.now.last + 1 }
+    ensures right { result.region.right ≤ x.now.last + 1 }
 {
     match pad.zone(least) {
         Some(zone) => CellRange {
-            top: first_row(y, &zone),
-            bottom: last_row(y, &zone) + 1,
-            left: first_column(x, &zone),
-            right: last_column(x, &zone) + 1,
+            region: Region {
+                top: first_row(y, &zone),
+                bottom: last_row(y, &zone) + 1,
+                left: first_column(x, &zone),
+                right: last_column(x, &zone) + 1,
+            },
             is_strip: false,
         },
         None => CellRange {
-            top: 0,
-            bottom: y.last + 1,
-            left: left_column(x, pad),
-            right: right_column(x, pad) + 1,
+            region: Region {
+                top: 0,
+                bottom: y.last + 1,
+                left: left_column(x, pad),
+                right: right_column(x, pad) + 1,
+            },
             is_strip: true,
         },
     }
@@ -112,9 +112,9 @@ fn try_range<S: PadShape>(
     marks: &mut [bool],
 )
     requires ready { IsHoleGrid grid.now.cells.x grid.now.cells.y grid.now.cells.head.items grid.now.cells.next.items holes.now rules.ring grid.now.least }
-    requires range { (p : GridPoint) (r : ℕ) → grid.now.least ≤ r → S.covers pad.now p r ≡ true → IsInRegion grid.now.cells.x grid.now.cells.y range.top range.bottom range.left range.right p }
-    requires bottom { range.bottom ≤ grid.now.cells.y.last + 1 }
-    requires right { range.right ≤ grid.now.cells.x.last + 1 }
+    requires range { (p : GridPoint) (r : ℕ) → grid.now.least ≤ r → S.covers pad.now p r ≡ true → IsInRegion grid.now.cells.x grid.now.cells.y range.region.top range.region.bottom range.region.left range.region.right p }
+    requires bottom { range.region.bottom ≤ grid.now.cells.y.last + 1 }
+    requires right { range.region.right ≤ grid.now.cells.x.last + 1 }
     requires size { length marks.old ≡ length holes.now }
     requires open_blocks { length open_blocks.now ≡ length grid.now.blocks.items }
     requires closed { AreClosedUnmarked grid.now.cells.x grid.now.cells.y holes.now grid.now.blocks.items open_blocks.now marks.old }
@@ -122,26 +122,13 @@ fn try_range<S: PadShape>(
     ensures closed { AreClosedUnmarked grid.now.cells.x grid.now.cells.y holes.now grid.now.blocks.items open_blocks.now marks.new }
     ensures tried { (k : ℕ) → k < length holes.now → is_marked marks.new k ≡ true → gives_ring_at S.covers rules.ring holes.now pad.now k ≡ false }
 {
-    let CellRange {
-        top,
-        bottom,
-        left,
-        right,
-        ..
-    } = range;
-    let _ = try_rows(
-        &grid.cells,
+    let search = RingSearch {
+        cells: &grid.cells,
         holes,
         rules,
-        grid.least,
-        pad,
-        false,
-        top,
-        bottom,
-        left,
-        right,
-        marks,
-    );
+        least: grid.least,
+    };
+    let _ = search.try_rows(pad, false, range.region, marks);
 }
 
 /// Removes the marks of all holes to which a pad gives their ring, block by block.
@@ -163,22 +150,20 @@ fn try_all<S: PadShape>(
     ensures closed { AreClosedUnmarked grid.now.cells.x grid.now.cells.y holes.now grid.now.blocks.items open_blocks.new marks.new }
     ensures tried { (k : ℕ) → k < length holes.now → is_marked marks.new k ≡ true → gives_ring_at S.covers rules.ring holes.now pad.now k ≡ false }
 {
-    try_blocks(
-        &grid.cells,
+    let search = RingSearch {
+        cells: &grid.cells,
         holes,
         rules,
-        grid.least,
-        &grid.blocks,
-        pad,
-        open_blocks,
-        marks,
-    );
+        least: grid.least,
+    };
+    search.try_blocks(pad, &grid.blocks, open_blocks, marks);
 }
 
 /// Whether the cells of a range are tried one by one: they are few, or a strip.
 fn is_small(range: CellRange) -> bool {
-    let rows = range.bottom.saturating_sub(range.top);
-    let columns = range.right.saturating_sub(range.left);
+    let region = range.region;
+    let rows = region.bottom.saturating_sub(region.top);
+    let columns = region.right.saturating_sub(region.left);
     range.is_strip || rows.saturating_mul(columns) <= FEW
 }
 

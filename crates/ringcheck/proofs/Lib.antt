@@ -1,4 +1,5 @@
 pub mod LoadSteps
 pub mod Outcomes
-pub mod ThreeFiles
 pub mod ParseCountLemmas
+pub mod RewrittenPackages
+pub mod ThreeFiles

@@ -4,8 +4,7 @@ use Rattle.std.specs.Io.KnownBytes.{Appends}
 use Rattle.grid_units.specs.Holes.{GridRules}
 use Rattle.grid_units.specs.declared.fault.Reason.{Reason}
 use Rattle.drawing.specs.Drawings.{IsDrawn}
-use Rattle.package_check.specs.Flashed.{FlashedBoardView, IsFlashedBoard}
-use Rattle.package_check.specs.Boards.{board_findings}
+use Rattle.package_check.specs.Boards.{BoardView, IsFlashedBoard, board_findings}
 use Rattle.package_check.specs.Package.{FileView}
 use Rattle.package_check.specs.Soundness.{IsSound}
 use Rattle.ringcheck_files.specs.declared.Status.{Status}
@@ -16,12 +15,12 @@ use Rattle.ringcheck_files.specs.Words.{IsUsageStatus}
 
 -- the writer got just the picture of the files' board, with what is found under the rules, if there are any; without findings the files are sound
 pub record PrintsPicture (rules : Option GridRules) (before after : Option (List ℕ)) (passes : Bool) (all : List FileView) : Type 0 where
-  pub flashed : FlashedBoardView
-  pub read : IsFlashedBoard all flashed
+  pub board : BoardView
+  pub read : IsFlashedBoard all board
   pub text : List ℕ
-  pub is : IsDrawn (map (λ source. source.name) all) flashed rules text
+  pub is : IsDrawn (map (λ source. source.name) all) board rules text
   pub written : Appends before after text
-  pub sound : (required : GridRules) → rules ≡ Some required → board_findings required flashed.board ≡ [] → IsSound all required
+  pub sound : (required : GridRules) → rules ≡ Some required → board_findings required board ≡ [] → IsSound all required
   pub passed : passes ≡ true
 
 -- what a status says of the picture of a package; it is never Findings

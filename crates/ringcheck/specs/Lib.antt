@@ -1,9 +1,10 @@
-pub mod RequestStatus
-pub mod ParsedWords
-pub mod Refusals
 pub mod CheckStatus
-pub mod Waiving
-pub mod MeasureStatus
-pub mod ReportStatus
 pub mod DrawStatus
 pub mod Inner
+pub mod MeasureStatus
+pub mod ParsedWords
+pub mod Refusals
+pub mod ReportStatus
+pub mod RequestStatus
+pub mod RewrittenPackages
+pub mod Waiving

@@ -32,30 +32,30 @@ use Rattle.waivers.specs.declared.waiving.Waived.{Waived}
 -- what is printed of a report with the reasons why findings are waived: its text with at most `limit` findings, or its JSON or its file of
 -- waivers with all of them
 abbrev pub report_page : MeasureFormat → List (List ℕ) → List FileSum → BoardReport → Option ℕ → Acceptances → List ℕ
-report_page format.Text names files telling limit accepted = waived_report_text names telling limit accepted
-report_page format.Json names files telling limit accepted = json_text (waived_report_value names files telling accepted)
-report_page format.Waivers names files telling limit accepted = findings_text names telling
+report_page format.Text names files report limit accepted = waived_report_text names report limit accepted
+report_page format.Json names files report limit accepted = json_text (waived_report_value names files report accepted)
+report_page format.Waivers names files report limit accepted = findings_text names report
 
 -- whether a report has no finding
 abbrev pub has_none : BoardReport → Bool
-has_none telling = (length telling.rings.items == 0) && (length telling.gaps.items == 0)
+has_none report = (length report.rings.items == 0) && (length report.gaps.items == 0)
 
 -- whether a report passes, and its reasons: without a file of waivers it passes where it has no finding, and has no reason; with one it
 -- passes where each finding is waived, and has the reasons of the records that waive them
 abbrev pub Judges : Option (List Waiver) → List (List ℕ) → BoardReport → Bool → Acceptances → Type 0
-Judges None names telling passes accepted = (passes ≡ has_none telling) × (accepted.rings.now ≡ []) × (accepted.gaps.now ≡ []) × (accepted.idle.now ≡ [])
-Judges (Some waivers) names telling passes accepted = (waived : Waived) × (passes ≡ are_all_waived waived) × IsWaived waivers names telling waived × AreReasons waivers waived accepted
+Judges None names report passes accepted = (passes ≡ has_none report) × (accepted.rings.now ≡ []) × (accepted.gaps.now ≡ []) × (accepted.idle.now ≡ [])
+Judges (Some waivers) names report passes accepted = (waived : Waived) × (passes ≡ are_all_waived waived) × IsWaived waivers names report waived × AreReasons waivers waived accepted
 
 -- the writer got just the report of the files under the rules, in a format, judged with the waivers of a file, if there is one; its findings
 -- are those of the check of them, one for one, and without a finding they are sound
 pub record Reports (rules : GridRules) (limit : Option ℕ) (form : MeasureFormat) (waivers : Option (List Waiver)) (before after : Option (List ℕ)) (passes : Bool) (all : List FileView) : Type 0 where
-  pub telling : BoardReport
-  pub is : IsBoardReportOf all rules telling
-  pub as_check : AgreesWithCheck all rules telling
-  pub sound : has_none telling ≡ true → IsSound all rules
+  pub report : BoardReport
+  pub is : IsBoardReportOf all rules report
+  pub as_check : AgreesWithCheck all rules report
+  pub sound : has_none report ≡ true → IsSound all rules
   pub accepted : Acceptances
-  pub judged : Judges waivers (map (λ source. source.name) all) telling passes accepted
-  pub written : Appends before after (report_page form (map (λ source. source.name) all) is.flashed.board.files telling limit accepted)
+  pub judged : Judges waivers (map (λ source. source.name) all) report passes accepted
+  pub written : Appends before after (report_page form (map (λ source. source.name) all) is.board.files report limit accepted)
 
 -- how a refusal is printed in place of a report: by a line with its page, as JSON, or by a line alone
 abbrev pub report_style : MeasureFormat → RefusalStyle

@@ -1,16 +1,16 @@
-//! PrintsPicture a package.
+//! The picture of a package.
 
 ghost use Rattle.std.specs.Prelude.{◌≡◌, List, IfErr, IfOk, map};
-ghost use Rattle.package_check.specs.Flashed.{FlashedHasTaken};
+ghost use Rattle.layer_image.specs.declared.keep.Keep.TheVariants as keep;
+ghost use Rattle.package_check.specs.Holding.{HasTaken};
 ghost use Rattle.package_check.specs.Package.{FileView};
 ghost use Rattle.ringcheck.specs.DrawStatus.{PrintsPicture};
 ghost use Rattle.ringcheck.specs.Inner.Halting.{OfTaken};
 
-use crate::PackageFault;
 use crate::refusals::{Halt, refused};
+use crate::{PackageFault, PackageReader};
 use drawing::Drawing;
 use grid_units::Rules;
-use package_check::FlashedReader;
 use package_check::laws::passing_is_sound;
 use ringcheck_files::Failure;
 use std::alloc::Global;
@@ -19,17 +19,17 @@ use std::io::Write;
 /// Prints the picture of the files of these names, which a reader has taken, with what is found under the rules, if there are any.
 pub(crate) fn draw<'a, W: Write>(
     alloc: Global,
-    reader: FlashedReader,
+    reader: PackageReader,
     names: &[&'a str],
     rules: Option<Rules>,
     out: &mut W,
 ) -> Result<Result<bool, Halt<'a>>, Failure>
-    ensures answers { (all : List FileView) → map (λ name. name.now) names.now ≡ map (λ source. source.name) all → FlashedHasTaken reader all
+    ensures answers { (all : List FileView) → map (λ name. name.now) names.now ≡ map (λ source. source.name) all → HasTaken reader keep.Flashes all
         → IfOk result (OfTaken (PrintsPicture rules (W.contents out.old) (W.contents out.new)) all) }
     ensures silent { IfOk result (λ done. IfErr done (λ halt. W.contents out.new ≡ W.contents out.old)) }
 {
     passing_is_sound();
-    let board = match reader.finish() {
+    let board = match reader.board() {
         Ok(board) => board,
         Err(PackageFault::Memory) => return Err(Failure::Memory),
         Err(PackageFault::File { index, fault }) => {

@@ -1,13 +1,14 @@
 //! What is done with the package of a manifest.
 
 ghost use Rattle.std.specs.Prelude.{◌≡◌};
-ghost use Rattle.ringcheck.specs.Inner.Jobs.{job_style};
+ghost use Rattle.ringcheck.specs.Inner.Jobs.{job_keep, job_style};
 ghost use Rattle.ringcheck.specs.MeasureStatus.{style_of};
 ghost use Rattle.ringcheck.specs.ReportStatus.{report_style};
 
 use crate::parsed_words::MeasureFormat;
 use crate::refusals::RefusalStyle;
 use grid_units::Rules;
+use package_check::Keep;
 use waivers::Waiver;
 
 /// What a report is asked for.
@@ -57,6 +58,16 @@ pub(crate) fn report_style(format: MeasureFormat) -> RefusalStyle
 }
 
 impl Job {
+    /// What is kept of copper files for it: a report and a picture need their flashes.
+    pub(crate) fn keep(&self) -> Keep
+        ensures { result ≡ job_keep self.now }
+    {
+        match self {
+            Job::Check(_) | Job::Measure(_) => Keep::Pads,
+            Job::Report(_) | Job::Draw(_) => Keep::Flashes,
+        }
+    }
+
     /// How a refusal is printed in its place.
     pub(crate) fn style(&self) -> RefusalStyle
         ensures { result ≡ job_style self.now }

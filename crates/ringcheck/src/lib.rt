@@ -11,7 +11,7 @@ mod parsed_words;
 mod program;
 mod refusals;
 mod reports;
-mod takes_files;
+pub mod rewritten_packages;
 
 pub use manifest::{Entry, Name, Role, read_manifest};
 pub use package_check::{

@@ -5,15 +5,16 @@ ghost use Rattle.std.specs.List.{count_by};
 ghost use Rattle.grid_units.specs.Results.{Answers};
 ghost use Rattle.grid_units.specs.declared.fault.Fault.{Fault as TheFault};
 ghost use Rattle.manifest.specs.Manifest.{manifest};
+ghost use Rattle.package_check.specs.Holding.{HasTaken};
 ghost use Rattle.package_check.specs.Package.{is_copper};
 ghost use Rattle.ringcheck_files.specs.Outcomes.{HasRisen};
 ghost use Rattle.ringcheck.specs.Inner.Halting.{OfFiles, OfTable};
 ghost use Rattle.waivers.specs.Reading.{waivers};
 
 use crate::refusals::{Halt, Subject};
-use crate::takes_files::TakesFiles;
-use crate::{Entry, LoadFault, Loader, Role, read_manifest};
+use crate::{Entry, LoadFault, Loader, PackageReader, Role, read_manifest};
 use grid_units::Fail;
+use package_check::Keep;
 use ringcheck_files::{ABOVE_LIMIT, FILE_LIMIT, Failure};
 use std::alloc::Global;
 use waivers::{Waiver, read_waivers};
@@ -86,20 +87,21 @@ fn layer_count(entries: &[Entry]) -> usize
     entries.iter().filter(|entry| is_copper(entry.role)).count()
 }
 
-/// A reader that has taken the files of the entries, in order. They are loaded one after the other, and the bytes of each are
-/// freed before the next is loaded.
-pub(crate) fn take_files<'a, L: Loader, R: TakesFiles + Drop>(
+/// A reader that has taken the files of the entries, in order, and keeps this of them. They are loaded one after the other, and the
+/// bytes of each are freed before the next is loaded.
+pub(crate) fn take_files<'a, L: Loader>(
     alloc: Global,
+    keep: Keep,
     loader: &mut L,
     entries: &'a [Entry],
-) -> Result<Result<R, Halt<'a>>, Failure>
-    ensures { IfOk result (OfFiles (L.has loader.old) entries.now (HasRisen (L.failed loader.old) (L.failed loader.new)) R.stands) }
+) -> Result<Result<PackageReader, Halt<'a>>, Failure>
+    ensures { IfOk result (OfFiles (L.has loader.old) entries.now (HasRisen (L.failed loader.old) (L.failed loader.new)) (λ reader. HasTaken reader keep)) }
 {
-    let mut reader = R::for_layers(alloc, layer_count(entries));
+    let mut reader = PackageReader::keeping(alloc, layer_count(entries), keep);
     for (index, entry) in entries.iter().enumerate() {
         let name = entry.name.as_str();
         match loader.load(alloc, entry.file.as_str(), FILE_LIMIT) {
-            Ok(bytes) => reader.take_file(entry, bytes.as_slice())?,
+            Ok(bytes) => reader.take(entry.role, entry.span, &[bytes.as_slice()])?,
             Err(LoadFault::Device) => return Ok(Err(Halt::Unread(Subject::File { index, name }))),
             Err(LoadFault::Memory) => return Err(Failure::Memory),
             Err(LoadFault::TooLong) => {

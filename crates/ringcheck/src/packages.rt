@@ -14,8 +14,7 @@ use crate::jobs::{Job, Order, report_style};
 use crate::load_package::{load_table, take_files};
 use crate::parsed_words::{ReportWords, parse_draw, parse_format, parse_report, parse_rules};
 use crate::refusals::{Halt, Subject, print_halt};
-use crate::{Entry, Loader, PackageReader, checks, drawings, measures, reports};
-use package_check::FlashedReader;
+use crate::{Entry, Loader, checks, drawings, measures, reports};
 use ringcheck_files::{Failure, Status, refuse_word};
 use std::alloc::{AllocError, Global};
 use std::io::Write;
@@ -44,23 +43,15 @@ fn answer<'a, L: Loader, W: Write>(
     ensures silent { IfOk result (λ done. IfErr done (λ halt. W.contents out.new ≡ W.contents out.old)) }
 {
     let names = names_of(alloc, entries)?;
+    let reader = match take_files(alloc, job.keep(), loader, entries)? {
+        Ok(reader) => reader,
+        Err(halt) => return Ok(Err(halt)),
+    };
     match job {
-        Job::Check(rules) => match take_files::<L, PackageReader>(alloc, loader, entries)? {
-            Ok(reader) => checks::check(reader, names.as_slice(), *rules, out),
-            Err(halt) => Ok(Err(halt)),
-        },
-        Job::Measure(format) => match take_files::<L, PackageReader>(alloc, loader, entries)? {
-            Ok(reader) => measures::measure(alloc, reader, names.as_slice(), *format, out),
-            Err(halt) => Ok(Err(halt)),
-        },
-        Job::Report(options) => match take_files::<L, FlashedReader>(alloc, loader, entries)? {
-            Ok(reader) => reports::report(alloc, reader, names.as_slice(), options, out),
-            Err(halt) => Ok(Err(halt)),
-        },
-        Job::Draw(rules) => match take_files::<L, FlashedReader>(alloc, loader, entries)? {
-            Ok(reader) => drawings::draw(alloc, reader, names.as_slice(), *rules, out),
-            Err(halt) => Ok(Err(halt)),
-        },
+        Job::Check(rules) => checks::check(reader, names.as_slice(), *rules, out),
+        Job::Measure(format) => measures::measure(alloc, reader, names.as_slice(), *format, out),
+        Job::Report(options) => reports::report(alloc, reader, names.as_slice(), options, out),
+        Job::Draw(rules) => drawings::draw(alloc, reader, names.as_slice(), *rules, out),
     }
 }
 

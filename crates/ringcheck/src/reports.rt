@@ -2,20 +2,21 @@
 
 ghost use Rattle.std.specs.Prelude.{◌≡◌, ◌==◌, ◌&&◌, Bool, List, IfErr, IfOk, OnOk, length, map};
 ghost use Rattle.std.specs.Io.KnownBytes.{Appends};
-ghost use Rattle.package_check.specs.Flashed.{FlashedHasTaken};
+ghost use Rattle.layer_image.specs.declared.keep.Keep.TheVariants as keep;
+ghost use Rattle.package_check.specs.Holding.{HasTaken};
 ghost use Rattle.package_check.specs.Package.{FileView};
 ghost use Rattle.report.specs.declared.Acceptances.{Acceptances as TheAcceptances};
 ghost use Rattle.ringcheck.specs.Inner.Halting.{OfTaken};
 ghost use Rattle.ringcheck.specs.Inner.Jobs.{given};
 ghost use Rattle.ringcheck.specs.ReportStatus.{Judges, Reports, has_none, report_page};
 
-use crate::PackageFault;
 use crate::jobs::Order;
 use crate::parsed_words::MeasureFormat;
 use crate::refusals::{Halt, refused};
+use crate::{PackageFault, PackageReader};
 use board_report::report_laws::report_agrees_with_check;
 use board_report::report_on;
-use package_check::{FileSum, FlashedReader};
+use package_check::FileSum;
 use print_json::ReportJson;
 use print_text::ReportText;
 use report::{Acceptances, BoardReport};
@@ -29,37 +30,37 @@ fn print<W: Write>(
     alloc: Global,
     names: &[&str],
     files: &[FileSum],
-    telling: &BoardReport,
+    report: &BoardReport,
     options: &Order,
     accepted: &Acceptances,
     out: &mut W,
 ) -> Result<(), Failure>
-    ensures { OnOk result (Appends (W.contents out.old) (W.contents out.new) (report_page options.now.format (map (λ name. name.now) names.now) files.now telling.now options.now.limit accepted.now)) }
+    ensures { OnOk result (Appends (W.contents out.old) (W.contents out.new) (report_page options.now.format (map (λ name. name.now) names.now) files.now report.now options.now.limit accepted.now)) }
 {
     match options.format {
         MeasureFormat::Text => {
-            let text = ReportText::new(alloc, names, telling, options.limit, accepted)?;
+            let text = ReportText::new(alloc, names, report, options.limit, accepted)?;
             write!(out, "{text}")?;
         }
         MeasureFormat::Json => {
             let json = ReportJson {
                 names,
                 files,
-                telling,
+                report,
                 accepted,
             };
             write!(out, "{json}")?;
         }
-        MeasureFormat::Waivers => write!(out, "{}", WaiverText { names, telling })?,
+        MeasureFormat::Waivers => write!(out, "{}", WaiverText { names, report })?,
     }
     Ok(())
 }
 
 /// Whether a report has no finding.
-fn has_none(telling: &BoardReport) -> bool
-    ensures { result ≡ has_none telling.now }
+fn has_none(report: &BoardReport) -> bool
+    ensures { result ≡ has_none report.now }
 {
-    telling.rings.is_empty() && telling.gaps.is_empty()
+    report.rings.is_empty() && report.gaps.is_empty()
 }
 
 /// Prints a report with these waivers, and returns whether each finding is waived.
@@ -67,15 +68,15 @@ fn print_waived<W: Write>(
     alloc: Global,
     names: &[&str],
     files: &[FileSum],
-    telling: &BoardReport,
+    report: &BoardReport,
     options: &Order,
     waivers: &[Waiver],
     out: &mut W,
 ) -> Result<bool, Failure>
-    ensures { IfOk result (λ passes. (accepted : TheAcceptances) × Judges (Some waivers.now) (map (λ name. name.now) names.now) telling.now passes accepted
-        × Appends (W.contents out.old) (W.contents out.new) (report_page options.now.format (map (λ name. name.now) names.now) files.now telling.now options.now.limit accepted)) }
+    ensures { IfOk result (λ passes. (accepted : TheAcceptances) × Judges (Some waivers.now) (map (λ name. name.now) names.now) report.now passes accepted
+        × Appends (W.contents out.old) (W.contents out.new) (report_page options.now.format (map (λ name. name.now) names.now) files.now report.now options.now.limit accepted)) }
 {
-    let waived = waive(alloc, names, telling, waivers)?;
+    let waived = waive(alloc, names, report, waivers)?;
     let rings = reasons(alloc, waivers, waived.rings.as_slice())?;
     let gaps = reasons(alloc, waivers, waived.gaps.as_slice())?;
     let idle = idle(alloc, &waived, waivers)?;
@@ -84,7 +85,7 @@ fn print_waived<W: Write>(
         gaps: gaps.as_slice(),
         idle: idle.as_slice(),
     };
-    print(alloc, names, files, telling, options, &accepted, out)?;
+    print(alloc, names, files, report, options, &accepted, out)?;
     Ok(waived.all())
 }
 
@@ -93,12 +94,12 @@ fn print_judged<W: Write>(
     alloc: Global,
     names: &[&str],
     files: &[FileSum],
-    telling: &BoardReport,
+    report: &BoardReport,
     options: &Order,
     out: &mut W,
 ) -> Result<bool, Failure>
-    ensures { IfOk result (λ passes. (accepted : TheAcceptances) × Judges (given options.now.waivers) (map (λ name. name.now) names.now) telling.now passes accepted
-        × Appends (W.contents out.old) (W.contents out.new) (report_page options.now.format (map (λ name. name.now) names.now) files.now telling.now options.now.limit accepted)) }
+    ensures { IfOk result (λ passes. (accepted : TheAcceptances) × Judges (given options.now.waivers) (map (λ name. name.now) names.now) report.now passes accepted
+        × Appends (W.contents out.old) (W.contents out.new) (report_page options.now.format (map (λ name. name.now) names.now) files.now report.now options.now.limit accepted)) }
 {
     match &options.waivers {
         Some(waivers) => {
@@ -106,7 +107,7 @@ fn print_judged<W: Write>(
                 alloc,
                 names,
                 files,
-                telling,
+                report,
                 options,
                 waivers.as_slice(),
                 out,
@@ -118,8 +119,8 @@ fn print_judged<W: Write>(
                 gaps: &[],
                 idle: &[],
             };
-            print(alloc, names, files, telling, options, &accepted, out)?;
-            Ok(has_none(telling))
+            print(alloc, names, files, report, options, &accepted, out)?;
+            Ok(has_none(report))
         }
     }
 }
@@ -127,25 +128,25 @@ fn print_judged<W: Write>(
 /// Prints the report on the files of these names, which a reader has taken, and returns whether it passes.
 pub(crate) fn report<'a, W: Write>(
     alloc: Global,
-    reader: FlashedReader,
+    reader: PackageReader,
     names: &[&'a str],
     options: &Order,
     out: &mut W,
 ) -> Result<Result<bool, Halt<'a>>, Failure>
-    ensures answers { (all : List FileView) → map (λ name. name.now) names.now ≡ map (λ source. source.name) all → FlashedHasTaken reader all
+    ensures answers { (all : List FileView) → map (λ name. name.now) names.now ≡ map (λ source. source.name) all → HasTaken reader keep.Flashes all
         → IfOk result (OfTaken (Reports options.now.rules options.now.limit options.now.format (given options.now.waivers) (W.contents out.old) (W.contents out.new)) all) }
     ensures silent { IfOk result (λ done. IfErr done (λ halt. W.contents out.new ≡ W.contents out.old)) }
 {
     report_agrees_with_check();
-    let flashed = match reader.finish() {
-        Ok(flashed) => flashed,
+    let board = match reader.board() {
+        Ok(board) => board,
         Err(PackageFault::Memory) => return Err(Failure::Memory),
         Err(PackageFault::File { index, fault }) => {
             return Ok(Err(refused(names, index, fault)));
         }
     };
-    let telling = report_on(alloc, &flashed, options.rules)?;
-    let files = flashed.board().files();
-    let passes = print_judged(alloc, names, files, &telling, options, out)?;
+    let report = report_on(alloc, &board, options.rules)?;
+    let files = board.files();
+    let passes = print_judged(alloc, names, files, &report, options, out)?;
     Ok(Ok(passes))
 }

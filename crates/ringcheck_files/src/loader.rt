@@ -19,7 +19,7 @@ pub enum LoadFault {
     Memory,
 }
 
-/// IsNextRead the bytes of files by their names. Which bytes a name may stand for is one relation, which no call changes.
+/// Gives the bytes of files by their names. Which bytes a name may stand for is one relation, which no call changes.
 pub trait Loader {
     /// The bytes that a name may stand for.
     ghost has: { Self → List ℕ → List ℕ → Type 0 };

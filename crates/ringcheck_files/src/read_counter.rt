@@ -31,7 +31,7 @@ impl ReadCounter {
         self.made
     }
 
-    /// ReadCounter once more, counts the read, and returns how many bytes it gave; `None` means that it was interrupted. Only this
+    /// Reads once more, counts the read, and returns how many bytes it gave; `None` means that it was interrupted. Only this
     /// body says what a failed read is, as no clause of `Read` mentions failures.
     pub(crate) fn read<R: Read>(
         &mut self,

@@ -2,8 +2,8 @@
 
 use grid_units::{Fault, Reason, Rules};
 use package_check::{
-    Board, CheckText, File, FileLines, FileSum, PackageFault, PackageReader, PiecedFile, Report,
-    Role, Span, check_bytes, check_pieces, read_package, write_report,
+    Board, CheckText, File, FileLines, FileSum, Keep, PackageFault, PackageReader, PiecedFile,
+    Report, Role, Span, check_bytes, check_pieces, read_package, write_report,
 };
 use std::alloc::{AllocError, Global};
 use std::test::Fail as Failure;
@@ -226,7 +226,7 @@ fn pieces_give_the_report_of_the_whole(rt: HostRuntime) -> Result<(), Failure> {
 fn is_refused(alloc: Global, rows: &[FileRow], fault: PackageFault) -> Result<bool, Failure> {
     let files = files_of(alloc, rows)?;
     let report = check_bytes(alloc, &files, rules()?).err();
-    Ok(report == Some(fault) && read_package(alloc, &files).err() == Some(fault))
+    Ok(report == Some(fault) && read_package(alloc, &files, Keep::Pads).err() == Some(fault))
 }
 
 /// A span has layers of the package, and no layer has one. The first file that is refused counts, whatever stands after it.
@@ -284,7 +284,9 @@ fn pad_counts(alloc: Global, board: &Board) -> Result<Vec<usize>, AllocError> {
 #[test]
 fn a_board_has_the_layers_of_its_files(rt: HostRuntime) -> Result<(), Failure> {
     let files = files_of(rt.alloc(), &FOUR)?;
-    let board = read_package(rt.alloc(), &files).ok().ok_or("no board")?;
+    let board = read_package(rt.alloc(), &files, Keep::Pads)
+        .ok()
+        .ok_or("no board")?;
     let counts = pad_counts(rt.alloc(), &board)?;
     assert!(rt;
         board.layer_indexes() == [1, 3].as_slice() && counts.as_slice() == [1, 1].as_slice()
@@ -295,7 +297,9 @@ fn a_board_has_the_layers_of_its_files(rt: HostRuntime) -> Result<(), Failure> {
 #[test]
 fn a_board_has_the_holes_of_its_files(rt: HostRuntime) -> Result<(), Failure> {
     let files = files_of(rt.alloc(), &FOUR)?;
-    let board = read_package(rt.alloc(), &files).ok().ok_or("no board")?;
+    let board = read_package(rt.alloc(), &files, Keep::Pads)
+        .ok()
+        .ok_or("no board")?;
     for (place, hole) in [
         (0, Some((false, true, None))),
         (1, Some((true, false, Span::new(1, 2)))),
@@ -309,7 +313,9 @@ fn a_board_has_the_holes_of_its_files(rt: HostRuntime) -> Result<(), Failure> {
 #[test]
 fn the_lines_of_files_are_printed_alone(rt: HostRuntime) -> Result<(), Failure> {
     let files = files_of(rt.alloc(), &FOUR)?;
-    let board = read_package(rt.alloc(), &files).ok().ok_or("no board")?;
+    let board = read_package(rt.alloc(), &files, Keep::Pads)
+        .ok()
+        .ok_or("no board")?;
     let lines = FileLines {
         names: &["npth", "top", "pth", "bot"],
         files: board.files(),
@@ -329,7 +335,9 @@ fn a_board_has_the_findings_of_its_report(rt: HostRuntime) -> Result<(), Failure
         (Role::Unplated, "pth", None, DRILL),
     );
     let files = [file(top), file(PTH), file(npth)];
-    let board = read_package(alloc, &files).ok().ok_or("no board")?;
+    let board = read_package(alloc, &files, Keep::Pads)
+        .ok()
+        .ok_or("no board")?;
     let report = check_bytes(alloc, &files, rules()?)
         .ok()
         .ok_or("no report")?;
@@ -340,12 +348,12 @@ fn a_board_has_the_findings_of_its_report(rt: HostRuntime) -> Result<(), Failure
     Ok(())
 }
 
-/// How many flashes a reader gives for each of two files: a layer in two pieces, and a drill file.
-fn flash_counts(reader: &mut PackageReader) -> Result<(usize, usize), Failure> {
+/// Takes a layer in two pieces, a drill file, and a layer in one piece.
+fn take_three(reader: &mut PackageReader) -> Result<(), AllocError> {
     let (start, end) = TWO.split_at(50);
-    let layer = reader.take_with_flashes(Role::Copper, &None, &[start, end])?;
-    let drill = reader.take_with_flashes(Role::Plated, &None, &[DRILL])?;
-    Ok((layer.len(), drill.len()))
+    reader.take(Role::Copper, None, &[start, end])?;
+    reader.take(Role::Plated, None, &[DRILL])?;
+    reader.take(Role::Copper, None, &[TWO])
 }
 
 const LAYER_OF_TWO: FileSum = FileSum::Layer { pads: 2, other: 0 };
@@ -353,9 +361,8 @@ const LAYER_OF_TWO: FileSum = FileSum::Layer { pads: 2, other: 0 };
 #[test]
 fn a_reader_gives_the_flashes_of_copper(rt: HostRuntime) -> Result<(), Failure> {
     let alloc = rt.alloc();
-    let mut reader = PackageReader::new(alloc, 2);
-    let counts = flash_counts(&mut reader)?;
-    reader.take(Role::Copper, &None, &[TWO])?;
+    let mut reader = PackageReader::keeping(alloc, 2, Keep::Flashes);
+    take_three(&mut reader)?;
     let board = reader.board().ok().ok_or("no board")?;
     let drill = FileSum::Drill {
         plated: true,
@@ -365,15 +372,16 @@ fn a_reader_gives_the_flashes_of_copper(rt: HostRuntime) -> Result<(), Failure> 
     };
     let wanted = &[LAYER_OF_TWO, drill, LAYER_OF_TWO];
     assert!(rt; board.files() == wanted.as_slice());
-    assert!(rt; (counts, board.layers(alloc)?.len()) == ((2, 0), 2));
+    let counts = [0, 1, 2].map(|file| board.flashes_of(file).len());
+    assert!(rt; (counts, board.layers(alloc)?.len()) == ([2, 0, 2], 2));
     Ok(())
 }
 
 #[test]
 fn a_reader_with_flashes_keeps_the_first_refusal(rt: HostRuntime) -> Result<(), Failure> {
-    let mut reader = PackageReader::new(rt.alloc(), 2);
-    reader.take_with_flashes(Role::Copper, &Span::new(1, 1), &[TWO])?;
-    reader.take_with_flashes(Role::Copper, &None, &[DRILL])?;
+    let mut reader = PackageReader::keeping(rt.alloc(), 2, Keep::Flashes);
+    reader.take(Role::Copper, Span::new(1, 1), &[TWO])?;
+    reader.take(Role::Copper, None, &[DRILL])?;
     let (index, fault) = (0, FAULT);
     assert!(rt; reader.board().err() == Some(PackageFault::File { index, fault }));
     Ok(())

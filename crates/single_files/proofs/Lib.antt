@@ -6,4 +6,3 @@ pub mod Typed
 pub mod SameCommandsLemmas
 pub mod RewritingUniqueness
 pub mod WriterLemmas
-pub mod Packages

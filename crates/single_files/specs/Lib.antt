@@ -1,5 +1,4 @@
 pub mod Rows
 pub mod Tables
-pub mod Packages
 pub mod Rewriting
 pub mod Inner

@@ -1,6 +1,5 @@
 //! Laws of rewritten texts. A call of one does nothing, and gives its clause.
 
-ghost use Rattle.single_files.specs.Packages.{RewritingKeepsAnswers};
 ghost use Rattle.single_files.specs.Rewriting.{KeepsCommands, RewritingIsUnique, RewritingIsIdempotent};
 
 /// A rewritten text spells the commands of the text that it was rewritten from.
@@ -20,16 +19,4 @@ pub fn unique_rewriting()
     layer_image::unique_reading();
     drill_text::laws::unique_reading();
     drill_text::laws::drill_texts();
-}
-
-/// A package in which any files are rewritten, each by the kind of text of its role, has the same answer.
-pub fn rewriting_keeps_answers()
-    ensures { RewritingKeepsAnswers }
-{
-    layer_image::unique_reading();
-    layer_image::equal_commands();
-    drill_text::laws::unique_reading();
-    drill_text::laws::drill_texts();
-    keeps_commands();
-    package_check::laws::same_answers();
 }

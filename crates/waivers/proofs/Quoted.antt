@@ -9,7 +9,7 @@ use Rattle.grid_units.specs.Points.{GridPoint}
 use Rattle.grid_units.specs.Spellings.{fraction_text, minus, places, trimmed}
 use Rattle.manifest.specs.Manifest.{CsvRecord}
 use Rattle.printing.specs.Lengths.{short_millimetres}
-use Rattle.print_text.specs.Texts.{drilled_words, ends_words, point_words, two_lengths}
+use Rattle.printing.specs.Holes.{drilled_words, ends_words, point_words, two_lengths}
 use Rattle.waivers.specs.Findings.{finding_record, head_record}
 use Rattle.waivers.specs.Inner.{joined}
 

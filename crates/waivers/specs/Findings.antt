@@ -6,17 +6,17 @@ use Rattle.csv.specs.Writing.{default_writer, row_text}
 use Rattle.manifest.specs.Manifest.{CsvRecord}
 use Rattle.printing.specs.Lengths.{short_millimetres}
 use Rattle.report.specs.declared.GapLack.{GapLack}
-use Rattle.report.specs.declared.HoleAt.{HoleAt}
+use Rattle.report.specs.declared.PlacedHole.{PlacedHole}
 use Rattle.report.specs.declared.LayerHead.{LayerHead}
 use Rattle.report.specs.declared.RingCause.{RingCause}
 use Rattle.report.specs.declared.RingCause.TheVariants as causes
 use Rattle.report.specs.declared.RingLack.{RingLack}
 use Rattle.report.specs.declared.BoardReport.{BoardReport}
-use Rattle.print_text.specs.Texts.{drilled_words, name_of}
+use Rattle.printing.specs.Holes.{drilled_words, name_of}
 
 -- a hole without its number: `pic_programmer-PTH, 0.75 at 142.24,-97.79`
-abbrev pub hole_field : List (List ℕ) → HoleAt → List ℕ
-hole_field names at = name_of names at.drill ++ (codes ", " ++ drilled_words at.hole)
+abbrev pub hole_field : List (List ℕ) → PlacedHole → List ℕ
+hole_field names at = name_of names at.place.drill ++ (codes ", " ++ drilled_words at.hole)
 
 -- the name of a layer's file, by the layer's place; empty where the report has no such layer
 abbrev pub layer_field : List (List ℕ) → List LayerHead → ℕ → List ℕ

@@ -9,9 +9,8 @@ ghost use Rattle.waivers.specs.Inner.{joined};
 ghost use Rattle.waivers.specs.Waiving.{compared_fields};
 
 use crate::Waiver;
-use print_text::{DrilledWords, name_of};
-use printing::ShortMillimetres;
-use report::{GapLack, HoleAt, LayerHead, RingCause, RingLack};
+use printing::{DrilledWords, ShortMillimetres, name_of};
+use report::{GapLack, LayerHead, PlacedHole, RingCause, RingLack};
 use std::fmt;
 use std::fmt::{Display, Formatter};
 
@@ -77,14 +76,14 @@ fn layer_name<'a>(names: &[&'a str], layers: &[LayerHead], place: usize) -> &'a 
 #[derive(Clone, Copy)]
 struct HoleField<'a> {
     names: &'a [&'a str],
-    at: HoleAt,
+    at: PlacedHole,
 }
 
 impl Display for HoleField<'_> {
     ghost output = { λ field. Some (field_text default_writer (hole_field (map (λ name. name.now) field.names.now) field.at)) };
 
     fn fmt<W: fmt::Write>(&self, f: &mut Formatter<W>) -> fmt::Result {
-        let name = Escaped(name_of(self.names, self.at.drill));
+        let name = Escaped(name_of(self.names, self.at.place.drill));
         write!(f, "\"{name}, {}\"", DrilledWords(&self.at.hole))
     }
 }

@@ -50,24 +50,24 @@ pub struct WaiverText<'a> {
     /// The names of the package's files.
     pub names: &'a [&'a str],
     /// The report.
-    pub telling: &'a BoardReport,
+    pub report: &'a BoardReport,
 }
 
 impl Display for WaiverText<'_> {
-    ghost output = { λ text. Some (findings_text (map (λ name. name.now) text.names.now) text.telling.now) };
+    ghost output = { λ text. Some (findings_text (map (λ name. name.now) text.names.now) text.report.now) };
 
     fn fmt<W: fmt::Write>(&self, f: &mut Formatter<W>) -> fmt::Result {
         let page = Page {
             names: self.names,
-            layers: self.telling.layers.as_slice(),
+            layers: self.report.layers.as_slice(),
         };
         let rings = Lines {
             page: &page,
-            lines: self.telling.rings.as_slice(),
+            lines: self.report.rings.as_slice(),
         };
         let gaps = Lines {
             page: &page,
-            lines: self.telling.gaps.as_slice(),
+            lines: self.report.gaps.as_slice(),
         };
         write!(f, "kind,layer,hole,and,has,why\n{rings}{gaps}")
     }

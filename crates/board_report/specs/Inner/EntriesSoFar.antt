@@ -6,21 +6,20 @@ use Rattle.margins.specs.declared.best.BestPad.{BestPad}
 use Rattle.package_check.specs.Boards.{BoardView}
 use Rattle.board_report.specs.Measures.{AreLayerBests}
 use Rattle.board_report.specs.Rows.{AreFilesWithHoles}
-use Rattle.package_check.specs.Flashed.{FlashedBoardView}
 use Rattle.report.specs.Causes.{HoldsFlashesAndBests}
 use Rattle.board_report.specs.BoardReport.{layer_flashes}
 use Rattle.board_report.specs.declared.rings.CurrentLayer.{CurrentLayer}
 use Rattle.board_report.specs.declared.rings.BoardData.{BoardData}
 
 -- the data kept of a layer belong to its flashes and to the holes of the board
-abbrev pub IsCurrentLayer : FlashedBoardView → CurrentLayer → Type 0
-IsCurrentLayer flashed current = HoldsFlashesAndBests (layer_flashes flashed current.layer) flashed.board.holes current.causes
+abbrev pub IsCurrentLayer : BoardView → CurrentLayer → Type 0
+IsCurrentLayer board current = HoldsFlashesAndBests (layer_flashes board current.layer) board.holes current.causes
 
 -- the best pads of each layer of a board, for each of its holes
 abbrev pub AreBoardBests : BoardView → List (Vec (Option BestPad)) → Type 0
 AreBoardBests board bests = AreLayerBests board (length board.layers) (map (λ its. its.items) bests)
 
--- the data made once for a board: the pads of its layers, the best of these for each hole, and its drill files that have holes
+-- the data made once for a board: the pads of its layers, the best of these for each hole, and its drill files that have holes; its rules are any
 pub record IsBoardData (board : BoardView) (board_data : BoardData) : Type 0 where
   pub layers : map (λ pads. pads.now) board_data.layers.now ≡ board.layers
   pub bests : AreBoardBests board board_data.bests.now

@@ -6,12 +6,13 @@ use Rattle.std.specs.Ordering.{nat_cmp}
 use Rattle.std.specs.BTreeMap.{BTreeMap, get}
 use Rattle.margins.specs.declared.row.RowLeast.{RowLeast}
 use Rattle.margins.specs.declared.row.RingRow.{RingRow}
-use Rattle.report.specs.declared.LeastRing as told
+use Rattle.report.specs.declared.LeastRing as shown
 use Rattle.report.specs.declared.UnitMistake.{UnitMistake}
 use Rattle.report.specs.declared.mistakes.FileRange.{FileRange}
 use Rattle.package_check.specs.Boards.{BoardView}
 use Rattle.package_check.specs.declared.FileSum.{FileSum}
-use Rattle.board_report.specs.Rows.{RowKey, holes_before, places_of}
+use Rattle.board_report.specs.Rows.{RowKey, places_of}
+use Rattle.package_check.specs.Boards.{holes_before}
 use Rattle.board_report.specs.UnitMistakeLines.{IsUnitMistakeOf, is_plated}
 use Rattle.board_report.specs.declared.rows.LayerFileHoles.{LayerFileHoles}
 
@@ -53,11 +54,11 @@ abbrev pub FitsFile : RingRow → ℕ → Type 0
 FitsFile row start = (least : RowLeast) → row.least ≡ Some least → (start ≤ least.hole) × (least.hole < 18446744073709551615)
 
 -- a least ring, with the number of its hole in the file whose holes begin at `start`
-abbrev pub IsNumberedLeast : Option RowLeast → ℕ → Option told.LeastRing → Type 0
+abbrev pub IsNumberedLeast : Option RowLeast → ℕ → Option shown.LeastRing → Type 0
 IsNumberedLeast None start None = ⊤
-IsNumberedLeast None start (Some told) = ⊥
+IsNumberedLeast None start (Some line) = ⊥
 IsNumberedLeast (Some least) start None = ⊥
-IsNumberedLeast (Some least) start (Some told) = (told.ring ≡ least.ring) × (start + told.hole ≡ least.hole + 1)
+IsNumberedLeast (Some least) start (Some line) = (line.ring ≡ least.ring) × (start + line.hole ≡ least.hole + 1)
 
 -- the line of a file's scale, or none
 abbrev pub IsUnitMistakeOfOrNone : BoardView → ℕ → Option UnitMistake → Type 0

@@ -5,7 +5,7 @@ use Rattle.json.specs.Json.{Json}
 use Rattle.report.specs.declared.Measure.{Measure}
 use Rattle.package_check.specs.Boards.{BoardView}
 use Rattle.package_check.specs.declared.FileSum.{FileSum}
-use Rattle.print_text.specs.Texts.{lack_of}
+use Rattle.report.specs.Causes.{lack_of}
 use Rattle.report.specs.declared.RingCause.{RingCause}
 use Rattle.report.specs.declared.BoardReport.{BoardReport}
 use Rattle.report.specs.declared.Acceptances.{Acceptances}
@@ -26,6 +26,6 @@ measure_rest names board measure =
 
 -- those of a report with waivers
 abbrev pub report_rest : List (List ℕ) → List FileSum → BoardReport → Acceptances → List (List ℕ × Json)
-report_rest names files telling accepted =
-    (codes "files", array_of (file_values names files)) ∷ (codes "scales", array_of (map scale_value telling.scales.items))
-    ∷ (codes "findings", array_of (ring_values telling.layers.items telling.rings.items accepted.rings.now ++ gap_values telling.gaps.items accepted.gaps.now)) ∷ []
+report_rest names files report accepted =
+    (codes "files", array_of (file_values names files)) ∷ (codes "scales", array_of (map scale_value report.scales.items))
+    ∷ (codes "findings", array_of (ring_values report.layers.items report.rings.items accepted.rings.now ++ gap_values report.gaps.items accepted.gaps.now)) ∷ []

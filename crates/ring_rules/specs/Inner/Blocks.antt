@@ -12,12 +12,12 @@ use Rattle.ring_rules.specs.declared.axis.Axis.{Axis}
 
 -- a point in the rows and columns of a block
 abbrev pub IsInBlock : Axis → Axis → Block → GridPoint → Type 0
-IsInBlock x y b p = IsInRegion x y b.top b.bottom b.left b.right p
+IsInBlock x y b p = IsInRegion x y b.region.top b.region.bottom b.region.left b.region.right p
 
 -- a block of a grid, with a zone that contains each of its points on the board
 pub record IsBlock (x y : Axis) (b : Block) : Type 0 where
-  pub rows : b.bottom ≤ y.last + 1
-  pub columns : b.right ≤ x.last + 1
+  pub rows : b.region.bottom ≤ y.last + 1
+  pub columns : b.region.right ≤ x.last + 1
   pub holds : (p : GridPoint) → IsOnBoard x y p → IsInBlock x y b p → IsInZone b.zone p
 
 -- a point in one of some blocks
@@ -27,7 +27,7 @@ IsInAnyBlock x y blocks p = (b : Block) × Contains blocks b × IsInBlock x y b 
 -- no mark is left in a block that is closed
 abbrev pub AreClosedUnmarked : Axis → Axis → List Drilled → List Block → List Bool → List Bool → Type 0
 AreClosedUnmarked x y holes blocks open_blocks marks =
-    (i : ℕ) (b : Block) → i < length blocks → b ≡ get_or blocks i b → get_or open_blocks i false ≡ false → HasNoMarkIn x y holes b.top b.bottom b.left b.right marks
+    (i : ℕ) (b : Block) → i < length blocks → b ≡ get_or blocks i b → get_or open_blocks i false ≡ false → HasNoMarkIn x y holes b.region.top b.region.bottom b.region.left b.region.right marks
 
 -- no mark is left in the first `count` blocks where the test passes
 abbrev pub NoMarkPassesInBlocks : (ℕ → Bool) → Axis → Axis → List Drilled → List Block → ℕ → List Bool → Type 0

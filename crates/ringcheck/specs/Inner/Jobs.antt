@@ -1,6 +1,8 @@
 -- What is said of each job on a package.
 use Rattle.std.specs.Prelude.{ℕ, Bool, List, Option, option_map}
 use Rattle.std.specs.Global.{Vec}
+use Rattle.layer_image.specs.declared.keep.Keep.{Keep}
+use Rattle.layer_image.specs.declared.keep.Keep.TheVariants as keep
 use Rattle.package_check.specs.Package.{FileView}
 use Rattle.ringcheck_files.specs.LoaderRelation.{Relation}
 use Rattle.ringcheck_files.specs.declared.Status.{Status}
@@ -17,6 +19,13 @@ use Rattle.waivers.specs.declared.Waiver.{Waiver}
 -- the waivers that a report is given, if any
 abbrev pub given : Option (Vec Waiver) → Option (List Waiver)
 given waivers = option_map (λ all. all.items) waivers
+
+-- what is kept of copper files for a job: their flashes for a report and a picture
+abbrev pub job_keep : Job → Keep
+job_keep (job.Check rules) = keep.Pads
+job_keep (job.Measure form) = keep.Pads
+job_keep (job.Report options) = keep.Flashes
+job_keep (job.Draw rules) = keep.Flashes
 
 -- how a refusal is printed in place of a job's result
 abbrev pub job_style : Job → RefusalStyle

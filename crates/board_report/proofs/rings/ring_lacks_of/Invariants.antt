@@ -7,6 +7,6 @@ use Rattle.board_report.proofs.rings.ring_lacks_of.Given as goal
 
 abbrev pub invariant-loop-finding : goal.invariant-loop-finding
 invariant-loop-finding l = record {
-  current : IfSome l.current (IsCurrentLayer l.flashed);
-  output : AllZip (IsRingEntry l.flashed l.rules.ring) (filter (λ finding. not (is_gap finding)) (take l.finding-index l.findings)) l.output.items;
+  current : IfSome l.current (IsCurrentLayer l.board);
+  output : AllZip (IsRingEntry l.board l.board_data.rules.ring) (filter (λ finding. not (is_gap finding)) (take l.finding-index l.findings)) l.output.items;
 }

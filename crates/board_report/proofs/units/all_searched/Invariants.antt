@@ -1,5 +1,5 @@
 use Rattle.std.proofs.Common.{◌≡◌}
-use Rattle.board_report.specs.Rows.{holes_before}
+use Rattle.package_check.specs.Boards.{holes_before}
 use Rattle.board_report.specs.Inner.Tables.{AreSearched}
 use Rattle.board_report.proofs.units.all_searched.Given as goal
 

@@ -7,7 +7,7 @@ use Rattle.drawing.proofs.bounds.crosses_extent.Goals as goal
 
 pub loop-file-preserved : goal.loop-file-preserved
 loop-file-preserved c =
-    let its : ℕ → List Flash = λ file. get_or c.args.flashed.now.flashes file [] in
+    let its : ℕ → List Flash = λ file. get_or c.args.board.now.flashes file [] in
     c.with_flashes-all.ensures
     ∙ (ap₂ (λ all (flashes : List Flash). fold joined_to all (flat_map cross_extent flashes)) c.loop-file.invariant c.flashes_of.ensures
     ∙ layers_more (λ (file : ℕ). flat_map cross_extent (its file)) None c.args.files.now c.loop-file.file-index 0 c.loop-file-test.true)

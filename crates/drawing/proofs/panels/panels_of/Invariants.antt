@@ -5,4 +5,4 @@ use Rattle.drawing.proofs.panels.panels_of.Given as goal
 
 abbrev pub invariant-loop-layer : goal.invariant-loop-layer
 invariant-loop-layer l =
-    AllZip (IsPanel (map (λ name. name.now) l.names) l.flashed l.findings l.layout) (take l.layer (enumerate_from 0 l.files)) l.panels.items
+    AllZip (IsPanel (map (λ name. name.now) l.names) l.board l.findings l.layout) (take l.layer (enumerate_from 0 l.files)) l.panels.items

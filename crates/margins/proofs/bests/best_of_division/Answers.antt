@@ -6,9 +6,9 @@ use Rattle.margins.proofs.bests.best_of_division.Goals as goal
 
 pub returns : goal.returns
 returns g c =
-    let now : List (Option BestPad) = c.try_anew.new.bests in
-    let all : length c.try_anew.new.bests ≡ c.in_ok-bests.bests.len = c.try_anew.auto.bests ∙ c.deref_mut.ensures.len in
-    let size : length c.try_anew.new.bests ≡ length c.args.holes.now = all ∙ c.in_ok-bests.ensures.len in
+    let now : List (Option BestPad) = c.try_pads.new.bests in
+    let all : length c.try_pads.new.bests ≡ c.in_ok-bests.bests.len = c.try_pads.auto.bests ∙ c.deref_mut.ensures.len in
+    let size : length c.try_pads.new.bests ≡ length c.args.holes.now = all ∙ c.in_ok-bests.ensures.len in
     subst (λ (bs : List (Option BestPad)). AreBestPads g.S.PadShape.covers c.args.pads.now c.args.holes.now bs)
-    (sym (take_at c.try_anew.new.bests (drop (length c.try_anew.new.bests) c.in_ok-bests.bests.items) c.in_ok-bests.bests.len all))
-    (record { size = size; each = c.in_ok-try_anew.ensures })
+    (sym (take_at c.try_pads.new.bests (drop (length c.try_pads.new.bests) c.in_ok-bests.bests.items) c.in_ok-bests.bests.len all))
+    (record { size = size; each = c.in_ok-try_pads.ensures })

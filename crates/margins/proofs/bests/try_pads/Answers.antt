@@ -1,4 +1,5 @@
 use Rattle.std.proofs.Common.{◌≡◌, ℕ, None, length, get_or, sym, subst, ◌∙◌, arith}
+use Rattle.std.proofs.lemmas.Grind.{common_steps}
 use Rattle.std.proofs.lemmas.List.{get_or_default}
 use Rattle.pad_shapes.specs.Zones.{IsInZone}
 use Rattle.ring_rules.specs.Places.{hole_at}
@@ -10,8 +11,8 @@ pub loop-place-init : goal.loop-place-init
 loop-place-init g c = record {
   size = c.requires.size;
   least = zero_depth_needed c.args.holes.now c.args.bests.now (IsInZone c.args.division.now.whole);
-  zones = c.requires.zone_bounds;
-  parts = c.requires.part_bounds;
+  zones = grind (arith, common_steps);
+  parts = grind (arith, common_steps);
   each = λ k h. subst (IsBestSoFar g.S.PadShape.covers c.args.pads.now 0 (hole_at c.args.holes.now k)) (sym (c.requires.none k h)) (none_so_far g.S.PadShape.covers c.args.pads.now (hole_at c.args.holes.now k));
 }
 

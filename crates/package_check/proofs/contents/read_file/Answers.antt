@@ -17,8 +17,11 @@ by_bytes false s r e h = h
 copper : (q : Role) (span : Option LayerSpan) (layers : ℕ) (bytes : List ℕ) (r : Result Content Fail) → q ≡ role.Copper → Answers {T = Content} (λ x. x) (ReadsCopper bytes) r → Answers {T = Content} (λ x. x) (ReadsBytes (unnamed_file q span layers bytes)) r
 copper q span layers bytes r e h = subst (λ (p : Role). Answers {T = Content} (λ x. x) (ReadsBytes (unnamed_file p span layers bytes)) r) (sym e) h
 
-pub returns-in-Copper : goal.returns-in-Copper
-returns-in-Copper c =
+pub returns-in-Copper-clause-content : goal.returns-in-Copper-clause-content
+returns-in-Copper-clause-content c =
     let bytes = joined c.args.pieces.now in
     by_bytes (is_bad_span c.args.role c.args.span.now c.args.layers) (unnamed_file c.args.role c.args.span.now c.args.layers bytes) c.read_copper.result (sym c.is_bad_span.ensures ∙ c.if-is_bad_span.false)
-    (copper c.args.role c.args.span.now c.args.layers bytes c.read_copper.result c.in-Copper.is c.read_copper.ensures)
+    (copper c.args.role c.args.span.now c.args.layers bytes c.read_copper.result c.in-Copper.is c.read_copper.ensures.copper)
+
+pub returns-in-Copper-clause-flashes : goal.returns-in-Copper-clause-flashes
+returns-in-Copper-clause-flashes c = λ keeps _. c.read_copper.ensures.flashes keeps

@@ -17,6 +17,6 @@ loop-file-preserved c =
     let same : source (file.bytes.now ++ []) c.loop-file.reader.layers ≡ file_view n file = (λ k. source (joined_one file.bytes.now k) (inv.layers k)) in
     record {
       layers = c.in_ok-take.ensures.layers ∙ inv.layers;
-      stands = one_more_taken (file_view n) files i file (source (file.bytes.now ++ []) c.loop-file.reader.layers) now.stopped now.contents.items c.file-item.is c.loop-file-test.true same
-          (c.in_ok-take.ensures.stands before file.name.now inv.stands);
+      stands = one_more_taken (file_view n) files i file (source (file.bytes.now ++ []) c.loop-file.reader.layers) now c.args.keep c.file-item.is c.loop-file-test.true same
+          (c.in_ok-take.ensures.stands c.args.keep before file.name.now inv.stands);
     }

@@ -6,5 +6,5 @@ use Rattle.package_check.proofs.package.reader_of.Given as goal
 abbrev pub invariant-loop-file : goal.invariant-loop-file
 invariant-loop-file l = record {
   layers : copper_files l.reader ≡ layer_count l.files;
-  stands : HasTaken l.reader (take l.file-index (map (file_view (layer_count l.files)) l.files));
+  stands : HasTaken l.reader l.fn.keep (take l.file-index (map (file_view (layer_count l.files)) l.files));
 }

@@ -1,4 +1,5 @@
 use Rattle.std.proofs.Common.{ℕ, ap, ◌∙◌, map, take}
+use Rattle.layer_image.specs.declared.keep.Keep.TheVariants as keep
 use Rattle.package_check.specs.Package.{FileView}
 use Rattle.package_check.specs.Pieces.{pieced_layer_count, pieced_file_view}
 use Rattle.package_check.proofs.PiecesLemmas.{joined}
@@ -17,6 +18,6 @@ loop-file-preserved c =
     let source = λ (layers : ℕ). let s : FileView = record { role = file.role; name = file.name.now; span = file.span; bytes = joined file.pieces.now; layers = layers } in s in
     record {
       layers = c.in_ok-take.ensures.layers ∙ inv.layers;
-      stands = one_more_taken (pieced_file_view n) files i file (source c.loop-file.reader.layers) now.stopped now.contents.items c.file-item.is c.loop-file-test.true (ap source inv.layers)
-          (c.in_ok-take.ensures.stands before file.name.now inv.stands);
+      stands = one_more_taken (pieced_file_view n) files i file (source c.loop-file.reader.layers) now keep.Pads c.file-item.is c.loop-file-test.true (ap source inv.layers)
+          (c.in_ok-take.ensures.stands keep.Pads before file.name.now inv.stands);
     }

@@ -9,4 +9,4 @@ invariant-loop-chunk l =
     goal.iterator-loop-chunk.can_next l.chunk-iterator
     × goal.iterator-loop-chunk.is_finite l.chunk-iterator
     × (chunks_size l.chunk-iterator ≡ 65536)
-    × ((push_content : Keep) (text : List ℕ) → LayerStandsAfter l.initial.reader push_content text → (done : List ℕ) × LayerStandsAfter l.reader push_content (text ++ done) × (done ++ chunks_rest l.chunk-iterator ≡ l.piece))
+    × ((keep : Keep) (text : List ℕ) → LayerStandsAfter l.initial.reader keep text → (done : List ℕ) × LayerStandsAfter l.reader keep (text ++ done) × (done ++ chunks_rest l.chunk-iterator ≡ l.piece))

@@ -1,5 +1,5 @@
 use Rattle.std.proofs.Common.{◌≡◌, drop}
-use Rattle.board_report.specs.Rows.{holes_before}
+use Rattle.package_check.specs.Boards.{holes_before}
 use Rattle.print_json.proofs.measured.holes_from.Given as goal
 
 abbrev pub invariant-loop-before : goal.invariant-loop-before

@@ -5,7 +5,8 @@ use Rattle.std.specs.List.{enumerate_from, filter, flat_map}
 use Rattle.std.proofs.Output.{has_written_append, has_written_of_eq}
 use Rattle.report.specs.declared.RingLack.{RingLack}
 use Rattle.print_text.specs.Inner.{ring_lines}
-use Rattle.print_text.specs.Texts.{is_shown, ring_line, acceptance_at}
+use Rattle.print_text.specs.Texts.{is_shown, ring_line}
+use Rattle.report.specs.Acceptances.{acceptance_at}
 use Rattle.print_text.proofs.Showing.{ring_added, ring_left_out}
 use Rattle.print_text.proofs.RunLemmas.{all_after, none_before}
 use Rattle.print_text.proofs.report_text.write_rings.Goals as goal

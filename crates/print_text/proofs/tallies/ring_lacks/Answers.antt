@@ -1,7 +1,7 @@
 use Rattle.std.proofs.Common.{◌∙◌, ap₂, sym}
 use Rattle.report.specs.declared.RingLack.{RingLack}
 use Rattle.print_text.specs.Inner.{range_with}
-use Rattle.print_text.specs.Texts.{lack_of}
+use Rattle.report.specs.Causes.{lack_of}
 use Rattle.print_text.proofs.LackRange.{extent_more}
 use Rattle.print_text.proofs.tallies.ring_lacks.Goals as goal
 

@@ -1,21 +1,25 @@
-use Rattle.std.proofs.Common.{List, ℕ, refl, subst}
+use Rattle.std.proofs.Common.{Err, List, ℕ, refl, subst}
 use Rattle.drawing.specs.Drawings.{IsDrawn, drawing_text}
+use Rattle.package_check.specs.Boards.{ReturnsBoard, reported}
+use Rattle.package_check.specs.declared.PackageFault.{PackageFault}
+use Rattle.layer_image.specs.declared.keep.Keep.TheVariants as keep
 use Rattle.package_check.proofs.BoardsLemmas.{reported_on}
-use Rattle.package_check.specs.Boards.{reported}
 use Rattle.ringcheck.proofs.drawings.draw.Goals as goal
 
 pub returns-clause-answers : goal.returns-clause-answers
 returns-clause-answers g c all named stands =
-    let flashed = c.in-Ok.board in
-    let board = flashed.board in
+    let board = c.in-Ok.board in
     let text = drawing_text c.in_ok-drawing.drawing in
-    let read = c.in-Ok.ensures.exact all stands in
+    let read = c.in-Ok.ensures.flashes keep.Flashes all stands refl in
     record {
-      flashed = flashed;
+      board = board;
       read = read;
       text = text;
-      is = subst (λ (ns : List (List ℕ)). IsDrawn ns flashed c.args.rules text) named c.in_ok-drawing.ensures;
+      is = subst (λ (ns : List (List ℕ)). IsDrawn ns board c.args.rules text) named c.in_ok-drawing.ensures;
       written = c.in_ok-write.ensures.bytes;
-      sound = λ required under none. c.passing_is_sound.ensures all required (reported required board) (reported_on all required board (reported required board) read.board refl) none;
+      sound = λ required under none. c.passing_is_sound.ensures all required (reported required board) (reported_on all required board (reported required board) read.is refl) none;
       passed = refl;
     }
+
+pub returns-in-Err-File-clause-answers : goal.returns-in-Err-File-clause-answers
+returns-in-Err-File-clause-answers g c all named stands = c.refused.ensures all named (rw c.in-Err-File.field-0-is (subst (λ (f : PackageFault). ReturnsBoard all (Err f)) c.in-Err-File.field-0-is (c.in-Err-File.ensures.exact keep.Flashes all stands)))

@@ -3,6 +3,8 @@ use Rattle.std.specs.List.{count_by}
 use Rattle.std.proofs.lemmas.List.{take_all, take_more}
 use Rattle.std.proofs.lemmas.Option.{slice_get_read}
 use Rattle.manifest.specs.declared.Entry.{Entry}
+use Rattle.package_check.specs.Holding.{HasTaken}
+use Rattle.package_check.proofs.PiecesLemmas.{joined_one}
 use Rattle.package_check.specs.Package.{FileView, is_copper}
 use Rattle.ringcheck.proofs.LoadSteps.{has_more, same_length, sources_more}
 use Rattle.ringcheck.specs.Refusals.{of_file}
@@ -24,17 +26,18 @@ loop-index-preserved g c =
     let more : before ++ entry ∷ [] ≡ take (i + 1) entries = ap (λ (e : Entry). before ++ e ∷ []) c.index-entries-index.is ∙ sym (take_more entries i entry c.loop-index-test.true) in
     let here = inv.keeps _ _ (rw c.as_str.ensures at c.in-Ok.ensures.gives.0) in
     let source = λ (b : List ℕ) (k : ℕ). let s : FileView = record { role = entry.role; name = entry.name; span = entry.span; bytes = b; layers = k } in s in
-    let stands = c.in_ok-take_file-in-Ok.ensures.stands (file_views_among n before files) inv.taken.2 in
-    let one = subst (λ (s : FileView). g.R.TakesFiles.stands c.take_file.new.self (file_views_among n before files ++ s ∷ [])) (λ k. source (c.as_slice.ensures.value k) (inv.layers k)) stands in
-    let all = subst (λ (ss : List FileView). g.R.TakesFiles.stands c.take_file.new.self ss) (sym (sources_more n before files entry bytes (same_length has before files inv.taken.1))) one in
+    let taken = HasTaken c.take.new.self c.args.keep in
+    let stands = c.in_ok-take-in-Ok.ensures.stands c.args.keep (file_views_among n before files) entry.name inv.taken.2 in
+    let one = subst (λ (s : FileView). taken (file_views_among n before files ++ s ∷ [])) (λ k. source ((joined_one c.as_slice.result.now ∙ c.as_slice.ensures.value) k) (inv.layers k)) stands in
+    let all = subst taken (sym (sources_more n before files entry bytes (same_length has before files inv.taken.1))) one in
     record {
       keeps = λ m b h. inv.keeps m b ((c.load.ensures.keeps m b).0 h);
       counted = omega arith;
-      layers = c.in_ok-take_file-in-Ok.ensures.layers ∙ inv.layers;
+      layers = c.in_ok-take-in-Ok.ensures.layers ∙ inv.layers;
       taken = (
         files ++ bytes ∷ [],
         subst (λ (es : List Entry). HasFiles has es (files ++ bytes ∷ [])) more (has_more has before files entry bytes inv.taken.1 (here, c.in-Ok.ensures.gives.1)),
-        subst (λ (es : List Entry). g.R.TakesFiles.stands c.take_file.new.self (file_views_among n es (files ++ bytes ∷ []))) more all,
+        subst (λ (es : List Entry). taken (file_views_among n es (files ++ bytes ∷ []))) more all,
       );
     }
 
@@ -59,5 +62,5 @@ returns g c =
     let files = inv.taken.0 in (
       files,
       subst (λ (es : List Entry). HasFiles has es files) all inv.taken.1,
-      subst (λ (es : List Entry). g.R.TakesFiles.stands c.loop-index.reader (file_views_among n es files)) all inv.taken.2,
+      subst (λ (es : List Entry). HasTaken c.loop-index.reader c.args.keep (file_views_among n es files)) all inv.taken.2,
     )

@@ -1,5 +1,8 @@
-use Rattle.std.proofs.Common.{List, ℕ, refl, subst}
+use Rattle.std.proofs.Common.{Err, List, ℕ, refl, subst}
 use Rattle.std.specs.Io.KnownBytes.{Appends}
+use Rattle.package_check.specs.Boards.{ReturnsBoard}
+use Rattle.package_check.specs.declared.PackageFault.{PackageFault}
+use Rattle.layer_image.specs.declared.keep.Keep.TheVariants as keep
 use Rattle.ringcheck.specs.MeasureStatus.{measure_page}
 use Rattle.ringcheck.proofs.measures.measure.Goals as goal
 
@@ -8,7 +11,7 @@ returns-clause-answers g c all named stands =
     let board = c.in-Ok.board in
     let measure = c.in_ok-measure.measure in
     let contents = g.W.Write.contents in
-    let read = c.in-Ok.ensures all stands in
+    let read = c.in-Ok.ensures.exact keep.Pads all stands in
     let is = c.in_ok-measure.ensures.exact in
     record {
       board = board;
@@ -19,3 +22,6 @@ returns-clause-answers g c all named stands =
       met = c.measured_passes.ensures all board measure.meets.ring measure.meets.gap read is.rings is.gaps;
       passed = refl;
     }
+
+pub returns-in-Err-File-clause-answers : goal.returns-in-Err-File-clause-answers
+returns-in-Err-File-clause-answers g c all named stands = c.refused.ensures all named (rw c.in-Err-File.field-0-is (subst (λ (f : PackageFault). ReturnsBoard all (Err f)) c.in-Err-File.field-0-is (c.in-Err-File.ensures.exact keep.Pads all stands)))

@@ -12,7 +12,7 @@ returns g c =
         record {
           rings = rw c.as_slice-3.ensures.value (rw c.as_slice.ensures.value at c.in_ok-rings.ensures);
           gaps = rw c.as_slice-4.ensures.value (rw c.as_slice-2.ensures.value at c.in_ok-gaps.ensures);
-          idle = λ names telling is. rw c.as_slice-5.ensures.value (c.in_ok-idle.ensures names telling is);
+          idle = λ names report is. rw c.as_slice-5.ensures.value (c.in_ok-idle.ensures names report is);
         },
       ),
       c.in_ok-print.ensures,

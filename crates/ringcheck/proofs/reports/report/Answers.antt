@@ -1,5 +1,8 @@
-use Rattle.std.proofs.Common.{List, ℕ, subst}
+use Rattle.std.proofs.Common.{Err, List, ℕ, refl, subst}
 use Rattle.std.specs.Io.KnownBytes.{Appends}
+use Rattle.package_check.specs.Boards.{ReturnsBoard}
+use Rattle.package_check.specs.declared.PackageFault.{PackageFault}
+use Rattle.layer_image.specs.declared.keep.Keep.TheVariants as keep
 use Rattle.board_report.specs.BoardReport.{IsBoardReportOf}
 use Rattle.ringcheck.specs.Inner.Jobs.{given}
 use Rattle.ringcheck.specs.ReportStatus.{Judges, report_page}
@@ -9,18 +12,21 @@ use Rattle.ringcheck.proofs.reports.report.Goals as goal
 pub returns-clause-answers : goal.returns-clause-answers
 returns-clause-answers g c all named stands =
     let options = c.args.options.now in
-    let flashed = c.in-Ok.flashed in
-    let telling = c.in_ok-telling.telling in
+    let board = c.in-Ok.board in
+    let report = c.in_ok-report.report in
     let contents = g.W.Write.contents in
-    let is : IsBoardReportOf all options.rules telling = record { flashed = flashed; read = c.in-Ok.ensures.exact all stands; is = c.in_ok-telling.ensures } in
-    let as_check = c.report_agrees_with_check.ensures all options.rules telling is in
-    let (accepted, judged, written) = rw (c.files-files.ensures.sums, c.board.ensures) at c.in_ok-passes.ensures in
+    let is : IsBoardReportOf all options.rules report = record { board = board; read = c.in-Ok.ensures.flashes keep.Flashes all stands refl; is = c.in_ok-report.ensures } in
+    let as_check = c.report_agrees_with_check.ensures all options.rules report is in
+    let (accepted, judged, written) = rw c.files-files.ensures.sums at c.in_ok-passes.ensures in
     record {
-      telling = telling;
+      report = report;
       is = is;
       as_check = as_check;
-      sound = λ none. let (rings, gaps) = neither_left telling.rings.items telling.gaps.items none in as_check.sound rings gaps;
+      sound = λ none. let (rings, gaps) = neither_left report.rings.items report.gaps.items none in as_check.sound rings gaps;
       accepted = accepted;
-      judged = subst (λ (ns : List (List ℕ)). Judges (given options.waivers) ns telling c.in_ok-passes.passes accepted) named judged;
-      written = subst (λ (ns : List (List ℕ)). Appends (contents c.args.out.now) (contents c.print_judged.new.out) (report_page options.format ns flashed.board.files telling options.limit accepted)) named written;
+      judged = subst (λ (ns : List (List ℕ)). Judges (given options.waivers) ns report c.in_ok-passes.passes accepted) named judged;
+      written = subst (λ (ns : List (List ℕ)). Appends (contents c.args.out.now) (contents c.print_judged.new.out) (report_page options.format ns board.files report options.limit accepted)) named written;
     }
+
+pub returns-in-Err-File-clause-answers : goal.returns-in-Err-File-clause-answers
+returns-in-Err-File-clause-answers g c all named stands = c.refused.ensures all named (rw c.in-Err-File.field-0-is (subst (λ (f : PackageFault). ReturnsBoard all (Err f)) c.in-Err-File.field-0-is (c.in-Err-File.ensures.exact keep.Flashes all stands)))

@@ -5,7 +5,7 @@ use Rattle.print_json.proofs.arrays.Findings.gap_at.Goals as goal
 
 pub returns : goal.returns
 returns c =
-    let report = c.args.self.now.telling.now in
+    let report = c.args.self.now.report.now in
     let one = c.index-as_slice-place.result in
     let why = c.acceptance_of.ensures in
     let lack : one ≡ get_or report.gaps.items c.args.place one = c.index-as_slice-place.is ∙ ap (λ (xs : List GapLack). get_or xs c.args.place one) c.as_slice.ensures.value in

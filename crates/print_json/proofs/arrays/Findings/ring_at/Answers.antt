@@ -5,7 +5,7 @@ use Rattle.print_json.proofs.arrays.Findings.ring_at.Goals as goal
 
 pub returns : goal.returns
 returns c =
-    let report = c.args.self.now.telling.now in
+    let report = c.args.self.now.report.now in
     let one = c.index-as_slice-place.result in
     let layers = c.as_slice.ensures.value in
     let why = c.acceptance_of.ensures in

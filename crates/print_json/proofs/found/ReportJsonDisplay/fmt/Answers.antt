@@ -10,5 +10,5 @@ unfolding report_value escape_byte
 returns-clause-writes g c = λ plain ok.
     let json = c.args.self.now in
     let object = c.in_ok-write.ensures.writes plain refl in
-    has_written_of_eq _ _ _ _ _ (line_text (waived_report_value (map (λ name. name.now) json.names.now) json.files.now json.telling.now json.accepted.now))
+    has_written_of_eq _ _ _ _ _ (line_text (waived_report_value (map (λ name. name.now) json.names.now) json.files.now json.report.now json.accepted.now))
     (has_written_append _ _ _ _ _ _ object (c.write_str.ensures.writes object.plain ok))

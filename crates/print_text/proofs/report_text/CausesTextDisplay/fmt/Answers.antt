@@ -6,7 +6,8 @@ use Rattle.report.specs.declared.UnitMistake.{UnitMistake}
 use Rattle.report.specs.declared.GapLack.{GapLack}
 use Rattle.report.specs.declared.RingLack.{RingLack}
 use Rattle.print_text.specs.Causes.{all_kinds}
-use Rattle.print_text.specs.Texts.{kind_line, lack_of, lacks_line, least_and_greatest, scale_line}
+use Rattle.print_text.specs.Texts.{kind_line, lacks_line, least_and_greatest, scale_line}
+use Rattle.report.specs.Causes.{lack_of}
 use Rattle.print_text.proofs.report_text.CausesTextDisplay.fmt.Goals as goal
 
 pub returns-clause-writes : goal.returns-clause-writes

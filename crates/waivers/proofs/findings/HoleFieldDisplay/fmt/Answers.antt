@@ -1,7 +1,7 @@
 use Rattle.std.proofs.Common.{◌∙◌, ◌++◌, ◌∷◌, [], List, ℕ, ap, codes, map, sym}
 use Rattle.std.proofs.Output.{has_written_of_eq}
 use Rattle.csv.specs.Writing.{default_writer, escaped}
-use Rattle.print_text.specs.Texts.{drilled_words, name_of}
+use Rattle.printing.specs.Holes.{drilled_words, name_of}
 use Rattle.waivers.proofs.Quoted.{hole_quoted}
 use Rattle.waivers.proofs.findings.HoleFieldDisplay.fmt.Goals as goal
 
@@ -9,5 +9,5 @@ pub returns-clause-writes : goal.returns-clause-writes
 returns-clause-writes g c = λ plain ok.
     let at = c.args.self.now.at in
     has_written_of_eq _ _ _ _ _
-    (ap (λ (name : List ℕ). 34 ∷ (escaped default_writer name ++ (codes ", " ++ (drilled_words at.hole ++ 34 ∷ [])))) c.name_of.ensures ∙ sym (hole_quoted (name_of (map (λ name. name.now) c.args.self.now.names.now) at.drill) at.hole))
+    (ap (λ (name : List ℕ). 34 ∷ (escaped default_writer name ++ (codes ", " ++ (drilled_words at.hole ++ 34 ∷ [])))) c.name_of.ensures ∙ sym (hole_quoted (name_of (map (λ name. name.now) c.args.self.now.names.now) at.place.drill) at.hole))
     (c.write.ensures.writes plain ok)

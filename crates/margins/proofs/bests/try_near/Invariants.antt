@@ -1,6 +1,0 @@
-use Rattle.margins.specs.Inner.BestPads.{IsTriedAtPlaces}
-use Rattle.margins.proofs.bests.try_near.Given as goal
-
--- the pad is tried at the places so far
-abbrev pub invariant-loop-hole : goal.invariant-loop-hole
-invariant-loop-hole g l = IsTriedAtPlaces g.S.PadShape.covers l.pad l.place l.holes l.near l.hole-index l.initial.bests l.bests

@@ -1,0 +1,29 @@
+//! Figures of causes and of factors.
+
+ghost use Rattle.std.specs.Prelude.{◌≡◌};
+ghost use Rattle.report.specs.Causes.{lack_of};
+ghost use Rattle.report.specs.UnitMistakes.{factor_word};
+
+use crate::{RingCause, UnitFactor};
+
+/// The length that a ring lacks, in pm, if its hole lies in a pad.
+pub fn lack_of(cause: &RingCause) -> Option<i64>
+    ensures { result ≡ lack_of cause.now }
+{
+    match cause {
+        RingCause::TooSmall(place) | RingCause::OffCentre(place) => Some(place.lack),
+        RingCause::Other { .. } | RingCause::NoFlash | RingCause::Oblique => None,
+    }
+}
+
+/// A factor as it is written: `10`, `0.1`, `25.4` or `1/25.4`.
+pub fn factor_word(factor: UnitFactor) -> &'static str
+    ensures { result.now ≡ factor_word factor }
+{
+    match factor {
+        UnitFactor::Ten => "10",
+        UnitFactor::Tenth => "0.1",
+        UnitFactor::Inch => "25.4",
+        UnitFactor::PerInch => "1/25.4",
+    }
+}

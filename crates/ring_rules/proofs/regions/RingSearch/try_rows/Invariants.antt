@@ -1,0 +1,12 @@
+use Rattle.std.proofs.Common.{◌≡◌, false}
+use Rattle.ring_rules.specs.Inner.Marks.{gives_ring_at, RemovesMarks}
+use Rattle.ring_rules.specs.Inner.Regions.{NoMarkPassesIn, HasNoMarkIn}
+use Rattle.ring_rules.proofs.regions.RingSearch.try_rows.Given as goal
+
+-- the rows so far are tried
+abbrev pub invariant-loop-row : goal.invariant-loop-row
+invariant-loop-row g l = record {
+  removes : RemovesMarks (gives_ring_at g.S.PadShape.covers l.self.rules.ring l.self.holes.now l.pad) l.initial.marks l.marks;
+  tried : NoMarkPassesIn (gives_ring_at g.S.PadShape.covers l.self.rules.ring l.self.holes.now l.pad) l.self.cells.now.x l.self.cells.now.y l.self.holes.now l.region.top l.row l.region.left l.region.right l.marks;
+  none : l.is_left ≡ false → HasNoMarkIn l.self.cells.now.x l.self.cells.now.y l.self.holes.now l.region.top l.row l.region.left l.region.right l.marks;
+}

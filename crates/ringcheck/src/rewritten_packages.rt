@@ -1,0 +1,15 @@
+//! The law of packages whose files are rewritten.
+
+ghost use Rattle.ringcheck.specs.RewrittenPackages.{RewritingKeepsAnswers};
+
+/// A package in which any files are rewritten, each by the kind of text of its role, has the same answer.
+pub fn rewriting_keeps_answers()
+    ensures { RewritingKeepsAnswers }
+{
+    layer_image::unique_reading();
+    layer_image::equal_commands();
+    drill_text::laws::unique_reading();
+    drill_text::laws::drill_texts();
+    single_files::laws::keeps_commands();
+    package_check::laws::same_answers();
+}
