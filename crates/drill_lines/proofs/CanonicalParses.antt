@@ -86,7 +86,7 @@ unit_read unit None (Some f) h s = bare_read unit f s ∙ format_read unit None 
 -- ---- lines of a part
 
 -- a line without blanks at its end, in this part
-pub read_in_part : Part → Settings → List ℕ → Result (Option DrillCommand) Reason
+unfoldable pub read_in_part : Part → Settings → List ℕ → Result (Option DrillCommand) Reason
 read_in_part p s [] = Ok None
 read_in_part p s (b ∷ bs) = cond (begins_comment p b) (Ok (Some (Comment bs))) (line_in p s (b ∷ bs))
 
@@ -108,7 +108,7 @@ slot_head s (Some v) y tail h = refl
 slot_head s None (Some v) tail h = refl
 slot_head s None None tail h = absurd cc
 
-in_part : (p : Part) (s : Settings) (c : DrillCommand) → is_sayable p c ≡ true → IsInRange c → read_in_part p s (canonical c) ≡ Ok (Some c)
+pub in_part : (p : Part) (s : Settings) (c : DrillCommand) → is_sayable p c ≡ true → IsInRange c → read_in_part p s (canonical c) ≡ Ok (Some c)
 unfolding read_in_part line_in lines_before common_lines header_ends body_prefixes
 in_part part.Before s Start h t = refl
 in_part part.Before s (Comment text) h t = refl

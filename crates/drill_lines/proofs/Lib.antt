@@ -5,3 +5,9 @@ pub mod ToolsAndPoints
 pub mod CanonicalParses
 pub mod ParsedIsSayable
 pub mod Fronts
+pub mod CutLemmas
+pub mod SkippedFields
+pub mod GrammarExamples
+pub mod WrittenFields
+pub mod Written
+pub mod Answered

@@ -121,7 +121,7 @@ coordinate_named s (Some run) v e =
     let same : Some b.0 ≡ v = cc in
     ap is_some (sym same)
 
-point_named : (s : Settings) (runs : Runs) (p : Coordinates) → coordinates s runs ≡ Ok p → has_coordinate p ≡ has_run runs
+pub point_named : (s : Settings) (runs : Runs) (p : Coordinates) → coordinates s runs ≡ Ok p → has_coordinate p ≡ has_run runs
 unfolding coordinates
 point_named s runs p e =
     let b = bind_ok (both (coordinate s runs.x) (coordinate s runs.y)) (λ q. Ok (record { x = q.0; y = q.1 })) p e in
@@ -148,7 +148,7 @@ drilled_sayable s from rest h =
 found : Bool → ℕ → List ℕ → Option (List ℕ) × List ℕ
 found t b bs = cond t (Some (take_while is_number_char bs), drop (prefix_len is_number_char bs) bs) (None, b ∷ bs)
 
-first_named : (b : ℕ) (bs : List ℕ) (t u : Bool) → eqb b 88 ≡ t → eqb b 89 ≡ u → (t || u) ≡ true → has_run (runs_of (b ∷ bs)).0 ≡ true
+pub first_named : (b : ℕ) (bs : List ℕ) (t u : Bool) → eqb b 88 ≡ t → eqb b 89 ≡ u → (t || u) ≡ true → has_run (runs_of (b ∷ bs)).0 ≡ true
 unfolding found
 first_named b bs true u x y h = ap (λ v. is_some (found v b bs).0 || is_some (field 89 (found v b bs).1).0) x
 first_named b bs false true x y h = ap (λ v. is_some (found v b bs).0 || is_some (field 89 (found v b bs).1).0) x ∙ ap (λ v. is_some (found v b bs).0) y
@@ -257,7 +257,7 @@ comment_text bs kept inside short =
     and_true (not (list_any (λ b. eqb b 10) bs)) (eqb (length (trimmed bs)) (length bs) && ltb (length bs) 1048576) (any_not bs inside)
     (and_true (eqb (length (trimmed bs)) (length bs)) (ltb (length bs) 1048576) (eq-eqb _ _ (ap length (tail_trimmed bs kept))) (lt-ltb _ _ (omega (arith, short))))
 
-begins_semicolon : (p : Part) (b : ℕ) (bs : List ℕ) → begins_comment p b ≡ true → b ≡ 59
+pub begins_semicolon : (p : Part) (b : ℕ) (bs : List ℕ) → begins_comment p b ≡ true → b ≡ 59
 begins_semicolon part.Before b bs h = eqb-true b 59 h
 begins_semicolon part.Header b bs h = eqb-true b 59 h
 begins_semicolon part.Body b bs h = eqb-true b 59 h

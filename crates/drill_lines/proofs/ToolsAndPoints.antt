@@ -127,11 +127,11 @@ hit_spelled s p dec =
     let runs : runs_of (point_text p) ≡ (runs_at p, []) = ap runs_of (sym (append-nil (point_text p))) ∙ runs_spelled p [] dec refl refl refl in
     (λ i. hole_from s (runs i).0 (runs i).1) ∙ (λ i. coordinates_spelled s p dec i >>= λ q. Ok (Hit q))
 
-some_bytes : (n : ℕ) → eqb (suc n) 0 ≡ false
+pub some_bytes : (n : ℕ) → eqb (suc n) 0 ≡ false
 some_bytes n = grind (arith, nat_tests)
 
 -- what follows the first point begins with `G85`, so it is a slot
-slot_after_point : (s : Settings) (runs : Runs) (q : List ℕ) → hole_from s runs (codes "G85" ++ q) ≡ slot_line s runs q
+pub slot_after_point : (s : Settings) (runs : Runs) (q : List ℕ) → hole_from s runs (codes "G85" ++ q) ≡ slot_line s runs q
 unfolding hole_from
 slot_after_point s runs q = ap (λ t. cond t (coordinates s runs >>= λ p. Ok (Hit p)) (slot_line s runs q)) (some_bytes (suc (suc (length q))))
 

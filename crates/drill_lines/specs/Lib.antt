@@ -5,3 +5,5 @@ pub mod Tools
 pub mod HoleLines
 pub mod Meaning
 pub mod Writing
+pub mod Grammar
+pub mod Laws

@@ -5,10 +5,12 @@ mod canonical;
 mod command;
 mod header;
 mod hole_lines;
+mod laws;
 mod line;
 mod tools;
 
 pub use canonical::{is_sayable, write_line};
 pub use command::{Coordinates, DrillCommand, DrillFormat, OptionalDec, Part, Settings};
 pub use header::file_format;
+pub use laws::line_grammar;
 pub use line::read_line;

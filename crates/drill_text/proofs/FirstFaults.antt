@@ -301,10 +301,10 @@ first_err text f (lines, rest, splits, inr h) = record { lines = lines; rest = r
 -- ---- each text
 
 -- a text is cut into lines
-record Cut (text : List ℕ) : Type 0 where
-  lines : List (List ℕ)
-  rest : List ℕ
-  splits : Splits text lines rest
+pub record Cut (text : List ℕ) : Type 0 where
+  pub lines : List (List ℕ)
+  pub rest : List ℕ
+  pub splits : Splits text lines rest
 
 longer : (b : ℕ) (bs : List ℕ) → (b ≡ 10 → ⊥) → Cut bs → Cut (b ∷ bs)
 longer b bs differs c = by c.lines c.rest c.splits
@@ -313,7 +313,7 @@ longer b bs differs c = by c.lines c.rest c.splits
     by [] rest s = record { lines = []; rest = b ∷ rest; splits = record { whole = ap (λ (x : List ℕ). b ∷ x) s.whole; each = tt; partial = (differs, s.partial) } }
     by (line ∷ lines) rest s = record { lines = (b ∷ line) ∷ lines; rest = rest; splits = record { whole = ap (λ (x : List ℕ). b ∷ x) s.whole; each = ((differs, s.each.0), s.each.1); partial = s.partial } }
 
-cut : (text : List ℕ) → Cut text
+pub cut : (text : List ℕ) → Cut text
 cut [] = record { lines = []; rest = []; splits = record { whole = refl; each = tt; partial = tt } }
 cut (b ∷ bs) = by (eqb b 10) refl (cut bs)
   where

@@ -16,3 +16,7 @@ pub mod FastPathLemmas
 pub mod WholeLineLemmas
 pub mod FirstFaults
 pub mod Reasons
+pub mod DrillingLemmas
+pub mod DrillingExamples
+pub mod GrammarLemmas
+pub mod GrammarExamples

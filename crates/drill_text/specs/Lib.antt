@@ -2,11 +2,14 @@ pub mod Lines
 pub mod Lookback
 pub mod Holes
 pub mod Rules
+pub mod Drilling
 pub mod Reading
 pub mod Texts
+pub mod Grammar
 pub mod Writing
 pub mod Keeping
 pub mod Holding
 pub mod Outcome
 pub mod Faults
+pub mod Laws
 pub mod Inner

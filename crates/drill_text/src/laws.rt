@@ -9,6 +9,7 @@ ghost use Rattle.drill_text.specs.Reading.{Shows, Reads};
 ghost use Rattle.drill_text.specs.Faults.{HasAnswer, IsFirstFault, is_drill_reason};
 ghost use Rattle.drill_text.specs.Texts.{SpellsText, IsDrillText};
 ghost use Rattle.drill_text.specs.Writing.{drill_sayable};
+ghost use Rattle.drill_text.specs.Laws.{ListedHolesAreDrilled, DrilledHolesAreListed, DrillsAtMostOneList, SpelledIsWritten, IsTextOfAtMostOne};
 
 /// A text shows one thing, and has one reading.
 pub fn unique_reading()
@@ -44,4 +45,18 @@ pub fn first_faults()
     ensures first { (text : List ℕ) (f : Fault) → (Reads text (Err f)) ↔ (IsFirstFault text f) }
     ensures answer { (text : List ℕ) → HasAnswer text }
     ensures reasons { (text : List ℕ) (f : Fault) → Reads text (Err f) → is_drill_reason f.reason ≡ true }
+{}
+
+/// The holes that are listed of the commands of a drill text are just those that the commands drill.
+pub fn drilled_holes()
+    ensures drilled { ListedHolesAreDrilled }
+    ensures listed { DrilledHolesAreListed }
+    ensures one { DrillsAtMostOneList }
+{}
+
+/// A text spells commands just where it is a text of them by the grammar, and neither it nor a line is too long. By the grammar it is
+/// a text of at most one list of commands.
+pub fn text_grammar()
+    ensures written { SpelledIsWritten }
+    ensures one { IsTextOfAtMostOne }
 {}

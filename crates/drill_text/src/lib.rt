@@ -13,7 +13,8 @@ pub use drill::Drill;
 pub use drill_lines::{Coordinates, DrillCommand, DrillFormat};
 pub use kept::Keep;
 pub use laws::{
-    drill_texts, equal_commands, faults_stay, first_faults, sayable_texts, unique_reading,
+    drill_texts, drilled_holes, equal_commands, faults_stay, first_faults, sayable_texts,
+    text_grammar, unique_reading,
 };
 pub use reader::{DrillReader, read_drill};
 pub use writer::{drill_sayable, write_drill};

@@ -1,2 +1,7 @@
+pub mod Answered
+pub mod GrammarExamples
+pub mod NumberRuns
 pub mod Parameters
+pub mod RowLemmas
 pub mod SplitLemmas
+pub mod Written

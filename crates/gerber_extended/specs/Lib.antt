@@ -1,2 +1,4 @@
+pub mod Grammar
 pub mod Inner
+pub mod Laws
 pub mod Pieces

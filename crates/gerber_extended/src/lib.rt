@@ -2,7 +2,9 @@
 #![tactic(auto)]
 
 mod aperture;
+mod laws;
 mod piece;
 
 pub use aperture::{is_name, max_sizes, min_sizes, standard_template};
+pub use laws::{answered_pieces, written_pieces};
 pub use piece::read_extended;

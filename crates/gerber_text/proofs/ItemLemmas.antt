@@ -2,9 +2,9 @@
 use Rattle.std.proofs.Common.{◌≡◌, ◌≢◌, ℕ, ◌-◌, ◌≤◌, Bool, true, false, cond, not, ◌&&◌, eqb, List, [], ◌∷◌, ◌++◌, length, take, drop, is_some, Ok, Err, refl, sym, ap, subst, ◌∙◌, arith, append_assoc}
 use Rattle.std.specs.Prelude.{codes}
 use Rattle.std.specs.Str.{bytes_eq}
-use Rattle.std.specs.List.{list_all, AllByRecursion}
+use Rattle.std.specs.List.{list_all, list_any, AllByRecursion}
 use Rattle.std.proofs.lemmas.List.{length-append, take_at, drop_at}
-use Rattle.std.proofs.lemmas.Bool.{false≢true}
+use Rattle.std.proofs.lemmas.Bool.{eqb-false}
 use Rattle.std.proofs.lemmas.Bool.Decides.{nat_tests}
 use Rattle.gerber_commands.specs.declared.command.Command.{Command}
 use Rattle.gerber_text.specs.Items.{end_byte, after_percent, IsItem}
@@ -13,13 +13,14 @@ use Rattle.grid_units.specs.Rows.{strip_prefix}
 use Rattle.gerber_commands.specs.Rows.{first_match}
 use Rattle.gerber_words.specs.Words.{word}
 use Rattle.gerber_extended.specs.Pieces.{last_byte, before_last, has_several_pieces, pieces, piece, extended}
+use Rattle.gerber_extended.specs.Grammar.{HasNo}
 use Rattle.gerber_text.specs.Meaning.{without_end, meaning}
 use Rattle.gerber_commands.specs.Canonical.{canonical}
 use Rattle.gerber_text.specs.CutItems.{is_not_break, without_breaks, Spells}
 use Rattle.gerber_text.specs.Sayable.{is_text_byte, is_text}
 use Rattle.gerber_text.proofs.RunLemmas.{none_passes, kept_whole}
 use Rattle.grid_units.specs.Limits.{item_limit}
-use Rattle.grid_units.proofs.BoolLemmas.{both_true, not_true}
+use Rattle.grid_units.proofs.BoolLemmas.{both_true, not_true, or_is_false}
 use Rattle.grid_units.proofs.ListLemmas.{list_all_weaker, list_all_append}
 
 -- ---- bytes of texts
@@ -40,11 +41,10 @@ is_inner b = not (eqb b 37)
 pub text_inner : (b : ℕ) → is_text_byte b ≡ true → is_inner b ≡ true
 text_inner b h = ap not (text_no_percent b h)
 
-differs : (b n : ℕ) → eqb b n ≡ false → b ≢ n
-differs b n h e = absurd (false≢true (sym h ∙ subst (λ k. eqb k n ≡ true) (sym e) (same n)))
-  where
-    same : (k : ℕ) → eqb k k ≡ true
-    same k = grind (arith, nat_tests)
+-- a byte that stands nowhere
+pub all_other : (n : ℕ) (bytes : List ℕ) → HasNo n bytes → AllByRecursion (λ b. b ≢ n) bytes
+all_other n [] h = tt
+all_other n (b ∷ bytes) h = let k = or_is_false (eqb b n) (list_any (λ c. eqb c n) bytes) h in (eqb-false b n k.0, all_other n bytes k.1)
 
 -- ---- the bytes before the last
 
@@ -63,28 +63,22 @@ last_is w x = ap (λ k. drop k (w ++ x ∷ [])) (before_one w x) ∙ drop_at w (
 abbrev pub word_item : List ℕ → List ℕ
 word_item w = w ++ 42 ∷ []
 
-pub word_means : (plotting : Bool) (w : List ℕ) → is_text w ≡ true → meaning plotting (word_item w) ≡ word plotting w
+pub word_means : (plotting : Bool) (w : List ℕ) → HasNo 37 w → meaning plotting (word_item w) ≡ word plotting w
 unfolding meaning
 word_means plotting [] h = refl
 word_means plotting (b ∷ bs) h =
-    let k = both_true (is_text_byte b) (list_all is_text_byte bs) h in
-    ap (λ t. cond t (extended (without_end (bs ++ 42 ∷ []))) (word plotting (without_end (b ∷ (bs ++ 42 ∷ []))))) (text_no_percent b k.0)
-    ∙ ap (word plotting) (without_end_push (b ∷ bs) 42)
+    let k = or_is_false (eqb b 37) (list_any (λ c. eqb c 37) bs) h in
+    ap (λ t. cond t (extended (without_end (bs ++ 42 ∷ []))) (word plotting (without_end (b ∷ (bs ++ 42 ∷ []))))) k.0 ∙ ap (word plotting) (without_end_push (b ∷ bs) 42)
 
-no_star_all : (w : List ℕ) → is_text w ≡ true → AllByRecursion (λ b. b ≢ 42) w
-no_star_all [] h = tt
-no_star_all (b ∷ bs) h = let k = both_true (is_text_byte b) (list_all is_text_byte bs) h in (differs b 42 (text_no_star b k.0), no_star_all bs k.1)
-
-pub word_is_item : (w : List ℕ) → is_text w ≡ true → IsItem (word_item w)
-word_is_item [] h = record { prefix = []; unfinished = tt; whole = refl }
-word_is_item (b ∷ bs) h =
-    let k = both_true (is_text_byte b) (list_all is_text_byte bs) h in
-    let no = text_no_percent b k.0 in
+pub word_is_item : (w : List ℕ) → HasNo 37 w → HasNo 42 w → IsItem (word_item w)
+word_is_item [] h k = record { prefix = []; unfinished = tt; whole = refl }
+word_is_item (b ∷ bs) h k =
+    let no = (or_is_false (eqb b 37) (list_any (λ c. eqb c 37) bs) h).0 in
     let end : end_byte (b ∷ bs) ≡ 42 = ap (λ t. cond t 37 42) no in
     let behind : after_percent (b ∷ bs) ≡ b ∷ bs = ap (λ t. cond t bs (b ∷ bs)) no in
     record {
       prefix = b ∷ bs;
-      unfinished = subst (λ (n : ℕ). AllByRecursion (λ c. c ≢ n) (after_percent (b ∷ bs))) (sym end) (subst (AllByRecursion (λ c. c ≢ 42)) (sym behind) (no_star_all (b ∷ bs) h));
+      unfinished = subst (λ (n : ℕ). AllByRecursion (λ c. c ≢ n) (after_percent (b ∷ bs))) (sym end) (subst (AllByRecursion (λ c. c ≢ 42)) (sym behind) (all_other 42 (b ∷ bs) k));
       whole = ap (λ (n : ℕ). (b ∷ bs) ++ n ∷ []) (sym end);
     }
 
@@ -95,10 +89,11 @@ word_unbroken w h = kept_whole is_not_break (word_item w) (list_all_append is_no
 pub word_spells : (c : Command) (w : List ℕ) → canonical c ≡ word_item w → is_text w ≡ true → length (without_breaks (canonical c)) ≤ item_limit → ((plotting : Bool) → word plotting w ≡ Ok (c ∷ [])) → Spells (canonical c) c
 word_spells c w whole h short spells =
     let same : without_breaks (canonical c) ≡ word_item w = ap without_breaks whole ∙ word_unbroken w h in
+    let no_percent = none_passes is_text_byte (λ b. eqb b 37) text_no_percent w h in
     record {
-      one = subst IsItem (sym same) (word_is_item w h);
+      one = subst IsItem (sym same) (word_is_item w no_percent (none_passes is_text_byte (λ b. eqb b 42) text_no_star w h));
       short = short;
-      parses = λ plotting. ap (meaning plotting) same ∙ (word_means plotting w h ∙ spells plotting);
+      parses = λ plotting. ap (meaning plotting) same ∙ (word_means plotting w no_percent ∙ spells plotting);
     }
 
 -- ---- pieces
@@ -125,7 +120,7 @@ piece_single t h = ap (λ u. cond u (Err SeveralInOne) (first_match (pieces t)))
 
 no_percent_all : (t : List ℕ) → list_all is_inner t ≡ true → AllByRecursion (λ b. b ≢ 37) (t ++ 42 ∷ [])
 no_percent_all [] h = (λ e. absurd (omega (arith, e)), tt)
-no_percent_all (b ∷ bs) h = let k = both_true (is_inner b) (list_all is_inner bs) h in (differs b 37 (not_true (eqb b 37) k.0), no_percent_all bs k.1)
+no_percent_all (b ∷ bs) h = let k = both_true (is_inner b) (list_all is_inner bs) h in (eqb-false b 37 (not_true (eqb b 37) k.0), no_percent_all bs k.1)
 
 pub piece_is_item : (t : List ℕ) → list_all is_inner t ≡ true → IsItem (piece_item t)
 piece_is_item t h = record {

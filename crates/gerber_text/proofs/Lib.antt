@@ -27,3 +27,7 @@ pub mod FieldRangeLemmas
 pub mod WordIsSayable
 pub mod PieceIsSayable
 pub mod ParsedIsSayable
+pub mod GrammarItems
+pub mod SpelledIsWritten
+pub mod WrittenIsSpelled
+pub mod GrammarExamples

@@ -47,7 +47,7 @@ texts (x ∷ xs) h k e =
     and_true (is_text_byte x) (is_text xs) (text_byte x a.0 b.0 n.0) (texts xs a.1 b.1 n.1)
 
 -- bytes that a test finds equal
-bytes_are : (xs ys : List ℕ) → bytes_eq xs ys ≡ true → xs ≡ ys
+pub bytes_are : (xs ys : List ℕ) → bytes_eq xs ys ≡ true → xs ≡ ys
 bytes_are [] [] h = refl
 bytes_are [] (y ∷ ys) h = absurd cc
 bytes_are (x ∷ xs) [] h = absurd cc

@@ -36,7 +36,7 @@ are_spelled (c ∷ d ∷ cs) h =
     (canonical_spells c k.0, canonical_ends c k.0 ∙ not_true (is_finish c) l.0, are_spelled (d ∷ cs) l.1)
 
 -- the bytes without their offsets are those that are no line breaks
-bytes_of_marks : (n : ℕ) (text : List ℕ) → bytes_of (offset_bytes_from n text) ≡ without_breaks text
+pub bytes_of_marks : (n : ℕ) (text : List ℕ) → bytes_of (offset_bytes_from n text) ≡ without_breaks text
 bytes_of_marks n [] = refl
 bytes_of_marks n (b ∷ bs) = by (is_line_break b) (bytes_of_marks (n + 1) bs)
   where

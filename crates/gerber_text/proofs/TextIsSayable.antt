@@ -75,11 +75,11 @@ items_kept (item ∷ items) rest h =
 -- ---- what an item adds
 
 -- an item within the limit, and the commands that it spelled
-record Added (place byte : ℕ) (bytes : List ℕ) (before after : Entries) : Type 0 where
-  short : length bytes ≤ item_limit
-  commands : List Command
-  spells : meaning (is_plotting before) bytes ≡ Ok commands
-  whole : after ≡ before ++ placed place byte commands
+pub record Added (place byte : ℕ) (bytes : List ℕ) (before after : Entries) : Type 0 where
+  pub short : length bytes ≤ item_limit
+  pub commands : List Command
+  pub spells : meaning (is_plotting before) bytes ≡ Ok commands
+  pub whole : after ≡ before ++ placed place byte commands
 
 at_ok : (place byte : ℕ) (r : Result Entries Reason) (after : Entries) → with_place place byte r ≡ Ok after → r ≡ Ok after
 at_ok place byte (Ok x) after e = let same : x ≡ after = let o : (let r : Result Entries Fault = Ok x in r ≡ Ok after) = e in cc in ap (λ (y : Entries). Ok y) same
@@ -91,16 +91,16 @@ added_by false place byte bytes before after e h =
     let b = bind_ok (meaning (is_plotting before) bytes) (λ commands. Ok (before ++ placed place byte commands)) after h in
     record { short = ltb-false item_limit (length bytes) e; commands = b.0; spells = b.1; whole = let same : before ++ placed place byte b.0 ≡ after = let o : (let r : Result Entries Reason = Ok (before ++ placed place byte b.0) in r ≡ Ok after) = b.2 in cc in sym same }
 
-added : (place byte : ℕ) (bytes : List ℕ) (before after : Entries) → spelled place byte bytes before ≡ Ok after → Added place byte bytes before after
+pub added : (place byte : ℕ) (bytes : List ℕ) (before after : Entries) → spelled place byte bytes before ≡ Ok after → Added place byte bytes before after
 unfolding spelled
 added place byte bytes before after e =
     added_by (ltb item_limit (length bytes)) place byte bytes before after refl (at_ok place byte (cond (ltb item_limit (length bytes)) (Err TooLong) (meaning (is_plotting before) bytes >>= λ commands. Ok (before ++ placed place byte commands))) after e)
 
-bare : (place byte : ℕ) (cs : List Command) → without_places (placed place byte cs) ≡ cs
+pub bare : (place byte : ℕ) (cs : List Command) → without_places (placed place byte cs) ≡ cs
 bare place byte [] = refl
 bare place byte (c ∷ cs) = ap (λ (l : List Command). c ∷ l) (bare place byte cs)
 
-bare_append : (xs ys : Entries) → without_places (xs ++ ys) ≡ without_places xs ++ without_places ys
+pub bare_append : (xs ys : Entries) → without_places (xs ++ ys) ≡ without_places xs ++ without_places ys
 bare_append [] ys = refl
 bare_append (x ∷ xs) ys = ap (λ (l : List Command). x.what ∷ l) (bare_append xs ys)
 

@@ -9,3 +9,5 @@ pub mod Items
 pub mod Meaning
 pub mod CutItems
 pub mod Sayable
+pub mod Grammar
+pub mod Laws

@@ -13,6 +13,7 @@ ghost use Rattle.gerber_commands.specs.Canonical.{canonical};
 ghost use Rattle.gerber_text.specs.Meaning.{meaning};
 ghost use Rattle.gerber_text.specs.CutItems.{IsCutItem, Spells, IsSpelled};
 ghost use Rattle.gerber_text.specs.Sayable.{is_sayable, is_finish};
+ghost use Rattle.gerber_text.specs.Laws.{SpelledTextsAreWritten, TextsSpellOneList, WrittenTextsAreSpelled};
 
 /// A text shows one thing, and has one reading, which is some commands just where the text spells them, or a fault for one
 /// of the reasons of reading.
@@ -40,4 +41,15 @@ pub fn spelled_commands()
     ensures said { (plotting : Bool) (item : List ℕ) (commands : List Command) → IsCutItem item → meaning plotting item ≡ Ok commands → All (λ command. is_sayable command ≡ true) commands }
     ensures ends { (plotting : Bool) (item : List ℕ) (commands : List Command) → IsCutItem item → meaning plotting item ≡ Ok commands → list_any is_finish commands ≡ is_end_item item }
     ensures exact { (command : Command) → (is_sayable command ≡ true) ↔ IsSpelled command }
+{}
+
+/// A text that spells commands is written for them, as the grammar of texts says.
+pub fn written_texts()
+    ensures { SpelledTextsAreWritten }
+{}
+
+/// A text that is written for commands spells just these, so the grammar allows no other text, and no second list of commands.
+pub fn exact_texts()
+    ensures spelled { WrittenTextsAreSpelled }
+    ensures unique { TextsSpellOneList }
 {}

@@ -20,7 +20,9 @@ pub use gerber_commands::{
 };
 pub use gerber_extended::{is_name, max_sizes, min_sizes, standard_template};
 pub use item::{end_byte, is_end_item, is_ended, read_item};
-pub use laws::{canonical_items, sayable_texts, spelled_commands, unique_reading};
+pub use laws::{
+    canonical_items, exact_texts, sayable_texts, spelled_commands, unique_reading, written_texts,
+};
 pub use placed::Placed;
 pub use reader::{Kept, WordReader, read_kept, read_words};
 pub use sayable_items::is_sayable;

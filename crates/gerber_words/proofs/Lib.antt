@@ -1,0 +1,4 @@
+pub mod FieldLemmas
+pub mod Written
+pub mod Exact
+pub mod GrammarExamples

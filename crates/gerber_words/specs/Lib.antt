@@ -1,2 +1,4 @@
 pub mod Inner
 pub mod Words
+pub mod Grammar
+pub mod Laws

@@ -13,3 +13,7 @@ pub mod Pieces
 pub mod FastOperations
 pub mod FaultReasons
 pub mod ReadingExists
+pub mod LegalPads
+pub mod UniquePads
+pub mod FlashedPads
+pub mod PadExamples

@@ -4,6 +4,7 @@ ghost use Rattle.std.specs.Prelude.{◌++◌, ℕ, List, Err};
 ghost use Rattle.grid_units.specs.declared.fault.Fault.{Fault};
 ghost use Rattle.layer_image.specs.Layers.{EachTextAnswers, EqualCommands, LayerReasons, LayerTexts, LayersOfTexts, ReadingIsUnique, ReadsLayer};
 ghost use Rattle.layer_image.specs.Holding.{ShowsLayerFault};
+ghost use Rattle.layer_image.specs.PadLaws.{LayerPads, LegalPads, PadsAreFlashed, PadsAreUnique};
 
 /// A fault that a text shows is shown by each longer text too, and is the fault that the text has.
 pub fn shown_faults()
@@ -33,4 +34,13 @@ pub fn equal_commands()
 /// A fault of a layer has the reason of one of the fifteen rules, or it is the fault of its text.
 pub fn layer_reasons()
     ensures { LayerReasons }
+{}
+
+/// The pads among the flashes of a legal list, and of a layer, are the pads that its commands make. Commands make at
+/// most one list of pads, and just the pads that some command makes are in it.
+pub fn flashed_pads()
+    ensures legal { LegalPads }
+    ensures layer { LayerPads }
+    ensures unique { PadsAreUnique }
+    ensures each { PadsAreFlashed }
 {}

@@ -22,6 +22,8 @@ mod tables;
 
 pub use flash::{Flash, What, Why};
 pub use keep::Keep;
-pub use laws::{equal_commands, layer_reasons, layer_texts, shown_faults, unique_reading};
+pub use laws::{
+    equal_commands, flashed_pads, layer_reasons, layer_texts, shown_faults, unique_reading,
+};
 pub use layer::{Layer, read_layer};
 pub use reader::LayerReader;

@@ -8,6 +8,7 @@ use Rattle.package_check.specs.AlikePackages.{AnswerIsUnique}
 use Rattle.package_check.specs.Package.{FileView, ReturnsExactly, ReturnsReport, FindingsNameTheirPlaces, IsAnswer, NamesItsPlaces}
 use Rattle.package_check.specs.Reports.{ReportView}
 use Rattle.package_check.specs.Soundness.{IsSound, PassingIsSound}
+use Rattle.package_check.specs.SoundnessAsRead.{AreLegal}
 
 module _ (sources : List FileView) (rules : GridRules) where
   pub just : AnswerIsUnique → (r : Result ReportView PackageFault) → ReturnsReport sources rules r → (answer : Result ReportView (ℕ × Fault)) → IsAnswer sources rules answer → ReturnsExactly answer r
@@ -22,3 +23,7 @@ module _ (sources : List FileView) (rules : GridRules) where
   pub passed : PassingIsSound → (r : Result ReportView PackageFault) → ReturnsReport sources rules r → IfOk r (λ report. report.findings ≡ [] → IsSound sources rules)
   passed law (Ok report) h = law sources rules report h
   passed law (Err e) h = tt
+
+  pub legal : (r : Result ReportView PackageFault) → ReturnsReport sources rules r → IfOk r (λ report. AreLegal sources)
+  legal (Ok report) h = (h.contents, h.read)
+  legal (Err e) h = tt

@@ -17,7 +17,7 @@ use Rattle.package_check.specs.declared.contents.Content.TheVariants as content
 use Rattle.package_check.specs.Boards.{FileCountsAddUp, BoardView, IsBoard, board_of, hole_count, numbered_from, numbered_in, reported}
 use Rattle.package_check.specs.Package.{FileView, IsReport, findings, holes_of, layer_indexes, layers, report_on, sum_of}
 use Rattle.package_check.specs.Reports.{ReportView}
-use Rattle.package_check.specs.Soundness.{drilled_in}
+use Rattle.package_check.specs.SoundnessAsRead.{drilled_in}
 use Rattle.package_check.proofs.Passing.{all_drilled}
 
 -- what is listed so far, and what one more element gives

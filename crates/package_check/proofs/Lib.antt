@@ -2,6 +2,8 @@ pub mod ContentIsReading
 pub mod GrowingLists
 pub mod BoardsLemmas
 pub mod Passing
+pub mod WrittenPackages
+pub mod SaidOnce
 pub mod FindingPlaces
 pub mod SameAnswerLemmas
 pub mod AnswerUniqueness

@@ -1,90 +1,93 @@
 -- A package that passes has no oblique plated slot.
-use Rattle.std.proofs.Common.{◌≡◌, ◌<◌, ◌≤◌, ◌+◌, ◌-◌, ℕ, zero, suc, Bool, true, false, not, cond, ◌&&◌, ◌||◌, leb, List, [], ◌∷◌, Option, Some, None, Result, Ok, Err, IfOk, length, map, get_or, arith, refl, sym, ap, subst, ◌∙◌}
-use Rattle.std.specs.List.{count_by}
-use Rattle.std.proofs.lemmas.Bool.{leb-true, le-leb}
-use Rattle.std.proofs.lemmas.List.{length-append}
-use Rattle.std.proofs.lemmas.List.Concat.{flat_map-cons}
+use Rattle.std.proofs.Common.{◌≡◌, ◌<◌, ◌≤◌, ◌+◌, ◌-◌, ℕ, zero, suc, Bool, true, false, not, cond, ◌&&◌, leb, List, [], ◌∷◌, Option, Some, None, Result, Ok, Err, IfOk, length, map, get_or, arith, refl, sym, ap, subst, ◌∙◌}
+use Rattle.std.specs.List.{AllZip, Contains, count_by, filter, flat_map}
+use Rattle.std.proofs.lemmas.Bool.{le-leb}
 use Rattle.std.proofs.lemmas.List.Sums.{sum_by-cons}
-use Rattle.grid_units.specs.Holes.{GridHole, GridRules}
+use Rattle.std.proofs.lemmas.Slice.Zip.{AllZip-long}
+use Rattle.grid_units.specs.Holes.{GridRules}
 use Rattle.grid_units.specs.Spans.{LayerSpan, is_in_span}
+use Rattle.grid_units.proofs.ListLemmas.{flat_map_at}
+use Rattle.ring_rules.specs.declared.finding.Drilled.{Drilled}
 use Rattle.manifest.specs.declared.Role.{Role}
 use Rattle.manifest.specs.declared.Role.TheVariants as role
 use Rattle.package_check.specs.declared.PackageFault.{PackageFault}
-use Rattle.package_check.specs.declared.contents.Content.{Content}
-use Rattle.package_check.specs.declared.contents.Content.TheVariants as content
-use Rattle.package_check.specs.AlikePackages.{ReadingIsUnique}
-use Rattle.package_check.specs.Package.{FileView, ReturnsReport, HaveContents, HasContent, BytesHaveContent, is_bad_span, is_copper, layers, pads_of}
+use Rattle.package_check.specs.Package.{FileView, ReturnsReport, is_copper}
 use Rattle.package_check.specs.Reports.{ReportView}
-use Rattle.package_check.specs.Soundness.{AreStraight, IsPlatedThrough, IsSound, PassingIsSound}
-use Rattle.package_check.proofs.AnswerUniqueness.{same_contents}
+use Rattle.package_check.specs.Soundness.{AreStraight, HolesAreSaidOnce, IsRun, IsSound, PassingIsSound, SaysHoles, SaysPads, is_plated}
+use Rattle.package_check.proofs.WrittenPackages.{hole_among}
 
-bytes_layer : (q : Role) (name : List ℕ) (span : Option LayerSpan) (bytes : List ℕ) (n : ℕ) (c : Content) → BytesHaveContent (record { role = q; name = name; span = span; bytes = bytes; layers = n }) c
-    → length (pads_of c) ≡ cond (is_copper q) 1 0
-bytes_layer role.Copper name span bytes n (content.Layer image) h = refl
-bytes_layer role.Copper name span bytes n (content.Drill plated through holes) h = absurd h
-bytes_layer role.Plated name span bytes n (content.Layer image) h = absurd h
-bytes_layer role.Plated name span bytes n (content.Drill plated through holes) h = refl
-bytes_layer role.Unplated name span bytes n (content.Layer image) h = absurd h
-bytes_layer role.Unplated name span bytes n (content.Drill plated through holes) h = refl
+-- some layer lies in a span that is a run of layers
+some_layer : (span : Option LayerSpan) (n : ℕ) → 0 < n → IsRun n span → (l : ℕ) × (l < n) × (is_in_span l span ≡ true)
+some_layer None n some run = (0, some, refl)
+some_layer (Some s) n some run =
+    let first : 1 ≤ s.first = run.0 in
+    let order : s.first ≤ s.last = run.1 in
+    let last : s.last ≤ n = run.2 in
+    let back : s.first - 1 + 1 ≡ s.first = omega (arith, first) in
+    (s.first - 1, omega (arith, first, order, last), ap (λ k. leb s.first k && leb k s.last) back ∙ (λ i. le-leb s.first s.first (omega arith) i && le-leb s.first s.last order i))
 
--- a copper file gives one layer, another none
-one_layer : (s : FileView) (c : Content) → HasContent s c → length (pads_of c) ≡ cond (is_copper s.role) 1 0
-one_layer s c h = bytes_layer s.role s.name s.span s.bytes s.layers c h.1
+plated_is_drill : (q : Role) → is_plated q ≡ true → not (is_copper q) ≡ true
+plated_is_drill role.Plated e = refl
+plated_is_drill role.Copper e = absurd cc
+plated_is_drill role.Unplated e = absurd cc
 
-through_is : (q : Role) (name : List ℕ) (span : Option LayerSpan) (bytes : List ℕ) (n : ℕ) (plated : Bool) (through : Option LayerSpan) (holes : List GridHole)
-    → BytesHaveContent (record { role = q; name = name; span = span; bytes = bytes; layers = n }) (content.Drill plated through holes) → through ≡ span
-through_is role.Copper name span bytes n plated through holes h = absurd h
-through_is role.Plated name span bytes n plated through holes h = h.2
-through_is role.Unplated name span bytes n plated through holes h = h.2
+kept_count : {Y : Type 0} (b : Bool) (y : Y) (ys : List Y) → length (cond b (y ∷ ys) ys) ≡ cond b 1 0 + length ys
+kept_count true y ys = omega arith
+kept_count false y ys = omega arith
 
--- some layer lies in a span that is not bad
-some_layer : (q : Role) (span : Option LayerSpan) (n : ℕ) → 0 < n → is_bad_span q span n ≡ false → (l : ℕ) × (l < n) × (is_in_span l span ≡ true)
-some_layer q None n some h = (0, some, refl)
-some_layer q (Some s) n some h = by (is_copper q) (leb 1 s.first) (leb s.first s.last) (leb s.last n) refl refl refl h
+-- an element that passes a test is among those that do
+kept : {Y : Type 0} (p : Y → Bool) (ys : List Y) (y : Y) (k : ℕ) → k < length ys → get_or ys k y ≡ y → p y ≡ true → Contains (filter p ys) y
+kept p [] y k lt e passes = absurd (omega arith)
+kept {Y} p (x ∷ xs) y zero lt e passes =
+    subst (λ (b : Bool). Contains (cond b (x ∷ filter p xs) (filter p xs)) y) (sym (ap p e ∙ passes)) (0, omega arith, e)
+kept {Y} p (x ∷ xs) y (suc k) lt e passes = later (p x) (kept p xs y k (omega arith) e passes)
   where
-    by : (t a b c : Bool) → leb 1 s.first ≡ a → leb s.first s.last ≡ b → leb s.last n ≡ c → (t || not (a && (b && c))) ≡ false → (l : ℕ) × (l < n) × (is_in_span l (Some s) ≡ true)
-    by false true true true x y z e =
-        let first : 1 ≤ s.first = leb-true 1 s.first x in
-        let order : s.first ≤ s.last = leb-true s.first s.last y in
-        let last : s.last ≤ n = leb-true s.last n z in
-        let back : s.first - 1 + 1 ≡ s.first = omega (arith, first) in
-        (s.first - 1, omega (arith, first, order, last), ap (λ k. leb s.first k && leb k s.last) back ∙ (λ i. le-leb s.first s.first (omega arith) i && le-leb s.first s.last order i))
-    by true a b c x y z e = absurd cc
-    by false false b c x y z e = absurd cc
-    by false true false c x y z e = absurd cc
-    by false true true false x y z e = absurd cc
+    later : (b : Bool) → Contains (filter p xs) y → Contains (cond b (x ∷ filter p xs) (filter p xs)) y
+    later true h = (suc h.0, (let inside = h.1 in omega arith), h.2)
+    later false h = h
+
+-- what one of these files says is among what they all say
+said_by : (files : List FileView) (drills : List (List Drilled)) → AllZip SaysHoles files drills → (file : FileView) (k : ℕ) → k < length files → get_or files k file ≡ file
+    → (drilled : List Drilled) × Contains drills drilled × SaysHoles file drilled
+said_by [] drills all file k lt e = absurd (omega arith)
+said_by (f ∷ fs) [] all file k lt e = absurd all
+said_by (f ∷ fs) (d ∷ ds) all file zero lt e = (d, (0, omega arith, refl), subst (λ (y : FileView). SaysHoles y d) e all.0)
+said_by (f ∷ fs) (d ∷ ds) all file (suc k) lt e =
+    let more = said_by fs ds all.1 file k (omega arith) e in
+    (more.0, (suc more.1.0, (let inside = more.1.1 in omega arith), more.1.2), more.2)
 
 module _ {X : Type 0} (seen : X → FileView) (role_of : X → Role) (n : ℕ) (same : (x : X) → (seen x).role ≡ role_of x) (all : (x : X) → (seen x).layers ≡ n) where
-  counted : (xs : List X) (cs : List Content) → HaveContents (map seen xs) cs → length (layers cs) ≡ count_by (λ x. is_copper (role_of x)) xs
-  counted [] [] r = refl
-  counted [] (c ∷ cs) r = absurd r
-  counted (x ∷ xs) [] r = absurd r
-  counted (x ∷ xs) (c ∷ cs) r =
-      ap length (flat_map-cons pads_of c cs)
-      ∙ (length-append (pads_of c) (layers cs)
-      ∙ ((λ i. (one_layer (seen x) c r.0 ∙ ap (λ q. cond (is_copper q) 1 0) (same x)) i + counted xs cs r.1 i) ∙ sym (sum_by-cons (λ y. cond (is_copper (role_of y)) 1 0) x xs)))
+  counted : (xs : List X) → length (filter (λ file. is_copper file.role) (map seen xs)) ≡ count_by (λ x. is_copper (role_of x)) xs
+  counted [] = refl
+  counted (x ∷ xs) =
+      kept_count (is_copper (seen x).role) (seen x) (filter (λ file. is_copper file.role) (map seen xs))
+      ∙ ((λ i. cond (is_copper (same x i)) 1 0 + counted xs i) ∙ sym (sum_by-cons (λ y. cond (is_copper (role_of y)) 1 0) x xs))
 
-  file_of : (xs : List X) (cs : List Content) (k : ℕ) (c : Content) → HaveContents (map seen xs) cs → k < length cs → get_or cs k c ≡ c → (x : X) × HasContent (seen x) c
-  file_of [] [] k c r lt e = absurd (omega arith)
-  file_of [] (d ∷ ds) k c r lt e = absurd r
-  file_of (x ∷ xs) [] k c r lt e = absurd r
-  file_of (x ∷ xs) (d ∷ ds) zero c r lt e = (x, subst (λ (y : Content). HasContent (seen x) y) e r.0)
-  file_of (x ∷ xs) (d ∷ ds) (suc k) c r lt e = file_of xs ds k c r.1 (omega arith) e
+  layers_of : (xs : List X) (file : FileView) (k : ℕ) → k < length (map seen xs) → get_or (map seen xs) k file ≡ file → file.layers ≡ n
+  layers_of [] file k lt e = absurd (omega arith)
+  layers_of (x ∷ xs) file zero lt e = sym (ap (λ (f : FileView). f.layers) e) ∙ all x
+  layers_of (x ∷ xs) file (suc k) lt e = layers_of xs file k (omega arith) e
 
-  straight : ReadingIsUnique → (rules : GridRules) (xs : List X) → IsSound (map seen xs) rules → n ≡ count_by (λ x. is_copper (role_of x)) xs → 0 < n → AreStraight (map seen xs)
-  straight one rules xs sound counts some contents hole read plated =
-      let same_read : sound.contents ≡ contents = same_contents one (map seen xs) sound.contents contents sound.read read in
-      let c : Content = content.Drill true plated.span plated.holes in
-      let file = file_of xs contents plated.file.0 c read plated.file.1 plated.file.2 in
-      let s = seen file.0 in
-      let through : plated.span ≡ s.span = through_is s.role s.name s.span s.bytes s.layers true plated.span plated.holes file.1.1 in
-      let layer = some_layer s.role s.span s.layers (subst (λ m. 0 < m) (sym (all file.0)) some) file.1.0 in
-      let inside : layer.0 < length (layers contents) = omega (arith, layer.1, all file.0, counts, counted xs contents read) in
-      sound.straight layer.0 hole (subst (λ (cs : List Content). layer.0 < length (layers cs)) (sym same_read) inside)
-      (subst (λ (cs : List Content). IsPlatedThrough cs layer.0 hole) (sym same_read)
-      (record { span = plated.span; holes = plated.holes; file = plated.file; drilled = plated.drilled; through = ap (is_in_span layer.0) through ∙ layer.2 }))
+  straight : HolesAreSaidOnce → (rules : GridRules) (xs : List X) → IsSound (map seen xs) rules → n ≡ count_by (λ x. is_copper (role_of x)) xs → 0 < n → AreStraight (map seen xs)
+  straight once rules xs sound counts some file drilled d among said inside plated =
+      let from = hole_among (is_plated file.role) file.span said.holes d (subst (λ (ds : List Drilled). Contains ds d) said.is inside) in
+      let is_drill : not (is_copper file.role) ≡ true = plated_is_drill file.role (sym from.1 ∙ plated) in
+      let files = filter (λ (f : FileView). not (is_copper f.role)) (map seen xs) in
+      let place = kept (λ (f : FileView). not (is_copper f.role)) (map seen xs) file among.0 among.1 among.2 is_drill in
+      let other = said_by files sound.drills sound.holes file place.0 place.1 place.2 in
+      let listed : Contains other.0 d = subst (λ (ds : List Drilled). Contains ds d) (once file drilled other.0 said other.2) inside in
+      let at = other.1 in
+      let far : at.0 < length sound.drills = at.1 in
+      let spot : get_or sound.drills at.0 other.0 ≡ other.0 = at.2 in
+      let whole : Contains (flat_map (λ (one : List Drilled). one) sound.drills) d = flat_map_at (λ (one : List Drilled). one) sound.drills other.0 d at.0 far spot listed in
+      let layers_are : file.layers ≡ n = layers_of xs file among.0 among.1 among.2 in
+      let layer = some_layer file.span file.layers (subst (λ m. 0 < m) (sym layers_are) some) said.run in
+      let below : layer.0 < file.layers = layer.1 in
+      let long : length sound.layers ≡ length (filter (λ (f : FileView). is_copper f.role) (map seen xs)) = AllZip-long SaysPads (filter (λ (f : FileView). is_copper f.role) (map seen xs)) sound.layers sound.pads in
+      let within : layer.0 < length sound.layers = omega (arith, below, layers_are, counts, counted xs, long) in
+      (sound.held layer.0 d within whole plated (ap (is_in_span layer.0) from.2 ∙ layer.2)).0
 
-  pub passed_straight : ReadingIsUnique → PassingIsSound → (rules : GridRules) (xs : List X) (r : Result ReportView PackageFault) → n ≡ count_by (λ x. is_copper (role_of x)) xs → ReturnsReport (map seen xs) rules r
+  pub passed_straight : HolesAreSaidOnce → PassingIsSound → (rules : GridRules) (xs : List X) (r : Result ReportView PackageFault) → n ≡ count_by (λ x. is_copper (role_of x)) xs → ReturnsReport (map seen xs) rules r
       → IfOk r (λ report. report.findings ≡ [] → 0 < n → AreStraight (map seen xs))
-  passed_straight one law rules xs (Ok report) counts h = λ none some. straight one rules xs (law (map seen xs) rules report h none) counts some
-  passed_straight one law rules xs (Err e) counts h = tt
+  passed_straight once law rules xs (Ok report) counts h = λ none some. straight once rules xs (law (map seen xs) rules report h none) counts some
+  passed_straight once law rules xs (Err e) counts h = tt

@@ -1,4 +1,4 @@
--- A package that passes is sound.
+-- A package that passes is sound by what is read of it.
 use Rattle.std.proofs.Common.{◌≡◌, ◌+◌, ◌++◌, ℕ, Bool, true, List, [], ◌∷◌, map, ap, refl, sym, ◌∙◌, subst}
 use Rattle.std.specs.List.{Contains, flat_map, enumerate_from}
 use Rattle.std.proofs.lemmas.List.{map-append}
@@ -14,7 +14,7 @@ use Rattle.package_check.specs.declared.Numbered.{Numbered}
 use Rattle.package_check.specs.declared.contents.Content.{Content}
 use Rattle.package_check.specs.declared.contents.Content.TheVariants as content
 use Rattle.package_check.specs.Package.{drilled, holes_of, layers}
-use Rattle.package_check.specs.Soundness.{PassingIsSound, IsPlatedThrough, drilled_in}
+use Rattle.package_check.specs.SoundnessAsRead.{PassingIsSoundAsRead, IsPlatedThrough, drilled_in}
 use Rattle.grid_units.proofs.ListLemmas.{append_nil_left, append_nil_right, map_contains, flat_map_at}
 
 -- what an element gives is among what all give
@@ -50,7 +50,7 @@ among_all contents layer hole h =
     subst (λ (ds : List Drilled). Contains ds one) (sym (all_drilled contents))
     (flat_among drilled_in contents (content.Drill true h.span h.holes) one h.file (map_contains (λ (g : GridHole). let d : Drilled = record { hole = g; plated = true; span = h.span } in d) h.holes hole h.drilled))
 
-pub passing_is_sound : RingsHoldWithoutFindings IsInPad pad_covers → SlotsHoldWithoutFindings IsInPad pad_covers → StraightWithoutFindings pad_covers → ApartWithoutFindings → PassingIsSound
+pub passing_is_sound : RingsHoldWithoutFindings IsInPad pad_covers → SlotsHoldWithoutFindings IsInPad pad_covers → StraightWithoutFindings pad_covers → ApartWithoutFindings → PassingIsSoundAsRead
 passing_is_sound held slots_held straight apart sources rules report is passes =
     let none = sym (ap (λ r. r.findings) is.is) ∙ passes in
     let rings = ring_findings pad_covers rules.ring (layers is.contents) (drilled is.contents) in

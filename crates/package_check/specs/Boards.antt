@@ -14,7 +14,7 @@ use Rattle.package_check.specs.declared.PackageFault.{PackageFault}
 use Rattle.package_check.specs.declared.PackageFault.TheVariants as stop
 use Rattle.package_check.specs.declared.contents.Content.{Content}
 use Rattle.package_check.specs.Reports.{ReportView}
-use Rattle.package_check.specs.Soundness.{drilled_in}
+use Rattle.package_check.specs.SoundnessAsRead.{drilled_in}
 use Rattle.package_check.specs.Package.{FileView, HaveContents, IsFirstRefused, findings, is_copper, layer_indexes, layers, sum_of}
 
 -- the board of a package: the counts of each file, the pads and the index of each copper file, the holes of all drill files in order, and what is kept of flashes

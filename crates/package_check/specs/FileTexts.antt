@@ -1,20 +1,19 @@
 -- What the bytes of a file say.
-use Rattle.std.specs.Prelude.{◌≡◌, ◌==◌, ℕ, Bool, true, not, List, codes, Option, Some, None, Result, Ok, Err}
-use Rattle.std.specs.List.{take_while}
+use Rattle.std.specs.Prelude.{◌≡◌, ℕ, Bool, true, List, codes, Option, Some, None, Result, Ok, Err}
 use Rattle.std.specs.Str.{bytes_eq}
 use Rattle.grid_units.specs.Holes.{GridHole}
 use Rattle.grid_units.specs.declared.fault.Fault.{Fault}
+use Rattle.gerber_commands.specs.Negative.{first_field}
 use Rattle.drill_text.specs.Holes.{holes_of}
 use Rattle.drill_text.specs.Texts.{ReadsAs}
 use Rattle.layer_image.specs.Layers as layers
 use Rattle.layer_image.specs.Layers.{LayerImage}
 use Rattle.package_check.specs.LayerViews.{LayerView}
-use Rattle.grid_units.specs.Ascii as ascii
 
 -- the first field of a file function is `Copper`, as in `Copper,L1,Top`; a layer without one is taken for copper (docs/FORMATS.md, File function)
 abbrev pub is_copper_function : Option (List ℕ) → Bool
 is_copper_function None = true
-is_copper_function (Some text) = bytes_eq (take_while (λ b. not (b == ascii.comma)) text) (codes "Copper")
+is_copper_function (Some text) = bytes_eq (first_field text) (codes "Copper")
 
 -- what the check keeps of a layer
 abbrev pub layer_view : LayerImage → LayerView

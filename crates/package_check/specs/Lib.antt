@@ -5,6 +5,7 @@ pub mod Package
 pub mod FileTexts
 pub mod Reports
 pub mod Soundness
+pub mod SoundnessAsRead
 pub mod Texts
 pub mod Pieces
 pub mod Holding

@@ -1,52 +1,78 @@
--- When a package is sound, as it is where its report has no finding.
-use Rattle.std.specs.Prelude.{◌≡◌, ◌<◌, ℕ, List, [], true, map, length, get_or, Option}
-use Rattle.std.specs.List.{Contains, flat_map}
-use Rattle.grid_units.specs.Holes.{GridHole, GridRules}
-use Rattle.pad_shapes.specs.Pads.{IsInPad}
-use Rattle.ring_rules.specs.WithoutFindings.{IsHeld, IsSlotHeld, AreAllApart}
+-- When a package is sound: what its files say as they are written, by the grammars of their formats, and what holds of that.
+use Rattle.std.specs.Prelude.{◌≡◌, ◌≤◌, ◌<◌, ℕ, Bool, true, false, not, List, [], map, length, get_or, Option, None, Some, ⊤}
+use Rattle.std.specs.List.{AllPairs, AllZip, Contains, filter, flat_map}
+use Rattle.grid_units.specs.Holes.{GridHole, GridRules, AreClear}
+use Rattle.grid_units.specs.Lists.{last_set}
 use Rattle.grid_units.specs.Spans.{LayerSpan, is_in_span}
+use Rattle.pad_shapes.specs.declared.pad.Pad.{Pad}
+use Rattle.pad_shapes.specs.Pads.{IsInPad}
 use Rattle.pad_shapes.specs.Shapes.{IsAxisAligned}
 use Rattle.ring_rules.specs.declared.finding.Drilled.{Drilled}
+use Rattle.ring_rules.specs.WithoutFindings.{IsSlotHeld}
+use Rattle.gerber_commands.specs.declared.command.Command.{Command}
+use Rattle.gerber_text.specs.Grammar as gerber
+use Rattle.layer_image.specs.FileFunction.{function_set}
+use Rattle.layer_image.specs.Pads.{ArePads}
+use Rattle.drill_lines.specs.declared.command.DrillCommand.{DrillCommand}
+use Rattle.drill_text.specs.Grammar as drill
+use Rattle.drill_text.specs.Drilling.{AreHoles}
+use Rattle.manifest.specs.declared.Role.{Role}
+use Rattle.manifest.specs.declared.Role.TheVariants as role
+use Rattle.package_check.specs.FileTexts.{is_copper_function}
+use Rattle.package_check.specs.Package.{FileView, IsReport, is_copper}
 use Rattle.package_check.specs.Reports.{ReportView}
-use Rattle.package_check.specs.declared.contents.Content.{Content}
-use Rattle.package_check.specs.declared.contents.Content.TheVariants as content
-use Rattle.package_check.specs.Package.{FileView, HaveContents, IsReport, layers}
 
--- the holes of a file with its plating and its span; a copper file has none
-abbrev pub drilled_in : Content → List Drilled
-drilled_in (content.Layer image) = []
-drilled_in (content.Drill plated span holes) = map (λ hole. record { hole = hole; plated = plated; span = span }) holes
+-- whether a role is that of a file of plated holes
+abbrev pub is_plated : Role → Bool
+is_plated role.Plated = true
+is_plated _ = false
 
--- a hole of some plated drill file
-pub record IsPlated (contents : List Content) (hole : GridHole) : Type 0 where
-  pub span : Option LayerSpan
+-- a span is a run of so many layers, which are numbered from 1; without one the holes go through all
+abbrev pub IsRun : ℕ → Option LayerSpan → Type 0
+IsRun layers None = ⊤
+IsRun layers (Some span) = (1 ≤ span.first) × (span.first ≤ span.last) × (span.last ≤ layers)
+
+-- a copper file says these pads: its bytes are a Gerber text of commands that make just these, and the last file function among the commands, if any, is that of copper
+pub record SaysPads (file : FileView) (pads : List Pad) : Type 0 where
+  pub commands : List Command
+  pub written : gerber.IsText file.bytes commands
+  pub made : ArePads commands pads
+  pub copper : is_copper_function (last_set function_set commands) ≡ true
+  pub spanless : file.span ≡ None
+
+-- a drill file says these holes: its bytes are a drill text of commands that drill just these, and each has the plating of the file's role and its span
+pub record SaysHoles (file : FileView) (drilled : List Drilled) : Type 0 where
+  pub commands : List DrillCommand
+  pub written : drill.IsText file.bytes commands
   pub holes : List GridHole
-  pub file : Contains contents (content.Drill true span holes)
-  pub drilled : Contains holes hole
+  pub made : AreHoles commands holes
+  pub run : IsRun file.layers file.span
+  pub is : drilled ≡ map (λ hole. record { hole = hole; plated = is_plated file.role; span = file.span }) holes
 
--- each plated slot of these files lies along an axis
-abbrev pub AreStraight : List FileView → Type 0
-AreStraight sources = (contents : List Content) (hole : GridHole) → HaveContents sources contents → IsPlated contents hole → IsAxisAligned hole.from hole.to
-
--- a hole of some plated drill file that goes through this layer, by its place among the copper files, from 0
-pub record IsPlatedThrough (contents : List Content) (layer : ℕ) (hole : GridHole) : Type 0 where
-  pub span : Option LayerSpan
-  pub holes : List GridHole
-  pub file : Contains contents (content.Drill true span holes)
-  pub drilled : Contains holes hole
-  pub through : is_in_span layer span ≡ true
-
--- Every file is read. On each copper layer of its span, each plated round hole and each plated slot along an axis lies in one pad with its ring;
--- no plated slot through a copper layer is oblique; no points of two holes, of whatever files, are nearer than the gap.
+-- Each copper file says the pads of a layer, and each drill file holes. On each layer of its span each plated hole, round or a slot, lies along an axis, and one pad of
+-- the layer holds it, with the ring round each point between its ends. Two holes, of whatever files, are clear: their centres, or the lines between
+-- their ends, are both radii and the gap apart, so that no points of them are nearer than the gap (ring_rules, `clear_holes_are_apart`).
 pub record IsSound (sources : List FileView) (rules : GridRules) : Type 0 where
-  pub contents : List Content
-  pub read : HaveContents sources contents
-  pub rings : (layer : ℕ) (hole : GridHole) → layer < length (layers contents) → IsPlatedThrough contents layer hole → hole.from ≡ hole.to
-      → IsHeld IsInPad rules.ring (get_or (layers contents) layer []) hole
-  pub slots : (layer : ℕ) (hole : GridHole) → layer < length (layers contents) → IsPlatedThrough contents layer hole → IsAxisAligned hole.from hole.to
-      → IsSlotHeld IsInPad rules.ring (get_or (layers contents) layer []) hole
-  pub straight : (layer : ℕ) (hole : GridHole) → layer < length (layers contents) → IsPlatedThrough contents layer hole → IsAxisAligned hole.from hole.to
-  pub gaps : AreAllApart rules.gap (flat_map drilled_in contents)
+  pub layers : List (List Pad)
+  pub drills : List (List Drilled)
+  pub pads : AllZip SaysPads (filter (λ file. is_copper file.role) sources) layers
+  pub holes : AllZip SaysHoles (filter (λ file. not (is_copper file.role)) sources) drills
+  pub held : (layer : ℕ) (d : Drilled) → layer < length layers → Contains (flat_map (λ one. one) drills) d → d.plated ≡ true → is_in_span layer d.span ≡ true
+      → IsAxisAligned d.hole.from d.hole.to × IsSlotHeld IsInPad rules.ring (get_or layers layer []) d.hole
+  pub gaps : AllPairs (λ a b. AreClear rules.gap a.hole b.hole) (flat_map (λ one. one) drills)
+
+-- each plated slot that a drill file says lies along an axis, whatever layers its span has
+abbrev pub AreStraight : List FileView → Type 0
+AreStraight sources =
+    (file : FileView) (drilled : List Drilled) (d : Drilled) → Contains sources file → SaysHoles file drilled → Contains drilled d → d.plated ≡ true → IsAxisAligned d.hole.from d.hole.to
+
+-- a copper file says at most one list of pads
+abbrev pub PadsAreSaidOnce : Type 0
+PadsAreSaidOnce = (file : FileView) (a b : List Pad) → SaysPads file a → SaysPads file b → a ≡ b
+
+-- a drill file says at most one list of holes
+abbrev pub HolesAreSaidOnce : Type 0
+HolesAreSaidOnce = (file : FileView) (a b : List Drilled) → SaysHoles file a → SaysHoles file b → a ≡ b
 
 -- a package whose report has no finding is sound
 abbrev pub PassingIsSound : Type 0

@@ -5,7 +5,7 @@ ghost use Rattle.std.specs.List.{flat_map};
 ghost use Rattle.grid_units.specs.Holes.{is_round};
 ghost use Rattle.package_check.specs.Boards.{CountsAddUp, board_findings, board_of, hole_count, numbered_from, numbered_in};
 ghost use Rattle.package_check.specs.Package.{sum_of, layer_indexes, pads_of};
-ghost use Rattle.package_check.specs.Soundness.{drilled_in};
+ghost use Rattle.package_check.specs.SoundnessAsRead.{drilled_in};
 
 use crate::contents::Content;
 use crate::readers::Layer;

@@ -6,10 +6,11 @@ ghost use Rattle.package_check.specs.Boards.{ReturnsBoard, ReturnsFlashedBoard};
 ghost use Rattle.package_check.specs.Package.{ReturnsExactly, ReturnsReport, IsAnswer, NamesItsPlaces, layer_count, file_views};
 ghost use Rattle.package_check.specs.Reports.{ReportView};
 ghost use Rattle.package_check.specs.Soundness.{AreStraight, IsSound};
+ghost use Rattle.package_check.specs.SoundnessAsRead.{AreLegal};
 ghost use Rattle.package_check.specs.Holding.{HasTaken};
 
 use crate::contents::is_copper;
-use crate::laws::{findings_name_their_places, passing_is_sound, unique_answer, unique_reading};
+use crate::laws::{files_say_once, findings_name_their_places, passing_is_sound, unique_answer};
 use crate::{Board, File, Keep, PackageFault, PackageReader, Report};
 use grid_units::Rules;
 use std::alloc::{AllocError, Global};
@@ -53,10 +54,11 @@ pub fn check_bytes(alloc: Global, files: &[File], rules: Rules) -> Result<Report
     ensures only { (answer : Result ReportView (ℕ × TheFault)) → IsAnswer (file_views files.now) rules answer → ReturnsExactly answer result }
     ensures places { IfOk result NamesItsPlaces }
     ensures straight { IfOk result (λ report. report.findings ≡ [] → 0 < layer_count files.now → AreStraight (file_views files.now)) }
+    ensures legal { IfOk result (λ report. AreLegal (file_views files.now)) }
     ensures sound { IfOk result (λ report. report.findings ≡ [] → IsSound (file_views files.now) rules) }
 {
     unique_answer();
-    unique_reading();
+    files_say_once();
     findings_name_their_places();
     passing_is_sound();
     report_of(alloc, files, rules)

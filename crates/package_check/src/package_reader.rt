@@ -10,6 +10,7 @@ ghost use Rattle.package_check.specs.Boards.{ReturnsBoard, ReturnsFlashedBoard};
 ghost use Rattle.package_check.specs.Package.{ReturnsExactly, ReturnsReport, IsAnswer, NamesItsPlaces, FileView, unnamed_file};
 ghost use Rattle.package_check.specs.Reports.{ReportView};
 ghost use Rattle.package_check.specs.Soundness.{IsSound};
+ghost use Rattle.package_check.specs.SoundnessAsRead.{AreLegal};
 ghost use Rattle.package_check.specs.Holding.{AddsFlashes, ReadsNext};
 ghost use Rattle.package_check.specs.declared.PackageFault.TheVariants as stop;
 
@@ -137,6 +138,7 @@ impl PackageReader {
         ensures exact { (keep : TheKeep) (sources : List FileView) → HasTaken self keep sources → ReturnsReport sources rules result }
         ensures only { (keep : TheKeep) (sources : List FileView) (answer : Result ReportView (ℕ × TheFault)) → HasTaken self keep sources → IsAnswer sources rules answer → ReturnsExactly answer result }
         ensures places { (keep : TheKeep) (sources : List FileView) → HasTaken self keep sources → IfOk result NamesItsPlaces }
+        ensures legal { (keep : TheKeep) (sources : List FileView) → HasTaken self keep sources → IfOk result (λ report. AreLegal sources) }
         ensures sound { (keep : TheKeep) (sources : List FileView) → HasTaken self keep sources → IfOk result (λ report. report.findings ≡ [] → IsSound sources rules) }
         ensures failed { IsOutOfMemory self → result ≡ Err stop.Memory }
     {

@@ -7,10 +7,11 @@ ghost use Rattle.package_check.specs.Package.{ReturnsExactly, ReturnsReport, IsA
 ghost use Rattle.package_check.specs.Pieces.{pieced_layer_count, pieced_file_views};
 ghost use Rattle.package_check.specs.Reports.{ReportView};
 ghost use Rattle.package_check.specs.Soundness.{AreStraight, IsSound};
+ghost use Rattle.package_check.specs.SoundnessAsRead.{AreLegal};
 ghost use Rattle.package_check.specs.Holding.{HasTaken};
 
 use crate::contents::is_copper;
-use crate::laws::{findings_name_their_places, passing_is_sound, unique_answer, unique_reading};
+use crate::laws::{files_say_once, findings_name_their_places, passing_is_sound, unique_answer};
 use crate::{PackageFault, PackageReader, PiecedFile, Report};
 use grid_units::Rules;
 use std::alloc::{AllocError, Global};
@@ -55,10 +56,11 @@ pub fn check_pieces(
     ensures only { (answer : Result ReportView (ℕ × TheFault)) → IsAnswer (pieced_file_views files.now) rules answer → ReturnsExactly answer result }
     ensures places { IfOk result NamesItsPlaces }
     ensures straight { IfOk result (λ report. report.findings ≡ [] → 0 < pieced_layer_count files.now → AreStraight (pieced_file_views files.now)) }
+    ensures legal { IfOk result (λ report. AreLegal (pieced_file_views files.now)) }
     ensures sound { IfOk result (λ report. report.findings ≡ [] → IsSound (pieced_file_views files.now) rules) }
 {
     unique_answer();
-    unique_reading();
+    files_say_once();
     findings_name_their_places();
     passing_is_sound();
     report_of(alloc, files, rules)

@@ -1,5 +1,5 @@
 -- Shapes of flashed pads: their points, and the holes that each of them covers. Lengths are whole picometres.
-use Rattle.std.specs.Prelude.{◌≡◌, ℕ, ℤ, pos, ◌+◌, ◌-◌, ◌≤◌, min, ◌+ℤ◌, ◌-ℤ◌, ◌≤ℤ◌, ◌⊎◌, Bool, true, false, ◌&&◌, nat_le, if◌then◌else◌}
+use Rattle.std.specs.Prelude.{◌≡◌, ℕ, ℤ, pos, ◌+◌, ◌-◌, ◌≤◌, min, ◌≤ℤ◌, ◌⊎◌, Bool, true, false, ◌&&◌, nat_le}
 use Rattle.grid_units.specs.Points.{GridPoint, abs_diff, square, square_distance}
 use Rattle.grid_units.specs.Holes.{IsBetween}
 
@@ -52,31 +52,13 @@ IsInRect r p = (abs_diff p.x r.centre.x ≤ r.half_x) × (abs_diff p.y r.centre.
 abbrev pub end_radius : GridObround → ℕ
 end_radius o = min o.half_x o.half_y
 
--- the rectangle between the centres of the round ends
-abbrev pub straight_part : GridObround → GridRect
-straight_part o = record {
-  centre = o.centre;
-  half_x = if nat_le o.half_y o.half_x then o.half_x - end_radius o else end_radius o;
-  half_y = if nat_le o.half_y o.half_x then end_radius o else o.half_y - end_radius o;
-}
+-- the line between the centres of the round ends, along the longer side: a rectangle one of whose sides is 0
+abbrev pub axis : GridObround → GridRect
+axis o = record { centre = o.centre; half_x = o.half_x - end_radius o; half_y = o.half_y - end_radius o }
 
--- the round end on the right or at the top; along the shorter side its centre is that of the pad
-abbrev pub upper_end : GridObround → GridDisc
-upper_end o = record {
-  centre = record { x = o.centre.x +ℤ pos (o.half_x - end_radius o); y = o.centre.y +ℤ pos (o.half_y - end_radius o) };
-  radius = end_radius o;
-}
-
--- the round end on the left or at the bottom
-abbrev pub lower_end : GridObround → GridDisc
-lower_end o = record {
-  centre = record { x = o.centre.x -ℤ pos (o.half_x - end_radius o); y = o.centre.y -ℤ pos (o.half_y - end_radius o) };
-  radius = end_radius o;
-}
-
--- p lies in the straight part or in one of the round ends
+-- p is no further than the radius of the ends from some point of the axis
 abbrev pub IsInObround : GridObround → GridPoint → Type 0
-IsInObround o p = IsInRect (straight_part o) p ⊎ (IsInDisc (upper_end o) p ⊎ IsInDisc (lower_end o) p)
+IsInObround o p = (c : GridPoint) × IsInRect (axis o) c × (square_distance p c ≤ square (end_radius o))
 
 -- c lies so deep in the disc that the reach stays inside: no further from its centre than the radius less the reach
 abbrev pub disc_covers : GridDisc → GridPoint → ℕ → Bool

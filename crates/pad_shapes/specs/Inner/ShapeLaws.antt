@@ -7,7 +7,7 @@ use Rattle.std.proofs.lemmas.Bool.Decides.{nat_tests}
 use Rattle.grid_units.specs.Holes.{IsBetween}
 use Rattle.grid_units.specs.Points.{GridPoint, abs_diff, square, square_distance}
 use Rattle.grid_units.proofs.TriangleInequalities.{abs_diff_triangle, square-le, le_of_squares, two_steps-le, square_distance-le}
-use Rattle.pad_shapes.specs.Shapes.{GridObround, IsInDisc, IsInRect, IsInObround, end_radius, upper_end, lower_end, square_axis_distance, disc_covers, rect_covers, obround_covers, IsAxisAligned, IsInBox, ContainsCovered, ContainsCoveredSlots, CoveredIsBetween, HasExtent, RectIsTight}
+use Rattle.pad_shapes.specs.Shapes.{GridObround, IsInDisc, IsInRect, IsInObround, end_radius, square_axis_distance, disc_covers, rect_covers, obround_covers, IsAxisAligned, IsInBox, ContainsCovered, ContainsCoveredSlots, CoveredIsBetween, HasExtent, RectIsTight}
 use Rattle.pad_shapes.specs.declared.pad.Pad.TheVariants.{Disc, Rect, Obround}
 use Rattle.pad_shapes.specs.Pads.{IsInPad, pad_covers, pad_left, pad_right}
 
@@ -92,41 +92,24 @@ apart_past_above z c a h k = omega (arith, ints)
 apart_past_below : (z c : ℤ) (a : ℕ) → z ≤ℤ c → a ≤ abs_diff z c → abs_diff z (c -ℤ pos a) ≡ abs_diff z c - a
 apart_past_below z c a h k = omega (arith, ints)
 
-apart_plus_none : (z c : ℤ) (a : ℕ) → a ≡ 0 → abs_diff z (c +ℤ pos a) ≡ abs_diff z c - a
-apart_plus_none z c a h = omega (arith, ints)
-
-apart_minus_none : (z c : ℤ) (a : ℕ) → a ≡ 0 → abs_diff z (c -ℤ pos a) ≡ abs_diff z c - a
-apart_minus_none z c a h = omega (arith, ints)
-
 by_order : {P : Type 0} (a b : ℤ) → (a ≤ℤ b → P) → (b ≤ℤ a → P) → P
 by_order a b f g = by_lt_z a b (λ h. f (omega (arith, ints))) g
 
--- past the straight part, a point lies in one of the ends
-in_end_x : (o : GridObround) (p : GridPoint) → square_axis_distance o p ≤ square (end_radius o) → o.half_x - end_radius o ≤ abs_diff p.x o.centre.x → o.half_y - end_radius o ≡ 0 → IsInDisc (upper_end o) p ⊎ IsInDisc (lower_end o) p
-in_end_x o p h past none = by_order o.centre.x p.x
-    (λ k. inl (square_distance_of p (upper_end o).centre _ _ _ (apart_past_above p.x o.centre.x (o.half_x - end_radius o) k past) (apart_plus_none p.y o.centre.y (o.half_y - end_radius o) none) h))
-    (λ k. inr (square_distance_of p (lower_end o).centre _ _ _ (apart_past_below p.x o.centre.x (o.half_x - end_radius o) k past) (apart_minus_none p.y o.centre.y (o.half_y - end_radius o) none) h))
-
-in_end_y : (o : GridObround) (p : GridPoint) → square_axis_distance o p ≤ square (end_radius o) → o.half_y - end_radius o ≤ abs_diff p.y o.centre.y → o.half_x - end_radius o ≡ 0 → IsInDisc (upper_end o) p ⊎ IsInDisc (lower_end o) p
-in_end_y o p h past none = by_order o.centre.y p.y
-    (λ k. inl (square_distance_of p (upper_end o).centre _ _ _ (apart_plus_none p.x o.centre.x (o.half_x - end_radius o) none) (apart_past_above p.y o.centre.y (o.half_y - end_radius o) k past) h))
-    (λ k. inr (square_distance_of p (lower_end o).centre _ _ _ (apart_minus_none p.x o.centre.x (o.half_x - end_radius o) none) (apart_past_below p.y o.centre.y (o.half_y - end_radius o) k past) h))
+-- the point of a line that is nearest, along one axis: the line reaches this far from its middle to both sides
+nearest : (z o : ℤ) (a : ℕ) → (c : ℤ) × (abs_diff c o ≤ a) × (abs_diff z c ≡ abs_diff z o - a)
+nearest z o a = elim (cases_lt a (abs_diff z o)) [
+  | inl past ↦ by_order o z
+      (λ k. (o +ℤ pos a, omega (arith, apart_above o a), apart_past_above z o a k (omega (arith, past))))
+      (λ k. (o -ℤ pos a, omega (arith, apart_below o a), apart_past_below z o a k (omega (arith, past))))
+  | inr within ↦ (z, within, omega (arith, apart_self z, within))
+]
 
 -- a point that is no further from the axis than the radius is in the obround
 near_axis : (o : GridObround) (p : GridPoint) → square_axis_distance o p ≤ square (end_radius o) → IsInObround o p
 near_axis o p h =
-    let past_x : abs_diff p.x o.centre.x - (o.half_x - end_radius o) ≤ end_radius o = side-le _ (abs_diff p.y o.centre.y - (o.half_y - end_radius o)) _ h in
-    let past_y : abs_diff p.y o.centre.y - (o.half_y - end_radius o) ≤ end_radius o = other_side-le (abs_diff p.x o.centre.x - (o.half_x - end_radius o)) _ _ h in
-    elim (cases_lt o.half_x o.half_y) [
-      | inl upright ↦ elim (cases_lt (o.half_y - end_radius o) (abs_diff p.y o.centre.y)) [
-        | inl past ↦ inr (in_end_y o p h (omega (arith, past)) (omega arith))
-        | inr beside ↦ inl (grind (arith, nat_tests), grind (arith, nat_tests))
-      ]
-      | inr lying ↦ elim (cases_lt (o.half_x - end_radius o) (abs_diff p.x o.centre.x)) [
-        | inl past ↦ inr (in_end_x o p h (omega (arith, past)) (omega arith))
-        | inr beside ↦ inl (grind (arith, nat_tests), grind (arith, nat_tests))
-      ]
-    ]
+    let x = nearest p.x o.centre.x (o.half_x - end_radius o) in
+    let y = nearest p.y o.centre.y (o.half_y - end_radius o) in
+    (record { x = x.0; y = y.0 }, (x.1, y.1), square_distance_of p (record { x = x.0; y = y.0 }) _ _ (end_radius o) x.2 y.2 h)
 
 pub obround_contains_covered : ContainsCovered IsInObround obround_covers
 obround_contains_covered o c reach e p h =
@@ -145,13 +128,10 @@ obround_between o c reach e =
 
 -- no part of an obround is further than half a side from its centre
 obround_within_x : (o : GridObround) (p : GridPoint) → IsInObround o p → abs_diff p.x o.centre.x ≤ o.half_x
-obround_within_x o p h = elim h [
-  | inl straight ↦ grind (arith, nat_tests, straight.0)
-  | inr ends ↦ elim ends [
-    | inl upper ↦ omega (arith, side-le _ (abs_diff p.y (upper_end o).centre.y) _ upper, abs_diff_triangle p.x (upper_end o).centre.x o.centre.x, apart_above o.centre.x (o.half_x - end_radius o))
-    | inr lower ↦ omega (arith, side-le _ (abs_diff p.y (lower_end o).centre.y) _ lower, abs_diff_triangle p.x (lower_end o).centre.x o.centre.x, apart_below o.centre.x (o.half_x - end_radius o))
-  ]
-]
+obround_within_x o p h =
+    let c = h.0 in
+    let along : abs_diff c.x o.centre.x ≤ o.half_x - end_radius o = h.1.0 in
+    omega (arith, side-le _ (abs_diff p.y c.y) _ h.2, abs_diff_triangle p.x c.x o.centre.x, along)
 
 apart_below_end : (c : ℤ) (n r : ℕ) → r ≤ n → abs_diff (c -ℤ pos n) (c -ℤ pos (n - r)) ≡ r
 apart_below_end c n r h = omega (arith, ints)
@@ -163,9 +143,18 @@ pub obround_extent : HasExtent IsInObround (λ o. o.centre.x -ℤ pos o.half_x) 
 obround_extent o = record {
   least = λ p h. (within_bounds p.x o.centre.x o.half_x (obround_within_x o p h)).0;
   greatest = λ p h. (within_bounds p.x o.centre.x o.half_x (obround_within_x o p h)).1;
-  attains_least = ((lower_end o).centre.y, inr (inr (square_distance_of (record { x = o.centre.x -ℤ pos o.half_x; y = (lower_end o).centre.y }) (lower_end o).centre (end_radius o) 0 (end_radius o) (apart_below_end o.centre.x o.half_x (end_radius o) (omega arith)) (apart_self (lower_end o).centre.y) (omega arith))));
-  attains_greatest = ((upper_end o).centre.y, inr (inl (square_distance_of (record { x = o.centre.x +ℤ pos o.half_x; y = (upper_end o).centre.y }) (upper_end o).centre (end_radius o) 0 (end_radius o) (apart_above_end o.centre.x o.half_x (end_radius o) (omega arith)) (apart_self (upper_end o).centre.y) (omega arith))));
+  attains_least = attained (o.centre.x -ℤ pos o.half_x) (o.centre.x -ℤ pos (o.half_x - end_radius o)) (omega (arith, apart_below o.centre.x (o.half_x - end_radius o)))
+      (apart_below_end o.centre.x o.half_x (end_radius o) (omega arith));
+  attains_greatest = attained (o.centre.x +ℤ pos o.half_x) (o.centre.x +ℤ pos (o.half_x - end_radius o)) (omega (arith, apart_above o.centre.x (o.half_x - end_radius o)))
+      (apart_above_end o.centre.x o.half_x (end_radius o) (omega arith));
 }
+  where
+    -- the point at the height of the centre, by an end of the axis
+    attained : (x end : ℤ) → abs_diff end o.centre.x ≤ o.half_x - end_radius o → abs_diff x end ≡ end_radius o → (y : ℤ) × IsInObround o (record { x = x; y = y })
+    attained x end along far =
+        let p : GridPoint = record { x = x; y = o.centre.y } in
+        let c : GridPoint = record { x = end; y = o.centre.y } in
+        (o.centre.y, (c, (along, omega (arith, apart_self o.centre.y)), square_distance_of p c (end_radius o) 0 (end_radius o) far (apart_self o.centre.y) (omega arith)))
 
 pub pad_contains_covered : ContainsCovered IsInPad pad_covers
 pad_contains_covered (Disc d) = disc_contains_covered d

@@ -1,7 +1,7 @@
 use Rattle.std.proofs.Common.{◌≡◌, ◌++◌, map}
 use Rattle.std.specs.List.{flat_map}
 use Rattle.package_check.specs.Package.{pads_of}
-use Rattle.package_check.specs.Soundness.{drilled_in}
+use Rattle.package_check.specs.SoundnessAsRead.{drilled_in}
 use Rattle.package_check.proofs.board.add_contents.Given as goal
 
 abbrev pub invariant-loop-content : goal.invariant-loop-content

@@ -1,5 +1,4 @@
-use Rattle.package_check.proofs.Passing.{passing_is_sound}
 use Rattle.package_check.proofs.laws.passing_is_sound.Goals as goal
 
 pub returns : goal.returns
-returns c = passing_is_sound c.rings_hold.ensures.rounds c.rings_hold.ensures.slots c.rings_hold.ensures.straight c.gaps_hold.ensures
+returns c sources rules report is none = c.sound_as_read_is_sound.ensures sources rules (c.passing_is_sound_as_read.ensures sources rules report is none)

@@ -1,7 +1,7 @@
 use Rattle.package_check.specs.Package.{layer_count, file_view, file_views}
 use Rattle.std.proofs.Common.{refl}
 use Rattle.package_check.proofs.NoObliqueSlots.{passed_straight}
-use Rattle.package_check.proofs.AnswerLemmas.{just, named, passed}
+use Rattle.package_check.proofs.AnswerLemmas.{just, legal, named, passed}
 use Rattle.package_check.proofs.package.check_bytes.Goals as goal
 
 pub returns-clause-only : goal.returns-clause-only
@@ -10,6 +10,9 @@ returns-clause-only c = just (file_views c.args.files.now) c.args.rules c.unique
 pub returns-clause-places : goal.returns-clause-places
 returns-clause-places c = named (file_views c.args.files.now) c.args.rules c.findings_name_their_places.ensures c.report_of.result c.report_of.ensures
 
+pub returns-clause-legal : goal.returns-clause-legal
+returns-clause-legal c = legal (file_views c.args.files.now) c.args.rules c.report_of.result c.report_of.ensures
+
 pub returns-clause-sound : goal.returns-clause-sound
 returns-clause-sound c = passed (file_views c.args.files.now) c.args.rules c.passing_is_sound.ensures c.report_of.result c.report_of.ensures
 
@@ -17,4 +20,4 @@ pub returns-clause-straight : goal.returns-clause-straight
 returns-clause-straight c =
     let files = c.args.files.now in
     let n = layer_count files in
-    passed_straight (file_view n) (λ file. file.role) n (λ file. refl) (λ file. refl) c.unique_reading.ensures c.passing_is_sound.ensures c.args.rules files c.report_of.result refl c.report_of.ensures
+    passed_straight (file_view n) (λ file. file.role) n (λ file. refl) (λ file. refl) c.files_say_once.ensures.holes c.passing_is_sound.ensures c.args.rules files c.report_of.result refl c.report_of.ensures

@@ -1,0 +1,10 @@
+//! Laws of drill lines. A call of one does nothing; its clauses are what is proved.
+
+ghost use Rattle.drill_lines.specs.Laws.{AnswersAreWritten, SpellsAtMostOne, WrittenIsAnswered};
+
+/// A line is read as a command, or as nothing, just where it is so written, and spells at most one.
+pub fn line_grammar()
+    ensures written { AnswersAreWritten }
+    ensures answered { WrittenIsAnswered }
+    ensures one { SpellsAtMostOne }
+{}

@@ -1,0 +1,44 @@
+-- An example of a drill text.
+use Rattle.std.proofs.Common.{pos, ℕ, List, [], None, Some, refl, arith, lit≤}
+use Rattle.std.specs.Prelude.{codes}
+use Rattle.grid_units.specs.declared.lengths.Unit.TheVariants.{Millimetre}
+use Rattle.grid_units.specs.Numbers.{parse_decimal}
+use Rattle.drill_lines.specs.declared.command.DrillCommand.TheVariants.{Start, UnitLine, Tool, HeaderEnd, Pick, Finish}
+use Rattle.drill_lines.specs.HoleLines.{coordinate_of}
+use Rattle.drill_text.specs.Grammar.{IsText}
+use Rattle.drill_text.proofs.DrillingExamples.{hit, commands}
+
+abbrev text : List ℕ
+text = codes "M48\nMETRIC\nT1C0.4\n%\nT1\nX1.0Y2.0\nM30\n"
+
+-- it is a text of these commands, which drill one hole (`DrillingExamples`)
+written : IsText text commands
+unfolding coordinate_of parse_decimal
+written = record {
+  lines = (
+    Some Start,
+    (1, omega arith, refl),
+    (
+      Some (UnitLine Millimetre None None),
+      (refl, (codes "METRIC", [], refl, (1, omega arith, refl), (0, omega arith, refl), tt)),
+      (
+        Some (Tool 1 (pos 40_000_000)),
+        (refl, (codes "1", [], codes "0.4", [], refl, (refl, refl, lit≤ tt), lit≤ tt, (refl, refl), (refl, refl), refl, refl)),
+        (
+          Some HeaderEnd,
+          (1, omega arith, refl),
+          (
+            Some (Pick 1),
+            (refl, (codes "1", [], refl, (refl, refl, lit≤ tt), (refl, refl))),
+            (
+              Some hit,
+              (refl, (codes "X1.0", codes "Y2.0", refl, (codes "1.0", refl, refl), (codes "2.0", refl, refl), refl)),
+              (Some Finish, (1, omega arith, refl), (None, (0, omega arith, refl), refl)),
+            ),
+          ),
+        ),
+      ),
+    ),
+  );
+  ends = (6, omega arith, refl);
+}

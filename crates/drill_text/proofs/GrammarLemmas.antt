@@ -1,0 +1,108 @@
+-- A text that spells commands, and one that is written for them.
+use Rattle.std.proofs.Common.{◌≡◌, ℕ, zero, suc, Bool, true, false, cond, ◌||◌, List, [], ◌∷◌, ◌++◌, Result, Ok, Err, refl, sym, ap, subst, ◌∙◌, arith, append_assoc}
+use Rattle.std.specs.List.{list_any, AllByRecursion, Contains, onto_first}
+use Rattle.std.specs.Option.{option_to_list}
+use Rattle.std.proofs.lemmas.Bool.{ne_eqb}
+use Rattle.grid_units.specs.Results.{◌>>=◌}
+use Rattle.grid_units.proofs.ResultLemmas.{bind_ok}
+use Rattle.grid_units.proofs.ListLemmas.{list_any_element}
+use Rattle.drill_lines.specs.declared.command.DrillCommand.{DrillCommand}
+use Rattle.drill_lines.specs.declared.command.DrillCommand.TheVariants as command
+use Rattle.drill_lines.specs.Lines.{trimmed}
+use Rattle.drill_lines.specs.Meaning.{meaning}
+use Rattle.drill_lines.proofs.Answered.{written_is_answered}
+use Rattle.drill_lines.proofs.Written.{answers_are_written}
+use Rattle.drill_text.specs.Lines.{bytes_of, HasNoBreak, Splits}
+use Rattle.drill_text.specs.Lookback.{settings_after}
+use Rattle.drill_text.specs.Reading.{is_finish}
+use Rattle.drill_text.specs.Texts.{spelled_after, AreWithinLimit, SpellsText}
+use Rattle.drill_text.specs.Grammar.{lines_of, AreLines, IsText}
+use Rattle.drill_text.specs.Laws.{IsWithinLimits, SpelledIsWritten, IsTextOfAtMostOne}
+use Rattle.drill_text.proofs.FirstFaults.{cut}
+
+-- ---- lines
+
+lines_spell : (before : List DrillCommand) (lines : List (List ℕ)) (commands : List DrillCommand) → AreLines before lines commands → spelled_after before lines ≡ Ok commands
+lines_spell before [] commands e = ap (λ (cs : List DrillCommand). Ok cs) (sym e)
+lines_spell before (line ∷ lines) commands (spelled, is, rest) =
+    ap (λ r. r >>= λ o. spelled_after (before ++ option_to_list o) lines) (written_is_answered (settings_after before) (trimmed line) spelled is)
+    ∙ lines_spell (before ++ option_to_list spelled) lines commands rest
+
+spelled_lines : (before : List DrillCommand) (lines : List (List ℕ)) (commands : List DrillCommand) → spelled_after before lines ≡ Ok commands → AreLines before lines commands
+spelled_lines before [] commands e = let same : before ≡ commands = cc in sym same
+spelled_lines before (line ∷ lines) commands e =
+    let b = bind_ok (meaning (settings_after before) (trimmed line)) (λ o. spelled_after (before ++ option_to_list o) lines) commands e in
+    (b.0, answers_are_written (settings_after before) (trimmed line) b.0 b.1, spelled_lines (before ++ option_to_list b.0) lines commands b.2)
+
+-- ---- cutting at LF
+
+cut_line : (line rest : List ℕ) → HasNoBreak line → lines_of (line ++ 10 ∷ rest) ≡ line ∷ lines_of rest
+cut_line [] rest h = refl
+cut_line (b ∷ line) rest h =
+    ap (λ t. cond t ([] ∷ lines_of (line ++ 10 ∷ rest)) (onto_first b (lines_of (line ++ 10 ∷ rest)))) (ne_eqb b 10 h.0)
+    ∙ ap (onto_first b) (cut_line line rest h.1)
+
+cut_rest : (rest : List ℕ) → HasNoBreak rest → lines_of rest ≡ rest ∷ []
+cut_rest [] h = refl
+cut_rest (b ∷ rest) h = ap (λ t. cond t ([] ∷ lines_of rest) (onto_first b (lines_of rest))) (ne_eqb b 10 h.0) ∙ ap (onto_first b) (cut_rest rest h.1)
+
+cut_lines : (lines : List (List ℕ)) (rest : List ℕ) → AllByRecursion HasNoBreak lines → HasNoBreak rest → lines_of (bytes_of lines ++ rest) ≡ lines ++ rest ∷ []
+cut_lines [] rest each partial = cut_rest rest partial
+cut_lines (line ∷ lines) rest each partial =
+    ap lines_of (append_assoc (line ++ 10 ∷ []) (bytes_of lines) rest ∙ append_assoc line (10 ∷ []) (bytes_of lines ++ rest))
+    ∙ (cut_line line (bytes_of lines ++ rest) each.0 ∙ ap (λ (ls : List (List ℕ)). line ∷ ls) (cut_lines lines rest each.1 partial))
+
+same_lines : (text : List ℕ) (lines : List (List ℕ)) (rest : List ℕ) → Splits text lines rest → lines_of text ≡ lines ++ rest ∷ []
+same_lines text lines rest s = ap lines_of s.whole ∙ cut_lines lines rest s.each s.partial
+
+-- ---- the end of the file
+
+is_end : (c : DrillCommand) → is_finish c ≡ true → c ≡ command.Finish
+is_end command.Finish e = refl
+is_end c e = absurd cc
+
+has_end : (commands : List DrillCommand) → list_any is_finish commands ≡ true → Contains commands command.Finish
+has_end commands e = let there = list_any_element is_finish commands e in subst (Contains commands) (is_end there.0 there.2) there.1
+
+or_true : (a b : Bool) → b ≡ true → (a || b) ≡ true
+or_true true b e = refl
+or_true false b e = e
+
+end_found : (commands : List DrillCommand) → Contains commands command.Finish → list_any is_finish commands ≡ true
+end_found [] (k, less, e) = absurd (omega (arith, less))
+end_found (c ∷ cs) (zero, less, e) = ap (λ d. is_finish d || list_any is_finish cs) e
+end_found (c ∷ cs) (suc k, less, e) = or_true (is_finish c) (list_any is_finish cs) (end_found cs (k, omega (arith, less), e))
+
+-- ---- texts
+
+spelled_written : (text : List ℕ) (commands : List DrillCommand) → SpellsText text commands → IsWithinLimits text × IsText text commands
+spelled_written text commands s =
+    let same : s.lines ++ s.rest ∷ [] ≡ lines_of text = sym (same_lines text s.lines s.rest s.splits) in (
+      (s.within, subst AreWithinLimit same s.short),
+      record { lines = subst (λ ls. AreLines [] ls commands) same (spelled_lines [] (s.lines ++ s.rest ∷ []) commands s.spelling); ends = has_end commands s.ends },
+    )
+
+written_spelled : (text : List ℕ) (commands : List DrillCommand) → IsWithinLimits text → IsText text commands → SpellsText text commands
+written_spelled text commands within t =
+    let c = cut text in
+    let same = same_lines text c.lines c.rest c.splits in
+    record {
+      lines = c.lines;
+      rest = c.rest;
+      splits = c.splits;
+      within = within.0;
+      short = subst AreWithinLimit same within.1;
+      spelling = lines_spell [] (c.lines ++ c.rest ∷ []) commands (subst (λ ls. AreLines [] ls commands) same t.lines);
+      ends = end_found commands t.ends;
+    }
+
+pub spelled_is_written : SpelledIsWritten
+spelled_is_written text commands = (spelled_written text commands, λ h. written_spelled text commands h.0 h.1)
+
+one_answer : {E A : Type 0} (r : Result A E) (x y : A) → r ≡ Ok x → r ≡ Ok y → x ≡ y
+one_answer (Ok z) x y e f = let first : z ≡ x = cc in let second : z ≡ y = cc in sym first ∙ second
+one_answer (Err z) x y e f = absurd cc
+
+pub is_text_of_at_most_one : IsTextOfAtMostOne
+is_text_of_at_most_one text commands other t u =
+    one_answer (spelled_after [] (lines_of text)) commands other (lines_spell [] (lines_of text) commands t.lines) (lines_spell [] (lines_of text) other u.lines)

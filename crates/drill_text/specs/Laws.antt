@@ -1,0 +1,34 @@
+-- Laws of drill files: the holes that are listed of their commands are just those that these drill, and the texts that spell commands
+-- are just those of the grammar.
+use Rattle.std.specs.Prelude.{◌≡◌, ◌≤◌, ◌↔◌, ℕ, List, length}
+use Rattle.grid_units.specs.Holes.{GridHole}
+use Rattle.drill_lines.specs.declared.command.DrillCommand.{DrillCommand}
+use Rattle.drill_text.specs.Holes.{holes_of}
+use Rattle.grid_units.specs.Limits.{text_limit}
+use Rattle.drill_text.specs.Texts.{AreWithinLimit, SpellsText, IsDrillText}
+use Rattle.drill_text.specs.Drilling.{AreHoles}
+use Rattle.drill_text.specs.Grammar.{lines_of, IsText}
+
+-- the commands of a drill text drill the holes that are listed of them
+abbrev pub ListedHolesAreDrilled : Type 0
+ListedHolesAreDrilled = (text : List ℕ) (commands : List DrillCommand) → IsDrillText text commands → AreHoles commands (holes_of commands)
+
+-- holes that commands drill are the ones that are listed of them
+abbrev pub DrilledHolesAreListed : Type 0
+DrilledHolesAreListed = (commands : List DrillCommand) (holes : List GridHole) → AreHoles commands holes → holes ≡ holes_of commands
+
+-- commands drill at most one list of holes
+abbrev pub DrillsAtMostOneList : Type 0
+DrillsAtMostOneList = (commands : List DrillCommand) (holes other : List GridHole) → AreHoles commands holes → AreHoles commands other → holes ≡ other
+
+-- neither a text nor one of its lines is too long
+abbrev pub IsWithinLimits : List ℕ → Type 0
+IsWithinLimits text = (length text ≤ text_limit) × AreWithinLimit (lines_of text)
+
+-- a text spells commands just where it is a text of them by the grammar, and not too long
+abbrev pub SpelledIsWritten : Type 0
+SpelledIsWritten = (text : List ℕ) (commands : List DrillCommand) → (SpellsText text commands) ↔ (IsWithinLimits text × IsText text commands)
+
+-- by the grammar a text is one of at most one list of commands
+abbrev pub IsTextOfAtMostOne : Type 0
+IsTextOfAtMostOne = (text : List ℕ) (commands other : List DrillCommand) → IsText text commands → IsText text other → commands ≡ other

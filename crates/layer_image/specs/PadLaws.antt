@@ -1,0 +1,27 @@
+-- Laws of the pads of a list of commands.
+use Rattle.std.specs.Prelude.{◌≡◌, ◌↔◌, ℕ, List}
+use Rattle.std.specs.List.{Contains}
+use Rattle.grid_units.specs.Lists.{IsLegal}
+use Rattle.pad_shapes.specs.declared.pad.Pad.{Pad}
+use Rattle.gerber_commands.specs.declared.command.Command.{Command}
+use Rattle.gerber_text.specs.Writing.{without_places}
+use Rattle.layer_image.specs.Flashes.{flashes_of, pads_of}
+use Rattle.layer_image.specs.Layers.{IsLayer, LayerImage}
+use Rattle.layer_image.specs.Pads.{ArePads, IsFlashed}
+use Rattle.layer_image.specs.Rules.{broken_rule}
+
+-- the pads among the flashes of a legal list are the pads that its commands make
+abbrev pub LegalPads : Type 0
+LegalPads = (commands : List Command) → IsLegal broken_rule commands → ArePads commands (pads_of (flashes_of commands))
+
+-- a layer's pads are those that its commands make
+abbrev pub LayerPads : Type 0
+LayerPads = (text : List ℕ) (image : LayerImage) → IsLayer text image → ArePads (without_places image.commands) image.pads
+
+-- commands make at most one list of pads
+abbrev pub PadsAreUnique : Type 0
+PadsAreUnique = (commands : List Command) (a b : List Pad) → ArePads commands a → ArePads commands b → a ≡ b
+
+-- the list has just the pads that some command makes
+abbrev pub PadsAreFlashed : Type 0
+PadsAreFlashed = (commands : List Command) (made : List Pad) → ArePads commands made → (pad : Pad) → Contains made pad ↔ IsFlashed commands pad

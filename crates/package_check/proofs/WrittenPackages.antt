@@ -1,0 +1,185 @@
+-- What is sound by what is read of it is sound by what is written.
+use Rattle.std.proofs.Common.{◌≡◌, ◌⊎◌, inl, inr, ◌<◌, ℕ, zero, suc, Bool, true, false, not, ◌||◌, ◌&&◌, leb, List, [], ◌∷◌, ◌++◌, map, length, get_or, refl, sym, ap, subst, ◌∙◌, arith}
+use Rattle.std.specs.Prelude.{Option, None, Some}
+use Rattle.std.specs.List.{AllZip, Contains, filter, flat_map}
+use Rattle.std.proofs.lemmas.Bool.{leb-true}
+use Rattle.std.proofs.lemmas.List.Concat.{flat_map-cons}
+use Rattle.std.proofs.lemmas.List.Elements.{Contains-append_cases}
+use Rattle.grid_units.specs.Holes.{GridHole}
+use Rattle.grid_units.specs.Spans.{LayerSpan, is_in_span}
+use Rattle.pad_shapes.specs.declared.pad.Pad.{Pad}
+use Rattle.ring_rules.specs.declared.finding.Drilled.{Drilled}
+use Rattle.ring_rules.specs.WithoutFindings.{AreAllApart}
+use Rattle.gerber_text.specs.Laws.{SpelledTextsAreWritten}
+use Rattle.gerber_text.specs.Writing.{without_places}
+use Rattle.layer_image.specs.PadLaws.{LayerPads}
+use Rattle.layer_image.specs.Pads.{ArePads}
+use Rattle.drill_text.specs.Laws.{ListedHolesAreDrilled, SpelledIsWritten}
+use Rattle.drill_text.specs.Drilling.{AreHoles}
+use Rattle.manifest.specs.declared.Role.{Role}
+use Rattle.manifest.specs.declared.Role.TheVariants as role
+use Rattle.package_check.specs.LayerViews.{LayerView}
+use Rattle.package_check.specs.FileTexts.{HasLayerView, is_copper_function}
+use Rattle.package_check.specs.declared.contents.Content.{Content}
+use Rattle.package_check.specs.declared.contents.Content.TheVariants as content
+use Rattle.package_check.specs.Package.{FileView, HasContent, HasDrillContent, HaveContents, is_bad_span, is_copper, layers, pads_of}
+use Rattle.package_check.specs.Soundness.{IsRun, SaysHoles, SaysPads, is_plated}
+use Rattle.package_check.specs.SoundnessAsRead.{IsPlatedThrough, SoundAsReadIsSound, drilled_in}
+
+-- ---- spans
+
+run_of : (copper : Bool) (a b c : Bool) → (copper || not (a && (b && c))) ≡ false → (a ≡ true) × (b ≡ true) × (c ≡ true)
+run_of false true true true e = (refl, refl, refl)
+run_of true a b c e = absurd cc
+run_of false false b c e = absurd cc
+run_of false true false c e = absurd cc
+run_of false true true false e = absurd cc
+
+-- a span that is not bad is a run of the copper files
+good_run : (q : Role) (span : Option LayerSpan) (n : ℕ) → is_bad_span q span n ≡ false → IsRun n span
+good_run q None n e = tt
+good_run q (Some s) n e =
+    let all = run_of (is_copper q) (leb 1 s.first) (leb s.first s.last) (leb s.last n) e in
+    (leb-true 1 s.first all.0, leb-true s.first s.last all.1, leb-true s.last n all.2)
+
+-- a copper file has no span
+no_span : (span : Option LayerSpan) (n : ℕ) → is_bad_span role.Copper span n ≡ false → span ≡ None
+no_span None n e = refl
+no_span (Some s) n e = absurd cc
+
+-- ---- the holes of all files
+
+-- the holes of each drill file
+abbrev holes_by_file : List Content → List (List Drilled)
+holes_by_file [] = []
+holes_by_file (content.Layer image ∷ cs) = holes_by_file cs
+holes_by_file (content.Drill plated span holes ∷ cs) = drilled_in (content.Drill plated span holes) ∷ holes_by_file cs
+
+holes_joined : (cs : List Content) → flat_map (λ (one : List Drilled). one) (holes_by_file cs) ≡ flat_map drilled_in cs
+holes_joined [] = refl
+holes_joined (content.Layer image ∷ cs) = holes_joined cs ∙ sym (flat_map-cons drilled_in (content.Layer image) cs)
+holes_joined (content.Drill plated span holes ∷ cs) =
+    let first = drilled_in (content.Drill plated span holes) in
+    flat_map-cons (λ (one : List Drilled). one) first (holes_by_file cs)
+    ∙ (ap (λ (ds : List Drilled). first ++ ds) (holes_joined cs) ∙ sym (flat_map-cons drilled_in (content.Drill plated span holes) cs))
+
+-- the hole of an element of a file's holes is among its holes
+pub hole_among : (plated : Bool) (span : Option LayerSpan) (holes : List GridHole) (d : Drilled) → Contains (drilled_in (content.Drill plated span holes)) d
+    → Contains holes d.hole × (d.plated ≡ plated) × (d.span ≡ span)
+hole_among plated span holes d h = by holes h.0 h.1 h.2
+  where
+    by : (hs : List GridHole) (k : ℕ) → k < length (drilled_in (content.Drill plated span hs)) → get_or (drilled_in (content.Drill plated span hs)) k d ≡ d
+        → Contains hs d.hole × (d.plated ≡ plated) × (d.span ≡ span)
+    by [] k lt e = absurd (omega arith)
+    by (h ∷ hs) zero lt e = ((0, omega arith, ap (λ (x : Drilled). x.hole) e), sym (ap (λ (x : Drilled). x.plated) e), sym (ap (λ (x : Drilled). x.span) e))
+    by (h ∷ hs) (suc k) lt e = let rest = by hs k (omega arith) e in ((suc rest.0.0, (let inside = rest.0.1 in omega arith), rest.0.2), rest.1, rest.2)
+
+-- a hole that goes through a layer in a list of files does so with one file more
+through_more : (c : Content) (cs : List Content) (layer : ℕ) (hole : GridHole) → IsPlatedThrough cs layer hole → IsPlatedThrough (c ∷ cs) layer hole
+through_more c cs layer hole h = record {
+  span = h.span;
+  holes = h.holes;
+  file = (suc h.file.0, (let inside = h.file.1 in omega arith), h.file.2);
+  drilled = h.drilled;
+  through = h.through;
+}
+
+-- a plated hole among those of all files is one of some plated file
+is_through : (cs : List Content) (layer : ℕ) (d : Drilled) → Contains (flat_map drilled_in cs) d → d.plated ≡ true → is_in_span layer d.span ≡ true → IsPlatedThrough cs layer d.hole
+is_through [] layer d h plated within = absurd (let lt = h.1 in omega arith)
+is_through (c ∷ cs) layer d h plated within =
+    by c (Contains-append_cases (drilled_in c) (flat_map drilled_in cs) d (subst (λ (ds : List Drilled). Contains ds d) (flat_map-cons drilled_in c cs) h)) (λ later. is_through cs layer d later plated within)
+  where
+    by : (one : Content) → Contains (drilled_in one) d ⊎ Contains (flat_map drilled_in cs) d → (Contains (flat_map drilled_in cs) d → IsPlatedThrough cs layer d.hole) → IsPlatedThrough (one ∷ cs) layer d.hole
+    by one (inr later) rest = through_more one cs layer d.hole (rest later)
+    by (content.Layer image) (inl here) rest = absurd (let lt = here.1 in omega arith)
+    by (content.Drill p span holes) (inl here) rest =
+        let among = hole_among p span holes d here in
+        record {
+          span = span;
+          holes = holes;
+          file = (0, omega arith, ap (λ (b : Bool). content.Drill b span holes) (sym among.1 ∙ plated));
+          drilled = among.0;
+          through = ap (is_in_span layer) (sym among.2) ∙ within;
+        }
+
+-- ---- one file
+
+module _ (texts : SpelledTextsAreWritten) (layer_pads : LayerPads) (lines : SpelledIsWritten) (listed : ListedHolesAreDrilled) where
+  says_pads : (s : FileView) (image : LayerView) → HasLayerView s.bytes image → image.is_copper ≡ true → s.span ≡ None → SaysPads s image.pads
+  says_pads s image h copper none =
+      let layer = h.0 in
+      record {
+        commands = without_places layer.commands;
+        written = texts s.bytes layer.commands h.1.0.spells;
+        made = subst (λ (ps : List Pad). ArePads (without_places layer.commands) ps) (sym (ap (λ v. v.pads) h.2)) (layer_pads s.bytes layer h.1);
+        copper = ap (λ l. is_copper_function l.file_function) (sym h.1.1) ∙ (sym (ap (λ v. v.is_copper) h.2) ∙ copper);
+        spanless = none;
+      }
+
+  says_holes : (s : FileView) (plated : Bool) (through : Option LayerSpan) (holes : List GridHole) → HasDrillContent (is_plated s.role) s.span s.bytes (content.Drill plated through holes)
+      → IsRun s.layers s.span → SaysHoles s (drilled_in (content.Drill plated through holes))
+  says_holes s plated through holes h run = record {
+    commands = h.0.0;
+    written = ((lines s.bytes h.0.0).0 h.0.1.spells).1;
+    holes = holes;
+    made = subst (λ (hs : List GridHole). AreHoles h.0.0 hs) (sym h.0.2) (listed s.bytes h.0.0 h.0.1);
+    run = run;
+    is = λ i. map (λ (hole : GridHole). let d : Drilled = record { hole = hole; plated = h.1 i; span = h.2 i } in d) holes;
+  }
+
+  -- what one more file says is among what all say
+  one_more_layer : (q : Role) (name : List ℕ) (span : Option LayerSpan) (bytes : List ℕ) (n : ℕ) (c : Content) (ss : List FileView) (rest : List (List Pad))
+      → HasContent (record { role = q; name = name; span = span; bytes = bytes; layers = n }) c → AllZip SaysPads (filter (λ s. is_copper s.role) ss) rest
+      → AllZip SaysPads (filter (λ s. is_copper s.role) (record { role = q; name = name; span = span; bytes = bytes; layers = n } ∷ ss)) (pads_of c ++ rest)
+  one_more_layer role.Copper name span bytes n (content.Layer image) ss rest h all =
+      (says_pads (record { role = role.Copper; name = name; span = span; bytes = bytes; layers = n }) image h.1.0 h.1.1 (no_span span n h.0), all)
+  one_more_layer role.Copper name span bytes n (content.Drill plated through holes) ss rest h all = absurd h.1
+  one_more_layer role.Plated name span bytes n (content.Layer image) ss rest h all = absurd h.1
+  one_more_layer role.Plated name span bytes n (content.Drill plated through holes) ss rest h all = all
+  one_more_layer role.Unplated name span bytes n (content.Layer image) ss rest h all = absurd h.1
+  one_more_layer role.Unplated name span bytes n (content.Drill plated through holes) ss rest h all = all
+
+  one_more_drill : (q : Role) (name : List ℕ) (span : Option LayerSpan) (bytes : List ℕ) (n : ℕ) (c : Content) (ss : List FileView) (cs : List Content)
+      → HasContent (record { role = q; name = name; span = span; bytes = bytes; layers = n }) c → AllZip SaysHoles (filter (λ s. not (is_copper s.role)) ss) (holes_by_file cs)
+      → AllZip SaysHoles (filter (λ s. not (is_copper s.role)) (record { role = q; name = name; span = span; bytes = bytes; layers = n } ∷ ss)) (holes_by_file (c ∷ cs))
+  one_more_drill role.Copper name span bytes n (content.Layer image) ss cs h all = all
+  one_more_drill role.Copper name span bytes n (content.Drill plated through holes) ss cs h all = absurd h.1
+  one_more_drill role.Plated name span bytes n (content.Layer image) ss cs h all = absurd h.1
+  one_more_drill role.Plated name span bytes n (content.Drill plated through holes) ss cs h all =
+      (says_holes (record { role = role.Plated; name = name; span = span; bytes = bytes; layers = n }) plated through holes h.1 (good_run role.Plated span n h.0), all)
+  one_more_drill role.Unplated name span bytes n (content.Layer image) ss cs h all = absurd h.1
+  one_more_drill role.Unplated name span bytes n (content.Drill plated through holes) ss cs h all =
+      (says_holes (record { role = role.Unplated; name = name; span = span; bytes = bytes; layers = n }) plated through holes h.1 (good_run role.Unplated span n h.0), all)
+
+  -- ---- all files
+
+  all_layers : (ss : List FileView) (cs : List Content) → HaveContents ss cs → AllZip SaysPads (filter (λ s. is_copper s.role) ss) (layers cs)
+  all_layers [] [] h = tt
+  all_layers [] (c ∷ cs) h = absurd h
+  all_layers (s ∷ ss) [] h = absurd h
+  all_layers (s ∷ ss) (c ∷ cs) h =
+      subst (λ (ls : List (List Pad)). AllZip SaysPads (filter (λ (f : FileView). is_copper f.role) (s ∷ ss)) ls) (sym (flat_map-cons pads_of c cs))
+      (one_more_layer s.role s.name s.span s.bytes s.layers c ss (layers cs) h.0 (all_layers ss cs h.1))
+
+  all_drills : (ss : List FileView) (cs : List Content) → HaveContents ss cs → AllZip SaysHoles (filter (λ s. not (is_copper s.role)) ss) (holes_by_file cs)
+  all_drills [] [] h = tt
+  all_drills [] (c ∷ cs) h = absurd h
+  all_drills (s ∷ ss) [] h = absurd h
+  all_drills (s ∷ ss) (c ∷ cs) h = one_more_drill s.role s.name s.span s.bytes s.layers c ss cs h.0 (all_drills ss cs h.1)
+
+  pub sound_as_read_is_sound : SoundAsReadIsSound
+  sound_as_read_is_sound sources rules sound =
+      let cs = sound.contents in
+      let joined = holes_joined cs in
+      record {
+        layers = layers cs;
+        drills = holes_by_file cs;
+        pads = all_layers sources cs sound.read;
+        holes = all_drills sources cs sound.read;
+        held = λ layer d inside among plated within.
+            let through = is_through cs layer d (subst (λ (ds : List Drilled). Contains ds d) joined among) plated within in
+            let along = sound.straight layer d.hole inside through in
+            (along, sound.slots layer d.hole inside through along);
+        gaps = λ i j d before inside. (subst (λ (ds : List Drilled). AreAllApart rules.gap ds) (sym joined) sound.gaps i j d before inside).0;
+      }

@@ -1,0 +1,5 @@
+use Rattle.package_check.proofs.WrittenPackages as written
+use Rattle.package_check.proofs.laws.sound_as_read_is_sound.Goals as goal
+
+pub returns : goal.returns
+returns c = written.sound_as_read_is_sound c.written_texts.ensures c.flashed_pads.ensures.layer c.text_grammar.ensures.written c.drilled_holes.ensures.drilled
