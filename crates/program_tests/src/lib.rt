@@ -1,21 +1,13 @@
-//! Tests of the program, and of the crates that it stands on beside the check.
+//! Tests of the program, and of its commands on single files and on words.
 #![tactic(auto)]
 
 #[cfg(test)]
-mod command_line_calls;
-#[cfg(test)]
 mod explanations_calls;
 #[cfg(test)]
-mod file_hints_calls;
-#[cfg(test)]
-mod loading_calls;
-#[cfg(test)]
-mod manifest_calls;
-#[cfg(test)]
-mod proposals_calls;
-#[cfg(test)]
-mod rewriting_calls;
+mod rewrite_calls;
 #[cfg(test)]
 mod ringcheck_calls;
 #[cfg(test)]
-mod tables_calls;
+mod ringcheck_files_calls;
+#[cfg(test)]
+mod show_calls;

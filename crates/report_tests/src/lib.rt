@@ -1,23 +1,15 @@
-//! Tests of the crates of reports, measures and pictures.
+//! Tests of what a report holds, of its text and its JSON, and of waivers.
 #![tactic(auto)]
 
 #[cfg(test)]
 mod causes_calls;
 #[cfg(test)]
-mod drawing_calls;
+mod measure_text_calls;
 #[cfg(test)]
-mod flashed_boards_calls;
+mod print_json_calls;
 #[cfg(test)]
-mod margin_text_calls;
-#[cfg(test)]
-mod measuring_calls;
-#[cfg(test)]
-mod report_json_calls;
-#[cfg(test)]
-mod report_text_calls;
+mod print_text_calls;
 #[cfg(test)]
 mod rows;
-#[cfg(test)]
-mod telling_calls;
 #[cfg(test)]
 mod waivers_calls;

@@ -6,9 +6,11 @@ use Rattle.std.specs.List.{count_by}
 use Rattle.std.proofs.lemmas.Bool.{eqb-true, false≢true}
 use Rattle.std.proofs.lemmas.List.{nil_from_length}
 use Rattle.std.proofs.lemmas.Result.{IfOk-weaker}
+use Rattle.grid_units.specs.Holes.{GridRules}
 use Rattle.manifest.specs.declared.Entry.{Entry}
 use Rattle.manifest.specs.Manifest.{manifest}
 use Rattle.package_check.specs.Package.{FileView, is_copper}
+use Rattle.package_check.specs.SoundnessAsRead.{AreLegal}
 use Rattle.ringcheck_files.specs.declared.Status.{Status}
 use Rattle.ringcheck_files.specs.declared.Status.TheVariants as status
 use Rattle.ringcheck_files.specs.declared.outcomes.Failure.{Failure}
@@ -19,7 +21,7 @@ use Rattle.ringcheck.specs.declared.refusals.Halt.TheVariants as halt
 use Rattle.ringcheck.specs.declared.refusals.RefusalStyle.{RefusalStyle}
 use Rattle.ringcheck.specs.Inner.Halting.{AfterHalt, Halts, OfFiles, OfTaken, refusal}
 use Rattle.ringcheck.specs.Refusals.{Refusal, PrintsRefusal}
-use Rattle.ringcheck.specs.CheckStatus.{HasFiles, HasTable, HoldsForPackage, RefusedFile, IsPackageRefusal, SaysPackage, bad_file, long_file, refused_file, refused_manifest, sources, status_of}
+use Rattle.ringcheck.specs.CheckStatus.{HasFiles, HasTable, HoldsForPackage, RefusedFile, IsPackageRefusal, SaysPackage, Checks, IsCheckStatus, IsLegalStatus, bad_file, long_file, refused_file, refused_manifest, sources, status_of}
 use Rattle.ringcheck.proofs.LoadSteps.{has_files_along, names_among, same_length}
 
 -- ---- findings
@@ -122,3 +124,15 @@ pub worked : (has : List ℕ → List ℕ → Type 0) (name : List ℕ) (Holds :
     → SaysPackage has name Holds refusal_style before after (status_of passes)
 worked has name Holds refusal_style before after entries files listed loaded true h = record { entries = entries; listed = listed; files = files; loaded = loaded; holds = h }
 worked has name Holds refusal_style before after entries files listed loaded false h = record { entries = entries; listed = listed; files = files; loaded = loaded; holds = h }
+
+-- what holds of all files of which something else holds, holds of a package
+package_weaker : (has : List ℕ → List ℕ → Type 0) (name : List ℕ) (P Q : List FileView → Type 0) → ((all : List FileView) → P all → Q all) → HoldsForPackage has name P → HoldsForPackage has name Q
+package_weaker has name P Q weaker h = record { entries = h.entries; listed = h.listed; files = h.files; loaded = h.loaded; holds = weaker (sources h.entries h.files) h.holds }
+
+-- of a package that was checked each file is of the profile
+pub checked_is_legal : (has : List ℕ → List ℕ → Type 0) (name : List ℕ) (rules : GridRules) (before after : Option (List ℕ)) (s : Status) → IsCheckStatus has name rules before after s → IsLegalStatus has name s
+checked_is_legal has name rules before after status.Pass h = package_weaker has name (Checks rules before after true) AreLegal (λ all c. (c.is.contents, c.is.read)) h
+checked_is_legal has name rules before after status.Findings h = package_weaker has name (Checks rules before after false) AreLegal (λ all c. (c.is.contents, c.is.read)) h
+checked_is_legal has name rules before after status.Refused h = tt
+checked_is_legal has name rules before after status.Usage h = tt
+checked_is_legal has name rules before after status.Device h = tt

@@ -17,6 +17,7 @@ use Rattle.ringcheck_files.specs.Words.{IsUsageStatus}
 use Rattle.package_check.specs.Reports.{ReportView}
 use Rattle.package_check.specs.Package.{FileView, IsFirstRefused, IsReport, is_copper}
 use Rattle.package_check.specs.Soundness.{IsSound}
+use Rattle.package_check.specs.SoundnessAsRead.{AreLegal}
 use Rattle.package_check.specs.Texts.{report_text}
 
 -- the sources that entries and the bytes of their files make, in a package of so many copper files
@@ -120,3 +121,11 @@ IsCheckStatus has name rules before after s = SaysPackage has name (Checks rules
 abbrev pub IsParsedCheckStatus : Relation → List ℕ → Result GridRules Reason → Option (List ℕ) → Option (List ℕ) → Status → Type 0
 IsParsedCheckStatus has name (Ok rules) before after s = IsCheckStatus has name rules before after s
 IsParsedCheckStatus has name (Err why) before after s = IsUsageStatus why before after s
+
+-- what a status says of the files alone: where the check passes or has findings, each file of the package is of the profile
+abbrev pub IsLegalStatus : Relation → List ℕ → Status → Type 0
+IsLegalStatus has name status.Pass = HoldsForPackage has name AreLegal
+IsLegalStatus has name status.Findings = HoldsForPackage has name AreLegal
+IsLegalStatus has name status.Refused = ⊤
+IsLegalStatus has name status.Usage = ⊤
+IsLegalStatus has name status.Device = ⊤

@@ -1,5 +1,5 @@
 -- What a status says of a request of the command line, and of any words (docs/FORMATS.md, The program).
-use Rattle.std.specs.Prelude.{◌≡◌, ◌++◌, ◌⊎◌, ℕ, List, Option, Result, Ok, Err, codes, map, option_map}
+use Rattle.std.specs.Prelude.{⊤, ◌≡◌, ◌++◌, ◌⊎◌, ℕ, List, Option, Result, Ok, Err, codes, map, option_map}
 use Rattle.std.specs.Borrow.{Bor}
 use Rattle.std.specs.Io.KnownBytes.{Appends}
 use Rattle.std.specs.String.{string_bytes}
@@ -18,7 +18,7 @@ use Rattle.ringcheck.specs.MeasureStatus.{IsParsedMeasureStatus}
 use Rattle.ringcheck.specs.ParsedWords.{parse_draw, parse_format, parse_report, parse_rules}
 use Rattle.ringcheck_files.specs.FileStatus.{IsParsedFileStatus, parse_kind}
 use Rattle.ringcheck.specs.ReportStatus.{IsParsedReportStatus}
-use Rattle.ringcheck.specs.CheckStatus.{IsParsedCheckStatus}
+use Rattle.ringcheck.specs.CheckStatus.{IsLegalStatus, IsParsedCheckStatus}
 use Rattle.ringcheck_files.specs.LoaderRelation.{Relation}
 
 -- the bytes of a word that may be left out
@@ -37,6 +37,17 @@ IsRequestStatus (Rewrite kind file) has failed_before failed_after before after 
 IsRequestStatus (Manifest why files) has failed_before failed_after before after s =
     IsManifestStatus why has failed_before failed_after (map (λ file. file.now) files.items) before after s
 IsRequestStatus (Explain word) has failed_before failed_after before after s = IsExplainStatus (word_bytes word) before after s
+
+-- what a status says of the files of a request's package: of a check, that each is of the profile
+abbrev pub IsLegalRequest : Request → Relation → Status → Type 0
+IsLegalRequest (Check ring gap manifest) has s = IsLegalStatus has manifest.now s
+IsLegalRequest (Measure format manifest) has s = ⊤
+IsLegalRequest (Report ring gap limit waive format manifest) has s = ⊤
+IsLegalRequest (Draw ring gap manifest) has s = ⊤
+IsLegalRequest (Show kind file) has s = ⊤
+IsLegalRequest (Rewrite kind file) has s = ⊤
+IsLegalRequest (Manifest why files) has s = ⊤
+IsLegalRequest (Explain word) has s = ⊤
 
 -- what a status says of words that are no request: just the help, the version's line, or `usage` and what is wrong was written, or it is Device
 abbrev pub IsNoRequestStatus : Refusal → Option (List ℕ) → Option (List ℕ) → Status → Type 0

@@ -8,7 +8,7 @@ ghost use Rattle.ringcheck.specs.Inner.Jobs.{Holds, SaysJob};
 ghost use Rattle.ringcheck.specs.MeasureStatus.{IsParsedMeasureStatus};
 ghost use Rattle.ringcheck.specs.ParsedWords as named;
 ghost use Rattle.ringcheck.specs.ReportStatus.{IsParsedReportStatus};
-ghost use Rattle.ringcheck.specs.CheckStatus.{IsParsedCheckStatus, status_of};
+ghost use Rattle.ringcheck.specs.CheckStatus.{IsLegalStatus, IsParsedCheckStatus, status_of};
 
 use crate::jobs::{Job, Order, report_style};
 use crate::load_package::{load_table, take_files};
@@ -97,6 +97,7 @@ pub(crate) fn check<L: Loader, W: Write>(
     out: &mut W,
 ) -> Result<Status, Failure>
     ensures says { IfOk result (IsParsedCheckStatus (L.has loader.old) name.now (named.parse_rules ring.now gap.now) (W.contents out.old) (W.contents out.new)) }
+    ensures legal { IfOk result (IsLegalStatus (L.has loader.old) name.now) }
     ensures cause { IfOk result (HasCause (L.failed loader.old) (L.failed loader.new)) }
 {
     match parse_rules(ring, gap) {

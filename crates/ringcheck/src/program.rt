@@ -3,7 +3,7 @@
 ghost use Rattle.std.specs.Prelude.{◌≡◌, ◌++◌, ◌∷◌, ◌⊎◌, [], map, true, ℕ, Bool, IfOk, IfSome, List, Option, Some, None, codes, option_map};
 ghost use Rattle.std.specs.Io.KnownBytes.{Appends};
 ghost use Rattle.command_line.specs.ProgramArgs.{are_plain_rules, are_plain_words, check_words, draw_words, explain_words, file_words, is_plain_if_some, is_plain_word, manifest_words, measure_words, report_words};
-ghost use Rattle.ringcheck.specs.RequestStatus.{IsProgramStatus, IsRequestStatus};
+ghost use Rattle.ringcheck.specs.RequestStatus.{IsLegalRequest, IsProgramStatus, IsRequestStatus};
 ghost use Rattle.ringcheck.specs.DrawStatus.{IsParsedDrawStatus};
 ghost use Rattle.ringcheck_files.specs.Outcomes.{HasCause};
 ghost use Rattle.ringcheck_files.specs.ManifestStatus.{IsManifestStatus, IsExplainStatus, IsVersionStatus};
@@ -11,7 +11,7 @@ ghost use Rattle.ringcheck.specs.MeasureStatus.{IsParsedMeasureStatus};
 ghost use Rattle.ringcheck.specs.ParsedWords as named;
 ghost use Rattle.ringcheck_files.specs.FileStatus.{IsParsedFileStatus, parse_kind};
 ghost use Rattle.ringcheck.specs.ReportStatus.{IsParsedReportStatus};
-ghost use Rattle.ringcheck.specs.CheckStatus.{IsParsedCheckStatus};
+ghost use Rattle.ringcheck.specs.CheckStatus.{IsLegalStatus, IsParsedCheckStatus};
 
 use crate::Loader;
 use crate::packages::{check, draw, measure, report};
@@ -31,6 +31,7 @@ fn carry_out<L: Loader, W: Write>(
     out: &mut W,
 ) -> Result<Status, Failure>
     ensures says { IfOk result (IsRequestStatus request.now (L.has loader.old) (L.failed loader.old) (L.failed loader.new) (W.contents out.old) (W.contents out.new)) }
+    ensures legal { IfOk result (IsLegalRequest request.now (L.has loader.old)) }
     ensures cause { IfOk result (HasCause (L.failed loader.old) (L.failed loader.new)) }
 {
     match request {
@@ -88,7 +89,8 @@ fn answer<L: Loader, W: Write>(
     loader: &mut L,
     out: &mut W,
 ) -> Status
-    ensures { IsRequestStatus request.now (L.has loader.old) (L.failed loader.old) (L.failed loader.new) (W.contents out.old) (W.contents out.new) result }
+    ensures says { IsRequestStatus request.now (L.has loader.old) (L.failed loader.old) (L.failed loader.new) (W.contents out.old) (W.contents out.new) result }
+    ensures legal { IsLegalRequest request.now (L.has loader.old) result }
 {
     match carry_out(alloc, request, loader, out) {
         Ok(status) => status,
@@ -119,6 +121,8 @@ pub fn run<L: Loader, W: Write>(
 ) -> Status
     ensures check { (r g m : List ℕ) → map (λ w. w.now) words.now ≡ check_words r g m → is_plain_word r ≡ true → is_plain_word g ≡ true
         → is_plain_word m ≡ true → IsParsedCheckStatus (L.has loader.old) m (named.parse_rules r g) (W.contents out.old) (W.contents out.new) result }
+    ensures legal { (r g m : List ℕ) → map (λ w. w.now) words.now ≡ check_words r g m → is_plain_word r ≡ true → is_plain_word g ≡ true
+        → is_plain_word m ≡ true → IsLegalStatus (L.has loader.old) m result }
     ensures report { (r g : List ℕ) (limit waive format : Option (List ℕ)) (m : List ℕ) → map (λ w. w.now) words.now ≡ report_words r g limit waive format m → is_plain_word r ≡ true → is_plain_word g ≡ true
         → is_plain_if_some limit ≡ true → is_plain_if_some waive ≡ true → is_plain_if_some format ≡ true → is_plain_word m ≡ true → IsParsedReportStatus (L.has loader.old) m (named.parse_report r g limit waive format) waive (W.contents out.old) (W.contents out.new) result }
     ensures measure { (format : Option (List ℕ)) (m : List ℕ) → map (λ w. w.now) words.now ≡ measure_words format m → is_plain_if_some format ≡ true → is_plain_word m ≡ true
