@@ -347,19 +347,19 @@ def link_or_copy(one, other):
 
 
 class Libraries:
-    """A scratch copy in which `rt lib` builds what the crates stand on, once for a run, over what other checks on this machine kept."""
+    """A scratch copy in which `rt ci` builds what these crates stand on, once for a run: it takes what an earlier gate proved on this machine,
+    and what it has to prove, the next gate takes."""
 
-    def __init__(self):
+    def __init__(self, crates):
         self.top, self.lines = os.path.join(room_of_runs(), "libraries"), lines_of_crates()
+        self.crates = [it for it in self.lines if any(it in libraries_below(crate, self.lines) for crate in crates)]
+        self.ran = None
 
     def __enter__(self):
         shutil.rmtree(self.top, ignore_errors=True)
-        copy_crates(self.lines, self.top)
-        for name in self.lines:
-            # What stands built here is taken: `rt lib` builds a library again where its stamp is not that of its sources.
-            built = os.path.join("crates", name, "out/rlib")
-            if os.path.isfile(os.path.join(TOP, built, "stamp")):
-                shutil.copytree(os.path.join(TOP, built), os.path.join(self.top, built), copy_function=link_or_copy)
+        copy_crates(self.crates, self.top)
+        if self.crates:
+            self.ran = run(["rt", "ci"], self.top)
         return self
 
     def __exit__(self, *_):
@@ -367,37 +367,27 @@ class Libraries:
 
     def give(self, crate, to):
         """Puts the libraries below a crate, as built, into a copy of them."""
-        for word in self.lines[crate].partition(":")[2].split():
-            if word in self.lines:
-                stop_unless_proved(run(["rt", "lib"], os.path.join(self.top, "crates", word)), word)
         for name in libraries_below(crate, self.lines):
             built = os.path.join("crates", name, "out/rlib")
+            if not os.path.isdir(os.path.join(self.top, built, f"{name}.rlib")):
+                raise Unknown(f"{name} is not proved: {first_errors(self.ran.stdout)}")
             shutil.copytree(os.path.join(self.top, built), os.path.join(to, built), copy_function=link_or_copy)
 
 
-def stop_unless_proved(ran, what):
-    if ran.returncode:
-        raise Unknown(f"{what} is not proved: {first_errors(ran.stdout)}")
-
-
 class Room:
-    """A scratch copy of a crate and the libraries below it, in which checks of it run: over what other checks on this machine kept, or, with
-    no libraries given, over those that the gate proved and with nothing kept of the crate."""
+    """A scratch copy of a crate and the libraries below it, in which checks of it run: over libraries as the gate leaves them, and with
+    nothing kept of the crate."""
 
     def __init__(self, crate, libraries):
         self.crate, self.libraries, self.lines = crate, libraries, lines_of_crates()
         self.below = libraries_below(crate, self.lines)
-        self.top = os.path.join(room_of_runs(), crate if libraries else f"{crate}.afresh")
+        self.top = os.path.join(room_of_runs(), crate)
         self.folder, self.checks, self.said = os.path.join(self.top, "crates", crate), 0, ""
 
     def __enter__(self):
         shutil.rmtree(self.top, ignore_errors=True)
         copy_crates(self.below, self.top)
-        if self.libraries:
-            self.libraries.give(self.crate, self.top)
-        elif self.below:
-            # (the gate takes what it proved before, and leaves the libraries' statements in out/)
-            stop_unless_proved(run(["rt", "ci"], self.top), f"a library below {self.crate}")
+        self.libraries.give(self.crate, self.top)
         copy_crates([self.crate], self.top)
         return self
 
@@ -410,8 +400,7 @@ class Room:
             with open(os.path.join(self.folder, path), "w", encoding="utf-8") as it:
                 it.write(text)
         only = [word for it in sorted(modules) for word in ("--only", it)] if "" not in modules else []
-        words = ["rt", "check", *only] if self.libraries else [*self.plain_words(), *only]
-        started, said = time.time(), run(words, self.folder).stdout
+        started, said = time.time(), run([*self.plain_words(), *only], self.folder).stdout
         self.checks += 1
         self.said = f"{self.top}.{self.checks}.said"
         print(f"  {self.crate}: a check of {time.time() - started:.0f} s: {self.said}", flush=True)
@@ -595,7 +584,7 @@ def try_planted(words):
         started = time.time()
         return note(crate, bodies[crate], try_crate(crate, bodies[crate], libraries), digests, version, started)
 
-    with alone("run"), Libraries() as libraries, concurrent.futures.ThreadPoolExecutor(asked.jobs) as pool:
+    with alone("run"), Libraries(bodies) as libraries, concurrent.futures.ThreadPoolExecutor(asked.jobs) as pool:
         lost = sum(pool.map(one, [it for it in lines_of_crates() if it in bodies]))
     print(f"{sum(map(len, bodies.values()))} tried, {lost} not refused")
     return 1 if lost else 0
@@ -612,16 +601,18 @@ def picked(bodies, crates):
 
 def try_afresh(crates):
     """Tries some bodies from nothing. Status 0 where each is refused by the function that its line names."""
-    lines, digests, wrong = lines_tried(), Digests(), 0
-    for crate, bodies in picked(bodies_of(), crates).items():
-        started, found = time.time(), try_crate(crate, bodies, None)
+    lines, digests, wrong, chosen = lines_tried(), Digests(), 0, picked(bodies_of(), crates)
+    with alone("run"), Libraries(chosen) as libraries:
+        came = {crate: try_crate(crate, bodies, libraries) for crate, bodies in chosen.items()}
+    for crate, bodies in chosen.items():
+        found = came[crate]
         for body in bodies:
             kind, function, goal = found[body.key()]
             row = line_of(lines.get(body.key()), digests.of(body)) or {"function": "none"}
             if kind != REFUSED or function != row["function"]:
                 wrong += 1
                 print(f"mend: {crate}/{body.name}: {kind} ({function}: {goal}), and {TRIED} names {row['function']}", flush=True)
-        print(f"planted: of {crate} from nothing: {', '.join(it.name for it in bodies)}: {time.time() - started:.0f} s", flush=True)
+        print(f"planted: of {crate} from nothing: {', '.join(it.name for it in bodies)}", flush=True)
     return 1 if wrong else 0
 
 
