@@ -1,5 +1,5 @@
 -- Chains of places by their cells: none, one more, and what a step along a chain passes over.
-use Rattle.std.proofs.Common.{◌≡◌, ◌≢◌, ℕ, ◌+◌, ◌<◌, ◌≤◌, ◌⊎◌, inl, inr, List, [], ◌∷◌, ◌++◌, length, get_or, set, zero, suc, refl, sym, ap, ◌∙◌, arith}
+use Rattle.std.proofs.Common.{◌≡◌, ◌≢◌, ℕ, ◌+◌, ◌<◌, ◌≤◌, ◌⊎◌, inl, inr, List, [], ◌∷◌, ◌++◌, length, get_or, set, zero, suc, refl, sym, ap, subst, ◌∙◌, arith}
 use lib.ListN.{replicate}
 use Rattle.std.proofs.lemmas.Bool.{cases_eq, cases_lt}
 use Rattle.std.proofs.lemmas.List.{get_or-set_same, get_or-set_other, get_or_append_left, get_or_push, length_push, get_or-replicate, get_or_past, length-replicate}
@@ -91,3 +91,21 @@ chain_falls cell n head next chained j h = by_link (get_or next j 0) refl where
   by_link : (x : ℕ) → get_or next j 0 ≡ x → get_or next j 0 ≤ j
   by_link zero e = omega (arith, e)
   by_link (suc m) e = (let f : get_or next j 0 ≡ m + 1 = e ∙ (let s : suc m ≡ m + 1 = omega arith in s) in let o = (chained.links_in j m h f).0 in omega (arith, o, f))
+
+-- what holds of a place, and of the places of its cell that were passed, holds of those that the next step passes
+pub chain_passed : (cell : ℕ → ℕ) (n : ℕ) (head next : List ℕ) → IsChained cell n head next → (P : ℕ → Type 0) (c p : ℕ) → p < n → cell p ≡ c → P p
+    → ((k : ℕ) → k < n → cell k ≡ c → p + 1 ≤ k → P k) → (k : ℕ) → k < n → cell k ≡ c → get_or next p 0 ≤ k → P k
+chain_passed cell n head next chained P c p inside at holds passed k h e past = elim (cases_lt k p) [
+  | inl less ↦ absurd (let l : k < get_or next p 0 = chained.links p k inside less (e ∙ sym at) in omega (arith, l, past))
+  | inr more ↦ elim (cases_eq k p) [
+    | inl is ↦ subst P (sym is) holds
+    | inr differs ↦ passed k h e (omega (arith, more, differs))
+  ]
+]
+
+-- each place is in a cell that there is
+pub cell_inside : (cell : ℕ → ℕ) (n : ℕ) (head next : List ℕ) → IsChained cell n head next → (k : ℕ) → k < n → cell k < length head
+cell_inside cell n head next chained k h = elim (cases_lt (cell k) (length head)) [
+  | inl inside ↦ inside
+  | inr past ↦ absurd (let l = chained.heads k h in let e = get_or_past head (cell k) 0 past in omega (arith, l, e))
+]

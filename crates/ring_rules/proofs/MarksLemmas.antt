@@ -1,10 +1,14 @@
--- Marks that are removed along the chain of a cell.
-use Rattle.std.proofs.Common.{◌≡◌, ◌≢◌, ℕ, ◌+◌, ◌<◌, ◌≤◌, ◌⊎◌, inl, inr, Bool, true, false, List, length, get_or, set, refl, sym, ap, ◌∙◌, arith}
+-- Marks that are removed spot by spot.
+use Rattle.std.proofs.Common.{◌≡◌, ◌≢◌, ℕ, ◌+◌, ◌<◌, inl, inr, Bool, true, false, List, length, set, refl, sym, ap, ◌∙◌, arith}
 use Rattle.std.specs.Prelude.{◌&&◌, ◌||◌, not}
 use Rattle.std.proofs.lemmas.Bool.{cases_eq, cases_lt}
 use Rattle.std.proofs.lemmas.List.{get_or-set_same, get_or-set_other, length-set}
-use Rattle.ring_rules.specs.Places.{IsChained}
-use Rattle.ring_rules.specs.Inner.Marks.{is_marked, RemovesMarks, NoMarkPassesInCell}
+use Rattle.ring_rules.specs.Spots.{point_at}
+use Rattle.ring_rules.specs.Cells.{row_of}
+use Rattle.ring_rules.specs.Inner.Marks.{is_marked, RemovesMarks, NoMarkPassesFrom, HasNoMarkFrom}
+use Rattle.ring_rules.specs.Inner.Regions.{NoMarkPassesIn}
+use Rattle.ring_rules.specs.declared.axis.Axis.{Axis}
+use Rattle.ring_rules.specs.declared.spots.Spot.{Spot}
 use Rattle.grid_units.proofs.BoolLemmas.{or_is_false, either}
 
 -- both parts of what holds of a mark that stays
@@ -31,9 +35,6 @@ removes_both test a b c first second = record {
   ];
 }
 
-pub none_passes_still : (test : ℕ → Bool) (cell : ℕ → ℕ) (n c : ℕ) (a b : List Bool) → RemovesMarks test a b → NoMarkPassesInCell test cell n c a → NoMarkPassesInCell test cell n c b
-none_passes_still test cell n c a b removes tried k h e marked = tried k h e (removes.kept k marked)
-
 module _ (test : ℕ → Bool) (before marks : List Bool) (p : ℕ) (inside : p < length marks) (keeps_mark : Bool) (same : keeps_mark ≡ (is_marked marks p && not (test p))) where
   at_place : is_marked (set marks p keeps_mark) p ≡ keeps_mark
   at_place = get_or-set_same marks p keeps_mark false inside
@@ -59,25 +60,22 @@ module _ (test : ℕ → Bool) (before marks : List Bool) (p : ℕ) (inside : p 
   pub removes_more : RemovesMarks test before marks → RemovesMarks test before (set marks p keeps_mark)
   removes_more removes = removes_both test before marks (set marks p keeps_mark) removes removes_one
 
-  module _ (cell : ℕ → ℕ) (n c : ℕ) (head next : List ℕ) (chained : IsChained cell n head next) (below : p < n) (here : cell p ≡ c) where
-    -- the places that a step passes over are not of the cell
-    pub stepped : (k : ℕ) → k < n → cell k ≡ c → get_or next p 0 ≤ k → (k ≡ p) ⊎ (p + 1 ≤ k)
-    stepped k h e past = elim (cases_lt k p) [
-      | inl less ↦ absurd (let l : k < get_or next p 0 = chained.links p k below less (e ∙ sym here) in omega (arith, l, past))
-      | inr more ↦ elim (cases_eq k p) [
-        | inl is ↦ inl is
-        | inr differs ↦ inr (omega (arith, more, differs))
-      ]
-    ]
+  pub tried_more : (start : ℕ) → NoMarkPassesFrom test start p marks → NoMarkPassesFrom test start (p + 1) (set marks p keeps_mark)
+  tried_more start tried k from below marked = elim (cases_eq k p) [
+    | inl is ↦ ap test is ∙ (stays_true (is_marked marks p) (test p) (sym same ∙ (sym at_place ∙ (ap (is_marked (set marks p keeps_mark)) (sym is) ∙ marked)))).1
+    | inr differs ↦ tried k from (omega (arith, below, differs)) (one_kept k marked)
+  ]
 
-    pub tried_more : ((k : ℕ) → k < n → cell k ≡ c → p + 1 ≤ k → is_marked marks k ≡ true → test k ≡ false) → (k : ℕ) → k < n → cell k ≡ c → get_or next p 0 ≤ k → is_marked (set marks p keeps_mark) k ≡ true → test k ≡ false
-    tried_more tried k h e past marked = elim (stepped k h e past) [
-      | inl is ↦ ap test is ∙ (stays_true (is_marked marks p) (test p) (sym same ∙ (sym at_place ∙ (ap (is_marked (set marks p keeps_mark)) (sym is) ∙ marked)))).1
-      | inr more ↦ tried k h e more (one_kept k marked)
-    ]
+  pub none_more : (start : ℕ) (is_left : Bool) → (is_left ≡ false → HasNoMarkFrom start p marks) → (is_left || keeps_mark) ≡ false → HasNoMarkFrom start (p + 1) (set marks p keeps_mark)
+  none_more start is_left none left k from below = elim (cases_eq k p) [
+    | inl is ↦ ap (is_marked (set marks p keeps_mark)) is ∙ (at_place ∙ (or_is_false is_left keeps_mark left).1)
+    | inr differs ↦ at_other k differs ∙ none (or_is_false is_left keeps_mark left).0 k from (omega (arith, below, differs))
+  ]
 
-    pub none_more : (is_left : Bool) → (is_left ≡ false → (k : ℕ) → k < n → cell k ≡ c → p + 1 ≤ k → is_marked marks k ≡ false) → (is_left || keeps_mark) ≡ false → (k : ℕ) → k < n → cell k ≡ c → get_or next p 0 ≤ k → is_marked (set marks p keeps_mark) k ≡ false
-    none_more is_left none left k h e past = elim (stepped k h e past) [
-      | inl is ↦ ap (is_marked (set marks p keeps_mark)) is ∙ (at_place ∙ (or_is_false is_left keeps_mark left).1)
-      | inr more ↦ at_other k (λ is. omega (arith, is, more)) ∙ none (or_is_false is_left keeps_mark left).0 k h e more
-    ]
+-- one row more
+pub tried_rows : (test : ℕ → Bool) (x y : Axis) (spots : List Spot) (top row left right : ℕ) (a b : List Bool) → RemovesMarks test a b → NoMarkPassesIn test x y spots top row left right a
+    → NoMarkPassesIn test x y spots row (row + 1) left right b → NoMarkPassesIn test x y spots top (row + 1) left right b
+tried_rows test x y spots top row left right a b removes tried here i h inside marked = elim (cases_lt (row_of y (point_at spots i)) row) [
+  | inl less ↦ tried i h (record { row_from = inside.row_from; row_below = less; column_from = inside.column_from; column_below = inside.column_below }) (removes.kept i marked)
+  | inr more ↦ here i h (record { row_from = more; row_below = inside.row_below; column_from = inside.column_from; column_below = inside.column_below }) marked
+]

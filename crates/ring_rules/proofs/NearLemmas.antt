@@ -1,8 +1,7 @@
 -- How far from a hole the entry point of one may lie that is not clear of it.
-use Rattle.std.proofs.Common.{◌∙◌, ap, subst, ◌≡◌, ℕ, ℤ, pos, ◌+◌, ◌*◌, ◌<◌, ◌≤◌, inl, inr, ◌+ℤ◌, ◌-ℤ◌, ◌≤ℤ◌, ◌<ℤ◌, false, arith}
+use Rattle.std.proofs.Common.{◌∙◌, ap, subst, ◌≡◌, ℕ, ℤ, pos, ◌+◌, ◌<◌, ◌≤◌, inl, inr, ◌+ℤ◌, ◌-ℤ◌, ◌≤ℤ◌, false, arith}
 use Rattle.std.specs.Int.{int_min, int_max}
 use Rattle.std.proofs.lemmas.Int.{ints, clamps, to_z-of_z}
-use Rattle.std.proofs.lemmas.Nat.{mul-le}
 use Rattle.std.proofs.lemmas.Bool.{cases_lt}
 use Rattle.std.proofs.lemmas.Bool.Decides.{nat_tests}
 use Rattle.grid_units.specs.Points.{IsCoordinate, abs_diff, square}

@@ -1,13 +1,13 @@
 -- Points of a zone are in its rows and columns.
 use Rattle.std.proofs.Common.{◌≡◌, ℕ, ℤ, ◌<◌, ◌≤◌, ◌≤ℤ◌, Bool, true, false, inl, inr, List, length, sym, arith}
 use Rattle.grid_units.specs.Points.{GridPoint}
-use Rattle.ring_rules.specs.Places.{entry_at}
+use Rattle.ring_rules.specs.Spots.{point_at}
 use Rattle.ring_rules.specs.Cells.{place_of}
 use Rattle.ring_rules.specs.Inner.Marks.{is_marked}
 use Rattle.ring_rules.specs.Inner.Regions.{IsInRegion}
 use Rattle.ring_rules.specs.Inner.Blocks.{IsInAnyBlock, NoMarkPassesInBlocks}
 use Rattle.ring_rules.specs.declared.blocks.Block.{Block}
-use Rattle.ring_rules.specs.declared.finding.Drilled.{Drilled}
+use Rattle.ring_rules.specs.declared.spots.Spot.{Spot}
 use Rattle.ring_rules.specs.declared.axis.Axis.{Axis}
 use Rattle.ring_rules.proofs.BordersLemmas.{place-le}
 use Rattle.grid_units.proofs.BoolLemmas.{either}
@@ -25,6 +25,6 @@ in_rows x y top bottom left right p low high first last a b c d e f g h = record
 pub fails : (b : Bool) → (b ≡ true → b ≡ false) → b ≡ false
 fails b h = elim (either b) [ inl e ↦ h e | inr e ↦ e ]
 
-pub tried_somewhere : (test : ℕ → Bool) (x y : Axis) (holes : List Drilled) (blocks : List Block) (marks : List Bool) → NoMarkPassesInBlocks test x y holes blocks (length blocks) marks → (k : ℕ) → k < length holes → IsInAnyBlock x y blocks (entry_at holes k) → is_marked marks k ≡ true → test k ≡ false
-tried_somewhere test x y holes blocks marks tried k h some marked =
-    tried some.1.0 some.0 some.1.1 some.1.1 (sym some.1.2) k h some.2 marked
+pub tried_somewhere : (test : ℕ → Bool) (x y : Axis) (spots : List Spot) (blocks : List Block) (marks : List Bool) → NoMarkPassesInBlocks test x y spots blocks (length blocks) marks → (i : ℕ) → i < length spots → IsInAnyBlock x y blocks (point_at spots i) → is_marked marks i ≡ true → test i ≡ false
+tried_somewhere test x y spots blocks marks tried i h some marked =
+    tried some.1.0 some.0 some.1.1 some.1.1 (sym some.1.2) i h some.2 marked

@@ -3,3 +3,4 @@ pub mod Blocks
 pub mod Marks
 pub mod ClashingPairs
 pub mod Regions
+pub mod SpotLists

@@ -1,9 +1,10 @@
 //! Places along an axis, which map coordinates to the columns or rows of a grid.
 
-ghost use Rattle.std.specs.Prelude.{◌≡◌, ℤ, pos, ◌+◌, ◌*◌, ◌/◌, ◌^◌, ◌<◌, ◌≤◌, ◌≤ℤ◌, ◌+ℤ◌, ◌-ℤ◌, unsigned_abs};
-ghost use Rattle.ring_rules.specs.Cores.{positive_part};
+ghost use Rattle.std.specs.Prelude.{◌≡◌, ℤ, pos, ◌+◌, ◌*◌, ◌/◌, ◌^◌, ◌<◌, ◌≤◌, ◌≤ℤ◌, ◌+ℤ◌, unsigned_abs};
 ghost use Rattle.ring_rules.specs.Borders.{IsAscending, borders_up_to};
 ghost use Rattle.ring_rules.specs.Places.{steps_above};
+
+use crate::cores::excess;
 
 /// Places on an axis. An uneven scale has borders, and a place begins at each of them. An even one has none: its
 /// places are 2^shift pm each, from the low end up. What lies below that is at the first place, and what lies past
@@ -21,13 +22,6 @@ pub(crate) struct Axis {
     ghost count: { last ≤ 2 ^ 60 },
     ghost stretch: { last * 2 ^ shift ≤ 2 ^ 60 },
     ghost rises: { IsAscending borders.items },
-}
-
-/// How far a number lies above another one, 0 where it does not.
-fn excess(high: i64, low: i64) -> u64
-    ensures { result ≡ positive_part (high -ℤ low) }
-{
-    if low < high { high.abs_diff(low) } else { 0 }
 }
 
 /// How many whole steps a coordinate lies above the low end, 0 below it.

@@ -25,13 +25,13 @@ impl RingSearch<'_> {
         is_open: bool,
         marks: &mut [bool],
     ) -> bool
-        requires ready { IsHoleGrid self.now.cells.now.x self.now.cells.now.y self.now.cells.now.head.items self.now.cells.now.next.items self.now.holes.now self.now.rules.ring self.now.least }
-        requires size { length marks.old ≡ length self.now.holes.now }
+        requires ready { IsHoleGrid self.now.cells.now.x self.now.cells.now.y self.now.cells.now.starts.items self.now.cells.now.spots.items self.now.rules.ring self.now.least }
+        requires size { length marks.old ≡ length self.now.cells.now.spots.items }
         requires block { IsBlock self.now.cells.now.x self.now.cells.now.y block.now }
-        requires closed { is_open ≡ false → HasNoMarkIn self.now.cells.now.x self.now.cells.now.y self.now.holes.now block.now.region.top block.now.region.bottom block.now.region.left block.now.region.right marks.old }
-        ensures removes { RemovesMarks (gives_ring_at S.covers self.now.rules.ring self.now.holes.now pad.now) marks.old marks.new }
-        ensures tried { NoMarkPassesIn (gives_ring_at S.covers self.now.rules.ring self.now.holes.now pad.now) self.now.cells.now.x self.now.cells.now.y self.now.holes.now block.now.region.top block.now.region.bottom block.now.region.left block.now.region.right marks.new }
-        ensures none { result ≡ false → HasNoMarkIn self.now.cells.now.x self.now.cells.now.y self.now.holes.now block.now.region.top block.now.region.bottom block.now.region.left block.now.region.right marks.new }
+        requires closed { is_open ≡ false → HasNoMarkIn self.now.cells.now.x self.now.cells.now.y self.now.cells.now.spots.items block.now.region.top block.now.region.bottom block.now.region.left block.now.region.right marks.old }
+        ensures removes { RemovesMarks (gives_ring_at S.covers self.now.rules.ring self.now.cells.now.spots.items pad.now) marks.old marks.new }
+        ensures tried { NoMarkPassesIn (gives_ring_at S.covers self.now.rules.ring self.now.cells.now.spots.items pad.now) self.now.cells.now.x self.now.cells.now.y self.now.cells.now.spots.items block.now.region.top block.now.region.bottom block.now.region.left block.now.region.right marks.new }
+        ensures none { result ≡ false → HasNoMarkIn self.now.cells.now.x self.now.cells.now.y self.now.cells.now.spots.items block.now.region.top block.now.region.bottom block.now.region.left block.now.region.right marks.new }
     {
         if !is_open {
             return false;
@@ -39,7 +39,7 @@ impl RingSearch<'_> {
         if !pad.may_cover(&block.zone, self.least) {
             return true;
         }
-        self.try_rows(pad, true, block.region, marks)
+        self.try_rows(pad, block.region, marks)
     }
 
     /// Tries a pad at the holes of all open blocks.
@@ -50,14 +50,14 @@ impl RingSearch<'_> {
         open_blocks: &mut [bool],
         marks: &mut [bool],
     )
-        requires ready { IsHoleGrid self.now.cells.now.x self.now.cells.now.y self.now.cells.now.head.items self.now.cells.now.next.items self.now.holes.now self.now.rules.ring self.now.least }
-        requires size { length marks.old ≡ length self.now.holes.now }
+        requires ready { IsHoleGrid self.now.cells.now.x self.now.cells.now.y self.now.cells.now.starts.items self.now.cells.now.spots.items self.now.rules.ring self.now.least }
+        requires size { length marks.old ≡ length self.now.cells.now.spots.items }
         requires blocks { All (IsBlock self.now.cells.now.x self.now.cells.now.y) blocks.now }
         requires open_blocks { length open_blocks.old ≡ length blocks.now }
-        requires closed { AreClosedUnmarked self.now.cells.now.x self.now.cells.now.y self.now.holes.now blocks.now open_blocks.old marks.old }
-        ensures removes { RemovesMarks (gives_ring_at S.covers self.now.rules.ring self.now.holes.now pad.now) marks.old marks.new }
-        ensures closed { AreClosedUnmarked self.now.cells.now.x self.now.cells.now.y self.now.holes.now blocks.now open_blocks.new marks.new }
-        ensures tried { NoMarkPassesInBlocks (gives_ring_at S.covers self.now.rules.ring self.now.holes.now pad.now) self.now.cells.now.x self.now.cells.now.y self.now.holes.now blocks.now (length blocks.now) marks.new }
+        requires closed { AreClosedUnmarked self.now.cells.now.x self.now.cells.now.y self.now.cells.now.spots.items blocks.now open_blocks.old marks.old }
+        ensures removes { RemovesMarks (gives_ring_at S.covers self.now.rules.ring self.now.cells.now.spots.items pad.now) marks.old marks.new }
+        ensures closed { AreClosedUnmarked self.now.cells.now.x self.now.cells.now.y self.now.cells.now.spots.items blocks.now open_blocks.new marks.new }
+        ensures tried { NoMarkPassesInBlocks (gives_ring_at S.covers self.now.rules.ring self.now.cells.now.spots.items pad.now) self.now.cells.now.x self.now.cells.now.y self.now.cells.now.spots.items blocks.now (length blocks.now) marks.new }
     {
         for (i, block) in blocks.iter().enumerate() {
             open_blocks[i] = self.try_block(pad, block, open_blocks[i], marks);

@@ -5,7 +5,7 @@ ghost use Rattle.std.specs.List.{All, Contains};
 ghost use Rattle.ring_rules.specs.Inner.ClashingPairs.{in_order, AddsClashes, ListsClash};
 
 use crate::cores::are_clear;
-use crate::finding::Drilled;
+use crate::spots::Spot;
 use grid_units::Rules;
 use std::alloc::AllocError;
 
@@ -16,40 +16,41 @@ fn in_order(a: usize, b: usize) -> (usize, usize)
     (a.min(b), a.max(b))
 }
 
-/// Appends the pair of two holes, where they are not clear.
+/// Appends the places of two spots, where their holes are not clear.
 fn add_pair(
-    holes: &[Drilled],
+    spots: &[Spot],
     rules: Rules,
-    place: usize,
-    other: usize,
+    i: usize,
+    j: usize,
     pairs: &mut Vec<(usize, usize)>,
 ) -> Result<(), AllocError>
-    requires place { place < length holes.now }
-    requires other { other < length holes.now }
-    ensures adds { OnOk result (AddsClashes rules.gap holes.now pairs.old.items pairs.new.items) }
-    ensures found { OnOk result (ListsClash rules.gap holes.now place other pairs.new.items) }
+    requires i { i < length spots.now }
+    requires j { j < length spots.now }
+    ensures adds { OnOk result (AddsClashes rules.gap spots.now pairs.old.items pairs.new.items) }
+    ensures found { OnOk result (ListsClash rules.gap spots.now i j pairs.new.items) }
 {
-    if other != place && !are_clear(&holes[other].hole, &holes[place].hole, rules) {
+    let (place, other) = (spots[i].place, spots[j].place);
+    if other != place && !are_clear(&spots[j].hole, &spots[i].hole, rules) {
         pairs.push(in_order(other, place))?;
     }
     Ok(())
 }
 
-/// Appends the pairs of a hole with those at some places, where they are not clear.
+/// Appends the places of a spot with each of some others, where their holes are not clear.
 pub(crate) fn add_pairs(
-    holes: &[Drilled],
+    spots: &[Spot],
     rules: Rules,
-    place: usize,
+    i: usize,
     others: &[usize],
     pairs: &mut Vec<(usize, usize)>,
 ) -> Result<(), AllocError>
-    requires place { place < length holes.now }
-    requires others { All (λ k. k < length holes.now) others.now }
-    ensures adds { OnOk result (AddsClashes rules.gap holes.now pairs.old.items pairs.new.items) }
-    ensures found { OnOk result ((o : ℕ) → Contains others.now o → ListsClash rules.gap holes.now place o pairs.new.items) }
+    requires i { i < length spots.now }
+    requires others { All (λ j. j < length spots.now) others.now }
+    ensures adds { OnOk result (AddsClashes rules.gap spots.now pairs.old.items pairs.new.items) }
+    ensures found { OnOk result ((j : ℕ) → Contains others.now j → ListsClash rules.gap spots.now i j pairs.new.items) }
 {
     for other in others {
-        add_pair(holes, rules, place, *other, pairs)?;
+        add_pair(spots, rules, i, *other, pairs)?;
     }
     Ok(())
 }

@@ -7,7 +7,7 @@ ghost use Rattle.ring_rules.specs.Cores.{positive_part, range_distance, are_clea
 use grid_units::{Hole, Rules, square, square_length};
 
 /// How far a number lies above another one, 0 where it does not.
-fn excess(high: i64, low: i64) -> u64
+pub(crate) fn excess(high: i64, low: i64) -> u64
     ensures { result ≡ positive_part (high -ℤ low) }
 {
     if low < high { high.abs_diff(low) } else { 0 }

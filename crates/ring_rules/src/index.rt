@@ -1,20 +1,18 @@
 //! An index of holes by their entry points, to find the holes in a zone.
 
-ghost use Rattle.std.specs.Prelude.{◌≡◌, ℕ, ◌+◌, ◌<◌, ◌≤◌, ◌≤ℤ◌, true, length, IfOk, OnOk};
+ghost use Rattle.std.specs.Prelude.{◌≡◌, ℕ, ◌+◌, ◌<◌, ◌≤◌, ◌≤ℤ◌, true, length, get_or, IfOk, OnOk};
 ghost use Rattle.std.specs.List.{All, Contains};
 ghost use Rattle.pad_shapes.specs.Zones.{IsInZone};
 ghost use Rattle.ring_rules.specs.Places.{entry_at};
-ghost use Rattle.ring_rules.specs.Cells.{cell_at};
+ghost use Rattle.ring_rules.specs.Spots.{spot_at, point_at, AreInCells};
 ghost use Rattle.ring_rules.specs.Inner.Regions.{IsInRegion};
 ghost use Rattle.ring_rules.specs.Index.{IsIndexOf, IsEntryInZone};
-ghost use Rattle.ring_rules.specs.Inner.FoundPlaces.{AddsPlaces, ListsPlace};
+ghost use Rattle.ring_rules.specs.Inner.FoundPlaces.{IsSpotInZone, AddsFound, ListsFound};
 
-use crate::cells::{Cells, cell_in};
 use crate::finding::Drilled;
 use crate::layout::fitting_cells;
-use crate::marks::link_at;
-use crate::pads::{first_column, first_row, last_column, last_row};
-use crate::regions::Region;
+use crate::regions::{Region, region_of};
+use crate::spots::{Cells, Run, Spot};
 use grid_units::Point;
 use pad_shapes::Zone;
 use std::alloc::{AllocError, Global};
@@ -50,85 +48,73 @@ fn is_in_zone(zone: &Zone, at: Point) -> bool
     is_across(zone, at) && is_along(zone, at)
 }
 
-/// Appends the place of a hole, where its entry point lies in the zone.
-fn add_place(
-    holes: &[Drilled],
-    zone: &Zone,
-    place: usize,
-    places: &mut Vec<usize>,
-) -> Result<(), AllocError>
-    requires { place < length holes.now }
-    ensures adds { OnOk result (AddsPlaces holes.now zone.now places.old.items places.new.items) }
-    ensures listed { OnOk result (ListsPlace holes.now zone.now place places.new.items) }
+/// Appends the index of a spot, where its entry point lies in the zone.
+fn add_spot(spots: &[Spot], zone: &Zone, i: usize, found: &mut Vec<usize>) -> Result<(), AllocError>
+    requires { i < length spots.now }
+    ensures adds { OnOk result (AddsFound spots.now zone.now found.old.items found.new.items) }
+    ensures listed { OnOk result (ListsFound spots.now zone.now i found.new.items) }
 {
-    if is_in_zone(zone, holes[place].hole.from()) {
-        places.push(place)?;
+    if is_in_zone(zone, spots[i].hole.from()) {
+        found.push(i)?;
     }
     Ok(())
 }
 
-/// Appends the places of the holes of a cell with their entry point in the zone.
-fn add_cell(
-    index: &HoleIndex,
-    holes: &[Drilled],
-    zone: &Zone,
-    cell: usize,
-    places: &mut Vec<usize>,
-) -> Result<(), AllocError>
-    requires { IsIndexOf holes.now index.now }
-    ensures adds { OnOk result (AddsPlaces holes.now zone.now places.old.items places.new.items) }
-    ensures listed { OnOk result ((k : ℕ) → k < length holes.now → cell_at index.now.cells.x index.now.cells.y holes.now k ≡ cell → ListsPlace holes.now zone.now k places.new.items) }
+/// Appends the indices of the spots of a run with their entry point in the zone.
+fn add_run(spots: &[Spot], zone: &Zone, run: Run, found: &mut Vec<usize>) -> Result<(), AllocError>
+    requires { run.end ≤ length spots.now }
+    ensures adds { OnOk result (AddsFound spots.now zone.now found.old.items found.new.items) }
+    ensures listed { OnOk result ((i : ℕ) → run.start ≤ i → i < run.end → ListsFound spots.now zone.now i found.new.items) }
 {
-    let mut link = link_at(&index.cells.head, cell);
-    while link > 0 {
-        let place = link - 1;
-        add_place(holes, zone, place, places)?;
-        link = link_at(&index.cells.next, place);
+    for i in run.start..run.end {
+        add_spot(spots, zone, i, found)?;
     }
     Ok(())
 }
 
-/// Appends such places of the cells of a row, in columns from `left` to `right`, end excluded.
-fn add_row(
-    index: &HoleIndex,
-    holes: &[Drilled],
-    zone: &Zone,
-    row: usize,
-    left: usize,
-    right: usize,
-    places: &mut Vec<usize>,
-) -> Result<(), AllocError>
-    requires index { IsIndexOf holes.now index.now }
-    requires row { row ≤ index.now.cells.y.last }
-    requires right { right ≤ index.now.cells.x.last + 1 }
-    ensures adds { OnOk result (AddsPlaces holes.now zone.now places.old.items places.new.items) }
-    ensures listed { OnOk result ((k : ℕ) → k < length holes.now → IsInRegion index.now.cells.x index.now.cells.y row (row + 1) left right (entry_at holes.now k) → ListsPlace holes.now zone.now k places.new.items) }
-{
-    for column in left..right {
-        let cell = cell_in(&index.cells.x, &index.cells.y, row, column);
-        add_cell(index, holes, zone, cell, places)?;
-    }
-    Ok(())
-}
-
-/// Appends such places of the cells of a region.
+/// Appends such indices of the spots of a region.
 fn add_rows(
-    index: &HoleIndex,
-    holes: &[Drilled],
+    cells: &Cells,
     zone: &Zone,
     region: Region,
-    places: &mut Vec<usize>,
+    found: &mut Vec<usize>,
 ) -> Result<(), AllocError>
-    requires index { IsIndexOf holes.now index.now }
-    requires bottom { region.bottom ≤ index.now.cells.y.last + 1 }
-    requires right { region.right ≤ index.now.cells.x.last + 1 }
-    ensures adds { OnOk result (AddsPlaces holes.now zone.now places.old.items places.new.items) }
-    ensures listed { OnOk result ((k : ℕ) → k < length holes.now → IsInRegion index.now.cells.x index.now.cells.y region.top region.bottom region.left region.right (entry_at holes.now k) → ListsPlace holes.now zone.now k places.new.items) }
+    requires cells { AreInCells cells.now.x cells.now.y cells.now.starts.items cells.now.spots.items }
+    requires bottom { region.bottom ≤ cells.now.y.last + 1 }
+    requires left { region.left ≤ cells.now.x.last + 1 }
+    requires right { region.right ≤ cells.now.x.last + 1 }
+    ensures adds { OnOk result (AddsFound cells.now.spots.items zone.now found.old.items found.new.items) }
+    ensures listed { OnOk result ((i : ℕ) → i < length cells.now.spots.items → IsInRegion cells.now.x cells.now.y region.top region.bottom region.left region.right (point_at cells.now.spots.items i) → ListsFound cells.now.spots.items zone.now i found.new.items) }
 {
     for row in region.top..region.bottom {
-        add_row(index, holes, zone, row, region.left, region.right, places)?;
+        let run = cells.run(row, region.left, region.right);
+        add_run(&cells.spots, zone, run, found)?;
     }
     Ok(())
+}
+
+/// Replaces each index of a spot by its place.
+fn name_places(spots: &[Spot], found: &mut [usize])
+    requires { All (λ i. i < length spots.now) found.old }
+    ensures { (n : ℕ) → n < length found.old → get_or found.new n 0 ≡ (spot_at spots.now (get_or found.old n 0)).place }
+{
+    for n in 0..found.len() {
+        found[n] = spots[found[n]].place;
+    }
+}
+
+impl Cells {
+    /// Replaces `found` by the indices of the spots with their entry point in a zone.
+    pub(crate) fn find(&self, zone: &Zone, found: &mut Vec<usize>) -> Result<(), AllocError>
+        requires { AreInCells self.now.x self.now.y self.now.starts.items self.now.spots.items }
+        ensures all { OnOk result ((i : ℕ) → i < length self.now.spots.items → IsInZone zone.now (point_at self.now.spots.items i) → Contains found.new.items i) }
+        ensures found { OnOk result (All (IsSpotInZone self.now.spots.items zone.now) found.new.items) }
+    {
+        found.clear();
+        let region = region_of(&self.x, &self.y, zone);
+        add_rows(self, zone, region, found)?;
+        Ok(())
+    }
 }
 
 impl HoleIndex {
@@ -164,14 +150,8 @@ impl HoleIndex {
         ensures all { OnOk result ((k : ℕ) → k < length holes.now → IsInZone zone.now (entry_at holes.now k) → Contains places.new.items k) }
         ensures places { OnOk result (All (IsEntryInZone holes.now zone.now) places.new.items) }
     {
-        places.clear();
-        let region = Region {
-            top: first_row(&self.cells.y, zone),
-            bottom: last_row(&self.cells.y, zone) + 1,
-            left: first_column(&self.cells.x, zone),
-            right: last_column(&self.cells.x, zone) + 1,
-        };
-        add_rows(self, holes, zone, region, places)?;
+        self.cells.find(zone, places)?;
+        name_places(&self.cells.spots, places);
         Ok(())
     }
 }

@@ -6,11 +6,13 @@ ghost use Rattle.grid_units.specs.Points.{GridPoint};
 ghost use Rattle.pad_shapes.specs.Zones.{IsInZone};
 ghost use Rattle.ring_rules.specs.Places.{entry_at};
 ghost use Rattle.ring_rules.specs.Inner.Regions.{IsLaidOut};
+ghost use Rattle.ring_rules.specs.Inner.SpotLists.{IsSpotted};
 
 use crate::axis::Axis;
 use crate::cell_size::{Spread, shifts, spread_x, spread_y};
-use crate::cells::{Cells, chained};
+use crate::cells::{Chains, chained};
 use crate::finding::Drilled;
+use crate::spots::{Cells, spotted};
 use crate::uneven_axes::{is_crowded, uneven_x, uneven_y};
 use grid_units::Point;
 use pad_shapes::Zone;
@@ -118,19 +120,19 @@ fn fits(x: &Axis, y: &Axis) -> bool
 }
 
 /// The holes in the cells of two scales, or in one cell where the scales would make too many.
-fn cells_on(
+fn chains_on(
     alloc: Global,
     holes: &[Drilled],
     zone: &Zone,
     x: Axis,
     y: Axis,
-) -> Result<Cells, AllocError>
+) -> Result<Chains, AllocError>
     requires least_x { x.least ≡ zone.now.left }
     requires greatest_x { x.greatest ≡ zone.now.right }
     requires least_y { y.least ≡ zone.now.bottom }
     requires greatest_y { y.greatest ≡ zone.now.top }
     requires holds { (k : ℕ) → k < length holes.now → IsInZone zone.now (entry_at holes.now k) }
-    ensures { IfOk result (λ cells. IsLaidOut cells.x cells.y cells.head.items cells.next.items holes.now) }
+    ensures { IfOk result (λ chains. IsLaidOut chains.x chains.y chains.head.items chains.next.items holes.now) }
 {
     if fits(&x, &y) {
         chained(alloc, x, y, holes)
@@ -148,7 +150,7 @@ pub(crate) fn fitting_cells(
     width: u64,
     height: u64,
 ) -> Result<Cells, AllocError>
-    ensures { IfOk result (λ cells. IsLaidOut cells.x cells.y cells.head.items cells.next.items holes.now) }
+    ensures { IfOk result (λ cells. IsSpotted cells.x cells.y cells.starts.items cells.spots.items holes.now) }
 {
     let zone = bounds(holes);
     let spread_x = spread_x(alloc, holes)?;
@@ -156,11 +158,12 @@ pub(crate) fn fitting_cells(
     let (shift_x, shift_y) = shifts(&spread_x, &spread_y, holes.len(), width, height);
     let x = across(alloc, &zone, &spread_x, shift_x);
     let y = along(alloc, &zone, &spread_y, shift_y);
-    let even = cells_on(alloc, holes, &zone, x, y)?;
+    let even = chains_on(alloc, holes, &zone, x, y)?;
     if !is_crowded(&even, holes) {
-        return Ok(even);
+        return spotted(alloc, even, holes);
     }
     let x = uneven_x(alloc, &zone, holes)?;
     let y = uneven_y(alloc, &zone, holes)?;
-    cells_on(alloc, holes, &zone, x, y)
+    let uneven = chains_on(alloc, holes, &zone, x, y)?;
+    spotted(alloc, uneven, holes)
 }

@@ -23,6 +23,7 @@ mod pads;
 mod places;
 mod regions;
 mod rings;
+mod spots;
 mod uneven_axes;
 mod zones;
 

@@ -1,26 +1,14 @@
-//! Marks of the holes that a pad has not covered so far, and the chain of a cell.
+//! Marks of the holes that no pad has covered so far. They stand in the order of the spots.
 
-ghost use Rattle.std.specs.Prelude.{◌≡◌, ◌&&◌, false, not, length, get_or};
+ghost use Rattle.std.specs.Prelude.{◌≡◌, ◌≤◌, ◌&&◌, false, not, length};
 ghost use Rattle.pad_shapes.specs.Shapes.{IsAxisAligned};
 ghost use Rattle.ring_rules.specs.Findings.{covers_hole};
-ghost use Rattle.ring_rules.specs.Places.{IsChained};
-ghost use Rattle.ring_rules.specs.Cells.{cell_at};
-ghost use Rattle.ring_rules.specs.Inner.Marks.{gives_ring, gives_ring_at, RemovesMarks, NoMarkPassesInCell, HasNoMarkInCell};
+ghost use Rattle.ring_rules.specs.Inner.Marks.{gives_ring, gives_ring_at, RemovesMarks, NoMarkPassesFrom, HasNoMarkFrom};
 
-use crate::cells::Cells;
-use crate::finding::{Drilled, is_oblique};
+use crate::finding::is_oblique;
+use crate::spots::{Run, Spot};
 use grid_units::{Hole, Rules};
 use pad_shapes::PadShape;
-
-/// The link at a place of a list of links, 0 past its end.
-pub(crate) fn link_at(links: &[usize], place: usize) -> usize
-    ensures { result ≡ get_or links.now place 0 }
-{
-    match links.get(place) {
-        Some(link) => *link,
-        None => 0,
-    }
-}
 
 /// Whether a pad covers a hole with the ring round it, at both ends. The pad is not asked where the first end is not
 /// between its least and greatest x.
@@ -41,35 +29,31 @@ fn gives_ring<S: PadShape>(pad: &S, hole: &Hole, rules: Rules) -> bool
 }
 
 /// Whether a hole keeps its mark after a pad was tried.
-fn keeps_mark<S: PadShape>(pad: &S, drilled: &Drilled, rules: Rules, mark: bool) -> bool
-    ensures { result ≡ (mark && not (gives_ring S.covers rules.ring drilled.now.hole pad.now)) }
+fn keeps_mark<S: PadShape>(pad: &S, hole: &Hole, rules: Rules, mark: bool) -> bool
+    ensures { result ≡ (mark && not (gives_ring S.covers rules.ring hole.now pad.now)) }
 {
-    mark && !gives_ring(pad, &drilled.hole, rules)
+    mark && !gives_ring(pad, hole, rules)
 }
 
-/// Removes the marks of the holes of a cell to which the pad gives their ring, and returns whether a mark is left.
-pub(crate) fn try_cell<S: PadShape>(
-    cells: &Cells,
-    holes: &[Drilled],
+/// Removes the marks of the spots of a run to whose holes the pad gives their ring, and returns whether a mark is left.
+pub(crate) fn try_run<S: PadShape>(
+    spots: &[Spot],
     rules: Rules,
     pad: &S,
-    cell: usize,
+    run: Run,
     marks: &mut [bool],
 ) -> bool
-    requires chained { IsChained (cell_at cells.now.x cells.now.y holes.now) (length holes.now) cells.now.head.items cells.now.next.items }
-    requires size { length marks.old ≡ length holes.now }
-    ensures removes { RemovesMarks (gives_ring_at S.covers rules.ring holes.now pad.now) marks.old marks.new }
-    ensures tried { NoMarkPassesInCell (gives_ring_at S.covers rules.ring holes.now pad.now) (cell_at cells.now.x cells.now.y holes.now) (length holes.now) cell marks.new }
-    ensures none { result ≡ false → HasNoMarkInCell (cell_at cells.now.x cells.now.y holes.now) (length holes.now) cell marks.new }
+    requires within { run.end ≤ length spots.now }
+    requires size { length marks.old ≡ length spots.now }
+    ensures removes { RemovesMarks (gives_ring_at S.covers rules.ring spots.now pad.now) marks.old marks.new }
+    ensures tried { NoMarkPassesFrom (gives_ring_at S.covers rules.ring spots.now pad.now) run.start run.end marks.new }
+    ensures none { result ≡ false → HasNoMarkFrom run.start run.end marks.new }
 {
     let mut is_left = false;
-    let mut link = link_at(&cells.head, cell);
-    while link > 0 {
-        let place = link - 1;
-        let keeps_mark = keeps_mark(pad, &holes[place], rules, marks[place]);
-        marks[place] = keeps_mark;
+    for i in run.start..run.end {
+        let keeps_mark = keeps_mark(pad, &spots[i].hole, rules, marks[i]);
+        marks[i] = keeps_mark;
         is_left = is_left | keeps_mark;
-        link = link_at(&cells.next, place);
     }
     is_left
 }

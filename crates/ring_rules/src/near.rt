@@ -6,19 +6,17 @@ ghost use Rattle.std.specs.List.{Contains};
 ghost use Rattle.grid_units.specs.Holes.{GridHole};
 ghost use Rattle.grid_units.specs.Points.{abs_diff};
 ghost use Rattle.pad_shapes.specs.Zones.{IsInZone};
-ghost use Rattle.ring_rules.specs.Cells.{cell_at};
-ghost use Rattle.ring_rules.specs.Index.{IsIndexOf};
 ghost use Rattle.ring_rules.specs.Places.{hole_at};
+ghost use Rattle.ring_rules.specs.Spots.{AreInCells};
 ghost use Rattle.ring_rules.specs.Near.{length_of, size_of, IsWithinLimits, AreLimits, IsGapBound, AreNearer, AreWithin};
-ghost use Rattle.ring_rules.specs.Inner.ClashingPairs.{AddsClashes, IsClash, ListsClashes};
+ghost use Rattle.ring_rules.specs.Inner.ClashingPairs.{AddsClashes, AreSpotsWithin, IsClash, ListsClashes};
 
 use crate::cell_size::sample_index;
 use crate::clashes::add_pairs;
 use crate::finding::Drilled;
-use crate::index::HoleIndex;
-use crate::layout::no_zone;
+use crate::layout::{fitting_cells, no_zone};
 use crate::limits::Limits;
-use crate::marks::link_at;
+use crate::spots::Cells;
 use grid_units::{Hole, Rules};
 use pad_shapes::Zone;
 use std::alloc::{AllocError, Global};
@@ -187,68 +185,42 @@ pub fn near_zone(hole: &Hole, gap: i64, limits: Limits) -> Zone
     zone_round(hole, far.unsigned_abs(), limits)
 }
 
-/// Appends the pairs of a hole with those that are no larger and not clear of it.
+/// Appends the pairs of a spot with those whose holes are no larger and not clear of it.
 fn add_near(
-    index: &HoleIndex,
-    holes: &[Drilled],
+    cells: &Cells,
     rules: Rules,
     limits: Limits,
-    place: usize,
+    i: usize,
     near: &mut Vec<usize>,
     pairs: &mut Vec<(usize, usize)>,
 ) -> Result<(), AllocError>
-    requires index { IsIndexOf holes.now index.now }
-    requires limits { AreLimits holes.now limits }
-    requires place { place < length holes.now }
-    ensures adds { OnOk result (AddsClashes rules.gap holes.now pairs.old.items pairs.new.items) }
-    ensures found { OnOk result (ListsClashes rules.gap holes.now place pairs.new.items) }
+    requires cells { AreInCells cells.now.x cells.now.y cells.now.starts.items cells.now.spots.items }
+    requires limits { AreSpotsWithin limits cells.now.spots.items }
+    requires inside { i < length cells.now.spots.items }
+    ensures adds { OnOk result (AddsClashes rules.gap cells.now.spots.items pairs.old.items pairs.new.items) }
+    ensures found { OnOk result (ListsClashes rules.gap cells.now.spots.items i pairs.new.items) }
 {
-    let zone = near_zone(&holes[place].hole, rules.gap(), limits);
-    index.find(holes, &zone, near)?;
-    add_pairs(holes, rules, place, near, pairs)?;
+    let zone = near_zone(&cells.spots[i].hole, rules.gap(), limits);
+    cells.find(&zone, near)?;
+    add_pairs(&cells.spots, rules, i, near, pairs)?;
     Ok(())
 }
 
-/// Appends such pairs of each hole of a cell.
-fn add_cell_pairs(
-    index: &HoleIndex,
-    holes: &[Drilled],
-    rules: Rules,
-    limits: Limits,
-    cell: usize,
-    near: &mut Vec<usize>,
-    pairs: &mut Vec<(usize, usize)>,
-) -> Result<(), AllocError>
-    requires index { IsIndexOf holes.now index.now }
-    requires limits { AreLimits holes.now limits }
-    ensures adds { OnOk result (AddsClashes rules.gap holes.now pairs.old.items pairs.new.items) }
-    ensures found { OnOk result ((k : ℕ) → k < length holes.now → cell_at index.now.cells.x index.now.cells.y holes.now k ≡ cell → ListsClashes rules.gap holes.now k pairs.new.items) }
-{
-    let mut link = link_at(&index.cells.head, cell);
-    while link > 0 {
-        let place = link - 1;
-        add_near(index, holes, rules, limits, place, near, pairs)?;
-        link = link_at(&index.cells.next, place);
-    }
-    Ok(())
-}
-
-/// Appends such pairs of all holes, cell by cell: so holes that are near each other are looked for one after the other.
+/// Appends such pairs of all spots, in their order: so holes that are near each other are looked for one after the other.
 fn add_all_pairs(
-    index: &HoleIndex,
-    holes: &[Drilled],
+    cells: &Cells,
     rules: Rules,
     limits: Limits,
     near: &mut Vec<usize>,
     pairs: &mut Vec<(usize, usize)>,
 ) -> Result<(), AllocError>
-    requires index { IsIndexOf holes.now index.now }
-    requires limits { AreLimits holes.now limits }
-    ensures adds { OnOk result (AddsClashes rules.gap holes.now pairs.old.items pairs.new.items) }
-    ensures found { OnOk result ((k : ℕ) → k < length holes.now → ListsClashes rules.gap holes.now k pairs.new.items) }
+    requires cells { AreInCells cells.now.x cells.now.y cells.now.starts.items cells.now.spots.items }
+    requires limits { AreSpotsWithin limits cells.now.spots.items }
+    ensures adds { OnOk result (AddsClashes rules.gap cells.now.spots.items pairs.old.items pairs.new.items) }
+    ensures found { OnOk result ((i : ℕ) → i < length cells.now.spots.items → ListsClashes rules.gap cells.now.spots.items i pairs.new.items) }
 {
-    for cell in 0..index.cells.head.len() {
-        add_cell_pairs(index, holes, rules, limits, cell, near, pairs)?;
+    for i in 0..cells.spots.len() {
+        add_near(cells, rules, limits, i, near, pairs)?;
     }
     Ok(())
 }
@@ -280,9 +252,9 @@ pub(crate) fn clashes(
     let limits = limits_of(holes);
     let width = mean_zone_length(holes, rules, limits.radius, limits.x);
     let height = mean_zone_length(holes, rules, limits.radius, limits.y);
-    let index = HoleIndex::new(alloc, holes, width, height)?;
+    let cells = fitting_cells(alloc, holes, width, height)?;
     let mut near = Vec::new(alloc);
     let mut pairs = Vec::new(alloc);
-    add_all_pairs(&index, holes, rules, limits, &mut near, &mut pairs)?;
+    add_all_pairs(&cells, rules, limits, &mut near, &mut pairs)?;
     Ok(pairs)
 }

@@ -7,10 +7,9 @@ ghost use Rattle.ring_rules.specs.Inner.Marks.{gives_ring_at, RemovesMarks};
 ghost use Rattle.ring_rules.specs.Inner.Regions.{IsInRegion, IsOnBoard, IsHoleGrid, NoMarkPassesIn, HasNoMarkIn};
 
 use crate::axis::Axis;
-use crate::cells::{Cells, cell_in};
-use crate::finding::Drilled;
-use crate::marks::{link_at, try_cell};
-use crate::places::{place_end, place_start};
+use crate::marks::try_run;
+use crate::places::{place, place_end, place_start};
+use crate::spots::Cells;
 use grid_units::Rules;
 use pad_shapes::{PadShape, Zone};
 
@@ -23,13 +22,27 @@ pub(crate) struct Region {
     pub right: usize,
 }
 
-/// A search for the holes to which pads give their ring: the holes of a board in cells, the rules, and a reach that no hole falls short of, in pm.
+/// A search for the holes to which pads give their ring: the holes of a board in the order of their cells, the rules, and a reach that no hole falls short of, in pm.
 #[derive(Clone, Copy)]
 pub(crate) struct RingSearch<'a> {
     pub cells: &'a Cells,
-    pub holes: &'a [Drilled],
     pub rules: Rules,
     pub least: u64,
+}
+
+/// The rows and columns where the points of a zone lie.
+pub(crate) fn region_of(x: &Axis, y: &Axis, zone: &Zone) -> Region
+    ensures holds { (p : GridPoint) → IsInZone zone.now p → IsInRegion x.now y.now result.top result.bottom result.left result.right p }
+    ensures bottom { result.bottom ≤ y.now.last + 1 }
+    ensures left { result.left ≤ x.now.last + 1 }
+    ensures right { result.right ≤ x.now.last + 1 }
+{
+    Region {
+        top: place(y, zone.bottom),
+        bottom: place(y, zone.top) + 1,
+        left: place(x, zone.left),
+        right: place(x, zone.right) + 1,
+    }
 }
 
 /// A zone that contains each point of a region of a board.
@@ -49,25 +62,24 @@ pub(crate) fn zone_of(x: &Axis, y: &Axis, region: Region) -> Zone
 }
 
 impl RingSearch<'_> {
-    /// Tries a pad at the holes of the cell in a row and a column. If `skips_cells` is set, a cell that the pad can't cover is skipped.
+    /// Tries a pad at the holes of the cell in a row and a column, if it can cover any point there.
     fn try_cell_at<S: PadShape>(
         &self,
         pad: &S,
-        skips_cells: bool,
         row: usize,
         column: usize,
         marks: &mut [bool],
     ) -> bool
-        requires ready { IsHoleGrid self.now.cells.now.x self.now.cells.now.y self.now.cells.now.head.items self.now.cells.now.next.items self.now.holes.now self.now.rules.ring self.now.least }
-        requires size { length marks.old ≡ length self.now.holes.now }
+        requires ready { IsHoleGrid self.now.cells.now.x self.now.cells.now.y self.now.cells.now.starts.items self.now.cells.now.spots.items self.now.rules.ring self.now.least }
+        requires size { length marks.old ≡ length self.now.cells.now.spots.items }
         requires row { row ≤ self.now.cells.now.y.last }
         requires column { column ≤ self.now.cells.now.x.last }
-        ensures removes { RemovesMarks (gives_ring_at S.covers self.now.rules.ring self.now.holes.now pad.now) marks.old marks.new }
-        ensures tried { NoMarkPassesIn (gives_ring_at S.covers self.now.rules.ring self.now.holes.now pad.now) self.now.cells.now.x self.now.cells.now.y self.now.holes.now row (row + 1) column (column + 1) marks.new }
-        ensures none { result ≡ false → HasNoMarkIn self.now.cells.now.x self.now.cells.now.y self.now.holes.now row (row + 1) column (column + 1) marks.new }
+        ensures removes { RemovesMarks (gives_ring_at S.covers self.now.rules.ring self.now.cells.now.spots.items pad.now) marks.old marks.new }
+        ensures tried { NoMarkPassesIn (gives_ring_at S.covers self.now.rules.ring self.now.cells.now.spots.items pad.now) self.now.cells.now.x self.now.cells.now.y self.now.cells.now.spots.items row (row + 1) column (column + 1) marks.new }
+        ensures none { result ≡ false → HasNoMarkIn self.now.cells.now.x self.now.cells.now.y self.now.cells.now.spots.items row (row + 1) column (column + 1) marks.new }
     {
-        let cell = cell_in(&self.cells.x, &self.cells.y, row, column);
-        if link_at(&self.cells.head, cell) == 0 {
+        let run = self.cells.run(row, column, column + 1);
+        if run.end <= run.start {
             return false;
         }
         let region = Region {
@@ -76,61 +88,68 @@ impl RingSearch<'_> {
             left: column,
             right: column + 1,
         };
-        if skips_cells
-            && !pad.may_cover(&zone_of(&self.cells.x, &self.cells.y, region), self.least)
-        {
+        if !pad.may_cover(&zone_of(&self.cells.x, &self.cells.y, region), self.least) {
             return true;
         }
-        try_cell(self.cells, self.holes, self.rules, pad, cell, marks)
+        try_run(&self.cells.spots, self.rules, pad, run, marks)
     }
 
-    /// Tries a pad at the holes of a row, in columns from `left` to `right`, end excluded.
+    /// Tries a pad at the holes of a row cell by cell, in columns from `left` to `right`, end excluded.
     fn try_row<S: PadShape>(
         &self,
         pad: &S,
-        skips_cells: bool,
         row: usize,
         left: usize,
         right: usize,
         marks: &mut [bool],
     ) -> bool
-        requires ready { IsHoleGrid self.now.cells.now.x self.now.cells.now.y self.now.cells.now.head.items self.now.cells.now.next.items self.now.holes.now self.now.rules.ring self.now.least }
-        requires size { length marks.old ≡ length self.now.holes.now }
+        requires ready { IsHoleGrid self.now.cells.now.x self.now.cells.now.y self.now.cells.now.starts.items self.now.cells.now.spots.items self.now.rules.ring self.now.least }
+        requires size { length marks.old ≡ length self.now.cells.now.spots.items }
         requires row { row ≤ self.now.cells.now.y.last }
         requires right { right ≤ self.now.cells.now.x.last + 1 }
-        ensures removes { RemovesMarks (gives_ring_at S.covers self.now.rules.ring self.now.holes.now pad.now) marks.old marks.new }
-        ensures tried { NoMarkPassesIn (gives_ring_at S.covers self.now.rules.ring self.now.holes.now pad.now) self.now.cells.now.x self.now.cells.now.y self.now.holes.now row (row + 1) left right marks.new }
-        ensures none { result ≡ false → HasNoMarkIn self.now.cells.now.x self.now.cells.now.y self.now.holes.now row (row + 1) left right marks.new }
+        ensures removes { RemovesMarks (gives_ring_at S.covers self.now.rules.ring self.now.cells.now.spots.items pad.now) marks.old marks.new }
+        ensures tried { NoMarkPassesIn (gives_ring_at S.covers self.now.rules.ring self.now.cells.now.spots.items pad.now) self.now.cells.now.x self.now.cells.now.y self.now.cells.now.spots.items row (row + 1) left right marks.new }
+        ensures none { result ≡ false → HasNoMarkIn self.now.cells.now.x self.now.cells.now.y self.now.cells.now.spots.items row (row + 1) left right marks.new }
     {
         let mut is_left = false;
         for column in left..right {
-            let rest = self.try_cell_at(pad, skips_cells, row, column, marks);
+            let rest = self.try_cell_at(pad, row, column, marks);
             is_left = is_left | rest;
         }
         is_left
     }
 
-    /// Tries a pad at the holes of a region. Returns whether a mark may be left there.
-    pub(crate) fn try_rows<S: PadShape>(
-        &self,
-        pad: &S,
-        skips_cells: bool,
-        region: Region,
-        marks: &mut [bool],
-    ) -> bool
-        requires ready { IsHoleGrid self.now.cells.now.x self.now.cells.now.y self.now.cells.now.head.items self.now.cells.now.next.items self.now.holes.now self.now.rules.ring self.now.least }
-        requires size { length marks.old ≡ length self.now.holes.now }
+    /// Tries a pad at the holes of a region cell by cell. Returns whether a mark may be left there.
+    pub(crate) fn try_rows<S: PadShape>(&self, pad: &S, region: Region, marks: &mut [bool]) -> bool
+        requires ready { IsHoleGrid self.now.cells.now.x self.now.cells.now.y self.now.cells.now.starts.items self.now.cells.now.spots.items self.now.rules.ring self.now.least }
+        requires size { length marks.old ≡ length self.now.cells.now.spots.items }
         requires bottom { region.bottom ≤ self.now.cells.now.y.last + 1 }
         requires right { region.right ≤ self.now.cells.now.x.last + 1 }
-        ensures removes { RemovesMarks (gives_ring_at S.covers self.now.rules.ring self.now.holes.now pad.now) marks.old marks.new }
-        ensures tried { NoMarkPassesIn (gives_ring_at S.covers self.now.rules.ring self.now.holes.now pad.now) self.now.cells.now.x self.now.cells.now.y self.now.holes.now region.top region.bottom region.left region.right marks.new }
-        ensures none { result ≡ false → HasNoMarkIn self.now.cells.now.x self.now.cells.now.y self.now.holes.now region.top region.bottom region.left region.right marks.new }
+        ensures removes { RemovesMarks (gives_ring_at S.covers self.now.rules.ring self.now.cells.now.spots.items pad.now) marks.old marks.new }
+        ensures tried { NoMarkPassesIn (gives_ring_at S.covers self.now.rules.ring self.now.cells.now.spots.items pad.now) self.now.cells.now.x self.now.cells.now.y self.now.cells.now.spots.items region.top region.bottom region.left region.right marks.new }
+        ensures none { result ≡ false → HasNoMarkIn self.now.cells.now.x self.now.cells.now.y self.now.cells.now.spots.items region.top region.bottom region.left region.right marks.new }
     {
         let mut is_left = false;
         for row in region.top..region.bottom {
-            let rest = self.try_row(pad, skips_cells, row, region.left, region.right, marks);
+            let rest = self.try_row(pad, row, region.left, region.right, marks);
             is_left = is_left | rest;
         }
         is_left
+    }
+
+    /// Tries a pad at all holes of a region, row by row.
+    pub(crate) fn try_runs<S: PadShape>(&self, pad: &S, region: Region, marks: &mut [bool])
+        requires ready { IsHoleGrid self.now.cells.now.x self.now.cells.now.y self.now.cells.now.starts.items self.now.cells.now.spots.items self.now.rules.ring self.now.least }
+        requires size { length marks.old ≡ length self.now.cells.now.spots.items }
+        requires bottom { region.bottom ≤ self.now.cells.now.y.last + 1 }
+        requires left { region.left ≤ self.now.cells.now.x.last + 1 }
+        requires right { region.right ≤ self.now.cells.now.x.last + 1 }
+        ensures removes { RemovesMarks (gives_ring_at S.covers self.now.rules.ring self.now.cells.now.spots.items pad.now) marks.old marks.new }
+        ensures tried { NoMarkPassesIn (gives_ring_at S.covers self.now.rules.ring self.now.cells.now.spots.items pad.now) self.now.cells.now.x self.now.cells.now.y self.now.cells.now.spots.items region.top region.bottom region.left region.right marks.new }
+    {
+        for row in region.top..region.bottom {
+            let run = self.cells.run(row, region.left, region.right);
+            let _ = try_run(&self.cells.spots, self.rules, pad, run, marks);
+        }
     }
 }

@@ -5,9 +5,8 @@ ghost use Rattle.ring_rules.specs.Borders.{IsAscending};
 
 use crate::axis::Axis;
 use crate::cell_size::sample_index;
-use crate::cells::{Cells, cell_of};
+use crate::cells::{Chains, cell_of, link_at};
 use crate::finding::Drilled;
-use crate::marks::link_at;
 use pad_shapes::Zone;
 use std::alloc::{AllocError, Global};
 
@@ -15,28 +14,28 @@ use std::alloc::{AllocError, Global};
 const COUNT_LIMIT: usize = 256;
 
 /// How many holes a cell has, counted up to `COUNT_LIMIT`. Any answer is right: only the time depends on it.
-fn count_in(cells: &Cells, cell: usize) -> usize {
+fn count_in(chains: &Chains, cell: usize) -> usize {
     let mut count: usize = 0;
-    let mut link = link_at(&cells.head, cell);
+    let mut link = link_at(&chains.head, cell);
     for _ in 0..COUNT_LIMIT {
         if link > 0 {
             count = count.saturating_add(1);
-            link = link_at(&cells.next, link - 1);
+            link = link_at(&chains.next, link - 1);
         }
     }
     count
 }
 
 /// Whether the holes of a sample share their cells with more than eight holes on average. Any answer is right.
-pub(crate) fn is_crowded(cells: &Cells, holes: &[Drilled]) -> bool
-    requires { (cells.now.y.last + 1) * (cells.now.x.last + 1) ≤ 2 ^ 62 }
+pub(crate) fn is_crowded(chains: &Chains, holes: &[Drilled]) -> bool
+    requires { (chains.now.y.last + 1) * (chains.now.x.last + 1) ≤ 2 ^ 62 }
 {
     let draws = holes.len().min(1024);
     let mut sum: usize = 0;
     for draw in 0..draws {
         if let Some(drilled) = holes.get(sample_index(draw as u64, holes.len())) {
-            let cell = cell_of(&cells.x, &cells.y, drilled.hole.from());
-            sum = sum.saturating_add(count_in(cells, cell));
+            let cell = cell_of(&chains.x, &chains.y, drilled.hole.from());
+            sum = sum.saturating_add(count_in(chains, cell));
         }
     }
     sum > draws * 8

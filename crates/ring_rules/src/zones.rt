@@ -13,7 +13,7 @@ use crate::finding::Drilled;
 use crate::grid::block_side;
 use crate::index::HoleIndex;
 use crate::layout::bounds_at;
-use crate::pads::{first_column, first_row, last_column, last_row};
+use crate::regions::region_of;
 use pad_shapes::Zone;
 use std::alloc::{AllocError, Global};
 
@@ -65,7 +65,7 @@ impl HoleIndex {
         requires { IsIndexOf holes.now self.now }
         ensures { IfOk result (λ zones. (k : ℕ) → k < length holes.now → IsInAnyZone zones.items (entry_at holes.now k)) }
     {
-        let side = block_side(self.cells.head.len());
+        let side = block_side(self.cells.starts.len());
         let blocks = divided(alloc, &self.cells.x, &self.cells.y, side)?;
         let mut near = Vec::new(alloc);
         let mut zones = Vec::new(alloc);
@@ -75,9 +75,9 @@ impl HoleIndex {
 
     /// How many cells `find` looks through for a zone. Any answer is right: it only says how long that takes.
     pub fn cells_in(&self, zone: &Zone) -> usize {
-        let rows = last_row(&self.cells.y, zone) + 1;
-        let columns = last_column(&self.cells.x, zone) + 1;
-        let rows = rows.saturating_sub(first_row(&self.cells.y, zone));
-        rows.saturating_mul(columns.saturating_sub(first_column(&self.cells.x, zone)))
+        let region = region_of(&self.cells.x, &self.cells.y, zone);
+        let rows = region.bottom.saturating_sub(region.top);
+        let columns = region.right.saturating_sub(region.left);
+        rows.saturating_mul(columns)
     }
 }

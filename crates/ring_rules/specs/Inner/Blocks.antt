@@ -3,11 +3,11 @@ use Rattle.std.specs.Prelude.{◌≡◌, ℕ, ◌+◌, ◌<◌, ◌≤◌, Bool,
 use Rattle.std.specs.List.{Contains}
 use Rattle.grid_units.specs.Points.{GridPoint}
 use Rattle.pad_shapes.specs.Zones.{IsInZone}
-use Rattle.ring_rules.specs.Places.{entry_at}
+use Rattle.ring_rules.specs.Spots.{point_at}
 use Rattle.ring_rules.specs.Inner.Marks.{is_marked}
 use Rattle.ring_rules.specs.Inner.Regions.{IsInRegion, IsOnBoard, HasNoMarkIn}
 use Rattle.ring_rules.specs.declared.blocks.Block.{Block}
-use Rattle.ring_rules.specs.declared.finding.Drilled.{Drilled}
+use Rattle.ring_rules.specs.declared.spots.Spot.{Spot}
 use Rattle.ring_rules.specs.declared.axis.Axis.{Axis}
 
 -- a point in the rows and columns of a block
@@ -25,11 +25,11 @@ abbrev pub IsInAnyBlock : Axis → Axis → List Block → GridPoint → Type 0
 IsInAnyBlock x y blocks p = (b : Block) × Contains blocks b × IsInBlock x y b p
 
 -- no mark is left in a block that is closed
-abbrev pub AreClosedUnmarked : Axis → Axis → List Drilled → List Block → List Bool → List Bool → Type 0
-AreClosedUnmarked x y holes blocks open_blocks marks =
-    (i : ℕ) (b : Block) → i < length blocks → b ≡ get_or blocks i b → get_or open_blocks i false ≡ false → HasNoMarkIn x y holes b.region.top b.region.bottom b.region.left b.region.right marks
+abbrev pub AreClosedUnmarked : Axis → Axis → List Spot → List Block → List Bool → List Bool → Type 0
+AreClosedUnmarked x y spots blocks open_blocks marks =
+    (i : ℕ) (b : Block) → i < length blocks → b ≡ get_or blocks i b → get_or open_blocks i false ≡ false → HasNoMarkIn x y spots b.region.top b.region.bottom b.region.left b.region.right marks
 
 -- no mark is left in the first `count` blocks where the test passes
-abbrev pub NoMarkPassesInBlocks : (ℕ → Bool) → Axis → Axis → List Drilled → List Block → ℕ → List Bool → Type 0
-NoMarkPassesInBlocks test x y holes blocks count marks =
-    (i : ℕ) (b : Block) → i < count → i < length blocks → b ≡ get_or blocks i b → (k : ℕ) → k < length holes → IsInBlock x y b (entry_at holes k) → is_marked marks k ≡ true → test k ≡ false
+abbrev pub NoMarkPassesInBlocks : (ℕ → Bool) → Axis → Axis → List Spot → List Block → ℕ → List Bool → Type 0
+NoMarkPassesInBlocks test x y spots blocks count marks =
+    (i : ℕ) (b : Block) → i < count → i < length blocks → b ≡ get_or blocks i b → (j : ℕ) → j < length spots → IsInBlock x y b (point_at spots j) → is_marked marks j ≡ true → test j ≡ false

@@ -1,10 +1,12 @@
 -- Regions of a grid: a range of rows and a range of columns. Rows run from `top` to `bottom`, columns from `left` to `right`, ends excluded.
-use Rattle.std.specs.Prelude.{◌≡◌, ℕ, ◌+◌, ◌*◌, ◌^◌, ◌<◌, ◌≤◌, ◌≤ℤ◌, Bool, true, false, List, length, get_or}
+use Rattle.std.specs.Prelude.{◌≡◌, ℕ, ◌+◌, ◌*◌, ◌^◌, ◌<◌, ◌≤◌, ◌≤ℤ◌, Bool, true, false, List, length}
 use Rattle.grid_units.specs.Points.{GridPoint}
-use Rattle.ring_rules.specs.Places.{default_hole, entry_at, IsChained}
+use Rattle.ring_rules.specs.Places.{entry_at, IsChained}
 use Rattle.ring_rules.specs.Cells.{column_of, row_of, cell_at}
+use Rattle.ring_rules.specs.Spots.{spot_at, point_at, AreInCells}
 use Rattle.ring_rules.specs.Inner.Marks.{is_marked}
 use Rattle.ring_rules.specs.declared.finding.Drilled.{Drilled}
+use Rattle.ring_rules.specs.declared.spots.Spot.{Spot}
 use Rattle.ring_rules.specs.declared.axis.Axis.{Axis}
 
 -- a point in these rows and columns of a grid
@@ -23,23 +25,24 @@ pub record IsOnBoard (x y : Axis) (p : GridPoint) : Type 0 where
 
 -- the holes of a board are in the chains of their cells, their entry points lie on the board, and the cells are at most 2^62
 pub record IsLaidOut (x y : Axis) (head next : List ℕ) (holes : List Drilled) : Type 0 where
+  pub count : length head ≡ (y.last + 1) * (x.last + 1)
   pub chained : IsChained (cell_at x y holes) (length holes) head next
   pub ends : (k : ℕ) → k < length holes → IsOnBoard x y (entry_at holes k)
   pub fits : (y.last + 1) * (x.last + 1) ≤ 2 ^ 62
 
--- the holes are laid out, and the radius of each with the ring is at least the reach `least`, in pm
-pub record IsHoleGrid (x y : Axis) (head next : List ℕ) (holes : List Drilled) (ring least : ℕ) : Type 0 where
-  pub chained : IsChained (cell_at x y holes) (length holes) head next
-  pub ends : (k : ℕ) → k < length holes → IsOnBoard x y (entry_at holes k)
-  pub reach : (k : ℕ) → k < length holes → least ≤ (get_or holes k default_hole).hole.radius + ring
-  pub fits : (y.last + 1) * (x.last + 1) ≤ 2 ^ 62
+-- the spots are in the order of their cells, their entry points lie on the board, and the radius of each hole with the ring is at
+-- least the reach `least`, in pm
+pub record IsHoleGrid (x y : Axis) (starts : List ℕ) (spots : List Spot) (ring least : ℕ) : Type 0 where
+  pub cells : AreInCells x y starts spots
+  pub ends : (i : ℕ) → i < length spots → IsOnBoard x y (point_at spots i)
+  pub reach : (i : ℕ) → i < length spots → least ≤ (spot_at spots i).hole.radius + ring
 
 -- no mark is left in a region where the test passes
-abbrev pub NoMarkPassesIn : (ℕ → Bool) → Axis → Axis → List Drilled → ℕ → ℕ → ℕ → ℕ → List Bool → Type 0
-NoMarkPassesIn test x y holes top bottom left right marks =
-    (k : ℕ) → k < length holes → IsInRegion x y top bottom left right (entry_at holes k) → is_marked marks k ≡ true → test k ≡ false
+abbrev pub NoMarkPassesIn : (ℕ → Bool) → Axis → Axis → List Spot → ℕ → ℕ → ℕ → ℕ → List Bool → Type 0
+NoMarkPassesIn test x y spots top bottom left right marks =
+    (i : ℕ) → i < length spots → IsInRegion x y top bottom left right (point_at spots i) → is_marked marks i ≡ true → test i ≡ false
 
 -- no mark is left in a region
-abbrev pub HasNoMarkIn : Axis → Axis → List Drilled → ℕ → ℕ → ℕ → ℕ → List Bool → Type 0
-HasNoMarkIn x y holes top bottom left right marks =
-    (k : ℕ) → k < length holes → IsInRegion x y top bottom left right (entry_at holes k) → is_marked marks k ≡ false
+abbrev pub HasNoMarkIn : Axis → Axis → List Spot → ℕ → ℕ → ℕ → ℕ → List Bool → Type 0
+HasNoMarkIn x y spots top bottom left right marks =
+    (i : ℕ) → i < length spots → IsInRegion x y top bottom left right (point_at spots i) → is_marked marks i ≡ false

@@ -1,10 +1,10 @@
-use Rattle.std.proofs.Common.{ℕ, ◌+◌, ◌<◌, ◌≤◌, get_or}
-use Rattle.ring_rules.specs.Places.{default_hole}
+use Rattle.std.proofs.Common.{ℕ, ◌+◌, ◌<◌, ◌≤◌}
+use Rattle.ring_rules.specs.Spots.{spot_at}
 use Rattle.ring_rules.proofs.grid.least_reach.Given as goal
 
 -- the holes so far ask for no less
-abbrev pub invariant-loop-drilled : goal.invariant-loop-drilled
-invariant-loop-drilled l = record {
-  least : (k : ℕ) → k < l.drilled-index → l.least ≤ (get_or l.holes k default_hole).hole.radius + l.rules.ring;
+abbrev pub invariant-loop-spot : goal.invariant-loop-spot
+invariant-loop-spot l = record {
+  least : (i : ℕ) → i < l.spot-index → l.least ≤ (spot_at l.spots i).hole.radius + l.rules.ring;
   bound : l.least ≤ 15000000000000;
 }

@@ -1,4 +1,4 @@
-use Rattle.std.proofs.Common.{◌+◌, arith}
+use Rattle.std.proofs.Common.{arith}
 use Rattle.std.proofs.lemmas.Int.{ints}
 use Rattle.grid_units.specs.Points.{abs_diff}
 use Rattle.ring_rules.proofs.NearLemmas.{starts_near}

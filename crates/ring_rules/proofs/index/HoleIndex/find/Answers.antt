@@ -1,16 +1,30 @@
-use Rattle.std.proofs.Common.{ℕ, ◌+◌, List, subst, arith}
+use Rattle.std.proofs.Common.{◌≡◌, ℕ, ◌<◌, List, length, get_or, drop, sym, ap, subst, ◌∙◌}
+use Rattle.std.specs.List.{All, Contains}
+use Rattle.std.proofs.lemmas.List.{take_at}
+use Rattle.pad_shapes.specs.Zones.{IsInZone}
+use Rattle.ring_rules.specs.Spots.{spot_at}
 use Rattle.ring_rules.specs.Places.{entry_at}
-use Rattle.ring_rules.specs.Inner.FoundPlaces.{AddsPlaces}
-use Rattle.ring_rules.proofs.ZoneRowsLemmas.{in_rows}
-use Rattle.ring_rules.proofs.FoundPlaces.{all_within}
+use Rattle.ring_rules.specs.Index.{IsEntryInZone}
+use Rattle.ring_rules.specs.declared.spots.Spot.{Spot}
+use Rattle.ring_rules.proofs.FoundPlaces.{all_named, all_within}
 use Rattle.ring_rules.proofs.index.HoleIndex.find.Goals as goal
 
 pub returns-clause-all : goal.returns-clause-all
-returns-clause-all c k h z =
-    (c.in_ok-add_rows.ensures.listed k h
-    (in_rows c.args.self.now.cells.x c.args.self.now.cells.y c.first_row.result (c.last_row.result + 1) c.first_column.result (c.last_column.result + 1) (entry_at c.args.holes.now k) c.args.zone.now.bottom c.args.zone.now.top c.args.zone.now.left c.args.zone.now.right z.bottom z.top z.left z.right
-    (omega (arith, c.first_row.ensures.value)) (omega (arith, c.last_row.ensures.value)) (omega (arith, c.first_column.ensures.value)) (omega (arith, c.last_column.ensures.value)))).there z
+returns-clause-all c =
+    let places : List ℕ = c.name_places.new.found in
+    let spots : List Spot = c.args.self.now.cells.spots.items in
+    let whole = take_at c.name_places.new.found (drop (length c.name_places.new.found) c.find.new.found.items) c.find.new.found.len (c.name_places.auto.found ∙ c.deref_mut.ensures.len) in
+    let named = subst (λ (ss : List Spot). (n : ℕ) → n < length c.find.new.found.items → get_or places n 0 ≡ (spot_at ss (get_or c.find.new.found.items n 0)).place) c.deref.ensures.value
+    (subst (λ (xs : List ℕ). (n : ℕ) → n < length xs → get_or places n 0 ≡ (spot_at c.deref.result.now (get_or xs n 0)).place) c.deref_mut.ensures.value c.name_places.ensures) in
+    subst (λ (xs : List ℕ). (k : ℕ) → k < length c.args.holes.now → IsInZone c.args.zone.now (entry_at c.args.holes.now k) → Contains xs k) (sym whole)
+    (all_named spots c.args.zone.now c.args.holes.now c.requires.listed c.find.new.found.items places (c.name_places.auto.found ∙ ap length c.deref_mut.ensures.value) named c.in_ok-find.ensures.all)
 
 pub returns-clause-places : goal.returns-clause-places
 returns-clause-places c =
-    all_within c.args.holes.now c.args.zone.now c.add_rows.new.places.items (subst (λ (xs : List ℕ). AddsPlaces c.args.holes.now c.args.zone.now xs c.add_rows.new.places.items) c.clear.ensures.items c.in_ok-add_rows.ensures.adds)
+    let places : List ℕ = c.name_places.new.found in
+    let spots : List Spot = c.args.self.now.cells.spots.items in
+    let whole = take_at c.name_places.new.found (drop (length c.name_places.new.found) c.find.new.found.items) c.find.new.found.len (c.name_places.auto.found ∙ c.deref_mut.ensures.len) in
+    let named = subst (λ (ss : List Spot). (n : ℕ) → n < length c.find.new.found.items → get_or places n 0 ≡ (spot_at ss (get_or c.find.new.found.items n 0)).place) c.deref.ensures.value
+    (subst (λ (xs : List ℕ). (n : ℕ) → n < length xs → get_or places n 0 ≡ (spot_at c.deref.result.now (get_or xs n 0)).place) c.deref_mut.ensures.value c.name_places.ensures) in
+    subst (All (IsEntryInZone c.args.holes.now c.args.zone.now)) (sym whole)
+    (all_within spots c.args.zone.now c.args.holes.now c.requires.listed c.find.new.found.items places (c.name_places.auto.found ∙ ap length c.deref_mut.ensures.value) named c.in_ok-find.ensures.found)

@@ -1,0 +1,10 @@
+use Rattle.ring_rules.specs.Inner.Marks.{gives_ring_at, RemovesMarks}
+use Rattle.ring_rules.specs.Inner.Regions.{NoMarkPassesIn}
+use Rattle.ring_rules.proofs.regions.RingSearch.try_runs.Given as goal
+
+-- the rows so far are tried
+abbrev pub invariant-loop-row : goal.invariant-loop-row
+invariant-loop-row g l = record {
+  removes : RemovesMarks (gives_ring_at g.S.PadShape.covers l.self.rules.ring l.self.cells.now.spots.items l.pad) l.initial.marks l.marks;
+  tried : NoMarkPassesIn (gives_ring_at g.S.PadShape.covers l.self.rules.ring l.self.cells.now.spots.items l.pad) l.self.cells.now.x l.self.cells.now.y l.self.cells.now.spots.items l.region.top l.row l.region.left l.region.right l.marks;
+}

@@ -1,0 +1,112 @@
+//! The holes of a board in the order of their cells, so that what is near on the board is near in memory.
+
+ghost use Rattle.std.specs.Prelude.{◌≡◌, ℕ, [], ◌∷◌, ◌+◌, ◌*◌, ◌<◌, ◌≤◌, IfOk, OnOk, length};
+ghost use Rattle.ring_rules.specs.Places.{IsChained};
+ghost use Rattle.ring_rules.specs.Cells.{cell_of, cell_at};
+ghost use Rattle.ring_rules.specs.Spots.{point_at, HasSpot, AreInCells};
+ghost use Rattle.ring_rules.specs.Inner.Regions.{IsInRegion, IsLaidOut};
+ghost use Rattle.ring_rules.specs.Inner.SpotLists.{AddsSpots, AreSpotted, IsSpotted};
+
+use crate::axis::Axis;
+use crate::cells::{Chains, link_at};
+use crate::finding::Drilled;
+use grid_units::Hole;
+use std::alloc::{AllocError, Global};
+
+/// A hole, and its place in the list.
+#[derive(Clone, Copy)]
+pub(crate) struct Spot {
+    pub hole: Hole,
+    pub place: usize,
+}
+
+/// The holes of a board in the order of their cells. Those of a cell begin at its start, and end at that of the next one.
+#[derive(Drop)]
+pub(crate) struct Cells {
+    pub x: Axis,
+    pub y: Axis,
+    pub starts: Vec<usize>,
+    pub spots: Vec<Spot>,
+}
+
+/// Spots that follow each other, from `start` to `end`, the end excluded.
+#[derive(Clone, Copy)]
+pub(crate) struct Run {
+    pub start: usize,
+    pub end: usize,
+}
+
+impl Cells {
+    /// The spots of a row, in columns from `left` to `right`, end excluded.
+    pub(crate) fn run(&self, row: usize, left: usize, right: usize) -> Run
+        requires cells { AreInCells self.now.x self.now.y self.now.starts.items self.now.spots.items }
+        requires row { row ≤ self.now.y.last }
+        requires left { left ≤ self.now.x.last + 1 }
+        requires right { right ≤ self.now.x.last + 1 }
+        ensures within { result.end ≤ length self.now.spots.items }
+        ensures holds { (i : ℕ) → i < length self.now.spots.items → IsInRegion self.now.x self.now.y row (row + 1) left right (point_at self.now.spots.items i) → (result.start ≤ i) × (i < result.end) }
+    {
+        let first = row * (self.x.last + 1);
+        Run {
+            start: self.starts[first + left],
+            end: self.starts[first + right],
+        }
+    }
+}
+
+/// Appends the spots of a cell, along its chain.
+fn push_cell(
+    chains: &Chains,
+    holes: &[Drilled],
+    cell: usize,
+    spots: &mut Vec<Spot>,
+) -> Result<(), AllocError>
+    requires { IsChained (cell_at chains.now.x chains.now.y holes.now) (length holes.now) chains.now.head.items chains.now.next.items }
+    ensures adds { OnOk result (AddsSpots (cell_of chains.now.x chains.now.y) holes.now cell spots.old.items spots.new.items) }
+    ensures all { OnOk result ((k : ℕ) → k < length holes.now → cell_at chains.now.x chains.now.y holes.now k ≡ cell → HasSpot spots.new.items k) }
+{
+    let mut link = link_at(&chains.head, cell);
+    while link > 0 {
+        let place = link - 1;
+        let hole = holes[place].hole;
+        spots.push(Spot { hole, place })?;
+        link = link_at(&chains.next, place);
+    }
+    Ok(())
+}
+
+/// Appends the spots of all cells, and the start of the cell after each.
+fn push_cells(
+    chains: &Chains,
+    holes: &[Drilled],
+    starts: &mut Vec<usize>,
+    spots: &mut Vec<Spot>,
+) -> Result<(), AllocError>
+    requires chained { IsChained (cell_at chains.now.x chains.now.y holes.now) (length holes.now) chains.now.head.items chains.now.next.items }
+    requires starts { starts.old.items ≡ 0 ∷ [] }
+    requires spots { spots.old.items ≡ [] }
+    ensures { OnOk result (AreSpotted (cell_of chains.now.x chains.now.y) holes.now (length chains.now.head.items) starts.new.items spots.new.items) }
+{
+    for cell in 0..chains.head.len() {
+        push_cell(chains, holes, cell, spots)?;
+        starts.push(spots.len())?;
+    }
+    Ok(())
+}
+
+/// The holes of chains in the order of their cells.
+pub(crate) fn spotted(alloc: Global, chains: Chains, holes: &[Drilled]) -> Result<Cells, AllocError>
+    requires { IsLaidOut chains.x chains.y chains.head.items chains.next.items holes.now }
+    ensures { IfOk result (λ cells. IsSpotted cells.x cells.y cells.starts.items cells.spots.items holes.now) }
+{
+    let mut starts = Vec::with_capacity(alloc, chains.head.len() + 1)?;
+    let mut spots = Vec::with_capacity(alloc, holes.len())?;
+    starts.push(0)?;
+    push_cells(&chains, holes, &mut starts, &mut spots)?;
+    Ok(Cells {
+        x: chains.x,
+        y: chains.y,
+        starts,
+        spots,
+    })
+}
