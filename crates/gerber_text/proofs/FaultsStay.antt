@@ -10,7 +10,7 @@ use Rattle.grid_units.specs.declared.fault.Reason.TheVariants.{TooLong}
 use Rattle.grid_units.specs.Results.{◌>>=◌, fault}
 use Rattle.grid_units.proofs.ResultLemmas.{bind_err, guard_err}
 use Rattle.gerber_text.specs.Cut.{OffsetByte, offset_bytes, offset_bytes_from, Splits}
-use Rattle.gerber_text.specs.Reading.{Entries, commands_from, shown, Shows, SpellsPrefix, SpellsBeforeFault}
+use Rattle.gerber_text.specs.Reading.{Entries, commands_from, shown, Shows, SpellsPrefix}
 use Rattle.gerber_text.specs.Holding.{FailsOnBytes, FailsWith}
 use Rattle.gerber_text.proofs.OffsetByteLemmas.{offset_bytes-append}
 use Rattle.gerber_text.proofs.ShowsLemmas.{stops_stay}

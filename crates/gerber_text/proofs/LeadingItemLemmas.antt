@@ -6,7 +6,7 @@ use Rattle.std.proofs.lemmas.List.{get_or-take, length-take}
 use Rattle.std.proofs.lemmas.List.Elements.{All-from_get_or, recursion_from_All}
 use Rattle.std.proofs.lemmas.Grind.{take_at_read}
 use Rattle.memchr.specs.Find.{Nowhere, Passes, is_byte3}
-use Rattle.gerber_text.specs.Items.{is_line_break, end_byte, IsUnfinished, IsItem}
+use Rattle.gerber_text.specs.Items.{is_line_break, end_byte, IsUnfinished}
 use Rattle.gerber_text.specs.Inner.Bytes.{IsInside, HasLeadingItem}
 use Rattle.gerber_text.proofs.ReaderStepLemmas.{run_inside, run_kept, ender_stays}
 

@@ -10,7 +10,7 @@ use Rattle.grid_units.specs.declared.fault.Reason.TheVariants.{BadNumber, TooMan
 use Rattle.grid_units.specs.Numbers.{is_digit, is_digits, is_number_char, value, without_sign, signed, parse_decimal, max_units}
 use Rattle.grid_units.specs.Spellings.{minus, decimals, fraction_text, canonical, places}
 use Rattle.grid_units.proofs.TrailingZeros.{length-places}
-use Rattle.grid_units.proofs.SpellingsLemmas.{IsSpelling, spells_decimal, digits-places, trims, canonical_reads, digit_number, minus_numbers, minus_short}
+use Rattle.grid_units.proofs.SpellingsLemmas.{IsSpelling, spells_decimal, digits-places, trims, canonical_reads, minus_numbers, minus_short}
 use Rattle.gerber_commands.specs.Numbers.{significant_digits, int_of, nat_of}
 use Rattle.gerber_commands.specs.Canonical.{integer}
 use Rattle.gerber_text.specs.Sayable.{is_text_byte, is_text, is_nat, is_int, is_dec}

@@ -1,5 +1,5 @@
 -- Bytes after a text, with their offsets.
-use Rattle.std.proofs.Common.{◌≡◌, ℕ, suc, ◌+◌, ◌<◌, true, false, cond, not, List, [], ◌∷◌, ◌++◌, length, refl, sym, ap, ◌∙◌, arith, add-zero}
+use Rattle.std.proofs.Common.{◌≡◌, ℕ, suc, ◌+◌, ◌<◌, true, false, cond, not, List, [], ◌∷◌, ◌++◌, length, refl, sym, ap, ◌∙◌, arith, add-zero, append_assoc}
 use Rattle.std.specs.List.{enumerate_from, filter, AllByRecursion}
 use Rattle.std.proofs.lemmas.List.{append-nil}
 use Rattle.std.proofs.lemmas.List.Elements.{filter-append}
@@ -24,6 +24,11 @@ pub offset_bytes-break : (text : List ℕ) (b : ℕ) → is_line_break b ≡ tru
 offset_bytes-break text b h =
     let none : offset_bytes_from (length text) (b ∷ []) ≡ [] = ap (λ t. cond (not t) ((length text, b) ∷ []) []) h in
     offset_bytes-append text (b ∷ []) ∙ (ap (λ (x : List OffsetByte). offset_bytes text ++ x) none ∙ append-nil (offset_bytes text))
+
+-- line breaks after a text add nothing
+pub offset_bytes-breaks : (text run : List ℕ) → AllByRecursion (λ b. is_line_break b ≡ true) run → offset_bytes (text ++ run) ≡ offset_bytes text
+offset_bytes-breaks text [] h = ap offset_bytes (append-nil text)
+offset_bytes-breaks text (b ∷ run) h = ap offset_bytes (sym (append_assoc text (b ∷ []) run)) ∙ (offset_bytes-breaks (text ++ b ∷ []) run h.1 ∙ offset_bytes-break text b h.0)
 
 -- bytes without line breaks are all kept
 pub offset_bytes_from-kept : (n : ℕ) (run : List ℕ) → AllByRecursion (λ b. is_line_break b ≡ false) run → offset_bytes_from n run ≡ enumerate_from n run

@@ -8,10 +8,9 @@ use Rattle.std.proofs.lemmas.List.{length-append, length-drop, length-take, take
 use Rattle.std.proofs.lemmas.List.Splits.{join_with_byte-slice_split}
 use Rattle.std.proofs.lemmas.Bool.{le-leb, leb-true, ltb-true, ltb-false, eqb-true}
 use Rattle.std.proofs.lemmas.Bool.Decides.{nat_tests}
-use Rattle.grid_units.specs.declared.fault.Reason.{Reason}
 use Rattle.grid_units.specs.declared.fault.Reason.TheVariants.{SeveralInOne, ClearPolarity, BlockAperture, NegativeImage, TrailingZeros, Incremental, OldParameter, BadWord, BadNumber}
 use Rattle.grid_units.specs.declared.lengths.Unit.TheVariants.{Inch, Millimetre}
-use Rattle.grid_units.specs.Results.{◌>>=◌, both}
+use Rattle.grid_units.specs.Results.{both}
 use Rattle.grid_units.specs.Numbers.{is_digit, is_number_char, parse_decimal}
 use Rattle.grid_units.proofs.ResultLemmas.{bind_ok, both_ok}
 use Rattle.gerber_commands.specs.declared.command.Command.TheVariants.{UnitIs, FormatIs, Define, Macro, Dark, Mirror, Turn, Scale, Repeat, RepeatEnd, Attribute, Remove}

@@ -1,11 +1,19 @@
 -- The last operation, after more commands.
-use Rattle.std.proofs.Common.{◌≡◌, Bool, false, ◌++◌, unwrap_or, sym, ap, ◌∙◌}
+use Rattle.std.proofs.Common.{◌≡◌, ℕ, Bool, false, [], ◌∷◌, ◌++◌, Option, None, Some, unwrap_or, refl, sym, ap, ◌∙◌}
 use Rattle.grid_units.specs.Lists.{last_set}
-use Rattle.grid_units.proofs.LookbackLemmas.{last_or-append}
+use Rattle.grid_units.proofs.LookbackLemmas.{last_or-append, option_or_none}
 use Rattle.gerber_commands.specs.declared.command.Command.{Command}
-use Rattle.gerber_text.specs.Reading.{Entries, plot_of, is_plotting}
+use Rattle.gerber_commands.specs.declared.command.Interpolation.{Interpolation}
+use Rattle.gerber_commands.specs.Rows.{modes_of}
+use Rattle.gerber_text.specs.declared.placed.Placed.{Placed}
+use Rattle.gerber_text.specs.Reading.{Entries, plot_of, placed, is_plotting}
 
 -- after more commands, whose last operation is that of this one
 pub plots_on : (before after added : Entries) (what : Command) (old new : Bool) → after ≡ before ++ added → last_set (λ entry. plot_of entry.what) added ≡ plot_of what → old ≡ is_plotting before → new ≡ unwrap_or (plot_of what) old → new ≡ is_plotting after
 plots_on before after added what old new items last held is =
     is ∙ ap (unwrap_or (plot_of what)) held ∙ ap (λ o. unwrap_or o (is_plotting before)) (sym last) ∙ sym (last_or-append (λ entry. plot_of entry.what) false before added) ∙ ap is_plotting (sym items)
+
+-- among the commands of an operation's item, it is the last operation
+pub last_operation : (place byte : ℕ) (mode : Option Interpolation) (what : Command) → last_set (λ (entry : Placed Command). plot_of entry.what) (placed place byte (modes_of mode ++ what ∷ [])) ≡ plot_of what
+last_operation place byte None what = refl
+last_operation place byte (Some mode) what = option_or_none (plot_of what)

@@ -1,7 +1,8 @@
 -- What a text shows as it goes on: commands that stay, and the first fault, which stays too.
-use Rattle.std.proofs.Common.{◌≡◌, ◌≢◌, ℕ, zero, suc, ◌+◌, ◌<◌, ◌≤◌, ◌⊎◌, inl, inr, Bool, true, false, cond, eqb, ltb, not, ◌||◌, List, [], ◌∷◌, ◌++◌, length, take, drop, get_or, Result, Ok, Err, refl, sym, ap, subst, ◌∙◌, arith, append_assoc}
+use Rattle.std.proofs.Common.{◌≡◌, ◌≢◌, ℕ, zero, suc, ◌+◌, ◌-◌, ◌<◌, ◌≤◌, ◌⊎◌, inl, inr, Bool, true, false, cond, eqb, ltb, not, ◌||◌, List, [], ◌∷◌, ◌++◌, length, take, drop, get_or, Result, Ok, Err, refl, sym, ap, subst, ◌∙◌, arith, append_assoc}
 use Rattle.std.specs.List.{AllByRecursion}
-use Rattle.std.proofs.lemmas.List.{append-nil, length-append, length-map, take-append-drop, take-append-le, take_all}
+use Rattle.std.proofs.lemmas.List.{append-nil, length-append, length-map, take-append-drop, take-append-le, take_all, take_rest}
+use Rattle.std.proofs.Math.Seq.{take-add}
 use Rattle.std.proofs.lemmas.Bool.{eqb-true, eqb-false, lt-ltb, le-ltb, ltb-true, ltb-false, false≢true}
 use Rattle.grid_units.specs.declared.fault.Fault.{Fault}
 use Rattle.grid_units.specs.declared.fault.Fail.{Fail}
@@ -244,6 +245,14 @@ Refuses-longer old left xs ys e h = λ gone text holds.
 
 pub Advances-then : (a b c : Progress) (xs ys : List ℕ) → Advances a b xs → Advances b c ys → Advances a c (xs ++ ys)
 Advances-then a b c xs ys h k = λ gone text holds. subst (Holds c gone) (append_assoc text xs ys) (k gone (text ++ xs) (h gone text holds))
+
+-- some bytes after a text, and some of those that follow
+pub two_takes : (text bytes : List ℕ) (n k : ℕ) → (text ++ take n bytes) ++ take k (take (length bytes - n) (drop n bytes)) ≡ text ++ take (n + k) bytes
+two_takes text bytes n k = ap (λ (x : List ℕ). (text ++ take n bytes) ++ take k x) (take_rest bytes n) ∙ (append_assoc text (take n bytes) (take k (drop n bytes)) ∙ ap (λ (x : List ℕ). text ++ x) (sym (take-add n k bytes)))
+
+-- a step over the first bytes, and one over some of those that follow
+pub Advances-both : (a b c : Progress) (bytes : List ℕ) (n k : ℕ) → Advances a b (take n bytes) → Advances b c (take k (take (length bytes - n) (drop n bytes))) → Advances a c (take (n + k) bytes)
+Advances-both a b c bytes n k first more = λ gone text holds. subst (Holds c gone) (two_takes text bytes n k) (more gone (text ++ take n bytes) (first gone text holds))
 
 pub Refuses-then : (a b : Progress) (left : Entries) (xs ys : List ℕ) (e : Fail) → Advances a b xs → Refuses b left ys e → Refuses a left (xs ++ ys) e
 Refuses-then a b left xs ys e h k = λ gone text holds. subst (λ (x : List ℕ). FailsOnBytes (offset_bytes x) (gone ++ left) e) (append_assoc text xs ys) (k gone (text ++ xs) (h gone text holds))

@@ -1,5 +1,5 @@
 -- Each text is cut into items and a rest, so it shows something, and has a reading.
-use Rattle.std.proofs.Common.{◌≡◌, ◌↔◌, ℕ, List, [], ◌∷◌, ◌++◌, length, take, eqb, Result, Ok, Err, refl, sym, subst, append_assoc}
+use Rattle.std.proofs.Common.{◌↔◌, ℕ, List, [], ◌∷◌, ◌++◌, length, take, eqb, Result, Ok, refl, sym, subst, append_assoc}
 use Rattle.std.proofs.lemmas.List.{append-nil}
 use Rattle.grid_units.specs.declared.fault.Fault.{Fault}
 use Rattle.gerber_text.specs.Items.{end_byte}

@@ -3,11 +3,14 @@ use Rattle.std.specs.Prelude.{◌≡◌, ℕ, ◌<◌, ◌≤◌, Bool, true, fa
 use Rattle.std.specs.List.{AllByRecursion}
 use Rattle.grid_units.specs.Numbers.{is_number_char}
 use Rattle.gerber_commands.specs.declared.command.Command.{Command}
+use Rattle.gerber_commands.specs.declared.command.Command.TheVariants.{Operate}
 use Rattle.gerber_commands.specs.declared.command.Interpolation.{Interpolation}
 use Rattle.gerber_commands.specs.declared.command.Interpolation.TheVariants.{Linear, Clockwise, Counterclockwise}
 use Rattle.gerber_text.specs.Items.{is_line_break, IsItem, is_end_item}
 use Rattle.gerber_text.specs.Meaning.{meaning}
 use Rattle.gerber_commands.specs.Numbers.{int_of}
+use Rattle.gerber_commands.specs.Rows.{modes_of}
+use Rattle.gerber_text.specs.declared.fast_path.LeadingOperation.{LeadingOperation}
 use Rattle.gerber_words.specs.Words.{coordinate}
 
 -- The bytes begin with an item of this length, at most 64, without line breaks and not the end of the text. Whatever stands
@@ -48,3 +51,7 @@ pub record HasLeadingCoordinate (letter : ℕ) (bytes : List ℕ) (value : Optio
   pub numbers : IfSome run (AllByRecursion (λ b. is_number_char b ≡ true))
   pub short : length (coordinate_field letter run) ≤ 14
   pub value_is : coordinate run ≡ Ok value
+
+-- the interpolation before an operation, if there is one, and the operation
+abbrev pub operation_commands : LeadingOperation → List Command
+operation_commands found = modes_of found.mode ++ Operate found.action found.x found.y found.i found.j ∷ []

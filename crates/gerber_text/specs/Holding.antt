@@ -6,8 +6,10 @@ use Rattle.grid_units.specs.declared.fault.Fail.{Fail}
 use Rattle.grid_units.specs.declared.fault.Fail.TheVariants as fails
 use Rattle.gerber_text.specs.declared.reader.Progress.{Progress}
 use Rattle.gerber_text.specs.declared.reader.WordReader.{WordReader}
+use Rattle.gerber_text.specs.declared.placed.PassedOperation.{PassedOperation}
+use Rattle.gerber_text.specs.FastPath.{operation_commands}
 use Rattle.gerber_text.specs.Cut.{OffsetByte, offset_bytes, bytes_of, first_offset, has_end, Splits}
-use Rattle.gerber_text.specs.Reading.{Entries, commands_from, shown, Shows, Reads, SpellsBeforeFault, is_plotting}
+use Rattle.gerber_text.specs.Reading.{Entries, placed, commands_from, shown, Shows, Reads, SpellsBeforeFault, is_plotting}
 
 -- The text is cut into items, which spell the commands that are gone and those that the reader holds, and into a rest,
 -- whose bytes are the unfinished item.
@@ -82,3 +84,7 @@ pub record FailedAfterDrop (reader : WordReader) (gone : Entries) (text : List �
 -- The reader has failed within this text, with this failure, and holds all commands before it.
 abbrev pub HasFailed : WordReader → List ℕ → Fail → Type 0
 HasFailed reader text e = FailedAfterDrop reader [] text e
+
+-- the commands of an operation that a reader has passed, each with the number of the item and the offset of its first byte
+abbrev pub passed_entries : PassedOperation → Entries
+passed_entries passed = placed passed.place passed.byte (operation_commands passed.operation)

@@ -23,7 +23,7 @@ pub use item::{end_byte, is_end_item, is_ended, read_item};
 pub use laws::{
     canonical_items, exact_texts, sayable_texts, spelled_commands, unique_reading, written_texts,
 };
-pub use placed::Placed;
+pub use placed::{PassedOperation, Placed};
 pub use reader::{Kept, WordReader, read_kept, read_words};
 pub use sayable_items::is_sayable;
 pub use sayable_lists::sayable;

@@ -5,14 +5,14 @@ ghost use Rattle.std.specs.List.{list_all};
 ghost use Rattle.grid_units.specs.declared.fault.Fail.TheVariants.{Refused};
 ghost use Rattle.grid_units.specs.Limits.{item_limit, text_limit};
 ghost use Rattle.grid_units.specs.Results.{fault, Answers};
-ghost use Rattle.gerber_text.specs.Items.{end_byte, IsEnded};
+ghost use Rattle.gerber_text.specs.Items.{end_byte, is_line_break, IsEnded};
 ghost use Rattle.gerber_commands.specs.Rows.{modes_of};
 ghost use Rattle.gerber_commands.specs.declared.command.Command.TheVariants.{Mode};
 ghost use Rattle.gerber_text.specs.Reading.{Entries, Shows, spelled, placed, ResultsIn, plot_of, is_plotting, Reads, SpellsText, ReadsUpToFault, SpellsBeforeFault, entries_of, entries_after, is_blank};
 ghost use Rattle.gerber_text.specs.Inner.Bytes.{IsInside, HasLeadingItem, may_follow_end};
 ghost use Rattle.gerber_text.specs.Writing.{without_places, sayable};
 
-use crate::placed::Placed;
+use crate::placed::{PassedOperation, Placed};
 use crate::{
     Command, Interpolation, ItemCommands, LeadingOperation, end_byte, is_end_item, is_plot,
     leading_operation, read_item,
@@ -45,6 +45,20 @@ fn is_break(byte: u8) -> bool
     ensures { result ≡ ((byte == 10) || (byte == 13)) }
 {
     byte == b'\n' || byte == b'\r'
+}
+
+/// How many of the first bytes are line breaks.
+fn breaks_len(bytes: &[u8]) -> usize
+    ensures within { result ≤ length bytes.now }
+    ensures breaks { All (λ b. is_line_break b ≡ true) (take result bytes.now) }
+    ensures some { 0 < length bytes.now → is_line_break (slice_index bytes.now 0) ≡ true → 0 < result }
+{
+    for (i, byte) in bytes.iter().enumerate() {
+        if !is_break(*byte) {
+            return i;
+        }
+    }
+    bytes.len()
 }
 
 /// Whether the byte may stand after the end of the text.
@@ -231,10 +245,8 @@ fn parse_item(
 
 impl Progress {
     ghost use Rattle.std.specs.Prelude.{[], ◌∷◌, List, None};
-    ghost use Rattle.gerber_text.specs.Items.{is_line_break, end_byte};
-    ghost use Rattle.gerber_text.specs.FastPath.{HasLeadingOperation};
-    ghost use Rattle.gerber_commands.specs.declared.command.Command.TheVariants.{Operate};
-    ghost use Rattle.gerber_text.specs.Holding.{Advances, Refuses, RefusesText, Holds, Ends};
+    ghost use Rattle.gerber_text.specs.FastPath.{HasLeadingOperation, operation_commands};
+    ghost use Rattle.gerber_text.specs.Holding.{Advances, Refuses, RefusesText, Holds, Ends, passed_entries};
     ghost use Rattle.grid_units.specs.Results.{AnswersAlways};
 
     /// The refusal of the next item, for this reason.
@@ -267,21 +279,39 @@ impl Progress {
         }
     }
 
-    /// Passes a CR or LF, which is dropped.
-    fn skip_break(&mut self, byte: u8)
-        requires dropped { is_line_break byte ≡ true }
-        requires room { self.old.offset < text_limit }
-        ensures offset { self.new.offset ≡ self.old.offset + 1 }
-        ensures ok { Advances self.old self.new (byte ∷ []) }
+    /// Passes the line breaks at the start of these bytes, which are dropped, and returns how many these are.
+    fn skip_breaks(&mut self, bytes: &[u8]) -> usize
+        requires room { self.old.offset + length bytes.now ≤ text_limit }
+        ensures within { result ≤ length bytes.now }
+        ensures some { 0 < length bytes.now → is_line_break (slice_index bytes.now 0) ≡ true → 0 < result }
+        ensures offset { self.new.offset ≡ self.old.offset + result }
+        ensures held { self.new.commands.items ≡ self.old.commands.items }
+        ensures ok { Advances self.old self.new (take result bytes.now) }
     {
-        self.offset += 1;
+        let len = breaks_len(bytes);
+        self.offset += len as u64;
+        len
+    }
+
+    /// The plain operation at the start of these bytes, if one stands there and no other item has begun.
+    // Most items are operations: inlined, their fields are not stored on the way.
+    #[inline(always)]
+    fn operation(&self, bytes: &[u8]) -> Option<LeadingOperation>
+        ensures running { IfSome result (λ found. self.now.ended ≡ false) }
+        ensures fresh { IfSome result (λ found. vec_len self.now.item ≡ 0) }
+        ensures begins { IfSome result (λ found. HasLeadingOperation bytes.now found.len (operation_commands found)) }
+    {
+        if self.ended || !self.item.is_empty() {
+            return None;
+        }
+        leading_operation(bytes)
     }
 
     /// Takes the item of an operation that is written plainly.
     fn operate(&mut self, bytes: &[u8], operation: LeadingOperation) -> Result<(), Fail>
         requires running { self.old.ended ≡ false }
         requires fresh { vec_len self.old.item ≡ 0 }
-        requires begins { HasLeadingOperation bytes.now operation.len (modes_of operation.mode ++ Operate operation.action operation.x operation.y operation.i operation.j ∷ []) }
+        requires begins { HasLeadingOperation bytes.now operation.len (operation_commands operation) }
         requires room { self.old.offset + length bytes.now ≤ text_limit }
         ensures offset { OnOk result (self.new.offset ≡ self.old.offset + operation.len) }
         ensures ok { OnOk result (Advances self.old self.new (take operation.len bytes.now)) }
@@ -311,30 +341,49 @@ impl Progress {
         Ok(())
     }
 
-    /// Takes the plain operation at the start of these bytes, if there is one; else the item, if it stands there
-    /// whole; else one byte. Returns how many bytes it took.
-    fn start(&mut self, bytes: &[u8]) -> Result<usize, Fail>
+    /// Counts the item of an operation that is written plainly. Its commands are not held.
+    fn count_operation(&mut self, bytes: &[u8], operation: &LeadingOperation)
         requires running { self.old.ended ≡ false }
         requires fresh { vec_len self.old.item ≡ 0 }
-        requires some { 0 < length bytes.now }
-        requires inside { IsInside 42 (slice_index bytes.now 0) }
+        requires begins { HasLeadingOperation bytes.now operation.now.len (operation_commands operation.now) }
         requires room { self.old.offset + length bytes.now ≤ text_limit }
-        ensures taken { IfOk result (λ n. (0 < n) × (n ≤ length bytes.now) × (self.new.offset ≡ self.old.offset + n)) }
-        ensures ok { IfOk result (λ n. Advances self.old self.new (take n bytes.now)) }
-        ensures err { IfErr result (Refuses self.old self.new.commands.items bytes.now) }
+        ensures offset { self.new.offset ≡ self.old.offset + operation.now.len }
+        ensures held { self.new.commands.items ≡ self.old.commands.items }
+        ensures ok { self.old.commands.items ≡ [] → (gone : Entries) (text : List ℕ) → Holds self.old gone text → Holds self.new (gone ++ placed (self.old.items + 1) self.old.offset (operation_commands operation.now)) (text ++ take operation.now.len bytes.now) }
     {
-        match leading_operation(bytes) {
-            Some(operation) => {
-                let len = operation.len;
-                self.operate(bytes, operation)?;
-                Ok(len)
-            }
-            None => self.start_item(bytes),
-        }
+        self.plotting = is_plot(operation.action);
+        self.items += 1;
+        self.offset += operation.len as u64;
     }
 
-    /// Takes the item at the start of these bytes, if it stands there whole, else its first byte. Returns how many
-    /// bytes it took.
+    /// Passes the plain operation at the start of these bytes and the line breaks after it, if one stands there. Its
+    /// commands are not held.
+    // Most items are operations: inlined, their fields are not stored on the way.
+    #[inline(always)]
+    fn pass_operation(&mut self, bytes: &[u8]) -> Option<PassedOperation>
+        ensures within { IfSome result (λ passed. (0 < passed.len) × (passed.len ≤ length bytes.now)) }
+        ensures held { self.new.commands.items ≡ self.old.commands.items }
+        ensures some { self.old.commands.items ≡ [] → (gone : Entries) (text : List ℕ) → Holds self.old gone text → IfSome result (λ passed. Holds self.new (gone ++ passed_entries passed) (text ++ take passed.len bytes.now)) }
+        ensures none { IfNone result (self.new ≡ self.old) }
+    {
+        if bytes.len() as u64 > TEXT_LIMIT - self.offset {
+            return None;
+        }
+        let operation = self.operation(bytes)?;
+        let item_len = operation.len;
+        let (place, byte) = (self.items + 1, self.offset);
+        self.count_operation(bytes, &operation);
+        let len = item_len + self.skip_breaks(&bytes[item_len..]);
+        Some(PassedOperation {
+            operation,
+            place,
+            byte,
+            len,
+        })
+    }
+
+    /// Takes the item at the start of these bytes and the line breaks after it, if it stands there whole, else its first
+    /// byte. Returns how many bytes it took.
     fn start_item(&mut self, bytes: &[u8]) -> Result<usize, Fail>
         requires running { self.old.ended ≡ false }
         requires fresh { vec_len self.old.item ≡ 0 }
@@ -348,7 +397,7 @@ impl Progress {
         match item_len(bytes) {
             Some(len) => {
                 self.take_item(bytes, len)?;
-                Ok(len)
+                Ok(len + self.skip_breaks(&bytes[len..]))
             }
             None => {
                 self.begin(bytes[0])?;
@@ -479,17 +528,35 @@ impl Progress {
             self.skip_trailing(bytes)?;
             Ok(bytes.len())
         } else if is_break(first) {
-            self.skip_break(first);
-            Ok(1)
+            Ok(self.skip_breaks(bytes))
         } else if first == end {
             self.close(first)?;
             Ok(1)
         } else if self.item.is_empty() {
-            self.start(bytes)
+            self.start_item(bytes)
         } else {
             let run = &bytes[..inside_len(bytes, end)];
             self.extend(run)?;
             Ok(run.len())
+        }
+    }
+
+    /// Takes the plain operation at the start of these bytes and the line breaks after it, if one stands there, else
+    /// some of the bytes. Returns how many bytes it took.
+    fn take_leading(&mut self, bytes: &[u8]) -> Result<usize, Fail>
+        requires some { 0 < length bytes.now }
+        requires room { self.old.offset + length bytes.now ≤ text_limit }
+        ensures taken { IfOk result (λ n. (0 < n) × (n ≤ length bytes.now) × (self.new.offset ≡ self.old.offset + n)) }
+        ensures ok { IfOk result (λ n. Advances self.old self.new (take n bytes.now)) }
+        ensures err { IfErr result (Refuses self.old self.new.commands.items bytes.now) }
+    {
+        match self.operation(bytes) {
+            Some(operation) => {
+                let len = operation.len;
+                self.operate(bytes, operation)?;
+                Ok(len + self.skip_breaks(&bytes[len..]))
+            }
+            None => self.take_some(bytes),
         }
     }
 
@@ -502,7 +569,7 @@ impl Progress {
     {
         let mut taken = 0;
         while taken < bytes.len() {
-            taken += self.take_some(&bytes[taken..])?;
+            taken += self.take_leading(&bytes[taken..])?;
         }
         Ok(())
     }
@@ -518,6 +585,20 @@ impl Progress {
         }
         self.take_all(&piece[..room])?;
         Err(self.refuse(TEXT_LIMIT, Reason::TooLong))
+    }
+
+    /// Takes some of the next piece of the text, from its first byte on, and returns how many bytes.
+    fn take_part(&mut self, piece: &[u8]) -> Result<usize, Fail>
+        requires some { 0 < length piece.now }
+        ensures taken { IfOk result (λ n. (0 < n) × (n ≤ length piece.now)) }
+        ensures ok { IfOk result (λ n. Advances self.old self.new (take n piece.now)) }
+        ensures err { IfErr result (RefusesText self.old self.new.commands.items piece.now) }
+    {
+        if piece.len() as u64 <= TEXT_LIMIT - self.offset {
+            return self.take_some(piece);
+        }
+        self.take(piece)?;
+        Ok(piece.len())
     }
 
     /// The offset at which the text is Truncated: that of the unfinished item, or the text's length.
@@ -565,7 +646,7 @@ impl WordReader {
     ghost use Rattle.grid_units.specs.declared.fault.Fail.{Fail as TheFail};
     ghost use Rattle.grid_units.specs.Results.{AnswersAlways};
     ghost use Rattle.gerber_text.specs.Reading.{Shows, Reads, ReadsUpToFault};
-    ghost use Rattle.gerber_text.specs.Holding.{StandsAfter, StandsAfterDrop, HasFailed, FailedAfterDrop, failure, held};
+    ghost use Rattle.gerber_text.specs.Holding.{StandsAfter, StandsAfterDrop, HasFailed, FailedAfterDrop, failure, held, passed_entries};
 
     /// A reader that has read nothing.
     pub fn new(alloc: Global) -> WordReader
@@ -603,6 +684,44 @@ impl WordReader {
             return Err(fail);
         }
         let outcome = self.progress.take(piece);
+        if let Err(fail) = outcome {
+            self.failed = Some(fail);
+        }
+        outcome
+    }
+
+    /// Passes the plain operation at the start of these bytes, as `X10Y20D03*`, and the line breaks after it, if one
+    /// stands there and no other item has begun. Its commands go to the caller: the reader does not hold them.
+    // Most items are operations: inlined, their fields are not stored on the way.
+    #[inline(always)]
+    pub fn pass_operation(&mut self, bytes: &[u8]) -> Option<PassedOperation>
+        ensures within { IfSome result (λ passed. (0 < passed.len) × (passed.len ≤ length bytes.now)) }
+        ensures held { held self.new ≡ held self.old }
+        ensures some { held self.old ≡ [] → (gone : Entries) (text : List ℕ) → StandsAfterDrop self.old gone text → IfSome result (λ passed. StandsAfterDrop self.new (gone ++ passed_entries passed) (text ++ take passed.len bytes.now)) }
+        ensures none { IfNone result (self.new ≡ self.old) }
+        ensures failed { failure self.new ≡ failure self.old }
+    {
+        self.progress.pass_operation(bytes)
+    }
+
+    /// Takes some of the next piece of the text, from its first byte on: an item, a part of one or line breaks. Returns
+    /// how many bytes it took.
+    ///
+    /// # Errors
+    ///
+    /// As [`WordReader::feed`].
+    pub fn feed_part(&mut self, piece: &[u8]) -> Result<usize, Fail>
+        requires { 0 < length piece.now }
+        ensures taken { IfOk result (λ n. (0 < n) × (n ≤ length piece.now)) }
+        ensures ok { (gone : Entries) (text : List ℕ) → StandsAfterDrop self.old gone text → IfOk result (λ n. StandsAfterDrop self.new gone (text ++ take n piece.now)) }
+        ensures err { (gone : Entries) (text : List ℕ) → StandsAfterDrop self.old gone text → IfErr result (FailedAfterDrop self.new gone (text ++ piece.now)) }
+        ensures failed { IfSome (failure self.old) (λ e. (result ≡ Err e) × (self.new ≡ self.old)) }
+        ensures fails { IfErr result (λ e. failure self.new ≡ Some e) }
+    {
+        if let Some(fail) = self.failed {
+            return Err(fail);
+        }
+        let outcome = self.progress.take_part(piece);
         if let Err(fail) = outcome {
             self.failed = Some(fail);
         }

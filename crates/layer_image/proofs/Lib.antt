@@ -11,6 +11,7 @@ pub mod Reading
 pub mod UniqueReading
 pub mod Pieces
 pub mod FastOperations
+pub mod OperationScans
 pub mod FaultReasons
 pub mod ReadingExists
 pub mod LegalPads

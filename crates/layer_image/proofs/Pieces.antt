@@ -1,6 +1,7 @@
 -- What a reader of a layer in pieces shows of the text so far.
-use Rattle.std.proofs.Common.{◌≡◌, inl, inr, ℕ, List, [], ◌++◌, length, Bool, true, false, cond, Result, Ok, Err, OnOk, IfErr, sym, ap, subst, ◌∙◌, nat_lt, arith}
+use Rattle.std.proofs.Common.{◌≡◌, inl, inr, ℕ, List, [], ◌++◌, length, take, drop, append-nil, append_assoc, Bool, true, false, cond, Result, Ok, Err, OnOk, IfOk, IfErr, sym, ap, subst, ◌∙◌, nat_lt, arith}
 use Rattle.std.proofs.Math.Seq.{take-length}
+use Rattle.std.proofs.lemmas.List.{take-append-drop}
 use Rattle.grid_units.specs.Results.{AnswersAlways, Answers, IfFault}
 use Rattle.grid_units.specs.declared.fault.Fault.{Fault}
 use Rattle.grid_units.specs.declared.fault.Fail.{Fail}
@@ -9,9 +10,9 @@ use Rattle.grid_units.proofs.ResultLemmas.{bind_ok}
 use Rattle.gerber_text.specs.declared.reader.WordReader.{WordReader}
 use Rattle.gerber_text.specs.Cut.{OffsetByte}
 use Rattle.gerber_text.specs.Reading.{Entries, commands_from, shown, Shows, Reads, SpellsPrefix, SpellsBeforeFault, entries_after}
-use Rattle.gerber_text.specs.Holding.{StandsAfterDrop, FailedAfterDrop, FailsWith}
+use Rattle.gerber_text.specs.Holding.{StandsAfterDrop, FailedAfterDrop, FailsWith, held}
 use Rattle.gerber_text.proofs.ShowsLemmas.{shown_spelled}
-use Rattle.gerber_text.proofs.FinishLemmas.{shows_reads}
+use Rattle.gerber_text.proofs.FinishLemmas.{holds_shows, shows_reads}
 use Rattle.gerber_text.proofs.FaultsStay.{fails_longer}
 use Rattle.layer_image.specs.declared.keep.Keep.{Keep}
 use Rattle.layer_image.specs.declared.keep.Keep.TheVariants as keep
@@ -70,6 +71,30 @@ shown_longer text more f (inr h) =
     let here : FailsWith text h.0 (fails.Refused f) = record { reported = h.1; kept = h.2 } in
     let on = fails_longer text more h.0 (fails.Refused f) here in
     inr (h.0, on.reported, on.kept, h.3)
+
+longer : (text bytes : List ℕ) (n : ℕ) (e : Fail) → IfFault (ShowsLayerFault (text ++ take n bytes)) e → IfFault (ShowsLayerFault (text ++ bytes)) e
+longer text bytes n fails.Memory h = tt
+longer text bytes n (fails.Refused f) h =
+    subst (λ (t : List ℕ). ShowsLayerFault t f) (append_assoc text (take n bytes) (drop n bytes) ∙ ap (λ (x : List ℕ). text ++ x) (take-append-drop n bytes)) (shown_longer (text ++ take n bytes) (drop n bytes) f h)
+
+-- a rule's fault among the commands of some of these bytes is shown, whatever the word reader answered
+pub part_shown : (text bytes : List ℕ) (words : WordReader) (gone cs : Entries) (r : Result ℕ Fail) (e : Fail) → IfOk r (λ n. StandsAfterDrop words gone (text ++ take n bytes)) → IfErr r (FailedAfterDrop words gone (text ++ bytes))
+    → ((t : List ℕ) → StandsAfterDrop words gone t → Shows t (Ok (gone ++ cs))) → ((t : List ℕ) (d : Fail) → FailedAfterDrop words gone t d → SpellsBeforeFault t d (gone ++ cs)) → IfFault (IsFirstFault (gone ++ cs)) e → IfFault (ShowsLayerFault (text ++ bytes)) e
+part_shown text bytes words gone cs (Ok n) e stands failed shows keeps h = longer text bytes n e (rule_shown (text ++ take n bytes) words gone cs (Ok tt) e stands tt (shows (text ++ take n bytes)) (keeps (text ++ take n bytes)) h)
+part_shown text bytes words gone cs (Err d) e stands failed shows keeps h = rule_shown (text ++ bytes) words gone cs (Err d) e tt failed (shows (text ++ bytes)) (keeps (text ++ bytes)) h
+
+-- a rule's fault among the commands that were read is shown, and all of them are gone
+pub gone_shown : (text bytes : List ℕ) (n : ℕ) (words : WordReader) (gone : Entries) (e : Fail) → StandsAfterDrop words gone (text ++ take n bytes) → held words ≡ [] → IfFault (IsFirstFault gone) e → IfFault (ShowsLayerFault (text ++ bytes)) e
+gone_shown text bytes n words gone fails.Memory stands none h = tt
+gone_shown text bytes n words gone (fails.Refused f) stands none h =
+    let so_far = text ++ take n bytes in
+    let all : gone ≡ gone ++ held words = sym (append-nil gone) ∙ ap (λ (x : Entries). gone ++ x) (sym none) in
+    let k = shows_kept so_far gone (holds_shows words.progress gone so_far gone all words.progress.in_text stands.holds) in
+    longer text bytes n (fails.Refused f) (inl (k.0, gone, k.1, h))
+
+-- where commands are not kept, none is, whatever came
+pub none_kept : (b : Bool) (xs ys : Entries) → b ≡ false → cond b xs [] ≡ cond b ys []
+none_kept b xs ys h = (λ i. cond (h i) xs []) ∙ sym (λ i. cond (h i) ys [])
 
 pub shown_joined : (text more : List ℕ) (f : Fault) → ShowsLayerFault text f → ReadsLayer (text ++ more) (Err f)
 shown_joined text more f h = shown_read (text ++ more) f (shown_longer text more f h)

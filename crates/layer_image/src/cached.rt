@@ -16,7 +16,7 @@ use crate::flashes::MAX_FLASHES;
 use crate::keep::Keep;
 use crate::rules::is_flash;
 use crate::state::State;
-use gerber_text::{Action, Command};
+use gerber_text::{Action, Command, Coordinate};
 use grid_units::ItemFail;
 use std::alloc::Global;
 
@@ -45,33 +45,35 @@ impl CachedState {
         ensures { (keep : TheKeep) (before : List Command) → IsStateAfter self.old.state keep before → AppliesOrRefuses keep before command.now self.new.state result }
     {
         if let Command::Operate { action, x, y, i, j } = command {
-            return self.operate(command, *action, x.get(), y.get(), i.get(), j.get());
+            return self.operate(*action, *x, *y, *i, *j);
         }
         self.step_by_rules(command)
     }
 
     /// Checks an operation and applies it: on the fast path where it applies, else as any other command.
-    fn operate(
+    pub(crate) fn operate(
         &mut self,
-        what: &Command,
         action: Action,
-        x: Option<i64>,
-        y: Option<i64>,
-        i: Option<i64>,
-        j: Option<i64>,
+        x: Coordinate,
+        y: Coordinate,
+        i: Coordinate,
+        j: Coordinate,
     ) -> Result<(), ItemFail>
-        requires { what.now ≡ command.Operate action x y i j }
-        ensures { (keep : TheKeep) (before : List Command) → IsStateAfter self.old.state keep before → AppliesOrRefuses keep before what.now self.new.state result }
+        ensures { (keep : TheKeep) (before : List Command) → IsStateAfter self.old.state keep before → AppliesOrRefuses keep before (command.Operate action x y i j) self.new.state result }
     {
-        if self.is_plain_move(action, x, y, i, j) {
-            self.state.set_point(x, y);
+        let across = x.get();
+        let up = y.get();
+        let offset_x = i.get();
+        let offset_y = j.get();
+        if self.is_plain_move(action, across, up, offset_x, offset_y) {
+            self.state.set_point(across, up);
             return Ok(());
         }
-        if let Some(flash) = self.flash(action, x, y, i, j) {
-            self.state.add(&flash, x, y)?;
+        if let Some(flash) = self.flash(action, across, up, offset_x, offset_y) {
+            self.state.add(&flash, across, up)?;
             return Ok(());
         }
-        self.step_by_rules(what)
+        self.step_by_rules(&Command::Operate { action, x, y, i, j })
     }
 
     /// Checks any command by the whole table of rules, and brings the fast path up to date.

@@ -1,6 +1,6 @@
 //! A layer that is read in pieces.
 
-ghost use Rattle.std.specs.Prelude.{◌≡◌, ◌++◌, [], ℕ, List, Err, Some, OnOk, IfErr, IfSome, if◌then◌else◌};
+ghost use Rattle.std.specs.Prelude.{◌≡◌, ◌++◌, ◌<◌, ◌≤◌, [], ℕ, List, Err, Some, OnOk, IfOk, IfErr, IfSome, false, length, take, if◌then◌else◌};
 ghost use Rattle.grid_units.specs.Results.{Answers, IfFault};
 ghost use Rattle.layer_image.specs.declared.keep.Keep.{Keep as TheKeep};
 
@@ -72,8 +72,21 @@ impl LayerReader {
         outcome
     }
 
-    /// Reads the next piece of the text: judges the commands of the items that it ends, then keeps or drops them.
+    /// Reads the next piece of the text.
     fn advance(&mut self, piece: &[u8]) -> Result<(), Fail>
+        ensures ok { (keep : TheKeep) (text : List ℕ) → LayerStandsAfter self.old keep text → OnOk result (LayerStandsAfter self.new keep (text ++ piece.now)) }
+        ensures err { (keep : TheKeep) (text : List ℕ) → LayerStandsAfter self.old keep text → IfErr result (IfFault (ShowsLayerFault (text ++ piece.now))) }
+    {
+        if self.keep.commands() {
+            self.take_whole(piece)
+        } else {
+            self.take_parts(piece)
+        }
+    }
+
+    /// Takes the next piece of the text where commands are kept: the items that it ends are read, then their commands
+    /// are judged.
+    fn take_whole(&mut self, piece: &[u8]) -> Result<(), Fail>
         ensures ok { (keep : TheKeep) (text : List ℕ) → LayerStandsAfter self.old keep text → OnOk result (LayerStandsAfter self.new keep (text ++ piece.now)) }
         ensures err { (keep : TheKeep) (text : List ℕ) → LayerStandsAfter self.old keep text → IfErr result (IfFault (ShowsLayerFault (text ++ piece.now))) }
     {
@@ -82,6 +95,57 @@ impl LayerReader {
         outcome?;
         self.keep_commands()?;
         Ok(())
+    }
+
+    /// Takes the next piece of the text where commands are dropped, part by part.
+    fn take_parts(&mut self, piece: &[u8]) -> Result<(), Fail>
+        requires { keeps_commands self.old.keep ≡ false }
+        ensures ok { (keep : TheKeep) (text : List ℕ) → LayerStandsAfter self.old keep text → OnOk result (LayerStandsAfter self.new keep (text ++ piece.now)) }
+        ensures err { (keep : TheKeep) (text : List ℕ) → LayerStandsAfter self.old keep text → IfErr result (IfFault (ShowsLayerFault (text ++ piece.now))) }
+    {
+        let mut taken = 0;
+        while taken < piece.len() {
+            taken += self.take_leading(&piece[taken..])?;
+        }
+        Ok(())
+    }
+
+    /// Takes the plain operation at the start of these bytes, which becomes no command, if one stands there, else some
+    /// of the bytes. Returns how many bytes it took.
+    fn take_leading(&mut self, bytes: &[u8]) -> Result<usize, Fail>
+        requires some { 0 < length bytes.now }
+        requires dropped { keeps_commands self.old.keep ≡ false }
+        ensures taken { IfOk result (λ n. (0 < n) × (n ≤ length bytes.now)) }
+        ensures keep { self.new.keep ≡ self.old.keep }
+        ensures ok { (keep : TheKeep) (text : List ℕ) → LayerStandsAfter self.old keep text → IfOk result (λ n. LayerStandsAfter self.new keep (text ++ take n bytes.now)) }
+        ensures err { (keep : TheKeep) (text : List ℕ) → LayerStandsAfter self.old keep text → IfErr result (IfFault (ShowsLayerFault (text ++ bytes.now))) }
+    {
+        match self.words.pass_operation(bytes) {
+            Some(passed) => {
+                let len = passed.len;
+                self.scan.operate(passed)?;
+                Ok(len)
+            }
+            None => self.take_part(bytes),
+        }
+    }
+
+    /// Takes some of these bytes, from the first on, judges the commands that they end and keeps or drops them. Returns
+    /// how many bytes it took.
+    // Most items are operations, which do not come here.
+    #[inline(never)]
+    fn take_part(&mut self, bytes: &[u8]) -> Result<usize, Fail>
+        requires { 0 < length bytes.now }
+        ensures taken { IfOk result (λ n. (0 < n) × (n ≤ length bytes.now)) }
+        ensures keep { self.new.keep ≡ self.old.keep }
+        ensures ok { (keep : TheKeep) (text : List ℕ) → LayerStandsAfter self.old keep text → IfOk result (λ n. LayerStandsAfter self.new keep (text ++ take n bytes.now)) }
+        ensures err { (keep : TheKeep) (text : List ℕ) → LayerStandsAfter self.old keep text → IfErr result (IfFault (ShowsLayerFault (text ++ bytes.now))) }
+    {
+        let outcome = self.words.feed_part(bytes);
+        self.scan.scan(self.alloc, self.words.commands())?;
+        let len = outcome?;
+        self.keep_commands()?;
+        Ok(len)
     }
 
     /// Holds the commands that the word reader holds, or drops them. The first that are kept take no memory anew.

@@ -4,13 +4,14 @@ ghost use Rattle.std.specs.Prelude.{◌≡◌, ◌++◌, [], List, OnOk, IfErr};
 ghost use Rattle.grid_units.specs.Results.{IfFault};
 ghost use Rattle.gerber_commands.specs.declared.command.Command.{Command};
 ghost use Rattle.gerber_text.specs.Reading.{Entries};
+ghost use Rattle.gerber_text.specs.Holding.{passed_entries};
 ghost use Rattle.layer_image.specs.declared.keep.Keep.{Keep as TheKeep};
 ghost use Rattle.layer_image.specs.Faults.{fail_at, IsFirstFault};
 
 use crate::cached::CachedState;
 use crate::function::function_set;
 use crate::keep::Keep;
-use gerber_text::{Command, Placed};
+use gerber_text::{Command, LeadingOperation, PassedOperation, Placed};
 use grid_units::{Fail, Fault, ItemFail, Text};
 use std::alloc::Global;
 
@@ -50,6 +51,30 @@ impl Scan {
             }
         }
         Ok(())
+    }
+
+    /// Checks an operation that a reader has passed, and applies it. The interpolation before it, if there is one,
+    /// breaks no rule and changes nothing here.
+    ///
+    /// # Errors
+    ///
+    /// The fault of an operation that breaks a rule; `Memory` where an allocation failed.
+    pub(crate) fn operate(&mut self, passed: PassedOperation) -> Result<(), Fail>
+        ensures ok { (keep : TheKeep) (before : Entries) → HasScannedLegal self.old keep before → OnOk result (HasScannedLegal self.new keep (before ++ passed_entries passed)) }
+        ensures refused { (keep : TheKeep) (before : Entries) → HasScannedLegal self.old keep before → IfErr result (IfFault (IsFirstFault (before ++ passed_entries passed))) }
+    {
+        let LeadingOperation {
+            action,
+            x,
+            y,
+            i,
+            j,
+            ..
+        } = passed.operation;
+        match self.state.operate(action, x, y, i, j) {
+            Ok(()) => Ok(()),
+            Err(stop) => Err(fail_at(passed.place, passed.byte, stop)),
+        }
     }
 
     /// AppliesOrRefuses one more command, takes it in, and keeps the file function that it names.

@@ -1,9 +1,6 @@
-use Rattle.std.proofs.Common.{rules, ◌≡◌, [], ◌∷◌, ◌++◌, List, refl, sym, ap, ◌∙◌, append-nil}
-use Rattle.grid_units.proofs.LookbackLemmas.{option_or_none}
+use Rattle.std.proofs.Common.{rules, ◌≡◌, [], ◌++◌, List, sym, ap, ◌∙◌, append-nil}
 use Rattle.gerber_commands.specs.declared.command.Command.{Command}
-use Rattle.gerber_commands.specs.declared.command.Command.TheVariants.{Mode}
-use Rattle.gerber_text.specs.Reading.{Entries, plot_of, placed, is_plotting}
-use Rattle.gerber_text.proofs.PlottingLemmas.{plots_on}
+use Rattle.gerber_text.specs.Reading.{placed, is_plotting}
 use Rattle.gerber_text.proofs.reader.add.Goals as goal
 
 pub returns-in-None-None-clause-plotting : goal.returns-in-None-None-clause-plotting

@@ -1,4 +1,4 @@
-use Rattle.std.proofs.Common.{◌≡◌, ℕ, List, take, drop, get_or, length, All, ◌<◌, sym, ap, subst, ◌∙◌, arith}
+use Rattle.std.proofs.Common.{◌≡◌, ℕ, List, take, drop, get_or, length, All, ◌<◌, subst, ◌∙◌, arith}
 use Rattle.std.proofs.lemmas.List.{take_rest, length-drop}
 use Rattle.gerber_text.specs.Items.{end_byte}
 use Rattle.gerber_text.specs.Inner.Bytes.{IsInside}

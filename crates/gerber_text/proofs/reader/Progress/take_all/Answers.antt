@@ -1,9 +1,8 @@
-use Rattle.std.proofs.Common.{sym, ◌-◌, ℕ, List, length, take, drop, subst, arith}
+use Rattle.std.proofs.Common.{◌-◌, ℕ, List, length, take, drop, subst, arith}
 use Rattle.std.proofs.lemmas.List.{length-drop, length-take, take-append-drop, take_rest}
-use Rattle.std.proofs.Math.Seq.{take-add}
 use Rattle.std.proofs.lemmas.Result.{err_from_is_err_and}
-use Rattle.gerber_text.specs.Holding.{Advances, Refuses}
-use Rattle.gerber_text.proofs.ShowsLemmas.{Advances-then, Refuses-then}
+use Rattle.gerber_text.specs.Holding.{Refuses}
+use Rattle.gerber_text.proofs.ShowsLemmas.{Advances-both, Refuses-then}
 use Rattle.gerber_text.proofs.reader.Progress.take_all.Goals as goal
 
 pub returns-in_err-taken-clause-err : goal.returns-in_err-taken-clause-err
@@ -12,7 +11,7 @@ returns-in_err-taken-clause-err c =
     let bytes = c.args.bytes.now in
     let n = c.loop-taken.taken in
     let e = c.in_err-taken.field-0.0 in
-    let left = c.take_some.new.self.commands.items in
+    let left = c.take_leading.new.self.commands.items in
     rw (p.1, p.2) (subst (λ (x : List ℕ). Refuses c.args.self.now left x e) (take-append-drop n bytes) (Refuses-then c.args.self.now c.loop-taken.self left (take n bytes) (drop n bytes) e c.loop-taken.invariant.advanced (subst (λ (x : List ℕ). Refuses c.loop-taken.self left x e) (take_rest bytes n) c.in_err-taken.ensures.err)))
 
 pub loop-taken-preserved : goal.loop-taken-preserved
@@ -24,5 +23,5 @@ loop-taken-preserved c =
     record {
       within = omega (arith, taken, length-drop n bytes, length-take (length bytes - n) (drop n bytes));
       offset = omega (arith, taken);
-      advanced = subst (λ (x : List ℕ). Advances c.args.self.now c.take_some.new.self x) (sym (take-add n k bytes)) (Advances-then c.args.self.now c.loop-taken.self c.take_some.new.self (take n bytes) (take k (drop n bytes)) c.loop-taken.invariant.advanced (subst (λ (x : List ℕ). Advances c.loop-taken.self c.take_some.new.self (take k x)) (take_rest bytes n) c.in_ok-taken.ensures.ok));
+      advanced = Advances-both c.args.self.now c.loop-taken.self c.take_leading.new.self bytes n k c.loop-taken.invariant.advanced c.in_ok-taken.ensures.ok;
     }

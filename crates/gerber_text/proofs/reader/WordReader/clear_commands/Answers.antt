@@ -1,4 +1,4 @@
-use Rattle.std.proofs.Common.{◌≡◌, ◌++◌, [], sym, ap, ◌∙◌, append-nil, Ok}
+use Rattle.std.proofs.Common.{◌≡◌, ◌++◌, sym, ap, ◌∙◌, append-nil, Ok}
 use Rattle.gerber_text.specs.Reading.{Entries, is_plotting}
 use Rattle.gerber_text.proofs.reader.WordReader.clear_commands.Goals as goal
 

@@ -8,7 +8,7 @@ use Rattle.layer_image.specs.Holding.{HasScannedLegal}
 use Rattle.layer_image.specs.KeptFlashes.{keeps_commands}
 use Rattle.layer_image.proofs.KeptFlashesLemmas.{kept_append}
 use Rattle.layer_image.proofs.Pieces.{rule_shown, words_shown}
-use Rattle.layer_image.proofs.reader.LayerReader.advance.Goals as goal
+use Rattle.layer_image.proofs.reader.LayerReader.take_whole.Goals as goal
 
 pub returns-in_err-scan-clause-err : goal.returns-in_err-scan-clause-err
 returns-in_err-scan-clause-err c keep text h =

@@ -1,0 +1,47 @@
+use Rattle.std.proofs.Common.{◌≡◌, ◌+◌, ◌≤◌, Ok, ℕ, List, [], ◌∷◌, ◌++◌, length, take, sym, ap, ◌∙◌, arith, append-nil}
+use Rattle.std.proofs.lemmas.List.{length-append, length-take, nil_from_length}
+use Rattle.gerber_commands.specs.declared.command.Command.{Command}
+use Rattle.gerber_commands.specs.declared.command.Command.TheVariants.{Operate}
+use Rattle.grid_units.specs.Limits.{item_limit}
+use Rattle.gerber_text.specs.FastPath.{operation_commands}
+use Rattle.gerber_text.specs.Reading.{Entries, is_plotting, placed, spelled}
+use Rattle.gerber_text.proofs.ReaderStepLemmas.{length-bytes_of}
+use Rattle.gerber_text.proofs.PlottingLemmas.{plots_on, last_operation}
+use Rattle.gerber_text.proofs.Items.{takes, spelled_ok}
+use Rattle.gerber_text.proofs.reader.Progress.count_operation.Goals as goal
+
+-- commands that are not held count among those that are gone, where no others are held
+counted_gone : (gone held added : Entries) → held ≡ [] → (gone ++ held) ++ added ≡ (gone ++ added) ++ held
+counted_gone gone held added none = (λ i. (gone ++ none i) ++ added) ∙ (ap (λ (x : Entries). x ++ added) (append-nil gone) ∙ (sym (append-nil (gone ++ added)) ∙ (λ i. (gone ++ added) ++ sym none i)))
+
+pub returns-clause-ok : goal.returns-clause-ok
+returns-clause-ok c none_held gone text h =
+    let self = c.args.self.now in
+    let operation = c.args.operation.now in
+    let begins = c.requires.begins in
+    let before = gone ++ self.commands.items in
+    let item : List ℕ = take operation.len c.args.bytes.now in
+    let whats : List Command = operation_commands operation in
+    let what = Operate operation.action operation.x operation.y operation.i operation.j in
+    let none = sym h.ended ∙ c.requires.running in
+    let no_item : self.item.items ≡ [] = nil_from_length _ (omega (arith, self.item.ok.0, c.requires.fresh)) in
+    let no_rest : h.rest ≡ [] = nil_from_length h.rest (sym (length-bytes_of h.rest) ∙ (ap length (sym (h.pending none)) ∙ ap length no_item)) in
+    let size : length item ≡ operation.len = omega (arith, length-take operation.len c.args.bytes.now, begins.within) in
+    let short : length item ≤ item_limit = omega (arith, size, begins.short) in
+    let k = takes text item h.items h.rest (self.items + 1) before h.splits no_rest none h.commands begins.one begins.kept short (omega (arith, h.count)) in
+    let added = placed (self.items + 1) self.offset whats in
+    let after = (gone ++ added) ++ self.commands.items in
+    let gone_on : before ++ added ≡ after = counted_gone gone self.commands.items added none_held in
+    let said : spelled (self.items + 1) (length text) item before ≡ Ok after = spelled_ok (self.items + 1) (length text) item before whats short (begins.parses (is_plotting before)) ∙ (ap (λ b. Ok (before ++ placed (self.items + 1) b whats)) (sym h.offset) ∙ ap (λ (x : Entries). Ok x) gone_on) in
+    record {
+      items = h.items ++ k.last ∷ [];
+      rest = [];
+      splits = k.splits;
+      commands = k.shows ∙ said;
+      plotting = plots_on before after added what self.plotting _ (sym gone_on) (last_operation (self.items + 1) self.offset operation.mode what) h.plotting c.is_plot-self.ensures;
+      count = ap (λ n. n + 1) h.count ∙ sym k.count;
+      pending = λ _. no_item;
+      start = λ _ lt. absurd (omega arith);
+      offset = omega (arith, h.offset, length-append text item, size);
+      ended = c.requires.running ∙ sym (k.ends ∙ begins.goes_on);
+    }

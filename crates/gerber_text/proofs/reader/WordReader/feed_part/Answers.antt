@@ -1,0 +1,5 @@
+use Rattle.std.proofs.Common.{refl}
+use Rattle.gerber_text.proofs.reader.WordReader.feed_part.Goals as goal
+
+pub returns-in-Err-clause-err : goal.returns-in-Err-clause-err
+returns-in-Err-clause-err c gone text h = record { failed = refl; fails = c.in-Err.ensures.err gone text h.holds }
