@@ -160,10 +160,11 @@ impl Answer {
     pub(crate) fn of_report(report: &Report) -> Answer {
         let mut digest = Digest::new();
         let (files, layers) = (report.files(), report.layers());
-        let (holes, findings) = (report.holes(), report.findings());
-        let _ = write!(digest, "{files:?} {layers:?} {holes:?} {findings:?}");
+        let findings = report.findings();
+        let _ = write!(digest, "{files:?} {layers:?} {findings:?}");
+        let first = digest_numbered(&mut digest, report);
         Answer::Given {
-            first: holes.len(),
+            first,
             second: findings.len(),
             digest: digest.value(),
         }
@@ -195,6 +196,17 @@ impl Answer {
             Err(fail) => Answer::Failed(fail),
         }
     }
+}
+
+/// Digests the holes of a report with their places, and counts them.
+fn digest_numbered(digest: &mut Digest, report: &Report) -> usize {
+    for place in 0..usize::MAX {
+        let Some(hole) = report.hole(place) else {
+            return place;
+        };
+        let _ = write!(digest, "{hole:?}");
+    }
+    usize::MAX
 }
 
 /// The number of flashes that are no pads.

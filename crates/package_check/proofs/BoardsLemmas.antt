@@ -1,7 +1,7 @@
 -- The board of a package, and its holes with their places.
-use Rattle.std.proofs.Common.{◌≡◌, ◌<◌, ◌≤◌, ◌+◌, ◌++◌, ℕ, zero, suc, List, [], ◌∷◌, length, map, take, drop, get_or, min, arith, refl, sym, ap, ap₂, ◌∙◌, Bool, true, false, cond, not, append_assoc}
+use Rattle.std.proofs.Common.{◌≡◌, ◌+◌, ◌++◌, ℕ, List, [], ◌∷◌, length, map, take, drop, arith, refl, sym, ap, ap₂, ◌∙◌, Bool, true, false, cond, not, append_assoc}
 use Rattle.std.specs.List.{flat_map, enumerate_from, count_by, sum_by}
-use Rattle.std.proofs.lemmas.List.{append-nil, drop_all, drop_more, take_more, take_min, map-append, length-append, length-map}
+use Rattle.std.proofs.lemmas.List.{append-nil, length-append, length-map}
 use Rattle.std.proofs.lemmas.List.Concat.{flat_map-append, flat_map-cons}
 use Rattle.std.proofs.lemmas.List.Sums.{sum_by-cons}
 use Rattle.std.proofs.Math.Seq.{take-append_seam, drop-append_seam}
@@ -10,7 +10,6 @@ use Rattle.grid_units.specs.Holes.{GridHole, GridRules, is_round}
 use Rattle.grid_units.specs.Spans.{LayerSpan}
 use Rattle.layer_image.specs.declared.flash.Flash.{Flash}
 use Rattle.ring_rules.specs.declared.finding.Drilled.{Drilled}
-use Rattle.package_check.specs.declared.FileSum.{FileSum}
 use Rattle.package_check.specs.declared.Numbered.{Numbered}
 use Rattle.package_check.specs.declared.contents.Content.{Content}
 use Rattle.package_check.specs.declared.contents.Content.TheVariants as content
@@ -26,56 +25,6 @@ flat_map_grows f before now after xs x was is =
     is ∙ (ap (λ ys. ys ++ f x) was
     ∙ (append_assoc before (flat_map f xs) (f x)
     ∙ (ap (λ ys. before ++ (flat_map f xs ++ ys)) (sym (append-nil (f x))) ∙ ap (λ ys. before ++ ys) (sym (flat_map-append f xs (x ∷ []))))))
-
-drop_min : {X : Type 0} (n : ℕ) (xs : List X) → drop (min n (length xs)) xs ≡ drop n xs
-drop_min zero xs = let e : min 0 (length xs) ≡ 0 = omega arith in ap (λ k. drop k xs) e
-drop_min (suc n) [] = let e : min (suc n) 0 ≡ 0 = omega arith in ap (λ k. drop k []) e
-drop_min (suc n) (x ∷ xs) = let e : min (suc n) (suc (length xs)) ≡ suc (min n (length xs)) = omega arith in ap (λ k. drop k (x ∷ xs)) e ∙ drop_min n xs
-
--- the list with its places, by one more element
-numbered_push : {X : Type 0} (n : ℕ) (xs : List X) (x : X) → enumerate_from n (xs ++ x ∷ []) ≡ enumerate_from n xs ++ (n + length xs, x) ∷ []
-numbered_push n [] x = let e : n + 0 ≡ n = omega arith in rw e refl
-numbered_push n (y ∷ ys) x =
-    let e : n + suc (length ys) ≡ n + 1 + length ys = omega arith in
-    ap (λ zs. (n, y) ∷ zs) (numbered_push (n + 1) ys x) ∙ ap (λ k. (n, y) ∷ (enumerate_from (n + 1) ys ++ (k, x) ∷ [])) (sym e)
-
-length_take : {X : Type 0} (i : ℕ) (xs : List X) → i ≤ length xs → length (take i xs) ≡ i
-length_take zero xs h = refl
-length_take (suc i) [] h = absurd (omega arith)
-length_take (suc i) (x ∷ xs) h = ap suc (length_take i xs (omega arith))
-
--- the holes of one file, and one more of them
-pub numbered_more : (file : ℕ) (xs : List Drilled) (i : ℕ) (x : Drilled) → i < length xs → x ≡ get_or xs i x
-    → numbered_in file (take (i + 1) xs) ≡ numbered_in file (take i xs) ++ record { file = file; number = i + 1; drilled = x } ∷ []
-numbered_more file xs i x lt is =
-    let f = λ (hole : ℕ × Drilled). let n : Numbered = record { file = file; number = hole.0; drilled = hole.1 } in n in
-    let e : 1 + length (take i xs) ≡ i + 1 = omega (arith, length_take i xs (omega (arith, lt))) in
-    ap (numbered_in file) (take_more xs i x lt)
-    ∙ (ap (λ h. numbered_in file (take i xs ++ h ∷ [])) (sym is)
-    ∙ (ap (map f) (numbered_push 1 (take i xs) x)
-    ∙ (map-append f (enumerate_from 1 (take i xs)) ((1 + length (take i xs), x) ∷ [])
-    ∙ ap (λ k. numbered_in file (take i xs) ++ f (k, x) ∷ []) e)))
-
--- the holes of the next file, and those of the files after it
-pub numbered_next : (file : ℕ) (one : FileSum) (files : List FileSum) (holes : List Drilled) (file_holes later_holes : List Drilled) → file_holes ≡ take (min (hole_count one) (length holes)) holes → later_holes ≡ drop (min (hole_count one) (length holes)) holes
-    → numbered_from file (one ∷ files) holes ≡ numbered_in file file_holes ++ numbered_from (file + 1) files later_holes
-unfolding numbered_from
-numbered_next file one files holes file_holes later_holes first last =
-    ap (λ (ds : List Drilled). numbered_in file ds ++ numbered_from (file + 1) files (drop (hole_count one) holes)) (sym (first ∙ take_min (hole_count one) holes))
-    ∙ ap (λ (ds : List Drilled). numbered_in file file_holes ++ numbered_from (file + 1) files ds) (sym (last ∙ drop_min (hole_count one) holes))
-
-pub numbered_step : (files : List FileSum) (i : ℕ) (one : FileSum) (holes file_holes later_holes : List Drilled) (k : ℕ) (before after all : List Numbered) → i < length files → one ≡ get_or files i one
-    → k ≡ min (hole_count one) (length holes) → file_holes ≡ take k holes → later_holes ≡ drop k holes → after ≡ before ++ numbered_in i file_holes
-    → before ++ numbered_from i (drop i files) holes ≡ all → after ++ numbered_from (i + 1) (drop (i + 1) files) later_holes ≡ all
-numbered_step files i one holes file_holes later_holes k before after all lt is count first last more was =
-    let rest = numbered_from (i + 1) (drop (i + 1) files) later_holes in
-    let next : drop i files ≡ one ∷ drop (i + 1) files = drop_more files i one lt ∙ ap (λ (f : FileSum). f ∷ drop (i + 1) files) (sym is) in
-    let split = numbered_next i one (drop (i + 1) files) holes file_holes later_holes (first ∙ ap (λ n. take n holes) count) (last ∙ ap (λ n. drop n holes) count) in
-    ap (λ ns. ns ++ rest) more ∙ (append_assoc before (numbered_in i file_holes) rest ∙ (ap (λ ns. before ++ ns) (sym split) ∙ (ap (λ fs. before ++ numbered_from i fs holes) (sym next) ∙ was)))
-
-pub numbered_end : (files : List FileSum) (i : ℕ) (holes : List Drilled) (before all : List Numbered) → length files ≤ i → before ++ numbered_from i (drop i files) holes ≡ all → before ≡ all
-unfolding numbered_from
-numbered_end files i holes before all le was = sym (append-nil before) ∙ (ap (λ fs. before ++ numbered_from i fs holes) (sym (drop_all i files le)) ∙ was)
 
 -- the round holes and the slots are all holes
 counted : (holes : List GridHole) → count_by is_round holes + count_by (λ hole. not (is_round hole)) holes ≡ length holes

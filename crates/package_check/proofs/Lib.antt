@@ -1,6 +1,7 @@
 pub mod ContentIsReading
 pub mod GrowingLists
 pub mod BoardsLemmas
+pub mod FileStartsLemmas
 pub mod Passing
 pub mod WrittenPackages
 pub mod SaidOnce

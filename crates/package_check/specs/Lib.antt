@@ -9,3 +9,4 @@ pub mod SoundnessAsRead
 pub mod Texts
 pub mod Pieces
 pub mod Holding
+pub mod Inner

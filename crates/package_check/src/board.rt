@@ -3,13 +3,14 @@
 ghost use Rattle.std.specs.Prelude.{◌≡◌, ◌++◌, ◌∷◌, [], IfOk, OnOk, get_or, map, min, not, count_by};
 ghost use Rattle.std.specs.List.{flat_map};
 ghost use Rattle.grid_units.specs.Holes.{is_round};
-ghost use Rattle.package_check.specs.Boards.{CountsAddUp, board_findings, board_of, hole_count, numbered_from, numbered_in};
+ghost use Rattle.package_check.specs.Boards.{CountsAddUp, board_findings, board_of, hole_count};
 ghost use Rattle.package_check.specs.Package.{sum_of, layer_indexes, pads_of};
 ghost use Rattle.package_check.specs.SoundnessAsRead.{drilled_in};
 
+use crate::FileSum;
 use crate::contents::Content;
+use crate::lists::push;
 use crate::readers::Layer;
-use crate::{FileSum, Numbered};
 use grid_units::{Hole, Rules};
 use layer_image::Flash;
 use pad_shapes::Pad;
@@ -21,10 +22,10 @@ use std::marker::Model;
 /// of each file, where they are kept.
 #[derive(Drop)]
 pub struct Board {
-    files: Vec<FileSum>,
+    pub(crate) files: Vec<FileSum>,
     layers: Vec<Layer>,
-    layer_indexes: Vec<usize>,
-    holes: Vec<Drilled>,
+    pub(crate) layer_indexes: Vec<usize>,
+    pub(crate) holes: Vec<Drilled>,
     flashes: Vec<Vec<Flash>>,
 }
 
@@ -37,14 +38,6 @@ impl Model for Board {
     ghost view = { λ b. record { files = b.files.items; layers = map (λ l. l.pads) b.layers.items; layer_indexes = b.layer_indexes.items; holes = b.holes.items; flashes = map (λ flashes. flashes.items) b.flashes.items } };
 
     ghost invariant = { λ b. CountsAddUp b.files.items b.holes.items };
-}
-
-/// The parts of a board that a report keeps: the counts of the files, the indexes of the copper files, and the holes.
-#[derive(Drop)]
-pub(crate) struct BoardParts {
-    pub(crate) files: Vec<FileSum>,
-    pub(crate) layer_indexes: Vec<usize>,
-    pub(crate) holes: Vec<Drilled>,
 }
 
 impl Board {
@@ -104,28 +97,6 @@ impl Board {
         let gaps = gap_findings(alloc, &self.holes, rules)?;
         findings.extend_from_slice(&gaps)?;
         Ok(findings)
-    }
-
-    /// Frees the pads and the flashes.
-    pub(crate) fn into_parts(self) -> BoardParts
-        ensures files { result.files.items ≡ self.files }
-        ensures layer_indexes { result.layer_indexes.items ≡ self.layer_indexes }
-        ensures holes { result.holes.items ≡ self.holes }
-    {
-        let Board {
-            files,
-            layers,
-            layer_indexes,
-            holes,
-            flashes,
-        } = self;
-        drop(layers);
-        drop(flashes);
-        BoardParts {
-            files,
-            layer_indexes,
-            holes,
-        }
     }
 }
 
@@ -212,15 +183,6 @@ fn push_drilled(
     Ok(())
 }
 
-fn push_layer(layers: &mut Vec<Layer>, layer: Layer) -> Result<(), AllocError>
-    ensures { OnOk result (layers.new.items ≡ layers.old.items ++ layer ∷ []) }
-{
-    if layers.push(layer).is_err() {
-        return Err(AllocError);
-    }
-    Ok(())
-}
-
 /// Moves the content of a file to the list of its kind. Its own list of holes is freed once they are appended.
 fn add_content(
     layers: &mut Vec<Layer>,
@@ -231,7 +193,7 @@ fn add_content(
     ensures holes { OnOk result (holes.new.items ≡ holes.old.items ++ drilled_in content) }
 {
     match content {
-        Content::Layer(layer) => push_layer(layers, layer),
+        Content::Layer(layer) => push(layers, layer),
         Content::Drill {
             plated,
             span,
@@ -297,40 +259,4 @@ pub fn hole_count(file: &FileSum, all: usize) -> usize
         FileSum::Layer { .. } => 0,
         FileSum::Drill { round, slots, .. } => round.saturating_add(*slots).min(all),
     }
-}
-
-/// Appends the holes of one file with its index, numbered from 1.
-fn push_numbered(
-    numbered: &mut Vec<Numbered>,
-    file: usize,
-    holes: &[Drilled],
-) -> Result<(), AllocError>
-    ensures { OnOk result (numbered.new.items ≡ numbered.old.items ++ numbered_in file holes.now) }
-{
-    for (place, drilled) in holes.iter().enumerate() {
-        numbered.push(Numbered {
-            file,
-            number: place + 1,
-            drilled: *drilled,
-        })?;
-    }
-    Ok(())
-}
-
-/// The holes with their places: `files` counts how many of them each file has.
-pub(crate) fn numbered(
-    alloc: Global,
-    files: &[FileSum],
-    holes: &[Drilled],
-) -> Result<Vec<Numbered>, AllocError>
-    ensures { IfOk result (λ v. v.items ≡ numbered_from 0 files.now holes.now) }
-{
-    let mut numbered = Vec::with_capacity(alloc, holes.len())?;
-    let mut rest = holes;
-    for (file, sum) in files.iter().enumerate() {
-        let (file_holes, later_holes) = rest.split_at(hole_count(sum, rest.len()));
-        push_numbered(&mut numbered, file, file_holes)?;
-        rest = later_holes;
-    }
-    Ok(numbered)
 }

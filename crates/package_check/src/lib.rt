@@ -5,6 +5,7 @@ mod board;
 mod contents;
 pub mod laws;
 mod lines;
+mod lists;
 mod package;
 mod package_reader;
 mod pieces;

@@ -162,7 +162,7 @@ fn write_hole<W: fmt::Write>(
     let Some(layer) = report.layers().get(layer).copied() else {
         return Ok(());
     };
-    let Some(hole) = report.holes().get(hole) else {
+    let Some(hole) = &report.hole(hole) else {
         return Ok(());
     };
     write!(f, "{}", HoleLine { kind, layer, hole })
@@ -177,10 +177,10 @@ fn write_gap<W: fmt::Write>(
 ) -> fmt::Result
     ensures { DisplaysOnOk W.write_str_gives f.old result (Some (line_if_found gap_line (slice_get report.now.holes first) (slice_get report.now.holes second))) f.new }
 {
-    let Some(first) = report.holes().get(first) else {
+    let Some(first) = report.hole(first) else {
         return Ok(());
     };
-    let Some(second) = report.holes().get(second) else {
+    let Some(second) = report.hole(second) else {
         return Ok(());
     };
     let (drill, hole) = (first.file as u128 + 1, first.number);

@@ -17,6 +17,7 @@ ghost use Rattle.package_check.specs.declared.PackageFault.TheVariants as stop;
 use crate::board::board_of;
 use crate::contents::{Content, read_file};
 use crate::laws::{findings_name_their_places, passing_is_sound, unique_answer};
+use crate::lists::push;
 use crate::report::report_on;
 use crate::{Board, PackageFault, Report, Role};
 use grid_units::{Fail, Rules};
@@ -106,8 +107,8 @@ impl PackageReader {
             self.layers,
             pieces,
         )?;
-        push_content(&mut self.contents, content)?;
-        push_flashes(&mut self.flashes, flashes)?;
+        push(&mut self.contents, content)?;
+        push(&mut self.flashes, flashes)?;
         Ok(())
     }
 
@@ -186,22 +187,4 @@ impl PackageReader {
             },
         }
     }
-}
-
-fn push_content(contents: &mut Vec<Content>, content: Content) -> Result<(), AllocError>
-    ensures { OnOk result (contents.new.items ≡ contents.old.items ++ content ∷ []) }
-{
-    if contents.push(content).is_err() {
-        return Err(AllocError);
-    }
-    Ok(())
-}
-
-fn push_flashes(all: &mut Vec<Vec<Flash>>, flashes: Vec<Flash>) -> Result<(), AllocError>
-    ensures { OnOk result (all.new.items ≡ all.old.items ++ flashes ∷ []) }
-{
-    if all.push(flashes).is_err() {
-        return Err(AllocError);
-    }
-    Ok(())
 }

@@ -1,11 +1,12 @@
 // The report on what the files of a package say.
-ghost use Rattle.std.specs.Prelude.{◌≡◌, IfOk};
-ghost use Rattle.package_check.specs.Boards.{reported};
+ghost use Rattle.std.specs.Prelude.{◌≡◌, ◌<◌, List, Some, IfOk, length, slice_get};
+ghost use Rattle.package_check.specs.declared.FileSum.{FileSum as TheFileSum};
+ghost use Rattle.package_check.specs.Boards.{CountsAddUp, numbered_from, reported};
+ghost use Rattle.package_check.specs.Inner.FileStarts.{AreFileStarts};
 
-use crate::board::numbered;
-use crate::{Board, FileSum, Numbered};
+use crate::{Board, FileSum, Numbered, hole_count};
 use grid_units::Rules;
-use ring_rules::Finding;
+use ring_rules::{Drilled, Finding};
 use std::alloc::{AllocError, Global};
 use std::marker::Model;
 
@@ -15,16 +16,22 @@ pub struct Report {
     rules: Rules,
     files: Vec<FileSum>,
     layers: Vec<usize>,
-    holes: Vec<Numbered>,
+    holes: Vec<Drilled>,
+    /// For each file the place of its first hole in the list of all holes.
+    starts: Vec<usize>,
     findings: Vec<Finding>,
 }
 
 impl Model for Report {
+    ghost use Rattle.package_check.specs.Boards.{numbered_from};
+    ghost use Rattle.package_check.specs.Inner.FileStarts.{AreFileStarts};
     ghost use Rattle.package_check.specs.Reports.{ReportView};
 
     ghost Value = { ReportView };
 
-    ghost view = { λ r. record { rules = r.rules; files = r.files.items; layers = r.layers.items; holes = r.holes.items; findings = r.findings.items } };
+    ghost view = { λ r. record { rules = r.rules; files = r.files.items; layers = r.layers.items; holes = numbered_from 0 r.files.items r.holes.items; findings = r.findings.items } };
+
+    ghost invariant = { λ r. AreFileStarts r.files.items r.holes.items r.starts.items };
 }
 
 impl Report {
@@ -49,11 +56,11 @@ impl Report {
         &self.layers
     }
 
-    /// The holes of all drill files with their places, file by file.
-    pub fn holes(&self) -> &[Numbered]
-        ensures { result.now ≡ self.now.holes }
+    /// The hole at a place in the list of the holes of all drill files, from 0, with its file and its number there.
+    pub fn hole(&self, place: usize) -> Option<Numbered>
+        ensures { result ≡ slice_get self.now.holes place }
     {
-        &self.holes
+        numbered_at(&self.starts, &self.holes, place)
     }
 
     /// The findings: rings that are lacking, layer by layer, then gaps.
@@ -64,18 +71,64 @@ impl Report {
     }
 }
 
-/// The report on a board. The pads are freed before the holes are listed with their places.
+/// The hole at a place, by the places of the first holes of the files.
+fn numbered_at(starts: &[usize], holes: &[Drilled], place: usize) -> Option<Numbered>
+    requires { (files : List TheFileSum) × AreFileStarts files holes.now starts.now }
+    ensures { (files : List TheFileSum) → AreFileStarts files holes.now starts.now → result ≡ slice_get (numbered_from 0 files holes.now) place }
+{
+    if holes.len() <= place {
+        return None;
+    }
+    Some(numbered(starts, holes, place))
+}
+
+/// The hole at a place with its file and its number there. A file without holes starts where the next one does, so the hole's own file
+/// is the last that starts at the place or before it.
+fn numbered(starts: &[usize], holes: &[Drilled], place: usize) -> Numbered
+    requires starts { (files : List TheFileSum) × AreFileStarts files holes.now starts.now }
+    requires place { place < length holes.now }
+    ensures { (files : List TheFileSum) → AreFileStarts files holes.now starts.now → Some result ≡ slice_get (numbered_from 0 files holes.now) place }
+{
+    let file = starts.partition_point(|start| *start <= place) - 1;
+    Numbered {
+        file,
+        number: place - starts[file] + 1,
+        drilled: holes[place],
+    }
+}
+
+/// For each file the place of its first hole in the list of all holes.
+fn starts_of(alloc: Global, files: &[FileSum], holes: &[Drilled]) -> Result<Vec<usize>, AllocError>
+    requires { CountsAddUp files.now holes.now }
+    ensures { IfOk result (λ starts. AreFileStarts files.now holes.now starts.items) }
+{
+    let mut starts = Vec::with_capacity(alloc, files.len())?;
+    let mut start = 0;
+    for file in files {
+        starts.push(start)?;
+        start += hole_count(file, holes.len() - start);
+    }
+    Ok(starts)
+}
+
+/// The report on a board, whose pads and flashes are freed.
 pub(crate) fn report_on(alloc: Global, board: Board, rules: Rules) -> Result<Report, AllocError>
     ensures { IfOk result (λ report. report ≡ reported rules board) }
 {
     let findings = board.findings(alloc, rules)?;
-    let parts = board.into_parts();
-    let holes = numbered(alloc, &parts.files, &parts.holes)?;
+    let Board {
+        files,
+        layer_indexes,
+        holes,
+        ..
+    } = board;
+    let starts = starts_of(alloc, &files, &holes)?;
     Ok(Report {
         rules,
-        files: parts.files,
-        layers: parts.layer_indexes,
+        files,
+        layers: layer_indexes,
         holes,
+        starts,
         findings,
     })
 }

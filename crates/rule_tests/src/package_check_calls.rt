@@ -342,7 +342,7 @@ fn a_board_has_the_findings_of_its_report(rt: HostRuntime) -> Result<(), Failure
         .ok()
         .ok_or("no report")?;
     let found = board.findings(alloc, rules()?)?;
-    let last = report.holes().get(1).ok_or("no hole")?;
+    let last = report.hole(1).ok_or("no hole")?;
     assert!(rt; found.len() == 2 && found.as_slice() == report.findings());
     assert!(rt; (last.file, last.number) == (2, 1));
     Ok(())

@@ -1,0 +1,10 @@
+use Rattle.std.proofs.Common.{◌≡◌}
+use Rattle.package_check.specs.Boards.{holes_before}
+use Rattle.package_check.specs.Inner.FileStarts.{AreStartsOf}
+use Rattle.package_check.proofs.report.starts_of.Given as goal
+
+abbrev pub invariant-loop-file : goal.invariant-loop-file
+invariant-loop-file l = record {
+  start : l.start ≡ holes_before l.files l.file-index;
+  starts : AreStartsOf l.files l.file-index l.starts.items;
+}
