@@ -26,6 +26,9 @@ its contracts, and what `specs` and the lemmas of `proofs` define; a function's 
 functions and of a trait's own methods are kept. With the same digest and the same kit the prover gives the same answer, since it reads
 the same. Another kit than a line's is said, and is no failure; `--all` is for that.
 
+What a check begins with. Where `rt check` has kept work of a crate in this checkout, ./try_planted begins with that, as `rt must-fail` does, so
+only what an edit changed is proved; else, and with --all or --afresh, with nothing of the crate, over libraries as the gate leaves them.
+
 What this cannot see is a line written by hand. So `--afresh`, after the gate, tries some bodies over libraries that the gate has just
 proved and with nothing kept of their own crate: a false line is found with some chance in each run, and for certain by `--all`.
 """
@@ -52,6 +55,8 @@ import sources  # noqa: E402
 
 TRIED = "planted/TRIED.csv"
 COLUMNS = ["crate", "body", "day", "kit", "function", "goal", "digest"]
+# Where `rt check` keeps its work in the folder of a crate.
+KEPT = "out/incremental"
 OF_ONE_FUNCTION = ("Invariants.antt", "Answers.antt", "Proof.antt")
 # What a proof file says that names what the edit took away, or that cites such a proof.
 NAMES_ALONE = re.compile(r"has no field|is not in scope|has no `|was not admitted|is no name|: module `")
@@ -426,6 +431,35 @@ class Room:
         return os.path.join(self.top, "crates", name, "out/rlib", f"{name}.rlib")
 
 
+class KeptRoom(Room):
+    """A scratch copy of a crate in which checks of it begin with what `rt check` kept in this checkout, over the libraries that it built there."""
+
+    def __init__(self, crate):
+        super().__init__(crate, None)
+
+    def __enter__(self):
+        # It proves what changed since, and what it has proved stands beside the sources as they are.
+        ran = run(["rt", "check"], os.path.join(TOP, "crates", self.crate))
+        if ran.returncode:
+            raise Unknown(f"{self.crate} is not proved as it stands: {first_errors(ran.stdout)}")
+        shutil.rmtree(self.top, ignore_errors=True)
+        copy_crates([self.crate], self.top)
+        shutil.copytree(os.path.join(TOP, "crates", self.crate, KEPT), os.path.join(self.top, "kept"))
+        return self
+
+    def plain_words(self):
+        return [*super().plain_words(), "--incremental", os.path.join(self.top, "kept")]
+
+    def rlib(self, name):
+        return os.path.join(TOP, "crates", name, "out/rlib", f"{name}.rlib")
+
+
+def has_kept(crate):
+    """Whether `rt check` kept work of a crate in this checkout."""
+    folder = os.path.join(TOP, "crates", crate, KEPT)
+    return os.path.isdir(folder) and os.listdir(folder) != []
+
+
 # What a check said.
 
 
@@ -522,8 +556,8 @@ def try_together(room, trials, proofs=None, rounds=ROUNDS):
     return found
 
 
-def try_crate(crate, bodies, libraries):
-    """Tries bodies of one crate, and returns what came of each, by its key."""
+def try_crate(crate, bodies, room):
+    """Tries bodies of one crate in this room, and returns what came of each, by its key."""
     trials, found = [], {}
     for body in bodies:
         try:
@@ -531,9 +565,9 @@ def try_crate(crate, bodies, libraries):
         except BadEdit as why:
             found[body.key()] = BAD, "", str(why)
     try:
-        with alone(crate), Room(crate, libraries) as room:
+        with alone(crate), room as opened:
             for group in groups_of(trials):
-                found.update(try_together(room, group))
+                found.update(try_together(opened, group))
     except Unknown as why:
         found.update({it.key(): (UNKNOWN, "", str(why)) for it in bodies if it.key() not in found})
     return found
@@ -580,11 +614,14 @@ def try_planted(words):
     asked, digests, version = parser.parse_args(words), Digests(), kit()
     bodies = wanted(asked, digests, version)
 
+    kept = [] if asked.all else [it for it in bodies if has_kept(it)]
+
     def one(crate):
         started = time.time()
-        return note(crate, bodies[crate], try_crate(crate, bodies[crate], libraries), digests, version, started)
+        room = KeptRoom(crate) if crate in kept else Room(crate, libraries)
+        return note(crate, bodies[crate], try_crate(crate, bodies[crate], room), digests, version, started)
 
-    with alone("run"), Libraries(bodies) as libraries, concurrent.futures.ThreadPoolExecutor(asked.jobs) as pool:
+    with alone("run"), Libraries([it for it in bodies if it not in kept]) as libraries, concurrent.futures.ThreadPoolExecutor(asked.jobs) as pool:
         lost = sum(pool.map(one, [it for it in lines_of_crates() if it in bodies]))
     print(f"{sum(map(len, bodies.values()))} tried, {lost} not refused")
     return 1 if lost else 0
@@ -603,7 +640,7 @@ def try_afresh(crates):
     """Tries some bodies from nothing. Status 0 where each is refused by the function that its line names."""
     lines, digests, wrong, chosen = lines_tried(), Digests(), 0, picked(bodies_of(), crates)
     with alone("run"), Libraries(chosen) as libraries:
-        came = {crate: try_crate(crate, bodies, libraries) for crate, bodies in chosen.items()}
+        came = {crate: try_crate(crate, bodies, Room(crate, libraries)) for crate, bodies in chosen.items()}
     for crate, bodies in chosen.items():
         found = came[crate]
         for body in bodies:
