@@ -78,13 +78,15 @@ class Build:
         self.stale = progress.with_those_above(self.crates, self.before.changed())
         figures = {it: self.table.get(it, progress.USUAL) for it in [*self.crates, progress.READING, progress.LINKING]}
         seconds = {it: first if it not in kept else again if it in self.stale else 0 for it, (first, again, _) in figures.items()}
-        self.progress = progress.Progress(progress.side_by_side(self.crates, seconds, self.jobs))
+        alone = progress.last_alone(self.crates) if self.jobs > 1 else []
+        shared = {it: all_of_it * progress.WITH_ALL_JOBS if it in alone else all_of_it for it, all_of_it in seconds.items()}
+        self.progress = progress.Progress(progress.side_by_side(self.crates, shared, self.jobs))
         self.are_side_by_side = True
         if len(kept) == len(self.crates):
             seconds[progress.LINKING] = self.table[progress.LINKING][1]
-            alone = progress.Progress(progress.one_by_one(self.crates, seconds))
-            if alone.end <= self.progress.end:
-                self.progress, self.are_side_by_side = alone, False
+            one_by_one = progress.Progress(progress.one_by_one(self.crates, seconds))
+            if one_by_one.end <= self.progress.end:
+                self.progress, self.are_side_by_side = one_by_one, False
 
     def left(self):
         return progress.in_words(self.progress.seconds_left(time.monotonic() - self.start))
@@ -107,8 +109,9 @@ class Build:
     def proved(self):
         return f"{sum(it in self.progress.done for it in self.crates)} of {len(self.crates)} crates"
 
-    def call(self, *words):
-        """Runs rt in the program's folder and returns its status and what it said. rt ends when it refuses a crate, and when this launcher is stopped."""
+    def call(self, *words, until=lambda: False):
+        """Runs rt in the program's folder and returns its status and what it said. rt ends when it refuses a crate, when this launcher is stopped, and
+        where `until` says so: then its status is taken for 0."""
         with open(LOG, "a", encoding="utf-8") as log, open(LOG, encoding="utf-8", errors="replace") as read:
             read.seek(0, os.SEEK_END)
             said, start = "", time.monotonic()
@@ -124,6 +127,8 @@ class Build:
                     if refused:
                         raise proof.Refused(f"not proved: crate {refused[0]}: {refused[1]}: the log is {LOG}")
                     self.tell_progress(said)
+                    if until():
+                        return 0, said
             finally:
                 with contextlib.suppress(subprocess.TimeoutExpired):
                     rt.terminate()
@@ -138,9 +143,21 @@ class Build:
         why = f"crate {failed[1]}: {progress.reason(section[1], failed[1])}" if section else progress.reason(said)
         raise proof.Refused(f"not proved: {why}: `{what}` ended with status {status}, and the log is {LOG}")
 
+    def not_proved(self):
+        return [it for it in progress.lowest_first(self.crates) if it not in self.progress.done]
+
+    def has_begun_a_chain(self):
+        """Whether each crate that is left rests on all those before it, so that nothing can be proved beside it, and rt has begun the first: over work that
+        has begun, `rt run` makes no pass over all sources."""
+        left, below = self.not_proved(), progress.all_below(self.crates)
+        work = f"crates/{left[0]}/out/incremental" if left else ""
+        return all(set(left[:at]) <= below[it] for at, it in enumerate(left)) and os.path.isdir(work) and os.listdir(work) != []
+
     def prove(self):
-        """Proves crates that do not rest on each other side by side, each with one job."""
-        status, said = self.call("all", "check", "--jobs", str(self.jobs))
+        """Proves crates that do not rest on each other side by side, each with one job, and leaves those of which each rests on the one before: `rt run` proves
+        these with a job for each processor."""
+        until = self.has_begun_a_chain if self.jobs > 1 else lambda: False
+        status, said = self.call("all", "check", "--jobs", str(self.jobs), until=until)
         if status and progress.was_killed(said):
             self.tell("a check was killed, most likely for memory: once more, one at a time")
             self.jobs = 1
@@ -172,7 +189,8 @@ class Build:
         self.begin()
         if self.are_side_by_side:
             self.prove()
-            self.tell(f"compiling and linking, {self.left()} left")
+            left = [f"proving {it}" for it in self.not_proved()]
+            self.tell(f"{', '.join([*left, 'compiling and linking'])}, {self.left()} left")
         # rt runs the program once it is linked: its status is 0 only where all is proved and the program answers.
         status, said = self.call("run", "--", "--help")
         if status:

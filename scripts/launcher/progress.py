@@ -13,6 +13,8 @@ TABLE = f"{index.TOP}/scripts/crate_seconds.txt"
 USUAL = (120, 30, 2000)
 # rt's first step, a quick pass over all sources, and its last, which compiles and links, as the table calls them.
 READING, LINKING = "quick-pass", "linking"
+# The part of its seconds that a crate takes which has all processors to itself.
+WITH_ALL_JOBS = 0.6
 # So many seconds at the table's own pace count beside the machine's, so that the first steps alone do not decide.
 TRUST_IN_TABLE = 300
 
@@ -68,6 +70,14 @@ def one_by_one(crates, seconds):
 def lowest_first(crates):
     below = all_below(crates)
     return sorted(crates, key=lambda it: len(below[it]))
+
+
+def last_alone(crates):
+    """The crates that nothing can be proved beside once all others are proved: from the highest down, those that rest on all lower ones."""
+    below, order, found = all_below(crates), lowest_first(crates), []
+    while order and set(order[:-1]) <= below[order[-1]]:
+        found.append(order.pop())
+    return found
 
 
 def with_those_above(crates, changed):
