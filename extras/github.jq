@@ -9,13 +9,15 @@ def mm:
 def place: if .from_pm == .to_pm then "\(.from_pm[0] | mm),\(.from_pm[1] | mm)"
   else "\(.from_pm[0] | mm),\(.from_pm[1] | mm) to \(.to_pm[0] | mm),\(.to_pm[1] | mm)" end;
 def hole: "hole \(.hole) of file \(.drill) at \(place)";
-# what a finding has and lacks, and why
-def lack:
-  if .has_pm == null then "no ring" else "\(.kind) \(.has_pm | mm) mm, lacks \(.lacks_pm | mm) mm" end
-  + if .cause then ", \(.cause)" else "" end;
+# what a finding measures, the rule for it, and why
+def measured($rules):
+  if .kind == "gap" then "gap \(.has_pm | mm) mm (rule \($rules.gap_pm | mm) mm)"
+  elif .has_pm != null then "annular ring \(.has_pm | mm) mm (rule \($rules.ring_pm | mm) mm), \(.cause)"
+  elif .cause == "none" then "missing pad"
+  else "annular ring not judged, \(.cause)" end;
 # what a refusal is of: the file by its name, the file of waivers or the manifest
 def refused: if .waivers then "waivers" elif .name then .name else "manifest" end;
-# why a refusal is, and where: only what it tells
+# why a refusal is, and where: only what it says
 def stopped:
   refused + if .reason then ": \(.reason)" else "" end
   + if .place then " at place \(.place)" else "" end + if .byte then ", byte \(.byte)" else "" end;
@@ -33,8 +35,8 @@ def annotation($heading; $text):
   else
     .findings[]
     | if .kind == "ring" then
-        annotation("ring on \($report.files[.layer - 1].name)"; "\(.at | hole): \(lack)")
+        annotation("#\(.number) ring on \($report.files[.layer - 1].name)"; "\(.at | hole): \(measured($report.rules))")
       else
-        annotation("gap"; "\(.at | hole), \(.and | hole): \(lack)")
+        annotation("#\(.number) gap"; "\(.at | hole), \(.and | hole): \(measured($report.rules))")
       end
   end

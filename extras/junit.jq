@@ -11,13 +11,15 @@ def mm:
 def place: if .from_pm == .to_pm then "\(.from_pm[0] | mm),\(.from_pm[1] | mm)"
   else "\(.from_pm[0] | mm),\(.from_pm[1] | mm) to \(.to_pm[0] | mm),\(.to_pm[1] | mm)" end;
 def hole: "hole \(.hole) of file \(.drill) at \(place)";
-# what a finding has and lacks, and why
-def lack:
-  if .has_pm == null then "no ring" else "\(.kind) \(.has_pm | mm) mm, lacks \(.lacks_pm | mm) mm" end
-  + if .cause then ", \(.cause)" else "" end;
+# what a finding measures, the rule for it, and why
+def measured($rules):
+  if .kind == "gap" then "gap \(.has_pm | mm) mm (rule \($rules.gap_pm | mm) mm)"
+  elif .has_pm != null then "annular ring \(.has_pm | mm) mm (rule \($rules.ring_pm | mm) mm), \(.cause)"
+  elif .cause == "none" then "missing pad"
+  else "annular ring not judged, \(.cause)" end;
 # what a refusal is of: the file by its name, the file of waivers or the manifest
 def refused: if .waivers then "waivers" elif .name then .name else "manifest" end;
-# why a refusal is, and where: only what it tells
+# why a refusal is, and where: only what it says
 def stopped:
   .result + if .reason then " \(.reason)" else "" end
   + if .place then " at place \(.place)" else "" end + if .byte then ", byte \(.byte)" else "" end;
@@ -40,8 +42,9 @@ def skipped: "<skipped message=\"\(xml)\"/>";
     ([.findings[] | select(.waived != null)] | length) as $waived
     | suite(.findings | length; (.findings | length) - $waived; $waived),
     (.findings[]
+    | "#\(.number) \(measured($report.rules))" as $text
     | case(
         if .kind == "ring" then "\($report.files[.layer - 1].name): \(.at | hole)" else "\(.at | hole), \(.and | hole)" end;
-        if .waived != null then "\(lack), waived: \(.waived)" | skipped else lack | failure end))
+        if .waived != null then "\($text), waived: \(.waived)" | skipped else $text | failure end))
   end,
   "</testsuite>"

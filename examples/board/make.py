@@ -283,8 +283,8 @@ def length(nm):
     return f"{'-' * (nm < 0)}{short(nm)}".removesuffix(".0")
 
 
-def told(files):
-    """The report for people at the ring and the gap of the board."""
+def report_for_people(files):
+    """The report for people at the ring and the gap of the board. Its findings are numbered as they come."""
     top, bottom, pth, _ = files
     no_pad, rounded = len(VIAS) + NO_PAD, len(VIAS) + sum(map(len, SOCKETS))
 
@@ -295,27 +295,26 @@ def told(files):
     def flash(layer, x, y):
         return next(number for number, it in enumerate(layer.flashes, 1) if it[3:] == (x, y))
 
-    def lacking(layer, name, holes):
+    def rings(layer, number, name, holes):
         off = flash(layer, *VIAS[OFF_CENTRE])
-        lines = [
-            f"{name}: {2 + len(holes)} of {len(pth.holes)} rings lacking",
-            f"  {at(OFF_CENTRE)}: ring {length(RING - 1_000)}, lacks 0.001, off centre: flash {off}, disc 0.6x0.6, hole off by 0.001,0",
-        ]
-        lines += [f"  {at(hole)}: no ring, no pad" for hole in holes]
-        return [*lines, f"  {at(rounded)}: no ring, only a macro flash: flash {flash(layer, *HEADER[0])}"]
+        found = [f"{at(OFF_CENTRE)}: annular ring {length(RING - 1_000)} (rule {length(RING)}), off centre: flash {off}, disc 0.6x0.6, hole off by 0.001,0"]
+        found += [f"{at(hole)}: missing pad" for hole in holes]
+        found += [f"{at(rounded)}: annular ring not judged, only a macro flash: flash {flash(layer, *HEADER[0])}"]
+        lines = [f"  #{finding} {words}" for finding, words in enumerate(found, number)]
+        return [f"annular ring on {name}: {len(found)} of {len(pth.holes)} holes below the rule", *lines]
 
     return [
-        f"ring {length(RING)}, gap {length(GAP)}",
-        *lacking(top, "board-F_Cu.gbr", []),
-        *lacking(bottom, "board-B_Cu.gbr", [no_pad]),
-        "1 gap lacking",
-        f"  {at(59)}, and {at(60)}: gap 0.2, lacks 0.05",
+        f"rules: annular ring {length(RING)} mm, hole to hole {length(GAP)} mm",
+        *rings(top, 1, "board-F_Cu.gbr", []),
+        *rings(bottom, 3, "board-B_Cu.gbr", [no_pad]),
+        "hole to hole: 1 gap too small",
+        f"  #6 {at(59)}, and {at(60)}: gap 0.2 (rule {length(GAP)})",
         "2 off centre: the pad is large enough for a hole at its centre; drill files are rounded: see `ringcheck explain ring`",
         "2 only a macro flash: flashes by a macro are not judged: choose circle, oval or rectangle: see `ringcheck explain macro`",
-        "1 no pad: no pad reaches the hole's centre: removed or painted pad, plane, other origin or format: see `ringcheck explain none`",
-        "rings lack 0.001 to 0.001",
-        "gaps lack 0.05 to 0.05",
-        f"this board meets ring none, gap 0.2; where a pad is, ring {length(RING - 1_000)}",
+        "1 missing pad: no pad reaches the hole's centre: removed or painted pad, plane, other origin or format: see `ringcheck explain none`",
+        f"smallest ring {length(RING - 1_000)} (rule {length(RING)})",
+        f"smallest gap 0.2 (rule {length(GAP)})",
+        f"this board meets annular ring none, hole to hole 0.2; where a pad is, annular ring {length(RING - 1_000)}",
         "FINDINGS 6",
     ]
 
@@ -363,7 +362,7 @@ def made():
     ]
     found["expected/check-0.15.txt"] = report(files, RING, True)
     found["expected/check-0.149.txt"] = report(files, RING - 1_000, False)
-    found["expected/report-0.15.txt"] = told(files)
+    found["expected/report-0.15.txt"] = report_for_people(files)
     found["expected/measure.txt"] = measure(files)
     found["expected/show-top.csv"] = top.table()
     found["expected/show-pth.csv"] = pth.table()

@@ -29,7 +29,7 @@ class Row(NamedTuple):
     hole: str
     at: str
     has: str
-    lacks: str
+    rule: str
     why: str
     place: tuple
 
@@ -65,18 +65,18 @@ def name_of(owners, hole, place):
     return owners.at(place) or f"hole {hole.number} of file {hole.drill}"
 
 
-def row_of(finding, files, owners, origin):
+def row_of(finding, rules, files, owners, origin):
     places = [marking.board_place(it.middle(), origin) for it in finding.holes]
     holes = " and ".join(name_of(owners, *it) for it in zip(finding.holes, places))
     middle = tuple(sum(it) // len(places) for it in zip(*places))
     layer = files[finding.layer - 1].layer if finding.layer else ""
     has = "none" if finding.has is None else millimetres(finding.has)
-    lacks = "" if finding.lacks is None else millimetres(finding.lacks)
+    rule = millimetres(rules["ring_pm" if finding.kind == "ring" else "gap_pm"])
     why = CAUSES.get(finding.cause, finding.cause or "")
     if finding.waived is not None:
         why += f" (waived: {finding.waived})"
     at = ", ".join(millimetres(it * 1000) for it in middle)
-    return Row(finding.number, finding.kind, layer, holes, at, has, lacks, why, middle)
+    return Row(finding.number, finding.kind, layer, holes, at, has, rule, why, middle)
 
 
 def summary_of(answer, findings):
@@ -102,7 +102,7 @@ def check_board(board, settings):
     if findings:
         marking.mark(board, layer, settings.origin, findings, answer["rules"])
     owners, origin = marking.Owners(board), plotting.origin_of(board, settings.origin)
-    return Outcome(summary_of(answer, findings), [row_of(it, files, owners, origin) for it in findings], folder)
+    return Outcome(summary_of(answer, findings), [row_of(it, answer["rules"], files, owners, origin) for it in findings], folder)
 
 
 def print_findings(board):

@@ -14,7 +14,7 @@ CAUSES = {
     "holed": "only a flash with a hole",
     "scaled": "only a scaled flash",
     "turned": "only a turned flash",
-    "none": "no pad",
+    "none": "missing pad",
     "oblique": "oblique slot: not judged",
 }
 LIMIT = 600
@@ -43,7 +43,6 @@ class Finding(NamedTuple):
     layer: Optional[int]
     holes: Tuple[Hole, ...]
     has: Optional[int]
-    lacks: Optional[int]
     cause: Optional[str]
     waived: Optional[str]
 
@@ -124,7 +123,7 @@ def object_of(status, printed, complaint):
         raise Problem("ringcheck ran out of memory, so nothing was checked.")
     try:
         answer = json.loads(printed)
-        well = answer["format"] == "ringcheck" and answer["version"] == 1 and STATUSES[answer["result"]] == status
+        well = answer["format"] == "ringcheck" and answer["version"] == 2 and STATUSES[answer["result"]] == status
     except (ValueError, KeyError, TypeError):
         well = False
     if not well:
@@ -137,11 +136,11 @@ def hole_of(member):
 
 
 def findings_of(answer):
-    """The findings, numbered from 1 in the order of `check`."""
+    """The findings, with the numbers that the report and the picture give them."""
     found = []
-    for number, it in enumerate(answer["findings"], 1):
+    for it in answer["findings"]:
         holes = (hole_of(it["at"]),) + ((hole_of(it["and"]),) if it["kind"] == "gap" else ())
-        found.append(Finding(number, it["kind"], it.get("layer"), holes, it["has_pm"], it["lacks_pm"], it.get("cause"), it["waived"]))
+        found.append(Finding(it["number"], it["kind"], it.get("layer"), holes, it["has_pm"], it.get("cause"), it["waived"]))
     return found
 
 

@@ -9,7 +9,7 @@ from . import checking, marking
 from .plotting import point
 from .report import Problem
 
-COLUMNS = [("No.", 45), ("Finding", 65), ("Layer", 70), ("Hole", 260), ("Place, mm", 150), ("Has, mm", 90), ("Lacks, mm", 90), ("Why", 300)]
+COLUMNS = [("No.", 45), ("Finding", 65), ("Layer", 70), ("Hole", 260), ("Place, mm", 150), ("Has, mm", 90), ("Rule, mm", 90), ("Why", 300)]
 ORIGINS = [("page", "Corner of the page"), ("drill", "Drill/place file origin")]
 FAR = 1000000000
 # What was last asked for in this run of KiCad, by board.

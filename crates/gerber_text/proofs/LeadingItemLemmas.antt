@@ -41,7 +41,7 @@ unfinished_by : (t : Bool) (b : ℕ) → b ≢ 42 → AllByRecursion (λ x. x �
 unfinished_by true b ne = tt
 unfinished_by false b ne = (ne, tt)
 
-joined : (P : ℕ → Type 0) (xs ys : List ℕ) → AllByRecursion P xs → AllByRecursion P ys → AllByRecursion P (xs ++ ys)
+pub joined : (P : ℕ → Type 0) (xs ys : List ℕ) → AllByRecursion P xs → AllByRecursion P ys → AllByRecursion P (xs ++ ys)
 joined P [] ys h k = k
 joined P (x ∷ xs) ys h k = (h.0, joined P xs ys h.1 k)
 

@@ -1,5 +1,6 @@
 pub mod PlottingLemmas
 pub mod LeadingItemLemmas
+pub mod LeadingTextLemmas
 pub mod Items
 pub mod TextIsSayable
 pub mod FaultsStay

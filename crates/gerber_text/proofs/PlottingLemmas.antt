@@ -1,5 +1,5 @@
--- The last operation, after more commands.
-use Rattle.std.proofs.Common.{◌≡◌, ℕ, Bool, false, [], ◌∷◌, ◌++◌, Option, None, Some, unwrap_or, refl, sym, ap, ◌∙◌}
+-- Commands that a reader passes: they are gone, and the last operation is that among them, or before them.
+use Rattle.std.proofs.Common.{◌≡◌, ℕ, Bool, false, [], ◌∷◌, ◌++◌, Option, None, Some, unwrap_or, refl, sym, ap, ◌∙◌, append-nil}
 use Rattle.grid_units.specs.Lists.{last_set}
 use Rattle.grid_units.proofs.LookbackLemmas.{last_or-append, option_or_none}
 use Rattle.gerber_commands.specs.declared.command.Command.{Command}
@@ -7,6 +7,10 @@ use Rattle.gerber_commands.specs.declared.command.Interpolation.{Interpolation}
 use Rattle.gerber_commands.specs.Rows.{modes_of}
 use Rattle.gerber_text.specs.declared.placed.Placed.{Placed}
 use Rattle.gerber_text.specs.Reading.{Entries, plot_of, placed, is_plotting}
+
+-- commands that are not held count among those that are gone, where no others are held
+pub counted_gone : (gone held added : Entries) → held ≡ [] → (gone ++ held) ++ added ≡ (gone ++ added) ++ held
+counted_gone gone held added none = (λ i. (gone ++ none i) ++ added) ∙ (ap (λ (x : Entries). x ++ added) (append-nil gone) ∙ (sym (append-nil (gone ++ added)) ∙ (λ i. (gone ++ added) ++ sym none i)))
 
 -- after more commands, whose last operation is that of this one
 pub plots_on : (before after added : Entries) (what : Command) (old new : Bool) → after ≡ before ++ added → last_set (λ entry. plot_of entry.what) added ≡ plot_of what → old ≡ is_plotting before → new ≡ unwrap_or (plot_of what) old → new ≡ is_plotting after

@@ -1,13 +1,14 @@
 -- What a reader in pieces holds of the bytes so far: the commands of the items that have ended, except those it has dropped,
 -- and the bytes of the item that has not ended. It does not keep the text.
-use Rattle.std.specs.Prelude.{◌≡◌, ℕ, suc, ◌<◌, ◌≤◌, false, List, [], ◌++◌, length, take, Result, Ok, Err, Option, None, Some}
+use Rattle.std.specs.Prelude.{◌≡◌, ℕ, suc, ◌<◌, ◌≤◌, false, List, [], ◌∷◌, ◌++◌, length, take, drop, Result, Ok, Err, Option, None, Some}
 use Rattle.grid_units.specs.Results.{IfFault}
 use Rattle.grid_units.specs.declared.fault.Fail.{Fail}
 use Rattle.grid_units.specs.declared.fault.Fail.TheVariants as fails
 use Rattle.gerber_text.specs.declared.reader.Progress.{Progress}
 use Rattle.gerber_text.specs.declared.reader.WordReader.{WordReader}
 use Rattle.gerber_text.specs.declared.placed.PassedOperation.{PassedOperation}
-use Rattle.gerber_text.specs.FastPath.{operation_commands}
+use Rattle.gerber_text.specs.declared.placed.PassedText.{PassedText}
+use Rattle.gerber_text.specs.FastPath.{operation_commands, text_command}
 use Rattle.gerber_text.specs.Cut.{OffsetByte, offset_bytes, bytes_of, first_offset, has_end, Splits}
 use Rattle.gerber_text.specs.Reading.{Entries, placed, commands_from, shown, Shows, Reads, SpellsBeforeFault, is_plotting}
 
@@ -88,3 +89,11 @@ HasFailed reader text e = FailedAfterDrop reader [] text e
 -- the commands of an operation that a reader has passed, each with the number of the item and the offset of its first byte
 abbrev pub passed_entries : PassedOperation → Entries
 passed_entries passed = placed passed.place passed.byte (operation_commands passed.operation)
+
+-- the text of a comment or an attribute that a reader has passed: in the bytes that the reader was given, it stands after three
+abbrev pub passed_text : PassedText → List ℕ → List ℕ
+passed_text passed bytes = take passed.item.text_len (drop 3 bytes)
+
+-- the command of a text that a reader has passed, with the number of the item and the offset of its first byte
+abbrev pub text_entries : PassedText → List ℕ → Entries
+text_entries passed text = placed passed.place passed.byte (text_command passed.item.kind text ∷ [])

@@ -10,6 +10,7 @@ mod placed;
 mod reader;
 mod sayable_items;
 mod sayable_lists;
+mod text_items;
 mod writer;
 
 pub use fast_path::{LeadingOperation, is_plot, leading_operation};
@@ -23,8 +24,9 @@ pub use item::{end_byte, is_end_item, is_ended, read_item};
 pub use laws::{
     canonical_items, exact_texts, sayable_texts, spelled_commands, unique_reading, written_texts,
 };
-pub use placed::{PassedOperation, Placed};
+pub use placed::{PassedOperation, PassedText, Placed};
 pub use reader::{Kept, WordReader, read_kept, read_words};
 pub use sayable_items::is_sayable;
 pub use sayable_lists::sayable;
+pub use text_items::{LeadingText, TextKind, leading_text};
 pub use writer::{write_commands, write_placed};

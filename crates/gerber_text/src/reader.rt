@@ -1,6 +1,6 @@
 //! A Gerber text, read whole or in pieces.
 
-ghost use Rattle.std.specs.Prelude.{◌≡◌, List, ℕ, ◌+◌, ◌≤◌, ◌<◌, ◌||◌, ◌==◌, true, false, Bool, if◌then◌else◌, Ok, OnOk, OnErr, IfOk, IfErr, IfNone, IfSome, take, length, vec_len, slice_index, All, IsTrue, map, ◌++◌, [], ◌∷◌, unwrap_or};
+ghost use Rattle.std.specs.Prelude.{◌≡◌, List, ℕ, ◌+◌, ◌≤◌, ◌<◌, ◌||◌, ◌==◌, true, false, Bool, if◌then◌else◌, Ok, OnOk, OnErr, IfOk, IfErr, IfNone, IfSome, take, drop, length, vec_len, slice_index, All, IsTrue, map, ◌++◌, [], ◌∷◌, unwrap_or};
 ghost use Rattle.std.specs.List.{list_all};
 ghost use Rattle.grid_units.specs.declared.fault.Fail.TheVariants.{Refused};
 ghost use Rattle.grid_units.specs.Limits.{item_limit, text_limit};
@@ -12,7 +12,8 @@ ghost use Rattle.gerber_text.specs.Reading.{Entries, Shows, spelled, placed, Res
 ghost use Rattle.gerber_text.specs.Inner.Bytes.{IsInside, HasLeadingItem, may_follow_end};
 ghost use Rattle.gerber_text.specs.Writing.{without_places, sayable};
 
-use crate::placed::{PassedOperation, Placed};
+use crate::placed::{PassedOperation, PassedText, Placed};
+use crate::text_items::{LeadingText, leading_text};
 use crate::{
     Command, Interpolation, ItemCommands, LeadingOperation, end_byte, is_end_item, is_plot,
     leading_operation, read_item,
@@ -69,7 +70,7 @@ fn may_follow_end(byte: u8) -> bool
 }
 
 /// How many of the first bytes neither end the item nor are line breaks.
-fn inside_len(bytes: &[u8], end: u8) -> usize
+pub(crate) fn inside_len(bytes: &[u8], end: u8) -> usize
     ensures within { result ≤ length bytes.now }
     ensures inside { All (IsInside end) (take result bytes.now) }
     ensures stops { 0 < length bytes.now → result ≡ 0 → IsInside end (slice_index bytes.now 0) → ⊥ }
@@ -245,8 +246,8 @@ fn parse_item(
 
 impl Progress {
     ghost use Rattle.std.specs.Prelude.{[], ◌∷◌, List, None};
-    ghost use Rattle.gerber_text.specs.FastPath.{HasLeadingOperation, operation_commands};
-    ghost use Rattle.gerber_text.specs.Holding.{Advances, Refuses, RefusesText, Holds, Ends, passed_entries};
+    ghost use Rattle.gerber_text.specs.FastPath.{HasLeadingOperation, HasLeadingText, operation_commands, text_command};
+    ghost use Rattle.gerber_text.specs.Holding.{Advances, Refuses, RefusesText, Holds, Ends, passed_entries, passed_text, text_entries};
     ghost use Rattle.grid_units.specs.Results.{AnswersAlways};
 
     /// The refusal of the next item, for this reason.
@@ -376,6 +377,59 @@ impl Progress {
         let len = item_len + self.skip_breaks(&bytes[item_len..]);
         Some(PassedOperation {
             operation,
+            place,
+            byte,
+            len,
+        })
+    }
+
+    /// The comment or the attribute at the start of these bytes, if one stands there whole and no other item has begun.
+    fn text(&self, bytes: &[u8]) -> Option<LeadingText>
+        ensures running { IfSome result (λ found. self.now.ended ≡ false) }
+        ensures fresh { IfSome result (λ found. vec_len self.now.item ≡ 0) }
+        ensures room { IfSome result (λ found. self.now.offset + length bytes.now ≤ text_limit) }
+        ensures within { IfSome result (λ found. found.len ≤ length bytes.now) }
+        ensures begins { IfSome result (λ found. HasLeadingText bytes.now found) }
+    {
+        if self.ended || !self.item.is_empty() || bytes.len() as u64 > TEXT_LIMIT - self.offset {
+            return None;
+        }
+        leading_text(bytes)
+    }
+
+    /// Counts the item of a comment or an attribute. Its command is not held.
+    fn count_text(&mut self, bytes: &[u8], item: LeadingText)
+        requires running { self.old.ended ≡ false }
+        requires fresh { vec_len self.old.item ≡ 0 }
+        requires some { 0 < item.len }
+        requires within { item.len ≤ length bytes.now }
+        requires begins { HasLeadingText bytes.now item }
+        requires room { self.old.offset + length bytes.now ≤ text_limit }
+        ensures offset { self.new.offset ≡ self.old.offset + item.len }
+        ensures held { self.new.commands.items ≡ self.old.commands.items }
+        ensures ok { self.old.commands.items ≡ [] → (gone : Entries) (text : List ℕ) → Holds self.old gone text → Holds self.new (gone ++ placed (self.old.items + 1) self.old.offset (text_command item.kind (take item.text_len (drop 3 bytes.now)) ∷ [])) (text ++ take item.len bytes.now) }
+    {
+        self.items += 1;
+        self.offset += item.len as u64;
+    }
+
+    /// Passes the comment or the attribute at the start of these bytes and the line breaks after it, if one stands there
+    /// whole. Its command is not held.
+    fn pass_text(&mut self, bytes: &[u8]) -> Option<PassedText>
+        ensures within { IfSome result (λ passed. (0 < passed.len) × (passed.len ≤ length bytes.now)) }
+        ensures text { IfSome result (λ passed. passed.item.text_len + 3 ≤ length bytes.now) }
+        ensures held { self.new.commands.items ≡ self.old.commands.items }
+        ensures some { self.old.commands.items ≡ [] → (gone : Entries) (text : List ℕ) → Holds self.old gone text → IfSome result (λ passed. Holds self.new (gone ++ text_entries passed (passed_text passed bytes.now)) (text ++ take passed.len bytes.now)) }
+        ensures none { IfNone result (self.new ≡ self.old) }
+    {
+        let item = self.text(bytes)?;
+        let item_len = item.len;
+        let place = self.items + 1;
+        let byte = self.offset;
+        self.count_text(bytes, item);
+        let len = item_len + self.skip_breaks(&bytes[item_len..]);
+        Some(PassedText {
+            item,
             place,
             byte,
             len,
@@ -646,7 +700,7 @@ impl WordReader {
     ghost use Rattle.grid_units.specs.declared.fault.Fail.{Fail as TheFail};
     ghost use Rattle.grid_units.specs.Results.{AnswersAlways};
     ghost use Rattle.gerber_text.specs.Reading.{Shows, Reads, ReadsUpToFault};
-    ghost use Rattle.gerber_text.specs.Holding.{StandsAfter, StandsAfterDrop, HasFailed, FailedAfterDrop, failure, held, passed_entries};
+    ghost use Rattle.gerber_text.specs.Holding.{StandsAfter, StandsAfterDrop, HasFailed, FailedAfterDrop, failure, held, passed_entries, passed_text, text_entries};
 
     /// A reader that has read nothing.
     pub fn new(alloc: Global) -> WordReader
@@ -702,6 +756,20 @@ impl WordReader {
         ensures failed { failure self.new ≡ failure self.old }
     {
         self.progress.pass_operation(bytes)
+    }
+
+    /// Passes the comment or the attribute at the start of these bytes, as `G04 top copper*` or `%TA.AperFunction,ViaPad*%`,
+    /// and the line breaks after it, if one stands there whole and no other item has begun. Its command goes to the
+    /// caller: the reader does not hold it, nor copies its text.
+    pub fn pass_text(&mut self, bytes: &[u8]) -> Option<PassedText>
+        ensures within { IfSome result (λ passed. (0 < passed.len) × (passed.len ≤ length bytes.now)) }
+        ensures text { IfSome result (λ passed. passed.item.text_len + 3 ≤ length bytes.now) }
+        ensures held { held self.new ≡ held self.old }
+        ensures some { held self.old ≡ [] → (gone : Entries) (text : List ℕ) → StandsAfterDrop self.old gone text → IfSome result (λ passed. StandsAfterDrop self.new (gone ++ text_entries passed (passed_text passed bytes.now)) (text ++ take passed.len bytes.now)) }
+        ensures none { IfNone result (self.new ≡ self.old) }
+        ensures failed { failure self.new ≡ failure self.old }
+    {
+        self.progress.pass_text(bytes)
     }
 
     /// Takes some of the next piece of the text, from its first byte on: an item, a part of one or line breaks. Returns

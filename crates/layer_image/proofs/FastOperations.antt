@@ -20,7 +20,6 @@ use Rattle.layer_image.specs.declared.cached_values.CachedValues.{CachedValues}
 use Rattle.layer_image.specs.declared.cached_values.Lengths.{Lengths}
 use Rattle.layer_image.specs.declared.flash.Flash.{Flash}
 use Rattle.layer_image.specs.declared.flashes.Flashes.{Flashes}
-use Rattle.layer_image.specs.declared.keep.Keep.{Keep}
 use Rattle.layer_image.specs.declared.state.State.{State}
 use Rattle.layer_image.specs.declared.flash.What.{What}
 use Rattle.layer_image.specs.declared.grid.CopyGrid.{CopyGrid}
@@ -28,7 +27,7 @@ use Rattle.layer_image.specs.Lookback.{GraphicsState, current_aperture}
 use Rattle.layer_image.specs.Flashes.{numbers_below, copies, copies_at, copy_at, grid_at, is_flash, aperture_flashes, flash_at, added_flashes, current_unit, current_decimals, what_at}
 use Rattle.layer_image.specs.Inner.MovedPads.{moved, origin}
 use Rattle.layer_image.specs.Rules.{first_broken, needs_aperture, has_too_many_digits, reaches_too_far, makes_too_many_flashes, flashes_too_far, is_long_coordinate, is_far_coordinate, is_far_pad, is_far_point}
-use Rattle.layer_image.specs.KeptFlashes.{Adds, flash_count}
+use Rattle.layer_image.specs.KeptFlashes.{KeptParts, Adds, flash_count}
 use Rattle.layer_image.specs.Inner.IsStateAfter.{IsStateAfter, Applies, AppliesOrRefuses, after, state_of}
 use Rattle.layer_image.specs.Inner.FastOperations.{AreLengths, IsSingleFlash, AreCachedValues, IsFlashOf, changes_cached, is_far_flash, is_within, point_of}
 use Rattle.layer_image.proofs.KeptFlashesLemmas.{adds_none}
@@ -227,5 +226,5 @@ move_applies old new action x y i j move state_after same =
 pub flash_applies : (old new : State) (c : Command) (flash : Flash) → added_flashes (state_of old) c ≡ flash ∷ [] → state_of new ≡ after c (state_of old) → Adds old.flashes (flash ∷ []) new.flashes → Applies old c new
 flash_applies old new c flash is state_after adds = record { state_after = state_after; flashes = subst (λ (l : List Flash). Adds old.flashes l new.flashes) (sym is) adds }
 
-pub step_result : (old new : State) (c : Command) → first_broken (state_of old) (flash_count old.flashes) c ≡ None → Applies old c new → (keep : Keep) (before : List Command) → IsStateAfter old keep before → AppliesOrRefuses keep before c new (Ok tt)
-step_result old new c legal takes keep before is_state = (sym (same_rule old keep before c is_state) ∙ legal, state_after_one_more old new keep before c is_state takes)
+pub step_result : (old new : State) (c : Command) → first_broken (state_of old) (flash_count old.flashes) c ≡ None → Applies old c new → (parts : KeptParts) (before : List Command) → IsStateAfter old parts before → AppliesOrRefuses parts before c new (Ok tt)
+step_result old new c legal takes parts before is_state = (sym (same_rule old parts before c is_state) ∙ legal, state_after_one_more old new parts before c is_state takes)

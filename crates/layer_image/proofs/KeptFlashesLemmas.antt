@@ -1,7 +1,11 @@
 -- Flashes that are added to others.
-use Rattle.std.proofs.Common.{◌≡◌, ◌+◌, cond, Bool, true, false, List, [], ◌++◌, length-append, refl, sym, ap, ◌∙◌, append-nil, append_assoc, arith}
+use Rattle.std.proofs.Common.{◌≡◌, ◌+◌, cond, Bool, true, false, ℕ, suc, List, [], ◌∷◌, ◌++◌, length, length-append, refl, sym, ap, ◌∙◌, append-nil, append_assoc, arith}
+use Rattle.std.specs.List.{cons_option}
 use Rattle.std.proofs.lemmas.List.Elements.{filter_map-append}
 use Rattle.std.proofs.lemmas.List.Sums.{sum_by-append}
+use Rattle.pad_shapes.specs.declared.pad.Pad.{Pad}
+use Rattle.layer_image.specs.declared.flash.What.{What}
+use Rattle.layer_image.specs.declared.flash.What.TheVariants as what
 use Rattle.layer_image.specs.declared.flash.Flash.{Flash}
 use Rattle.layer_image.specs.declared.flashes.Flashes.{Flashes}
 use Rattle.layer_image.specs.Flashes.{pads_of, pad_in, is_other, other_count}
@@ -22,6 +26,16 @@ kept_pads b first more = ap (λ l. cond b l []) (filter_map-append (λ (f : Flas
 
 pub others_append : (first more : List Flash) → other_count (first ++ more) ≡ other_count first + other_count more
 others_append first more = sum_by-append (λ (f : Flash). cond (is_other f.what) 1 0) first more
+
+-- a flash is a pad, or it is counted among the others
+one_more : (w : What) (pads : List Pad) (n m : ℕ) → length pads + n ≡ m → length (cons_option (pad_in w) pads) + ((0 + cond (is_other w) 1 0) + n) ≡ suc m
+one_more (what.Pad pad) pads n m h = omega (arith, h)
+one_more (what.Other why) pads n m h = omega (arith, h)
+
+pub pads_and_others : (flashes : List Flash) → length (pads_of flashes) + other_count flashes ≡ length flashes
+pads_and_others [] = refl
+pads_and_others (flash ∷ flashes) =
+    ap (λ n. length (pads_of (flash ∷ flashes)) + n) (others_append (flash ∷ []) flashes) ∙ one_more flash.what (pads_of flashes) (other_count flashes) (length flashes) (pads_and_others flashes)
 
 pub adds_none : (kept : Flashes) → Adds kept [] kept
 adds_none kept = record { same = refl; count = omega arith; others = omega arith; pads = kept_none (keeps_pads kept.keep) kept.pads.items; all = kept_none (keeps_flashes kept.keep) kept.all.items }

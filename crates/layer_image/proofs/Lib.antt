@@ -12,6 +12,7 @@ pub mod UniqueReading
 pub mod Pieces
 pub mod FastOperations
 pub mod OperationScans
+pub mod TextScans
 pub mod FaultReasons
 pub mod ReadingExists
 pub mod LegalPads

@@ -14,10 +14,11 @@ use Rattle.gerber_text.specs.Holding.{StandsAfterDrop, FailedAfterDrop, FailsWit
 use Rattle.gerber_text.proofs.ShowsLemmas.{shown_spelled}
 use Rattle.gerber_text.proofs.FinishLemmas.{holds_shows, shows_reads}
 use Rattle.gerber_text.proofs.FaultsStay.{fails_longer}
+use Rattle.pad_shapes.specs.declared.pad.Pad.{Pad}
 use Rattle.layer_image.specs.declared.keep.Keep.{Keep}
 use Rattle.layer_image.specs.declared.keep.Keep.TheVariants as keep
 use Rattle.layer_image.specs.Faults.{IsFirstFault}
-use Rattle.layer_image.specs.Layers.{LayerImage, ReadsKept, ReadsLayer}
+use Rattle.layer_image.specs.Layers.{LayerImage, ReadsKept, ReadsLayer, ReadsWithoutPads}
 use Rattle.grid_units.specs.Lists.{IsLegal}
 use Rattle.layer_image.specs.Holding.{ShowsLayerFault}
 use Rattle.grid_units.specs.Limits.{text_limit}
@@ -110,7 +111,7 @@ all_kept text (Err fails.Memory) h = tt
 all_kept text (Err (fails.Refused f)) h = h
 
 -- the end that was refused is a layer's fault
-pub end_err : (text : List ℕ) (gone : Entries) (keep : Keep) (e : Fail) → AnswersAlways (entries_after gone) (λ answer. Reads text answer) (Err e) → SpellsBeforeFault text e gone → IsLegal broken_rule (without_places gone)
-    → Answers {T = LayerImage} (λ layer. layer) (ReadsKept keep text) (Err e)
-end_err text gone keep fails.Memory h kept legal = tt
-end_err text gone keep (fails.Refused f) h kept legal = inr (gone, h, kept, legal)
+pub end_err : (text : List ℕ) (gone : Entries) (keep : Keep) (taken : List Pad) (e : Fail) → AnswersAlways (entries_after gone) (λ answer. Reads text answer) (Err e) → SpellsBeforeFault text e gone → IsLegal broken_rule (without_places gone)
+    → Answers {T = LayerImage} (λ layer. layer) (ReadsWithoutPads keep taken text) (Err e)
+end_err text gone keep taken fails.Memory h kept legal = tt
+end_err text gone keep taken (fails.Refused f) h kept legal = inr (gone, h, kept, legal)

@@ -1,9 +1,8 @@
 -- A judge that has taken in one more command knows it.
-use Rattle.std.proofs.Common.{◌≡◌, ◌+◌, cond, List, [], ◌∷◌, ◌++◌, length, length-append, pos, false, sym, ap, subst, ◌∙◌}
+use Rattle.std.proofs.Common.{◌≡◌, ◌+◌, cond, List, [], ◌∷◌, ◌++◌, length, length-append, pos, false, sym, ap, subst, ◌∙◌, append_assoc}
 use Rattle.layer_image.specs.declared.flash.Flash.{Flash}
 use Rattle.layer_image.specs.declared.flashes.Flashes.{Flashes}
-use Rattle.layer_image.specs.declared.keep.Keep.{Keep}
-use Rattle.layer_image.specs.KeptFlashes.{flash_count, keeps_flashes, keeps_pads, KeepsFlashes, Adds}
+use Rattle.layer_image.specs.KeptFlashes.{KeptParts, flash_count, keeps_flashes, keeps_pads, KeepsFlashes, Adds}
 use Rattle.gerber_commands.specs.declared.command.Command.{Command}
 use Rattle.layer_image.specs.declared.state.State.{State}
 use Rattle.layer_image.specs.Lookback.{state_after, no_repeat, unit_set, format_set, region_set, definition_set, defines_macro, aperture_selected, x_set, y_set, turn_set, scale_set, block_set}
@@ -31,24 +30,24 @@ state_after-more before c = λ i. record {
 }
 
 -- the rule that a command breaks after these is the one that the judge finds
-pub same_rule : (state : State) (keep : Keep) (before : List Command) (c : Command) → IsStateAfter state keep before → first_broken (state_of state) (flash_count state.flashes) c ≡ broken_rule before c
-same_rule state keep before c is_state = λ i. first_broken (is_state.state_after i) (is_state.flashes.count i) c
+pub same_rule : (state : State) (parts : KeptParts) (before : List Command) (c : Command) → IsStateAfter state parts before → first_broken (state_of state) (flash_count state.flashes) c ≡ broken_rule before c
+same_rule state parts before c is_state = λ i. first_broken (is_state.state_after i) (is_state.flashes.count i) c
 
 -- what is kept of some flashes, and of those that are added
-pub keeps_more : (old new : Flashes) (keep : Keep) (first more : List Flash) → KeepsFlashes old keep first → Adds old more new → KeepsFlashes new keep (first ++ more)
-keeps_more old new keep first more keeps adds = record {
+pub keeps_more : (old new : Flashes) (parts : KeptParts) (first more : List Flash) → KeepsFlashes old parts first → Adds old more new → KeepsFlashes new parts (first ++ more)
+keeps_more old new parts first more keeps adds = record {
   same = adds.same ∙ keeps.same;
   count = adds.count ∙ (λ i. keeps.count i + length more) ∙ sym (length-append first more);
   others = adds.others ∙ (λ i. keeps.others i + other_count more) ∙ sym (others_append first more);
-  pads = adds.pads ∙ (λ i. keeps.pads i ++ cond (keeps_pads (keeps.same i)) (pads_of more) []) ∙ sym (kept_pads (keeps_pads keep) first more);
-  all = adds.all ∙ (λ i. keeps.all i ++ cond (keeps_flashes (keeps.same i)) more []) ∙ sym (kept_append (keeps_flashes keep) first more);
+  pads = ap (λ l. parts.taken ++ l) adds.pads ∙ sym (append_assoc parts.taken old.pads.items _) ∙ (λ i. keeps.pads i ++ cond (keeps_pads (keeps.same i)) (pads_of more) []) ∙ sym (kept_pads (keeps_pads parts.keep) first more);
+  all = adds.all ∙ (λ i. keeps.all i ++ cond (keeps_flashes (keeps.same i)) more []) ∙ sym (kept_append (keeps_flashes parts.keep) first more);
 }
 
-pub state_after_one_more : (old new : State) (keep : Keep) (before : List Command) (c : Command) → IsStateAfter old keep before → Applies old c new → IsStateAfter new keep (before ++ c ∷ [])
-state_after_one_more old new keep before c is_state takes =
+pub state_after_one_more : (old new : State) (parts : KeptParts) (before : List Command) (c : Command) → IsStateAfter old parts before → Applies old c new → IsStateAfter new parts (before ++ c ∷ [])
+state_after_one_more old new parts before c is_state takes =
     let fs : flashes_of before ++ added_flashes (state_of old) c ≡ flashes_of (before ++ c ∷ []) =
     (λ i. flashes_of before ++ added_flashes (is_state.state_after i) c) ∙ sym (flat_positions-more (λ first d. added_flashes (state_after first) d) before c) in
     record {
       state_after = takes.state_after ∙ ap (after c) is_state.state_after ∙ sym (state_after-more before c);
-      flashes = subst (KeepsFlashes new.flashes keep) fs (keeps_more old.flashes new.flashes keep (flashes_of before) (added_flashes (state_of old) c) is_state.flashes takes.flashes);
+      flashes = subst (KeepsFlashes new.flashes parts) fs (keeps_more old.flashes new.flashes parts (flashes_of before) (added_flashes (state_of old) c) is_state.flashes takes.flashes);
     }

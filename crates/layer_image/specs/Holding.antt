@@ -4,6 +4,7 @@ use Rattle.grid_units.specs.Lists.{IsLegal}
 use Rattle.grid_units.specs.declared.fault.Fault.{Fault}
 use Rattle.grid_units.specs.declared.fault.Fail.{Fail}
 use Rattle.grid_units.specs.declared.fault.Fail.TheVariants as fails
+use Rattle.pad_shapes.specs.declared.pad.Pad.{Pad}
 use Rattle.gerber_commands.specs.declared.command.Command.{Command}
 use Rattle.gerber_text.specs.Reading.{Entries, Shows, SpellsPrefix, SpellsBeforeFault}
 use Rattle.gerber_text.specs.Holding.{StandsAfterDrop, held}
@@ -14,7 +15,7 @@ use Rattle.layer_image.specs.declared.scan.Scan.{Scan}
 use Rattle.layer_image.specs.declared.reader.LayerReader.{LayerReader}
 use Rattle.layer_image.specs.Faults.{IsFirstFault}
 use Rattle.layer_image.specs.FileFunction.{file_function_of}
-use Rattle.layer_image.specs.KeptFlashes.{keeps_commands}
+use Rattle.layer_image.specs.KeptFlashes.{KeptParts, without_pads, keeps_commands}
 use Rattle.layer_image.specs.Inner.IsStateAfter.{IsStateAfter}
 use Rattle.layer_image.specs.Rules.{broken_rule}
 use Rattle.gerber_text.specs.Writing.{without_places}
@@ -27,30 +28,39 @@ ShowsLayerFault text f =
     ⊎ ((entries : Entries) × Shows text (Err f) × SpellsBeforeFault text (fails.Refused f) entries × IsLegal broken_rule (without_places entries))
 
 -- the scan has met just these commands
-pub record HasScanned (scan : Scan) (keep : Keep) (before : List Command) : Type 0 where
-  pub is_state : IsStateAfter scan.state.state keep before
+pub record HasScanned (scan : Scan) (parts : KeptParts) (before : List Command) : Type 0 where
+  pub is_state : IsStateAfter scan.state.state parts before
   pub named : scan.file_function ≡ file_function_of before
 
 -- The command breaks no rule and was taken in, or this is the first rule that it breaks, or memory ran out.
-abbrev pub IsScanResult : Keep → List Command → Command → Scan → Result (Unit {0}) ItemFail → Type 0
-IsScanResult keep before c new (Ok _) = (broken_rule before c ≡ None) × HasScanned new keep (before ++ c ∷ [])
-IsScanResult keep before c new (Err (Refused reason)) = broken_rule before c ≡ Some reason
-IsScanResult keep before c new (Err Memory) = Unit {0}
+abbrev pub IsScanResult : KeptParts → List Command → Command → Scan → Result (Unit {0}) ItemFail → Type 0
+IsScanResult parts before c new (Ok _) = (broken_rule before c ≡ None) × HasScanned new parts (before ++ c ∷ [])
+IsScanResult parts before c new (Err (Refused reason)) = broken_rule before c ≡ Some reason
+IsScanResult parts before c new (Err Memory) = Unit {0}
 
 -- the scan has met just these commands, and none of them breaks a rule
-pub record HasScannedLegal (scan : Scan) (keep : Keep) (entries : Entries) : Type 0 where
-  pub met : HasScanned scan keep (without_places entries)
+pub record HasScannedLegal (scan : Scan) (parts : KeptParts) (entries : Entries) : Type 0 where
+  pub met : HasScanned scan parts (without_places entries)
   pub legal : IsLegal broken_rule (without_places entries)
 
--- the reader keeps these parts, and has read this text, which shows no fault; the scan has met its commands, which are kept where that is asked for
-pub record LayerStandsAfter (reader : LayerReader) (keep : Keep) (text : List ℕ) : Type 0 where
+-- the pads that a reader holds, without those that were taken from it
+abbrev pub held_pads : LayerReader → List Pad
+held_pads reader = reader.scan.state.state.flashes.pads.items
+
+-- The reader keeps these parts, and has read this text, which shows no fault; the scan has met its commands, which are kept where that is asked for.
+-- These pads, the first ones of the layer, were taken from it.
+pub record LayerStandsAfterPads (reader : LayerReader) (keep : Keep) (taken : List Pad) (text : List ℕ) : Type 0 where
   pub sound : reader.failed ≡ None
   pub same : reader.keep ≡ keep
   pub gone : Entries
   pub words : StandsAfterDrop reader.words gone text
   pub none : held reader.words ≡ []
-  pub scanned : HasScannedLegal reader.scan keep gone
+  pub scanned : HasScannedLegal reader.scan (without_pads keep taken) gone
   pub kept : reader.kept.items ≡ (if keeps_commands keep then gone else [])
+
+-- the reader keeps these parts, and has read this text, which shows no fault; no pads were taken from it
+abbrev pub LayerStandsAfter : LayerReader → Keep → List ℕ → Type 0
+LayerStandsAfter reader keep text = LayerStandsAfterPads reader keep [] text
 
 -- the failure of a reader, if it has failed
 abbrev pub layer_failure : LayerReader → Option Fail

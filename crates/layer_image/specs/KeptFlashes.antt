@@ -1,5 +1,6 @@
 -- What is kept of a layer.
 use Rattle.std.specs.Prelude.{◌≡◌, ℕ, ◌+◌, Bool, true, false, List, [], ◌++◌, length, if◌then◌else◌}
+use Rattle.pad_shapes.specs.declared.pad.Pad.{Pad}
 use Rattle.layer_image.specs.declared.flash.Flash.{Flash}
 use Rattle.layer_image.specs.declared.flashes.Flashes.{Flashes}
 use Rattle.layer_image.specs.declared.keep.Keep.{Keep}
@@ -24,17 +25,31 @@ keeps_pads keep.All = true
 keeps_pads keep.Flashes = false
 keeps_pads keep.Pads = true
 
+-- the parts of a layer that are kept, and the pads that were taken from them, the first ones of the layer
+pub record KeptParts : Type 0 where
+  pub keep : Keep
+  pub taken : List Pad
+
+-- these parts, without these pads
+abbrev pub without_pads : Keep → List Pad → KeptParts
+without_pads keep taken = record { keep = keep; taken = taken }
+
 -- how many flashes there were, whatever is kept of them
 abbrev pub flash_count : Flashes → ℕ
 flash_count kept = kept.count
 
--- just these flashes were made: all are counted, and those that are no pads; flashes and pads are kept where they are asked for
-pub record KeepsFlashes (kept : Flashes) (keep : Keep) (flashes : List Flash) : Type 0 where
-  pub same : kept.keep ≡ keep
+-- these parts, where the pads that are held were taken too
+abbrev pub taking_pads : KeptParts → Flashes → KeptParts
+taking_pads parts kept = without_pads parts.keep (parts.taken ++ kept.pads.items)
+
+-- just these flashes were made: all are counted, and those that are no pads; flashes and pads are kept where they are asked for,
+-- the pads after those that were taken
+pub record KeepsFlashes (kept : Flashes) (parts : KeptParts) (flashes : List Flash) : Type 0 where
+  pub same : kept.keep ≡ parts.keep
   pub count : kept.count ≡ length flashes
   pub others : kept.others ≡ other_count flashes
-  pub pads : kept.pads.items ≡ (if keeps_pads keep then pads_of flashes else [])
-  pub all : kept.all.items ≡ (if keeps_flashes keep then flashes else [])
+  pub pads : parts.taken ++ kept.pads.items ≡ (if keeps_pads parts.keep then pads_of flashes else [])
+  pub all : kept.all.items ≡ (if keeps_flashes parts.keep then flashes else [])
 
 -- what is kept after these flashes as well: the counts have grown, and what is kept has these at its end
 pub record Adds (old : Flashes) (flashes : List Flash) (new : Flashes) : Type 0 where

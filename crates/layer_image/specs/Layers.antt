@@ -1,5 +1,5 @@
 -- Layers: what a whole text says, or its first fault.
-use Rattle.std.specs.Prelude.{◌≡◌, ◌⊎◌, ◌↔◌, ℕ, List, [], Option, Result, Ok, Err, if◌then◌else◌}
+use Rattle.std.specs.Prelude.{◌≡◌, ◌⊎◌, ◌↔◌, ℕ, List, [], ◌++◌, length, Option, Result, Ok, Err, if◌then◌else◌}
 use Rattle.std.specs.List.{Contains}
 use Rattle.grid_units.specs.declared.fault.Fault.{Fault}
 use Rattle.grid_units.specs.declared.fault.Fail.TheVariants as fails
@@ -15,11 +15,13 @@ use Rattle.layer_image.specs.Rules.{all_rules, broken_rule}
 use Rattle.gerber_text.specs.Writing.{without_places}
 use Rattle.grid_units.specs.Lists.{IsLegal}
 
--- a layer: commands, each with its place; flashes and pads in order; how many flashes are no pads; the text after `.FileFunction,`, if it is named
+-- a layer: commands, each with its place; flashes and pads in order; how many flashes are pads and how many are not; the text after `.FileFunction,`, if it
+-- is named
 pub record LayerImage : Type 0 where
   pub commands : Entries
   pub flashes : List Flash
   pub pads : List Pad
+  pub pad_count : ℕ
   pub other : ℕ
   pub file_function : Option (List ℕ)
 
@@ -29,6 +31,7 @@ image_of entries = record {
   commands = entries;
   flashes = flashes_of (without_places entries);
   pads = pads_of (flashes_of (without_places entries));
+  pad_count = length (pads_of (flashes_of (without_places entries)));
   other = other_count (flashes_of (without_places entries));
   file_function = file_function_of (without_places entries);
 }
@@ -56,6 +59,7 @@ kept_of keep layer = record {
   commands = if keeps_commands keep then layer.commands else [];
   flashes = if keeps_flashes keep then layer.flashes else [];
   pads = if keeps_pads keep then layer.pads else [];
+  pad_count = layer.pad_count;
   other = layer.other;
   file_function = layer.file_function;
 }
@@ -64,6 +68,22 @@ kept_of keep layer = record {
 abbrev pub ReadsKept : Keep → List ℕ → Result LayerImage Fault → Type 0
 ReadsKept keep text (Ok kept) = (layer : LayerImage) × ReadsLayer text (Ok layer) × (kept ≡ kept_of keep layer)
 ReadsKept keep text (Err f) = ReadsLayer text (Err f)
+
+-- a layer with these pads put back before its own
+abbrev pub with_pads : List Pad → LayerImage → LayerImage
+with_pads taken rest = record {
+  commands = rest.commands;
+  flashes = rest.flashes;
+  pads = taken ++ rest.pads;
+  pad_count = rest.pad_count;
+  other = rest.other;
+  file_function = rest.file_function;
+}
+
+-- a text has what is kept of the layer that it reads as, without these pads, the first ones of the layer; or its fault
+abbrev pub ReadsWithoutPads : Keep → List Pad → List ℕ → Result LayerImage Fault → Type 0
+ReadsWithoutPads keep taken text (Ok rest) = ReadsKept keep text (Ok (with_pads taken rest))
+ReadsWithoutPads keep taken text (Err f) = ReadsLayer text (Err f)
 
 -- a text has the flashes of the layer that it reads as, or its fault
 abbrev pub ReadsFlashes : List ℕ → Result (List Flash) Fault → Type 0

@@ -3,11 +3,10 @@
 ghost use Rattle.std.specs.Prelude.{◌≡◌, [], List, IfSome, None, true, false};
 ghost use Rattle.gerber_commands.specs.declared.command.Command.{Command};
 ghost use Rattle.gerber_commands.specs.declared.command.Command.TheVariants as command;
-ghost use Rattle.layer_image.specs.declared.keep.Keep.{Keep as TheKeep};
 ghost use Rattle.layer_image.specs.Inner.FastOperations.{AreCachedValues, changes_cached};
 ghost use Rattle.layer_image.specs.Flashes.{is_flash};
 ghost use Rattle.layer_image.specs.Rules.{first_broken};
-ghost use Rattle.layer_image.specs.KeptFlashes.{flash_count};
+ghost use Rattle.layer_image.specs.KeptFlashes.{KeptParts, flash_count, taking_pads, without_pads};
 ghost use Rattle.layer_image.specs.Inner.IsStateAfter.{IsStateAfter, AppliesOrRefuses, state_of};
 
 use crate::cached_values::CachedValues;
@@ -33,16 +32,24 @@ impl CachedState {
 
     /// A judge that has met no command.
     pub(crate) fn new(alloc: Global, keep: Keep) -> CachedState
-        ensures { IsStateAfter result.state keep [] }
+        ensures { IsStateAfter result.state (without_pads keep []) [] }
     {
         let state = State::new(alloc, keep);
         let cached = CachedValues::of(&state);
         CachedState { state, cached }
     }
 
+    /// Drops the pads that are held.
+    pub(crate) fn clear_pads(&mut self)
+        ensures none { self.new.state.flashes.pads.items ≡ [] }
+        ensures gone { (parts : KeptParts) (before : List Command) → IsStateAfter self.old.state parts before → IsStateAfter self.new.state (taking_pads parts self.old.state.flashes) before }
+    {
+        self.state.flashes.clear_pads();
+    }
+
     /// Checks one more command, and applies it where it breaks no rule.
     pub(crate) fn step(&mut self, command: &Command) -> Result<(), ItemFail>
-        ensures { (keep : TheKeep) (before : List Command) → IsStateAfter self.old.state keep before → AppliesOrRefuses keep before command.now self.new.state result }
+        ensures { (parts : KeptParts) (before : List Command) → IsStateAfter self.old.state parts before → AppliesOrRefuses parts before command.now self.new.state result }
     {
         if let Command::Operate { action, x, y, i, j } = command {
             return self.operate(*action, *x, *y, *i, *j);
@@ -59,7 +66,7 @@ impl CachedState {
         i: Coordinate,
         j: Coordinate,
     ) -> Result<(), ItemFail>
-        ensures { (keep : TheKeep) (before : List Command) → IsStateAfter self.old.state keep before → AppliesOrRefuses keep before (command.Operate action x y i j) self.new.state result }
+        ensures { (parts : KeptParts) (before : List Command) → IsStateAfter self.old.state parts before → AppliesOrRefuses parts before (command.Operate action x y i j) self.new.state result }
     {
         let across = x.get();
         let up = y.get();
@@ -78,7 +85,7 @@ impl CachedState {
 
     /// Checks any command by the whole table of rules, and brings the fast path up to date.
     fn step_by_rules(&mut self, command: &Command) -> Result<(), ItemFail>
-        ensures { (keep : TheKeep) (before : List Command) → IsStateAfter self.old.state keep before → AppliesOrRefuses keep before command.now self.new.state result }
+        ensures { (parts : KeptParts) (before : List Command) → IsStateAfter self.old.state parts before → AppliesOrRefuses parts before command.now self.new.state result }
     {
         let outcome = self.state.step(command);
         if outcome.is_err() || changes_cached(command) {

@@ -1,8 +1,9 @@
 //! What is kept of the flashes so far.
 
-ghost use Rattle.std.specs.Prelude.{◌≡◌, ◌+◌, ◌<◌, ◌≤◌, ◌++◌, [], ◌∷◌, length, map, false, OnOk};
+ghost use Rattle.std.specs.Prelude.{◌≡◌, ◌+◌, ◌<◌, ◌≤◌, ◌++◌, [], ◌∷◌, List, length, map, false, OnOk};
 ghost use Rattle.std.specs.List.{list_any};
-ghost use Rattle.layer_image.specs.Flashes.{copies};
+ghost use Rattle.layer_image.specs.Flashes.{copies, pads_of};
+ghost use Rattle.layer_image.specs.declared.flash.Flash.{Flash as TheFlash};
 ghost use Rattle.layer_image.specs.Inner.MovedPads.{flash_moved};
 ghost use Rattle.layer_image.specs.Rules.{is_far_point, max_flashes};
 ghost use Rattle.layer_image.specs.Inner.CopyGrids.{IsBounded};
@@ -29,11 +30,11 @@ pub(crate) struct Flashes {
 }
 
 impl Flashes {
-    ghost use Rattle.layer_image.specs.KeptFlashes.{Adds, KeepsFlashes, flash_count};
+    ghost use Rattle.layer_image.specs.KeptFlashes.{Adds, KeepsFlashes, KeptParts, flash_count, taking_pads, without_pads};
 
     /// No flashes so far.
     pub(crate) fn new(alloc: Global, keep: Keep) -> Self
-        ensures { KeepsFlashes result keep [] }
+        ensures { KeepsFlashes result (without_pads keep []) [] }
     {
         Flashes {
             keep,
@@ -42,6 +43,21 @@ impl Flashes {
             count: 0,
             others: 0,
         }
+    }
+
+    /// How many flashes are pads, whether these are kept or not.
+    pub(crate) fn pad_count(&self) -> usize
+        ensures { (parts : KeptParts) (flashes : List TheFlash) → KeepsFlashes self.now parts flashes → result ≡ length (pads_of flashes) }
+    {
+        (self.count - self.others as u64) as usize
+    }
+
+    /// Drops the pads. The memory that they took stays with the list.
+    pub(crate) fn clear_pads(&mut self)
+        ensures none { self.new.pads.items ≡ [] }
+        ensures gone { (parts : KeptParts) (flashes : List TheFlash) → KeepsFlashes self.old parts flashes → KeepsFlashes self.new (taking_pads parts self.old) flashes }
+    {
+        self.pads.clear();
     }
 
     /// Adds one flash.

@@ -5,9 +5,10 @@ ghost use Rattle.std.specs.List.{position_or_len, prefix_len, before_first, afte
 ghost use Rattle.std.specs.Option.{option_copied};
 ghost use Rattle.grid_units.specs.Rows.{strip_prefix};
 ghost use Rattle.gerber_commands.specs.Negative.{after_spaces};
+ghost use Rattle.gerber_text.specs.FastPath.{text_command};
 ghost use Rattle.layer_image.specs.FileFunction.{is_comma, file_function_in, function_set};
 
-use gerber_text::{AttributeKind, Command};
+use gerber_text::{AttributeKind, Command, TextKind};
 use grid_units::numbers::{len_before, repeat_len};
 
 /// The file function in a file attribute, or in a comment that holds one.
@@ -18,6 +19,18 @@ pub(crate) fn function_set(command: &Command) -> Option<&[u8]>
         Command::Attribute(AttributeKind::File, text) => file_function_in(text.bytes()),
         Command::Comment(text) => file_function_in(attribute_in(text.bytes())?),
         _ => None,
+    }
+}
+
+/// The file function in a text of this kind, if it holds one.
+pub(crate) fn function_in_text(kind: TextKind, text: &[u8]) -> Option<&[u8]>
+    ensures { option_copied result ≡ function_set (text_command kind text.now) }
+{
+    match kind {
+        TextKind::Comment => file_function_in(attribute_in(text)?),
+        TextKind::Attribute(AttributeKind::File) => file_function_in(text),
+        TextKind::Attribute(AttributeKind::Aperture | AttributeKind::Object) | TextKind::Remove =>
+            None,
     }
 }
 

@@ -13,13 +13,14 @@ use pad_shapes::Pad;
 use std::alloc::Global;
 use std::marker::Model;
 
-/// A layer, or what a reader kept of it: a list that was not asked for is empty. Contracts see commands, flashes,
-/// pads and file function as lists.
+/// A layer, or what a reader kept of it: a list that was not asked for is empty, and the pads are those that the reader
+/// has not dropped. Contracts see commands, flashes, pads and file function as lists.
 #[derive(Debug, Drop)]
 pub struct Layer {
     pub(crate) commands: Vec<Placed<Command>>,
     pub(crate) flashes: Vec<Flash>,
     pub(crate) pads: Vec<Pad>,
+    pub(crate) pad_count: usize,
     pub(crate) other: usize,
     pub(crate) file_function: Option<Text>,
 }
@@ -29,7 +30,7 @@ impl Model for Layer {
 
     ghost Value = { LayerImage };
 
-    ghost view = { λ l. record { commands = l.commands.items; flashes = l.flashes.items; pads = l.pads.items; other = l.other; file_function = l.file_function } };
+    ghost view = { λ l. record { commands = l.commands.items; flashes = l.flashes.items; pads = l.pads.items; pad_count = l.pad_count; other = l.other; file_function = l.file_function } };
 }
 
 impl Layer {
@@ -52,6 +53,13 @@ impl Layer {
         ensures { result.now ≡ self.now.pads }
     {
         &self.pads
+    }
+
+    /// How many flashes are pads, whatever is kept of them.
+    pub fn pad_count(&self) -> usize
+        ensures { result ≡ self.now.pad_count }
+    {
+        self.pad_count
     }
 
     /// How many flashes are no pads, whatever is kept of them.

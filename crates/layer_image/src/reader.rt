@@ -3,15 +3,18 @@
 ghost use Rattle.std.specs.Prelude.{◌≡◌, ◌++◌, ◌<◌, ◌≤◌, [], ℕ, List, Err, Some, OnOk, IfOk, IfErr, IfSome, false, length, take, if◌then◌else◌};
 ghost use Rattle.grid_units.specs.Results.{Answers, IfFault};
 ghost use Rattle.layer_image.specs.declared.keep.Keep.{Keep as TheKeep};
+ghost use Rattle.pad_shapes.specs.declared.pad.Pad.{Pad as ThePad};
 
 use crate::keep::Keep;
 use crate::layer::Layer;
 use crate::scan::Scan;
 use gerber_text::{Command, Placed, WordReader};
 use grid_units::Fail;
+use pad_shapes::Pad;
 use std::alloc::{AllocError, Global};
 
-/// A reader of a layer that comes in pieces. It keeps what the layer will hold, the state and the unfinished item, and not the text.
+/// A reader of a layer that comes in pieces. It keeps what the layer will hold, except the pads that it has dropped, the
+/// state and the unfinished item, and not the text.
 #[derive(Drop)]
 pub struct LayerReader {
     alloc: Global,
@@ -26,8 +29,8 @@ impl LayerReader {
     ghost use Rattle.gerber_text.specs.Reading.{Entries};
     ghost use Rattle.gerber_text.specs.Holding.{StandsAfterDrop, held};
     ghost use Rattle.layer_image.specs.KeptFlashes.{keeps_commands};
-    ghost use Rattle.layer_image.specs.Layers.{ReadsKept};
-    ghost use Rattle.layer_image.specs.Holding.{LayerStandsAfter, ShowsLayerFault, layer_failure};
+    ghost use Rattle.layer_image.specs.Layers.{ReadsKept, ReadsWithoutPads};
+    ghost use Rattle.layer_image.specs.Holding.{LayerStandsAfter, LayerStandsAfterPads, ShowsLayerFault, held_pads, layer_failure};
 
     /// A reader that has read nothing, and keeps all of the layer.
     pub fn new(alloc: Global) -> LayerReader
@@ -59,6 +62,8 @@ impl LayerReader {
     pub fn feed(&mut self, piece: &[u8]) -> Result<(), Fail>
         ensures ok { (keep : TheKeep) (text : List ℕ) → LayerStandsAfter self.old keep text → OnOk result (LayerStandsAfter self.new keep (text ++ piece.now)) }
         ensures err { (keep : TheKeep) (text : List ℕ) → LayerStandsAfter self.old keep text → IfErr result (IfFault (ShowsLayerFault (text ++ piece.now))) }
+        ensures ok_after_pads { (keep : TheKeep) (taken : List ThePad) (text : List ℕ) → LayerStandsAfterPads self.old keep taken text → OnOk result (LayerStandsAfterPads self.new keep taken (text ++ piece.now)) }
+        ensures err_after_pads { (keep : TheKeep) (taken : List ThePad) (text : List ℕ) → LayerStandsAfterPads self.old keep taken text → IfErr result (IfFault (ShowsLayerFault (text ++ piece.now))) }
         ensures failed { IfSome (layer_failure self.old) (λ e. result ≡ Err e) }
         ensures fails { IfErr result (λ e. layer_failure self.new ≡ Some e) }
     {
@@ -74,8 +79,8 @@ impl LayerReader {
 
     /// Reads the next piece of the text.
     fn advance(&mut self, piece: &[u8]) -> Result<(), Fail>
-        ensures ok { (keep : TheKeep) (text : List ℕ) → LayerStandsAfter self.old keep text → OnOk result (LayerStandsAfter self.new keep (text ++ piece.now)) }
-        ensures err { (keep : TheKeep) (text : List ℕ) → LayerStandsAfter self.old keep text → IfErr result (IfFault (ShowsLayerFault (text ++ piece.now))) }
+        ensures ok { (keep : TheKeep) (taken : List ThePad) (text : List ℕ) → LayerStandsAfterPads self.old keep taken text → OnOk result (LayerStandsAfterPads self.new keep taken (text ++ piece.now)) }
+        ensures err { (keep : TheKeep) (taken : List ThePad) (text : List ℕ) → LayerStandsAfterPads self.old keep taken text → IfErr result (IfFault (ShowsLayerFault (text ++ piece.now))) }
     {
         if self.keep.commands() {
             self.take_whole(piece)
@@ -87,8 +92,8 @@ impl LayerReader {
     /// Takes the next piece of the text where commands are kept: the items that it ends are read, then their commands
     /// are judged.
     fn take_whole(&mut self, piece: &[u8]) -> Result<(), Fail>
-        ensures ok { (keep : TheKeep) (text : List ℕ) → LayerStandsAfter self.old keep text → OnOk result (LayerStandsAfter self.new keep (text ++ piece.now)) }
-        ensures err { (keep : TheKeep) (text : List ℕ) → LayerStandsAfter self.old keep text → IfErr result (IfFault (ShowsLayerFault (text ++ piece.now))) }
+        ensures ok { (keep : TheKeep) (taken : List ThePad) (text : List ℕ) → LayerStandsAfterPads self.old keep taken text → OnOk result (LayerStandsAfterPads self.new keep taken (text ++ piece.now)) }
+        ensures err { (keep : TheKeep) (taken : List ThePad) (text : List ℕ) → LayerStandsAfterPads self.old keep taken text → IfErr result (IfFault (ShowsLayerFault (text ++ piece.now))) }
     {
         let outcome = self.words.feed(piece);
         self.scan.scan(self.alloc, self.words.commands())?;
@@ -100,8 +105,8 @@ impl LayerReader {
     /// Takes the next piece of the text where commands are dropped, part by part.
     fn take_parts(&mut self, piece: &[u8]) -> Result<(), Fail>
         requires { keeps_commands self.old.keep ≡ false }
-        ensures ok { (keep : TheKeep) (text : List ℕ) → LayerStandsAfter self.old keep text → OnOk result (LayerStandsAfter self.new keep (text ++ piece.now)) }
-        ensures err { (keep : TheKeep) (text : List ℕ) → LayerStandsAfter self.old keep text → IfErr result (IfFault (ShowsLayerFault (text ++ piece.now))) }
+        ensures ok { (keep : TheKeep) (taken : List ThePad) (text : List ℕ) → LayerStandsAfterPads self.old keep taken text → OnOk result (LayerStandsAfterPads self.new keep taken (text ++ piece.now)) }
+        ensures err { (keep : TheKeep) (taken : List ThePad) (text : List ℕ) → LayerStandsAfterPads self.old keep taken text → IfErr result (IfFault (ShowsLayerFault (text ++ piece.now))) }
     {
         let mut taken = 0;
         while taken < piece.len() {
@@ -117,14 +122,39 @@ impl LayerReader {
         requires dropped { keeps_commands self.old.keep ≡ false }
         ensures taken { IfOk result (λ n. (0 < n) × (n ≤ length bytes.now)) }
         ensures keep { self.new.keep ≡ self.old.keep }
-        ensures ok { (keep : TheKeep) (text : List ℕ) → LayerStandsAfter self.old keep text → IfOk result (λ n. LayerStandsAfter self.new keep (text ++ take n bytes.now)) }
-        ensures err { (keep : TheKeep) (text : List ℕ) → LayerStandsAfter self.old keep text → IfErr result (IfFault (ShowsLayerFault (text ++ bytes.now))) }
+        ensures ok { (keep : TheKeep) (taken : List ThePad) (text : List ℕ) → LayerStandsAfterPads self.old keep taken text → IfOk result (λ n. LayerStandsAfterPads self.new keep taken (text ++ take n bytes.now)) }
+        ensures err { (keep : TheKeep) (taken : List ThePad) (text : List ℕ) → LayerStandsAfterPads self.old keep taken text → IfErr result (IfFault (ShowsLayerFault (text ++ bytes.now))) }
     {
         match self.words.pass_operation(bytes) {
             Some(passed) => {
                 let len = passed.len;
                 self.scan.operate(passed)?;
                 Ok(len)
+            }
+            None => self.take_other(bytes),
+        }
+    }
+
+    /// Takes the comment or the attribute at the start of these bytes, whose text is not copied, if one stands there whole,
+    /// else some of the bytes. Returns how many bytes it took.
+    // Most items are operations, which do not come here.
+    #[inline(never)]
+    fn take_other(&mut self, bytes: &[u8]) -> Result<usize, Fail>
+        requires some { 0 < length bytes.now }
+        requires dropped { keeps_commands self.old.keep ≡ false }
+        ensures taken { IfOk result (λ n. (0 < n) × (n ≤ length bytes.now)) }
+        ensures keep { self.new.keep ≡ self.old.keep }
+        ensures ok { (keep : TheKeep) (taken : List ThePad) (text : List ℕ) → LayerStandsAfterPads self.old keep taken text → IfOk result (λ n. LayerStandsAfterPads self.new keep taken (text ++ take n bytes.now)) }
+        ensures err { (keep : TheKeep) (taken : List ThePad) (text : List ℕ) → LayerStandsAfterPads self.old keep taken text → IfErr result (IfFault (ShowsLayerFault (text ++ bytes.now))) }
+    {
+        if self.scan.state.state.in_region {
+            return self.take_part(bytes);
+        }
+        match self.words.pass_text(bytes) {
+            Some(passed) => {
+                self.scan
+                    .text(self.alloc, passed.item.kind, passed.text_in(bytes))?;
+                Ok(passed.len)
             }
             None => self.take_part(bytes),
         }
@@ -138,8 +168,8 @@ impl LayerReader {
         requires { 0 < length bytes.now }
         ensures taken { IfOk result (λ n. (0 < n) × (n ≤ length bytes.now)) }
         ensures keep { self.new.keep ≡ self.old.keep }
-        ensures ok { (keep : TheKeep) (text : List ℕ) → LayerStandsAfter self.old keep text → IfOk result (λ n. LayerStandsAfter self.new keep (text ++ take n bytes.now)) }
-        ensures err { (keep : TheKeep) (text : List ℕ) → LayerStandsAfter self.old keep text → IfErr result (IfFault (ShowsLayerFault (text ++ bytes.now))) }
+        ensures ok { (keep : TheKeep) (taken : List ThePad) (text : List ℕ) → LayerStandsAfterPads self.old keep taken text → IfOk result (λ n. LayerStandsAfterPads self.new keep taken (text ++ take n bytes.now)) }
+        ensures err { (keep : TheKeep) (taken : List ThePad) (text : List ℕ) → LayerStandsAfterPads self.old keep taken text → IfErr result (IfFault (ShowsLayerFault (text ++ bytes.now))) }
     {
         let outcome = self.words.feed_part(bytes);
         self.scan.scan(self.alloc, self.words.commands())?;
@@ -169,13 +199,32 @@ impl LayerReader {
         self.kept.append(&mut commands)
     }
 
+    /// The pads that the reader holds, in order: those since the last [`LayerReader::clear_pads`]. None where pads are
+    /// not kept in a list of their own.
+    pub fn pads(&self) -> &[Pad]
+        ensures { result.now ≡ held_pads self.now }
+    {
+        &self.scan.state.state.flashes.pads
+    }
+
+    /// Drops the pads so far: from here on [`LayerReader::pads`] gives those that come after them, and so does the
+    /// layer at the end. The memory that they took serves the next ones.
+    pub fn clear_pads(&mut self)
+        ensures none { held_pads self.new ≡ [] }
+        ensures gone { (keep : TheKeep) (taken : List ThePad) (text : List ℕ) → LayerStandsAfterPads self.old keep taken text → LayerStandsAfterPads self.new keep (taken ++ held_pads self.old) text }
+        ensures failed { layer_failure self.new ≡ layer_failure self.old }
+    {
+        self.scan.clear_pads();
+    }
+
     /// Ends the text, and returns what is kept of its layer.
     ///
     /// # Errors
     ///
-    /// The first fault of the text. A reader that has failed returns its failure again.
+    /// The first fault of the text, whatever pads were taken. A reader that has failed returns its failure again.
     pub fn finish(self) -> Result<Layer, Fail>
         ensures exact { (keep : TheKeep) (text : List ℕ) → LayerStandsAfter self keep text → Answers (λ layer. layer) (ReadsKept keep text) result }
+        ensures rest { (keep : TheKeep) (taken : List ThePad) (text : List ℕ) → LayerStandsAfterPads self keep taken text → Answers (λ layer. layer) (ReadsWithoutPads keep taken text) result }
         ensures failed { IfSome (layer_failure self) (λ e. result ≡ Err e) }
     {
         let LayerReader {
@@ -194,10 +243,12 @@ impl LayerReader {
             file_function,
         } = scan;
         let flashes = state.state.flashes;
+        let pad_count = flashes.pad_count();
         Ok(Layer {
             commands: kept,
             flashes: flashes.all,
             pads: flashes.pads,
+            pad_count,
             other: flashes.others,
             file_function,
         })

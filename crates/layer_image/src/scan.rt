@@ -1,19 +1,20 @@
 //! A scan over commands: each is judged and then dropped, and what the layer is made of is kept.
 
-ghost use Rattle.std.specs.Prelude.{◌≡◌, ◌++◌, [], List, OnOk, IfErr};
+ghost use Rattle.std.specs.Prelude.{◌≡◌, ◌++◌, [], ◌∷◌, ℕ, List, OnOk, IfErr, false};
 ghost use Rattle.grid_units.specs.Results.{IfFault};
 ghost use Rattle.gerber_commands.specs.declared.command.Command.{Command};
-ghost use Rattle.gerber_text.specs.Reading.{Entries};
+ghost use Rattle.gerber_text.specs.FastPath.{text_command};
+ghost use Rattle.gerber_text.specs.Reading.{Entries, placed};
 ghost use Rattle.gerber_text.specs.Holding.{passed_entries};
-ghost use Rattle.layer_image.specs.declared.keep.Keep.{Keep as TheKeep};
 ghost use Rattle.layer_image.specs.Faults.{fail_at, IsFirstFault};
+ghost use Rattle.layer_image.specs.KeptFlashes.{KeptParts, taking_pads, without_pads};
 
 use crate::cached::CachedState;
-use crate::function::function_set;
+use crate::function::{function_in_text, function_set};
 use crate::keep::Keep;
-use gerber_text::{Command, LeadingOperation, PassedOperation, Placed};
+use gerber_text::{Command, LeadingOperation, PassedOperation, Placed, TextKind};
 use grid_units::{Fail, Fault, ItemFail, Text};
-use std::alloc::Global;
+use std::alloc::{AllocError, Global};
 
 /// A judge and the last file function, after the commands so far.
 #[derive(Drop)]
@@ -27,12 +28,20 @@ impl Scan {
 
     /// A scan that has met no command.
     pub(crate) fn new(alloc: Global, keep: Keep) -> Self
-        ensures { HasScannedLegal result keep [] }
+        ensures { HasScannedLegal result (without_pads keep []) [] }
     {
         Scan {
             state: CachedState::new(alloc, keep),
             file_function: None,
         }
+    }
+
+    /// Drops the pads that are held.
+    pub(crate) fn clear_pads(&mut self)
+        ensures none { self.new.state.state.flashes.pads.items ≡ [] }
+        ensures gone { (parts : KeptParts) (before : Entries) → HasScannedLegal self.old parts before → HasScannedLegal self.new (taking_pads parts self.old.state.state.flashes) before }
+    {
+        self.state.clear_pads();
     }
 
     /// Checks commands in order and applies them.
@@ -41,8 +50,8 @@ impl Scan {
     ///
     /// The fault of the first command that breaks a rule; `Memory` where an allocation failed.
     pub(crate) fn scan(&mut self, alloc: Global, entries: &[Placed<Command>]) -> Result<(), Fail>
-        ensures ok { (keep : TheKeep) (before : Entries) → HasScannedLegal self.old keep before → OnOk result (HasScannedLegal self.new keep (before ++ entries.now)) }
-        ensures refused { (keep : TheKeep) (before : Entries) → HasScannedLegal self.old keep before → IfErr result (IfFault (IsFirstFault (before ++ entries.now))) }
+        ensures ok { (parts : KeptParts) (before : Entries) → HasScannedLegal self.old parts before → OnOk result (HasScannedLegal self.new parts (before ++ entries.now)) }
+        ensures refused { (parts : KeptParts) (before : Entries) → HasScannedLegal self.old parts before → IfErr result (IfFault (IsFirstFault (before ++ entries.now))) }
     {
         for entry in entries {
             match self.scan_one(alloc, &entry.what) {
@@ -60,8 +69,8 @@ impl Scan {
     ///
     /// The fault of an operation that breaks a rule; `Memory` where an allocation failed.
     pub(crate) fn operate(&mut self, passed: PassedOperation) -> Result<(), Fail>
-        ensures ok { (keep : TheKeep) (before : Entries) → HasScannedLegal self.old keep before → OnOk result (HasScannedLegal self.new keep (before ++ passed_entries passed)) }
-        ensures refused { (keep : TheKeep) (before : Entries) → HasScannedLegal self.old keep before → IfErr result (IfFault (IsFirstFault (before ++ passed_entries passed))) }
+        ensures ok { (parts : KeptParts) (before : Entries) → HasScannedLegal self.old parts before → OnOk result (HasScannedLegal self.new parts (before ++ passed_entries passed)) }
+        ensures refused { (parts : KeptParts) (before : Entries) → HasScannedLegal self.old parts before → IfErr result (IfFault (IsFirstFault (before ++ passed_entries passed))) }
     {
         let LeadingOperation {
             action,
@@ -77,9 +86,27 @@ impl Scan {
         }
     }
 
+    /// Takes in a comment or an attribute of this text that a reader has passed, and keeps the file function that it
+    /// names. Outside of regions it breaks no rule.
+    pub(crate) fn text(
+        &mut self,
+        alloc: Global,
+        kind: TextKind,
+        text: &[u8],
+    ) -> Result<(), AllocError>
+        requires { self.old.state.state.in_region ≡ false }
+        ensures { (parts : KeptParts) (before : Entries) (place byte : ℕ) → HasScannedLegal self.old parts before → OnOk result (HasScannedLegal self.new parts (before ++ placed place byte (text_command kind text.now ∷ []))) }
+    {
+        if let Some(bytes) = function_in_text(kind, text) {
+            let function = Text::from_slice(alloc, bytes)?;
+            self.file_function = Some(function);
+        }
+        Ok(())
+    }
+
     /// AppliesOrRefuses one more command, takes it in, and keeps the file function that it names.
     fn scan_one(&mut self, alloc: Global, command: &Command) -> Result<(), ItemFail>
-        ensures { (keep : TheKeep) (before : List Command) → HasScanned self.old keep before → IsScanResult keep before command.now self.new result }
+        ensures { (parts : KeptParts) (before : List Command) → HasScanned self.old parts before → IsScanResult parts before command.now self.new result }
     {
         self.state.step(command)?;
         if let Some(bytes) = function_set(command) {

@@ -6,12 +6,11 @@ ghost use Rattle.std.specs.List.{list_any};
 ghost use Rattle.gerber_commands.specs.declared.command.Action.{Action as TheAction};
 ghost use Rattle.gerber_commands.specs.declared.command.Command.{Command};
 ghost use Rattle.gerber_commands.specs.declared.command.Command.TheVariants as command;
-ghost use Rattle.layer_image.specs.declared.keep.Keep.{Keep as TheKeep};
 ghost use Rattle.grid_units.specs.declared.item_fail.ItemFail.TheVariants.{Memory};
 ghost use Rattle.layer_image.specs.Lookback.{current_aperture, no_repeat};
 ghost use Rattle.layer_image.specs.Flashes.{copies_at, aperture_flashes, is_flash};
 ghost use Rattle.layer_image.specs.Rules.{first_broken, flashes_too_far, has_bad_template, is_far_pad, is_far_point, max_flashes};
-ghost use Rattle.layer_image.specs.KeptFlashes.{Adds, flash_count};
+ghost use Rattle.layer_image.specs.KeptFlashes.{Adds, KeptParts, flash_count, without_pads};
 ghost use Rattle.layer_image.specs.Inner.IsStateAfter.{IsStateAfter, Applies, AppliesOrRefuses, IfRefused, state_of, after};
 
 use crate::aperture::aperture_of;
@@ -46,7 +45,7 @@ pub(crate) struct State {
 impl State {
     /// A judge that has met no command.
     pub(crate) fn new(alloc: Global, keep: Keep) -> Self
-        ensures { IsStateAfter result keep [] }
+        ensures { IsStateAfter result (without_pads keep []) [] }
     {
         State {
             alloc,
@@ -67,7 +66,7 @@ impl State {
 
     /// Checks one more command, and applies it where it breaks no rule. A refusal changes nothing.
     pub(crate) fn step(&mut self, command: &Command) -> Result<(), ItemFail>
-        ensures judges { (keep : TheKeep) (before : List Command) → IsStateAfter self.old keep before → AppliesOrRefuses keep before command.now self.new result }
+        ensures judges { (parts : KeptParts) (before : List Command) → IsStateAfter self.old parts before → AppliesOrRefuses parts before command.now self.new result }
         ensures takes { OnOk result (Applies self.old command.now self.new) }
         ensures same { IfErr result (IfRefused (self.new ≡ self.old)) }
     {

@@ -9,6 +9,7 @@ pub mod NearestSearch
 pub mod TriedPairs
 pub mod BestPadsLemmas
 pub mod RowsLemmas
-pub mod PartsLemmas
 pub mod FlatsLemmas
 pub mod LackingLemmas
+pub mod HullLemmas
+pub mod GroupLemmas

@@ -1,4 +1,5 @@
 pub mod Depths
+pub mod Hulls
 pub mod Gaps
 pub mod BestPads
 pub mod NearestHoles

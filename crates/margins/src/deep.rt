@@ -1,10 +1,12 @@
 //! How deep a point and a hole lie in a shape.
 
-ghost use Rattle.std.specs.Prelude.{◌≡◌, ◌≤ℤ◌, pos};
+ghost use Rattle.std.specs.Prelude.{◌≡◌, ◌≤ℤ◌, pos, IfSome};
 ghost use Rattle.grid_units.specs.Points.{GridPoint};
 ghost use Rattle.pad_shapes.specs.Shapes.{max_half_side};
 ghost use Rattle.margins.specs.Depths.{IsDepth, IsDepthOfHole, CoversLess};
+ghost use Rattle.margins.specs.Hulls.{IsHullOf};
 
+use crate::hull::Hull;
 use grid_units::{Hole, Point};
 use pad_shapes::PadShape;
 
@@ -30,6 +32,13 @@ pub trait DepthShape: PadShape {
         ensures { IsDepth Self.covers self.now (middle self.now) result }
     {
         self.depth(self.middle())
+    }
+
+    /// A hull of it; `None` where it names none. It changes no answer: many large shapes are tried quickly by their hulls.
+    fn hull(&self) -> Option<Hull>
+        ensures { IfSome result (IsHullOf Self.covers self.now) }
+    {
+        None
     }
 
     /// What it covers with a reach it covers with each lesser reach.

@@ -10,7 +10,8 @@ ghost use Rattle.margins.specs.Inner.Flats.{CoversNothing, flat_covers, flat_hol
 use crate::best::BestPad;
 use crate::bests::best_pads;
 use crate::deep::DepthShape;
-use crate::parts::zone_of_all;
+use crate::hull::Hull;
+use crate::zones::zone_of_all;
 use grid_units::Point;
 use pad_shapes::{PadShape, Zone};
 use ring_rules::Drilled;
@@ -71,6 +72,10 @@ impl<S: DepthShape> DepthShape for Flat<S> {
 
     fn middle(&self) -> Point {
         self.shape.middle()
+    }
+
+    fn hull(&self) -> Option<Hull> {
+        Some(self.shape.hull()?.flattened())
     }
 }
 

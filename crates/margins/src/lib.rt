@@ -4,25 +4,33 @@
 //! All lengths are whole picometres (pm).
 #![tactic(auto)]
 
+mod apart;
 mod best;
 mod bests;
+mod better;
 mod deep;
 mod flat;
 mod gap;
+mod hull;
+mod hulls;
 mod lacking;
+mod large;
 pub mod laws;
 mod met;
 mod nearest;
-mod parts;
+mod order;
 mod roots;
 mod row;
 mod shapes;
+mod zones;
 
 pub use best::BestPad;
-pub use bests::{best_pad, best_pads};
+pub use bests::best_pads;
+pub use better::best_pad;
 pub use deep::{DepthShape, depth_of_hole};
 pub use flat::bare_holes;
 pub use gap::gap_between;
+pub use hull::Hull;
 pub use lacking::ring_findings_from_bests;
 pub use met::{
     Met, RingsMet, gap_met, gap_met_of_nearest, met_with_layer, met_without_layers, needs_ring,

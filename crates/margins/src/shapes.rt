@@ -1,30 +1,14 @@
 //! The depths of points in discs, rectangles, obrounds and pads.
 
-ghost use Rattle.std.specs.Prelude.{◌≡◌, ◌≤◌};
-ghost use Rattle.grid_units.specs.Points.{abs_diff};
 ghost use Rattle.margins.specs.Depths.{pad_middle};
 ghost use Rattle.margins.specs.Inner.DepthLaws.{disc_covers_less, rect_covers_less, obround_covers_less, pad_covers_less};
 
+use crate::apart::{apart_x, apart_y};
 use crate::deep::DepthShape;
+use crate::hull::Hull;
 use crate::roots::{length_rounded_up, less};
 use grid_units::Point;
 use pad_shapes::{Disc, Obround, Pad, Rect};
-
-/// How far two points are apart along x, in pm.
-fn apart_x(p: Point, q: Point) -> u64
-    ensures value { result ≡ abs_diff p.x q.x }
-    ensures in_range { result ≤ 20000000000000 }
-{
-    p.x().abs_diff(q.x())
-}
-
-/// How far two points are apart along y, in pm.
-fn apart_y(p: Point, q: Point) -> u64
-    ensures value { result ≡ abs_diff p.y q.y }
-    ensures in_range { result ≤ 20000000000000 }
-{
-    p.y().abs_diff(q.y())
-}
 
 impl DepthShape for Disc {
     ghost middle = { λ d. d.centre };
@@ -38,6 +22,19 @@ impl DepthShape for Disc {
 
     fn middle(&self) -> Point {
         self.centre()
+    }
+
+    fn hull(&self) -> Option<Hull> {
+        let radius = self.radius().unsigned_abs();
+        Some(Hull {
+            centre: self.centre(),
+            half_x: radius,
+            half_y: radius,
+            radius,
+            axis_x: 0,
+            axis_y: 0,
+            depth: radius,
+        })
     }
 }
 
@@ -54,6 +51,21 @@ impl DepthShape for Rect {
 
     fn middle(&self) -> Point {
         self.centre()
+    }
+
+    fn hull(&self) -> Option<Hull> {
+        let half_x = self.half_x().unsigned_abs();
+        let half_y = self.half_y().unsigned_abs();
+        let radius = half_x.min(half_y);
+        Some(Hull {
+            centre: self.centre(),
+            half_x,
+            half_y,
+            radius,
+            axis_x: half_x,
+            axis_y: half_y,
+            depth: radius,
+        })
     }
 }
 
@@ -73,6 +85,21 @@ impl DepthShape for Obround {
 
     fn middle(&self) -> Point {
         self.centre()
+    }
+
+    fn hull(&self) -> Option<Hull> {
+        let half_x = self.half_x().unsigned_abs();
+        let half_y = self.half_y().unsigned_abs();
+        let radius = half_x.min(half_y);
+        Some(Hull {
+            centre: self.centre(),
+            half_x,
+            half_y,
+            radius,
+            axis_x: half_x - radius,
+            axis_y: half_y - radius,
+            depth: radius,
+        })
     }
 }
 
@@ -94,6 +121,14 @@ impl DepthShape for Pad {
             Pad::Disc(disc) => disc.centre(),
             Pad::Rect(rect) => rect.centre(),
             Pad::Obround(obround) => obround.centre(),
+        }
+    }
+
+    fn hull(&self) -> Option<Hull> {
+        match self {
+            Pad::Disc(disc) => disc.hull(),
+            Pad::Rect(rect) => rect.hull(),
+            Pad::Obround(obround) => obround.hull(),
         }
     }
 }

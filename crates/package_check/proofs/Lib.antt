@@ -14,6 +14,8 @@ pub mod AnswerLemmas
 pub mod ReportTextLemmas
 pub mod PiecesLemmas
 pub mod NoObliqueSlots
+pub mod SlotLemmas
 pub mod TakeSteps
 pub mod FlashReadingLemmas
 pub mod FlashesByFile
+pub mod JudgedCopper

@@ -9,4 +9,6 @@ pub mod SoundnessAsRead
 pub mod Texts
 pub mod Pieces
 pub mod Holding
+pub mod Judging
+pub mod HoleViews
 pub mod Inner

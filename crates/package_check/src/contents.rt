@@ -2,10 +2,12 @@
 ghost use Rattle.std.specs.Prelude.{◌≡◌, ℕ, List, Ok, OnOk, map, true};
 ghost use Rattle.std.specs.List.{concat};
 ghost use Rattle.grid_units.specs.Results.{Answers};
+ghost use Rattle.grid_units.specs.declared.fault.Fail.TheVariants as fails;
 ghost use Rattle.layer_image.specs.KeptFlashes.{keeps_flashes};
 ghost use Rattle.layer_image.specs.Layers.{ReadsFlashes};
 ghost use Rattle.package_check.specs.FileTexts.{ReadsLayer};
-ghost use Rattle.package_check.specs.Package.{Reads, ReadsCopper, ReadsHoles, is_bad_span, is_copper, unnamed_file};
+ghost use Rattle.package_check.specs.Holding.{is_kind};
+ghost use Rattle.package_check.specs.Package.{Reads, ReadsCopper, ReadsHoles, bad_span, is_bad_span, is_copper, not_copper, unnamed_file};
 
 use crate::Role;
 use crate::readers::{Drill, Layer, read_holes, read_layer_view};
@@ -25,6 +27,28 @@ pub(crate) enum Content {
     },
 }
 
+/// The refusal of a file whose span is bad.
+pub(crate) fn bad_span() -> Fail
+    ensures { result ≡ fails.Refused bad_span }
+{
+    Fail::Refused(Fault {
+        place: 0,
+        byte: 0,
+        reason: Reason::BadSpan,
+    })
+}
+
+/// The refusal of a copper file whose layer is not copper.
+pub(crate) fn not_copper() -> Fail
+    ensures { result ≡ fails.Refused not_copper }
+{
+    Fail::Refused(Fault {
+        place: 0,
+        byte: 0,
+        reason: Reason::NotCopper,
+    })
+}
+
 /// A layer as the content of a file, or NotCopper where it is not copper.
 fn require_copper(layer: Layer) -> Result<Content, Fail>
     ensures { (bytes : List ℕ) → ReadsLayer bytes (Ok layer) → Answers (λ x. x) (ReadsCopper bytes) result }
@@ -32,11 +56,7 @@ fn require_copper(layer: Layer) -> Result<Content, Fail>
     if layer.is_copper() {
         Ok(Content::Layer(layer))
     } else {
-        Err(Fail::Refused(Fault {
-            place: 0,
-            byte: 0,
-            reason: Reason::NotCopper,
-        }))
+        Err(not_copper())
     }
 }
 
@@ -76,6 +96,13 @@ pub(crate) fn is_copper(role: Role) -> bool
     matches!(role, Role::Copper)
 }
 
+/// Whether this is the role of a copper file, or of a drill file, as `copper` says.
+pub(crate) fn is_kind(role: Role, copper: bool) -> bool
+    ensures { result ≡ is_kind copper role }
+{
+    is_copper(role) == copper
+}
+
 /// Whether this span is bad for a file of this role: it is copper, or the span ends above the number of copper files.
 fn is_bad_span(role: Role, span: Option<Span>, layers: usize) -> bool
     ensures { result ≡ is_bad_span role span layers }
@@ -101,11 +128,7 @@ pub(crate) fn read_file(
     ensures flashes { keeps_flashes keep ≡ true → is_copper role ≡ true → OnOk result (ReadsFlashes (concat (map (λ piece. piece.now) pieces.now)) (Ok flashes.new.items)) }
 {
     if is_bad_span(role, *span, layers) {
-        return Err(Fail::Refused(Fault {
-            place: 0,
-            byte: 0,
-            reason: Reason::BadSpan,
-        }));
+        return Err(bad_span());
     }
     match role {
         Role::Copper => read_copper(alloc, keep, flashes, pieces),

@@ -3,6 +3,8 @@
 
 mod board;
 mod contents;
+mod indexed_holes;
+mod judged;
 pub mod laws;
 mod lines;
 mod lists;
@@ -11,6 +13,7 @@ mod package_reader;
 mod pieces;
 mod readers;
 mod report;
+mod slots;
 mod text;
 
 pub use board::{Board, hole_count};

@@ -1,5 +1,5 @@
 // The check of a package.
-ghost use Rattle.std.specs.Prelude.{◌≡◌, ◌<◌, ℕ, [], true, Result, IfOk};
+ghost use Rattle.std.specs.Prelude.{◌≡◌, ◌<◌, ℕ, [], true, Result, IfOk, OnOk};
 ghost use Rattle.grid_units.specs.declared.fault.Fault.{Fault as TheFault};
 ghost use Rattle.layer_image.specs.KeptFlashes.{keeps_flashes};
 ghost use Rattle.package_check.specs.Boards.{ReturnsBoard, ReturnsFlashedBoard};
@@ -7,9 +7,9 @@ ghost use Rattle.package_check.specs.Package.{ReturnsExactly, ReturnsReport, IsA
 ghost use Rattle.package_check.specs.Reports.{ReportView};
 ghost use Rattle.package_check.specs.Soundness.{AreStraight, IsSound};
 ghost use Rattle.package_check.specs.SoundnessAsRead.{AreLegal};
-ghost use Rattle.package_check.specs.Holding.{HasTaken};
+ghost use Rattle.package_check.specs.Holding.{HasTakenAll, TakesThose, copper_files, is_kind_at};
 
-use crate::contents::is_copper;
+use crate::contents::{is_copper, is_kind};
 use crate::laws::{files_say_once, findings_name_their_places, passing_is_sound, unique_answer};
 use crate::{Board, File, Keep, PackageFault, PackageReader, Report};
 use grid_units::Rules;
@@ -22,14 +22,26 @@ pub fn layer_count(files: &[File]) -> usize
     files.iter().filter(|file| is_copper(file.role)).count()
 }
 
-/// A reader that has taken the files.
+/// Takes those of the files that are copper, or those that are not, as `copper` says.
+fn take_kind(reader: &mut PackageReader, files: &[File], copper: bool) -> Result<(), AllocError>
+    ensures takes { copper_files reader.old ≡ layer_count files.now → OnOk result (TakesThose reader.old reader.new (file_views files.now) (is_kind_at copper (file_views files.now))) }
+    ensures layers { copper_files reader.new ≡ copper_files reader.old }
+{
+    for (index, file) in files.iter().enumerate() {
+        if is_kind(file.role, copper) {
+            reader.take(index, file.role, file.span, &[file.bytes])?;
+        }
+    }
+    Ok(())
+}
+
+/// A reader that has taken the files: the drill files first, then the copper files.
 fn reader_of(alloc: Global, files: &[File], keep: Keep) -> Result<PackageReader, AllocError>
-    ensures { IfOk result (λ reader. HasTaken reader keep (file_views files.now)) }
+    ensures { IfOk result (λ reader. HasTakenAll reader keep (file_views files.now)) }
 {
     let mut reader = PackageReader::keeping(alloc, layer_count(files), keep);
-    for file in files {
-        reader.take(file.role, file.span, &[file.bytes])?;
-    }
+    take_kind(&mut reader, files, false)?;
+    take_kind(&mut reader, files, true)?;
     Ok(reader)
 }
 

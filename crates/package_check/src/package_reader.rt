@@ -1,6 +1,6 @@
-//! A package whose files are taken one after the other.
+//! A package whose files are taken in any order.
 
-ghost use Rattle.std.specs.Prelude.{◌≡◌, ◌++◌, ◌∷◌, ℕ, List, [], true, Err, Result, IfOk, OnOk, OnErr, alloc_error, is_some, map};
+ghost use Rattle.std.specs.Prelude.{◌≡◌, ℕ, List, [], true, false, Some, Err, Result, IfOk, OnOk, OnErr, alloc_error, map};
 ghost use Rattle.std.specs.List.{concat};
 ghost use Rattle.grid_units.specs.declared.fault.Fault.{Fault as TheFault};
 ghost use Rattle.layer_image.specs.KeptFlashes.{keeps_flashes};
@@ -11,38 +11,37 @@ ghost use Rattle.package_check.specs.Package.{ReturnsExactly, ReturnsReport, IsA
 ghost use Rattle.package_check.specs.Reports.{ReportView};
 ghost use Rattle.package_check.specs.Soundness.{IsSound};
 ghost use Rattle.package_check.specs.SoundnessAsRead.{AreLegal};
-ghost use Rattle.package_check.specs.Holding.{AddsFlashes, ReadsNext};
+ghost use Rattle.package_check.specs.Holding.{ReadsAt, is_wanted, next_stop};
 ghost use Rattle.package_check.specs.declared.PackageFault.TheVariants as stop;
 
-use crate::board::board_of;
-use crate::contents::{Content, read_file};
+use crate::contents::read_file;
 use crate::laws::{findings_name_their_places, passing_is_sound, unique_answer};
-use crate::lists::push;
 use crate::report::report_on;
+use crate::slots::{Kept, board_of_slots, put};
 use crate::{Board, PackageFault, Report, Role};
 use grid_units::{Fail, Rules};
-use layer_image::{Flash, Keep, unique_reading};
+use layer_image::{Keep, unique_reading};
 use ring_rules::Span;
 use std::alloc::{AllocError, Global};
 
-/// A reader of a package, which takes its files one after the other. It keeps the pads of a layer and the holes of a drill
-/// file, flashes where they are asked for, and no text. After the first file that is refused it reads no other.
+/// A reader of a package, which takes its files in any order, each by its index in the package. It keeps the pads of a layer and the holes
+/// of a drill file, flashes where they are asked for, and no text. After a file that is refused it reads only those before it.
 #[derive(Drop)]
 pub struct PackageReader {
     alloc: Global,
     layers: usize,
     keep: Keep,
-    contents: Vec<Content>,
-    flashes: Vec<Vec<Flash>>,
-    stopped: Option<Fail>,
+    slots: Vec<Option<Kept>>,
+    /// The first file that is refused so far, or that memory ran out.
+    stopped: Option<PackageFault>,
 }
 
 impl PackageReader {
-    ghost use Rattle.package_check.specs.Holding.{IsOutOfMemory, HasTaken, copper_files};
+    ghost use Rattle.package_check.specs.Holding.{HasTaken, HasTakenAll, IsOutOfMemory, TakesFile, copper_files};
 
     /// A reader that has taken no file, of a package with so many copper files. It keeps no flashes.
     pub fn new(alloc: Global, layers: usize) -> PackageReader
-        ensures stands { HasTaken result keep.Pads [] }
+        ensures stands { (sources : List FileView) → HasTaken result keep.Pads sources (λ i. false) }
         ensures layers { copper_files result ≡ layers }
     {
         PackageReader::keeping(alloc, layers, Keep::Pads)
@@ -50,52 +49,62 @@ impl PackageReader {
 
     /// A reader that has taken no file, of a package with so many copper files. It keeps the flashes of these where `keep` does.
     pub fn keeping(alloc: Global, layers: usize, keep: Keep) -> PackageReader
-        ensures stands { HasTaken result keep [] }
+        ensures stands { (sources : List FileView) → HasTaken result keep sources (λ i. false) }
         ensures layers { copper_files result ≡ layers }
     {
         PackageReader {
             alloc,
             layers,
             keep,
-            contents: Vec::new(alloc),
-            flashes: Vec::new(alloc),
+            slots: Vec::new(alloc),
             stopped: None,
         }
     }
 
-    /// Takes the next file of the package, whose text comes in these pieces. A file that is refused is no error here:
-    /// [`PackageReader::finish`] returns the first of them.
+    /// Takes the file at this index of the package, from 0, whose text comes in these pieces. A file that is refused is no error here:
+    /// [`PackageReader::finish`] returns the first of them in the order of the package.
     ///
     /// # Errors
     ///
     /// An `AllocError` where there is no memory. A reader that has failed so fails again.
     pub fn take(
         &mut self,
+        index: usize,
         role: Role,
         span: Option<Span>,
         pieces: &[&[u8]],
     ) -> Result<(), AllocError>
-        ensures stands { (keep : TheKeep) (sources : List FileView) (name : List ℕ) → HasTaken self.old keep sources → OnOk result (HasTaken self.new keep (sources
-            ++ record { role = role; name = name; span = span; bytes = concat (map (λ piece. piece.now) pieces.now); layers = copper_files self.old } ∷ [])) }
+        ensures stands { (name : List ℕ) → OnOk result (TakesFile self.old self.new index (record {
+          role = role;
+          name = name;
+          span = span;
+          bytes = concat (map (λ piece. piece.now) pieces.now);
+          layers = copper_files self.old;
+        })) }
         ensures layers { copper_files self.new ≡ copper_files self.old }
         ensures failed { IsOutOfMemory self.old → result ≡ Err alloc_error }
         ensures fails { OnErr result (IsOutOfMemory self.new) }
     {
-        unique_reading();
-        if self.is_stopped() {
-            return self.outcome();
+        if !is_wanted(self.stopped, index) {
+            return outcome(self.stopped);
         }
-        let read = self.read_next(role, span, pieces);
-        self.stopped = read.err();
-        self.outcome()
+        let read = self.read_at(index, role, span, pieces);
+        self.stopped = next_stop(self.stopped, index, read);
+        outcome(self.stopped)
     }
 
-    /// Reads the next file, and appends its content and its flashes.
-    fn read_next(&mut self, role: Role, span: Option<Span>, pieces: &[&[u8]]) -> Result<(), Fail>
-        ensures next { ReadsNext (unnamed_file role span self.old.layers (concat (map (λ piece. piece.now) pieces.now))) self.old.contents.items self.new.contents.items result }
-        ensures flashes { OnOk result (AddsFlashes self.old.keep role (concat (map (λ piece. piece.now) pieces.now)) self.old.flashes.items self.new.flashes.items) }
+    /// Reads the file at this index, and puts what is kept of it into its slot.
+    fn read_at(
+        &mut self,
+        index: usize,
+        role: Role,
+        span: Option<Span>,
+        pieces: &[&[u8]],
+    ) -> Result<(), Fail>
+        ensures read { ReadsAt self.old.keep index (unnamed_file role span self.old.layers (concat (map (λ piece. piece.now) pieces.now))) self.old.slots.items self.new.slots.items result }
         ensures layers { self.new.layers ≡ self.old.layers }
         ensures keep { self.new.keep ≡ self.old.keep }
+        ensures stopped { self.new.stopped ≡ self.old.stopped }
     {
         let mut flashes = Vec::new(self.alloc);
         let content = read_file(
@@ -107,40 +116,21 @@ impl PackageReader {
             self.layers,
             pieces,
         )?;
-        push(&mut self.contents, content)?;
-        push(&mut self.flashes, flashes)?;
+        put(&mut self.slots, index, Kept { content, flashes })?;
         Ok(())
     }
 
-    /// Whether a file was refused, or memory ran out.
-    fn is_stopped(&self) -> bool
-        ensures { result ≡ is_some self.now.stopped }
-    {
-        self.stopped.is_some()
-    }
-
-    /// Whether memory ran out.
-    fn outcome(&self) -> Result<(), AllocError>
-        ensures failed { IsOutOfMemory self.now → result ≡ Err alloc_error }
-        ensures fails { OnErr result (IsOutOfMemory self.now) }
-    {
-        match self.stopped {
-            Some(Fail::Memory) => Err(AllocError),
-            Some(Fail::Refused(_)) | None => Ok(()),
-        }
-    }
-
-    /// The report on the files that were taken, as that of [`crate::check_bytes`].
+    /// The report on the files that were taken, in the order of their indexes, as that of [`crate::check_bytes`].
     ///
     /// # Errors
     ///
     /// The first file that is refused, by its index, with its fault; `Memory` where there is no memory.
     pub fn finish(self, rules: Rules) -> Result<Report, PackageFault>
-        ensures exact { (keep : TheKeep) (sources : List FileView) → HasTaken self keep sources → ReturnsReport sources rules result }
-        ensures only { (keep : TheKeep) (sources : List FileView) (answer : Result ReportView (ℕ × TheFault)) → HasTaken self keep sources → IsAnswer sources rules answer → ReturnsExactly answer result }
-        ensures places { (keep : TheKeep) (sources : List FileView) → HasTaken self keep sources → IfOk result NamesItsPlaces }
-        ensures legal { (keep : TheKeep) (sources : List FileView) → HasTaken self keep sources → IfOk result (λ report. AreLegal sources) }
-        ensures sound { (keep : TheKeep) (sources : List FileView) → HasTaken self keep sources → IfOk result (λ report. report.findings ≡ [] → IsSound sources rules) }
+        ensures exact { (keep : TheKeep) (sources : List FileView) → HasTakenAll self keep sources → ReturnsReport sources rules result }
+        ensures only { (keep : TheKeep) (sources : List FileView) (answer : Result ReportView (ℕ × TheFault)) → HasTakenAll self keep sources → IsAnswer sources rules answer → ReturnsExactly answer result }
+        ensures places { (keep : TheKeep) (sources : List FileView) → HasTakenAll self keep sources → IfOk result NamesItsPlaces }
+        ensures legal { (keep : TheKeep) (sources : List FileView) → HasTakenAll self keep sources → IfOk result (λ report. AreLegal sources) }
+        ensures sound { (keep : TheKeep) (sources : List FileView) → HasTakenAll self keep sources → IfOk result (λ report. report.findings ≡ [] → IsSound sources rules) }
         ensures failed { IsOutOfMemory self → result ≡ Err stop.Memory }
     {
         unique_answer();
@@ -151,7 +141,7 @@ impl PackageReader {
 
     #[tactic(auto, using(crate::proofs::BoardsLemmas::reported_on))]
     fn answer(self, rules: Rules) -> Result<Report, PackageFault>
-        ensures exact { (keep : TheKeep) (sources : List FileView) → HasTaken self keep sources → ReturnsReport sources rules result }
+        ensures exact { (keep : TheKeep) (sources : List FileView) → HasTakenAll self keep sources → ReturnsReport sources rules result }
         ensures failed { IsOutOfMemory self → result ≡ Err stop.Memory }
     {
         let alloc = self.alloc;
@@ -164,27 +154,61 @@ impl PackageReader {
         }
     }
 
-    /// The board of the files that were taken: what all of them say together, with the flashes of copper files where they are kept. A
-    /// drill file's own list of holes is freed as they are appended to the board's.
+    /// The board of the files that were taken, in the order of their indexes: what all of them say together, with the flashes of copper
+    /// files where they are kept. A drill file's own list of holes is freed as they are appended to the board's.
     ///
     /// # Errors
     ///
     /// As those of [`PackageReader::finish`].
     pub fn board(self) -> Result<Board, PackageFault>
-        ensures exact { (keep : TheKeep) (sources : List FileView) → HasTaken self keep sources → ReturnsBoard sources result }
-        ensures flashes { (keep : TheKeep) (sources : List FileView) → HasTaken self keep sources → keeps_flashes keep ≡ true → ReturnsFlashedBoard sources result }
+        ensures exact { (keep : TheKeep) (sources : List FileView) → HasTakenAll self keep sources → ReturnsBoard sources result }
+        ensures flashes { (keep : TheKeep) (sources : List FileView) → HasTakenAll self keep sources → keeps_flashes keep ≡ true → ReturnsFlashedBoard sources result }
         ensures failed { IsOutOfMemory self → result ≡ Err stop.Memory }
     {
+        unique_reading();
         match self.stopped {
-            Some(Fail::Memory) => Err(PackageFault::Memory),
-            Some(Fail::Refused(fault)) => Err(PackageFault::File {
-                index: self.contents.len(),
-                fault,
-            }),
-            None => match board_of(self.alloc, self.contents, self.flashes) {
+            Some(fault) => Err(fault),
+            None => match board_of_slots(self.alloc, self.slots) {
                 Ok(board) => Ok(board),
                 Err(_) => Err(PackageFault::Memory),
             },
         }
+    }
+}
+
+/// Whether the file at this index stands before the first that is refused so far. None does once memory ran out.
+pub(crate) fn is_wanted(stopped: Option<PackageFault>, index: usize) -> bool
+    ensures { result ≡ is_wanted stopped index }
+{
+    match stopped {
+        Some(PackageFault::Memory) => false,
+        Some(PackageFault::File { index: refused, .. }) => index < refused,
+        None => true,
+    }
+}
+
+/// Whether memory ran out.
+pub(crate) fn outcome(stopped: Option<PackageFault>) -> Result<(), AllocError>
+    ensures failed { stopped ≡ Some stop.Memory → result ≡ Err alloc_error }
+    ensures fails { OnErr result (stopped ≡ Some stop.Memory) }
+{
+    match stopped {
+        Some(PackageFault::Memory) => Err(AllocError),
+        Some(PackageFault::File { .. }) | None => Ok(()),
+    }
+}
+
+/// Where a reader stops after the file at this index was read.
+pub(crate) fn next_stop(
+    stopped: Option<PackageFault>,
+    index: usize,
+    read: Result<(), Fail>,
+) -> Option<PackageFault>
+    ensures { result ≡ next_stop stopped index read }
+{
+    match read {
+        Ok(()) => stopped,
+        Err(Fail::Memory) => Some(PackageFault::Memory),
+        Err(Fail::Refused(fault)) => Some(PackageFault::File { index, fault }),
     }
 }

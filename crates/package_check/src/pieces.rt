@@ -1,6 +1,6 @@
 //! The check of a package whose files come in pieces.
 
-ghost use Rattle.std.specs.Prelude.{◌≡◌, ◌<◌, ℕ, [], Result, IfOk};
+ghost use Rattle.std.specs.Prelude.{◌≡◌, ◌<◌, ℕ, [], Result, IfOk, OnOk};
 ghost use Rattle.grid_units.specs.declared.fault.Fault.{Fault as TheFault};
 ghost use Rattle.layer_image.specs.declared.keep.Keep.TheVariants as keep;
 ghost use Rattle.package_check.specs.Package.{ReturnsExactly, ReturnsReport, IsAnswer, NamesItsPlaces};
@@ -8,9 +8,9 @@ ghost use Rattle.package_check.specs.Pieces.{pieced_layer_count, pieced_file_vie
 ghost use Rattle.package_check.specs.Reports.{ReportView};
 ghost use Rattle.package_check.specs.Soundness.{AreStraight, IsSound};
 ghost use Rattle.package_check.specs.SoundnessAsRead.{AreLegal};
-ghost use Rattle.package_check.specs.Holding.{HasTaken};
+ghost use Rattle.package_check.specs.Holding.{HasTakenAll, TakesThose, copper_files, is_kind_at};
 
-use crate::contents::is_copper;
+use crate::contents::{is_copper, is_kind};
 use crate::laws::{files_say_once, findings_name_their_places, passing_is_sound, unique_answer};
 use crate::{PackageFault, PackageReader, PiecedFile, Report};
 use grid_units::Rules;
@@ -22,14 +22,30 @@ fn layer_count(files: &[PiecedFile]) -> usize
     files.iter().filter(|file| is_copper(file.role)).count()
 }
 
-/// A reader that has taken the files.
+/// Takes those of the files that are copper, or those that are not, as `copper` says.
+fn take_kind(
+    reader: &mut PackageReader,
+    files: &[PiecedFile],
+    copper: bool,
+) -> Result<(), AllocError>
+    ensures takes { copper_files reader.old ≡ pieced_layer_count files.now → OnOk result (TakesThose reader.old reader.new (pieced_file_views files.now) (is_kind_at copper (pieced_file_views files.now))) }
+    ensures layers { copper_files reader.new ≡ copper_files reader.old }
+{
+    for (index, file) in files.iter().enumerate() {
+        if is_kind(file.role, copper) {
+            reader.take(index, file.role, file.span, file.pieces)?;
+        }
+    }
+    Ok(())
+}
+
+/// A reader that has taken the files: the drill files first, then the copper files.
 fn reader_of(alloc: Global, files: &[PiecedFile]) -> Result<PackageReader, AllocError>
-    ensures { IfOk result (λ reader. HasTaken reader keep.Pads (pieced_file_views files.now)) }
+    ensures { IfOk result (λ reader. HasTakenAll reader keep.Pads (pieced_file_views files.now)) }
 {
     let mut reader = PackageReader::new(alloc, layer_count(files));
-    for file in files {
-        reader.take(file.role, file.span, file.pieces)?;
-    }
+    take_kind(&mut reader, files, false)?;
+    take_kind(&mut reader, files, true)?;
     Ok(reader)
 }
 

@@ -24,7 +24,7 @@ use std::alloc::{AllocError, Global};
 use std::marker::Model;
 
 /// How many bytes of a layer are read at once: its commands are held for so many bytes alone, and then dropped.
-const PIECE: usize = 65_536;
+pub(crate) const PIECE: usize = 65_536;
 
 /// What the check keeps of a copper file.
 #[derive(Drop)]
@@ -86,7 +86,7 @@ impl Drill {
 }
 
 /// Whether the first field of a file function is `Copper`. A layer without one is taken for copper.
-fn is_copper_function(function: Option<&[u8]>) -> bool
+pub(crate) fn is_copper_function(function: Option<&[u8]>) -> bool
     ensures { result ≡ is_copper_function (option_copied function.entry) }
 {
     match function {

@@ -111,6 +111,29 @@ fn starts_of(alloc: Global, files: &[FileSum], holes: &[Drilled]) -> Result<Vec<
     Ok(starts)
 }
 
+/// The report of these rules, files, layers, holes and findings.
+pub(crate) fn report_of(
+    alloc: Global,
+    rules: Rules,
+    files: Vec<FileSum>,
+    layers: Vec<usize>,
+    holes: Vec<Drilled>,
+    findings: Vec<Finding>,
+) -> Result<Report, AllocError>
+    requires { CountsAddUp files.items holes.items }
+    ensures { IfOk result (λ report. report ≡ record { rules = rules; files = files.items; layers = layers.items; holes = numbered_from 0 files.items holes.items; findings = findings.items }) }
+{
+    let starts = starts_of(alloc, &files, &holes)?;
+    Ok(Report {
+        rules,
+        files,
+        layers,
+        holes,
+        starts,
+        findings,
+    })
+}
+
 /// The report on a board, whose pads and flashes are freed.
 pub(crate) fn report_on(alloc: Global, board: Board, rules: Rules) -> Result<Report, AllocError>
     ensures { IfOk result (λ report. report ≡ reported rules board) }
@@ -122,13 +145,5 @@ pub(crate) fn report_on(alloc: Global, board: Board, rules: Rules) -> Result<Rep
         holes,
         ..
     } = board;
-    let starts = starts_of(alloc, &files, &holes)?;
-    Ok(Report {
-        rules,
-        files,
-        layers: layer_indexes,
-        holes,
-        starts,
-        findings,
-    })
+    report_of(alloc, rules, files, layer_indexes, holes, findings)
 }

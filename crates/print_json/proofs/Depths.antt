@@ -1,11 +1,12 @@
 -- The depth to which values nest.
-use Rattle.std.proofs.Common.{◌≤◌, ◌+◌, ◌++◌, ℕ, suc, List, [], ◌∷◌, Option, Some, None, arith, map}
+use Rattle.std.proofs.Common.{◌≤◌, ◌+◌, ◌++◌, ℕ, suc, List, [], ◌∷◌, Option, Some, None, arith, length, map}
 use Rattle.std.specs.Borrow.{Bor}
 use Rattle.std.specs.List.{All, enumerate_from}
 use Rattle.std.specs.Prelude.{codes, ⊤}
 use Rattle.std.proofs.lemmas.List.Elements.{All-append, All-map}
 use Rattle.json.specs.Json.{Json, max_depth}
 use Rattle.json.specs.Tree.{depth, items_depth, members_depth}
+use Rattle.grid_units.specs.Spans.{LayerSpan}
 use Rattle.margins.specs.declared.met.Met.{Met}
 use Rattle.margins.specs.declared.met.Met.TheVariants as mets
 use Rattle.report.specs.declared.GapLine.{GapLine}
@@ -26,7 +27,7 @@ use Rattle.printing.specs.Holes.{name_of}
 use Rattle.report.specs.Acceptances.{acceptance_at}
 use Rattle.ring_rules.specs.declared.finding.Drilled.{Drilled}
 use Rattle.report.specs.Causes.{lack_of}
-use Rattle.print_json.specs.Values.{drill_value, file_value, flash_of, gap_value, hole_value, hole_at_place, or_null, items_of, members_of, layer_number, layer_value, least_gap_value, least_hole, least_ring, meets_value, met_value, picometres, place_value, point_value, ring_of, ring_value, row_value, rules_value, scale_value, whole, acceptance_value, word}
+use Rattle.print_json.specs.Values.{drill_value, file_value, flash_of, gap_value, hole_value, hole_at_place, array_of, or_null, items_of, members_of, layer_number, layer_value, least_gap_value, least_hole, least_ring, meets_value, met_value, picometres, place_value, point_value, ring_of, ring_value, row_value, rules_value, scale_value, span_value, whole, acceptance_value, word}
 use Rattle.print_json.specs.Packages.{file_values, gap_values, measure_value, ring_values, input_error_value, report_value}
 use Rattle.print_json.specs.declared.refused.InputError.{InputError}
 use Rattle.print_json.specs.declared.refused.InputError.TheVariants as stops
@@ -64,10 +65,13 @@ hole_within : (at : PlacedHole) → depth (hole_value at) ≤ 2
 unfolding hole_value point_value
 hole_within at = omega arith
 
-file_within : (n : ℕ) (name : List ℕ) (sum : FileSum) → depth (file_value n name sum) ≤ 1
+span_within : (span : Option LayerSpan) → depth (span_value span) ≤ 1
+span_within span = there_within 1 (λ layers. array_of (whole layers.first ∷ whole layers.last ∷ [])) (λ layers. omega arith) span
+
+file_within : (n : ℕ) (name : List ℕ) (sum : FileSum) → depth (file_value n name sum) ≤ 2
 unfolding layer_value drill_value
 file_within n name (sums.Layer pads other) = omega arith
-file_within n name (sums.Drill plated span round slots) = omega arith
+file_within n name (sums.Drill plated span round slots) = let layers = span_within span in omega (arith, layers)
 
 scale_within : (line : UnitMistake) → depth (scale_value line) ≤ 1
 unfolding scale_value
@@ -90,9 +94,9 @@ row_within line =
 why_within : (why : Option (Bor (List ℕ))) → depth (acceptance_value why) ≤ 0
 why_within why = there_within 0 (λ (there : Bor (List ℕ)). word there.now) (λ there. omega arith) why
 
-ring_within : (layers : List LayerHead) (lack : RingLack) (why : Option (Bor (List ℕ))) → depth (ring_value layers lack why) ≤ 3
+ring_within : (layers : List LayerHead) (number : ℕ) (lack : RingLack) (why : Option (Bor (List ℕ))) → depth (ring_value layers number lack why) ≤ 3
 unfolding ring_value
-ring_within layers lack why =
+ring_within layers number lack why =
     let layer = there_within 0 whole (λ n. omega arith) (layer_number layers lack.layer) in
     let at = hole_within lack.at in
     let ring = there_within 0 picometres (λ n. omega arith) (ring_of lack.cause) in
@@ -101,9 +105,9 @@ ring_within layers lack why =
     let waived = why_within why in
     omega (arith, layer, at, ring, less, flash, waived)
 
-gap_within : (lack : GapLack) (why : Option (Bor (List ℕ))) → depth (gap_value lack why) ≤ 3
+gap_within : (number : ℕ) (lack : GapLack) (why : Option (Bor (List ℕ))) → depth (gap_value number lack why) ≤ 3
 unfolding gap_value
-gap_within lack why = let first = hole_within lack.first in let second = hole_within lack.second in let waived = why_within why in omega (arith, first, second, waived)
+gap_within number lack why = let first = hole_within lack.first in let second = hole_within lack.second in let waived = why_within why in omega (arith, first, second, waived)
 
 place_within : (files : List FileSum) (holes : List Drilled) (place : HolePlace) → depth (place_value files holes place) ≤ 2
 place_within files holes place =
@@ -115,17 +119,17 @@ unfolding least_gap_value
 least_gap_within files holes line = let first = place_within files holes line.first in let second = place_within files holes line.second in omega (arith, first, second)
 
 -- the depth of the files
-files_within : (names : List (List ℕ)) (files : List FileSum) → items_depth (items_of (file_values names files)) ≤ 1
-files_within names files = each_within (λ file. file_value (file.0 + 1) (name_of names file.0) file.1) 1 (λ file. file_within (file.0 + 1) (name_of names file.0) file.1) (enumerate_from 0 files)
+files_within : (names : List (List ℕ)) (files : List FileSum) → items_depth (items_of (file_values names files)) ≤ 2
+files_within names files = each_within (λ file. file_value (file.0 + 1) (name_of names file.0) file.1) 2 (λ file. file_within (file.0 + 1) (name_of names file.0) file.1) (enumerate_from 0 files)
 
 -- the depth of the findings
 rings_within : (layers : List LayerHead) (rings : List RingLack) (accepted : List (Option (Bor (List ℕ)))) → All (λ v. depth v ≤ 3) (ring_values layers rings accepted)
 rings_within layers rings accepted =
-    All-map (λ v. depth v ≤ 3) (λ (one : ℕ × RingLack). ring_value layers one.1 (acceptance_at accepted one.0)) (enumerate_from 0 rings) (λ k d l. ring_within layers _ _)
+    All-map (λ v. depth v ≤ 3) (λ (one : ℕ × RingLack). ring_value layers (one.0 + 1) one.1 (acceptance_at accepted one.0)) (enumerate_from 0 rings) (λ k d l. ring_within layers _ _ _)
 
-gaps_within : (gaps : List GapLack) (accepted : List (Option (Bor (List ℕ)))) → All (λ v. depth v ≤ 3) (gap_values gaps accepted)
-gaps_within gaps accepted =
-    All-map (λ v. depth v ≤ 3) (λ (one : ℕ × GapLack). gap_value one.1 (acceptance_at accepted one.0)) (enumerate_from 0 gaps) (λ k d l. gap_within _ _)
+gaps_within : (before : ℕ) (gaps : List GapLack) (accepted : List (Option (Bor (List ℕ)))) → All (λ v. depth v ≤ 3) (gap_values before gaps accepted)
+gaps_within before gaps accepted =
+    All-map (λ v. depth v ≤ 3) (λ (one : ℕ × GapLack). gap_value (before + (one.0 + 1)) one.1 (acceptance_at accepted one.0)) (enumerate_from 0 gaps) (λ k d l. gap_within _ _ _)
 
 -- the depth of a report
 pub report_within : (names : List (List ℕ)) (files : List FileSum) (report : BoardReport) (of_rings of_gaps : List (Option (Bor (List ℕ)))) → depth (report_value names files report of_rings of_gaps) ≤ max_depth
@@ -135,8 +139,9 @@ report_within names files report of_rings of_gaps =
     let named = files_within names files in
     let scales = each_within scale_value 1 scale_within report.scales.items in
     let rings = ring_values report.layers.items report.rings.items of_rings in
-    let found = items_within 3 (rings ++ gap_values report.gaps.items of_gaps)
-    (All-append (λ v. depth v ≤ 3) rings (gap_values report.gaps.items of_gaps) (rings_within report.layers.items report.rings.items of_rings) (gaps_within report.gaps.items of_gaps)) in
+    let before = length report.rings.items in
+    let found = items_within 3 (rings ++ gap_values before report.gaps.items of_gaps)
+    (All-append (λ v. depth v ≤ 3) rings (gap_values before report.gaps.items of_gaps) (rings_within report.layers.items report.rings.items of_rings) (gaps_within before report.gaps.items of_gaps)) in
     omega (arith, meets, named, scales, found)
 
 -- the depth of a measure

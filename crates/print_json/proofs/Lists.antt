@@ -83,32 +83,34 @@ module _ (names : List (List ℕ)) (files : List FileSum) where
 
 module _ (layers : List LayerHead) (rings : List RingLack) (accepted : List (Option (Bor (List ℕ)))) where
   length_rings : length (ring_values layers rings accepted) ≡ length rings
-  length_rings = length_placed (λ one. ring_value layers one.1 (acceptance_at accepted one.0)) rings
+  length_rings = length_placed (λ one. ring_value layers (one.0 + 1) one.1 (acceptance_at accepted one.0)) rings
 
-  pub ring_at : (i : ℕ) (d : RingLack) → i < length rings → ring_value layers (get_or rings i d) (acceptance_at accepted i) ≡ get_or (ring_values layers rings accepted) i null
-  ring_at = placed (λ one. ring_value layers one.1 (acceptance_at accepted one.0)) rings
+  pub ring_at : (i : ℕ) (d : RingLack) → i < length rings → ring_value layers (i + 1) (get_or rings i d) (acceptance_at accepted i) ≡ get_or (ring_values layers rings accepted) i null
+  ring_at = placed (λ one. ring_value layers (one.0 + 1) one.1 (acceptance_at accepted one.0)) rings
 
-module _ (gaps : List GapLack) (accepted : List (Option (Bor (List ℕ)))) where
-  length_gaps : length (gap_values gaps accepted) ≡ length gaps
-  length_gaps = length_placed (λ one. gap_value one.1 (acceptance_at accepted one.0)) gaps
+module _ (before : ℕ) (gaps : List GapLack) (accepted : List (Option (Bor (List ℕ)))) where
+  length_gaps : length (gap_values before gaps accepted) ≡ length gaps
+  length_gaps = length_placed (λ one. gap_value (before + (one.0 + 1)) one.1 (acceptance_at accepted one.0)) gaps
 
-  pub gap_at : (i : ℕ) (d : GapLack) → i < length gaps → gap_value (get_or gaps i d) (acceptance_at accepted i) ≡ get_or (gap_values gaps accepted) i null
-  gap_at = placed (λ one. gap_value one.1 (acceptance_at accepted one.0)) gaps
+  pub gap_at : (i : ℕ) (d : GapLack) → i < length gaps → gap_value (before + (i + 1)) (get_or gaps i d) (acceptance_at accepted i) ≡ get_or (gap_values before gaps accepted) i null
+  gap_at = placed (λ one. gap_value (before + (one.0 + 1)) one.1 (acceptance_at accepted one.0)) gaps
 
 module _ (layers : List LayerHead) (rings : List RingLack) (gaps : List GapLack) (of_rings of_gaps : List (Option (Bor (List ℕ)))) where
   -- how many findings there are
-  pub length_found : length (ring_values layers rings of_rings ++ gap_values gaps of_gaps) ≡ length rings + length gaps
-  length_found = omega (arith, length-append (ring_values layers rings of_rings) (gap_values gaps of_gaps), length_rings layers rings of_rings, length_gaps gaps of_gaps)
+  pub length_found : length (ring_values layers rings of_rings ++ gap_values (length rings) gaps of_gaps) ≡ length rings + length gaps
+  length_found =
+      omega (arith, length-append (ring_values layers rings of_rings) (gap_values (length rings) gaps of_gaps), length_rings layers rings of_rings, length_gaps (length rings) gaps of_gaps)
 
   -- a ring among the findings
-  pub found_ring : (i : ℕ) → i < length rings → get_or (ring_values layers rings of_rings) i null ≡ get_or (ring_values layers rings of_rings ++ gap_values gaps of_gaps) i null
-  found_ring i lt = sym (get_or_append_left (ring_values layers rings of_rings) (gap_values gaps of_gaps) null i (omega (arith, lt, length_rings layers rings of_rings)))
+  pub found_ring : (i : ℕ) → i < length rings → get_or (ring_values layers rings of_rings) i null ≡ get_or (ring_values layers rings of_rings ++ gap_values (length rings) gaps of_gaps) i null
+  found_ring i lt = sym (get_or_append_left (ring_values layers rings of_rings) (gap_values (length rings) gaps of_gaps) null i (omega (arith, lt, length_rings layers rings of_rings)))
 
   -- a gap among the findings
-  pub found_gap : (i n : ℕ) → n ≡ length rings → n ≤ i → get_or (gap_values gaps of_gaps) (i - n) null ≡ get_or (ring_values layers rings of_rings ++ gap_values gaps of_gaps) i null
+  pub found_gap : (i n : ℕ) → n ≡ length rings → n ≤ i
+      → get_or (gap_values (length rings) gaps of_gaps) (i - n) null ≡ get_or (ring_values layers rings of_rings ++ gap_values (length rings) gaps of_gaps) i null
   found_gap i n is le =
-      sym (ap (λ (k : ℕ). get_or (ring_values layers rings of_rings ++ gap_values gaps of_gaps) k null) after
-      ∙ get_or-append-add (ring_values layers rings of_rings) (gap_values gaps of_gaps) (i - n) null)
+      sym (ap (λ (k : ℕ). get_or (ring_values layers rings of_rings ++ gap_values (length rings) gaps of_gaps) k null) after
+      ∙ get_or-append-add (ring_values layers rings of_rings) (gap_values (length rings) gaps of_gaps) (i - n) null)
     where
       after : i ≡ length (ring_values layers rings of_rings) + (i - n)
       after = omega (arith, is, le, length_rings layers rings of_rings)

@@ -20,21 +20,27 @@ use Rattle.print_json.specs.Values.{array_of, file_value, gap_value, or_null, le
 use Rattle.print_json.specs.declared.refused.InputError.{InputError}
 use Rattle.print_json.specs.declared.refused.InputError.TheVariants as stops
 
--- the first members of each object: `"format":"ringcheck","version":1,"result":"measured"`
+-- the first members of each object: `"format":"ringcheck","version":2,"result":"measured"`
 abbrev pub opening : List ℕ → List (List ℕ × Json)
-opening result = (codes "format", word (codes "ringcheck")) ∷ (codes "version", whole 1) ∷ (codes "result", word result) ∷ []
+opening result = (codes "format", word (codes "ringcheck")) ∷ (codes "version", whole 2) ∷ (codes "result", word result) ∷ []
 
 -- the contents of each file, in order, with the files' numbers and names
 abbrev pub file_values : List (List ℕ) → List FileSum → List Json
 file_values names files = map (λ file. file_value (file.0 + 1) (name_of names file.0) file.1) (enumerate_from 0 files)
 
--- the insufficient rings, each with the reason at its place why it is accepted, if there is one; `layers` are those that they name
+-- the insufficient rings, each with its number and the reason at its place why it is accepted, if there is one; `layers` are those
+-- that they name
 abbrev pub ring_values : List LayerHead → List RingLack → List (Option (Bor (List ℕ))) → List Json
-ring_values layers rings accepted = map (λ one. ring_value layers one.1 (acceptance_at accepted one.0)) (enumerate_from 0 rings)
+ring_values layers rings accepted = map (λ one. ring_value layers (one.0 + 1) one.1 (acceptance_at accepted one.0)) (enumerate_from 0 rings)
 
--- the insufficient gaps, each with the reason at its place
-abbrev pub gap_values : List GapLack → List (Option (Bor (List ℕ))) → List Json
-gap_values gaps accepted = map (λ one. gap_value one.1 (acceptance_at accepted one.0)) (enumerate_from 0 gaps)
+-- the insufficient gaps, after this many rings, each with its number and the reason at its place
+abbrev pub gap_values : ℕ → List GapLack → List (Option (Bor (List ℕ))) → List Json
+gap_values rings gaps accepted = map (λ one. gap_value (rings + (one.0 + 1)) one.1 (acceptance_at accepted one.0)) (enumerate_from 0 gaps)
+
+-- all findings, rings before gaps. They are numbered from 1 by their place in this list, as in the lines of a check and in a picture
+abbrev pub finding_values : BoardReport → List (Option (Bor (List ℕ))) → List (Option (Bor (List ℕ))) → List Json
+finding_values report rings gaps =
+    ring_values report.layers.items report.rings.items rings ++ gap_values (length report.rings.items) report.gaps.items gaps
 
 -- the result of a report, by the number of its findings and of those that are waived: `pass` without findings, `waived` if all are,
 -- else `findings`
@@ -50,7 +56,7 @@ unfoldable pub report_value : List (List ℕ) → List FileSum → BoardReport �
 report_value names files report rings gaps =
     object_of (opening (report_result report rings gaps) ++ ((codes "rules", rules_value report.rules) ∷ (codes "meets", meets_value report.meets)
     ∷ (codes "files", array_of (file_values names files)) ∷ (codes "scales", array_of (map scale_value report.scales.items))
-    ∷ (codes "findings", array_of (ring_values report.layers.items report.rings.items rings ++ gap_values report.gaps.items gaps)) ∷ []))
+    ∷ (codes "findings", array_of (finding_values report rings gaps)) ∷ []))
 
 -- a report with waivers
 abbrev pub waived_report_value : List (List ℕ) → List FileSum → BoardReport → Acceptances → Json
@@ -81,11 +87,11 @@ refused_manifest_value place reason = object_of (opening (codes "refused") ++ ((
 abbrev pub device_value : ℕ → List ℕ → Json
 device_value index name = object_of (opening (codes "device") ++ ((codes "file", whole (index + 1)) ∷ (codes "name", word name) ∷ []))
 
--- a manifest that cannot be read: `{"format":"ringcheck","version":1,"result":"device"}`
+-- a manifest that cannot be read: `{"format":"ringcheck","version":2,"result":"device"}`
 abbrev pub manifest_device_value : Json
 manifest_device_value = object_of (opening (codes "device"))
 
--- the first members of an object about the file of waivers: `"format":"ringcheck","version":1,"result":"refused","waivers":true`
+-- the first members of an object about the file of waivers: `"format":"ringcheck","version":2,"result":"refused","waivers":true`
 abbrev pub waivers_opening : List ℕ → List (List ℕ × Json)
 waivers_opening result = opening result ++ (codes "waivers", boolean true) ∷ []
 
@@ -93,7 +99,7 @@ waivers_opening result = opening result ++ (codes "waivers", boolean true) ∷ [
 abbrev pub refused_waivers_value : ℕ → Reason → Json
 refused_waivers_value place reason = object_of (waivers_opening (codes "refused") ++ ((codes "place", whole place) ∷ (codes "reason", word (reason_name reason)) ∷ []))
 
--- a file of waivers that cannot be read: `{"format":"ringcheck","version":1,"result":"device","waivers":true}`
+-- a file of waivers that cannot be read: `{"format":"ringcheck","version":2,"result":"device","waivers":true}`
 abbrev pub waivers_device_value : Json
 waivers_device_value = object_of (waivers_opening (codes "device"))
 

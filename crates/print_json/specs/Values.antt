@@ -8,6 +8,7 @@ use Rattle.json.specs.Print.{print}
 use Rattle.json.specs.Tree.{json_tokens}
 use Rattle.grid_units.specs.Holes.{GridHole, GridRules}
 use Rattle.grid_units.specs.Points.{GridPoint}
+use Rattle.grid_units.specs.Spans.{LayerSpan}
 use Rattle.layer_image.specs.declared.flash.Why.{Why}
 use Rattle.layer_image.specs.declared.flash.Why.TheVariants as why
 use Rattle.margins.specs.declared.met.Met.{Met}
@@ -108,15 +109,20 @@ unfoldable pub layer_value : ℕ → List ℕ → ℕ → ℕ → Json
 layer_value n name pads other =
     object_of ((codes "number", whole n) ∷ (codes "role", word (codes "copper")) ∷ (codes "name", word name) ∷ (codes "pads", whole pads) ∷ (codes "other", whole other) ∷ [])
 
--- a drill file, by its number: `{"number":2,"role":"plated","name":"pth","round":1,"slots":0}`
-unfoldable pub drill_value : ℕ → List ℕ → Bool → ℕ → ℕ → Json
-drill_value n name plated round slots =
-    object_of ((codes "number", whole n) ∷ (codes "role", word (drill_role plated)) ∷ (codes "name", word name) ∷ (codes "round", whole round) ∷ (codes "slots", whole slots) ∷ [])
+-- the first and the last layer that a drill file's holes go through, by their numbers from 1: `[1,2]`; null where no span is named
+abbrev pub span_value : Option LayerSpan → Json
+span_value span = or_null (λ layers. array_of (whole layers.first ∷ whole layers.last ∷ [])) span
+
+-- a drill file, by its number: `{"number":2,"role":"plated","name":"pth","round":1,"slots":0,"span":null}`
+unfoldable pub drill_value : ℕ → List ℕ → Bool → Option LayerSpan → ℕ → ℕ → Json
+drill_value n name plated span round slots =
+    object_of ((codes "number", whole n) ∷ (codes "role", word (drill_role plated)) ∷ (codes "name", word name) ∷ (codes "round", whole round) ∷ (codes "slots", whole slots)
+    ∷ (codes "span", span_value span) ∷ [])
 
 -- a file of either kind, by its number
 abbrev pub file_value : ℕ → List ℕ → FileSum → Json
 file_value n name (sums.Layer pads other) = layer_value n name pads other
-file_value n name (sums.Drill plated span round slots) = drill_value n name plated round slots
+file_value n name (sums.Drill plated span round slots) = drill_value n name plated span round slots
 
 -- a drill file whose coordinates seem to be off by a factor: `{"drill":2,"bare":3,"factor":"25.4","then":0}`
 unfoldable pub scale_value : UnitMistake → Json
@@ -163,17 +169,19 @@ layer_number layers layer = option_map (λ head. head.file + 1) (slice_get layer
 abbrev pub acceptance_value : Option (Bor (List ℕ)) → Json
 acceptance_value why = or_null (λ there. word there.now) why
 
--- an insufficient ring: `{"kind":"ring","layer":1,"at":{..},"has_pm":124999000,"lacks_pm":1000,"cause":"off","flash":1,"waived":"drawn so"}`
-unfoldable pub ring_value : List LayerHead → RingLack → Option (Bor (List ℕ)) → Json
-ring_value layers lack why =
-    object_of ((codes "kind", word (codes "ring")) ∷ (codes "layer", or_null whole (layer_number layers lack.layer)) ∷ (codes "at", hole_value lack.at)
+-- an insufficient ring, by the number of its finding:
+-- `{"kind":"ring","number":1,"layer":1,"at":{..},"has_pm":124999000,"lacks_pm":1000,"cause":"off","flash":1,"waived":"drawn so"}`
+unfoldable pub ring_value : List LayerHead → ℕ → RingLack → Option (Bor (List ℕ)) → Json
+ring_value layers n lack why =
+    object_of ((codes "kind", word (codes "ring")) ∷ (codes "number", whole n) ∷ (codes "layer", or_null whole (layer_number layers lack.layer)) ∷ (codes "at", hole_value lack.at)
     ∷ (codes "has_pm", or_null picometres (ring_of lack.cause)) ∷ (codes "lacks_pm", or_null picometres (lack_of lack.cause)) ∷ (codes "cause", word (cause_word lack.cause))
     ∷ (codes "flash", or_null whole (flash_of lack.cause)) ∷ (codes "waived", acceptance_value why) ∷ [])
 
--- an insufficient gap: `{"kind":"gap","at":{..},"and":{..},"has_pm":382301708,"lacks_pm":17698292,"waived":null}`
-unfoldable pub gap_value : GapLack → Option (Bor (List ℕ)) → Json
-gap_value lack why =
-    object_of ((codes "kind", word (codes "gap")) ∷ (codes "at", hole_value lack.first) ∷ (codes "and", hole_value lack.second) ∷ (codes "has_pm", picometres lack.gap)
+-- an insufficient gap, by the number of its finding:
+-- `{"kind":"gap","number":6,"at":{..},"and":{..},"has_pm":382301708,"lacks_pm":17698292,"waived":null}`
+unfoldable pub gap_value : ℕ → GapLack → Option (Bor (List ℕ)) → Json
+gap_value n lack why =
+    object_of ((codes "kind", word (codes "gap")) ∷ (codes "number", whole n) ∷ (codes "at", hole_value lack.first) ∷ (codes "and", hole_value lack.second) ∷ (codes "has_pm", picometres lack.gap)
     ∷ (codes "lacks_pm", picometres lack.lack) ∷ (codes "waived", acceptance_value why) ∷ [])
 
 -- the least ring of a row; nothing where all its holes are bare

@@ -1,11 +1,11 @@
 //! Arrays of files, scales, rows and findings.
 
-ghost use Rattle.std.specs.Prelude.{◌≡◌, ◌<◌, ◌^◌, ◌++◌, Some, List, get_or, length, map};
+ghost use Rattle.std.specs.Prelude.{◌≡◌, ◌<◌, ◌^◌, Some, List, get_or, length, map};
 ghost use Rattle.std.specs.Fmt.{DisplaysOnOk};
 ghost use Rattle.json.specs.Json.{Json, null};
 ghost use Rattle.json.specs.Tree.{HasNumbers};
 ghost use Rattle.print_json.specs.Inner.Texts.{comma_before, value_text};
-ghost use Rattle.print_json.specs.Packages.{file_values, gap_values, ring_values};
+ghost use Rattle.print_json.specs.Packages.{file_values, finding_values, gap_values, ring_values};
 ghost use Rattle.print_json.specs.Values.{array_of, file_value, gap_value, ring_value, row_value, scale_value};
 
 use crate::findings::{GapJson, RingJson};
@@ -151,7 +151,7 @@ impl Values for Rows<'_> {
     }
 }
 
-/// The findings of a report, rings before gaps, each with the reason at its place why it is accepted.
+/// The findings of a report, rings before gaps, each with its number and the reason at its place why it is accepted.
 #[derive(Clone, Copy)]
 pub(crate) struct Findings<'a> {
     pub(crate) report: &'a BoardReport,
@@ -170,10 +170,11 @@ impl<'a> Findings<'a> {
     /// The insufficient ring at a place among the rings.
     fn ring_at(&self, place: usize) -> RingJson<'a>
         requires { place < length self.now.report.now.rings.items }
-        ensures { ring_value result.layers.now result.lack.now result.why
+        ensures { ring_value result.layers.now result.number result.lack.now result.why
             ≡ get_or (ring_values self.now.report.now.layers.items self.now.report.now.rings.items self.now.accepted.now.rings.now) place null }
     {
         RingJson {
+            number: place as u128 + 1,
             layers: self.report.layers.as_slice(),
             lack: &self.report.rings.as_slice()[place],
             why: acceptance_of(self.accepted.rings, place),
@@ -183,9 +184,11 @@ impl<'a> Findings<'a> {
     /// The insufficient gap at a place among the gaps.
     fn gap_at(&self, place: usize) -> GapJson<'a>
         requires { place < length self.now.report.now.gaps.items }
-        ensures { gap_value result.lack.now result.why ≡ get_or (gap_values self.now.report.now.gaps.items self.now.accepted.now.gaps.now) place null }
+        ensures { gap_value result.number result.lack.now result.why
+            ≡ get_or (gap_values (length self.now.report.now.rings.items) self.now.report.now.gaps.items self.now.accepted.now.gaps.now) place null }
     {
         GapJson {
+            number: self.ring_count() + (place as u128 + 1),
             lack: &self.report.gaps.as_slice()[place],
             why: acceptance_of(self.accepted.gaps, place),
         }
@@ -193,8 +196,7 @@ impl<'a> Findings<'a> {
 }
 
 impl Values for Findings<'_> {
-    ghost values = { λ all. ring_values all.report.now.layers.items all.report.now.rings.items all.accepted.now.rings.now
-        ++ gap_values all.report.now.gaps.items all.accepted.now.gaps.now };
+    ghost values = { λ all. finding_values all.report.now all.accepted.now.rings.now all.accepted.now.gaps.now };
 
     fn count(&self) -> u128 {
         self.ring_count() + self.report.gaps.len() as u128

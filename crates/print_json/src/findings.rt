@@ -159,41 +159,48 @@ impl Display for RingRest<'_> {
 }
 
 /// An insufficient ring on one of some layers, with the reason why it is accepted:
-/// `{"kind":"ring","layer":1,"at":{..},"has_pm":124999000,"lacks_pm":1000,"cause":"off","flash":1,"waived":"drawn so"}`.
+/// `{"kind":"ring","number":1,"layer":1,"at":{..},"has_pm":124999000,"lacks_pm":1000,"cause":"off","flash":1,"waived":"drawn so"}`.
 #[derive(Clone, Copy)]
 pub(crate) struct RingJson<'a> {
+    /// The number of the finding, from 1.
+    pub(crate) number: u128,
     pub(crate) layers: &'a [LayerHead],
     pub(crate) lack: &'a RingLack,
     pub(crate) why: Option<&'a str>,
 }
 
 impl Display for RingJson<'_> {
-    ghost output = { λ json. Some (value_text (ring_value json.layers.now json.lack.now json.why)) };
+    ghost output = { λ json. Some (value_text (ring_value json.layers.now json.number json.lack.now json.why)) };
 
     #[tactic(auto, unfolding(crate::specs::Values::ring_value, json::specs::Print::escape_byte))]
     fn fmt<W: fmt::Write>(&self, f: &mut Formatter<W>) -> fmt::Result {
-        let (layers, lack) = (self.layers, self.lack);
+        let (layers, lack, number) = (self.layers, self.lack, self.number);
         let (layer, cause, why) = (lack.layer, &lack.cause, self.why);
         let (layer, at) = (LayerJson { layers, layer }, HoleJson(&lack.at));
         let rest = RingRest { cause, why };
-        write!(f, r#"{{"kind":"ring","layer":{layer},"at":{at}{rest}"#)
+        write!(
+            f,
+            r#"{{"kind":"ring","number":{number},"layer":{layer},"at":{at}{rest}"#
+        )
     }
 }
 
 /// An insufficient gap, with the reason why it is accepted:
-/// `{"kind":"gap","at":{..},"and":{..},"has_pm":382301708,"lacks_pm":17698292,"waived":null}`.
+/// `{"kind":"gap","number":6,"at":{..},"and":{..},"has_pm":382301708,"lacks_pm":17698292,"waived":null}`.
 #[derive(Clone, Copy)]
 pub(crate) struct GapJson<'a> {
+    /// The number of the finding, from 1.
+    pub(crate) number: u128,
     pub(crate) lack: &'a GapLack,
     pub(crate) why: Option<&'a str>,
 }
 
 impl Display for GapJson<'_> {
-    ghost output = { λ json. Some (value_text (gap_value json.lack.now json.why)) };
+    ghost output = { λ json. Some (value_text (gap_value json.number json.lack.now json.why)) };
 
     #[tactic(auto, unfolding(crate::specs::Values::gap_value, json::specs::Print::escape_byte))]
     fn fmt<W: fmt::Write>(&self, f: &mut Formatter<W>) -> fmt::Result {
-        let lack = self.lack;
+        let (lack, number) = (self.lack, self.number);
         let (at, and, waived) = (
             HoleJson(&lack.first),
             HoleJson(&lack.second),
@@ -201,7 +208,7 @@ impl Display for GapJson<'_> {
         );
         write!(
             f,
-            r#"{{"kind":"gap","at":{at},"and":{and},"has_pm":{},"lacks_pm":{},"waived":{waived}}}"#,
+            r#"{{"kind":"gap","number":{number},"at":{at},"and":{and},"has_pm":{},"lacks_pm":{},"waived":{waived}}}"#,
             lack.gap, lack.lack
         )
     }

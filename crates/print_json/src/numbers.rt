@@ -1,12 +1,12 @@
 //! What is printed of a thing holds numbers of RFC 8259 alone. These functions do nothing but give their clauses.
 
 ghost use Rattle.json.specs.Tree.{HasNumbers};
-ghost use Rattle.print_json.specs.Values.{file_value, flash_of, gap_value, hole_value, or_null, layer_number, least_hole, least_ring, meets_value, met_value, picometres, point_value, ring_of, ring_value, row_value, rules_value, scale_value, whole};
+ghost use Rattle.print_json.specs.Values.{file_value, flash_of, gap_value, hole_value, or_null, layer_number, least_hole, least_ring, meets_value, met_value, picometres, point_value, ring_of, ring_value, row_value, rules_value, scale_value, span_value, whole};
 ghost use Rattle.report.specs.Causes.{lack_of};
 
 use crate::findings::{GapJson, RingJson};
 use crate::values::{FileJson, diameter};
-use grid_units::{Point, Rules};
+use grid_units::{Point, Rules, Span};
 use package_check::FileSum;
 use report::{LayerHead, Meets, Met, PlacedHole, RingCause, RingLine, UnitMistake, lack_of};
 
@@ -72,6 +72,16 @@ pub(crate) fn hole_numbers(at: &PlacedHole)
     length_number(diameter(&at.hole));
 }
 
+/// The first and the last layer of a span, or null.
+fn span_numbers(span: Option<Span>)
+    ensures { HasNumbers (span_value span) }
+{
+    if let Some(span) = span {
+        whole_number(span.first() as u128);
+        whole_number(span.last() as u128);
+    }
+}
+
 /// A file.
 #[tactic(auto, unfolding(crate::specs::Values::layer_value, crate::specs::Values::drill_value))]
 pub(crate) fn file_numbers(file: &FileJson)
@@ -83,9 +93,15 @@ pub(crate) fn file_numbers(file: &FileJson)
             whole_number(pads as u128);
             whole_number(other as u128);
         }
-        FileSum::Drill { round, slots, .. } => {
+        FileSum::Drill {
+            span,
+            round,
+            slots,
+            ..
+        } => {
             whole_number(round as u128);
             whole_number(slots as u128);
+            span_numbers(span);
         }
     }
 }
@@ -168,9 +184,10 @@ fn flash_numbers(cause: &RingCause)
 /// An insufficient ring.
 #[tactic(auto, unfolding(crate::specs::Values::ring_value))]
 pub(crate) fn ring_numbers(ring: &RingJson)
-    ensures { HasNumbers (ring_value ring.now.layers.now ring.now.lack.now ring.now.why) }
+    ensures { HasNumbers (ring_value ring.now.layers.now ring.now.number ring.now.lack.now ring.now.why) }
 {
     let lack = ring.lack;
+    whole_number(ring.number);
     layer_numbers(ring.layers, lack.layer);
     hole_numbers(&lack.at);
     has_numbers(&lack.cause);
@@ -181,9 +198,10 @@ pub(crate) fn ring_numbers(ring: &RingJson)
 /// An insufficient gap.
 #[tactic(auto, unfolding(crate::specs::Values::gap_value))]
 pub(crate) fn gap_numbers(gap: &GapJson)
-    ensures { HasNumbers (gap_value gap.now.lack.now gap.now.why) }
+    ensures { HasNumbers (gap_value gap.now.number gap.now.lack.now gap.now.why) }
 {
     let lack = gap.lack;
+    whole_number(gap.number);
     hole_numbers(&lack.first);
     hole_numbers(&lack.second);
     length_number(lack.gap);

@@ -2,10 +2,10 @@
 
 ghost use Rattle.std.specs.Prelude.{◌≡◌, pos, Some, option_map};
 ghost use Rattle.print_json.specs.Inner.Texts.{value_text};
-ghost use Rattle.print_json.specs.Values.{diameter_of, drill_role, file_value, hole_value, or_null, meets_value, met_value, picometres, point_value, row_value, rules_value, scale_value, whole};
+ghost use Rattle.print_json.specs.Values.{diameter_of, drill_role, file_value, hole_value, or_null, meets_value, met_value, picometres, point_value, row_value, rules_value, scale_value, span_value, whole};
 
 use crate::strings::Escaped;
-use grid_units::{Hole, Point, Rules};
+use grid_units::{Hole, Point, Rules, Span};
 use package_check::FileSum;
 use report::{LeastRing, Meets, Met, PlacedHole, RingLine, UnitMistake, factor_word};
 use std::fmt;
@@ -107,8 +107,23 @@ fn drill_role(plated: bool) -> &'static str
     if plated { "plated" } else { "unplated" }
 }
 
+/// The first and the last layer of a span, by their numbers from 1, or null: `[1,2]`.
+#[derive(Clone, Copy)]
+struct SpanJson(Option<Span>);
+
+impl Display for SpanJson {
+    ghost output = { λ json. Some (value_text (span_value json.0)) };
+
+    fn fmt<W: fmt::Write>(&self, f: &mut Formatter<W>) -> fmt::Result {
+        match self.0 {
+            Some(span) => write!(f, "[{},{}]", span.first(), span.last()),
+            None => f.write_str("null"),
+        }
+    }
+}
+
 /// A file, by its number: `{"number":1,"role":"copper","name":"top","pads":1,"other":0}`,
-/// `{"number":2,"role":"plated","name":"pth","round":1,"slots":0}`.
+/// `{"number":2,"role":"plated","name":"pth","round":1,"slots":0,"span":null}`.
 #[derive(Clone, Copy)]
 pub(crate) struct FileJson<'a> {
     pub(crate) number: u128,
@@ -129,14 +144,15 @@ impl Display for FileJson<'_> {
             ),
             FileSum::Drill {
                 plated,
+                span,
                 round,
                 slots,
-                ..
             } => {
                 let role = Escaped(drill_role(plated));
+                let span = SpanJson(span);
                 write!(
                     f,
-                    r#"{{"number":{number},"role":"{role}","name":"{name}","round":{round},"slots":{slots}}}"#
+                    r#"{{"number":{number},"role":"{role}","name":"{name}","round":{round},"slots":{slots},"span":{span}}}"#
                 )
             }
         }

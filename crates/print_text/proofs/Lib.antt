@@ -1,3 +1,3 @@
-pub mod LackRange
+pub mod SmallestLemmas
 pub mod Showing
 pub mod RunLemmas

@@ -1,16 +1,17 @@
 -- The rings of a layer are at the places of its run.
-use Rattle.std.proofs.Common.{◌≡◌, ◌∙◌, ◌<◌, ◌≤◌, ◌+◌, ◌++◌, ℕ, suc, Bool, false, cond, List, [], ◌∷◌, length, take, drop, get_or, min, refl, ap, ap₂, sym, ⊎_elim, arith, length-drop}
-use Rattle.std.specs.Prelude.{◌==◌, slice_range}
-use Rattle.std.specs.List.{count_by, enumerate_from, filter}
-use Rattle.std.proofs.lemmas.Bool.{cases_eq, ne_eqb}
-use Rattle.std.proofs.lemmas.List.{append-nil, get_or-drop, get_or-take, length-take, take-append-drop}
+use Rattle.std.proofs.Common.{◌≡◌, ◌∙◌, ◌<◌, ◌≤◌, ◌+◌, ◌-◌, ◌*◌, ◌++◌, ℕ, suc, pos, Bool, true, false, cond, List, [], ◌∷◌, length, take, drop, get_or, min, refl, ap, ap₂, sym, ⊎_elim, arith, length-drop}
+use Rattle.std.specs.Prelude.{◌==◌, ◌&&◌, ◌||◌, slice_range}
+use Rattle.std.specs.List.{count_by, enumerate_from, filter, filter_map, list_any}
+use Rattle.std.proofs.lemmas.Bool.{and_parts, cases_eq, eqb-true, ne_eqb}
+use Rattle.std.proofs.lemmas.List.{append-nil, drop-take, get_or-drop, get_or-take, length-take, take-append-drop, take-take}
 use Rattle.std.proofs.lemmas.List.Elements.{filter-append}
-use Rattle.std.proofs.lemmas.List.Folds.{drop_split}
+use Rattle.std.proofs.lemmas.List.Folds.{drop_split, list_any-append, list_any_none}
 use Rattle.std.proofs.lemmas.List.FromFn.{get_or-enumerate_from, length-enumerate_from}
 use Rattle.std.proofs.lemmas.List.Sums.{length-filter}
 use Rattle.report.specs.declared.RingLack.{RingLack}
 use Rattle.print_text.specs.declared.runs.Run.{Run}
 use Rattle.print_text.specs.Inner.{IsRun}
+use Rattle.print_text.specs.Texts.{group_line, group_words, is_alike, ring_of, smallest}
 
 filter_none : {X : Type 0} (p : X → Bool) (xs : List X) → ((i : ℕ) (d : X) → i < length xs → p (get_or xs i d) ≡ false) → filter p xs ≡ []
 filter_none p [] off = refl
@@ -83,3 +84,57 @@ longer_run rings place layer run first at lt h = record {
   inside = omega (arith, lt);
   holds = λ i d below on. ⊎_elim (λ e. (omega (arith, at, e), omega (arith, below))) (λ n. let there = h.holds i d (omega (arith, n, below)) on in (omega (arith, at, there.0), omega (arith, below))) (cases_eq i place);
 }
+
+-- a ring on another layer is not like one on this layer
+not_alike : (one other : RingLack) (layer : ℕ) → one.layer ≡ layer → (other.layer ≡ layer → ⊥) → is_alike one other ≡ false
+not_alike one other layer own off =
+    ap (λ (b : Bool). b && (one.at.hole.radius == other.at.hole.radius)) (ne_eqb one.layer other.layer (λ e. off (sym e ∙ own)))
+
+alike_before : (rings : List RingLack) (layer : ℕ) (run : Run) (one : RingLack) → IsRun rings (length rings) layer run → one.layer ≡ layer
+    → (i : ℕ) (d : RingLack) → i < run.first → i < length rings → is_alike one (get_or rings i d) ≡ false
+alike_before rings layer run one h own i d before within = not_alike one (get_or rings i d) layer own (λ e. let there = h.holds i d within e in omega (arith, there.0, before))
+
+alike_after : (rings : List RingLack) (layer : ℕ) (run : Run) (one : RingLack) → IsRun rings (length rings) layer run → one.layer ≡ layer
+    → (i : ℕ) (d : RingLack) → run.end ≤ i → i < length rings → is_alike one (get_or rings i d) ≡ false
+alike_after rings layer run one h own i d end within = not_alike one (get_or rings i d) layer own (λ e. let there = h.holds i d within e in omega (arith, there.1, end))
+
+-- the run of a layer has all rings that are like one on the layer
+pub alike_in_run : (rings : List RingLack) (layer : ℕ) (run : Run) (one : RingLack) → IsRun rings (length rings) layer run → one.layer ≡ layer
+    → filter (is_alike one) (slice_range rings run.first run.end) ≡ filter (is_alike one) rings
+alike_in_run rings layer run one h own =
+    filter_between (is_alike one) rings run.first run.end h.ordered
+    (filter_first (is_alike one) rings run.first (alike_before rings layer run one h own))
+    (filter_after (is_alike one) rings run.end (alike_after rings layer run one h own))
+
+-- so the line of these says of the run what it says of all rings
+pub group_in_run : (name : List ℕ) (rings : List RingLack) (layer : ℕ) (run : Run) (one : RingLack) → IsRun rings (length rings) layer run → one.layer ≡ layer
+    → group_line name (slice_range rings run.first run.end) one ≡ group_line name rings one
+group_in_run name rings layer run one h own =
+    let same = alike_in_run rings layer run one h own in
+    ap₂ (group_words name (pos (2 * one.at.hole.radius)))
+    (sym (length-filter (is_alike one) (slice_range rings run.first run.end)) ∙ (ap length same ∙ length-filter (is_alike one) rings))
+    (ap (λ (all : List RingLack). smallest (filter_map (λ lack. ring_of lack.cause) all)) same)
+
+-- the elements before a place, from another place on
+take_from : {X : Type 0} (xs : List X) (from i : ℕ) → from ≤ i → take i xs ≡ take from xs ++ slice_range xs from i
+take_from {X} xs from i ordered =
+    let split : from + (i - from) ≡ i = omega (arith, ordered) in
+    sym (take-append-drop from (take i xs))
+    ∙ ap₂ (λ (a b : List X). a ++ b) (take-take from i xs ordered) (ap (λ (n : ℕ). drop from (take n xs)) (sym split) ∙ drop-take from (i - from) xs)
+
+-- before a place in the run of a layer, the run has a ring that is like one on the layer just where the list has one
+pub any_in_run : (rings : List RingLack) (layer : ℕ) (run : Run) (one : RingLack) (i : ℕ) → IsRun rings (length rings) layer run → one.layer ≡ layer → run.first ≤ i
+    → list_any (is_alike one) (slice_range rings run.first i) ≡ list_any (is_alike one) (take i rings)
+any_in_run rings layer run one i h own first =
+    sym (ap (list_any (is_alike one)) (take_from rings run.first i first)
+    ∙ (list_any-append (is_alike one) (take run.first rings) (slice_range rings run.first i)
+    ∙ ap (λ (b : Bool). b || list_any (is_alike one) (slice_range rings run.first i)) none))
+  where
+    none : list_any (is_alike one) (take run.first rings) ≡ false
+    none = list_any_none (is_alike one) (take run.first rings)
+        (λ k d l. let before : k < run.first = omega (arith, l, length-take run.first rings) in
+        ap (is_alike one) (get_or-take run.first rings k d before) ∙ alike_before rings layer run one h own k d before (omega (arith, l, length-take run.first rings)))
+
+-- a ring that passes a test of its layer and another test is on the layer
+pub on_layer : (layer other : ℕ) (b : Bool) → ((layer == other) && b) ≡ true → layer ≡ other
+on_layer layer other b on = eqb-true layer other (and_parts (layer == other) b on).0

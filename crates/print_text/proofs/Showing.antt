@@ -8,11 +8,12 @@ use Rattle.std.proofs.lemmas.List.Concat.{flat_map-append, flat_map-cons}
 use Rattle.std.proofs.lemmas.List.Elements.{filter-append}
 use Rattle.std.proofs.lemmas.List.FromFn.{get_or-enumerate_from, length-enumerate_from}
 use Rattle.std.proofs.lemmas.List.Sums.{fold-append}
+use Rattle.grid_units.specs.Holes.{GridRules}
 use Rattle.report.specs.declared.GapLack.{GapLack}
 use Rattle.report.specs.declared.LayerHead.{LayerHead}
 use Rattle.report.specs.declared.RingLack.{RingLack}
-use Rattle.print_text.specs.Inner.{gap_lines, ring_lines}
-use Rattle.print_text.specs.Texts.{gap_line, is_shown, ring_line}
+use Rattle.print_text.specs.Inner.{gap_lines, group_lines, ring_lines}
+use Rattle.print_text.specs.Texts.{gap_line, group_line, is_first_alike, is_shown, number_of, ring_line}
 use Rattle.report.specs.Acceptances.{acceptance_at}
 
 -- the findings so far and one more, with their positions
@@ -65,30 +66,30 @@ abbrev pub gaps_hidden : Option ℕ → List (ℕ × GapLack) → ℕ
 gaps_hidden limit marks = count_by (λ finding. not (is_shown limit finding.0)) marks
 
 -- the lines of the rings on a layer, and of one more if it is shown
-rings_more : (names : List (List ℕ)) (accepted : List (Option (Bor (List ℕ)))) (limit : Option ℕ) (layer : ℕ) (rings : List RingLack) (i : ℕ) (d : RingLack) → i < length rings
-    → ring_lines names accepted limit layer (take (i + 1) (enumerate_from 0 rings))
-    ≡ ring_lines names accepted limit layer (take i (enumerate_from 0 rings)) ++ (if ((get_or rings i d).layer == layer) && is_shown limit i then ring_line names (get_or rings i d) (acceptance_at accepted i) else [])
-rings_more names accepted limit layer rings i d lt =
-    ap (ring_lines names accepted limit layer) (marks_more 0 rings i i d (omega arith) lt)
-    ∙ lines_push_both (λ (finding : ℕ × RingLack). finding.1.layer == layer) (λ (finding : ℕ × RingLack). is_shown limit finding.0) (λ (finding : ℕ × RingLack). ring_line names finding.1 (acceptance_at accepted finding.0))
+rings_more : (names : List (List ℕ)) (rules : GridRules) (accepted : List (Option (Bor (List ℕ)))) (limit : Option ℕ) (layer : ℕ) (rings : List RingLack) (i : ℕ) (d : RingLack) → i < length rings
+    → ring_lines names rules accepted limit layer (take (i + 1) (enumerate_from 0 rings))
+    ≡ ring_lines names rules accepted limit layer (take i (enumerate_from 0 rings)) ++ (if ((get_or rings i d).layer == layer) && is_shown limit i then ring_line names rules (number_of i) (get_or rings i d) (acceptance_at accepted i) else [])
+rings_more names rules accepted limit layer rings i d lt =
+    ap (ring_lines names rules accepted limit layer) (marks_more 0 rings i i d (omega arith) lt)
+    ∙ lines_push_both (λ (finding : ℕ × RingLack). finding.1.layer == layer) (λ (finding : ℕ × RingLack). is_shown limit finding.0) (λ (finding : ℕ × RingLack). ring_line names rules (number_of finding.0) finding.1 (acceptance_at accepted finding.0))
     (take i (enumerate_from 0 rings)) (i, get_or rings i d)
 
 -- one more ring that is shown
-pub ring_added : (names : List (List ℕ)) (accepted : List (Option (Bor (List ℕ)))) (limit : Option ℕ) (layer : ℕ) (rings : List RingLack) (i : ℕ) (d : RingLack) → i < length rings
+pub ring_added : (names : List (List ℕ)) (rules : GridRules) (accepted : List (Option (Bor (List ℕ)))) (limit : Option ℕ) (layer : ℕ) (rings : List RingLack) (i : ℕ) (d : RingLack) → i < length rings
     → (((get_or rings i d).layer == layer) && is_shown limit i) ≡ true
-    → ring_lines names accepted limit layer (take (i + 1) (enumerate_from 0 rings)) ≡ ring_lines names accepted limit layer (take i (enumerate_from 0 rings)) ++ ring_line names (get_or rings i d) (acceptance_at accepted i)
-ring_added names accepted limit layer rings i d lt on =
-    rings_more names accepted limit layer rings i d lt
-    ∙ ap (λ (b : Bool). ring_lines names accepted limit layer (take i (enumerate_from 0 rings)) ++ (if b then ring_line names (get_or rings i d) (acceptance_at accepted i) else [])) on
+    → ring_lines names rules accepted limit layer (take (i + 1) (enumerate_from 0 rings)) ≡ ring_lines names rules accepted limit layer (take i (enumerate_from 0 rings)) ++ ring_line names rules (number_of i) (get_or rings i d) (acceptance_at accepted i)
+ring_added names rules accepted limit layer rings i d lt on =
+    rings_more names rules accepted limit layer rings i d lt
+    ∙ ap (λ (b : Bool). ring_lines names rules accepted limit layer (take i (enumerate_from 0 rings)) ++ (if b then ring_line names rules (number_of i) (get_or rings i d) (acceptance_at accepted i) else [])) on
 
 -- one more ring that is on another layer, or not shown
-pub ring_left_out : (names : List (List ℕ)) (accepted : List (Option (Bor (List ℕ)))) (limit : Option ℕ) (layer : ℕ) (rings : List RingLack) (i : ℕ) (d : RingLack) → i < length rings
+pub ring_left_out : (names : List (List ℕ)) (rules : GridRules) (accepted : List (Option (Bor (List ℕ)))) (limit : Option ℕ) (layer : ℕ) (rings : List RingLack) (i : ℕ) (d : RingLack) → i < length rings
     → (((get_or rings i d).layer == layer) && is_shown limit i) ≡ false
-    → ring_lines names accepted limit layer (take (i + 1) (enumerate_from 0 rings)) ≡ ring_lines names accepted limit layer (take i (enumerate_from 0 rings))
-ring_left_out names accepted limit layer rings i d lt off =
-    rings_more names accepted limit layer rings i d lt
-    ∙ (ap (λ (b : Bool). ring_lines names accepted limit layer (take i (enumerate_from 0 rings)) ++ (if b then ring_line names (get_or rings i d) (acceptance_at accepted i) else [])) off
-    ∙ append-nil (ring_lines names accepted limit layer (take i (enumerate_from 0 rings))))
+    → ring_lines names rules accepted limit layer (take (i + 1) (enumerate_from 0 rings)) ≡ ring_lines names rules accepted limit layer (take i (enumerate_from 0 rings))
+ring_left_out names rules accepted limit layer rings i d lt off =
+    rings_more names rules accepted limit layer rings i d lt
+    ∙ (ap (λ (b : Bool). ring_lines names rules accepted limit layer (take i (enumerate_from 0 rings)) ++ (if b then ring_line names rules (number_of i) (get_or rings i d) (acceptance_at accepted i) else [])) off
+    ∙ append-nil (ring_lines names rules accepted limit layer (take i (enumerate_from 0 rings))))
 
 -- the number of rings on a layer whose positions pass a test, with one more ring
 pub rings_counted_more : (p : ℕ → Bool) (layer : ℕ) (rings : List RingLack) (i : ℕ) (d : RingLack) → i < length rings
@@ -99,31 +100,31 @@ rings_counted_more p layer rings i d lt =
     ∙ count_push_both (λ (finding : ℕ × RingLack). finding.1.layer == layer) (λ (finding : ℕ × RingLack). p finding.0) (take i (enumerate_from 0 rings)) (i, get_or rings i d)
 
 -- the lines of the gaps, and of one more if it is shown
-gaps_more : (names : List (List ℕ)) (accepted : List (Option (Bor (List ℕ)))) (limit : Option ℕ) (first : ℕ) (gaps : List GapLack) (i : ℕ) (d : GapLack) → i < length gaps
-    → gap_lines names accepted limit first (take (i + 1) (enumerate_from first gaps))
-    ≡ gap_lines names accepted limit first (take i (enumerate_from first gaps)) ++ (if is_shown limit (first + i) then gap_line names (get_or gaps i d) (acceptance_at accepted i) else [])
-gaps_more names accepted limit first gaps i d lt =
+gaps_more : (names : List (List ℕ)) (rules : GridRules) (accepted : List (Option (Bor (List ℕ)))) (limit : Option ℕ) (first : ℕ) (gaps : List GapLack) (i : ℕ) (d : GapLack) → i < length gaps
+    → gap_lines names rules accepted limit first (take (i + 1) (enumerate_from first gaps))
+    ≡ gap_lines names rules accepted limit first (take i (enumerate_from first gaps)) ++ (if is_shown limit (first + i) then gap_line names rules (number_of (first + i)) (get_or gaps i d) (acceptance_at accepted i) else [])
+gaps_more names rules accepted limit first gaps i d lt =
     let place : (first + i) - first ≡ i = omega arith in
-    ap (gap_lines names accepted limit first) (marks_more first gaps i (first + i) d refl lt)
-    ∙ (lines_push (λ (finding : ℕ × GapLack). is_shown limit finding.0) (λ (finding : ℕ × GapLack). gap_line names finding.1 (acceptance_at accepted (finding.0 - first))) (take i (enumerate_from first gaps)) (first + i, get_or gaps i d)
-    ∙ ap (λ (j : ℕ). gap_lines names accepted limit first (take i (enumerate_from first gaps)) ++ (if is_shown limit (first + i) then gap_line names (get_or gaps i d) (acceptance_at accepted j) else [])) place)
+    ap (gap_lines names rules accepted limit first) (marks_more first gaps i (first + i) d refl lt)
+    ∙ (lines_push (λ (finding : ℕ × GapLack). is_shown limit finding.0) (λ (finding : ℕ × GapLack). gap_line names rules (number_of finding.0) finding.1 (acceptance_at accepted (finding.0 - first))) (take i (enumerate_from first gaps)) (first + i, get_or gaps i d)
+    ∙ ap (λ (j : ℕ). gap_lines names rules accepted limit first (take i (enumerate_from first gaps)) ++ (if is_shown limit (first + i) then gap_line names rules (number_of (first + i)) (get_or gaps i d) (acceptance_at accepted j) else [])) place)
 
 -- one more gap that is shown
-pub gap_added : (names : List (List ℕ)) (accepted : List (Option (Bor (List ℕ)))) (limit : Option ℕ) (first : ℕ) (gaps : List GapLack) (i : ℕ) (d : GapLack) → i < length gaps
+pub gap_added : (names : List (List ℕ)) (rules : GridRules) (accepted : List (Option (Bor (List ℕ)))) (limit : Option ℕ) (first : ℕ) (gaps : List GapLack) (i : ℕ) (d : GapLack) → i < length gaps
     → is_shown limit (first + i) ≡ true
-    → gap_lines names accepted limit first (take (i + 1) (enumerate_from first gaps)) ≡ gap_lines names accepted limit first (take i (enumerate_from first gaps)) ++ gap_line names (get_or gaps i d) (acceptance_at accepted i)
-gap_added names accepted limit first gaps i d lt on =
-    gaps_more names accepted limit first gaps i d lt
-    ∙ ap (λ (b : Bool). gap_lines names accepted limit first (take i (enumerate_from first gaps)) ++ (if b then gap_line names (get_or gaps i d) (acceptance_at accepted i) else [])) on
+    → gap_lines names rules accepted limit first (take (i + 1) (enumerate_from first gaps)) ≡ gap_lines names rules accepted limit first (take i (enumerate_from first gaps)) ++ gap_line names rules (number_of (first + i)) (get_or gaps i d) (acceptance_at accepted i)
+gap_added names rules accepted limit first gaps i d lt on =
+    gaps_more names rules accepted limit first gaps i d lt
+    ∙ ap (λ (b : Bool). gap_lines names rules accepted limit first (take i (enumerate_from first gaps)) ++ (if b then gap_line names rules (number_of (first + i)) (get_or gaps i d) (acceptance_at accepted i) else [])) on
 
 -- one more gap that is not shown
-pub gap_left_out : (names : List (List ℕ)) (accepted : List (Option (Bor (List ℕ)))) (limit : Option ℕ) (first : ℕ) (gaps : List GapLack) (i : ℕ) (d : GapLack) → i < length gaps
+pub gap_left_out : (names : List (List ℕ)) (rules : GridRules) (accepted : List (Option (Bor (List ℕ)))) (limit : Option ℕ) (first : ℕ) (gaps : List GapLack) (i : ℕ) (d : GapLack) → i < length gaps
     → is_shown limit (first + i) ≡ false
-    → gap_lines names accepted limit first (take (i + 1) (enumerate_from first gaps)) ≡ gap_lines names accepted limit first (take i (enumerate_from first gaps))
-gap_left_out names accepted limit first gaps i d lt off =
-    gaps_more names accepted limit first gaps i d lt
-    ∙ (ap (λ (b : Bool). gap_lines names accepted limit first (take i (enumerate_from first gaps)) ++ (if b then gap_line names (get_or gaps i d) (acceptance_at accepted i) else [])) off
-    ∙ append-nil (gap_lines names accepted limit first (take i (enumerate_from first gaps))))
+    → gap_lines names rules accepted limit first (take (i + 1) (enumerate_from first gaps)) ≡ gap_lines names rules accepted limit first (take i (enumerate_from first gaps))
+gap_left_out names rules accepted limit first gaps i d lt off =
+    gaps_more names rules accepted limit first gaps i d lt
+    ∙ (ap (λ (b : Bool). gap_lines names rules accepted limit first (take i (enumerate_from first gaps)) ++ (if b then gap_line names rules (number_of (first + i)) (get_or gaps i d) (acceptance_at accepted i) else [])) off
+    ∙ append-nil (gap_lines names rules accepted limit first (take i (enumerate_from first gaps))))
 
 gaps_left_at : (limit : Option ℕ) (first : ℕ) (gaps : List GapLack) (i : ℕ) (d : GapLack) → i < length gaps
     → gaps_hidden limit (take (i + 1) (enumerate_from first gaps)) ≡ gaps_hidden limit (take i (enumerate_from first gaps)) + (if not (is_shown limit (first + i)) then 1 else 0)
@@ -144,3 +145,28 @@ layers_more text layers i d lt =
     ap (flat_map text) (marks_more 0 layers i i d (omega arith) lt)
     ∙ (flat_map-append text (take i (enumerate_from 0 layers)) ((i, get_or layers i d) ∷ [])
     ∙ ap (λ (t : List ℕ). flat_map text (take i (enumerate_from 0 layers)) ++ t) (flat_map-cons text (i, get_or layers i d) [] ∙ append-nil (text (i, get_or layers i d))))
+
+-- the lines of the diameters on a layer, and of one more ring if it is the first of its diameter there
+groups_more : (name : List ℕ) (layer : ℕ) (rings : List RingLack) (i : ℕ) (d : RingLack) → i < length rings
+    → group_lines name rings layer (take (i + 1) (enumerate_from 0 rings))
+    ≡ group_lines name rings layer (take i (enumerate_from 0 rings)) ++ (if ((get_or rings i d).layer == layer) && is_first_alike rings (i, get_or rings i d) then group_line name rings (get_or rings i d) else [])
+groups_more name layer rings i d lt =
+    ap (group_lines name rings layer) (marks_more 0 rings i i d (omega arith) lt)
+    ∙ lines_push_both (λ (finding : ℕ × RingLack). finding.1.layer == layer) (is_first_alike rings) (λ (finding : ℕ × RingLack). group_line name rings finding.1) (take i (enumerate_from 0 rings)) (i, get_or rings i d)
+
+-- one more ring that is the first of its diameter
+pub group_added : (name : List ℕ) (layer : ℕ) (rings : List RingLack) (i : ℕ) (d : RingLack) → i < length rings
+    → (((get_or rings i d).layer == layer) && is_first_alike rings (i, get_or rings i d)) ≡ true
+    → group_lines name rings layer (take (i + 1) (enumerate_from 0 rings)) ≡ group_lines name rings layer (take i (enumerate_from 0 rings)) ++ group_line name rings (get_or rings i d)
+group_added name layer rings i d lt on =
+    groups_more name layer rings i d lt
+    ∙ ap (λ (b : Bool). group_lines name rings layer (take i (enumerate_from 0 rings)) ++ (if b then group_line name rings (get_or rings i d) else [])) on
+
+-- one more ring that is on another layer, or not the first of its diameter
+pub group_left_out : (name : List ℕ) (layer : ℕ) (rings : List RingLack) (i : ℕ) (d : RingLack) → i < length rings
+    → (((get_or rings i d).layer == layer) && is_first_alike rings (i, get_or rings i d)) ≡ false
+    → group_lines name rings layer (take (i + 1) (enumerate_from 0 rings)) ≡ group_lines name rings layer (take i (enumerate_from 0 rings))
+group_left_out name layer rings i d lt off =
+    groups_more name layer rings i d lt
+    ∙ (ap (λ (b : Bool). group_lines name rings layer (take i (enumerate_from 0 rings)) ++ (if b then group_line name rings (get_or rings i d) else [])) off
+    ∙ append-nil (group_lines name rings layer (take i (enumerate_from 0 rings))))

@@ -53,7 +53,7 @@ kind_words kinds.Polygon = codes "only a polygon flash"
 kind_words kinds.Holed = codes "only a holed flash"
 kind_words kinds.Scaled = codes "only a scaled flash"
 kind_words kinds.Turned = codes "only a turned flash"
-kind_words kinds.Bare = codes "no pad"
+kind_words kinds.Bare = codes "missing pad"
 kind_words kinds.Oblique = codes "oblique slot"
 
 -- the hint that a report prints for a kind

@@ -1,11 +1,11 @@
 -- The text of a report for people (docs/FORMATS.md, Report for people). Lengths are whole picometres, printed in millimetres.
--- Positions count all findings of a report from 0: the rings first, then the gaps.
-use Rattle.std.specs.Prelude.{ℕ, ℤ, pos, ◌+◌, ◌-◌, ◌*◌, ◌==◌, ◌+ℤ◌, ◌-ℤ◌, ◌++◌, Bool, true, false, not, nat_lt, List, [], ◌∷◌, length, map, take, codes, decimal, Option, Some, None, is_some, get_or, int_div, if◌then◌else◌}
+-- Positions count all findings of a report from 0: the rings first, then the gaps. Their numbers count them from 1.
+use Rattle.std.specs.Prelude.{ℕ, ℤ, pos, ◌+◌, ◌-◌, ◌*◌, ◌==◌, ◌+ℤ◌, ◌-ℤ◌, ◌++◌, ◌&&◌, Bool, true, false, not, nat_lt, List, [], ◌∷◌, length, map, take, codes, decimal, Option, Some, None, int_div, if◌then◌else◌}
 use Rattle.std.specs.Borrow.{Bor}
-use Rattle.std.specs.Int.{int_min, int_max}
-use Rattle.std.specs.List.{count_by, enumerate_from, filter, filter_map, flat_map, fold}
+use Rattle.std.specs.Int.{int_min}
+use Rattle.std.specs.List.{count_by, enumerate_from, filter, filter_map, flat_map, fold, list_any}
 use Rattle.std.specs.Ordering.{int_eq}
-use Rattle.grid_units.specs.Holes.{GridHole, GridRules, is_round}
+use Rattle.grid_units.specs.Holes.{GridHole, GridRules}
 use Rattle.grid_units.specs.Points.{GridPoint}
 use Rattle.pad_shapes.specs.declared.pad.Pad.{Pad}
 use Rattle.pad_shapes.specs.declared.pad.Pad.TheVariants as pads
@@ -15,10 +15,11 @@ use Rattle.margins.specs.declared.met.Met.TheVariants as mets
 use Rattle.report.specs.declared.Meets.{Meets}
 use Rattle.report.specs.declared.UnitMistake.{UnitMistake}
 use Rattle.report.specs.UnitMistakes.{factor_word}
+use Rattle.report.specs.declared.UnitFactor.{UnitFactor}
+use Rattle.report.specs.declared.UnitFactor.TheVariants as factors
 use Rattle.printing.specs.Holes.{drilled_words, name_of, two_lengths}
 use Rattle.printing.specs.Lengths.{short_millimetres}
 use Rattle.report.specs.Acceptances.{acceptance_at, count_waived_first, is_waived, waived_in}
-use Rattle.report.specs.Causes.{lack_of}
 use Rattle.report.specs.declared.GapLack.{GapLack}
 use Rattle.report.specs.declared.PlacedHole.{PlacedHole}
 use Rattle.report.specs.declared.RingInPad.{RingInPad}
@@ -41,13 +42,17 @@ number_words number name = codes "hole " ++ (decimal number ++ (codes " of " ++ 
 abbrev pub hole_words : List (List ℕ) → PlacedHole → List ℕ
 hole_words names at = number_words at.place.number (name_of names at.place.drill) ++ drilled_words at.hole
 
--- words, then two lengths with words between: `ring 0.149, lacks 0.001`
-abbrev pub words_and_lengths : List ℕ → ℤ → List ℕ → ℤ → List ℕ
-words_and_lengths words first between second = words ++ two_lengths first between second
+-- the number of the finding at a position, from 1: the place of its line among those of a check, and its number in a picture
+abbrev pub number_of : ℕ → ℕ
+number_of position = position + 1
 
--- the length of a ring or a gap, and what it lacks: `gap 0.382301708, lacks 0.017698292`
-abbrev pub measured_words : List ℕ → ℤ → ℤ → List ℕ
-measured_words word has lack = words_and_lengths word has (codes ", lacks ") lack
+-- the start of the line of a finding, by its number: `  #17 `
+abbrev pub number_sign : ℕ → List ℕ
+number_sign number = codes "  #" ++ (decimal number ++ codes " ")
+
+-- the length of a ring or a gap, and the rule for it: `gap 0.382301708 (rule 0.4)`
+unfoldable pub measured_words : List ℕ → ℤ → ℤ → List ℕ
+measured_words word has rule = word ++ (short_millimetres has ++ (codes " (rule " ++ (short_millimetres rule ++ codes ")")))
 
 -- the word for the shape of a pad
 abbrev pub shape_word : Pad → List ℕ
@@ -81,7 +86,7 @@ pad_words pad = shape_word pad ++ two_lengths (pos (width_of pad)) (codes "x") (
 
 -- the middle of a hole less that of a pad, along x and y: `, hole off by 0.001,0`
 abbrev pub off_words : GridPoint → GridPoint → List ℕ
-off_words at middle = words_and_lengths (codes ", hole off by ") (at.x -ℤ middle.x) (codes ",") (at.y -ℤ middle.y)
+off_words at middle = codes ", hole off by " ++ two_lengths (at.x -ℤ middle.x) (codes ",") (at.y -ℤ middle.y)
 
 -- a pad and how far the hole is off: `disc 0.6x0.6, hole off by 0.001,0`
 abbrev pub place_words : GridHole → Pad → List ℕ
@@ -91,26 +96,26 @@ place_words hole pad = pad_words pad ++ off_words (hole_middle hole) (pad_middle
 unfoldable pub flash_words : List ℕ → ℕ → List ℕ
 flash_words words flash = codes ", " ++ (words ++ (codes ": flash " ++ (decimal flash ++ codes ", ")))
 
--- a ring in a pad: `ring 0.149, lacks 0.001, off centre: flash 17, disc 0.6x0.6, hole off by 0.001,0`
-abbrev pub in_pad_words : CauseKind → GridHole → RingInPad → List ℕ
-in_pad_words kind hole place =
-    measured_words (codes "ring ") place.ring place.lack ++ (flash_words (kind_words kind) place.flash ++ place_words hole place.pad)
+-- a ring in a pad, and the rule: `annular ring 0.149 (rule 0.15), off centre: flash 17, disc 0.6x0.6, hole off by 0.001,0`
+abbrev pub in_pad_words : CauseKind → ℤ → GridHole → RingInPad → List ℕ
+in_pad_words kind rule hole place =
+    measured_words (codes "annular ring ") place.ring rule ++ (flash_words (kind_words kind) place.flash ++ place_words hole place.pad)
 
--- a hole that lies in no pad: `no ring, no pad`
-abbrev pub no_pad_words : CauseKind → List ℕ
-no_pad_words kind = codes "no ring, " ++ kind_words kind
+-- a ring that is not judged, whatever the hole lies in: `annular ring not judged, oblique slot`
+abbrev pub not_judged_words : List ℕ → List ℕ
+not_judged_words words = codes "annular ring not judged, " ++ words
 
--- a hole that lies in no pad, but in another flash: `no ring, only a macro flash: flash 156`
+-- a hole that lies in no pad, but in another flash: `annular ring not judged, only a macro flash: flash 156`
 abbrev pub other_words : List ℕ → ℕ → List ℕ
-other_words words flash = codes "no ring, " ++ (words ++ (codes ": flash " ++ decimal flash))
+other_words words flash = not_judged_words (words ++ (codes ": flash " ++ decimal flash))
 
--- the reason why a hole lacks its ring, with the figures that it has
-abbrev pub cause_words : GridHole → RingCause → List ℕ
-cause_words hole (causes.TooSmall place) = in_pad_words kinds.TooSmall hole place
-cause_words hole (causes.OffCentre place) = in_pad_words kinds.OffCentre hole place
-cause_words hole (causes.Other why flash) = other_words (kind_words (flash_kind why)) flash
-cause_words hole causes.NoFlash = no_pad_words kinds.Bare
-cause_words hole causes.Oblique = no_pad_words kinds.Oblique
+-- the reason why a hole lacks its ring, with the figures that it has and the rule for the ring
+abbrev pub cause_words : ℤ → GridHole → RingCause → List ℕ
+cause_words rule hole (causes.TooSmall place) = in_pad_words kinds.TooSmall rule hole place
+cause_words rule hole (causes.OffCentre place) = in_pad_words kinds.OffCentre rule hole place
+cause_words rule hole (causes.Other why flash) = other_words (kind_words (flash_kind why)) flash
+cause_words rule hole causes.NoFlash = kind_words kinds.Bare
+cause_words rule hole causes.Oblique = not_judged_words (kind_words kinds.Oblique)
 
 -- the reason at the end of the line of a waived finding: `, waived: drawn so`
 abbrev pub acceptance_words : Option (Bor (List ℕ)) → List ℕ
@@ -121,29 +126,31 @@ acceptance_words (Some why) = codes ", waived: " ++ why.now
 abbrev pub waived_words : ℕ → List ℕ
 waived_words waived = if waived == 0 then [] else codes ", " ++ (decimal waived ++ codes " waived")
 
--- a hole that lacks its ring: `  hole 7 of pic_programmer-PTH, 0.75 at 142.24,-97.79: no ring, only a macro flash: flash 156`
-unfoldable pub ring_words : List (List ℕ) → RingLack → List ℕ
-ring_words names lack = codes "  " ++ (hole_words names lack.at ++ (codes ": " ++ cause_words lack.at.hole lack.cause))
+-- a hole that lacks its ring, by the rules and the number of the finding:
+-- `  #7 hole 1 of pth, 0.4 at 0,0: annular ring not judged, only a macro flash: flash 156`
+unfoldable pub ring_words : List (List ℕ) → GridRules → ℕ → RingLack → List ℕ
+ring_words names rules number lack =
+    number_sign number ++ (hole_words names lack.at ++ (codes ": " ++ cause_words (pos rules.ring) lack.at.hole lack.cause))
 
 -- the line of a hole that lacks its ring: these words, the reason if it is waived, and a line end
-unfoldable pub ring_line : List (List ℕ) → RingLack → Option (Bor (List ℕ)) → List ℕ
-ring_line names lack why = ring_words names lack ++ (acceptance_words why ++ ascii.line_feed ∷ [])
+unfoldable pub ring_line : List (List ℕ) → GridRules → ℕ → RingLack → Option (Bor (List ℕ)) → List ℕ
+ring_line names rules number lack why = ring_words names rules number lack ++ (acceptance_words why ++ ascii.line_feed ∷ [])
 
--- two holes: `  hole 1 of pth, 0.4 at 0,0, and hole 2 of pth, 0.4 at 0,0`
-abbrev pub pair_words : List (List ℕ) → PlacedHole → PlacedHole → List ℕ
-pair_words names first second = codes "  " ++ (hole_words names first ++ (codes ", and " ++ hole_words names second))
+-- two holes: `hole 1 of pth, 0.4 at 0,0, and hole 2 of pth, 0.4 at 0,0`
+unfoldable pub pair_words : List (List ℕ) → PlacedHole → PlacedHole → List ℕ
+pair_words names first second = hole_words names first ++ (codes ", and " ++ hole_words names second)
 
--- the gap of two holes and what it lacks: `: gap -0.4, lacks 0.65`
+-- the gap of two holes and the rule for it: `: gap -0.4 (rule 0.25)`
 abbrev pub gap_words : ℤ → ℤ → List ℕ
-gap_words gap lack = codes ": " ++ measured_words (codes "gap ") gap lack
+gap_words gap rule = codes ": " ++ measured_words (codes "gap ") gap rule
 
--- two holes that lack their gap: `  hole 1 of pth, 0.4 at 0,0, and hole 2 of pth, 0.4 at 0,0: gap -0.4, lacks 0.65`
-unfoldable pub gap_pair_words : List (List ℕ) → GapLack → List ℕ
-gap_pair_words names lack = pair_words names lack.first lack.second ++ gap_words lack.gap lack.lack
+-- two holes that lack their gap: `  #8 hole 1 of pth, 0.4 at 0,0, and hole 2 of pth, 0.4 at 0,0: gap -0.4 (rule 0.25)`
+unfoldable pub gap_pair_words : List (List ℕ) → GridRules → ℕ → GapLack → List ℕ
+gap_pair_words names rules number lack = number_sign number ++ (pair_words names lack.first lack.second ++ gap_words lack.gap (pos rules.gap))
 
 -- the line of two holes that lack their gap: these words, the reason if it is waived, and a line end
-unfoldable pub gap_line : List (List ℕ) → GapLack → Option (Bor (List ℕ)) → List ℕ
-gap_line names lack why = gap_pair_words names lack ++ (acceptance_words why ++ ascii.line_feed ∷ [])
+unfoldable pub gap_line : List (List ℕ) → GridRules → ℕ → GapLack → Option (Bor (List ℕ)) → List ℕ
+gap_line names rules number lack why = gap_pair_words names rules number lack ++ (acceptance_words why ++ ascii.line_feed ∷ [])
 
 -- a finding at this position has its line: each below the limit, or every one where there is no limit
 abbrev pub is_shown : Option ℕ → ℕ → Bool
@@ -160,13 +167,13 @@ shown_lines line limit findings =
     flat_map line (filter (λ finding. is_shown limit finding.0) findings)
     ++ more_line (count_by (λ finding. not (is_shown limit finding.0)) findings)
 
--- the number of holes on a layer that lack their ring, and of those that need one: `top_layer: 3 of 245 rings lacking`
+-- the number of holes on a layer that lack their ring, and of those that need one: `annular ring on top: 3 of 245 holes below the rule`
 abbrev pub layer_words : List ℕ → ℕ → ℕ → List ℕ
-layer_words name lacking needed = name ++ (codes ": " ++ (decimal lacking ++ (codes " of " ++ (decimal needed ++ codes " rings lacking"))))
+layer_words name below needed = codes "annular ring on " ++ (name ++ (codes ": " ++ (decimal below ++ (codes " of " ++ (decimal needed ++ codes " holes below the rule")))))
 
--- the line of a layer: `top_layer: 3 of 245 rings lacking, 3 waived`
+-- the line of a layer: `annular ring on top: 3 of 245 holes below the rule, 3 waived`
 abbrev pub layer_line : List ℕ → ℕ → ℕ → ℕ → List ℕ
-layer_line name lacking needed waived = layer_words name lacking needed ++ (waived_words waived ++ ascii.line_feed ∷ [])
+layer_line name below needed waived = layer_words name below needed ++ (waived_words waived ++ ascii.line_feed ∷ [])
 
 -- the holes that lack their ring on a layer, with their places among all rings
 abbrev pub rings_on : ℕ → List RingLack → List (ℕ × RingLack)
@@ -177,28 +184,28 @@ abbrev pub waived_on : List (Option (Bor (List ℕ))) → ℕ → List RingLack 
 waived_on accepted layer rings = count_by (λ finding. is_waived accepted finding.0) (rings_on layer rings)
 
 -- a layer, by its place and its head: its line, then those of the holes that lack their ring there
-abbrev pub layer_text : List (List ℕ) → Option ℕ → List RingLack → List (Option (Bor (List ℕ))) → ℕ × LayerHead → List ℕ
-layer_text names limit rings accepted layer =
+abbrev pub layer_text : List (List ℕ) → GridRules → Option ℕ → List RingLack → List (Option (Bor (List ℕ))) → ℕ × LayerHead → List ℕ
+layer_text names rules limit rings accepted layer =
     layer_line (name_of names layer.1.file) (count_by (λ lack. lack.layer == layer.0) rings) layer.1.needed (waived_on accepted layer.0 rings)
-    ++ shown_lines (λ finding. ring_line names finding.1 (acceptance_at accepted finding.0)) limit (rings_on layer.0 rings)
+    ++ shown_lines (λ finding. ring_line names rules (number_of finding.0) finding.1 (acceptance_at accepted finding.0)) limit (rings_on layer.0 rings)
 
--- what is lacking, after the number of gaps: ` gap lacking` after 1
-abbrev pub lacking_words : ℕ → List ℕ
-lacking_words gaps = if gaps == 1 then codes " gap lacking" else codes " gaps lacking"
+-- the words after the number of gaps: ` gap too small` after 1
+abbrev pub too_small_words : ℕ → List ℕ
+too_small_words gaps = if gaps == 1 then codes " gap too small" else codes " gaps too small"
 
--- the number of gaps lacking: `6 gaps lacking`
+-- the number of gaps that are too small: `hole to hole: 6 gaps too small`
 abbrev pub gaps_words : ℕ → List ℕ
-gaps_words lacking = decimal lacking ++ lacking_words lacking
+gaps_words gaps = codes "hole to hole: " ++ (decimal gaps ++ too_small_words gaps)
 
--- the line of the gaps: `6 gaps lacking, 2 waived`
+-- the line of the gaps: `hole to hole: 6 gaps too small, 2 waived`
 abbrev pub gaps_line : ℕ → ℕ → List ℕ
-gaps_line lacking waived = gaps_words lacking ++ (waived_words waived ++ ascii.line_feed ∷ [])
+gaps_line gaps waived = gaps_words gaps ++ (waived_words waived ++ ascii.line_feed ∷ [])
 
--- the gaps that are lacking, after this many rings: their positions come after those of the rings
-abbrev pub gaps_text : List (List ℕ) → Option ℕ → ℕ → List GapLack → List (Option (Bor (List ℕ))) → List ℕ
-gaps_text names limit rings gaps accepted =
+-- the gaps that are too small, after this many rings: their positions come after those of the rings
+abbrev pub gaps_text : List (List ℕ) → GridRules → Option ℕ → ℕ → List GapLack → List (Option (Bor (List ℕ))) → List ℕ
+gaps_text names rules limit rings gaps accepted =
     gaps_line (length gaps) (count_waived_first accepted (length gaps))
-    ++ shown_lines (λ finding. gap_line names finding.1 (acceptance_at accepted (finding.0 - rings))) limit (enumerate_from rings gaps)
+    ++ shown_lines (λ finding. gap_line names rules (number_of finding.0) finding.1 (acceptance_at accepted (finding.0 - rings))) limit (enumerate_from rings gaps)
 
 -- the line of a cause: `4 pad too small: ` and the hint
 abbrev pub counted_words : ℕ → List ℕ → List ℕ → List ℕ
@@ -212,24 +219,39 @@ count_line kind count = if count == 0 then [] else counted_words count (kind_wor
 abbrev pub kind_line : List RingLack → CauseKind → List ℕ
 kind_line rings kind = count_line kind (count_by (λ lack. is_of_kind kind lack.cause) rings)
 
--- the least and the greatest of some lengths; nothing where there is none
-abbrev pub least_and_greatest : List ℤ → Option (ℤ × ℤ)
-least_and_greatest [] = None
-least_and_greatest (first ∷ rest) = Some (fold int_min first rest, fold int_max first rest)
+-- the ring of a hole in its pad; nothing where it lies in no pad or is an oblique slot
+abbrev pub ring_of : RingCause → Option ℤ
+ring_of (causes.TooSmall place) = Some place.ring
+ring_of (causes.OffCentre place) = Some place.ring
+ring_of (causes.Other why flash) = None
+ring_of causes.NoFlash = None
+ring_of causes.Oblique = None
 
--- the line of the least and the greatest lack: `rings lack 0.001 to 0.375`; nothing where there is none
-abbrev pub lacks_line : List ℕ → Option (ℤ × ℤ) → List ℕ
-lacks_line word None = []
-lacks_line word (Some lacks) = word ++ (two_lengths lacks.0 (codes " to ") lacks.1 ++ ascii.line_feed ∷ [])
+-- the smallest of some lengths; nothing where there is none
+abbrev pub smallest : List ℤ → Option ℤ
+smallest [] = None
+smallest (first ∷ rest) = Some (fold int_min first rest)
 
--- the line of a drill file by its name: `pth: 3 holes have no pad; at 0.1 times their coordinates 0 would have none`
-unfoldable pub scale_words : List ℕ → ℕ → List ℕ → ℕ → List ℕ
-scale_words name bare factor still =
-    name ++ (codes ": " ++ (decimal bare ++ (codes " holes have no pad; at " ++ (factor ++ (codes " times their coordinates " ++ (decimal still ++ codes " would have none\n"))))))
+-- the line of the smallest ring or gap, and the rule for it: `smallest ring 0.149 (rule 0.15)`; nothing where there is none
+abbrev pub smallest_line : List ℕ → ℤ → Option ℤ → List ℕ
+smallest_line word rule None = []
+smallest_line word rule (Some least) = measured_words word least rule ++ ascii.line_feed ∷ []
+
+-- how far coordinates look off, by the factor that they are to be multiplied by
+abbrev pub size_words : UnitFactor → List ℕ
+size_words factors.Ten = codes "10 times too small"
+size_words factors.Tenth = codes "10 times too large"
+size_words factors.Inch = codes "25.4 times too small"
+size_words factors.PerInch = codes "25.4 times too large"
+
+-- the line of a drill file by its name: `pth: coordinates look 10 times too small: 3 holes have no pad; with coordinates times 10 it would be 0`
+unfoldable pub scale_words : List ℕ → List ℕ → ℕ → List ℕ → ℕ → List ℕ
+scale_words name size bare factor still =
+    name ++ (codes ": coordinates look " ++ (size ++ (codes ": " ++ (decimal bare ++ (codes " holes have no pad; with coordinates times " ++ (factor ++ (codes " it would be " ++ (decimal still ++ ascii.line_feed ∷ []))))))))
 
 -- the line of a drill file whose coordinates seem to be off by a factor
 abbrev pub scale_line : List (List ℕ) → UnitMistake → List ℕ
-scale_line names line = scale_words (name_of names line.drill) line.bare (factor_word line.factor) line.then
+scale_line names line = scale_words (name_of names line.drill) (size_words line.factor) line.bare (factor_word line.factor) line.then
 
 -- the greatest rule that is met: a length, `any` where every rule is met, or `none`
 abbrev pub met_words : Met → List ℕ
@@ -244,29 +266,33 @@ are_equal_rules (mets.UpTo first) (mets.UpTo second) = int_eq first second
 are_equal_rules mets.None mets.None = true
 are_equal_rules _ _ = false
 
--- words, then the greatest rule that is met: `; where a pad is, ring 0.275`
+-- words, then the greatest rule that is met: `; where a pad is, annular ring 0.275`
 abbrev pub named_met : List ℕ → Met → List ℕ
 named_met words met = words ++ met_words met
 
--- the greatest ring for holes that lie in pads: `; where a pad is, ring 0.275`
+-- the greatest ring for holes that lie in pads: `; where a pad is, annular ring 0.275`
 abbrev pub pad_ring_words : Met → List ℕ
-pad_ring_words held = named_met (codes "; where a pad is, ring ") held
+pad_ring_words held = named_met (codes "; where a pad is, annular ring ") held
 
 -- these words, if that ring differs from the one of all holes
 abbrev pub pad_ring_if_differs : Met → Met → List ℕ
 pad_ring_if_differs ring held = if are_equal_rules ring held then [] else pad_ring_words held
 
--- the greatest ring and gap that the package meets: `this board meets ring none, gap 1.046051224`
+-- the greatest ring and gap that the package meets: `this board meets annular ring none, hole to hole 1.046051224`
 abbrev pub ring_and_gap_words : Met → Met → List ℕ
-ring_and_gap_words ring gap = codes "this board meets ring " ++ (met_words ring ++ (codes ", gap " ++ met_words gap))
+ring_and_gap_words ring gap = codes "this board meets annular ring " ++ (met_words ring ++ (codes ", hole to hole " ++ met_words gap))
 
--- the line of these: `this board meets ring none, gap 1.046051224; where a pad is, ring 0.275`
+-- the line of these: `this board meets annular ring none, hole to hole 1.046051224; where a pad is, annular ring 0.275`
 unfoldable pub meets_line : Meets → List ℕ
 meets_line meets = ring_and_gap_words meets.ring meets.gap ++ (pad_ring_if_differs meets.ring meets.in_pads ++ ascii.line_feed ∷ [])
 
--- the first line, with the rules of the check: `ring 0.15, gap 0.25`
-unfoldable pub rules_line : GridRules → List ℕ
-rules_line rules = codes "ring " ++ (two_lengths (pos rules.ring) (codes ", gap ") (pos rules.gap) ++ ascii.line_feed ∷ [])
+-- a rule: `rules: annular ring 0.15 mm`
+unfoldable pub rule_words : List ℕ → ℤ → List ℕ
+rule_words words rule = words ++ (short_millimetres rule ++ codes " mm")
+
+-- the line of the rules of the check: `rules: annular ring 0.15 mm, hole to hole 0.25 mm`
+abbrev pub rules_line : GridRules → List ℕ
+rules_line rules = rule_words (codes "rules: annular ring ") (pos rules.ring) ++ (rule_words (codes ", hole to hole ") (pos rules.gap) ++ ascii.line_feed ∷ [])
 
 -- the line of a waiver that waives nothing, by the number of its record: `waiver 8 waives nothing`
 abbrev pub idle_line : ℕ → List ℕ
@@ -279,24 +305,63 @@ last_line findings waived =
     else if waived == findings then codes "WAIVED " ++ (decimal findings ++ ascii.line_feed ∷ [])
     else codes "FINDINGS " ++ (decimal (findings - waived) ++ ascii.line_feed ∷ [])
 
--- the lines `rings lack` and `gaps lack`
-abbrev pub lacks_text : List RingLack → List GapLack → List ℕ
-lacks_text rings gaps =
-    lacks_line (codes "rings lack ") (least_and_greatest (filter_map (λ lack. lack_of lack.cause) rings))
-    ++ lacks_line (codes "gaps lack ") (least_and_greatest (map (λ lack. lack.lack) gaps))
+-- the lines of the smallest ring and the smallest gap among the findings
+abbrev pub smallest_lines : GridRules → List RingLack → List GapLack → List ℕ
+smallest_lines rules rings gaps =
+    smallest_line (codes "smallest ring ") (pos rules.ring) (smallest (filter_map (λ lack. ring_of lack.cause) rings))
+    ++ smallest_line (codes "smallest gap ") (pos rules.gap) (smallest (map (λ lack. lack.gap) gaps))
 
--- the first part of a report: the rules and the findings
+-- two rings are alike: on one layer, of holes of one diameter
+abbrev pub is_alike : RingLack → RingLack → Bool
+is_alike one other = (one.layer == other.layer) && (one.at.hole.radius == other.at.hole.radius)
+
+-- a ring with its place is the first of its layer and diameter: none of those before it is alike
+abbrev pub is_first_alike : List RingLack → ℕ × RingLack → Bool
+is_first_alike rings finding = not (list_any (is_alike finding.1) (take finding.0 rings))
+
+-- the words after the number of holes: ` hole below the rule` after 1
+abbrev pub holes_words : ℕ → List ℕ
+holes_words holes = if holes == 1 then codes " hole below the rule" else codes " holes below the rule"
+
+-- the smallest ring of some holes: `, smallest ring 0.105`; nothing where none of them lies in a pad
+abbrev pub smallest_words : Option ℤ → List ℕ
+smallest_words None = []
+smallest_words (Some least) = codes ", smallest ring " ++ short_millimetres least
+
+-- a layer by its name, a diameter, the number of its holes that lack their ring there, and their smallest ring:
+-- `top, 0.3: 12 holes below the rule, smallest ring 0.105`
+unfoldable pub group_words : List ℕ → ℤ → ℕ → Option ℤ → List ℕ
+group_words name diameter holes least =
+    name ++ (codes ", " ++ (short_millimetres diameter ++ (codes ": " ++ (decimal holes ++ (holes_words holes ++ (smallest_words least ++ ascii.line_feed ∷ []))))))
+
+-- the line of the rings that are like this one, on the layer of this name
+abbrev pub group_line : List ℕ → List RingLack → RingLack → List ℕ
+group_line name rings one =
+    group_words name (pos (2 * one.at.hole.radius)) (count_by (is_alike one) rings) (smallest (filter_map (λ lack. ring_of lack.cause) (filter (is_alike one) rings)))
+
+-- the rings of a layer summed up: a line for each diameter, in the order in which they come
+abbrev pub groups_text : List (List ℕ) → List RingLack → ℕ × LayerHead → List ℕ
+groups_text names rings layer =
+    flat_map (λ finding. group_line (name_of names layer.1.file) rings finding.1) (filter (is_first_alike rings) (rings_on layer.0 rings))
+
+-- the rings summed up by layer and diameter, where the report has more than ten findings; else nothing
+abbrev pub summary_text : List (List ℕ) → ℕ → List LayerHead → List RingLack → List ℕ
+summary_text names findings layers rings = if nat_lt 10 findings then flat_map (groups_text names rings) (enumerate_from 0 layers) else []
+
+-- the first part of a report: the drill files whose coordinates seem to be off, and the rules
+unfoldable pub head_text : List (List ℕ) → BoardReport → List ℕ
+head_text names report = flat_map (scale_line names) report.scales.items ++ rules_line report.rules
+
+-- the second part: the findings, and those of rings summed up
 abbrev pub findings_text : List (List ℕ) → BoardReport → Option ℕ → List (Option (Bor (List ℕ))) → List (Option (Bor (List ℕ))) → List ℕ
 findings_text names report limit rings gaps =
-    rules_line report.rules
-    ++ (flat_map (layer_text names limit report.rings.items rings) (enumerate_from 0 report.layers.items)
-    ++ gaps_text names limit (length report.rings.items) report.gaps.items gaps)
+    flat_map (layer_text names report.rules limit report.rings.items rings) (enumerate_from 0 report.layers.items)
+    ++ (gaps_text names report.rules limit (length report.rings.items) report.gaps.items gaps
+    ++ summary_text names (length report.rings.items + length report.gaps.items) report.layers.items report.rings.items)
 
--- the second part: the causes, the lacks, and the drill files whose coordinates seem to be off
-abbrev pub causes_text : List (List ℕ) → BoardReport → List ℕ
-causes_text names report =
-    flat_map (kind_line report.rings.items) all_kinds
-    ++ (lacks_text report.rings.items report.gaps.items ++ flat_map (scale_line names) report.scales.items)
+-- the third part: the causes, and the smallest ring and gap
+abbrev pub causes_text : BoardReport → List ℕ
+causes_text report = flat_map (kind_line report.rings.items) all_kinds ++ smallest_lines report.rules report.rings.items report.gaps.items
 
 -- the last part: the rules that the package meets, the waivers that waive nothing, and the last line
 abbrev pub last_lines : BoardReport → List (Option (Bor (List ℕ))) → List (Option (Bor (List ℕ))) → List ℕ → List ℕ
@@ -306,7 +371,7 @@ last_lines report rings gaps idle =
 -- the text of a report, by the reasons of its rings and gaps, and the numbers of the waivers that waive nothing
 abbrev pub full_text : List (List ℕ) → BoardReport → Option ℕ → List (Option (Bor (List ℕ))) → List (Option (Bor (List ℕ))) → List ℕ → List ℕ
 full_text names report limit rings gaps idle =
-    findings_text names report limit rings gaps ++ (causes_text names report ++ last_lines report rings gaps idle)
+    (head_text names report ++ findings_text names report limit rings gaps) ++ (causes_text report ++ last_lines report rings gaps idle)
 
 -- the text of a report with waivers; `names` are those of the files, `limit` is how many findings are shown at most
 abbrev pub waived_report_text : List (List ℕ) → BoardReport → Option ℕ → Acceptances → List ℕ

@@ -78,7 +78,7 @@ pub(crate) fn kind_words(kind: CauseKind) -> &'static str
         CauseKind::Holed => "only a holed flash",
         CauseKind::Scaled => "only a scaled flash",
         CauseKind::Turned => "only a turned flash",
-        CauseKind::Bare => "no pad",
+        CauseKind::Bare => "missing pad",
         CauseKind::Oblique => "oblique slot",
     }
 }

@@ -1,4 +1,4 @@
-//! The text of a report for people: by how much each ring or gap of a package is lacking, and why.
+//! The text of a report for people: each ring or gap of a package that is below its rule, and why.
 //!
 //! All lengths are whole picometres (pm), and are printed in millimetres without zeros at the end.
 #![tactic(auto)]
@@ -9,6 +9,7 @@ mod measure_lines;
 mod measures;
 mod report_text;
 mod runs;
+mod summary;
 mod tallies;
 mod waived;
 mod words;

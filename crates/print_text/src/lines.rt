@@ -1,14 +1,14 @@
 //! The lines of a report, one by one.
 
 ghost use Rattle.std.specs.Prelude.{◌≡◌, ◌≤◌, map, Some};
-ghost use Rattle.print_text.specs.Texts.{are_equal_rules, gap_line, gaps_line, pad_ring_if_differs, idle_line, kind_line, lacking_words, lacks_line, last_line, layer_line, meets_line, met_words, more_line, ring_line, rules_line, scale_line, waived_words, acceptance_words};
+ghost use Rattle.print_text.specs.Texts.{are_equal_rules, gap_line, gaps_line, pad_ring_if_differs, idle_line, kind_line, last_line, layer_line, meets_line, met_words, more_line, pair_words, ring_line, rule_words, rules_line, scale_line, size_words, smallest_line, too_small_words, waived_words, acceptance_words};
 
 use crate::kind::{CauseKind, hint, kind_words};
 use crate::tallies::rings_of_kind;
-use crate::words::{CauseWords, HoleWords};
+use crate::words::{CauseWords, HoleWords, MeasuredWords};
 use grid_units::Rules;
 use printing::{Line, ShortMillimetres, name_of};
-use report::{GapLack, Meets, Met, RingLack, UnitMistake, factor_word};
+use report::{GapLack, Meets, Met, PlacedHole, RingLack, UnitFactor, UnitMistake, factor_word};
 use std::fmt;
 use std::fmt::{Display, Formatter};
 
@@ -16,18 +16,41 @@ use std::fmt::{Display, Formatter};
 #[derive(Clone, Copy)]
 pub(crate) struct FileNames<'a>(pub(crate) &'a [&'a str]);
 
-/// The first line, with the rules of the check: `ring 0.15, gap 0.25`.
+/// A rule: `rules: annular ring 0.15 mm`.
+#[derive(Clone, Copy)]
+struct RuleWords<'a> {
+    /// The words before it.
+    words: &'a str,
+    /// The rule in pm.
+    rule: i64,
+}
+
+impl Display for RuleWords<'_> {
+    ghost output = { λ line. Some (rule_words line.words.now line.rule) };
+
+    #[tactic(auto, unfolding(crate::specs::Texts::rule_words))]
+    fn fmt<W: fmt::Write>(&self, f: &mut Formatter<W>) -> fmt::Result {
+        write!(f, "{}{} mm", self.words, ShortMillimetres(self.rule))
+    }
+}
+
+/// The line of the rules of the check: `rules: annular ring 0.15 mm, hole to hole 0.25 mm`.
 #[derive(Clone, Copy)]
 pub(crate) struct RulesLine<'a>(pub(crate) &'a Rules);
 
 impl Display for RulesLine<'_> {
     ghost output = { λ line. Some (rules_line line.0.now) };
 
-    #[tactic(auto, unfolding(crate::specs::Texts::rules_line, printing::specs::Holes::two_lengths))]
     fn fmt<W: fmt::Write>(&self, f: &mut Formatter<W>) -> fmt::Result {
-        let ring = ShortMillimetres(self.0.ring());
-        let gap = ShortMillimetres(self.0.gap());
-        write!(f, "ring {ring}, gap {gap}\n")
+        let ring = RuleWords {
+            words: "rules: annular ring ",
+            rule: self.0.ring(),
+        };
+        let gap = RuleWords {
+            words: ", hole to hole ",
+            rule: self.0.gap(),
+        };
+        write!(f, "{ring}{gap}\n")
     }
 }
 
@@ -61,37 +84,44 @@ impl Display for WhyWords<'_> {
     }
 }
 
-/// The line of a layer, with the numbers of its rings: `top_layer: 3 of 245 rings lacking, 3 waived`.
+/// The line of a layer, with the numbers of its holes: `annular ring on top: 3 of 245 holes below the rule, 3 waived`.
 #[derive(Clone, Copy)]
 pub(crate) struct LayerLine<'a> {
     /// The name of its file.
     pub(crate) name: &'a str,
-    pub(crate) lacking: usize,
+    /// How many holes lack their ring there.
+    pub(crate) below: usize,
     /// How many holes need a ring.
     pub(crate) needed: usize,
     pub(crate) waived: usize,
 }
 
 impl Display for LayerLine<'_> {
-    ghost output = { λ line. Some (layer_line line.name.now line.lacking line.needed line.waived) };
+    ghost output = { λ line. Some (layer_line line.name.now line.below line.needed line.waived) };
 
     fn fmt<W: fmt::Write>(&self, f: &mut Formatter<W>) -> fmt::Result {
-        let (name, lacking, needed) = (self.name, self.lacking, self.needed);
-        write!(f, "{name}: {lacking} of {needed} rings lacking")?;
+        let (name, below, needed) = (self.name, self.below, self.needed);
+        write!(
+            f,
+            "annular ring on {name}: {below} of {needed} holes below the rule"
+        )?;
         write!(f, "{}\n", WaivedWords(self.waived))
     }
 }
 
-/// The line of a hole that lacks its ring, with the reason if it is waived.
+/// The line of a hole that lacks its ring, with the number of the finding, and the reason if it is waived.
 #[derive(Clone, Copy)]
 pub(crate) struct RingLine<'a> {
     pub(crate) names: &'a [&'a str],
+    pub(crate) rules: &'a Rules,
+    /// The number of the finding, from 1.
+    pub(crate) number: u128,
     pub(crate) lack: &'a RingLack,
     pub(crate) why: Option<&'a str>,
 }
 
 impl Display for RingLine<'_> {
-    ghost output = { λ line. Some (ring_line (map (λ name. name.now) line.names.now) line.lack.now line.why) };
+    ghost output = { λ line. Some (ring_line (map (λ name. name.now) line.names.now) line.rules.now line.number line.lack.now line.why) };
 
     #[tactic(auto, unfolding(crate::specs::Texts::ring_line, crate::specs::Texts::ring_words))]
     fn fmt<W: fmt::Write>(&self, f: &mut Formatter<W>) -> fmt::Result {
@@ -100,10 +130,12 @@ impl Display for RingLine<'_> {
             at: &self.lack.at,
         };
         let cause = CauseWords {
+            rule: self.rules.ring(),
             hole: &self.lack.at.hole,
             cause: &self.lack.cause,
         };
-        write!(f, "  {at}: {cause}{}\n", WhyWords(self.why))
+        let (number, why) = (self.number, WhyWords(self.why));
+        write!(f, "  #{number} {at}: {cause}{why}\n")
     }
 }
 
@@ -122,55 +154,93 @@ impl Display for MoreLine {
     }
 }
 
-/// What is lacking, after the number of gaps: ` gap lacking` after 1.
-fn lacking_words(gaps: usize) -> &'static str
-    ensures { result.now ≡ lacking_words gaps }
+/// The words after the number of gaps: ` gap too small` after 1.
+fn too_small_words(gaps: usize) -> &'static str
+    ensures { result.now ≡ too_small_words gaps }
 {
     if gaps == 1 {
-        " gap lacking"
+        " gap too small"
     } else {
-        " gaps lacking"
+        " gaps too small"
     }
 }
 
-/// The line of the gaps: `6 gaps lacking, 2 waived`.
+/// The line of the gaps: `hole to hole: 6 gaps too small, 2 waived`.
 #[derive(Clone, Copy)]
 pub(crate) struct GapsLine {
-    pub(crate) lacking: usize,
+    /// How many gaps are too small.
+    pub(crate) gaps: usize,
     pub(crate) waived: usize,
 }
 
 impl Display for GapsLine {
-    ghost output = { λ line. Some (gaps_line line.lacking line.waived) };
+    ghost output = { λ line. Some (gaps_line line.gaps line.waived) };
 
     fn fmt<W: fmt::Write>(&self, f: &mut Formatter<W>) -> fmt::Result {
-        let (lacking, words) = (self.lacking, lacking_words(self.lacking));
-        write!(f, "{lacking}{words}{}\n", WaivedWords(self.waived))
+        let (gaps, words) = (self.gaps, too_small_words(self.gaps));
+        write!(
+            f,
+            "hole to hole: {gaps}{words}{}\n",
+            WaivedWords(self.waived)
+        )
     }
 }
 
-/// The line of two holes that lack their gap, with the reason if it is waived.
+/// Two holes: `hole 1 of pth, 0.4 at 0,0, and hole 2 of pth, 0.4 at 0,0`.
+#[derive(Clone, Copy)]
+struct PairWords<'a> {
+    names: &'a [&'a str],
+    first: &'a PlacedHole,
+    second: &'a PlacedHole,
+}
+
+impl Display for PairWords<'_> {
+    ghost output = { λ pair. Some (pair_words (map (λ name. name.now) pair.names.now) pair.first.now pair.second.now) };
+
+    #[tactic(auto, unfolding(crate::specs::Texts::pair_words))]
+    fn fmt<W: fmt::Write>(&self, f: &mut Formatter<W>) -> fmt::Result {
+        let names = self.names;
+        let first = HoleWords {
+            names,
+            at: self.first,
+        };
+        let second = HoleWords {
+            names,
+            at: self.second,
+        };
+        write!(f, "{first}, and {second}")
+    }
+}
+
+/// The line of two holes that lack their gap, with the number of the finding, and the reason if it is waived.
 #[derive(Clone, Copy)]
 pub(crate) struct GapLine<'a> {
     pub(crate) names: &'a [&'a str],
+    pub(crate) rules: &'a Rules,
+    /// The number of the finding, from 1.
+    pub(crate) number: u128,
     pub(crate) lack: &'a GapLack,
     pub(crate) why: Option<&'a str>,
 }
 
 impl Display for GapLine<'_> {
-    ghost output = { λ line. Some (gap_line (map (λ name. name.now) line.names.now) line.lack.now line.why) };
+    ghost output = { λ line. Some (gap_line (map (λ name. name.now) line.names.now) line.rules.now line.number line.lack.now line.why) };
 
-    #[tactic(auto, unfolding(crate::specs::Texts::gap_line, crate::specs::Texts::gap_pair_words, printing::specs::Holes::two_lengths))]
+    #[tactic(auto, unfolding(crate::specs::Texts::gap_line, crate::specs::Texts::gap_pair_words))]
     fn fmt<W: fmt::Write>(&self, f: &mut Formatter<W>) -> fmt::Result {
-        let (names, lack) = (self.names, self.lack);
-        let (first, second) = (&lack.first, &lack.second);
-        let first = HoleWords { names, at: first };
-        let second = HoleWords { names, at: second };
-        let gap = ShortMillimetres(lack.gap);
-        let lacks = ShortMillimetres(lack.lack);
-        write!(f, "  {first}, and {second}")?;
-        write!(f, ": gap {gap}, lacks {lacks}")?;
-        write!(f, "{}\n", WhyWords(self.why))
+        let lack = self.lack;
+        let pair = PairWords {
+            names: self.names,
+            first: &lack.first,
+            second: &lack.second,
+        };
+        let gap = MeasuredWords {
+            words: "gap ",
+            has: lack.gap,
+            rule: self.rules.gap(),
+        };
+        let (number, why) = (self.number, WhyWords(self.why));
+        write!(f, "  #{number} {pair}: {gap}{why}\n")
     }
 }
 
@@ -187,40 +257,52 @@ impl Line<&[RingLack]> for CauseKind {
     }
 }
 
-/// The line of the least and the greatest lack, if there is one: `rings lack 0.001 to 0.375`.
+/// The line of the smallest ring or gap, if there is one: `smallest ring 0.149 (rule 0.15)`.
 #[derive(Clone, Copy)]
-pub(crate) struct LacksLine<'a> {
-    /// The words before them: `rings lack ` or `gaps lack `.
+pub(crate) struct SmallestLine<'a> {
+    /// The words before it: `smallest ring ` or `smallest gap `.
     pub(crate) words: &'a str,
-    pub(crate) lacks: Option<(i64, i64)>,
+    /// The required length in pm.
+    pub(crate) rule: i64,
+    pub(crate) least: Option<i64>,
 }
 
-impl Display for LacksLine<'_> {
-    ghost output = { λ line. Some (lacks_line line.words.now line.lacks) };
+impl Display for SmallestLine<'_> {
+    ghost output = { λ line. Some (smallest_line line.words.now line.rule line.least) };
 
-    #[tactic(auto, unfolding(printing::specs::Holes::two_lengths))]
     fn fmt<W: fmt::Write>(&self, f: &mut Formatter<W>) -> fmt::Result {
-        let Some((least, greatest)) = self.lacks else {
+        let Some(has) = self.least else {
             return Ok(());
         };
-        let least = ShortMillimetres(least);
-        let greatest = ShortMillimetres(greatest);
-        write!(f, "{}{least} to {greatest}\n", self.words)
+        let (words, rule) = (self.words, self.rule);
+        write!(f, "{}\n", MeasuredWords { words, has, rule })
+    }
+}
+
+/// How far coordinates look off, by the factor that they are to be multiplied by.
+fn size_words(factor: UnitFactor) -> &'static str
+    ensures { result.now ≡ size_words factor }
+{
+    match factor {
+        UnitFactor::Ten => "10 times too small",
+        UnitFactor::Tenth => "10 times too large",
+        UnitFactor::Inch => "25.4 times too small",
+        UnitFactor::PerInch => "25.4 times too large",
     }
 }
 
 /// The line of a drill file whose coordinates seem to be off by a factor:
-/// `pth: 3 holes have no pad; at 0.1 times their coordinates 0 would have none`.
+/// `pth: coordinates look 10 times too small: 3 holes have no pad; with coordinates times 10 it would be 0`.
 impl Line<FileNames<'_>> for UnitMistake {
     ghost text = { λ names line. scale_line (map (λ name. name.now) names.0.now) line };
 
     #[tactic(auto, unfolding(crate::specs::Texts::scale_words))]
     fn fmt_on<W: fmt::Write>(&self, page: &FileNames<'_>, f: &mut Formatter<W>) -> fmt::Result {
-        let (name, bare) = (name_of(page.0, self.drill), self.bare);
-        let (factor, then) = (factor_word(self.factor), self.then);
+        let (name, size) = (name_of(page.0, self.drill), size_words(self.factor));
+        let (bare, factor, then) = (self.bare, factor_word(self.factor), self.then);
         write!(
             f,
-            "{name}: {bare} holes have no pad; at {factor} times their coordinates {then} would have none\n"
+            "{name}: coordinates look {size}: {bare} holes have no pad; with coordinates times {factor} it would be {then}\n"
         )
     }
 }
@@ -247,7 +329,7 @@ fn are_equal_rules(first: Met, second: Met) -> bool
     first == second
 }
 
-/// The greatest ring for holes that lie in pads, if it differs from that of all holes: `; where a pad is, ring 0.275`.
+/// The greatest ring for holes that lie in pads, if it differs from that of all holes: `; where a pad is, annular ring 0.275`.
 #[derive(Clone, Copy)]
 struct HeldWords {
     /// The greatest ring of all holes.
@@ -263,11 +345,11 @@ impl Display for HeldWords {
         if are_equal_rules(self.ring, self.held) {
             return Ok(());
         }
-        write!(f, "; where a pad is, ring {}", MetWords(self.held))
+        write!(f, "; where a pad is, annular ring {}", MetWords(self.held))
     }
 }
 
-/// The line of the rules that the package meets: `this board meets ring none, gap 1.046051224; where a pad is, ring 0.275`.
+/// The line of the rules that the package meets: `this board meets annular ring none, hole to hole 0.2; where a pad is, annular ring 0.149`.
 #[derive(Clone, Copy)]
 pub(crate) struct MeetsLine(pub(crate) Meets);
 
@@ -279,7 +361,10 @@ impl Display for MeetsLine {
         let (ring, held) = (self.0.ring, self.0.in_pads);
         let words = HeldWords { ring, held };
         let (ring, gap) = (MetWords(ring), MetWords(self.0.gap));
-        write!(f, "this board meets ring {ring}, gap {gap}{words}\n")
+        write!(
+            f,
+            "this board meets annular ring {ring}, hole to hole {gap}{words}\n"
+        )
     }
 }
 

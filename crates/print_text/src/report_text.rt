@@ -1,21 +1,23 @@
 //! The text of a report.
 
-ghost use Rattle.std.specs.Prelude.{◌≡◌, ℕ, IfOk, List, Some, length, map};
+ghost use Rattle.std.specs.Prelude.{◌≡◌, ◌+◌, ◌++◌, ℕ, IfOk, List, Some, length, map};
 ghost use Rattle.std.specs.Fmt.{DisplaysOnOk};
 ghost use Rattle.std.specs.List.{enumerate_from, flat_map};
 ghost use Rattle.print_text.specs.Inner.{AreRuns, IsRun, gap_lines, ring_lines};
-ghost use Rattle.print_text.specs.Texts.{causes_text, gaps_text, last_lines, layer_text, waived_report_text};
+ghost use Rattle.print_text.specs.Texts.{causes_text, gaps_text, groups_text, head_text, last_lines, layer_text, smallest_lines, summary_text, waived_report_text};
 
 use crate::kind::CAUSE_KINDS;
 use crate::lines::{
-    FileNames, GapLine, GapsLine, LacksLine, LastLine, LayerLine, MeetsLine, MoreLine, RingLine,
-    RulesLine, WaiverFile,
+    FileNames, GapLine, GapsLine, LastLine, LayerLine, MeetsLine, MoreLine, RingLine, RulesLine,
+    SmallestLine, WaiverFile,
 };
 use crate::runs::{Run, runs_of};
+use crate::summary::write_groups;
 use crate::tallies::{
-    gap_lacks, gaps_hidden_count, is_shown, is_shown_on, ring_lacks, rings_hidden, rings_on,
+    gaps_hidden_count, is_shown, is_shown_on, rings_hidden, rings_on, smallest_gap, smallest_ring,
 };
 use crate::waived::waived_on;
+use grid_units::Rules;
 use printing::{Lines, name_of};
 use report::{
     Acceptances, BoardReport, GapLack, LayerHead, RingLack, acceptance_of, count_waived,
@@ -31,6 +33,7 @@ use std::marker::Model;
 struct RingPage<'a> {
     /// The names of the files of the package.
     names: &'a [&'a str],
+    rules: &'a Rules,
     /// All holes that lack their ring.
     rings: &'a [RingLack],
     /// The reasons why they are accepted.
@@ -42,16 +45,27 @@ struct RingPage<'a> {
 /// Writes the lines of those rings on the layer of a run that are shown.
 fn write_rings<W: fmt::Write>(f: &mut Formatter<W>, page: &RingPage, run: Run) -> fmt::Result
     requires { IsRun page.now.rings.now (length page.now.rings.now) run.layer run }
-    ensures { DisplaysOnOk W.write_str_gives f.old result (Some (ring_lines (map (λ name. name.now) page.now.names.now) page.now.accepted.now page.now.limit run.layer (enumerate_from 0 page.now.rings.now))) f.new }
+    ensures { DisplaysOnOk W.write_str_gives f.old result (Some (ring_lines (map (λ name. name.now) page.now.names.now) page.now.rules.now page.now.accepted.now page.now.limit run.layer (enumerate_from 0 page.now.rings.now))) f.new }
 {
-    let (names, rings) = (page.names, page.rings);
+    let (names, rules, rings) = (page.names, page.rules, page.rings);
     for i in run.first..run.end {
         let lack = &rings[i];
         if !is_shown_on(lack, run.layer, page.limit, i as u128) {
             continue;
         }
         let why = acceptance_of(page.accepted, i);
-        write!(f, "{}", RingLine { names, lack, why })?;
+        let number = i as u128 + 1;
+        write!(
+            f,
+            "{}",
+            RingLine {
+                names,
+                rules,
+                number,
+                lack,
+                why
+            }
+        )?;
     }
     Ok(())
 }
@@ -64,11 +78,11 @@ fn write_layer<W: fmt::Write>(
     head: &LayerHead,
 ) -> fmt::Result
     requires { IsRun page.now.rings.now (length page.now.rings.now) run.layer run }
-    ensures { DisplaysOnOk W.write_str_gives f.old result (Some (layer_text (map (λ name. name.now) page.now.names.now) page.now.limit page.now.rings.now page.now.accepted.now (run.layer, head.now))) f.new }
+    ensures { DisplaysOnOk W.write_str_gives f.old result (Some (layer_text (map (λ name. name.now) page.now.names.now) page.now.rules.now page.now.limit page.now.rings.now page.now.accepted.now (run.layer, head.now))) f.new }
 {
     let line = LayerLine {
         name: name_of(page.names, head.file),
-        lacking: rings_on(page.rings, run),
+        below: rings_on(page.rings, run),
         needed: head.needed,
         waived: waived_on(page.accepted, run, page.rings),
     };
@@ -86,7 +100,7 @@ fn write_layers<W: fmt::Write>(
 ) -> fmt::Result
     requires length { length runs.now ≡ length layers.now }
     requires runs { AreRuns page.now.rings.now (length page.now.rings.now) runs.now }
-    ensures { DisplaysOnOk W.write_str_gives f.old result (Some (flat_map (layer_text (map (λ name. name.now) page.now.names.now) page.now.limit page.now.rings.now page.now.accepted.now) (enumerate_from 0 layers.now))) f.new }
+    ensures { DisplaysOnOk W.write_str_gives f.old result (Some (flat_map (layer_text (map (λ name. name.now) page.now.names.now) page.now.rules.now page.now.limit page.now.rings.now page.now.accepted.now) (enumerate_from 0 layers.now))) f.new }
 {
     for i in 0..layers.len() {
         write_layer(f, page, runs[i], &layers[i])?;
@@ -94,11 +108,49 @@ fn write_layers<W: fmt::Write>(
     Ok(())
 }
 
-/// The gaps that are lacking, after the rings: their number, the lines of those that are shown, and how many others there are.
+/// Writes the rings of the layers summed up by diameter.
+fn write_all_groups<W: fmt::Write>(
+    f: &mut Formatter<W>,
+    page: &RingPage,
+    runs: &[Run],
+    layers: &[LayerHead],
+) -> fmt::Result
+    requires length { length runs.now ≡ length layers.now }
+    requires runs { AreRuns page.now.rings.now (length page.now.rings.now) runs.now }
+    ensures { DisplaysOnOk W.write_str_gives f.old result (Some (flat_map (groups_text (map (λ name. name.now) page.now.names.now) page.now.rings.now) (enumerate_from 0 layers.now))) f.new }
+{
+    for i in 0..layers.len() {
+        let name = name_of(page.names, layers[i].file);
+        write_groups(f, page.rings, runs[i], name)?;
+    }
+    Ok(())
+}
+
+/// Writes the rings summed up by layer and diameter, if there are more than ten findings.
+fn write_summary<W: fmt::Write>(
+    f: &mut Formatter<W>,
+    page: &RingPage,
+    runs: &[Run],
+    layers: &[LayerHead],
+    findings: u128,
+) -> fmt::Result
+    requires length { length runs.now ≡ length layers.now }
+    requires runs { AreRuns page.now.rings.now (length page.now.rings.now) runs.now }
+    ensures { DisplaysOnOk W.write_str_gives f.old result (Some (summary_text (map (λ name. name.now) page.now.names.now) findings layers.now page.now.rings.now)) f.new }
+{
+    if findings > 10 {
+        write_all_groups(f, page, runs, layers)
+    } else {
+        Ok(())
+    }
+}
+
+/// The gaps that are too small, after the rings: their number, the lines of those that are shown, and how many others there are.
 #[derive(Clone, Copy)]
 struct GapsText<'a> {
     /// The names of the files of the package.
     names: &'a [&'a str],
+    rules: &'a Rules,
     gaps: &'a [GapLack],
     /// The reasons why they are accepted.
     accepted: &'a [Option<&'a str>],
@@ -110,63 +162,130 @@ struct GapsText<'a> {
 
 /// Writes the lines of the gaps that are shown.
 fn write_gaps<W: fmt::Write>(f: &mut Formatter<W>, text: &GapsText) -> fmt::Result
-    ensures { DisplaysOnOk W.write_str_gives f.old result (Some (gap_lines (map (λ name. name.now) text.now.names.now) text.now.accepted.now text.now.limit text.now.rings (enumerate_from text.now.rings text.now.gaps.now))) f.new }
+    ensures { DisplaysOnOk W.write_str_gives f.old result (Some (gap_lines (map (λ name. name.now) text.now.names.now) text.now.rules.now text.now.accepted.now text.now.limit text.now.rings (enumerate_from text.now.rings text.now.gaps.now))) f.new }
 {
-    let (names, gaps) = (text.names, text.gaps);
+    let (names, rules, gaps) = (text.names, text.rules, text.gaps);
     for i in 0..gaps.len() {
         let lack = &gaps[i];
-        if !is_shown(text.limit, text.rings as u128 + i as u128) {
+        let position = text.rings as u128 + i as u128;
+        if !is_shown(text.limit, position) {
             continue;
         }
         let why = acceptance_of(text.accepted, i);
-        write!(f, "{}", GapLine { names, lack, why })?;
+        let number = position + 1;
+        write!(
+            f,
+            "{}",
+            GapLine {
+                names,
+                rules,
+                number,
+                lack,
+                why
+            }
+        )?;
     }
     Ok(())
 }
 
 impl Display for GapsText<'_> {
-    ghost output = { λ text. Some (gaps_text (map (λ name. name.now) text.names.now) text.limit text.rings text.gaps.now text.accepted.now) };
+    ghost output = { λ text. Some (gaps_text (map (λ name. name.now) text.names.now) text.rules.now text.limit text.rings text.gaps.now text.accepted.now) };
 
     fn fmt<W: fmt::Write>(&self, f: &mut Formatter<W>) -> fmt::Result {
-        let lacking = self.gaps.len();
-        let waived = count_waived_first(self.accepted, lacking);
-        write!(f, "{}", GapsLine { lacking, waived })?;
+        let gaps = self.gaps.len();
+        let waived = count_waived_first(self.accepted, gaps);
+        write!(f, "{}", GapsLine { gaps, waived })?;
         write_gaps(f, self)?;
         let left = gaps_hidden_count(self.gaps, self.rings, self.limit);
         write!(f, "{}", MoreLine(left))
     }
 }
 
-/// The causes, the lacks, and the drill files whose coordinates seem to be off by a factor.
+/// The drill files whose coordinates seem to be off by a factor, and the rules.
 #[derive(Clone, Copy)]
-struct CausesText<'a> {
+struct HeadText<'a> {
     /// The names of the files of the package.
     names: &'a [&'a str],
     report: &'a BoardReport,
 }
 
-impl Display for CausesText<'_> {
-    ghost output = { λ text. Some (causes_text (map (λ name. name.now) text.names.now) text.report.now) };
+impl Display for HeadText<'_> {
+    ghost output = { λ text. Some (head_text (map (λ name. name.now) text.names.now) text.report.now) };
 
     fn fmt<W: fmt::Write>(&self, f: &mut Formatter<W>) -> fmt::Result {
-        let rings = self.report.rings.as_slice();
-        let kinds = Lines {
-            page: &rings,
-            lines: &CAUSE_KINDS,
-        };
-        let ring_lacks = LacksLine {
-            words: "rings lack ",
-            lacks: ring_lacks(rings),
-        };
-        let gap_lacks = LacksLine {
-            words: "gaps lack ",
-            lacks: gap_lacks(&self.report.gaps),
-        };
         let scales = Lines {
             page: &FileNames(self.names),
             lines: &self.report.scales,
         };
-        write!(f, "{kinds}{ring_lacks}{gap_lacks}{scales}")
+        write!(f, "{scales}{}", RulesLine(&self.report.rules))
+    }
+}
+
+/// Writes the findings: the layers, by their runs and their heads, the gaps, and the rings summed up if there are many findings.
+fn write_findings<W: fmt::Write>(
+    f: &mut Formatter<W>,
+    page: &RingPage,
+    gaps: &GapsText,
+    runs: &[Run],
+    layers: &[LayerHead],
+) -> fmt::Result
+    requires length { length runs.now ≡ length layers.now }
+    requires runs { AreRuns page.now.rings.now (length page.now.rings.now) runs.now }
+    ensures { DisplaysOnOk W.write_str_gives f.old result (Some (flat_map (layer_text (map (λ name. name.now) page.now.names.now) page.now.rules.now page.now.limit page.now.rings.now page.now.accepted.now) (enumerate_from 0 layers.now)
+        ++ (gaps_text (map (λ name. name.now) gaps.now.names.now) gaps.now.rules.now gaps.now.limit gaps.now.rings gaps.now.gaps.now gaps.now.accepted.now
+        ++ summary_text (map (λ name. name.now) page.now.names.now) (length page.now.rings.now + length gaps.now.gaps.now) layers.now page.now.rings.now))) f.new }
+{
+    write_layers(f, page, runs, layers)?;
+    write!(f, "{gaps}")?;
+    let findings = page.rings.len() as u128 + gaps.gaps.len() as u128;
+    write_summary(f, page, runs, layers, findings)
+}
+
+/// The smallest ring and gap of the findings.
+#[derive(Clone, Copy)]
+struct SmallestLines<'a> {
+    rules: &'a Rules,
+    rings: &'a [RingLack],
+    gaps: &'a [GapLack],
+}
+
+impl Display for SmallestLines<'_> {
+    ghost output = { λ text. Some (smallest_lines text.rules.now text.rings.now text.gaps.now) };
+
+    fn fmt<W: fmt::Write>(&self, f: &mut Formatter<W>) -> fmt::Result {
+        let ring = SmallestLine {
+            words: "smallest ring ",
+            rule: self.rules.ring(),
+            least: smallest_ring(self.rings),
+        };
+        let gap = SmallestLine {
+            words: "smallest gap ",
+            rule: self.rules.gap(),
+            least: smallest_gap(self.gaps),
+        };
+        write!(f, "{ring}{gap}")
+    }
+}
+
+/// The causes, and the smallest ring and gap.
+#[derive(Clone, Copy)]
+struct CausesText<'a>(&'a BoardReport);
+
+impl Display for CausesText<'_> {
+    ghost output = { λ text. Some (causes_text text.0.now) };
+
+    fn fmt<W: fmt::Write>(&self, f: &mut Formatter<W>) -> fmt::Result {
+        let rings = self.0.rings.as_slice();
+        let kinds = Lines {
+            page: &rings,
+            lines: &CAUSE_KINDS,
+        };
+        let smallest = SmallestLines {
+            rules: &self.0.rules,
+            rings,
+            gaps: &self.0.gaps,
+        };
+        write!(f, "{kinds}{smallest}")
     }
 }
 
@@ -244,24 +363,31 @@ impl Display for ReportText<'_> {
     ghost output = { λ text. Some text };
 
     fn fmt<W: fmt::Write>(&self, f: &mut Formatter<W>) -> fmt::Result {
-        let (names, report) = (self.names, self.report);
-        let (limit, accepted) = (self.limit, self.accepted);
         let rings = RingPage {
-            names,
-            rings: &report.rings,
-            accepted: accepted.rings,
-            limit,
+            names: self.names,
+            rules: &self.report.rules,
+            rings: &self.report.rings,
+            accepted: self.accepted.rings,
+            limit: self.limit,
         };
         let gaps = GapsText {
-            names,
-            gaps: &report.gaps,
-            accepted: accepted.gaps,
-            rings: report.rings.len(),
-            limit,
+            names: self.names,
+            rules: &self.report.rules,
+            gaps: &self.report.gaps,
+            accepted: self.accepted.gaps,
+            rings: self.report.rings.len(),
+            limit: self.limit,
         };
-        let causes = CausesText { names, report };
-        write!(f, "{}", RulesLine(&report.rules))?;
-        write_layers(f, &rings, &self.runs, &report.layers)?;
-        write!(f, "{gaps}{causes}{}", LastLines { report, accepted })
+        let head = HeadText {
+            names: self.names,
+            report: self.report,
+        };
+        let last = LastLines {
+            report: self.report,
+            accepted: self.accepted,
+        };
+        write!(f, "{head}")?;
+        write_findings(f, &rings, &gaps, &self.runs, &self.report.layers)?;
+        write!(f, "{}{last}", CausesText(self.report))
     }
 }

@@ -1,15 +1,14 @@
-//! Counts of findings and of those that are shown, and the least and greatest lacks.
+//! Counts of findings and of those that are shown, and the smallest ring and gap.
 
 ghost use Rattle.std.specs.Prelude.{◌≡◌, ◌≤◌, ◌==◌, ◌&&◌, if◌then◌else◌, length, map, not};
 ghost use Rattle.std.specs.List.{count_by, enumerate_from, filter, filter_map};
 ghost use Rattle.print_text.specs.Causes.{is_of_kind};
-ghost use Rattle.print_text.specs.Inner.{IsRun, range_with};
-ghost use Rattle.print_text.specs.Texts.{is_shown, least_and_greatest};
-ghost use Rattle.report.specs.Causes.{lack_of};
+ghost use Rattle.print_text.specs.Inner.{IsRun, smaller};
+ghost use Rattle.print_text.specs.Texts.{is_shown, ring_of, smallest};
 
 use crate::kind::{CauseKind, is_of_kind};
 use crate::runs::Run;
-use report::{GapLack, RingLack, lack_of};
+use report::{GapLack, RingCause, RingLack};
 
 /// Whether the finding at a position of the whole report, from 0, is shown.
 pub(crate) fn is_shown(limit: Option<usize>, position: u128) -> bool
@@ -96,37 +95,47 @@ pub(crate) fn gaps_hidden_count(gaps: &[GapLack], rings: usize, limit: Option<us
     left
 }
 
-/// The least and the greatest of some lengths and one more, if there is one.
-fn range_with(lacks: Option<(i64, i64)>, lack: Option<i64>) -> Option<(i64, i64)>
-    ensures { result ≡ range_with lacks lack }
+/// The ring of a hole in its pad in pm, or `None` where it lies in no pad or is an oblique slot.
+pub(crate) fn ring_of(cause: &RingCause) -> Option<i64>
+    ensures { result ≡ ring_of cause.now }
 {
-    let Some(lack) = lack else {
-        return lacks;
+    match cause {
+        RingCause::TooSmall(place) | RingCause::OffCentre(place) => Some(place.ring),
+        RingCause::Other { .. } | RingCause::NoFlash | RingCause::Oblique => None,
+    }
+}
+
+/// The smallest of some lengths and one more, if there is one.
+pub(crate) fn smaller(least: Option<i64>, length: Option<i64>) -> Option<i64>
+    ensures { result ≡ smaller least length }
+{
+    let Some(length) = length else {
+        return least;
     };
-    match lacks {
-        Some((least, greatest)) => Some((least.min(lack), greatest.max(lack))),
-        None => Some((lack, lack)),
+    match least {
+        Some(least) => Some(least.min(length)),
+        None => Some(length),
     }
 }
 
-/// The least and the greatest lack of rings.
-pub(crate) fn ring_lacks(rings: &[RingLack]) -> Option<(i64, i64)>
-    ensures { result ≡ least_and_greatest (filter_map (λ lack. lack_of lack.cause) rings.now) }
+/// The smallest ring of the holes that lie in pads.
+pub(crate) fn smallest_ring(rings: &[RingLack]) -> Option<i64>
+    ensures { result ≡ smallest (filter_map (λ lack. ring_of lack.cause) rings.now) }
 {
-    let mut lacks = None;
+    let mut least = None;
     for i in 0..rings.len() {
-        lacks = range_with(lacks, lack_of(&rings[i].cause));
+        least = smaller(least, ring_of(&rings[i].cause));
     }
-    lacks
+    least
 }
 
-/// The least and the greatest lack of gaps.
-pub(crate) fn gap_lacks(gaps: &[GapLack]) -> Option<(i64, i64)>
-    ensures { result ≡ least_and_greatest (map (λ lack. lack.lack) gaps.now) }
+/// The smallest gap.
+pub(crate) fn smallest_gap(gaps: &[GapLack]) -> Option<i64>
+    ensures { result ≡ smallest (map (λ lack. lack.gap) gaps.now) }
 {
-    let mut lacks = None;
+    let mut least = None;
     for i in 0..gaps.len() {
-        lacks = range_with(lacks, Some(gaps[i].lack));
+        least = smaller(least, Some(gaps[i].gap));
     }
-    lacks
+    least
 }

@@ -2,7 +2,7 @@
 
 ghost use Rattle.std.specs.Prelude.{◌≡◌, ◌*◌, ◌-ℤ◌, pos, map, Some};
 ghost use Rattle.grid_units.specs.Points.{IsCoordinate};
-ghost use Rattle.print_text.specs.Texts.{cause_words, halfway, height_of, hole_middle, hole_words, in_pad_words, pad_words, place_words, shape_word, width_of};
+ghost use Rattle.print_text.specs.Texts.{cause_words, halfway, height_of, hole_middle, hole_words, in_pad_words, measured_words, pad_words, place_words, shape_word, width_of};
 
 use crate::kind::{CauseKind, flash_kind, kind_words};
 use grid_units::{Hole, Point};
@@ -135,62 +135,100 @@ impl Display for PlaceWords<'_> {
     }
 }
 
-/// A ring in a pad, and why it is too small: `ring 0.149, lacks 0.001, off centre: flash 17, disc 0.6x0.6, hole off by 0.001,0`.
+/// The length of a ring or a gap, and the rule for it: `gap 0.382301708 (rule 0.4)`.
+#[derive(Clone, Copy)]
+pub(crate) struct MeasuredWords<'a> {
+    /// The words before it, such as `gap `.
+    pub(crate) words: &'a str,
+    /// The length in pm.
+    pub(crate) has: i64,
+    /// The required length in pm.
+    pub(crate) rule: i64,
+}
+
+impl Display for MeasuredWords<'_> {
+    ghost output = { λ line. Some (measured_words line.words.now line.has line.rule) };
+
+    #[tactic(auto, unfolding(crate::specs::Texts::measured_words))]
+    fn fmt<W: fmt::Write>(&self, f: &mut Formatter<W>) -> fmt::Result {
+        let has = ShortMillimetres(self.has);
+        let rule = ShortMillimetres(self.rule);
+        write!(f, "{}{has} (rule {rule})", self.words)
+    }
+}
+
+/// A ring in a pad, and why it is too small: `annular ring 0.149 (rule 0.15), off centre: flash 17, disc 0.6x0.6, hole off by 0.001,0`.
 #[derive(Clone, Copy)]
 struct InPadWords<'a> {
     kind: CauseKind,
+    rule: i64,
     hole: &'a Hole,
     place: &'a RingInPad,
 }
 
 impl Display for InPadWords<'_> {
-    ghost output = { λ words. Some (in_pad_words words.kind words.hole.now words.place.now) };
+    ghost output = { λ words. Some (in_pad_words words.kind words.rule words.hole.now words.place.now) };
 
-    #[tactic(auto, unfolding(printing::specs::Holes::two_lengths, crate::specs::Texts::flash_words))]
+    #[tactic(auto, unfolding(crate::specs::Texts::flash_words))]
     fn fmt<W: fmt::Write>(&self, f: &mut Formatter<W>) -> fmt::Result {
         let place = PlaceWords {
             hole: self.hole,
             pad: &self.place.pad,
         };
-        let ring = ShortMillimetres(self.place.ring);
-        let lacks = ShortMillimetres(self.place.lack);
+        let ring = MeasuredWords {
+            words: "annular ring ",
+            has: self.place.ring,
+            rule: self.rule,
+        };
         let (words, flash) = (kind_words(self.kind), self.place.flash);
-        write!(f, "ring {ring}, lacks {lacks}")?;
-        write!(f, ", {words}: flash {flash}, ")?;
-        write!(f, "{place}")
+        write!(f, "{ring}, {words}: flash {flash}, {place}")
     }
 }
 
-/// Why a hole lacks its ring, with the figures of the cause: `no ring, only a macro flash: flash 156`.
+/// Why a hole lacks its ring, with the figures of the cause: `annular ring not judged, only a macro flash: flash 156`.
 #[derive(Clone, Copy)]
 pub(crate) struct CauseWords<'a> {
+    /// The required ring in pm.
+    pub(crate) rule: i64,
     pub(crate) hole: &'a Hole,
     pub(crate) cause: &'a RingCause,
 }
 
 impl Display for CauseWords<'_> {
-    ghost output = { λ words. Some (cause_words words.hole.now words.cause.now) };
+    ghost output = { λ words. Some (cause_words words.rule words.hole.now words.cause.now) };
 
     fn fmt<W: fmt::Write>(&self, f: &mut Formatter<W>) -> fmt::Result {
-        let hole = self.hole;
+        let (rule, hole) = (self.rule, self.hole);
         match self.cause {
             RingCause::TooSmall(place) => {
                 let kind = CauseKind::TooSmall;
-                write!(f, "{}", InPadWords { kind, hole, place })
+                let words = InPadWords {
+                    kind,
+                    rule,
+                    hole,
+                    place,
+                };
+                write!(f, "{words}")
             }
             RingCause::OffCentre(place) => {
                 let kind = CauseKind::OffCentre;
-                write!(f, "{}", InPadWords { kind, hole, place })
+                let words = InPadWords {
+                    kind,
+                    rule,
+                    hole,
+                    place,
+                };
+                write!(f, "{words}")
             }
             RingCause::Other { why, flash } => {
-                write!(
-                    f,
-                    "no ring, {}: flash {flash}",
-                    kind_words(flash_kind(*why))
-                )
+                let words = kind_words(flash_kind(*why));
+                write!(f, "annular ring not judged, {words}: flash {flash}")
             }
-            RingCause::NoFlash => write!(f, "no ring, {}", kind_words(CauseKind::Bare)),
-            RingCause::Oblique => write!(f, "no ring, {}", kind_words(CauseKind::Oblique)),
+            RingCause::NoFlash => f.write_str(kind_words(CauseKind::Bare)),
+            RingCause::Oblique => {
+                let words = kind_words(CauseKind::Oblique);
+                write!(f, "annular ring not judged, {words}")
+            }
         }
     }
 }

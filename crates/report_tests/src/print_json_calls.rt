@@ -2,7 +2,7 @@
 
 use crate::rows::{Form, in_pad, slot_at};
 use board_report::measure_board;
-use grid_units::{Fault, Reason, Rules};
+use grid_units::{Fault, Reason, Rules, Span};
 use layer_image::Why;
 use package_check::{File, FileSum, Keep, Role, read_package};
 use print_json::*;
@@ -31,36 +31,36 @@ const STOPS: [(InputError, &str); 6] = [
                 reason: Reason::BadWord,
             },
         },
-        "{\"format\":\"ringcheck\",\"version\":1,\"result\":\"refused\",\"file\":1,\"name\":\"top\",\"place\":11,\"byte\":100,\"reason\":\"BadWord\"}\n",
+        "{\"format\":\"ringcheck\",\"version\":2,\"result\":\"refused\",\"file\":1,\"name\":\"top\",\"place\":11,\"byte\":100,\"reason\":\"BadWord\"}\n",
     ),
     (
         InputError::RefusedManifest {
             place: 3,
             reason: Reason::BadRole,
         },
-        "{\"format\":\"ringcheck\",\"version\":1,\"result\":\"refused\",\"place\":3,\"reason\":\"BadRole\"}\n",
+        "{\"format\":\"ringcheck\",\"version\":2,\"result\":\"refused\",\"place\":3,\"reason\":\"BadRole\"}\n",
     ),
     (
         InputError::Device {
             index: 1,
             name: "pth",
         },
-        "{\"format\":\"ringcheck\",\"version\":1,\"result\":\"device\",\"file\":2,\"name\":\"pth\"}\n",
+        "{\"format\":\"ringcheck\",\"version\":2,\"result\":\"device\",\"file\":2,\"name\":\"pth\"}\n",
     ),
     (
         InputError::ManifestDevice,
-        "{\"format\":\"ringcheck\",\"version\":1,\"result\":\"device\"}\n",
+        "{\"format\":\"ringcheck\",\"version\":2,\"result\":\"device\"}\n",
     ),
     (
         InputError::RefusedWaivers {
             place: 2,
             reason: Reason::EmptyName,
         },
-        "{\"format\":\"ringcheck\",\"version\":1,\"result\":\"refused\",\"waivers\":true,\"place\":2,\"reason\":\"EmptyName\"}\n",
+        "{\"format\":\"ringcheck\",\"version\":2,\"result\":\"refused\",\"waivers\":true,\"place\":2,\"reason\":\"EmptyName\"}\n",
     ),
     (
         InputError::WaiversDevice,
-        "{\"format\":\"ringcheck\",\"version\":1,\"result\":\"device\",\"waivers\":true}\n",
+        "{\"format\":\"ringcheck\",\"version\":2,\"result\":\"device\",\"waivers\":true}\n",
     ),
 ];
 
@@ -83,7 +83,7 @@ fn names_are_escaped(rt: HostRuntime) -> Result<(), Fail> {
     ] {
         let device = InputError::Device { index: 0, name };
         let text = format!(in rt.alloc();
-            "{{\"format\":\"ringcheck\",\"version\":1,\"result\":\"device\",\"file\":1,\"name\":\"{escaped}\"}}\n"
+            "{{\"format\":\"ringcheck\",\"version\":2,\"result\":\"device\",\"file\":1,\"name\":\"{escaped}\"}}\n"
         )?;
         assert!(rt; is_refused(rt, &device, text.as_str())?);
     }
@@ -135,7 +135,7 @@ fn is_measured(rt: HostRuntime, layer: &[u8], holes: &[u8], text: &str) -> Resul
     };
     let written = format!(in alloc; "{json}")?;
     let wanted = format!(in alloc;
-        "{{\"format\":\"ringcheck\",\"version\":1,\"result\":\"measured\",{text}}}\n"
+        "{{\"format\":\"ringcheck\",\"version\":2,\"result\":\"measured\",{text}}}\n"
     )?;
     Ok(written.as_str() == wanted.as_str())
 }
@@ -146,27 +146,27 @@ fn measures_are_printed(rt: HostRuntime) -> Result<(), Fail> {
         (
             SQUARE,
             HIT,
-            "\"meets\":{\"ring_pm\":125000000,\"gap_pm\":\"any\",\"held_pm\":125000000},\"files\":[{\"number\":1,\"role\":\"copper\",\"name\":\"top\",\"pads\":1,\"other\":0},{\"number\":2,\"role\":\"plated\",\"name\":\"pth\",\"round\":1,\"slots\":0}],\"scales\":[],\"rings\":[{\"layer\":1,\"drill\":2,\"diameter_pm\":400000000,\"holes\":1,\"bare\":0,\"least_pm\":125000000,\"hole\":1}],\"gap\":null",
+            "\"meets\":{\"ring_pm\":125000000,\"gap_pm\":\"any\",\"held_pm\":125000000},\"files\":[{\"number\":1,\"role\":\"copper\",\"name\":\"top\",\"pads\":1,\"other\":0},{\"number\":2,\"role\":\"plated\",\"name\":\"pth\",\"round\":1,\"slots\":0,\"span\":null}],\"scales\":[],\"rings\":[{\"layer\":1,\"drill\":2,\"diameter_pm\":400000000,\"holes\":1,\"bare\":0,\"least_pm\":125000000,\"hole\":1}],\"gap\":null",
         ),
         (
             SQUARE,
             NO_HIT,
-            "\"meets\":{\"ring_pm\":\"any\",\"gap_pm\":\"any\",\"held_pm\":\"any\"},\"files\":[{\"number\":1,\"role\":\"copper\",\"name\":\"top\",\"pads\":1,\"other\":0},{\"number\":2,\"role\":\"plated\",\"name\":\"pth\",\"round\":0,\"slots\":0}],\"scales\":[],\"rings\":[],\"gap\":null",
+            "\"meets\":{\"ring_pm\":\"any\",\"gap_pm\":\"any\",\"held_pm\":\"any\"},\"files\":[{\"number\":1,\"role\":\"copper\",\"name\":\"top\",\"pads\":1,\"other\":0},{\"number\":2,\"role\":\"plated\",\"name\":\"pth\",\"round\":0,\"slots\":0,\"span\":null}],\"scales\":[],\"rings\":[],\"gap\":null",
         ),
         (
             PAIR,
             HIT,
-            "\"meets\":{\"ring_pm\":0,\"gap_pm\":\"any\",\"held_pm\":0},\"files\":[{\"number\":1,\"role\":\"copper\",\"name\":\"top\",\"pads\":2,\"other\":0},{\"number\":2,\"role\":\"plated\",\"name\":\"pth\",\"round\":1,\"slots\":0}],\"scales\":[],\"rings\":[{\"layer\":1,\"drill\":2,\"diameter_pm\":400000000,\"holes\":1,\"bare\":0,\"least_pm\":0,\"hole\":1}],\"gap\":null",
+            "\"meets\":{\"ring_pm\":0,\"gap_pm\":\"any\",\"held_pm\":0},\"files\":[{\"number\":1,\"role\":\"copper\",\"name\":\"top\",\"pads\":2,\"other\":0},{\"number\":2,\"role\":\"plated\",\"name\":\"pth\",\"round\":1,\"slots\":0,\"span\":null}],\"scales\":[],\"rings\":[{\"layer\":1,\"drill\":2,\"diameter_pm\":400000000,\"holes\":1,\"bare\":0,\"least_pm\":0,\"hole\":1}],\"gap\":null",
         ),
         (
             DISC,
             TWICE,
-            "\"meets\":{\"ring_pm\":125000000,\"gap_pm\":-400000000,\"held_pm\":125000000},\"files\":[{\"number\":1,\"role\":\"copper\",\"name\":\"top\",\"pads\":1,\"other\":0},{\"number\":2,\"role\":\"plated\",\"name\":\"pth\",\"round\":2,\"slots\":0}],\"scales\":[],\"rings\":[{\"layer\":1,\"drill\":2,\"diameter_pm\":400000000,\"holes\":2,\"bare\":0,\"least_pm\":125000000,\"hole\":1}],\"gap\":{\"least_pm\":-400000000,\"at\":{\"drill\":2,\"hole\":1,\"from_pm\":[0,0],\"to_pm\":[0,0],\"diameter_pm\":400000000},\"and\":{\"drill\":2,\"hole\":2,\"from_pm\":[0,0],\"to_pm\":[0,0],\"diameter_pm\":400000000}}",
+            "\"meets\":{\"ring_pm\":125000000,\"gap_pm\":-400000000,\"held_pm\":125000000},\"files\":[{\"number\":1,\"role\":\"copper\",\"name\":\"top\",\"pads\":1,\"other\":0},{\"number\":2,\"role\":\"plated\",\"name\":\"pth\",\"round\":2,\"slots\":0,\"span\":null}],\"scales\":[],\"rings\":[{\"layer\":1,\"drill\":2,\"diameter_pm\":400000000,\"holes\":2,\"bare\":0,\"least_pm\":125000000,\"hole\":1}],\"gap\":{\"least_pm\":-400000000,\"at\":{\"drill\":2,\"hole\":1,\"from_pm\":[0,0],\"to_pm\":[0,0],\"diameter_pm\":400000000},\"and\":{\"drill\":2,\"hole\":2,\"from_pm\":[0,0],\"to_pm\":[0,0],\"diameter_pm\":400000000}}",
         ),
         (
             DISCS,
             TENTHS,
-            "\"meets\":{\"ring_pm\":\"none\",\"gap_pm\":600000000,\"held_pm\":\"none\"},\"files\":[{\"number\":1,\"role\":\"copper\",\"name\":\"top\",\"pads\":3,\"other\":0},{\"number\":2,\"role\":\"plated\",\"name\":\"pth\",\"round\":3,\"slots\":0}],\"scales\":[{\"drill\":2,\"bare\":3,\"factor\":\"10\",\"then\":0}],\"rings\":[{\"layer\":1,\"drill\":2,\"diameter_pm\":400000000,\"holes\":3,\"bare\":3,\"least_pm\":null,\"hole\":null}],\"gap\":{\"least_pm\":600000000,\"at\":{\"drill\":2,\"hole\":1,\"from_pm\":[1000000000,0],\"to_pm\":[1000000000,0],\"diameter_pm\":400000000},\"and\":{\"drill\":2,\"hole\":2,\"from_pm\":[2000000000,0],\"to_pm\":[2000000000,0],\"diameter_pm\":400000000}}",
+            "\"meets\":{\"ring_pm\":\"none\",\"gap_pm\":600000000,\"held_pm\":\"none\"},\"files\":[{\"number\":1,\"role\":\"copper\",\"name\":\"top\",\"pads\":3,\"other\":0},{\"number\":2,\"role\":\"plated\",\"name\":\"pth\",\"round\":3,\"slots\":0,\"span\":null}],\"scales\":[{\"drill\":2,\"bare\":3,\"factor\":\"10\",\"then\":0}],\"rings\":[{\"layer\":1,\"drill\":2,\"diameter_pm\":400000000,\"holes\":3,\"bare\":3,\"least_pm\":null,\"hole\":null}],\"gap\":{\"least_pm\":600000000,\"at\":{\"drill\":2,\"hole\":1,\"from_pm\":[1000000000,0],\"to_pm\":[1000000000,0],\"diameter_pm\":400000000},\"and\":{\"drill\":2,\"hole\":2,\"from_pm\":[2000000000,0],\"to_pm\":[2000000000,0],\"diameter_pm\":400000000}}",
         ),
     ] {
         assert!(rt; is_measured(rt, layer, holes, text)?);
@@ -218,7 +218,7 @@ fn is_waived_so<'a>(
     };
     let written = format!(in rt.alloc(); "{json}")?;
     let wanted = format!(in rt.alloc();
-        "{{\"format\":\"ringcheck\",\"version\":1,\"result\":\"{word}\",{HEAD}{findings}]}}\n"
+        "{{\"format\":\"ringcheck\",\"version\":2,\"result\":\"{word}\",{HEAD}{findings}]}}\n"
     )?;
     Ok(written.as_str() == wanted.as_str())
 }
@@ -247,15 +247,39 @@ fn tell_in_macro(report: &mut BoardReport) -> Result<(), Fail> {
     Ok(())
 }
 
+/// The hole in a macro flash as JSON, after the number of its finding.
 const IN_MACRO: &str =
-    "{\"kind\":\"ring\",\"layer\":1,\"at\":{\"drill\":4,\"hole\":7,\"from_pm\":[142240000000,-97790000000],\"to_pm\":[142240000000,-97790000000],\"diameter_pm\":750000000},\"has_pm\":null,\"lacks_pm\":null,\"cause\":\"macro\",\"flash\":156,\"waived\":null}";
+    ",\"layer\":1,\"at\":{\"drill\":4,\"hole\":7,\"from_pm\":[142240000000,-97790000000],\"to_pm\":[142240000000,-97790000000],\"diameter_pm\":750000000},\"has_pm\":null,\"lacks_pm\":null,\"cause\":\"macro\",\"flash\":156,\"waived\":null}";
 
 #[test]
 fn reports_are_printed(rt: HostRuntime) -> Result<(), Fail> {
     let mut report = nothing(rt.alloc(), 100_000_000, 250_000_000, NO_RING)?;
     assert!(rt; is_printed(rt, &report, "pass", "")?);
     tell_in_macro(&mut report)?;
-    assert!(rt; is_printed(rt, &report, "findings", IN_MACRO)?);
+    let finding = format!(in rt.alloc(); "{{\"kind\":\"ring\",\"number\":1{IN_MACRO}")?;
+    assert!(rt; is_printed(rt, &report, "findings", finding.as_str())?);
+    Ok(())
+}
+
+#[test]
+fn a_span_is_printed(rt: HostRuntime) -> Result<(), Fail> {
+    let report = nothing(rt.alloc(), 100_000_000, 250_000_000, NO_RING)?;
+    let files = &[FileSum::Drill {
+        plated: true,
+        span: Span::new(2, 3),
+        round: 1,
+        slots: 0,
+    }];
+    let json = ReportJson {
+        names: &["blind"],
+        files,
+        report: &report,
+        accepted: &no_acceptances(),
+    };
+    let written = format!(in rt.alloc(); "{json}")?;
+    let part =
+        "{\"number\":1,\"role\":\"plated\",\"name\":\"blind\",\"round\":1,\"slots\":0,\"span\":[2,3]}";
+    assert!(rt; written.as_str().contains(part));
     Ok(())
 }
 
@@ -298,7 +322,7 @@ fn nothing_is_no_zero(rt: HostRuntime) -> Result<(), Fail> {
         })?;
         let number = at.place.number;
         let finding = format!(in rt.alloc();
-            "{{\"kind\":\"ring\",\"layer\":1,\"at\":{{\"drill\":2,\"hole\":{number},{text},\"waived\":null}}"
+            "{{\"kind\":\"ring\",\"number\":1,\"layer\":1,\"at\":{{\"drill\":2,\"hole\":{number},{text},\"waived\":null}}"
         )?;
         assert!(rt; is_printed(rt, &report, "findings", finding.as_str())?);
     }
@@ -310,10 +334,10 @@ fn a_long_report_is_printed(rt: HostRuntime) -> Result<(), Fail> {
     let alloc = rt.alloc();
     let mut report = nothing(alloc, 100_000_000, 250_000_000, NO_RING)?;
     let mut findings = String::new(alloc);
-    for _ in 0..40 {
+    for number in 1..=40 {
         tell_in_macro(&mut report)?;
-        findings.push_str(IN_MACRO)?;
-        findings.push_str(",")?;
+        let finding = format!(in alloc; "{{\"kind\":\"ring\",\"number\":{number}{IN_MACRO},")?;
+        findings.push_str(finding.as_str())?;
     }
     let (here, there) = (
         (50_546_000_000, 67_310_000_000),
@@ -326,7 +350,7 @@ fn a_long_report_is_printed(rt: HostRuntime) -> Result<(), Fail> {
         lack: 1,
     })?;
     findings.push_str(
-        "{\"kind\":\"gap\",\"at\":{\"drill\":3,\"hole\":213,\"from_pm\":[50546000000,67310000000],\"to_pm\":[50546000000,67310000000],\"diameter_pm\":609600000},\"and\":{\"drill\":3,\"hole\":214,\"from_pm\":[51181000000,66548000000],\"to_pm\":[51181000000,66548000000],\"diameter_pm\":609600000},\"has_pm\":382301708,\"lacks_pm\":1,\"waived\":null}",
+        "{\"kind\":\"gap\",\"number\":41,\"at\":{\"drill\":3,\"hole\":213,\"from_pm\":[50546000000,67310000000],\"to_pm\":[50546000000,67310000000],\"diameter_pm\":609600000},\"and\":{\"drill\":3,\"hole\":214,\"from_pm\":[51181000000,66548000000],\"to_pm\":[51181000000,66548000000],\"diameter_pm\":609600000},\"has_pm\":382301708,\"lacks_pm\":1,\"waived\":null}",
     )?;
     assert!(rt; is_printed(rt, &report, "findings", findings.as_str())?);
     Ok(())
@@ -344,10 +368,10 @@ fn close_pair() -> Result<GapLack, Fail> {
 
 /// A ring and a gap that are lacking, as JSON up to their reasons.
 const RING: &str =
-    "{\"kind\":\"ring\",\"layer\":1,\"at\":{\"drill\":4,\"hole\":7,\"from_pm\":[142240000000,-97790000000],\"to_pm\":[142240000000,-97790000000],\"diameter_pm\":750000000},\"has_pm\":null,\"lacks_pm\":null,\"cause\":\"macro\",\"flash\":156,\"waived\":";
+    "{\"kind\":\"ring\",\"number\":1,\"layer\":1,\"at\":{\"drill\":4,\"hole\":7,\"from_pm\":[142240000000,-97790000000],\"to_pm\":[142240000000,-97790000000],\"diameter_pm\":750000000},\"has_pm\":null,\"lacks_pm\":null,\"cause\":\"macro\",\"flash\":156,\"waived\":";
 
 const GAP: &str =
-    "{\"kind\":\"gap\",\"at\":{\"drill\":2,\"hole\":1,\"from_pm\":[0,0],\"to_pm\":[0,0],\"diameter_pm\":400000000},\"and\":{\"drill\":2,\"hole\":2,\"from_pm\":[0,0],\"to_pm\":[0,0],\"diameter_pm\":400000000},\"has_pm\":-400000000,\"lacks_pm\":650000000,\"waived\":";
+    "{\"kind\":\"gap\",\"number\":2,\"at\":{\"drill\":2,\"hole\":1,\"from_pm\":[0,0],\"to_pm\":[0,0],\"diameter_pm\":400000000},\"and\":{\"drill\":2,\"hole\":2,\"from_pm\":[0,0],\"to_pm\":[0,0],\"diameter_pm\":400000000},\"has_pm\":-400000000,\"lacks_pm\":650000000,\"waived\":";
 
 #[test]
 fn a_waiver_of_nothing_leaves_a_pass(rt: HostRuntime) -> Result<(), Fail> {

@@ -126,23 +126,25 @@ fn a_limited_report_is_printed(rt: HostRuntime) -> Result<(), Fail> {
             cause: RingCause::OffCentre(place),
         })?;
     }
-    let text = "ring 0.1, gap 0.25\n\
-        F_Cu: 24 of 87 rings lacking\n  \
-        hole 10 of StickHub-PTH, 0.3 at 143.745,-99.547: ring 0.099625866, lacks 0.000374134, off centre: flash 150, disc 0.5x0.5, hole off by -0.00001,-0.000374\n  \
-        hole 22 of StickHub-PTH, 0.3 at 146.18,-93.072: ring 0.099760981, lacks 0.000239019, off centre: flash 121, disc 0.5x0.5, hole off by -0.000031,0.000237\n  \
+    let text = "rules: annular ring 0.1 mm, hole to hole 0.25 mm\n\
+        annular ring on F_Cu: 24 of 87 holes below the rule\n  \
+        #1 hole 10 of StickHub-PTH, 0.3 at 143.745,-99.547: annular ring 0.099625866 (rule 0.1), off centre: flash 150, disc 0.5x0.5, hole off by -0.00001,-0.000374\n  \
+        #2 hole 22 of StickHub-PTH, 0.3 at 146.18,-93.072: annular ring 0.099760981 (rule 0.1), off centre: flash 121, disc 0.5x0.5, hole off by -0.000031,0.000237\n  \
         and 22 more\n\
-        B_Cu: 24 of 87 rings lacking\n  \
+        annular ring on B_Cu: 24 of 87 holes below the rule\n  \
         and 24 more\n\
-        0 gaps lacking\n\
+        hole to hole: 0 gaps too small\n\
+        F_Cu, 0.3: 24 holes below the rule, smallest ring 0.099394596\n\
+        B_Cu, 0.3: 24 holes below the rule, smallest ring 0.099394596\n\
         48 off centre: the pad is large enough for a hole at its centre; drill files are rounded: see `ringcheck explain ring`\n\
-        rings lack 0.000001415 to 0.000605404\n\
-        this board meets ring 0.099394596, gap 0.3\n\
+        smallest ring 0.099394596 (rule 0.1)\n\
+        this board meets annular ring 0.099394596, hole to hole 0.3\n\
         FINDINGS 48\n";
     assert!(rt; is_printed(rt, &STICK, &report, Some(2), text)?);
     Ok(())
 }
 
-/// Whether a report on files of these names begins with these rules, a line, and another.
+/// Whether a report on files of these names begins with some lines, and another.
 fn begins_with(
     rt: HostRuntime,
     names: &[&str],
@@ -213,7 +215,7 @@ const LINES: [(HoleRow, CauseRow, &str); 11] = [
             -101_600_000,
             201_600_000,
         ),
-        "  hole 213 of drill, 0.6096 at 50.546,67.31: ring -0.1016, lacks 0.2016, pad too small: flash 947, disc 0.4064x0.4064, hole off by 0,0\n",
+        "  #1 hole 213 of drill, 0.6096 at 50.546,67.31: annular ring -0.1016 (rule 0), pad too small: flash 947, disc 0.4064x0.4064, hole off by 0,0\n",
     ),
     (
         (
@@ -224,7 +226,7 @@ const LINES: [(HoleRow, CauseRow, &str); 11] = [
             750_000_000,
         ),
         CauseRow::Other(Why::Macro, 156),
-        "  hole 7 of pic_programmer-PTH, 0.75 at 142.24,-97.79: no ring, only a macro flash: flash 156\n",
+        "  #1 hole 7 of pic_programmer-PTH, 0.75 at 142.24,-97.79: annular ring not judged, only a macro flash: flash 156\n",
     ),
     (
         ("pth", 1, (0, 0), (0, 0), 400_000_000),
@@ -235,17 +237,17 @@ const LINES: [(HoleRow, CauseRow, &str); 11] = [
             124_999_000,
             1_000,
         ),
-        "  hole 1 of pth, 0.4 at 0,0: ring 0.124999, lacks 0.000001, off centre: flash 1, rect 0.65x0.65, hole off by -0.000001,0\n",
+        "  #1 hole 1 of pth, 0.4 at 0,0: annular ring 0.124999 (rule 0), off centre: flash 1, rect 0.65x0.65, hole off by -0.000001,0\n",
     ),
     (
         OBLIQUE,
         CauseRow::Oblique,
-        "  hole 3 of pth, 0.5 at 0,0 to 2,1: no ring, oblique slot\n",
+        "  #1 hole 3 of pth, 0.5 at 0,0 to 2,1: annular ring not judged, oblique slot\n",
     ),
     (
         OBLIQUE,
         CauseRow::NoFlash,
-        "  hole 3 of pth, 0.5 at 0,0 to 2,1: no ring, no pad\n",
+        "  #1 hole 3 of pth, 0.5 at 0,0 to 2,1: missing pad\n",
     ),
     (
         SLOT,
@@ -256,7 +258,7 @@ const LINES: [(HoleRow, CauseRow, &str); 11] = [
             120_000_000,
             5_000_000,
         ),
-        "  hole 1 of pth, 0.5 at 0,0 to 2,0: ring 0.12, lacks 0.005, pad too small: flash 1, obround 2.74x0.75, hole off by 0,0\n",
+        "  #1 hole 1 of pth, 0.5 at 0,0 to 2,0: annular ring 0.12 (rule 0), pad too small: flash 1, obround 2.74x0.75, hole off by 0,0\n",
     ),
     (
         SLOT,
@@ -267,27 +269,27 @@ const LINES: [(HoleRow, CauseRow, &str); 11] = [
             -250_000_000,
             375_000_000,
         ),
-        "  hole 1 of pth, 0.5 at 0,0 to 2,0: ring -0.25, lacks 0.375, off centre: flash 1, disc 4x4, hole off by 1,0\n",
+        "  #1 hole 1 of pth, 0.5 at 0,0 to 2,0: annular ring -0.25 (rule 0), off centre: flash 1, disc 4x4, hole off by 1,0\n",
     ),
     (
         SLOT,
         CauseRow::Other(Why::Polygon, 7),
-        "  hole 1 of pth, 0.5 at 0,0 to 2,0: no ring, only a polygon flash: flash 7\n",
+        "  #1 hole 1 of pth, 0.5 at 0,0 to 2,0: annular ring not judged, only a polygon flash: flash 7\n",
     ),
     (
         SLOT,
         CauseRow::Other(Why::Holed, 7),
-        "  hole 1 of pth, 0.5 at 0,0 to 2,0: no ring, only a holed flash: flash 7\n",
+        "  #1 hole 1 of pth, 0.5 at 0,0 to 2,0: annular ring not judged, only a holed flash: flash 7\n",
     ),
     (
         SLOT,
         CauseRow::Other(Why::Scaled, 7),
-        "  hole 1 of pth, 0.5 at 0,0 to 2,0: no ring, only a scaled flash: flash 7\n",
+        "  #1 hole 1 of pth, 0.5 at 0,0 to 2,0: annular ring not judged, only a scaled flash: flash 7\n",
     ),
     (
         SLOT,
         CauseRow::Other(Why::Turned, 7),
-        "  hole 1 of pth, 0.5 at 0,0 to 2,0: no ring, only a turned flash: flash 7\n",
+        "  #1 hole 1 of pth, 0.5 at 0,0 to 2,0: annular ring not judged, only a turned flash: flash 7\n",
     ),
 ];
 
@@ -301,7 +303,8 @@ fn is_ring_line(rt: HostRuntime, hole: HoleRow, cause: CauseRow, text: &str) -> 
         at: slot_at(1, number, from, to, diameter)?,
         cause: cause_of(cause)?,
     })?;
-    let first = "ring 0, gap 0.000000001\ntop: 1 of 1 rings lacking\n";
+    let first =
+        "rules: annular ring 0 mm, hole to hole 0.000000001 mm\nannular ring on top: 1 of 1 holes below the rule\n";
     Ok(begins_with(rt, &["top", drill], &report, first, text)?)
 }
 
@@ -318,8 +321,8 @@ fn is_scale_line(rt: HostRuntime, factor: UnitFactor, text: &str) -> Result<bool
     let line = UnitMistake { factor, ..TENTH };
     let mut report = nothing(rt.alloc(), 0, 1, meets(0, 1))?;
     report.scales.push(line)?;
-    let first = "ring 0, gap 0.000000001\n0 gaps lacking\n";
-    Ok(begins_with(rt, &["top", "pth"], &report, first, text)?)
+    let after = "rules: annular ring 0 mm, hole to hole 0.000000001 mm\n";
+    Ok(begins_with(rt, &["top", "pth"], &report, text, after)?)
 }
 
 #[test]
@@ -327,15 +330,15 @@ fn factors_are_printed(rt: HostRuntime) -> Result<(), Fail> {
     for &(factor, text) in &[
         (
             UnitFactor::Tenth,
-            "pth: 3 holes have no pad; at 0.1 times their coordinates 0 would have none\n",
+            "pth: coordinates look 10 times too large: 3 holes have no pad; with coordinates times 0.1 it would be 0\n",
         ),
         (
             UnitFactor::Inch,
-            "pth: 3 holes have no pad; at 25.4 times their coordinates 0 would have none\n",
+            "pth: coordinates look 25.4 times too small: 3 holes have no pad; with coordinates times 25.4 it would be 0\n",
         ),
         (
             UnitFactor::PerInch,
-            "pth: 3 holes have no pad; at 1/25.4 times their coordinates 0 would have none\n",
+            "pth: coordinates look 25.4 times too large: 3 holes have no pad; with coordinates times 1/25.4 it would be 0\n",
         ),
     ] {
         assert!(rt; is_scale_line(rt, factor, text)?, "{text}");
@@ -361,17 +364,17 @@ fn mixed_layers(alloc: Global) -> Result<BoardReport, Fail> {
 #[test]
 fn mixed_layers_are_printed_one_by_one(rt: HostRuntime) -> Result<(), Fail> {
     let report = mixed_layers(rt.alloc())?;
-    let text = "ring 0.1, gap 0.25\n\
-        F_Cu: 2 of 9 rings lacking\n  \
-        hole 2 of StickHub-PTH, 0.3 at 0,0: no ring, no pad\n  \
-        hole 4 of StickHub-PTH, 0.3 at 0,0: no ring, no pad\n\
-        B_Cu: 3 of 8 rings lacking\n  \
-        hole 1 of StickHub-PTH, 0.3 at 0,0: no ring, no pad\n  \
-        hole 3 of StickHub-PTH, 0.3 at 0,0: no ring, no pad\n  \
+    let text = "rules: annular ring 0.1 mm, hole to hole 0.25 mm\n\
+        annular ring on F_Cu: 2 of 9 holes below the rule\n  \
+        #2 hole 2 of StickHub-PTH, 0.3 at 0,0: missing pad\n  \
+        #4 hole 4 of StickHub-PTH, 0.3 at 0,0: missing pad\n\
+        annular ring on B_Cu: 3 of 8 holes below the rule\n  \
+        #1 hole 1 of StickHub-PTH, 0.3 at 0,0: missing pad\n  \
+        #3 hole 3 of StickHub-PTH, 0.3 at 0,0: missing pad\n  \
         and 1 more\n\
-        0 gaps lacking\n\
-        5 no pad: no pad reaches the hole's centre: removed or painted pad, plane, other origin or format: see `ringcheck explain none`\n\
-        this board meets ring 0, gap 0.25\n\
+        hole to hole: 0 gaps too small\n\
+        5 missing pad: no pad reaches the hole's centre: removed or painted pad, plane, other origin or format: see `ringcheck explain none`\n\
+        this board meets annular ring 0, hole to hole 0.25\n\
         FINDINGS 5\n";
     assert!(rt; is_printed(rt, &STICK, &report, Some(4), text)?);
     Ok(())
@@ -392,12 +395,12 @@ fn a_hole_hit_twice_is_printed(rt: HostRuntime) -> Result<(), Fail> {
         gap: -400_000_000,
         lack: 650_000_000,
     })?;
-    let text = "ring 0.125, gap 0.25\n\
-        top: 0 of 2 rings lacking\n\
-        1 gap lacking\n  \
-        hole 1 of pth, 0.4 at 0,0, and hole 2 of pth, 0.4 at 0,0: gap -0.4, lacks 0.65\n\
-        gaps lack 0.65 to 0.65\n\
-        this board meets ring 0.125, gap -0.4\n\
+    let text = "rules: annular ring 0.125 mm, hole to hole 0.25 mm\n\
+        annular ring on top: 0 of 2 holes below the rule\n\
+        hole to hole: 1 gap too small\n  \
+        #1 hole 1 of pth, 0.4 at 0,0, and hole 2 of pth, 0.4 at 0,0: gap -0.4 (rule 0.25)\n\
+        smallest gap -0.4 (rule 0.25)\n\
+        this board meets annular ring 0.125, hole to hole -0.4\n\
         FINDINGS 1\n";
     assert!(rt; is_printed(rt, &["top", "pth"], &report, None, text)?);
     Ok(())
@@ -412,7 +415,7 @@ fn a_package_that_passes_is_printed(rt: HostRuntime) -> Result<(), Fail> {
     };
     let report = nothing(rt.alloc(), 0, 1, any)?;
     let text =
-        "ring 0, gap 0.000000001\n0 gaps lacking\nthis board meets ring any, gap any\nPASS\n";
+        "rules: annular ring 0 mm, hole to hole 0.000000001 mm\nhole to hole: 0 gaps too small\nthis board meets annular ring any, hole to hole any\nPASS\n";
     assert!(rt; is_printed(rt, &[], &report, Some(0), text)?);
     Ok(())
 }
@@ -470,8 +473,10 @@ fn causes_and_scales_are_printed(rt: HostRuntime) -> Result<(), Fail> {
     let mut report = nothing(rt.alloc(), 150_000_000, 250_000_000, board)?;
     tell_each_cause(&mut report)?;
     report.scales.push(TENTH)?;
-    let text = "ring 0.15, gap 0.25\n\
-        0 gaps lacking\n\
+    let text =
+        "pth: coordinates look 10 times too small: 3 holes have no pad; with coordinates times 10 it would be 0\n\
+        rules: annular ring 0.15 mm, hole to hole 0.25 mm\n\
+        hole to hole: 0 gaps too small\n\
         1 pad too small: the pad's own radius or half side is less than the hole's radius and the ring\n\
         1 off centre: the pad is large enough for a hole at its centre; drill files are rounded: see `ringcheck explain ring`\n\
         2 only a macro flash: flashes by a macro are not judged: choose circle, oval or rectangle: see `ringcheck explain macro`\n\
@@ -479,11 +484,10 @@ fn causes_and_scales_are_printed(rt: HostRuntime) -> Result<(), Fail> {
         1 only a holed flash: flashes with a hole are not judged\n\
         1 only a scaled flash: scaled flashes are not judged\n\
         1 only a turned flash: flashes turned by other than quarters are not judged\n\
-        1 no pad: no pad reaches the hole's centre: removed or painted pad, plane, other origin or format: see `ringcheck explain none`\n\
+        1 missing pad: no pad reaches the hole's centre: removed or painted pad, plane, other origin or format: see `ringcheck explain none`\n\
         1 oblique slot: plated slots that lie along no axis are not judged\n\
-        rings lack 0.05 to 0.050605404\n\
-        pth: 3 holes have no pad; at 10 times their coordinates 0 would have none\n\
-        this board meets ring none, gap 1.046051224; where a pad is, ring 0.275\n\
+        smallest ring 0.099394596 (rule 0.15)\n\
+        this board meets annular ring none, hole to hole 1.046051224; where a pad is, annular ring 0.275\n\
         FINDINGS 10\n";
     assert!(rt; is_printed(rt, &["top", "pth"], &report, None, text)?);
     Ok(())
@@ -540,18 +544,18 @@ const WAIVED: [WaivedRow; 4] = [
         },
         None,
         6,
-        "ring 0.1, gap 0.25\n\
-        top_layer: 3 of 245 rings lacking, 3 waived\n  \
-        hole 1 of pth, 0.4 at 0,0: no ring, no pad, waived: milled\n  \
-        hole 2 of pth, 0.4 at 0,0: no ring, no pad, waived: milled\n  \
-        hole 3 of pth, 0.4 at 0,0: no ring, no pad, waived: by hand\n\
-        3 gaps lacking, 3 waived\n  \
-        hole 1 of pth, 0.4 at 0,0, and hole 1 of pth, 0.4 at 0,0: gap -0.4, lacks 0.65, waived: drilled \"twice\"\n  \
-        hole 2 of pth, 0.4 at 0,0, and hole 2 of pth, 0.4 at 0,0: gap -0.4, lacks 0.65, waived: x\n  \
-        hole 3 of pth, 0.4 at 0,0, and hole 3 of pth, 0.4 at 0,0: gap -0.4, lacks 0.65, waived: y\n\
-        3 no pad: no pad reaches the hole's centre: removed or painted pad, plane, other origin or format: see `ringcheck explain none`\n\
-        gaps lack 0.65 to 0.65\n\
-        this board meets ring 0.1, gap -0.4\n\
+        "rules: annular ring 0.1 mm, hole to hole 0.25 mm\n\
+        annular ring on top_layer: 3 of 245 holes below the rule, 3 waived\n  \
+        #1 hole 1 of pth, 0.4 at 0,0: missing pad, waived: milled\n  \
+        #2 hole 2 of pth, 0.4 at 0,0: missing pad, waived: milled\n  \
+        #3 hole 3 of pth, 0.4 at 0,0: missing pad, waived: by hand\n\
+        hole to hole: 3 gaps too small, 3 waived\n  \
+        #4 hole 1 of pth, 0.4 at 0,0, and hole 1 of pth, 0.4 at 0,0: gap -0.4 (rule 0.25), waived: drilled \"twice\"\n  \
+        #5 hole 2 of pth, 0.4 at 0,0, and hole 2 of pth, 0.4 at 0,0: gap -0.4 (rule 0.25), waived: x\n  \
+        #6 hole 3 of pth, 0.4 at 0,0, and hole 3 of pth, 0.4 at 0,0: gap -0.4 (rule 0.25), waived: y\n\
+        3 missing pad: no pad reaches the hole's centre: removed or painted pad, plane, other origin or format: see `ringcheck explain none`\n\
+        smallest gap -0.4 (rule 0.25)\n\
+        this board meets annular ring 0.1, hole to hole -0.4\n\
         waiver 8 waives nothing\n\
         WAIVED 6\n",
     ),
@@ -563,16 +567,16 @@ const WAIVED: [WaivedRow; 4] = [
         },
         Some(2),
         5,
-        "ring 0.1, gap 0.25\n\
-        top_layer: 3 of 245 rings lacking, 2 waived\n  \
-        hole 1 of pth, 0.4 at 0,0: no ring, no pad, waived: milled\n  \
-        hole 2 of pth, 0.4 at 0,0: no ring, no pad\n  \
+        "rules: annular ring 0.1 mm, hole to hole 0.25 mm\n\
+        annular ring on top_layer: 3 of 245 holes below the rule, 2 waived\n  \
+        #1 hole 1 of pth, 0.4 at 0,0: missing pad, waived: milled\n  \
+        #2 hole 2 of pth, 0.4 at 0,0: missing pad\n  \
         and 1 more\n\
-        3 gaps lacking, 3 waived\n  \
+        hole to hole: 3 gaps too small, 3 waived\n  \
         and 3 more\n\
-        3 no pad: no pad reaches the hole's centre: removed or painted pad, plane, other origin or format: see `ringcheck explain none`\n\
-        gaps lack 0.65 to 0.65\n\
-        this board meets ring 0.1, gap -0.4\n\
+        3 missing pad: no pad reaches the hole's centre: removed or painted pad, plane, other origin or format: see `ringcheck explain none`\n\
+        smallest gap -0.4 (rule 0.25)\n\
+        this board meets annular ring 0.1, hole to hole -0.4\n\
         waiver 2 waives nothing\n\
         waiver 9 waives nothing\n\
         FINDINGS 1\n",
@@ -585,17 +589,17 @@ const WAIVED: [WaivedRow; 4] = [
         },
         Some(4),
         3,
-        "ring 0.1, gap 0.25\n\
-        top_layer: 3 of 245 rings lacking, 3 waived\n  \
-        hole 1 of pth, 0.4 at 0,0: no ring, no pad, waived: milled\n  \
-        hole 2 of pth, 0.4 at 0,0: no ring, no pad, waived: milled\n  \
-        hole 3 of pth, 0.4 at 0,0: no ring, no pad, waived: by hand\n\
-        3 gaps lacking\n  \
-        hole 1 of pth, 0.4 at 0,0, and hole 1 of pth, 0.4 at 0,0: gap -0.4, lacks 0.65\n  \
+        "rules: annular ring 0.1 mm, hole to hole 0.25 mm\n\
+        annular ring on top_layer: 3 of 245 holes below the rule, 3 waived\n  \
+        #1 hole 1 of pth, 0.4 at 0,0: missing pad, waived: milled\n  \
+        #2 hole 2 of pth, 0.4 at 0,0: missing pad, waived: milled\n  \
+        #3 hole 3 of pth, 0.4 at 0,0: missing pad, waived: by hand\n\
+        hole to hole: 3 gaps too small\n  \
+        #4 hole 1 of pth, 0.4 at 0,0, and hole 1 of pth, 0.4 at 0,0: gap -0.4 (rule 0.25)\n  \
         and 2 more\n\
-        3 no pad: no pad reaches the hole's centre: removed or painted pad, plane, other origin or format: see `ringcheck explain none`\n\
-        gaps lack 0.65 to 0.65\n\
-        this board meets ring 0.1, gap -0.4\n\
+        3 missing pad: no pad reaches the hole's centre: removed or painted pad, plane, other origin or format: see `ringcheck explain none`\n\
+        smallest gap -0.4 (rule 0.25)\n\
+        this board meets annular ring 0.1, hole to hole -0.4\n\
         FINDINGS 3\n",
     ),
     (
@@ -606,14 +610,14 @@ const WAIVED: [WaivedRow; 4] = [
         },
         Some(0),
         1,
-        "ring 0.1, gap 0.25\n\
-        top_layer: 3 of 245 rings lacking\n  \
+        "rules: annular ring 0.1 mm, hole to hole 0.25 mm\n\
+        annular ring on top_layer: 3 of 245 holes below the rule\n  \
         and 3 more\n\
-        3 gaps lacking, 1 waived\n  \
+        hole to hole: 3 gaps too small, 1 waived\n  \
         and 3 more\n\
-        3 no pad: no pad reaches the hole's centre: removed or painted pad, plane, other origin or format: see `ringcheck explain none`\n\
-        gaps lack 0.65 to 0.65\n\
-        this board meets ring 0.1, gap -0.4\n\
+        3 missing pad: no pad reaches the hole's centre: removed or painted pad, plane, other origin or format: see `ringcheck explain none`\n\
+        smallest gap -0.4 (rule 0.25)\n\
+        this board meets annular ring 0.1, hole to hole -0.4\n\
         FINDINGS 5\n",
     ),
 ];
@@ -649,7 +653,7 @@ fn a_waiver_that_waives_nothing_leaves_a_pass(rt: HostRuntime) -> Result<(), Fai
         },
         None,
         0,
-        "ring 0, gap 0.000000001\n0 gaps lacking\nthis board meets ring 0, gap 0.000000001\nwaiver 2 waives nothing\nPASS\n",
+        "rules: annular ring 0 mm, hole to hole 0.000000001 mm\nhole to hole: 0 gaps too small\nthis board meets annular ring 0, hole to hole 0.000000001\nwaiver 2 waives nothing\nPASS\n",
     );
     assert!(rt; is_waived_so(rt, &report, row)?);
     Ok(())

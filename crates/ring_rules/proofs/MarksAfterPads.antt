@@ -1,45 +1,82 @@
 -- The marks that are left after all pads.
-use Rattle.std.proofs.Common.{◌≡◌, ℕ, ◌+◌, ◌<◌, inl, inr, Bool, false, List, [], ◌∷◌, ◌++◌, length, get_or, set, map, sym, ap, subst, ◌∙◌, arith}
-use Rattle.std.specs.Prelude.{◌&&◌, not}
+use Rattle.std.proofs.Common.{◌≡◌, ℕ, ◌+◌, ◌<◌, inl, inr, Bool, true, false, List, [], ◌∷◌, ◌++◌, length, get_or, set, map, refl, sym, ap, subst, ◌∙◌, arith}
+use Rattle.std.specs.Prelude.{◌&&◌, ◌||◌, not}
+use lib.ListN.{replicate}
 use Rattle.std.specs.List.{list_any}
 use Rattle.std.proofs.lemmas.Bool.{cases_eq, cases_lt}
-use Rattle.std.proofs.lemmas.List.{get_or_default, get_or-map, length-map, same_lists, get_or-set_same, get_or-set_other, get_or_append_left, get_or_push}
+use Rattle.std.proofs.lemmas.List.{get_or_default, get_or-map, length-map, same_lists, get_or-set_same, get_or-set_other, get_or_append_left, get_or_push, get_or-replicate}
+use Rattle.std.proofs.lemmas.List.Folds.{list_any-append}
 use Rattle.grid_units.specs.Points.{GridPoint}
 use Rattle.grid_units.specs.Holes.{GridHole}
 use Rattle.grid_units.specs.Spans.{is_in_span}
 use Rattle.ring_rules.specs.Findings.{is_ring_finding}
-use Rattle.ring_rules.specs.Places.{default_hole, hole_at}
+use Rattle.ring_rules.specs.Places.{default_hole}
 use Rattle.ring_rules.specs.Spots.{default_spot, spot_at, AreSpotsOf}
+use Rattle.ring_rules.specs.Search.{drilled_at}
 use Rattle.ring_rules.specs.Inner.Marks.{is_marked, gives_ring}
+use Rattle.ring_rules.specs.Inner.Trees.{AreClosedUnmarked}
+use Rattle.ring_rules.specs.declared.axis.Axis.{Axis}
+use Rattle.ring_rules.specs.declared.tree.Node.{Node}
 use Rattle.ring_rules.specs.declared.finding.Drilled.{Drilled}
 use Rattle.ring_rules.specs.declared.spots.Spot.{Spot}
 use Rattle.ring_rules.proofs.GivesRingLemmas.{given_by_none}
 
--- whether the hole at a place lacks its ring
-abbrev pub lacks : {S : Type 0} → (S → GridPoint → ℕ → Bool) → ℕ → ℕ → List S → List Drilled → ℕ → Bool
-lacks covers ring layer pads holes k = is_ring_finding covers ring layer pads (get_or holes k default_hole)
+and_true : (b : Bool) → (b && true) ≡ b
+and_true true = refl
+and_true false = refl
 
-module _ {S : Type 0} (covers : S → GridPoint → ℕ → Bool) (ring layer : ℕ) (pads : List S) (holes : List Drilled) (spots : List Spot) (listed : AreSpotsOf holes spots) where
-  -- of the spots whose holes need a ring, those to which no pad gives it are the ones that lack it
-  pub lacking_spots : (first own left : List Bool) → first ≡ map (λ d. d.plated && is_in_span layer d.span) holes → ((i : ℕ) → i < length spots → is_marked own i ≡ is_marked first (spot_at spots i).place)
-      → ((i : ℕ) → i < length spots → is_marked left i ≡ (is_marked own i && not (list_any (gives_ring covers ring (spot_at spots i).hole) pads)))
-      → (i : ℕ) → i < length spots → is_marked left i ≡ lacks covers ring layer pads holes (spot_at spots i).place
-  lacking_spots first own left is needs marked i h =
-      let of_list = listed.each i h in
-      marked i h
-      ∙ (ap (λ (m : Bool). m && not (list_any (gives_ring covers ring (spot_at spots i).hole) pads)) (needs i h ∙ (ap (λ (ms : List Bool). get_or ms (spot_at spots i).place false) is ∙ get_or-map (λ (e : Drilled). e.plated && is_in_span layer e.span) holes (spot_at spots i).place default_hole false of_list.listed))
-      ∙ (ap (λ (g : GridHole). ((get_or holes (spot_at spots i).place default_hole).plated && is_in_span layer (get_or holes (spot_at spots i).place default_hole).span) && not (list_any (gives_ring covers ring g) pads)) of_list.same
-      ∙ ap (λ (b : Bool). ((get_or holes (spot_at spots i).place default_hole).plated && is_in_span layer (get_or holes (spot_at spots i).place default_hole).span) && b) (given_by_none covers ring (hole_at holes (spot_at spots i).place) pads)))
+and_nor : (n a b : Bool) → ((n && not a) && not b) ≡ (n && not (a || b))
+and_nor true true b = refl
+and_nor true false b = refl
+and_nor false a b = refl
 
-  -- each hole has a spot
-  pub lacking_places : (lacking : List Bool) → length lacking ≡ length holes → ((i : ℕ) → i < length spots → is_marked lacking (spot_at spots i).place ≡ lacks covers ring layer pads holes (spot_at spots i).place) → lacking ≡ map (is_ring_finding covers ring layer pads) holes
-  lacking_places lacking size put =
-      same_lists lacking (map (is_ring_finding covers ring layer pads) holes) (size ∙ sym (length-map holes (is_ring_finding covers ring layer pads))) (λ k d h.
-      let inside : k < length holes = omega (arith, h, size) in
-      let has = listed.all k inside in
-      get_or_default lacking k d false h
-      ∙ (subst (λ (n : ℕ). is_marked lacking n ≡ lacks covers ring layer pads holes n) has.2 (put has.0 has.1)
-      ∙ sym (get_or-map (is_ring_finding covers ring layer pads) holes k default_hole d inside)))
+module _ {S : Type 0} (covers : S → GridPoint → ℕ → Bool) (ring layer : ℕ) where
+  -- without pads each hole that needs a ring lacks it
+  lacks_without : (d : Drilled) → (d.plated && is_in_span layer d.span) ≡ is_ring_finding covers ring layer [] d
+  lacks_without d = sym (and_true (d.plated && is_in_span layer d.span)) ∙ ap (λ (b : Bool). (d.plated && is_in_span layer d.span) && b) (given_by_none covers ring d.hole [])
+
+  -- a hole lacks its ring among more pads if it lacked it, and none of the others gives it
+  lacks_among_more : (d : Drilled) (pads more : List S) → (is_ring_finding covers ring layer pads d && not (list_any (gives_ring covers ring d.hole) more)) ≡ is_ring_finding covers ring layer (pads ++ more) d
+  lacks_among_more d pads more =
+      ap (λ (b : Bool). ((d.plated && is_in_span layer d.span) && b) && not (list_any (gives_ring covers ring d.hole) more)) (sym (given_by_none covers ring d.hole pads))
+      ∙ (and_nor (d.plated && is_in_span layer d.span) (list_any (gives_ring covers ring d.hole) pads) (list_any (gives_ring covers ring d.hole) more)
+      ∙ (ap (λ (b : Bool). (d.plated && is_in_span layer d.span) && not b) (sym (list_any-append (gives_ring covers ring d.hole) pads more))
+      ∙ ap (λ (b : Bool). (d.plated && is_in_span layer d.span) && b) (given_by_none covers ring d.hole (pads ++ more))))
+
+  module _ (holes : List Drilled) (spots : List Spot) (listed : AreSpotsOf holes spots) where
+    -- the marks before any pad
+    pub marked_first : (first own : List Bool) → first ≡ map (λ d. d.plated && is_in_span layer d.span) holes → ((i : ℕ) → i < length spots → is_marked own i ≡ is_marked first (spot_at spots i).place)
+        → (i : ℕ) → i < length spots → is_marked own i ≡ is_ring_finding covers ring layer [] (drilled_at holes (spot_at spots i).place)
+    marked_first first own is needs i h =
+        needs i h
+        ∙ (ap (λ (ms : List Bool). get_or ms (spot_at spots i).place false) is
+        ∙ (get_or-map (λ (e : Drilled). e.plated && is_in_span layer e.span) holes (spot_at spots i).place default_hole false (listed.each i h).listed
+        ∙ lacks_without (drilled_at holes (spot_at spots i).place)))
+
+    -- the marks after more pads
+    pub marked_more : (before after : List Bool) (pads more : List S) → ((i : ℕ) → i < length spots → is_marked before i ≡ is_ring_finding covers ring layer pads (drilled_at holes (spot_at spots i).place))
+        → ((i : ℕ) → i < length spots → is_marked after i ≡ (is_marked before i && not (list_any (gives_ring covers ring (spot_at spots i).hole) more)))
+        → (i : ℕ) → i < length spots → is_marked after i ≡ is_ring_finding covers ring layer (pads ++ more) (drilled_at holes (spot_at spots i).place)
+    marked_more before after pads more was now i h =
+        now i h
+        ∙ (ap (λ (m : Bool). m && not (list_any (gives_ring covers ring (spot_at spots i).hole) more)) (was i h)
+        ∙ (ap (λ (g : GridHole). is_ring_finding covers ring layer pads (drilled_at holes (spot_at spots i).place) && not (list_any (gives_ring covers ring g) more)) (listed.each i h).same
+        ∙ lacks_among_more (drilled_at holes (spot_at spots i).place) pads more))
+
+-- each hole has a spot
+pub marked_places : (test : Drilled → Bool) (holes : List Drilled) (spots : List Spot) → AreSpotsOf holes spots → (lacking : List Bool) → length lacking ≡ length holes
+    → ((i : ℕ) → i < length spots → is_marked lacking (spot_at spots i).place ≡ test (drilled_at holes (spot_at spots i).place)) → lacking ≡ map test holes
+marked_places test holes spots listed lacking size put =
+    same_lists lacking (map test holes) (size ∙ sym (length-map holes test)) (λ k d h.
+    let inside : k < length holes = omega (arith, h, size) in
+    let has = listed.all k inside in
+    get_or_default lacking k d false h
+    ∙ (subst (λ (n : ℕ). is_marked lacking n ≡ test (drilled_at holes n)) has.2 (put has.0 has.1)
+    ∙ sym (get_or-map test holes k default_hole d inside)))
+
+-- where all nodes are open, none is closed
+pub all_open : (x y : Axis) (spots : List Spot) (nodes : List Node) (marks : List Bool) → AreClosedUnmarked x y spots nodes (replicate (length nodes) true) marks
+all_open x y spots nodes marks i h closed = absurd (let e : true ≡ false = sym (get_or-replicate (length nodes) i true false h) ∙ closed in cc)
 
 -- one spot more that puts its mark at its place
 pub put_more : (spots : List Spot) (own marks : List Bool) (n : ℕ) (d : Spot) → n < length spots → (spot_at spots n).place < length marks → (test : ℕ → Bool) → is_marked own n ≡ test (spot_at spots n).place

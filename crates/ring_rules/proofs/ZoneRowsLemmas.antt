@@ -1,13 +1,8 @@
 -- Points of a zone are in its rows and columns.
-use Rattle.std.proofs.Common.{◌≡◌, ℕ, ℤ, ◌<◌, ◌≤◌, ◌≤ℤ◌, Bool, true, false, inl, inr, List, length, sym, arith}
+use Rattle.std.proofs.Common.{◌≡◌, ℕ, ℤ, ◌<◌, ◌≤◌, ◌≤ℤ◌, Bool, true, false, inl, inr, arith}
 use Rattle.grid_units.specs.Points.{GridPoint}
-use Rattle.ring_rules.specs.Spots.{point_at}
 use Rattle.ring_rules.specs.Cells.{place_of}
-use Rattle.ring_rules.specs.Inner.Marks.{is_marked}
 use Rattle.ring_rules.specs.Inner.Regions.{IsInRegion}
-use Rattle.ring_rules.specs.Inner.Blocks.{IsInAnyBlock, NoMarkPassesInBlocks}
-use Rattle.ring_rules.specs.declared.blocks.Block.{Block}
-use Rattle.ring_rules.specs.declared.spots.Spot.{Spot}
 use Rattle.ring_rules.specs.declared.axis.Axis.{Axis}
 use Rattle.ring_rules.proofs.BordersLemmas.{place-le}
 use Rattle.grid_units.proofs.BoolLemmas.{either}
@@ -24,7 +19,3 @@ in_rows x y top bottom left right p low high first last a b c d e f g h = record
 -- a test that fails wherever it could pass
 pub fails : (b : Bool) → (b ≡ true → b ≡ false) → b ≡ false
 fails b h = elim (either b) [ inl e ↦ h e | inr e ↦ e ]
-
-pub tried_somewhere : (test : ℕ → Bool) (x y : Axis) (spots : List Spot) (blocks : List Block) (marks : List Bool) → NoMarkPassesInBlocks test x y spots blocks (length blocks) marks → (i : ℕ) → i < length spots → IsInAnyBlock x y blocks (point_at spots i) → is_marked marks i ≡ true → test i ≡ false
-tried_somewhere test x y spots blocks marks tried i h some marked =
-    tried some.1.0 some.0 some.1.1 some.1.1 (sym some.1.2) i h some.2 marked

@@ -4,3 +4,4 @@ pub mod Marks
 pub mod ClashingPairs
 pub mod Regions
 pub mod SpotLists
+pub mod Trees

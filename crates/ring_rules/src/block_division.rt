@@ -11,6 +11,14 @@ use crate::blocks::Block;
 use crate::regions::{Region, zone_of};
 use std::alloc::{AllocError, Global};
 
+/// How many rows and columns of cells a block has: a power of two, about the fourth root of all cells.
+pub(crate) fn block_side(cells: usize) -> usize
+    ensures { 1 ≤ result }
+{
+    let bits = 64 - (cells as u64).leading_zeros();
+    1 << (bits / 4)
+}
+
 /// The block of these rows and columns.
 fn block(x: &Axis, y: &Axis, top: usize, bottom: usize, left: usize, right: usize) -> Block
     requires rows { top < bottom }

@@ -16,17 +16,27 @@ use std::alloc::{AllocError, Global};
 pub(crate) struct Chains {
     pub x: Axis,
     pub y: Axis,
-    pub head: Vec<usize>,
-    pub next: Vec<usize>,
+    pub head: Vec<u32>,
+    pub next: Vec<u32>,
 }
 
 /// The link at a place of a list of links, 0 past its end.
-pub(crate) fn link_at(links: &[usize], place: usize) -> usize
+pub(crate) fn link_at(links: &[u32], place: usize) -> usize
     ensures { result ≡ get_or links.now place 0 }
 {
     match links.get(place) {
-        Some(link) => *link,
+        Some(link) => *link as usize,
         None => 0,
+    }
+}
+
+/// A number of holes in 32 bits: there is no memory for more holes than that.
+pub(crate) fn narrow(count: usize) -> Result<u32, AllocError>
+    ensures { IfOk result (λ narrow. narrow ≡ count) }
+{
+    match u32::try_from(count) {
+        Ok(narrow) => Ok(narrow),
+        Err(_) => Err(AllocError),
     }
 }
 
@@ -56,8 +66,9 @@ pub(crate) fn chained(
     let mut next = Vec::with_capacity(alloc, holes.len())?;
     for (place, drilled) in holes.iter().enumerate() {
         let cell = cell_of(&x, &y, drilled.hole.from());
+        let link = narrow(place + 1)?;
         next.push(head[cell])?;
-        head[cell] = place + 1;
+        head[cell] = link;
     }
     Ok(Chains { x, y, head, next })
 }

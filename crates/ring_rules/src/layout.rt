@@ -1,6 +1,6 @@
 //! Cells that suit the holes of a board and the zones that are looked for.
 
-ghost use Rattle.std.specs.Prelude.{◌≡◌, ℕ, ◌+◌, ◌*◌, ◌^◌, ◌<◌, ◌≤◌, true, IfOk, length};
+ghost use Rattle.std.specs.Prelude.{◌≡◌, ℕ, ◌+◌, ◌*◌, ◌^◌, ◌<◌, ◌≤◌, true, IfOk, IfSome, length};
 ghost use Rattle.std.specs.List.{All, Contains};
 ghost use Rattle.grid_units.specs.Points.{GridPoint};
 ghost use Rattle.pad_shapes.specs.Zones.{IsInZone};
@@ -142,6 +142,30 @@ fn chains_on(
     }
 }
 
+/// The holes in even cells that suit zones about so wide and so high, in pm, unless holes crowd into few of these.
+fn even_cells(
+    alloc: Global,
+    holes: &[Drilled],
+    zone: &Zone,
+    width: u64,
+    height: u64,
+) -> Result<Option<Cells>, AllocError>
+    requires { (k : ℕ) → k < length holes.now → IsInZone zone.now (entry_at holes.now k) }
+    ensures { IfOk result (λ cells. IfSome cells (λ cells. IsSpotted cells.x cells.y cells.starts.items cells.spots.items holes.now)) }
+{
+    let spread_x = spread_x(alloc, holes)?;
+    let spread_y = spread_y(alloc, holes)?;
+    let (shift_x, shift_y) = shifts(&spread_x, &spread_y, holes.len(), width, height);
+    let x = across(alloc, zone, &spread_x, shift_x);
+    let y = along(alloc, zone, &spread_y, shift_y);
+    let even = chains_on(alloc, holes, zone, x, y)?;
+    if is_crowded(&even, holes) {
+        return Ok(None);
+    }
+    let cells = spotted(alloc, even, holes)?;
+    Ok(Some(cells))
+}
+
 /// The holes in cells that suit zones about so wide and so high, in pm. The cells are even, or uneven where holes
 /// crowd into few of the even ones.
 pub(crate) fn fitting_cells(
@@ -153,14 +177,8 @@ pub(crate) fn fitting_cells(
     ensures { IfOk result (λ cells. IsSpotted cells.x cells.y cells.starts.items cells.spots.items holes.now) }
 {
     let zone = bounds(holes);
-    let spread_x = spread_x(alloc, holes)?;
-    let spread_y = spread_y(alloc, holes)?;
-    let (shift_x, shift_y) = shifts(&spread_x, &spread_y, holes.len(), width, height);
-    let x = across(alloc, &zone, &spread_x, shift_x);
-    let y = along(alloc, &zone, &spread_y, shift_y);
-    let even = chains_on(alloc, holes, &zone, x, y)?;
-    if !is_crowded(&even, holes) {
-        return spotted(alloc, even, holes);
+    if let Some(cells) = even_cells(alloc, holes, &zone, width, height)? {
+        return Ok(cells);
     }
     let x = uneven_x(alloc, &zone, holes)?;
     let y = uneven_y(alloc, &zone, holes)?;

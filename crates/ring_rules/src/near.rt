@@ -7,8 +7,9 @@ ghost use Rattle.grid_units.specs.Holes.{GridHole};
 ghost use Rattle.grid_units.specs.Points.{abs_diff};
 ghost use Rattle.pad_shapes.specs.Zones.{IsInZone};
 ghost use Rattle.ring_rules.specs.Places.{hole_at};
-ghost use Rattle.ring_rules.specs.Spots.{AreInCells};
+ghost use Rattle.ring_rules.specs.Spots.{AreInCells, AreSpotsOf};
 ghost use Rattle.ring_rules.specs.Near.{length_of, size_of, IsWithinLimits, AreLimits, IsGapBound, AreNearer, AreWithin};
+ghost use Rattle.ring_rules.specs.Inner.SpotLists.{IsSpotted};
 ghost use Rattle.ring_rules.specs.Inner.ClashingPairs.{AddsClashes, AreSpotsWithin, IsClash, ListsClashes};
 
 use crate::cell_size::sample_index;
@@ -16,10 +17,14 @@ use crate::clashes::add_pairs;
 use crate::finding::Drilled;
 use crate::layout::{fitting_cells, no_zone};
 use crate::limits::Limits;
+use crate::regions::{Region, region_of};
 use crate::spots::Cells;
 use grid_units::{Hole, Rules};
 use pad_shapes::Zone;
 use std::alloc::{AllocError, Global};
+
+/// The most rows and spots that a hole looks at, on average, in cells that suit the search for gaps.
+const FEW_LOOKS: usize = 16;
 
 /// The longer side of a hole's core, in pm.
 fn length_of(hole: &Hole) -> u64
@@ -240,6 +245,40 @@ fn mean_zone_length(holes: &[Drilled], rules: Rules, widest: u64, longest: u64) 
     (sum / count.max(1)).saturating_mul(2)
 }
 
+/// The holes in cells that suit the zones where holes look for their neighbours.
+fn near_cells(
+    alloc: Global,
+    holes: &[Drilled],
+    rules: Rules,
+    limits: Limits,
+) -> Result<Cells, AllocError>
+    ensures { IfOk result (λ cells. IsSpotted cells.x cells.y cells.starts.items cells.spots.items holes.now) }
+{
+    let width = mean_zone_length(holes, rules, limits.radius, limits.x);
+    let height = mean_zone_length(holes, rules, limits.radius, limits.y);
+    fitting_cells(alloc, holes, width, height)
+}
+
+/// The pairs of holes that are not clear, by the holes in cells. Some may stand twice.
+pub(crate) fn clashes_in(
+    alloc: Global,
+    cells: &Cells,
+    holes: &[Drilled],
+    rules: Rules,
+    limits: Limits,
+) -> Result<Vec<(usize, usize)>, AllocError>
+    requires cells { AreInCells cells.now.x cells.now.y cells.now.starts.items cells.now.spots.items }
+    requires listed { AreSpotsOf holes.now cells.now.spots.items }
+    requires limits { AreLimits holes.now limits }
+    ensures sound { IfOk result (λ v. (p : ℕ × ℕ) → Contains v.items p → IsClash rules.gap holes.now p) }
+    ensures complete { IfOk result (λ v. (p : ℕ × ℕ) → IsClash rules.gap holes.now p → Contains v.items p) }
+{
+    let mut near = Vec::new(alloc);
+    let mut pairs = Vec::new(alloc);
+    add_all_pairs(cells, rules, limits, &mut near, &mut pairs)?;
+    Ok(pairs)
+}
+
 /// The pairs of holes that are not clear. Some may stand twice.
 pub(crate) fn clashes(
     alloc: Global,
@@ -250,11 +289,38 @@ pub(crate) fn clashes(
     ensures complete { IfOk result (λ v. (p : ℕ × ℕ) → IsClash rules.gap holes.now p → Contains v.items p) }
 {
     let limits = limits_of(holes);
-    let width = mean_zone_length(holes, rules, limits.radius, limits.x);
-    let height = mean_zone_length(holes, rules, limits.radius, limits.y);
-    let cells = fitting_cells(alloc, holes, width, height)?;
-    let mut near = Vec::new(alloc);
-    let mut pairs = Vec::new(alloc);
-    add_all_pairs(&cells, rules, limits, &mut near, &mut pairs)?;
-    Ok(pairs)
+    let cells = near_cells(alloc, holes, rules, limits)?;
+    clashes_in(alloc, &cells, holes, rules, limits)
+}
+
+/// How many rows a region has, and how many spots stand in the first 64 of them.
+fn looks_in(cells: &Cells, region: Region) -> usize
+    requires cells { AreInCells cells.now.x cells.now.y cells.now.starts.items cells.now.spots.items }
+    requires bottom { region.bottom ≤ cells.now.y.last + 1 }
+    requires left { region.left ≤ cells.now.x.last + 1 }
+    requires right { region.right ≤ cells.now.x.last + 1 }
+{
+    let mut looks = region.bottom.saturating_sub(region.top);
+    for row in region.top..region.bottom.min(region.top.saturating_add(64)) {
+        let run = cells.run(row, region.left, region.right);
+        looks = looks.saturating_add(run.end.saturating_sub(run.start));
+    }
+    looks
+}
+
+/// Whether holes find their neighbours quickly in cells that were made for pads: a sample of them looks at few rows and
+/// spots. Any answer is right: only the time depends on it.
+pub(crate) fn suits_gaps(cells: &Cells, rules: Rules, limits: Limits) -> bool
+    requires { AreInCells cells.now.x cells.now.y cells.now.starts.items cells.now.spots.items }
+{
+    let draws = (cells.spots.len() as u64).min(256);
+    let mut looks: usize = 0;
+    for draw in 0..draws {
+        if let Some(spot) = cells.spots.get(sample_index(draw, cells.spots.len())) {
+            let zone = near_zone(&spot.hole, rules.gap(), limits);
+            let region = region_of(&cells.x, &cells.y, &zone);
+            looks = looks.saturating_add(looks_in(cells, region));
+        }
+    }
+    looks <= draws as usize * FEW_LOOKS
 }

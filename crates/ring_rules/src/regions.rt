@@ -13,6 +13,9 @@ use crate::spots::Cells;
 use grid_units::Rules;
 use pad_shapes::{PadShape, Zone};
 
+/// The most spots of a part of a row that a pad is tried at one by one, without a look at their cells.
+const FEW_SPOTS: usize = 16;
+
 /// A region of a grid: rows from `top` to `bottom` and columns from `left` to `right`, ends excluded.
 #[derive(Clone, Copy)]
 pub(crate) struct Region {
@@ -95,7 +98,7 @@ impl RingSearch<'_> {
     }
 
     /// Tries a pad at the holes of a row cell by cell, in columns from `left` to `right`, end excluded.
-    fn try_row<S: PadShape>(
+    fn try_cells<S: PadShape>(
         &self,
         pad: &S,
         row: usize,
@@ -119,11 +122,37 @@ impl RingSearch<'_> {
         is_left
     }
 
-    /// Tries a pad at the holes of a region cell by cell. Returns whether a mark may be left there.
+    /// Tries a pad at the holes of a row, in columns from `left` to `right`, end excluded: one after the other where they are few, else cell by cell.
+    fn try_row<S: PadShape>(
+        &self,
+        pad: &S,
+        row: usize,
+        left: usize,
+        right: usize,
+        marks: &mut [bool],
+    ) -> bool
+        requires ready { IsHoleGrid self.now.cells.now.x self.now.cells.now.y self.now.cells.now.starts.items self.now.cells.now.spots.items self.now.rules.ring self.now.least }
+        requires size { length marks.old ≡ length self.now.cells.now.spots.items }
+        requires row { row ≤ self.now.cells.now.y.last }
+        requires left { left ≤ self.now.cells.now.x.last + 1 }
+        requires right { right ≤ self.now.cells.now.x.last + 1 }
+        ensures removes { RemovesMarks (gives_ring_at S.covers self.now.rules.ring self.now.cells.now.spots.items pad.now) marks.old marks.new }
+        ensures tried { NoMarkPassesIn (gives_ring_at S.covers self.now.rules.ring self.now.cells.now.spots.items pad.now) self.now.cells.now.x self.now.cells.now.y self.now.cells.now.spots.items row (row + 1) left right marks.new }
+        ensures none { result ≡ false → HasNoMarkIn self.now.cells.now.x self.now.cells.now.y self.now.cells.now.spots.items row (row + 1) left right marks.new }
+    {
+        let run = self.cells.run(row, left, right);
+        if FEW_SPOTS < run.end.saturating_sub(run.start) {
+            return self.try_cells(pad, row, left, right, marks);
+        }
+        try_run(&self.cells.spots, self.rules, pad, run, marks)
+    }
+
+    /// Tries a pad at the holes of a region row by row. Returns whether a mark may be left there.
     pub(crate) fn try_rows<S: PadShape>(&self, pad: &S, region: Region, marks: &mut [bool]) -> bool
         requires ready { IsHoleGrid self.now.cells.now.x self.now.cells.now.y self.now.cells.now.starts.items self.now.cells.now.spots.items self.now.rules.ring self.now.least }
         requires size { length marks.old ≡ length self.now.cells.now.spots.items }
         requires bottom { region.bottom ≤ self.now.cells.now.y.last + 1 }
+        requires left { region.left ≤ self.now.cells.now.x.last + 1 }
         requires right { region.right ≤ self.now.cells.now.x.last + 1 }
         ensures removes { RemovesMarks (gives_ring_at S.covers self.now.rules.ring self.now.cells.now.spots.items pad.now) marks.old marks.new }
         ensures tried { NoMarkPassesIn (gives_ring_at S.covers self.now.rules.ring self.now.cells.now.spots.items pad.now) self.now.cells.now.x self.now.cells.now.y self.now.cells.now.spots.items region.top region.bottom region.left region.right marks.new }

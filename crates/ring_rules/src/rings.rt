@@ -2,13 +2,14 @@
 
 ghost use Rattle.std.specs.Prelude.{◌≡◌, ◌++◌, Bool, length, map, IfOk, OnOk};
 ghost use Rattle.std.specs.List.{filter, enumerate_from};
-ghost use Rattle.ring_rules.specs.Findings.{finding_of, ring_findings};
+ghost use Rattle.ring_rules.specs.Findings.{finding_of, layer_findings, ring_findings};
+ghost use Rattle.ring_rules.specs.Search.{IsRingIndexOf};
 ghost use Rattle.ring_rules.specs.declared.finding.Drilled.{Drilled};
 
 use crate::cell_size::sample_index;
 use crate::finding::{Drilled, Finding, is_oblique};
-use crate::grid::hole_grid;
-use crate::pads::lacking;
+use crate::layer_search::LayerSearch;
+use crate::ring_index::RingIndex;
 use grid_units::Rules;
 use pad_shapes::{PadShape, Zone};
 use std::alloc::{AllocError, Global};
@@ -71,6 +72,23 @@ pub fn mean_zone_size<S: PadShape>(layers: &[&[S]]) -> (u64, u64) {
     (width / count.max(1), height / count.max(1))
 }
 
+/// Appends the findings of one layer with these pads.
+fn push_layer<S: PadShape>(
+    alloc: Global,
+    index: &RingIndex,
+    holes: &[Drilled],
+    layer: usize,
+    pads: &[S],
+    findings: &mut Vec<Finding>,
+) -> Result<(), AllocError>
+    requires { IsRingIndexOf holes.now index.now }
+    ensures { OnOk result (findings.new.items ≡ findings.old.items ++ layer_findings S.covers index.now.rules.ring holes.now layer pads.now) }
+{
+    let mut search = LayerSearch::new::<S>(alloc, index, holes, layer)?;
+    search.try_pads(index, pads);
+    search.push_findings::<S>(alloc, index, holes, findings)
+}
+
 /// Lists, layer by layer and hole by hole, each plated hole that goes through the layer and has no ring there. It is
 /// an oblique slot, or no single pad of the layer covers it with the ring round it.
 ///
@@ -86,11 +104,10 @@ pub fn ring_findings<S: PadShape>(
     ensures { IfOk result (λ findings. findings.items ≡ ring_findings S.covers rules.ring (map (λ pads. pads.now) layers.now) holes.now) }
 {
     let (width, height) = mean_zone_size(layers);
-    let grid = hole_grid(alloc, holes, rules, width, height)?;
+    let index = RingIndex::new(alloc, holes, rules, width, height)?;
     let mut findings = Vec::new(alloc);
     for (layer, pads) in layers.iter().enumerate() {
-        let lacking = lacking(alloc, layer, pads, holes, &grid, rules)?;
-        layer_findings(&mut findings, layer, holes, &lacking)?;
+        push_layer(alloc, &index, holes, layer, pads, &mut findings)?;
     }
     Ok(findings)
 }

@@ -8,7 +8,7 @@ ghost use Rattle.ring_rules.specs.Inner.Regions.{IsInRegion, IsLaidOut};
 ghost use Rattle.ring_rules.specs.Inner.SpotLists.{AddsSpots, AreSpotted, IsSpotted};
 
 use crate::axis::Axis;
-use crate::cells::{Chains, link_at};
+use crate::cells::{Chains, link_at, narrow};
 use crate::finding::Drilled;
 use grid_units::Hole;
 use std::alloc::{AllocError, Global};
@@ -25,7 +25,7 @@ pub(crate) struct Spot {
 pub(crate) struct Cells {
     pub x: Axis,
     pub y: Axis,
-    pub starts: Vec<usize>,
+    pub starts: Vec<u32>,
     pub spots: Vec<Spot>,
 }
 
@@ -48,8 +48,8 @@ impl Cells {
     {
         let first = row * (self.x.last + 1);
         Run {
-            start: self.starts[first + left],
-            end: self.starts[first + right],
+            start: self.starts[first + left] as usize,
+            end: self.starts[first + right] as usize,
         }
     }
 }
@@ -79,7 +79,7 @@ fn push_cell(
 fn push_cells(
     chains: &Chains,
     holes: &[Drilled],
-    starts: &mut Vec<usize>,
+    starts: &mut Vec<u32>,
     spots: &mut Vec<Spot>,
 ) -> Result<(), AllocError>
     requires chained { IsChained (cell_at chains.now.x chains.now.y holes.now) (length holes.now) chains.now.head.items chains.now.next.items }
@@ -89,7 +89,8 @@ fn push_cells(
 {
     for cell in 0..chains.head.len() {
         push_cell(chains, holes, cell, spots)?;
-        starts.push(spots.len())?;
+        let start = narrow(spots.len())?;
+        starts.push(start)?;
     }
     Ok(())
 }

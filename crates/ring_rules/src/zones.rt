@@ -7,10 +7,9 @@ ghost use Rattle.ring_rules.specs.Places.{entry_at};
 ghost use Rattle.ring_rules.specs.Index.{IsIndexOf, IsInAnyZone};
 ghost use Rattle.ring_rules.specs.declared.blocks.Block.{Block};
 
-use crate::block_division::divided;
+use crate::block_division::{block_side, divided};
 use crate::blocks::Block;
 use crate::finding::Drilled;
-use crate::grid::block_side;
 use crate::index::HoleIndex;
 use crate::layout::bounds_at;
 use crate::regions::region_of;

@@ -1,4 +1,5 @@
 pub mod LoadSteps
+pub mod LoadedFiles
 pub mod Outcomes
 pub mod ParseCountLemmas
 pub mod RewrittenPackages

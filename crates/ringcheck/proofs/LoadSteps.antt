@@ -1,15 +1,8 @@
 -- The files of a package, loaded one by one.
-use Rattle.std.proofs.Common.{◌≡◌, ◌++◌, ℕ, suc, List, [], ◌∷◌, length, map, arith, refl, ap}
+use Rattle.std.proofs.Common.{◌≡◌, ℕ, suc, List, [], ◌∷◌, length, map, arith, refl, ap}
 use Rattle.manifest.specs.declared.Entry.{Entry}
 use Rattle.package_check.specs.Package.{FileView}
 use Rattle.ringcheck.specs.CheckStatus.{HasFiles, file_views_among}
-
-pub has_more : (has : List ℕ → List ℕ → Type 0) (entries : List Entry) (files : List (List ℕ)) (entry : Entry) (bytes : List ℕ)
-    → HasFiles has entries files → has entry.file bytes → HasFiles has (entries ++ entry ∷ []) (files ++ bytes ∷ [])
-has_more has [] [] entry bytes h one = (one, tt)
-has_more has [] (b ∷ bs) entry bytes h one = absurd h
-has_more has (e ∷ es) [] entry bytes h one = absurd h
-has_more has (e ∷ es) (b ∷ bs) entry bytes h one = (h.0, has_more has es bs entry bytes h.1 one)
 
 pub same_length : (has : List ℕ → List ℕ → Type 0) (entries : List Entry) (files : List (List ℕ)) → HasFiles has entries files → length entries ≡ length files
 same_length has [] [] h = refl
@@ -23,17 +16,6 @@ has_files_along has before to [] [] h = tt
 has_files_along has before to [] (b ∷ bs) h = absurd h
 has_files_along has before to (e ∷ es) [] h = absurd h
 has_files_along has before to (e ∷ es) (b ∷ bs) h = (to e.file b h.0, has_files_along has before to es bs h.1)
-
-abbrev pub source : ℕ → Entry → List ℕ → FileView
-source n e bytes = record { role = e.role; name = e.name; span = e.span; bytes = bytes; layers = n }
-
--- the files of a package and one more
-pub sources_more : (n : ℕ) (es : List Entry) (fs : List (List ℕ)) (e : Entry) (bytes : List ℕ) → length es ≡ length fs
-    → file_views_among n (es ++ e ∷ []) (fs ++ bytes ∷ []) ≡ file_views_among n es fs ++ source n e bytes ∷ []
-sources_more n [] [] e bytes same = refl
-sources_more n [] (f ∷ fs) e bytes same = absurd (omega (arith, same))
-sources_more n (x ∷ es) [] e bytes same = absurd (omega (arith, same))
-sources_more n (x ∷ es) (f ∷ fs) e bytes same = ap (λ (t : List FileView). source n x f ∷ t) (sources_more n es fs e bytes (omega (arith, same)))
 
 -- the names of the files are those of the entries
 pub names_among : (n : ℕ) (es : List Entry) (fs : List (List ℕ)) → length es ≡ length fs → map (λ (s : FileView). s.name) (file_views_among n es fs) ≡ map (λ (e : Entry). e.name) es

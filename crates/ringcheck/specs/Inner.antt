@@ -1,2 +1,3 @@
 pub mod Halting
 pub mod Jobs
+pub mod Loading

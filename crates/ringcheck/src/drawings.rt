@@ -2,7 +2,7 @@
 
 ghost use Rattle.std.specs.Prelude.{◌≡◌, List, IfErr, IfOk, map};
 ghost use Rattle.layer_image.specs.declared.keep.Keep.TheVariants as keep;
-ghost use Rattle.package_check.specs.Holding.{HasTaken};
+ghost use Rattle.package_check.specs.Holding.{HasTakenAll};
 ghost use Rattle.package_check.specs.Package.{FileView};
 ghost use Rattle.ringcheck.specs.DrawStatus.{PrintsPicture};
 ghost use Rattle.ringcheck.specs.Inner.Halting.{OfTaken};
@@ -24,7 +24,7 @@ pub(crate) fn draw<'a, W: Write>(
     rules: Option<Rules>,
     out: &mut W,
 ) -> Result<Result<bool, Halt<'a>>, Failure>
-    ensures answers { (all : List FileView) → map (λ name. name.now) names.now ≡ map (λ source. source.name) all → HasTaken reader keep.Flashes all
+    ensures answers { (all : List FileView) → map (λ name. name.now) names.now ≡ map (λ source. source.name) all → HasTakenAll reader keep.Flashes all
         → IfOk result (OfTaken (PrintsPicture rules (W.contents out.old) (W.contents out.new)) all) }
     ensures silent { IfOk result (λ done. IfErr done (λ halt. W.contents out.new ≡ W.contents out.old)) }
 {

@@ -1,14 +1,14 @@
 //! The manifest, the waivers and the files of a package, from a loader.
 
-ghost use Rattle.std.specs.Prelude.{◌≡◌, ◌≤◌, ℕ, List, IfOk, Result};
-ghost use Rattle.std.specs.List.{count_by};
+ghost use Rattle.std.specs.Prelude.{◌≡◌, ◌≤◌, ◌↔◌, ℕ, List, length, IfOk, Result};
 ghost use Rattle.grid_units.specs.Results.{Answers};
 ghost use Rattle.grid_units.specs.declared.fault.Fault.{Fault as TheFault};
 ghost use Rattle.manifest.specs.Manifest.{manifest};
-ghost use Rattle.package_check.specs.Holding.{HasTaken};
+ghost use Rattle.package_check.specs.Holding.{HasTakenAll, copper_files, is_kind};
 ghost use Rattle.package_check.specs.Package.{is_copper};
 ghost use Rattle.ringcheck_files.specs.Outcomes.{HasRisen};
 ghost use Rattle.ringcheck.specs.Inner.Halting.{OfFiles, OfTable};
+ghost use Rattle.ringcheck.specs.Inner.Loading.{EndsAt, LoadsKind, OfFile, OfTakenFile, copper_entries};
 ghost use Rattle.waivers.specs.Reading.{waivers};
 
 use crate::refusals::{Halt, Subject};
@@ -81,33 +81,118 @@ fn is_copper(role: Role) -> bool
     matches!(role, Role::Copper)
 }
 
+/// Whether this is the role of a copper file, or of a drill file, as `copper` says.
+fn is_kind(role: Role, copper: bool) -> bool
+    ensures { result ≡ is_kind copper role }
+{
+    is_copper(role) == copper
+}
+
 fn layer_count(entries: &[Entry]) -> usize
-    ensures { result ≡ count_by (λ entry. is_copper entry.role) entries.now }
+    ensures { result ≡ copper_entries entries.now }
 {
     entries.iter().filter(|entry| is_copper(entry.role)).count()
 }
 
-/// A reader that has taken the files of the entries, in order, and keeps this of them. They are loaded one after the other, and the
-/// bytes of each are freed before the next is loaded.
+/// The bytes of the file of an entry at this index, or why they cannot be loaded.
+fn load_file<'a, L: Loader>(
+    alloc: Global,
+    loader: &mut L,
+    index: usize,
+    entry: &'a Entry,
+) -> Result<Result<Vec<u8>, Halt<'a>>, Failure>
+    ensures keeps { (n b : List ℕ) → L.has loader.new n b ↔ L.has loader.old n b }
+    ensures counts { L.failed loader.old ≤ L.failed loader.new }
+    ensures loaded { IfOk result (OfFile (L.has loader.old) index entry.now (HasRisen (L.failed loader.old) (L.failed loader.new))) }
+{
+    let name = entry.name.as_str();
+    let file = Subject::File { index, name };
+    match loader.load(alloc, entry.file.as_str(), FILE_LIMIT) {
+        Ok(bytes) => Ok(Ok(bytes)),
+        Err(LoadFault::Device) => Ok(Err(Halt::Unread(file))),
+        Err(LoadFault::Memory) => Err(Failure::Memory),
+        Err(LoadFault::TooLong) => Ok(Err(Halt::Refused(file, ABOVE_LIMIT))),
+    }
+}
+
+/// Loads the file of an entry at this index, and hands it to the reader; or returns why the file cannot be loaded.
+fn take_file<'a, L: Loader>(
+    alloc: Global,
+    loader: &mut L,
+    index: usize,
+    entry: &'a Entry,
+    reader: &mut PackageReader,
+) -> Result<Option<Halt<'a>>, Failure>
+    ensures keeps { (n b : List ℕ) → L.has loader.new n b ↔ L.has loader.old n b }
+    ensures counts { L.failed loader.old ≤ L.failed loader.new }
+    ensures layers { copper_files reader.new ≡ copper_files reader.old }
+    ensures taken { IfOk result (OfTakenFile (L.has loader.old) reader.old reader.new index entry.now (HasRisen (L.failed loader.old) (L.failed loader.new))) }
+{
+    match load_file(alloc, loader, index, entry)? {
+        Ok(bytes) => {
+            reader.take(index, entry.role, entry.span, &[bytes.as_slice()])?;
+            Ok(None)
+        }
+        Err(halt) => Ok(Some(halt)),
+    }
+}
+
+/// How far the files of some entries were gone through.
+#[derive(Clone, Copy)]
+struct Pass<'a> {
+    /// The index of the first file that cannot be loaded; the number of the entries where there is none.
+    end: usize,
+    /// Why that file cannot be loaded.
+    halt: Option<Halt<'a>>,
+}
+
+/// Loads those of the files that are copper, or those that are not, as `copper` says, up to the first that cannot be loaded, and hands
+/// each to the reader. The bytes of each are freed before the next is loaded.
+fn take_kind<'a, L: Loader>(
+    alloc: Global,
+    loader: &mut L,
+    entries: &'a [Entry],
+    copper: bool,
+    reader: &mut PackageReader,
+) -> Result<Pass<'a>, Failure>
+    ensures keeps { (n b : List ℕ) → L.has loader.new n b ↔ L.has loader.old n b }
+    ensures counts { L.failed loader.old ≤ L.failed loader.new }
+    ensures layers { copper_files reader.new ≡ copper_files reader.old }
+    ensures within { IfOk result (λ pass. pass.end ≤ length entries.now) }
+    ensures ends { IfOk result (λ pass. EndsAt (L.has loader.old) entries.now (HasRisen (L.failed loader.old) (L.failed loader.new)) pass.end pass.halt) }
+    ensures loaded { IfOk result (λ pass. LoadsKind (L.has loader.old) entries.now reader.old reader.new copper pass.end) }
+{
+    for (index, entry) in entries.iter().enumerate() {
+        if is_kind(entry.role, copper) {
+            if let Some(halt) = take_file(alloc, loader, index, entry, reader)? {
+                return Ok(Pass {
+                    end: index,
+                    halt: Some(halt),
+                });
+            }
+        }
+    }
+    Ok(Pass {
+        end: entries.len(),
+        halt: None,
+    })
+}
+
+/// A reader that has taken the files of the entries, the drill files before the copper files, and keeps this of them. After a file that
+/// cannot be loaded only those before it are loaded, so the first that cannot be, in the order of the entries, is the answer.
 pub(crate) fn take_files<'a, L: Loader>(
     alloc: Global,
     keep: Keep,
     loader: &mut L,
     entries: &'a [Entry],
 ) -> Result<Result<PackageReader, Halt<'a>>, Failure>
-    ensures { IfOk result (OfFiles (L.has loader.old) entries.now (HasRisen (L.failed loader.old) (L.failed loader.new)) (λ reader. HasTaken reader keep)) }
+    ensures { IfOk result (OfFiles (L.has loader.old) entries.now (HasRisen (L.failed loader.old) (L.failed loader.new)) (λ reader. HasTakenAll reader keep)) }
 {
     let mut reader = PackageReader::keeping(alloc, layer_count(entries), keep);
-    for (index, entry) in entries.iter().enumerate() {
-        let name = entry.name.as_str();
-        match loader.load(alloc, entry.file.as_str(), FILE_LIMIT) {
-            Ok(bytes) => reader.take(entry.role, entry.span, &[bytes.as_slice()])?,
-            Err(LoadFault::Device) => return Ok(Err(Halt::Unread(Subject::File { index, name }))),
-            Err(LoadFault::Memory) => return Err(Failure::Memory),
-            Err(LoadFault::TooLong) => {
-                return Ok(Err(Halt::Refused(Subject::File { index, name }, ABOVE_LIMIT)));
-            }
-        }
+    let drills = take_kind(alloc, loader, entries, false, &mut reader)?;
+    let copper = take_kind(alloc, loader, &entries[..drills.end], true, &mut reader)?;
+    match copper.halt.or(drills.halt) {
+        Some(halt) => Ok(Err(halt)),
+        None => Ok(Ok(reader)),
     }
-    Ok(Ok(reader))
 }

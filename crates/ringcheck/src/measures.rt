@@ -3,7 +3,7 @@
 ghost use Rattle.std.specs.Prelude.{◌≡◌, List, IfErr, IfOk, OnOk, map};
 ghost use Rattle.std.specs.Io.KnownBytes.{Appends};
 ghost use Rattle.layer_image.specs.declared.keep.Keep.TheVariants as keep;
-ghost use Rattle.package_check.specs.Holding.{HasTaken};
+ghost use Rattle.package_check.specs.Holding.{HasTakenAll};
 ghost use Rattle.package_check.specs.Package.{FileView};
 ghost use Rattle.ringcheck.specs.Inner.Halting.{OfTaken};
 ghost use Rattle.ringcheck.specs.MeasureStatus.{PrintsMeasure, measure_page};
@@ -61,7 +61,7 @@ pub(crate) fn measure<'a, W: Write>(
     format: MeasureFormat,
     out: &mut W,
 ) -> Result<Result<bool, Halt<'a>>, Failure>
-    ensures answers { (all : List FileView) → map (λ name. name.now) names.now ≡ map (λ source. source.name) all → HasTaken reader keep.Pads all
+    ensures answers { (all : List FileView) → map (λ name. name.now) names.now ≡ map (λ source. source.name) all → HasTakenAll reader keep.Pads all
         → IfOk result (OfTaken (PrintsMeasure format (W.contents out.old) (W.contents out.new)) all) }
     ensures silent { IfOk result (λ done. IfErr done (λ halt. W.contents out.new ≡ W.contents out.old)) }
 {

@@ -85,6 +85,11 @@ impl DepthShape for Counted {
     fn middle(&self) -> Point {
         self.disc.centre()
     }
+
+    fn hull(&self) -> Option<Hull> {
+        self.count();
+        self.disc.hull()
+    }
 }
 
 /// A hole with its middle 0.5 mm from there.
@@ -611,6 +616,53 @@ fn pads_that_are_no_deeper_are_passed_over(rt: HostRuntime) -> Result<(), Fail> 
     let holes = square_of_holes(rt.alloc(), -43_000_000_000)?;
     let bests = best_pads(rt.alloc(), &pads, &holes)?;
     assert!(rt; count_of_first(&bests) == 2_000 && calls.get() <= 400_000);
+    Ok(())
+}
+
+/// Discs about one centre that lie over a square of holes: the radius of the first ten, by how much that of each further ten is
+/// larger, and by how much the square is moved.
+type Heap = (i64, i64, i64);
+
+/// Equal discs; discs of 200 sizes that grow; and the same with the largest first.
+const HEAPS: [Heap; 3] = [
+    (50_000_000_000, 0, -33_300_000_000),
+    (2_000_000_000, 240_000_000, -33_300_000_000),
+    (50_000_000_000, -240_000_000, -33_300_000_000),
+];
+
+/// The 2,000 discs of a heap.
+fn discs_of(alloc: Global, calls: &Rc<Cell<u64>>, heap: Heap) -> Result<Vec<Counted>, Fail> {
+    let mut pads = Vec::new(alloc);
+    for number in 0..2_000u16 {
+        let at = point(
+            i64::from(number % 97) * 1_000,
+            i64::from(number % 89) * 1_000,
+        )?;
+        let more = i64::from(number / 10).saturating_mul(heap.1);
+        let disc = Disc::new(at, heap.0.saturating_add(more)).ok_or("disc")?;
+        let calls = calls.clone()?;
+        pads.push(Counted { disc, calls })?;
+    }
+    Ok(pads)
+}
+
+/// Whether each hundredth best pad is that of a hole alone.
+fn are_best(pads: &[Counted], holes: &[Drilled], bests: &[Option<BestPad>]) -> bool {
+    let mut found = holes.iter().zip(bests).step_by(100);
+    found.all(|(drilled, best)| best_pad(pads, &drilled.hole) == *best)
+}
+
+/// Many discs that lie about as deep over many holes are not asked for each of them.
+#[test]
+fn heaps_of_pads_are_passed_over(rt: HostRuntime) -> Result<(), Fail> {
+    for &heap in &HEAPS {
+        let calls = Rc::new(rt.alloc(), Cell::new(0))?;
+        let pads = discs_of(rt.alloc(), &calls, heap)?;
+        let holes = square_of_holes(rt.alloc(), heap.2)?;
+        let bests = best_pads(rt.alloc(), &pads, &holes)?;
+        assert!(rt; calls.get() <= 400_000, "asked {} times", calls.get());
+        assert!(rt; are_best(&pads, &holes, &bests));
+    }
     Ok(())
 }
 

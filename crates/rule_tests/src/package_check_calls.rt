@@ -348,12 +348,12 @@ fn a_board_has_the_findings_of_its_report(rt: HostRuntime) -> Result<(), Failure
     Ok(())
 }
 
-/// Takes a layer in two pieces, a drill file, and a layer in one piece.
+/// Takes a layer in two pieces, a drill file, and a layer in one piece, in another order than theirs.
 fn take_three(reader: &mut PackageReader) -> Result<(), AllocError> {
     let (start, end) = TWO.split_at(50);
-    reader.take(Role::Copper, None, &[start, end])?;
-    reader.take(Role::Plated, None, &[DRILL])?;
-    reader.take(Role::Copper, None, &[TWO])
+    reader.take(1, Role::Plated, None, &[DRILL])?;
+    reader.take(2, Role::Copper, None, &[TWO])?;
+    reader.take(0, Role::Copper, None, &[start, end])
 }
 
 const LAYER_OF_TWO: FileSum = FileSum::Layer { pads: 2, other: 0 };
@@ -380,8 +380,8 @@ fn a_reader_gives_the_flashes_of_copper(rt: HostRuntime) -> Result<(), Failure> 
 #[test]
 fn a_reader_with_flashes_keeps_the_first_refusal(rt: HostRuntime) -> Result<(), Failure> {
     let mut reader = PackageReader::keeping(rt.alloc(), 2, Keep::Flashes);
-    reader.take(Role::Copper, Span::new(1, 1), &[TWO])?;
-    reader.take(Role::Copper, None, &[DRILL])?;
+    reader.take(1, Role::Copper, None, &[DRILL])?;
+    reader.take(0, Role::Copper, Span::new(1, 1), &[TWO])?;
     let (index, fault) = (0, FAULT);
     assert!(rt; reader.board().err() == Some(PackageFault::File { index, fault }));
     Ok(())

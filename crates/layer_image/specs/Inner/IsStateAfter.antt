@@ -2,14 +2,13 @@
 use Rattle.std.specs.Prelude.{◌≡◌, ◌||◌, List, [], ◌∷◌, ◌++◌, Some, None, unwrap_or, Result, Ok, Err}
 use Rattle.std.specs.Option.{option_or}
 use Rattle.gerber_commands.specs.declared.command.Command.{Command}
-use Rattle.layer_image.specs.declared.keep.Keep.{Keep}
 use Rattle.layer_image.specs.declared.state.State.{State}
 use Rattle.grid_units.specs.declared.item_fail.ItemFail.{ItemFail}
 use Rattle.grid_units.specs.declared.item_fail.ItemFail.TheVariants.{Memory, Refused}
 use Rattle.layer_image.specs.Lookback.{GraphicsState, state_after, unit_set, format_set, region_set, definition_set, defines_macro, aperture_selected, x_set, y_set, turn_set, scale_set, block_set}
 use Rattle.layer_image.specs.Rules.{broken_rule}
 use Rattle.layer_image.specs.Flashes.{flashes_of, added_flashes}
-use Rattle.layer_image.specs.KeptFlashes.{KeepsFlashes, Adds}
+use Rattle.layer_image.specs.KeptFlashes.{KeptParts, KeepsFlashes, Adds}
 use Rattle.layer_image.specs.Tables.{aperture_at, has_name}
 
 -- the fields of the judge as the state that the next command meets
@@ -29,9 +28,9 @@ state_of state = record {
 }
 
 -- the judge has met just these commands: its state and its flashes are theirs
-pub record IsStateAfter (state : State) (keep : Keep) (before : List Command) : Type 0 where
+pub record IsStateAfter (state : State) (parts : KeptParts) (before : List Command) : Type 0 where
   pub state_after : state_of state ≡ state_after before
-  pub flashes : KeepsFlashes state.flashes keep (flashes_of before)
+  pub flashes : KeepsFlashes state.flashes parts (flashes_of before)
 
 -- the state after one more command
 abbrev pub after : Command → GraphicsState → GraphicsState
@@ -60,7 +59,7 @@ IfRefused P (Refused reason) = P
 IfRefused P Memory = Unit {0}
 
 -- The command breaks no rule and was taken in, or this is the first rule that it breaks, or memory ran out.
-abbrev pub AppliesOrRefuses : Keep → List Command → Command → State → Result (Unit {0}) ItemFail → Type 0
-AppliesOrRefuses keep before c new (Ok _) = (broken_rule before c ≡ None) × IsStateAfter new keep (before ++ c ∷ [])
-AppliesOrRefuses keep before c new (Err (Refused reason)) = broken_rule before c ≡ Some reason
-AppliesOrRefuses keep before c new (Err Memory) = Unit {0}
+abbrev pub AppliesOrRefuses : KeptParts → List Command → Command → State → Result (Unit {0}) ItemFail → Type 0
+AppliesOrRefuses parts before c new (Ok _) = (broken_rule before c ≡ None) × IsStateAfter new parts (before ++ c ∷ [])
+AppliesOrRefuses parts before c new (Err (Refused reason)) = broken_rule before c ≡ Some reason
+AppliesOrRefuses parts before c new (Err Memory) = Unit {0}

@@ -1,95 +1,94 @@
--- The best pads of holes, pad by pad.
-use Rattle.std.specs.Prelude.{◌≡◌, ℕ, ◌+◌, ◌<◌, ◌≤◌, ◌⊎◌, Bool, true, false, Option, Some, None, List, length, get_or}
+-- The best pads of holes, where shapes are tried in any order.
+use Rattle.std.specs.Prelude.{◌≡◌, ℕ, ◌+◌, ◌<◌, ◌≤◌, ◌⊎◌, Bool, true, false, nat_lt, if◌then◌else◌, Option, Some, None, List, length, get_or, IfSome}
+use Rattle.std.specs.List.{All, Contains}
 use Rattle.grid_units.specs.Points.{GridPoint}
 use Rattle.grid_units.specs.Holes.{GridHole}
 use Rattle.pad_shapes.specs.Shapes.{max_half_side, covers_both_ends}
-use Rattle.pad_shapes.specs.Zones.{IsInZone}
-use Rattle.pad_shapes.specs.declared.zone.Zone.{Zone}
 use Rattle.ring_rules.specs.Findings.{is_oblique}
-use Rattle.ring_rules.specs.Places.{hole_at, entry_at}
+use Rattle.ring_rules.specs.Places.{hole_at}
 use Rattle.ring_rules.specs.declared.finding.Drilled.{Drilled}
-use Rattle.margins.specs.BestPads.{IsDeepestOrNone}
+use Rattle.margins.specs.Hulls.{IsDeepIn, IsHullOf}
 use Rattle.margins.specs.declared.best.BestPad.{BestPad}
-use Rattle.margins.specs.declared.parts.Division.{Division}
+use Rattle.margins.specs.declared.hull.Hull.{Hull}
+use Rattle.margins.specs.declared.large.Group.{Group}
+use Rattle.margins.specs.declared.large.Level.{Level}
 
--- how deep a hole must lie at least in a shape that is better than its best so far, in pm; 0 where it has none
-abbrev pub required : Option BestPad → ℕ
-required None = 0
-required (Some best) = best.depth + 1
+-- 0 for a place before another one, else 1
+abbrev pub one_unless_before : ℕ → ℕ → ℕ
+one_unless_before place other = if nat_lt place other then 0 else 1
 
--- the best so far is kept: the next shape, which covers the hole with the reaches that pass `test`, is no better
-pub record KeepsBest (test : ℕ → Bool) (best result : Option BestPad) : Type 0 where
-  pub same : result ≡ best
-  pub below : (reach : ℕ) → test reach ≡ true → reach < required best
+-- how deep a hole must lie at least in the shape at a place that is better than its best so far, in pm: deeper than there, or as deep where
+-- the shape comes before it; 0 where it has none
+abbrev pub required : Option BestPad → ℕ → ℕ
+required None place = 0
+required (Some best) place = best.depth + one_unless_before place best.pad
 
--- the next shape is better, and is the best now
-pub record TakesBest (test : ℕ → Bool) (best : Option BestPad) (place : ℕ) (result : Option BestPad) : Type 0 where
-  pub now : BestPad
-  pub is : result ≡ Some now
-  pub at : now.pad ≡ place
-  pub in_range : now.depth ≤ max_half_side
-  pub deeper : required best ≤ now.depth
-  pub covered : test now.depth ≡ true
-  pub deepest : (reach : ℕ) → test reach ≡ true → reach ≤ now.depth
+-- the shape at a place is no better for a hole than its best so far; nothing is said of an oblique slot
+abbrev pub IsNoBetter : {S : Type 0} → (S → GridPoint → ℕ → Bool) → List S → ℕ → GridHole → Option BestPad → Type 0
+IsNoBetter {S} covers pads place h best = (s : S) (reach : ℕ) → is_oblique h ≡ false → covers_both_ends covers (get_or pads place s) h.from h.to reach ≡ true → reach < required best place
 
--- the better of the best so far and the next shape
-abbrev pub IsBetter : (ℕ → Bool) → Option BestPad → ℕ → Option BestPad → Type 0
-IsBetter test best place result = KeepsBest test best result ⊎ TakesBest test best place result
+-- a shape of the list, and a depth of the hole in it, at most five metres
+pub record IsDepthInPad {S : Type 0} (covers : S → GridPoint → ℕ → Bool) (pads : List S) (h : GridHole) (best : BestPad) : Type 0 where
+  pub inside : best.pad < length pads
+  pub in_range : best.depth ≤ max_half_side
+  pub covered : (s : S) → covers_both_ends covers (get_or pads best.pad s) h.from h.to best.depth ≡ true
 
--- one more shape was tried at a hole; an oblique slot keeps what it has
-pub record IsTriedAtHole {S : Type 0} (covers : S → GridPoint → ℕ → Bool) (pad : S) (place : ℕ) (h : GridHole) (before after : Option BestPad) : Type 0 where
+-- the best so far, if there is one, is such a shape
+abbrev pub IsHeld : {S : Type 0} → (S → GridPoint → ℕ → Bool) → List S → GridHole → Option BestPad → Type 0
+IsHeld covers pads h None = Unit {0}
+IsHeld covers pads h (Some best) = IsDepthInPad covers pads h best
+
+-- the best of a hole is still one of the shapes, and no shape that was no better before is better now; an oblique slot keeps what it has
+pub record Improves {S : Type 0} (covers : S → GridPoint → ℕ → Bool) (pads : List S) (h : GridHole) (before after : Option BestPad) : Type 0 where
   pub oblique : is_oblique h ≡ true → after ≡ before
-  pub straight : is_oblique h ≡ false → IsBetter (λ reach. covers_both_ends covers pad h.from h.to reach) before place after
+  pub more : (place : ℕ) → required before place ≤ required after place
+  pub held : IsHeld covers pads h before → IsHeld covers pads h after
 
--- the best of the first `count` shapes, none for an oblique slot
-pub record IsBestSoFar {S : Type 0} (covers : S → GridPoint → ℕ → Bool) (pads : List S) (count : ℕ) (h : GridHole) (best : Option BestPad) : Type 0 where
-  pub oblique : is_oblique h ≡ true → best ≡ None
-  pub straight : is_oblique h ≡ false → IsDeepestOrNone covers pads count h best
+-- the shape at a place was tried at a hole
+pub record IsTriedAt {S : Type 0} (covers : S → GridPoint → ℕ → Bool) (pads : List S) (place : ℕ) (h : GridHole) (before after : Option BestPad) : Type 0 where
+  pub improves : Improves covers pads h before after
+  pub below : IsNoBetter covers pads place h after
 
--- a shape was tried at the first `count` of some places, perhaps twice at one, and nothing else has changed
-pub record IsTriedAtPlaces {S : Type 0} (covers : S → GridPoint → ℕ → Bool) (pad : S) (place : ℕ) (holes : List Drilled) (near : List ℕ) (count : ℕ) (before after : List (Option BestPad)) : Type 0 where
+-- the best of each hole is as good as before
+pub record AllImprove {S : Type 0} (covers : S → GridPoint → ℕ → Bool) (pads : List S) (holes : List Drilled) (before after : List (Option BestPad)) : Type 0 where
   pub size : length after ≡ length before
-  pub kept : (k : ℕ) → (get_or after k None ≡ get_or before k None) ⊎ IsTriedAtHole covers pad place (hole_at holes k) (get_or before k None) (get_or after k None)
-  pub tried : (i : ℕ) → i < count → IsTriedAtHole covers pad place (hole_at holes (get_or near i 0)) (get_or before (get_or near i 0) None) (get_or after (get_or near i 0) None)
+  pub each : (k : ℕ) → Improves covers pads (hole_at holes k) (get_or before k None) (get_or after k None)
 
--- a shape was tried at the holes with their entry point among some points, perhaps at others too, and nothing else has changed
-pub record IsTriedIn {S : Type 0} (covers : S → GridPoint → ℕ → Bool) (pad : S) (place : ℕ) (holes : List Drilled) (among : GridPoint → Type 0) (before after : List (Option BestPad)) : Type 0 where
-  pub size : length after ≡ length before
-  pub kept : (k : ℕ) → (get_or after k None ≡ get_or before k None) ⊎ IsTriedAtHole covers pad place (hole_at holes k) (get_or before k None) (get_or after k None)
-  pub tried : (k : ℕ) → k < length holes → among (entry_at holes k) → IsTriedAtHole covers pad place (hole_at holes k) (get_or before k None) (get_or after k None)
+-- the shape at a place is no better for the holes at the first `count` of some places
+abbrev pub IsNoBetterAt : {S : Type 0} → (S → GridPoint → ℕ → Bool) → List S → ℕ → List Drilled → List ℕ → ℕ → List (Option BestPad) → Type 0
+IsNoBetterAt covers pads place holes near count bests = (i : ℕ) → i < count → IsNoBetter covers pads place (hole_at holes (get_or near i 0)) (get_or bests (get_or near i 0) None)
 
--- a shape was tried at all holes of a list
-pub record IsTriedAll {S : Type 0} (covers : S → GridPoint → ℕ → Bool) (pad : S) (place : ℕ) (holes : List Drilled) (before after : List (Option BestPad)) : Type 0 where
-  pub size : length after ≡ length before
-  pub tried : (k : ℕ) → k < length holes → IsTriedAtHole covers pad place (hole_at holes k) (get_or before k None) (get_or after k None)
+-- the shape at a place is no better for any of the holes
+abbrev pub IsNoBetterForAll : {S : Type 0} → (S → GridPoint → ℕ → Bool) → List S → ℕ → List Drilled → List (Option BestPad) → Type 0
+IsNoBetterForAll covers pads place holes bests = (k : ℕ) → k < length holes → IsNoBetter covers pads place (hole_at holes k) (get_or bests k None)
 
--- a point in one of the zones from the place `first` to `last`, end excluded
-pub record IsInAnyOf (zones : List Zone) (first last : ℕ) (p : GridPoint) : Type 0 where
-  pub i : ℕ
-  pub zone : Zone
-  pub from : first ≤ i
-  pub early : i < last
-  pub inside : i < length zones
-  pub is : get_or zones i zone ≡ zone
-  pub within : IsInZone zone p
+-- each of the first `count` shapes is listed as a large one, or is no better for any of the holes
+abbrev pub AreTriedOrLarge : {S : Type 0} → (S → GridPoint → ℕ → Bool) → List S → ℕ → List Drilled → List ℕ → List (Option BestPad) → Type 0
+AreTriedOrLarge covers pads count holes large bests = (place : ℕ) → place < count → Contains large place ⊎ IsNoBetterForAll covers pads place holes bests
 
--- a shape that is better for a hole than its best so far has at least this depth there; nothing is said of an oblique slot
-abbrev pub NeedsDepth : GridHole → Option BestPad → ℕ → Type 0
-NeedsDepth h best bound = is_oblique h ≡ false → bound ≤ required best
+-- the holes at some places are all those that a shape covers with some reach at their entry point
+abbrev pub AreAllCovered : {S : Type 0} → (S → GridPoint → ℕ → Bool) → S → List Drilled → List ℕ → Type 0
+AreAllCovered covers s holes near = (k reach : ℕ) → k < length holes → covers s (hole_at holes k).from reach ≡ true → Contains near k
 
--- this is so with each hole of a list with its entry point among some points
-abbrev pub AllNeedDepth : List Drilled → List (Option BestPad) → (GridPoint → Type 0) → ℕ → Type 0
-AllNeedDepth holes bests among bound = (k : ℕ) → k < length holes → among (entry_at holes k) → NeedsDepth (hole_at holes k) (get_or bests k None) bound
+-- the shape at a place does not come before the first one of a group, and the hull of the group, if there is one, is a hull of it
+pub record IsInGroup {S : Type 0} (covers : S → GridPoint → ℕ → Bool) (pads : List S) (place first : ℕ) (hull : Option Hull) : Type 0 where
+  pub late : first ≤ place
+  pub within : IfSome hull (λ outer. (s : S) → IsHullOf covers (get_or pads place s) outer)
 
--- `bounds` has such a depth for the holes of each zone
-abbrev pub AreBounds : List Drilled → List (Option BestPad) → List Zone → List ℕ → Type 0
-AreBounds holes bests zones bounds = (i : ℕ) (zone : Zone) → i < length zones → get_or zones i zone ≡ zone → AllNeedDepth holes bests (IsInZone zone) (get_or bounds i 0)
+-- such a group has the shapes of an order from its start to its end
+pub record IsGroup {S : Type 0} (covers : S → GridPoint → ℕ → Bool) (pads : List S) (order : List ℕ) (group : Group) : Type 0 where
+  pub end : group.end ≤ length order
+  pub each : (i : ℕ) → group.start ≤ i → i < group.end → IsInGroup covers pads (get_or order i 0) group.first group.hull
 
--- zones that contain the entry points of all holes, each with parts that together contain the entry points in it
-pub record IsDivision (holes : List Drilled) (d : Division) : Type 0 where
-  pub whole : (k : ℕ) → k < length holes → IsInZone d.whole (entry_at holes k)
-  pub zones : (k : ℕ) → k < length holes → IsInAnyOf d.zones.items 0 (length d.zones.items) (entry_at holes k)
-  pub starts : length d.starts.items ≡ length d.zones.items + 1
-  pub ends : (i : ℕ) → get_or d.starts.items i 0 ≤ length d.parts.items
-  pub parts : (i : ℕ) (zone : Zone) → i < length d.zones.items → get_or d.zones.items i zone ≡ zone → (k : ℕ) → k < length holes → IsInZone zone (entry_at holes k)
-      → IsInAnyOf d.parts.items (get_or d.starts.items i 0) (get_or d.starts.items (i + 1) 0) (entry_at holes k)
+-- each group of a level is one of this order
+abbrev pub AreGroups : {S : Type 0} → (S → GridPoint → ℕ → Bool) → List S → List ℕ → Level → Type 0
+AreGroups covers pads order level = All (IsGroup covers pads order) level.groups.items
+
+-- a hull, if there is one, does not hold both ends of a hole so deep; without a hull nothing is known
+abbrev pub HoldsNone : Option Hull → ℕ → GridHole → Type 0
+HoldsNone None depth h = ⊥
+HoldsNone (Some hull) depth h = (reach : ℕ) → depth ≤ reach → IsDeepIn hull h.from reach → IsDeepIn hull h.to reach → ⊥
+
+-- the shapes of an order from one of its places to another are no better for a hole
+abbrev pub AreNoBetter : {S : Type 0} → (S → GridPoint → ℕ → Bool) → List S → List ℕ → ℕ → ℕ → GridHole → Option BestPad → Type 0
+AreNoBetter covers pads order start end h best = (i : ℕ) → start ≤ i → i < end → IsNoBetter covers pads (get_or order i 0) h best

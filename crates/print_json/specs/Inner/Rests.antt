@@ -1,5 +1,5 @@
 -- The last members of objects that are printed in two parts.
-use Rattle.std.specs.Prelude.{ℕ, ◌++◌, List, [], ◌∷◌, codes, map, Option}
+use Rattle.std.specs.Prelude.{ℕ, List, [], ◌∷◌, codes, map, Option}
 use Rattle.std.specs.Borrow.{Bor}
 use Rattle.json.specs.Json.{Json}
 use Rattle.report.specs.declared.Measure.{Measure}
@@ -9,7 +9,7 @@ use Rattle.report.specs.Causes.{lack_of}
 use Rattle.report.specs.declared.RingCause.{RingCause}
 use Rattle.report.specs.declared.BoardReport.{BoardReport}
 use Rattle.report.specs.declared.Acceptances.{Acceptances}
-use Rattle.print_json.specs.Packages.{file_values, gap_values, ring_values}
+use Rattle.print_json.specs.Packages.{file_values, finding_values}
 use Rattle.print_json.specs.Values.{array_of, cause_word, flash_of, or_null, least_gap_value, picometres, ring_of, row_value, scale_value, whole, acceptance_value, word}
 
 -- those of an insufficient ring, by its cause and the reason why it is accepted
@@ -28,4 +28,4 @@ measure_rest names board measure =
 abbrev pub report_rest : List (List ℕ) → List FileSum → BoardReport → Acceptances → List (List ℕ × Json)
 report_rest names files report accepted =
     (codes "files", array_of (file_values names files)) ∷ (codes "scales", array_of (map scale_value report.scales.items))
-    ∷ (codes "findings", array_of (ring_values report.layers.items report.rings.items accepted.rings.now ++ gap_values report.gaps.items accepted.gaps.now)) ∷ []
+    ∷ (codes "findings", array_of (finding_values report accepted.rings.now accepted.gaps.now)) ∷ []

@@ -5,12 +5,12 @@ use std::fmt::Write as FmtWrite;
 use std::io::{self, Write};
 use std::test::Fail as Failure;
 
-/// A call of the loader that fails, and what is printed.
+/// A call of the loader that fails, and what is printed. The drill file is loaded before the copper files.
 const CALLS: [(u64, &str); 4] = [
     (1, "device\n"),
-    (2, "device file=1 name=top\n"),
-    (3, "device file=2 name=bot\n"),
-    (4, "device file=3 name=pth\n"),
+    (2, "device file=3 name=pth\n"),
+    (3, "device file=1 name=top\n"),
+    (4, "device file=2 name=bot\n"),
 ];
 
 const COMMANDS: [&[&str]; 2] = [&WORDS, &MEASURE];
@@ -46,8 +46,9 @@ const REFUSED_LAYER: [(&str, &str); 4] = [
 ];
 
 /// The call of the loader that fails, if one does, and the status and the text of a check of this package.
-const AFTER_ALL_FILES: [(u64, Status, &str); 2] = [
-    (4, Status::Device, "device file=3 name=pth\n"),
+const AFTER_ALL_FILES: [(u64, Status, &str); 3] = [
+    (2, Status::Device, "device file=3 name=pth\n"),
+    (4, Status::Device, "device file=2 name=bot\n"),
     (
         0,
         Status::Refused,

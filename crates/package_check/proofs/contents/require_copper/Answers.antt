@@ -1,8 +1,13 @@
-use Rattle.std.proofs.Common.{inr, refl, sym, ◌∙◌}
+use Rattle.std.proofs.Common.{Err, inr, refl, subst, sym, ◌∙◌}
+use Rattle.grid_units.specs.Results.{Answers}
+use Rattle.grid_units.specs.declared.fault.Fail.{Fail}
+use Rattle.package_check.specs.Package.{ReadsCopper}
+use Rattle.package_check.specs.declared.contents.Content.{Content}
 use Rattle.package_check.proofs.contents.require_copper.Goals as goal
 
 pub returns-then-is_copper : goal.returns-then-is_copper
 returns-then-is_copper c = λ bytes read. (read, sym c.is_copper.ensures ∙ c.if-is_copper.true)
 
 pub returns-else-is_copper : goal.returns-else-is_copper
-returns-else-is_copper c = λ bytes read. inr (c.args.layer, read, sym c.is_copper.ensures ∙ c.if-is_copper.false, refl)
+returns-else-is_copper c = λ bytes read.
+    subst (λ (e : Fail). Answers {T = Content} (λ x. x) (ReadsCopper bytes) (Err e)) (sym c.not_copper.ensures) (inr (c.args.layer, read, sym c.is_copper.ensures ∙ c.if-is_copper.false, refl))

@@ -12,7 +12,7 @@ loop-i-preserved g c = λ plain.
     let all = c.args.layers.now in
     let i = c.loop-i.i in
     let names : List (List ℕ) = map (λ name. name.now) page.names.now in
-    let text = layer_text names page.limit page.rings.now page.accepted.now in
+    let text = layer_text names page.rules.now page.limit page.rings.now page.accepted.now in
     let head : LayerHead = get_or all i (record { file = 0; needed = 0 }) in
     let here : i < length c.args.runs.now = omega (arith, c.loop-i-test.true, c.requires.length) in
     let own = (c.requires.runs i (record { layer = 0; first = 0; end = 0 }) here).own in
@@ -24,4 +24,4 @@ pub returns : goal.returns
 returns g c = λ plain ok.
     let page = c.args.page.now in
     let names : List (List ℕ) = map (λ name. name.now) page.names.now in
-    has_written_of_eq _ _ _ _ _ (ap (flat_map (layer_text names page.limit page.rings.now page.accepted.now)) (marks_all 0 c.args.layers.now c.loop-i.i c.loop-i-test.false)) (c.loop-i.invariant plain)
+    has_written_of_eq _ _ _ _ _ (ap (flat_map (layer_text names page.rules.now page.limit page.rings.now page.accepted.now)) (marks_all 0 c.args.layers.now c.loop-i.i c.loop-i-test.false)) (c.loop-i.invariant plain)

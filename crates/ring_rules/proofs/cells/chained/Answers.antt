@@ -19,9 +19,10 @@ loop-place-preserved c =
     let more = chained_more cell n c.loop-place.head.items c.loop-place.next.items c.loop-place.invariant.chained inside in
     let at_cell = subst (λ (w : ℕ). IsChained cell (n + 1) (set c.loop-place.head.items w (n + 1)) (c.loop-place.next.items ++ get_or c.loop-place.head.items w 0 ∷ [])) here more in
     let at_read = subst (λ (w : ℕ). IsChained cell (n + 1) (set c.loop-place.head.items c.cell_of-cell.result (n + 1)) (c.loop-place.next.items ++ w ∷ [])) read at_cell in
+    let at_link = subst (λ (w : ℕ). IsChained cell (n + 1) (set c.loop-place.head.items c.cell_of-cell.result w) (c.loop-place.next.items ++ c.index.result.now ∷ [])) (sym c.in_ok-link.ensures) at_read in
     record {
-      count = length-set c.loop-place.head.items c.cell_of-cell.result (c.loop-place.place + 1) ∙ c.loop-place.invariant.count;
-      chained = subst (λ (ys : List ℕ). IsChained cell (n + 1) (set c.loop-place.head.items c.cell_of-cell.result (n + 1)) ys) (sym c.in_ok-push.ensures.items) at_read;
+      count = length-set c.loop-place.head.items c.cell_of-cell.result c.in_ok-link.link ∙ c.loop-place.invariant.count;
+      chained = subst (λ (ys : List ℕ). IsChained cell (n + 1) (set c.loop-place.head.items c.cell_of-cell.result c.in_ok-link.link) ys) (sym c.in_ok-push.ensures.items) at_link;
     }
 
 pub returns-clause-chained : goal.returns-clause-chained

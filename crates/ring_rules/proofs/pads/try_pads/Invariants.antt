@@ -3,12 +3,12 @@ use Rattle.std.specs.Prelude.{◌&&◌, not}
 use Rattle.std.specs.List.{list_any}
 use Rattle.ring_rules.specs.Spots.{spot_at}
 use Rattle.ring_rules.specs.Inner.Marks.{gives_ring, is_marked}
-use Rattle.ring_rules.specs.Inner.Blocks.{AreClosedUnmarked}
+use Rattle.ring_rules.specs.Inner.Trees.{AreClosedUnmarked}
 use Rattle.ring_rules.proofs.pads.try_pads.Given as goal
 
 -- a mark is left where none of the pads so far covers the hole
 abbrev pub invariant-loop-pad : goal.invariant-loop-pad
 invariant-loop-pad g l = record {
-  closed : AreClosedUnmarked l.grid.cells.x l.grid.cells.y l.grid.cells.spots.items l.grid.blocks.items l.open_blocks l.marks;
-  marked : (i : ℕ) → i < length l.grid.cells.spots.items → is_marked l.marks i ≡ (is_marked l.initial.marks i && not (list_any (gives_ring g.S.PadShape.covers l.rules.ring (spot_at l.grid.cells.spots.items i).hole) (take l.pad-index l.pads)));
+  closed : AreClosedUnmarked l.index.cells.x l.index.cells.y l.index.cells.spots.items l.index.nodes.items l.open_nodes l.marks;
+  marked : (i : ℕ) → i < length l.index.cells.spots.items → is_marked l.marks i ≡ (is_marked l.initial.marks i && not (list_any (gives_ring g.S.PadShape.covers l.index.rules.ring (spot_at l.index.cells.spots.items i).hole) (take l.pad-index l.pads)));
 }

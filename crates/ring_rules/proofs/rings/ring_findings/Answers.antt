@@ -1,8 +1,8 @@
-use Rattle.std.proofs.Common.{◌≡◌, Bool, ◌<◌, List, length, map, get_or, ◌++◌, Bor, ap, sym, ◌∙◌, arith}
+use Rattle.std.proofs.Common.{◌≡◌, ◌<◌, List, length, map, get_or, ◌++◌, Bor, ap, sym, ◌∙◌, arith}
 use Rattle.std.proofs.lemmas.List.{length-map, get_or-map}
 use Rattle.std.specs.List.{flat_map}
-use Rattle.ring_rules.specs.Findings.{layer_findings, is_ring_finding}
-use Rattle.ring_rules.specs.declared.finding.Drilled.{Drilled}
+use Rattle.ring_rules.specs.Findings.{layer_findings}
+use Rattle.grid_units.specs.Holes.{GridRules}
 use Rattle.ring_rules.proofs.EnumeratedLists.{flat_listed_more, enumerated_all}
 use Rattle.ring_rules.proofs.rings.ring_findings.Goals as goal
 
@@ -13,12 +13,10 @@ loop-layer-preserved g c =
     let read : get_or (map (λ (pads : Bor (List g.row.S.Denot)). pads.now) c.args.layers.now) c.loop-layer.layer c.index-layers-layer.result.now ≡ c.index-layers-layer.result.now =
     get_or-map (λ (pads : Bor (List g.row.S.Denot)). pads.now) c.args.layers.now c.loop-layer.layer c.index-layers-layer.result c.index-layers-layer.result.now c.loop-layer-test.true
     ∙ ap (λ (pads : Bor (List g.row.S.Denot)). pads.now) (sym c.index-layers-layer.is) in
-    let pads = c.index-layers-layer.result.now in
-    let test : Drilled → Bool = is_ring_finding g.S.PadShape.covers c.args.rules.ring c.loop-layer.layer pads in
-    let marks : c.deref.result.now ≡ map test c.args.holes.now = c.deref.ensures.value ∙ c.in_ok-lacking.ensures in
-    c.in_ok-layer_findings.ensures test marks
+    c.in_ok-push_layer.ensures
+    ∙ (ap (λ (rules : GridRules). c.loop-layer.findings.items ++ layer_findings g.S.PadShape.covers rules.ring c.args.holes.now c.loop-layer.layer c.index-layers-layer.result.now) c.in_ok-index.ensures.rules
     ∙ (ap (λ pads. c.loop-layer.findings.items ++ layer_findings g.S.PadShape.covers c.args.rules.ring c.args.holes.now c.loop-layer.layer pads) (sym read)
-    ∙ flat_listed_more (λ layer. layer_findings g.S.PadShape.covers c.args.rules.ring c.args.holes.now layer.0 layer.1) c.loop-layer.findings.items (map (λ (pads : Bor (List g.row.S.Denot)). pads.now) c.args.layers.now) c.loop-layer.layer c.index-layers-layer.result.now inside c.loop-layer.invariant)
+    ∙ flat_listed_more (λ layer. layer_findings g.S.PadShape.covers c.args.rules.ring c.args.holes.now layer.0 layer.1) c.loop-layer.findings.items (map (λ (pads : Bor (List g.row.S.Denot)). pads.now) c.args.layers.now) c.loop-layer.layer c.index-layers-layer.result.now inside c.loop-layer.invariant))
 
 pub returns : goal.returns
 returns g c =

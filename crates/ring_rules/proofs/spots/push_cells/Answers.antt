@@ -15,6 +15,6 @@ pub loop-cell-preserved : goal.loop-cell-preserved
 loop-cell-preserved c =
     let cell = cell_of c.args.chains.now.x c.args.chains.now.y in
     let now : List Spot = c.push_cell.new.spots.items in
-    let start : c.push.new.self.items ≡ c.loop-cell.starts.items ++ length c.push_cell.new.spots.items ∷ [] = c.in_ok-push.ensures.items ∙ ap (λ (n : ℕ). c.loop-cell.starts.items ++ n ∷ []) (c.len.ensures ∙ c.push_cell.new.spots.ok.0) in
+    let start : c.push.new.self.items ≡ c.loop-cell.starts.items ++ length c.push_cell.new.spots.items ∷ [] = c.in_ok-push.ensures.items ∙ ap (λ (n : ℕ). c.loop-cell.starts.items ++ n ∷ []) (c.in_ok-start.ensures ∙ (c.len.ensures ∙ c.push_cell.new.spots.ok.0)) in
     subst (λ (xs : List ℕ). AreSpotted cell c.args.holes.now (c.loop-cell.cell + 1) xs now) (sym start)
     (spotted_more cell c.args.holes.now c.loop-cell.cell c.loop-cell.starts.items c.loop-cell.spots.items now c.loop-cell.invariant c.in_ok-push_cell.ensures.adds c.in_ok-push_cell.ensures.all)

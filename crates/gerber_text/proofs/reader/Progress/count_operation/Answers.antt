@@ -1,4 +1,4 @@
-use Rattle.std.proofs.Common.{◌≡◌, ◌+◌, ◌≤◌, Ok, ℕ, List, [], ◌∷◌, ◌++◌, length, take, sym, ap, ◌∙◌, arith, append-nil}
+use Rattle.std.proofs.Common.{◌≡◌, ◌+◌, ◌≤◌, Ok, ℕ, List, [], ◌∷◌, ◌++◌, length, take, sym, ap, ◌∙◌, arith}
 use Rattle.std.proofs.lemmas.List.{length-append, length-take, nil_from_length}
 use Rattle.gerber_commands.specs.declared.command.Command.{Command}
 use Rattle.gerber_commands.specs.declared.command.Command.TheVariants.{Operate}
@@ -6,13 +6,9 @@ use Rattle.grid_units.specs.Limits.{item_limit}
 use Rattle.gerber_text.specs.FastPath.{operation_commands}
 use Rattle.gerber_text.specs.Reading.{Entries, is_plotting, placed, spelled}
 use Rattle.gerber_text.proofs.ReaderStepLemmas.{length-bytes_of}
-use Rattle.gerber_text.proofs.PlottingLemmas.{plots_on, last_operation}
+use Rattle.gerber_text.proofs.PlottingLemmas.{counted_gone, plots_on, last_operation}
 use Rattle.gerber_text.proofs.Items.{takes, spelled_ok}
 use Rattle.gerber_text.proofs.reader.Progress.count_operation.Goals as goal
-
--- commands that are not held count among those that are gone, where no others are held
-counted_gone : (gone held added : Entries) → held ≡ [] → (gone ++ held) ++ added ≡ (gone ++ added) ++ held
-counted_gone gone held added none = (λ i. (gone ++ none i) ++ added) ∙ (ap (λ (x : Entries). x ++ added) (append-nil gone) ∙ (sym (append-nil (gone ++ added)) ∙ (λ i. (gone ++ added) ++ sym none i)))
 
 pub returns-clause-ok : goal.returns-clause-ok
 returns-clause-ok c none_held gone text h =

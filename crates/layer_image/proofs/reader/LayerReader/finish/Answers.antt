@@ -1,5 +1,5 @@
 -- The words are all met, so what is kept is that of the layer of the commands that are gone.
-use Rattle.std.proofs.Common.{◌≡◌, ◌++◌, Ok, refl, ap, subst, ◌∙◌, append-nil}
+use Rattle.std.proofs.Common.{[], ◌≡◌, ◌++◌, Ok, refl, ap, subst, ◌∙◌, append-nil}
 use Rattle.std.proofs.lemmas.Result.{err_from_is_err_and}
 use Rattle.gerber_text.specs.Reading.{Entries, Reads, SpellsBeforeFault}
 use Rattle.gerber_text.specs.Holding.{held}
@@ -8,19 +8,26 @@ use Rattle.layer_image.proofs.Reading.{legal_layer}
 use Rattle.layer_image.proofs.Pieces.{end_err}
 use Rattle.layer_image.proofs.reader.LayerReader.finish.Goals as goal
 
-pub returns-in_err-finish-clause-exact : goal.returns-in_err-finish-clause-exact
-returns-in_err-finish-clause-exact c keep text h =
+pub returns-in_err-finish-clause-rest : goal.returns-in_err-finish-clause-rest
+returns-in_err-finish-clause-rest c keep taken text h =
     let p = err_from_is_err_and c.from_residual.result c.from_residual.ensures.1 in
     let e = c.in_err-finish.field-0.0 in
     let none : h.gone ++ held c.args.self.words ≡ h.gone = ap (λ (x : Entries). h.gone ++ x) h.none ∙ append-nil h.gone in
-    rw (p.1, p.2) (end_err text h.gone keep e (c.in_err-finish.ensures.exact h.gone text h.words) (subst (SpellsBeforeFault text e) none (c.in_err-finish.ensures.kept h.gone text h.words)) h.scanned.legal)
+    rw (p.1, p.2) (end_err text h.gone keep taken e (c.in_err-finish.ensures.exact h.gone text h.words) (subst (SpellsBeforeFault text e) none (c.in_err-finish.ensures.kept h.gone text h.words)) h.scanned.legal)
 
-pub returns-clause-exact : goal.returns-clause-exact
-returns-clause-exact c keep text h =
+pub returns-clause-rest : goal.returns-clause-rest
+returns-clause-rest c keep taken text h =
     let none : h.gone ++ c.in_ok-finish.field-0.items ≡ h.gone = ap (λ (x : Entries). h.gone ++ x) (c.in_ok-finish.ensures.held ∙ h.none) ∙ append-nil h.gone in
     let reads = subst (λ (x : Entries). Reads text (Ok x)) none (c.in_ok-finish.ensures.exact h.gone text h.words) in
     let flashes = h.scanned.met.is_state.flashes in (
       image_of h.gone,
       legal_layer text h.gone (image_of h.gone) reads h.scanned.legal refl,
-      λ i. record { commands = h.kept i; flashes = flashes.all i; pads = flashes.pads i; other = flashes.others i; file_function = h.scanned.met.named i },
+      λ i. record { commands = h.kept i; flashes = flashes.all i; pads = flashes.pads i; pad_count = c.pad_count-pad_count.ensures _ _ flashes i; other = flashes.others i; file_function = h.scanned.met.named i },
     )
+
+-- no pads were taken
+pub returns-in_err-finish-clause-exact : goal.returns-in_err-finish-clause-exact
+returns-in_err-finish-clause-exact c keep text h = returns-in_err-finish-clause-rest c keep [] text h
+
+pub returns-clause-exact : goal.returns-clause-exact
+returns-clause-exact c keep text h = returns-clause-rest c keep [] text h

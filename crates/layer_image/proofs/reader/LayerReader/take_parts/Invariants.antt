@@ -1,6 +1,7 @@
 use Rattle.std.proofs.Common.{◌≡◌, ◌≤◌, ◌-◌, ◌++◌, ℕ, List, length, take, false}
+use Rattle.pad_shapes.specs.declared.pad.Pad.{Pad}
 use Rattle.layer_image.specs.declared.keep.Keep.{Keep}
-use Rattle.layer_image.specs.Holding.{LayerStandsAfter}
+use Rattle.layer_image.specs.Holding.{LayerStandsAfterPads}
 use Rattle.layer_image.specs.KeptFlashes.{keeps_commands}
 use Rattle.layer_image.proofs.reader.LayerReader.take_parts.Given as goal
 
@@ -8,7 +9,7 @@ abbrev pub invariant-loop-taken : goal.invariant-loop-taken
 invariant-loop-taken l = record {
   within : l.taken ≤ length l.piece;
   dropped : keeps_commands l.self.keep ≡ false;
-  stands : (keep : Keep) (text : List ℕ) → LayerStandsAfter l.initial.self keep text → LayerStandsAfter l.self keep (text ++ take l.taken l.piece);
+  stands : (keep : Keep) (taken : List Pad) (text : List ℕ) → LayerStandsAfterPads l.initial.self keep taken text → LayerStandsAfterPads l.self keep taken (text ++ take l.taken l.piece);
 }
 
 abbrev pub decreases-loop-taken : goal.decreases-loop-taken

@@ -16,7 +16,7 @@ use Rattle.layer_image.proofs.UniqueReading.{sound}
 use Rattle.layer_image.proofs.scan.Scan.operate.Goals as goal
 
 pub returns-in-Ok-clause-ok : goal.returns-in-Ok-clause-ok
-returns-in-Ok-clause-ok c keep before h =
+returns-in-Ok-clause-ok c parts before h =
     let passed = c.args.passed in
     let found = passed.operation in
     let old = c.args.self.now in
@@ -24,12 +24,12 @@ returns-in-Ok-clause-ok c keep before h =
     let what = Operate found.action found.x found.y found.i found.j in
     let e : Placed Command = record { place = passed.place; byte = passed.byte; what = what } in
     let so_far : Entries = before ++ placed passed.place passed.byte (modes_of found.mode) in
-    let still = mode_scanned old keep before passed.place passed.byte found.mode h in
-    let answer = operation_result keep (without_places so_far) old new found.action found.x found.y found.i found.j (Ok tt) refl still.met (c.in-Ok.ensures keep (without_places so_far) still.met.is_state) in
-    subst (HasScannedLegal new keep) (operation_last before passed.place passed.byte found.mode what) (scanned_more old new keep so_far e still answer)
+    let still = mode_scanned old parts before passed.place passed.byte found.mode h in
+    let answer = operation_result parts (without_places so_far) old new found.action found.x found.y found.i found.j (Ok tt) refl still.met (c.in-Ok.ensures parts (without_places so_far) still.met.is_state) in
+    subst (HasScannedLegal new parts) (operation_last before passed.place passed.byte found.mode what) (scanned_more old new parts so_far e still answer)
 
 pub returns-in-Err-clause-refused : goal.returns-in-Err-clause-refused
-returns-in-Err-clause-refused c keep before h =
+returns-in-Err-clause-refused c parts before h =
     let passed = c.args.passed in
     let found = passed.operation in
     let old = c.args.self.now in
@@ -37,7 +37,7 @@ returns-in-Err-clause-refused c keep before h =
     let what = Operate found.action found.x found.y found.i found.j in
     let e : Placed Command = record { place = passed.place; byte = passed.byte; what = what } in
     let so_far : Entries = before ++ placed passed.place passed.byte (modes_of found.mode) in
-    let still = mode_scanned old keep before passed.place passed.byte found.mode h in
-    let answer = operation_result keep (without_places so_far) old new found.action found.x found.y found.i found.j (Err c.in-Err.stop) refl still.met (c.in-Err.ensures keep (without_places so_far) still.met.is_state) in
-    let first = stop_is_first_fault keep so_far [] e new c.in-Err.stop (sound so_far still.legal) answer in
+    let still = mode_scanned old parts before passed.place passed.byte found.mode h in
+    let answer = operation_result parts (without_places so_far) old new found.action found.x found.y found.i found.j (Err c.in-Err.stop) refl still.met (c.in-Err.ensures parts (without_places so_far) still.met.is_state) in
+    let first = stop_is_first_fault parts so_far [] e new c.in-Err.stop (sound so_far still.legal) answer in
     subst (IfFault (IsFirstFault (before ++ placed passed.place passed.byte (modes_of found.mode ++ what ∷ [])))) (sym c.fail_at.ensures) (subst (λ (l : Entries). IfFault (IsFirstFault l) (fail_at passed.place passed.byte c.in-Err.stop)) (operation_last before passed.place passed.byte found.mode what) first)

@@ -17,17 +17,17 @@ use Rattle.layer_image.proofs.scan.Scan.scan.Goals as goal
 use Rattle.gerber_text.specs.Writing.{without_places}
 
 pub loop-entry-preserved : goal.loop-entry-preserved
-loop-entry-preserved c keep before h =
+loop-entry-preserved c parts before h =
     let cs = c.args.entries.now in
     let i = c.loop-entry.entry-index in
     let e = c.entry-item.result in
-    let old = c.loop-entry.invariant keep before h in
+    let old = c.loop-entry.invariant parts before h in
     let so_far = before ++ take i cs in
     let more : before ++ take (i + 1) cs ≡ so_far ++ e ∷ [] = ap (λ (x : Entries). before ++ x) (take_next cs i e (omega arith) c.entry-item.is) ∙ sym (append_assoc before (take i cs) (e ∷ [])) in
     let whats : without_places (before ++ take (i + 1) cs) ≡ without_places so_far ++ e.what ∷ [] = ap without_places more ∙ map-append (λ (d : Placed Command). d.what) so_far (e ∷ []) in
-    let answer = c.in-Ok.ensures keep (without_places so_far) old.met in
+    let answer = c.in-Ok.ensures parts (without_places so_far) old.met in
     record {
-      met = subst (HasScanned c.scan_one.new.self keep) (sym whats) answer.1;
+      met = subst (HasScanned c.scan_one.new.self parts) (sym whats) answer.1;
       legal = ap (violations broken_rule) whats ∙ violations-more broken_rule (without_places so_far) e.what old.legal answer.0;
     }
 
@@ -43,7 +43,7 @@ returns-in-Err-clause-refused c all before h =
     subst (IfFault (IsFirstFault (before ++ cs))) (sym c.fail_at.ensures) (subst (λ (l : Entries). IfFault (IsFirstFault l) (fail_at e.place e.byte c.in-Err.stop)) whole first)
 
 pub returns-clause-ok : goal.returns-clause-ok
-returns-clause-ok c keep before h =
+returns-clause-ok c parts before h =
     let cs = c.args.entries.now in
     let i = c.loop-entry.entry-index in
-    subst (λ (x : Entries). HasScannedLegal c.loop-entry.self keep (before ++ x)) (take_all i cs (omega arith)) (c.loop-entry.invariant keep before h)
+    subst (λ (x : Entries). HasScannedLegal c.loop-entry.self parts (before ++ x)) (take_all i cs (omega arith)) (c.loop-entry.invariant parts before h)

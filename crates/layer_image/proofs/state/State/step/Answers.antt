@@ -9,9 +9,9 @@ use Rattle.layer_image.proofs.state.State.step.Goals as goal
 pub returns-in-Some-clause-judges : goal.returns-in-Some-clause-judges
 returns-in-Some-clause-judges c =
     let broken : first_broken (state_of c.args.self.now) (flash_count c.args.self.now.flashes) c.args.command.now ≡ Some c.in-Some.reason = cc (c.broken_rule.ensures, c.in-Some.is) in
-    λ keep before is_state. sym (same_rule _ keep before _ is_state) ∙ broken
+    λ parts before is_state. sym (same_rule _ parts before _ is_state) ∙ broken
 
 pub returns-clause-judges : goal.returns-clause-judges
 returns-clause-judges c =
     let legal : first_broken (state_of c.args.self.now) (flash_count c.args.self.now.flashes) c.args.command.now ≡ None = cc (c.broken_rule.ensures, c.in_default.is) in
-    λ keep before is_state. (sym (same_rule _ keep before _ is_state) ∙ legal, state_after_one_more _ _ keep before _ is_state c.in_ok-take.ensures)
+    λ parts before is_state. (sym (same_rule _ parts before _ is_state) ∙ legal, state_after_one_more _ _ parts before _ is_state c.in_ok-take.ensures)

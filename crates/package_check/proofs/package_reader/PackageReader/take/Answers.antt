@@ -1,36 +1,22 @@
-use Rattle.std.proofs.Common.{◌++◌, ◌∷◌, [], Option, OnOk, sym, subst, ◌∙◌}
-use Rattle.std.proofs.lemmas.Result.{on_ok_weaker}
-use Rattle.grid_units.specs.declared.fault.Fail.{Fail}
+use Rattle.std.proofs.Common.{Option, ap, sym, ◌∙◌}
 use Rattle.package_check.specs.Package.{FileView}
-use Rattle.package_check.specs.Holding.{AddsFlashes, ReadSoFar}
+use Rattle.package_check.specs.Holding.{TakesFile, next_stop}
+use Rattle.package_check.specs.declared.PackageFault.{PackageFault}
+use Rattle.package_check.proofs.FlashReadingLemmas.{held}
 use Rattle.package_check.proofs.PiecesLemmas.{joined}
-use Rattle.package_check.proofs.TakeSteps.{flashes_added, next_said, none_of, ok_where_none, some_of, still_read}
+use Rattle.package_check.proofs.TakeSteps.{not_wanted, read_named, wanted}
 use Rattle.package_check.proofs.package_reader.PackageReader.take.Goals as goal
 
-pub returns-then-is_stopped-clause-stands : goal.returns-then-is_stopped-clause-stands
-returns-then-is_stopped-clause-stands c keep sources name stands =
-    let some = some_of c.args.self.now.stopped (sym c.is_stopped.ensures ∙ c.if-is_stopped.true) in
+pub returns-then-not-is_wanted-clause-stands : goal.returns-then-not-is_wanted-clause-stands
+returns-then-not-is_wanted-clause-stands c name =
     let s : FileView = record { role = c.args.role; name = name; span = c.args.span; bytes = joined c.args.pieces.now; layers = c.args.self.now.layers } in
-    on_ok_weaker c.outcome.result (λ read. record {
-      keeps = stands.keeps;
-      read = read;
-      flashes = λ keeps none. absurd (some none);
-    }) (still_read c.args.self.now.stopped c.args.self.now.contents.items sources s c.outcome.result some stands.read)
+    held c.outcome.result (TakesFile c.args.self.now c.args.self.now c.args.index s) (not_wanted c.args.self.now c.args.index s (sym c.is_wanted.ensures ∙ c.if-not-is_wanted.true))
 
 pub returns-clause-stands : goal.returns-clause-stands
-returns-clause-stands c keep sources name stands =
+returns-clause-stands c name =
     let old = c.args.self.now in
-    let new = c.read_next-read.new.self in
-    let none_before = none_of old.stopped (sym c.is_stopped.ensures ∙ c.if-is_stopped.false) in
-    let read = subst (λ (st : Option Fail). ReadSoFar st old.contents.items sources) none_before stands.read in
+    let new = c.read_at-read.new.self in
     let s : FileView = record { role = c.args.role; name = name; span = c.args.span; bytes = joined c.args.pieces.now; layers = old.layers } in
-    on_ok_weaker c.outcome-2.result (λ so_far. record {
-      keeps = c.read_next-read.ensures.keep ∙ stands.keeps;
-      read = so_far;
-      flashes = λ keeps none.
-          flashes_added c.unique_reading.ensures keep old.keep sources s old.flashes.items new.flashes.items stands.keeps keeps
-          (ok_where_none c.read_next-read.result (AddsFlashes old.keep c.args.role s.bytes old.flashes.items new.flashes.items) (sym c.err-self.ensures.value ∙ none) c.read_next-read.ensures.flashes)
-          (stands.flashes keeps none_before);
-    }) (subst (λ (st : Option Fail). OnOk c.outcome-2.result (ReadSoFar st new.contents.items (sources ++ s ∷ []))) (sym c.err-self.ensures.value)
-    (next_said c.args.role c.args.span s.bytes old.layers name old.contents.items new.contents.items sources c.read_next-read.result c.outcome-2.result
-    (λ e. c.outcome-2.ensures.failed (c.err-self.ensures.value ∙ e)) c.read_next-read.ensures.next read))
+    wanted old _ c.args.index s c.read_at-read.result c.outcome-2.result (sym c.is_wanted.ensures ∙ c.if-not-is_wanted.false) c.read_at-read.ensures.keep
+    (read_named old.keep c.args.index c.args.role name c.args.span s.bytes old.layers old.slots.items new.slots.items c.read_at-read.result c.read_at-read.ensures.read)
+    (c.next_stop-self.ensures ∙ ap (λ (st : Option PackageFault). next_stop st c.args.index c.read_at-read.result) c.read_at-read.ensures.stopped) c.outcome-2.ensures.failed

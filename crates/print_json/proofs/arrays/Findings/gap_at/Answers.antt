@@ -1,4 +1,4 @@
-use Rattle.std.proofs.Common.{◌≡◌, ◌∙◌, ap, get_or, List}
+use Rattle.std.proofs.Common.{◌≡◌, ◌+◌, ◌∙◌, ap, get_or, length, List, ℕ}
 use Rattle.report.specs.declared.GapLack.{GapLack}
 use Rattle.print_json.proofs.Lists.{gap_at}
 use Rattle.print_json.proofs.arrays.Findings.gap_at.Goals as goal
@@ -9,5 +9,6 @@ returns c =
     let one = c.index-as_slice-place.result in
     let why = c.acceptance_of.ensures in
     let lack : one ≡ get_or report.gaps.items c.args.place one = c.index-as_slice-place.is ∙ ap (λ (xs : List GapLack). get_or xs c.args.place one) c.as_slice.ensures.value in
-    let is = gap_at report.gaps.items c.args.self.now.accepted.now.gaps.now c.args.place one c.requires in
+    let number : c.ring_count.result + (c.args.place + 1) ≡ length report.rings.items + (c.args.place + 1) = ap (λ (n : ℕ). n + (c.args.place + 1)) c.ring_count.ensures.value in
+    let is = gap_at (length report.rings.items) report.gaps.items c.args.self.now.accepted.now.gaps.now c.args.place one c.requires in
     cc

@@ -1,12 +1,17 @@
-use Rattle.std.proofs.Common.{ℕ, List, ap₂}
+use Rattle.std.proofs.Common.{◌∙◌, ℕ, List, ap, ap₂, map}
 use Rattle.std.proofs.Output.{has_written_of_eq}
-use Rattle.print_text.specs.Texts.{scale_words}
+use Rattle.printing.specs.Holes.{name_of}
+use Rattle.print_text.specs.Texts.{scale_words, size_words}
 use Rattle.print_text.proofs.lines.UnitMistakeLineFileNames.fmt_on.Goals as goal
 
 pub returns : goal.returns
 unfolding scale_words
 returns g c = record {
-  writes = λ plain ok. has_written_of_eq _ _ _ _ _
-      (ap₂ (λ (name factor : List ℕ). scale_words name c.args.self.now.bare factor c.args.self.now.then) c.name_of-name.ensures c.factor_word-factor.ensures)
+  writes = λ plain ok.
+      let line = c.args.self.now in
+      let name : List ℕ = name_of (map (λ name. name.now) c.args.page.now.0.now) line.drill in
+      has_written_of_eq _ _ _ _ _
+      (ap₂ (λ (file size : List ℕ). scale_words file size line.bare c.factor_word-factor.result.now line.then) c.name_of-name.ensures c.size_words-size.ensures
+      ∙ ap (λ (factor : List ℕ). scale_words name (size_words line.factor) line.bare factor line.then) c.factor_word-factor.ensures)
       (c.write.ensures.writes plain ok);
 }

@@ -1,0 +1,5 @@
+use Rattle.layer_image.specs.KeptFlashes.{without_pads}
+use Rattle.layer_image.proofs.reader.LayerReader.clear_pads.Goals as goal
+
+pub returns-clause-gone : goal.returns-clause-gone
+returns-clause-gone c keep taken text h = record { sound = h.sound; same = h.same; gone = h.gone; words = h.words; none = h.none; scanned = c.clear_pads.ensures.gone (without_pads keep taken) h.gone h.scanned; kept = h.kept }

@@ -1,0 +1,12 @@
+use Rattle.std.proofs.Common.{◌<◌, length}
+use Rattle.std.specs.List.{All}
+use Rattle.margins.specs.Inner.BestPads.{AllImprove, AreTriedOrLarge}
+use Rattle.margins.proofs.bests.PadsOnBoard.try_small.Given as goal
+
+-- each pad so far was tried or is listed
+abbrev pub invariant-loop-place : goal.invariant-loop-place
+invariant-loop-place g l = record {
+  improves : AllImprove g.S.PadShape.covers l.self.pads.now l.self.holes.now l.initial.bests l.bests;
+  large : All (λ k. k < length l.self.pads.now) l.large.items;
+  tried : AreTriedOrLarge g.S.PadShape.covers l.self.pads.now l.place l.self.holes.now l.large.items l.bests;
+}

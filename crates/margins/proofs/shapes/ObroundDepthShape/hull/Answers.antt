@@ -1,0 +1,13 @@
+use Rattle.std.proofs.Common.{◌≡◌, ℕ, ◌-◌, min, ap, ◌∙◌}
+use Rattle.pad_shapes.specs.Shapes.{end_radius}
+use Rattle.margins.proofs.HullLemmas.{obround_hull}
+use Rattle.margins.proofs.PassedIntegers.{natural}
+use Rattle.margins.proofs.shapes.ObroundDepthShape.hull.Goals as goal
+
+pub returns : goal.returns
+returns c =
+    let half_x : c.unsigned_abs-half_x.result ≡ c.args.self.now.half_x = natural c.half_x.result c.args.self.now.half_x c.unsigned_abs-half_x.result c.half_x.type_inv c.half_x.ensures.value c.unsigned_abs-half_x.ensures.value in
+    let half_y : c.unsigned_abs-half_y.result ≡ c.args.self.now.half_y = natural c.half_y.result c.args.self.now.half_y c.unsigned_abs-half_y.result c.half_y.type_inv c.half_y.ensures.value c.unsigned_abs-half_y.ensures.value in
+    let radius : c.min-radius.result ≡ end_radius c.args.self.now = c.min-radius.ensures ∙ (ap (λ (n : ℕ). min n c.unsigned_abs-half_y.result) half_x ∙ ap (min c.args.self.now.half_x) half_y) in
+    let less : (a b m n : ℕ) → a ≡ m → b ≡ n → a - b ≡ m - n = λ a b m n e f. ap (λ (k : ℕ). k - b) e ∙ ap (λ (k : ℕ). m - k) f in
+    obround_hull c.args.self.now _ c.centre.ensures half_x half_y radius (less _ _ _ _ half_x radius) (less _ _ _ _ half_y radius) radius

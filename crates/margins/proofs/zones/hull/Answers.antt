@@ -1,0 +1,19 @@
+use Rattle.std.proofs.Common.{arith}
+use Rattle.std.proofs.lemmas.Int.{ints, clamps}
+use Rattle.margins.proofs.zones.hull.Goals as goal
+
+pub returns-clause-first : goal.returns-clause-first
+returns-clause-first c = λ p was. record {
+  left = (let h = was.left in omega (arith, ints, clamps, h));
+  right = (let h = was.right in omega (arith, ints, clamps, h));
+  bottom = (let h = was.bottom in omega (arith, ints, clamps, h));
+  top = (let h = was.top in omega (arith, ints, clamps, h));
+}
+
+pub returns-clause-second : goal.returns-clause-second
+returns-clause-second c = λ p was. record {
+  left = (let h = was.left in omega (arith, ints, clamps, h));
+  right = (let h = was.right in omega (arith, ints, clamps, h));
+  bottom = (let h = was.bottom in omega (arith, ints, clamps, h));
+  top = (let h = was.top in omega (arith, ints, clamps, h));
+}

@@ -1,0 +1,94 @@
+//! What a reader keeps of the files of a package, each in a slot at its index.
+
+ghost use Rattle.std.specs.Prelude.{◌≡◌, ◌≤◌, ◌<◌, ◌++◌, ℕ, IfOk, OnOk, length, map};
+ghost use Rattle.std.specs.List.{flat_map};
+ghost use Rattle.package_check.specs.Boards.{board_of};
+ghost use Rattle.package_check.specs.Holding.{IsPutAt, contents_in, flashes_in, kept_at};
+
+use crate::Board;
+use crate::board::board_of;
+use crate::contents::Content;
+use crate::lists::push;
+use layer_image::Flash;
+use std::alloc::{AllocError, Global};
+
+/// What is kept of a file: its content, and its flashes where they are kept.
+#[derive(Drop)]
+pub(crate) struct Kept {
+    pub(crate) content: Content,
+    pub(crate) flashes: Vec<Flash>,
+}
+
+/// Appends empty slots until there is one at this index.
+#[tactic(auto, using(crate::proofs::SlotLemmas::empty_more))]
+fn lengthen<T: Drop>(slots: &mut Vec<Option<T>>, index: usize) -> Result<(), AllocError>
+    ensures same { OnOk result ((i : ℕ) → kept_at slots.new.items i ≡ kept_at slots.old.items i) }
+    ensures long { OnOk result (index < length slots.new.items) }
+    ensures size { OnOk result ((n : ℕ) → length slots.old.items ≤ n → index < n → length slots.new.items ≤ n) }
+{
+    while slots.len() <= index {
+        push(slots, None)?;
+    }
+    Ok(())
+}
+
+/// Puts what is kept of a file into the slot at its index. What was there is freed.
+#[tactic(auto, using(crate::proofs::SlotLemmas::slot_filled))]
+pub(crate) fn put<T: Drop>(
+    slots: &mut Vec<Option<T>>,
+    index: usize,
+    one: T,
+) -> Result<(), AllocError>
+    ensures { OnOk result (IsPutAt index one slots.old.items slots.new.items) }
+{
+    lengthen(slots, index)?;
+    slots[index] = Some(one);
+    Ok(())
+}
+
+/// Moves the content and the flashes in a slot to the lists of their kinds.
+fn add_slot(
+    contents: &mut Vec<Content>,
+    flashes: &mut Vec<Vec<Flash>>,
+    slot: Option<Kept>,
+) -> Result<(), AllocError>
+    ensures contents { OnOk result (contents.new.items ≡ contents.old.items ++ contents_in slot) }
+    ensures flashes { OnOk result (map (λ f. f.items) flashes.new.items ≡ map (λ f. f.items) flashes.old.items ++ flashes_in slot) }
+{
+    match slot {
+        Some(kept) => {
+            let Kept {
+                content,
+                flashes: own,
+            } = kept;
+            push(contents, content)?;
+            push(flashes, own)
+        }
+        None => Ok(()),
+    }
+}
+
+/// Moves the contents and the flashes in the slots to the lists of their kinds, slot by slot.
+fn add_slots(
+    contents: &mut Vec<Content>,
+    flashes: &mut Vec<Vec<Flash>>,
+    slots: Vec<Option<Kept>>,
+) -> Result<(), AllocError>
+    ensures contents { OnOk result (contents.new.items ≡ contents.old.items ++ flat_map contents_in slots.items) }
+    ensures flashes { OnOk result (map (λ f. f.items) flashes.new.items ≡ map (λ f. f.items) flashes.old.items ++ flat_map flashes_in slots.items) }
+{
+    for slot in slots {
+        add_slot(contents, flashes, slot)?;
+    }
+    Ok(())
+}
+
+/// The board of the files whose slots are filled, in the order of their indexes.
+pub(crate) fn board_of_slots(alloc: Global, slots: Vec<Option<Kept>>) -> Result<Board, AllocError>
+    ensures { IfOk result (λ board. board ≡ board_of (flat_map contents_in slots.items) (flat_map flashes_in slots.items)) }
+{
+    let mut contents = Vec::with_capacity(alloc, slots.len())?;
+    let mut flashes = Vec::with_capacity(alloc, slots.len())?;
+    add_slots(&mut contents, &mut flashes, slots)?;
+    board_of(alloc, contents, flashes)
+}

@@ -1,0 +1,13 @@
+use Rattle.std.proofs.Common.{◌++◌, ℕ, List, ap, map}
+use Rattle.std.specs.List.{flat_map}
+use Rattle.std.proofs.Output.{has_written_of_eq}
+use Rattle.report.specs.declared.UnitMistake.{UnitMistake}
+use Rattle.print_text.specs.Texts.{head_text, rules_line, scale_line}
+use Rattle.print_text.proofs.report_text.HeadTextDisplay.fmt.Goals as goal
+
+pub returns-clause-writes : goal.returns-clause-writes
+unfolding head_text
+returns-clause-writes g c = λ plain ok.
+    let text = c.args.self.now in
+    let names : List (List ℕ) = map (λ name. name.now) text.names.now in
+    has_written_of_eq _ _ _ _ _ (ap (λ (lines : List UnitMistake). flat_map (scale_line names) lines ++ rules_line text.report.now.rules) c.deref.ensures.value) (c.write.ensures.writes plain ok)

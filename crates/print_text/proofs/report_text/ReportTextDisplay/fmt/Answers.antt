@@ -1,0 +1,33 @@
+use Rattle.std.proofs.Common.{◌≡◌, ◌∙◌, ◌+◌, ◌++◌, ℕ, List, ap₂, arith, length, map, refl}
+use Rattle.std.specs.List.{enumerate_from, flat_map}
+use Rattle.std.proofs.Output.{has_written_append, has_written_of_eq}
+use Rattle.report.specs.declared.GapLack.{GapLack}
+use Rattle.report.specs.declared.LayerHead.{LayerHead}
+use Rattle.report.specs.declared.RingLack.{RingLack}
+use Rattle.print_text.specs.Texts.{causes_text, gaps_text, head_text, last_lines, layer_text, summary_text, waived_report_text}
+use Rattle.print_text.proofs.report_text.ReportTextDisplay.fmt.Goals as goal
+
+pub returns-clause-writes : goal.returns-clause-writes
+returns-clause-writes g c = λ plain ok.
+    let report = c.self.inside.report.now in
+    let limit = c.self.inside.limit in
+    let accepted = c.self.inside.accepted.now in
+    let names : List (List ℕ) = map (λ name. name.now) c.self.inside.names.now in
+    let text = waived_report_text names report limit accepted in
+    let by = λ (rings : List RingLack) (before : ℕ) (gaps : List GapLack) (layers : List LayerHead).
+    (head_text names report
+    ++ (flat_map (layer_text names report.rules limit rings accepted.rings.now) (enumerate_from 0 layers)
+    ++ (gaps_text names report.rules limit before gaps accepted.gaps.now ++ summary_text names (length rings + length gaps) layers rings)))
+    ++ (causes_text report ++ last_lines report accepted.rings.now accepted.gaps.now accepted.idle.now) in
+    let rings : c.deref.result.now ≡ report.rings.items = c.deref.ensures.value in
+    let gaps : c.deref-2.result.now ≡ report.gaps.items = c.deref-2.ensures.value in
+    let layers : c.deref-4.result.now ≡ report.layers.items = c.deref-4.ensures.value in
+    let before : c.len.result ≡ length report.rings.items = omega (arith, c.len.ensures) in
+    let same : by c.deref.result.now c.len.result c.deref-2.result.now c.deref-4.result.now ≡ text =
+    ap₂ (λ (r : List RingLack) (n : ℕ). by r n c.deref-2.result.now c.deref-4.result.now) rings before
+    ∙ ap₂ (λ (g : List GapLack) (l : List LayerHead). by report.rings.items (length report.rings.items) g l) gaps layers in
+    let view = c.self.view_is in
+    let back : text ≡ c.args.self.now = cc in
+    let first = c.in_ok-write.ensures.writes plain refl in
+    let second = c.in_ok-write_findings.ensures first.plain refl in
+    has_written_of_eq _ _ _ _ _ (same ∙ back) (has_written_append _ _ _ _ _ _ (has_written_append _ _ _ _ _ _ first second) (c.write-2.ensures.writes second.plain ok))

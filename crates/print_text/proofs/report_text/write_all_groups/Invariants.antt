@@ -1,0 +1,9 @@
+use Rattle.std.proofs.Common.{map, take}
+use Rattle.std.specs.Fmt.{HasWritten, IsPlainFormatter}
+use Rattle.std.specs.List.{enumerate_from, flat_map}
+use Rattle.print_text.specs.Texts.{groups_text}
+use Rattle.print_text.proofs.report_text.write_all_groups.Given as goal
+
+abbrev pub invariant-loop-i : goal.invariant-loop-i
+invariant-loop-i g l =
+    IsPlainFormatter l.initial.f → HasWritten g.W.Write.write_str_gives l.initial.f (flat_map (groups_text (map (λ name. name.now) l.page.names.now) l.page.rings.now) (take l.i (enumerate_from 0 l.layers))) l.f

@@ -1,0 +1,15 @@
+use Rattle.std.proofs.Common.{◌≡◌, ℕ, ◌+◌, ◌<◌, Bool, false, List, length, get_or, sym, subst, arith}
+use Rattle.std.proofs.lemmas.List.{length_push}
+use Rattle.ring_rules.specs.Spots.{spot_at}
+use Rattle.ring_rules.specs.Inner.Marks.{is_marked}
+use Rattle.ring_rules.proofs.MarksAfterPads.{own_more}
+use Rattle.ring_rules.proofs.layer_search.marks_of_spots.Goals as goal
+
+pub loop-spot-preserved : goal.loop-spot-preserved
+loop-spot-preserved c = subst (λ (xs : List Bool). record {
+  size : length xs ≡ c.loop-spot.spot-index + 1;
+  same : (i : ℕ) → i < c.loop-spot.spot-index + 1 → is_marked xs i ≡ is_marked c.args.marks.now (spot_at c.args.spots.now i).place;
+}) (sym c.in_ok-push.ensures.items) (record {
+  size = omega (arith, length_push c.loop-spot.own.items (get_or c.args.marks.now c.spot-item.result.place false), c.loop-spot.invariant.size);
+  same = own_more c.args.spots.now c.args.marks.now c.loop-spot.own.items c.loop-spot.spot-index c.spot-item.result c.loop-spot-test.true c.spot-item.is c.loop-spot.invariant.size c.loop-spot.invariant.same;
+})

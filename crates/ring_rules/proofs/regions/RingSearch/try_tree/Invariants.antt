@@ -1,0 +1,16 @@
+use Rattle.std.proofs.Common.{◌≤◌, ◌-◌, length}
+use Rattle.ring_rules.specs.Inner.Marks.{gives_ring_at, RemovesMarks}
+use Rattle.ring_rules.specs.Inner.Trees.{AreClosedUnmarked, NoMarkPassesInLeaves}
+use Rattle.ring_rules.proofs.regions.RingSearch.try_tree.Given as goal
+
+-- the leaves so far are tried
+abbrev pub invariant-loop-i : goal.invariant-loop-i
+invariant-loop-i g l = record {
+  within : l.i ≤ length l.nodes;
+  removes : RemovesMarks (gives_ring_at g.S.PadShape.covers l.self.rules.ring l.self.cells.now.spots.items l.pad) l.initial.marks l.marks;
+  closed : AreClosedUnmarked l.self.cells.now.x l.self.cells.now.y l.self.cells.now.spots.items l.nodes l.open_nodes l.marks;
+  tried : NoMarkPassesInLeaves (gives_ring_at g.S.PadShape.covers l.self.rules.ring l.self.cells.now.spots.items l.pad) l.self.cells.now.x l.self.cells.now.y l.self.cells.now.spots.items l.nodes 0 l.i l.marks;
+}
+
+abbrev pub decreases-loop-i : goal.decreases-loop-i
+decreases-loop-i g l = length l.nodes - l.i

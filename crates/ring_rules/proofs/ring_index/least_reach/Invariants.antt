@@ -1,0 +1,10 @@
+use Rattle.std.proofs.Common.{ℕ, ◌+◌, ◌<◌, ◌≤◌}
+use Rattle.ring_rules.specs.Spots.{spot_at}
+use Rattle.ring_rules.proofs.ring_index.least_reach.Given as goal
+
+-- the holes so far ask for no less
+abbrev pub invariant-loop-spot : goal.invariant-loop-spot
+invariant-loop-spot l = record {
+  least : (i : ℕ) → i < l.spot-index → l.least ≤ (spot_at l.spots i).hole.radius + l.rules.ring;
+  bound : l.least ≤ 15000000000000;
+}

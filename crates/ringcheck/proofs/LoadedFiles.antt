@@ -1,0 +1,241 @@
+-- Files of a package that were loaded, whatever their order.
+use Rattle.std.proofs.Common.{◌≡◌, ◌≢◌, ◌<◌, ◌≤◌, ◌↔◌, ◌+◌, ◌||◌, ◌&&◌, eqb, ltb, ℕ, zero, suc, Bool, true, false, not, List, [], ◌∷◌, length, map, take, set, get_or, slice_get, Option, Some, None, inl, inr, arith, refl, sym, ap, subst, ◌∙◌}
+use Rattle.std.proofs.lemmas.Bool.{and_left, and_right, both_ways, cases_lt, eqb-true, le-ltb, lt-ltb, or_cases, or_from}
+use Rattle.std.specs.Option.{option_or}
+use Rattle.std.proofs.lemmas.List.{get_or-set_other, get_or-set_same, length-set, length-take-le, take_all}
+use Rattle.std.proofs.lemmas.Option.{none-some, same_Some, slice_get_within}
+use Rattle.layer_image.specs.declared.keep.Keep.{Keep}
+use Rattle.manifest.specs.declared.Entry.{Entry}
+use Rattle.package_check.specs.Holding.{HasTaken, HasTakenAll, copper_files, is_kind}
+use Rattle.package_check.specs.Package.{FileView, is_copper}
+use Rattle.package_check.specs.declared.package_reader.PackageReader.{PackageReader}
+use Rattle.package_check.proofs.TakeSteps.{all_taken, none_below, none_more, one_more, or_none, or_together, taken_alike}
+use Rattle.ringcheck_files.specs.LoaderRelation.{file_limit, within}
+use Rattle.ringcheck_files.specs.Outcomes.{HasRisen}
+use Rattle.ringcheck.specs.CheckStatus.{HasFiles, RefusedFile, file_views_among, long_file, sources}
+use Rattle.ringcheck.specs.Inner.Halting.{Halts, refusal}
+use Rattle.ringcheck.specs.Inner.Loading.{AreFirstOf, EndsAt, HasLoaded, LoadsFile, LoadsKind, RefusesLong, copper_entries, is_kind_at, is_kind_of, source}
+use Rattle.ringcheck.specs.Refusals.{Refusal}
+use Rattle.ringcheck.proofs.Outcomes.{risen_since}
+use Rattle.ringcheck.specs.declared.refusals.Halt.{Halt}
+use Rattle.ringcheck.specs.declared.refusals.Halt.TheVariants as halt
+
+-- ---- the files of entries
+
+-- there is a file for each entry
+pub views_length : (n : ℕ) (es : List Entry) (fs : List (List ℕ)) → length fs ≡ length es → length (file_views_among n es fs) ≡ length es
+views_length n [] fs same = refl
+views_length n (e ∷ es) [] same = absurd (omega (arith, same))
+views_length n (e ∷ es) (f ∷ fs) same = ap suc (views_length n es fs (omega (arith, same)))
+
+-- the file at an index is that of its entry
+pub view_at : (n : ℕ) (es : List Entry) (fs : List (List ℕ)) (i : ℕ) (e : Entry) → length fs ≡ length es → slice_get es i ≡ Some e → slice_get (file_views_among n es fs) i ≡ Some (source n e (get_or fs i []))
+view_at n [] fs i e same at = absurd (none-some e at)
+view_at n (x ∷ es) [] i e same at = absurd (omega (arith, same))
+view_at n (x ∷ es) (f ∷ fs) zero e same at = ap (λ (o : Entry). Some (source n o f)) (same_Some x e at)
+view_at n (x ∷ es) (f ∷ fs) (suc i) e same at = view_at n es fs i e (omega (arith, same)) at
+
+-- other bytes of one file leave the others as they are
+pub views_other : (n : ℕ) (es : List Entry) (fs : List (List ℕ)) (k : ℕ) (bytes : List ℕ) (i : ℕ) → i ≢ k → slice_get (file_views_among n es (set fs k bytes)) i ≡ slice_get (file_views_among n es fs) i
+views_other n [] fs k bytes i other = refl
+views_other n (e ∷ es) [] k bytes i other = refl
+views_other n (e ∷ es) (f ∷ fs) zero bytes zero other = absurd (other refl)
+views_other n (e ∷ es) (f ∷ fs) zero bytes (suc i) other = refl
+views_other n (e ∷ es) (f ∷ fs) (suc k) bytes zero other = refl
+views_other n (e ∷ es) (f ∷ fs) (suc k) bytes (suc i) other = views_other n es fs k bytes i (λ same. other (ap suc same))
+
+-- ---- files that were loaded
+
+module _ (has : List ℕ → List ℕ → Type 0) (all : List Entry) (keep : Keep) where
+  -- none of them yet
+  pub none_loaded : (reader : PackageReader) → ((sources : List FileView) → HasTaken reader keep sources (λ i. false)) → HasLoaded has all reader keep (λ i. false)
+  none_loaded reader stands = record {
+    files = map (λ (e : Entry). []) all;
+    size = same all;
+    loaded = λ i entry none at. absurd cc;
+    taken = stands (sources all (map (λ (e : Entry). []) all));
+  }
+    where
+      same : (es : List Entry) → length (map (λ (e : Entry). let none : List ℕ = [] in none) es) ≡ length es
+      same [] = refl
+      same (e ∷ es) = ap suc (same es)
+
+  -- the same files, by another test
+  pub loaded_same : (reader : PackageReader) (p q : ℕ → Bool) → ((i : ℕ) → p i ≡ q i) → HasLoaded has all reader keep p → HasLoaded has all reader keep q
+  loaded_same reader p q same h = subst (λ (t : ℕ → Bool). HasLoaded has all reader keep t) (λ j. λ i. same i j) h
+
+  -- and one more
+  pub loaded_more : (before after : PackageReader) (done : ℕ → Bool) (k : ℕ) (entry : Entry) → slice_get all k ≡ Some entry → done k ≡ false → copper_files before ≡ copper_entries all
+      → LoadsFile has before after k entry → HasLoaded has all before keep done → HasLoaded has all after keep (λ i. done i || eqb i k)
+  loaded_more before after done k entry at new layers (bytes, held, takes) h =
+      let n = copper_entries all in
+      let files : List (List ℕ) = set h.files k bytes in
+      let inside : k < length all = slice_get_within all k entry at in
+      let size : length files ≡ length all = length-set h.files k bytes ∙ h.size in
+      let here : get_or files k [] ≡ bytes = get_or-set_same h.files k bytes [] (omega (arith, inside, h.size)) in
+      let not_k = λ (i : ℕ) (d : done i ≡ true). (λ (same : i ≡ k). both_ways (done k) new (subst (λ (j : ℕ). done j ≡ true) same d)) in
+      let alike : HasTaken before keep (sources all files) done =
+      taken_alike before keep (sources all h.files) (sources all files) done (views_length n all h.files h.size ∙ sym (views_length n all files size))
+      (λ i d. views_other n all h.files k bytes i (not_k i d)) h.taken in
+      let file : slice_get (sources all files) k ≡ Some (source (copper_files before) entry bytes) =
+      view_at n all files k entry size at ∙ (λ j. Some (source (sym layers j) entry (here j))) in
+      record {
+        files = files;
+        size = size;
+        loaded = λ i e d there. elim (or_cases (done i) (eqb i k) d) [
+          | inl was ↦ subst (within file_limit has e.file) (sym (get_or-set_other h.files k i bytes [] (not_k i was))) (h.loaded i e was there)
+          | inr new_one ↦
+              let same = eqb-true i k new_one in
+              let is : entry ≡ e = same_Some entry e (sym at ∙ (ap (slice_get all) (sym same) ∙ there)) in
+              subst (λ (x : Entry). within file_limit has x.file (get_or files i [])) is
+              (subst (within file_limit has entry.file) (sym (ap (λ (j : ℕ). get_or files j []) same ∙ here)) held)
+        ];
+        taken = takes (sources all files) file keep done alike;
+      }
+
+  -- a loader that has as much
+  pub loaded_along : (later : List ℕ → List ℕ → Type 0) → ((n b : List ℕ) → has n b → later n b) → (reader : PackageReader) (done : ℕ → Bool) → HasLoaded has all reader keep done → HasLoaded later all reader keep done
+  loaded_along later to reader done h = record {
+    files = h.files;
+    size = h.size;
+    loaded = λ i e d at. let w = h.loaded i e d at in (to e.file (get_or h.files i []) w.0, w.1);
+    taken = h.taken;
+  }
+
+  -- none of a kind yet
+  pub none_yet : (copper : Bool) (reader : PackageReader) (done : ℕ → Bool) → HasLoaded has all reader keep done → HasLoaded has all reader keep (λ i. done i || (ltb i 0 && is_kind_at copper all i))
+  none_yet copper reader done h =
+      loaded_same reader done (λ i. done i || (ltb i 0 && is_kind_at copper all i)) (λ i. sym (or_none (done i)) ∙ ap (λ (t : Bool). done i || t) (none_below (is_kind_at copper all) i)) h
+
+  -- the next file, which is of the kind that is loaded
+  pub kind_loaded : (copper : Bool) (before after : PackageReader) (done : ℕ → Bool) (k : ℕ) (entry : Entry) → slice_get all k ≡ Some entry → is_kind copper entry.role ≡ true → copper_files before ≡ copper_entries all
+      → done k ≡ false → LoadsFile has before after k entry → HasLoaded has all before keep (λ i. done i || (ltb i k && is_kind_at copper all i))
+      → HasLoaded has all after keep (λ i. done i || (ltb i (k + 1) && is_kind_at copper all i))
+  kind_loaded copper before after done k entry at kind layers new loads h =
+      loaded_same after (λ i. (done i || (ltb i k && is_kind_at copper all i)) || eqb i k) (λ i. done i || (ltb i (k + 1) && is_kind_at copper all i))
+      (λ i. or_together (done i) (ltb i k && is_kind_at copper all i) (eqb i k) ∙ ap (λ (t : Bool). done i || t) (one_more (is_kind_at copper all) k (ap (is_kind_of copper) at ∙ kind) i))
+      (loaded_more before after (λ i. done i || (ltb i k && is_kind_at copper all i)) k entry at
+      (or_from (done k) (ltb k k && is_kind_at copper all k) new (and_left (ltb k k) (is_kind_at copper all k) (le-ltb k k (omega arith)))) layers loads h)
+
+  -- or is not of the kind
+  pub kind_passed : (copper : Bool) (reader : PackageReader) (done : ℕ → Bool) (k : ℕ) (entry : Entry) → slice_get all k ≡ Some entry → is_kind copper entry.role ≡ false
+      → HasLoaded has all reader keep (λ i. done i || (ltb i k && is_kind_at copper all i)) → HasLoaded has all reader keep (λ i. done i || (ltb i (k + 1) && is_kind_at copper all i))
+  kind_passed copper reader done k entry at kind h =
+      loaded_same reader (λ i. done i || (ltb i k && is_kind_at copper all i)) (λ i. done i || (ltb i (k + 1) && is_kind_at copper all i))
+      (λ i. ap (λ (t : Bool). done i || t) (none_more (is_kind_at copper all) k (ap (is_kind_of copper) at ∙ kind) i)) h
+
+-- ---- kinds
+
+-- an entry has one of the two kinds
+pub either_entry_kind : (es : List Entry) (i : ℕ) → i < length es → (is_kind_at false es i || is_kind_at true es i) ≡ true
+either_entry_kind [] i lt = absurd (omega (arith, lt))
+either_entry_kind (e ∷ es) zero lt = by (is_copper e.role)
+  where
+    by : (t : Bool) → (not t || t) ≡ true
+    by true = refl
+    by false = refl
+either_entry_kind (e ∷ es) (suc i) lt = either_entry_kind es i (omega (arith, lt))
+
+-- and not both
+pub one_entry_kind : (es : List Entry) (i : ℕ) → is_kind_at true es i ≡ true → is_kind_at false es i ≡ false
+one_entry_kind [] i h = refl
+one_entry_kind (e ∷ es) zero h = ap not h
+one_entry_kind (e ∷ es) (suc i) h = one_entry_kind es i h
+
+-- the files of drill files below one index and of copper files below another
+abbrev pub done_to : List Entry → ℕ → ℕ → ℕ → Bool
+done_to all drills copper i = (false || (ltb i drills && is_kind_at false all i)) || (ltb i copper && is_kind_at true all i)
+
+pub done_below : (all : List Entry) (drills copper i : ℕ) → copper ≤ drills → i < copper → i < length all → done_to all drills copper i ≡ true
+done_below all drills copper i le lt inside =
+    rw (lt-ltb i drills (omega (arith, le, lt)), lt-ltb i copper lt) (either_entry_kind all i inside)
+
+-- ---- what came of all files
+
+-- the files of the first entries
+pub has_first : (has : List ℕ → List ℕ → Type 0) (m : ℕ) (es : List Entry) (fs : List (List ℕ)) → length fs ≡ length es
+    → ((i : ℕ) (e : Entry) → i < m → slice_get es i ≡ Some e → has e.file (get_or fs i [])) → HasFiles has (take m es) (take m fs)
+has_first has zero es fs same each = tt
+has_first has (suc m) [] [] same each = tt
+has_first has (suc m) [] (f ∷ fs) same each = absurd (omega (arith, same))
+has_first has (suc m) (e ∷ es) [] same each = absurd (omega (arith, same))
+has_first has (suc m) (e ∷ es) (f ∷ fs) same each = (each 0 e (omega arith) refl, has_first has m es fs (omega (arith, same)) (λ i x lt at. each (suc i) x (omega (arith, lt)) at))
+
+-- the entries before an index are the first of all
+pub first_of : (n : ℕ) (all : List Entry) → AreFirstOf (take n all) all
+first_of zero all i e at = absurd (none-some e at)
+first_of (suc n) [] i e at = at
+first_of (suc n) (x ∷ xs) zero e at = at
+first_of (suc n) (x ∷ xs) (suc i) e at = first_of n xs i e at
+
+-- a count that rose by an earlier time rose by a later one
+pub risen_by : (old middle new : ℕ) → old ≤ middle → middle ≤ new → HasRisen old middle → HasRisen old new
+risen_by old middle new a b (inl more) = inl (omega arith)
+risen_by old middle new a b (inr last) = elim (cases_lt middle new) [ inl more ↦ inl (omega (arith, a, more)) | inr le ↦ inr (omega (arith, last, le, b)) ]
+
+pub halts_weaker : (Is Is' : Refusal → Type 0) (Risen Risen' : Type 0) → ((why : Refusal) → Is why → Is' why) → (Risen → Risen') → (h : Halt) → Halts Is Risen h → Halts Is' Risen' h
+halts_weaker Is Is' Risen Risen' to rise (halt.Refused what why) is = to (refusal what why) is
+halts_weaker Is Is' Risen Risen' to rise (halt.Unread what) risen = rise risen
+
+module _ (has : List ℕ → List ℕ → Type 0) (all : List Entry) (keep : Keep) (reader : PackageReader) (drills copper : ℕ) (le : copper ≤ drills) (h : HasLoaded has all reader keep (done_to all drills copper)) where
+  files_before : HasFiles (within file_limit has) (take copper all) (take copper h.files)
+  files_before = has_first (within file_limit has) copper all h.files h.size (λ i e lt at. h.loaded i e (done_below all drills copper i le lt (slice_get_within all i e at)) at)
+
+  -- a file above the limit, before which all were loaded
+  pub long_refused : (later : List ℕ → List ℕ → Type 0) → ((n b : List ℕ) → later n b → has n b) → (entry : Entry) (why : Refusal) → slice_get all copper ≡ Some entry → RefusesLong later copper entry why
+      → RefusedFile has all why
+  long_refused later to entry why at long =
+      long_file copper entry (record { files = take copper h.files; before = files_before; at = at; bytes = long.bytes; loaded = to entry.file long.bytes long.loaded; long = long.long }) long.is
+
+  -- all files
+  pub all_loaded : length all ≤ copper → (files : List (List ℕ)) × HasFiles (within file_limit has) all files × HasTakenAll reader keep (sources all files)
+  all_loaded past =
+      let n = copper_entries all in (
+        h.files,
+        has_all,
+        all_taken reader keep (sources all h.files) (done_to all drills copper) (λ i lt. let inside : i < length all = omega (arith, lt, views_length n all h.files h.size) in done_below all drills copper i le (omega (arith, inside, past)) inside) h.taken,
+      )
+    where
+      has_all : HasFiles (within file_limit has) all h.files
+      has_all = subst (λ (es : List Entry). HasFiles (within file_limit has) es h.files) (take_all copper all past)
+          (subst (λ (fs : List (List ℕ)). HasFiles (within file_limit has) (take copper all) fs) (take_all copper h.files (omega (arith, past, h.size))) files_before)
+
+-- ---- two passes
+
+-- the drill files were loaded, and then the copper files
+pub both_passes : (has later : List ℕ → List ℕ → Type 0) → ((n b : List ℕ) → later n b ↔ has n b) → (all first : List Entry) (keep : Keep) (start middle last : PackageReader) (drills copper : ℕ) → AreFirstOf first all
+    → copper_files start ≡ copper_entries all → copper_files middle ≡ copper_files start → ((sources : List FileView) → HasTaken start keep sources (λ i. false))
+    → LoadsKind has all start middle false drills → LoadsKind later first middle last true copper → HasLoaded has all last keep (done_to all drills copper)
+both_passes has later same all first keep start middle last drills copper among layers stays stands one two =
+    let done = λ (i : ℕ). false || (ltb i drills && is_kind_at false all i) in
+    let drilled : HasLoaded has all middle keep done = one all keep (λ i. false) (λ i e at. at) layers (λ i kind. refl) (none_loaded has all keep start stands) in
+    loaded_along later all keep has (λ n b. (same n b).0) last (done_to all drills copper)
+    (two all keep done among (stays ∙ layers) (λ i kind. and_right (ltb i drills) (is_kind_at false all i) (one_entry_kind all i kind)) (loaded_along has all keep later (λ n b. (same n b).1) middle done drilled))
+
+module _ (has later : List ℕ → List ℕ → Type 0) (to : (n b : List ℕ) → later n b → has n b) (all : List Entry) (keep : Keep) (reader : PackageReader) (drills copper old middle new : ℕ)
+    (rises : old ≤ middle) (rises_on : middle ≤ new) (inside : drills ≤ length all) (within_first : copper ≤ length (take drills all)) (h : HasLoaded has all reader keep (done_to all drills copper)) where
+  size : length (take drills all) ≡ drills
+  size = length-take-le drills all inside
+
+  below : copper ≤ drills
+  below = omega (arith, size, within_first)
+
+  pub passes_halt : (first second : Option Halt) (stop : Halt) → EndsAt has all (HasRisen old middle) drills first → EndsAt later (take drills all) (HasRisen middle new) copper second → option_or second first ≡ Some stop
+      → Halts (RefusedFile has all) (HasRisen old new) stop
+  passes_halt first (Some s) stop before (entry, at, halts) is =
+      subst (Halts (RefusedFile has all) (HasRisen old new)) (same_Some s stop is)
+      (halts_weaker (RefusesLong later copper entry) (RefusedFile has all) (HasRisen middle new) (HasRisen old new)
+      (λ why long. long_refused has all keep reader drills copper below h later to entry why (first_of drills all copper entry at) long) (risen_since old middle new rises) s halts)
+  passes_halt (Some s) None stop (entry, at, halts) ends is =
+      let same : drills ≡ copper = sym (ends ∙ size) in
+      subst (Halts (RefusedFile has all) (HasRisen old new)) (same_Some s stop is)
+      (halts_weaker (RefusesLong has drills entry) (RefusedFile has all) (HasRisen old middle) (HasRisen old new)
+      (λ why long. long_refused has all keep reader drills copper below h has (λ n b held. held) entry why (subst (λ (k : ℕ). slice_get all k ≡ Some entry) same at)
+      (subst (λ (k : ℕ). RefusesLong has k entry why) same long)) (risen_by old middle new rises rises_on) s halts)
+  passes_halt None None stop before ends is = absurd (none-some stop is)
+
+  pub passes_all : (first second : Option Halt) → EndsAt has all (HasRisen old middle) drills first → EndsAt later (take drills all) (HasRisen middle new) copper second → option_or second first ≡ None
+      → (files : List (List ℕ)) × HasFiles (within file_limit has) all files × HasTakenAll reader keep (sources all files)
+  passes_all first (Some s) before ends is = absurd cc
+  passes_all (Some s) None before ends is = absurd cc
+  passes_all None None before ends is = all_loaded has all keep reader drills copper below h (omega (arith, before, ends, size))

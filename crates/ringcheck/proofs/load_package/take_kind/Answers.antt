@@ -1,0 +1,52 @@
+use Rattle.std.proofs.Common.{◌∙◌, ◌&&◌, ◌||◌, ◌+◌, ap, arith, ltb, refl, subst, sym}
+use Rattle.std.proofs.lemmas.Option.{slice_get_read}
+use Rattle.package_check.specs.Holding.{copper_files}
+use Rattle.package_check.specs.declared.package_reader.PackageReader.{PackageReader}
+use Rattle.ringcheck.specs.Inner.Loading.{HasLoaded, is_kind_at, is_kind_of}
+use Rattle.ringcheck.proofs.LoadedFiles.{kind_loaded, kind_passed, none_yet}
+use Rattle.ringcheck.proofs.load_package.take_kind.Goals as goal
+use Rattle.ringcheck.proofs.load_package.take_kind.Goals.{then-is_kind+in_ok-halt+in_default, else-is_kind}
+
+pub loop-index-init : goal.loop-index-init
+loop-index-init g c = record {
+  keeps = λ n b. (λ h. h, λ h. h);
+  counted = omega arith;
+  layers = refl;
+  loaded = λ all keep done first layers new h. none_yet (g.L.Loader.has c.args.loader.now) all keep c.args.copper c.args.reader.now done h;
+}
+
+pub loop-index-preserved : goal.loop-index-preserved
+loop-index-preserved g c =
+    let entries = c.args.entries.now in
+    let has = g.L.Loader.has c.args.loader.now in
+    let copper = c.args.copper in
+    let k = c.loop-index.index in
+    let entry = c.index-entries-index.result in
+    let inv = c.loop-index.invariant in
+    let here = slice_get_read entries _ k entry refl c.loop-index-test.true c.index-entries-index.is in
+    elim c.if-is_kind.branch [
+      | then-is_kind+in_ok-halt+in_default w ↦
+          let one = w.in_ok-halt.ensures in
+          let kind = sym c.is_kind.ensures ∙ w.if-is_kind.true in
+          let (bytes, held, takes) = rw w.in_default.is at one.taken in
+          record {
+            keeps = λ n b. rw w.loader-is (λ h. (inv.keeps n b).0 ((one.keeps n b).0 h), λ h. (one.keeps n b).1 ((inv.keeps n b).1 h));
+            counted = rw w.loader-is (omega (arith, one.counts, inv.counted));
+            layers = ap copper_files w.reader-is ∙ (one.layers ∙ inv.layers);
+            loaded = λ all keep done first layers new h.
+                let at = first k entry here in
+                subst (λ (r : PackageReader). HasLoaded has all r keep (λ i. done i || (ltb i (k + 1) && is_kind_at copper all i))) (sym w.reader-is)
+                (kind_loaded has all keep copper c.loop-index.reader w.take_file.new.reader done k entry at kind (inv.layers ∙ layers) (new k (ap (is_kind_of copper) at ∙ kind))
+                (bytes, ((inv.keeps entry.file bytes).0 held.0, held.1), takes) (inv.loaded all keep done first layers new h));
+          }
+      | else-is_kind w ↦
+          let kind = sym c.is_kind.ensures ∙ w.if-is_kind.false in
+          record {
+            keeps = λ n b. rw w.loader-is (inv.keeps n b);
+            counted = rw w.loader-is inv.counted;
+            layers = ap copper_files w.reader-is ∙ inv.layers;
+            loaded = λ all keep done first layers new h.
+                subst (λ (r : PackageReader). HasLoaded has all r keep (λ i. done i || (ltb i (k + 1) && is_kind_at copper all i))) (sym w.reader-is)
+                (kind_passed has all keep copper c.loop-index.reader done k entry (first k entry here) kind (inv.loaded all keep done first layers new h));
+          }
+    ]

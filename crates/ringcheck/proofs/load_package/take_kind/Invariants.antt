@@ -1,0 +1,12 @@
+use Rattle.std.proofs.Common.{◌≡◌, ◌≤◌, ◌↔◌, ℕ, List}
+use Rattle.package_check.specs.Holding.{copper_files}
+use Rattle.ringcheck.specs.Inner.Loading.{LoadsKind}
+use Rattle.ringcheck.proofs.load_package.take_kind.Given as goal
+
+abbrev pub invariant-loop-index : goal.invariant-loop-index
+invariant-loop-index g l = record {
+  keeps : (n b : List ℕ) → g.L.Loader.has l.loader n b ↔ g.L.Loader.has l.initial.loader n b;
+  counted : g.L.Loader.failed l.initial.loader ≤ g.L.Loader.failed l.loader;
+  layers : copper_files l.reader ≡ copper_files l.initial.reader;
+  loaded : LoadsKind (g.L.Loader.has l.initial.loader) l.entries l.initial.reader l.reader l.fn.copper l.index;
+}

@@ -1,0 +1,75 @@
+-- The files of a package while they are loaded, those of one kind before those of the other.
+use Rattle.std.specs.Prelude.{◌≡◌, ◌<◌, ◌||◌, ◌&&◌, nat_lt, ℕ, Bool, true, false, List, [], length, get_or, slice_get, Option, None, Some, Result, Ok, Err}
+use Rattle.std.specs.List.{count_by}
+use Rattle.std.specs.Global.{Vec}
+use Rattle.layer_image.specs.declared.keep.Keep.{Keep}
+use Rattle.manifest.specs.declared.Entry.{Entry}
+use Rattle.package_check.specs.Holding.{HasTaken, TakesFile, copper_files, is_kind}
+use Rattle.package_check.specs.Package.{FileView, is_copper}
+use Rattle.package_check.specs.declared.package_reader.PackageReader.{PackageReader}
+use Rattle.ringcheck_files.specs.LoaderRelation.{Relation, file_limit, too_long, within}
+use Rattle.ringcheck.specs.CheckStatus.{sources}
+use Rattle.ringcheck.specs.Inner.Halting.{Halts}
+use Rattle.ringcheck.specs.Refusals.{Refusal, of_file}
+use Rattle.ringcheck.specs.declared.refusals.Halt.{Halt}
+
+-- how many of the entries are copper
+abbrev pub copper_entries : List Entry → ℕ
+copper_entries entries = count_by (λ entry. is_copper entry.role) entries
+
+-- the file of an entry with these bytes, in a package of so many copper files
+abbrev pub source : ℕ → Entry → List ℕ → FileView
+source layers entry bytes = record { role = entry.role; name = entry.name; span = entry.span; bytes = bytes; layers = layers }
+
+-- whether an entry is there, and is of this kind
+abbrev pub is_kind_of : Bool → Option Entry → Bool
+is_kind_of copper None = false
+is_kind_of copper (Some entry) = is_kind copper entry.role
+
+-- whether the entry at an index is of this kind
+abbrev pub is_kind_at : Bool → List Entry → ℕ → Bool
+is_kind_at copper entries i = is_kind_of copper (slice_get entries i)
+
+-- these entries are the first of all
+abbrev pub AreFirstOf : List Entry → List Entry → Type 0
+AreFirstOf entries all = (i : ℕ) (entry : Entry) → slice_get entries i ≡ Some entry → slice_get all i ≡ Some entry
+
+-- the loader has bytes above the limit for an entry, which is refused by its index and its name
+pub record RefusesLong (has : Relation) (index : ℕ) (entry : Entry) (why : Refusal) : Type 0 where
+  pub bytes : List ℕ
+  pub loaded : has entry.file bytes
+  pub long : file_limit < length bytes
+  pub is : why ≡ of_file index entry.name too_long
+
+-- what came of the file of an entry: its bytes, or why they cannot be loaded
+abbrev pub OfFile : Relation → ℕ → Entry → Type 0 → Result (Vec ℕ) Halt → Type 0
+OfFile has index entry Risen (Ok bytes) = within file_limit has entry.file bytes.items
+OfFile has index entry Risen (Err halt) = Halts (RefusesLong has index entry) Risen halt
+
+-- the file of an entry was loaded, and a reader has taken it
+abbrev pub LoadsFile : Relation → PackageReader → PackageReader → ℕ → Entry → Type 0
+LoadsFile has before after index entry = (bytes : List ℕ) × within file_limit has entry.file bytes × TakesFile before after index (source (copper_files before) entry bytes)
+
+-- what came of handing the file of an entry to a reader: that it has taken it, or why the file cannot be loaded
+abbrev pub OfTakenFile : Relation → PackageReader → PackageReader → ℕ → Entry → Type 0 → Option Halt → Type 0
+OfTakenFile has before after index entry Risen None = LoadsFile has before after index entry
+OfTakenFile has before after index entry Risen (Some halt) = Halts (RefusesLong has index entry) Risen halt × (after ≡ before)
+
+-- where the files of some entries were gone through, the first that cannot be loaded, and why; or all were loaded
+abbrev pub EndsAt : Relation → List Entry → Type 0 → ℕ → Option Halt → Type 0
+EndsAt has entries Risen end None = end ≡ length entries
+EndsAt has entries Risen end (Some halt) = (entry : Entry) × (slice_get entries end ≡ Some entry) × Halts (RefusesLong has end entry) Risen halt
+
+-- Of the files of these entries those at the indexes that `done` is true of were loaded, and a reader has taken them. Nothing is said of
+-- the bytes of the other files.
+pub record HasLoaded (has : Relation) (entries : List Entry) (reader : PackageReader) (keep : Keep) (done : ℕ → Bool) : Type 0 where
+  pub files : List (List ℕ)
+  pub size : length files ≡ length entries
+  pub loaded : (i : ℕ) (entry : Entry) → done i ≡ true → slice_get entries i ≡ Some entry → within file_limit has entry.file (get_or files i [])
+  pub taken : HasTaken reader keep (sources entries files) done
+
+-- Between two states of a reader the files of one kind below an index were loaded, and the reader has taken them. These are the files of the first entries of some
+-- list, whichever it is, of which other files were loaded before.
+abbrev pub LoadsKind : Relation → List Entry → PackageReader → PackageReader → Bool → ℕ → Type 0
+LoadsKind has entries before after copper end = (all : List Entry) (keep : Keep) (done : ℕ → Bool) → AreFirstOf entries all → copper_files before ≡ copper_entries all
+    → ((i : ℕ) → is_kind_at copper all i ≡ true → done i ≡ false) → HasLoaded has all before keep done → HasLoaded has all after keep (λ i. done i || (nat_lt i end && is_kind_at copper all i))
