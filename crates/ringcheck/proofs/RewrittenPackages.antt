@@ -37,7 +37,7 @@ module _ (layer_once : layers.ReadingIsUnique) (equal : EqualCommands)
   same_seen : (s t : List ℕ) (h : HaveSameCommands kind.Layer s t) → layer_view h.0 ≡ layer_view h.1
   same_seen s t h =
       let e = equal s t h.0 h.1 h.2 h.3 h.4 in
-      λ i. layer_view (record { commands = h.1.commands; flashes = e.0 i; pads = e.1 i; other = e.3 i; file_function = e.2 i })
+      λ i. layer_view (record { commands = h.1.commands; flashes = e.0 i; pads = e.1 i; pad_count = h.1.pad_count; other = e.3 i; file_function = e.2 i })
 
   layer_same : (s t : List ℕ) → HaveSameCommands kind.Layer s t → (image : LayerView) → ReadsLayer s (Ok image) → ReadsLayer t (Ok image)
   layer_same s t h image k = (h.1, h.3, k.2 ∙ (ap layer_view (same_layer s k.0 h.0 k.1 h.2) ∙ same_seen s t h))
