@@ -9,7 +9,7 @@ documents = $(root)/share/doc/ringcheck
 pages := docs/GUIDE.md docs/FORMATS.md docs/JSON.md docs/TRUST.md docs/board.svg
 boards := $(wildcard $(foreach it,csv gbr drl,examples/first/*.$(it) examples/board/*.$(it) examples/board/gerbers/*.$(it)))
 installed = bin/ringcheck bin/ringcheck-each share/doc/ringcheck/proved share/man/man1/ringcheck.1 share/man/man1/ringcheck-each.1 \
-  share/ringcheck/junit.jq share/ringcheck/github.jq share/bash-completion/completions/ringcheck share/zsh/site-functions/_ringcheck \
+  share/ringcheck/junit.jq share/ringcheck/github.jq share/ringcheck/gitlab.jq share/bash-completion/completions/ringcheck share/zsh/site-functions/_ringcheck \
   share/fish/vendor_completions.d/ringcheck.fish $(pages:docs/%=share/doc/ringcheck/%) $(boards:%=share/doc/ringcheck/%)
 
 .PHONY: build install uninstall deb test
@@ -25,7 +25,7 @@ install: build
 	chmod 644 "$(root)/share/man/man1/ringcheck.1" "$(root)/share/man/man1/ringcheck-each.1"
 	install -m 644 $(pages) "$(documents)"
 	for board in $(boards); do install -m 644 "$$board" "$(documents)/$$board" || exit 1; done
-	install -m 644 extras/junit.jq extras/github.jq "$(root)/share/ringcheck"
+	install -m 644 extras/junit.jq extras/github.jq extras/gitlab.jq "$(root)/share/ringcheck"
 	install -m 644 packaging/completions/ringcheck.bash "$(root)/share/bash-completion/completions/ringcheck"
 	install -m 644 packaging/completions/_ringcheck "$(root)/share/zsh/site-functions/_ringcheck"
 	install -m 644 packaging/completions/ringcheck.fish "$(root)/share/fish/vendor_completions.d/ringcheck.fish"

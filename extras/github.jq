@@ -1,5 +1,6 @@
-# jq -r -f github.jq FILE.json: the annotations of a GitHub job. Of a report one for each finding, a notice where it is waived; of a
-# measure or of a report without findings one notice; of a refusal one error.
+# jq -r --arg file MANIFEST -f github.jq FILE.json: the annotations of a GitHub job. Of a report one for each finding, a notice where it is
+# waived; of a measure or of a report without findings one notice; of a refusal one error. Each stands at a file of the repository, the
+# manifest: a finding at the row of its layer, or of the drill file of its first hole. Without `--arg file` they stand at no file.
 def data: gsub("%"; "%25") | gsub("\r"; "%0D") | gsub("\n"; "%0A");
 def title: data | gsub(":"; "%3A") | gsub(","; "%2C");
 # a length in pm as millimetres, each digit of it
@@ -21,22 +22,24 @@ def refused: if .waivers then "waivers" elif .name then .name else "manifest" en
 def stopped:
   refused + if .reason then ": \(.reason)" else "" end
   + if .place then " at place \(.place)" else "" end + if .byte then ", byte \(.byte)" else "" end;
-def notice($heading; $text): "::notice title=\($heading | title)::\($text | data)";
-def error($heading; $text): "::error title=\($heading | title)::\($text | data)";
-def annotation($heading; $text):
-  if .waived != null then notice($heading; "\($text), waived: \(.waived)") else error($heading; $text) end;
+# where an annotation stands: its row of the manifest, below the header
+def at($row): if $ARGS.named.file then "file=\($ARGS.named.file | title),line=\($row + 1)," else "" end;
+def notice($row; $heading; $text): "::notice \(at($row))title=\($heading | title)::\($text | data)";
+def error($row; $heading; $text): "::error \(at($row))title=\($heading | title)::\($text | data)";
+def annotation($row; $heading; $text):
+  if .waived != null then notice($row; $heading; "\($text), waived: \(.waived)") else error($row; $heading; $text) end;
 . as $report
 | if .result == "measured" then
-    notice("ringcheck"; "measured")
+    notice(0; "ringcheck"; "measured")
   elif .findings == null then
-    error("ringcheck \(.result)"; stopped)
+    error(.file // 0; "ringcheck \(.result)"; stopped)
   elif .findings == [] then
-    notice("ringcheck"; .result)
+    notice(0; "ringcheck"; .result)
   else
     .findings[]
     | if .kind == "ring" then
-        annotation("#\(.number) ring on \($report.files[.layer - 1].name)"; "\(.at | hole): \(measured($report.rules))")
+        annotation(.layer; "#\(.number) ring on \($report.files[.layer - 1].name)"; "\(.at | hole): \(measured($report.rules))")
       else
-        annotation("#\(.number) gap"; "\(.at | hole), \(.and | hole): \(measured($report.rules))")
+        annotation(.at.drill; "#\(.number) gap"; "\(.at | hole), \(.and | hole): \(measured($report.rules))")
       end
   end
