@@ -476,15 +476,21 @@ def goals_of(said):
     return found
 
 
+def proofs_of(name):
+    """A pattern of the folder of a function's proofs: that of a function that calls itself begins with `+`."""
+    above, _, own = name.rpartition("::")
+    return re.escape(f"{above}::".replace("::", "/") if above else "") + r"\+?" + re.escape(own)
+
+
 def refuted_in(said, name):
     """The goals of a function whose answers its proof files give, and which the prover refused."""
-    place = rf"^(?:\./)?proofs/{re.escape(name.replace('::', '/'))}/\w+\.antt:\d+:\d+: error: `([^`]*)`: (.*)$"
+    place = rf"^(?:\./)?proofs/{proofs_of(name)}/\w+\.antt:\d+:\d+: error: `([^`]*)`: (.*)$"
     return [goal for goal, why in re.findall(place, said, re.M) if not NAMES_ALONE.search(why)]
 
 
 def refuted_lemma(said, name):
     """The lemma that the prover refused and on which the proof of a law rests: the body of a law is empty, and its proof cites the crate's lemmas."""
-    cites = re.search(rf"^(?:\./)?proofs/{re.escape(name.replace('::', '/'))}/.*depends? on `[^`]*`, which was (?:not admitted|rejected)", said, re.M)
+    cites = re.search(rf"^(?:\./)?proofs/{proofs_of(name)}/.*depends? on `[^`]*`, which was (?:not admitted|rejected)", said, re.M)
     lemmas = re.findall(r"^(?:\./)?proofs/\w+\.antt:\d+:\d+: error: `([^`]*)`: (.*)$", said, re.M) if cites else []
     return next((f"lemma {lemma}" for lemma, why in lemmas if not NAMES_ALONE.search(why)), "")
 
@@ -495,7 +501,7 @@ def renamed(said, trial, text_of_proof):
     found = {}
     lines = re.findall(r"^(?:\./)?(proofs/(\S+)/\w+\.antt):\d+:\d+: error: (.*)$", said, re.M)
     for path, function, why in lines:
-        if not trial.owns(function.replace("/", "::")):
+        if not trial.owns(function.replace("/+", "/").replace("/", "::")):
             continue
         gone = re.search(r"has no (?:field )?`([^`]+)`.*?\((?:nearest: \.|names in it that begin alike: `|did you mean `)([^\s,`)]+)", why)
         text = found.get(path) or text_of_proof(path)
@@ -549,9 +555,9 @@ def try_together(room, trials, proofs=None, rounds=ROUNDS):
         more.update(renamed(said, it, lambda path: more.get(path) or text_of(os.path.join(TOP, "crates", room.crate, path))))
     if left and rounds and (len(left) < len(trials) or more != proofs):
         found.update(try_together(room, left, more, rounds - 1))
-    elif len(left) > 1:
+    elif len(trials) > 1:
         for it in left:
-            if "it calls" in found[it.body.key()][2]:
+            if re.search("it calls|a call of", found[it.body.key()][2]):
                 found.update(try_together(room, [it], more, 0))
     return found
 
